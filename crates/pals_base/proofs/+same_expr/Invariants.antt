@@ -1,0 +1,10 @@
+use Rattle.std.proofs.Common.{◌≡◌, length, drop}
+use Rattle.std.specs.Prelude.{◌↔◌}
+use Rattle.pals_base.specs.Seen.{operands_along}
+use Rattle.pals_base.proofs.+same_expr.Given as goal
+
+-- all are the same exactly where those that are left are
+abbrev pub invariant-same::expressions::same_operands-loop-at : goal.invariant-same::expressions::same_operands-loop-at
+invariant-same::expressions::same_operands-loop-at l =
+    (length l.left ≡ length l.right)
+    × ((operands_along l.left ≡ operands_along l.right) ↔ (operands_along (drop l.at l.left) ≡ operands_along (drop l.at l.right)))

@@ -1,0 +1,8 @@
+use Rattle.pals_base.proofs.Steps.{frame_after-halted, outputs-halted}
+use Rattle.pals_base.proofs.laws.steps.halted_frame_stays.Goals as goal
+
+pub returns-clause-frame : goal.returns-clause-frame
+returns-clause-frame c = frame_after-halted
+
+pub returns-clause-outputs : goal.returns-clause-outputs
+returns-clause-outputs c = outputs-halted

@@ -1,0 +1,61 @@
+-- What actions do: new variables and this step's outputs, or a trap.
+use Rattle.std.specs.Prelude.{ℕ, zero, suc, ℤ, pos, negsuc, ◌+ℤ◌, ◌-ℤ◌, Bool, if◌then◌else◌, List, [], ◌∷◌, ◌++◌, length, take, Result, Ok, slice_set}
+use Rattle.pals_base.specs.declared.values.Trap.{Trap}
+use Rattle.pals_base.specs.declared.values.Frame.{Frame}
+use Rattle.pals_base.specs.declared.values.Port.{Port}
+use Rattle.pals_base.specs.declared.values.Port.TheVariants.{Present}
+use Rattle.pals_base.specs.Expressions.{eval, on_value, is_true}
+use Rattle.pals_base.specs.Tree.{Action, Assign, Emit, If, For, Actions, Nothing, Do, Branches, NoBranch, Where}
+
+-- the variables, and what the out ports have in this step so far
+pub record Effect : Type 0 where
+  pub vars : List ℤ
+  pub outs : List Port
+
+-- so many numbers from one on
+abbrev pub counted_from : ℤ → ℕ → List ℤ
+counted_from low zero = []
+counted_from low (suc n) = low ∷ counted_from (low +ℤ pos 1) n
+
+-- how many numbers lie from low to low + d, none where d is negative
+abbrev pub count_of : ℤ → ℕ
+count_of (pos d) = suc d
+count_of (negsuc d) = 0
+
+-- the numbers of a loop, from the low end to the high end
+abbrev pub numbers : ℤ → ℤ → List ℤ
+numbers low high = counted_from low (count_of (high -ℤ low))
+
+-- a body once for each number, in order
+abbrev pub for_each : List ℤ → (ℤ → Effect → Result Effect Trap) → Effect → Result Effect Trap
+for_each [] body so_far = Ok so_far
+for_each (n ∷ ns) body so_far = on_value (body n so_far) (λ e. for_each ns body e)
+
+-- a frame with these variables
+abbrev pub with_vars : Frame → List ℤ → Frame
+with_vars frame vars = record frame { vars = vars }
+
+-- the effect without the variable of a loop, which stood behind the first n
+abbrev pub without_loop : ℕ → Result Effect Trap → Result Effect Trap
+without_loop n done = on_value done (λ e. Ok (record e { vars = take n e.vars }))
+
+abbrev mutual
+  pub act : Action → Frame → List Bool → List Port → Result Effect Trap
+  act (Assign x e) frame fresh outs = on_value (eval e frame fresh) (λ v. Ok (record { vars = slice_set frame.vars x v; outs = outs }))
+  act (Emit p e) frame fresh outs = on_value (eval e frame fresh) (λ v. Ok (record { vars = frame.vars; outs = slice_set outs p (Present v) }))
+  act (If branches otherwise) frame fresh outs = act_first branches frame fresh outs (acts otherwise frame fresh outs)
+  act (For low high body) frame fresh outs =
+      for_each (numbers low high)
+      (λ n e. without_loop (length frame.vars) (acts body (with_vars frame (e.vars ++ n ∷ [])) fresh e.outs))
+      (record { vars = frame.vars; outs = outs })
+
+  -- one after the other
+  pub acts : Actions → Frame → List Bool → List Port → Result Effect Trap
+  acts Nothing frame fresh outs = Ok (record { vars = frame.vars; outs = outs })
+  acts (Do a rest) frame fresh outs = on_value (act a frame fresh outs) (λ e. acts rest (with_vars frame e.vars) fresh e.outs)
+
+  -- the first branch whose guard is true, or else what is done otherwise
+  pub act_first : Branches → Frame → List Bool → List Port → Result Effect Trap → Result Effect Trap
+  act_first NoBranch frame fresh outs otherwise = otherwise
+  act_first (Where guard actions rest) frame fresh outs otherwise =
+      on_value (eval guard frame fresh) (λ v. if is_true v then acts actions frame fresh outs else act_first rest frame fresh outs otherwise)

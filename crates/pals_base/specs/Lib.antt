@@ -1,0 +1,13 @@
+pub mod Arithmetic
+pub mod Division
+pub mod Tree
+pub mod TreeCode
+pub mod Seen
+pub mod Expressions
+pub mod Actions
+pub mod Fire
+pub mod Steps
+pub mod Adaptors
+pub mod Allowed
+pub mod Bound
+pub mod Picks

@@ -1,0 +1,43 @@
+-- Several steps of a behaviour, and their places gathered as tuples.
+use Rattle.std.specs.Prelude.{ℕ, ◌-◌, zero, suc, List, [], ◌∷◌, ◌++◌, length, take, map, replicate, slice_index_or}
+use Rattle.pals_base.specs.declared.values.Frame.{Frame}
+use Rattle.pals_base.specs.declared.values.Port.{Port}
+use Rattle.pals_base.specs.declared.values.Port.TheVariants.{Absent}
+use Rattle.pals_base.specs.declared.behaviour.Behaviour.{Behaviour}
+use Rattle.pals_base.specs.Fire.{fire}
+
+-- so many numbers from one on
+abbrev pub upwards : ℕ → ℕ → List ℕ
+upwards from zero = []
+upwards from (suc n) = from ∷ upwards (suc from) n
+
+-- the n-th place of each list
+abbrev pub column : ℕ → List (List Port) → List Port
+column n lists = map (λ list. slice_index_or list n Absent) lists
+
+-- the first n columns: rows for columns
+abbrev pub columns : ℕ → List (List Port) → List (List Port)
+columns n lists = map (λ at. column at lists) (upwards 0 n)
+
+-- the frame after steps at these inputs, one vector a step
+abbrev pub frame_after : Behaviour → Frame → List (List Port) → Frame
+frame_after b frame [] = frame
+frame_after b frame (inputs ∷ vectors) = frame_after b (fire b frame inputs).frame vectors
+
+-- what the out ports have in each of these steps
+abbrev pub outputs : Behaviour → Frame → List (List Port) → List (List Port)
+outputs b frame [] = []
+outputs b frame (inputs ∷ vectors) = (fire b frame inputs).outs ∷ outputs b (fire b frame inputs).frame vectors
+
+-- a frame, and a tuple for each out port
+pub record Stepped : Type 0 where
+  pub frame : Frame
+  pub tuples : List (List Port)
+
+-- the steps of a round: the fold of `fire`, with each out port's values gathered as a tuple
+abbrev pub steps : Behaviour → Frame → List (List Port) → Stepped
+steps b frame vectors = record { frame = frame_after b frame vectors; tuples = columns (length b.outs) (outputs b frame vectors) }
+
+-- a tuple with every place after its first n absent
+abbrev pub cut : ℕ → List Port → List Port
+cut n tuple = take n tuple ++ replicate (length tuple - n) Absent

@@ -1,0 +1,73 @@
+//! Arithmetic on signed numbers of 64 bits: the exact result, or a trap.
+ghost use Rattle.std.specs.Prelude.{◌≡◌, pos};
+ghost use Rattle.pals_base.specs.Arithmetic.{sum_of, difference_of, product_of, quotient_of, remainder_of, modulus_of, negation_of, magnitude_of};
+
+use crate::values::Trap;
+
+/// The sum, or `Overflow` where it does not fit 64 bits.
+pub fn add(a: i64, b: i64) -> Result<i64, Trap>
+    ensures { result ≡ sum_of a b }
+{
+    a.checked_add(b).ok_or(Trap::Overflow)
+}
+
+/// The difference, or `Overflow` where it does not fit 64 bits.
+pub fn sub(a: i64, b: i64) -> Result<i64, Trap>
+    ensures { result ≡ difference_of a b }
+{
+    a.checked_sub(b).ok_or(Trap::Overflow)
+}
+
+/// The product, or `Overflow` where it does not fit 64 bits.
+pub fn mul(a: i64, b: i64) -> Result<i64, Trap>
+    ensures { result ≡ product_of a b }
+{
+    a.checked_mul(b).ok_or(Trap::Overflow)
+}
+
+/// The quotient, cut towards zero. `ZeroDivisor` at a divisor of 0, and `Overflow` where the
+/// quotient does not fit 64 bits.
+pub fn quot(a: i64, b: i64) -> Result<i64, Trap>
+    ensures { result ≡ quotient_of a b }
+{
+    if b == 0 {
+        return Err(Trap::ZeroDivisor);
+    }
+    a.checked_div(b).ok_or(Trap::Overflow)
+}
+
+/// The remainder with the dividend's sign, or `ZeroDivisor` at a divisor of 0.
+pub fn rem(a: i64, b: i64) -> Result<i64, Trap>
+    ensures { result ≡ remainder_of a b }
+{
+    if b == 0 {
+        return Err(Trap::ZeroDivisor);
+    }
+    Ok(a.wrapping_rem(b))
+}
+
+/// The remainder with the divisor's sign, or `ZeroDivisor` at a divisor of 0.
+pub fn modulo(a: i64, b: i64) -> Result<i64, Trap>
+    ensures { result ≡ modulus_of a b }
+{
+    let left = rem(a, b)?;
+    if left != 0 && (left < 0) != (b < 0) {
+        add(left, b)
+    } else {
+        Ok(left)
+    }
+}
+
+/// The number with the other sign, or `Overflow` at the least number.
+pub fn neg(a: i64) -> Result<i64, Trap>
+    ensures { result ≡ negation_of a }
+{
+    a.checked_neg().ok_or(Trap::Overflow)
+}
+
+/// The number without its sign, or `Overflow` at the least number.
+pub fn abs(a: i64) -> Result<i64, Trap>
+    ensures { result ≡ magnitude_of a }
+{
+    if a < 0 { neg(a) } else { Ok(a) }
+}

@@ -1,0 +1,53 @@
+//! Frames: the one that a component starts with, and copies.
+ghost use Rattle.std.specs.Prelude.{◌≡◌, IfOk, map, replicate, pos, length};
+ghost use Rattle.pals_base.specs.Fire.{initial};
+
+use crate::behaviour::{Behaviour, VarDecl};
+use crate::items::Items;
+use crate::values::{Frame, NoMemory};
+use std::alloc::Global;
+
+impl Frame {
+    /// The frame that a component of this behaviour starts with: the initial state, the variables'
+    /// first values, and 0 held for each in port.
+    pub fn initial(alloc: Global, behaviour: &Behaviour) -> Result<Frame, NoMemory>
+        ensures { IfOk result (λ frame. frame ≡ initial behaviour.now) }
+    {
+        Ok(Frame {
+            state: behaviour.initial,
+            vars: first_values(alloc, behaviour.vars.as_slice())?,
+            held: zeros(alloc, behaviour.ins.len())?,
+            halt: None,
+        })
+    }
+
+    /// Another frame with the same contents.
+    pub fn copy(&self, alloc: Global) -> Result<Frame, NoMemory>
+        ensures { IfOk result (λ frame. frame ≡ self.now) }
+    {
+        Ok(Frame {
+            state: self.state,
+            vars: Items::from_slice(alloc, self.vars.as_slice())?,
+            held: Items::from_slice(alloc, self.held.as_slice())?,
+            halt: self.halt,
+        })
+    }
+}
+
+// The variables' first values.
+fn first_values(alloc: Global, vars: &[VarDecl]) -> Result<Items<i64>, NoMemory>
+    ensures { IfOk result (λ values. values ≡ map (λ v. v.first) vars.now) }
+{
+    let mut values = Items::new(alloc);
+    for var in vars {
+        values.push(var.first)?;
+    }
+    Ok(values)
+}
+
+// So many zeros.
+fn zeros(alloc: Global, count: usize) -> Result<Items<i64>, NoMemory>
+    ensures { IfOk result (λ values. values ≡ replicate count (pos 0)) }
+{
+    Ok(Items::from_vec(vec![in alloc; 0; count]?))
+}

@@ -1,0 +1,17 @@
+//! Laws above the definitions that contracts cite. Each function does nothing: its contract is
+//! the law.
+
+mod arithmetic;
+mod clocks;
+mod loops;
+mod steps;
+mod tuples;
+
+pub use arithmetic::{
+    arithmetic_traps, chain_goes_from_left, modulus_has_sign_of_divisor,
+    remainder_has_sign_of_dividend, worked_divisions,
+};
+pub use clocks::picks_follow_targets;
+pub use loops::loop_goes_from_low_to_high;
+pub use steps::{halted_frame_stays, steps_one_after_another};
+pub use tuples::{columns_follow_lists, cut_keeps_length};

@@ -1,0 +1,23 @@
+//! What every other crate speaks of: values of ports, arithmetic with traps, behaviours, and what
+//! they mean. The definitions that contracts cite stand in `specs/`.
+#![tactic(auto)]
+
+pub mod arithmetic;
+pub mod behaviour;
+pub mod copy;
+pub mod frame;
+pub mod items;
+pub mod laws;
+pub mod same;
+#[cfg(test)]
+mod tests;
+pub mod text;
+pub mod values;
+
+pub use arithmetic::{abs, add, modulo, mul, neg, quot, rem, sub};
+pub use behaviour::{
+    Act, Behaviour, Branch, Expr, Guard, Kind, Named, Op, Operand, StateDecl, Transition, VarDecl,
+};
+pub use items::Items;
+pub use text::Text;
+pub use values::{Adaptor, Frame, Gamma, LinkNo, Nanos, NoMemory, NodeNo, Port, Trap, Tuple};

@@ -1,0 +1,24 @@
+//! Whether two declarations are the same.
+
+use super::items::Same;
+use crate::behaviour::{Named, StateDecl, VarDecl};
+
+impl Same for Named {
+    fn same(&self, other: &Named) -> bool {
+        self.name.as_str() == other.name.as_str() && self.kind == other.kind
+    }
+}
+
+impl Same for VarDecl {
+    fn same(&self, other: &VarDecl) -> bool {
+        self.name.as_str() == other.name.as_str()
+            && self.kind == other.kind
+            && self.first == other.first
+    }
+}
+
+impl Same for StateDecl {
+    fn same(&self, other: &StateDecl) -> bool {
+        self.name.as_str() == other.name.as_str() && self.complete == other.complete
+    }
+}

@@ -1,0 +1,30 @@
+//! Whether two guards, or two transitions, are the same.
+ghost use Rattle.std.specs.Prelude.{◌≡◌, ◌↔◌, IsTrue};
+ghost use Rattle.pals_base.specs.Seen.{trigger_of};
+
+use super::actions::same_acts;
+use super::items::Same;
+use crate::behaviour::{Guard, Transition};
+
+impl Guard {
+    /// Whether another guard stands for the same trigger.
+    pub fn same(&self, other: &Guard) -> bool
+        ensures { IsTrue result ↔ (trigger_of self.now ≡ trigger_of other.now) }
+    {
+        match (self, other) {
+            (Guard::Dispatch, Guard::Dispatch) => true,
+            (Guard::Always, Guard::Always) => true,
+            (Guard::When(left), Guard::When(right)) => left.same(right),
+            _ => false,
+        }
+    }
+}
+
+impl Same for Transition {
+    fn same(&self, other: &Transition) -> bool {
+        self.source == other.source
+            && self.target == other.target
+            && self.guard.same(&other.guard)
+            && same_acts(&self.acts, &other.acts)
+    }
+}
