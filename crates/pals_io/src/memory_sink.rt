@@ -1,0 +1,98 @@
+//! A sink in memory.
+ghost use Rattle.std.specs.Prelude.{◌≡◌, ◌↔◌, ◌⊎◌, ◌<◌, ◌≤◌, [], length, Some, IsErr, IfOk, OnErr, Contains};
+ghost use Rattle.pals_io.specs.Stream.{one_more, HasCause, Takes};
+ghost use Rattle.pals_io.specs.Memory.{count_taken, after_taking, after_failed_write};
+
+use super::ends::{Failed, NoMemory};
+use super::streams::Sink;
+use std::alloc::Global;
+use std::marker::Model;
+
+/// A sink that keeps what it took, up to its room, and fails at the calls that it was told.
+#[derive(Drop)]
+pub struct MemSink {
+    bytes: Vec<u8>,
+    room: usize,
+    most: usize,
+    failing: Vec<u64>,
+    calls: u64,
+    faults: u64,
+}
+
+impl Model for MemSink {
+    ghost use Rattle.std.specs.Prelude.{◌<◌, ◌≤◌, length, vec_capacity};
+    ghost use Rattle.pals_io.specs.Memory.{SinkState};
+
+    ghost Value = { SinkState };
+
+    ghost view = { λ s. record { held = s.bytes.items; room = s.room; most = s.most; failing = s.failing.items; calls = s.calls; faults = s.faults } };
+
+    ghost invariant = { λ s. (length s.bytes.items ≤ s.room) × (s.room ≤ vec_capacity s.bytes) × (0 < s.most) };
+}
+
+impl MemSink {
+    /// An empty sink that holds at most `room` bytes and takes at most `most` of them per call. The
+    /// calls fail whose numbers, counted from 1, are among `failing`, and those that find no room.
+    ///
+    /// # Errors
+    ///
+    /// [`NoMemory`] where the room cannot be had. It is taken here, and writing takes no memory.
+    pub fn new(
+        alloc: Global,
+        room: usize,
+        most: usize,
+        failing: Vec<u64>,
+    ) -> Result<MemSink, NoMemory>
+        requires { 0 < most }
+        ensures { IfOk result (λ s. s ≡ record { held = []; room = room; most = most; failing = failing.items; calls = 0; faults = 0 }) }
+    {
+        let bytes = Vec::with_capacity(alloc, room)?;
+        Ok(MemSink {
+            bytes,
+            room,
+            most,
+            failing,
+            calls: 0,
+            faults: 0,
+        })
+    }
+
+    /// All bytes that it took, in order.
+    pub fn taken(&self) -> &[u8]
+        ensures { result.now ≡ self.now.held }
+    {
+        self.bytes.as_slice()
+    }
+}
+
+impl Sink for MemSink {
+    ghost held = { λ s. Some s.held };
+
+    ghost faults = { λ s. s.faults };
+
+    fn write(&mut self, piece: &[u8]) -> Result<usize, Failed>
+        requires { 0 < length piece.now }
+        ensures bound { IfOk result (λ n. (0 < n) × (n ≤ length piece.now)) }
+        ensures bytes { IfOk result (λ n. Takes (Some self.old.held) (Some self.new.held) piece.now n) }
+        ensures same { OnErr result (self.new.held ≡ self.old.held) }
+        ensures cause { HasCause self.old.faults self.new.faults result }
+
+        // It fails exactly at the calls that it was told and where no room is left, and else takes
+        // as much as it can.
+        ensures fails { IsErr result ↔ (Contains self.old.failing (one_more self.old.calls) ⊎ (self.old.room ≤ length self.old.held)) }
+        ensures count { IfOk result (λ n. n ≡ count_taken self.old (length piece.now)) }
+        ensures taken { IfOk result (λ n. self.new ≡ after_taking self.old piece.now n) }
+        ensures failed { OnErr result (self.new ≡ after_failed_write self.old) }
+    {
+        self.calls = self.calls.saturating_add(1);
+        let room = self.room - self.bytes.len();
+        if room == 0 || self.failing.contains(&self.calls) {
+            self.faults = self.faults.saturating_add(1);
+            return Err(Failed);
+        }
+        let n = self.most.min(piece.len().min(room));
+        let taken = self.bytes.extend_from_slice(&piece[..n]);
+        taken.unwrap();
+        Ok(n)
+    }
+}

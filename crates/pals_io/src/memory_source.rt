@@ -1,0 +1,81 @@
+//! A source in memory.
+ghost use Rattle.std.specs.Prelude.{◌≡◌, ◌↔◌, ◌<◌, ◌≤◌, ◌++◌, length, take, drop, Some, IsErr, IfOk, OnErr, Contains};
+ghost use Rattle.pals_io.specs.Stream.{one_more, HasCause, Gives};
+ghost use Rattle.pals_io.specs.Memory.{count_given, after_giving, after_failed_read};
+
+use super::ends::Failed;
+use super::streams::Source;
+use std::marker::Model;
+
+/// A source that gives the bytes it was made with, and fails at the calls that it was told.
+#[derive(Drop)]
+pub struct MemSource {
+    bytes: Vec<u8>,
+    given: usize,
+    most: usize,
+    failing: Vec<u64>,
+    calls: u64,
+    faults: u64,
+}
+
+impl Model for MemSource {
+    ghost use Rattle.std.specs.Prelude.{◌<◌, ◌≤◌, length, drop};
+    ghost use Rattle.pals_io.specs.Memory.{SourceState};
+
+    ghost Value = { SourceState };
+
+    ghost view = { λ s. record { left = drop s.given s.bytes.items; most = s.most; failing = s.failing.items; calls = s.calls; faults = s.faults } };
+
+    ghost invariant = { λ s. (s.given ≤ length s.bytes.items) × (0 < s.most) };
+}
+
+impl MemSource {
+    /// A source of these bytes that gives at most `most` of them per call. The calls fail whose
+    /// numbers, counted from 1, are among `failing`.
+    pub fn new(bytes: Vec<u8>, most: usize, failing: Vec<u64>) -> MemSource
+        requires { 0 < most }
+        ensures { result ≡ record { left = bytes.items; most = most; failing = failing.items; calls = 0; faults = 0 } }
+    {
+        MemSource {
+            bytes,
+            given: 0,
+            most,
+            failing,
+            calls: 0,
+            faults: 0,
+        }
+    }
+}
+
+impl Source for MemSource {
+    ghost left = { λ s. Some s.left };
+
+    ghost faults = { λ s. s.faults };
+
+    fn read(&mut self, buf: &mut [u8]) -> Result<usize, Failed>
+        requires { 0 < length buf.old }
+        ensures bound { IfOk result (λ n. n ≤ length buf.new) }
+        ensures bytes { IfOk result (λ n. Gives (Some self.old.left) (Some self.new.left) buf.new n) }
+        ensures same { OnErr result (self.new.left ≡ self.old.left) }
+        ensures cause { HasCause self.old.faults self.new.faults result }
+
+        // It fails exactly at the calls that it was told, and else gives as much as it can.
+        ensures fails { IsErr result ↔ Contains self.old.failing (one_more self.old.calls) }
+        ensures count { IfOk result (λ n. n ≡ count_given self.old (length buf.old)) }
+        ensures given { IfOk result (λ n. self.new ≡ after_giving self.old n) }
+        ensures filled { IfOk result (λ n. buf.new ≡ take n self.old.left ++ drop n buf.old) }
+        ensures failed { OnErr result (self.new ≡ after_failed_read self.old) }
+        ensures kept { OnErr result (buf.new ≡ buf.old) }
+    {
+        self.calls = self.calls.saturating_add(1);
+        if self.failing.contains(&self.calls) {
+            self.faults = self.faults.saturating_add(1);
+            return Err(Failed);
+        }
+        let left = &self.bytes[self.given..];
+        let n = self.most.min(buf.len().min(left.len()));
+        buf[..n].copy_from_slice(&left[..n]);
+        self.given += n;
+        Ok(n)
+    }
+}

@@ -1,0 +1,71 @@
+//! All bytes of a source, and all bytes to a sink.
+ghost use Rattle.std.specs.Prelude.{◌≡◌, ◌+◌, ◌≤◌, [], vec_len, Err, IfOk, OnOk, OnErr};
+ghost use Rattle.pals_io.specs.Stream.{Rose, HasCause, GivesAll, GivesWithin, GivesTooMany, TakesAll, TakesPart};
+
+use super::ends::{ReadEnd, WriteFault};
+use super::streams::{Sink, Source};
+use std::alloc::{AllocError, Global};
+
+// How many bytes a source is asked for at a time.
+const PIECE: usize = 65_536;
+
+/// Reads a source to its end, where it has at most `most` bytes left. It asks for at most
+/// `most + 1` bytes in all.
+///
+/// # Errors
+///
+/// [`ReadEnd::ReadFault`] where a call failed and the source's count of faults rose,
+/// [`ReadEnd::TooLong`] where the source gave more than `most` bytes, [`ReadEnd::Memory`] where no
+/// memory is left. What was read until then is lost.
+pub fn read_all<S: Source>(alloc: Global, source: &mut S, most: usize) -> Result<Vec<u8>, ReadEnd>
+    ensures all { IfOk result (λ v. GivesAll (S.left source.old) (S.left source.new) v.items) }
+    ensures within { IfOk result (λ v. vec_len v ≤ most) }
+    ensures too_long { result ≡ Err ReadEnd.TooLong → GivesTooMany (S.left source.old) (S.left source.new) most }
+    ensures fault { result ≡ Err ReadEnd.ReadFault → Rose (S.faults source.old) (S.faults source.new) }
+
+    // Whatever the result, no more is gone than that, and no fault is forgotten.
+    ensures gone { GivesWithin (S.left source.old) (S.left source.new) (most + 1) }
+    ensures later { S.faults source.old ≤ S.faults source.new }
+{
+    let mut buffer = zeros(alloc, PIECE)?;
+    let piece = buffer.as_mut_slice();
+    let mut all = Vec::new(alloc);
+    loop {
+        let room = most - all.len();
+        let asked = room.saturating_add(1).min(PIECE);
+        let n = source.read(&mut piece[..asked])?;
+        if n == 0 {
+            return Ok(all);
+        }
+        if n > room {
+            return Err(ReadEnd::TooLong);
+        }
+        all.extend_from_slice(&piece[..n])?;
+    }
+}
+
+// That many bytes, to be written over.
+fn zeros(alloc: Global, count: usize) -> Result<Vec<u8>, AllocError>
+    ensures { IfOk result (λ v. vec_len v ≡ count) }
+{
+    vec![in alloc; 0u8; count]
+}
+
+/// Writes all bytes, in order. It takes no memory. For an empty slice it makes no call.
+///
+/// # Errors
+///
+/// [`WriteFault`] where a call failed and the sink's count of faults rose. Some first bytes were
+/// written, and not all.
+pub fn write_all<K: Sink>(sink: &mut K, bytes: &[u8]) -> Result<(), WriteFault>
+    ensures all { OnOk result (TakesAll (K.held sink.old) (K.held sink.new) bytes.now) }
+    ensures part { OnErr result (TakesPart (K.held sink.old) (K.held sink.new) bytes.now) }
+    ensures cause { HasCause (K.faults sink.old) (K.faults sink.new) result }
+    ensures nothing { bytes.now ≡ [] → sink.new ≡ sink.old }
+{
+    let mut done = 0;
+    while done < bytes.len() {
+        done += sink.write(&bytes[done..])?;
+    }
+    Ok(())
+}
