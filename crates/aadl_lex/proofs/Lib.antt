@@ -1,0 +1,4 @@
+pub mod Order
+pub mod Scans
+pub mod Unique
+pub mod Within

@@ -1,0 +1,86 @@
+//! The tokens of a design text.
+//!
+//! A text is UTF-8. Blanks and comments part its tokens: words, whole numbers, reals, strings,
+//! symbols, and annexes. [`lex`] gives all tokens of a text, or its first fault from left to right.
+#![tactic(auto)]
+
+ghost use Rattle.std.specs.Prelude.{ℕ, ◌≡◌, ◌≢◌, ◌+◌, ◌<◌, ◌≤◌, List, All, length, IfOk, IfErr};
+ghost use Rattle.aadl_lex.specs.declared.fault.LexFault.{LexFault};
+ghost use Rattle.aadl_lex.specs.declared.token.Token.{Token};
+ghost use Rattle.aadl_lex.specs.Tokens.{Lexes, Faults, AreTokensOf, AreInOrder, IsFaultOf};
+
+mod fault;
+mod rules;
+mod scan;
+mod token;
+
+pub use fault::LexFault;
+use rules::{First, Reading, front};
+use std::alloc::Global;
+use std::str;
+pub use token::{Token, TokenKind};
+
+/// The tokens of the text, or its first fault. That the text is no UTF-8 goes before all else.
+pub fn lex(alloc: Global, text: &[u8]) -> Result<Vec<Token>, LexFault>
+    ensures tokens { IfOk result (λ tokens. AreTokensOf text.now tokens.items) }
+    ensures fault { IfErr result (λ fault. fault ≢ LexFault.Memory → IsFaultOf text.now fault) }
+{
+    if let Err(error) = str::from_utf8(text) {
+        return Err(LexFault::NotUtf8 {
+            at: error.valid_up_to(),
+        });
+    }
+    read(alloc, text, 0, Reading::Outside)
+}
+
+/// The tokens from the byte `at` on.
+fn read(
+    alloc: Global,
+    text: &[u8],
+    mut at: usize,
+    mut reading: Reading,
+) -> Result<Vec<Token>, LexFault>
+    requires { at ≤ length text.now }
+    ensures tokens { IfOk result (λ tokens. Lexes reading text.now at tokens.items) }
+    ensures fault { IfErr result (λ fault. fault ≢ LexFault.Memory → Faults reading text.now at fault) }
+{
+    let mut found = Vec::new(alloc);
+    while at < text.len() {
+        let (_, rest) = text.split_at(at);
+        match front(reading, rest, at) {
+            First::Skipped(len) => at += len,
+            First::Taken(kind, len) => {
+                found.push(Token::new(kind, at, len))?;
+                reading = reading.after(kind, &rest[..len]);
+                at += len;
+            }
+            First::Body(len) => {
+                let close = at + 3 + len;
+                let mut body = read(alloc, &text[..close], at + 3, Reading::Inside)?;
+                found.push(Token::new(TokenKind::AnnexOpen, at, 3))?;
+                found.append(&mut body)?;
+                found.push(Token::new(TokenKind::AnnexClose, close, 3))?;
+                reading = Reading::Outside;
+                at = close + 3;
+            }
+            First::Refused(fault) => return Err(fault),
+        }
+    }
+    Ok(found)
+}
+
+/// A text has one list of tokens or one first fault, and never both.
+pub fn one_answer()
+    ensures tokens { (text : List ℕ) (ts us : List Token) → AreTokensOf text ts → AreTokensOf text us → ts ≡ us }
+    ensures fault { (text : List ℕ) (f g : LexFault) → IsFaultOf text f → IsFaultOf text g → f ≡ g }
+    ensures either { (text : List ℕ) (ts : List Token) (f : LexFault) → AreTokensOf text ts → ¬ IsFaultOf text f }
+{}
+
+/// The tokens of a text stand one behind the other in it, each of a byte at least.
+pub fn tokens_in_order()
+    ensures order { (text : List ℕ) (ts : List Token) → AreTokensOf text ts → AreInOrder 0 (length text) ts }
+    ensures within { (text : List ℕ) (ts : List Token) → AreTokensOf text ts → All (λ t. (t.start < t.end) × (t.end ≤ length text)) ts }
+{}
+
+#[cfg(test)]
+mod tests;

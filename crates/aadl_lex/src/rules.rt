@@ -1,0 +1,139 @@
+//! What stands at the front of a text, rule by rule.
+
+ghost use Rattle.std.specs.Prelude.{ℕ, ◌≡◌, ◌+◌, ◌<◌, ◌≤◌, length};
+ghost use Rattle.aadl_lex.specs.Rules as spec;
+ghost use Rattle.aadl_lex.specs.Rules.{IsWithin};
+
+use crate::fault::LexFault;
+use crate::scan;
+use crate::token::TokenKind;
+
+/// The most bytes of a word.
+const LONGEST_NAME: usize = 64;
+
+/// How a text is read at a place.
+#[derive(Clone, Copy, Debug, PartialEq, Eq)]
+pub enum Reading {
+    /// Outside of annex bodies.
+    Outside,
+    /// Outside, where the token before is the word `behavior_specification`.
+    AfterName,
+    /// In an annex body that is read as tokens.
+    Inside,
+}
+
+impl Reading {
+    /// How the text is read behind a token of this kind and these bytes.
+    pub fn after(self, kind: TokenKind, token: &[u8]) -> Reading
+        ensures { result ≡ spec.after self kind token.now }
+    {
+        match (self, kind) {
+            (Reading::Inside, _) => Reading::Inside,
+            (_, TokenKind::Word) if token.eq_ignore_ascii_case(b"behavior_specification") => {
+                Reading::AfterName
+            }
+            _ => Reading::Outside,
+        }
+    }
+}
+
+/// What stands at the front of a text.
+#[derive(Clone, Copy, Debug, PartialEq, Eq)]
+pub enum First {
+    /// So many bytes of a blank or a comment.
+    Skipped(usize),
+    /// A token of this kind and of so many bytes.
+    Taken(TokenKind, usize),
+    /// `{**`, a body of so many bytes to be read as tokens, and `**}`.
+    Body(usize),
+    /// No token.
+    Refused(LexFault),
+}
+
+fn is_blank(byte: u8) -> bool
+    ensures { result ≡ spec.is_blank byte }
+{
+    byte == b' ' || byte == b'\t' || byte == b'\n' || byte == b'\r'
+}
+
+fn word_first(text: &[u8], at: usize) -> First
+    ensures { result ≡ spec.word_first at text.now }
+{
+    let len = scan::word_len(text);
+    if len <= LONGEST_NAME {
+        First::Taken(TokenKind::Word, len)
+    } else {
+        First::Refused(LexFault::LongName { at })
+    }
+}
+
+fn number_first(text: &[u8], at: usize) -> First
+    ensures { result ≡ spec.number_first at text.now }
+{
+    if let Some(len) = scan::real_len(text) {
+        return First::Taken(TokenKind::Real, len);
+    }
+    let len = scan::whole_len(text);
+    match scan::decimal(&text[..len]) {
+        Some(value) => First::Taken(TokenKind::Whole(value), len),
+        None => First::Refused(LexFault::BigNumber { at }),
+    }
+}
+
+fn string_first(text: &[u8], at: usize) -> First
+    requires { 0 < length text.now }
+    ensures { result ≡ spec.string_first at text.now }
+{
+    let inner = scan::string_len(&text[1..]);
+    if text.get(inner + 1) == Some(&b'"') {
+        First::Taken(TokenKind::Quoted, inner + 2)
+    } else {
+        First::Refused(LexFault::OpenString { at })
+    }
+}
+
+fn annex_first(reading: Reading, text: &[u8], at: usize) -> First
+    requires { 3 ≤ length text.now }
+    ensures { result ≡ spec.annex_first reading at text.now }
+{
+    match (scan::body_len(&text[3..]), reading) {
+        (None, _) => First::Refused(LexFault::OpenAnnex { at }),
+        (Some(len), Reading::AfterName) => First::Body(len),
+        (Some(len), _) => First::Taken(TokenKind::Unread, len + 6),
+    }
+}
+
+fn symbol_first(text: &[u8], at: usize) -> First
+    requires { 0 < length text.now }
+    ensures { result ≡ spec.symbol_first at text.now }
+{
+    match scan::symbol_len(text) {
+        0 => First::Refused(LexFault::BadByte { at }),
+        len => First::Taken(TokenKind::Symbol, len),
+    }
+}
+
+/// What stands at the front of the text, whose first byte is at `at` in the whole text.
+#[tactic(auto, unfolding(crate::specs::Rules::first))]
+pub fn front(reading: Reading, text: &[u8], at: usize) -> First
+    requires { 0 < length text.now }
+    ensures value { result ≡ spec.first reading at text.now }
+    ensures within { IsWithin (length text.now) result }
+{
+    let byte = text[0];
+    if is_blank(byte) {
+        First::Skipped(1)
+    } else if text.starts_with(b"--") {
+        First::Skipped(scan::line_len(text))
+    } else if byte.is_ascii_alphabetic() {
+        word_first(text, at)
+    } else if byte.is_ascii_digit() {
+        number_first(text, at)
+    } else if byte == b'"' {
+        string_first(text, at)
+    } else if text.starts_with(b"{**") && reading != Reading::Inside {
+        annex_first(reading, text, at)
+    } else {
+        symbol_first(text, at)
+    }
+}
