@@ -1,0 +1,3 @@
+pub mod Branches
+pub mod Seen
+pub mod Moves

@@ -1,0 +1,14 @@
+//! The meaning of behaviours as a program: one step, by a walk over the trees of its actions and
+//! expressions.
+#![tactic(auto)]
+
+mod actions;
+mod expressions;
+mod step;
+mod stop;
+mod transitions;
+
+pub use step::fire;
+
+#[cfg(test)]
+mod tests;

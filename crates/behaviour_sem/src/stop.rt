@@ -1,0 +1,23 @@
+//! Why a step does not come to its end.
+use pals_base::Trap;
+use std::alloc::{AllocError, AllocFailed};
+
+/// What ends a run of actions early.
+#[derive(Clone, Copy, PartialEq, Eq, Debug)]
+pub enum Stop {
+    /// A trap of the behaviour itself.
+    Trapped(Trap),
+    /// Memory was wanting for the number of a loop.
+    NoMemory,
+}
+
+impl From<Trap> for Stop {
+    ghost use Rattle.std.specs.Prelude.{◌≡◌};
+    ghost use Rattle.behaviour_sem.specs.declared.stop.Stop.TheVariants.{Trapped};
+
+    ghost from_gives = { λ trap stop. stop ≡ Trapped trap };
+
+    fn from(trap: Trap) -> Stop {
+        Stop::Trapped(trap)
+    }
+}
