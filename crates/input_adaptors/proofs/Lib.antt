@@ -1,0 +1,9 @@
+pub mod Extremes
+pub mod Groups
+pub mod Means
+pub mod Present
+pub mod Quotient
+pub mod Rates
+pub mod Silence
+pub mod Sources
+pub mod Spreads

@@ -1,0 +1,84 @@
+-- Where spread values stand.
+use Rattle.std.proofs.Common.{◌≡◌, ◌≢◌, ◌∙◌, ap, sym, ℕ, zero, suc, ◌+◌, ◌-◌, ◌*◌, ◌/◌, ◌<◌, ◌≤◌, inl, inr, List, [], ◌∷◌, length, Some, arith}
+use Rattle.std.specs.Prelude.{flat_map, slice_get, slice_index_or, slice_set, replicate}
+use Rattle.std.proofs.lemmas.Nat.{mul-add-lt}
+use Rattle.std.proofs.lemmas.Option.{slice_get-get_or}
+use Rattle.std.proofs.lemmas.List.{length-replicate, get_or-replicate, get_or-set_same, get_or-set_other, get_or_append_left, get_or-append_right}
+use Rattle.pals_base.specs.declared.values.Port.{Port}
+use Rattle.pals_base.specs.declared.values.Port.TheVariants.{Absent}
+use Rattle.pals_base.specs.declared.values.Adaptor.{Adaptor}
+use Rattle.pals_base.specs.declared.values.Adaptor.TheVariants.{Repeat, First, Last, At, Latest, Max, Min, Average}
+use Rattle.pals_base.specs.Adaptors.{adapt, spread, placed}
+use Rattle.input_adaptors.specs.Allowed.{CanSpread, IsAllowed}
+use Rattle.input_adaptors.specs.Places.{TakesPlace}
+use Rattle.input_adaptors.proofs.Rates.{adapt-faster, length-spread, length-spread_all}
+
+placed_there : (n m j : ℕ) (v : Port) → j < m → j + 1 ≡ n → slice_index_or (placed n m v) j Absent ≡ v
+placed_there n m j v below here =
+    let e : n - 1 ≡ j = omega arith in
+    ap (λ k. slice_index_or (slice_set (replicate m Absent) k v) j Absent) e ∙ get_or-set_same (replicate m Absent) j v Absent (omega (arith, length-replicate m Absent))
+
+placed_absent : (n m j : ℕ) (v : Port) → 1 ≤ n → j < m → (j + 1 ≢ n) → slice_index_or (placed n m v) j Absent ≡ Absent
+placed_absent n m j v some below elsewhere =
+    let e : j ≢ n - 1 = omega arith in
+    get_or-set_other (replicate m Absent) (n - 1) j v Absent e ∙ get_or-replicate m j Absent Absent below
+
+spread_there : (a : Adaptor) (m j : ℕ) (v : Port) → j < m → TakesPlace a m j → slice_index_or (spread a m v) j Absent ≡ v
+spread_there Repeat m j v below here = get_or-replicate m j v Absent below
+spread_there First m j v below here = placed_there 1 m j v below (omega arith)
+spread_there Last m j v below here = placed_there m m j v below here
+spread_there (At n) m j v below here = placed_there n m j v below here
+spread_there Latest m j v below here = absurd here
+spread_there Max m j v below here = absurd here
+spread_there Min m j v below here = absurd here
+spread_there Average m j v below here = absurd here
+
+spread_absent : (a : Adaptor) (m j : ℕ) (v : Port) → CanSpread m a → j < m → ¬ TakesPlace a m j → slice_index_or (spread a m v) j Absent ≡ Absent
+spread_absent Repeat m j v can below elsewhere = absurd (elsewhere tt)
+spread_absent First m j v can below elsewhere = placed_absent 1 m j v (omega arith) below (λ e. elsewhere (omega arith))
+spread_absent Last m j v can below elsewhere = placed_absent m m j v (omega arith) below elsewhere
+spread_absent (At n) m j v can below elsewhere = placed_absent n m j v can.0 below elsewhere
+spread_absent Latest m j v can below elsewhere = absurd can
+spread_absent Max m j v can below elsewhere = absurd can
+spread_absent Min m j v can below elsewhere = absurd can
+spread_absent Average m j v can below elsewhere = absurd can
+
+at_spread : (a : Adaptor) (m i j : ℕ) (tuple : List Port) → i < length tuple → j < m
+    → slice_index_or (flat_map (spread a m) tuple) (i * m + j) Absent ≡ slice_index_or (spread a m (slice_index_or tuple i Absent)) j Absent
+at_spread a m i j [] within below = absurd (omega arith)
+at_spread a m zero j (v ∷ tuple) within below =
+    let e : 0 * m + j ≡ j = omega arith in
+    ap (λ k. slice_index_or (flat_map (spread a m) (v ∷ tuple)) k Absent) e
+    ∙ get_or_append_left (spread a m v) (flat_map (spread a m) tuple) Absent j (omega (arith, length-spread a m v))
+at_spread a m (suc i) j (v ∷ tuple) within below =
+    let e : suc i * m + j - m ≡ i * m + j = omega arith in
+    get_or-append_right (spread a m v) (flat_map (spread a m) tuple) m (suc i * m + j) Absent (length-spread a m v) (omega arith)
+    ∙ ap (λ k. slice_index_or (flat_map (spread a m) tuple) k Absent) e
+    ∙ at_spread a m i j tuple (omega arith) below
+
+slice_get-spread : (a : Adaptor) (m i j : ℕ) (tuple : List Port) → i < length tuple → j < m
+    → slice_get (flat_map (spread a m) tuple) (i * m + j) ≡ Some (slice_index_or (spread a m (slice_index_or tuple i Absent)) j Absent)
+slice_get-spread a m i j tuple within below =
+    let here : i * m + j < m * length tuple = mul-add-lt i m j (length tuple) within below in
+    slice_get-get_or (flat_map (spread a m) tuple) (i * m + j) Absent (omega (arith, length-spread_all a m tuple)) ∙ ap Some (at_spread a m i j tuple within below)
+
+can_spread : (a : Adaptor) (p q : ℕ) → p < q → IsAllowed (Some a) p q → CanSpread (q / p) a
+can_spread a p q below (inl up) = up.2
+can_spread a p q below (inr down) = absurd (omega (arith, down.0))
+
+pub slice_get-there : (a : Adaptor) (p q i j : ℕ) (tuple : List Port) → p < q → IsAllowed (Some a) p q → length tuple ≡ p → i < p → j < q / p → TakesPlace a (q / p) j
+    → slice_get (adapt (Some a) p q tuple) (i * (q / p) + j) ≡ slice_get tuple i
+slice_get-there a p q i j tuple higher allowed size within below here =
+    let inside : i < length tuple = omega arith in
+    ap (λ places. slice_get places (i * (q / p) + j)) (adapt-faster a p q tuple higher)
+    ∙ slice_get-spread a (q / p) i j tuple inside below
+    ∙ ap Some (spread_there a (q / p) j (slice_index_or tuple i Absent) below here)
+    ∙ sym (slice_get-get_or tuple i Absent inside)
+
+pub slice_get-absent : (a : Adaptor) (p q i j : ℕ) (tuple : List Port) → p < q → IsAllowed (Some a) p q → length tuple ≡ p → i < p → j < q / p → ¬ TakesPlace a (q / p) j
+    → slice_get (adapt (Some a) p q tuple) (i * (q / p) + j) ≡ Some Absent
+slice_get-absent a p q i j tuple higher allowed size within below elsewhere =
+    let inside : i < length tuple = omega arith in
+    ap (λ places. slice_get places (i * (q / p) + j)) (adapt-faster a p q tuple higher)
+    ∙ slice_get-spread a (q / p) i j tuple inside below
+    ∙ ap Some (spread_absent a (q / p) j (slice_index_or tuple i Absent) (can_spread a p q higher allowed) below elsewhere)

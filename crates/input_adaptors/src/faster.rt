@@ -1,0 +1,48 @@
+//! To a higher rate: each value of the source over several places of the target.
+ghost use Rattle.std.specs.Prelude.{◌≡◌, ◌<◌, ◌++◌, IfOk, OnOk, flat_map, slice_index_or};
+ghost use Rattle.pals_base.specs.Adaptors.{spread};
+ghost use Rattle.pals_base.specs.declared.values.Port.TheVariants.{Absent};
+
+use pals_base::{Adaptor, NoMemory, Port, Tuple};
+use std::alloc::Global;
+
+/// Each value over `m` places, in order.
+pub fn spread_all(
+    alloc: Global,
+    adaptor: Adaptor,
+    m: u32,
+    values: &[Port],
+) -> Result<Tuple, NoMemory>
+    ensures { IfOk result (λ t. t ≡ flat_map (spread adaptor m) values.now) }
+{
+    let mut tuple = Tuple::new(alloc);
+    for value in values {
+        push_spread(&mut tuple, adaptor, m, *value)?;
+    }
+    Ok(tuple)
+}
+
+// Adds the `m` places of one value.
+fn push_spread(tuple: &mut Tuple, adaptor: Adaptor, m: u32, value: Port) -> Result<(), NoMemory>
+    ensures { OnOk result (tuple.new ≡ tuple.old ++ spread adaptor m value) }
+{
+    for place in 0..m {
+        tuple.push(at_place(adaptor, m, value, place))?;
+    }
+    Ok(())
+}
+
+// What one of the `m` places of a value has; places count from 0.
+fn at_place(adaptor: Adaptor, m: u32, value: Port, place: u32) -> Port
+    requires { place < m }
+    ensures { result ≡ slice_index_or (spread adaptor m value) place Absent }
+{
+    let is_here = match adaptor {
+        Adaptor::Repeat => true,
+        Adaptor::First => place == 0,
+        Adaptor::Last => place == m - 1,
+        Adaptor::At(n) => place == n.saturating_sub(1),
+        Adaptor::Latest | Adaptor::Max | Adaptor::Min | Adaptor::Average => false,
+    };
+    if is_here { value } else { Port::Absent }
+}

@@ -1,0 +1,43 @@
+//! Input adaptors: how what a source gives in a round goes over to the steps of a target of another
+//! rate. What each adaptor means is `pals_base`'s `adapt`; the laws that it keeps are in `laws`.
+#![tactic(auto)]
+
+mod faster;
+mod group;
+pub mod laws;
+mod slower;
+#[cfg(test)]
+mod tests;
+
+ghost use Rattle.std.specs.Prelude.{◌≡◌, ◌/◌, IfOk};
+ghost use Rattle.pals_base.specs.Adaptors.{adapt};
+
+use pals_base::{Adaptor, NoMemory, Tuple};
+use std::alloc::Global;
+
+/// What a target that makes `q` steps a round reads of the tuple of a source that makes `p` steps.
+/// Without an adaptor it is the tuple. Else, where `p < q`, each value goes over to `q / p` places,
+/// and where not, each group of `p / q` places gives one. Only want of memory is refused.
+pub fn adapt(
+    alloc: Global,
+    adaptor: Option<Adaptor>,
+    p: u32,
+    q: u32,
+    tuple: &Tuple,
+) -> Result<Tuple, NoMemory>
+    ensures { IfOk result (λ t. t ≡ adapt adaptor p q tuple.now) }
+{
+    let places = tuple.as_slice();
+    match adaptor {
+        None => Tuple::from_slice(alloc, places),
+        Some(adaptor) if p < q => faster::spread_all(alloc, adaptor, ratio(q, p), places),
+        Some(adaptor) => slower::join_all(alloc, adaptor, q, ratio(p, q), places),
+    }
+}
+
+// How many steps of the higher rate go to one of the lower. A rate of 0 has none.
+fn ratio(higher: u32, lower: u32) -> u32
+    ensures { result ≡ higher / lower }
+{
+    higher.checked_div(lower).unwrap_or(0)
+}

@@ -1,0 +1,27 @@
+//! To a lower rate: one place of the target from each group of the source's places.
+ghost use Rattle.std.specs.Prelude.{◌≡◌, IfOk, map};
+ghost use Rattle.pals_base.specs.Adaptors.{joined, groups};
+
+use crate::group;
+use pals_base::{Adaptor, NoMemory, Port, Tuple};
+use std::alloc::Global;
+
+/// One place from each of the first `count` groups of `m` places.
+pub fn join_all(
+    alloc: Global,
+    adaptor: Adaptor,
+    count: u32,
+    m: u32,
+    places: &[Port],
+) -> Result<Tuple, NoMemory>
+    ensures { IfOk result (λ t. t ≡ map (joined adaptor) (groups count m places.now)) }
+{
+    let mut tuple = Tuple::new(alloc);
+    let mut rest = places;
+    for _group_number in 0..count {
+        let (group, later) = rest.split_at((m as usize).min(rest.len()));
+        tuple.push(group::joined(adaptor, group))?;
+        rest = later;
+    }
+    Ok(tuple)
+}
