@@ -1,0 +1,6 @@
+pub mod Inputs
+pub mod Composition
+pub mod RoundTexts
+pub mod Rules
+pub mod Laws
+pub mod Counters

@@ -1,0 +1,42 @@
+//! Laws of the composition. The functions do nothing: their contracts hold at every design and
+//! environment, and say what the composition means without its definition.
+ghost use Rattle.pals_model.specs.Laws.{OneFrameEach, OneMessageEach, StateBegins, LinksBeginAbsent, StateGoesOn, MessageFromSource, RunsAlone, DependsOnPast};
+ghost use Rattle.pals_model.specs.Counters.{CountersCount};
+
+/// There is a frame for each component and a message for each link.
+pub fn lengths()
+    ensures frames { OneFrameEach }
+    ensures messages { OneMessageEach }
+{}
+
+/// Before the first round each component has its initial frame, and each link is absent throughout.
+pub fn beginning()
+    ensures frames { StateBegins }
+    ensures messages { LinksBeginAbsent }
+{}
+
+/// In each round a component's frame goes on by its own steps.
+pub fn state_goes_on()
+    ensures { StateGoesOn }
+{}
+
+/// The message of a link is what its source's own steps of that round gave on its out port, as far
+/// as they end in time to be sent.
+pub fn message_from_source()
+    ensures { MessageFromSource }
+{}
+
+/// A component that no link goes to runs alone on what the root in ports bring.
+pub fn runs_alone()
+    ensures { RunsAlone }
+{}
+
+/// What stands after some rounds depends on these rounds of the environment alone.
+pub fn depends_on_past()
+    ensures { DependsOnPast }
+{}
+
+/// The first three rounds of two counters, each of which counts on from the other's last value.
+pub fn two_counters()
+    ensures { CountersCount }
+{}
