@@ -1,0 +1,5 @@
+pub mod Spellings
+pub mod PortSteps
+pub mod StepTrees
+pub mod Cells
+pub mod BundleParts

@@ -1,0 +1,4 @@
+pub mod Tokens
+pub mod Spelling
+pub mod Meaning
+pub mod FirstForm
