@@ -1,0 +1,47 @@
+//! Answers: what is written, and with which status.
+ghost use Rattle.std.specs.Prelude.{◌≡◌};
+ghost use Rattle.pals_top.specs.Statuses.{status_of, text_of};
+
+/// An answer of the program.
+#[derive(Drop)]
+pub enum Answer {
+    /// The report of all rounds.
+    Report(Vec<u8>),
+    /// The words are no form.
+    Usage,
+    /// The bytes are no bundle that the reader takes.
+    NotBuilt,
+    /// The source failed.
+    ReadFault,
+    /// The source has too many bytes.
+    TooLong,
+}
+
+impl Answer {
+    /// The status that the program ends with.
+    pub fn status(&self) -> u8
+        ensures { result ≡ status_of self.now }
+    {
+        match self {
+            Answer::Report(_) => 0,
+            Answer::Usage => 2,
+            Answer::NotBuilt => 3,
+            Answer::ReadFault => 9,
+            Answer::TooLong => 12,
+        }
+    }
+
+    /// The whole text that the program writes.
+    pub fn text(&self) -> &[u8]
+        ensures { result.now ≡ text_of self.now }
+    {
+        match self {
+            Answer::Report(text) => text.as_slice(),
+            Answer::Usage =>
+                b"usage: pals print / check ROOT / sync ROOT / world [--loose] ROOT / run [--trace] ROOT / audit ROOT / self N R\n",
+            Answer::NotBuilt => b"not built\n",
+            Answer::ReadFault => b"read fault\n",
+            Answer::TooLong => b"too long\n",
+        }
+    }
+}

@@ -1,0 +1,11 @@
+//! The whole program as one call: words and bytes in, a status and bytes out.
+#![tactic(auto)]
+
+mod answer;
+mod program;
+mod words;
+
+pub use program::pals;
+
+#[cfg(test)]
+mod tests;
