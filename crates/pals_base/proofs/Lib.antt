@@ -5,3 +5,7 @@ pub mod Loops
 pub mod Division
 pub mod Clocks
 pub mod Lengths
+pub mod Upwards
+pub mod Settling
+pub mod Keeping
+pub mod Ending

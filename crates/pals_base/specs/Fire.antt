@@ -4,7 +4,7 @@ use Rattle.pals_base.specs.declared.values.Trap.{Trap}
 use Rattle.pals_base.specs.declared.values.Frame.{Frame}
 use Rattle.pals_base.specs.declared.values.Port.{Port}
 use Rattle.pals_base.specs.declared.values.Port.TheVariants.{Absent, Present}
-use Rattle.pals_base.specs.declared.behaviour.Behaviour.{Behaviour}
+use Rattle.pals_base.specs.declared.behaviour.BehaviourParts.{BehaviourParts}
 use Rattle.pals_base.specs.declared.behaviour.StateDecl.{StateDecl}
 use Rattle.pals_base.specs.declared.behaviour.VarDecl.{VarDecl}
 use Rattle.pals_base.specs.Expressions.{eval, on_value, is_true}
@@ -28,7 +28,7 @@ is_present Absent = false
 is_present (Present v) = true
 
 -- no value on any out port
-abbrev pub silence : Behaviour → List Port
+abbrev pub silence : BehaviourParts → List Port
 silence b = replicate (length b.outs) Absent
 
 -- ---- transitions
@@ -37,11 +37,11 @@ abbrev pub completes : Option StateDecl → Bool
 completes None = true
 completes (Some s) = s.complete
 
-abbrev pub is_complete : Behaviour → ℕ → Bool
+abbrev pub is_complete : BehaviourParts → ℕ → Bool
 is_complete b state = completes (slice_get b.states state)
 
 -- the transitions that leave a state, in the text's order
-abbrev pub leaving : Behaviour → ℕ → List Edge
+abbrev pub leaving : BehaviourParts → ℕ → List Edge
 leaving b state = filter (λ e. nat_eq e.source state) b.transitions
 
 abbrev pub is_dispatch : Trigger → Bool
@@ -72,43 +72,43 @@ along None fresh at = Ok at
 along (Some e) fresh at = on_value (acts e.actions at.frame fresh at.outs) (λ done. Ok (record { frame = record at.frame { state = e.target; vars = done.vars }; outs = done.outs }))
 
 -- from a state on until a complete one, by at most n transitions
-abbrev pub settled : ℕ → Behaviour → List Bool → Fired → Result Fired Trap
+abbrev pub settled : ℕ → BehaviourParts → List Bool → Fired → Result Fired Trap
 settled zero b fresh at = Ok at
 settled (suc n) b fresh at =
     if is_complete b at.frame.state then Ok at
     else on_value (first_open (leaving b at.frame.state) at.frame fresh) (λ e. on_value (along e fresh at) (λ next. settled n b fresh next))
 
 -- the dispatch transition of a complete state
-abbrev pub dispatched : Behaviour → ℕ → Option Edge
+abbrev pub dispatched : BehaviourParts → ℕ → Option Edge
 dispatched b state = find (λ e. is_dispatch e.trigger) (leaving b state)
 
 -- the whole step of a frame that holds its inputs; it meets no state twice before a complete one
-abbrev pub reaction : Behaviour → List Bool → Frame → Result Fired Trap
+abbrev pub reaction : BehaviourParts → List Bool → Frame → Result Fired Trap
 reaction b fresh frame = on_value (along (dispatched b frame.state) fresh (record { frame = frame; outs = silence b })) (λ at. settled (length b.states) b fresh at)
 
 -- what a step leaves: at a trap, the frame from before it with the new held inputs and the halt, and no outputs
-abbrev pub outcome : Behaviour → Frame → Result Fired Trap → Fired
+abbrev pub outcome : BehaviourParts → Frame → Result Fired Trap → Fired
 outcome b held (Ok fired) = fired
 outcome b held (Err trap) = record { frame = record held { halt = Some trap }; outs = silence b }
 
 -- a halted frame stays
-abbrev pub unless_halted : Behaviour → Frame → Option Trap → Result Fired Trap → Fired
+abbrev pub unless_halted : BehaviourParts → Frame → Option Trap → Result Fired Trap → Fired
 unless_halted b held None reacted = outcome b held reacted
 unless_halted b held (Some trap) reacted = record { frame = held; outs = silence b }
 
 -- one step at these inputs
-abbrev pub fire : Behaviour → Frame → List Port → Fired
+abbrev pub fire : BehaviourParts → Frame → List Port → Fired
 fire b frame inputs =
     let held : Frame = record frame { held = holding frame.held inputs } in
     unless_halted b held frame.halt (reaction b (map is_present inputs) held)
 
 -- ---- frames
 -- the frame that a component starts with
-abbrev pub initial : Behaviour → Frame
+abbrev pub initial : BehaviourParts → Frame
 initial b = record { state = b.initial; vars = map (λ (v : VarDecl). v.first) b.vars; held = replicate (length b.ins) (pos 0); halt = None }
 
 -- the frame fits the behaviour: a complete state, and as many variables and held inputs
-pub record HasShape (b : Behaviour) (frame : Frame) : Type 0 where
+pub record HasShape (b : BehaviourParts) (frame : Frame) : Type 0 where
   pub state : (s : StateDecl) × (slice_get b.states frame.state ≡ Some s) × (s.complete ≡ true)
   pub vars : length frame.vars ≡ length b.vars
   pub held : length frame.held ≡ length b.ins

@@ -7,6 +7,8 @@ pub mod Expressions
 pub mod Actions
 pub mod Fire
 pub mod Steps
+pub mod Kinds
+pub mod Rules
 pub mod Adaptors
 pub mod Allowed
 pub mod Bound

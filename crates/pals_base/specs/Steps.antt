@@ -3,7 +3,7 @@ use Rattle.std.specs.Prelude.{ℕ, ◌-◌, zero, suc, List, [], ◌∷◌, ◌+
 use Rattle.pals_base.specs.declared.values.Frame.{Frame}
 use Rattle.pals_base.specs.declared.values.Port.{Port}
 use Rattle.pals_base.specs.declared.values.Port.TheVariants.{Absent}
-use Rattle.pals_base.specs.declared.behaviour.Behaviour.{Behaviour}
+use Rattle.pals_base.specs.declared.behaviour.BehaviourParts.{BehaviourParts}
 use Rattle.pals_base.specs.Fire.{fire}
 
 -- so many numbers from one on
@@ -20,12 +20,12 @@ abbrev pub columns : ℕ → List (List Port) → List (List Port)
 columns n lists = map (λ at. column at lists) (upwards 0 n)
 
 -- the frame after steps at these inputs, one vector a step
-abbrev pub frame_after : Behaviour → Frame → List (List Port) → Frame
+abbrev pub frame_after : BehaviourParts → Frame → List (List Port) → Frame
 frame_after b frame [] = frame
 frame_after b frame (inputs ∷ vectors) = frame_after b (fire b frame inputs).frame vectors
 
 -- what the out ports have in each of these steps
-abbrev pub outputs : Behaviour → Frame → List (List Port) → List (List Port)
+abbrev pub outputs : BehaviourParts → Frame → List (List Port) → List (List Port)
 outputs b frame [] = []
 outputs b frame (inputs ∷ vectors) = (fire b frame inputs).outs ∷ outputs b (fire b frame inputs).frame vectors
 
@@ -35,7 +35,7 @@ pub record Stepped : Type 0 where
   pub tuples : List (List Port)
 
 -- the steps of a round: the fold of `fire`, with each out port's values gathered as a tuple
-abbrev pub steps : Behaviour → Frame → List (List Port) → Stepped
+abbrev pub steps : BehaviourParts → Frame → List (List Port) → Stepped
 steps b frame vectors = record { frame = frame_after b frame vectors; tuples = columns (length b.outs) (outputs b frame vectors) }
 
 -- a tuple with every place after its first n absent

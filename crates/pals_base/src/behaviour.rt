@@ -146,13 +146,106 @@ impl Model for Transition {
     ghost view = { λ t. record { source = t.source; target = t.target; trigger = trigger_of t.guard; actions = actions_along t.acts.items } };
 }
 
-/// What a thread does: its ports, variables and states, and the transitions in the text's order.
+/// The parts of a behaviour: its ports, variables and states, the number of its initial state, and
+/// the transitions in the text's order.
 #[derive(Drop)]
-pub struct Behaviour {
+pub struct BehaviourParts {
     pub ins: Items<Named>,
     pub outs: Items<Named>,
     pub vars: Items<VarDecl>,
     pub states: Items<StateDecl>,
     pub initial: u32,
     pub transitions: Items<Transition>,
+}
+
+/// What a thread does, which contracts see as its parts. It is well typed and its loops are short;
+/// one transition at the dispatch leaves each complete state, and from every other state a step can
+/// go on and comes to a complete one, so that each step ends.
+#[derive(Drop)]
+pub struct Behaviour {
+    parts: BehaviourParts,
+}
+
+impl Model for Behaviour {
+    ghost use Rattle.pals_base.specs.declared.behaviour.BehaviourParts.{BehaviourParts};
+
+    ghost Value = { BehaviourParts };
+
+    ghost use Rattle.pals_base.specs.contracts.behaviour.BehaviourParts.{the_row};
+
+    ghost coded = { the_row.coded };
+
+    ghost view = { λ behaviour. behaviour.parts };
+
+    ghost use Rattle.pals_base.specs.Rules.{IsBehaviour};
+
+    ghost invariant = { λ behaviour. IsBehaviour behaviour.parts };
+}
+
+impl Behaviour {
+    ghost use Rattle.std.specs.Prelude.{◌≡◌, length};
+    ghost use Rattle.pals_base.specs.Rules.{IsBehaviour};
+
+    /// The behaviour of these parts. It takes no memory.
+    pub fn new(parts: BehaviourParts) -> Behaviour
+        requires { IsBehaviour parts }
+        ensures { result ≡ parts }
+    {
+        Behaviour { parts }
+    }
+
+    /// All parts at once.
+    pub fn parts(&self) -> &BehaviourParts
+        ensures value { result.now ≡ self.now }
+        ensures rules { IsBehaviour self.now }
+    {
+        &self.parts
+    }
+
+    /// The in ports, by their numbers.
+    pub fn ins(&self) -> &[Named]
+        ensures value { result.now ≡ self.now.ins }
+        ensures len { length result.now ≡ length self.now.ins }
+    {
+        self.parts.ins.as_slice()
+    }
+
+    /// The out ports, by their numbers.
+    pub fn outs(&self) -> &[Named]
+        ensures value { result.now ≡ self.now.outs }
+        ensures len { length result.now ≡ length self.now.outs }
+    {
+        self.parts.outs.as_slice()
+    }
+
+    /// The variables, by their numbers.
+    pub fn vars(&self) -> &[VarDecl]
+        ensures value { result.now ≡ self.now.vars }
+        ensures len { length result.now ≡ length self.now.vars }
+    {
+        self.parts.vars.as_slice()
+    }
+
+    /// The states, by their numbers.
+    pub fn states(&self) -> &[StateDecl]
+        ensures value { result.now ≡ self.now.states }
+        ensures len { length result.now ≡ length self.now.states }
+    {
+        self.parts.states.as_slice()
+    }
+
+    /// The number of the state in which a component starts.
+    pub fn initial(&self) -> u32
+        ensures value { result ≡ self.now.initial }
+    {
+        self.parts.initial
+    }
+
+    /// The transitions, in the text's order.
+    pub fn transitions(&self) -> &[Transition]
+        ensures value { result.now ≡ self.now.transitions }
+        ensures len { length result.now ≡ length self.now.transitions }
+    {
+        self.parts.transitions.as_slice()
+    }
 }

@@ -14,9 +14,9 @@ impl Frame {
         ensures { IfOk result (λ frame. frame ≡ initial behaviour.now) }
     {
         Ok(Frame {
-            state: behaviour.initial,
-            vars: first_values(alloc, behaviour.vars.as_slice())?,
-            held: zeros(alloc, behaviour.ins.len())?,
+            state: behaviour.initial(),
+            vars: first_values(alloc, behaviour.vars())?,
+            held: zeros(alloc, behaviour.ins().len())?,
             halt: None,
         })
     }

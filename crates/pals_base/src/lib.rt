@@ -7,7 +7,9 @@ pub mod behaviour;
 pub mod copy;
 pub mod frame;
 pub mod items;
+pub mod kinds;
 pub mod laws;
+pub mod rules;
 pub mod same;
 #[cfg(test)]
 mod tests;
@@ -16,8 +18,10 @@ pub mod values;
 
 pub use arithmetic::{abs, add, modulo, mul, neg, quot, rem, sub};
 pub use behaviour::{
-    Act, Behaviour, Branch, Expr, Guard, Kind, Named, Op, Operand, StateDecl, Transition, VarDecl,
+    Act, Behaviour, BehaviourParts, Branch, Expr, Guard, Kind, Named, Op, Operand, StateDecl,
+    Transition, VarDecl,
 };
 pub use items::Items;
+pub use kinds::Kinds;
 pub use text::Text;
 pub use values::{Adaptor, Frame, Gamma, LinkNo, Nanos, NoMemory, NodeNo, Port, Trap, Tuple};

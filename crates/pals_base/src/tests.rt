@@ -2,12 +2,14 @@
 //! and worked rows of arithmetic.
 use crate::arithmetic::{abs, add, modulo, mul, neg, quot, rem, sub};
 use crate::behaviour::{
-    Act, Behaviour, Branch, Expr, Guard, Kind, Named, Op, Operand, StateDecl, Transition, VarDecl,
+    Act, Behaviour, BehaviourParts, Branch, Expr, Guard, Kind, Named, Op, Operand, StateDecl,
+    Transition, VarDecl,
 };
 use crate::items::Items;
 use crate::text::Text;
 use crate::values::{Frame, NoMemory, Trap};
 use std::alloc::Global;
+use std::process::Abort;
 use std::test::Fail;
 
 // A port for numbers.
@@ -57,49 +59,78 @@ fn adding(alloc: Global) -> Result<Act, NoMemory> {
     })
 }
 
-// A behaviour of one state and two transitions, the second where the first variable is 0.
-fn adder(alloc: Global) -> Result<Behaviour, NoMemory> {
-    let dispatch = Transition {
+// At the dispatch, and where the in port is not fresh.
+fn transitions(alloc: Global) -> Result<Items<Transition>, NoMemory> {
+    let mut transitions = Items::new(alloc);
+    transitions.push(Transition {
         source: 0,
         target: 0,
         guard: Guard::Dispatch,
         acts: vec![in alloc; adding(alloc)?]?,
-    };
-    let at_zero = Transition {
+    })?;
+    transitions.push(Transition {
         source: 0,
         target: 0,
-        guard: Guard::When(Expr::Not(Box::new(alloc, Expr::Variable(0))?)),
+        guard: Guard::When(Expr::Not(Box::new(alloc, Expr::Fresh(0))?)),
         acts: Vec::new(alloc),
-    };
-    let total = VarDecl {
+    })?;
+    Ok(transitions)
+}
+
+fn variables(alloc: Global) -> Result<Items<VarDecl>, NoMemory> {
+    let mut variables = Items::new(alloc);
+    variables.push(VarDecl {
         name: Text::from_str(alloc, "total")?,
         kind: Kind::Integer,
         first: -4,
-    };
-    let waiting = StateDecl {
+    })?;
+    Ok(variables)
+}
+
+fn states(alloc: Global) -> Result<Items<StateDecl>, NoMemory> {
+    let mut states = Items::new(alloc);
+    states.push(StateDecl {
         name: Text::from_str(alloc, "waiting")?,
         complete: true,
-    };
-    Ok(Behaviour {
+    })?;
+    Ok(states)
+}
+
+// The parts of a behaviour of one state, which starts in the state of this number.
+fn adder(alloc: Global, initial: u32) -> Result<BehaviourParts, NoMemory> {
+    Ok(BehaviourParts {
         ins: Items::from_vec(vec![in alloc; port(alloc, "step")?]?),
         outs: Items::from_vec(vec![in alloc; port(alloc, "sum")?]?),
-        vars: Items::from_vec(vec![in alloc; total]?),
-        states: Items::from_vec(vec![in alloc; waiting]?),
-        initial: 0,
-        transitions: Items::from_vec(vec![in alloc; dispatch, at_zero]?),
+        vars: variables(alloc)?,
+        states: states(alloc)?,
+        initial,
+        transitions: transitions(alloc)?,
     })
+}
+
+fn behaviour(rt: &impl Abort, alloc: Global) -> Result<Behaviour, NoMemory> {
+    let parts = adder(alloc, 0)?;
+    match Behaviour::try_new(alloc, parts)? {
+        Some(behaviour) => Ok(behaviour),
+        None => panic!(rt; "the parts break a rule"),
+    }
 }
 
 #[test]
 fn copies_and_frames_succeed(rt: HostRuntime) -> Result<(), Fail> {
-    let alloc = rt.alloc();
-    let behaviour = adder(alloc)?;
-    let copied = behaviour.copy(alloc)?;
+    let behaviour = behaviour(&rt, rt.alloc())?;
+    let copied = behaviour.copy(rt.alloc())?;
     assert!(rt; copied.same(&behaviour));
-    assert_eq!(rt; copied.transitions.len(), 2);
-    let frame = Frame::initial(alloc, &behaviour)?.copy(alloc)?;
+    let frame = Frame::initial(rt.alloc(), &behaviour)?.copy(rt.alloc())?;
     assert_eq!(rt; frame.vars.as_slice(), [-4].as_slice());
     assert_eq!(rt; frame.held.as_slice(), [0].as_slice());
+    Ok(())
+}
+
+#[test]
+fn no_behaviour(rt: HostRuntime) -> Result<(), Fail> {
+    let parts = adder(rt.alloc(), 1)?;
+    assert!(rt; Behaviour::try_new(rt.alloc(), parts)?.is_none());
     Ok(())
 }
 

@@ -3,24 +3,24 @@ ghost use Rattle.std.specs.Prelude.{◌≡◌, ℕ, List, ◌++◌, length, take
 ghost use Rattle.pals_base.specs.declared.values.Trap.{Trap};
 ghost use Rattle.pals_base.specs.declared.values.Frame.{Frame};
 ghost use Rattle.pals_base.specs.declared.values.Port.{Port};
-ghost use Rattle.pals_base.specs.declared.behaviour.Behaviour.{Behaviour};
+ghost use Rattle.pals_base.specs.declared.behaviour.BehaviourParts.{BehaviourParts};
 ghost use Rattle.pals_base.specs.Fire.{fire, holding, silence};
 ghost use Rattle.pals_base.specs.Steps.{frame_after, outputs};
 
 /// Steps go one after another: no step looks ahead, and later steps go on from the frame that the
 /// earlier ones leave.
 pub fn steps_one_after_another()
-    ensures first { (b : Behaviour) (frame : Frame) (vectors : List (List Port)) (count : ℕ) → take count (outputs b frame vectors) ≡ outputs b frame (take count vectors) }
-    ensures later_frame { (b : Behaviour) (frame : Frame) (xs ys : List (List Port)) → frame_after b frame (xs ++ ys) ≡ frame_after b (frame_after b frame xs) ys }
-    ensures later_outputs { (b : Behaviour) (frame : Frame) (xs ys : List (List Port)) → outputs b frame (xs ++ ys) ≡ outputs b frame xs ++ outputs b (frame_after b frame xs) ys }
+    ensures first { (b : BehaviourParts) (frame : Frame) (vectors : List (List Port)) (count : ℕ) → take count (outputs b frame vectors) ≡ outputs b frame (take count vectors) }
+    ensures later_frame { (b : BehaviourParts) (frame : Frame) (xs ys : List (List Port)) → frame_after b frame (xs ++ ys) ≡ frame_after b (frame_after b frame xs) ys }
+    ensures later_outputs { (b : BehaviourParts) (frame : Frame) (xs ys : List (List Port)) → outputs b frame (xs ++ ys) ≡ outputs b frame xs ++ outputs b (frame_after b frame xs) ys }
 {}
 
 /// A halted frame stays: every further step only holds its inputs, and no out port has a value.
 pub fn halted_frame_stays()
-    ensures step { (b : Behaviour) (frame : Frame) (trap : Trap) (inputs : List Port) → frame.halt ≡ Some trap
+    ensures step { (b : BehaviourParts) (frame : Frame) (trap : Trap) (inputs : List Port) → frame.halt ≡ Some trap
         → fire b frame inputs ≡ record { frame = record frame { held = holding frame.held inputs }; outs = silence b } }
-    ensures frame { (b : Behaviour) (frame : Frame) (trap : Trap) (vectors : List (List Port)) → frame.halt ≡ Some trap
+    ensures frame { (b : BehaviourParts) (frame : Frame) (trap : Trap) (vectors : List (List Port)) → frame.halt ≡ Some trap
         → frame_after b frame vectors ≡ record frame { held = fold holding frame.held vectors } }
-    ensures outputs { (b : Behaviour) (frame : Frame) (trap : Trap) (vectors : List (List Port)) → frame.halt ≡ Some trap
+    ensures outputs { (b : BehaviourParts) (frame : Frame) (trap : Trap) (vectors : List (List Port)) → frame.halt ≡ Some trap
         → outputs b frame vectors ≡ replicate (length vectors) (silence b) }
 {}

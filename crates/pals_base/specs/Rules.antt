@@ -1,0 +1,77 @@
+-- What each behaviour keeps.
+use Rattle.std.specs.Prelude.{◌≡◌, ℕ, zero, suc, nat_eq, nat_lt, Bool, true, false, ◌&&◌, ◌||◌, if◌then◌else◌, List, length, fold, filter, IsTrue, Option, Some, None, slice_get}
+use Rattle.std.specs.List.{list_all, Contains}
+use Rattle.std.specs.Option.{unwrap_or}
+use Rattle.pals_base.specs.declared.behaviour.BehaviourParts.{BehaviourParts}
+use Rattle.pals_base.specs.declared.behaviour.StateDecl.{StateDecl}
+use Rattle.pals_base.specs.declared.behaviour.VarDecl.{VarDecl}
+use Rattle.pals_base.specs.Tree.{Edge, Trigger, Dispatch, Always, When}
+use Rattle.pals_base.specs.Kinds.{allows, literal_kinds, kinds_of, are_sound}
+use Rattle.pals_base.specs.Fire.{is_complete, is_dispatch, leaving}
+use Rattle.pals_base.specs.Steps.{upwards}
+
+-- a variable's first value is of its type
+abbrev pub has_first : VarDecl → Bool
+has_first v = allows (literal_kinds v.first) v.kind
+
+-- a state that is there and complete
+abbrev pub may_start : Option StateDecl → Bool
+may_start None = false
+may_start (Some s) = s.complete
+
+-- ---- transitions
+abbrev pub has_condition : BehaviourParts → Trigger → Bool
+has_condition b Dispatch = true
+has_condition b Always = true
+has_condition b (When e) = (kinds_of e b 0).boolean
+
+-- a transition goes from a state to a state, and its guard and actions are well typed, with short loops
+abbrev pub is_edge : BehaviourParts → Edge → Bool
+is_edge b e = nat_lt e.source (length b.states) && nat_lt e.target (length b.states) && has_condition b e.trigger && are_sound e.actions b 0 1
+
+-- ---- states
+abbrev pub dispatch_count : List Edge → ℕ
+dispatch_count edges = length (filter (λ e. is_dispatch e.trigger) edges)
+
+abbrev pub is_always : Trigger → Bool
+is_always Dispatch = false
+is_always Always = true
+is_always (When e) = false
+
+-- whether there are transitions and the last of them has no guard
+abbrev pub ends_unguarded : List Edge → Bool
+ends_unguarded edges = fold (λ before e. is_always e.trigger) false edges
+
+-- one transition at the dispatch leaves a complete state, and none leaves another state; from there one can always go on
+abbrev pub has_ways : BehaviourParts → ℕ → Bool
+has_ways b s =
+    if is_complete b s then nat_eq (dispatch_count (leaving b s)) 1
+    else nat_eq (dispatch_count (leaving b s)) 0 && ends_unguarded (leaving b s)
+
+-- whether each way on from a state comes to a complete one by at most n transitions
+abbrev pub settles : ℕ → BehaviourParts → ℕ → Bool
+settles zero b s = is_complete b s
+settles (suc n) b s = is_complete b s || list_all (λ e. settles n b e.target) (leaving b s)
+
+-- a way of n transitions from one state to another, each of which leaves a state that is not complete
+abbrev pub IsWay : BehaviourParts → ℕ → ℕ → ℕ → Type 0
+IsWay b zero s t = s ≡ t
+IsWay b (suc n) s t = (is_complete b s ≡ false) × ((e : Edge) × Contains (leaving b s) e × IsWay b n e.target t)
+
+-- ---- the same by marks, a round at a time
+-- the mark of a state; a number of no state has one
+abbrev pub marked : List Bool → ℕ → Bool
+marked marks s = unwrap_or (slice_get marks s) true
+
+-- whether a state is complete, or each way on leads to a marked one
+abbrev pub settles_next : BehaviourParts → List Bool → ℕ → Bool
+settles_next b marks s = is_complete b s || list_all (λ e. marked marks e.target) (leaving b s)
+
+-- ---- the whole
+pub record IsBehaviour (b : BehaviourParts) : Type 0 where
+  pub firsts : IsTrue (list_all has_first b.vars)
+  pub initial : IsTrue (may_start (slice_get b.states b.initial))
+  pub edges : IsTrue (list_all (is_edge b) b.transitions)
+  pub ways : IsTrue (list_all (has_ways b) (upwards 0 (length b.states)))
+  -- no cycle leaves the complete states: a way that meets no state twice is shorter than there are states
+  pub settled : IsTrue (list_all (settles (length b.states) b) (upwards 0 (length b.states)))

@@ -1,0 +1,20 @@
+//! Laws of what each behaviour keeps.
+ghost use Rattle.std.specs.Prelude.{◌≡◌, ◌<◌, ℕ, suc, false, List, length};
+ghost use Rattle.pals_base.specs.declared.values.Frame.{Frame};
+ghost use Rattle.pals_base.specs.declared.values.Port.{Port};
+ghost use Rattle.pals_base.specs.declared.behaviour.BehaviourParts.{BehaviourParts};
+ghost use Rattle.pals_base.specs.Fire.{fire, initial, HasShape};
+ghost use Rattle.pals_base.specs.Rules.{IsBehaviour, IsWay};
+
+/// A component starts in its behaviour's shape, so in a complete state. Each step ends: it leaves a
+/// frame of that shape, so again in a complete state, and gives each out port a place.
+pub fn each_step_ends()
+    ensures start { (b : BehaviourParts) → IsBehaviour b → HasShape b (initial b) }
+    ensures step { (b : BehaviourParts) (frame : Frame) (inputs : List Port) → IsBehaviour b → HasShape b frame → HasShape b (fire b frame inputs).frame }
+    ensures outs { (b : BehaviourParts) (frame : Frame) (inputs : List Port) → IsBehaviour b → HasShape b frame → length (fire b frame inputs).outs ≡ length b.outs }
+{}
+
+/// No way through states that are not complete comes back to where it began.
+pub fn no_cycle_without_complete_state()
+    ensures { (b : BehaviourParts) (s n : ℕ) → IsBehaviour b → s < length b.states → IsWay b (suc n) s s → ⊥ }
+{}
