@@ -15,7 +15,7 @@ use Rattle.behaviour_sem.specs.Senses.{seen}
 use Rattle.behaviour_sem.specs.Left.{Left, effect}
 use Rattle.behaviour_sem.specs.Goes.{goes, move}
 use Rattle.behaviour_sem.specs.declared.transitions.Place.{Place}
-use Rattle.pals_base.specs.declared.behaviour.Behaviour.{Behaviour}
+use Rattle.pals_base.specs.declared.behaviour.BehaviourParts.{BehaviourParts}
 use Rattle.behaviour_sem.proofs.Seen.{acts-seen, opens-seen}
 
 -- ---- stops
@@ -65,7 +65,7 @@ on_value-on_value (Ok v) f g = refl
 on_value-on_value (Err t) f g = refl
 
 -- from a state that is not complete, one transition and those after it
-pub settled-more : (n : ℕ) (b : Behaviour) (fresh : List Bool) (at : Fired) → is_complete b at.frame.state ≡ false → settled (suc n) b fresh at ≡ on_value (move b.transitions fresh at) (λ next. settled n b fresh next)
+pub settled-more : (n : ℕ) (b : BehaviourParts) (fresh : List Bool) (at : Fired) → is_complete b at.frame.state ≡ false → settled (suc n) b fresh at ≡ on_value (move b.transitions fresh at) (λ next. settled n b fresh next)
 settled-more n b fresh at under_way =
     ap (λ done. if done then Ok at else on_value (first_open (leaving b at.frame.state) at.frame fresh) (λ e. on_value (along e fresh at) (λ next. settled n b fresh next))) under_way
     ∙ on_value-on_value (first_open (leaving b at.frame.state) at.frame fresh) (λ e. along e fresh at) (λ next. settled n b fresh next)

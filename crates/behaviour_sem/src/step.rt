@@ -29,7 +29,7 @@ pub fn fire(
     let mut place = Place {
         state: frame.state,
         vars: Vec::from_slice(alloc, frame.vars.as_slice())?,
-        outs: vec![in alloc; Port::Absent; behaviour.outs.len()]?,
+        outs: vec![in alloc; Port::Absent; behaviour.outs().len()]?,
     };
     let reads = Inputs {
         held: held.as_slice(),
@@ -82,7 +82,7 @@ fn halted(
         held,
         halt,
     };
-    let outs = vec![in alloc; Port::Absent; behaviour.outs.len()]?;
+    let outs = vec![in alloc; Port::Absent; behaviour.outs().len()]?;
     Ok((frame, Items::from_vec(outs)))
 }
 

@@ -1,10 +1,11 @@
 //! Steps worked by hand.
 use crate::fire;
 use pals_base::{
-    Act, Behaviour, Branch, Expr, Frame, Guard, Items, Kind, Named, NoMemory, Op, Operand, Port,
-    StateDecl, Text, Transition, Trap, VarDecl,
+    Act, Behaviour, BehaviourParts, Branch, Expr, Frame, Guard, Items, Kind, Named, NoMemory, Op,
+    Operand, Port, StateDecl, Text, Transition, Trap, VarDecl,
 };
 use std::alloc::Global;
+use std::process::Abort;
 use std::test::Fail;
 
 const LEAST: i64 = -9223372036854775808;
@@ -13,19 +14,22 @@ const GREATEST: i64 = 9223372036854775807;
 
 const X: u32 = 0;
 
-fn name(alloc: Global, text: &str) -> Result<Items<Named>, NoMemory> {
-    let mut names = Items::new(alloc);
-    names.push(Named {
+fn port(alloc: Global, text: &str, kind: Kind) -> Result<Items<Named>, NoMemory> {
+    let mut ports = Items::new(alloc);
+    ports.push(Named {
         name: Text::from_str(alloc, text)?,
-        kind: Kind::Integer,
+        kind,
     })?;
-    Ok(names)
+    Ok(ports)
 }
 
-// A behaviour with the port `i`, the port `o` and the variable `x`, whose first state is complete.
+// A behaviour with the port `i` and the variable `x` for numbers and the port `o` of this type, whose
+// first state is complete.
 fn behaviour(
+    rt: &impl Abort,
     alloc: Global,
     complete: &[bool],
+    kind: Kind,
     transitions: Items<Transition>,
 ) -> Result<Behaviour, NoMemory> {
     let mut states = Items::new(alloc);
@@ -41,14 +45,18 @@ fn behaviour(
         kind: Kind::Integer,
         first: 0,
     })?;
-    Ok(Behaviour {
-        ins: name(alloc, "i")?,
-        outs: name(alloc, "o")?,
+    let parts = BehaviourParts {
+        ins: port(alloc, "i", Kind::Integer)?,
+        outs: port(alloc, "o", kind)?,
         vars,
         states,
         initial: 0,
         transitions,
-    })
+    };
+    match Behaviour::try_new(alloc, parts)? {
+        Some(behaviour) => Ok(behaviour),
+        None => panic!(rt; "the parts break a rule"),
+    }
 }
 
 fn frame(alloc: Global, x: i64) -> Result<Frame, NoMemory> {
@@ -62,7 +70,9 @@ fn frame(alloc: Global, x: i64) -> Result<Frame, NoMemory> {
 
 // One step of these actions, from `x` and with 4 held for `i`.
 fn step(
+    rt: &impl Abort,
     alloc: Global,
+    kind: Kind,
     acts: Vec<Act>,
     x: i64,
     input: Port,
@@ -74,7 +84,7 @@ fn step(
         guard: Guard::Dispatch,
         acts,
     })?;
-    let behaviour = behaviour(alloc, &[true], transitions)?;
+    let behaviour = behaviour(rt, alloc, &[true], kind, transitions)?;
     let frame = frame(alloc, x)?;
     fire(alloc, &behaviour, &frame, &[input])
 }
@@ -99,19 +109,34 @@ fn set_x(alloc: Global, value: Expr) -> Result<Vec<Act>, NoMemory> {
     one(alloc, Act::Assign { variable: X, value })
 }
 
-// What `x` is after `x := value`, or the trap.
-fn value(alloc: Global, value: Expr, x: i64, input: Port) -> Result<Result<i64, Trap>, NoMemory> {
-    let (frame, _outs) = step(alloc, set_x(alloc, value)?, x, input)?;
+// What `o!(value)` sends at a port of this type, where `x` is 0, or the trap.
+fn value(
+    rt: &impl Abort,
+    alloc: Global,
+    kind: Kind,
+    value: Expr,
+    input: Port,
+) -> Result<Result<i64, Trap>, NoMemory> {
+    let send = one(alloc, Act::Emit { port: 0, value })?;
+    let (frame, outs) = step(rt, alloc, kind, send, 0, input)?;
     Ok(match frame.halt {
         Some(trap) => Err(trap),
-        None => Ok(at(&frame.vars, 0)),
+        None => Ok(sent(&outs)),
     })
 }
 
-fn at(numbers: &Items<i64>, place: usize) -> i64 {
-    match numbers.get(place) {
-        Some(number) => *number,
-        None => 0,
+fn sent(outs: &Items<Port>) -> i64 {
+    match outs.get(0) {
+        Some(Port::Present(value)) => *value,
+        _ => -1,
+    }
+}
+
+// The type of what an operator gives.
+fn kind_of(op: Op) -> Kind {
+    match op {
+        Op::Add | Op::Sub | Op::Mul | Op::Quot | Op::Mod | Op::Rem => Kind::Integer,
+        _ => Kind::Boolean,
     }
 }
 
@@ -138,18 +163,20 @@ fn operators(rt: HostRuntime) -> Result<(), Fail> {
         (3, Op::Le, 3, Ok(1)),
         (2, Op::Gt, 3, Ok(0)),
         (2, Op::Ge, 3, Ok(0)),
-        (2, Op::And, -1, Ok(1)),
+        (1, Op::And, 1, Ok(1)),
+        (1, Op::And, 0, Ok(0)),
         (0, Op::Or, 0, Ok(0)),
-        (1, Op::Xor, 2, Ok(0)),
-        (0, Op::AndThen, 5, Ok(0)),
-        (2, Op::AndThen, 5, Ok(5)),
-        (0, Op::OrElse, 5, Ok(5)),
-        (3, Op::OrElse, 5, Ok(1)),
+        (1, Op::Xor, 1, Ok(0)),
+        (1, Op::Xor, 0, Ok(1)),
+        (0, Op::AndThen, 1, Ok(0)),
+        (1, Op::AndThen, 1, Ok(1)),
+        (0, Op::OrElse, 1, Ok(1)),
+        (1, Op::OrElse, 0, Ok(1)),
     ];
     for (left, op, right, want) in table {
         let expr = pair(alloc, Expr::Literal(left), op, Expr::Literal(right))?;
         assert_eq!(rt;
-            value(alloc, expr, 0, Port::Absent)?,
+            value(&rt, alloc, kind_of(op), expr, Port::Absent)?,
             want,
             "{left} {op:?} {right}"
         );
@@ -160,21 +187,41 @@ fn operators(rt: HostRuntime) -> Result<(), Fail> {
 #[test]
 fn unary_and_ports(rt: HostRuntime) -> Result<(), Fail> {
     let alloc = rt.alloc();
-    for (number, neg, abs, not) in [
-        (5, Ok(-5), Ok(5), Ok(0)),
-        (0, Ok(0), Ok(0), Ok(1)),
-        (LEAST, Err(Trap::Overflow), Err(Trap::Overflow), Ok(0)),
+    for (number, neg, abs) in [
+        (5, Ok(-5), Ok(5)),
+        (0, Ok(0), Ok(0)),
+        (LEAST, Err(Trap::Overflow), Err(Trap::Overflow)),
     ] {
         let expr = Expr::Neg(Box::new(alloc, Expr::Literal(number))?);
-        assert_eq!(rt; value(alloc, expr, 0, Port::Absent)?, neg, "-{number}");
+        assert_eq!(rt;
+            value(&rt, alloc, Kind::Integer, expr, Port::Absent)?,
+            neg,
+            "-{number}"
+        );
         let expr = Expr::Abs(Box::new(alloc, Expr::Literal(number))?);
-        assert_eq!(rt; value(alloc, expr, 0, Port::Absent)?, abs, "abs {number}");
+        assert_eq!(rt;
+            value(&rt, alloc, Kind::Integer, expr, Port::Absent)?,
+            abs,
+            "abs {number}"
+        );
+    }
+    for (number, not) in [(1, 0), (0, 1)] {
         let expr = Expr::Not(Box::new(alloc, Expr::Literal(number))?);
-        assert_eq!(rt; value(alloc, expr, 0, Port::Absent)?, not, "not {number}");
+        assert_eq!(rt;
+            value(&rt, alloc, Kind::Boolean, expr, Port::Absent)?,
+            Ok(not),
+            "not {number}"
+        );
     }
     for (input, held, fresh) in [(Port::Absent, 4, 0), (Port::Present(9), 9, 1)] {
-        assert_eq!(rt; value(alloc, Expr::Port(0), 0, input)?, Ok(held));
-        assert_eq!(rt; value(alloc, Expr::Fresh(0), 0, input)?, Ok(fresh));
+        assert_eq!(rt;
+            value(&rt, alloc, Kind::Integer, Expr::Port(0), input)?,
+            Ok(held)
+        );
+        assert_eq!(rt;
+            value(&rt, alloc, Kind::Boolean, Expr::Fresh(0), input)?,
+            Ok(fresh)
+        );
     }
     Ok(())
 }
@@ -201,7 +248,11 @@ fn chains(rt: HostRuntime) -> Result<(), Fail> {
         first: Box::new(alloc, Expr::Literal(9))?,
         rest,
     };
-    assert_eq!(rt; value(alloc, expr, 0, Port::Absent)?, Ok(2), "9 - 4 - 3");
+    assert_eq!(rt;
+        value(&rt, alloc, Kind::Integer, expr, Port::Absent)?,
+        Ok(2),
+        "9 - 4 - 3"
+    );
     for (op, join, want) in [
         (Op::Eq, Op::OrElse, Ok(1)),
         (Op::Eq, Op::Or, Err(Trap::ZeroDivisor)),
@@ -210,7 +261,7 @@ fn chains(rt: HostRuntime) -> Result<(), Fail> {
     ] {
         let expr = guarded(alloc, op, join)?;
         assert_eq!(rt;
-            value(alloc, expr, 0, Port::Absent)?,
+            value(&rt, alloc, Kind::Boolean, expr, Port::Absent)?,
             want,
             "x {op:?} 0 {join:?} .."
         );
@@ -243,7 +294,14 @@ fn add_to_x(alloc: Global, variable: u32) -> Result<Act, NoMemory> {
 fn branches_and_loops(rt: HostRuntime) -> Result<(), Fail> {
     let alloc = rt.alloc();
     for (x, want) in [(6, 1), (5, 2), (2, 3)] {
-        let (frame, outs) = step(alloc, one(alloc, choice(alloc)?)?, x, Port::Absent)?;
+        let (frame, outs) = step(
+            &rt,
+            alloc,
+            Kind::Integer,
+            one(alloc, choice(alloc)?)?,
+            x,
+            Port::Absent,
+        )?;
         assert_eq!(rt; frame.vars.as_slice(), [want].as_slice(), "from {x}");
         assert_eq!(rt; outs.as_slice(), [Port::Absent].as_slice());
     }
@@ -254,14 +312,16 @@ fn branches_and_loops(rt: HostRuntime) -> Result<(), Fail> {
     ] {
         let body = one(alloc, add_to_x(alloc, 1)?)?;
         let (frame, _outs) = step(
+            &rt,
             alloc,
+            Kind::Integer,
             one(alloc, Act::For { low, high, body })?,
             x,
             Port::Absent,
         )?;
         assert_eq!(rt; frame.vars.as_slice(), [want].as_slice(), "{low} to {high}");
     }
-    // For i from 1 to 3, for j from 1 to 2: x := x + i; x := x + j. Then x := x + a variable that is gone.
+    // For i from 1 to 3, for j from 1 to 2: x := x + i; x := x + j.
     let mut body = one(alloc, add_to_x(alloc, 1)?)?;
     body.push(add_to_x(alloc, 2)?)?;
     let inner = Act::For {
@@ -269,7 +329,7 @@ fn branches_and_loops(rt: HostRuntime) -> Result<(), Fail> {
         high: 2,
         body,
     };
-    let mut acts = one(
+    let acts = one(
         alloc,
         Act::For {
             low: 1,
@@ -277,8 +337,7 @@ fn branches_and_loops(rt: HostRuntime) -> Result<(), Fail> {
             body: one(alloc, inner)?,
         },
     )?;
-    acts.push(add_to_x(alloc, 1)?)?;
-    let (frame, _outs) = step(alloc, acts, 0, Port::Absent)?;
+    let (frame, _outs) = step(&rt, alloc, Kind::Integer, acts, 0, Port::Absent)?;
     assert_eq!(rt; frame.vars.as_slice(), [21].as_slice());
     Ok(())
 }
@@ -294,7 +353,7 @@ fn go(source: u32, target: u32, guard: Guard, acts: Vec<Act>) -> Transition {
 
 // From state 0 at the dispatch x := x + 1 to 1, then x := x * 10 to 2 unless x > 5, then o := 5 and
 // o := 10 / (20 - x) to 3.
-fn chained(alloc: Global) -> Result<Behaviour, NoMemory> {
+fn chained(rt: &impl Abort, alloc: Global) -> Result<Behaviour, NoMemory> {
     let above = pair(alloc, Expr::Variable(X), Op::Gt, Expr::Literal(5))?;
     let more = pair(alloc, Expr::Variable(X), Op::Add, Expr::Literal(1))?;
     let tenfold = pair(alloc, Expr::Variable(X), Op::Mul, Expr::Literal(10))?;
@@ -316,13 +375,20 @@ fn chained(alloc: Global) -> Result<Behaviour, NoMemory> {
     transitions.push(go(1, 0, Guard::Always, Vec::new(alloc)))?;
     transitions.push(go(0, 1, Guard::Dispatch, set_x(alloc, more)?))?;
     transitions.push(go(2, 3, Guard::Always, outputs))?;
-    behaviour(alloc, &[true, false, false, true], transitions)
+    transitions.push(go(3, 3, Guard::Dispatch, Vec::new(alloc)))?;
+    behaviour(
+        rt,
+        alloc,
+        &[true, false, false, true],
+        Kind::Integer,
+        transitions,
+    )
 }
 
 #[test]
 fn transitions_and_traps(rt: HostRuntime) -> Result<(), Fail> {
     let alloc = rt.alloc();
-    let behaviour = chained(alloc)?;
+    let behaviour = chained(&rt, alloc)?;
     for (x, state, new, out, halt) in [
         (0, 3, 10, Port::Present(1), None),
         (1, 0, 1, Port::Absent, Some(Trap::ZeroDivisor)),

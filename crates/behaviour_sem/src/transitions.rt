@@ -94,11 +94,11 @@ fn advance(transitions: &[Transition], place: &mut Place, inputs: Inputs) -> Res
 fn settle(behaviour: &Behaviour, place: &mut Place, inputs: Inputs) -> Result<(), Stop>
     ensures { Left result (fired place.new inputs.entry.held.now) (settled (length behaviour.now.states) behaviour.now (map is_present inputs.entry.present.now) (fired place.old inputs.entry.held.now)) }
 {
-    for _ in 0..behaviour.states.len() {
-        if is_complete(behaviour.states.as_slice(), place.state) {
+    for _ in 0..behaviour.states().len() {
+        if is_complete(behaviour.states(), place.state) {
             return Ok(());
         }
-        advance(behaviour.transitions.as_slice(), place, inputs)?;
+        advance(behaviour.transitions(), place, inputs)?;
     }
     Ok(())
 }
@@ -108,6 +108,6 @@ fn settle(behaviour: &Behaviour, place: &mut Place, inputs: Inputs) -> Result<()
 pub fn react(behaviour: &Behaviour, place: &mut Place, inputs: Inputs) -> Result<(), Stop>
     ensures { let fresh = map is_present inputs.entry.present.now in let at = fired place.old inputs.entry.held.now in Left result (fired place.new inputs.entry.held.now) (on_value (along (dispatched behaviour.now place.old.state) fresh at) (λ next. settled (length behaviour.now.states) behaviour.now fresh next)) }
 {
-    dispatch(behaviour.transitions.as_slice(), place, inputs)?;
+    dispatch(behaviour.transitions(), place, inputs)?;
     settle(behaviour, place, inputs)
 }

@@ -3,7 +3,7 @@ use Rattle.std.specs.Prelude.{ℕ, ◌*◌, pos, true, codes, List, [], ◌∷�
 use Rattle.pals_base.specs.declared.values.Gamma.{Gamma}
 use Rattle.pals_base.specs.declared.behaviour.Kind.TheVariants.{Integer}
 use Rattle.pals_base.specs.declared.behaviour.Named.{Named}
-use Rattle.pals_base.specs.declared.behaviour.Behaviour.{Behaviour}
+use Rattle.pals_base.specs.declared.behaviour.BehaviourParts.{BehaviourParts}
 use Rattle.pals_base.specs.declared.behaviour.Op.{Op}
 use Rattle.pals_base.specs.declared.behaviour.Op.TheVariants.{Add, Sub}
 use Rattle.pals_base.specs.Tree as tree
@@ -72,7 +72,7 @@ abbrev pub integer_ports : Direction → List Port → List Named
 integer_ports direction ports = map integer_port (filter (λ p. is_same direction p.direction) ports)
 
 -- one variable, one complete state, and one transition at the dispatch
-abbrev pub behaviour_of : Thread → Behaviour
+abbrev pub behaviour_of : Thread → BehaviourParts
 behaviour_of t = record {
   ins = integer_ports In t.ports;
   outs = integer_ports Out t.ports;

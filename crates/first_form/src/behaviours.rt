@@ -7,7 +7,9 @@ use crate::ports::is_same;
 use crate::read_end::ReadEnd;
 use crate::steps::acts_of;
 use crate::writing::{Action, Direction, Port, Thread};
-use pals_base::{Behaviour, Guard, Items, Kind, Named, StateDecl, Text, Transition, VarDecl};
+use pals_base::{
+    Behaviour, BehaviourParts, Guard, Items, Kind, Named, StateDecl, Text, Transition, VarDecl,
+};
 use std::alloc::{AllocError, Global};
 
 fn integer_ports(
@@ -70,17 +72,19 @@ fn transitions(alloc: Global, actions: &[Action]) -> Result<Items<Transition>, R
     Ok(list)
 }
 
-/// What a thread does: one variable, one complete state, and one transition at the dispatch.
+/// What a thread does: one variable, one complete state, and one transition at the dispatch. A text
+/// that would break the rules of a behaviour is not taken.
 pub fn behaviour_of(alloc: Global, thread: &Thread) -> Result<Behaviour, ReadEnd>
     ensures { IfOk result (λ b. b ≡ behaviour_of thread.now) }
 {
     let ports = thread.ports.as_slice();
-    Ok(Behaviour {
+    let parts = BehaviourParts {
         ins: integer_ports(alloc, ports, Direction::In)?,
         outs: integer_ports(alloc, ports, Direction::Out)?,
         vars: variables(alloc, &thread.variable)?,
         states: states(alloc, &thread.state)?,
         initial: 0,
         transitions: transitions(alloc, thread.actions.as_slice())?,
-    })
+    };
+    Behaviour::try_new(alloc, parts)?.ok_or(ReadEnd::NotTaken)
 }

@@ -9,7 +9,7 @@ use Rattle.std.proofs.lemmas.Grind.{flat_map-append}
 use Rattle.pals_base.specs.declared.values.Port.{Port}
 use Rattle.pals_base.specs.declared.values.Port.TheVariants.{Absent}
 use Rattle.pals_base.specs.declared.values.Frame.{Frame}
-use Rattle.pals_base.specs.declared.behaviour.Behaviour.{Behaviour}
+use Rattle.pals_base.specs.declared.behaviour.BehaviourParts.{BehaviourParts}
 use Rattle.pals_base.specs.Fire.{initial, fire}
 use Rattle.pals_base.specs.Steps.{steps, Stepped, cut, columns, frame_after, upwards}
 use Rattle.pals_base.specs.Bound.{sent_steps}
@@ -85,7 +85,7 @@ depends_on_past design env other (suc round) same =
     ∙ ap (next design (values_at other round)) (depends_on_past design env other round (λ k below. same k (omega arith)))
 
 -- ---- a component alone
-frame_after-append : (b : Behaviour) (frame : Frame) (vectors more : List (List Port)) → frame_after b frame (vectors ++ more) ≡ frame_after b (frame_after b frame vectors) more
+frame_after-append : (b : BehaviourParts) (frame : Frame) (vectors more : List (List Port)) → frame_after b frame (vectors ++ more) ≡ frame_after b (frame_after b frame vectors) more
 frame_after-append b frame [] more = refl
 frame_after-append b frame (inputs ∷ vectors) more = frame_after-append b (fire b frame inputs).frame vectors more
 

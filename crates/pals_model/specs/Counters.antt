@@ -7,7 +7,7 @@ use Rattle.pals_base.specs.declared.behaviour.Op.TheVariants.{Add}
 use Rattle.pals_base.specs.declared.behaviour.Named.{Named}
 use Rattle.pals_base.specs.declared.behaviour.VarDecl.{VarDecl}
 use Rattle.pals_base.specs.declared.behaviour.StateDecl.{StateDecl}
-use Rattle.pals_base.specs.declared.behaviour.Behaviour.{Behaviour}
+use Rattle.pals_base.specs.declared.behaviour.BehaviourParts.{BehaviourParts}
 use Rattle.pals_base.specs.Tree.{Literal, Variable, PortValue, Chain, NoMore, Then, Assign, Emit, Actions, Nothing, Do, Dispatch, Edge}
 use Rattle.pals_model.specs.declared.design.Component.{Component}
 use Rattle.pals_model.specs.declared.design.Link.{Link}
@@ -32,7 +32,7 @@ counting = Do (Assign 0 (Chain (Variable 0) (Then Add (PortValue 0) (Then Add (L
 abbrev on_dispatch : Edge
 on_dispatch = record { source = 0; target = 0; trigger = Dispatch; actions = counting }
 
-abbrev counter : Behaviour
+abbrev counter : BehaviourParts
 counter = record {
   ins = port_named (codes "i") ∷ [];
   outs = port_named (codes "o") ∷ [];

@@ -11,7 +11,7 @@ use Rattle.pals_base.specs.declared.behaviour.Kind.TheVariants.{Integer, Boolean
 use Rattle.pals_base.specs.declared.behaviour.Named.{Named}
 use Rattle.pals_base.specs.declared.behaviour.VarDecl.{VarDecl}
 use Rattle.pals_base.specs.declared.behaviour.StateDecl.{StateDecl}
-use Rattle.pals_base.specs.declared.behaviour.Behaviour.{Behaviour}
+use Rattle.pals_base.specs.declared.behaviour.BehaviourParts.{BehaviourParts}
 use Rattle.pals_base.specs.Expressions.{is_true}
 use Rattle.pals_base.specs.Steps.{upwards}
 use Rattle.pals_model.specs.declared.design.Component.{Component}
@@ -50,7 +50,7 @@ state_name None = []
 state_name (Some s) = s.name
 
 -- the state's name, or the trap that halted the component
-abbrev pub state_text : Behaviour → Frame → Option Trap → List ℕ
+abbrev pub state_text : BehaviourParts → Frame → Option Trap → List ℕ
 state_text b frame None = state_name (slice_get b.states frame.state)
 state_text b frame (Some Overflow) = codes "halted(overflow)"
 state_text b frame (Some ZeroDivisor) = codes "halted(zero-divisor)"

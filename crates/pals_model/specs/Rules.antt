@@ -2,7 +2,7 @@
 use Rattle.std.specs.Prelude.{◌≡◌, ◌≢◌, ℕ, ◌+◌, ◌*◌, ◌%◌, ◌<◌, ◌≤◌, max, List, length, fold, All, AllPairs, IsTrue, Option, Some, None, slice_get}
 use Rattle.pals_base.specs.declared.values.Gamma.{Gamma}
 use Rattle.pals_base.specs.declared.behaviour.Kind.{Kind}
-use Rattle.pals_base.specs.declared.behaviour.Behaviour.{Behaviour}
+use Rattle.pals_base.specs.declared.behaviour.BehaviourParts.{BehaviourParts}
 use Rattle.pals_base.specs.Allowed.{divides_or_divided, is_allowed, suits_kind}
 use Rattle.pals_base.specs.Bound.{least_period}
 use Rattle.pals_model.specs.declared.design.Component.{Component}
@@ -24,7 +24,7 @@ pub record IsGamma (g : Gamma) : Type 0 where
   pub network : (g.mu_min ≤ g.mu_max) × (g.mu_max ≤ hour)
 
 -- the limits of a thread
-pub record IsSmall (b : Behaviour) : Type 0 where
+pub record IsSmall (b : BehaviourParts) : Type 0 where
   pub ports : length b.ins + length b.outs ≤ 64
   pub vars : length b.vars ≤ 64
   pub states : length b.states ≤ 64

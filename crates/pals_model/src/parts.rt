@@ -31,7 +31,7 @@ impl DesignParts {
     {
         match self.component(node) {
             None => 0,
-            Some(component) => component.behaviour.ins.len(),
+            Some(component) => component.behaviour.ins().len(),
         }
     }
 
@@ -41,7 +41,7 @@ impl DesignParts {
     {
         match self.component(node) {
             None => 0,
-            Some(component) => component.behaviour.outs.len(),
+            Some(component) => component.behaviour.outs().len(),
         }
     }
 
@@ -51,7 +51,7 @@ impl DesignParts {
     {
         match self.component(node) {
             None => Kind::Integer,
-            Some(component) => kind_of(component.behaviour.ins.get(port as usize)),
+            Some(component) => kind_of(component.behaviour.ins().get(port as usize)),
         }
     }
 
@@ -61,7 +61,7 @@ impl DesignParts {
     {
         match self.component(node) {
             None => Kind::Integer,
-            Some(component) => kind_of(component.behaviour.outs.get(port as usize)),
+            Some(component) => kind_of(component.behaviour.outs().get(port as usize)),
         }
     }
 }

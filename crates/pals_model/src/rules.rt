@@ -166,9 +166,9 @@ fn is_component(period: Nanos, component: &Component) -> bool
 fn is_small(behaviour: &Behaviour) -> bool
     ensures { IsTrue result ↔ IsSmall behaviour.now }
 {
-    let ins = behaviour.ins.len();
-    let outs = behaviour.outs.len();
-    ins <= 64 && outs <= 64 - ins && behaviour.vars.len() <= 64 && behaviour.states.len() <= 64
+    let ins = behaviour.ins().len();
+    let outs = behaviour.outs().len();
+    ins <= 64 && outs <= 64 - ins && behaviour.vars().len() <= 64 && behaviour.states().len() <= 64
 }
 
 fn have_distinct_paths(components: &[Component]) -> bool

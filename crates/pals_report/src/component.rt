@@ -17,7 +17,7 @@ fn add_state(out: &mut Vec<u8>, behaviour: &Behaviour, frame: &Frame) -> Result<
     match frame.halt {
         Some(Trap::Overflow) => out.extend_from_slice(b"halted(overflow)"),
         Some(Trap::ZeroDivisor) => out.extend_from_slice(b"halted(zero-divisor)"),
-        None => match behaviour.states.get(frame.state as usize) {
+        None => match behaviour.states().get(frame.state as usize) {
             Some(state) => out.extend_from_slice(state.name.as_bytes()),
             None => Ok(()),
         },
@@ -62,6 +62,6 @@ pub(crate) fn add_component(
     out.extend_from_slice(component.path.as_bytes())?;
     out.extend_from_slice(b" ")?;
     add_state(out, behaviour, frame)?;
-    add_variables(out, behaviour.vars.as_slice(), frame.vars.as_slice())?;
+    add_variables(out, behaviour.vars(), frame.vars.as_slice())?;
     out.extend_from_slice(b"\n")
 }

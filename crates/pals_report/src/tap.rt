@@ -35,7 +35,7 @@ fn kind_of_tap(components: &[Component], tap: &Tap) -> Kind
     let Some(component) = components.get(tap.source.0 as usize) else {
         return Kind::Integer;
     };
-    match component.behaviour.outs.get(tap.out_port as usize) {
+    match component.behaviour.outs().get(tap.out_port as usize) {
         Some(port) => port.kind,
         None => Kind::Integer,
     }

@@ -3,8 +3,8 @@ use super::*;
 use crate::component::add_component;
 use crate::value::add_tuple;
 use pals_base::{
-    Behaviour, Frame, Gamma, Items, Kind, Named, NoMemory, NodeNo, Port, StateDecl, Text, Trap,
-    VarDecl,
+    Behaviour, BehaviourParts, Frame, Gamma, Guard, Items, Kind, Named, NoMemory, NodeNo, Port,
+    StateDecl, Text, Transition, Trap, VarDecl,
 };
 use pals_model::{Component, Design, DesignParts, Part, Tap};
 use std::alloc::Global;
@@ -71,16 +71,31 @@ fn outs(alloc: Global) -> Result<Items<Named>, NoMemory> {
     Ok(outs)
 }
 
-fn component(alloc: Global, vars: Items<VarDecl>) -> Result<Component, NoMemory> {
-    let path = Text::from_str(alloc, "p.a")?;
-    let behaviour = Behaviour {
+fn behaviour(rt: &impl Abort, alloc: Global, vars: Items<VarDecl>) -> Result<Behaviour, NoMemory> {
+    let mut transitions = Items::new(alloc);
+    transitions.push(Transition {
+        source: 0,
+        target: 0,
+        guard: Guard::Dispatch,
+        acts: Vec::new(alloc),
+    })?;
+    let parts = BehaviourParts {
         ins: Items::new(alloc),
         outs: outs(alloc)?,
         vars,
         states: states(alloc)?,
         initial: 0,
-        transitions: Items::new(alloc),
+        transitions,
     };
+    match Behaviour::try_new(alloc, parts)? {
+        Some(behaviour) => Ok(behaviour),
+        None => panic!(rt; "the parts break a rule"),
+    }
+}
+
+fn component(rt: &impl Abort, alloc: Global, vars: Items<VarDecl>) -> Result<Component, NoMemory> {
+    let path = Text::from_str(alloc, "p.a")?;
+    let behaviour = behaviour(rt, alloc, vars)?;
     Ok(Component {
         path,
         rate: 2,
@@ -99,8 +114,8 @@ fn frame(alloc: Global, values: &[i64], halt: Option<Trap>) -> Result<Frame, NoM
     })
 }
 
-fn line(alloc: Global, halt: Option<Trap>) -> Result<Vec<u8>, NoMemory> {
-    let component = component(alloc, Items::new(alloc))?;
+fn line(rt: &impl Abort, alloc: Global, halt: Option<Trap>) -> Result<Vec<u8>, NoMemory> {
+    let component = component(rt, alloc, Items::new(alloc))?;
     let frame = frame(alloc, &[], halt)?;
     let mut out = Vec::new(alloc);
     add_component(&mut out, &component, &frame)?;
@@ -109,11 +124,11 @@ fn line(alloc: Global, halt: Option<Trap>) -> Result<Vec<u8>, NoMemory> {
 
 #[test]
 fn prints_halts(rt: HostRuntime) -> Result<(), Fail> {
-    let text = line(rt.alloc(), None)?;
+    let text = line(&rt, rt.alloc(), None)?;
     assert_eq!(rt; text.as_slice(), b"p.a mv\n".as_slice());
-    let text = line(rt.alloc(), Some(Trap::Overflow))?;
+    let text = line(&rt, rt.alloc(), Some(Trap::Overflow))?;
     assert_eq!(rt; text.as_slice(), b"p.a halted(overflow)\n".as_slice());
-    let text = line(rt.alloc(), Some(Trap::ZeroDivisor))?;
+    let text = line(&rt, rt.alloc(), Some(Trap::ZeroDivisor))?;
     assert_eq!(rt; text.as_slice(), b"p.a halted(zero-divisor)\n".as_slice());
     Ok(())
 }
@@ -132,7 +147,7 @@ fn taps(alloc: Global) -> Result<Items<Tap>, NoMemory> {
 
 fn design(rt: &impl Abort, alloc: Global) -> Result<Design, NoMemory> {
     let mut components = Items::new(alloc);
-    components.push(component(alloc, variables(alloc)?)?)?;
+    components.push(component(rt, alloc, variables(alloc)?)?)?;
     let parts = DesignParts {
         period: 20_000_000,
         gamma: Gamma {

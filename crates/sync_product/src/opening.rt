@@ -51,7 +51,7 @@ fn not_stepped(alloc: Global, component: &Component) -> Result<Stepped, NoMemory
 {
     Ok(Stepped {
         frame: Frame::initial(alloc, &component.behaviour)?,
-        tuples: absent_each(alloc, component.behaviour.outs.as_slice(), component.rate)?,
+        tuples: absent_each(alloc, component.behaviour.outs(), component.rate)?,
     })
 }
 

@@ -137,7 +137,7 @@ pub fn all_sources(alloc: Global, design: &Design) -> Result<Items<Items<PortSou
     let mut all = Items::new(alloc);
     let mut node = 0u32;
     for component in design.components() {
-        let ports = component.behaviour.ins.len() as u32;
+        let ports = component.behaviour.ins().len() as u32;
         all.push(sources_of(alloc, design, names.as_slice(), node, ports)?)?;
         node += 1;
     }

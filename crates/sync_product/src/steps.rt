@@ -39,7 +39,7 @@ pub fn steps(
         frame = next;
         outputs.push(outs)?;
     }
-    let tuples = columns(alloc, behaviour.outs.len(), outputs.as_slice())?;
+    let tuples = columns(alloc, behaviour.outs().len(), outputs.as_slice())?;
     Ok(Stepped { frame, tuples })
 }
 

@@ -18,10 +18,10 @@ returns-in_err-advance c =
     let rest = length b.states - (c.loop.counter + 1) in
     let count : length b.states - c.loop.counter ≡ suc rest = omega arith in
     let under_way : is_complete b c.loop.place.state ≡ false =
-    (sym (ap (λ ss. completes (slice_get ss c.loop.place.state)) c.as_slice.ensures.value) ∙ sym c.is_complete.ensures ∙ c.if-is_complete.false) in
+    (sym (ap (λ ss. completes (slice_get ss c.loop.place.state)) c.states.ensures.value) ∙ sym c.is_complete.ensures ∙ c.if-is_complete.false) in
     let stop = c.in_err-advance.field-0.0 in
     let answers : c.from_residual.result ≡ Err stop = search rules in
-    let moved = subst (λ ts. Left (Err stop) after (move ts fresh at)) c.as_slice-in-loop.ensures.value c.in_err-advance.ensures in
+    let moved = subst (λ ts. Left (Err stop) after (move ts fresh at)) c.transitions.ensures.value c.in_err-advance.ensures in
     let stops = Left-stops stop (move b.transitions fresh at) (λ next. settled rest b fresh next) after after moved in
     subst (λ r. Left r after (settled (length b.states) b fresh (fired c.args.place.now held))) (sym answers)
     (subst (λ m. Left (Err stop) after m) (sym (settled-more rest b fresh at under_way) ∙ sym (ap (λ n. settled n b fresh at) count) ∙ c.loop.invariant) stops)
@@ -35,9 +35,9 @@ loop-preserved c =
     let rest = length b.states - (c.loop.counter + 1) in
     let count : length b.states - c.loop.counter ≡ suc rest = omega arith in
     let under_way : is_complete b c.loop.place.state ≡ false =
-    (sym (ap (λ ss. completes (slice_get ss c.loop.place.state)) c.as_slice.ensures.value) ∙ sym c.is_complete.ensures ∙ c.if-is_complete.false) in
-    let moved : move c.as_slice-in-loop.result.now fresh at ≡ Ok (fired c.advance.new.place held) = c.in_ok-advance.ensures in
-    sym (ap (λ r. on_value r (λ next. settled rest b fresh next)) (sym (ap (λ ts. move ts fresh at) c.as_slice-in-loop.ensures.value) ∙ moved))
+    (sym (ap (λ ss. completes (slice_get ss c.loop.place.state)) c.states.ensures.value) ∙ sym c.is_complete.ensures ∙ c.if-is_complete.false) in
+    let moved : move c.transitions.result.now fresh at ≡ Ok (fired c.advance.new.place held) = c.in_ok-advance.ensures in
+    sym (ap (λ r. on_value r (λ next. settled rest b fresh next)) (sym (ap (λ ts. move ts fresh at) c.transitions.ensures.value) ∙ moved))
     ∙ sym (settled-more rest b fresh at under_way)
     ∙ sym (ap (λ n. settled n b fresh at) count)
     ∙ c.loop.invariant

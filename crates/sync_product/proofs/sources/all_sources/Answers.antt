@@ -15,5 +15,5 @@ loop-component-preserved c =
     let split : drop at items ≡ item ∷ drop (at + 1) items = grind (arith, common_steps) in
     let before = rw split at c.loop-component.invariant.1 in
     let found : c.in_ok-sources_of.field-0 ≡ sources_of design node item =
-    c.in_ok-sources_of.ensures ∙ ap (λ k. map (λ port. source_of design node port) (upwards 0 k)) c.len-ports.ensures in
+    c.in_ok-sources_of.ensures ∙ ap (λ k. map (λ port. source_of design node port) (upwards 0 k)) c.ins.ensures.len in
     (omega arith, rw (c.in_ok-push.ensures.ok) (sources_step design node c.loop-component.all item (drop (at + 1) items) c.in_ok-sources_of.field-0 _ found before))
