@@ -1,4 +1,7 @@
-//! The program over bytes in memory.
+//! The program over bytes in memory, and rounds of designs that are built from their parts.
+mod designs;
+mod rows;
+
 use super::pals;
 use pals_base::Text;
 use pals_io::{MemSink, MemSource};
