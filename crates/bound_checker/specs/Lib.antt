@@ -1,0 +1,4 @@
+pub mod Limits
+pub mod Multiple
+pub mod Divisors
+pub mod Arrival

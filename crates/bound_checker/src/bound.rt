@@ -1,0 +1,35 @@
+//! What a period has to meet.
+ghost use Rattle.std.specs.Prelude.{◌≡◌, ◌≤◌, ◌↔◌, IsTrue};
+ghost use Rattle.pals_base.specs.Bound.{backoff, least_period};
+ghost use Rattle.bound_checker.specs.Limits.{IsWithinHour};
+
+use pals_base::{Gamma, Nanos};
+
+/// How long a node waits with its outputs after its alarm, so that none arrives before its target's
+/// round begins: twice the skew less what the fastest message takes, and 0 where the network is slow
+/// enough.
+pub fn backoff(gamma: &Gamma) -> Nanos
+    requires { IsWithinHour gamma.now }
+    ensures { result ≡ backoff gamma.now }
+{
+    (2 * gamma.eps).saturating_sub(gamma.mu_min)
+}
+
+/// The least period that the bound allows where `rate` is the greatest rate of the design.
+pub fn least_period(gamma: &Gamma, rate: u32) -> Nanos
+    requires gamma { IsWithinHour gamma.now }
+    requires rate { rate ≤ 64 }
+    ensures { result ≡ least_period gamma.now rate }
+{
+    let round = gamma.mu_max + 2 * gamma.eps + backoff(gamma).max(gamma.alpha_max);
+    round.max(u64::from(rate) * gamma.alpha_max)
+}
+
+/// Whether the period `t` meets the bound where `rate` is the greatest rate of the design.
+pub fn meets(gamma: &Gamma, t: Nanos, rate: u32) -> bool
+    requires gamma { IsWithinHour gamma.now }
+    requires rate { rate ≤ 64 }
+    ensures { IsTrue result ↔ (least_period gamma.now rate ≤ t) }
+{
+    least_period(gamma, rate) <= t
+}

@@ -1,0 +1,71 @@
+//! What the bound gives. Each law is the contract of a function that does nothing.
+ghost use Rattle.std.specs.Prelude.{◌≡◌, ℕ, ◌+◌, ◌-◌, ◌*◌, ◌<◌, ◌≤◌, List};
+ghost use Rattle.pals_base.specs.declared.values.Gamma.{Gamma};
+ghost use Rattle.pals_base.specs.Bound.{least_period, step_period, sent_steps, release};
+ghost use Rattle.bound_checker.specs.Multiple.{IsLeastMultiple, HasNoMultiple};
+ghost use Rattle.bound_checker.specs.Arrival.{IsStarted, IsSent, IsCarried};
+
+/// At least one and at most all of a component's steps are sent.
+pub fn some_steps_are_sent()
+    ensures one { (g : Gamma) (t k : ℕ) → 1 ≤ k → 1 ≤ sent_steps g t k }
+    ensures all { (g : Gamma) (t k : ℕ) → sent_steps g t k ≤ k }
+{}
+
+/// No more steps would do: of a component whose steps are apart in time, each number of steps whose
+/// last one ends in time is sent. All are, where a step period is as long as a step executes, the
+/// slowest message takes, and twice the skew.
+pub fn all_steps_that_fit_are_sent()
+    ensures most { (g : Gamma) (t k n : ℕ) → 0 < step_period t k → n ≤ k →
+        (n - 1) * step_period t k + g.alpha_max + g.mu_max + 2 * g.eps ≤ t → n ≤ sent_steps g t k }
+    ensures all { (g : Gamma) (t k : ℕ) → 0 < step_period t k →
+        g.alpha_max + g.mu_max + 2 * g.eps ≤ step_period t k → sent_steps g t k ≡ k }
+{}
+
+/// Between two steps there is time for one to execute, at every rate up to the greatest.
+pub fn steps_have_time_to_execute()
+    ensures { (g : Gamma) (t k greatest : ℕ) → least_period g greatest ≤ t → 1 ≤ k → k ≤ greatest →
+        g.alpha_max ≤ step_period t k }
+{}
+
+/// A message that is released takes at least twice the skew, counted from the alarm, to arrive.
+pub fn releases_are_late_enough()
+    ensures { (g : Gamma) (t k : ℕ) → 2 * g.eps ≤ release g t k + g.mu_min }
+{}
+
+/// The slowest message that is released arrives at least twice the skew before the next alarm. So
+/// does one that waited for the last step that it carries.
+pub fn releases_are_early_enough()
+    ensures release { (g : Gamma) (t k greatest : ℕ) → least_period g greatest ≤ t →
+        release g t k + g.mu_max + 2 * g.eps ≤ t }
+    ensures executed { (g : Gamma) (t k greatest : ℕ) → least_period g greatest ≤ t →
+        (sent_steps g t k - 1) * step_period t k + g.alpha_max + g.mu_max + 2 * g.eps ≤ t }
+{}
+
+/// The release of a round lies before the next alarm.
+pub fn release_lies_within_its_round()
+    ensures { (g : Gamma) (t k greatest : ℕ) →
+        least_period g greatest ≤ t → 1 ≤ g.eps → release g t k < t }
+{}
+
+/// What PALS rests on: a message of a round arrives after every node has started that round, and
+/// before any node starts the next.
+pub fn messages_arrive_between_starts()
+    ensures after { (g : Gamma) (t k round finished sent sent_reading arrived start reading : ℕ) →
+        IsSent g t k round finished sent sent_reading → IsCarried g sent arrived →
+        IsStarted g t round start reading → start < arrived }
+    ensures before { (g : Gamma) (t k greatest round finished sent sent_reading arrived start reading : ℕ) →
+        least_period g greatest ≤ t →
+        IsSent g t k round finished sent sent_reading → IsCarried g sent arrived →
+        IsStarted g t (round + 1) start reading → arrived < start }
+{}
+
+/// The least multiple is one number, and where there is one `None` is no answer. With a skew of at
+/// least 1 it is not 0.
+pub fn least_multiple_is_one_number()
+    ensures one { (g : Gamma) (rates : List ℕ) (s t : ℕ) →
+        IsLeastMultiple g rates s → IsLeastMultiple g rates t → s ≡ t }
+    ensures exclusive { (g : Gamma) (rates : List ℕ) (t : ℕ) →
+        IsLeastMultiple g rates t → ¬ HasNoMultiple g rates }
+    ensures positive { (g : Gamma) (rates : List ℕ) (t : ℕ) →
+        1 ≤ g.eps → IsLeastMultiple g rates t → 0 < t }
+{}
