@@ -1,0 +1,21 @@
+use super::*;
+use std::test::Fail;
+
+#[test]
+fn alarms(rt: HostRuntime) -> Result<(), Fail> {
+    assert_eq!(rt; alarm(9_000_000, 0), 9_000_000);
+    assert_eq!(rt; alarm(9_000_000, 1), 18_000_000);
+    assert_eq!(rt; alarm(3_600_000_000_000, 100_000), 360_003_600_000_000_000);
+    assert!(rt; due(9_000_000, 0, 9_000_000));
+    assert!(rt; !due(9_000_000, 0, 8_999_999));
+    Ok(())
+}
+
+#[test]
+fn step_alarms(rt: HostRuntime) -> Result<(), Fail> {
+    assert_eq!(rt; step_alarm(20_000_000, 5_000_000, 0, 0), 20_000_000);
+    assert_eq!(rt; step_alarm(20_000_000, 5_000_000, 0, 1), 25_000_000);
+    assert_eq!(rt; step_alarm(20_000_000, 5_000_000, 0, 3), 35_000_000);
+    assert_eq!(rt; step_alarm(20_000_000, 5_000_000, 2, 2), 70_000_000);
+    Ok(())
+}
