@@ -1,0 +1,8 @@
+//! What holds of every release. The law is the contract of a function that does nothing.
+ghost use Rattle.std.specs.Prelude.{ℕ, ◌+◌, ◌<◌};
+ghost use Rattle.pals_base.specs.Bound.{alarm};
+
+/// With a backoff below the period, the release of a round lies before the next alarm.
+pub fn release_lies_within_its_round()
+    ensures { (t b round : ℕ) → b < t → alarm t round + b < alarm t (round + 1) }
+{}
