@@ -1,0 +1,20 @@
+-- What a clock that is a list of readings stands at.
+use Rattle.std.specs.Prelude.{ℕ, List, fold}
+use Rattle.pals_base.specs.Picks.{reached}
+
+-- all readings of the list, and those that are left: the last pick, if there is one, and the later ones
+pub record ClockState : Type 0 where
+  pub readings : List ℕ
+  pub left : List ℕ
+
+-- a clock without a pick, of which all readings are left
+abbrev pub unpicked : List ℕ → ClockState
+unpicked list = record { readings = list; left = list }
+
+-- the same clock, standing at the first of these readings
+abbrev pub standing_at : ClockState → List ℕ → ClockState
+standing_at clock later = record { readings = clock.readings; left = later }
+
+-- what is left of some readings after the picks for these targets
+abbrev pub left_after : List ℕ → List ℕ → List ℕ
+left_after readings targets = fold reached readings targets

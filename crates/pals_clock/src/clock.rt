@@ -1,0 +1,104 @@
+//! A clock that is a list of readings, and the clocks of a run.
+ghost use Rattle.std.specs.Prelude.{◌≡◌, ◌-◌, ◌<◌, ◌≤◌, ◌↔◌, length, drop, All, IsTrue, IsErr, IfOk, OnOk, OnErr, MatchOption, slice_get, slice_index};
+ghost use Rattle.std.specs.List.Sorted.{IsNonDecreasing};
+ghost use Rattle.pals_base.specs.Picks.{reached};
+ghost use Rattle.pals_clock.specs.Clock.{unpicked, standing_at};
+
+use pals_base::{Items, Nanos, NoMemory};
+use std::alloc::Global;
+use std::marker::Model;
+
+/// The clock's list holds no reading for the target.
+#[derive(Clone, Copy, PartialEq, Eq, Debug)]
+pub struct ClockEnd;
+
+/// The clocks of a run: one hour on which all nodes meet, or a list of readings for each node, in
+/// the order of the nodes.
+#[derive(Drop)]
+pub enum Clocks {
+    Meet,
+    Lists(Items<ListClock>),
+}
+
+/// A clock that is a list of readings, which don't fall. Contracts see the whole list and what is
+/// left of it: the last pick, if there is one, and the later readings.
+#[derive(Drop)]
+pub struct ListClock {
+    readings: Items<Nanos>,
+    behind: usize,
+}
+
+impl Model for ListClock {
+    ghost use Rattle.std.specs.Prelude.{◌≤◌, length, drop};
+    ghost use Rattle.std.specs.List.Sorted.{IsNonDecreasing};
+    ghost use Rattle.pals_clock.specs.Clock.{ClockState};
+
+    ghost Value = { ClockState };
+
+    ghost view = { λ c. record { readings = c.readings; left = drop c.behind c.readings } };
+
+    ghost invariant = { λ c. (c.behind ≤ length c.readings) × IsNonDecreasing c.readings };
+}
+
+impl ListClock {
+    /// A clock of these readings, in nanoseconds, without a pick. It takes no memory.
+    pub fn new(readings: Items<Nanos>) -> ListClock
+        requires { IsNonDecreasing readings }
+        ensures { result ≡ unpicked readings }
+    {
+        ListClock {
+            readings,
+            behind: 0,
+        }
+    }
+
+    /// All readings of the clock's list, in nanoseconds. They don't fall, and what is left is an end
+    /// of them.
+    pub fn readings(&self) -> &[Nanos]
+        ensures value { result.now ≡ self.now.readings }
+        ensures order { IsNonDecreasing self.now.readings }
+        ensures left { drop (length self.now.readings - length self.now.left) self.now.readings ≡ self.now.left }
+    {
+        self.readings.as_slice()
+    }
+
+    /// Picks a reading for a target: the last pick where it is at least the target, else the first
+    /// later reading that is. The clock then stands at its answer. Refused exactly where no reading
+    /// that is left is at least the target; the clock then stands where it stood, so it refuses this
+    /// target and every greater one from then on.
+    pub fn wait_for(&mut self, target: Nanos) -> Result<Nanos, ClockEnd>
+        ensures pick { IfOk result (λ reading. slice_get self.new.left 0 ≡ Some reading) }
+        ensures stands { OnOk result (self.new ≡ standing_at self.old (reached self.old.left target)) }
+        ensures ended { IsErr result ↔ All (λ reading. reading < target) self.old.left }
+        ensures same { OnErr result (self.new ≡ self.old) }
+    {
+        let left = &self.readings.as_slice()[self.behind..];
+        let passed = passed_over(left, target).ok_or(ClockEnd)?;
+        let reading = left[passed];
+        self.behind += passed;
+        Ok(reading)
+    }
+
+    /// A clock of the same list, without a pick.
+    pub fn fresh(&self, alloc: Global) -> Result<ListClock, NoMemory>
+        ensures { IfOk result (λ clock. clock ≡ unpicked self.now.readings) }
+    {
+        let readings = Items::from_slice(alloc, self.readings.as_slice())?;
+        Ok(ListClock::new(readings))
+    }
+
+    /// Whether two clocks have equal lists, wherever they stand.
+    pub fn same_list(&self, other: &ListClock) -> bool
+        ensures { IsTrue result ↔ (self.now.readings ≡ other.now.readings) }
+    {
+        self.readings.as_slice() == other.readings.as_slice()
+    }
+}
+
+// How many readings stand before the first that is at least the target, or none where all are below
+// it.
+fn passed_over(readings: &[Nanos], target: Nanos) -> Option<usize>
+    ensures { MatchOption result (All (λ reading. reading < target) readings.now) (λ n. (n < length readings.now) × (target ≤ slice_index readings.now n) × (reached readings.now target ≡ drop n readings.now)) }
+{
+    readings.iter().position(|&reading| target <= reading)
+}
