@@ -4,3 +4,4 @@ pub mod RoundTexts
 pub mod Rules
 pub mod Laws
 pub mod Counters
+pub mod Flights

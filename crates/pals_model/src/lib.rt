@@ -5,12 +5,14 @@
 pub mod adaptors;
 pub mod bound;
 pub mod design;
+pub mod flight;
 pub mod laws;
 pub mod parts;
 pub mod rounds;
 mod rules;
 
 pub use design::{Component, Design, DesignParts, Feed, Link, Tap};
+pub use flight::FlightCopy;
 pub use rounds::{Env, Part};
 
 #[cfg(test)]

@@ -1,0 +1,6 @@
+pub mod Firsts
+pub mod Turns
+pub mod Splits
+pub mod Order
+pub mod Entries
+pub mod Counts

@@ -1,0 +1,102 @@
+//! The messages that are under way on one link.
+ghost use Rattle.std.specs.Prelude.{◌≡◌, ◌+◌, ◌-◌, ◌≤◌, [], ◌∷◌, ◌++◌, max, IfNone, IfOk, OnOk, OnErr, option_copied, option_map, is_some, if◌then◌else◌};
+ghost use Rattle.pals_model.specs.Flights.{oldest, without_oldest};
+ghost use Rattle.link_buffers.specs.Flights.{flight_of, is_due, due_rounds, least};
+
+use crate::ring::{Ring, place_of_oldest, take_at};
+use pals_base::{Nanos, NoMemory, Tuple};
+use pals_model::FlightCopy;
+use std::alloc::Global;
+use std::marker::Model;
+
+/// The copies of messages that are under way on one link. Contracts see the list of them in order of
+/// adding, and the number of further ones that there is room for.
+#[derive(Drop)]
+pub struct Flight {
+    ring: Ring,
+}
+
+impl Model for Flight {
+    ghost use Rattle.std.specs.Prelude.{◌-◌, ◌≤◌, length};
+    ghost use Rattle.link_buffers.specs.Flights.{FlightState};
+
+    ghost Value = { FlightState };
+
+    ghost view = { λ flight. record { copies = flight.ring.items; spare = flight.ring.capacity - length flight.ring.items } };
+
+    ghost invariant = { λ flight. length flight.ring.items ≤ flight.ring.capacity };
+}
+
+impl Flight {
+    /// A flight without copies, and without room for any.
+    pub fn new(alloc: Global) -> Result<Flight, NoMemory>
+        ensures { IfOk result (λ flight. flight ≡ flight_of [] 0) }
+    {
+        Ok(Flight {
+            ring: Ring::with_capacity(alloc, 0)?,
+        })
+    }
+
+    /// Makes room for at least so many further copies. The copies stay as they are. Where memory is
+    /// wanting, nothing changes.
+    pub fn reserve(&mut self, places: u32) -> Result<(), NoMemory>
+        ensures copies { self.new.copies ≡ self.old.copies }
+        ensures room { OnOk result (max places self.old.spare ≤ self.new.spare) }
+        ensures same { OnErr result (self.new ≡ self.old) }
+    {
+        let wanted = self.ring.len() + places as usize;
+        if wanted <= self.ring.capacity() {
+            return Ok(());
+        }
+        self.ring.resize(wanted.max(2 * self.ring.capacity()))
+    }
+
+    /// Adds a copy as the newest. It takes no memory.
+    pub fn flight_add(&mut self, round: u32, due: Option<Nanos>, tuple: Tuple)
+        requires { 1 ≤ self.old.spare }
+        ensures { self.new ≡ flight_of (self.old.copies ++ record { round = round; due = due; tuple = tuple } ∷ []) (self.old.spare - 1) }
+    {
+        self.ring.push_back(FlightCopy { round, due, tuple });
+    }
+
+    /// Takes out the oldest copy of a round, or nothing where there is none. The others keep their
+    /// order. It takes no memory, and leaves room for another copy.
+    pub fn flight_take(&mut self, round: u32) -> Option<Tuple>
+        ensures taken { result ≡ option_map (λ copy. copy.tuple) (oldest round self.old.copies) }
+        ensures others { self.new.copies ≡ without_oldest round self.old.copies }
+        ensures spare { self.new.spare ≡ (if is_some result then self.old.spare + 1 else self.old.spare) }
+        ensures same { IfNone result (self.new ≡ self.old) }
+    {
+        let place = place_of_oldest(&self.ring, round)?;
+        take_at(&mut self.ring, place).map(|copy| copy.tuple)
+    }
+
+    /// The oldest copy of a round, which stays.
+    pub fn flight_oldest(&self, round: u32) -> Option<&FlightCopy>
+        ensures { option_copied result ≡ oldest round self.now.copies }
+    {
+        let place = place_of_oldest(&self.ring, round)?;
+        self.ring.get(place)
+    }
+
+    /// The least round of which a copy is due at a reading, in nanoseconds, or none.
+    pub fn flight_due(&self, reading: Nanos) -> Option<u32>
+        ensures { result ≡ least (due_rounds reading self.now.copies) }
+    {
+        self.ring
+            .iter()
+            .filter(|copy| is_due(copy, reading))
+            .map(|copy| copy.round)
+            .min()
+    }
+}
+
+// Whether a copy's due reading is at most this one.
+fn is_due(copy: &FlightCopy, reading: Nanos) -> bool
+    ensures { result ≡ is_due reading copy.now }
+{
+    match copy.due {
+        None => false,
+        Some(due) => due <= reading,
+    }
+}

@@ -1,0 +1,16 @@
+//! Where messages wait on their way: the slot of an in port, the flight of a link, and a node's
+//! queue of the messages that become due.
+#![tactic(auto)]
+
+pub mod flight;
+pub mod laws;
+pub mod queue;
+mod ring;
+pub mod slot;
+#[cfg(test)]
+mod tests;
+
+pub use flight::Flight;
+pub use pals_model::FlightCopy;
+pub use queue::{DueEntry, DueQueue};
+pub use slot::Slot;

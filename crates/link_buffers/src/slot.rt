@@ -1,0 +1,57 @@
+//! The slot of an in port.
+ghost use Rattle.std.specs.Prelude.{◌≡◌, ◌↔◌, IsTrue, IsSome, is_some, if◌then◌else◌};
+
+use pals_base::Tuple;
+use std::marker::Model;
+
+/// The slot of an in port, which holds one message or none. Contracts see that message.
+#[derive(Drop)]
+pub struct Slot {
+    tuple: Option<Tuple>,
+}
+
+impl Model for Slot {
+    ghost use Rattle.std.specs.Prelude.{List, Option};
+    ghost use Rattle.pals_base.specs.declared.values.Port.{Port};
+
+    ghost Value = { Option (List Port) };
+
+    ghost view = { λ slot. slot.tuple };
+}
+
+impl Slot {
+    /// An empty slot. It takes no memory.
+    pub fn new() -> Slot
+        ensures { result ≡ None }
+    {
+        Slot { tuple: None }
+    }
+
+    /// Whether the slot holds a message.
+    pub fn is_full(&self) -> bool
+        ensures { IsTrue result ↔ IsSome self.now }
+    {
+        self.tuple.is_some()
+    }
+
+    /// Puts a message into the slot. It comes back exactly where the slot is full, which then keeps
+    /// what it holds.
+    pub fn slot_put(&mut self, tuple: Tuple) -> Option<Tuple>
+        ensures back { result ≡ (if is_some self.old then Some tuple else None) }
+        ensures slot { self.new ≡ (if is_some self.old then self.old else Some tuple) }
+    {
+        if self.tuple.is_some() {
+            return Some(tuple);
+        }
+        self.tuple = Some(tuple);
+        None
+    }
+
+    /// Takes what the slot holds, which is then empty.
+    pub fn slot_take(&mut self) -> Option<Tuple>
+        ensures taken { result ≡ self.old }
+        ensures slot { self.new ≡ None }
+    {
+        self.tuple.take()
+    }
+}
