@@ -1,0 +1,67 @@
+-- The views of expressions, level by level.
+use Rattle.std.proofs.Common.{◌≡◌, ℕ, ℤ, Bool, Option, Vec, Global, Box, rules}
+use Rattle.std.specs.Prelude.{option_map}
+use Rattle.aadl_tree.specs.declared.names.Identifier.{Identifier}
+use Rattle.aadl_tree.specs.declared.expressions.Sign.{Sign}
+use Rattle.aadl_tree.specs.declared.expressions.LogicOperator.{LogicOperator}
+use Rattle.aadl_tree.specs.declared.expressions.RelationOperator.{RelationOperator}
+use Rattle.aadl_tree.specs.declared.expressions.MultiplyOperator.{MultiplyOperator}
+use Rattle.aadl_tree.specs.declared.expressions.LeadingSign.{LeadingSign}
+use Rattle.aadl_tree.specs.declared.expressions.Factor.{Factor, Abs, Not, Plain, the_lemmas}
+use Rattle.aadl_tree.specs.declared.expressions.Primary.{Primary, Whole, Truth, Named, Group}
+use Rattle.aadl_tree.specs.declared.expressions.Expression.{Expression, roll-Expression}
+use Rattle.aadl_tree.specs.declared.expressions.Relation.{Relation, roll-Relation}
+use Rattle.aadl_tree.specs.declared.expressions.Sum.{Sum, roll-Sum}
+use Rattle.aadl_tree.specs.declared.expressions.Term.{Term, roll-Term}
+use Rattle.aadl_tree.specs.declared.expressions.Factor.TheViews.{out-Expression, out-Sum, out-Relation}
+use Rattle.aadl_tree.specs.Expressions.{number, truth, named, group, absolute, negated, bare, term, total, expression}
+use Rattle.aadl_tree.specs.NameViews.{identifier_view}
+use Rattle.aadl_tree.specs.ExpressionViews.{leading_view, primary_view, factor_view, factors_view, term_view, terms_view, sum_view, relation_view, relation_of, relations_view, expression_view}
+
+pub view-Whole : {P : Type 0} (place : ℕ → P) (at : ℕ) (n : ℤ) → primary_view place (Whole at n) ≡ number (place at) n
+view-Whole place at n = search (rules, the_lemmas)
+
+pub view-Truth : {P : Type 0} (place : ℕ → P) (at : ℕ) (b : Bool) → primary_view place (Truth at b) ≡ truth (place at) b
+view-Truth place at b = search (rules, the_lemmas)
+
+pub view-Named : {P : Type 0} (place : ℕ → P) (x : Identifier) (fresh : Bool) → primary_view place (Named x fresh) ≡ named (identifier_view place x) fresh
+view-Named place x fresh = search (rules, the_lemmas)
+
+pub view-Group : {P : Type 0} (place : ℕ → P) (at : ℕ) (e : Box Expression Global) → primary_view place (Group at e) ≡ group (place at) (expression_view place e.value)
+view-Group place at e = search (rules, the_lemmas)
+
+pub view-Abs : {P : Type 0} (place : ℕ → P) (at : ℕ) (x : Primary) → factor_view place (Abs at x) ≡ absolute (place at) (primary_view place x)
+view-Abs place at x = search (rules, the_lemmas)
+
+pub view-Not : {P : Type 0} (place : ℕ → P) (at : ℕ) (x : Primary) → factor_view place (Not at x) ≡ negated (place at) (primary_view place x)
+view-Not place at x = search (rules, the_lemmas)
+
+pub view-Plain : {P : Type 0} (place : ℕ → P) (x : Primary) → factor_view place (Plain x) ≡ bare (primary_view place x)
+view-Plain place x = search (rules, the_lemmas)
+
+pub view-term : {P : Type 0} (place : ℕ → P) (first : Factor) (rest : Vec (MultiplyOperator × Factor) Global)
+    → term_view place (roll-Term (record { first = first; rest = rest })) ≡ term (factor_view place first) (factors_view place rest.items)
+view-term place first rest = search (rules, the_lemmas)
+
+pub view-sum : {P : Type 0} (place : ℕ → P) (sign : Option LeadingSign) (first : Term) (rest : Vec (Sign × Term) Global)
+    → sum_view place (roll-Sum (record { sign = sign; first = first; rest = rest })) ≡ total (option_map (leading_view place) sign) (term_view place first) (terms_view place rest.items)
+view-sum place sign first rest = search (rules, the_lemmas)
+
+pub view-relation : {P : Type 0} (place : ℕ → P) (left : Sum) (right : Option (RelationOperator × Sum))
+    → relation_view place (roll-Relation (record { left = left; right = right })) ≡ relation_of (sum_view place left) (option_map {U = RelationOperator × _} (λ x. (x.0, sum_view place x.1)) right)
+view-relation place left right = search (rules, the_lemmas)
+
+pub view-expression : {P : Type 0} (place : ℕ → P) (first : Relation) (rest : Vec (LogicOperator × Relation) Global)
+    → expression_view place (roll-Expression (record { first = first; rest = rest })) ≡ expression (relation_view place first) (relations_view place rest.items)
+view-expression place first rest = search (rules, the_lemmas)
+
+-- the same over a struct's fields
+pub view-out-sum : {P : Type 0} (place : ℕ → P) (x : Sum) → sum_view place x ≡ total (option_map (leading_view place) (out-Sum x).sign) (term_view place (out-Sum x).first) (terms_view place (out-Sum x).rest.items)
+view-out-sum place x = search (rules, the_lemmas)
+
+pub view-out-relation : {P : Type 0} (place : ℕ → P) (x : Relation)
+    → relation_view place x ≡ relation_of (sum_view place (out-Relation x).left) (option_map {U = RelationOperator × _} (λ y. (y.0, sum_view place y.1)) (out-Relation x).right)
+view-out-relation place x = search (rules, the_lemmas)
+
+pub view-out-expression : {P : Type 0} (place : ℕ → P) (x : Expression) → expression_view place x ≡ expression (relation_view place (out-Expression x).first) (relations_view place (out-Expression x).rest.items)
+view-out-expression place x = search (rules, the_lemmas)

@@ -1,0 +1,9 @@
+pub mod Parts
+pub mod Example
+pub mod ExpressionViews
+pub mod ValueViews
+pub mod ActionViews
+pub mod Lengths
+pub mod Primaries
+pub mod ActionKinds
+pub mod Exclusion

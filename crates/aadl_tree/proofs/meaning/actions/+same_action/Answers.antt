@@ -1,0 +1,59 @@
+use Rattle.std.proofs.Common.{◌≡◌, true, arith, ap, sym, ◌∙◌, rules}
+use Rattle.std.proofs.lemmas.Grind.{common_steps}
+use Rattle.aadl_tree.specs.ActionViews.{action_view}
+use Rattle.aadl_tree.specs.Views.{no_place}
+use Rattle.aadl_tree.proofs.ActionKinds.{only_assign, only_send, only_choose, only_loop}
+use Rattle.aadl_tree.proofs.ActionViews.{view-Assign, view-Send, view-If, view-For, view-out-choice, view-out-loop}
+use Rattle.aadl_tree.proofs.Lengths.{mores-length, elsifs-length}
+use Rattle.aadl_tree.proofs.meaning.actions.+same_action.Goals as goal
+use Rattle.aadl_tree.proofs.meaning.actions.+same_action.Goals.{same_choice-then-same_expression, same_choice-else-same_expression, same_choice-then-same_actions, same_choice-else-same_actions}
+
+pub same_mores-returns-then-left-right : goal.same_mores-returns-then-left-right
+same_mores-returns-then-left-right t c = (grind (arith, common_steps), λ same. let e = mores-length _ _ same in absurd (grind (arith, common_steps)))
+
+pub same_elsifs-returns-then-left-right : goal.same_elsifs-returns-then-left-right
+same_elsifs-returns-then-left-right t c = (grind (arith, common_steps), λ same. let e = elsifs-length _ _ same in absurd (grind (arith, common_steps)))
+
+pub same_action-returns-in_default : goal.same_action-returns-in_default
+same_action-returns-in_default t c =
+    let here = c.in_default in
+    let left = ap (action_view no_place) here.is-0 ∙ view-Assign no_place here.field-0-0 here.field-1-0 in
+    (λ no. absurd (grind (arith, common_steps)), λ same. let found = only_assign c.args.right.now _ _ (sym same ∙ left) in absurd (here.not-Assign-1 found.0 found.1 found.2))
+
+pub same_action-returns-in_default-2 : goal.same_action-returns-in_default-2
+same_action-returns-in_default-2 t c =
+    let here = c.in_default in
+    let left = ap (action_view no_place) here.is-0 ∙ view-Send no_place here.field-0-0 here.field-1-0 in
+    (λ no. absurd (grind (arith, common_steps)), λ same. let found = only_send c.args.right.now _ _ (sym same ∙ left) in absurd (here.not-Send-1 found.0 found.1 found.2))
+
+pub same_action-returns-in_default-3 : goal.same_action-returns-in_default-3
+same_action-returns-in_default-3 t c =
+    let here = c.in_default in
+    let left = ap (action_view no_place) here.is-0 ∙ view-If no_place here.field-0-0 ∙ view-out-choice no_place here.field-0-0.value in
+    (λ no. absurd (grind (arith, common_steps)), λ same. let found = only_choose c.args.right.now _ _ _ _ (sym same ∙ left) in absurd (here.not-If-1 found.0 found.1))
+
+pub same_action-returns-in_default-4 : goal.same_action-returns-in_default-4
+same_action-returns-in_default-4 t c =
+    let here = c.in_default in
+    let left = ap (action_view no_place) here.is-0 ∙ view-For no_place here.field-0-0 ∙ view-out-loop no_place here.field-0-0.value in
+    (λ no. absurd (grind (arith, common_steps)), λ same. let found = only_loop c.args.right.now _ _ _ _ _ _ (sym same ∙ left) in absurd (here.not-For-1 found.0 found.1))
+
+pub same_choice-returns-then-same_elsifs : goal.same_choice-returns-then-same_elsifs
+same_choice-returns-then-same_elsifs t c = search (rules, view-out-choice)
+
+pub same_choice-returns-else-same_elsifs : goal.same_choice-returns-else-same_elsifs
+same_choice-returns-else-same_elsifs t c =
+    let left = view-out-choice no_place c.args.left.now in
+    let right = view-out-choice no_place c.args.right.now in
+    let no = c.if-same_elsifs.false in (
+      λ yes. absurd cc,
+      λ same. elim c.if-same_actions.branch [
+        | same_choice-then-same_actions w ↦ w.value-is ∙ (rw (w.deref.ensures.value, w.deref-then-same_actions.ensures.value) at w.same_elsifs.ensures).1 (cc)
+        | same_choice-else-same_actions w ↦ (
+            let first : c.if-same_expression.value ≡ true = elim c.if-same_expression.branch [
+              | same_choice-then-same_expression v ↦ v.value-is ∙ v.same_actions.ensures.1 (cc)
+              | same_choice-else-same_expression v ↦ (let g = c.same_expression.ensures.1 (cc) in let n = v.if-same_expression.false in absurd cc)
+            ] in
+            let f = w.if-same_actions.false in absurd cc)
+      ],
+    )

@@ -1,0 +1,69 @@
+use Rattle.std.proofs.Common.{◌≡◌, arith, ap, sym, ◌∙◌}
+use Rattle.std.proofs.lemmas.Grind.{common_steps}
+use Rattle.std.specs.Prelude.{option_map}
+use Rattle.aadl_tree.specs.ExpressionViews.{primary_view, leading_view, term_view}
+use Rattle.aadl_tree.specs.Views.{no_place}
+use Rattle.aadl_tree.specs.declared.expressions.Factor.TheViews.{out-Sum}
+use Rattle.aadl_tree.proofs.ExpressionViews.{view-out-expression, view-out-sum, view-term, view-Whole, view-Truth, view-Named}
+use Rattle.aadl_tree.proofs.Primaries.{only_whole, only_truth, only_named}
+use Rattle.aadl_tree.proofs.Lengths.{factors-length, terms-length, relations-length}
+use Rattle.aadl_tree.proofs.meaning.expressions.+same_expression.Goals as goal
+use Rattle.aadl_tree.proofs.meaning.expressions.+same_expression.Goals.{same_sum-then-same_option, same_sum-else-same_option}
+
+pub same_factors-returns-then-left-right : goal.same_factors-returns-then-left-right
+same_factors-returns-then-left-right t c = (grind (arith, common_steps), λ same. let e = factors-length _ _ same in absurd (grind (arith, common_steps)))
+
+pub same_terms-returns-then-left-right : goal.same_terms-returns-then-left-right
+same_terms-returns-then-left-right t c = (grind (arith, common_steps), λ same. let e = terms-length _ _ same in absurd (grind (arith, common_steps)))
+
+pub same_relations-returns-then-left-right : goal.same_relations-returns-then-left-right
+same_relations-returns-then-left-right t c = (grind (arith, common_steps), λ same. let e = relations-length _ _ same in absurd (grind (arith, common_steps)))
+
+pub same_expression-returns-then-same_relation : goal.same_expression-returns-then-same_relation
+same_expression-returns-then-same_relation t c =
+    let left = view-out-expression no_place c.args.left.now in
+    let right = view-out-expression no_place c.args.right.now in
+    let firsts = c.same_relation.ensures.0 c.if-same_relation.true in
+    let rests = rw (c.deref.ensures.value, c.deref-then-same_relation.ensures.value) at c.same_relations.ensures in
+    (λ yes. let e = rests.0 yes in cc, λ same. rests.1 (cc))
+
+pub same_term-returns-then-same_factor : goal.same_term-returns-then-same_factor
+same_term-returns-then-same_factor t c =
+    let left = view-term no_place c.args.left.now.first c.args.left.now.rest in
+    let right = view-term no_place c.args.right.now.first c.args.right.now.rest in
+    let firsts = c.same_factor.ensures.0 c.if-same_factor.true in
+    let rests = rw (c.deref.ensures.value, c.deref-then-same_factor.ensures.value) at c.same_factors.ensures in
+    (λ yes. let e = rests.0 yes in cc, λ same. rests.1 (cc))
+
+pub same_sum-returns-then-same_term : goal.same_sum-returns-then-same_term
+same_sum-returns-then-same_term t c =
+    let left = view-out-sum no_place c.args.left.now in
+    let right = view-out-sum no_place c.args.right.now in
+    let signs : option_map (leading_view no_place) (out-Sum c.args.left.now).sign ≡ option_map (leading_view no_place) (out-Sum c.args.right.now).sign = elim c.if-same_option.branch [
+      | same_sum-then-same_option w ↦ c.same_option.ensures.0 w.if-same_option.true
+      | same_sum-else-same_option w ↦ (let e = w.value-is in let f = c.if-same_term.true in absurd cc)
+    ] in
+    let firsts : term_view no_place (out-Sum c.args.left.now).first ≡ term_view no_place (out-Sum c.args.right.now).first = elim c.if-same_option.branch [
+      | same_sum-then-same_option w ↦ w.same_term.ensures.0 (sym w.value-is ∙ c.if-same_term.true)
+      | same_sum-else-same_option w ↦ (let e = w.value-is in let f = c.if-same_term.true in absurd cc)
+    ] in
+    let rests = rw (c.deref.ensures.value, c.deref-then-same_term.ensures.value) at c.same_terms.ensures in
+    (λ yes. let e = rests.0 yes in cc, λ same. rests.1 (cc))
+
+pub same_primary-returns-in_default : goal.same_primary-returns-in_default
+same_primary-returns-in_default t c =
+    let here = c.in_default in
+    let left = ap (primary_view no_place) here.is-0 ∙ view-Whole no_place here.field-0-0 here.field-1-0 in
+    (λ no. absurd (grind (arith, common_steps)), λ same. let found = only_whole c.args.right.now here.field-1-0 (sym same ∙ left) in absurd (here.not-Whole-1 found.0 found.1 found.2))
+
+pub same_primary-returns-in_default-2 : goal.same_primary-returns-in_default-2
+same_primary-returns-in_default-2 t c =
+    let here = c.in_default in
+    let left = ap (primary_view no_place) here.is-0 ∙ view-Truth no_place here.field-0-0 here.field-1-0 in
+    (λ no. absurd (grind (arith, common_steps)), λ same. let found = only_truth c.args.right.now here.field-1-0 (sym same ∙ left) in absurd (here.not-Truth-1 found.0 found.1 found.2))
+
+pub same_primary-returns-in_default-3 : goal.same_primary-returns-in_default-3
+same_primary-returns-in_default-3 t c =
+    let here = c.in_default in
+    let left = ap (primary_view no_place) here.is-0 ∙ view-Named no_place here.field-0-0 here.field-1-0 in
+    (λ no. absurd (grind (arith, common_steps)), λ same. let found = only_named c.args.right.now _ here.field-1-0 (sym same ∙ left) in absurd (here.not-Named-1 found.0 found.1 found.2))

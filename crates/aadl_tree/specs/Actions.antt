@@ -1,0 +1,73 @@
+-- Actions as plain trees, and what they are spelled by.
+use Rattle.std.specs.Prelude.{List, [], ◌∷◌, ◌++◌}
+use Rattle.aadl_tree.specs.declared.mark.Mark.TheVariants as k
+use Rattle.aadl_tree.specs.declared.actions.Bound.{Bound}
+use Rattle.aadl_tree.specs.Kinds.{whole, mark}
+use Rattle.aadl_tree.specs.Parts.{Part, token, may, plain, marked_if}
+use Rattle.aadl_tree.specs.Names.{Identifier, Reference, identifier_parts, reference_parts}
+use Rattle.aadl_tree.specs.Expressions.{Expression, expression_parts}
+
+mutual
+  pub data Action (P : Type 0) : Type 0 where
+    assign : Identifier P → Expression P → Action P
+    send : Identifier P → Expression P → Action P
+    choose : Expression P → Actions P → Elsifs P → Otherwise P → Action P
+    loop : P → Identifier P → Reference P → Bound → Bound → Block P → Action P
+
+  pub data Actions (P : Type 0) : Type 0 where
+    actions : Action P → Mores P → Actions P
+
+  -- the actions behind the first one
+  pub data Mores (P : Type 0) : Type 0 where
+    no_mores : Mores P
+    more : Action P → Mores P → Mores P
+
+  pub data Elsifs (P : Type 0) : Type 0 where
+    no_elsifs : Elsifs P
+    elsif : Expression P → Actions P → Elsifs P → Elsifs P
+
+  pub data Otherwise (P : Type 0) : Type 0 where
+    no_otherwise : Otherwise P
+    otherwise : Actions P → Otherwise P
+
+  pub data Block (P : Type 0) : Type 0 where
+    no_block : Block P
+    block : Actions P → Block P
+
+-- "(" expression ")"
+abbrev pub test_parts : {P : Type 0} → Expression P → List (Part P)
+test_parts e = plain k.ParenOpen ∷ (expression_parts e ++ plain k.ParenClose ∷ [])
+
+-- [ "-" ] whole
+abbrev pub bound_parts : {P : Type 0} → Bound → List (Part P)
+bound_parts x = marked_if k.Minus x.negative ++ token (whole x.value) [] ∷ []
+
+abbrev mutual
+  pub action_parts : {P : Type 0} → Action P → List (Part P)
+  action_parts (assign x e) = identifier_parts x ++ (plain k.Assign ∷ expression_parts e)
+  action_parts (send x e) = identifier_parts x ++ (plain k.Bang ∷ test_parts e)
+  action_parts (choose test a es o) =
+      plain k.If ∷ (test_parts test ++ (actions_parts a ++ (elsifs_parts es ++ (otherwise_parts o ++ (plain k.End ∷ (plain k.If ∷ []))))))
+  action_parts (loop at x type low high body) =
+      token (mark k.For) (at ∷ []) ∷ (plain k.ParenOpen ∷ (identifier_parts x ++ (plain k.Colon ∷ (reference_parts type ++ (plain k.In
+      ∷ (bound_parts low ++ (plain k.Range ∷ (bound_parts high ++ (plain k.ParenClose ∷ block_parts body)))))))))
+
+  -- A `;` behind the last action means nothing.
+  pub actions_parts : {P : Type 0} → Actions P → List (Part P)
+  actions_parts (actions first rest) = action_parts first ++ (mores_parts rest ++ may (mark k.Semicolon ∷ []) ∷ [])
+
+  pub mores_parts : {P : Type 0} → Mores P → List (Part P)
+  mores_parts no_mores = []
+  mores_parts (more a rest) = plain k.Semicolon ∷ (action_parts a ++ mores_parts rest)
+
+  pub elsifs_parts : {P : Type 0} → Elsifs P → List (Part P)
+  elsifs_parts no_elsifs = []
+  elsifs_parts (elsif test a rest) = plain k.Elsif ∷ (test_parts test ++ (actions_parts a ++ elsifs_parts rest))
+
+  pub otherwise_parts : {P : Type 0} → Otherwise P → List (Part P)
+  otherwise_parts no_otherwise = []
+  otherwise_parts (otherwise a) = plain k.Else ∷ actions_parts a
+
+  pub block_parts : {P : Type 0} → Block P → List (Part P)
+  block_parts no_block = plain k.BraceOpen ∷ (plain k.BraceClose ∷ [])
+  block_parts (block a) = plain k.BraceOpen ∷ (actions_parts a ++ plain k.BraceClose ∷ [])

@@ -1,0 +1,44 @@
+-- Names and references as plain trees. Each word keeps its place, of the type P.
+use Rattle.std.specs.Prelude.{ℕ, List, [], ◌∷◌, ◌++◌, Option}
+use Rattle.aadl_tree.specs.declared.mark.Mark.TheVariants as k
+use Rattle.aadl_tree.specs.Kinds.{word}
+use Rattle.aadl_tree.specs.Parts.{Part, token, parts_if, behind, chained}
+
+pub record Identifier (P : Type 0) : Type 0 where
+  pub at : P
+  pub spelling : List ℕ
+
+pub record Name (P : Type 0) : Type 0 where
+  pub first : Identifier P
+  pub rest : List (Identifier P)
+
+pub record Path (P : Type 0) : Type 0 where
+  pub first : Identifier P
+  pub rest : List (Identifier P)
+
+pub record Identifiers (P : Type 0) : Type 0 where
+  pub first : Identifier P
+  pub rest : List (Identifier P)
+
+pub record Reference (P : Type 0) : Type 0 where
+  pub name : Name P
+  pub implementation : Option (Identifier P)
+
+abbrev pub identifier_parts : {P : Type 0} → Identifier P → List (Part P)
+identifier_parts x = token (word x.spelling) (x.at ∷ []) ∷ []
+
+-- id { "::" id }
+abbrev pub name_parts : {P : Type 0} → Name P → List (Part P)
+name_parts x = chained k.Scope identifier_parts x.first x.rest
+
+-- id { "." id }
+abbrev pub path_parts : {P : Type 0} → Path P → List (Part P)
+path_parts x = chained k.Dot identifier_parts x.first x.rest
+
+-- id { "," id }
+abbrev pub identifiers_parts : {P : Type 0} → Identifiers P → List (Part P)
+identifiers_parts x = chained k.Comma identifier_parts x.first x.rest
+
+-- { id "::" } id [ "." id ]
+abbrev pub reference_parts : {P : Type 0} → Reference P → List (Part P)
+reference_parts x = name_parts x.name ++ parts_if (behind k.Dot identifier_parts) x.implementation

@@ -1,0 +1,104 @@
+//! Expressions of behaviours. Operators of one rank stand in one list, from left to right.
+
+use crate::names::Identifier;
+
+/// `+` or `-`.
+#[derive(Clone, Copy, Debug, PartialEq, Eq)]
+pub enum Sign {
+    Plus,
+    Minus,
+}
+
+/// An operator between relations.
+#[derive(Clone, Copy, Debug, PartialEq, Eq)]
+pub enum LogicOperator {
+    And,
+    Or,
+    Xor,
+    AndThen,
+    OrElse,
+}
+
+/// An operator between sums.
+#[derive(Clone, Copy, Debug, PartialEq, Eq)]
+pub enum RelationOperator {
+    Equal,
+    NotEqual,
+    Less,
+    LessOrEqual,
+    Greater,
+    GreaterOrEqual,
+}
+
+/// An operator between factors.
+#[derive(Clone, Copy, Debug, PartialEq, Eq)]
+pub enum MultiplyOperator {
+    Times,
+    Divide,
+    Mod,
+    Rem,
+}
+
+/// Relations with `and`, `or`, `xor`, `and then` or `or else` between them.
+#[cycle(expression)]
+#[derive(Drop)]
+pub struct Expression {
+    pub first: Relation,
+    pub rest: Vec<(LogicOperator, Relation)>,
+}
+
+/// A sum, or two that are compared.
+#[cycle(expression)]
+#[derive(Drop)]
+pub struct Relation {
+    pub left: Sum,
+    pub right: Option<(RelationOperator, Sum)>,
+}
+
+/// The sign before a sum's first term.
+#[derive(Clone, Copy, Debug, PartialEq, Eq)]
+pub struct LeadingSign {
+    /// Where it stands.
+    pub at: usize,
+    pub sign: Sign,
+}
+
+/// Terms with `+` or `-` between them. A sign at the front is the first term's.
+#[cycle(expression)]
+#[derive(Drop)]
+pub struct Sum {
+    pub sign: Option<LeadingSign>,
+    pub first: Term,
+    pub rest: Vec<(Sign, Term)>,
+}
+
+/// Factors with `*`, `/`, `mod` or `rem` between them.
+#[cycle(expression)]
+#[derive(Drop)]
+pub struct Term {
+    pub first: Factor,
+    pub rest: Vec<(MultiplyOperator, Factor)>,
+}
+
+/// An operand, with `abs`, `not` or nothing before it; `at` is the keyword's place.
+#[cycle(expression)]
+#[derive(Drop)]
+pub enum Factor {
+    Abs { at: usize, operand: Primary },
+    Not { at: usize, operand: Primary },
+    Plain(Primary),
+}
+
+/// An operand; `at` is the place of its first token.
+#[cycle(expression)]
+#[derive(Drop)]
+pub enum Primary {
+    /// A whole number.
+    Whole { at: usize, value: i64 },
+    /// `true` or `false`.
+    Truth { at: usize, value: bool },
+    /// A variable or a port; or whether a port is fresh: `id [ "'" "fresh" ]`.
+    Named { name: Identifier, fresh: bool },
+    /// An expression in parentheses.
+    Group { at: usize, inner: Box<Expression> },
+}

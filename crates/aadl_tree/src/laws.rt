@@ -1,0 +1,66 @@
+//! Laws of the grammar's definitions. Each function does nothing; its contract is proved.
+ghost use Rattle.std.specs.Prelude.{◌≡◌, ◌↔◌, ℕ, List, [], ◌∷◌, ◌++◌, Option, Some, None, codes, true, false, map};
+ghost use Rattle.aadl_tree.specs.declared.mark.Mark.{Mark};
+ghost use Rattle.aadl_tree.specs.declared.mark.Mark.TheVariants as k;
+ghost use Rattle.aadl_tree.specs.Marks.{mark_text, keywords_inside, keywords_outside, symbols, keyword_of, symbol_of};
+ghost use Rattle.aadl_tree.specs.Kinds.{Kind, word, mark, Spot, spots, kinds_of};
+ghost use Rattle.aadl_tree.specs.Parts.{Part, Spells, Written, kept};
+ghost use Rattle.aadl_tree.specs.Annexes.{transition_parts};
+ghost use Rattle.aadl_tree.specs.Declarations.{PackageTree};
+ghost use Rattle.aadl_tree.specs.Grammar.{nesting};
+ghost use Rattle.aadl_tree.specs.Given.{IsTreeOf, StopsAt, NestsAt};
+ghost use Rattle.aadl_tree.specs.Canon.{canonical};
+ghost use Rattle.aadl_tree.specs.Example.{counting, counting_kinds, counting_text, annex_text, annex_tokens, choice_kinds};
+
+/// Each keyword and each symbol is read as itself, where it is one, whatever the case of its letters.
+pub fn marks_are_read()
+    ensures inside { map (λ m. keyword_of true (mark_text m)) keywords_inside ≡ map Some keywords_inside }
+    ensures outside { map (λ m. keyword_of false (mark_text m)) keywords_outside ≡ map Some keywords_outside }
+    ensures symbols { map (λ m. symbol_of (mark_text m)) symbols ≡ map Some symbols }
+    ensures case { keyword_of false (codes "PaCkAgE") ≡ Some k.Package }
+    ensures names_outside { map (λ word. keyword_of false word) (codes "true" ∷ codes "fresh" ∷ codes "state" ∷ [])
+        ≡ None ∷ None ∷ None ∷ [] }
+    ensures names_inside { map (λ word. keyword_of true word) (codes "port" ∷ codes "none" ∷ codes "thread" ∷ [])
+        ≡ None ∷ None ∷ None ∷ [] }
+{}
+
+/// A word can be a keyword inside a behaviour annex and none outside. An `if` is open up to the
+/// `if` of its end.
+pub fn terminals_depend_on_their_place()
+    ensures kinds { kinds_of (spots annex_text annex_tokens)
+        ≡ word (codes "on") ∷ word (codes "behavior_specification") ∷ mark k.AnnexOpen
+        ∷ mark k.On ∷ word (codes "x") ∷ mark k.AnnexClose ∷ [] }
+    ensures opened { nesting 0 (mark k.If ∷ mark k.ParenOpen ∷ []) ≡ 2 }
+    ensures closing { nesting 0 choice_kinds ≡ 1 }
+    ensures closed { nesting 0 (choice_kinds ++ mark k.If ∷ []) ≡ 0 }
+{}
+
+/// A transition of the two counters is spelled by the terminals of its text, a `;` behind its last
+/// action or not, and this is its canonical text.
+pub fn counting_is_spelled()
+    ensures plain { Spells (transition_parts counting) (counting_kinds []) [] }
+    ensures ended { Spells (transition_parts counting) (counting_kinds (mark k.Semicolon ∷ [])) [] }
+    ensures kept { kept (transition_parts counting) ≡ counting_kinds [] }
+    ensures canonical { canonical (kept (transition_parts counting)) ≡ counting_text }
+{}
+
+/// Parts one behind the other are spelled, and written, one behind the other.
+pub fn parts_are_spelled_in_turn()
+    ensures spelled { (a b : List (Part ℕ)) (ks rest : List Kind)
+        → Spells (a ++ b) ks rest ↔ ((mid : List Kind) × Spells a ks mid × Spells b mid rest) }
+    ensures written { (a b : List (Part ℕ)) (ss rest : List Spot)
+        → Written (a ++ b) ss rest ↔ ((mid : List Spot) × Written a ss mid × Written b mid rest) }
+{}
+
+/// A text that has a tree stops nowhere, and nests nowhere too deep.
+pub fn trees_exclude_faults()
+    ensures stops { (text : List ℕ) (tree : PackageTree ℕ) (at : ℕ) → IsTreeOf text tree → ¬ StopsAt text at }
+    ensures nests { (text : List ℕ) (tree : PackageTree ℕ) (at : ℕ) → IsTreeOf text tree → ¬ NestsAt text at }
+{}
+
+/// What the canonical text keeps of a tree spells it; and what is written in its places is spelled.
+pub fn kept_is_spelled()
+    ensures kept { (ps : List (Part ℕ)) (rest : List Kind) → Spells ps (kept ps ++ rest) rest }
+    ensures written { (ps : List (Part ℕ)) (ss rest : List Spot)
+        → Written ps ss rest → Spells ps (kinds_of ss) (kinds_of rest) }
+{}

@@ -1,0 +1,39 @@
+//! The grammar of a design text: its terminals, its trees, and the tokens that spell a tree.
+//!
+//! A text is a package of types and implementations, whose behaviour annexes have a grammar of
+//! their own. The trees here keep what a text means and where its parts stand. What the canonical
+//! text leaves out (comments, sections of `none;`, a `;` behind the last action) is in no tree.
+#![tactic(auto)]
+
+pub mod actions;
+pub mod annex;
+pub mod declarations;
+pub mod expressions;
+pub mod laws;
+pub mod mark;
+pub mod meaning;
+pub mod names;
+pub mod package;
+pub mod places;
+pub mod values;
+
+pub use actions::{Action, Actions, Block, Bound, Choice, Elsif, Loop};
+pub use annex::{
+    Annex, AnnexContent, AnnexTree, Guard, StateDeclaration, Transition, VariableDeclaration,
+};
+pub use declarations::{
+    Category, Connection, ConnectionEnd, Declaration, Direction, Feature, Implementation,
+    ImplementationName, Subcomponent, TypeDeclaration, With,
+};
+pub use expressions::{
+    Expression, Factor, LeadingSign, LogicOperator, MultiplyOperator, Primary, Relation,
+    RelationOperator, Sign, Sum, Term,
+};
+pub use mark::Mark;
+pub use meaning::{Same, same};
+pub use names::{Identifier, Identifiers, Name, Path, Reference};
+pub use package::PackageTree;
+pub use values::{Association, AssociationOperator, Figure, Number, Quantity, Value};
+
+#[cfg(test)]
+mod tests;

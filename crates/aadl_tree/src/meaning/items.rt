@@ -1,0 +1,39 @@
+//! Lists of things that can be told apart by their meaning.
+ghost use Rattle.std.specs.Prelude.{◌≡◌, ◌↔◌, IsTrue, map, option_map};
+
+/// What can be told apart by its meaning.
+pub trait Same {
+    ghost Meaning: { Type 0 };
+
+    ghost meaning: { Self → Meaning };
+
+    /// Whether another one means the same.
+    fn same(&self, other: &Self) -> bool
+        ensures { IsTrue result ↔ (meaning self.now ≡ meaning other.now) };
+}
+
+/// Whether two lists have items of the same meaning in the same order.
+pub fn same_items<T: Same>(left: &[T], right: &[T]) -> bool
+    ensures { IsTrue result ↔ (map T.meaning left.now ≡ map T.meaning right.now) }
+{
+    if left.len() != right.len() {
+        return false;
+    }
+    for at in 0..left.len() {
+        if !left[at].same(&right[at]) {
+            return false;
+        }
+    }
+    true
+}
+
+/// Whether two things that may be wanting mean the same.
+pub fn same_option<T: Same>(left: &Option<T>, right: &Option<T>) -> bool
+    ensures { IsTrue result ↔ (option_map T.meaning left.now ≡ option_map T.meaning right.now) }
+{
+    match (left, right) {
+        (None, None) => true,
+        (Some(left), Some(right)) => left.same(right),
+        _ => false,
+    }
+}

@@ -1,0 +1,25 @@
+//! The tree of a whole text.
+ghost use Rattle.std.specs.Prelude.{map};
+ghost use Rattle.aadl_tree.specs.Given.{IsGiven};
+ghost use Rattle.aadl_tree.specs.NameViews.{name_view};
+ghost use Rattle.aadl_tree.specs.Views.{with_view, declaration_view, kept_place};
+
+use crate::declarations::{Declaration, With};
+use crate::names::Name;
+
+/// `"package" name "public" { with } { declaration } "end" name ";"`, as the grammar gives it for
+/// some text within the greatest nesting.
+#[derive(Drop)]
+pub struct PackageTree {
+    pub name: Name,
+    pub withs: Vec<With>,
+    pub declarations: Vec<Declaration>,
+    pub end_name: Name,
+    /// Some text has this tree.
+    pub ghost given: { ∥ IsGiven (record {
+      name = name_view kept_place name;
+      withs = map (with_view kept_place) withs.items;
+      declarations = map (declaration_view kept_place) declarations.items;
+      end_name = name_view kept_place end_name;
+    }) ∥₁ },
+}

@@ -1,0 +1,73 @@
+//! Properties and their values.
+
+use crate::expressions::Sign;
+use crate::names::{Identifier, Name, Path, Reference};
+
+/// How a property gets its value. Both mean the same.
+#[derive(Clone, Copy, Debug, PartialEq, Eq)]
+pub enum AssociationOperator {
+    /// `=>`
+    Becomes,
+    /// `+=>`
+    Appends,
+}
+
+/// A property with its value:
+/// `name ( "=>" | "+=>" ) [ "constant" ] value [ "applies" "to" path { "," path } ] ";"`.
+#[cycle(value)]
+#[derive(Drop)]
+pub struct Association {
+    pub name: Name,
+    pub operator: AssociationOperator,
+    /// Whether `constant` stands before the value. It means nothing.
+    pub constant: bool,
+    pub value: Value,
+    /// The paths that it applies to; none where it applies to what it stands in.
+    pub applies_to: Vec<Path>,
+}
+
+/// The value of a property.
+#[cycle(value)]
+#[derive(Drop)]
+pub enum Value {
+    /// `"(" [ value { "," value } ] ")"`
+    List(Vec<Value>),
+    /// `"[" { property } "]"`
+    Record(Vec<Association>),
+    /// A string, with its quotes.
+    Text(Vec<u8>),
+    /// `"reference" "(" path ")"`
+    Reference(Path),
+    /// `"classifier" "(" reference ")"`
+    Classifier(Reference),
+    /// A name.
+    Named(Reference),
+    /// A number with its unit, or a range of two: `number [ id ] [ ".." number [ id ] ]`.
+    Number {
+        low: Quantity,
+        high: Option<Quantity>,
+    },
+}
+
+/// A number with its unit: `number [ id ]`.
+#[derive(Drop)]
+pub struct Quantity {
+    pub number: Number,
+    pub unit: Option<Identifier>,
+}
+
+/// A number: `[ "+" | "-" ] ( whole | real )`.
+#[derive(Drop)]
+pub struct Number {
+    pub sign: Option<Sign>,
+    pub figure: Figure,
+}
+
+/// A number without its sign.
+#[derive(Drop)]
+pub enum Figure {
+    /// A whole number.
+    Whole(i64),
+    /// A real, as the text spells it.
+    Real(Vec<u8>),
+}
