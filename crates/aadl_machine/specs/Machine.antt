@@ -1,0 +1,185 @@
+-- What the machine does at a terminal, token by token: a stack of symbols that are wanted, the top first.
+use Rattle.std.specs.Prelude.{ℕ, ◌+◌, ◌==◌, nat_lt, Bool, true, ◌&&◌, List, [], ◌∷◌, ◌++◌, Option, Some, None, if◌then◌else◌}
+use Rattle.aadl_tree.specs.declared.mark.Mark.{Mark}
+use Rattle.aadl_tree.specs.declared.mark.Mark.TheVariants as k
+use Rattle.aadl_tree.specs.Kinds.{Kind, word, whole, real, quoted, unread, mark, other, Spot}
+use Rattle.aadl_tree.specs.Grammar.{greatest_nesting}
+use Rattle.aadl_machine.specs.Symbols.{Class, a_word, a_whole, a_real, a_quoted, an_unread, the, Symbol, Row}
+use Rattle.aadl_machine.specs.Symbols as s
+use Rattle.aadl_machine.specs.Table.{rows, can_omit}
+
+-- each keyword and each symbol has a number of its own
+abbrev pub mark_number : Mark → ℕ
+mark_number k.Package = 0
+mark_number k.Public = 1
+mark_number k.With = 2
+mark_number k.End = 3
+mark_number k.System = 4
+mark_number k.Process = 5
+mark_number k.Thread = 6
+mark_number k.Features = 7
+mark_number k.Properties = 8
+mark_number k.Implementation = 9
+mark_number k.Subcomponents = 10
+mark_number k.Connections = 11
+mark_number k.Nothing = 12
+mark_number k.In = 13
+mark_number k.Out = 14
+mark_number k.Data = 15
+mark_number k.Port = 16
+mark_number k.Annex = 17
+mark_number k.Constant = 18
+mark_number k.Applies = 19
+mark_number k.To = 20
+mark_number k.Reference = 21
+mark_number k.Classifier = 22
+mark_number k.Variables = 23
+mark_number k.States = 24
+mark_number k.Transitions = 25
+mark_number k.Initial = 26
+mark_number k.Complete = 27
+mark_number k.State = 28
+mark_number k.On = 29
+mark_number k.Dispatch = 30
+mark_number k.Otherwise = 31
+mark_number k.If = 32
+mark_number k.Elsif = 33
+mark_number k.Else = 34
+mark_number k.For = 35
+mark_number k.And = 36
+mark_number k.Or = 37
+mark_number k.Xor = 38
+mark_number k.Then = 39
+mark_number k.Mod = 40
+mark_number k.Rem = 41
+mark_number k.Abs = 42
+mark_number k.Not = 43
+mark_number k.True = 44
+mark_number k.False = 45
+mark_number k.Fresh = 46
+mark_number k.Semicolon = 47
+mark_number k.Colon = 48
+mark_number k.Comma = 49
+mark_number k.Dot = 50
+mark_number k.Range = 51
+mark_number k.Scope = 52
+mark_number k.Becomes = 53
+mark_number k.Appends = 54
+mark_number k.Arrow = 55
+mark_number k.GuardOpen = 56
+mark_number k.GuardClose = 57
+mark_number k.BraceOpen = 58
+mark_number k.BraceClose = 59
+mark_number k.ParenOpen = 60
+mark_number k.ParenClose = 61
+mark_number k.BracketOpen = 62
+mark_number k.BracketClose = 63
+mark_number k.Plus = 64
+mark_number k.Minus = 65
+mark_number k.Star = 66
+mark_number k.Slash = 67
+mark_number k.Equal = 68
+mark_number k.NotEqual = 69
+mark_number k.Less = 70
+mark_number k.LessOrEqual = 71
+mark_number k.Greater = 72
+mark_number k.GreaterOrEqual = 73
+mark_number k.Assign = 74
+mark_number k.Bang = 75
+mark_number k.Tick = 76
+mark_number k.AnnexOpen = 77
+mark_number k.AnnexClose = 78
+
+-- and so have the other classes
+abbrev pub class_number : Class → ℕ
+class_number a_word = 100
+class_number a_whole = 101
+class_number a_real = 102
+class_number a_quoted = 103
+class_number an_unread = 104
+class_number (the m) = mark_number m
+
+abbrev pub kind_number : Kind → ℕ
+kind_number (word bytes) = 100
+kind_number (whole n) = 101
+kind_number (real bytes) = 102
+kind_number (quoted bytes) = 103
+kind_number (unread bytes) = 104
+kind_number (other bytes) = 105
+kind_number (mark m) = mark_number m
+
+-- the terminal is of the class
+abbrev pub fits : Class → Kind → Bool
+fits c kind = kind_number kind == class_number c
+
+abbrev pub Stack : Type 0
+Stack = List Symbol
+
+-- What a symbol does at a terminal: it takes it and wants more, it is left out, or no text goes on so.
+pub data Move : Type 0 where
+  takes : List Symbol → Move
+  omitted : Move
+  refuses : Move
+
+abbrev pub move_by : List Row → Bool → Kind → Move
+move_by [] omits kind = if omits then omitted else refuses
+move_by (r ∷ rs) omits kind = if fits r.first kind then takes r.wanted else move_by rs omits kind
+
+unfoldable pub move : Symbol → Kind → Move
+move symbol kind = move_by (rows symbol) (can_omit symbol) kind
+
+abbrev pub chosen : Move → Stack → Option Stack → Option Stack
+chosen (takes f) below later = Some (f ++ below)
+chosen omitted below later = later
+chosen refuses below later = None
+
+-- what is wanted behind the terminal, if a text may go on with it
+unfoldable pub step : Stack → Kind → Option Stack
+step [] kind = None
+step (x ∷ below) kind = chosen (move x kind) below (step below kind)
+
+-- all that is wanted may be left out
+unfoldable pub ends : Stack → Bool
+ends [] = true
+ends (x ∷ below) = can_omit x && ends below
+
+-- how many of the openers before a symbol it closes
+abbrev pub closer : Mark → ℕ
+closer k.ParenClose = 1
+closer k.BracketClose = 1
+closer k.BraceClose = 1
+closer k.AnnexClose = 1
+closer k.GuardClose = 1
+closer _ = 0
+
+abbrev pub closes : Symbol → ℕ
+closes (s.only m) = closer m
+closes s.end_if = 1
+closes s.closing_if = 1
+closes _ = 0
+
+-- how many openers are open where the stack is wanted
+unfoldable pub depth : Stack → ℕ
+depth [] = 0
+depth (x ∷ below) = closes x + depth below
+
+pub data Fate : Type 0 where
+  finished : Fate
+  syntax_at : ℕ → Fate
+  deep_at : ℕ → Fate
+
+abbrev pub fate_after : ℕ → Option Stack → ℕ → (Stack → Fate) → Fate
+fate_after outer None at more = syntax_at at
+fate_after outer (Some wanted) at more = if nat_lt greatest_nesting (outer + depth wanted) then deep_at at else more wanted
+
+-- What comes of the terminals where the stack is wanted. So many openers are open outside, and the second number is the end of the text.
+unfoldable pub fate : ℕ → ℕ → Stack → List Spot → Fate
+fate outer end wanted [] = if ends wanted then finished else syntax_at end
+fate outer end wanted (x ∷ xs) = fate_after outer (step wanted x.kind) x.at (λ next. fate outer end next xs)
+
+-- a text, and the body of a behaviour annex by itself
+abbrev pub whole_package : Stack
+whole_package = s.a_package ∷ []
+
+abbrev pub annex_body : Stack
+annex_body = s.variables ∷ s.states ∷ s.transitions ∷ []
