@@ -1,3 +1,4 @@
+pub mod Pairs
 pub mod Trees
 pub mod Copies
 pub mod Steps

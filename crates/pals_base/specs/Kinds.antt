@@ -11,6 +11,7 @@ use Rattle.pals_base.specs.declared.kinds.Kinds.{Kinds}
 use Rattle.pals_base.specs.Tree.{Expression, Literal, Variable, PortValue, Fresh, Neg, Abs, Not, Chain, Operands, NoMore, Then, Action, Assign, Emit, If, For, Actions, Nothing, Do, Branches, NoBranch, Where}
 use Rattle.pals_base.specs.Expressions.{same_number}
 use Rattle.pals_base.specs.Actions.{count_of}
+use Rattle.pals_base.specs.declared.limits.TheConstants.{TURNS, NESTED_TURNS}
 
 -- ---- types that a value may have
 abbrev pub may_be : Bool → Bool → Kinds
@@ -102,7 +103,7 @@ turns low high = count_of (high -ℤ low)
 
 -- a loop makes at most 1,000 turns, and at most 10,000 with the turns of the loops round it
 abbrev pub is_short : ℕ → ℕ → Bool
-is_short count around = nat_le count 1000 && nat_le (around * count) 10000
+is_short count around = nat_le count TURNS && nat_le (around * count) NESTED_TURNS
 
 abbrev mutual
   -- whether an action is well typed and its loops are short, within so many loops that make so many turns

@@ -1,3 +1,4 @@
+pub mod Names
 pub mod Arithmetic
 pub mod Division
 pub mod Tree

@@ -1,15 +1,33 @@
 -- What each behaviour keeps.
-use Rattle.std.specs.Prelude.{◌≡◌, ℕ, zero, suc, nat_eq, nat_lt, Bool, true, false, ◌&&◌, ◌||◌, if◌then◌else◌, List, length, fold, filter, IsTrue, Option, Some, None, slice_get}
+use Rattle.std.specs.Prelude.{◌≡◌, ◌≢◌, ◌++◌, map, AllPairs, ℕ, zero, suc, nat_eq, nat_lt, Bool, true, false, ◌&&◌, ◌||◌, if◌then◌else◌, List, length, fold, filter, IsTrue, Option, Some, None, slice_get}
 use Rattle.std.specs.List.{list_all, Contains}
 use Rattle.std.specs.Option.{unwrap_or}
 use Rattle.pals_base.specs.declared.behaviour.BehaviourParts.{BehaviourParts}
 use Rattle.pals_base.specs.declared.behaviour.StateDecl.{StateDecl}
 use Rattle.pals_base.specs.declared.behaviour.VarDecl.{VarDecl}
+use Rattle.pals_base.specs.declared.behaviour.Named.{Named}
+use Rattle.pals_base.specs.Names.{is_word, AreDistinct}
 use Rattle.pals_base.specs.Tree.{Edge, Trigger, Dispatch, Always, When}
 use Rattle.pals_base.specs.Kinds.{allows, literal_kinds, kinds_of, are_sound}
 use Rattle.pals_base.specs.Fire.{is_complete, is_dispatch, leaving}
 use Rattle.pals_base.specs.Steps.{upwards}
 
+-- ---- names
+-- the names of a thread's ports and variables
+abbrev pub value_names : BehaviourParts → List (List ℕ)
+value_names b = map (λ (port : Named). port.name) b.ins ++ map (λ (port : Named). port.name) b.outs ++ map (λ (v : VarDecl). v.name) b.vars
+
+abbrev pub has_word : StateDecl → Bool
+has_word s = is_word s.name
+
+-- ports, variables and states have words for names; a thread's ports and variables differ, and so do its states
+pub record HasNames (b : BehaviourParts) : Type 0 where
+  pub values : IsTrue (list_all is_word (value_names b))
+  pub values_differ : AreDistinct (value_names b)
+  pub states : IsTrue (list_all has_word b.states)
+  pub states_differ : AllPairs (λ s t. s.name ≢ t.name) b.states
+
+-- ---- values
 -- a variable's first value is of its type
 abbrev pub has_first : VarDecl → Bool
 has_first v = allows (literal_kinds v.first) v.kind
@@ -69,6 +87,7 @@ settles_next b marks s = is_complete b s || list_all (λ e. marked marks e.targe
 
 -- ---- the whole
 pub record IsBehaviour (b : BehaviourParts) : Type 0 where
+  pub names : HasNames b
   pub firsts : IsTrue (list_all has_first b.vars)
   pub initial : IsTrue (may_start (slice_get b.states b.initial))
   pub edges : IsTrue (list_all (is_edge b) b.transitions)

@@ -1,39 +1,50 @@
-//! Copies of behaviours and of their parts, in memory of their own.
+//! Copies, in memory of their own.
 ghost use Rattle.std.specs.Prelude.{◌≡◌, IfOk};
 
 mod actions;
 mod declarations;
 mod expressions;
 mod transitions;
+mod values;
 
 use crate::behaviour::{Behaviour, BehaviourParts};
+use crate::items::Items;
 use crate::values::NoMemory;
-use declarations::{copy_ports, copy_states, copy_variables};
 use std::alloc::Global;
-use transitions::copy_transitions;
 
-impl BehaviourParts {
-    /// Other parts with the same contents.
-    pub fn copy(&self, alloc: Global) -> Result<BehaviourParts, NoMemory>
-        ensures { IfOk result (λ parts. parts ≡ self.now) }
-    {
+/// A type whose values can be copied where there is memory.
+pub trait TryClone {
+    /// Another value with the same contents, in memory of its own.
+    fn try_clone(&self, alloc: Global) -> Result<Self, NoMemory>
+        ensures { IfOk result (λ copy. copy ≡ self.now) };
+}
+
+impl<T: TryClone + Drop> TryClone for Items<T> {
+    fn try_clone(&self, alloc: Global) -> Result<Items<T>, NoMemory> {
+        let mut copies = Items::new(alloc);
+        for item in self.as_slice() {
+            copies.push(item.try_clone(alloc)?)?;
+        }
+        Ok(copies)
+    }
+}
+
+impl TryClone for BehaviourParts {
+    fn try_clone(&self, alloc: Global) -> Result<BehaviourParts, NoMemory> {
         Ok(BehaviourParts {
-            ins: copy_ports(alloc, self.ins.as_slice())?,
-            outs: copy_ports(alloc, self.outs.as_slice())?,
-            vars: copy_variables(alloc, self.vars.as_slice())?,
-            states: copy_states(alloc, self.states.as_slice())?,
+            ins: self.ins.try_clone(alloc)?,
+            outs: self.outs.try_clone(alloc)?,
+            vars: self.vars.try_clone(alloc)?,
+            states: self.states.try_clone(alloc)?,
             initial: self.initial,
-            transitions: copy_transitions(alloc, self.transitions.as_slice())?,
+            transitions: self.transitions.try_clone(alloc)?,
         })
     }
 }
 
-impl Behaviour {
-    /// Another behaviour with the same contents.
-    pub fn copy(&self, alloc: Global) -> Result<Behaviour, NoMemory>
-        ensures { IfOk result (λ behaviour. behaviour ≡ self.now) }
-    {
-        let parts = self.parts().copy(alloc)?;
+impl TryClone for Behaviour {
+    fn try_clone(&self, alloc: Global) -> Result<Behaviour, NoMemory> {
+        let parts = self.parts().try_clone(alloc)?;
         Ok(Behaviour::new(parts))
     }
 }

@@ -21,16 +21,17 @@ impl Frame {
         })
     }
 
-    /// Another frame with the same contents.
-    pub fn copy(&self, alloc: Global) -> Result<Frame, NoMemory>
-        ensures { IfOk result (λ frame. frame ≡ self.now) }
+    /// Writes over all of the frame with the contents of another that has as many variables and
+    /// held inputs. It takes no memory.
+    pub fn copy_from(&mut self, other: &Frame)
+        requires vars { length self.old.vars ≡ length other.now.vars }
+        requires held { length self.old.held ≡ length other.now.held }
+        ensures { self.new ≡ other.now }
     {
-        Ok(Frame {
-            state: self.state,
-            vars: Items::from_slice(alloc, self.vars.as_slice())?,
-            held: Items::from_slice(alloc, self.held.as_slice())?,
-            halt: self.halt,
-        })
+        self.state = other.state;
+        self.vars.copy_from_slice(other.vars.as_slice());
+        self.held.copy_from_slice(other.held.as_slice());
+        self.halt = other.halt;
     }
 }
 

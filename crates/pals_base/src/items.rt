@@ -1,8 +1,14 @@
 //! Lists that contracts see without their place in memory.
-ghost use Rattle.std.specs.Prelude.{◌≡◌, ◌<◌, [], ◌∷◌, ◌++◌, length, IfOk, OnOk, OnErr, slice_get, slice_set, option_copied, ◌==◌};
+ghost use Rattle.std.specs.Prelude.{◌≡◌, ◌<◌, [], ◌∷◌, ◌++◌, length, IfOk, OnOk, OnErr, slice_get, slice_set, slice_index_or, option_copied, ◌==◌};
+ghost use Rattle.std.specs.Slice.Iter.{iter_rest};
+ghost use Rattle.std.specs.Iterator.Adapters.{IterYieldsInOrder};
+ghost use Rattle.std.specs.Borrow.{sem, Lends};
+ghost use Rattle.pals_base.specs.contracts.items.Items.{the_row};
 
 use std::alloc::{AllocError, Global};
 use std::marker::Model;
+use std::ops::{Index, IndexMut};
+use std::slice::Iter;
 
 /// Items in order. Contracts see the list of them, so two are equal exactly where they have equal
 /// items, wherever these lie in memory.
@@ -65,6 +71,14 @@ impl<T> Items<T> {
         self.items.as_slice()
     }
 
+    /// The items in order.
+    pub fn iter(&self) -> Iter<'_, T>
+        ensures rest { iter_rest result ≡ self.now }
+        ensures runs { IterYieldsInOrder T }
+    {
+        self.items.as_slice().iter()
+    }
+
     /// The item at a place, or none past the end.
     pub fn get(&self, at: usize) -> Option<&T>
         ensures { option_copied result ≡ slice_get self.now at }
@@ -100,5 +114,38 @@ impl<T: Copy> Items<T> {
         Ok(Items {
             items: Vec::from_slice(alloc, items)?,
         })
+    }
+
+    /// Writes over all items with those of a slice of the same length. It takes no memory.
+    pub fn copy_from_slice(&mut self, items: &[T])
+        requires { length self.old ≡ length items.now }
+        ensures { self.new ≡ items.now }
+    {
+        self.items.as_mut_slice().copy_from_slice(items);
+    }
+}
+
+impl<T> Index<usize> for Items<T> {
+    type Output = T;
+
+    ghost can_index = { λ list at. at < length list };
+
+    ghost index_gives = { λ list at item. item ≡ slice_index_or list at item };
+
+    fn index(&self, at: usize) -> &T
+        requires { at < length self.now }
+        ensures { result.now ≡ slice_index_or self.now at result.now }
+    {
+        &self.items[at]
+    }
+}
+
+impl<T> IndexMut<usize> for Items<T> {
+    fn index_mut(&mut self, at: usize) -> &mut T
+        requires { at < length self.old }
+        ensures* writes_back { sem 𝓛 (Lends (the_row T.row) T.row self.entry result (λ item. slice_set self.entry.now at item)) }
+        ensures value { result.now ≡ slice_index_or self.old at result.now }
+    {
+        &mut self.items[at]
     }
 }

@@ -2,18 +2,23 @@
 //! they mean. The definitions that contracts cite stand in `specs/`.
 #![tactic(auto)]
 
+pub mod adaptors;
 pub mod arithmetic;
 pub mod behaviour;
+pub mod bound;
 pub mod copy;
 pub mod frame;
 pub mod items;
 pub mod kinds;
 pub mod laws;
+pub mod limits;
+pub mod names;
 pub mod rules;
 pub mod same;
 #[cfg(test)]
 mod tests;
 pub mod text;
+pub mod tuples;
 pub mod values;
 
 pub use arithmetic::{abs, add, modulo, mul, neg, quot, rem, sub};
@@ -21,7 +26,10 @@ pub use behaviour::{
     Act, Behaviour, BehaviourParts, Branch, Expr, Guard, Kind, Named, Op, Operand, StateDecl,
     Transition, VarDecl,
 };
+pub use copy::TryClone;
 pub use items::Items;
+pub use names::HasName;
+pub use same::Same;
 pub use kinds::Kinds;
 pub use text::Text;
 pub use values::{Adaptor, Frame, Gamma, LinkNo, Nanos, NoMemory, NodeNo, Port, Trap, Tuple};

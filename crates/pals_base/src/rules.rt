@@ -3,13 +3,16 @@ ghost use Rattle.std.specs.Prelude.{◌≡◌, ◌↔◌, length, IsTrue, IfOk, 
 ghost use Rattle.std.specs.List.{list_all};
 ghost use Rattle.pals_base.specs.Seen.{trigger_of};
 ghost use Rattle.pals_base.specs.Steps.{upwards};
-ghost use Rattle.pals_base.specs.Rules.{has_first, may_start, has_condition, is_edge, has_ways, settles, IsBehaviour};
+ghost use Rattle.pals_base.specs.Rules.{HasNames, value_names, has_first, may_start, has_condition, is_edge, has_ways, settles, IsBehaviour};
 
 mod actions;
 mod states;
 
 use crate::behaviour::{Behaviour, BehaviourParts, Guard, Transition};
+use crate::items::Items;
 use crate::kinds::Kinds;
+use crate::names::{add_names, are_distinct, are_words};
+use crate::text::Text;
 use crate::values::NoMemory;
 use actions::are_sound;
 use states::{are_marked, has_ways, settled_states};
@@ -21,12 +24,37 @@ impl BehaviourParts {
         ensures { IfOk result (λ sound. IsTrue sound ↔ IsBehaviour self.now) }
     {
         Ok(
-            self.has_firsts()
+            self.has_names(alloc)?
+                && self.has_firsts()
                 && self.may_start()
                 && self.has_edges()?
                 && self.has_ways()
                 && self.is_settled(alloc)?,
         )
+    }
+
+    // The names of ports, variables and states are words, and differ.
+    fn has_names(&self, alloc: Global) -> Result<bool, NoMemory>
+        ensures { IfOk result (λ named. IsTrue named ↔ HasNames self.now) }
+    {
+        let values = self.value_names(alloc)?;
+        Ok(
+            are_words(values.as_slice())
+                && are_distinct(values.as_slice())
+                && are_words(self.states.as_slice())
+                && are_distinct(self.states.as_slice()),
+        )
+    }
+
+    // The names of the ports and the variables.
+    fn value_names(&self, alloc: Global) -> Result<Items<Text>, NoMemory>
+        ensures { IfOk result (λ names. names ≡ value_names self.now) }
+    {
+        let mut names = Items::new(alloc);
+        add_names(alloc, &mut names, self.ins.as_slice())?;
+        add_names(alloc, &mut names, self.outs.as_slice())?;
+        add_names(alloc, &mut names, self.vars.as_slice())?;
+        Ok(names)
     }
 
     // Each variable's first value is of its type.

@@ -1,34 +1,56 @@
-//! Whether two behaviours, or two of their parts, are the same, wherever they lie in memory.
+//! Equality of contents, wherever the values lie in memory. It takes no memory.
 ghost use Rattle.std.specs.Prelude.{◌≡◌, ◌↔◌, IsTrue};
 
 mod actions;
 mod declarations;
 mod expressions;
-mod items;
 mod transitions;
+mod values;
 
 use crate::behaviour::{Behaviour, BehaviourParts};
-pub use items::{Same, same_items};
+use crate::items::Items;
 
-impl BehaviourParts {
-    /// Whether other parts have the same contents.
-    pub fn same(&self, other: &BehaviourParts) -> bool
-        ensures { IsTrue result ↔ (self.now ≡ other.now) }
-    {
-        same_items(self.ins.as_slice(), other.ins.as_slice())
-            && same_items(self.outs.as_slice(), other.outs.as_slice())
-            && same_items(self.vars.as_slice(), other.vars.as_slice())
-            && same_items(self.states.as_slice(), other.states.as_slice())
-            && self.initial == other.initial
-            && same_items(self.transitions.as_slice(), other.transitions.as_slice())
+/// A type whose values can be told apart by their contents.
+pub trait Same {
+    /// Whether another value has the same contents.
+    fn same(&self, other: &Self) -> bool
+        ensures { IsTrue result ↔ (self.now ≡ other.now) };
+}
+
+// Whether two lists have the same items in the same order.
+fn same_items<T: Same>(left: &[T], right: &[T]) -> bool
+    ensures { IsTrue result ↔ (left.now ≡ right.now) }
+{
+    if left.len() != right.len() {
+        return false;
+    }
+    for at in 0..left.len() {
+        if !left[at].same(&right[at]) {
+            return false;
+        }
+    }
+    true
+}
+
+impl<T: Same> Same for Items<T> {
+    fn same(&self, other: &Items<T>) -> bool {
+        same_items(self.as_slice(), other.as_slice())
     }
 }
 
-impl Behaviour {
-    /// Whether another behaviour has the same contents.
-    pub fn same(&self, other: &Behaviour) -> bool
-        ensures { IsTrue result ↔ (self.now ≡ other.now) }
-    {
+impl Same for BehaviourParts {
+    fn same(&self, other: &BehaviourParts) -> bool {
+        self.ins.same(&other.ins)
+            && self.outs.same(&other.outs)
+            && self.vars.same(&other.vars)
+            && self.states.same(&other.states)
+            && self.initial == other.initial
+            && self.transitions.same(&other.transitions)
+    }
+}
+
+impl Same for Behaviour {
+    fn same(&self, other: &Behaviour) -> bool {
         self.parts().same(other.parts())
     }
 }

@@ -5,7 +5,9 @@ use crate::behaviour::{
     Act, Behaviour, BehaviourParts, Branch, Expr, Guard, Kind, Named, Op, Operand, StateDecl,
     Transition, VarDecl,
 };
+use crate::copy::TryClone;
 use crate::items::Items;
+use crate::same::Same;
 use crate::text::Text;
 use crate::values::{Frame, NoMemory, Trap};
 use std::alloc::Global;
@@ -119,9 +121,9 @@ fn behaviour(rt: &impl Abort, alloc: Global) -> Result<Behaviour, NoMemory> {
 #[test]
 fn copies_and_frames_succeed(rt: HostRuntime) -> Result<(), Fail> {
     let behaviour = behaviour(&rt, rt.alloc())?;
-    let copied = behaviour.copy(rt.alloc())?;
+    let copied = behaviour.try_clone(rt.alloc())?;
     assert!(rt; copied.same(&behaviour));
-    let frame = Frame::initial(rt.alloc(), &behaviour)?.copy(rt.alloc())?;
+    let frame = Frame::initial(rt.alloc(), &behaviour)?.try_clone(rt.alloc())?;
     assert_eq!(rt; frame.vars.as_slice(), [-4].as_slice());
     assert_eq!(rt; frame.held.as_slice(), [0].as_slice());
     Ok(())
@@ -140,7 +142,7 @@ fn lists_and_texts_succeed(rt: HostRuntime) -> Result<(), Fail> {
     let mut numbers = Items::from_slice(alloc, &[3, 1])?;
     numbers.push(4)?;
     assert_eq!(rt; numbers.as_slice(), [3, 1, 4].as_slice());
-    let text = Text::new(String::from_str(alloc, "camera")?).copy(alloc)?;
+    let text = Text::new(String::from_str(alloc, "camera")?).try_clone(alloc)?;
     assert_eq!(rt; format!(in alloc; "<{text}>")?.as_str(), "<camera>");
     Ok(())
 }

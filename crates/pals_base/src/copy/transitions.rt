@@ -2,9 +2,9 @@
 ghost use Rattle.std.specs.Prelude.{◌≡◌, IfOk};
 ghost use Rattle.pals_base.specs.Seen.{trigger_of};
 
+use super::TryClone;
 use super::actions::copy_acts;
 use crate::behaviour::{Guard, Transition};
-use crate::items::Items;
 use crate::values::NoMemory;
 use std::alloc::Global;
 
@@ -21,11 +21,8 @@ impl Guard {
     }
 }
 
-impl Transition {
-    /// Another transition with the same contents.
-    pub fn copy(&self, alloc: Global) -> Result<Transition, NoMemory>
-        ensures { IfOk result (λ transition. transition ≡ self.now) }
-    {
+impl TryClone for Transition {
+    fn try_clone(&self, alloc: Global) -> Result<Transition, NoMemory> {
         Ok(Transition {
             source: self.source,
             target: self.target,
@@ -33,18 +30,4 @@ impl Transition {
             acts: copy_acts(alloc, &self.acts)?,
         })
     }
-}
-
-// Transitions in the text's order.
-pub(super) fn copy_transitions(
-    alloc: Global,
-    transitions: &[Transition],
-) -> Result<Items<Transition>, NoMemory>
-    ensures { IfOk result (λ copies. copies ≡ transitions.now) }
-{
-    let mut copies = Items::new(alloc);
-    for transition in transitions {
-        copies.push(transition.copy(alloc)?)?;
-    }
-    Ok(copies)
 }

@@ -5,6 +5,7 @@ ghost use Rattle.pals_base.specs.Kinds.{suits_variable, suits_port, turns, is_sh
 
 use crate::behaviour::{Act, BehaviourParts, Branch};
 use crate::kinds::Kinds;
+use crate::limits::{NESTED_TURNS, TURNS};
 use crate::values::NoMemory;
 use std::alloc::AllocError;
 
@@ -40,18 +41,18 @@ fn turns(low: i64, high: i64) -> u128
 
 // A loop makes at most 1,000 turns, and at most 10,000 with those of the loops round it.
 fn is_short(turns: u128, around: u64) -> bool
-    requires { around ≤ 10000 }
+    requires { around ≤ NESTED_TURNS }
     ensures { result ≡ is_short turns around }
 {
-    turns <= 1_000 && u128::from(around) * turns <= 10_000
+    turns <= u128::from(TURNS) && u128::from(around) * turns <= u128::from(NESTED_TURNS)
 }
 
 // The turns of a short loop, with those of the loops round it.
 fn together(turns: u128, around: u64) -> u64
-    requires below { around ≤ 10000 }
+    requires below { around ≤ NESTED_TURNS }
     requires short { IsTrue (is_short turns around) }
     ensures value { result ≡ around * turns }
-    ensures most { result ≤ 10000 }
+    ensures most { result ≤ NESTED_TURNS }
 {
     around * turns as u64
 }
@@ -73,7 +74,7 @@ pub fn are_sound(
     loops: usize,
     around: u64,
 ) -> Result<bool, NoMemory>
-    requires { around ≤ 10000 }
+    requires { around ≤ NESTED_TURNS }
     ensures { IfOk result (λ sound. sound ≡ are_sound (actions_along acts.now) parts.now loops around) }
 {
     for act in acts {
@@ -86,7 +87,7 @@ pub fn are_sound(
 
 #[cycle(sound_act)]
 fn is_sound(act: &Act, parts: &BehaviourParts, loops: usize, around: u64) -> Result<bool, NoMemory>
-    requires { around ≤ 10000 }
+    requires { around ≤ NESTED_TURNS }
     ensures { IfOk result (λ sound. sound ≡ is_sound (action_of act.now) parts.now loops around) }
 {
     match act {
@@ -118,7 +119,7 @@ fn branches_are_sound(
     loops: usize,
     around: u64,
 ) -> Result<bool, NoMemory>
-    requires { around ≤ 10000 }
+    requires { around ≤ NESTED_TURNS }
     ensures { IfOk result (λ sound. sound ≡ branches_are_sound (branches_along branches.now) parts.now loops around) }
 {
     for branch in branches {

@@ -1,17 +1,17 @@
 //! Whether two declarations are the same.
 
-use super::items::Same;
+use super::Same;
 use crate::behaviour::{Named, StateDecl, VarDecl};
 
 impl Same for Named {
     fn same(&self, other: &Named) -> bool {
-        self.name.as_str() == other.name.as_str() && self.kind == other.kind
+        self.name.same(&other.name) && self.kind == other.kind
     }
 }
 
 impl Same for VarDecl {
     fn same(&self, other: &VarDecl) -> bool {
-        self.name.as_str() == other.name.as_str()
+        self.name.same(&other.name)
             && self.kind == other.kind
             && self.first == other.first
     }
@@ -19,6 +19,6 @@ impl Same for VarDecl {
 
 impl Same for StateDecl {
     fn same(&self, other: &StateDecl) -> bool {
-        self.name.as_str() == other.name.as_str() && self.complete == other.complete
+        self.name.same(&other.name) && self.complete == other.complete
     }
 }

@@ -3,7 +3,7 @@ ghost use Rattle.std.specs.Prelude.{◌≡◌, ◌↔◌, IsTrue};
 ghost use Rattle.pals_base.specs.Seen.{trigger_of};
 
 use super::actions::same_acts;
-use super::items::Same;
+use super::Same;
 use crate::behaviour::{Guard, Transition};
 
 impl Guard {

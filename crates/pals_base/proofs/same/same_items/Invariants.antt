@@ -1,5 +1,5 @@
 use Rattle.std.proofs.Common.{◌≡◌, length, take}
-use Rattle.pals_base.proofs.same.items.same_items.Given as goal
+use Rattle.pals_base.proofs.same.same_items.Given as goal
 
 -- the lists are as long, and have the same items so far
 abbrev pub invariant-loop-at : goal.invariant-loop-at

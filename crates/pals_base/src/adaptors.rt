@@ -1,0 +1,81 @@
+//! Which adaptors are allowed between two rates, and for which types of ports.
+ghost use Rattle.std.specs.Prelude.{◌≡◌, ◌/◌, ◌%◌};
+ghost use Rattle.pals_base.specs.Allowed.{divides_or_divided, may_spread, may_join, is_allowed, suits_kind};
+
+use crate::behaviour::Kind;
+use crate::values::Adaptor;
+
+/// Whether one of two rates divides the other.
+pub fn divides_or_divided(source_rate: u32, target_rate: u32) -> bool
+    ensures { result ≡ divides_or_divided source_rate target_rate }
+{
+    remainder(target_rate, source_rate) == 0 || remainder(source_rate, target_rate) == 0
+}
+
+/// Whether an adaptor, or none, is allowed from a source of one rate to a target of another: none
+/// exactly where the rates are equal.
+pub fn is_allowed(adaptor: Option<Adaptor>, source_rate: u32, target_rate: u32) -> bool
+    ensures { result ≡ is_allowed adaptor source_rate target_rate }
+{
+    match adaptor {
+        None => source_rate == target_rate,
+        Some(adaptor) => {
+            if source_rate < target_rate {
+                may_spread(adaptor, quotient(target_rate, source_rate))
+            } else {
+                target_rate < source_rate && may_join(adaptor, quotient(source_rate, target_rate))
+            }
+        }
+    }
+}
+
+/// Whether an adaptor, or none, is allowed on ports of a type: the greatest, the least and the
+/// average are of numbers alone.
+pub fn suits_kind(adaptor: Option<Adaptor>, kind: Kind) -> bool
+    ensures { result ≡ suits_kind adaptor kind }
+{
+    match (adaptor, kind) {
+        (Some(Adaptor::Max | Adaptor::Min | Adaptor::Average), Kind::Boolean) => false,
+        _ => true,
+    }
+}
+
+// Whether an adaptor gives `places` places for each value, to a higher rate.
+fn may_spread(adaptor: Adaptor, places: u32) -> bool
+    ensures { result ≡ may_spread adaptor places }
+{
+    match adaptor {
+        Adaptor::Repeat | Adaptor::First | Adaptor::Last => true,
+        Adaptor::At(place) => 1 <= place && place <= places,
+        Adaptor::Latest | Adaptor::Max | Adaptor::Min | Adaptor::Average => false,
+    }
+}
+
+// Whether an adaptor gives one place for each group of `places`, to a lower rate.
+fn may_join(adaptor: Adaptor, places: u32) -> bool
+    ensures { result ≡ may_join adaptor places }
+{
+    match adaptor {
+        Adaptor::Repeat => false,
+        Adaptor::At(place) => 1 <= place && place <= places,
+        _ => true,
+    }
+}
+
+// The quotient, which is 0 at a divisor of 0.
+fn quotient(dividend: u32, divisor: u32) -> u32
+    ensures { result ≡ dividend / divisor }
+{
+    if divisor == 0 { 0 } else { dividend / divisor }
+}
+
+// The remainder, which is the dividend at a divisor of 0.
+fn remainder(dividend: u32, divisor: u32) -> u32
+    ensures { result ≡ dividend % divisor }
+{
+    if divisor == 0 {
+        dividend
+    } else {
+        dividend % divisor
+    }
+}

@@ -1,0 +1,36 @@
+//! Copies of values, names and frames.
+
+use super::TryClone;
+use crate::items::Items;
+use crate::text::Text;
+use crate::values::{Frame, NoMemory, Port};
+use std::alloc::Global;
+
+impl TryClone for u64 {
+    fn try_clone(&self, _alloc: Global) -> Result<u64, NoMemory> {
+        Ok(*self)
+    }
+}
+
+impl TryClone for Port {
+    fn try_clone(&self, _alloc: Global) -> Result<Port, NoMemory> {
+        Ok(*self)
+    }
+}
+
+impl TryClone for Text {
+    fn try_clone(&self, alloc: Global) -> Result<Text, NoMemory> {
+        Text::from_str(alloc, self.as_str())
+    }
+}
+
+impl TryClone for Frame {
+    fn try_clone(&self, alloc: Global) -> Result<Frame, NoMemory> {
+        Ok(Frame {
+            state: self.state,
+            vars: Items::from_slice(alloc, self.vars.as_slice())?,
+            held: Items::from_slice(alloc, self.held.as_slice())?,
+            halt: self.halt,
+        })
+    }
+}

@@ -1,0 +1,62 @@
+//! Tuples: the values of a port over the steps of a round.
+ghost use Rattle.std.specs.Prelude.{◌≡◌, IfOk, replicate, slice_index_or};
+ghost use Rattle.pals_base.specs.declared.values.Port.TheVariants.{Absent};
+ghost use Rattle.pals_base.specs.Steps.{column, columns, cut};
+
+use crate::items::Items;
+use crate::values::{NoMemory, Port, Tuple};
+use std::alloc::Global;
+
+/// The place with a number, from 0, absent past the end.
+pub fn place(tuple: &[Port], at: usize) -> Port
+    ensures { result ≡ slice_index_or tuple.now at Absent }
+{
+    if at < tuple.len() {
+        tuple[at]
+    } else {
+        Port::Absent
+    }
+}
+
+/// A tuple without values.
+pub fn absent(alloc: Global, places: usize) -> Result<Tuple, NoMemory>
+    ensures { IfOk result (λ tuple. tuple ≡ replicate places Absent) }
+{
+    Ok(Items::from_vec(vec![in alloc; Port::Absent; places]?))
+}
+
+/// A tuple with every place after its first `count` absent.
+pub fn cut(alloc: Global, count: usize, tuple: &[Port]) -> Result<Tuple, NoMemory>
+    ensures { IfOk result (λ t. t ≡ cut count tuple.now) }
+{
+    if count >= tuple.len() {
+        return Items::from_slice(alloc, tuple);
+    }
+    let mut places = Vec::from_slice(alloc, &tuple[..count])?;
+    let late: Vec<Port> = vec![in alloc; Port::Absent; tuple.len() - count]?;
+    places.extend_from_slice(late.as_slice())?;
+    Ok(Items::from_vec(places))
+}
+
+/// The place with a number of each tuple.
+pub fn column(alloc: Global, at: usize, tuples: &[Tuple]) -> Result<Tuple, NoMemory>
+    ensures { IfOk result (λ c. c ≡ column at tuples.now) }
+{
+    let mut places = Items::new(alloc);
+    for tuple in tuples {
+        places.push(place(tuple.as_slice(), at))?;
+    }
+    Ok(places)
+}
+
+/// The first `count` columns of the tuples.
+#[tactic(auto, using(crate::proofs::Upwards::map_upwards_more))]
+pub fn columns(alloc: Global, count: usize, tuples: &[Tuple]) -> Result<Items<Tuple>, NoMemory>
+    ensures { IfOk result (λ cs. cs ≡ columns count tuples.now) }
+{
+    let mut all = Items::new(alloc);
+    for at in 0..count {
+        all.push(column(alloc, at, tuples)?)?;
+    }
+    Ok(all)
+}
