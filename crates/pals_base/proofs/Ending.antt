@@ -198,6 +198,7 @@ halted_or b held None r shape ends = ended b held r shape ends
 halted_or b held (Some trap) r shape ends = (shape, length-replicate (length b.outs) Absent)
 
 pub fires_well : (b : BehaviourParts) (frame : Frame) (inputs : List Port) → IsBehaviour b → HasShape b frame → FiredWell b (fire b frame inputs)
+unfolding fire
 fires_well b frame inputs rules' shape =
     let held : Frame = record frame { held = holding frame.held inputs } in
     let held_shape : HasShape b held = record { state = shape.state; vars = shape.vars; held = length-holding frame.held inputs ∙ shape.held } in

@@ -10,3 +10,4 @@ pub mod Upwards
 pub mod Settling
 pub mod Keeping
 pub mod Ending
+pub mod RoundUnderWay

@@ -51,6 +51,7 @@ length-each_column n lists = All-from_recursion (λ c. length c ≡ length lists
 
 -- ---- a halted frame
 pub fire-halted : (b : BehaviourParts) (frame : Frame) (trap : Trap) (inputs : List Port) → frame.halt ≡ Some trap → fire b frame inputs ≡ record { frame = record frame { held = holding frame.held inputs }; outs = silence b }
+unfolding fire
 fire-halted b frame trap inputs halted =
     let held : Frame = record frame { held = holding frame.held inputs } in
     ap (λ h. unless_halted b held h (reaction b (map is_present inputs) held)) halted

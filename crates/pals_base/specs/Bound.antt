@@ -21,6 +21,7 @@ release_offset g t k = max (backoff g) ((sent_steps g t k - 1) * step_period t k
 -- the least period that the bound allows, where k is the greatest rate
 abbrev pub least_period : Gamma → ℕ → ℕ
 least_period g k = max (g.mu_max + 2 * g.eps + max (backoff g) g.alpha_max) (k * g.alpha_max)
+
 -- the alarm of a round
 abbrev pub alarm : ℕ → ℕ → ℕ
 alarm t round = (round + 1) * t

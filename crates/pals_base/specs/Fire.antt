@@ -97,7 +97,7 @@ unless_halted b held None reacted = outcome b held reacted
 unless_halted b held (Some trap) reacted = record { frame = held; outs = silence b }
 
 -- one step at these inputs
-abbrev pub fire : BehaviourParts → Frame → List Port → Fired
+unfoldable pub fire : BehaviourParts → Frame → List Port → Fired
 fire b frame inputs =
     let held : Frame = record frame { held = holding frame.held inputs } in
     unless_halted b held frame.halt (reaction b (map is_present inputs) held)

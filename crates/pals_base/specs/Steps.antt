@@ -1,5 +1,5 @@
 -- Several steps of a behaviour, and their places gathered as tuples.
-use Rattle.std.specs.Prelude.{ℕ, ◌-◌, zero, suc, List, [], ◌∷◌, ◌++◌, length, take, map, replicate, slice_index_or}
+use Rattle.std.specs.Prelude.{ℕ, ◌-◌, zero, suc, List, [], ◌∷◌, ◌++◌, length, take, map, replicate, slice_index_or, slice_set}
 use Rattle.pals_base.specs.declared.values.Frame.{Frame}
 use Rattle.pals_base.specs.declared.values.Port.{Port}
 use Rattle.pals_base.specs.declared.values.Port.TheVariants.{Absent}
@@ -41,3 +41,14 @@ steps b frame vectors = record { frame = frame_after b frame vectors; tuples = c
 -- a tuple with every place after its first n absent
 abbrev pub cut : ℕ → List Port → List Port
 cut n tuple = take n tuple ++ replicate (length tuple - n) Absent
+
+-- ---- a round under way
+-- the tuples of a round of k steps whose first ones left these outputs: their places, and absent places up to k
+abbrev pub so_far : ℕ → ℕ → List (List Port) → List (List Port)
+so_far ports k outs = map (λ tuple. tuple ++ replicate (k - length outs) Absent) (columns ports outs)
+
+-- the tuples with these values in the place with a number
+abbrev pub with_places : ℕ → List Port → List (List Port) → List (List Port)
+with_places at [] tuples = tuples
+with_places at (value ∷ values) [] = []
+with_places at (value ∷ values) (tuple ∷ tuples) = slice_set tuple at value ∷ with_places at values tuples

@@ -19,8 +19,9 @@ impl Gamma {
         ensures { result ≡ least_period self.now rate }
     {
         let execution = u128::from(self.alpha_max);
-        let round =
-            u128::from(self.mu_max) + 2 * u128::from(self.eps) + self.backoff().max(execution);
+        let round = u128::from(self.mu_max)
+            + 2 * u128::from(self.eps)
+            + self.backoff().max(execution);
         round.max(u128::from(rate) * execution)
     }
 

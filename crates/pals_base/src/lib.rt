@@ -28,8 +28,8 @@ pub use behaviour::{
 };
 pub use copy::TryClone;
 pub use items::Items;
+pub use kinds::Kinds;
 pub use names::HasName;
 pub use same::Same;
-pub use kinds::Kinds;
 pub use text::Text;
 pub use values::{Adaptor, Frame, Gamma, LinkNo, Nanos, NoMemory, NodeNo, Port, Trap, Tuple};

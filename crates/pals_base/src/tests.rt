@@ -2,8 +2,7 @@
 //! and worked rows of arithmetic.
 use crate::arithmetic::{abs, add, modulo, mul, neg, quot, rem, sub};
 use crate::behaviour::{
-    Act, Behaviour, BehaviourParts, Branch, Expr, Guard, Kind, Named, Op, Operand, StateDecl,
-    Transition, VarDecl,
+    Act, Behaviour, BehaviourParts, Expr, Guard, Kind, Named, StateDecl, Transition, VarDecl,
 };
 use crate::copy::TryClone;
 use crate::items::Items;
@@ -22,59 +21,18 @@ fn port(alloc: Global, name: &str) -> Result<Named, NoMemory> {
     })
 }
 
-// The sum of the first variable and the first in port.
-fn sum(alloc: Global) -> Result<Expr, NoMemory> {
-    Ok(Expr::Chain {
-        first: Box::new(alloc, Expr::Variable(0))?,
-        rest: vec![in alloc;
-            Operand {
-                op: Op::Add,
-                right: Expr::Port(0)
-            },
-        ]?,
-    })
-}
-
-// Adds the in port three times, or sends the sum where the in port is not fresh.
-fn adding(alloc: Global) -> Result<Act, NoMemory> {
-    let add = Act::Assign {
-        variable: 0,
-        value: sum(alloc)?,
-    };
-    let three_times = Act::For {
-        low: 1,
-        high: 3,
-        body: vec![in alloc; add]?,
-    };
-    let fresh = Branch {
-        guard: Expr::Fresh(0),
-        acts: vec![in alloc; three_times]?,
-    };
-    let negated = Expr::Neg(Box::new(alloc, sum(alloc)?)?);
-    let send = Act::Emit {
-        port: 0,
-        value: Expr::Abs(Box::new(alloc, negated)?),
-    };
-    Ok(Act::If {
-        branches: vec![in alloc; fresh]?,
-        otherwise: vec![in alloc; send]?,
-    })
-}
-
-// At the dispatch, and where the in port is not fresh.
+// At the dispatch the sum is set to 1.
 fn transitions(alloc: Global) -> Result<Items<Transition>, NoMemory> {
+    let set = Act::Assign {
+        variable: 0,
+        value: Expr::Literal(1),
+    };
     let mut transitions = Items::new(alloc);
     transitions.push(Transition {
         source: 0,
         target: 0,
         guard: Guard::Dispatch,
-        acts: vec![in alloc; adding(alloc)?]?,
-    })?;
-    transitions.push(Transition {
-        source: 0,
-        target: 0,
-        guard: Guard::When(Expr::Not(Box::new(alloc, Expr::Fresh(0))?)),
-        acts: Vec::new(alloc),
+        acts: vec![in alloc; set]?,
     })?;
     Ok(transitions)
 }

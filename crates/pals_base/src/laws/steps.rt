@@ -1,11 +1,12 @@
 //! Laws of several steps of a behaviour.
-ghost use Rattle.std.specs.Prelude.{◌≡◌, ℕ, List, ◌++◌, length, take, replicate, fold, Option, Some};
+ghost use Rattle.std.specs.Prelude.{◌≡◌, ◌<◌, ℕ, List, [], ◌∷◌, ◌++◌, length, take, replicate, fold, Option, Some};
 ghost use Rattle.pals_base.specs.declared.values.Trap.{Trap};
 ghost use Rattle.pals_base.specs.declared.values.Frame.{Frame};
 ghost use Rattle.pals_base.specs.declared.values.Port.{Port};
 ghost use Rattle.pals_base.specs.declared.behaviour.BehaviourParts.{BehaviourParts};
 ghost use Rattle.pals_base.specs.Fire.{fire, holding, silence};
-ghost use Rattle.pals_base.specs.Steps.{frame_after, outputs};
+ghost use Rattle.pals_base.specs.Steps.{frame_after, outputs, columns, so_far, with_places};
+ghost use Rattle.pals_base.specs.declared.values.Port.TheVariants.{Absent};
 
 /// Steps go one after another: no step looks ahead, and later steps go on from the frame that the
 /// earlier ones leave.
@@ -23,4 +24,14 @@ pub fn halted_frame_stays()
         → frame_after b frame vectors ≡ record frame { held = fold holding frame.held vectors } }
     ensures outputs { (b : BehaviourParts) (frame : Frame) (trap : Trap) (vectors : List (List Port)) → frame.halt ≡ Some trap
         → outputs b frame vectors ≡ replicate (length vectors) (silence b) }
+{}
+
+/// A round goes one step at a time. Before its first step all places are absent; each further step
+/// fills its own place on each port and leaves the others, also where it traps; after the last one
+/// nothing is absent but what the steps left so.
+pub fn round_fills_place_by_place()
+    ensures none { (ports k : ℕ) → so_far ports k [] ≡ replicate ports (replicate k Absent) }
+    ensures next { (k : ℕ) (outs : List (List Port)) (values : List Port) → length outs < k
+        → so_far (length values) k (outs ++ values ∷ []) ≡ with_places (length outs) values (so_far (length values) k outs) }
+    ensures all { (ports : ℕ) (outs : List (List Port)) → so_far ports (length outs) outs ≡ columns ports outs }
 {}

@@ -11,9 +11,7 @@ impl Same for Named {
 
 impl Same for VarDecl {
     fn same(&self, other: &VarDecl) -> bool {
-        self.name.same(&other.name)
-            && self.kind == other.kind
-            && self.first == other.first
+        self.name.same(&other.name) && self.kind == other.kind && self.first == other.first
     }
 }
 

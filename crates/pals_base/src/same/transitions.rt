@@ -2,8 +2,8 @@
 ghost use Rattle.std.specs.Prelude.{◌≡◌, ◌↔◌, IsTrue};
 ghost use Rattle.pals_base.specs.Seen.{trigger_of};
 
-use super::actions::same_acts;
 use super::Same;
+use super::actions::same_acts;
 use crate::behaviour::{Guard, Transition};
 
 impl Guard {
