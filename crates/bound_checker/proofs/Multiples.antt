@@ -8,7 +8,8 @@ use Rattle.std.proofs.lemmas.Nat.{mul-le, mod_below}
 use Rattle.std.proofs.Math.Nat.{dvd_of_mod-eq-zero, mod-eq-zero_of_dvd, dvd_trans, dvd-sub, le_of_dvd, mod-eq_of_lt, min-eq_left, min-eq_right}
 use Rattle.pals_base.specs.declared.values.Gamma.{Gamma}
 use Rattle.pals_base.specs.Bound.{least_period}
-use Rattle.bound_checker.specs.Limits.{hour, IsWithinHour, IsRate}
+use Rattle.pals_base.specs.declared.limits.TheConstants.{HOUR}
+use Rattle.bound_checker.specs.Limits.{IsWithinHour, IsRate}
 use Rattle.bound_checker.specs.Multiple.{greatest_rate, IsSuited, IsLeastMultiple, HasNoMultiple}
 use Rattle.bound_checker.specs.Divisors.{IsLeastCommon, HasMultiplesOf}
 
@@ -38,17 +39,17 @@ multiples_of_none = record {
 }
 
 pub multiples_of_more : (rates : List ℕ) (rate common next : ℕ) → HasMultiplesOf rates common → 0 < next → IsLeastCommon common rate next
-    → HasMultiplesOf (rates ++ rate ∷ []) (min next (hour + 1))
+    → HasMultiplesOf (rates ++ rate ∷ []) (min next (HOUR + 1))
 multiples_of_more rates rate common next so_far some least = record {
   some_time = omega arith;
   at_most = omega arith;
   from_all = λ t within all.
-      mod-cut t next (hour + 1) (omega arith)
+      mod-cut t next (HOUR + 1) (omega arith)
       ∙ mod-eq-zero_of_dvd next (least.least t
       (dvd_of_mod-eq-zero common (so_far.from_all t within (init_of_All (λ k. t % k ≡ 0) rates rate all)))
       (dvd_of_mod-eq-zero rate (last_of_All (λ k. t % k ≡ 0) rates rate all)));
   to_all = λ t within multiple.
-      let of_next : next ∣ t = dvd_of_mod-eq-zero next (sym (mod-cut t next (hour + 1) (omega arith)) ∙ multiple) in
+      let of_next : next ∣ t = dvd_of_mod-eq-zero next (sym (mod-cut t next (HOUR + 1) (omega arith)) ∙ multiple) in
       All-push (λ k. t % k ≡ 0) rates rate
       (so_far.to_all t within (mod-eq-zero_of_dvd common (dvd_trans common least.left of_next)))
       (mod-eq-zero_of_dvd rate (dvd_trans rate least.right of_next));
@@ -82,11 +83,11 @@ pub record IsFirst (g : Gamma) (rates : List ℕ) (common t : ℕ) : Type 0 wher
   pub near : t < least_period g (greatest_rate rates) + common
   pub multiple : t % common ≡ 0
 
-le_from_first : (g : Gamma) (rates : List ℕ) (common t s : ℕ) → IsFirst g rates common t → s ≤ hour → IsSuited g rates s → t ≤ s
+le_from_first : (g : Gamma) (rates : List ℕ) (common t s : ℕ) → IsFirst g rates common t → s ≤ HOUR → IsSuited g rates s → t ≤ s
 le_from_first g rates common t s first within suited =
     first_multiple common s t _ first.multiples.some_time (first.multiples.from_all s within suited.multiple) first.multiple suited.meets first.near
 
-pub is_least_multiple : (g : Gamma) (rates : List ℕ) (common t : ℕ) → IsFirst g rates common t → t ≤ hour → IsLeastMultiple g rates t
+pub is_least_multiple : (g : Gamma) (rates : List ℕ) (common t : ℕ) → IsFirst g rates common t → t ≤ HOUR → IsLeastMultiple g rates t
 is_least_multiple g rates common t first within = record {
   suited = record { meets = first.meets; multiple = first.multiples.to_all t within first.multiple };
   within = within;
@@ -96,7 +97,7 @@ is_least_multiple g rates common t first within = record {
   ];
 }
 
-pub has_no_multiple : (g : Gamma) (rates : List ℕ) (common t : ℕ) → IsFirst g rates common t → hour < t → HasNoMultiple g rates
+pub has_no_multiple : (g : Gamma) (rates : List ℕ) (common t : ℕ) → IsFirst g rates common t → HOUR < t → HasNoMultiple g rates
 has_no_multiple g rates common t first long s within suited =
     let no_longer : t ≤ s = le_from_first g rates common t s first within suited in
     omega arith
@@ -113,9 +114,9 @@ first_of_call g rates rate least common t multiples greatest is meets near multi
     }
 
 -- ---- nothing leaves 64 bits
-pub next_multiple-fits : (g : Gamma) (rate least common : ℕ) → IsWithinHour g → rate ≤ 64 → least ≡ least_period g rate → 1 ≤ common → common ≤ hour + 1
+pub next_multiple-fits : (g : Gamma) (rate least common : ℕ) → IsWithinHour g → rate ≤ 64 → least ≡ least_period g rate → 1 ≤ common → common ≤ HOUR + 1
     → next_multiple_of least common < 2 ^ 64
 next_multiple-fits g rate least common within few is some at_most =
-    let steps : rate * g.alpha_max ≤ 64 * hour = mul-le rate g.alpha_max 64 hour few within.execution in
+    let steps : rate * g.alpha_max ≤ 64 * HOUR = mul-le rate g.alpha_max 64 HOUR few within.execution in
     let rest : (common - least % common) % common < common = mod_below (common - least % common) common some in
     omega (arith, within.skew, within.network, within.execution)

@@ -18,9 +18,9 @@ pub record IsStarted (g : Gamma) (t round : ℕ) (time reading : ℕ) : Type 0 w
 -- for the clock or for the last step that is sent, which starts in time and executes for at most alpha_max
 pub record IsSent (g : Gamma) (t k round : ℕ) (finished time reading : ℕ) : Type 0 where
   pub clock : IsNear g time reading
-  pub due : alarm t round + release g t k ≤ reading
+  pub due : release g t k round ≤ reading
   pub executed : finished < alarm t round + (sent_steps g t k - 1) * step_period t k + g.eps + g.alpha_max
-  pub prompt : time ≤ max finished (alarm t round + release g t k + g.eps - 1)
+  pub prompt : time ≤ max finished (release g t k round + g.eps - 1)
 
 -- a message arrives after a time that the network's bounds allow
 pub record IsCarried (g : Gamma) (sent arrived : ℕ) : Type 0 where

@@ -1,7 +1,7 @@
 -- Common divisors and multiples.
 use Rattle.std.specs.Prelude.{◌≡◌, ℕ, ◌+◌, ◌*◌, ◌%◌, ◌≤◌, List, All}
 use Rattle.std.specs.Int.{◌∣◌}
-use Rattle.bound_checker.specs.Limits.{hour}
+use Rattle.pals_base.specs.declared.limits.TheConstants.{HOUR}
 
 -- d divides a and b, and what divides the same multiple of both divides that multiple of d; with n = 1: each common divisor divides d
 pub record IsGreatestDivisor (a b d : ℕ) : Type 0 where
@@ -18,6 +18,6 @@ pub record IsLeastCommon (a b m : ℕ) : Type 0 where
 -- up to one hour, the multiples of m are those of all rates
 pub record HasMultiplesOf (rates : List ℕ) (m : ℕ) : Type 0 where
   pub some_time : 1 ≤ m
-  pub at_most : m ≤ hour + 1
-  pub from_all : (t : ℕ) → t ≤ hour → All (λ k. t % k ≡ 0) rates → t % m ≡ 0
-  pub to_all : (t : ℕ) → t ≤ hour → t % m ≡ 0 → All (λ k. t % k ≡ 0) rates
+  pub at_most : m ≤ HOUR + 1
+  pub from_all : (t : ℕ) → t ≤ HOUR → All (λ k. t % k ≡ 0) rates → t % m ≡ 0
+  pub to_all : (t : ℕ) → t ≤ HOUR → t % m ≡ 0 → All (λ k. t % k ≡ 0) rates

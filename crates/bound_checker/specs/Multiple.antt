@@ -2,7 +2,7 @@
 use Rattle.std.specs.Prelude.{◌≡◌, ℕ, ◌%◌, ◌≤◌, max, List, fold, All}
 use Rattle.pals_base.specs.declared.values.Gamma.{Gamma}
 use Rattle.pals_base.specs.Bound.{least_period}
-use Rattle.bound_checker.specs.Limits.{hour}
+use Rattle.pals_base.specs.declared.limits.TheConstants.{HOUR}
 
 -- the greatest of some rates, and 1 where there is none
 abbrev pub greatest_rate : List ℕ → ℕ
@@ -16,9 +16,9 @@ pub record IsSuited (g : Gamma) (rates : List ℕ) (t : ℕ) : Type 0 where
 -- such a period of at most an hour, and no shorter one is
 pub record IsLeastMultiple (g : Gamma) (rates : List ℕ) (t : ℕ) : Type 0 where
   pub suited : IsSuited g rates t
-  pub within : t ≤ hour
+  pub within : t ≤ HOUR
   pub least : (s : ℕ) → IsSuited g rates s → t ≤ s
 
 -- no period of at most an hour is suited
 abbrev pub HasNoMultiple : Gamma → List ℕ → Type 0
-HasNoMultiple g rates = (t : ℕ) → t ≤ hour → ¬ IsSuited g rates t
+HasNoMultiple g rates = (t : ℕ) → t ≤ HOUR → ¬ IsSuited g rates t

@@ -1,6 +1,7 @@
 //! What a period has to meet.
 ghost use Rattle.std.specs.Prelude.{◌≡◌, ◌≤◌, ◌↔◌, IsTrue};
 ghost use Rattle.pals_base.specs.Bound.{backoff, least_period};
+ghost use Rattle.pals_base.specs.declared.limits.TheConstants.{RATE};
 ghost use Rattle.bound_checker.specs.Limits.{IsWithinHour};
 
 use pals_base::{Gamma, Nanos};
@@ -12,23 +13,22 @@ pub fn backoff(gamma: &Gamma) -> Nanos
     requires { IsWithinHour gamma.now }
     ensures { result ≡ backoff gamma.now }
 {
-    (2 * gamma.eps).saturating_sub(gamma.mu_min)
+    gamma.backoff() as Nanos
 }
 
 /// The least period that the bound allows where `rate` is the greatest rate of the design.
 pub fn least_period(gamma: &Gamma, rate: u32) -> Nanos
     requires gamma { IsWithinHour gamma.now }
-    requires rate { rate ≤ 64 }
+    requires rate { rate ≤ RATE }
     ensures { result ≡ least_period gamma.now rate }
 {
-    let round = gamma.mu_max + 2 * gamma.eps + backoff(gamma).max(gamma.alpha_max);
-    round.max(u64::from(rate) * gamma.alpha_max)
+    gamma.least_period(rate) as Nanos
 }
 
 /// Whether the period `t` meets the bound where `rate` is the greatest rate of the design.
 pub fn meets(gamma: &Gamma, t: Nanos, rate: u32) -> bool
     requires gamma { IsWithinHour gamma.now }
-    requires rate { rate ≤ 64 }
+    requires rate { rate ≤ RATE }
     ensures { IsTrue result ↔ (least_period gamma.now rate ≤ t) }
 {
     least_period(gamma, rate) <= t

@@ -1,7 +1,7 @@
 //! What the bound gives. Each law is the contract of a function that does nothing.
 ghost use Rattle.std.specs.Prelude.{◌≡◌, ℕ, ◌+◌, ◌-◌, ◌*◌, ◌<◌, ◌≤◌, List};
 ghost use Rattle.pals_base.specs.declared.values.Gamma.{Gamma};
-ghost use Rattle.pals_base.specs.Bound.{least_period, step_period, sent_steps, release};
+ghost use Rattle.pals_base.specs.Bound.{least_period, step_period, sent_steps, release_offset};
 ghost use Rattle.bound_checker.specs.Multiple.{IsLeastMultiple, HasNoMultiple};
 ghost use Rattle.bound_checker.specs.Arrival.{IsStarted, IsSent, IsCarried};
 
@@ -29,14 +29,14 @@ pub fn steps_have_time_to_execute()
 
 /// A message that is released takes at least twice the skew, counted from the alarm, to arrive.
 pub fn releases_are_late_enough()
-    ensures { (g : Gamma) (t k : ℕ) → 2 * g.eps ≤ release g t k + g.mu_min }
+    ensures { (g : Gamma) (t k : ℕ) → 2 * g.eps ≤ release_offset g t k + g.mu_min }
 {}
 
 /// The slowest message that is released arrives at least twice the skew before the next alarm. So
 /// does one that waited for the last step that it carries.
 pub fn releases_are_early_enough()
     ensures release { (g : Gamma) (t k greatest : ℕ) → least_period g greatest ≤ t →
-        release g t k + g.mu_max + 2 * g.eps ≤ t }
+        release_offset g t k + g.mu_max + 2 * g.eps ≤ t }
     ensures executed { (g : Gamma) (t k greatest : ℕ) → least_period g greatest ≤ t →
         (sent_steps g t k - 1) * step_period t k + g.alpha_max + g.mu_max + 2 * g.eps ≤ t }
 {}
@@ -44,7 +44,7 @@ pub fn releases_are_early_enough()
 /// The release of a round lies before the next alarm.
 pub fn release_lies_within_its_round()
     ensures { (g : Gamma) (t k greatest : ℕ) →
-        least_period g greatest ≤ t → 1 ≤ g.eps → release g t k < t }
+        least_period g greatest ≤ t → 1 ≤ g.eps → release_offset g t k < t }
 {}
 
 /// What PALS rests on: a message of a round arrives after every node has started that round, and

@@ -6,10 +6,8 @@ ghost use Rattle.bound_checker.specs.Divisors.{HasMultiplesOf};
 
 use crate::bound::least_period;
 use crate::divisors::lcm;
+use pals_base::limits::HOUR;
 use pals_base::{Gamma, Nanos};
-
-// The longest period: one hour in nanoseconds.
-const HOUR: Nanos = 3_600_000_000_000;
 
 /// The least period that meets the bound and is a multiple of every rate. The bound is that of the
 /// greatest rate, or of rate 1 where there is none. `None` comes exactly where every such period is

@@ -36,14 +36,6 @@ fn least_periods(rt: HostRuntime) -> Result<(), Fail> {
 }
 
 #[test]
-fn steps_of_a_round(rt: HostRuntime) -> Result<(), Fail> {
-    assert_eq!(rt; step_period(20 * MILLI, 4), 5_000_000);
-    assert_eq!(rt; sent_steps(&USUAL, 20 * MILLI, 4), 3);
-    assert_eq!(rt; release(&USUAL, 20 * MILLI, 4), 10_000_000);
-    Ok(())
-}
-
-#[test]
 fn least_multiples(rt: HostRuntime) -> Result<(), Fail> {
     assert_eq!(rt; least_multiple(&USUAL, &[]), Some(9_000_000));
     assert_eq!(rt; least_multiple(&USUAL, &[1, 7]), Some(21_000_000));

@@ -2,7 +2,7 @@
 ghost use Rattle.std.specs.Prelude.{ℕ, ◌+◌, ◌<◌};
 ghost use Rattle.pals_base.specs.Bound.{alarm};
 
-/// With a backoff below the period, the release of a round lies before the next alarm.
+/// With an offset below the period, the release of a round lies before the next alarm.
 pub fn release_lies_within_its_round()
-    ensures { (t b round : ℕ) → b < t → alarm t round + b < alarm t (round + 1) }
+    ensures { (t offset round : ℕ) → offset < t → alarm t round + offset < alarm t (round + 1) }
 {}

@@ -1,7 +1,7 @@
 //! The bound: what a period has to meet, and which steps of a round are sent. All times are
 //! nanoseconds. The calls are exact at any numbers and take no memory.
 ghost use Rattle.std.specs.Prelude.{◌≡◌, ◌/◌, ◌≤◌};
-ghost use Rattle.pals_base.specs.Bound.{backoff, least_period, step_period, sent_steps};
+ghost use Rattle.pals_base.specs.Bound.{backoff, least_period, step_period, sent_steps, release_offset};
 
 use crate::values::{Gamma, Nanos};
 
@@ -36,6 +36,16 @@ impl Gamma {
             .saturating_sub(self.alpha_max);
         let later = whole_periods(spare, step_period(t, rate));
         u64::from(rate).min(later.saturating_add(1)) as u32
+    }
+
+    /// How long after its alarm a component that makes `rate` steps in a round of `t` may send its
+    /// outputs.
+    pub fn release_offset(&self, t: Nanos, rate: u32) -> u128
+        requires { 1 ≤ rate }
+        ensures { result ≡ release_offset self.now t rate }
+    {
+        let later = u128::from(self.sent_steps(t, rate) - 1);
+        self.backoff().max(later * u128::from(step_period(t, rate)))
     }
 }
 

@@ -1,7 +1,7 @@
 //! What holds of every alarm. Each law is the contract of a function that does nothing.
 ghost use Rattle.std.specs.Prelude.{◌≡◌, ℕ, ◌+◌, ◌*◌, ◌^◌, ◌<◌, ◌≤◌};
 ghost use Rattle.pals_base.specs.Bound.{alarm, step_period};
-ghost use Rattle.round_timer.specs.Limits.{hour, last_round};
+ghost use Rattle.pals_base.specs.declared.limits.TheConstants.{HOUR, ROUNDS};
 
 /// Each alarm is one period after the one before, and the first is one period after 0.
 pub fn alarms_are_one_period_apart()
@@ -16,6 +16,6 @@ pub fn steps_lie_within_their_round()
 
 /// No alarm of a run leaves 59 bits.
 pub fn alarms_are_small()
-    ensures { (t period round step : ℕ) → t ≤ hour → period ≤ hour → round ≤ last_round → step < 64 →
+    ensures { (t period round step : ℕ) → t ≤ HOUR → period ≤ HOUR → round ≤ ROUNDS → step < 64 →
         alarm t round + step * period < 2 ^ 59 }
 {}
