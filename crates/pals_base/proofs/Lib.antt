@@ -7,5 +7,6 @@ pub mod Clocks
 pub mod Lengths
 pub mod Upwards
 pub mod Settling
+pub mod Ways
 pub mod Keeping
 pub mod Ending
