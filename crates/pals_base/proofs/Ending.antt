@@ -1,10 +1,9 @@
 -- Each step of a behaviour comes to its end.
-use Rattle.std.proofs.Common.{◌≡◌, cond, ◌∙◌, ℕ, ◌+◌, ◌<◌, zero, suc, nat_eq, nat_lt, ℤ, pos, Bool, true, false, ◌&&◌, ◌||◌, if◌then◌else◌, List, [], ◌∷◌, length, map, Option, Some, None, refl, sym, ap, subst, arith, Ok, Err, zero-add}
+use Rattle.std.proofs.Common.{◌≡◌, cond, ◌∙◌, ℕ, ◌<◌, zero, suc, nat_eq, nat_lt, ℤ, pos, Bool, true, false, ◌&&◌, ◌||◌, if◌then◌else◌, List, [], ◌∷◌, length, map, Option, Some, None, refl, sym, ap, subst, arith, Ok, Err}
 use Rattle.std.specs.Prelude.{Result, IfOk, slice_get, filter, find, fold}
-use Rattle.std.specs.List.{list_all, Contains}
-use Rattle.std.proofs.lemmas.List.Sums.{AllPass-from_list_all}
+use Rattle.std.specs.List.{list_all}
 use Rattle.std.specs.Option.{unwrap_or, is_some}
-use Rattle.std.proofs.lemmas.Bool.{and_parts, both_ways, ltb-true, true≢false, false≢true}
+use Rattle.std.proofs.lemmas.Bool.{and_parts, ltb-true, true≢false, false≢true}
 use Rattle.std.proofs.lemmas.List.{length-map, length-replicate}
 use Rattle.std.proofs.lemmas.Option.{slice_get_within}
 use Rattle.pals_base.specs.declared.values.Trap.{Trap}
@@ -16,10 +15,12 @@ use Rattle.pals_base.specs.declared.behaviour.BehaviourParts.{BehaviourParts}
 use Rattle.pals_base.specs.Tree.{Edge, Trigger, Dispatch, Always, When}
 use Rattle.pals_base.specs.Expressions.{on_value}
 use Rattle.pals_base.specs.Actions.{acts}
-use Rattle.pals_base.specs.Fire.{Fired, HasShape, holding, is_present, silence, completes, is_complete, leaving, is_dispatch, opens, first_open, along, settled, dispatched, reaction, outcome, unless_halted, fire, initial}
-use Rattle.pals_base.specs.Steps.{upwards}
+use Rattle.pals_base.specs.Fire.{Fired, HasShape, holding, is_present, silence, completes, may_begin, is_complete, leaving, is_dispatch, opens, first_open, along, settled, dispatched, reaction, outcome, unless_halted, fire, initial}
 use Rattle.pals_base.specs.Kinds.{are_sound}
-use Rattle.pals_base.specs.Rules.{may_start, has_condition, is_edge, dispatch_count, is_always, ends_unguarded, has_ways, settles, IsWay, IsBehaviour}
+use Rattle.pals_base.specs.Rules.{has_condition, is_edge, dispatch_count, is_always, ends_unguarded, has_ways, IsWay, IsBehaviour}
+use Rattle.pals_base.specs.Settling.{settles}
+use Rattle.pals_base.proofs.Settling.{rule_at}
+use Rattle.pals_base.proofs.Ways.{incomplete_within, passed_element, settled_unless_cycle, way_is_short}
 use Rattle.pals_base.proofs.Keeping.{HasLengths, acts_keeps}
 
 -- ---- lists
@@ -41,26 +42,20 @@ passed_find p test (x ∷ xs) found is all =
     let both = and_parts (p x) (list_all p xs) all in
     found_passes p (test x) x found (find test xs) both.0 (λ later. passed_find p test xs found later both.1) is
 
-passed_upwards : (p : ℕ → Bool) (from n at : ℕ) → list_all p (upwards from n) ≡ true → at < n → p (from + at) ≡ true
-passed_upwards p from zero at all within = absurd (omega arith)
-passed_upwards p from (suc n) zero all within = ap p (omega arith) ∙ (and_parts (p from) (list_all p (upwards (suc from) n)) all).0
-passed_upwards p from (suc n) (suc at) all within =
-    ap p (omega arith) ∙ passed_upwards p (suc from) n at (and_parts (p from) (list_all p (upwards (suc from) n)) all).1 (omega arith)
-
 -- ---- states
 -- a state that is there and complete, by its number
-there : (xs : List StateDecl) (i : ℕ) → i < length xs → completes (slice_get xs i) ≡ true → (s : StateDecl) × (slice_get xs i ≡ Some s) × (s.complete ≡ true)
+there : (xs : List StateDecl) (i : ℕ) → i < length xs → completes (slice_get xs i) ≡ true → may_begin (slice_get xs i) ≡ true
 there [] i within complete = absurd (omega arith)
-there (x ∷ xs) zero within complete = (x, refl, complete)
+there (x ∷ xs) zero within complete = complete
 there (x ∷ xs) (suc i) within complete = there xs i (omega arith) complete
 
-started : (o : Option StateDecl) → may_start o ≡ true → (s : StateDecl) × (o ≡ Some s) × (s.complete ≡ true)
-started None starts = absurd (false≢true starts)
-started (Some s) starts = (s, refl, starts)
+begun : (o : Option StateDecl) → may_begin o ≡ true → (s : StateDecl) × (o ≡ Some s)
+begun None begins = absurd (false≢true begins)
+begun (Some s) begins = (s, refl)
 
--- the rules of a state by its number
-rule_at : (p : ℕ → Bool) (n s : ℕ) → list_all p (upwards 0 n) ≡ true → s < n → p s ≡ true
-rule_at p n s all within = ap p (sym (zero-add s)) ∙ passed_upwards p 0 n s all within
+-- a state in which a step may begin is one of the states
+begun_within : (xs : List StateDecl) (i : ℕ) → may_begin (slice_get xs i) ≡ true → i < length xs
+begun_within xs i begins = let state = begun (slice_get xs i) begins in slice_get_within xs i state.0 state.1
 
 -- ---- the first open transition
 abbrev pub is_found : Result (Option Edge) Trap → Bool
@@ -174,10 +169,10 @@ settled_ends (suc n) b fresh at rules' settle within sizes =
 dispatches : (b : BehaviourParts) (fresh : List Bool) (at : Fired) (e : Option Edge) → IsBehaviour b → at.frame.state < length b.states → HasSizes b at → dispatched b at.frame.state ≡ e
     → IfOk (on_value (along e fresh at) (λ next. settled (length b.states) b fresh next)) (Ends b)
 dispatches b fresh at None rules' within sizes is =
-    settled_ends (length b.states) b fresh at rules' (rule_at (settles (length b.states) b) (length b.states) at.frame.state rules'.settled within) within sizes
+    settled_ends (length b.states) b fresh at rules' (settled_unless_cycle b at.frame.state rules'.acyclic) within sizes
 dispatches b fresh at (Some e) rules' within sizes is =
     let inside = target_within b e (passed_find (is_edge b) (λ e. is_dispatch e.trigger) (leaving b at.frame.state) e is (leaving_sound b at.frame.state rules')) in
-    let settle = rule_at (settles (length b.states) b) (length b.states) e.target rules'.settled inside in
+    let settle = settled_unless_cycle b e.target rules'.acyclic in
     then_ok (Arrives b e) (Ends b) (along (Some e) fresh at) (λ next. settled (length b.states) b fresh next) (arrives b e fresh at sizes)
     (λ next came. settled_ends (length b.states) b fresh next rules' (ap (settles (length b.states) b) came.0 ∙ settle) (subst (λ k. k < length b.states) (sym came.0) inside) came.1)
 
@@ -203,29 +198,23 @@ fires_well b frame inputs rules' shape =
     let held : Frame = record frame { held = holding frame.held inputs } in
     let held_shape : HasShape b held = record { state = shape.state; vars = shape.vars; held = length-holding frame.held inputs ∙ shape.held } in
     let at : Fired = record { frame = held; outs = silence b } in
-    let within = slice_get_within b.states frame.state shape.state.0 shape.state.1 in
+    let within = begun_within b.states frame.state shape.state in
     halted_or b held frame.halt (reaction b (map is_present inputs) held) held_shape
     (dispatches b (map is_present inputs) at (dispatched b frame.state) rules' within (shape.vars, held_shape.held, length-replicate (length b.outs) Absent) refl)
 
 pub starts_well : (b : BehaviourParts) → IsBehaviour b → HasShape b (initial b)
-starts_well b rules' = record { state = started (slice_get b.states b.initial) rules'.initial; vars = length-map b.vars (λ v. v.first); held = length-replicate (length b.ins) (pos 0) }
+starts_well b rules' = record { state = rules'.initial; vars = length-map b.vars (λ v. v.first); held = length-replicate (length b.ins) (pos 0) }
 
 -- ---- ways
-passed_element : (p : Edge → Bool) (es : List Edge) (e : Edge) → list_all p es ≡ true → Contains es e → p e ≡ true
-passed_element p es e all is = subst (λ x. p x ≡ true) is.2 (AllPass-from_list_all p es all is.0 e is.1)
+way_within : (b : BehaviourParts) (n s t : ℕ) → IsBehaviour b → s < length b.states → IsWay b n s t → t < length b.states
+way_within b zero s t rules' within way = subst (λ x. x < length b.states) way within
+way_within b (suc n) s t rules' within way =
+    let e = way.1.0 in
+    way_within b n e.target t rules' (target_within b e (passed_element (is_edge b) (leaving b s) e (leaving_sound b s rules') way.1.1)) way.1.2
 
-goes_further : (n : ℕ) (b : BehaviourParts) (s : ℕ) (e : Edge) → is_complete b s ≡ false → settles (suc n) b s ≡ true → Contains (leaving b s) e → settles n b e.target ≡ true
-goes_further n b s e under_way settle is =
-    passed_element (λ e. settles n b e.target) (leaving b s) e (ap (λ c. c || list_all (λ e. settles n b e.target) (leaving b s)) (sym under_way) ∙ settle) is
-
-pub never_back : (m : ℕ) (b : BehaviourParts) (s at n k : ℕ) → IsWay b (suc n) s s → IsWay b k at s → settles m b at ≡ true → ⊥
-never_back zero b s at n zero cycle way settle = both_ways (is_complete b s) cycle.0 (ap (is_complete b) (sym way) ∙ settle)
-never_back zero b s at n (suc k) cycle way settle = both_ways (is_complete b at) way.0 settle
-never_back (suc m) b s at n zero cycle way settle =
-    never_back m b s cycle.1.0.target n n cycle cycle.1.2 (goes_further m b s cycle.1.0 cycle.0 (ap (settles (suc m) b) (sym way) ∙ settle) cycle.1.1)
-never_back (suc m) b s at n (suc k) cycle way settle =
-    never_back m b s way.1.0.target n k cycle way.1.2 (goes_further m b at way.1.0 way.0 settle way.1.1)
-
-pub no_cycle : (b : BehaviourParts) (s n : ℕ) → IsBehaviour b → s < length b.states → IsWay b (suc n) s s → ⊥
-no_cycle b s n rules' within cycle =
-    never_back (length b.states) b s s n zero cycle refl (rule_at (settles (length b.states) b) (length b.states) s rules'.settled within)
+pub ways_are_short : (b : BehaviourParts) (s t n : ℕ) → IsBehaviour b → IsWay b n s t → n < length b.states
+ways_are_short b s t zero rules' way =
+    let within = begun_within b.states b.initial rules'.initial in
+    omega arith
+ways_are_short b s t (suc n) rules' way =
+    way_is_short b (suc n) s t rules'.acyclic (way_within b (suc n) s t rules' (incomplete_within b s way.0) way) way

@@ -8,6 +8,7 @@ pub mod Clocks
 pub mod Lengths
 pub mod Upwards
 pub mod Settling
+pub mod Ways
 pub mod Keeping
 pub mod Ending
 pub mod RoundUnderWay

@@ -1,12 +1,13 @@
 -- Which states settle, a round of marks at a time.
-use Rattle.std.proofs.Common.{◌≡◌, ℕ, ◌+◌, ◌≤◌, zero, suc, Bool, true, ◌&&◌, ◌||◌, List, [], ◌∷◌, length, map, refl, ap, sym, ◌∙◌, arith, zero-add, add-one}
+use Rattle.std.proofs.Common.{◌≡◌, ℕ, ◌+◌, ◌<◌, ◌≤◌, zero, suc, Bool, true, ◌&&◌, ◌||◌, List, [], ◌∷◌, length, map, refl, ap, sym, ◌∙◌, arith, zero-add, add-one}
 use Rattle.std.specs.List.{list_all}
+use Rattle.std.proofs.lemmas.Bool.{and_parts}
 use Rattle.std.proofs.lemmas.Option.{slice_get_past}
 use Rattle.std.proofs.lemmas.List.Folds.{list_all-map}
 use Rattle.pals_base.specs.declared.behaviour.BehaviourParts.{BehaviourParts}
 use Rattle.pals_base.specs.Fire.{completes, is_complete, leaving}
 use Rattle.pals_base.specs.Steps.{upwards}
-use Rattle.pals_base.specs.Rules.{settles, marked, settles_next}
+use Rattle.pals_base.specs.Settling.{settles, marked, settles_next}
 
 pub list_all-same : {A : Type 0} (f g : A → Bool) → ((x : A) → f x ≡ g x) → (xs : List A) → list_all f xs ≡ list_all g xs
 list_all-same f g same [] = refl
@@ -19,6 +20,16 @@ map-same f g same (x ∷ xs) = ap (λ y. y ∷ map f xs) (same x) ∙ ap (λ ys.
 pub all_marked : {A : Type 0} (f : A → Bool) (xs : List A) → list_all (λ mark. mark) (map f xs) ≡ list_all f xs
 all_marked f xs = list_all-map (λ mark. mark) f xs
 
+passed_upwards : (p : ℕ → Bool) (from n at : ℕ) → list_all p (upwards from n) ≡ true → at < n → p (from + at) ≡ true
+passed_upwards p from zero at all within = absurd (omega arith)
+passed_upwards p from (suc n) zero all within = ap p (omega arith) ∙ (and_parts (p from) (list_all p (upwards (suc from) n)) all).0
+passed_upwards p from (suc n) (suc at) all within =
+    ap p (omega arith) ∙ passed_upwards p (suc from) n at (and_parts (p from) (list_all p (upwards (suc from) n)) all).1 (omega arith)
+
+-- what holds of all states, of one by its number
+pub rule_at : (p : ℕ → Bool) (n s : ℕ) → list_all p (upwards 0 n) ≡ true → s < n → p s ≡ true
+rule_at p n s all within = ap p (sym (zero-add s)) ∙ passed_upwards p 0 n s all within
+
 -- the marks of all states that are there give that of any number, where numbers past the end have one
 marked_upwards : (f : ℕ → Bool) (from n s : ℕ) → ((k : ℕ) → n ≤ k → f (from + k) ≡ true) → marked (map f (upwards from n)) s ≡ f (from + s)
 marked_upwards f from zero s past = sym (past s (omega arith))
@@ -26,7 +37,7 @@ marked_upwards f from (suc n) zero past = ap f (omega arith)
 marked_upwards f from (suc n) (suc s) past =
     marked_upwards f (suc from) n s (λ k le. ap f (omega arith) ∙ past (suc k) (omega arith)) ∙ ap f (omega arith)
 
-settles_past : (n : ℕ) (b : BehaviourParts) (s : ℕ) → length b.states ≤ s → settles n b s ≡ true
+pub settles_past : (n : ℕ) (b : BehaviourParts) (s : ℕ) → length b.states ≤ s → settles n b s ≡ true
 settles_past zero b s past = ap completes (slice_get_past b.states s past)
 settles_past (suc n) b s past = ap (λ state. completes state || list_all (λ e. settles n b e.target) (leaving b s)) (slice_get_past b.states s past)
 

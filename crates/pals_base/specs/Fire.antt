@@ -1,5 +1,5 @@
 -- One step of a behaviour, and the steps of a round.
-use Rattle.std.specs.Prelude.{◌≡◌, ℕ, zero, suc, nat_eq, ℤ, pos, Bool, true, false, if◌then◌else◌, List, [], ◌∷◌, length, map, replicate, filter, find, Option, Some, None, Result, Ok, Err, slice_get}
+use Rattle.std.specs.Prelude.{◌≡◌, IsTrue, ℕ, zero, suc, nat_eq, ℤ, pos, Bool, true, false, if◌then◌else◌, List, [], ◌∷◌, length, map, replicate, filter, find, Option, Some, None, Result, Ok, Err, slice_get}
 use Rattle.pals_base.specs.declared.values.Trap.{Trap}
 use Rattle.pals_base.specs.declared.values.Frame.{Frame}
 use Rattle.pals_base.specs.declared.values.Port.{Port}
@@ -36,6 +36,11 @@ silence b = replicate (length b.outs) Absent
 abbrev pub completes : Option StateDecl → Bool
 completes None = true
 completes (Some s) = s.complete
+
+-- a state that is there and complete: a step may begin there
+abbrev pub may_begin : Option StateDecl → Bool
+may_begin None = false
+may_begin (Some s) = s.complete
 
 abbrev pub is_complete : BehaviourParts → ℕ → Bool
 is_complete b state = completes (slice_get b.states state)
@@ -109,6 +114,6 @@ initial b = record { state = b.initial; vars = map (λ (v : VarDecl). v.first) b
 
 -- the frame fits the behaviour: a complete state, and as many variables and held inputs
 pub record HasShape (b : BehaviourParts) (frame : Frame) : Type 0 where
-  pub state : (s : StateDecl) × (slice_get b.states frame.state ≡ Some s) × (s.complete ≡ true)
+  pub state : IsTrue (may_begin (slice_get b.states frame.state))
   pub vars : length frame.vars ≡ length b.vars
   pub held : length frame.held ≡ length b.ins

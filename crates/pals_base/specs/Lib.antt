@@ -10,6 +10,7 @@ pub mod Fire
 pub mod Steps
 pub mod Kinds
 pub mod Rules
+pub mod Settling
 pub mod Adaptors
 pub mod Allowed
 pub mod Bound

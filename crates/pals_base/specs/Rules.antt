@@ -1,7 +1,6 @@
 -- What each behaviour keeps.
-use Rattle.std.specs.Prelude.{◌≡◌, ◌≢◌, ◌++◌, map, AllPairs, ℕ, zero, suc, nat_eq, nat_lt, Bool, true, false, ◌&&◌, ◌||◌, if◌then◌else◌, List, length, fold, filter, IsTrue, Option, Some, None, slice_get}
+use Rattle.std.specs.Prelude.{◌≡◌, ◌≢◌, ◌++◌, map, AllPairs, ℕ, zero, suc, nat_eq, nat_lt, Bool, true, false, ◌&&◌, if◌then◌else◌, List, length, fold, filter, IsTrue, slice_get}
 use Rattle.std.specs.List.{list_all, Contains}
-use Rattle.std.specs.Option.{unwrap_or}
 use Rattle.pals_base.specs.declared.behaviour.BehaviourParts.{BehaviourParts}
 use Rattle.pals_base.specs.declared.behaviour.StateDecl.{StateDecl}
 use Rattle.pals_base.specs.declared.behaviour.VarDecl.{VarDecl}
@@ -9,7 +8,7 @@ use Rattle.pals_base.specs.declared.behaviour.Named.{Named}
 use Rattle.pals_base.specs.Names.{is_word, AreDistinct}
 use Rattle.pals_base.specs.Tree.{Edge, Trigger, Dispatch, Always, When}
 use Rattle.pals_base.specs.Kinds.{allows, literal_kinds, kinds_of, are_sound}
-use Rattle.pals_base.specs.Fire.{is_complete, is_dispatch, leaving}
+use Rattle.pals_base.specs.Fire.{may_begin, is_complete, is_dispatch, leaving}
 use Rattle.pals_base.specs.Steps.{upwards}
 
 -- ---- names
@@ -31,11 +30,6 @@ pub record HasNames (b : BehaviourParts) : Type 0 where
 -- a variable's first value is of its type
 abbrev pub has_first : VarDecl → Bool
 has_first v = allows (literal_kinds v.first) v.kind
-
--- a state that is there and complete
-abbrev pub may_start : Option StateDecl → Bool
-may_start None = false
-may_start (Some s) = s.complete
 
 -- ---- transitions
 abbrev pub has_condition : BehaviourParts → Trigger → Bool
@@ -66,31 +60,21 @@ has_ways b s =
     if is_complete b s then nat_eq (dispatch_count (leaving b s)) 1
     else nat_eq (dispatch_count (leaving b s)) 0 && ends_unguarded (leaving b s)
 
--- whether each way on from a state comes to a complete one by at most n transitions
-abbrev pub settles : ℕ → BehaviourParts → ℕ → Bool
-settles zero b s = is_complete b s
-settles (suc n) b s = is_complete b s || list_all (λ e. settles n b e.target) (leaving b s)
-
 -- a way of n transitions from one state to another, each of which leaves a state that is not complete
 abbrev pub IsWay : BehaviourParts → ℕ → ℕ → ℕ → Type 0
 IsWay b zero s t = s ≡ t
 IsWay b (suc n) s t = (is_complete b s ≡ false) × ((e : Edge) × Contains (leaving b s) e × IsWay b n e.target t)
 
--- ---- the same by marks, a round at a time
--- the mark of a state; a number of no state has one
-abbrev pub marked : List Bool → ℕ → Bool
-marked marks s = unwrap_or (slice_get marks s) true
-
--- whether a state is complete, or each way on leads to a marked one
-abbrev pub settles_next : BehaviourParts → List Bool → ℕ → Bool
-settles_next b marks s = is_complete b s || list_all (λ e. marked marks e.target) (leaving b s)
+-- no way through states that are not complete comes back to where it began
+unfoldable pub IsAcyclic : BehaviourParts → Type 0
+IsAcyclic b = (s n : ℕ) → IsWay b (suc n) s s → ⊥
 
 -- ---- the whole
 pub record IsBehaviour (b : BehaviourParts) : Type 0 where
   pub names : HasNames b
   pub firsts : IsTrue (list_all has_first b.vars)
-  pub initial : IsTrue (may_start (slice_get b.states b.initial))
+  pub initial : IsTrue (may_begin (slice_get b.states b.initial))
   pub edges : IsTrue (list_all (is_edge b) b.transitions)
   pub ways : IsTrue (list_all (has_ways b) (upwards 0 (length b.states)))
-  -- no cycle leaves the complete states: a way that meets no state twice is shorter than there are states
-  pub settled : IsTrue (list_all (settles (length b.states) b) (upwards 0 (length b.states)))
+  -- so each step ends
+  pub acyclic : IsAcyclic b

@@ -12,7 +12,7 @@ pub use arithmetic::{
     arithmetic_traps, chain_goes_from_left, modulus_has_sign_of_divisor,
     remainder_has_sign_of_dividend, worked_divisions,
 };
-pub use behaviours::{each_step_ends, no_cycle_without_complete_state};
+pub use behaviours::{each_step_ends, ways_are_short};
 pub use clocks::picks_follow_targets;
 pub use loops::loop_goes_from_low_to_high;
 pub use steps::{halted_frame_stays, steps_one_after_another};

@@ -3,7 +3,8 @@ ghost use Rattle.std.specs.Prelude.{◌≡◌, ◌↔◌, length, IsTrue, IfOk, 
 ghost use Rattle.std.specs.List.{list_all};
 ghost use Rattle.pals_base.specs.Seen.{trigger_of};
 ghost use Rattle.pals_base.specs.Steps.{upwards};
-ghost use Rattle.pals_base.specs.Rules.{HasNames, value_names, has_first, may_start, has_condition, is_edge, has_ways, settles, IsBehaviour};
+ghost use Rattle.pals_base.specs.Fire.{may_begin};
+ghost use Rattle.pals_base.specs.Rules.{HasNames, value_names, has_first, has_condition, is_edge, has_ways, IsAcyclic, IsBehaviour};
 
 mod actions;
 mod states;
@@ -29,7 +30,7 @@ impl BehaviourParts {
                 && self.may_start()
                 && self.has_edges()?
                 && self.has_ways()
-                && self.is_settled(alloc)?,
+                && self.is_acyclic(alloc)?,
         )
     }
 
@@ -69,7 +70,7 @@ impl BehaviourParts {
 
     // The initial state is there, and complete.
     fn may_start(&self) -> bool
-        ensures { result ≡ may_start (slice_get self.now.states self.now.initial) }
+        ensures { result ≡ may_begin (slice_get self.now.states self.now.initial) }
     {
         match self.states.get(self.initial as usize) {
             None => false,
@@ -122,10 +123,10 @@ impl BehaviourParts {
         true
     }
 
-    // Each step comes to a complete state.
-    #[tactic(auto, using(crate::proofs::Settling::all_marked))]
-    fn is_settled(&self, alloc: Global) -> Result<bool, NoMemory>
-        ensures { IfOk result (λ settled. settled ≡ list_all (settles (length self.now.states) self.now) (upwards 0 (length self.now.states))) }
+    // No way outside the complete states comes back to where it began: each state settles.
+    #[tactic(auto, using(crate::proofs::Ways::marks_tell))]
+    fn is_acyclic(&self, alloc: Global) -> Result<bool, NoMemory>
+        ensures { IfOk result (λ acyclic. IsTrue acyclic ↔ IsAcyclic self.now) }
     {
         let marks = settled_states(alloc, self)?;
         Ok(are_marked(&marks))

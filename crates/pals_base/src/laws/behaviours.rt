@@ -1,5 +1,5 @@
 //! Laws of what each behaviour keeps.
-ghost use Rattle.std.specs.Prelude.{◌≡◌, ◌<◌, ℕ, suc, false, List, length};
+ghost use Rattle.std.specs.Prelude.{◌≡◌, ◌<◌, ℕ, List, length};
 ghost use Rattle.pals_base.specs.declared.values.Frame.{Frame};
 ghost use Rattle.pals_base.specs.declared.values.Port.{Port};
 ghost use Rattle.pals_base.specs.declared.behaviour.BehaviourParts.{BehaviourParts};
@@ -14,7 +14,7 @@ pub fn each_step_ends()
     ensures outs { (b : BehaviourParts) (frame : Frame) (inputs : List Port) → IsBehaviour b → HasShape b frame → length (fire b frame inputs).outs ≡ length b.outs }
 {}
 
-/// No way through states that are not complete comes back to where it began.
-pub fn no_cycle_without_complete_state()
-    ensures { (b : BehaviourParts) (s n : ℕ) → IsBehaviour b → s < length b.states → IsWay b (suc n) s s → ⊥ }
+/// A way through states that are not complete has fewer transitions than there are states.
+pub fn ways_are_short()
+    ensures { (b : BehaviourParts) (s t n : ℕ) → IsBehaviour b → IsWay b n s t → n < length b.states }
 {}

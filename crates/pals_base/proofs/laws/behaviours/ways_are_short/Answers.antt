@@ -1,0 +1,5 @@
+use Rattle.pals_base.proofs.Ending.{ways_are_short}
+use Rattle.pals_base.proofs.laws.behaviours.ways_are_short.Goals as goal
+
+pub returns : goal.returns
+returns c = ways_are_short
