@@ -2,18 +2,18 @@
 //! synchronous composition that a design means; and the text of its rounds.
 #![tactic(auto)]
 
-pub mod adaptors;
-pub mod bound;
 pub mod design;
 pub mod flight;
 pub mod laws;
 pub mod parts;
 pub mod rounds;
 mod rules;
+pub mod sources;
 
 pub use design::{Component, Design, DesignParts, Feed, Link, Tap};
 pub use flight::FlightCopy;
-pub use rounds::{Env, Part};
+pub use rounds::{Delays, Env, Part};
+pub use sources::PortSource;
 
 #[cfg(test)]
 mod tests;
