@@ -1,2 +1,5 @@
 pub mod CompositionLaws
 pub mod Rows
+pub mod Tables
+pub mod Naming
+pub mod Values

@@ -1,6 +1,7 @@
 -- What a component reads in a round.
 use Rattle.std.specs.Prelude.{if◌then◌else◌, ◌++◌, ℕ, nat_eq, ◌&&◌, Bool, bytes_eq, List, [], ◌∷◌, length, map, filter, position, replicate, Option, Some, None, slice_get, slice_index_or}
-use Rattle.std.specs.List.{list_any, position_or_len, enumerate_from}
+use Rattle.std.specs.List.{list_any, enumerate_from}
+use Rattle.std.specs.Option.{unwrap_or}
 use Rattle.pals_base.specs.declared.values.Port.{Port}
 use Rattle.pals_base.specs.declared.values.Port.TheVariants.{Absent}
 use Rattle.pals_base.specs.Adaptors.{adapt}
@@ -28,9 +29,13 @@ feed_names design = map (λ (feed : Feed). feed.name) design.feeds
 abbrev pub root_inputs : DesignParts → List (List ℕ)
 root_inputs design = new_names [] (feed_names design)
 
+-- the place of a name among names, 0 where it is none of them
+abbrev pub place_of : List ℕ → List (List ℕ) → ℕ
+place_of name names = unwrap_or (position (bytes_eq name) names) 0
+
 -- the place among the root in ports of the one that a feed reads
 abbrev pub root_of : DesignParts → ℕ → ℕ
-root_of design feed = position_or_len (λ name. bytes_eq (slice_index_or (feed_names design) feed []) name) (root_inputs design)
+root_of design feed = place_of (slice_index_or (feed_names design) feed []) (root_inputs design)
 
 -- the value that each root in port has in a round, absent past its list
 abbrev pub values_at : Env → ℕ → List Port

@@ -1,5 +1,6 @@
 pub mod Ports
 pub mod Inputs
+pub mod SourceTables
 pub mod Composition
 pub mod RoundTexts
 pub mod LinkNames

@@ -8,6 +8,7 @@ pub mod laws;
 pub mod parts;
 pub mod rounds;
 mod rules;
+mod same;
 pub mod sources;
 
 pub use design::{Component, Design, DesignParts, Feed, Link, Tap};
