@@ -34,8 +34,8 @@ pub record GivesFirst (before after : SourceView) (got : List ℕ) : Type 0 wher
   pub bytes : IfSome before.left (IsFront got)
 
 -- nothing is gone at first
-pub GivesFirst-nil : (source : SourceView) → GivesFirst source source []
-GivesFirst-nil source = record { view = after_giving-nil source; bytes = nothing source.left }
+pub first_nothing : (source : SourceView) → GivesFirst source source []
+first_nothing source = record { view = after_giving-nil source; bytes = nothing source.left }
   where
     nothing : (o : Option (List ℕ)) → IfSome o (IsFront [])
     nothing None = tt
@@ -51,8 +51,8 @@ gone_more first mid last got buf n count before given sum =
     (from_first first mid last got buf n before given).view ∙ after_giving-more first (length got) n ∙ ap (after_giving first) sum
 
 -- a call gives the next bytes, which are copied from a longer buffer
-pub GivesFirst-kept : (first mid last : SourceView) (got buf rest kept : List ℕ) (n : ℕ) → GivesFirst first mid got → Gives mid last buf n → n ≤ length buf → kept ≡ got ++ take n (buf ++ rest) → GivesFirst first last kept
-GivesFirst-kept first mid last got buf rest kept n before given within same =
+pub first_kept : (first mid last : SourceView) (got buf rest kept : List ℕ) (n : ℕ) → GivesFirst first mid got → Gives mid last buf n → n ≤ length buf → kept ≡ got ++ take n (buf ++ rest) → GivesFirst first last kept
+first_kept first mid last got buf rest kept n before given within same =
     let copied : kept ≡ got ++ take n buf = same ∙ ap (λ t. got ++ t) (take-append-le n buf rest within) in
     let count : length got + n ≡ length (got ++ take n buf) = sym (length-append got (take n buf) ∙ ap (λ k. length got + k) (length-take-le n buf within)) in
     subst (GivesFirst first last) (sym copied) record {
@@ -68,8 +68,8 @@ GivesFirst-kept first mid last got buf rest kept n before given within same =
     )
 
 -- a call that gives nothing comes when all was given
-pub GivesFirst-all : (first mid last : SourceView) (got buf : List ℕ) (n : ℕ) → GivesFirst first mid got → Gives mid last buf n → n ≡ 0 → GivesAll first last got
-GivesFirst-all first mid last got buf n before given none = record {
+pub first_all : (first mid last : SourceView) (got buf : List ℕ) (n : ℕ) → GivesFirst first mid got → Gives mid last buf n → n ≡ 0 → GivesAll first last got
+first_all first mid last got buf n before given none = record {
   view = gone_more first mid last got buf n (length got) before given (omega arith);
   bytes = whole first.left before.bytes (from_first first mid last got buf n before given).bytes;
 }
@@ -79,8 +79,8 @@ GivesFirst-all first mid last got buf n before given none = record {
     whole (Some left) front next = front.0 ∙ take_all (length got) left (omega (arith, ap length (next.2.0 none), length-drop (length got) left))
 
 -- a call that gives one byte past the limit
-pub GivesFirst-too_many : (first mid last : SourceView) (got buf : List ℕ) (n most : ℕ) → GivesFirst first mid got → Gives mid last buf n → length got + n ≡ most + 1 → GivesTooMany first last most
-GivesFirst-too_many first mid last got buf n most before given sum = record {
+pub first_too_many : (first mid last : SourceView) (got buf : List ℕ) (n most : ℕ) → GivesFirst first mid got → Gives mid last buf n → length got + n ≡ most + 1 → GivesTooMany first last most
+first_too_many first mid last got buf n most before given sum = record {
   view = gone_more first mid last got buf n (most + 1) before given sum;
   bytes = past first.left before.bytes (from_first first mid last got buf n before given).bytes;
 }
@@ -90,16 +90,16 @@ GivesFirst-too_many first mid last got buf n most before given sum = record {
     past (Some left) front next = omega (arith, sum, front.1, next.0, length-drop (length got) left)
 
 -- what was given so far, and a call more, within the limit
-pub GivesFirst-within : (first mid last : SourceView) (got buf : List ℕ) (n most : ℕ) → GivesFirst first mid got → Gives mid last buf n → length got + n ≤ most → GivesWithin first last most
-GivesFirst-within first mid last got buf n most before given small = record {
+pub first_within : (first mid last : SourceView) (got buf : List ℕ) (n most : ℕ) → GivesFirst first mid got → Gives mid last buf n → length got + n ≤ most → GivesWithin first last most
+first_within first mid last got buf n most before given small = record {
   count = length got + n;
   within = small;
   view = gone_more first mid last got buf n (length got + n) before given refl;
 }
 
 -- what was given so far, within the limit, and then a failed call
-pub GivesFirst-failed : (first mid last : SourceView) (got : List ℕ) (most : ℕ) → GivesFirst first mid got → last ≡ after_read_fault mid → length got ≤ most → FailsWithin first last most
-GivesFirst-failed first mid last got most before failed small = record {
+pub first_failed : (first mid last : SourceView) (got : List ℕ) (most : ℕ) → GivesFirst first mid got → last ≡ after_read_fault mid → length got ≤ most → FailsWithin first last most
+first_failed first mid last got most before failed small = record {
   count = length got;
   within = small;
   view = failed ∙ ap after_read_fault before.view;

@@ -45,7 +45,7 @@ pub record GivesWithin (before after : SourceView) (most : ℕ) : Type 0 where
   pub within : count ≤ most
   pub view : after ≡ after_giving before count
 
--- some first bytes of what was left, at most `most` of them, are gone, and then one call failed
+-- some first bytes of what was left, at most `most` of them, are gone, and one call failed
 pub record FailsWithin (before after : SourceView) (most : ℕ) : Type 0 where
   pub count : ℕ
   pub within : count ≤ most
@@ -60,7 +60,7 @@ after_taking sink bytes = record sink { held = option_map (λ held. held ++ byte
 abbrev pub after_write_fault : SinkView → SinkView
 after_write_fault sink = record sink { faults = one_more sink.faults }
 
--- some first bytes were taken, and not all, and then one call failed
+-- some first bytes were taken, and not all, and one call failed
 pub record TakesPart (before after : SinkView) (bytes : List ℕ) : Type 0 where
   pub count : ℕ
   pub part : count < length bytes
