@@ -1,6 +1,6 @@
 //! A sink in memory.
 ghost use Rattle.std.specs.Prelude.{◌≡◌, ◌↔◌, ◌⊎◌, ◌<◌, ◌≤◌, [], length, Some, IsErr, IfOk, OnErr, Contains};
-ghost use Rattle.pals_io.specs.Stream.{one_more, HasCause, Takes};
+ghost use Rattle.pals_io.specs.Stream.{one_more};
 ghost use Rattle.pals_io.specs.Memory.{count_taken, after_taking, after_failed_write};
 
 use super::ends::{Failed, NoMemory};
@@ -66,16 +66,11 @@ impl MemSink {
 }
 
 impl Sink for MemSink {
-    ghost held = { λ s. Some s.held };
-
-    ghost faults = { λ s. s.faults };
+    ghost shown = { λ s. record { held = Some s.held; faults = s.faults } };
 
     fn write(&mut self, piece: &[u8]) -> Result<usize, Failed>
         requires { 0 < length piece.now }
         ensures bound { IfOk result (λ n. (0 < n) × (n ≤ length piece.now)) }
-        ensures bytes { IfOk result (λ n. Takes (Some self.old.held) (Some self.new.held) piece.now n) }
-        ensures same { OnErr result (self.new.held ≡ self.old.held) }
-        ensures cause { HasCause self.old.faults self.new.faults result }
 
         // It fails exactly at the calls that it was told and where no room is left, and else takes
         // as much as it can.
