@@ -3,9 +3,9 @@ ghost use Rattle.std.specs.Prelude.{◌≡◌, ◌↔◌, ◌⊎◌, ◌<◌, �
 ghost use Rattle.pals_io.specs.Stream.{one_more};
 ghost use Rattle.pals_io.specs.Memory.{count_taken, after_taking, after_failed_write};
 
-use super::ends::{Failed, NoMemory};
+use super::ends::Failed;
 use super::streams::Sink;
-use std::alloc::Global;
+use std::alloc::{AllocError, Global};
 use std::marker::Model;
 
 /// A sink that keeps what it took, up to its room, and fails at the calls that it was told.
@@ -36,13 +36,13 @@ impl MemSink {
     ///
     /// # Errors
     ///
-    /// [`NoMemory`] where the room cannot be had. It is taken here, and writing takes no memory.
+    /// [`AllocError`] where the room cannot be had. It is taken here, and writing takes no memory.
     pub fn new(
         alloc: Global,
         room: usize,
         most: usize,
         failing: Vec<u64>,
-    ) -> Result<MemSink, NoMemory>
+    ) -> Result<MemSink, AllocError>
         requires { 0 < most }
         ensures { IfOk result (λ s. s ≡ record { held = []; room = room; most = most; failing = failing.items; calls = 0; faults = 0 }) }
     {

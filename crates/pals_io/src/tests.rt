@@ -146,17 +146,3 @@ fn stands_over_std(rt: HostRuntime) -> Result<(), Fail> {
     assert_eq!(rt; short, *b"ab");
     Ok(())
 }
-
-#[test]
-fn prints_its_errors(rt: HostRuntime) -> Result<(), Fail> {
-    let text = format!(in rt.alloc(); "{Failed}, {NoMemory}, {WriteFault}")?;
-    assert_eq!(rt; text.as_str(), "failed call, out of memory, write fault");
-    for (end, want) in [
-        (ReadEnd::ReadFault, "read fault"),
-        (ReadEnd::TooLong, "too long"),
-        (ReadEnd::Memory, "out of memory"),
-    ] {
-        assert_eq!(rt; end.to_string(rt.alloc())?.as_str(), want);
-    }
-    Ok(())
-}

@@ -1,10 +1,10 @@
 //! Whether the parts of a design keep the rules of a design. The tests take no memory and hold at
 //! any numbers.
-ghost use Rattle.std.specs.Prelude.{◌≡◌, ◌≢◌, ◌↔◌, ◌≤◌, All, AllPairs, IsTrue};
+ghost use Rattle.std.specs.Prelude.{◌≡◌, ◌≢◌, ◌↔◌, ◌≤◌, All, AllPairs, IsTrue, IfSome, Option};
 ghost use Rattle.pals_base.specs.Bound.{least_period};
 ghost use Rattle.pals_model.specs.Rules.{IsGamma, IsSmall, IsComponent, IsSource, IsTarget, IsLink, IsFeed, IsTap, IsApart, AgreeInKind, AreComponents, AreLinks, AreFeeds, AreTaps, LinkPrecedes, FeedPrecedes, greatest_rate, IsDesign};
 
-use crate::design::{Component, DesignParts, Feed, Link, Tap};
+use crate::design::{Component, Design, DesignParts, Feed, Link, Tap};
 use crate::parts::{greatest_rate, place_of_feed, place_of_link};
 use pals_base::adaptors::{divides_or_divided, is_allowed, suits_kind};
 use pals_base::limits::{COMPONENTS, HOUR, LINKS, PATH_BYTES, PORTS, RATE, STATES, VARIABLES};
@@ -133,6 +133,20 @@ impl DesignParts {
         ensures { IsTrue result ↔ IsTarget self.now node.0 port }
     {
         (node.0 as usize) < self.components.len() && (port as usize) < self.in_count(node)
+    }
+}
+
+impl Design {
+    /// The design of these parts, or none where they do not keep its rules. It takes no memory.
+    pub fn try_new(parts: DesignParts) -> Option<Design>
+        ensures some { IfSome result (λ design. (design ≡ parts) × IsDesign parts) }
+        ensures none { result ≡ Option.None → ¬ IsDesign parts }
+    {
+        if parts.is_design() {
+            Some(Design::new(parts))
+        } else {
+            None
+        }
     }
 }
 
