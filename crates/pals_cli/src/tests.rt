@@ -4,15 +4,16 @@ use std::env::FillError;
 use std::rt::Env;
 use std::test::Fail;
 
-// A command line of these words, the program's name first.
+// A command line of words with blanks between them, the program's name first.
 #[derive(Drop)]
 struct CommandLine<'a> {
-    words: &'a [&'a [u8]],
+    line: &'a [u8],
 }
 
 impl Env for CommandLine<'_> {
     fn arg(&self, i: usize, buf: &mut [u8]) -> Result<usize, FillError> {
-        let word = self.words.get(i).ok_or(FillError::NotPresent)?;
+        let mut words = self.line.split(|byte| *byte == b' ');
+        let word = words.nth(i).ok_or(FillError::NotPresent)?;
         let front = buf.get_mut(..word.len()).ok_or(FillError::TooLong)?;
         front.copy_from_slice(word);
         Ok(word.len())
@@ -29,19 +30,18 @@ impl Env for CommandLine<'_> {
 
 #[test]
 fn reads_the_words(rt: HostRuntime) -> Result<(), Fail> {
-    let table: [(&[&[u8]], &[&str]); 5] = [
-        (&[], &[]),
-        (&[b"pals"], &[]),
-        (&[b"pals", b"sync", b"Top.impl"], &["sync", "Top.impl"]),
-        (&[b"pals", b"sync", b"\xff"], &[]),
-        (&[b"pals", b"\xc3", b"Top.impl"], &[]),
-    ];
-    for (line, want) in table {
-        let read = command_words(&(CommandLine { words: line }, rt.alloc()))?;
-        assert_eq!(rt; read.len(), want.len());
-        for (word, text) in read.iter().zip(want) {
-            assert_eq!(rt; word.as_str(), *text);
+    let alloc = rt.alloc();
+    for (line, want) in [
+        (b"pals".as_slice(), ""),
+        (b"pals sync Top.impl".as_slice(), "[sync][Top.impl]"),
+        (b"pals sync \xff".as_slice(), ""),
+        (b"pals \xc3 Top.impl".as_slice(), ""),
+    ] {
+        let mut read = String::new(alloc);
+        for word in command_words(&(CommandLine { line }, alloc))? {
+            write!(read, "[{word}]")?;
         }
+        assert_eq!(rt; read.as_str(), want);
     }
     Ok(())
 }
