@@ -1,5 +1,5 @@
 -- What the tree of an action means, by the lists of its parts, and the numbers of a loop.
-use Rattle.std.proofs.Common.{◌≡◌, ℕ, suc, ℤ, pos, negsuc, ◌+ℤ◌, ◌-ℤ◌, ◌≤ℤ◌, ◌<ℤ◌, List, [], ◌∷◌, ◌++◌, take, refl, sym, ap, ◌∙◌, arith}
+use Rattle.std.proofs.Common.{◌≡◌, ℕ, suc, ℤ, pos, negsuc, ◌+ℤ◌, ◌-ℤ◌, ◌≤ℤ◌, ◌<ℤ◌, List, [], ◌∷◌, ◌++◌, refl, sym, ap, ◌∙◌, arith}
 use Rattle.std.specs.Prelude.{Bool, Result, Ok, Err}
 use Rattle.std.proofs.lemmas.Int.{ints}
 use Rattle.std.specs.declared.alloc.Global.{Global}
@@ -19,7 +19,6 @@ use Rattle.behaviour_sem.specs.declared.stop.Stop.{Stop}
 use Rattle.behaviour_sem.specs.declared.stop.Stop.TheVariants as stop
 use Rattle.behaviour_sem.specs.Senses.{frame_of}
 use Rattle.behaviour_sem.specs.Left.{Left, Chose}
-use Rattle.behaviour_sem.specs.Runs.{effect}
 
 -- ---- trees
 pub act-If : (branches : Vec Branch Global) (otherwise : Vec Act Global) (frame : Frame) (fresh : List Bool) (outs : List Port) → act (action_of (variants.If branches otherwise)) frame fresh outs ≡ act_first (branches_along branches.items) frame fresh outs (acts (actions_along otherwise.items) frame fresh outs)
@@ -33,12 +32,6 @@ abbrev pub turn_after : ℕ → Actions → List ℤ → List Bool → ℤ → E
 turn_after depth body held fresh number so_far = without_loop depth (acts body (frame_of (so_far.vars ++ number ∷ []) held) fresh so_far.outs)
 
 -- ---- answers
--- without the variable of its loop, what a body leaves
-pub Left-without_loop : (n : ℕ) (result : Result (Unit {0}) Stop) (vars : List ℤ) (outs : List Port) (meant : Result Effect Trap) → Left result (effect vars outs) meant → Left result (effect (take n vars) outs) (without_loop n meant)
-Left-without_loop n (Ok u) vars outs meant left = ap (without_loop n) left
-Left-without_loop n (Err (stop.Trapped trap)) vars outs meant left = ap (without_loop n) left
-Left-without_loop n (Err stop.NoMemory) vars outs meant left = tt
-
 pub Left-chose-err : {A : Type 0} (s : Stop) (reached before reached' : A) (otherwise meant : Result A Trap) → Chose (Err s) reached before otherwise meant → Left (Err s) reached' meant
 Left-chose-err (stop.Trapped trap) reached before reached' otherwise meant chose = chose
 Left-chose-err stop.NoMemory reached before reached' otherwise meant chose = tt

@@ -1,6 +1,6 @@
 -- How a step ends, by whether the frame was halted and what its reaction comes to.
 use Rattle.std.proofs.Common.{◌≡◌, ℤ, List, refl, sym, ap, ◌∙◌}
-use Rattle.std.specs.Prelude.{Bool, true, false, map, Option, Some, None, Result, is_some}
+use Rattle.std.specs.Prelude.{true, false, map, Option, Some, None, Result, is_some}
 use Rattle.pals_base.specs.declared.values.Trap.{Trap}
 use Rattle.pals_base.specs.declared.values.Frame.{Frame}
 use Rattle.pals_base.specs.declared.values.Port.{Port}

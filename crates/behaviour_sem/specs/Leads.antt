@@ -1,5 +1,5 @@
 -- Parts of a step, from one place to another.
-use Rattle.std.specs.Prelude.{ℕ, ℤ, List, Bool, length, None, Result}
+use Rattle.std.specs.Prelude.{ℕ, List, Bool, length, None, Result}
 use Rattle.pals_base.specs.declared.values.Trap.{Trap}
 use Rattle.pals_base.specs.declared.values.Port.{Port}
 use Rattle.pals_base.specs.declared.behaviour.BehaviourParts.{BehaviourParts}

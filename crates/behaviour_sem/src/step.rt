@@ -23,7 +23,14 @@ pub fn fire(
 {
     let mut after = frame.try_clone(alloc)?;
     let mut outs = vec![in alloc; Port::Absent; behaviour.outs().len()]?;
-    fire_into(alloc, behaviour, frame, inputs, &mut after, outs.as_mut_slice())?;
+    fire_into(
+        alloc,
+        behaviour,
+        frame,
+        inputs,
+        &mut after,
+        outs.as_mut_slice(),
+    )?;
     Ok((after, Items::from_vec(outs)))
 }
 

@@ -1,6 +1,5 @@
-use Rattle.std.proofs.Common.{◌≡◌, map, drop}
+use Rattle.std.proofs.Common.{◌≡◌, drop}
 use Rattle.pals_base.specs.Expressions.{eval_rest}
-use Rattle.pals_base.specs.Fire.{is_present}
 use Rattle.pals_base.specs.Seen.{operands_along}
 use Rattle.behaviour_sem.specs.Senses.{seen, fresh}
 use Rattle.behaviour_sem.proofs.expressions.+eval.Given as goal

@@ -2,7 +2,7 @@ use Rattle.std.proofs.Common.{◌≡◌, ◌∙◌, sym, ap, subst, ℤ, List, S
 use Rattle.pals_base.specs.declared.values.Frame.{Frame}
 use Rattle.pals_base.specs.declared.values.Port.{Port}
 use Rattle.pals_base.specs.declared.values.Port.TheVariants.{Absent}
-use Rattle.pals_base.specs.Fire.{Fired, holding, silence, is_present}
+use Rattle.pals_base.specs.Fire.{Fired, holding, is_present}
 use Rattle.behaviour_sem.specs.Left.{Left}
 use Rattle.behaviour_sem.specs.Leads.{reacted}
 use Rattle.behaviour_sem.proofs.Ends.{with_held, fire-halted, fire-reacted}
