@@ -56,7 +56,7 @@ pub fn fire_into(
     ensures vars { length to.new.vars ≡ length from.now.vars }
     ensures held { length to.new.held ≡ length from.now.held }
 {
-    outs.fill(Port::Absent);
+    silence(outs);
     to.copy_from(from);
     hold(&mut to.held, inputs);
     if from.halt.is_some() {
@@ -65,7 +65,7 @@ pub fn fire_into(
     match react_in(alloc, behaviour, to, inputs, outs) {
         Ok(()) => Ok(()),
         Err(Stop::Trapped(trap)) => {
-            outs.fill(Port::Absent);
+            silence(outs);
             to.state = from.state;
             to.vars.copy_from_slice(from.vars.as_slice());
             to.halt = Some(trap);
@@ -73,6 +73,13 @@ pub fn fire_into(
         }
         Err(Stop::NoMemory) => Err(AllocError),
     }
+}
+
+// Makes all outputs absent.
+fn silence(outs: &mut [Port])
+    ensures { outs.new ≡ replicate (length outs.old) Port.Absent }
+{
+    outs.fill(Port::Absent);
 }
 
 // Holds each present input, and keeps what was held before of the others.

@@ -53,31 +53,46 @@ fn echo(rt: &impl Abort, alloc: Global) -> Result<Behaviour, NoMemory> {
         transitions: transition(alloc)?,
     };
     match Behaviour::try_new(alloc, parts)? {
-        Some(behaviour) => Ok(behaviour),
+        Some(built) => Ok(built),
         None => panic!(rt; "the parts break a rule"),
     }
 }
 
-#[test]
-fn echoes(rt: HostRuntime) -> Result<(), Fail> {
-    let alloc = rt.alloc();
-    let behaviour = echo(&rt, alloc)?;
-    let before = Frame::initial(alloc, &behaviour)?;
-    let inputs = [Port::Present(4)];
-    let (after, outs) = fire(alloc, &behaviour, &before, &inputs)?;
+fn assert_fires(rt: &impl Abort, alloc: Global, behaviour: &Behaviour) -> Result<(), NoMemory> {
+    let before = Frame::initial(alloc, behaviour)?;
+    let (after, outs) = fire(alloc, behaviour, &before, &[Port::Present(4)])?;
     assert_eq!(rt; after.held.as_slice(), [4].as_slice());
-    assert_eq!(rt; outs.as_slice(), inputs.as_slice());
+    assert_eq!(rt; outs.as_slice(), [Port::Present(4)].as_slice());
+    Ok(())
+}
+
+// The same into a frame that is there, over an old output.
+fn assert_fires_into(
+    rt: &impl Abort,
+    alloc: Global,
+    behaviour: &Behaviour,
+) -> Result<(), NoMemory> {
+    let before = Frame::initial(alloc, behaviour)?;
     let mut after = before.try_clone(alloc)?;
     let mut outs = vec![in alloc; Port::Present(9); behaviour.outs().len()]?;
+    let inputs = [Port::Absent];
     fire_into(
         alloc,
-        &behaviour,
+        behaviour,
         &before,
         &inputs,
         &mut after,
         outs.as_mut_slice(),
     )?;
-    assert_eq!(rt; after.held.as_slice(), [4].as_slice());
-    assert_eq!(rt; outs.as_slice(), inputs.as_slice());
+    assert_eq!(rt; after.held.as_slice(), [0].as_slice());
+    assert_eq!(rt; outs.as_slice(), [Port::Present(0)].as_slice());
+    Ok(())
+}
+
+#[test]
+fn echoes(rt: HostRuntime) -> Result<(), Fail> {
+    let behaviour = echo(&rt, rt.alloc())?;
+    assert_fires(&rt, rt.alloc(), &behaviour)?;
+    assert_fires_into(&rt, rt.alloc(), &behaviour)?;
     Ok(())
 }
