@@ -1,5 +1,5 @@
 -- What the tree of an action means, by the lists of its parts, and the numbers of a loop.
-use Rattle.std.proofs.Common.{◌≡◌, suc, ℤ, pos, negsuc, ◌+ℤ◌, ◌-ℤ◌, ◌≤ℤ◌, ◌<ℤ◌, List, [], ◌∷◌, length, refl, sym, ap, ◌∙◌, arith}
+use Rattle.std.proofs.Common.{◌≡◌, ℕ, suc, ℤ, pos, negsuc, ◌+ℤ◌, ◌-ℤ◌, ◌≤ℤ◌, ◌<ℤ◌, List, [], ◌∷◌, ◌++◌, refl, sym, ap, ◌∙◌, arith}
 use Rattle.std.specs.Prelude.{Bool, Result, Ok, Err}
 use Rattle.std.proofs.lemmas.Int.{ints}
 use Rattle.std.specs.declared.alloc.Global.{Global}
@@ -10,22 +10,26 @@ use Rattle.pals_base.specs.declared.values.Port.{Port}
 use Rattle.pals_base.specs.declared.behaviour.Act.{Act}
 use Rattle.pals_base.specs.declared.behaviour.Act.TheVariants as variants
 use Rattle.pals_base.specs.declared.behaviour.Branch.{Branch}
-use Rattle.pals_base.specs.Actions.{Effect, act, acts, act_first, for_each, numbers, counted_from, count_of}
+use Rattle.pals_base.specs.Actions.{Effect, act, acts, act_first, for_each, numbers, counted_from, count_of, without_loop}
+use Rattle.pals_base.specs.Tree.{Actions, For}
 use Rattle.pals_base.specs.Expressions.{on_value}
 use Rattle.pals_base.specs.Seen.{action_of, actions_along, branches_along}
 use Rattle.pals_base.proofs.Trees.{action_of-If, action_of-For}
 use Rattle.behaviour_sem.specs.declared.stop.Stop.{Stop}
 use Rattle.behaviour_sem.specs.declared.stop.Stop.TheVariants as stop
-use Rattle.behaviour_sem.specs.Senses.{seen}
-use Rattle.behaviour_sem.specs.Left.{Left, Chose, effect}
-use Rattle.behaviour_sem.specs.Turns.{turn}
+use Rattle.behaviour_sem.specs.Senses.{frame_of}
+use Rattle.behaviour_sem.specs.Left.{Left, Chose}
 
 -- ---- trees
 pub act-If : (branches : Vec Branch Global) (otherwise : Vec Act Global) (frame : Frame) (fresh : List Bool) (outs : List Port) → act (action_of (variants.If branches otherwise)) frame fresh outs ≡ act_first (branches_along branches.items) frame fresh outs (acts (actions_along otherwise.items) frame fresh outs)
 act-If branches otherwise frame fresh outs = ap (λ a. act a frame fresh outs) (action_of-If branches otherwise)
 
-pub act-For : (low high : ℤ) (body : Vec Act Global) (vars held : List ℤ) (fresh : List Bool) (outs : List Port) → act (action_of (variants.For low high body)) (seen vars held) fresh outs ≡ for_each (numbers low high) (turn (length vars) (actions_along body.items) held fresh) (effect vars outs)
-act-For low high body vars held fresh outs = ap (λ a. act a (seen vars held) fresh outs) (action_of-For low high body)
+pub act-For : (low high : ℤ) (body : Vec Act Global) (frame : Frame) (fresh : List Bool) (outs : List Port) → act (action_of (variants.For low high body)) frame fresh outs ≡ act (For low high (actions_along body.items)) frame fresh outs
+act-For low high body frame fresh outs = ap (λ a. act a frame fresh outs) (action_of-For low high body)
+
+-- a turn of a loop round which there were this many variables, after other turns
+abbrev pub turn_after : ℕ → Actions → List ℤ → List Bool → ℤ → Effect → Result Effect Trap
+turn_after depth body held fresh number so_far = without_loop depth (acts body (frame_of (so_far.vars ++ number ∷ []) held) fresh so_far.outs)
 
 -- ---- answers
 pub Left-chose-err : {A : Type 0} (s : Stop) (reached before reached' : A) (otherwise meant : Result A Trap) → Chose (Err s) reached before otherwise meant → Left (Err s) reached' meant

@@ -1,6 +1,7 @@
 -- Transitions and held inputs, a step at a time.
-use Rattle.std.proofs.Common.{◌≡◌, ℕ, zero, suc, ℤ, ◌<◌, List, [], ◌∷◌, length, drop, drop-cons, get_or, refl, sym, ap, ◌∙◌}
-use Rattle.std.specs.Prelude.{Bool, true, false, Result, Ok, Err, Some, slice_index_or, nat_eq, filter, if◌then◌else◌}
+use Rattle.std.proofs.Common.{◌≡◌, ℕ, zero, suc, ◌+◌, ℤ, ◌<◌, List, [], ◌∷◌, ◌++◌, length, take, drop, drop-cons, get_or, add-one, append_assoc, refl, sym, ap, ◌∙◌, arith}
+use Rattle.std.proofs.lemmas.List.{take_more_set, drop-set-lt}
+use Rattle.std.specs.Prelude.{Bool, true, false, Result, Ok, Err, Some, slice_index_or, slice_set, nat_eq, filter, if◌then◌else◌}
 use Rattle.pals_base.specs.declared.values.Trap.{Trap}
 use Rattle.pals_base.specs.declared.values.Frame.{Frame}
 use Rattle.pals_base.specs.declared.values.Port.{Port}
@@ -11,8 +12,9 @@ use Rattle.pals_base.specs.Fire.{Fired, along, held_of, holding, opens, first_op
 use Rattle.pals_base.specs.Tree.{Edge}
 use Rattle.behaviour_sem.specs.declared.stop.Stop.{Stop}
 use Rattle.behaviour_sem.specs.declared.stop.Stop.TheVariants as stop
-use Rattle.behaviour_sem.specs.Senses.{seen}
-use Rattle.behaviour_sem.specs.Left.{Left, effect}
+use Rattle.behaviour_sem.specs.Senses.{frame_of}
+use Rattle.behaviour_sem.specs.Left.{Left}
+use Rattle.behaviour_sem.specs.Runs.{effect}
 use Rattle.behaviour_sem.specs.Goes.{goes, move}
 use Rattle.behaviour_sem.specs.declared.transitions.Place.{Place}
 use Rattle.pals_base.specs.declared.behaviour.BehaviourParts.{BehaviourParts}
@@ -25,11 +27,11 @@ Left-stops (stop.Trapped trap) first go reached reached' left = ap (λ r. on_val
 Left-stops stop.NoMemory first go reached reached' left = tt
 
 -- ---- transitions
-pub along-ran : (e : Edge) (at : Fired) (fresh : List Bool) (vars : List ℤ) (outs : List Port) → acts e.actions (seen at.frame.vars at.frame.held) fresh at.outs ≡ Ok (effect vars outs) → along (Some e) fresh at ≡ Ok (record { frame = record at.frame { state = e.target; vars = vars }; outs = outs })
+pub along-ran : (e : Edge) (at : Fired) (fresh : List Bool) (vars : List ℤ) (outs : List Port) → acts e.actions (frame_of at.frame.vars at.frame.held) fresh at.outs ≡ Ok (effect vars outs) → along (Some e) fresh at ≡ Ok (record { frame = record at.frame { state = e.target; vars = vars }; outs = outs })
 along-ran e at fresh vars outs ran =
     ap (λ r. on_value r (λ (done : Effect). Ok (record { frame = record at.frame { state = e.target; vars = done.vars }; outs = done.outs }))) (acts-seen e.actions at.frame fresh at.outs ∙ ran)
 
-pub along-stops : (s : Stop) (e : Edge) (at : Fired) (fresh : List Bool) (reached : Effect) (reached' : Fired) → Left (Err s) reached (acts e.actions (seen at.frame.vars at.frame.held) fresh at.outs) → Left (Err s) reached' (along (Some e) fresh at)
+pub along-stops : (s : Stop) (e : Edge) (at : Fired) (fresh : List Bool) (reached : Effect) (reached' : Fired) → Left (Err s) reached (acts e.actions (frame_of at.frame.vars at.frame.held) fresh at.outs) → Left (Err s) reached' (along (Some e) fresh at)
 along-stops (stop.Trapped trap) e at fresh reached reached' left =
     ap (λ r. on_value r (λ (done : Effect). Ok (record { frame = record at.frame { state = e.target; vars = done.vars }; outs = done.outs }))) (acts-seen e.actions at.frame fresh at.outs ∙ left)
 along-stops stop.NoMemory e at fresh reached reached' left = tt
@@ -38,23 +40,23 @@ by_leaving : (leaves : Bool) (e : Edge) (es : List Edge) (frame : Frame) (fresh 
 by_leaving true e es frame fresh = refl
 by_leaving false e es frame fresh = refl
 
-goes-seen : (state : ℕ) (frame : Frame) (fresh : List Bool) (e : Edge) → goes state frame fresh e ≡ goes state (seen frame.vars frame.held) fresh e
+goes-seen : (state : ℕ) (frame : Frame) (fresh : List Bool) (e : Edge) → goes state frame fresh e ≡ goes state (frame_of frame.vars frame.held) fresh e
 goes-seen state frame fresh e = ap (λ r. if nat_eq e.source state then r else Ok false) (opens-seen e.trigger frame fresh)
 
 -- the first open transition of a state, of one transition and those after it
-pub first_open-goes : (state : ℕ) (frame : Frame) (fresh : List Bool) (e : Edge) (es : List Edge) → first_open (filter (λ (e : Edge). nat_eq e.source state) (e ∷ es)) frame fresh ≡ on_value (goes state (seen frame.vars frame.held) fresh e) (λ yes. if yes then Ok (Some e) else first_open (filter (λ (e : Edge). nat_eq e.source state) es) frame fresh)
+pub first_open-goes : (state : ℕ) (frame : Frame) (fresh : List Bool) (e : Edge) (es : List Edge) → first_open (filter (λ (e : Edge). nat_eq e.source state) (e ∷ es)) frame fresh ≡ on_value (goes state (frame_of frame.vars frame.held) fresh e) (λ yes. if yes then Ok (Some e) else first_open (filter (λ (e : Edge). nat_eq e.source state) es) frame fresh)
 first_open-goes state frame fresh e es =
     let rest = first_open (filter (λ (e : Edge). nat_eq e.source state) es) frame fresh in
     by_leaving (nat_eq e.source state) e (filter (λ (e : Edge). nat_eq e.source state) es) frame fresh
     ∙ ap (λ r. on_value r (λ yes. if yes then Ok (Some e) else rest)) (goes-seen state frame fresh e)
 
 -- the answer for a transition, asked at a place that has not changed
-pub goes-same : (answer : Result Bool Trap) (here start : Place) (vars held : List ℤ) (fresh : List Bool) (e : Edge) → vars ≡ here.vars.items → here ≡ start → answer ≡ goes here.state (seen vars held) fresh e → goes start.state (seen start.vars.items held) fresh e ≡ answer
+pub goes-same : (answer : Result Bool Trap) (here start : Place) (vars held : List ℤ) (fresh : List Bool) (e : Edge) → vars ≡ here.vars.items → here ≡ start → answer ≡ goes here.state (frame_of vars held) fresh e → goes start.state (frame_of start.vars.items held) fresh e ≡ answer
 goes-same answer here start vars held fresh e same place asked =
-    sym (asked ∙ ap (λ vs. goes here.state (seen vs held) fresh e) same ∙ ap (λ (p : Place). goes p.state (seen p.vars.items held) fresh e) place)
+    sym (asked ∙ ap (λ vs. goes here.state (frame_of vs held) fresh e) same ∙ ap (λ (p : Place). goes p.state (frame_of p.vars.items held) fresh e) place)
 
 -- the first open transition from a number on
-pub first_open-from : (state : ℕ) (frame : Frame) (fresh : List Bool) (es : List Edge) (i : ℕ) (e : Edge) (answer : Result Bool Trap) → i < length es → e ≡ get_or es i e → goes state (seen frame.vars frame.held) fresh e ≡ answer → first_open (filter (λ (e : Edge). nat_eq e.source state) (drop i es)) frame fresh ≡ on_value answer (λ yes. if yes then Ok (Some e) else first_open (filter (λ (e : Edge). nat_eq e.source state) (drop (suc i) es)) frame fresh)
+pub first_open-from : (state : ℕ) (frame : Frame) (fresh : List Bool) (es : List Edge) (i : ℕ) (e : Edge) (answer : Result Bool Trap) → i < length es → e ≡ get_or es i e → goes state (frame_of frame.vars frame.held) fresh e ≡ answer → first_open (filter (λ (e : Edge). nat_eq e.source state) (drop i es)) frame fresh ≡ on_value answer (λ yes. if yes then Ok (Some e) else first_open (filter (λ (e : Edge). nat_eq e.source state) (drop (suc i) es)) frame fresh)
 first_open-from state frame fresh es i e answer within item asked =
     ap (λ es'. first_open (filter (λ (e : Edge). nat_eq e.source state) es') frame fresh) (drop-cons es i e within ∙ ap (λ x. x ∷ drop (suc i) es) (sym item))
     ∙ first_open-goes state frame fresh e (drop (suc i) es)
@@ -81,3 +83,14 @@ holding-more zero held (i ∷ inputs) v rest e = ap (λ h. holding h (i ∷ inpu
 holding-more (suc at) [] inputs v rest e = cc
 holding-more (suc at) (w ∷ held) [] v rest e = ap (λ h. holding h []) e ∙ ap (λ h. v ∷ h) (sym (holding-none rest))
 holding-more (suc at) (w ∷ held) (i ∷ inputs) v rest e = holding-more at held inputs v rest e
+
+-- a place written: what is held up to it, and of the places that are left
+pub holding-set : (at : ℕ) (held : List ℤ) (inputs : List Port) (before v : ℤ) → at < length held → before ≡ get_or held at before → v ≡ held_of before (slice_index_or inputs at Absent) → take (at + 1) (slice_set held at v) ++ holding (drop (at + 1) (slice_set held at v)) (drop (at + 1) inputs) ≡ take at held ++ holding (drop at held) (drop at inputs)
+holding-set at held inputs before v within item newest =
+    let rest = holding (drop (suc at) held) (drop (suc at) inputs) in
+    ap (λ l. l ++ holding (drop (at + 1) (slice_set held at v)) (drop (at + 1) inputs)) (take_more_set held at v within)
+    ∙ ap (λ l. (take at held ++ v ∷ []) ++ holding l (drop (at + 1) inputs)) (drop-set-lt (at + 1) held at v (omega arith))
+    ∙ ap (λ n. (take at held ++ v ∷ []) ++ holding (drop n held) (drop n inputs)) (add-one at)
+    ∙ append_assoc (take at held) (v ∷ []) rest
+    ∙ ap (λ w. take at held ++ w ∷ rest) newest
+    ∙ sym (ap (λ l. take at held ++ l) (holding-more at held inputs before (drop (suc at) held) (drop-cons held at before within ∙ ap (λ w. w ∷ drop (suc at) held) (sym item))))

@@ -1,5 +1,5 @@
 pub mod Senses
 pub mod Left
-pub mod Turns
-pub mod Place
+pub mod Runs
 pub mod Goes
+pub mod Leads

@@ -1,7 +1,16 @@
--- The part of a frame that expressions read.
-use Rattle.std.specs.Prelude.{ℤ, List, None}
+-- What expressions and actions read.
+use Rattle.std.specs.Prelude.{ℤ, Bool, List, map, None}
 use Rattle.pals_base.specs.declared.values.Frame.{Frame}
+use Rattle.pals_base.specs.Fire.{is_present}
+use Rattle.behaviour_sem.specs.declared.expressions.Inputs.{Inputs}
 
 -- a frame with these variables and held inputs; no expression and no action reads its state or its halt
-abbrev pub seen : List ℤ → List ℤ → Frame
-seen variables inputs = record { state = 0; vars = variables; held = inputs; halt = None }
+abbrev pub frame_of : List ℤ → List ℤ → Frame
+frame_of variables inputs = record { state = 0; vars = variables; held = inputs; halt = None }
+
+abbrev pub seen : List ℤ → Inputs → Frame
+seen variables inputs = frame_of variables inputs.held.now
+
+-- which in ports have a value in this step
+abbrev pub fresh : Inputs → List Bool
+fresh inputs = map is_present inputs.present.now

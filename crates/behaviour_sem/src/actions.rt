@@ -1,18 +1,16 @@
 //! What actions do to the variables and to this step's outputs.
-ghost use Rattle.std.specs.Prelude.{◌≡◌, map, length, slice_set, Result};
-ghost use Rattle.pals_base.specs.Actions.{Effect, act, acts, act_first, for_each, numbers};
-ghost use Rattle.pals_base.specs.declared.values.Trap.{Trap};
-ghost use Rattle.pals_base.specs.Fire.{is_present};
+ghost use Rattle.std.specs.Prelude.{◌≡◌, length, slice_set};
+ghost use Rattle.pals_base.specs.Actions.{act, acts};
+ghost use Rattle.pals_base.specs.Tree.{For};
 ghost use Rattle.pals_base.specs.Seen.{action_of, actions_along, branches_along};
-ghost use Rattle.behaviour_sem.specs.Senses.{seen};
-ghost use Rattle.behaviour_sem.specs.Left.{Left, Chose, effect};
-ghost use Rattle.behaviour_sem.specs.Turns.{turn};
+ghost use Rattle.behaviour_sem.specs.Runs.{Runs, RunsFirst, turn};
 
 use crate::expressions::{Inputs, eval, holds};
 use crate::stop::Stop;
 use pals_base::{Act, Branch, Port};
 
-/// Does actions one after the other. A stop leaves the variables and outputs as they then are.
+/// Does actions one after the other. A stop leaves the variables and outputs as they then are, and
+/// no more variables than before.
 #[cycle(run)]
 pub fn run_all(
     actions: &[Act],
@@ -20,7 +18,8 @@ pub fn run_all(
     outs: &mut [Port],
     inputs: Inputs,
 ) -> Result<(), Stop>
-    ensures { Left result (effect vars.new.items outs.new) (acts (actions_along actions.now) (seen vars.old.items inputs.entry.held.now) (map is_present inputs.entry.present.now) outs.old) }
+    ensures runs { Runs result (acts (actions_along actions.now)) inputs.entry (vars.old, outs.old) (vars.new, outs.new) }
+    ensures len { length vars.new.items ≡ length vars.old.items }
 {
     for action in actions {
         run(action, vars, outs, inputs)?;
@@ -31,7 +30,8 @@ pub fn run_all(
 // Does one action.
 #[cycle(run)]
 fn run(action: &Act, vars: &mut Vec<i64>, outs: &mut [Port], inputs: Inputs) -> Result<(), Stop>
-    ensures { Left result (effect vars.new.items outs.new) (act (action_of action.now) (seen vars.old.items inputs.entry.held.now) (map is_present inputs.entry.present.now) outs.old) }
+    ensures runs { Runs result (act (action_of action.now)) inputs.entry (vars.old, outs.old) (vars.new, outs.new) }
+    ensures len { length vars.new.items ≡ length vars.old.items }
 {
     match action {
         Act::Assign { variable, value } => {
@@ -66,7 +66,8 @@ fn run_first(
     outs: &mut [Port],
     inputs: Inputs,
 ) -> Result<bool, Stop>
-    ensures { (otherwise : Result Effect Trap) → Chose result (effect vars.new.items outs.new) (effect vars.old.items outs.old) otherwise (act_first (branches_along branches.now) (seen vars.old.items inputs.entry.held.now) (map is_present inputs.entry.present.now) outs.old otherwise) }
+    ensures runs { RunsFirst result (branches_along branches.now) inputs.entry (vars.old, outs.old) (vars.new, outs.new) }
+    ensures len { length vars.new.items ≡ length vars.old.items }
 {
     for branch in branches {
         if holds(eval(&branch.guard, vars, inputs)?) {
@@ -87,33 +88,35 @@ fn run_turns(
     outs: &mut [Port],
     inputs: Inputs,
 ) -> Result<(), Stop>
-    ensures { Left result (effect vars.new.items outs.new) (for_each (numbers low high) (turn (length vars.old.items) (actions_along body.now) inputs.entry.held.now (map is_present inputs.entry.present.now)) (effect vars.old.items outs.old)) }
+    ensures runs { Runs result (act (For low high (actions_along body.now))) inputs.entry (vars.old, outs.old) (vars.new, outs.new) }
+    ensures len { length vars.new.items ≡ length vars.old.items }
 {
-    let depth = vars.len();
     for number in low..=high {
-        run_turn(depth, number, body, vars, outs, inputs)?;
+        run_turn(number, body, vars, outs, inputs)?;
     }
     Ok(())
 }
 
-// Does a body at one number of its loop, which stands behind the variables and then goes.
+// Does a body at one number of its loop, which stands behind the variables and then goes, also where
+// a stop ends the body.
 #[cycle(run)]
 fn run_turn(
-    depth: usize,
     number: i64,
     body: &[Act],
     vars: &mut Vec<i64>,
     outs: &mut [Port],
     inputs: Inputs,
 ) -> Result<(), Stop>
-    ensures { Left result (effect vars.new.items outs.new) (turn depth (actions_along body.now) inputs.entry.held.now (map is_present inputs.entry.present.now) number (effect vars.old.items outs.old)) }
+    ensures runs { Runs result (turn number (actions_along body.now)) inputs.entry (vars.old, outs.old) (vars.new, outs.new) }
+    ensures len { length vars.new.items ≡ length vars.old.items }
 {
+    let depth = vars.len();
     if vars.push(number).is_err() {
         return Err(Stop::NoMemory);
     }
-    run_all(body, vars, outs, inputs)?;
+    let ended = run_all(body, vars, outs, inputs);
     vars.truncate(depth);
-    Ok(())
+    ended
 }
 
 // Puts an item in a place. Past the end nothing happens.

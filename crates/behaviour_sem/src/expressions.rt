@@ -3,7 +3,7 @@ ghost use Rattle.std.specs.Prelude.{◌≡◌, ℤ, pos, map, slice_index_or, fa
 ghost use Rattle.pals_base.specs.Expressions.{eval, eval_rest, applied, is_true, truth};
 ghost use Rattle.pals_base.specs.Fire.{is_present};
 ghost use Rattle.pals_base.specs.Seen.{tree_of, operands_along};
-ghost use Rattle.behaviour_sem.specs.Senses.{seen};
+ghost use Rattle.behaviour_sem.specs.Senses.{seen, fresh};
 
 use pals_base::{Expr, Op, Operand, Port, Trap, abs, add, modulo, mul, neg, quot, rem, sub};
 
@@ -17,7 +17,7 @@ pub struct Inputs<'a> {
 /// The value of an expression over these variables and inputs, or the first trap that it meets.
 #[cycle(eval)]
 pub fn eval(expr: &Expr, vars: &[i64], inputs: Inputs) -> Result<i64, Trap>
-    ensures { result ≡ eval (tree_of expr.now) (seen vars.now inputs.entry.held.now) (map is_present inputs.entry.present.now) }
+    ensures { result ≡ eval (tree_of expr.now) (seen vars.now inputs.entry) (fresh inputs.entry) }
 {
     match expr {
         Expr::Literal(number) => Ok(*number),
@@ -40,7 +40,7 @@ pub fn eval(expr: &Expr, vars: &[i64], inputs: Inputs) -> Result<i64, Trap>
 // The later operands of a chain, from the value of what stands left of them.
 #[cycle(eval)]
 fn eval_rest(rest: &[Operand], left: i64, vars: &[i64], inputs: Inputs) -> Result<i64, Trap>
-    ensures { result ≡ eval_rest (operands_along rest.now) (seen vars.now inputs.entry.held.now) (map is_present inputs.entry.present.now) left }
+    ensures { result ≡ eval_rest (operands_along rest.now) (seen vars.now inputs.entry) (fresh inputs.entry) left }
 {
     let mut value = left;
     for operand in rest {

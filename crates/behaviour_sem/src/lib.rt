@@ -8,7 +8,7 @@ mod step;
 mod stop;
 mod transitions;
 
-pub use step::fire;
+pub use step::{fire, fire_into};
 
 #[cfg(test)]
 mod tests;

@@ -1,19 +1,18 @@
 //! One step of a behaviour.
-ghost use Rattle.std.specs.Prelude.{◌≡◌, IfOk, slice_index_or};
-ghost use Rattle.pals_base.specs.Fire.{fire, holding, held_of, silence};
-ghost use Rattle.behaviour_sem.specs.Place.{fired};
+ghost use Rattle.std.specs.Prelude.{◌≡◌, IfOk, OnOk, None, length, map, replicate, slice_index_or};
+ghost use Rattle.pals_base.specs.Fire.{fire, held_of, holding, is_present};
+ghost use Rattle.behaviour_sem.specs.Left.{Left};
+ghost use Rattle.behaviour_sem.specs.Leads.{reacted};
 
 use crate::expressions::Inputs;
 use crate::stop::Stop;
 use crate::transitions::{Place, react};
-use pals_base::{Behaviour, Frame, Items, NoMemory, Port, Trap};
+use pals_base::{Behaviour, Frame, Items, NoMemory, Port, TryClone};
 use std::alloc::{AllocError, Global};
+use std::mem::replace;
 
-/// One step: holds each present input, and then follows the dispatch transition of the frame's
-/// state and from each state that is not complete its first transition whose guard is true. The
-/// answer is the frame after the step and what its out ports have. A trap leaves the state and the
-/// variables as they were, halts the frame, and leaves all outputs absent; a halted frame stays.
-/// The one error is want of memory.
+/// One step, in memory of its own: the frame after it, and what its out ports have. `fire_into`
+/// says what a step does. The one error is want of memory.
 pub fn fire(
     alloc: Global,
     behaviour: &Behaviour,
@@ -22,35 +21,75 @@ pub fn fire(
 ) -> Result<(Frame, Items<Port>), NoMemory>
     ensures { IfOk result (λ r. record { frame = r.0; outs = r.1 } ≡ fire behaviour.now frame.now inputs.now) }
 {
-    let held = hold(alloc, frame.held.as_slice(), inputs)?;
-    if frame.halt.is_some() {
-        return halted(alloc, behaviour, frame, held, frame.halt);
+    let mut after = frame.try_clone(alloc)?;
+    let mut outs = vec![in alloc; Port::Absent; behaviour.outs().len()]?;
+    fire_into(
+        alloc,
+        behaviour,
+        frame,
+        inputs,
+        &mut after,
+        outs.as_mut_slice(),
+    )?;
+    Ok((after, Items::from_vec(outs)))
+}
+
+/// One step, from one frame into another of the same shape: holds each present input, and then
+/// follows the dispatch transition of the frame's state and from each state that is not complete its
+/// first transition whose guard is true. What `to` and `outs` had before is gone. A trap leaves the
+/// state and the variables as they were, halts the frame, and leaves all outputs absent; a halted
+/// frame stays. Only the number of a loop can take memory, and only where the variables of `to` had
+/// no place for it in an earlier step; where it is wanting, `to` keeps its shape, so that the call
+/// can be made again.
+pub fn fire_into(
+    alloc: Global,
+    behaviour: &Behaviour,
+    from: &Frame,
+    inputs: &[Port],
+    to: &mut Frame,
+    outs: &mut [Port],
+) -> Result<(), NoMemory>
+    requires vars { length to.old.vars ≡ length from.now.vars }
+    requires held { length to.old.held ≡ length from.now.held }
+    requires outs { length outs.old ≡ length behaviour.now.outs }
+    ensures fired { OnOk result (record { frame = to.new; outs = outs.new } ≡ fire behaviour.now from.now inputs.now) }
+    ensures vars { length to.new.vars ≡ length from.now.vars }
+    ensures held { length to.new.held ≡ length from.now.held }
+{
+    silence(outs);
+    to.copy_from(from);
+    hold(&mut to.held, inputs);
+    if from.halt.is_some() {
+        return Ok(());
     }
-    let mut place = Place {
-        state: frame.state,
-        vars: Vec::from_slice(alloc, frame.vars.as_slice())?,
-        outs: vec![in alloc; Port::Absent; behaviour.outs().len()]?,
-    };
-    let reads = Inputs {
-        held: held.as_slice(),
-        present: inputs,
-    };
-    match react(behaviour, &mut place, reads) {
-        Ok(()) => Ok(reached(place, held)),
-        Err(Stop::Trapped(trap)) => halted(alloc, behaviour, frame, held, Some(trap)),
+    match react_in(alloc, behaviour, to, inputs, outs) {
+        Ok(()) => Ok(()),
+        Err(Stop::Trapped(trap)) => {
+            silence(outs);
+            to.state = from.state;
+            to.vars.copy_from_slice(from.vars.as_slice());
+            to.halt = Some(trap);
+            Ok(())
+        }
         Err(Stop::NoMemory) => Err(AllocError),
     }
 }
 
-// What is held after a step's inputs: each present one, and what was held before of the others.
-fn hold(alloc: Global, held: &[i64], inputs: &[Port]) -> Result<Items<i64>, NoMemory>
-    ensures { IfOk result (λ list. list ≡ holding held.now inputs.now) }
+// Makes all outputs absent.
+fn silence(outs: &mut [Port])
+    ensures { outs.new ≡ replicate (length outs.old) Port.Absent }
 {
-    let mut list = Items::new(alloc);
+    outs.fill(Port::Absent);
+}
+
+// Holds each present input, and keeps what was held before of the others.
+fn hold(held: &mut Items<i64>, inputs: &[Port])
+    ensures after { held.new ≡ holding held.old inputs.now }
+    ensures len { length held.new ≡ length held.old }
+{
     for at in 0..held.len() {
-        list.push(newest(held[at], inputs, at))?;
+        held.set(at, newest(held[at], inputs, at));
     }
-    Ok(list)
 }
 
 // The value of an in port where it is present, else the one held before.
@@ -65,37 +104,32 @@ fn newest(before: i64, inputs: &[Port], at: usize) -> i64
     before
 }
 
-// What a step leaves where a trap halts it, or halted an earlier one: the frame from before it with
-// what is held now and the halt, and no outputs.
-fn halted(
+// The whole step of a frame that holds its inputs and is not halted. A stop leaves as many variables
+// as there were, and no value to rely on in them, in the state and in the outputs.
+fn react_in(
     alloc: Global,
     behaviour: &Behaviour,
-    frame: &Frame,
-    held: Items<i64>,
-    halt: Option<Trap>,
-) -> Result<(Frame, Items<Port>), NoMemory>
-    ensures { IfOk result (λ r. (r.0 ≡ record frame.now { held = held; halt = halt }) × (r.1 ≡ silence behaviour.now)) }
+    frame: &mut Frame,
+    present: &[Port],
+    outs: &mut [Port],
+) -> Result<(), Stop>
+    requires { frame.old.halt ≡ None }
+    ensures reacts { Left result (record { frame = frame.new; outs = outs.new })
+        (reacted behaviour.now frame.old.state (map is_present present.now) (record { frame = frame.old; outs = outs.old })) }
+    ensures vars { length frame.new.vars ≡ length frame.old.vars }
+    ensures held { frame.new.held ≡ frame.old.held }
 {
-    let frame = Frame {
+    let mut place = Place {
         state: frame.state,
-        vars: Items::from_slice(alloc, frame.vars.as_slice())?,
-        held,
-        halt,
+        vars: replace(&mut frame.vars, Items::new(alloc)).into_vec(),
     };
-    let outs = vec![in alloc; Port::Absent; behaviour.outs().len()]?;
-    Ok((frame, Items::from_vec(outs)))
-}
-
-// The frame and the outputs of a step that came to its end.
-fn reached(place: Place, held: Items<i64>) -> (Frame, Items<Port>)
-    ensures { record { frame = result.0; outs = result.1 } ≡ fired place held }
-{
-    let Place { state, vars, outs } = place;
-    let frame = Frame {
-        state,
-        vars: Items::from_vec(vars),
-        held,
-        halt: None,
+    let reads = Inputs {
+        held: frame.held.as_slice(),
+        present,
     };
-    (frame, Items::from_vec(outs))
+    let ended = react(behaviour, &mut place, outs, reads);
+    let Place { state, vars } = place;
+    frame.state = state;
+    frame.vars = Items::from_vec(vars);
+    ended
 }

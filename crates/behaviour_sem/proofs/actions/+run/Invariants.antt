@@ -4,22 +4,25 @@ use Rattle.pals_base.specs.declared.values.Trap.{Trap}
 use Rattle.pals_base.specs.Actions.{Effect, acts, act_first, for_each, numbers}
 use Rattle.pals_base.specs.Fire.{is_present}
 use Rattle.pals_base.specs.Seen.{actions_along, branches_along}
-use Rattle.behaviour_sem.specs.Senses.{seen}
-use Rattle.behaviour_sem.specs.Left.{effect}
-use Rattle.behaviour_sem.specs.Turns.{turn}
+use Rattle.behaviour_sem.specs.Senses.{frame_of}
+use Rattle.behaviour_sem.specs.Runs.{effect}
+use Rattle.behaviour_sem.proofs.Branches.{turn_after}
 use Rattle.behaviour_sem.proofs.actions.+run.Given as goal
 
 -- the actions that are left, from the variables and outputs so far, have the effect of all
 abbrev pub invariant-run_all-loop-action : goal.invariant-run_all-loop-action
 invariant-run_all-loop-action l =
     let fresh = map is_present l.inputs.present.now in
-    acts (actions_along (drop l.action-index l.actions)) (seen l.vars.items l.inputs.held.now) fresh l.outs
-    ≡ acts (actions_along l.actions) (seen l.fn.vars.items l.inputs.held.now) fresh l.fn.outs
+    record {
+      len : length l.vars.items ≡ length l.fn.vars.items;
+      rest : acts (actions_along (drop l.action-index l.actions)) (frame_of l.vars.items l.inputs.held.now) fresh l.outs
+          ≡ acts (actions_along l.actions) (frame_of l.fn.vars.items l.inputs.held.now) fresh l.fn.outs;
+    }
 
 -- nothing has changed, and no guard so far was true
 abbrev pub invariant-run_first-loop-branch : goal.invariant-run_first-loop-branch
 invariant-run_first-loop-branch l =
-    let frame = seen l.fn.vars.items l.inputs.held.now in
+    let frame = frame_of l.fn.vars.items l.inputs.held.now in
     let fresh = map is_present l.inputs.present.now in
     record {
       vars : l.vars.items ≡ l.fn.vars.items;
@@ -30,8 +33,8 @@ invariant-run_first-loop-branch l =
 -- the numbers that are left, from the variables and outputs so far, have the effect of all
 abbrev pub invariant-run_turns-loop-number : goal.invariant-run_turns-loop-number
 invariant-run_turns-loop-number l =
-    let body = turn (length l.fn.vars.items) (actions_along l.body) l.inputs.held.now (map is_present l.inputs.present.now) in
+    let body = turn_after (length l.fn.vars.items) (actions_along l.body) l.inputs.held.now (map is_present l.inputs.present.now) in
     record {
-      depth : l.depth ≡ length l.fn.vars.items;
+      len : length l.vars.items ≡ length l.fn.vars.items;
       rest : for_each (numbers l.number l.high) body (effect l.vars.items l.outs) ≡ for_each (numbers l.low l.high) body (effect l.fn.vars.items l.fn.outs);
     }

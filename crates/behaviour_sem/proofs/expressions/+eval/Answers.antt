@@ -6,12 +6,12 @@ use Rattle.pals_base.specs.Expressions.{eval, eval_rest, on_value}
 use Rattle.pals_base.specs.Fire.{is_present}
 use Rattle.pals_base.specs.Seen.{tree_of, operands_along}
 use Rattle.pals_base.proofs.Trees.{tree_of-Chain}
-use Rattle.behaviour_sem.specs.Senses.{seen}
+use Rattle.behaviour_sem.specs.Senses.{frame_of}
 use Rattle.behaviour_sem.proofs.expressions.+eval.Goals as goal
 
 pub eval-returns-in_ok-left-in-Chain : goal.eval-returns-in_ok-left-in-Chain
 eval-returns-in_ok-left-in-Chain t c =
-    let frame = seen c.args.vars.now c.args.inputs.held.now in
+    let frame = frame_of c.args.vars.now c.args.inputs.held.now in
     let fresh = map is_present c.args.inputs.present.now in
     let left = c.in_ok-left-in-Chain.left in
     let fits : SFits w64 left = search rules in

@@ -1,13 +1,12 @@
-use Rattle.std.proofs.Common.{◌≡◌, map, drop}
+use Rattle.std.proofs.Common.{◌≡◌, drop}
 use Rattle.pals_base.specs.Expressions.{eval_rest}
-use Rattle.pals_base.specs.Fire.{is_present}
 use Rattle.pals_base.specs.Seen.{operands_along}
-use Rattle.behaviour_sem.specs.Senses.{seen}
+use Rattle.behaviour_sem.specs.Senses.{seen, fresh}
 use Rattle.behaviour_sem.proofs.expressions.+eval.Given as goal
 
 -- the operands that are left, from the value so far, give the value of all
 abbrev pub invariant-eval_rest-loop-operand : goal.invariant-eval_rest-loop-operand
 invariant-eval_rest-loop-operand l =
-    let frame = seen l.vars l.inputs.held.now in
-    let fresh = map is_present l.inputs.present.now in
-    eval_rest (operands_along (drop l.operand-index l.rest)) frame fresh l.value ≡ eval_rest (operands_along l.rest) frame fresh l.left
+    let frame = seen l.vars l.inputs in
+    let fresh' = fresh l.inputs in
+    eval_rest (operands_along (drop l.operand-index l.rest)) frame fresh' l.value ≡ eval_rest (operands_along l.rest) frame fresh' l.left

@@ -1,7 +1,11 @@
-use Rattle.std.proofs.Common.{◌≡◌, ◌++◌, drop}
+use Rattle.std.proofs.Common.{◌≡◌, ◌++◌, length, take, drop}
 use Rattle.pals_base.specs.Fire.{holding}
 use Rattle.behaviour_sem.proofs.step.hold.Given as goal
 
--- the list so far, and what is held of the places that are left
+-- what is held so far, and of the places that are left
 abbrev pub invariant-loop-at : goal.invariant-loop-at
-invariant-loop-at l = l.list ++ holding (drop l.at l.held) (drop l.at l.inputs) ≡ holding l.held l.inputs
+invariant-loop-at l =
+    record {
+      len : length l.held ≡ length l.fn.held;
+      rest : take l.at l.held ++ holding (drop l.at l.held) (drop l.at l.inputs) ≡ holding l.fn.held l.inputs;
+    }

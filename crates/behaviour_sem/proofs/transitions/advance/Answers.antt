@@ -6,48 +6,54 @@ use Rattle.pals_base.specs.Tree.{Edge}
 use Rattle.behaviour_sem.specs.declared.stop.Stop.TheVariants as stop
 use Rattle.behaviour_sem.specs.Left.{Left}
 use Rattle.behaviour_sem.specs.Goes.{move}
-use Rattle.behaviour_sem.specs.Place.{fired}
+use Rattle.behaviour_sem.specs.Leads.{fired}
 use Rattle.behaviour_sem.proofs.Moves.{goes-same, first_open-from}
 use Rattle.behaviour_sem.proofs.transitions.advance.Goals as goal
 
-pub returns-in_err-goes : goal.returns-in_err-goes
-returns-in_err-goes c =
+pub returns-in_err-goes-clause-leads : goal.returns-in_err-goes-clause-leads
+returns-in_err-goes-clause-leads c =
     let start = c.args.place.now in
+    let at = fired (start, c.args.outs.now) c.args.inputs in
     let held = c.args.inputs.held.now in
     let fresh = map is_present c.args.inputs.present.now in
     let item = c.transition-item.result in
     let trap = c.in_err-goes.field-0.0 in
     let asked = goes-same (Err trap) c.loop-transition.place start c.deref.result.now held fresh item c.deref.ensures.value c.loop-transition.invariant.place c.in_err-goes.ensures in
-    let found = first_open-from start.state (fired start held).frame fresh c.args.transitions.now c.loop-transition.transition-index item (Err trap) c.loop-transition-test.true c.transition-item.is asked in
+    let found = first_open-from start.state at.frame fresh c.args.transitions.now c.loop-transition.transition-index item (Err trap) c.loop-transition-test.true c.transition-item.is asked in
     let answers : c.from_residual.result ≡ Err (stop.Trapped trap) = search rules in
-    let meant : move c.args.transitions.now fresh (fired start held) ≡ Err trap = ap (λ r. on_value r (λ e. along e fresh (fired start held))) (sym c.loop-transition.invariant.rest ∙ found) in
-    subst (λ r. Left r (fired c.loop-transition.place held) (move c.args.transitions.now fresh (fired start held))) (sym answers) meant
+    let meant : move c.args.transitions.now fresh at ≡ Err trap = ap (λ r. on_value r (λ e. along e fresh at)) (sym c.loop-transition.invariant.rest ∙ found) in
+    subst (λ r. Left r (fired (c.loop-transition.place, c.loop-transition.outs) c.args.inputs) (move c.args.transitions.now fresh at)) (sym answers) meant
 
-pub returns-then-branch : goal.returns-then-branch
-returns-then-branch c =
+pub returns-then-branch-clause-leads : goal.returns-then-branch-clause-leads
+returns-then-branch-clause-leads c =
     let start = c.args.place.now in
+    let at = fired (start, c.args.outs.now) c.args.inputs in
     let held = c.args.inputs.held.now in
     let fresh = map is_present c.args.inputs.present.now in
     let item = c.transition-item.result in
     let asked = goes-same (Ok c.in_ok-goes.field-0) c.loop-transition.place start c.deref.result.now held fresh item c.deref.ensures.value c.loop-transition.invariant.place c.in_ok-goes.ensures in
-    let found = first_open-from start.state (fired start held).frame fresh c.args.transitions.now c.loop-transition.transition-index item (Ok true) c.loop-transition-test.true c.transition-item.is (asked ∙ ap Ok c.if-branch.true) in
-    let meant = ap (λ r. on_value r (λ e. along e fresh (fired start held))) (sym c.loop-transition.invariant.rest ∙ found) in
-    let same : along (Some item) fresh (fired c.loop-transition.place held) ≡ move c.args.transitions.now fresh (fired start held) =
-    (ap (λ p. along (Some item) fresh (fired p held)) c.loop-transition.invariant.place ∙ sym meant) in
-    subst (λ m. Left c.follow.result (fired c.follow.new.place held) m) same c.follow.ensures
+    let found = first_open-from start.state at.frame fresh c.args.transitions.now c.loop-transition.transition-index item (Ok true) c.loop-transition-test.true c.transition-item.is (asked ∙ ap Ok c.if-branch.true) in
+    let meant = ap (λ r. on_value r (λ e. along e fresh at)) (sym c.loop-transition.invariant.rest ∙ found) in
+    let same : along (Some item) fresh (fired (c.loop-transition.place, c.loop-transition.outs) c.args.inputs) ≡ move c.args.transitions.now fresh at =
+    (ap (λ p. along (Some item) fresh (fired (p, c.loop-transition.outs) c.args.inputs)) c.loop-transition.invariant.place
+    ∙ ap (λ os. along (Some item) fresh (fired (start, os) c.args.inputs)) c.loop-transition.invariant.outs
+    ∙ sym meant) in
+    subst (λ m. Left c.follow.result (fired (c.follow.new.place, c.follow.new.outs) c.args.inputs) m) same c.follow.ensures.leads
 
 pub loop-transition-preserved : goal.loop-transition-preserved
 loop-transition-preserved c =
     let start = c.args.place.now in
+    let at = fired (start, c.args.outs.now) c.args.inputs in
     let held = c.args.inputs.held.now in
     let fresh = map is_present c.args.inputs.present.now in
     let item = c.transition-item.result in
     let asked = goes-same (Ok c.in_ok-goes.field-0) c.loop-transition.place start c.deref.result.now held fresh item c.deref.ensures.value c.loop-transition.invariant.place c.in_ok-goes.ensures in
-    let found = first_open-from start.state (fired start held).frame fresh c.args.transitions.now c.loop-transition.transition-index item (Ok false) c.loop-transition-test.true c.transition-item.is (asked ∙ ap Ok c.if-branch.false) in
+    let found = first_open-from start.state at.frame fresh c.args.transitions.now c.loop-transition.transition-index item (Ok false) c.loop-transition-test.true c.transition-item.is (asked ∙ ap Ok c.if-branch.false) in
     record {
       place = c.loop-transition.invariant.place;
+      outs = c.loop-transition.invariant.outs;
       rest =
-          ap (λ n. first_open (filter (λ (e : Edge). nat_eq e.source start.state) (drop n c.args.transitions.now)) (fired start held).frame fresh) (add-one c.loop-transition.transition-index)
+          ap (λ n. first_open (filter (λ (e : Edge). nat_eq e.source start.state) (drop n c.args.transitions.now)) at.frame fresh) (add-one c.loop-transition.transition-index)
           ∙ sym found
           ∙ c.loop-transition.invariant.rest;
     }

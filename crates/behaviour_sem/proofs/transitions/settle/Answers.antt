@@ -4,40 +4,42 @@ use Rattle.pals_base.specs.Expressions.{on_value}
 use Rattle.pals_base.specs.Fire.{is_present, is_complete, completes, settled}
 use Rattle.behaviour_sem.specs.Left.{Left}
 use Rattle.behaviour_sem.specs.Goes.{move}
-use Rattle.behaviour_sem.specs.Place.{fired}
+use Rattle.behaviour_sem.specs.Leads.{fired}
 use Rattle.behaviour_sem.proofs.Moves.{Left-stops, settled-more}
 use Rattle.behaviour_sem.proofs.transitions.settle.Goals as goal
 
-pub returns-in_err-advance : goal.returns-in_err-advance
-returns-in_err-advance c =
+pub returns-in_err-advance-clause-leads : goal.returns-in_err-advance-clause-leads
+returns-in_err-advance-clause-leads c =
     let b = c.args.behaviour.now in
-    let held = c.args.inputs.held.now in
     let fresh = map is_present c.args.inputs.present.now in
-    let at = fired c.loop.place held in
-    let after = fired c.advance.new.place held in
+    let at = fired (c.loop.place, c.loop.outs) c.args.inputs in
+    let after = fired (c.advance.new.place, c.advance.new.outs) c.args.inputs in
     let rest = length b.states - (c.loop.counter + 1) in
     let count : length b.states - c.loop.counter ≡ suc rest = omega arith in
     let under_way : is_complete b c.loop.place.state ≡ false =
     (sym (ap (λ ss. completes (slice_get ss c.loop.place.state)) c.states.ensures.value) ∙ sym c.is_complete.ensures ∙ c.if-is_complete.false) in
     let stop = c.in_err-advance.field-0.0 in
     let answers : c.from_residual.result ≡ Err stop = search rules in
-    let moved = subst (λ ts. Left (Err stop) after (move ts fresh at)) c.transitions.ensures.value c.in_err-advance.ensures in
+    let moved = subst (λ ts. Left (Err stop) after (move ts fresh at)) c.transitions.ensures.value c.in_err-advance.ensures.leads in
     let stops = Left-stops stop (move b.transitions fresh at) (λ next. settled rest b fresh next) after after moved in
-    subst (λ r. Left r after (settled (length b.states) b fresh (fired c.args.place.now held))) (sym answers)
-    (subst (λ m. Left (Err stop) after m) (sym (settled-more rest b fresh at under_way) ∙ sym (ap (λ n. settled n b fresh at) count) ∙ c.loop.invariant) stops)
+    subst (λ r. Left r after (settled (length b.states) b fresh (fired (c.args.place.now, c.args.outs.now) c.args.inputs))) (sym answers)
+    (subst (λ m. Left (Err stop) after m) (sym (settled-more rest b fresh at under_way) ∙ sym (ap (λ n. settled n b fresh at) count) ∙ c.loop.invariant.rest) stops)
 
 pub loop-preserved : goal.loop-preserved
 loop-preserved c =
     let b = c.args.behaviour.now in
-    let held = c.args.inputs.held.now in
     let fresh = map is_present c.args.inputs.present.now in
-    let at = fired c.loop.place held in
+    let at = fired (c.loop.place, c.loop.outs) c.args.inputs in
     let rest = length b.states - (c.loop.counter + 1) in
     let count : length b.states - c.loop.counter ≡ suc rest = omega arith in
     let under_way : is_complete b c.loop.place.state ≡ false =
     (sym (ap (λ ss. completes (slice_get ss c.loop.place.state)) c.states.ensures.value) ∙ sym c.is_complete.ensures ∙ c.if-is_complete.false) in
-    let moved : move c.transitions.result.now fresh at ≡ Ok (fired c.advance.new.place held) = c.in_ok-advance.ensures in
-    sym (ap (λ r. on_value r (λ next. settled rest b fresh next)) (sym (ap (λ ts. move ts fresh at) c.transitions.ensures.value) ∙ moved))
-    ∙ sym (settled-more rest b fresh at under_way)
-    ∙ sym (ap (λ n. settled n b fresh at) count)
-    ∙ c.loop.invariant
+    let moved : move c.transitions.result.now fresh at ≡ Ok (fired (c.advance.new.place, c.advance.new.outs) c.args.inputs) = c.in_ok-advance.ensures.leads in
+    record {
+      len = c.in_ok-advance.ensures.len ∙ c.loop.invariant.len;
+      rest =
+          sym (ap (λ r. on_value r (λ next. settled rest b fresh next)) (sym (ap (λ ts. move ts fresh at) c.transitions.ensures.value) ∙ moved))
+          ∙ sym (settled-more rest b fresh at under_way)
+          ∙ sym (ap (λ n. settled n b fresh at) count)
+          ∙ c.loop.invariant.rest;
+    }
