@@ -3,3 +3,5 @@ pub mod Rows
 pub mod Tables
 pub mod Naming
 pub mod Values
+pub mod Lookups
+pub mod SourceLaws

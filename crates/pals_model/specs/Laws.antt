@@ -1,4 +1,5 @@
 -- Laws of the composition, at every design and environment.
+pub mod Sources
 use Rattle.std.specs.Prelude.{◌≡◌, ◌≢◌, ℕ, suc, ◌<◌, [], length, flat_map, All, Some, slice_get, slice_index_or}
 use Rattle.pals_base.specs.declared.values.Port.TheVariants.{Absent}
 use Rattle.pals_base.specs.Fire.{initial}

@@ -3,6 +3,10 @@
 ghost use Rattle.pals_model.specs.Laws.{OneFrameEach, OneMessageEach, StateBegins, LinksBeginAbsent, StateGoesOn, MessageFromSource, RunsAlone, DependsOnPast};
 ghost use Rattle.pals_model.specs.Counters.{CountersCount};
 
+mod sources;
+
+pub use sources::{sources_bring_readings, sources_of_ports};
+
 /// There is a frame for each component and a message for each link.
 pub fn lengths()
     ensures frames { OneFrameEach }
