@@ -5,3 +5,4 @@ pub mod Naming
 pub mod Values
 pub mod Lookups
 pub mod SourceLaws
+pub mod ShapeLaws
