@@ -6,3 +6,5 @@ pub mod Values
 pub mod Lookups
 pub mod SourceLaws
 pub mod ShapeLaws
+pub mod Words
+pub mod NameLaws

@@ -1,6 +1,7 @@
 -- Laws of the composition, at every design and environment.
 pub mod Sources
 pub mod Shapes
+pub mod Names
 use Rattle.std.specs.Prelude.{◌≡◌, ◌≢◌, ℕ, suc, ◌<◌, [], length, flat_map, All, Some, map, slice_get, slice_index_or}
 use Rattle.pals_base.specs.declared.values.Port.TheVariants.{Absent}
 use Rattle.pals_base.specs.Fire.{initial}

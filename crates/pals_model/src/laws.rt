@@ -3,9 +3,11 @@
 ghost use Rattle.pals_model.specs.Laws.{OneFrameEach, OneMessageEach, StateBegins, LinksBeginAbsent, StateGoesOn, MessageFromSource, PartFromSteps, RunsAlone, DependsOnPast};
 ghost use Rattle.pals_model.specs.Counters.{CountersCount};
 
+mod names;
 mod shapes;
 mod sources;
 
+pub use names::{components_have_paths, in_ports_have_names, links_have_names};
 pub use shapes::{messages_have_rates, parts_have_shapes, rounds_have_shapes, states_have_shapes};
 pub use sources::{sources_bring_readings, sources_of_ports};
 
