@@ -8,3 +8,5 @@ pub mod SourceLaws
 pub mod ShapeLaws
 pub mod Words
 pub mod NameLaws
+pub mod Numbers
+pub mod Copies
