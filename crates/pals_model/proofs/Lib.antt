@@ -10,3 +10,4 @@ pub mod Words
 pub mod NameLaws
 pub mod Numbers
 pub mod Copies
+pub mod RootInputLaws

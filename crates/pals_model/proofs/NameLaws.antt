@@ -1,8 +1,7 @@
 -- Why the laws of names hold.
-use Rattle.std.proofs.Common.{◌≡◌, ◌≢◌, append_assoc, ℕ, zero, suc, ◌<◌, true, false, List, [], ◌∷◌, ◌++◌, length, map, Some, slice_get, IsSomeAnd, AllPairs, refl, sym, ap, ap₂, ◌∙◌, subst, arith, inl, inr, ne_of_lt}
+use Rattle.std.proofs.Common.{◌≡◌, ◌≢◌, append_assoc, ℕ, zero, suc, ◌<◌, true, List, [], ◌∷◌, ◌++◌, length, map, Some, slice_get, IsSomeAnd, AllPairs, refl, sym, ap, ap₂, ◌∙◌, subst, arith, inl, inr, ne_of_lt}
 use Rattle.std.specs.Prelude.{bytes_eq, codes}
 use Rattle.std.specs.Option.{option_map}
-use Rattle.std.proofs.lemmas.Bool.{false_from_ne_true}
 use Rattle.std.proofs.lemmas.Bool.{cases_lt}
 use Rattle.std.proofs.lemmas.Slice.Eq.{bytes_eq-Decides}
 use Rattle.std.proofs.lemmas.Option.{slice_get_cases, slice_get-map}
@@ -20,13 +19,7 @@ use Rattle.pals_model.specs.Rules.{IsDesign, IsTarget, IsLink, LinkPrecedes, pla
 use Rattle.pals_model.specs.Laws.Names.{NodeIsFound, FoundNodeHasPath, TargetNamesDiffer, LinkIsFound, FoundLinkHasName}
 use Rattle.pals_model.proofs.Lookups.{pair_at, at_element, first_at, found_at}
 use Rattle.pals_model.proofs.ShapeLaws.{component_at, is_behaviour}
-use Rattle.pals_model.proofs.Words.{IsWithout, all_pass, word_without, splits_at_last}
-
-same_bytes : (xs : List ℕ) → bytes_eq xs xs ≡ true
-same_bytes xs = (bytes_eq-Decides xs xs).1 refl
-
-other_bytes : (xs ys : List ℕ) → xs ≢ ys → bytes_eq xs ys ≡ false
-other_bytes xs ys apart = false_from_ne_true (bytes_eq xs ys) (λ same. apart ((bytes_eq-Decides xs ys).0 same))
+use Rattle.pals_model.proofs.Words.{IsWithout, all_pass, word_without, same_bytes, other_bytes, splits_at_last}
 
 -- elements of one name are one, where names differ
 same_place : {X : Type 0} (name : X → List ℕ) (xs : List X) (i j : ℕ) (x y : X) → AllPairs (λ a b. name a ≢ name b) xs → slice_get xs i ≡ Some x → slice_get xs j ≡ Some y → name x ≡ name y → i ≡ j

@@ -1,12 +1,22 @@
 -- The bytes of words and paths.
 use Rattle.std.proofs.Common.{◌≡◌, ◌≢◌, ℕ, Bool, true, false, ◌&&◌, nat_le, List, [], ◌∷◌, ◌++◌, length, All, refl, sym, ap, ◌∙◌, subst}
+use Rattle.std.specs.Prelude.{bytes_eq}
+use Rattle.std.proofs.lemmas.Slice.Eq.{bytes_eq-Decides}
 use Rattle.std.specs.List.{list_all, slice_split, join_with_byte}
-use Rattle.std.proofs.lemmas.Bool.{and_parts, true≢false}
+use Rattle.std.proofs.lemmas.Bool.{and_parts, false_from_ne_true, true≢false}
 use Rattle.std.proofs.lemmas.List.Elements.{All-nil, All-cons, All-append, All-head, All-tail, All-weaker}
 use Rattle.std.proofs.lemmas.List.Splits.{join_with_byte-slice_split}
 use Rattle.pals_base.specs.declared.limits.TheConstants.{NAME_BYTES}
 use Rattle.pals_base.specs.Names.{is_word, is_word_byte, is_led_by_letter, is_dot, is_path}
 
+-- ---- equality
+pub same_bytes : (xs : List ℕ) → bytes_eq xs xs ≡ true
+same_bytes xs = (bytes_eq-Decides xs xs).1 refl
+
+pub other_bytes : (xs ys : List ℕ) → xs ≢ ys → bytes_eq xs ys ≡ false
+other_bytes xs ys apart = false_from_ne_true (bytes_eq xs ys) (λ same. apart ((bytes_eq-Decides xs ys).0 same))
+
+-- ---- bytes
 -- no byte of the text is this one
 abbrev pub IsWithout : ℕ → List ℕ → Type 0
 IsWithout byte text = All (λ b. b ≢ byte) text

@@ -1,5 +1,6 @@
 -- Laws of the composition, at every design and environment.
 pub mod Sources
+pub mod RootInputs
 pub mod Shapes
 pub mod Names
 use Rattle.std.specs.Prelude.{◌≡◌, ◌≢◌, ℕ, suc, ◌<◌, [], length, flat_map, All, Some, map, slice_get, slice_index_or}

@@ -4,10 +4,12 @@ ghost use Rattle.pals_model.specs.Laws.{OneFrameEach, OneMessageEach, StateBegin
 ghost use Rattle.pals_model.specs.Counters.{CountersCount};
 
 mod names;
+mod root_inputs;
 mod shapes;
 mod sources;
 
 pub use names::{components_have_paths, in_ports_have_names, links_have_names};
+pub use root_inputs::{feeds_have_roots, root_inputs_are_feeds};
 pub use shapes::{messages_have_rates, parts_have_shapes, rounds_have_shapes, states_have_shapes};
 pub use sources::{sources_bring_readings, sources_of_ports};
 
