@@ -14,17 +14,18 @@ use Rattle.std.proofs.lemmas.Grind.{flat_map-append}
 use Rattle.pals_base.specs.declared.values.Port.{Port}
 use Rattle.pals_base.specs.declared.values.Port.TheVariants.{Absent}
 use Rattle.pals_base.specs.declared.values.Frame.{Frame}
-use Rattle.pals_base.specs.declared.behaviour.BehaviourParts.{BehaviourParts}
-use Rattle.pals_base.specs.Fire.{initial, fire}
+use Rattle.pals_base.specs.Fire.{initial}
 use Rattle.pals_base.specs.Steps.{steps, Stepped, cut, columns, frame_after, upwards}
 use Rattle.pals_base.specs.Bound.{sent_steps}
 use Rattle.pals_model.specs.declared.design.Component.{Component}
 use Rattle.pals_model.specs.declared.design.Link.{Link}
+use Rattle.pals_model.specs.declared.design.Tap.{Tap}
+use Rattle.pals_model.specs.declared.rounds.Part.{Part}
 use Rattle.pals_model.specs.declared.design.DesignParts.{DesignParts}
 use Rattle.pals_model.specs.declared.rounds.Env.{Env}
 use Rattle.pals_model.specs.Inputs.{rate_of, rate_in, values_at, feed, inputs_of, inputs_in, source_of, from_link, from_feed, link_goes_to, feed_goes_to, reading}
-use Rattle.pals_model.specs.Composition.{comp, next, state, msg, no_frame, steps_from, steps_of_round, message_of, tuple_in}
-use Rattle.pals_model.specs.Laws.{own_steps, OneFrameEach, OneMessageEach, StateBegins, LinksBeginAbsent, StateGoesOn, MessageFromSource, RunsAlone, DependsOnPast}
+use Rattle.pals_model.specs.Composition.{comp, next, state, msg, no_frame, steps_from, steps_of_round, message_of, tuple_in, part, taps_of}
+use Rattle.pals_model.specs.Laws.{own_steps, OneFrameEach, OneMessageEach, StateBegins, LinksBeginAbsent, StateGoesOn, MessageFromSource, PartFromSteps, RunsAlone, DependsOnPast}
 
 -- ---- lengths
 length-steps_from : (design : DesignParts) (values : List Port) (messages : List (List Port)) (node : ℕ) (cs : List Component) (frames : List Frame) → length frames ≡ length cs → length (steps_from design values messages node cs frames) ≡ length cs
@@ -69,7 +70,7 @@ steps_from-at design values messages first (d ∷ cs) (frame ∷ frames) zero no
 steps_from-at design values messages first (d ∷ cs) (frame ∷ frames) (suc k) node c at is_c same =
     steps_from-at design values messages (suc first) cs frames k node c (omega arith) is_c (omega arith)
 
-steps_of_round-at : (design : DesignParts) (env : Env) (node round : ℕ) (c : Component) → slice_get design.components node ≡ Some c → slice_get (steps_of_round design env round) node ≡ Some (own_steps design env node round c)
+pub steps_of_round-at : (design : DesignParts) (env : Env) (node round : ℕ) (c : Component) → slice_get design.components node ≡ Some c → slice_get (steps_of_round design env round) node ≡ Some (own_steps design env node round c)
 unfolding state feed
 steps_of_round-at design env node round c is_c =
     steps_from-at design (values_at env round) (comp design env round).messages 0 design.components (comp design env round).frames node node c (omega arith) is_c (one_frame_each design env round)
@@ -88,6 +89,13 @@ message_from_source design env number round link c is_link is_c =
     (slice_get-map (message_of design (steps_of_round design env round)) design.links number ∙ ap (option_map (message_of design (steps_of_round design env round))) is_link)
     ∙ ap (λ o. cut (sent_steps design.gamma design.period (rate_in o)) (tuple_in (slice_get (steps_of_round design env round) link.source.0) link.out_port)) is_c
     ∙ ap (λ o. cut (sent_steps design.gamma design.period c.rate) (tuple_in o link.out_port)) (steps_of_round-at design env link.source.0 round c is_c)
+
+pub part_from_steps : PartFromSteps
+unfolding part state comp feed
+part_from_steps design env node round c is_c =
+    ap₂ (λ (frame : Frame) (outs : List (List Port)). let p : Part = record { frame = frame; outs = outs } in p)
+    (state_goes_on design env node round c is_c)
+    (ap (λ o. map (λ (tap : Tap). tuple_in o tap.out_port) (taps_of design node)) (steps_of_round-at design env node round c is_c))
 
 -- ---- the past
 pub depends_on_past : DependsOnPast

@@ -1,6 +1,6 @@
 -- The table of sources, one in port at a time.
-use Rattle.std.proofs.Common.{◌≡◌, ◌≢◌, ℕ, zero, suc, ◌+◌, ◌-◌, ◌<◌, ◌≤◌, Bool, true, false, ◌&&◌, nat_eq, cond, List, [], ◌∷◌, ◌++◌, length, map, drop, replicate, Some, None, refl, sym, ap, ap₂, ◌∙◌, subst, arith, add-zero, add-one, zero-add, append_assoc, append-nil}
-use Rattle.std.specs.Prelude.{Option, slice_set, slice_index_or, position, bytes_eq}
+use Rattle.std.proofs.Common.{◌≡◌, ◌≢◌, ℕ, zero, suc, ◌+◌, ◌-◌, ◌<◌, ◌≤◌, Bool, true, false, ◌&&◌, nat_eq, cond, List, [], ◌∷◌, ◌++◌, length, map, drop, replicate, Some, refl, sym, ap, ap₂, ◌∙◌, arith, zero-add, append_assoc}
+use Rattle.std.specs.Prelude.{Option, slice_set, slice_index_or}
 use Rattle.std.specs.List.{enumerate_from, position_from}
 use Rattle.std.proofs.lemmas.Bool.{ne_eqb, eq-eqb}
 use Rattle.std.proofs.lemmas.List.{drop_more}
@@ -12,7 +12,7 @@ use Rattle.pals_model.specs.declared.design.Feed.{Feed}
 use Rattle.pals_model.specs.declared.design.DesignParts.{DesignParts}
 use Rattle.pals_model.specs.declared.sources.PortSource.{PortSource}
 use Rattle.pals_model.specs.declared.sources.PortSource.TheVariants as source
-use Rattle.pals_model.specs.Inputs.{from_feed, from_link, link_goes_to, feed_goes_to, feed_names, place_of, root_inputs, root_of, source_of, all_sources}
+use Rattle.pals_model.specs.Inputs.{from_feed, from_link, link_goes_to, feed_goes_to, place_of, root_inputs, root_of, all_sources}
 use Rattle.pals_model.specs.SourceTables.{table_of, nothing, fed_from, linked_from, with_source}
 
 -- another source for one in port

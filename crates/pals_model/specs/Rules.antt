@@ -1,5 +1,5 @@
 -- What each design keeps.
-use Rattle.std.specs.Prelude.{◌≡◌, ◌≢◌, ℕ, ◌+◌, ◌*◌, ◌%◌, ◌<◌, ◌≤◌, max, List, length, fold, All, AllPairs, IsTrue, Option, Some, None, slice_get}
+use Rattle.std.specs.Prelude.{◌≡◌, ◌≢◌, ℕ, ◌+◌, ◌*◌, ◌%◌, ◌<◌, ◌≤◌, max, List, length, fold, All, AllPairs, IsTrue, slice_get}
 use Rattle.pals_base.specs.declared.values.Gamma.{Gamma}
 use Rattle.pals_base.specs.declared.behaviour.Kind.{Kind}
 use Rattle.pals_base.specs.declared.behaviour.BehaviourParts.{BehaviourParts}

@@ -2,9 +2,11 @@
 //! synchronous composition that a design means; and the text of its rounds.
 #![tactic(auto)]
 
+mod copy;
 pub mod design;
 pub mod flight;
 pub mod laws;
+pub mod links;
 pub mod parts;
 pub mod rounds;
 mod rules;

@@ -34,6 +34,22 @@ pub struct Part {
     pub outs: Items<Tuple>,
 }
 
+impl Part {
+    /// Writes over all of the part with the contents of another. Their frames have as many variables
+    /// and held inputs, and they have as many tuples, of the same lengths. It takes no memory.
+    pub fn copy_from(&mut self, other: &Part)
+        requires vars { length self.old.frame.vars ≡ length other.now.frame.vars }
+        requires held { length self.old.frame.held ≡ length other.now.frame.held }
+        requires outs { map (λ tuple. length tuple) self.old.outs ≡ map (λ tuple. length tuple) other.now.outs }
+        ensures { self.new ≡ other.now }
+    {
+        self.frame.copy_from(&other.frame);
+        for at in 0..other.outs.len() {
+            self.outs[at].copy_from_slice(other.outs[at].as_slice());
+        }
+    }
+}
+
 /// How long the messages of each link take, in nanoseconds: a list of one or more delays per link.
 /// The message of round m takes element m, and those of later rounds take the last.
 #[derive(Drop)]

@@ -1,4 +1,4 @@
-use Rattle.std.proofs.Common.{◌≡◌, ◌+◌, ◌∷◌, drop, replicate, length, arith, ◌∙◌}
+use Rattle.std.proofs.Common.{◌≡◌, ◌+◌, ◌∷◌, drop, replicate, length, arith}
 use Rattle.std.proofs.lemmas.Grind.{common_steps}
 use Rattle.pals_model.specs.declared.sources.PortSource.TheVariants.{Nothing}
 use Rattle.pals_model.proofs.Tables.{empty_step}

@@ -1,4 +1,4 @@
-use Rattle.std.proofs.Common.{◌≡◌, ◌++◌, map, drop, length}
+use Rattle.std.proofs.Common.{◌≡◌, ◌++◌, map, drop}
 use Rattle.std.specs.List.{enumerate_from}
 use Rattle.pals_model.specs.SourceTables.{table_of, nothing}
 use Rattle.pals_model.proofs.Tables.{row}

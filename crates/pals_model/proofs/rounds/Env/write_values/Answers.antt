@@ -1,4 +1,4 @@
-use Rattle.std.proofs.Common.{◌≡◌, length, sym, ◌∙◌, arith}
+use Rattle.std.proofs.Common.{sym, ◌∙◌, arith}
 use Rattle.std.proofs.lemmas.List.{length-map, same_lists}
 use Rattle.pals_model.specs.Inputs.{values_at}
 use Rattle.pals_model.proofs.Values.{value_here, values_more}
