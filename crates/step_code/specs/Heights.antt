@@ -1,5 +1,5 @@
 -- The heights of the stack that paths give.
-use Rattle.std.specs.Prelude.{◌≡◌, ◌⊎◌, ℕ, zero, suc, ◌+◌, ◌-◌, ◌<◌, ◌≤◌, List, [], ◌∷◌, Option, Some, slice_get}
+use Rattle.std.specs.Prelude.{◌≡◌, ◌⊎◌, ℕ, zero, suc, ◌+◌, ◌-◌, ◌<◌, ◌≤◌, List, [], ◌∷◌, ◌++◌, Option, Some, None, option_to_list, slice_get}
 use Rattle.step_code.specs.declared.instr.Instr.{Instr}
 use Rattle.step_code.specs.declared.instr.Instr.TheVariants.{Push, Load, Store, Port, Fresh, Neg, Abs, Not, Jump, JumpZero, LoopStart, LoopNext, Emit, End}
 use Rattle.step_code.specs.Paths.{onward}
@@ -21,6 +21,17 @@ takes (LoopNext slot high to) = 0
 takes (Emit x) = 1
 takes (End state) = 0
 takes binary = 2
+
+-- the slot or the port that it names is there
+abbrev pub Fed : ℕ → ℕ → ℕ → Instr → Type 0
+Fed slots ins outs (Load x) = x < slots
+Fed slots ins outs (Store x) = x < slots
+Fed slots ins outs (Port x) = x < ins
+Fed slots ins outs (Fresh x) = x < ins
+Fed slots ins outs (Emit x) = x < outs
+Fed slots ins outs (LoopStart slot low high exit) = slot < slots
+Fed slots ins outs (LoopNext slot high to) = slot < slots
+Fed slots ins outs other = Unit {0}
 
 -- how many numbers it pushes
 abbrev pub gives : Instr → ℕ
@@ -58,7 +69,11 @@ pub record Given (code : List Instr) (entries : List (Option ℕ)) (below p h : 
   pub path : Reaches code entries steps p h
   pub from : ComesFromBelow code entries below steps p h path
 
--- all places to which an instruction leads, a LoopNext's way back too
+-- a LoopNext's way back
+abbrev pub back_of : Instr → Option ℕ
+back_of (LoopNext slot high to) = Some to
+back_of other = None
+
+-- all places to which an instruction leads
 abbrev pub ways : ℕ → Instr → List ℕ
-ways p (LoopNext slot high to) = to ∷ (p + 1) ∷ []
-ways p i = onward p (Some i)
+ways p i = option_to_list (back_of i) ++ onward p (Some i)

@@ -1,7 +1,9 @@
 pub mod Step
 pub mod Loops
+pub mod Innermost
 pub mod Paths
 pub mod Exec
 pub mod Heights
 pub mod Rules
+pub mod Checks
 pub mod Means

@@ -4,14 +4,7 @@ use Rattle.pals_base.specs.Actions.{count_of}
 use Rattle.pals_base.specs.Expressions.{same_number}
 use Rattle.step_code.specs.declared.instr.Instr.{Instr}
 use Rattle.step_code.specs.declared.instr.Instr.TheVariants.{LoopStart, LoopNext}
-
--- a loop: the place of its LoopStart, its exit, its slot, and its ends; its body is the places between start and exit
-pub record Loop : Type 0 where
-  pub start : ℕ
-  pub exit : ℕ
-  pub slot : ℕ
-  pub low : ℤ
-  pub high : ℤ
+use Rattle.step_code.specs.declared.loops.Loop.{Loop}
 
 abbrev pub turns_of : Loop → ℕ
 turns_of l = count_of (l.high -ℤ l.low)

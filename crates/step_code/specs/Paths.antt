@@ -1,17 +1,30 @@
 -- The ways that instructions leave, and the weights of paths.
-use Rattle.std.specs.Prelude.{ℕ, zero, suc, ◌+◌, ◌*◌, max, List, [], ◌∷◌, length, map, sum, Option, Some, None, slice_get, Contains}
+use Rattle.std.specs.Prelude.{ℕ, zero, suc, ◌+◌, ◌*◌, max, Bool, true, false, if◌then◌else◌, List, [], ◌∷◌, ◌++◌, length, map, Option, Some, None, option_to_list, slice_get}
 use Rattle.step_code.specs.declared.instr.Instr.{Instr}
-use Rattle.step_code.specs.declared.instr.Instr.TheVariants.{Jump, JumpZero, LoopStart, LoopNext, End}
+use Rattle.step_code.specs.declared.instr.Instr.TheVariants.{Jump, JumpZero, LoopStart, End}
 use Rattle.step_code.specs.Loops.{turns_of, around}
+
+-- the place to which an instruction jumps
+abbrev pub jump_of : Instr → Option ℕ
+jump_of (Jump to) = Some to
+jump_of (JumpZero to) = Some to
+jump_of (LoopStart slot low high exit) = Some exit
+jump_of other = None
+
+-- whether the next place may follow
+abbrev pub may_go_on : Instr → Bool
+may_go_on (Jump to) = false
+may_go_on (End state) = false
+may_go_on other = true
+
+-- the next place, where it may follow
+abbrev pub next_of : ℕ → Instr → Option ℕ
+next_of place i = if may_go_on i then Some (place + 1) else None
 
 -- the places to which an instruction leads, but for LoopNext's way back
 abbrev pub onward : ℕ → Option Instr → List ℕ
 onward place None = []
-onward place (Some (Jump to)) = to ∷ []
-onward place (Some (JumpZero to)) = to ∷ (place + 1) ∷ []
-onward place (Some (LoopStart slot low high exit)) = exit ∷ (place + 1) ∷ []
-onward place (Some (End state)) = []
-onward place (Some other) = (place + 1) ∷ []
+onward place (Some i) = option_to_list (jump_of i) ++ option_to_list (next_of place i)
 
 abbrev pub leads : List Instr → ℕ → List ℕ
 leads code place = onward place (slice_get code place)

@@ -7,7 +7,9 @@ use Rattle.step_code.specs.declared.instr.CodeParts.{CodeParts}
 use Rattle.step_code.specs.declared.fault.CodeFault.{CodeFault}
 use Rattle.step_code.specs.declared.fault.CodeFault.TheVariants as fault
 use Rattle.step_code.specs.declared.code.TheConstants.{MOST_INSTRS}
-use Rattle.step_code.specs.Loops.{Loop, loop_at, loops_below, around}
+use Rattle.step_code.specs.declared.loops.Loop.{Loop}
+use Rattle.step_code.specs.Loops.{loop_at, loops_below, around}
+use Rattle.step_code.specs.Paths.{jump_of, next_of}
 use Rattle.step_code.specs.Exec.{has_entry}
 use Rattle.step_code.specs.Heights.{takes, after, Member, Reaches, Given, ways}
 
@@ -28,25 +30,16 @@ agrees p q l = if inside p l then inside q l else not (inside q l)
 abbrev pub stays : List Instr → ℕ → ℕ → Bool
 stays code p q = list_all (agrees p q) (loops_below code (length code))
 
--- the place to which an instruction jumps
-abbrev pub jump_of : Instr → Option ℕ
-jump_of (Jump to) = Some to
-jump_of (JumpZero to) = Some to
-jump_of (LoopStart slot low high exit) = Some exit
-jump_of other = None
-
--- whether the next place may follow
-abbrev pub may_go_on : Instr → Bool
-may_go_on (Jump to) = false
-may_go_on (End state) = false
-may_go_on other = true
-
 -- a jump to no place, or into or out of a body
 abbrev pub strays : List Instr → ℕ → ℕ → Bool
 strays code p to = not (nat_lt to (length code) && stays code p to)
 
+-- an instruction that may go on, and none behind it
+abbrev pub lacks_next : List Instr → ℕ → Instr → Bool
+lacks_next code p i = on_some (next_of p i) (λ next. not (nat_lt next (length code)))
+
 abbrev pub jumps_badly : List Instr → ℕ → Instr → Bool
-jumps_badly code p i = on_some (jump_of i) (strays code p) || (may_go_on i && not (nat_lt (p + 1) (length code)))
+jumps_badly code p i = on_some (jump_of i) (strays code p) || lacks_next code p i
 
 abbrev pub is_none : {A : Type 0} → List A → Bool
 is_none [] = true
@@ -58,6 +51,9 @@ enters_badly code e = not (nat_lt e (length code) && is_none (around code e))
 
 abbrev pub is_entry : List (Option ℕ) → ℕ → Bool
 is_entry entries p = list_any (λ entry. on_some entry (nat_eq p)) entries
+
+abbrev pub is_bad_entry : List Instr → List (Option ℕ) → ℕ → Bool
+is_bad_entry code entries p = is_entry entries p && enters_badly code p
 
 -- ---- loops
 -- whether a loop ends at a place, by a way back to `to`
@@ -75,9 +71,13 @@ abbrev pub jumps_back : List Instr → ℕ → Instr → Bool
 jumps_back code p i = on_some (jump_of i) (λ to. not (nat_lt p to)) || lacks_loop code p i
 
 -- ---- slots, ports and states
--- a slot that is none of the loops' slots
+-- no loop may have the slot
 abbrev pub is_no_loop_slot : CodeParts → ℕ → Bool
 is_no_loop_slot c slot = nat_lt slot c.vars || not (nat_lt slot (c.vars + c.loops))
+
+-- nor where a loop round the place has it
+abbrev pub misses_loop_slot : CodeParts → ℕ → ℕ → Bool
+misses_loop_slot c p slot = is_no_loop_slot c slot || list_any (λ l. nat_eq l.slot slot) (around c.instrs p)
 
 abbrev pub misses_slot : CodeParts → ℕ → Instr → Bool
 misses_slot c p (Load slot) = not (nat_lt slot (c.vars + c.loops))
@@ -85,7 +85,7 @@ misses_slot c p (Store slot) = not (nat_lt slot c.vars)
 misses_slot c p (Port port) = not (nat_lt port c.ins)
 misses_slot c p (Fresh port) = not (nat_lt port c.ins)
 misses_slot c p (Emit port) = not (nat_lt port c.outs)
-misses_slot c p (LoopStart slot low high exit) = is_no_loop_slot c slot || list_any (λ l. nat_eq l.slot slot) (around c.instrs p)
+misses_slot c p (LoopStart slot low high exit) = misses_loop_slot c p slot
 misses_slot c p (LoopNext slot high to) = is_no_loop_slot c slot
 misses_slot c p (End state) = not (has_entry (slice_get c.entries state))
 misses_slot c p other = false
@@ -110,6 +110,7 @@ pub record Differs (c : CodeParts) (p : ℕ) : Type 0 where
   pub enough : takes instr ≤ height
   pub to : ℕ
   pub leads : Member (ways p instr) to
+  pub place : to < length c.instrs
   pub other : ℕ
   pub given : Given c.instrs c.entries p to other
   pub differs : other ≢ after height instr
@@ -136,17 +137,21 @@ finds c test p = on_some (slice_get c.instrs p) test
 
 -- what a rule finds at a place
 abbrev pub Finds : CodeParts → Rule → ℕ → Type 0
-Finds c BadJump p = IsTrue ((is_entry c.entries p && enters_badly c.instrs p) || finds c (jumps_badly c.instrs p) p)
+Finds c BadJump p = IsTrue (is_bad_entry c.instrs c.entries p || finds c (jumps_badly c.instrs p) p)
 Finds c BackJump p = IsTrue (finds c (jumps_back c.instrs p) p)
 Finds c BadSlot p = IsTrue (finds c (misses_slot c p) p)
 Finds c Underflow p = Underflows c p
 Finds c HeightsDiffer p = Differs c p
 
+-- no rule finds anything below a place
+pub record IsCleanBelow (c : CodeParts) (p : ℕ) : Type 0 where
+  pub none : (q : ℕ) (r : Rule) → q < p → ¬ Finds c r q
+
 -- no rule finds anything at earlier places, nor an earlier rule at this one
 pub record IsFirst (c : CodeParts) (rule : Rule) (p : ℕ) : Type 0 where
   pub short : length c.instrs ≤ MOST_INSTRS
   pub here : Finds c rule p
-  pub earlier_places : (q : ℕ) (r : Rule) → q < p → ¬ Finds c r q
+  pub earlier_places : IsCleanBelow c p
   pub earlier_rules : (r : Rule) → rank r < rank rule → ¬ Finds c r p
 
 -- the fault is the first one of these parts

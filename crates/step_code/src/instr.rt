@@ -1,4 +1,6 @@
 //! The instructions of step code.
+ghost use Rattle.std.specs.Prelude.{◌≡◌, slice_get};
+
 use pals_base::Items;
 
 /// One instruction. Operands lie on a stack. Places, slots, ports and states are numbers from 0.
@@ -55,6 +57,83 @@ pub enum Instr {
     End(u32),
 }
 
+impl Instr {
+    ghost use Rattle.std.specs.Prelude.{◌≡◌, ◌<◌, ◌^◌};
+    ghost use Rattle.step_code.specs.Paths.{jump_of, next_of};
+    ghost use Rattle.step_code.specs.Heights.{takes, gives, back_of};
+
+    /// The place to which it jumps.
+    pub fn jump(self) -> Option<usize>
+        ensures { result ≡ jump_of self }
+    {
+        match self {
+            Instr::Jump(to) | Instr::JumpZero(to) => Some(to as usize),
+            Instr::LoopStart { exit, .. } => Some(exit as usize),
+            _ => None,
+        }
+    }
+
+    /// The next place, where it may follow.
+    pub fn next(self, place: usize) -> Option<usize>
+        requires { place < 2 ^ 63 }
+        ensures { result ≡ next_of place self }
+    {
+        match self {
+            Instr::Jump(_) | Instr::End(_) => None,
+            _ => Some(place + 1),
+        }
+    }
+
+    /// The place to which a LoopNext leads back.
+    pub fn back(self) -> Option<usize>
+        ensures { result ≡ back_of self }
+    {
+        match self {
+            Instr::LoopNext { to, .. } => Some(to as usize),
+            _ => None,
+        }
+    }
+
+    /// How many operands it takes.
+    pub fn takes(self) -> usize
+        ensures { result ≡ takes self }
+    {
+        match self {
+            Instr::Push(_)
+            | Instr::Load(_)
+            | Instr::Port(_)
+            | Instr::Fresh(_)
+            | Instr::Jump(_)
+            | Instr::LoopStart { .. }
+            | Instr::LoopNext { .. }
+            | Instr::End(_) => 0,
+            Instr::Store(_)
+            | Instr::Neg
+            | Instr::Abs
+            | Instr::Not
+            | Instr::JumpZero(_)
+            | Instr::Emit(_) => 1,
+            _ => 2,
+        }
+    }
+
+    /// How many numbers it pushes.
+    pub fn gives(self) -> usize
+        ensures { result ≡ gives self }
+    {
+        match self {
+            Instr::Store(_)
+            | Instr::Jump(_)
+            | Instr::JumpZero(_)
+            | Instr::LoopStart { .. }
+            | Instr::LoopNext { .. }
+            | Instr::Emit(_)
+            | Instr::End(_) => 0,
+            _ => 1,
+        }
+    }
+}
+
 /// Instructions, the place at which the step of each complete state begins, and the numbers of
 /// variables, of slots for loops, of in ports and of out ports. The slots of the loops stand
 /// behind those of the variables.
@@ -66,4 +145,11 @@ pub struct CodeParts {
     pub loops: u32,
     pub ins: u32,
     pub outs: u32,
+}
+
+/// The instruction at a place, or none past the end.
+pub fn instr_at(instrs: &[Instr], place: usize) -> Option<Instr>
+    ensures { result ≡ slice_get instrs.now place }
+{
+    instrs.get(place).copied()
 }

@@ -5,7 +5,16 @@
 pub mod code;
 pub mod fault;
 pub mod instr;
+mod heights;
 pub mod laws;
+mod loops;
+mod rules;
+#[cfg(test)]
+mod tests;
+mod verifier;
+mod weights;
 
+pub use code::{Code, most};
 pub use fault::CodeFault;
 pub use instr::{CodeParts, Instr};
+pub use verifier::verify;

@@ -1,0 +1,12 @@
+pub mod Nested
+pub mod Clean
+pub mod Nesting
+pub mod Innermost
+pub mod Bound
+pub mod Steady
+pub mod Level
+pub mod Longer
+pub mod Crossing
+pub mod Refusals
+pub mod Passing
+pub mod Entering
