@@ -10,3 +10,6 @@ pub mod Crossing
 pub mod Refusals
 pub mod Passing
 pub mod Entering
+pub mod Placing
+pub mod Least
+pub mod Looking

@@ -23,7 +23,7 @@ pub member_either : {A : Type 0} (xs ys : List A) (x : A) → Member (xs ++ ys) 
 member_either [] ys x among = inr among
 member_either (z ∷ xs) ys x among = ⊎_elim (λ e. inl (inl e)) (λ later. ⊎_elim (λ a. inl (inr a)) (λ b. inr b) (member_either xs ys x later)) among
 
-same_or_not : (p q : ℕ) → (p ≡ q) ⊎ (p ≡ q → ⊥)
+pub same_or_not : (p q : ℕ) → (p ≡ q) ⊎ (p ≡ q → ⊥)
 same_or_not p q = ⊎_elim (λ (less : p < q). inr (λ e. omega arith)) (λ (ge : q ≤ p). ⊎_elim (λ (less : q < p). inr (λ e. omega arith)) (λ (le : p ≤ q). inl (omega arith)) (cases_lt q p)) (cases_lt p q)
 
 pub member_or_not : (ps : List ℕ) (p : ℕ) → Member ps p ⊎ (Member ps p → ⊥)

@@ -1,15 +1,20 @@
 -- What the parts of the verifier say.
-use Rattle.std.specs.Prelude.{◌≡◌, ◌≢◌, ◌↔◌, ℕ, ◌<◌, ◌≤◌, Bool, true, false, List, length, Option, Some, None, Result, Ok, Err, slice_get, slice_set}
+use Rattle.std.specs.Prelude.{◌≡◌, ◌≢◌, ◌↔◌, ℕ, ◌<◌, ◌≤◌, nat_eq, Bool, true, false, ◌&&◌, ◌||◌, List, length, Option, Some, None, Result, Ok, Err, slice_get, slice_set}
 use Rattle.step_code.specs.declared.instr.Instr.{Instr}
 use Rattle.step_code.specs.declared.fault.CodeFault.{CodeFault}
 use Rattle.step_code.specs.declared.fault.CodeFault.TheVariants as fault
 use Rattle.step_code.specs.Paths.{onward}
 use Rattle.step_code.specs.Heights.{takes, after, Member, Given, ways}
+use Rattle.step_code.specs.Rules.{enters_badly}
 
 -- the least number at which a test holds
 abbrev pub IsLeast : (ℕ → Bool) → Option ℕ → Type 0
 IsLeast test None = (q : ℕ) → test q ≡ false
 IsLeast test (Some e) = (test e ≡ true) × ((q : ℕ) → q < e → test q ≡ false)
+
+-- a test that holds of one more number where it is bad
+abbrev pub or_bad : List Instr → (ℕ → Bool) → ℕ → ℕ → Bool
+or_bad code test entry q = test q || (nat_eq q entry && enters_badly code q)
 
 -- ---- heights
 abbrev pub Holds : List (Option ℕ) → ℕ → ℕ → Type 0

@@ -58,7 +58,7 @@ pub enum Instr {
 }
 
 impl Instr {
-    ghost use Rattle.std.specs.Prelude.{◌≡◌, ◌<◌, ◌^◌};
+    ghost use Rattle.std.specs.Prelude.{◌≡◌, ◌<◌, ◌^◌, ◌-◌};
     ghost use Rattle.step_code.specs.Paths.{jump_of, next_of};
     ghost use Rattle.step_code.specs.Heights.{takes, gives, back_of};
 
@@ -75,7 +75,7 @@ impl Instr {
 
     /// The next place, where it may follow.
     pub fn next(self, place: usize) -> Option<usize>
-        requires { place < 2 ^ 63 }
+        requires { place < 2 ^ 64 - 1 }
         ensures { result ≡ next_of place self }
     {
         match self {

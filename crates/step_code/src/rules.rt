@@ -32,9 +32,10 @@ fn lacks_next(parts: &CodeParts, place: usize, instr: Instr) -> bool
     requires { place < length parts.now.instrs }
     ensures { result ≡ lacks_next parts.now.instrs place instr }
 {
+    let length = parts.instrs.len();
     match instr.next(place) {
         None => false,
-        Some(next) => next >= parts.instrs.len(),
+        Some(next) => next >= length,
     }
 }
 
