@@ -13,3 +13,5 @@ pub mod Entering
 pub mod Placing
 pub mod Least
 pub mod Looking
+pub mod Verified
+pub mod Weighing

@@ -6,4 +6,5 @@ pub mod Exec
 pub mod Heights
 pub mod Rules
 pub mod Checks
+pub mod Capped
 pub mod Means
