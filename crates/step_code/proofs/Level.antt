@@ -184,22 +184,3 @@ module _ (code : List Instr) (entries : List (Option ℕ)) (s : Senses) (slots# 
   pub stands_on : (p : ℕ) (i : Instr) (stack slots : List ℤ) (outs : List Value) → slice_get code p ≡ Some i → Stands p stack slots outs → Fine Stands (step (Some i) s p stack slots outs)
   stands_on p i stack slots outs is st =
       stands Stands st.steps p i stack slots outs (λ m p stack slots outs within ls lo reached begun. record { within = within; slots_are = ls; outs_are = lo; steps = m; reached = reached; begun = begun }) is st.slots_are st.outs_are st.reached st.begun
-
-  after_little : (h : ℕ) (i : Instr) → after h i ≤ h + 1
-  after_little h (Store x) = omega arith
-  after_little h (Jump to) = omega arith
-  after_little h (JumpZero to) = omega arith
-  after_little h (LoopStart slot low high exit) = omega arith
-  after_little h (LoopNext slot high to) = omega arith
-  after_little h (Emit x) = omega arith
-  after_little h other = omega arith
-
-  -- the stack is no higher than the place
-  pub low_stack : (n p h : ℕ) → Reaches code entries n p h → h ≤ p
-  low_stack zero p h r = let e = r.1 in omega arith
-  low_stack (suc n) p h r =
-      let below = low_stack n r.0 r.1 r.3 in
-      let later = r.7 in
-      let little = after_little r.1 r.2 in
-      let e = r.8 in
-      omega arith

@@ -15,3 +15,5 @@ pub mod Least
 pub mod Looking
 pub mod Verified
 pub mod Weighing
+pub mod Sound
+pub mod Ending

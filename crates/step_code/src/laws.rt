@@ -1,10 +1,15 @@
 //! Laws of the definitions. Each function does nothing: its contract is the law.
-ghost use Rattle.std.specs.Prelude.{◌≡◌, pos, [], ◌∷◌, Some};
+ghost use Rattle.std.specs.Prelude.{◌≡◌, pos, List, [], ◌∷◌, length, Some};
+ghost use Rattle.pals_base.specs.declared.values.Frame.{Frame};
+ghost use Rattle.pals_base.specs.declared.values.Port.{Port};
+ghost use Rattle.pals_base.specs.Fire.{Fired};
+ghost use Rattle.step_code.specs.declared.instr.CodeParts.{CodeParts};
+ghost use Rattle.step_code.specs.Rules.{IsVerified};
 ghost use Rattle.pals_base.specs.declared.values.Port.TheVariants.{Present};
 ghost use Rattle.step_code.specs.declared.instr.Instr.TheVariants as instr;
 ghost use Rattle.step_code.specs.declared.instr.Instr.TheVariants.{Load, Add, Push, Store, Emit, End, JumpZero, LoopStart, LoopNext};
 ghost use Rattle.step_code.specs.Paths.{weight};
-ghost use Rattle.step_code.specs.Exec.{exec, Leaves};
+ghost use Rattle.step_code.specs.Exec.{FitsCode, exec, Leaves};
 
 /// The nine instructions of a counter weigh nine.
 pub fn counter_weighs_nine()
@@ -27,4 +32,10 @@ pub fn loops_weigh()
 pub fn surface_weighs()
     ensures { weight (instr.Jump 1 ∷ instr.Port 0 ∷ Load 0 ∷ instr.Gt ∷ JumpZero 12 ∷ Load 0 ∷ Push (pos 1) ∷ Add ∷ Store 0 ∷ Load 0 ∷ Emit 0 ∷ End 0
         ∷ instr.Port 0 ∷ Load 0 ∷ instr.Lt ∷ JumpZero 23 ∷ Load 0 ∷ Push (pos 1) ∷ instr.Sub ∷ Store 0 ∷ Load 0 ∷ Emit 0 ∷ End 0 ∷ Load 0 ∷ Emit 0 ∷ End 0 ∷ []) (Some 0 ∷ []) ≡ 16 }
+{}
+
+/// A step of verified code is never stuck and never unfinished: it leaves a frame and outputs.
+pub fn verified_code_ends()
+    ensures { (c : CodeParts) (frame : Frame) (inputs : List Port) → IsVerified c → FitsCode c frame → length inputs ≡ c.ins
+        → (f : Fired) × (exec c frame inputs ≡ Leaves f) }
 {}
