@@ -34,7 +34,7 @@ member_at [] k x is = cc
 member_at (y ∷ xs) zero x is = inl (let e : y ≡ x = cc in e)
 member_at (y ∷ xs) (suc k) x is = inr (member_at xs k x is)
 
-entry_within : (code : List Instr) (entries : List (Option ℕ)) (e : ℕ) → Member entries (Some e) → heaviest code (length code) e ≤ weight code entries
+pub entry_within : (code : List Instr) (entries : List (Option ℕ)) (e : ℕ) → Member entries (Some e) → heaviest code (length code) e ≤ weight code entries
 entry_within code [] e among = absurd among
 entry_within code (x ∷ entries) e among =
     ⊎_elim

@@ -17,3 +17,4 @@ pub mod Verified
 pub mod Weighing
 pub mod Sound
 pub mod Ending
+pub mod Heaviest

@@ -4,6 +4,7 @@ pub mod Innermost
 pub mod Paths
 pub mod Exec
 pub mod Heights
+pub mod Walks
 pub mod Rules
 pub mod Checks
 pub mod Capped

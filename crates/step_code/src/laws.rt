@@ -1,10 +1,12 @@
 //! Laws of the definitions. Each function does nothing: its contract is the law.
-ghost use Rattle.std.specs.Prelude.{◌≡◌, pos, List, [], ◌∷◌, length, Some};
+ghost use Rattle.std.specs.Prelude.{◌≡◌, ◌≤◌, ℕ, pos, List, [], ◌∷◌, length, Some};
 ghost use Rattle.pals_base.specs.declared.values.Frame.{Frame};
 ghost use Rattle.pals_base.specs.declared.values.Port.{Port};
 ghost use Rattle.pals_base.specs.Fire.{Fired};
 ghost use Rattle.step_code.specs.declared.instr.CodeParts.{CodeParts};
 ghost use Rattle.step_code.specs.Rules.{IsVerified};
+ghost use Rattle.step_code.specs.Heights.{Member};
+ghost use Rattle.step_code.specs.Walks.{IsPath, path_weight, made};
 ghost use Rattle.pals_base.specs.declared.values.Port.TheVariants.{Present};
 ghost use Rattle.step_code.specs.declared.instr.Instr.TheVariants as instr;
 ghost use Rattle.step_code.specs.declared.instr.Instr.TheVariants.{Load, Add, Push, Store, Emit, End, JumpZero, LoopStart, LoopNext};
@@ -38,4 +40,17 @@ pub fn surface_weighs()
 pub fn verified_code_ends()
     ensures { (c : CodeParts) (frame : Frame) (inputs : List Port) → IsVerified c → FitsCode c frame → length inputs ≡ c.ins
         → (f : Fired) × (exec c frame inputs ≡ Leaves f) }
+{}
+
+/// A step makes at most as many instructions as the code weighs.
+pub fn step_is_within_weight()
+    ensures { (c : CodeParts) (frame : Frame) (inputs : List Port) → made c frame inputs ≤ weight c.instrs c.entries }
+{}
+
+/// No path from an entry of verified code weighs more than the code, and one weighs as much.
+pub fn weight_is_the_greatest()
+    ensures none_more { (c : CodeParts) (entry : ℕ) (rest : List ℕ) → IsVerified c → Member c.entries (Some entry) → IsPath c.instrs entry rest
+        → path_weight c.instrs entry rest ≤ weight c.instrs c.entries }
+    ensures one { (c : CodeParts) (entry : ℕ) → IsVerified c → Member c.entries (Some entry)
+        → (first : ℕ) × (rest : List ℕ) × Member c.entries (Some first) × IsPath c.instrs first rest × (path_weight c.instrs first rest ≡ weight c.instrs c.entries) }
 {}
