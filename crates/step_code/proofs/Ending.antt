@@ -12,7 +12,7 @@ use Rattle.step_code.specs.declared.instr.CodeParts.{CodeParts}
 use Rattle.step_code.specs.Loops.{around}
 use Rattle.step_code.specs.Paths.{greatest, heaviest, entry_weight, weight}
 use Rattle.step_code.specs.Step.{Senses}
-use Rattle.step_code.specs.Exec.{Outcome, Ended, Trapped, Stuck, Unfinished, run, count, silent, senses, slots_of, left, run_from, from_entry, unless_halted, exec, Executed, Leaves, has_entry, FitsCode}
+use Rattle.step_code.specs.Exec.{Outcome, Ended, Trapped, Stuck, Unfinished, run, count, silent, senses, slots_of, left, run_from, from_entry, unless_halted, exec, Executed, Leaves, has_entry, FitsCode, Sized}
 use Rattle.step_code.specs.Heights.{Member, Reaches}
 use Rattle.step_code.specs.Rules.{IsVerified}
 use Rattle.step_code.proofs.Nested.{IsOver}
@@ -29,7 +29,7 @@ length-holding (v ∷ held) [] = refl
 length-holding (v ∷ held) (input ∷ inputs) = ap suc (length-holding held inputs)
 
 -- ---- entries
-member_at : {A : Type 0} (xs : List A) (k : ℕ) (x : A) → slice_get xs k ≡ Some x → Member xs x
+pub member_at : {A : Type 0} (xs : List A) (k : ℕ) (x : A) → slice_get xs k ≡ Some x → Member xs x
 member_at [] k x is = cc
 member_at (y ∷ xs) zero x is = inl (let e : y ≡ x = cc in e)
 member_at (y ∷ xs) (suc k) x is = inr (member_at xs k x is)
@@ -60,12 +60,6 @@ pub run_over : (c : CodeParts) (held : Frame) (inputs : List Value) (e : ℕ) �
 run_over c held inputs e v among =
     let well = verified_entry c e v among in
     ends_within c.instrs (senses held.held inputs) (weight c.instrs c.entries) e [] (slots_of c held.vars) (silent c) (verified_nested c v) well.there well.outside (entry_within c.instrs c.entries e among)
-
--- the values of a step have the code's numbers
-pub record Sized (c : CodeParts) (held : Frame) (inputs : List Value) : Type 0 where
-  pub vars : length held.vars ≡ c.vars
-  pub ins : length held.held ≡ c.ins
-  pub inputs' : length inputs ≡ c.ins
 
 pub slots_size : (c : CodeParts) (held : Frame) (inputs : List Value) → Sized c held inputs → length (slots_of c held.vars) ≡ c.vars + c.loops
 slots_size c held inputs z = let n = z.vars in omega (arith, length-append held.vars (replicate c.loops (pos 0)), length-replicate c.loops (pos 0))

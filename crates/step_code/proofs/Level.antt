@@ -113,6 +113,15 @@ abbrev pub Begun : List Instr → List (Option ℕ) → List Loop → Type 0
 Begun code entries [] = Unit {0}
 Begun code entries (l ∷ ls) = ((n : ℕ) × (h : ℕ) × Reaches code entries n l.start h) × Begun code entries ls
 
+-- where a run of verified code may stand
+pub record Stands (code : List Instr) (entries : List (Option ℕ)) (slots# outs# p : ℕ) (stack slots : List ℤ) (outs : List Value) : Type 0 where
+  pub within : p < length code
+  pub slots_are : length slots ≡ slots#
+  pub outs_are : length outs ≡ outs#
+  pub steps : ℕ
+  pub reached : Reaches code entries steps p (length stack)
+  pub begun : Begun code entries (around code p)
+
 module _ (code : List Instr) (entries : List (Option ℕ)) (s : Senses) (slots# outs# : ℕ) (nested : IsNested code) (level : IsLevel code entries) (fed : IsFed code slots# (length s.held) outs#) (eq : length s.fresh ≡ length s.held) where
   -- what holds wherever a run stands
   abbrev Going : Holds → Type 0
@@ -172,15 +181,9 @@ module _ (code : List Instr) (entries : List (Option ℕ)) (s : Senses) (slots# 
   never_stuck zero m p stack slots outs within ls lo reached begun = tt
   never_stuck (suc n) m p stack slots outs within ls lo reached begun = goes_on n m p (slice_get code p) stack slots outs (never_stuck n) refl within ls lo reached begun
 
-  -- where a run of verified code may stand
-  pub record Stands (p : ℕ) (stack slots : List ℤ) (outs : List Value) : Type 0 where
-    pub within : p < length code
-    pub slots_are : length slots ≡ slots#
-    pub outs_are : length outs ≡ outs#
-    pub steps : ℕ
-    pub reached : Reaches code entries steps p (length stack)
-    pub begun : Begun code entries (around code p)
-
-  pub stands_on : (p : ℕ) (i : Instr) (stack slots : List ℤ) (outs : List Value) → slice_get code p ≡ Some i → Stands p stack slots outs → Fine Stands (step (Some i) s p stack slots outs)
+  pub stands_on : (p : ℕ) (i : Instr) (stack slots : List ℤ) (outs : List Value) → slice_get code p ≡ Some i → Stands code entries slots# outs# p stack slots outs
+      → Fine (Stands code entries slots# outs#) (step (Some i) s p stack slots outs)
   stands_on p i stack slots outs is st =
-      stands Stands st.steps p i stack slots outs (λ m p stack slots outs within ls lo reached begun. record { within = within; slots_are = ls; outs_are = lo; steps = m; reached = reached; begun = begun }) is st.slots_are st.outs_are st.reached st.begun
+      stands (Stands code entries slots# outs#) st.steps p i stack slots outs
+      (λ m p stack slots outs within ls lo reached begun. record { within = within; slots_are = ls; outs_are = lo; steps = m; reached = reached; begun = begun })
+      is st.slots_are st.outs_are st.reached st.begun

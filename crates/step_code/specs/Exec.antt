@@ -96,3 +96,9 @@ pub record FitsCode (c : CodeParts) (frame : Frame) : Type 0 where
   pub entry : has_entry (slice_get c.entries frame.state) ≡ true
   pub vars : length frame.vars ≡ c.vars
   pub held : length frame.held ≡ c.ins
+
+-- the frame, and inputs, have the code's numbers of variables and in ports
+pub record Sized (c : CodeParts) (frame : Frame) (inputs : List Port) : Type 0 where
+  pub vars : length frame.vars ≡ c.vars
+  pub ins : length frame.held ≡ c.ins
+  pub inputs' : length inputs ≡ c.ins
