@@ -1,5 +1,1 @@
-pub mod Naming
-pub mod Reading
 pub mod Rounds
-pub mod Tables
-pub mod Upwards

@@ -1,50 +1,21 @@
 //! What a component reads in a round.
-ghost use Rattle.std.specs.Prelude.{◌≡◌, IfOk, map, replicate, slice_index_or, option_copied};
+ghost use Rattle.std.specs.Prelude.{◌≡◌, IfOk, map, slice_index_or, option_copied};
 ghost use Rattle.pals_base.specs.declared.values.Port.TheVariants.{Absent};
 ghost use Rattle.pals_base.specs.Steps.{columns};
-ghost use Rattle.pals_model.specs.Inputs.{rate_of, value_at};
-ghost use Rattle.sync_product.specs.Sources.{reading, read_feed, read_link};
+ghost use Rattle.pals_model.specs.Inputs.{reading, read_feed, read_link};
 
-use crate::columns::columns;
-use crate::sources::PortSource;
 use input_adaptors::adapt;
-use pals_base::{Items, NoMemory, NodeNo, Port, Tuple};
-use pals_model::{Component, Design, Feed, Link};
+use pals_base::tuples::{absent, columns, place};
+use pals_base::{Items, NoMemory, Port, Tuple};
+use pals_model::{Component, Design, Feed, Link, PortSource};
 use std::alloc::Global;
-
-/// The rate of a component.
-pub fn rate_of(design: &Design, node: NodeNo) -> u32
-    ensures { result ≡ rate_of design.now node.0 }
-{
-    match design.components().get(node.0 as usize) {
-        Some(component) => component.rate,
-        None => 1,
-    }
-}
-
-/// A tuple without values.
-pub fn absent(alloc: Global, rate: u32) -> Result<Tuple, NoMemory>
-    ensures { IfOk result (λ t. t ≡ replicate rate Absent) }
-{
-    Ok(Items::from_vec(vec![in alloc; Port::Absent; rate as usize]?))
-}
-
-// The value of a root in port by its place, if it has one.
-fn value_at(values: &[Port], place: Option<usize>) -> Port
-    ensures { result ≡ value_at place values.now }
-{
-    match place {
-        Some(at) if at < values.len() => values[at],
-        _ => Port::Absent,
-    }
-}
 
 // What a feed brings.
 fn read_feed(alloc: Global, feed: Option<&Feed>, value: Port, rate: u32) -> Result<Tuple, NoMemory>
     ensures { IfOk result (λ t. t ≡ read_feed value rate (option_copied feed.entry)) }
 {
     match feed {
-        None => absent(alloc, rate),
+        None => absent(alloc, rate as usize),
         Some(feed) => {
             let single = Items::from_slice(alloc, &[value])?;
             adapt(alloc, feed.adaptor, 1, rate, &single)
@@ -74,11 +45,11 @@ fn read_link(
     ensures { IfOk result (λ t. t ≡ read_link design.now rate message.now (option_copied link.entry)) }
 {
     match link {
-        None => absent(alloc, rate),
+        None => absent(alloc, rate as usize),
         Some(link) => adapt(
             alloc,
             link.adaptor,
-            rate_of(design, link.source),
+            design.parts().rate(link.source),
             rate,
             message,
         ),
@@ -97,10 +68,9 @@ fn read(
     ensures { IfOk result (λ t. t ≡ reading design.now values.now messages.now rate source) }
 {
     match source {
-        PortSource::Nothing => absent(alloc, rate),
-        PortSource::Feed(at, place) => {
-            let value = value_at(values, place);
-            read_feed(alloc, design.feeds().get(at), value, rate)
+        PortSource::Nothing => absent(alloc, rate as usize),
+        PortSource::Feed(at, root) => {
+            read_feed(alloc, design.feeds().get(at), place(values, root), rate)
         }
         PortSource::Link(at) => {
             let empty = Items::new(alloc);

@@ -5,9 +5,9 @@ ghost use Rattle.pals_base.specs.Fire.{initial};
 ghost use Rattle.pals_model.specs.Inputs.{rate_of};
 ghost use Rattle.sync_product.specs.State.{not_stepped, opening_parts};
 
-use crate::inputs::{absent, rate_of};
 use crate::parts::parts_of;
 use crate::steps::Stepped;
+use pals_base::tuples::absent;
 use pals_base::{Frame, Items, Named, NoMemory, Tuple};
 use pals_model::{Component, Design, Part};
 use std::alloc::Global;
@@ -29,7 +29,7 @@ pub fn opening_messages(alloc: Global, design: &Design) -> Result<Items<Tuple>, 
 {
     let mut messages = Items::new(alloc);
     for link in design.links() {
-        messages.push(absent(alloc, rate_of(design, link.source))?)?;
+        messages.push(absent(alloc, design.parts().rate(link.source) as usize)?)?;
     }
     Ok(messages)
 }
@@ -40,7 +40,7 @@ fn absent_each(alloc: Global, ports: &[Named], rate: u32) -> Result<Items<Tuple>
 {
     let mut tuples = Items::new(alloc);
     for _port in ports {
-        tuples.push(absent(alloc, rate)?)?;
+        tuples.push(absent(alloc, rate as usize)?)?;
     }
     Ok(tuples)
 }

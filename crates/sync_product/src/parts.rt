@@ -6,16 +6,9 @@ ghost use Rattle.sync_product.specs.State.{parts_of};
 
 use crate::messages::tuple_of;
 use crate::steps::Stepped;
-use pals_base::{Frame, Items, NoMemory, NodeNo, Tuple};
+use pals_base::{Frame, Items, NoMemory, NodeNo, TryClone, Tuple};
 use pals_model::{Design, Part, Tap};
 use std::alloc::Global;
-
-// Another tuple of the same values.
-fn copied(alloc: Global, tuple: &Tuple) -> Result<Tuple, NoMemory>
-    ensures { IfOk result (λ t. t ≡ tuple.now) }
-{
-    Items::from_slice(alloc, tuple.as_slice())
-}
 
 // The whole tuples of a component's taps.
 fn outs_of(
@@ -30,7 +23,10 @@ fn outs_of(
     let mut outs = Items::new(alloc);
     for tap in taps {
         if tap.source.0 == node.0 {
-            outs.push(copied(alloc, tuple_of(all, &empty, node, tap.out_port))?)?;
+            outs.push(Items::from_slice(
+                alloc,
+                tuple_of(all, &empty, node, tap.out_port).as_slice(),
+            )?)?;
         }
     }
     Ok(outs)
@@ -43,7 +39,7 @@ fn frame_of(alloc: Global, all: &[Stepped], node: NodeNo) -> Result<Frame, NoMem
     let at = node.0 as usize;
     if at < all.len() {
         let stepped = &all[at];
-        return stepped.frame.copy(alloc);
+        return stepped.frame.try_clone(alloc);
     }
     Ok(Frame {
         state: 0,
@@ -64,7 +60,7 @@ fn part_of(alloc: Global, design: &Design, all: &[Stepped], node: NodeNo) -> Res
 }
 
 /// What the components leave, by their numbers.
-#[tactic(auto, using(crate::proofs::Upwards::map_upwards_more))]
+#[tactic(auto, using(pals_base::proofs::Upwards::map_upwards_more))]
 pub fn parts_of(alloc: Global, design: &Design, all: &[Stepped]) -> Result<Items<Part>, NoMemory>
     ensures { IfOk result (λ parts. parts ≡ parts_of design.now all.now) }
 {

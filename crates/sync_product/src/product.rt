@@ -3,15 +3,14 @@ ghost use Rattle.std.specs.Prelude.{◌≡◌, ◌<◌, IfOk, OnOk, OnErr, Some,
 ghost use Rattle.std.specs.Arc.{arc_value};
 ghost use Rattle.sync_product.specs.State.{begun, advanced};
 
-use crate::inputs::absent;
 use crate::messages::messages;
 use crate::opening::{initial_frames, opening_messages, opening_parts};
 use crate::parts::parts_of;
 use crate::round::all_steps;
-use crate::sources::{PortSource, all_sources};
 use crate::steps::frames_of;
 use pals_base::{Frame, Items, LinkNo, NoMemory, NodeNo, Port, Tuple};
-use pals_model::{Design, Part};
+use pals_model::sources::all_sources;
+use pals_model::{Design, Part, PortSource};
 use std::alloc::Global;
 use std::marker::Model;
 use std::sync::Arc;

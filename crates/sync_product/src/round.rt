@@ -2,13 +2,12 @@
 ghost use Rattle.std.specs.Prelude.{◌≡◌, IfOk, map, length};
 ghost use Rattle.pals_base.specs.Steps.{steps, columns};
 ghost use Rattle.pals_model.specs.Composition.{steps_from};
-ghost use Rattle.sync_product.specs.Sources.{reading, all_sources};
+ghost use Rattle.pals_model.specs.Inputs.{reading, all_sources};
 
 use crate::inputs::vectors;
-use crate::sources::PortSource;
 use crate::steps::{Stepped, steps};
 use pals_base::{Frame, Items, NoMemory, Port, Tuple};
-use pals_model::{Component, Design};
+use pals_model::{Component, Design, PortSource};
 use std::alloc::Global;
 
 // The steps of a component whose in ports read from these sources.

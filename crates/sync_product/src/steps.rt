@@ -2,9 +2,9 @@
 ghost use Rattle.std.specs.Prelude.{◌≡◌, IfOk, map};
 ghost use Rattle.pals_base.specs.Steps.{steps};
 
-use crate::columns::columns;
 use behaviour_sem::fire;
-use pals_base::{Behaviour, Frame, Items, NoMemory, Tuple};
+use pals_base::tuples::columns;
+use pals_base::{Behaviour, Frame, Items, NoMemory, TryClone, Tuple};
 use std::alloc::Global;
 use std::marker::Model;
 
@@ -32,7 +32,7 @@ pub fn steps(
 ) -> Result<Stepped, NoMemory>
     ensures { IfOk result (λ s. s ≡ steps behaviour.now frame.now vectors.now) }
 {
-    let mut frame = frame.copy(alloc)?;
+    let mut frame = frame.try_clone(alloc)?;
     let mut outputs = Items::new(alloc);
     for inputs in vectors {
         let (next, outs) = fire(alloc, behaviour, &frame, inputs.as_slice())?;
@@ -49,7 +49,7 @@ pub fn frames_of(alloc: Global, all: &[Stepped]) -> Result<Items<Frame>, NoMemor
 {
     let mut frames = Items::new(alloc);
     for stepped in all {
-        frames.push(stepped.frame.copy(alloc)?)?;
+        frames.push(stepped.frame.try_clone(alloc)?)?;
     }
     Ok(frames)
 }

@@ -1,5 +1,5 @@
 use Rattle.std.proofs.Common.{◌≡◌, ◌++◌, map, drop}
-use Rattle.sync_product.specs.Sources.{reading}
+use Rattle.pals_model.specs.Inputs.{reading}
 use Rattle.sync_product.proofs.inputs.tuples.Given as goal
 
 -- what was read, and what is left to read

@@ -1,9 +1,10 @@
-use Rattle.std.proofs.Common.{◌≡◌, ◌≤◌, ◌+◌, suc, ◌∷◌, map, length, drop, arith, sym, ap, ◌∙◌, add-one}
+use Rattle.std.proofs.Common.{◌≡◌, ℕ, ◌+◌, List, ◌∷◌, map, drop, arith, sym, ap, ◌∙◌}
 use Rattle.std.proofs.lemmas.Grind.{common_steps}
 use Rattle.pals_base.specs.Steps.{steps, columns}
-use Rattle.pals_model.specs.Inputs.{inputs_of}
-use Rattle.sync_product.specs.Sources.{reading, sources_of, sources_from}
-use Rattle.sync_product.proofs.Reading.{reading_all}
+use Rattle.std.specs.List.{enumerate_from}
+use Rattle.pals_model.specs.declared.design.Component.{Component}
+use Rattle.pals_model.specs.declared.sources.PortSource.{PortSource}
+use Rattle.pals_model.specs.Inputs.{inputs_of, reading, sources_of}
 use Rattle.sync_product.proofs.Rounds.{steps_step}
 use Rattle.sync_product.proofs.round.all_steps.Goals as goal
 
@@ -20,16 +21,15 @@ loop-node-preserved c =
     let split : drop node items ≡ item ∷ drop (node + 1) items = grind (arith, common_steps) in
     let split_frames : drop node c.args.frames.now ≡ frame ∷ drop (node + 1) c.args.frames.now = grind (arith, common_steps) in
     let split_table : drop node c.args.sources.now ≡ table ∷ drop (node + 1) c.args.sources.now = grind (arith, common_steps) in
-    let tables : table ∷ drop (node + 1) c.args.sources.now ≡ sources_of design node item ∷ sources_from design (suc node) (drop (node + 1) items) =
-    sym split_table ∙ c.loop-node.invariant.0 ∙ ap (sources_from design node) split in
+    let left : List Component → List (List PortSource) = λ cs. map (λ (numbered : ℕ × Component). sources_of design numbered.0 numbered.1) (enumerate_from node cs) in
+    let tables : table ∷ drop (node + 1) c.args.sources.now ≡ sources_of design node item ∷ map (λ (numbered : ℕ × Component). sources_of design numbered.0 numbered.1) (enumerate_from (node + 1) (drop (node + 1) items)) =
+    sym split_table ∙ c.loop-node.invariant.0 ∙ ap left split in
     let first : table ≡ sources_of design node item = cc in
-    let rest : drop (node + 1) c.args.sources.now ≡ sources_from design (suc node) (drop (node + 1) items) = cc in
-    let enough : length design.links ≤ length messages = omega arith in
+    let rest : drop (node + 1) c.args.sources.now ≡ map (λ (numbered : ℕ × Component). sources_of design numbered.0 numbered.1) (enumerate_from (node + 1) (drop (node + 1) items)) = cc in
     let found : c.in_ok-component_steps.field-0 ≡ steps item.behaviour frame (inputs_of design values messages node item) =
     c.in_ok-component_steps.ensures
-    ∙ ap (λ sources. steps item.behaviour frame (columns item.rate (map (reading design values messages item.rate) sources))) (c.as_slice.ensures.value ∙ first)
-    ∙ ap (steps item.behaviour frame) (reading_all design values messages node item enough) in
+    ∙ ap (λ sources. steps item.behaviour frame (columns item.rate (map (reading design values messages item.rate) sources))) (c.as_slice.ensures.value ∙ first) in
     let before = rw (split, split_frames) at c.loop-node.invariant.1 in (
-      rest ∙ ap (λ n. sources_from design n (drop (node + 1) items)) (sym (add-one node)),
+      rest,
       rw (c.in_ok-push.ensures.items) (steps_step design values messages node c.loop-node.all.items item (drop (node + 1) items) frame (drop (node + 1) c.args.frames.now) c.in_ok-component_steps.field-0 _ found before),
     )
