@@ -11,3 +11,4 @@ pub mod NameLaws
 pub mod Numbers
 pub mod Copies
 pub mod RootInputLaws
+pub mod StepLaws

@@ -11,8 +11,8 @@ use Rattle.std.proofs.lemmas.List.Folds.{list_any-append}
 use Rattle.std.proofs.lemmas.Option.{slice_get-map, slice_get_within, get_or_from_slice_get}
 use Rattle.pals_model.specs.declared.design.Feed.{Feed}
 use Rattle.pals_model.specs.Inputs.{new_names, feed_names, root_inputs, place_of}
-use Rattle.pals_model.specs.Ports.{fed_kind}
-use Rattle.pals_model.specs.Rules.{AgreeInKind, feed_kind}
+use Rattle.pals_model.specs.Ports.{first_kind, feed_kind}
+use Rattle.pals_model.specs.Rules.{AgreeInKind}
 use Rattle.pals_model.specs.Laws.RootInputs.{RootInputsDiffer, RootInputsAreFeeds, RootInputsInOrder, FeedHasRoot, FeedsHaveRootKind}
 use Rattle.pals_model.proofs.Lookups.{pair_at}
 use Rattle.pals_model.proofs.Words.{same_bytes, other_bytes}
@@ -204,4 +204,4 @@ feeds_have_root_kind design number feed rules is =
           let one : feed ≡ first.1 = cc in
           ap (feed_kind design) one)
       ] in
-    agree ∙ sym (ap (fed_kind design) first.2)
+    agree ∙ sym (ap (first_kind design) first.2)
