@@ -12,3 +12,4 @@ pub mod Numbers
 pub mod Copies
 pub mod RootInputLaws
 pub mod StepLaws
+pub mod LineLaws

@@ -129,10 +129,10 @@ taps_have_tuples design env node round c rules is_c =
     let own = filter_passes (λ (tap : Tap). nat_eq tap.source.0 node) design.taps in
     All-map (λ tuple. length tuple ≡ c.rate) (λ (tap : Tap). slice_index_or tuples tap.out_port []) (taps_of design node)
     (λ k d within.
-        let tap = get_or (taps_of design node) k d in
-        let here : tap.source.0 ≡ node = eqb-true tap.source.0 node (own k d within) in
-        let inside : tap.out_port < length c.behaviour.outs = subst (λ o. tap.out_port < outs_in o) (ap (slice_get design.components) here ∙ is_c) (sound k d within).source.port_is in
-        tuple_has_rate (length c.behaviour.outs) c.rate tap.out_port tuples (steps_give_tuples design env node round c is_c) inside)
+    let tap = get_or (taps_of design node) k d in
+    let here : tap.source.0 ≡ node = eqb-true tap.source.0 node (own k d within) in
+    let inside : tap.out_port < length c.behaviour.outs = subst (λ o. tap.out_port < outs_in o) (ap (slice_get design.components) here ∙ is_c) (sound k d within).source.port_is in
+    tuple_has_rate (length c.behaviour.outs) c.rate tap.out_port tuples (steps_give_tuples design env node round c is_c) inside)
 
 pub part_has_shape : PartHasShape
 part_has_shape design env node round c rules is_c =

@@ -3,12 +3,14 @@
 ghost use Rattle.pals_model.specs.Laws.{OneFrameEach, OneMessageEach, StateBegins, LinksBeginAbsent, StateGoesOn, MessageFromSource, PartFromSteps, RunsAlone, DependsOnPast};
 ghost use Rattle.pals_model.specs.Counters.{CountersCount};
 
+mod lines;
 mod names;
 mod root_inputs;
 mod shapes;
 mod sources;
 mod steps;
 
+pub use lines::{lines_have_no_line_feed, texts_split_into_lines};
 pub use names::{components_have_paths, in_ports_have_names, links_have_names};
 pub use root_inputs::{feeds_have_roots, root_inputs_are_feeds};
 pub use shapes::{messages_have_rates, parts_have_shapes, rounds_have_shapes, states_have_shapes};
