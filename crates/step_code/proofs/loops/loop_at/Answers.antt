@@ -1,4 +1,4 @@
-use Rattle.std.proofs.Common.{◌≡◌, ◌∙◌, Some, sym, ap, rules, w64}
+use Rattle.std.proofs.Common.{◌∙◌, Some, sym, ap, rules, w64}
 use Rattle.std.proofs.lemmas.Int.{to_z-of_z}
 use mir.Val.{SFits}
 use Rattle.step_code.specs.Loops.{loop_from}
