@@ -1,5 +1,5 @@
 -- The rows of rounds that go one after the other.
-use Rattle.std.proofs.Common.{◌≡◌, ℕ, zero, suc, ◌+◌, ◌<◌, List, [], ◌∷◌, ◌++◌, length, map, refl, sym, ap, ◌∙◌, arith, add-one, zero-add, append-nil}
+use Rattle.std.proofs.Common.{Result, Ok, Err, OnOk, ◌≡◌, ℕ, zero, suc, ◌+◌, ◌<◌, List, [], ◌∷◌, ◌++◌, length, map, refl, sym, ap, ◌∙◌, arith, add-one, zero-add, append-nil}
 use Rattle.std.proofs.lemmas.List.{length-map}
 use Rattle.std.proofs.lemmas.Grind.{flat_map-append}
 use Rattle.std.specs.Prelude.{Some, flat_map, slice_get}
@@ -37,6 +37,11 @@ further design round old same at =
     ap (λ d. (advanced (record old { design = d }) []).configuration) same
     ∙ ap (λ k. (advanced (record { design = design; configuration = k; parts = old.parts }) []).configuration) at
     ∙ ap (comp design no_env) (sym (add-one round))
+
+-- what holds in any case holds where a call succeeds
+pub on_ok : {T E : Type 0} (r : Result T E) (P : Type 0) → P → OnOk r P
+on_ok (Ok x) P holds = holds
+on_ok (Err e) P holds = tt
 
 -- ---- the report
 -- one more row
