@@ -36,7 +36,8 @@ RoundBegins = (design : DesignParts) (env : Env) (node round : ℕ) (c : Compone
 -- each step goes on at its own inputs
 abbrev pub RoundGoesOn : Type 0
 RoundGoesOn = (design : DesignParts) (env : Env) (node round : ℕ) (c : Component) (count : ℕ) (inputs : List Port) →
-    IsDesign design → slice_get design.components node ≡ Some c → slice_get (feed design env (comp design env round).messages node round) count ≡ Some inputs →
+    IsDesign design → slice_get design.components node ≡ Some c →
+    slice_get (feed design env (comp design env round).messages node round) count ≡ Some inputs →
     own_steps_so_far design env node round c (suc count) ≡ stepped_on c.behaviour count inputs (own_steps_so_far design env node round c count)
 
 -- after its last step it has made its own steps
@@ -46,8 +47,10 @@ RoundEnds = (design : DesignParts) (env : Env) (node round : ℕ) (c : Component
 
 -- the places before a step stay, also where it traps
 abbrev pub PlacesStay : Type 0
-PlacesStay = (b : BehaviourParts) (at : ℕ) (inputs : List Port) (before : Stepped) → map (take at) (stepped_on b at inputs before).tuples ≡ map (take at) before.tuples
+PlacesStay = (b : BehaviourParts) (at : ℕ) (inputs : List Port) (before : Stepped) →
+    map (take at) (stepped_on b at inputs before).tuples ≡ map (take at) before.tuples
 
 -- a step that traps gives no value
 abbrev pub TrapIsSilent : Type 0
-TrapIsSilent = (b : BehaviourParts) (frame : Frame) (inputs : List Port) (trap : Trap) → frame.halt ≡ None → (fire b frame inputs).frame.halt ≡ Some trap → (fire b frame inputs).outs ≡ silence b
+TrapIsSilent = (b : BehaviourParts) (frame : Frame) (inputs : List Port) (trap : Trap) →
+    frame.halt ≡ None → (fire b frame inputs).frame.halt ≡ Some trap → (fire b frame inputs).outs ≡ silence b
