@@ -15,7 +15,7 @@ use Rattle.pals_model.specs.declared.design.Link.{Link}
 use Rattle.pals_model.specs.declared.design.DesignParts.{DesignParts}
 use Rattle.pals_model.specs.LinkNames.{port_name, in_port_name, target_name, link_name}
 use Rattle.pals_model.specs.Ports.{ins_in}
-use Rattle.pals_model.specs.Rules.{IsDesign, IsTarget, IsLink, LinkPrecedes, place_of}
+use Rattle.pals_model.specs.Rules.{IsDesign, IsTarget, IsLink, LinkPrecedes, port_place}
 use Rattle.pals_model.specs.Laws.Names.{NodeIsFound, FoundNodeHasPath, TargetNamesDiffer, LinkIsFound, FoundLinkHasName}
 use Rattle.pals_model.proofs.Lookups.{pair_at, at_element, first_at, found_at}
 use Rattle.pals_model.proofs.ShapeLaws.{component_at, is_behaviour}
@@ -109,7 +109,7 @@ link_is_found design number link rules is_link =
     let here = at_element (IsLink design) design.links number link rules.links.each is_link in
     let there = at_element (IsLink design) design.links k other rules.links.each is_other in
     let ports = target_names_differ design link.target.0 link.in_port other.target.0 other.in_port rules here.target there.target same in
-    ne_of_lt (pair_at LinkPrecedes design.links k number other link rules.links.order below is_other is_link) (sym (ap₂ place_of ports.0 ports.1))))
+    ne_of_lt (pair_at LinkPrecedes design.links k number other link rules.links.order below is_other is_link) (sym (ap₂ port_place ports.0 ports.1))))
 
 pub found_link_has_name : FoundLinkHasName
 found_link_has_name design number name found =

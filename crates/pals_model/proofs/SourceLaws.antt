@@ -4,17 +4,17 @@ use Rattle.std.specs.Prelude.{position}
 use Rattle.std.proofs.lemmas.Bool.{eq-eqb, eqb-true, and_parts, false_from_ne_true}
 use Rattle.std.proofs.Common.{get_or, ne_of_lt}
 use Rattle.pals_model.specs.Inputs.{link_goes_to, feed_goes_to, from_link, from_feed}
-use Rattle.pals_model.specs.Rules.{place_of, LinkPrecedes, FeedPrecedes, IsApart}
+use Rattle.pals_model.specs.Rules.{port_place, LinkPrecedes, FeedPrecedes, IsApart}
 use Rattle.pals_model.specs.Laws.Sources.{LinkIsSource, FeedIsSource, NothingIsSource}
 use Rattle.pals_model.proofs.Lookups.{pair_at, at_element, first_at, none_passes}
 
 -- two in ports of other places are not the same
-goes_elsewhere : (node port n p : ℕ) → place_of n p ≢ place_of node port → (nat_eq n node && nat_eq p port) ≡ false
+goes_elsewhere : (node port n p : ℕ) → port_place n p ≢ port_place node port → (nat_eq n node && nat_eq p port) ≡ false
 goes_elsewhere node port n p apart =
     false_from_ne_true _
     (λ both.
     let parts = and_parts (nat_eq n node) (nat_eq p port) both in
-    apart (ap₂ place_of (eqb-true n node parts.0) (eqb-true p port parts.1)))
+    apart (ap₂ port_place (eqb-true n node parts.0) (eqb-true p port parts.1)))
 
 goes_there : (node port : ℕ) → (nat_eq node node && nat_eq port port) ≡ true
 goes_there node port = ap₂ (λ a b. a && b) (eq-eqb node node refl) (eq-eqb port port refl)

@@ -47,8 +47,8 @@ pub record IsTarget (design : DesignParts) (node port : ℕ) : Type 0 where
   pub port_is : port < ins_in (slice_get design.components node)
 
 -- the place of an in port among all, by its component and then by its number, of which a thread has at most 64
-abbrev pub place_of : ℕ → ℕ → ℕ
-place_of node port = PORTS * node + port
+abbrev pub port_place : ℕ → ℕ → ℕ
+port_place node port = PORTS * node + port
 
 -- ---- links, feeds and taps
 pub record IsLink (design : DesignParts) (link : Link) : Type 0 where
@@ -74,10 +74,10 @@ abbrev pub greatest_rate : List Component → ℕ
 greatest_rate components = fold (λ k c. max k c.rate) 1 components
 
 abbrev pub LinkPrecedes : Link → Link → Type 0
-LinkPrecedes a b = place_of a.target.0 a.in_port < place_of b.target.0 b.in_port
+LinkPrecedes a b = port_place a.target.0 a.in_port < port_place b.target.0 b.in_port
 
 abbrev pub FeedPrecedes : Feed → Feed → Type 0
-FeedPrecedes a b = place_of a.target.0 a.in_port < place_of b.target.0 b.in_port
+FeedPrecedes a b = port_place a.target.0 a.in_port < port_place b.target.0 b.in_port
 
 -- feeds of one root in port are of one type
 pub record AgreeInKind (design : DesignParts) (a b : Feed) : Type 0 where
@@ -85,7 +85,7 @@ pub record AgreeInKind (design : DesignParts) (a b : Feed) : Type 0 where
 
 -- no in port has two sources
 abbrev pub IsApart : Feed → Link → Type 0
-IsApart feed link = place_of feed.target.0 feed.in_port ≢ place_of link.target.0 link.in_port
+IsApart feed link = port_place feed.target.0 feed.in_port ≢ port_place link.target.0 link.in_port
 
 pub record AreComponents (design : DesignParts) : Type 0 where
   pub each : All (IsComponent design.period) design.components

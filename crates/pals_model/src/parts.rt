@@ -2,7 +2,7 @@
 ghost use Rattle.std.specs.Prelude.{◌≡◌, fold, max, slice_get, option_copied};
 ghost use Rattle.pals_model.specs.Inputs.{rate_of};
 ghost use Rattle.pals_model.specs.Ports.{ins_in, outs_in, kind_of, in_kind, out_kind};
-ghost use Rattle.pals_model.specs.Rules.{place_of, greatest_rate};
+ghost use Rattle.pals_model.specs.Rules.{port_place, greatest_rate};
 
 use crate::design::{Component, DesignParts, Feed, Link};
 use pals_base::limits::PORTS;
@@ -79,20 +79,20 @@ pub fn greatest_rate(components: &[Component]) -> u32
 /// The place of the in port that a link goes to among the in ports of all components, which have at
 /// most 64 each.
 pub fn place_of_link(link: &Link) -> u64
-    ensures { result ≡ place_of link.now.target.0 link.now.in_port }
+    ensures { result ≡ port_place link.now.target.0 link.now.in_port }
 {
-    place_of(link.target, link.in_port)
+    port_place(link.target, link.in_port)
 }
 
 /// The place of the in port that a feed goes to, as that of a link.
 pub fn place_of_feed(feed: &Feed) -> u64
-    ensures { result ≡ place_of feed.now.target.0 feed.now.in_port }
+    ensures { result ≡ port_place feed.now.target.0 feed.now.in_port }
 {
-    place_of(feed.target, feed.in_port)
+    port_place(feed.target, feed.in_port)
 }
 
-fn place_of(node: NodeNo, port: u32) -> u64
-    ensures { result ≡ place_of node.0 port }
+fn port_place(node: NodeNo, port: u32) -> u64
+    ensures { result ≡ port_place node.0 port }
 {
     PORTS as u64 * u64::from(node.0) + u64::from(port)
 }

@@ -1,11 +1,11 @@
 use Rattle.std.proofs.Common.{nat_lt, rules}
 use Rattle.pals_model.specs.declared.design.Link.{Link}
 use Rattle.std.proofs.lemmas.List.Sorted.{answers_always}
-use Rattle.pals_model.specs.Rules.{place_of}
+use Rattle.pals_model.specs.Rules.{port_place}
 use Rattle.pals_base.proofs.Pairs.{rising_answer}
 use Rattle.pals_model.proofs.rules.are_links_in_order.Goals as goal
 
 pub returns : goal.returns
 returns c =
-    rising_answer (λ (link : Link). place_of link.target.0 link.in_port) c.args.links.now _
-    (c.is_sorted_by.ensures.cases (λ a b. nat_lt (place_of a.target.0 a.in_port) (place_of b.target.0 b.in_port)) (answers_always _ _ _ (λ g a r g' called. search (rules, called))))
+    rising_answer (λ (link : Link). port_place link.target.0 link.in_port) c.args.links.now _
+    (c.is_sorted_by.ensures.cases (λ a b. nat_lt (port_place a.target.0 a.in_port) (port_place b.target.0 b.in_port)) (answers_always _ _ _ (λ g a r g' called. search (rules, called))))
