@@ -7,3 +7,5 @@ pub mod Lengths
 pub mod Primaries
 pub mod ActionKinds
 pub mod Exclusion
+pub mod Numbers
+pub mod Finds
