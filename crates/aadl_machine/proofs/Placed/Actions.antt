@@ -3,7 +3,7 @@ use Rattle.std.proofs.Common.{◌≡◌, ℕ, ℤ, ◌∙◌, sym, ap, Bool, tru
 use Rattle.aadl_tree.specs.declared.mark.Mark.TheVariants as k
 use Rattle.aadl_tree.specs.declared.actions.Bound.{Bound}
 use Rattle.aadl_tree.specs.Kinds.{mark}
-use Rattle.aadl_tree.specs.Parts.{Part, may, plain}
+use Rattle.aadl_tree.specs.Parts.{Part, may, last_semicolon, plain}
 use Rattle.aadl_tree.specs.Names as n
 use Rattle.aadl_tree.specs.Expressions as e
 use Rattle.aadl_tree.specs.Actions as a
@@ -55,8 +55,8 @@ mutual
 
   pub actions_fixed : Fixed (a.Actions ℕ) (a.Actions (Unit {0})) (actions_to no_place) a.actions_parts
   actions_fixed (a.actions t w) (a.actions t2 w2) xs ys s h =
-      let r0 = action_fixed t t2 _ _ (cc) (in_turn (a.action_parts t) (a.mores_parts w ++ (may (mark k.Semicolon ∷ []) ∷ [])) (a.action_parts t2) (a.mores_parts w2 ++ (may (mark k.Semicolon ∷ []) ∷ [])) xs ys h) in
-      let r1 = mores_fixed w w2 _ _ (cc) (in_turn (a.mores_parts w) (may (mark k.Semicolon ∷ []) ∷ []) (a.mores_parts w2) (may (mark k.Semicolon ∷ []) ∷ []) xs ys r0.rest) in
+      let r0 = action_fixed t t2 _ _ (cc) (in_turn (a.action_parts t) (a.mores_parts w ++ (may last_semicolon ∷ [])) (a.action_parts t2) (a.mores_parts w2 ++ (may last_semicolon ∷ [])) xs ys h) in
+      let r1 = mores_fixed w w2 _ _ (cc) (in_turn (a.mores_parts w) (may last_semicolon ∷ []) (a.mores_parts w2) (may last_semicolon ∷ []) xs ys r0.rest) in
       record { tree = ap (λ q. a.actions q w) r0.tree ∙ ap (λ q. a.actions t2 q) r1.tree; rest = r1.rest }
 
   pub mores_fixed : Fixed (a.Mores ℕ) (a.Mores (Unit {0})) (mores_to no_place) a.mores_parts

@@ -30,8 +30,8 @@ AreQuiet [] = Unit {0}
 AreQuiet (kind ∷ ks) = (quiet kind ≡ true) × AreQuiet ks
 
 pub extra_quiet : (extra : Extra) → AreQuiet (extra_kinds extra)
-extra_quiet (empty_section feature_section) = (refl, refl, refl, tt)
-extra_quiet (empty_section subcomponent_section) = (refl, refl, refl, tt)
-extra_quiet (empty_section connection_section) = (refl, refl, refl, tt)
-extra_quiet (empty_section property_section) = (refl, refl, refl, tt)
+extra_quiet (empty_section feature_section) = (refl, (refl, (refl, tt)))
+extra_quiet (empty_section subcomponent_section) = (refl, (refl, (refl, tt)))
+extra_quiet (empty_section connection_section) = (refl, (refl, (refl, tt)))
+extra_quiet (empty_section property_section) = (refl, (refl, (refl, tt)))
 extra_quiet last_semicolon = (refl, tt)
