@@ -9,3 +9,4 @@ pub mod ActionKinds
 pub mod Exclusion
 pub mod Numbers
 pub mod Finds
+pub mod Ties
