@@ -1,0 +1,4 @@
+pub mod Guards
+pub mod Forms
+pub mod Neighbours
+pub mod Shallow

@@ -1,0 +1,5 @@
+//! The canonical text of a tree has that tree.
+#![tactic(auto)]
+
+/// Nothing yet.
+pub fn nothing() {}
