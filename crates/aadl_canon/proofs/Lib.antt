@@ -2,3 +2,4 @@ pub mod Guards
 pub mod Forms
 pub mod Neighbours
 pub mod Shallow
+pub mod Firsts
