@@ -51,18 +51,18 @@ pub run_all : (p : ℕ → Bool) (w rest : List ℕ) → list_all p w ≡ true �
 run_all p w rest e h = length-prefix_len p (w ++ rest) ∙ prefix_all p w rest e h
 
 -- a byte that is no blank and no `-`
-record Visible (p : ℕ → Bool) : Type 0 where
-  space : p 32 ≡ false
-  tab : p 9 ≡ false
-  line : p 10 ≡ false
-  return : p 13 ≡ false
-  dash : p 45 ≡ false
+pub record Visible (p : ℕ → Bool) : Type 0 where
+  pub space : p 32 ≡ false
+  pub tab : p 9 ≡ false
+  pub line : p 10 ≡ false
+  pub return : p 13 ≡ false
+  pub dash : p 45 ≡ false
 
-not_blank : (p : ℕ → Bool) (c : ℕ) → Visible p → p c ≡ true → is_blank c ≡ false
+pub not_blank : (p : ℕ → Bool) (c : ℕ) → Visible p → p c ≡ true → is_blank c ≡ false
 not_blank p c v h =
     or_from ((c == 32 || c == 9) || c == 10) _ (or_from (c == 32 || c == 9) _ (or_from (c == 32) _ (other_byte p c 32 h v.space) (other_byte p c 9 h v.tab)) (other_byte p c 10 h v.line)) (other_byte p c 13 h v.return)
 
-not_comment : (p : ℕ → Bool) (c : ℕ) (s : List ℕ) → Visible p → p c ≡ true → starts_with nat_eq (c ∷ s) (codes "--") ≡ false
+pub not_comment : (p : ℕ → Bool) (c : ℕ) (s : List ℕ) → Visible p → p c ≡ true → starts_with nat_eq (c ∷ s) (codes "--") ≡ false
 not_comment p c s v h = let e = other_bytes p c 45 h v.dash in rw e refl
 
 third : (a b c : Bool) (x y z w : First) → a ≡ false → b ≡ false → c ≡ true → cond a x (cond b y (cond c z w)) ≡ z
@@ -71,7 +71,7 @@ third false false false x y z w e f g = absurd cc
 third false true c x y z w e f g = absurd cc
 third true b c x y z w e f g = absurd cc
 
-fourth : (a b c d : Bool) (x y z w v : First) → a ≡ false → b ≡ false → c ≡ false → d ≡ true → cond a x (cond b y (cond c z (cond d w v))) ≡ w
+pub fourth : (a b c d : Bool) (x y z w v : First) → a ≡ false → b ≡ false → c ≡ false → d ≡ true → cond a x (cond b y (cond c z (cond d w v))) ≡ w
 fourth false false c d x y z w v e f g h = third false c d y z w v refl g h
 fourth false true c d x y z w v e f g h = absurd cc
 fourth true b c d x y z w v e f g h = absurd cc

@@ -3,3 +3,4 @@ pub mod Forms
 pub mod Neighbours
 pub mod Shallow
 pub mod Firsts
+pub mod Literals
