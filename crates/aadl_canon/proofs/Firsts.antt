@@ -93,7 +93,7 @@ word_first r at (c ∷ cs) rest w stop =
     let len = run_all is_in_word (c ∷ cs) rest all stop in
     letter_goes r at c (cs ++ rest) letter (ap (λ n. nat_le n longest_name) len ∙ short) ∙ ap (λ n. Taken Word n) len
 
--- what goes on with a symbol
+-- what goes on with a symbol; or with `*` to a `**}`
 abbrev pub extends : Mark → ℕ → Bool
 extends k.Colon h = (58 == h) || (61 == h)
 extends k.Dot h = 46 == h
@@ -105,6 +105,7 @@ extends k.Equal h = 62 == h
 extends k.Less h = 61 == h
 extends k.Greater h = 61 == h
 extends k.Bang h = 61 == h
+extends k.Star h = 42 == h
 extends _ h = false
 
 pub symbol_first : (m : Mark) (r : Reading) (at : ℕ) (rest : List ℕ) → symbol_of (mark_text m) ≡ Some m → extends m (get_or rest 0 0) ≡ false → first r at (mark_text m ++ rest) ≡ Taken Symbol (length (mark_text m))

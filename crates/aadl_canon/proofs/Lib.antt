@@ -4,3 +4,7 @@ pub mod Neighbours
 pub mod Shallow
 pub mod Firsts
 pub mod Literals
+pub mod Spoken
+pub mod Tokens
+pub mod Meets
+pub mod Closes

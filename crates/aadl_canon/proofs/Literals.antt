@@ -134,6 +134,12 @@ number_first r at n rest fits stop =
     let s = says n (omega arith) in
     whole_first r at (fmt.decimal n) rest s.some s.digits (ap (λ m. nat_le m most) s.value ∙ le-leb n most fits) stop ∙ ap (λ m. Taken (Whole (pos m)) (length (fmt.decimal n))) s.value
 
+pub number_some : (n : ℕ) → n ≤ most → 0 < length (fmt.decimal n)
+number_some n fits = (says n (omega arith)).some
+
+pub number_digits : (n : ℕ) → n ≤ most → list_all is_ascii_digit (fmt.decimal n) ≡ true
+number_digits n fits = (says n (omega arith)).digits
+
 -- digits, a point, and digits
 pub record IsReal (b : List ℕ) : Type 0 where
   pub whole : List ℕ
