@@ -21,7 +21,7 @@ use Rattle.aadl_machine.proofs.Basics.{both_left, both_right}
 pub other_byte : (p : ℕ → Bool) (c d : ℕ) → p c ≡ true → p d ≡ false → (c == d) ≡ false
 other_byte p c d h fails = false_from_ne_true (c == d) (λ e. let same = eqb-true c d e in let f = ap p same in absurd cc)
 
-other_bytes : (p : ℕ → Bool) (c d : ℕ) → p c ≡ true → p d ≡ false → (d == c) ≡ false
+pub other_bytes : (p : ℕ → Bool) (c d : ℕ) → p c ≡ true → p d ≡ false → (d == c) ≡ false
 other_bytes p c d h fails = false_from_ne_true (d == c) (λ e. let same = eqb-true d c e in let f = ap p same in absurd cc)
 
 -- blanks are passed over

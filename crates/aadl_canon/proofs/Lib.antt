@@ -8,3 +8,5 @@ pub mod Spoken
 pub mod Tokens
 pub mod Meets
 pub mod Closes
+pub mod Pieces
+pub mod Lexing

@@ -38,7 +38,7 @@ ends_stops kind p [] same e = refl
 ends_stops kind p (h ∷ t) same e = not_from_false (p h) (same h e)
 
 -- a keyword's text is a word
-keyword_is_word : (r : Bool) (m : Mark) → keyword_of r (mark_text m) ≡ Some m → is_word (mark_text m) ≡ true
+pub keyword_is_word : (r : Bool) (m : Mark) → keyword_of r (mark_text m) ≡ Some m → is_word (mark_text m) ≡ true
 keyword_is_word true k.Semicolon e = absurd cc
 keyword_is_word true k.Colon e = absurd cc
 keyword_is_word true k.Comma e = absurd cc
@@ -113,6 +113,7 @@ pub record Lexed (r : Reading) (kind : Kind) (rest : List ℕ) : Type 0 where
   pub read : class_kind (is_inside r) class (kind_text kind) ≡ kind
   pub goes : after r class (kind_text kind) ≡ behind r kind
   pub inside : inside_behind (is_inside r) class ≡ is_inside (behind r kind)
+  pub inner : (b : Bool) → inside_behind b class ≡ b
 
 -- neither of a body's ends
 abbrev pub IsPlain : Kind → Type 0
@@ -200,6 +201,7 @@ lexed r _ rest (a_word _ b w h) plain e = record {
   read = ap (word_kind b) h;
   goes = word_then r b;
   inside = stays r Word (word b) (λ x. refl) (word_then r b);
+  inner = λ x. refl;
 }
 lexed r _ rest (a_number _ n h) plain e = record {
   class = Whole (pos n);
@@ -208,6 +210,7 @@ lexed r _ rest (a_number _ n h) plain e = record {
   read = refl;
   goes = whole_then r n (fmt.decimal n);
   inside = stays r (Whole (pos n)) (whole (pos n)) (λ x. refl) (whole_then r n (fmt.decimal n));
+  inner = λ x. refl;
 }
 lexed r _ rest (a_real _ b h) plain e = record {
   class = Real;
@@ -216,6 +219,7 @@ lexed r _ rest (a_real _ b h) plain e = record {
   read = refl;
   goes = real_then r b;
   inside = stays r Real (real b) (λ x. refl) (real_then r b);
+  inner = λ x. refl;
 }
 lexed r _ rest (a_string _ b h u c) plain e = record {
   class = Quoted;
@@ -224,6 +228,7 @@ lexed r _ rest (a_string _ b h u c) plain e = record {
   read = refl;
   goes = quoted_then r b;
   inside = stays r Quoted (quoted b) (λ x. refl) (quoted_then r b);
+  inner = λ x. refl;
 }
 lexed _ _ rest (an_annex b h u) plain e = record {
   class = Unread;
@@ -232,6 +237,7 @@ lexed _ _ rest (an_annex b h u) plain e = record {
   read = refl;
   goes = refl;
   inside = refl;
+  inner = λ x. refl;
 }
 lexed r _ rest (a_keyword _ m h) plain e = let w = keyword_is_word (is_inside r) m h in record {
   class = Word;
@@ -240,6 +246,7 @@ lexed r _ rest (a_keyword _ m h) plain e = let w = keyword_is_word (is_inside r)
   read = ap (word_kind (mark_text m)) h;
   goes = keyword_then r m h;
   inside = stays r Word (mark m) (λ x. refl) (keyword_then r m h);
+  inner = λ x. refl;
 }
 lexed r _ rest (a_symbol _ m h) plain e = record {
   class = Symbol;
@@ -248,6 +255,7 @@ lexed r _ rest (a_symbol _ m h) plain e = record {
   read = ap (symbol_kind (mark_text m)) h;
   goes = symbol_then r m h;
   inside = stays r Symbol (mark m) (λ x. refl) (symbol_then r m h);
+  inner = λ x. refl;
 }
 lexed _ _ rest opens plain e = absurd (plain.0 refl)
 lexed _ _ rest closes plain e = absurd (plain.1 refl)
