@@ -42,7 +42,7 @@ starts_same c [] s e = and_none (42 == c)
 starts_same c (d ∷ []) s e = ap (λ b. (42 == c) && b) (and_none (42 == d)) ∙ and_none (42 == c)
 starts_same c (d ∷ (f ∷ w)) s e = e
 
-none_parts : (b : Bool) (x : ℕ) (y : Option ℕ) → cond b (Some x) y ≡ None → (b ≡ false) × (y ≡ None)
+pub none_parts : (b : Bool) (x : ℕ) (y : Option ℕ) → cond b (Some x) y ≡ None → (b ≡ false) × (y ≡ None)
 none_parts true x y e = absurd cc
 none_parts false x y e = (refl, e)
 

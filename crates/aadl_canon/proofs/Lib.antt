@@ -10,3 +10,4 @@ pub mod Meets
 pub mod Closes
 pub mod Pieces
 pub mod Lexing
+pub mod Shapes

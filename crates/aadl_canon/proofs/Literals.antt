@@ -18,7 +18,7 @@ use Rattle.aadl_lex.proofs.Scans.{more_by, decimal_cons}
 use Rattle.aadl_machine.proofs.Basics.{both_left, both_right}
 use Rattle.aadl_canon.proofs.Firsts.{stops, run_all, Visible, not_blank, not_comment, fourth}
 
-at_seam : (w rest : List ℕ) → get_or (w ++ rest) (length w) 0 ≡ get_or rest 0 0
+pub at_seam : (w rest : List ℕ) → get_or (w ++ rest) (length w) 0 ≡ get_or rest 0 0
 at_seam [] rest = refl
 at_seam (c ∷ w) rest = at_seam w rest
 
@@ -26,7 +26,7 @@ past_seam : (w : List ℕ) (c : ℕ) (rest : List ℕ) → drop (length w + 1) (
 past_seam [] c rest = refl
 past_seam (d ∷ w) c rest = let e : suc (length w) + 1 ≡ suc (length w + 1) = omega arith in ap (λ n. drop n (d ∷ (w ++ c ∷ rest))) e ∙ past_seam w c rest
 
-taken_whole : (w rest : List ℕ) → take (length w) (w ++ rest) ≡ w
+pub taken_whole : (w rest : List ℕ) → take (length w) (w ++ rest) ≡ w
 taken_whole [] rest = refl
 taken_whole (c ∷ w) rest = ap (λ l. c ∷ l) (taken_whole w rest)
 
