@@ -11,3 +11,5 @@ pub mod Closes
 pub mod Pieces
 pub mod Lexing
 pub mod Shapes
+pub mod Keywords
+pub mod Sayings

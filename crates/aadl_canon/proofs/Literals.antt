@@ -210,6 +210,8 @@ pub record IsUnread (b : List ℕ) : Type 0 where
   pub spelled : b ≡ 123 ∷ 42 ∷ 42 ∷ body
   pub whole : length body ≡ size + 3
   pub closes : (rest : List ℕ) → close_from 0 (body ++ rest) ≡ Some size
+  pub front : List ℕ
+  pub last : body ≡ front ++ 125 ∷ []
 
 unread_goes : (at n : ℕ) (s : List ℕ) → close_from 0 s ≡ Some n → first Outside at (123 ∷ 42 ∷ 42 ∷ s) ≡ Taken Unread (n + 6)
 unfolding first

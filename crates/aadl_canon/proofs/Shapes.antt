@@ -121,6 +121,10 @@ closes_kept _ rest _ (here s) = here rest
 closes_kept _ rest _ (later c s n h more) =
     subst (λ (l : List ℕ). Closes (l ++ rest) (suc n)) (sym (take_three n (c ∷ s))) (later c (take (n + 3) s ++ rest) n (starts_kept c s rest n more h) (closes_kept s rest n more))
 
+closes_last : (s : List ℕ) (n : ℕ) → Closes s n → (w : List ℕ) × (take (n + 3) s ≡ w ++ 125 ∷ [])
+closes_last _ _ (here s) = (42 ∷ 42 ∷ [], refl)
+closes_last _ _ (later c s n h more) = let w = closes_last s n more in (c ∷ w.0, take_three n (c ∷ s) ∙ ap (λ l. c ∷ l) w.1)
+
 closes_before : (s : List ℕ) (j n : ℕ) → Closes s n → close_from j (take n s) ≡ None
 closes_before _ j _ (here s) = refl
 closes_before _ j _ (later c s n h more) =
@@ -214,6 +218,8 @@ unread_shape s n starts e =
       spelled = ap (take (n + 6)) exact.1 ∙ ap (λ m. take m (123 ∷ 42 ∷ 42 ∷ t)) (let g : n + 6 ≡ suc (suc (suc (n + 3))) = omega arith in g);
       whole = length-take-le (n + 3) t size;
       closes = λ rest. close_kept t rest n closed;
+      front = (closes_last t n (closes_of t n closed)).0;
+      last = (closes_last t n (closes_of t n closed)).1;
     }
 
 string_shape : (s : List ℕ) → (get_or s 0 0 == 34) ≡ true → (get_or s (run is_in_string (drop 1 s) + 1) 0 == 34) ≡ true → IsString (take (run is_in_string (drop 1 s) + 2) s)

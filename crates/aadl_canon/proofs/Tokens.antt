@@ -145,12 +145,12 @@ after_inside AfterName _ b = refl
 stays : (r : Reading) (class : TokenKind) (kind : Kind) → IsInner class → after r class (kind_text kind) ≡ behind r kind → inside_behind (is_inside r) class ≡ is_inside (behind r kind)
 stays r class kind inner e = inner (is_inside r) ∙ sym (after_inside r class (kind_text kind)) ∙ ap is_inside e
 
-word_then : (r : Reading) (b : List ℕ) → after r Word b ≡ behind r (word b)
+pub word_then : (r : Reading) (b : List ℕ) → after r Word b ≡ behind r (word b)
 word_then Outside b = refl
 word_then AfterName b = refl
 word_then Inside b = refl
 
-keyword_then : (r : Reading) (m : Mark) → keyword_of (is_inside r) (mark_text m) ≡ Some m → after r Word (mark_text m) ≡ behind r (mark m)
+pub keyword_then : (r : Reading) (m : Mark) → keyword_of (is_inside r) (mark_text m) ≡ Some m → after r Word (mark_text m) ≡ behind r (mark m)
 keyword_then Outside k.AnnexOpen e = absurd cc
 keyword_then Outside _ e = refl
 keyword_then AfterName k.AnnexOpen e = absurd cc
@@ -158,7 +158,7 @@ keyword_then AfterName _ e = refl
 keyword_then Inside k.AnnexClose e = absurd cc
 keyword_then Inside _ e = refl
 
-symbol_then : (r : Reading) (m : Mark) → symbol_of (mark_text m) ≡ Some m → after r Symbol (mark_text m) ≡ behind r (mark m)
+pub symbol_then : (r : Reading) (m : Mark) → symbol_of (mark_text m) ≡ Some m → after r Symbol (mark_text m) ≡ behind r (mark m)
 symbol_then Outside k.AnnexOpen e = absurd cc
 symbol_then Outside _ e = refl
 symbol_then AfterName k.AnnexOpen e = absurd cc
@@ -166,17 +166,17 @@ symbol_then AfterName _ e = refl
 symbol_then Inside k.AnnexClose e = absurd cc
 symbol_then Inside _ e = refl
 
-whole_then : (r : Reading) (n : ℕ) (b : List ℕ) → after r (Whole (pos n)) b ≡ behind r (whole (pos n))
+pub whole_then : (r : Reading) (n : ℕ) (b : List ℕ) → after r (Whole (pos n)) b ≡ behind r (whole (pos n))
 whole_then Outside n b = refl
 whole_then AfterName n b = refl
 whole_then Inside n b = refl
 
-real_then : (r : Reading) (b : List ℕ) → after r Real b ≡ behind r (real b)
+pub real_then : (r : Reading) (b : List ℕ) → after r Real b ≡ behind r (real b)
 real_then Outside b = refl
 real_then AfterName b = refl
 real_then Inside b = refl
 
-quoted_then : (r : Reading) (b : List ℕ) → after r Quoted b ≡ behind r (quoted b)
+pub quoted_then : (r : Reading) (b : List ℕ) → after r Quoted b ≡ behind r (quoted b)
 quoted_then Outside b = refl
 quoted_then AfterName b = refl
 quoted_then Inside b = refl
