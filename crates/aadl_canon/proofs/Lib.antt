@@ -13,3 +13,4 @@ pub mod Lexing
 pub mod Shapes
 pub mod Keywords
 pub mod Sayings
+pub mod Texts

@@ -167,11 +167,11 @@ all_beside : (p : ℕ) (ks : List Kind) → Beside (after_beside (class_number (
     → Beside has_class p ks → AreNeighbours p ks
 all_beside p [] a b c d e f = tt
 all_beside p (kind ∷ ks) (a, a_s) (b, b_s) (c, c_s) (d, d_s) (e, e_s) (f, f_s) =
-    (and_from (after_beside (class_number (the k.Dot)) is_word p (kind_number kind)) _ a
+    (and_from (has_class p (kind_number kind)) _ f
+      (and_from (after_beside (class_number (the k.Dot)) is_word p (kind_number kind)) _ a
       (and_from (after_beside (class_number (the k.Bang)) is_group p (kind_number kind)) _ b
       (and_from (after_beside (class_number (the k.Colon)) no_colon p (kind_number kind)) _ c
-      (and_from (before_beside (class_number a_word) is_dot p (kind_number kind)) _ d
-      (and_from (before_beside (class_number a_word) is_annex p (kind_number kind)) _ e f)))),
+      (and_from (before_beside (class_number a_word) is_dot p (kind_number kind)) _ d e)))),
       all_beside (kind_number kind) ks a_s b_s c_s d_s e_s f_s)
 
 pub neighbours : (ks : List Kind) → Derives whole_package ks → AreNeighbours 0 ks

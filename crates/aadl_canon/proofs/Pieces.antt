@@ -37,7 +37,7 @@ pub stands_within : (text : List ℕ) (at : ℕ) (w s : List ℕ) → 0 < length
 stands_within text at w s some e =
     let a = length-drop at text in let b = ap (length {A = ℕ}) e in let c = length-append w s in omega arith
 
-drop_more : (m n : ℕ) (text : List ℕ) → drop (m + n) text ≡ drop n (drop m text)
+pub drop_more : (m n : ℕ) (text : List ℕ) → drop (m + n) text ≡ drop n (drop m text)
 drop_more zero n text = ap (λ i. drop i text) (let e : 0 + n ≡ n = omega arith in e)
 drop_more (suc m) n [] = drop-nil (suc m + n) ∙ sym (drop-nil n)
 drop_more (suc m) n (c ∷ text) = let e : suc m + n ≡ suc (m + n) = omega arith in ap (λ i. drop i (c ∷ text)) e ∙ drop_more m n text

@@ -49,9 +49,9 @@ utf8_piece full at n x y mid utf8 within low high e =
     subst IsUtf8 (sym e) (utf8_front (x ∷ mid) (drop n (drop at full)) y high (subst IsUtf8 whole rest))
 
 -- what one token says
-record Says (r : Reading) (class : TokenKind) (b : List ℕ) : Type 0 where
-  spoken : Spoken r (class_kind (is_inside r) class b)
-  goes : after r class b ≡ behind r (class_kind (is_inside r) class b)
+pub record Says (r : Reading) (class : TokenKind) (b : List ℕ) : Type 0 where
+  pub spoken : Spoken r (class_kind (is_inside r) class b)
+  pub goes : after r class b ≡ behind r (class_kind (is_inside r) class b)
 
 word_says : (r : Reading) (b : List ℕ) (o : Option Mark) → keyword_of (is_inside r) b ≡ o → is_word b ≡ true → Spoken r (word_kind b o) × (after r Word b ≡ behind r (word_kind b o))
 word_says r b None e w = (a_word r b w e, word_then r b)
@@ -61,7 +61,7 @@ symbol_says : (r : Reading) (b : List ℕ) (o : Option Mark) → symbol_of b ≡
 symbol_says r b None e known = absurd cc
 symbol_says r b (Some m) e known = (a_symbol r m (symbol_fixed b m e), symbol_behind r b m (symbol_fixed b m e))
 
-says_by : (r : Reading) (class : TokenKind) (s : List ℕ) (n : ℕ) → Shape r s (Taken class n) → (class ≡ Word → is_word (take n s) ≡ true) → ((x y : ℕ) (mid : List ℕ) → x < 128 → y < 128 → take n s ≡ x ∷ (mid ++ y ∷ []) → IsUtf8 (take n s))
+pub says_by : (r : Reading) (class : TokenKind) (s : List ℕ) (n : ℕ) → Shape r s (Taken class n) → (class ≡ Word → is_word (take n s) ≡ true) → ((x y : ℕ) (mid : List ℕ) → x < 128 → y < 128 → take n s ≡ x ∷ (mid ++ y ∷ []) → IsUtf8 (take n s))
     → (r ≡ Inside → close_from 0 (take n s) ≡ None) → (kind_number (class_kind (is_inside r) class (take n s)) == 105) ≡ false → Says r class (take n s)
 says_by r Word s n shape w utf8 clear known = let p = word_says r (take n s) (keyword_of (is_inside r) (take n s)) refl (w refl) in record { spoken = p.0; goes = p.1 }
 says_by r (Whole v) s n (m, e, fits) w utf8 clear known =
@@ -77,47 +77,47 @@ says_by r AnnexClose s n shape w utf8 clear known = absurd shape
 
 -- words, and no terminal without a class
 
-abbrev WordsIn : List ℕ → List Token → Type 0
+abbrev pub WordsIn : List ℕ → List Token → Type 0
 WordsIn text [] = Unit {0}
 WordsIn text (t ∷ ts) = IsWordAt text t × WordsIn text ts
 
-words_all : (text : List ℕ) (ts : List Token) → All (IsWordAt text) ts → WordsIn text ts
+pub words_all : (text : List ℕ) (ts : List Token) → All (IsWordAt text) ts → WordsIn text ts
 words_all text [] h = tt
 words_all text (t ∷ ts) h = (h 0 t (omega arith), words_all text ts (λ k d less. h (suc k) d (omega arith)))
 
-words_front : (text : List ℕ) (ts us : List Token) → WordsIn text (ts ++ us) → WordsIn text ts
+pub words_front : (text : List ℕ) (ts us : List Token) → WordsIn text (ts ++ us) → WordsIn text ts
 words_front text [] us h = tt
 words_front text (t ∷ ts) us (h, hs) = (h, words_front text ts us hs)
 
-words_back : (text : List ℕ) (ts us : List Token) → WordsIn text (ts ++ us) → WordsIn text us
+pub words_back : (text : List ℕ) (ts us : List Token) → WordsIn text (ts ++ us) → WordsIn text us
 words_back text [] us h = h
 words_back text (t ∷ ts) us (h, hs) = words_back text ts us hs
 
-abbrev Classed : List Kind → Type 0
+abbrev pub Classed : List Kind → Type 0
 Classed [] = Unit {0}
 Classed (kind ∷ ks) = ((kind_number kind == 105) ≡ false) × Classed ks
 
-classed_front : (a b : List Kind) → Classed (a ++ b) → Classed a
+pub classed_front : (a b : List Kind) → Classed (a ++ b) → Classed a
 classed_front [] b h = tt
 classed_front (kind ∷ a) b (h, hs) = (h, classed_front a b hs)
 
-classed_back : (a b : List Kind) → Classed (a ++ b) → Classed b
+pub classed_back : (a b : List Kind) → Classed (a ++ b) → Classed b
 classed_back [] b h = h
 classed_back (kind ∷ a) b (h, hs) = classed_back a b hs
 
 -- tokens that are neither end of a body
-abbrev AreInner : List Token → Type 0
+abbrev pub AreInner : List Token → Type 0
 AreInner [] = Unit {0}
 AreInner (t ∷ ts) = ((b : Bool) → inside_behind b t.kind ≡ b) × AreInner ts
 
-kinds_append : (inside : Bool) (full : List ℕ) (body us : List Token) → AreInner body → kinds_of (spots_from inside full (body ++ us)) ≡ kinds_of (spots_from inside full body) ++ kinds_of (spots_from inside full us)
+pub kinds_append : (inside : Bool) (full : List ℕ) (body us : List Token) → AreInner body → kinds_of (spots_from inside full (body ++ us)) ≡ kinds_of (spots_from inside full body) ++ kinds_of (spots_from inside full us)
 kinds_append inside full [] us h = refl
 kinds_append inside full (t ∷ body) us (h, hs) =
     ap (λ (l : List Kind). kind_of inside full t ∷ l)
     (ap (λ (b : Bool). kinds_of (spots_from b full (body ++ us))) (h inside) ∙ kinds_append inside full body us hs
       ∙ ap (λ (b : Bool). kinds_of (spots_from b full body) ++ kinds_of (spots_from inside full us)) (sym (h inside)))
 
-shape_inner : (r : Reading) (s : List ℕ) (class : TokenKind) (n : ℕ) → Shape r s (Taken class n) → (b : Bool) → inside_behind b class ≡ b
+pub shape_inner : (r : Reading) (s : List ℕ) (class : TokenKind) (n : ℕ) → Shape r s (Taken class n) → (b : Bool) → inside_behind b class ≡ b
 shape_inner r s Word n h b = refl
 shape_inner r s (Whole v) n h b = refl
 shape_inner r s Real n h b = refl
@@ -128,5 +128,5 @@ shape_inner r s AnnexOpen n h b = absurd h
 shape_inner r s AnnexClose n h b = absurd h
 
 -- the shape of what stands at a place
-shape_at : (r : Reading) (text : List ℕ) (at : ℕ) (x : First) → at < length text → first r at (drop at text) ≡ x → Shape r (drop at text) x
+pub shape_at : (r : Reading) (text : List ℕ) (at : ℕ) (x : First) → at < length text → first r at (drop at text) ≡ x → Shape r (drop at text) x
 shape_at r text at x within e = subst (λ (y : First). Shape r (drop at text) y) e (first_shape r at (drop at text) (let l = length-drop at text in omega arith))

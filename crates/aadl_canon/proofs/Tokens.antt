@@ -135,7 +135,7 @@ named : (b : Bool) → is_inside (if b then AfterName else Outside) ≡ false
 named true = refl
 named false = refl
 
-after_inside : (r : Reading) (class : TokenKind) (b : List ℕ) → is_inside (after r class b) ≡ is_inside r
+pub after_inside : (r : Reading) (class : TokenKind) (b : List ℕ) → is_inside (after r class b) ≡ is_inside r
 after_inside Inside class b = refl
 after_inside Outside Word b = named (str_eq_ignore_ascii_case b (codes "behavior_specification"))
 after_inside Outside _ b = refl

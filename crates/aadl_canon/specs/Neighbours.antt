@@ -14,12 +14,12 @@ of_class n c = n == class_number c
 -- terminal is without a class.
 abbrev pub may_stand_behind : ℕ → ℕ → Bool
 may_stand_behind p n =
-    (not (of_class p (the k.Dot)) || of_class n a_word)
+    not (n == 105)
+    && ((not (of_class p (the k.Dot)) || of_class n a_word)
     && ((not (of_class p (the k.Bang)) || of_class n (the k.ParenOpen))
     && ((not (of_class p (the k.Colon)) || not (of_class n (the k.Colon) || of_class n (the k.Scope)))
     && ((of_class p a_word || not (of_class n (the k.Dot)))
-    && ((of_class p a_word || not (of_class n an_unread || of_class n (the k.AnnexOpen)))
-    && not (n == 105)))))
+    && (of_class p a_word || not (of_class n an_unread || of_class n (the k.AnnexOpen)))))))
 
 -- each terminal may stand behind the one before it
 abbrev pub AreNeighbours : ℕ → List Kind → Type 0
