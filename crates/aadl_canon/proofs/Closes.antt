@@ -85,11 +85,11 @@ word_past (c ∷ b) s n w = close_past is_in_word refl (c ∷ b) s n (both_right
 abbrev in_real : ℕ → Bool
 in_real c = is_ascii_digit c || c == 46
 
-all_weaker : (p q : ℕ → Bool) (w : List ℕ) → ((c : ℕ) → p c ≡ true → q c ≡ true) → list_all p w ≡ true → list_all q w ≡ true
+pub all_weaker : (p q : ℕ → Bool) (w : List ℕ) → ((c : ℕ) → p c ≡ true → q c ≡ true) → list_all p w ≡ true → list_all q w ≡ true
 all_weaker p q [] h e = refl
 all_weaker p q (c ∷ w) h e = and_from (q c) _ (h c (both_left (p c) _ e)) (all_weaker p q w h (both_right (p c) _ e))
 
-all_append : (q : ℕ → Bool) (v w : List ℕ) → list_all q v ≡ true → list_all q w ≡ true → list_all q (v ++ w) ≡ true
+pub all_append : (q : ℕ → Bool) (v w : List ℕ) → list_all q v ≡ true → list_all q w ≡ true → list_all q (v ++ w) ≡ true
 all_append q [] w e h = h
 all_append q (c ∷ v) w e h = and_from (q c) _ (both_left (q c) _ e) (all_append q v w (both_right (q c) _ e) h)
 

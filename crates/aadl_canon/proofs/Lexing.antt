@@ -195,7 +195,7 @@ inner_plain p kind ks text at near said saids plain e go =
     }
 
 mutual
-  outer : (p : Kind) (ks : List Kind) (r : Reading) (text : List ℕ) (at : ℕ) → is_inside r ≡ false → AreNeighbours (kind_number p) ks → Said r ks → drop at text ≡ text_behind p ks → Outer r text at ks
+  pub outer : (p : Kind) (ks : List Kind) (r : Reading) (text : List ℕ) (at : ℕ) → is_inside r ≡ false → AreNeighbours (kind_number p) ks → Said r ks → drop at text ≡ text_behind p ks → Outer r text at ks
   outer p [] r text at i near said e = record {
     tokens = [];
     lexes = gap_skipped r text at [] line_end [] line e (ended r text (at + 1) (let l = length-drop at text in let n = ap (length {A = ℕ}) e in omega arith));

@@ -14,3 +14,5 @@ pub mod Shapes
 pub mod Keywords
 pub mod Sayings
 pub mod Texts
+pub mod Utf8
+pub mod Reading
