@@ -1,22 +1,22 @@
 -- No terminal inside a behaviour annex has its end in it.
-use Rattle.std.proofs.Common.{◌≡◌, ℕ, suc, ◌+◌, ◌<◌, ◌≤◌, Bool, true, false, cond, not, ◌&&◌, ◌||◌, ◌==◌, ◌∙◌, sym, ap, subst, refl, List, [], ◌∷◌, ◌++◌, append_assoc, length, length-append, take, get_or, arith, Option, Some, None, nat_eq, inl, inr}
-use Rattle.std.specs.Prelude.{codes, pos}
+use Rattle.std.proofs.Common.{◌≡◌, ℕ, suc, ◌+◌, Bool, true, false, cond, not, ◌&&◌, ◌||◌, ◌==◌, ◌∙◌, sym, ap, refl, List, [], ◌∷◌, ◌++◌, append_assoc, length, length-append, arith, Option, Some, None, nat_eq}
+use Rattle.std.specs.Prelude.{codes}
 use Rattle.std.specs.List.{list_all, starts_with}
 use Rattle.std.specs.Char.{is_ascii_alphabetic, is_ascii_digit}
 use Rattle.std.specs.Fmt as fmt
-use Rattle.std.proofs.lemmas.Bool.{and_from, or_left, or_parts}
+use Rattle.std.proofs.lemmas.Bool.{and_from, or_left}
 use Rattle.aadl_lex.specs.declared.rules.Reading.TheVariants.{Inside}
-use Rattle.aadl_lex.specs.Rules.{is_in_word, is_word, close_from, most}
+use Rattle.aadl_lex.specs.Rules.{is_in_word, is_word, close_from}
 use Rattle.aadl_tree.specs.declared.mark.Mark.{Mark}
 use Rattle.aadl_tree.specs.declared.mark.Mark.TheVariants as k
-use Rattle.aadl_tree.specs.Marks.{mark_text, keyword_of, symbol_of}
+use Rattle.aadl_tree.specs.Marks.{mark_text}
 use Rattle.aadl_tree.specs.Kinds.{Kind, mark}
 use Rattle.aadl_tree.specs.Canon.{kind_text}
-use Rattle.aadl_machine.proofs.Basics.{both_left, both_right, some_is}
-use Rattle.aadl_canon.proofs.Firsts.{other_bytes, extends}
+use Rattle.aadl_machine.proofs.Basics.{both_left, both_right}
+use Rattle.aadl_canon.proofs.Firsts.{other_bytes}
 use Rattle.aadl_canon.proofs.Literals.{IsReal, IsString, number_digits}
-use Rattle.aadl_canon.proofs.Spoken.{is_inside, Spoken, a_word, a_number, a_real, a_string, an_annex, a_keyword, a_symbol, opens, closes}
-use Rattle.aadl_canon.proofs.Tokens.{goes_on, Ends, IsPlain, keyword_is_word}
+use Rattle.aadl_canon.proofs.Spoken.{Spoken, a_word, a_number, a_real, a_string, a_keyword, a_symbol, closes}
+use Rattle.aadl_canon.proofs.Tokens.{Ends, IsPlain, keyword_is_word}
 
 -- bytes that are no `*` are passed over
 pub close_past : (p : ℕ → Bool) → p 42 ≡ false → (w s : List ℕ) (n : ℕ) → list_all p w ≡ true → close_from n (w ++ s) ≡ close_from (n + length w) s
@@ -97,8 +97,8 @@ real_past : (b s : List ℕ) (n : ℕ) → IsReal b → close_from n (b ++ s) �
 real_past b s n h =
     close_past in_real refl b s n
     (ap (list_all in_real) h.spelled
-      ∙ all_append in_real h.whole (46 ∷ h.fraction) (all_weaker is_ascii_digit in_real h.whole (λ c d. or_left (is_ascii_digit c) _ d) h.whole_digits)
-      (all_weaker is_ascii_digit in_real h.fraction (λ c d. or_left (is_ascii_digit c) _ d) h.fraction_digits))
+    ∙ all_append in_real h.whole (46 ∷ h.fraction) (all_weaker is_ascii_digit in_real h.whole (λ c d. or_left (is_ascii_digit c) _ d) h.whole_digits)
+    (all_weaker is_ascii_digit in_real h.fraction (λ c d. or_left (is_ascii_digit c) _ d) h.fraction_digits))
 
 quoted_past : (b s : List ℕ) (n : ℕ) → IsString b → close_from 0 b ≡ None → close_from n (b ++ s) ≡ close_from (n + length b) s
 quoted_past b s n h e =

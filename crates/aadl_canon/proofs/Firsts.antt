@@ -1,17 +1,16 @@
 -- The text of one terminal is lexed as its token, where what follows does not go on with it.
-use Rattle.std.proofs.Common.{◌≡◌, ℕ, suc, zero, ◌+◌, ◌-◌, ◌*◌, ◌<◌, ◌≤◌, Bool, true, false, cond, not, ◌&&◌, ◌||◌, ◌==◌, ◌∙◌, sym, ap, ap₂, subst, refl, List, [], ◌∷◌, ◌++◌, length, take, drop, get_or, arith, Option, Some, None, nat_eq, nat_le}
-use Rattle.std.specs.Prelude.{take_while, codes, pos}
+use Rattle.std.proofs.Common.{◌≡◌, ℕ, ◌+◌, Bool, true, false, cond, not, ◌&&◌, ◌||◌, ◌==◌, ◌∙◌, ap, refl, List, [], ◌∷◌, ◌++◌, length, get_or, arith, Some, nat_eq, nat_le}
+use Rattle.std.specs.Prelude.{codes}
 use Rattle.std.specs.List.{list_all, prefix_len, starts_with}
-use Rattle.std.specs.Char.{is_ascii_alphabetic, is_ascii_digit}
+use Rattle.std.specs.Char.{is_ascii_alphabetic}
 use Rattle.std.proofs.lemmas.Bool.{false_from_ne_true, eqb-true, not-true, or_from, or_parts}
 use Rattle.std.proofs.lemmas.List.Folds.{length-prefix_len}
-use Rattle.aadl_lex.specs.declared.token.TokenKind.TheVariants.{Word, Whole, Real, Quoted, Symbol, Unread}
+use Rattle.aadl_lex.specs.declared.token.TokenKind.TheVariants.{Word, Symbol}
 use Rattle.aadl_lex.specs.declared.fault.LexFault.TheVariants.{LongName}
 use Rattle.aadl_lex.specs.declared.rules.First.{First}
-use Rattle.aadl_lex.specs.declared.rules.First.TheVariants.{Skipped, Taken, Body, Refused}
+use Rattle.aadl_lex.specs.declared.rules.First.TheVariants.{Skipped, Taken, Refused}
 use Rattle.aadl_lex.specs.declared.rules.Reading.{Reading}
-use Rattle.aadl_lex.specs.declared.rules.Reading.TheVariants.{Outside, AfterName, Inside}
-use Rattle.aadl_lex.specs.Rules.{is_blank, is_in_word, is_in_string, run, longest_name, is_word, whole_len, decimal, most, real_len, body_len, close_from, symbol_len, first}
+use Rattle.aadl_lex.specs.Rules.{is_blank, is_in_word, run, longest_name, is_word, first}
 use Rattle.aadl_tree.specs.declared.mark.Mark.{Mark}
 use Rattle.aadl_tree.specs.declared.mark.Mark.TheVariants as k
 use Rattle.aadl_tree.specs.Marks.{mark_text, symbol_of}

@@ -1,5 +1,5 @@
 -- Two forms of guards, each by a check of the table's rows.
-use Rattle.std.proofs.Common.{◌≡◌, ℕ, Bool, true, false, not, ◌&&◌, ◌||◌, ◌==◌, ◌∙◌, sym, ap, subst, refl, List, [], ◌∷◌, inl, inr}
+use Rattle.std.proofs.Common.{◌≡◌, ℕ, Bool, true, false, not, ◌&&◌, ◌||◌, ◌==◌, ◌∙◌, ap, refl, List, [], ◌∷◌, inl, inr}
 use Rattle.aadl_tree.specs.Marks.{mark_number}
 use Rattle.aadl_machine.specs.Symbols.{Class, Symbol, Row}
 use Rattle.aadl_machine.specs.Symbols as s

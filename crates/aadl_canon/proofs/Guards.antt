@@ -1,10 +1,10 @@
 -- What a stack of the machine lets stand side by side: a guard looks at the symbol on top and the terminal before it, and at symbols one below the other.
-use Rattle.std.proofs.Common.{◌≡◌, ℕ, Bool, true, false, not, ◌&&◌, ◌||◌, ◌==◌, ◌∙◌, sym, ap, subst, refl, List, [], ◌∷◌, ◌++◌, inl, inr}
+use Rattle.std.proofs.Common.{◌≡◌, ℕ, Bool, true, ◌&&◌, ◌∙◌, sym, ap, subst, refl, List, [], ◌∷◌, ◌++◌}
 use Rattle.std.proofs.lemmas.Bool.{eqb-true, and_from}
 use Rattle.aadl_tree.specs.Kinds.{Kind}
-use Rattle.aadl_machine.specs.Symbols.{Class, Symbol, Row}
+use Rattle.aadl_machine.specs.Symbols.{Symbol, Row}
 use Rattle.aadl_machine.specs.Table.{rows, can_omit}
-use Rattle.aadl_machine.specs.Machine.{Stack, class_number, kind_number, fits}
+use Rattle.aadl_machine.specs.Machine.{Stack, class_number, kind_number}
 use Rattle.aadl_machine.proofs.Basics.{both_left, both_right}
 use Rattle.aadl_machine.proofs.Derivations.{Member, Derives, nothing, take, omit}
 
@@ -77,9 +77,10 @@ pub guarded : (top : ℕ → Symbol → Bool) (pair : Symbol → Symbol → Bool
 guarded top pair beside g p _ _ h n nothing = tt
 guarded top pair beside g p _ _ h n (take x below r kind ks m e d) =
     let number = eqb-true (kind_number kind) (class_number r.first) e in
-    let fine = fine_row top pair (class_number r.first) r.wanted below (g.wants x r m) (below_seam top pair beside g x below r m n) (neat_below pair x below n) in
-    (ap (beside p) number ∙ g.takes p x r m h,
-      subst (λ (q : ℕ). Beside beside q ks) (sym number) (guarded top pair beside g (class_number r.first) (r.wanted ++ below) ks fine.0 fine.1 d))
+    let fine = fine_row top pair (class_number r.first) r.wanted below (g.wants x r m) (below_seam top pair beside g x below r m n) (neat_below pair x below n) in (
+      ap (beside p) number ∙ g.takes p x r m h,
+      subst (λ (q : ℕ). Beside beside q ks) (sym number) (guarded top pair beside g (class_number r.first) (r.wanted ++ below) ks fine.0 fine.1 d),
+    )
 guarded top pair beside g p _ _ h n (omit x below ks o d) =
     let fine = fine_below top pair beside g p x below o (h, n) in
     guarded top pair beside g p below ks fine.0 fine.1 d

@@ -1,17 +1,16 @@
 -- The canonical text of terminals that a text can have is lexed as these terminals.
-use Rattle.std.proofs.Common.{◌≡◌, ◌⊎◌, ℕ, zero, suc, ◌+◌, ◌-◌, ◌<◌, ◌≤◌, Bool, true, false, ◌∙◌, sym, ap, ap₂, subst, refl, List, [], ◌∷◌, ◌++◌, length, length-append, take, drop, arith, Option, Some, None, inl, inr}
-use Rattle.std.proofs.lemmas.List.{length-take-le, length-drop, append-nil}
+use Rattle.std.proofs.Common.{◌≡◌, ◌⊎◌, ℕ, zero, suc, ◌+◌, Bool, true, false, ◌∙◌, sym, ap, ap₂, subst, refl, List, [], ◌∷◌, ◌++◌, length, take, drop, arith, Some, None, inl, inr}
+use Rattle.std.proofs.lemmas.List.{length-take-le, length-drop}
 use Rattle.aadl_lex.specs.declared.token.Token.{Token}
 use Rattle.aadl_lex.specs.declared.token.TokenKind.{TokenKind}
 use Rattle.aadl_lex.specs.declared.token.TokenKind.TheVariants.{AnnexOpen, AnnexClose}
 use Rattle.aadl_lex.specs.declared.rules.Reading.{Reading}
 use Rattle.aadl_lex.specs.declared.rules.Reading.TheVariants.{Outside, AfterName, Inside}
 use Rattle.aadl_lex.specs.Rules.{is_blank, close_from, first, after}
-use Rattle.aadl_lex.specs.Tokens.{token, bytes_of, Lexes, ended, skips, takes, reads}
-use Rattle.aadl_tree.specs.declared.mark.Mark.{Mark}
+use Rattle.aadl_lex.specs.Tokens.{token, Lexes, ended, takes, reads}
 use Rattle.aadl_tree.specs.declared.mark.Mark.TheVariants as k
 use Rattle.aadl_tree.specs.Marks.{mark_text, keyword_of, symbol_of}
-use Rattle.aadl_tree.specs.Kinds.{Kind, word, whole, real, quoted, unread, mark, other, class_kind, kind_of, inside_behind, spots_from, kinds_of}
+use Rattle.aadl_tree.specs.Kinds.{Kind, mark, class_kind, inside_behind, spots_from, kinds_of}
 use Rattle.aadl_tree.specs.Canon.{kind_text, line_end, between, text_behind}
 use Rattle.aadl_machine.specs.Machine.{kind_number}
 use Rattle.aadl_canon.specs.Neighbours.{AreNeighbours}
@@ -20,7 +19,7 @@ use Rattle.aadl_canon.proofs.Spoken.{is_inside, Spoken, a_word, a_number, a_real
 use Rattle.aadl_canon.proofs.Tokens.{Ends, Lexed, IsPlain, lexed}
 use Rattle.aadl_canon.proofs.Meets.{ends_behind}
 use Rattle.aadl_canon.proofs.Closes.{close_past, kind_past, close_at}
-use Rattle.aadl_canon.proofs.Pieces.{IsGap, line, is_gap, gap_blank, stands_within, drop_past, take_past, drop_cut, gap_skipped, token_bytes, close_gap}
+use Rattle.aadl_canon.proofs.Pieces.{line, is_gap, gap_blank, stands_within, drop_past, drop_cut, gap_skipped, token_bytes, close_gap}
 
 -- from a place outside on
 pub record Outer (r : Reading) (text : List ℕ) (at : ℕ) (ks : List Kind) : Type 0 where
@@ -142,7 +141,7 @@ inner_closes p ks text at e go =
     let more = go (here + 3) (drop_past text here (mark_text k.AnnexClose) left e1) in
     let within = stands_within text here (mark_text k.AnnexClose) left (omega arith) e1 in
     let cut : drop at (take here text) ≡ gap ++ [] =
-        ap (λ n. drop at (take (at + n) text)) (let g : length gap ≡ length gap + 0 = omega arith in g) ∙ drop_cut text at gap (mark_text k.AnnexClose ++ left) 0 e in
+    ap (λ n. drop at (take (at + n) text)) (let g : length gap ≡ length gap + 0 = omega arith in g) ∙ drop_cut text at gap (mark_text k.AnnexClose ++ left) 0 e in
     record {
       size = length gap;
       closed = close_gap gap left (is_gap p (mark k.AnnexClose));
@@ -176,10 +175,10 @@ inner_plain p kind ks text at near said saids plain e go =
     let from_here : at + size ≡ here + (n + more.size) = omega arith in
     let cut : drop at (take (at + size) text) ≡ gap ++ take (n + more.size) (kind_text kind ++ left) = drop_cut text at gap (kind_text kind ++ left) (n + more.size) e in
     let cut_here : drop here (take (at + size) text) ≡ kind_text kind ++ take more.size left =
-        ap (λ m. drop here (take m text)) from_here ∙ drop_cut text here (kind_text kind) left more.size e1 in
+    ap (λ m. drop here (take m text)) from_here ∙ drop_cut text here (kind_text kind) left more.size e1 in
     let inside : Lexes (behind Inside kind) (take (at + size) text) (here + n) more.body =
-        subst (λ (x : Reading). Lexes x (take (at + size) text) (here + n) more.body) (sym (inside_stays kind plain))
-        (subst (λ (m : ℕ). Lexes Inside (take m text) (here + n) more.body) (sym to_end) more.inside) in
+    subst (λ (x : Reading). Lexes x (take (at + size) text) (here + n) more.body) (sym (inside_stays kind plain))
+    (subst (λ (m : ℕ). Lexes Inside (take m text) (here + n) more.body) (sym to_end) more.inside) in
     record {
       size = size;
       closed = close_past is_blank refl gap (kind_text kind ++ left) 0 (gap_blank gap (is_gap p kind)) ∙ kind_past kind left (0 + length gap) said plain ends
@@ -206,7 +205,7 @@ mutual
         let after = opened r kind x said in
         subst (λ (q : Kind). Outer r text at (q ∷ ks)) (sym x) (subst (λ (s : Reading). Outer s text at (mark k.AnnexOpen ∷ ks)) (sym after)
         (outer_opens p ks text at (subst (λ (q : Kind). drop at text ≡ text_behind p (q ∷ ks)) x e)
-          (λ to f. inner (mark k.AnnexOpen) ks text to (subst (λ (q : Kind). AreNeighbours (kind_number q) ks) x nears) (subst (λ (s : Reading). Said s ks) (ap₂ behind after x) saids) f))))
+        (λ to f. inner (mark k.AnnexOpen) ks text to (subst (λ (q : Kind). AreNeighbours (kind_number q) ks) x nears) (subst (λ (s : Reading). Said s ks) (ap₂ behind after x) saids) f))))
     | inl (inr x) ↦ absurd (let inside = closed_inside r kind x said in let never = ap is_inside inside in cc)
     | inr plain ↦ outer_plain p kind ks r text at i nears said saids plain e (λ s to o more f. outer kind ks s text to o nears more f)
   ]
@@ -217,6 +216,6 @@ mutual
     | inl (inl x) ↦ absurd (let after = opened Inside kind x said in cc)
     | inl (inr x) ↦ subst (λ (q : Kind). Inner text at (text_behind p (q ∷ ks)) (q ∷ ks)) (sym x)
         (inner_closes p ks text at (subst (λ (q : Kind). drop at text ≡ text_behind p (q ∷ ks)) x e)
-          (λ to f. outer (mark k.AnnexClose) ks Outside text to refl (subst (λ (q : Kind). AreNeighbours (kind_number q) ks) x nears) (subst (λ (q : Kind). Said (behind Inside q) ks) x saids) f))
+        (λ to f. outer (mark k.AnnexClose) ks Outside text to refl (subst (λ (q : Kind). AreNeighbours (kind_number q) ks) x nears) (subst (λ (q : Kind). Said (behind Inside q) ks) x saids) f))
     | inr plain ↦ inner_plain p kind ks text at nears said saids plain e (λ to f. inner kind ks text to nears (subst (λ (s : Reading). Said s ks) (inside_stays kind plain) saids) f)
   ]

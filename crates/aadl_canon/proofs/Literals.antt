@@ -1,19 +1,18 @@
 -- Numbers, strings and annexes, each lexed as its token.
-use Rattle.std.proofs.Common.{◌≡◌, ℕ, suc, zero, ◌+◌, ◌-◌, ◌*◌, ◌/◌, ◌%◌, ◌<◌, ◌≤◌, ◌^◌, Bool, true, false, cond, not, ◌&&◌, ◌||◌, ◌==◌, ◌∙◌, sym, ap, ap₂, subst, refl, List, [], ◌∷◌, ◌++◌, append_assoc, lt-ltb, length, length-append, take, drop, get_or, arith, Option, Some, None, nat_eq, nat_le, inl, inr}
+use Rattle.std.proofs.Common.{◌≡◌, ℕ, suc, ◌+◌, ◌/◌, ◌%◌, ◌<◌, ◌≤◌, ◌^◌, Bool, true, false, cond, ◌&&◌, ◌||◌, ◌==◌, ◌∙◌, sym, ap, subst, refl, List, [], ◌∷◌, ◌++◌, append_assoc, lt-ltb, length, length-append, take, drop, get_or, arith, Some, None, nat_eq, nat_le, inl, inr}
 use Rattle.std.specs.Prelude.{codes, pos, nat_lt}
-use Rattle.std.specs.List.{list_all, prefix_len, starts_with}
+use Rattle.std.specs.List.{list_all, starts_with}
 use Rattle.std.specs.Char.{is_ascii_alphabetic, is_ascii_digit}
 use Rattle.std.specs.Fmt as fmt
-use Rattle.std.proofs.lemmas.Bool.{false_from_ne_true, eqb-true, not-true, or_from, or_parts, or_cases, and_from, le-leb, leb-true}
+use Rattle.std.proofs.lemmas.Bool.{false_from_ne_true, not-true, or_parts, or_cases, and_from, le-leb, leb-true}
 use Rattle.std.proofs.lemmas.Fmt.{decimal_by_steps}
-use Rattle.std.proofs.lemmas.Grind.{common_steps}
-use Rattle.aadl_lex.specs.declared.token.TokenKind.TheVariants.{Word, Whole, Real, Quoted, Symbol, Unread}
-use Rattle.aadl_lex.specs.declared.fault.LexFault.TheVariants.{BigNumber, OpenString}
+use Rattle.aadl_lex.specs.declared.token.TokenKind.TheVariants.{Whole, Real, Quoted, Unread}
+use Rattle.aadl_lex.specs.declared.fault.LexFault.TheVariants.{BigNumber}
 use Rattle.aadl_lex.specs.declared.rules.First.{First}
-use Rattle.aadl_lex.specs.declared.rules.First.TheVariants.{Skipped, Taken, Body, Refused}
+use Rattle.aadl_lex.specs.declared.rules.First.TheVariants.{Taken, Body, Refused}
 use Rattle.aadl_lex.specs.declared.rules.Reading.{Reading}
-use Rattle.aadl_lex.specs.declared.rules.Reading.TheVariants.{Outside, AfterName, Inside}
-use Rattle.aadl_lex.specs.Rules.{is_blank, is_in_string, run, whole_len, decimal, decimal_from, most, real_len, number_by, body_len, close_from, annex_by, first}
+use Rattle.aadl_lex.specs.declared.rules.Reading.TheVariants.{Outside, AfterName}
+use Rattle.aadl_lex.specs.Rules.{is_blank, is_in_string, run, whole_len, decimal, decimal_from, most, real_len, number_by, close_from, annex_by, first}
 use Rattle.aadl_lex.proofs.Scans.{more_by, decimal_cons}
 use Rattle.aadl_machine.proofs.Basics.{both_left, both_right}
 use Rattle.aadl_canon.proofs.Firsts.{stops, run_all, Visible, not_blank, not_comment, fourth}
@@ -88,9 +87,9 @@ whole_first r at (c ∷ ds) rest some all fits stop =
     let digit = both_left (is_ascii_digit c) _ all in
     digit_goes r at c (ds ++ rest) _ digit (digit_no_letter c digit)
     (ap (number_by at (c ∷ ds ++ rest)) (not_real (c ∷ ds) rest all stop)
-      ∙ ap (λ n. let t = take n (c ∷ ds ++ rest) in cond (nat_le (decimal t) most) (Taken (Whole (pos (decimal t))) (length t)) (Refused (BigNumber at))) (whole_goes (c ∷ ds) rest all stop)
-      ∙ ap (λ t. cond (nat_le (decimal t) most) (Taken (Whole (pos (decimal t))) (length t)) (Refused (BigNumber at))) (taken_whole (c ∷ ds) rest)
-      ∙ ap (λ b. cond b (Taken (Whole (pos (decimal (c ∷ ds)))) (length (c ∷ ds))) (Refused (BigNumber at))) fits)
+    ∙ ap (λ n. let t = take n (c ∷ ds ++ rest) in cond (nat_le (decimal t) most) (Taken (Whole (pos (decimal t))) (length t)) (Refused (BigNumber at))) (whole_goes (c ∷ ds) rest all stop)
+    ∙ ap (λ t. cond (nat_le (decimal t) most) (Taken (Whole (pos (decimal t))) (length t)) (Refused (BigNumber at))) (taken_whole (c ∷ ds) rest)
+    ∙ ap (λ b. cond b (Taken (Whole (pos (decimal (c ∷ ds)))) (length (c ∷ ds))) (Refused (BigNumber at))) fits)
 
 -- the digits of a number say the number
 record Says (n : ℕ) (ds : List ℕ) : Type 0 where
@@ -160,7 +159,7 @@ is_real w f rest some all frac stop =
     let s = w ++ 46 ∷ (f ++ rest) in
     let len : run is_ascii_digit s ≡ length w = run_all is_ascii_digit w (46 ∷ (f ++ rest)) all refl in
     let fraction : run is_ascii_digit (drop (run is_ascii_digit s + 1) s) ≡ length f =
-        ap (λ n. run is_ascii_digit (drop (n + 1) s)) len ∙ ap (run is_ascii_digit) (past_seam w 46 (f ++ rest)) ∙ run_all is_ascii_digit f rest frac stop in
+    ap (λ n. run is_ascii_digit (drop (n + 1) s)) len ∙ ap (run is_ascii_digit) (past_seam w 46 (f ++ rest)) ∙ run_all is_ascii_digit f rest frac stop in
     let point : (get_or s (run is_ascii_digit s) 0 == 46) ≡ true = ap (λ n. get_or s n 0 == 46) len ∙ ap (λ n. n == 46) (at_seam w (46 ∷ (f ++ rest))) in
     let whole : length (w ++ 46 ∷ f) ≡ length w + suc (length f) = length-append w (46 ∷ f) in
     ap real_len (append_assoc w (46 ∷ f) rest)
@@ -175,9 +174,9 @@ pub real_first : (r : Reading) (at : ℕ) (b rest : List ℕ) → IsReal b → s
 real_first r at b rest h stop =
     subst (λ (l : List ℕ). first r at (l ++ rest) ≡ Taken Real (length l)) (sym h.spelled)
     (ap (first r at) (append_assoc h.whole (46 ∷ h.fraction) rest)
-      ∙ first_digit h.whole (46 ∷ (h.fraction ++ rest)) r at _ h.has_whole h.whole_digits
-      (ap (λ (l : List ℕ). number_by at l (real_len l)) (sym (append_assoc h.whole (46 ∷ h.fraction) rest))
-        ∙ ap (number_by at ((h.whole ++ 46 ∷ h.fraction) ++ rest)) (is_real h.whole h.fraction rest h.has_fraction h.whole_digits h.fraction_digits stop)))
+    ∙ first_digit h.whole (46 ∷ (h.fraction ++ rest)) r at _ h.has_whole h.whole_digits
+    (ap (λ (l : List ℕ). number_by at l (real_len l)) (sym (append_assoc h.whole (46 ∷ h.fraction) rest))
+    ∙ ap (number_by at ((h.whole ++ 46 ∷ h.fraction) ++ rest)) (is_real h.whole h.fraction rest h.has_fraction h.whole_digits h.fraction_digits stop)))
 
 -- a quote, bytes of one line, and a quote
 pub record IsString (b : List ℕ) : Type 0 where
@@ -194,14 +193,14 @@ unfolding first
 string_goes r at inner rest all =
     let len : run is_in_string (inner ++ 34 ∷ rest) ≡ length inner = run_all is_in_string inner (34 ∷ rest) all refl in
     let quote : (get_or (34 ∷ (inner ++ 34 ∷ rest)) (run is_in_string (inner ++ 34 ∷ rest) + 1) 0 == 34) ≡ true =
-        ap (λ n. get_or (34 ∷ (inner ++ 34 ∷ rest)) n 0 == 34) (let e : run is_in_string (inner ++ 34 ∷ rest) + 1 ≡ suc (length inner) = omega arith in e) ∙ ap (λ n. n == 34) (at_seam inner (34 ∷ rest)) in
+    ap (λ n. get_or (34 ∷ (inner ++ 34 ∷ rest)) n 0 == 34) (let e : run is_in_string (inner ++ 34 ∷ rest) + 1 ≡ suc (length inner) = omega arith in e) ∙ ap (λ n. n == 34) (at_seam inner (34 ∷ rest)) in
     closed_string (get_or (34 ∷ (inner ++ 34 ∷ rest)) (run is_in_string (inner ++ 34 ∷ rest) + 1) 0 == 34) _ _ quote ∙ ap (λ n. Taken Quoted (n + 2)) len
 
 pub string_first : (r : Reading) (at : ℕ) (b rest : List ℕ) → IsString b → first r at (b ++ rest) ≡ Taken Quoted (length b)
 string_first r at b rest h =
     subst (λ (l : List ℕ). first r at (l ++ rest) ≡ Taken Quoted (length l)) (sym h.spelled)
     (ap (λ (l : List ℕ). first r at (34 ∷ l)) (append_assoc h.inner (34 ∷ []) rest) ∙ string_goes r at h.inner rest h.line
-      ∙ ap (Taken Quoted) (let e : length (h.inner ++ 34 ∷ []) ≡ length h.inner + 1 = length-append h.inner (34 ∷ []) in let g : length h.inner + 2 ≡ suc (length (h.inner ++ 34 ∷ [])) = omega arith in g))
+    ∙ ap (Taken Quoted) (let e : length (h.inner ++ 34 ∷ []) ≡ length h.inner + 1 = length-append h.inner (34 ∷ []) in let g : length h.inner + 2 ≡ suc (length (h.inner ++ 34 ∷ [])) = omega arith in g))
 
 -- `{**`, and bytes of which the first `**}` is at their end
 pub record IsUnread (b : List ℕ) : Type 0 where

@@ -1,5 +1,5 @@
 -- What follows a terminal in a canonical text does not go on with it.
-use Rattle.std.proofs.Common.{◌≡◌, ℕ, Bool, true, false, cond, not, ◌&&◌, ◌||◌, ◌==◌, ◌∙◌, sym, ap, subst, refl, List, [], ◌∷◌, ◌++◌, get_or, inl, inr}
+use Rattle.std.proofs.Common.{◌≡◌, ℕ, Bool, true, false, ◌&&◌, ◌||◌, refl, List, [], ◌∷◌, ◌++◌, get_or, inl, inr}
 use Rattle.std.specs.Prelude.{codes, if◌then◌else◌}
 use Rattle.std.specs.Char.{is_ascii_alphabetic}
 use Rattle.std.specs.List.{list_all}
@@ -9,13 +9,13 @@ use Rattle.aadl_lex.specs.Rules.{is_word, is_in_word}
 use Rattle.aadl_tree.specs.declared.mark.Mark.{Mark}
 use Rattle.aadl_tree.specs.declared.mark.Mark.TheVariants as k
 use Rattle.aadl_tree.specs.Marks.{mark_text, mark_number}
-use Rattle.aadl_tree.specs.Kinds.{Kind, word, whole, real, quoted, unread, mark, other}
-use Rattle.aadl_tree.specs.Canon.{kind_text, holds_left, holds_right, ends_line, line_end, between, text_behind}
+use Rattle.aadl_tree.specs.Kinds.{Kind, whole, mark}
+use Rattle.aadl_tree.specs.Canon.{kind_text, holds_left, holds_right, ends_line, line_end, text_behind}
 use Rattle.aadl_machine.specs.Machine.{kind_number}
 use Rattle.aadl_machine.proofs.Basics.{both_left}
 use Rattle.aadl_canon.specs.Neighbours.{may_stand_behind, AreNeighbours}
 use Rattle.aadl_canon.proofs.Firsts.{other_bytes}
-use Rattle.aadl_canon.proofs.Spoken.{is_inside, Spoken, a_word, behind, Said}
+use Rattle.aadl_canon.proofs.Spoken.{Spoken, a_word, Said}
 use Rattle.aadl_canon.proofs.Tokens.{goes_on, Ends}
 
 -- a blank goes on with nothing

@@ -1,5 +1,5 @@
 -- Each terminal of a package may stand behind the one before it.
-use Rattle.std.proofs.Common.{◌≡◌, ℕ, Bool, true, false, not, ◌&&◌, ◌||◌, ◌==◌, refl, List, [], ◌∷◌}
+use Rattle.std.proofs.Common.{◌≡◌, ℕ, Bool, true, false, not, ◌||◌, ◌==◌, refl, List, [], ◌∷◌}
 use Rattle.std.proofs.lemmas.Bool.{and_from}
 use Rattle.aadl_tree.specs.declared.mark.Mark.{Mark}
 use Rattle.aadl_tree.specs.declared.mark.Mark.TheVariants as k
@@ -9,7 +9,7 @@ use Rattle.aadl_machine.specs.Symbols.{Class, a_word, a_whole, a_real, a_quoted,
 use Rattle.aadl_machine.specs.Symbols as s
 use Rattle.aadl_machine.specs.Machine.{class_number, kind_number, whole_package}
 use Rattle.aadl_machine.proofs.Derivations.{Derives}
-use Rattle.aadl_canon.specs.Neighbours.{of_class, may_stand_behind, AreNeighbours}
+use Rattle.aadl_canon.specs.Neighbours.{of_class, AreNeighbours}
 use Rattle.aadl_canon.proofs.Guards.{neat, on_top, seam, Guard, Beside, guarded}
 use Rattle.aadl_canon.proofs.Forms.{after_check, after_beside, after_guard, before_check, before_beside, before_guard}
 
@@ -121,7 +121,6 @@ annex_checked : (x : Symbol) → before_check (class_number a_word) has_annex is
 annex_checked (s.only m) = annex_marked m
 annex_checked _ = refl
 
-
 -- every terminal is of a class
 abbrev any_pair : Symbol → Symbol → Bool
 any_pair x y = true
@@ -166,13 +165,14 @@ all_beside : (p : ℕ) (ks : List Kind) → Beside (after_beside (class_number (
     → Beside (after_beside (class_number (the k.Colon)) no_colon) p ks → Beside (before_beside (class_number a_word) is_dot) p ks → Beside (before_beside (class_number a_word) is_annex) p ks
     → Beside has_class p ks → AreNeighbours p ks
 all_beside p [] a b c d e f = tt
-all_beside p (kind ∷ ks) (a, a_s) (b, b_s) (c, c_s) (d, d_s) (e, e_s) (f, f_s) =
-    (and_from (has_class p (kind_number kind)) _ f
+all_beside p (kind ∷ ks) (a, a_s) (b, b_s) (c, c_s) (d, d_s) (e, e_s) (f, f_s) = (
+  and_from (has_class p (kind_number kind)) _ f
       (and_from (after_beside (class_number (the k.Dot)) is_word p (kind_number kind)) _ a
       (and_from (after_beside (class_number (the k.Bang)) is_group p (kind_number kind)) _ b
       (and_from (after_beside (class_number (the k.Colon)) no_colon p (kind_number kind)) _ c
       (and_from (before_beside (class_number a_word) is_dot p (kind_number kind)) _ d e)))),
-      all_beside (kind_number kind) ks a_s b_s c_s d_s e_s f_s)
+  all_beside (kind_number kind) ks a_s b_s c_s d_s e_s f_s,
+)
 
 pub neighbours : (ks : List Kind) → Derives whole_package ks → AreNeighbours 0 ks
 neighbours ks d =

@@ -1,33 +1,31 @@
 -- The canonical text of a tree has that tree, but for its places.
-use Rattle.std.proofs.Common.{◌≡◌, ℕ, ◌<◌, ◌≤◌, Bool, true, false, ◌∙◌, sym, ap, subst, refl, List, [], ◌∷◌, ◌++◌, length, drop, arith}
+use Rattle.std.proofs.Common.{◌≡◌, ℕ, ◌<◌, Bool, false, sym, ap, subst, refl, List, [], ◌∷◌, length, arith}
 use Rattle.std.proofs.lemmas.List.{append-nil}
 use Rattle.aadl_lex.specs.declared.token.Token.{Token}
 use Rattle.aadl_lex.specs.declared.rules.Reading.TheVariants.{Outside}
-use Rattle.aadl_lex.specs.Tokens.{AreTokensOf, AreInOrder}
+use Rattle.aadl_lex.specs.Tokens.{AreInOrder}
 use Rattle.aadl_lex.proofs.Order.{order_lexes}
 use Rattle.aadl_tree.specs.declared.mark.Mark.TheVariants as k
-use Rattle.aadl_tree.specs.Marks.{mark_number}
-use Rattle.aadl_tree.specs.Kinds.{Kind, mark, Spot, inside_behind, spots_from, spots, kinds_of}
-use Rattle.aadl_tree.specs.Parts.{Spells, Written, kept}
+use Rattle.aadl_tree.specs.Kinds.{Kind, mark, inside_behind, spots_from, spots, kinds_of}
+use Rattle.aadl_tree.specs.Parts.{Spells, kept}
 use Rattle.aadl_tree.specs.Declarations.{PackageTree, package_parts}
 use Rattle.aadl_tree.specs.Maps.{package_to, no_place}
-use Rattle.aadl_tree.specs.Grammar.{IsPackage, IsShallow}
+use Rattle.aadl_tree.specs.Grammar.{IsShallow}
 use Rattle.aadl_tree.specs.Given.{IsTreeOf}
 use Rattle.aadl_tree.specs.Canon.{canon, canonical}
 use Rattle.aadl_tree.proofs.Parts.{written_spells, kept_spells}
 use Rattle.aadl_machine.specs.Machine.{whole_package}
-use Rattle.aadl_machine.specs.Moved.{Behind, Rising, SamePackage}
+use Rattle.aadl_machine.specs.Moved.{Behind, Rising}
 use Rattle.aadl_machine.proofs.Alike.{alike_kept}
 use Rattle.aadl_machine.proofs.DeclarationPlaces.{package_alike}
 use Rattle.aadl_machine.proofs.Derivations.{Derives}
 use Rattle.aadl_machine.proofs.Placed.Canons.{same_package}
 use Rattle.aadl_machine.proofs.Starts.{packages}
-use Rattle.aadl_canon.specs.Neighbours.{AreNeighbours}
 use Rattle.aadl_canon.specs.Reads.{HasTree}
 use Rattle.aadl_canon.proofs.Neighbours.{neighbours}
 use Rattle.aadl_canon.proofs.Shallow.{kept_shallow}
 use Rattle.aadl_canon.proofs.Spoken.{Said, kept_said}
-use Rattle.aadl_canon.proofs.Lexing.{Outer, outer}
+use Rattle.aadl_canon.proofs.Lexing.{outer}
 use Rattle.aadl_canon.proofs.Texts.{text_said}
 use Rattle.aadl_canon.proofs.Utf8.{text_utf8}
 

@@ -1,34 +1,27 @@
 -- The terminals of a text's tokens are terminals that a text can have.
-use Rattle.std.proofs.Common.{◌≡◌, ℕ, zero, suc, ◌+◌, ◌-◌, ◌<◌, ◌≤◌, Bool, true, false, ◌&&◌, ◌==◌, not, ◌∙◌, sym, ap, ap₂, subst, refl, List, [], ◌∷◌, ◌++◌, append_assoc, length, length-append, take, drop, get_or, arith, Option, Some, None}
-use Rattle.std.specs.Prelude.{pos, if◌then◌else◌}
+use Rattle.std.proofs.Common.{◌≡◌, ℕ, suc, ◌+◌, ◌<◌, Bool, true, false, ◌==◌, ◌∙◌, sym, ap, subst, refl, List, [], ◌∷◌, ◌++◌, append_assoc, length, length-append, take, drop, get_or, arith, Option, Some, None}
 use Rattle.std.specs.List.{All}
 use Rattle.std.specs.Str.{IsUtf8}
-use Rattle.std.proofs.lemmas.List.{length-drop, length-take-le, drop-take, take-take, take-append-drop, get_or-drop}
+use Rattle.std.proofs.lemmas.List.{length-drop, take-append-drop, get_or-drop}
 use Rattle.std.proofs.lemmas.Str.{IsUtf8-take, IsUtf8-drop, IsCharBoundary-before_ascii, IsCharBoundary-after_ascii}
 use Rattle.aadl_lex.specs.declared.token.Token.{Token}
 use Rattle.aadl_lex.specs.declared.token.TokenKind.{TokenKind}
 use Rattle.aadl_lex.specs.declared.token.TokenKind.TheVariants.{Word, Whole, Real, Quoted, Symbol, AnnexOpen, AnnexClose, Unread}
 use Rattle.aadl_lex.specs.declared.rules.First.{First}
-use Rattle.aadl_lex.specs.declared.rules.First.TheVariants.{Skipped, Taken, Body, Refused}
+use Rattle.aadl_lex.specs.declared.rules.First.TheVariants.{Taken}
 use Rattle.aadl_lex.specs.declared.rules.Reading.{Reading}
-use Rattle.aadl_lex.specs.declared.rules.Reading.TheVariants.{Outside, AfterName, Inside}
-use Rattle.aadl_lex.specs.Rules.{is_word, most, close_from, first, after}
-use Rattle.aadl_lex.specs.Tokens.{token, bytes_of, Lexes, ended, skips, takes, reads, AreTokensOf}
+use Rattle.aadl_lex.specs.declared.rules.Reading.TheVariants.{Inside}
+use Rattle.aadl_lex.specs.Rules.{is_word, close_from, first, after}
 use Rattle.aadl_lex.specs.Spelled.{IsWordAt}
-use Rattle.aadl_lex.proofs.Order.{stands_within}
-use Rattle.aadl_lex.proofs.Words.{words_of}
 use Rattle.aadl_tree.specs.declared.mark.Mark.{Mark}
-use Rattle.aadl_tree.specs.declared.mark.Mark.TheVariants as k
 use Rattle.aadl_tree.specs.Marks.{keyword_of, symbol_of}
-use Rattle.aadl_tree.specs.Kinds.{Kind, word, whole, real, quoted, unread, mark, other, word_kind, symbol_kind, class_kind, kind_of, inside_behind, spots_from, spots, kinds_of}
+use Rattle.aadl_tree.specs.Kinds.{Kind, word_kind, symbol_kind, class_kind, kind_of, inside_behind, spots_from, kinds_of}
 use Rattle.aadl_machine.specs.Machine.{kind_number}
-use Rattle.aadl_machine.proofs.Basics.{both_right}
-use Rattle.aadl_canon.specs.Neighbours.{AreNeighbours}
-use Rattle.aadl_canon.proofs.Literals.{IsString, IsUnread, at_seam}
-use Rattle.aadl_canon.proofs.Spoken.{is_inside, Spoken, a_word, a_number, a_real, a_string, an_annex, a_keyword, a_symbol, opens, closes, behind, Said}
+use Rattle.aadl_canon.proofs.Literals.{at_seam}
+use Rattle.aadl_canon.proofs.Spoken.{is_inside, Spoken, a_word, a_number, a_real, a_string, an_annex, a_keyword, a_symbol, behind}
 use Rattle.aadl_canon.proofs.Tokens.{word_then, whole_then, real_then, quoted_then}
 use Rattle.aadl_canon.proofs.Pieces.{take_past}
-use Rattle.aadl_canon.proofs.Shapes.{Shape, first_shape, none_drop, none_take, none_before}
+use Rattle.aadl_canon.proofs.Shapes.{Shape, first_shape}
 use Rattle.aadl_canon.proofs.Keywords.{keyword_fixed, symbol_fixed, keyword_behind, symbol_behind}
 
 -- a piece of a text, between two bytes of one byte each
@@ -42,7 +35,7 @@ utf8_front w rest y low utf8 =
 pub utf8_piece : (full : List ℕ) (at n x y : ℕ) (mid : List ℕ) → IsUtf8 full → at < length full → x < 128 → y < 128 → take n (drop at full) ≡ x ∷ (mid ++ y ∷ []) → IsUtf8 (take n (drop at full))
 utf8_piece full at n x y mid utf8 within low high e =
     let whole : drop at full ≡ (x ∷ mid) ++ y ∷ drop n (drop at full) =
-        sym (take-append-drop n (drop at full)) ∙ ap (λ l. l ++ drop n (drop at full)) e ∙ append_assoc (x ∷ mid) (y ∷ []) (drop n (drop at full)) in
+    sym (take-append-drop n (drop at full)) ∙ ap (λ l. l ++ drop n (drop at full)) e ∙ append_assoc (x ∷ mid) (y ∷ []) (drop n (drop at full)) in
     let byte : get_or full (at + 0) 0 ≡ x = sym (get_or-drop at full 0 0) ∙ ap (λ (l : List ℕ). get_or l 0 0) whole in
     let here : get_or full at 0 ≡ x = ap (λ m. get_or full m 0) (let g : at ≡ at + 0 = omega arith in g) ∙ byte in
     let rest = IsUtf8-drop full at utf8 (IsCharBoundary-before_ascii full at within (omega arith)) in
@@ -115,7 +108,7 @@ kinds_append inside full [] us h = refl
 kinds_append inside full (t ∷ body) us (h, hs) =
     ap (λ (l : List Kind). kind_of inside full t ∷ l)
     (ap (λ (b : Bool). kinds_of (spots_from b full (body ++ us))) (h inside) ∙ kinds_append inside full body us hs
-      ∙ ap (λ (b : Bool). kinds_of (spots_from b full body) ++ kinds_of (spots_from inside full us)) (sym (h inside)))
+    ∙ ap (λ (b : Bool). kinds_of (spots_from b full body) ++ kinds_of (spots_from inside full us)) (sym (h inside)))
 
 pub shape_inner : (r : Reading) (s : List ℕ) (class : TokenKind) (n : ℕ) → Shape r s (Taken class n) → (b : Bool) → inside_behind b class ≡ b
 shape_inner r s Word n h b = refl

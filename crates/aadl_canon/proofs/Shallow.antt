@@ -1,9 +1,9 @@
 -- What means nothing can be left out, and nothing nests deeper.
-use Rattle.std.proofs.Common.{◌≡◌, ℕ, ◌+◌, ◌-◌, ◌≤◌, Bool, true, false, ◌∙◌, sym, ap, subst, refl, List, [], ◌∷◌, ◌++◌, inl, inr, arith}
+use Rattle.std.proofs.Common.{◌≡◌, ℕ, ◌≤◌, Bool, true, false, ap, subst, refl, List, [], ◌∷◌, ◌++◌, inl, inr, arith}
 use Rattle.aadl_tree.specs.declared.mark.Mark.TheVariants as k
-use Rattle.aadl_tree.specs.Kinds.{Kind, word, whole, real, quoted, unread, mark, other}
-use Rattle.aadl_tree.specs.Parts.{Part, token, may, Section, feature_section, subcomponent_section, connection_section, property_section, Extra, empty_section, last_semicolon, extra_kinds, Spells, kept}
-use Rattle.aadl_tree.specs.Grammar.{opened, is_end, nesting_from, nesting, greatest_nesting, IsShallow}
+use Rattle.aadl_tree.specs.Kinds.{Kind, mark}
+use Rattle.aadl_tree.specs.Parts.{Part, token, may, feature_section, subcomponent_section, connection_section, property_section, Extra, empty_section, last_semicolon, extra_kinds, Spells, kept}
+use Rattle.aadl_tree.specs.Grammar.{opened, is_end, nesting_from, greatest_nesting, IsShallow}
 
 -- nowhere are too many open, where n are open before
 abbrev Low : ℕ → Bool → List Kind → Type 0
@@ -48,9 +48,11 @@ low_less : (n : ℕ) (ended : Bool) (m : ℕ) (after : Bool) (ks : List Kind) �
 low_less n ended m after [] h l = let g = no_more n ended m after h in omega arith
 low_less n ended m after (kind ∷ ks) h l =
     let g = no_more n ended m after h in
-    let low = l.0 in
-    ((omega arith), low_less (opened n ended kind) (is_end kind) (opened m after kind) (is_end kind) ks
-      (same_flag (opened n ended kind) (opened m after kind) (is_end kind) (opened_less n ended m after kind h)) l.1)
+    let low = l.0 in (
+      (omega arith),
+      low_less (opened n ended kind) (is_end kind) (opened m after kind) (is_end kind) ks
+          (same_flag (opened n ended kind) (opened m after kind) (is_end kind) (opened_less n ended m after kind h)) l.1,
+    )
 
 -- behind what means nothing as many are open as before it
 low_behind : (n : ℕ) (ended : Bool) (extra : Extra) (ks : List Kind) → Low n ended (extra_kinds extra ++ ks) → Low n false ks

@@ -1,5 +1,5 @@
 -- The terminals that a text has.
-use Rattle.std.proofs.Common.{◌≡◌, ℕ, ◌+◌, ◌<◌, ◌≤◌, Bool, true, false, cond, not, ◌&&◌, ◌||◌, ◌==◌, ◌∙◌, sym, ap, subst, refl, List, [], ◌∷◌, ◌++◌, length, arith, Option, Some, None, inl, inr}
+use Rattle.std.proofs.Common.{◌≡◌, ℕ, ◌≤◌, Bool, true, false, ◌==◌, ◌∙◌, sym, ap, subst, refl, List, [], ◌∷◌, ◌++◌, Some, None, inl, inr}
 use Rattle.std.specs.Prelude.{codes, pos, if◌then◌else◌}
 use Rattle.std.specs.Str.{IsUtf8, str_eq_ignore_ascii_case}
 use Rattle.std.proofs.lemmas.Bool.{false_from_ne_true, eqb-true}
@@ -9,8 +9,8 @@ use Rattle.aadl_lex.specs.Rules.{is_word, most, close_from}
 use Rattle.aadl_tree.specs.declared.mark.Mark.{Mark}
 use Rattle.aadl_tree.specs.declared.mark.Mark.TheVariants as k
 use Rattle.aadl_tree.specs.Marks.{mark_text, mark_number, keyword_of, symbol_of}
-use Rattle.aadl_tree.specs.Kinds.{Kind, word, whole, real, quoted, unread, mark, other}
-use Rattle.aadl_tree.specs.Parts.{Part, token, may, Section, feature_section, subcomponent_section, connection_section, property_section, Extra, empty_section, last_semicolon, extra_kinds, Spells, kept}
+use Rattle.aadl_tree.specs.Kinds.{Kind, word, whole, real, quoted, unread, mark}
+use Rattle.aadl_tree.specs.Parts.{Part, token, may, feature_section, subcomponent_section, connection_section, property_section, Extra, empty_section, last_semicolon, extra_kinds, Spells, kept}
 use Rattle.aadl_machine.specs.Machine.{kind_number}
 use Rattle.aadl_canon.specs.Neighbours.{may_stand_behind, AreNeighbours}
 use Rattle.aadl_canon.proofs.Literals.{IsReal, IsString, IsUnread}

@@ -1,12 +1,12 @@
 -- The terminals of a text are terminals that a text can have.
-use Rattle.std.proofs.Common.{◌≡◌, ℕ, zero, suc, ◌+◌, ◌-◌, ◌<◌, ◌≤◌, Bool, true, false, ◌==◌, not, ◌∙◌, sym, ap, ap₂, subst, refl, List, [], ◌∷◌, ◌++◌, append_assoc, length, take, drop, arith, Option, Some, None}
+use Rattle.std.proofs.Common.{◌≡◌, ℕ, ◌+◌, ◌-◌, ◌<◌, ◌≤◌, Bool, true, false, ◌==◌, not, ◌∙◌, sym, ap, subst, refl, List, [], ◌∷◌, ◌++◌, append_assoc, length, take, drop, arith, Some, None}
 use Rattle.std.specs.Str.{IsUtf8}
 use Rattle.std.proofs.lemmas.List.{length-drop, length-take-le, drop-take, take-take, take_all, append-nil}
 use Rattle.std.proofs.lemmas.Bool.{not-true}
 use Rattle.aadl_machine.proofs.Basics.{both_left}
 use Rattle.aadl_lex.specs.declared.token.Token.{Token}
 use Rattle.aadl_lex.specs.declared.token.TokenKind.{TokenKind}
-use Rattle.aadl_lex.specs.declared.token.TokenKind.TheVariants.{Word, AnnexOpen, AnnexClose}
+use Rattle.aadl_lex.specs.declared.token.TokenKind.TheVariants.{AnnexClose}
 use Rattle.aadl_lex.specs.declared.rules.First.TheVariants.{Skipped, Taken, Body}
 use Rattle.aadl_lex.specs.declared.rules.Reading.{Reading}
 use Rattle.aadl_lex.specs.declared.rules.Reading.TheVariants.{Outside, AfterName, Inside}
@@ -17,12 +17,12 @@ use Rattle.aadl_lex.proofs.Words.{words_of}
 use Rattle.aadl_tree.specs.declared.mark.Mark.TheVariants as k
 use Rattle.aadl_tree.specs.Kinds.{Kind, mark, class_kind, kind_of, inside_behind, spots_from, spots, kinds_of}
 use Rattle.aadl_machine.specs.Machine.{kind_number}
-use Rattle.aadl_canon.specs.Neighbours.{may_stand_behind, AreNeighbours}
+use Rattle.aadl_canon.specs.Neighbours.{AreNeighbours}
 use Rattle.aadl_canon.proofs.Spoken.{is_inside, Spoken, opens, closes, behind, Said}
 use Rattle.aadl_canon.proofs.Tokens.{after_inside}
 use Rattle.aadl_canon.proofs.Pieces.{drop_more}
-use Rattle.aadl_canon.proofs.Shapes.{Shape, none_drop, none_take, none_before}
-use Rattle.aadl_canon.proofs.Sayings.{utf8_piece, Says, says_by, WordsIn, words_all, words_front, words_back, Classed, classed_front, classed_back, AreInner, kinds_append, shape_inner, shape_at}
+use Rattle.aadl_canon.proofs.Shapes.{none_drop, none_take, none_before}
+use Rattle.aadl_canon.proofs.Sayings.{utf8_piece, says_by, WordsIn, words_all, words_front, words_back, Classed, classed_front, classed_back, AreInner, kinds_append, shape_inner, shape_at}
 
 inside_is : (r : Reading) → is_inside r ≡ true → r ≡ Inside
 inside_is Inside e = refl
@@ -33,9 +33,10 @@ inside_is AfterName e = absurd cc
 inner_lexes : (r : Reading) (text : List ℕ) (at : ℕ) (ts : List Token) → is_inside r ≡ true → Lexes r text at ts → AreInner ts
 inner_lexes _ _ _ _ i (ended r text at g) = tt
 inner_lexes _ _ _ _ i (skips r text at n ts g e l) = inner_lexes r text (at + n) ts i l
-inner_lexes _ _ _ _ i (takes r text at kind n ts g e l) =
-    (shape_inner r (drop at text) kind n (shape_at r text at (Taken kind n) g e),
-      inner_lexes (after r kind (take n (drop at text))) text (at + n) ts (after_inside r kind (take n (drop at text)) ∙ i) l)
+inner_lexes _ _ _ _ i (takes r text at kind n ts g e l) = (
+  shape_inner r (drop at text) kind n (shape_at r text at (Taken kind n) g e),
+  inner_lexes (after r kind (take n (drop at text))) text (at + n) ts (after_inside r kind (take n (drop at text)) ∙ i) l,
+)
 inner_lexes _ _ _ _ i (reads r text at n body ts g e b l) =
     let shape = shape_at r text at (Body n) g e in let name = ap is_inside shape.0 in absurd cc
 
@@ -77,14 +78,15 @@ taken_said full text r at n class ts more utf8 front within to_end e clear words
     let bytes = front_token text full class at n front to_end in
     let kind : kind_of (is_inside r) full (token class at n) ≡ class_kind (is_inside r) class b = ap (class_kind (is_inside r) class) bytes in
     let said = says_by r class (drop at text) n shape (λ is. ap is_word (sym bytes) ∙ words.0 is)
-        (λ x y mid low high f. subst IsUtf8 (front_bytes text full at n front to_end)
-          (utf8_piece full at n x y mid utf8 (let w = front.within in omega arith) low high (front_bytes text full at n front to_end ∙ f)))
-        (λ i. none_take (drop at text) n 0 (clear i)) (ap (λ x. kind_number x == 105) (sym kind) ∙ classed.0) in
-    let flag : inside_behind (is_inside r) class ≡ is_inside (after r class b) = shape_inner r (drop at text) class n shape (is_inside r) ∙ sym (after_inside r class b) in
-    (subst (λ (x : Kind). Spoken r x) (sym kind) said.spoken,
+    (λ x y mid low high f. subst IsUtf8 (front_bytes text full at n front to_end)
+    (utf8_piece full at n x y mid utf8 (let w = front.within in omega arith) low high (front_bytes text full at n front to_end ∙ f)))
+    (λ i. none_take (drop at text) n 0 (clear i)) (ap (λ x. kind_number x == 105) (sym kind) ∙ classed.0) in
+    let flag : inside_behind (is_inside r) class ≡ is_inside (after r class b) = shape_inner r (drop at text) class n shape (is_inside r) ∙ sym (after_inside r class b) in (
+      subst (λ (x : Kind). Spoken r x) (sym kind) said.spoken,
       subst (λ (x : Kind). Said (behind r x) (kinds_of (spots_from (inside_behind (is_inside r) class) full ts) ++ more)) (sym kind)
-      (subst (λ (s : Reading). Said s (kinds_of (spots_from (inside_behind (is_inside r) class) full ts) ++ more)) said.goes
-        (subst (λ (x : Bool). Said (after r class b) (kinds_of (spots_from x full ts) ++ more)) (sym flag) rest)))
+          (subst (λ (s : Reading). Said s (kinds_of (spots_from (inside_behind (is_inside r) class) full ts) ++ more)) said.goes
+          (subst (λ (x : Bool). Said (after r class b) (kinds_of (spots_from x full ts) ++ more)) (sym flag) rest)),
+    )
 
 said_lexes : (full : List ℕ) → IsUtf8 full → (r : Reading) (text : List ℕ) (at : ℕ) (ts : List Token) → IsFront text full → at ≤ length text → (r ≡ Inside → close_from 0 (drop at text) ≡ None)
     → Lexes r text at ts → WordsIn full ts → Classed (KindsOf r full ts) → (more : List Kind) → ((s : Reading) → is_inside s ≡ is_inside r → Said s more) → Said r (KindsOf r full ts ++ more)
@@ -104,7 +106,7 @@ said_lexes full utf8 _ _ _ _ front le clear (takes r text at kind n ts g e l) wo
     let flag : inside_behind (is_inside r) kind ≡ is_inside s = shape_inner r (drop at text) kind n (shape_at r text at (Taken kind n) g e) (is_inside r) ∙ sym same in
     let left : Classed (KindsOf s full ts) = subst (λ (x : Bool). Classed (kinds_of (spots_from x full ts))) flag classed.1 in
     let clear_on : s ≡ Inside → close_from 0 (drop (at + n) text) ≡ None =
-        λ (i : s ≡ Inside). ap (close_from 0) (drop_more at n text) ∙ none_drop (drop at text) n 0 (clear (inside_is r (sym same ∙ ap is_inside i))) in
+    λ (i : s ≡ Inside). ap (close_from 0) (drop_more at n text) ∙ none_drop (drop at text) n 0 (clear (inside_is r (sym same ∙ ap is_inside i))) in
     taken_said full text r at n kind ts more utf8 front g within e clear words classed
     (said_lexes full utf8 s text (at + n) ts front within clear_on l words.1 left more (λ q i. rest q (i ∙ same)))
 said_lexes full utf8 _ _ _ _ front le clear (reads r text at n body ts g e b l) words classed more rest =
@@ -122,11 +124,11 @@ said_lexes full utf8 _ _ _ _ front le clear (reads r text at n body ts g e b l) 
     let behind_body = classed_back (KindsOf Inside full body) (mark k.AnnexClose ∷ KindsOf Outside full ts) parts in
     let name : is_inside r ≡ false = ap is_inside shape.0 in
     let tail : Said Outside (KindsOf Outside full ts ++ more) =
-        said_lexes full utf8 Outside text (stop + 3) ts front within (λ i. absurd (let f = ap is_inside i in cc)) l (words_back full body (close ∷ ts) words.1).1 behind_body.1 more (λ q i. rest q (i ∙ sym name)) in
+    said_lexes full utf8 Outside text (stop + 3) ts front within (λ i. absurd (let f = ap is_inside i in cc)) l (words_back full body (close ∷ ts) words.1).1 behind_body.1 more (λ q i. rest q (i ∙ sym name)) in
     let whole : Said Inside (KindsOf Inside full body ++ mark k.AnnexClose ∷ (KindsOf Outside full ts ++ more)) =
-        said_lexes full utf8 Inside (take stop text) (at + 3) body (front_cut text full stop front (omega arith)) (omega arith) (λ _. none) b (words_front full body (close ∷ ts) words.1)
-        (classed_front (KindsOf Inside full body) (mark k.AnnexClose ∷ KindsOf Outside full ts) parts) (mark k.AnnexClose ∷ (KindsOf Outside full ts ++ more))
-        (λ q i. subst (λ (x : Reading). Said x (mark k.AnnexClose ∷ (KindsOf Outside full ts ++ more))) (sym (inside_is q i)) (closes, tail)) in
+    said_lexes full utf8 Inside (take stop text) (at + 3) body (front_cut text full stop front (omega arith)) (omega arith) (λ _. none) b (words_front full body (close ∷ ts) words.1)
+    (classed_front (KindsOf Inside full body) (mark k.AnnexClose ∷ KindsOf Outside full ts) parts) (mark k.AnnexClose ∷ (KindsOf Outside full ts ++ more))
+    (λ q i. subst (λ (x : Reading). Said x (mark k.AnnexClose ∷ (KindsOf Outside full ts ++ more))) (sym (inside_is q i)) (closes, tail)) in
     let joined = ap (λ (x : List Kind). x ++ more) apart ∙ append_assoc (KindsOf Inside full body) (mark k.AnnexClose ∷ KindsOf Outside full ts) more in
     subst (λ (x : Reading). Said x (mark k.AnnexOpen ∷ (kinds_of (spots_from true full (body ++ close ∷ ts)) ++ more))) (sym shape.0) (opens, subst (Said Inside) (sym joined) whole)
 

@@ -1,23 +1,23 @@
 -- Each terminal, where nothing that follows goes on with it, is read as itself.
-use Rattle.std.proofs.Common.{◌≡◌, ℕ, suc, ◌+◌, ◌<◌, ◌≤◌, Bool, true, false, cond, not, ◌&&◌, ◌||◌, ◌==◌, ◌∙◌, sym, ap, subst, refl, List, [], ◌∷◌, ◌++◌, length, length-append, take, get_or, arith, Option, Some, None, inl, inr}
+use Rattle.std.proofs.Common.{◌≡◌, ℕ, ◌<◌, Bool, true, false, ◌&&◌, ◌||◌, ◌∙◌, sym, ap, refl, List, [], ◌∷◌, ◌++◌, length, length-append, get_or, arith, Some}
 use Rattle.std.specs.Prelude.{codes, pos, if◌then◌else◌}
 use Rattle.std.specs.Char.{is_ascii_digit}
 use Rattle.std.specs.Fmt as fmt
 use Rattle.std.specs.Str.{str_eq_ignore_ascii_case}
-use Rattle.std.proofs.lemmas.Bool.{or_parts, or_from, and_from, not_from_false}
+use Rattle.std.proofs.lemmas.Bool.{or_parts, not_from_false}
 use Rattle.aadl_lex.specs.declared.token.TokenKind.{TokenKind}
 use Rattle.aadl_lex.specs.declared.token.TokenKind.TheVariants.{Word, Whole, Real, Quoted, Symbol, Unread}
 use Rattle.aadl_lex.specs.declared.rules.First.TheVariants.{Taken}
 use Rattle.aadl_lex.specs.declared.rules.Reading.{Reading}
 use Rattle.aadl_lex.specs.declared.rules.Reading.TheVariants.{Outside, AfterName, Inside}
-use Rattle.aadl_lex.specs.Rules.{is_in_word, is_word, most, first, after}
+use Rattle.aadl_lex.specs.Rules.{is_in_word, is_word, first, after}
 use Rattle.aadl_tree.specs.declared.mark.Mark.{Mark}
 use Rattle.aadl_tree.specs.declared.mark.Mark.TheVariants as k
 use Rattle.aadl_tree.specs.Marks.{mark_text, keyword_of, symbol_of}
-use Rattle.aadl_tree.specs.Kinds.{Kind, word, whole, real, quoted, unread, mark, other, word_kind, symbol_kind, class_kind, inside_behind}
+use Rattle.aadl_tree.specs.Kinds.{Kind, word, whole, real, quoted, mark, word_kind, symbol_kind, class_kind, inside_behind}
 use Rattle.aadl_tree.specs.Canon.{kind_text}
 use Rattle.aadl_canon.proofs.Firsts.{stops, extends, word_first, symbol_first}
-use Rattle.aadl_canon.proofs.Literals.{in_number, IsReal, IsString, IsUnread, number_first, number_some, real_first, string_first, unread_first}
+use Rattle.aadl_canon.proofs.Literals.{in_number, number_first, number_some, real_first, string_first, unread_first}
 use Rattle.aadl_canon.proofs.Spoken.{is_inside, Spoken, a_word, a_number, a_real, a_string, an_annex, a_keyword, a_symbol, opens, closes, behind}
 
 -- bytes that would go on with a terminal

@@ -1,18 +1,18 @@
 -- The canonical text of terminals that a text can have is UTF-8.
-use Rattle.std.proofs.Common.{◌≡◌, ℕ, suc, zero, ◌<◌, ◌≤◌, Bool, true, false, ◌&&◌, ◌||◌, ◌==◌, ◌∙◌, sym, ap, subst, refl, List, [], ◌∷◌, ◌++◌, get_or, arith, inl, inr}
-use Rattle.std.specs.Prelude.{nat_lt, nat_le, pos}
+use Rattle.std.proofs.Common.{◌≡◌, ℕ, suc, zero, Bool, true, ◌&&◌, ◌||◌, ◌==◌, ◌∙◌, ap, refl, List, [], ◌∷◌, ◌++◌, arith, inl, inr}
+use Rattle.std.specs.Prelude.{nat_lt, nat_le}
 use Rattle.std.specs.List.{list_all}
 use Rattle.std.specs.Char.{is_ascii_alphabetic, is_ascii_digit}
 use Rattle.std.specs.Fmt as fmt
 use Rattle.std.specs.Str.{IsUtf8, IsAscii}
-use Rattle.std.proofs.lemmas.Bool.{or_cases, eqb-true, leb-true, ltb-true, lt-ltb, and_from}
+use Rattle.std.proofs.lemmas.Bool.{or_cases, eqb-true, leb-true, ltb-true, lt-ltb}
 use Rattle.std.proofs.lemmas.Str.{IsUtf8-append, IsUtf8-from_ascii}
 use Rattle.aadl_lex.specs.declared.rules.Reading.{Reading}
-use Rattle.aadl_lex.specs.Rules.{is_word, is_in_word, is_blank, most}
+use Rattle.aadl_lex.specs.Rules.{is_word, is_in_word, is_blank}
 use Rattle.aadl_tree.specs.declared.mark.Mark.{Mark}
 use Rattle.aadl_tree.specs.declared.mark.Mark.TheVariants as k
 use Rattle.aadl_tree.specs.Marks.{mark_text}
-use Rattle.aadl_tree.specs.Kinds.{Kind, mark}
+use Rattle.aadl_tree.specs.Kinds.{Kind}
 use Rattle.aadl_tree.specs.Canon.{kind_text, line_end, between, text_behind}
 use Rattle.aadl_machine.proofs.Basics.{both_left, both_right}
 use Rattle.aadl_canon.proofs.Literals.{IsReal, number_digits}
@@ -69,7 +69,7 @@ word_utf8 (c ∷ b) w = low_utf8 (c ∷ b) (all_weaker is_in_word low (c ∷ b) 
 real_utf8 : (b : List ℕ) → IsReal b → IsUtf8 b
 real_utf8 b h =
     low_utf8 b (ap (list_all low) h.spelled
-      ∙ all_append low h.whole (46 ∷ h.fraction) (all_weaker is_ascii_digit low h.whole digit_low h.whole_digits) (all_weaker is_ascii_digit low h.fraction digit_low h.fraction_digits))
+    ∙ all_append low h.whole (46 ∷ h.fraction) (all_weaker is_ascii_digit low h.whole digit_low h.whole_digits) (all_weaker is_ascii_digit low h.fraction digit_low h.fraction_digits))
 
 kind_utf8 : (r : Reading) (kind : Kind) → Spoken r kind → IsUtf8 (kind_text kind)
 kind_utf8 r _ (a_word _ b w h) = word_utf8 b w
