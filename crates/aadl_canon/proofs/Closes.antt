@@ -32,7 +32,7 @@ star_past : (s : List ℕ) (n : ℕ) → Ends (mark k.Star) s → close_from n (
 star_past [] n e = refl
 star_past (h ∷ t) n e = rw e refl
 
-and_none : (a : Bool) → (a && false) ≡ false
+pub and_none : (a : Bool) → (a && false) ≡ false
 and_none true = refl
 and_none false = refl
 

@@ -1,5 +1,6 @@
 -- What a stack of the machine lets stand side by side: a guard looks at the symbol on top and the terminal before it, and at symbols one below the other.
 use Rattle.std.proofs.Common.{◌≡◌, ℕ, Bool, true, ◌&&◌, ◌∙◌, sym, ap, subst, refl, List, [], ◌∷◌, ◌++◌}
+use Rattle.std.proofs.lemmas.List.{append-nil}
 use Rattle.std.proofs.lemmas.Bool.{eqb-true, and_from}
 use Rattle.aadl_tree.specs.Kinds.{Kind}
 use Rattle.aadl_machine.specs.Symbols.{Symbol, Row}
@@ -60,11 +61,7 @@ fine_row : (top : ℕ → Symbol → Bool) (pair : Symbol → Symbol → Bool) (
     → (on_top top n f && neat pair f) ≡ true → ((y : Symbol) (s : Stack) → below ≡ y ∷ s → seam top pair n f y ≡ true) → neat pair below ≡ true → Fine top pair n (f ++ below)
 fine_row top pair n [] [] w m h = (refl, refl)
 fine_row top pair n [] (y ∷ s) w m h = (m y s refl, h)
-fine_row top pair n (z ∷ f) [] w m h = (both_left _ _ w, subst (λ (l : Stack). neat pair l ≡ true) (sym (append-none (z ∷ f))) (both_right (top n z) _ w))
-  where
-    append-none : (l : Stack) → l ++ [] ≡ l
-    append-none [] = refl
-    append-none (x ∷ l) = ap (λ m. x ∷ m) (append-none l)
+fine_row top pair n (z ∷ f) [] w m h = (both_left _ _ w, subst (λ (l : Stack). neat pair l ≡ true) (sym (append-nil (z ∷ f))) (both_right (top n z) _ w))
 fine_row top pair n (z ∷ f) (y ∷ s) w m h = (both_left _ _ w, neat_append pair z f y s (both_right (top n z) _ w) (m y s refl) h)
 
 below_seam : (top : ℕ → Symbol → Bool) (pair : Symbol → Symbol → Bool) (beside : ℕ → ℕ → Bool) → Guard top pair beside → (x : Symbol) (below : Stack) (r : Row) → Member r (rows x)

@@ -1,5 +1,6 @@
 -- The canonical text of terminals that a text can have is lexed as these terminals.
 use Rattle.std.proofs.Common.{◌≡◌, ◌⊎◌, ℕ, zero, suc, ◌+◌, Bool, true, false, ◌∙◌, sym, ap, ap₂, subst, refl, List, [], ◌∷◌, ◌++◌, length, take, drop, arith, Some, None, inl, inr}
+use Rattle.std.proofs.Math.Seq.{take-append_seam}
 use Rattle.std.proofs.lemmas.List.{length-take-le, length-drop}
 use Rattle.aadl_lex.specs.declared.token.Token.{Token}
 use Rattle.aadl_lex.specs.declared.token.TokenKind.{TokenKind}
@@ -91,13 +92,9 @@ spots_first inside text class at kind s ts ks e read stays more =
 token_taken : (r : Reading) (text : List ℕ) (at : ℕ) (kind : Kind) (s : List ℕ) (ts : List Token) (l : Lexed r kind s) → drop at text ≡ kind_text kind ++ s
     → Lexes (behind r kind) text (at + length (kind_text kind)) ts → Lexes r text at (token l.class at (length (kind_text kind)) ∷ ts)
 token_taken r text at kind s ts l e more =
-    let bytes : take (length (kind_text kind)) (drop at text) ≡ kind_text kind = ap (take (length (kind_text kind))) e ∙ taken (kind_text kind) s in
+    let bytes : take (length (kind_text kind)) (drop at text) ≡ kind_text kind = ap (take (length (kind_text kind))) e ∙ take-append_seam (kind_text kind) s in
     takes r text at l.class (length (kind_text kind)) ts (stands_within text at (kind_text kind) s l.some e) (ap (first r at) e ∙ l.taken at)
     (subst (λ (x : Reading). Lexes x text (at + length (kind_text kind)) ts) (sym (ap (after r l.class) bytes ∙ l.goes)) more)
-  where
-    taken : (v t : List ℕ) → take (length v) (v ++ t) ≡ v
-    taken [] t = refl
-    taken (c ∷ v) t = ap (λ l. c ∷ l) (taken v t)
 
 outer_plain : (p kind : Kind) (ks : List Kind) (r : Reading) (text : List ℕ) (at : ℕ) → is_inside r ≡ false → AreNeighbours (kind_number kind) ks → Spoken r kind → Said (behind r kind) ks → IsPlain kind
     → drop at text ≡ between p kind ++ (kind_text kind ++ text_behind kind ks)

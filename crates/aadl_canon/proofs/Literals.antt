@@ -4,6 +4,7 @@ use Rattle.std.specs.Prelude.{codes, pos, nat_lt}
 use Rattle.std.specs.List.{list_all, starts_with}
 use Rattle.std.specs.Char.{is_ascii_alphabetic, is_ascii_digit}
 use Rattle.std.specs.Fmt as fmt
+use Rattle.std.proofs.Math.Seq.{take-append_seam}
 use Rattle.std.proofs.lemmas.Bool.{false_from_ne_true, not-true, or_parts, or_cases, and_from, le-leb, leb-true}
 use Rattle.std.proofs.lemmas.Fmt.{decimal_by_steps}
 use Rattle.aadl_lex.specs.declared.token.TokenKind.TheVariants.{Whole, Real, Quoted, Unread}
@@ -24,10 +25,6 @@ at_seam (c ∷ w) rest = at_seam w rest
 past_seam : (w : List ℕ) (c : ℕ) (rest : List ℕ) → drop (length w + 1) (w ++ c ∷ rest) ≡ rest
 past_seam [] c rest = refl
 past_seam (d ∷ w) c rest = let e : suc (length w) + 1 ≡ suc (length w + 1) = omega arith in ap (λ n. drop n (d ∷ (w ++ c ∷ rest))) e ∙ past_seam w c rest
-
-pub taken_whole : (w rest : List ℕ) → take (length w) (w ++ rest) ≡ w
-taken_whole [] rest = refl
-taken_whole (c ∷ w) rest = ap (λ l. c ∷ l) (taken_whole w rest)
 
 -- a digit begins a number
 digit_goes : (r : Reading) (at c : ℕ) (s : List ℕ) (x : First) → is_ascii_digit c ≡ true → is_ascii_alphabetic c ≡ false → number_by at (c ∷ s) (real_len (c ∷ s)) ≡ x → first r at (c ∷ s) ≡ x
@@ -88,7 +85,7 @@ whole_first r at (c ∷ ds) rest some all fits stop =
     digit_goes r at c (ds ++ rest) _ digit (digit_no_letter c digit)
     (ap (number_by at (c ∷ ds ++ rest)) (not_real (c ∷ ds) rest all stop)
     ∙ ap (λ n. let t = take n (c ∷ ds ++ rest) in cond (nat_le (decimal t) most) (Taken (Whole (pos (decimal t))) (length t)) (Refused (BigNumber at))) (whole_goes (c ∷ ds) rest all stop)
-    ∙ ap (λ t. cond (nat_le (decimal t) most) (Taken (Whole (pos (decimal t))) (length t)) (Refused (BigNumber at))) (taken_whole (c ∷ ds) rest)
+    ∙ ap (λ t. cond (nat_le (decimal t) most) (Taken (Whole (pos (decimal t))) (length t)) (Refused (BigNumber at))) (take-append_seam (c ∷ ds) rest)
     ∙ ap (λ b. cond b (Taken (Whole (pos (decimal (c ∷ ds)))) (length (c ∷ ds))) (Refused (BigNumber at))) fits)
 
 -- the digits of a number say the number

@@ -2,7 +2,7 @@
 use Rattle.std.proofs.Common.{◌≡◌, ℕ, zero, suc, ◌+◌, ◌-◌, ◌<◌, Bool, true, false, ◌||◌, ◌∙◌, sym, ap, subst, refl, List, [], ◌∷◌, ◌++◌, length, length-append, take, drop, arith, Some}
 use Rattle.std.specs.Prelude.{codes, if◌then◌else◌}
 use Rattle.std.specs.List.{list_all}
-use Rattle.std.proofs.Math.Seq.{drop-nil}
+use Rattle.std.proofs.Math.Seq.{drop-nil, drop-append_seam, take-append_seam, take-append-add}
 use Rattle.std.proofs.lemmas.List.{length-drop, drop-take}
 use Rattle.aadl_lex.specs.declared.token.Token.{Token}
 use Rattle.aadl_lex.specs.declared.token.TokenKind.{TokenKind}
@@ -41,21 +41,13 @@ drop_more zero n text = ap (λ i. drop i text) (let e : 0 + n ≡ n = omega arit
 drop_more (suc m) n [] = drop-nil (suc m + n) ∙ sym (drop-nil n)
 drop_more (suc m) n (c ∷ text) = let e : suc m + n ≡ suc (m + n) = omega arith in ap (λ i. drop i (c ∷ text)) e ∙ drop_more m n text
 
-past : (w s : List ℕ) → drop (length w) (w ++ s) ≡ s
-past [] s = refl
-past (c ∷ w) s = past w s
-
 -- what stands behind a piece
 pub drop_past : (text : List ℕ) (at : ℕ) (w s : List ℕ) → drop at text ≡ w ++ s → drop (at + length w) text ≡ s
-drop_past text at w s e = drop_more at (length w) text ∙ ap (drop (length w)) e ∙ past w s
-
-pub take_past : (w s : List ℕ) (m : ℕ) → take (length w + m) (w ++ s) ≡ w ++ take m s
-take_past [] s m = ap (λ n. take n s) (let e : 0 + m ≡ m = omega arith in e)
-take_past (c ∷ w) s m = let e : suc (length w) + m ≡ suc (length w + m) = omega arith in ap (λ n. take n (c ∷ (w ++ s))) e ∙ ap (λ l. c ∷ l) (take_past w s m)
+drop_past text at w s e = drop_more at (length w) text ∙ ap (drop (length w)) e ∙ drop-append_seam w s
 
 -- a piece, in a text that ends some bytes behind it
 pub drop_cut : (text : List ℕ) (at : ℕ) (w s : List ℕ) (m : ℕ) → drop at text ≡ w ++ s → drop at (take (at + (length w + m)) text) ≡ w ++ take m s
-drop_cut text at w s m e = drop-take at (length w + m) text ∙ ap (take (length w + m)) e ∙ take_past w s m
+drop_cut text at w s m e = drop-take at (length w + m) text ∙ ap (take (length w + m)) e ∙ take-append-add w s m
 
 -- blanks before tokens
 pub gap_skipped : (r : Reading) (text : List ℕ) (at : ℕ) (ts : List Token) (gap s : List ℕ) → IsGap gap → drop at text ≡ gap ++ s → Lexes r text (at + length gap) ts → Lexes r text at ts
@@ -66,11 +58,7 @@ gap_skipped r text at ts _ s line e l = skips r text at 1 ts (stands_within text
 -- the bytes of a token are the piece at its place
 pub token_bytes : (text : List ℕ) (class : TokenKind) (at : ℕ) (w s : List ℕ) → drop at text ≡ w ++ s → bytes_of text (token class at (length w)) ≡ w
 token_bytes text class at w s e =
-    ap (λ n. take n (drop at text)) (let g : at + length w - at ≡ length w = omega arith in g) ∙ ap (take (length w)) e ∙ taken w s
-  where
-    taken : (v t : List ℕ) → take (length v) (v ++ t) ≡ v
-    taken [] t = refl
-    taken (c ∷ v) t = ap (λ l. c ∷ l) (taken v t)
+    ap (λ n. take n (drop at text)) (let g : at + length w - at ≡ length w = omega arith in g) ∙ ap (take (length w)) e ∙ take-append_seam w s
 
 pub close_gap : (gap s : List ℕ) → IsGap gap → close_from 0 (gap ++ 42 ∷ 42 ∷ 125 ∷ s) ≡ Some (length gap)
 close_gap _ s none = refl

@@ -1,13 +1,14 @@
 -- The canonical text of a tree has that tree, but for its places.
-use Rattle.std.proofs.Common.{◌≡◌, ℕ, ◌<◌, Bool, false, sym, ap, subst, refl, List, [], ◌∷◌, length, arith}
+use Rattle.std.proofs.Common.{◌≡◌, ◌∙◌, ℕ, ◌<◌, Bool, false, sym, ap, subst, refl, List, [], ◌∷◌, length, arith}
 use Rattle.std.proofs.lemmas.List.{append-nil}
 use Rattle.aadl_lex.specs.declared.token.Token.{Token}
 use Rattle.aadl_lex.specs.declared.rules.Reading.TheVariants.{Outside}
 use Rattle.aadl_lex.specs.Tokens.{AreInOrder}
 use Rattle.aadl_lex.proofs.Order.{order_lexes}
+use Rattle.aadl_lex.proofs.Unique.{lexes_one}
 use Rattle.aadl_tree.specs.declared.mark.Mark.TheVariants as k
 use Rattle.aadl_tree.specs.Kinds.{Kind, mark, inside_behind, spots_from, spots, kinds_of}
-use Rattle.aadl_tree.specs.Parts.{Spells, kept}
+use Rattle.aadl_tree.specs.Parts.{Spells, Written, kept}
 use Rattle.aadl_tree.specs.Declarations.{PackageTree, package_parts}
 use Rattle.aadl_tree.specs.Maps.{package_to, no_place}
 use Rattle.aadl_tree.specs.Grammar.{IsShallow}
@@ -19,6 +20,7 @@ use Rattle.aadl_machine.specs.Moved.{Behind, Rising}
 use Rattle.aadl_machine.proofs.Alike.{alike_kept}
 use Rattle.aadl_machine.proofs.DeclarationPlaces.{package_alike}
 use Rattle.aadl_machine.proofs.Derivations.{Derives}
+use Rattle.aadl_machine.proofs.Placed.All.{one_placed_package}
 use Rattle.aadl_machine.proofs.Placed.Canons.{same_package}
 use Rattle.aadl_machine.proofs.Starts.{packages}
 use Rattle.aadl_canon.specs.Reads.{HasTree}
@@ -46,6 +48,12 @@ derived tree ks s = packages.derived ks (record { tree = tree; spelled = s })
 pub canon_of : (tree : PackageTree ℕ) → canon (package_to no_place tree) ≡ canon tree
 canon_of tree = sym (ap canonical (alike_kept (package_alike no_place tree)))
 
+-- a text has one tree, so its canonical text has no other
+pub no_other : (text : List ℕ) (tree other : PackageTree ℕ) → IsTreeOf text tree → IsTreeOf text other → tree ≡ other
+no_other text tree other h g =
+    let tokens = lexes_one Outside text 0 h.tokens g.tokens h.lexed.lexed g.lexed.lexed in
+    one_placed_package (spots text h.tokens) tree other h.written (subst (λ (ts : List Token). Written (package_parts other) (spots text ts) []) (sym tokens) g.written)
+
 pub reads_back : (text : List ℕ) (tree : PackageTree ℕ) → IsTreeOf text tree → HasTree (canon tree) (package_to no_place tree)
 reads_back text tree h =
     let parts = package_parts tree in
@@ -69,3 +77,8 @@ reads_back text tree h =
       };
       same = moved.same;
     }
+
+pub only_so : (text : List ℕ) (tree again : PackageTree ℕ) → IsTreeOf text tree → IsTreeOf (canon tree) again → package_to no_place again ≡ package_to no_place tree
+only_so text tree again h g =
+    let read = reads_back text tree h in
+    ap (package_to no_place) (no_other (canon tree) again read.tree g read.read) ∙ read.same

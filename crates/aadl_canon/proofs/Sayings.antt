@@ -2,6 +2,7 @@
 use Rattle.std.proofs.Common.{◌≡◌, ℕ, suc, ◌+◌, ◌<◌, Bool, true, false, ◌==◌, ◌∙◌, sym, ap, subst, refl, List, [], ◌∷◌, ◌++◌, append_assoc, length, length-append, take, drop, get_or, arith, Option, Some, None}
 use Rattle.std.specs.List.{All}
 use Rattle.std.specs.Str.{IsUtf8}
+use Rattle.std.proofs.Math.Seq.{take-append-add}
 use Rattle.std.proofs.lemmas.List.{length-drop, take-append-drop, get_or-drop}
 use Rattle.std.proofs.lemmas.Str.{IsUtf8-take, IsUtf8-drop, IsCharBoundary-before_ascii, IsCharBoundary-after_ascii}
 use Rattle.aadl_lex.specs.declared.token.Token.{Token}
@@ -20,7 +21,6 @@ use Rattle.aadl_machine.specs.Machine.{kind_number}
 use Rattle.aadl_canon.proofs.Literals.{at_seam}
 use Rattle.aadl_canon.proofs.Spoken.{is_inside, Spoken, a_word, a_number, a_real, a_string, an_annex, a_keyword, a_symbol, behind}
 use Rattle.aadl_canon.proofs.Tokens.{word_then, whole_then, real_then, quoted_then}
-use Rattle.aadl_canon.proofs.Pieces.{take_past}
 use Rattle.aadl_canon.proofs.Shapes.{Shape, first_shape}
 use Rattle.aadl_canon.proofs.Keywords.{keyword_fixed, symbol_fixed, keyword_behind, symbol_behind}
 
@@ -30,7 +30,7 @@ utf8_front w rest y low utf8 =
     let byte = at_seam w (y ∷ rest) in
     let size = length-append w (y ∷ rest) in
     let boundary = IsCharBoundary-after_ascii (w ++ y ∷ rest) (length w) utf8 (omega arith) (omega arith) in
-    subst IsUtf8 (take_past w (y ∷ rest) 1) (IsUtf8-take (w ++ y ∷ rest) (length w + 1) utf8 boundary)
+    subst IsUtf8 (take-append-add w (y ∷ rest) 1) (IsUtf8-take (w ++ y ∷ rest) (length w + 1) utf8 boundary)
 
 pub utf8_piece : (full : List ℕ) (at n x y : ℕ) (mid : List ℕ) → IsUtf8 full → at < length full → x < 128 → y < 128 → take n (drop at full) ≡ x ∷ (mid ++ y ∷ []) → IsUtf8 (take n (drop at full))
 utf8_piece full at n x y mid utf8 within low high e =

@@ -14,7 +14,7 @@ use Rattle.aadl_lex.specs.declared.rules.Reading.TheVariants.{Outside, AfterName
 use Rattle.aadl_lex.specs.Rules.{is_blank, is_in_word, is_in_string, run, longest_name, whole_len, decimal, most, real_len, number_by, body_len, close_from, annex_by, can_open, symbol_len, first}
 use Rattle.aadl_machine.proofs.Basics.{both_left, both_right, some_is}
 use Rattle.aadl_canon.proofs.Literals.{IsReal, IsString, IsUnread}
-use Rattle.aadl_canon.proofs.Closes.{none_parts}
+use Rattle.aadl_canon.proofs.Closes.{and_none, none_parts}
 
 -- the bytes that a test passes, one behind the other
 all_front : (p : ℕ → Bool) (b : Bool) (c : ℕ) (s : List ℕ) → p c ≡ b → list_all p (take (prefix_len p s) s) ≡ true → list_all p (take (cond b (1 + prefix_len p s) 0) (c ∷ s)) ≡ true
@@ -26,10 +26,6 @@ all_run p [] = refl
 all_run p (c ∷ s) = all_front p (p c) c s refl (all_run p s)
 
 -- where a `**}` begins hangs on three bytes
-
-and_none : (a : Bool) → (a && false) ≡ false
-and_none true = refl
-and_none false = refl
 
 starts_take : (c : ℕ) (s : List ℕ) (i : ℕ) → starts_with nat_eq (c ∷ s) (codes "**}") ≡ false → starts_with nat_eq (c ∷ take i s) (codes "**}") ≡ false
 starts_take c s zero e = and_none (42 == c)

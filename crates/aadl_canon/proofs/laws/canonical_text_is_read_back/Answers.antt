@@ -6,11 +6,14 @@ use Rattle.aadl_tree.specs.Maps.{package_to, kept_place, no_place}
 use Rattle.aadl_tree.specs.PackageViews.{placed}
 use Rattle.aadl_tree.proofs.Ties.Declarations.{package_tied}
 use Rattle.aadl_canon.specs.Reads.{HasTree}
-use Rattle.aadl_canon.proofs.Reading.{canon_of, reads_back}
+use Rattle.aadl_canon.proofs.Reading.{canon_of, reads_back, only_so}
 use Rattle.aadl_canon.proofs.laws.canonical_text_is_read_back.Goals as goal
 
 pub returns-clause-of_text : goal.returns-clause-of_text
 returns-clause-of_text c text tree h = reads_back text tree h
+
+pub returns-clause-only : goal.returns-clause-only
+returns-clause-only c text tree again h g = only_so text tree again h g
 
 pub returns-clause-of_tree : goal.returns-clause-of_tree
 returns-clause-of_tree c tree =
