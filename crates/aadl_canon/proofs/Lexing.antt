@@ -14,7 +14,7 @@ use Rattle.aadl_tree.specs.Marks.{mark_text, keyword_of, symbol_of}
 use Rattle.aadl_tree.specs.Kinds.{Kind, mark, class_kind, inside_behind, spots_from, kinds_of}
 use Rattle.aadl_tree.specs.Canon.{kind_text, line_end, between, text_behind}
 use Rattle.aadl_machine.specs.Machine.{kind_number}
-use Rattle.aadl_canon.specs.Neighbours.{AreNeighbours}
+use Rattle.aadl_canon.proofs.SideBySide.{AreNeighbours}
 use Rattle.aadl_canon.proofs.Literals.{body_first}
 use Rattle.aadl_canon.proofs.Spoken.{is_inside, Spoken, a_word, a_number, a_real, a_string, an_annex, a_keyword, a_symbol, opens, closes, behind, Said}
 use Rattle.aadl_canon.proofs.Tokens.{Ends, Lexed, IsPlain, lexed}

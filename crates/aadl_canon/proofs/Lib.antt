@@ -1,3 +1,4 @@
+pub mod SideBySide
 pub mod Guards
 pub mod Forms
 pub mod Neighbours

@@ -13,7 +13,7 @@ use Rattle.aadl_tree.specs.Kinds.{Kind, whole, mark}
 use Rattle.aadl_tree.specs.Canon.{kind_text, holds_left, holds_right, ends_line, line_end, text_behind}
 use Rattle.aadl_machine.specs.Machine.{kind_number}
 use Rattle.aadl_machine.proofs.Basics.{both_left}
-use Rattle.aadl_canon.specs.Neighbours.{may_stand_behind, AreNeighbours}
+use Rattle.aadl_canon.proofs.SideBySide.{may_stand_behind, AreNeighbours}
 use Rattle.aadl_canon.proofs.Firsts.{other_bytes}
 use Rattle.aadl_canon.proofs.Spoken.{Spoken, a_word, Said}
 use Rattle.aadl_canon.proofs.Tokens.{goes_on, Ends}

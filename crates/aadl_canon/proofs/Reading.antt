@@ -41,7 +41,7 @@ rising inside text from to [] order = tt
 rising inside text from to (t ∷ ts) (start, some, order) =
     (all_behind (inside_behind inside t.kind) text t.start t.end to ts some order, rising (inside_behind inside t.kind) text t.end to ts order)
 
-pub derived : (tree : PackageTree ℕ) (ks : List Kind) → Spells (package_parts tree) ks [] → Derives whole_package ks
+derived : (tree : PackageTree ℕ) (ks : List Kind) → Spells (package_parts tree) ks [] → Derives whole_package ks
 derived tree ks s = packages.derived ks (record { tree = tree; spelled = s })
 
 -- the canonical text does not hang on places

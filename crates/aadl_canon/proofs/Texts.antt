@@ -17,7 +17,7 @@ use Rattle.aadl_lex.proofs.Words.{words_of}
 use Rattle.aadl_tree.specs.declared.mark.Mark.TheVariants as k
 use Rattle.aadl_tree.specs.Kinds.{Kind, mark, class_kind, kind_of, inside_behind, spots_from, spots, kinds_of}
 use Rattle.aadl_machine.specs.Machine.{kind_number}
-use Rattle.aadl_canon.specs.Neighbours.{AreNeighbours}
+use Rattle.aadl_canon.proofs.SideBySide.{AreNeighbours}
 use Rattle.aadl_canon.proofs.Spoken.{is_inside, Spoken, opens, closes, behind, Said}
 use Rattle.aadl_canon.proofs.Tokens.{after_inside}
 use Rattle.aadl_canon.proofs.Pieces.{drop_more}

@@ -1,15 +1,11 @@
 //! Laws of canonical texts. Each function does nothing; its contract is proved.
-ghost use Rattle.std.specs.Prelude.{◌≡◌, ℕ, List, []};
-ghost use Rattle.aadl_tree.specs.Kinds.{Kind};
-ghost use Rattle.aadl_tree.specs.Parts.{Spells, kept};
-ghost use Rattle.aadl_tree.specs.Declarations.{PackageTree, package_parts};
-ghost use Rattle.aadl_tree.specs.Grammar.{IsPackage, IsShallow};
+ghost use Rattle.std.specs.Prelude.{◌≡◌, ℕ, List};
+ghost use Rattle.aadl_tree.specs.Declarations.{PackageTree};
 ghost use Rattle.aadl_tree.specs.Given.{IsTreeOf};
 ghost use Rattle.aadl_tree.specs.Canon.{canon};
 ghost use Rattle.aadl_tree.specs.Maps.{package_to, no_place};
 ghost use Rattle.aadl_tree.specs.PackageViews.{meaning};
 ghost use Rattle.aadl_tree.specs.declared.package.PackageTree.{PackageTree as SourceTree};
-ghost use Rattle.aadl_canon.specs.Neighbours.{AreNeighbours};
 ghost use Rattle.aadl_canon.specs.Reads.{HasTree};
 
 /// The canonical text of a tree has a tree, within the greatest nesting, that is the same but for
@@ -19,11 +15,4 @@ pub fn canonical_text_is_read_back()
     ensures only { (text : List ℕ) (tree again : PackageTree ℕ) → IsTreeOf text tree → IsTreeOf (canon tree) again → package_to no_place again ≡ package_to no_place tree }
     ensures of_tree { (tree : SourceTree) → ∥ HasTree (canon (meaning tree)) (meaning tree) ∥₁ }
     ensures places { (tree : PackageTree ℕ) → canon (package_to no_place tree) ≡ canon tree }
-{}
-
-/// In a package `.`, `:` and `!` have neighbours that they cannot be taken together with, and an
-/// annex stands behind a word; a package without what means nothing is nested no deeper.
-pub fn terminals_have_neighbours()
-    ensures neighbours { (ks : List Kind) → IsPackage ks → AreNeighbours 0 ks }
-    ensures nesting { (outer : ℕ) (tree : PackageTree ℕ) (ks : List Kind) → Spells (package_parts tree) ks [] → IsShallow outer ks → IsShallow outer (kept (package_parts tree)) }
 {}
