@@ -2,3 +2,4 @@ pub mod Order
 pub mod Scans
 pub mod Unique
 pub mod Within
+pub mod Words

@@ -20,12 +20,12 @@ order_append : (from middle to : ℕ) (ts us : List Token) → AreInOrder from m
 order_append from middle to [] us h k = order_from from middle to us h k
 order_append from middle to (t ∷ ts) us h k = (h.0, h.1, order_append t.end middle to ts us h.2 k)
 
-order_le : (from to : ℕ) (ts : List Token) → AreInOrder from to ts → from ≤ to
+pub order_le : (from to : ℕ) (ts : List Token) → AreInOrder from to ts → from ≤ to
 order_le from to [] h = h
 order_le from to (t ∷ ts) h = let rest = order_le t.end to ts h.2 in omega (arith, h.0, h.1)
 
 -- what stands at a place lies within the rest of the text
-stands_within : (r : Reading) (text : List ℕ) (at : ℕ) (what : First) → at < length text → first r at (drop at text) ≡ what → IsWithin (length (drop at text)) what
+pub stands_within : (r : Reading) (text : List ℕ) (at : ℕ) (what : First) → at < length text → first r at (drop at text) ≡ what → IsWithin (length (drop at text)) what
 stands_within r text at what g e = subst (λ (x : First). IsWithin (length (drop at text)) x) e (first_within r at (drop at text) (omega (arith, length-drop at text)))
 
 pub order_lexes : (r : Reading) (text : List ℕ) (at : ℕ) (ts : List Token) → at ≤ length text → Lexes r text at ts → AreInOrder at (length text) ts

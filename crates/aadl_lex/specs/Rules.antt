@@ -1,6 +1,6 @@
 -- What stands at the front of a text: the classes of tokens, and the order of their rules.
 use Rattle.std.specs.Prelude.{ℕ, ◌+◌, ◌-◌, ◌*◌, ◌==◌, Bool, true, false, not, ◌&&◌, ◌||◌, nat_eq, nat_lt, nat_le, List, [], ◌∷◌, length, take, drop, take_while, filter, fold, slice_index, if◌then◌else◌, Option, Some, None, pos, codes, ◌<◌, ◌≤◌}
-use Rattle.std.specs.List.{starts_with, list_any}
+use Rattle.std.specs.List.{starts_with, list_any, list_all}
 use Rattle.std.specs.Char.{is_ascii_alphabetic, is_ascii_digit}
 use Rattle.std.specs.Str.{str_eq_ignore_ascii_case}
 use Rattle.aadl_lex.specs.declared.token.TokenKind.{TokenKind}
@@ -34,6 +34,10 @@ run p s = length (take_while p s)
 -- A word is the longest run of its bytes, and has 64 at most.
 abbrev pub longest_name : ℕ
 longest_name = 64
+
+-- the bytes are a word, from its letter to its end
+abbrev pub is_word : List ℕ → Bool
+is_word s = is_ascii_alphabetic (slice_index s 0) && list_all is_in_word s && nat_le (length s) longest_name
 
 abbrev pub word_first : ℕ → List ℕ → First
 word_first at s = if nat_le (run is_in_word s) longest_name then Taken Word (run is_in_word s) else Refused (LongName at)

@@ -1,5 +1,5 @@
 -- The tokens of a text, and its first fault.
-use Rattle.std.specs.Prelude.{ℕ, ◌+◌, ◌≡◌, ◌<◌, ◌≤◌, List, [], ◌∷◌, ◌++◌, length, take, drop}
+use Rattle.std.specs.Prelude.{ℕ, ◌+◌, ◌-◌, ◌≡◌, ◌<◌, ◌≤◌, List, [], ◌∷◌, ◌++◌, length, take, drop}
 use Rattle.std.specs.Str.{IsUtf8}
 use Rattle.std.specs.Str.Lossy.{utf8_valid_len}
 use Rattle.aadl_lex.specs.declared.token.Token.{Token}
@@ -15,6 +15,10 @@ use Rattle.aadl_lex.specs.Rules.{first, after}
 -- the token of this class and of n bytes from `at` on
 abbrev pub token : TokenKind → ℕ → ℕ → Token
 token kind at n = record { kind = kind; start = at; end = at + n }
+
+-- the bytes of a token
+abbrev pub bytes_of : List ℕ → Token → List ℕ
+bytes_of text t = take (t.end - t.start) (drop t.start text)
 
 -- From the byte `at` on the text has these tokens.
 pub data Lexes : Reading → List ℕ → ℕ → List Token → Type 0 where

@@ -5,8 +5,10 @@
 #![tactic(auto)]
 
 ghost use Rattle.std.specs.Prelude.{ℕ, ◌≡◌, ◌≢◌, ◌+◌, ◌<◌, ◌≤◌, List, All, length, IfOk, IfErr};
+ghost use Rattle.std.specs.Str.{IsUtf8};
 ghost use Rattle.aadl_lex.specs.declared.fault.LexFault.{LexFault};
 ghost use Rattle.aadl_lex.specs.declared.token.Token.{Token};
+ghost use Rattle.aadl_lex.specs.Spelled.{IsWordAt, AreAmongTokensOf};
 ghost use Rattle.aadl_lex.specs.Tokens.{Lexes, Faults, AreTokensOf, AreInOrder, IsFaultOf};
 
 mod fault;
@@ -24,6 +26,7 @@ pub use token::{Token, TokenKind};
 pub fn lex(alloc: Global, text: &[u8]) -> Result<Vec<Token>, LexFault>
     ensures tokens { IfOk result (λ tokens. AreTokensOf text.now tokens.items) }
     ensures fault { IfErr result (λ fault. fault ≢ LexFault.Memory → IsFaultOf text.now fault) }
+    ensures memory { IfErr result (λ fault. fault ≡ LexFault.Memory → IsUtf8 text.now) }
 {
     if let Err(error) = str::from_utf8(text) {
         return Err(LexFault::NotUtf8 {
@@ -80,6 +83,12 @@ pub fn one_answer()
 pub fn tokens_in_order()
     ensures order { (text : List ℕ) (ts : List Token) → AreTokensOf text ts → AreInOrder 0 (length text) ts }
     ensures within { (text : List ℕ) (ts : List Token) → AreTokensOf text ts → All (λ t. (t.start < t.end) × (t.end ≤ length text)) ts }
+{}
+
+/// Each word of a text is a letter, and letters, digits and `_` behind it; 64 bytes at most.
+pub fn tokens_are_as_written()
+    ensures word { (text : List ℕ) (ts : List Token) → AreTokensOf text ts → All (IsWordAt text) ts }
+    ensures among { (text : List ℕ) (ts : List Token) → AreAmongTokensOf text ts → All (IsWordAt text) ts }
 {}
 
 #[cfg(test)]

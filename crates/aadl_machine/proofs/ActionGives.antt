@@ -3,7 +3,7 @@ use Rattle.std.proofs.Common.{◌≡◌, ◌⊎◌, ℕ, sym, refl, List, [], �
 use Rattle.std.proofs.lemmas.List.{append-nil}
 use Rattle.aadl_tree.specs.declared.mark.Mark.TheVariants as k
 use Rattle.aadl_tree.specs.Kinds.{Kind, word, mark}
-use Rattle.aadl_tree.specs.Parts.{Part, may, Spells, plain}
+use Rattle.aadl_tree.specs.Parts.{Part, may, last_semicolon, Spells, plain}
 use Rattle.aadl_tree.specs.Names as n
 use Rattle.aadl_tree.specs.Expressions as e
 use Rattle.aadl_tree.specs.Actions as a
@@ -27,10 +27,10 @@ loop_gives : (y : Head) (z : a.Block U) (ks rest : List Kind) → Spells (head_p
 loop_gives y z ks rest (more, i, sp) =
     (ks, refl, (more, i, respell _ _ more rest (loop_same (n.identifier_parts y.counter) (n.reference_parts y.data_type) (a.bound_parts y.low) (a.bound_parts y.high) (a.block_parts z)) sp))
 
-mores_gives : (y : a.Block U) (ks rest : List Kind) → Spells (body_parts y) ks rest → Spells (a.mores_parts (more_of y) ++ may (mark k.Semicolon ∷ []) ∷ []) (mark k.Semicolon ∷ ks) rest
+mores_gives : (y : a.Block U) (ks rest : List Kind) → Spells (body_parts y) ks rest → Spells (a.mores_parts (more_of y) ++ may last_semicolon ∷ []) (mark k.Semicolon ∷ ks) rest
 mores_gives a.no_block ks rest sp = inr (ks, refl, sp)
 mores_gives (a.block (a.actions y z)) ks rest sp =
-    (ks, refl, respell _ _ ks rest (sym (append_assoc (a.action_parts y) (a.mores_parts z) (may (mark k.Semicolon ∷ []) ∷ []))) sp)
+    (ks, refl, respell _ _ ks rest (sym (append_assoc (a.action_parts y) (a.mores_parts z) (may last_semicolon ∷ []))) sp)
 
 block_gives : (y : a.Block U) (ks rest : List Kind) → Spells (body_parts y ++ plain k.BraceClose ∷ []) ks rest → Spells (a.block_parts y) (mark k.BraceOpen ∷ ks) rest
 block_gives a.no_block ks rest sp = (ks, refl, sp)

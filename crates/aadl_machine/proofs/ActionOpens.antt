@@ -3,7 +3,7 @@ use Rattle.std.proofs.Common.{ℤ, Bool, true, false, sym, refl, List, [], ◌�
 use Rattle.std.proofs.lemmas.List.{append-nil}
 use Rattle.aadl_tree.specs.declared.mark.Mark.TheVariants as k
 use Rattle.aadl_tree.specs.Kinds.{Kind, mark}
-use Rattle.aadl_tree.specs.Parts.{may, Spells}
+use Rattle.aadl_tree.specs.Parts.{may, last_semicolon, Spells}
 use Rattle.aadl_tree.specs.Names as n
 use Rattle.aadl_tree.specs.Actions as a
 use Rattle.aadl_machine.specs.Symbols.{Class, a_word, a_whole, a_real, a_quoted, an_unread, the, Symbol, Row}
@@ -46,7 +46,7 @@ actions_opens (a.actions x y) ks rest sp = behind_opens s.actions s.action (s.mo
 pub mores_opens : OpensOr s.mores mores_builders a.no_mores
 mores_opens a.no_mores ks rest (inl e) = inr (refl, e)
 mores_opens a.no_mores ks rest (inr (more, e, sp)) = inl (inl (uses tt (a.no_block, tt) more e sp))
-mores_opens (a.more x y) ks rest (more, e, sp) = inl (inl (uses tt (a.block (a.actions x y), tt) more e (respell _ _ more rest (append_assoc (a.action_parts x) (a.mores_parts y) (may (mark k.Semicolon ∷ []) ∷ [])) sp)))
+mores_opens (a.more x y) ks rest (more, e, sp) = inl (inl (uses tt (a.block (a.actions x y), tt) more e (respell _ _ more rest (append_assoc (a.action_parts x) (a.mores_parts y) (may last_semicolon ∷ [])) sp)))
 
 pub after_semicolon_opens : OpensOr s.after_semicolon after_semicolon_builders a.no_block
 after_semicolon_opens a.no_block ks rest e = inr (refl, e)

@@ -1,35 +1,15 @@
 -- A terminal of a class, by what it says.
-use Rattle.std.proofs.Common.{◌≡◌, ℕ, ◌≤◌, true, ◌∙◌, sym, ap, refl, List, [], ◌∷◌, get_or, eq-eqb, arith}
+use Rattle.std.proofs.Common.{◌≡◌, ℕ, ◌≤◌, true, ◌∙◌, sym, ap, refl, List, eq-eqb, arith}
 use Rattle.std.specs.Prelude.{nat_lt}
 use Rattle.std.proofs.lemmas.Bool.{eqb-true, ltb-true}
 use Rattle.aadl_tree.specs.declared.mark.Mark.{Mark}
 use Rattle.aadl_tree.specs.declared.mark.Mark.TheVariants as k
 use Rattle.aadl_tree.specs.Kinds.{Kind, word, whole, real, quoted, unread, mark, other}
 use Rattle.aadl_machine.specs.Symbols.{Class, a_word, a_whole, a_real, a_quoted, an_unread, the}
-use Rattle.aadl_machine.specs.Machine.{mark_number, class_number, kind_number, fits}
+use Rattle.aadl_tree.specs.Marks.{mark_number}
+use Rattle.aadl_tree.proofs.Numbers.{same_number}
+use Rattle.aadl_machine.specs.Machine.{class_number, kind_number, fits}
 use Rattle.aadl_machine.proofs.Trees.{Content, kind_with}
-
-marks : List Mark
-marks =
-    k.Package ∷ k.Public ∷ k.With ∷ k.End ∷ k.System ∷ k.Process ∷ k.Thread ∷ k.Features ∷ k.Properties ∷ k.Implementation ∷ k.Subcomponents ∷
-    k.Connections ∷ k.Nothing ∷ k.In ∷ k.Out ∷ k.Data ∷ k.Port ∷ k.Annex ∷ k.Constant ∷ k.Applies ∷ k.To ∷ k.Reference ∷ k.Classifier ∷ k.Variables ∷
-    k.States ∷ k.Transitions ∷ k.Initial ∷ k.Complete ∷ k.State ∷ k.On ∷ k.Dispatch ∷ k.Otherwise ∷ k.If ∷ k.Elsif ∷ k.Else ∷ k.For ∷ k.And ∷ k.Or ∷ k.Xor
-    ∷ k.Then ∷ k.Mod ∷ k.Rem ∷ k.Abs ∷ k.Not ∷ k.True ∷ k.False ∷ k.Fresh ∷ k.Semicolon ∷ k.Colon ∷ k.Comma ∷ k.Dot ∷ k.Range ∷ k.Scope ∷ k.Becomes ∷
-    k.Appends ∷ k.Arrow ∷ k.GuardOpen ∷ k.GuardClose ∷ k.BraceOpen ∷ k.BraceClose ∷ k.ParenOpen ∷ k.ParenClose ∷ k.BracketOpen ∷ k.BracketClose ∷ k.Plus ∷
-    k.Minus ∷ k.Star ∷ k.Slash ∷ k.Equal ∷ k.NotEqual ∷ k.Less ∷ k.LessOrEqual ∷ k.Greater ∷ k.GreaterOrEqual ∷ k.Assign ∷ k.Bang ∷ k.Tick ∷ k.AnnexOpen ∷
-    k.AnnexClose ∷ []
-
-mark_of : ℕ → Mark
-unfolding marks
-mark_of n = get_or marks n k.Package
-
-back : (m : Mark) → mark_of (mark_number m) ≡ m
-unfolding mark_of marks
-back k.Package = refl
-back _ = refl
-
-pub same_number : (m o : Mark) → mark_number m ≡ mark_number o → m ≡ o
-same_number m o e = sym (back m) ∙ ap mark_of e ∙ back o
 
 small : (m : Mark) → nat_lt (mark_number m) 100 ≡ true
 small k.Package = refl

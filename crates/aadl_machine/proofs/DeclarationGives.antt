@@ -6,7 +6,7 @@ use Rattle.aadl_tree.specs.declared.mark.Mark.TheVariants as k
 use Rattle.aadl_tree.specs.declared.declarations.Category.{Category}
 use Rattle.aadl_tree.specs.declared.declarations.Category.TheVariants as categories
 use Rattle.aadl_tree.specs.Kinds.{Kind, mark}
-use Rattle.aadl_tree.specs.Parts.{Part, token, may, Spells, plain, marked_if, parts_if}
+use Rattle.aadl_tree.specs.Parts.{Part, Section, feature_section, subcomponent_section, connection_section, property_section, section_mark, token, may, Spells, plain, marked_if, parts_if}
 use Rattle.aadl_tree.specs.Parts as p
 use Rattle.aadl_tree.specs.Names as n
 use Rattle.aadl_tree.specs.Values as v
@@ -20,9 +20,9 @@ use Rattle.aadl_machine.proofs.ValueBuilders.{reference_builders, association_bu
 use Rattle.aadl_machine.proofs.DeclarationBuilders.{direction_builders, category_builders, data_type_builders, data_type_joins, feature_builders, subcomponent_builders, connection_end_builders, connection_builders, feature_list_builders, feature_list_joins, feature_section_builders, feature_section_joins, features_builders, subcomponent_list_builders, subcomponent_list_joins, subcomponent_section_builders, subcomponent_section_joins, subcomponents_builders, connection_list_builders, connection_list_joins, connection_section_builders, connection_section_joins, connections_builders, property_section_builders, property_section_joins, own_properties_builders, implementation_name_builders, type_end_builders, implementation_end_builders, package_end_builders, after_category_builders, declarations_builders, more_names_builders, withs_builders, a_package_builders}
 use Rattle.aadl_machine.proofs.ValueGives.{reference_give, association_give}
 
-section_gives : (m : Mark) (ps : List (Part U)) (ks rest : List Kind) → Spells (section_rest ps) ks rest → Spells (d.section_parts m ps) (mark m ∷ ks) rest
-section_gives m [] ks rest (q, h, (r, i, sp)) = inr (r, ap (λ l. mark m ∷ l) (h ∙ ap (λ l. mark k.Nothing ∷ l) i), sp)
-section_gives m (y ∷ ps) ks rest sp = (ks, refl, sp)
+section_gives : (section : Section) (ps : List (Part U)) (ks rest : List Kind) → Spells (section_rest ps) ks rest → Spells (d.section_parts section ps) (mark (section_mark section) ∷ ks) rest
+section_gives section [] ks rest (q, h, (r, i, sp)) = inr (r, ap (λ l. mark (section_mark section) ∷ l) (h ∙ ap (λ l. mark k.Nothing ∷ l) i), sp)
+section_gives section (y ∷ ps) ks rest sp = (ks, refl, sp)
 
 property_same : (u : v.Association U) (z : v.Associations U) → v.association_parts u ++ v.associations_parts z ≡ section_rest (v.associations_parts (v.associate u z))
 property_same (v.association name operator constant y paths) z = refl
@@ -63,7 +63,7 @@ pub feature_section_give : AllGive s.feature_section (rows s.feature_section) fe
 feature_section_give = ((λ w ts ks rest sp. (ks, refl, sp)), behind_give s.feature_section s.feature (s.feature_list ∷ []) (rows s.feature) feature_section_joins feature_builders (λ u ts. refl) feature_give)
 
 pub features_give : AllGive s.features (rows s.features) features_builders
-features_give = ((λ w ts ks rest sp. section_gives k.Features (flat_map d.feature_parts ts.0) ks rest sp), tt)
+features_give = ((λ w ts ks rest sp. section_gives feature_section (flat_map d.feature_parts ts.0) ks rest sp), tt)
 
 pub subcomponent_list_give : AllGive s.subcomponent_list (rows s.subcomponent_list) subcomponent_list_builders
 subcomponent_list_give = behind_give s.subcomponent_list s.subcomponent (s.subcomponent_list ∷ []) (rows s.subcomponent) subcomponent_list_joins subcomponent_builders (λ u ts. refl) subcomponent_give
@@ -72,7 +72,7 @@ pub subcomponent_section_give : AllGive s.subcomponent_section (rows s.subcompon
 subcomponent_section_give = ((λ w ts ks rest sp. (ks, refl, sp)), behind_give s.subcomponent_section s.subcomponent (s.subcomponent_list ∷ []) (rows s.subcomponent) subcomponent_section_joins subcomponent_builders (λ u ts. refl) subcomponent_give)
 
 pub subcomponents_give : AllGive s.subcomponents (rows s.subcomponents) subcomponents_builders
-subcomponents_give = ((λ w ts ks rest sp. section_gives k.Subcomponents (flat_map d.subcomponent_parts ts.0) ks rest sp), tt)
+subcomponents_give = ((λ w ts ks rest sp. section_gives subcomponent_section (flat_map d.subcomponent_parts ts.0) ks rest sp), tt)
 
 pub connection_list_give : AllGive s.connection_list (rows s.connection_list) connection_list_builders
 connection_list_give = behind_give s.connection_list s.connection (s.connection_list ∷ []) (rows s.connection) connection_list_joins connection_builders (λ u ts. refl) connection_give
@@ -81,13 +81,13 @@ pub connection_section_give : AllGive s.connection_section (rows s.connection_se
 connection_section_give = ((λ w ts ks rest sp. (ks, refl, sp)), behind_give s.connection_section s.connection (s.connection_list ∷ []) (rows s.connection) connection_section_joins connection_builders (λ u ts. refl) connection_give)
 
 pub connections_give : AllGive s.connections (rows s.connections) connections_builders
-connections_give = ((λ w ts ks rest sp. section_gives k.Connections (flat_map d.connection_parts ts.0) ks rest sp), tt)
+connections_give = ((λ w ts ks rest sp. section_gives connection_section (flat_map d.connection_parts ts.0) ks rest sp), tt)
 
 pub property_section_give : AllGive s.property_section (rows s.property_section) property_section_builders
 property_section_give = ((λ w ts ks rest sp. (ks, refl, sp)), behind_give s.property_section s.association (s.associations ∷ []) (rows s.association) property_section_joins association_builders (λ u ts. property_same u ts.0) association_give)
 
 pub own_properties_give : AllGive s.own_properties (rows s.own_properties) own_properties_builders
-own_properties_give = ((λ w ts ks rest sp. section_gives k.Properties (v.associations_parts ts.0) ks rest sp), tt)
+own_properties_give = ((λ w ts ks rest sp. section_gives property_section (v.associations_parts ts.0) ks rest sp), tt)
 
 pub implementation_name_give : AllGive s.implementation_name (rows s.implementation_name) implementation_name_builders
 implementation_name_give = ((λ w ts ks rest sp. (ks, refl, sp)), tt)

@@ -3,6 +3,7 @@ pub mod Tails
 pub mod Settled
 pub mod Derivations
 pub mod Trees
+pub mod References
 pub mod Rows
 pub mod ValueBuilders
 pub mod ExpressionBuilders
@@ -41,3 +42,4 @@ pub mod ActionPlaces
 pub mod AnnexPlaces
 pub mod DeclarationPlaces
 pub mod Deciding
+pub mod Placed

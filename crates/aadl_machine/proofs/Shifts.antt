@@ -7,7 +7,8 @@ use Rattle.aadl_tree.specs.Grammar.{opened, is_end}
 use Rattle.aadl_machine.specs.Symbols.{Class, the, Symbol, Row}
 use Rattle.aadl_machine.specs.Symbols as s
 use Rattle.aadl_machine.specs.Table.{rows, can_omit}
-use Rattle.aadl_machine.specs.Machine.{mark_number, class_number, kind_number, closes, depth}
+use Rattle.aadl_tree.specs.Marks.{mark_number}
+use Rattle.aadl_machine.specs.Machine.{class_number, kind_number, closes, depth}
 use Rattle.aadl_machine.proofs.Tails.{among, firsts}
 
 abbrev pub openers : List Class

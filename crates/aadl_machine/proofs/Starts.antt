@@ -12,8 +12,10 @@ use Rattle.aadl_machine.proofs.Settled.{Clear, apart_means}
 use Rattle.aadl_machine.proofs.Trees.{Trees}
 use Rattle.aadl_machine.proofs.Languages.{derives, Written, written}
 use Rattle.aadl_machine.proofs.Alike.{alike_spells, alike_kept}
-use Rattle.aadl_machine.proofs.AnnexPlaces.{annex_tree_to, annex_tree_alike}
-use Rattle.aadl_machine.proofs.DeclarationPlaces.{package_to, package_alike}
+use Rattle.aadl_tree.specs.Maps.{annex_tree_to}
+use Rattle.aadl_machine.proofs.AnnexPlaces.{annex_tree_alike}
+use Rattle.aadl_tree.specs.Maps.{package_to}
+use Rattle.aadl_machine.proofs.DeclarationPlaces.{package_alike}
 use Rattle.aadl_machine.proofs.Unique.{one}
 use Rattle.aadl_machine.proofs.Verdict.{Language}
 

@@ -63,12 +63,12 @@ declaration_of c (implementation_rest name subs links own annexes end_name) =
 
 abbrev pub rest_parts : Rest → List (Part U)
 rest_parts (type_rest name features own annexes end_name) =
-    n.identifier_parts name ++ (d.section_parts k.Features (flat_map d.feature_parts features)
-    ++ (d.section_parts k.Properties (v.associations_parts own) ++ (flat_map x.annex_parts annexes ++ d.ending_parts (n.identifier_parts end_name))))
+    n.identifier_parts name ++ (d.section_parts p.feature_section (flat_map d.feature_parts features)
+    ++ (d.section_parts p.property_section (v.associations_parts own) ++ (flat_map x.annex_parts annexes ++ d.ending_parts (n.identifier_parts end_name))))
 rest_parts (implementation_rest name subs links own annexes end_name) =
     plain k.Implementation ∷ (d.implementation_name_parts name
-    ++ (d.section_parts k.Subcomponents (flat_map d.subcomponent_parts subs) ++ (d.section_parts k.Connections (flat_map d.connection_parts links)
-    ++ (d.section_parts k.Properties (v.associations_parts own) ++ (flat_map x.annex_parts annexes ++ d.ending_parts (d.implementation_name_parts end_name))))))
+    ++ (d.section_parts p.subcomponent_section (flat_map d.subcomponent_parts subs) ++ (d.section_parts p.connection_section (flat_map d.connection_parts links)
+    ++ (d.section_parts p.property_section (v.associations_parts own) ++ (flat_map x.annex_parts annexes ++ d.ending_parts (d.implementation_name_parts end_name))))))
 
 -- what a section has, behind its word
 abbrev pub section_rest : List (Part U) → List (Part U)
@@ -276,7 +276,7 @@ parts s.after_target t = target_parts t
 parts s.loop_head t = head_parts t
 parts s.action t = a.action_parts t
 parts s.actions t = a.actions_parts t
-parts s.mores t = a.mores_parts t ++ may (mark k.Semicolon ∷ []) ∷ []
+parts s.mores t = a.mores_parts t ++ may p.last_semicolon ∷ []
 parts s.after_semicolon t = body_parts t
 parts s.elsifs t = a.elsifs_parts t
 parts s.otherwise t = a.otherwise_parts t
@@ -311,15 +311,15 @@ parts s.connection_end t = d.end_parts t
 parts s.connection t = d.connection_parts t
 parts s.feature_list t = flat_map d.feature_parts t
 parts s.feature_section t = section_rest (flat_map d.feature_parts t)
-parts s.features t = d.section_parts k.Features (flat_map d.feature_parts t)
+parts s.features t = d.section_parts p.feature_section (flat_map d.feature_parts t)
 parts s.subcomponent_list t = flat_map d.subcomponent_parts t
 parts s.subcomponent_section t = section_rest (flat_map d.subcomponent_parts t)
-parts s.subcomponents t = d.section_parts k.Subcomponents (flat_map d.subcomponent_parts t)
+parts s.subcomponents t = d.section_parts p.subcomponent_section (flat_map d.subcomponent_parts t)
 parts s.connection_list t = flat_map d.connection_parts t
 parts s.connection_section t = section_rest (flat_map d.connection_parts t)
-parts s.connections t = d.section_parts k.Connections (flat_map d.connection_parts t)
+parts s.connections t = d.section_parts p.connection_section (flat_map d.connection_parts t)
 parts s.property_section t = section_rest (v.associations_parts t)
-parts s.own_properties t = d.section_parts k.Properties (v.associations_parts t)
+parts s.own_properties t = d.section_parts p.property_section (v.associations_parts t)
 parts s.implementation_name t = d.implementation_name_parts t
 parts s.type_end t = d.ending_parts (n.identifier_parts t)
 parts s.implementation_end t = d.ending_parts (d.implementation_name_parts t)

@@ -8,6 +8,7 @@ use Rattle.aadl_machine.specs.Symbols.{Class, a_word, a_whole, a_real, a_quoted,
 use Rattle.aadl_machine.specs.Symbols as s
 use Rattle.aadl_machine.specs.Table.{rows}
 use Rattle.aadl_machine.proofs.Trees.{id}
+use Rattle.aadl_machine.proofs.References.{reference_of}
 use Rattle.aadl_machine.proofs.Rows.{Builders, Joins, behind_builders}
 
 abbrev pub only_builders : (m : Mark) → Builders (s.only m) (rows (s.only m))
@@ -32,7 +33,7 @@ abbrev pub more_identifiers_builders : Builders s.more_identifiers (rows s.more_
 more_identifiers_builders = ((λ w ts. ts.0 ∷ ts.1.0), tt)
 
 abbrev pub reference_builders : Builders s.reference (rows s.reference)
-reference_builders = ((λ w ts. record { name = record { first = id w; rest = ts.0 }; implementation = ts.1.0 }), tt)
+reference_builders = ((λ w ts. reference_of (id w) ts.0 ts.1.0), tt)
 
 abbrev pub dot_identifier_builders : Builders s.dot_identifier (rows s.dot_identifier)
 dot_identifier_builders = ((λ w ts. Some ts.0), tt)
@@ -53,7 +54,7 @@ abbrev pub value_joins : Joins s.value s.quantity (s.upper ∷ [])
 value_joins u ts = v.number u ts.0
 
 abbrev pub value_builders : Builders s.value (rows s.value)
-value_builders = ((λ w ts. v.text w), ((λ w ts. v.named (record { name = record { first = id w; rest = ts.0 }; implementation = ts.1.0 })), ((λ w ts. v.list ts.0), ((λ w ts. v.fields ts.0), ((λ w ts. v.reference ts.0), ((λ w ts. v.classifier ts.0), behind_builders s.value s.quantity (s.upper ∷ []) (rows s.quantity) value_joins quantity_builders))))))
+value_builders = ((λ w ts. v.text w), ((λ w ts. v.named (reference_of (id w) ts.0 ts.1.0)), ((λ w ts. v.list ts.0), ((λ w ts. v.fields ts.0), ((λ w ts. v.reference ts.0), ((λ w ts. v.classifier ts.0), behind_builders s.value s.quantity (s.upper ∷ []) (rows s.quantity) value_joins quantity_builders))))))
 
 abbrev pub path_group_builders : Builders s.path_group (rows s.path_group)
 path_group_builders = ((λ w ts. ts.0), tt)

@@ -8,6 +8,7 @@ use Rattle.aadl_machine.specs.Symbols.{Class, a_word, a_whole, a_real, a_quoted,
 use Rattle.aadl_machine.specs.Symbols as s
 use Rattle.aadl_machine.specs.Table.{rows}
 use Rattle.aadl_machine.proofs.Trees.{U}
+use Rattle.aadl_machine.proofs.References.{reference_spells}
 use Rattle.aadl_machine.proofs.Rows.{respell, AllGive, behind_give}
 use Rattle.aadl_machine.proofs.ValueBuilders.{only_builders, identifier_builders, name_builders, names_builders, path_builders, paths_builders, more_identifiers_builders, reference_builders, dot_identifier_builders, figure_builders, unit_builders, quantity_builders, upper_builders, value_builders, value_joins, path_group_builders, reference_group_builders, values_builders, values_joins, more_values_builders, operator_builders, constant_builders, applies_builders, more_paths_builders, association_builders, associations_builders, associations_joins, properties_builders}
 
@@ -36,7 +37,7 @@ pub more_identifiers_give : AllGive s.more_identifiers (rows s.more_identifiers)
 more_identifiers_give = ((λ w ts ks rest sp. (ks, refl, sp)), tt)
 
 pub reference_give : AllGive s.reference (rows s.reference) reference_builders
-reference_give = ((λ w ts ks rest sp. (ks, refl, sp)), tt)
+reference_give = ((λ w ts ks rest sp. reference_spells w ts.0 ts.1.0 ks rest sp), tt)
 
 pub dot_identifier_give : AllGive s.dot_identifier (rows s.dot_identifier) dot_identifier_builders
 dot_identifier_give = ((λ w ts ks rest sp. (ks, refl, sp)), tt)
@@ -54,7 +55,7 @@ pub upper_give : AllGive s.upper (rows s.upper) upper_builders
 upper_give = ((λ w ts ks rest sp. (ks, refl, sp)), tt)
 
 pub value_give : AllGive s.value (rows s.value) value_builders
-value_give = ((λ w ts ks rest sp. (ks, refl, sp)), ((λ w ts ks rest sp. (ks, refl, sp)), ((λ w ts ks rest sp. (ks, refl, sp)), ((λ w ts ks rest sp. (ks, refl, sp)), ((λ w ts ks rest sp. (ks, refl, sp)), ((λ w ts ks rest sp. (ks, refl, sp)), behind_give s.value s.quantity (s.upper ∷ []) (rows s.quantity) value_joins quantity_builders (λ u ts. refl) quantity_give))))))
+value_give = ((λ w ts ks rest sp. (ks, refl, sp)), ((λ w ts ks rest sp. reference_spells w ts.0 ts.1.0 ks rest sp), ((λ w ts ks rest sp. (ks, refl, sp)), ((λ w ts ks rest sp. (ks, refl, sp)), ((λ w ts ks rest sp. (ks, refl, sp)), ((λ w ts ks rest sp. (ks, refl, sp)), behind_give s.value s.quantity (s.upper ∷ []) (rows s.quantity) value_joins quantity_builders (λ u ts. refl) quantity_give))))))
 
 pub path_group_give : AllGive s.path_group (rows s.path_group) path_group_builders
 path_group_give = ((λ w ts ks rest sp. (ks, refl, sp)), tt)

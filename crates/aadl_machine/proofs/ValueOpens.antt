@@ -1,5 +1,5 @@
 -- A spelled tree is what a row makes, or its symbol is left out.
-use Rattle.std.proofs.Common.{true, false, refl, List, [], ◌∷◌, Option, Some, None, append_assoc, inl, inr}
+use Rattle.std.proofs.Common.{true, false, ap, refl, List, [], ◌∷◌, Option, Some, None, append_assoc, inl, inr}
 use Rattle.aadl_tree.specs.declared.mark.Mark.TheVariants as k
 use Rattle.aadl_tree.specs.declared.expressions.Sign.{Sign}
 use Rattle.aadl_tree.specs.declared.expressions.Sign.TheVariants as signs
@@ -12,6 +12,7 @@ use Rattle.aadl_machine.specs.Symbols.{Class, a_word, a_whole, a_real, a_quoted,
 use Rattle.aadl_machine.specs.Symbols as s
 use Rattle.aadl_machine.specs.Table.{rows}
 use Rattle.aadl_machine.proofs.Trees.{U, parts}
+use Rattle.aadl_machine.proofs.References.{chain_of}
 use Rattle.aadl_machine.proofs.Rows.{respell, InRows, behind_opens, uses, Opens, OpensOr}
 use Rattle.aadl_machine.proofs.ValueBuilders.{identifier_builders, name_builders, names_builders, path_builders, paths_builders, more_identifiers_builders, reference_builders, dot_identifier_builders, figure_builders, unit_builders, quantity_builders, upper_builders, value_builders, value_joins, path_group_builders, reference_group_builders, values_builders, values_joins, more_values_builders, operator_builders, constant_builders, applies_builders, more_paths_builders, association_builders, associations_builders, associations_joins, properties_builders}
 
@@ -37,7 +38,9 @@ more_identifiers_opens [] ks rest e = inr (refl, e)
 more_identifiers_opens (x ∷ xs) ks rest (more, e, sp) = inl (inl (uses tt (x, (xs, tt)) more e sp))
 
 pub reference_opens : Opens s.reference reference_builders
-reference_opens t ks rest (more, e, sp) = inl (uses t.name.first.spelling (t.name.rest, (t.implementation, tt)) more e sp)
+reference_opens t ks rest sp =
+    let c = chain_of t ks rest sp in
+    inl (record { content = c.first; trees = (c.others, (t.implementation, tt)); more = c.more; made = c.made; whole = c.whole; spelled = c.spelled })
 
 pub dot_identifier_opens : OpensOr s.dot_identifier dot_identifier_builders None
 dot_identifier_opens None ks rest e = inr (refl, e)
@@ -67,7 +70,9 @@ upper_opens (Some x) ks rest (more, e, sp) = inl (inl (uses tt (x, tt) more e sp
 
 pub value_opens : Opens s.value value_builders
 value_opens (v.text x) ks rest (more, e, sp) = inl (uses x tt more e sp)
-value_opens (v.named x) ks rest (more, e, sp) = inr (inl (uses x.name.first.spelling (x.name.rest, (x.implementation, tt)) more e sp))
+value_opens (v.named x) ks rest sp =
+    let c = chain_of x ks rest sp in
+    inr (inl (record { content = c.first; trees = (c.others, (x.implementation, tt)); more = c.more; made = ap v.named c.made; whole = c.whole; spelled = c.spelled }))
 value_opens (v.list x) ks rest (more, e, sp) = inr (inr (inl (uses tt (x, (tt, tt)) more e sp)))
 value_opens (v.fields x) ks rest (more, e, sp) = inr (inr (inr (inl (uses tt (x, (tt, tt)) more e sp))))
 value_opens (v.reference x) ks rest (more, e, sp) = inr (inr (inr (inr (inl (uses tt (x, tt) more e sp)))))

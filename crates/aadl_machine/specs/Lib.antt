@@ -1,4 +1,5 @@
 pub mod Symbols
 pub mod Table
 pub mod Machine
+pub mod Moved
 pub mod Example

@@ -2,95 +2,14 @@
 use Rattle.std.specs.Prelude.{ℕ, ◌+◌, ◌==◌, nat_lt, Bool, true, ◌&&◌, List, [], ◌∷◌, ◌++◌, Option, Some, None, if◌then◌else◌}
 use Rattle.aadl_tree.specs.declared.mark.Mark.{Mark}
 use Rattle.aadl_tree.specs.declared.mark.Mark.TheVariants as k
+use Rattle.aadl_tree.specs.Marks.{mark_number}
 use Rattle.aadl_tree.specs.Kinds.{Kind, word, whole, real, quoted, unread, mark, other, Spot}
 use Rattle.aadl_tree.specs.Grammar.{greatest_nesting}
 use Rattle.aadl_machine.specs.Symbols.{Class, a_word, a_whole, a_real, a_quoted, an_unread, the, Symbol, Row}
 use Rattle.aadl_machine.specs.Symbols as s
 use Rattle.aadl_machine.specs.Table.{rows, can_omit}
 
--- each keyword and each symbol has a number of its own
-abbrev pub mark_number : Mark → ℕ
-mark_number k.Package = 0
-mark_number k.Public = 1
-mark_number k.With = 2
-mark_number k.End = 3
-mark_number k.System = 4
-mark_number k.Process = 5
-mark_number k.Thread = 6
-mark_number k.Features = 7
-mark_number k.Properties = 8
-mark_number k.Implementation = 9
-mark_number k.Subcomponents = 10
-mark_number k.Connections = 11
-mark_number k.Nothing = 12
-mark_number k.In = 13
-mark_number k.Out = 14
-mark_number k.Data = 15
-mark_number k.Port = 16
-mark_number k.Annex = 17
-mark_number k.Constant = 18
-mark_number k.Applies = 19
-mark_number k.To = 20
-mark_number k.Reference = 21
-mark_number k.Classifier = 22
-mark_number k.Variables = 23
-mark_number k.States = 24
-mark_number k.Transitions = 25
-mark_number k.Initial = 26
-mark_number k.Complete = 27
-mark_number k.State = 28
-mark_number k.On = 29
-mark_number k.Dispatch = 30
-mark_number k.Otherwise = 31
-mark_number k.If = 32
-mark_number k.Elsif = 33
-mark_number k.Else = 34
-mark_number k.For = 35
-mark_number k.And = 36
-mark_number k.Or = 37
-mark_number k.Xor = 38
-mark_number k.Then = 39
-mark_number k.Mod = 40
-mark_number k.Rem = 41
-mark_number k.Abs = 42
-mark_number k.Not = 43
-mark_number k.True = 44
-mark_number k.False = 45
-mark_number k.Fresh = 46
-mark_number k.Semicolon = 47
-mark_number k.Colon = 48
-mark_number k.Comma = 49
-mark_number k.Dot = 50
-mark_number k.Range = 51
-mark_number k.Scope = 52
-mark_number k.Becomes = 53
-mark_number k.Appends = 54
-mark_number k.Arrow = 55
-mark_number k.GuardOpen = 56
-mark_number k.GuardClose = 57
-mark_number k.BraceOpen = 58
-mark_number k.BraceClose = 59
-mark_number k.ParenOpen = 60
-mark_number k.ParenClose = 61
-mark_number k.BracketOpen = 62
-mark_number k.BracketClose = 63
-mark_number k.Plus = 64
-mark_number k.Minus = 65
-mark_number k.Star = 66
-mark_number k.Slash = 67
-mark_number k.Equal = 68
-mark_number k.NotEqual = 69
-mark_number k.Less = 70
-mark_number k.LessOrEqual = 71
-mark_number k.Greater = 72
-mark_number k.GreaterOrEqual = 73
-mark_number k.Assign = 74
-mark_number k.Bang = 75
-mark_number k.Tick = 76
-mark_number k.AnnexOpen = 77
-mark_number k.AnnexClose = 78
-
--- and so have the other classes
+-- each class has a number of its own, a keyword or a symbol that of its mark
 abbrev pub class_number : Class → ℕ
 class_number a_word = 100
 class_number a_whole = 101

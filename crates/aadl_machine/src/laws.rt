@@ -2,7 +2,7 @@
 ghost use Rattle.std.specs.Prelude.{◌≡◌, ◌↔◌, ℕ, List, [], ◌∷◌, map, false};
 ghost use Rattle.aadl_tree.specs.Kinds.{Kind, mark, Spot, kinds_of};
 ghost use Rattle.aadl_tree.specs.declared.mark.Mark.TheVariants as k;
-ghost use Rattle.aadl_tree.specs.Parts.{Spells, kept};
+ghost use Rattle.aadl_tree.specs.Parts.{Spells, Written, kept};
 ghost use Rattle.aadl_tree.specs.Annexes.{AnnexTree, annex_tree_parts};
 ghost use Rattle.aadl_tree.specs.Declarations.{PackageTree, package_parts};
 ghost use Rattle.aadl_tree.specs.Grammar.{nesting, IsPackage, IsBehaviour, IsShallow, FailsAt, DeepAt};
@@ -11,6 +11,7 @@ ghost use Rattle.aadl_machine.specs.Symbols.{Symbol};
 ghost use Rattle.aadl_machine.specs.Symbols as s;
 ghost use Rattle.aadl_machine.specs.Table.{rows, Decides};
 ghost use Rattle.aadl_machine.specs.Machine.{fate, finished, syntax_at, deep_at, whole_package, annex_body};
+ghost use Rattle.aadl_machine.specs.Moved.{Rising, SamePackage};
 ghost use Rattle.aadl_machine.specs.Example.{numbered, without_value, nested, small_package};
 
 /// One terminal decides how a symbol begins: no two rows of the table's symbols are of one class.
@@ -48,6 +49,15 @@ pub fn a_text_has_one_tree()
     ensures behaviour { (ks : List Kind) (t u : AnnexTree (Unit {0})) → Spells (annex_tree_parts t) ks [] → Spells (annex_tree_parts u) ks [] → t ≡ u }
     ensures kept_of_package { (ks : List Kind) (t u : PackageTree ℕ) → Spells (package_parts t) ks [] → Spells (package_parts u) ks [] → kept (package_parts t) ≡ kept (package_parts u) }
     ensures kept_of_behaviour { (ks : List Kind) (t u : AnnexTree ℕ) → Spells (annex_tree_parts t) ks [] → Spells (annex_tree_parts u) ks [] → kept (annex_tree_parts t) ≡ kept (annex_tree_parts u) }
+{}
+
+/// The tokens of a text are written by one package, or one behaviour, at most, with its places. And
+/// terminals that are just those that a package keeps are written by the same package at their own
+/// places: so the canonical text of a package has its tree.
+pub fn one_tree_with_places()
+    ensures package { (ss : List Spot) (t u : PackageTree ℕ) → Written (package_parts t) ss [] → Written (package_parts u) ss [] → t ≡ u }
+    ensures behaviour { (ss : List Spot) (t u : AnnexTree ℕ) → Written (annex_tree_parts t) ss [] → Written (annex_tree_parts u) ss [] → t ≡ u }
+    ensures moved { (t : PackageTree ℕ) (ss ts : List Spot) → Written (package_parts t) ss [] → Rising ss → kinds_of ts ≡ kept (package_parts t) → SamePackage t ts }
 {}
 
 /// The machine on a transition of the two counters, on `x := ;` and on the text's end, on a small

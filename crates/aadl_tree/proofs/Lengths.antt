@@ -13,7 +13,7 @@ use Rattle.aadl_tree.specs.declared.actions.Elsif.{Elsif}
 use Rattle.aadl_tree.specs.ValueViews.{values_view, associations_view}
 use Rattle.aadl_tree.specs.ExpressionViews.{factors_view, terms_view, relations_view}
 use Rattle.aadl_tree.specs.ActionViews.{mores_view, elsifs_view}
-use Rattle.aadl_tree.specs.Views.{no_place}
+use Rattle.aadl_tree.specs.Maps.{no_place}
 
 pub values-length : (a b : List Value) → values_view no_place a ≡ values_view no_place b → length a ≡ length b
 values-length [] [] same = refl

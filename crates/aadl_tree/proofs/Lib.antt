@@ -7,3 +7,6 @@ pub mod Lengths
 pub mod Primaries
 pub mod ActionKinds
 pub mod Exclusion
+pub mod Numbers
+pub mod Finds
+pub mod Ties

@@ -2,7 +2,7 @@
 use Rattle.std.proofs.Common.{◌≡◌, ℕ, ◌∙◌, sym, ap, subst, refl, List, [], ◌∷◌, ◌++◌}
 use Rattle.std.proofs.Common.{inl, inr}
 use Rattle.aadl_tree.specs.Kinds.{Kind, Spot, kinds_of}
-use Rattle.aadl_tree.specs.Parts.{Part, token, may, Spells, HaveKinds, Written, kept}
+use Rattle.aadl_tree.specs.Parts.{Part, token, may, extra_kinds, Spells, HaveKinds, Written, kept}
 
 pub kept_spells : {P : Type 0} → (ps : List (Part P)) (rest : List Kind) → Spells ps (kept ps ++ rest) rest
 kept_spells [] rest = refl
@@ -17,7 +17,7 @@ pub written_spells : (ps : List (Part ℕ)) (ss rest : List Spot) → Written ps
 written_spells [] ss rest e = ap kinds_of e
 written_spells (token kind places ∷ ps) ss rest (s, more, e, is, at, w) = (kinds_of more, ap kinds_of e ∙ ap (λ x. x ∷ kinds_of more) is, written_spells ps more rest w)
 written_spells (may extra ∷ ps) ss rest (inl w) = inl (written_spells ps ss rest w)
-written_spells (may extra ∷ ps) ss rest (inr (more, h, w)) = inr (kinds_of more, have_kinds extra ss more h, written_spells ps more rest w)
+written_spells (may extra ∷ ps) ss rest (inr (more, h, w)) = inr (kinds_of more, have_kinds (extra_kinds extra) ss more h, written_spells ps more rest w)
 
 pub spells_append : {P : Type 0} → (a b : List (Part P)) (ks mid rest : List Kind) → Spells a ks mid → Spells b mid rest → Spells (a ++ b) ks rest
 spells_append [] b ks mid rest e s = subst (λ (x : List Kind). Spells b x rest) (sym e) s

@@ -14,7 +14,7 @@ use Rattle.aadl_tree.specs.Names as plain
 use Rattle.aadl_tree.specs.Expressions as plain_expressions
 use Rattle.aadl_tree.specs.Expressions.{number, truth, named}
 use Rattle.aadl_tree.specs.ExpressionViews.{primary_view}
-use Rattle.aadl_tree.specs.Views.{no_place}
+use Rattle.aadl_tree.specs.Maps.{no_place}
 use Rattle.aadl_tree.proofs.ExpressionViews.{view-Whole, view-Truth, view-Named, view-Group}
 
 abbrev Layer : Type 0

@@ -3,7 +3,7 @@ use Rattle.std.specs.Prelude.{List, [], ◌∷◌, ◌++◌}
 use Rattle.aadl_tree.specs.declared.mark.Mark.TheVariants as k
 use Rattle.aadl_tree.specs.declared.actions.Bound.{Bound}
 use Rattle.aadl_tree.specs.Kinds.{whole, mark}
-use Rattle.aadl_tree.specs.Parts.{Part, token, may, plain, marked_if}
+use Rattle.aadl_tree.specs.Parts.{Part, token, may, last_semicolon, plain, marked_if}
 use Rattle.aadl_tree.specs.Names.{Identifier, Reference, identifier_parts, reference_parts}
 use Rattle.aadl_tree.specs.Expressions.{Expression, expression_parts}
 
@@ -54,7 +54,7 @@ abbrev mutual
 
   -- A `;` behind the last action means nothing.
   pub actions_parts : {P : Type 0} → Actions P → List (Part P)
-  actions_parts (actions first rest) = action_parts first ++ (mores_parts rest ++ may (mark k.Semicolon ∷ []) ∷ [])
+  actions_parts (actions first rest) = action_parts first ++ (mores_parts rest ++ may last_semicolon ∷ [])
 
   pub mores_parts : {P : Type 0} → Mores P → List (Part P)
   mores_parts no_mores = []

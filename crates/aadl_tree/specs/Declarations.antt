@@ -7,7 +7,7 @@ use Rattle.aadl_tree.specs.declared.declarations.Category.TheVariants as categor
 use Rattle.aadl_tree.specs.declared.declarations.Direction.{Direction}
 use Rattle.aadl_tree.specs.declared.declarations.Direction.TheVariants as directions
 use Rattle.aadl_tree.specs.Kinds.{mark}
-use Rattle.aadl_tree.specs.Parts.{Part, token, may, plain, parts_if, behind, chained}
+use Rattle.aadl_tree.specs.Parts.{Part, token, may, Section, feature_section, subcomponent_section, connection_section, property_section, section_mark, empty_section, plain, parts_if, behind, chained}
 use Rattle.aadl_tree.specs.Names.{Identifier, Name, Reference, identifier_parts, name_parts, reference_parts}
 use Rattle.aadl_tree.specs.Values.{Associations, associations_parts, properties_parts}
 use Rattle.aadl_tree.specs.Annexes.{Annex, annex_parts}
@@ -81,9 +81,9 @@ direction_mark directions.In = k.In
 direction_mark directions.Out = k.Out
 
 -- A section: its word, and what it has. Where it has nothing, a text may say so: `none ;`.
-abbrev pub section_parts : {P : Type 0} → Mark → List (Part P) → List (Part P)
-section_parts m [] = may (mark m ∷ mark k.Nothing ∷ mark k.Semicolon ∷ []) ∷ []
-section_parts m (p ∷ ps) = plain m ∷ (p ∷ ps)
+abbrev pub section_parts : {P : Type 0} → Section → List (Part P) → List (Part P)
+section_parts section [] = may (empty_section section) ∷ []
+section_parts section (p ∷ ps) = plain (section_mark section) ∷ (p ∷ ps)
 
 -- id ":" ( "in" | "out" ) "data" "port" [ reference ] [ properties ] ";"
 abbrev pub feature_parts : {P : Type 0} → Feature P → List (Part P)
@@ -112,8 +112,8 @@ ending_parts name = plain k.End ∷ (name ++ plain k.Semicolon ∷ [])
 -- category id [ features ] [ properties ] { annex } "end" id ";"
 abbrev pub type_parts : {P : Type 0} → TypeDeclaration P → List (Part P)
 type_parts x =
-    token (mark (category_mark x.category)) (x.at ∷ []) ∷ (identifier_parts x.name ++ (section_parts k.Features (flat_map feature_parts x.features)
-    ++ (section_parts k.Properties (associations_parts x.properties) ++ (flat_map annex_parts x.annexes ++ ending_parts (identifier_parts x.end_name)))))
+    token (mark (category_mark x.category)) (x.at ∷ []) ∷ (identifier_parts x.name ++ (section_parts feature_section (flat_map feature_parts x.features)
+    ++ (section_parts property_section (associations_parts x.properties) ++ (flat_map annex_parts x.annexes ++ ending_parts (identifier_parts x.end_name)))))
 
 -- id "." id
 abbrev pub implementation_name_parts : {P : Type 0} → ImplementationName P → List (Part P)
@@ -123,8 +123,8 @@ implementation_name_parts x = identifier_parts x.component_type ++ (plain k.Dot 
 abbrev pub implementation_parts : {P : Type 0} → Implementation P → List (Part P)
 implementation_parts x =
     token (mark (category_mark x.category)) (x.at ∷ []) ∷ (plain k.Implementation ∷ (implementation_name_parts x.name
-    ++ (section_parts k.Subcomponents (flat_map subcomponent_parts x.subcomponents) ++ (section_parts k.Connections (flat_map connection_parts x.connections)
-    ++ (section_parts k.Properties (associations_parts x.properties) ++ (flat_map annex_parts x.annexes ++ ending_parts (implementation_name_parts x.end_name)))))))
+    ++ (section_parts subcomponent_section (flat_map subcomponent_parts x.subcomponents) ++ (section_parts connection_section (flat_map connection_parts x.connections)
+    ++ (section_parts property_section (associations_parts x.properties) ++ (flat_map annex_parts x.annexes ++ ending_parts (implementation_name_parts x.end_name)))))))
 
 abbrev pub declaration_parts : {P : Type 0} → Declaration P → List (Part P)
 declaration_parts (type x) = type_parts x

@@ -1,8 +1,9 @@
 -- The terminals of the grammar, and those of a text's tokens.
-use Rattle.std.specs.Prelude.{ℕ, ℤ, ◌-◌, Bool, true, false, List, [], ◌∷◌, map, take, drop, Option, Some, None}
+use Rattle.std.specs.Prelude.{ℕ, ℤ, Bool, true, false, List, [], ◌∷◌, map, Option, Some, None}
 use Rattle.aadl_lex.specs.declared.token.Token.{Token}
 use Rattle.aadl_lex.specs.declared.token.TokenKind.{TokenKind}
 use Rattle.aadl_lex.specs.declared.token.TokenKind.TheVariants as class
+use Rattle.aadl_lex.specs.Tokens.{bytes_of}
 use Rattle.aadl_tree.specs.declared.mark.Mark.{Mark}
 use Rattle.aadl_tree.specs.declared.mark.Mark.TheVariants as k
 use Rattle.aadl_tree.specs.Marks.{keyword_of, symbol_of}
@@ -40,10 +41,6 @@ class_kind inside class.Symbol bytes = symbol_kind bytes (symbol_of bytes)
 class_kind inside class.AnnexOpen bytes = mark k.AnnexOpen
 class_kind inside class.AnnexClose bytes = mark k.AnnexClose
 class_kind inside class.Unread bytes = unread bytes
-
--- the bytes of a token
-abbrev pub bytes_of : List ℕ → Token → List ℕ
-bytes_of text t = take (t.end - t.start) (drop t.start text)
 
 abbrev pub kind_of : Bool → List ℕ → Token → Kind
 kind_of inside text t = class_kind inside t.kind (bytes_of text t)

@@ -7,6 +7,7 @@ pub mod Expressions
 pub mod Actions
 pub mod Annexes
 pub mod Declarations
+pub mod Maps
 pub mod Grammar
 pub mod Canon
 pub mod Example

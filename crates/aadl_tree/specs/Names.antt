@@ -1,8 +1,8 @@
 -- Names and references as plain trees. Each word keeps its place, of the type P.
-use Rattle.std.specs.Prelude.{ℕ, List, [], ◌∷◌, ◌++◌, Option}
+use Rattle.std.specs.Prelude.{ℕ, List, [], ◌∷◌, ◌++◌, flat_map, Option}
 use Rattle.aadl_tree.specs.declared.mark.Mark.TheVariants as k
 use Rattle.aadl_tree.specs.Kinds.{word}
-use Rattle.aadl_tree.specs.Parts.{Part, token, parts_if, behind, chained}
+use Rattle.aadl_tree.specs.Parts.{Part, token, plain, parts_if, behind, chained}
 
 pub record Identifier (P : Type 0) : Type 0 where
   pub at : P
@@ -21,7 +21,8 @@ pub record Identifiers (P : Type 0) : Type 0 where
   pub rest : List (Identifier P)
 
 pub record Reference (P : Type 0) : Type 0 where
-  pub name : Name P
+  pub qualifiers : List (Identifier P)
+  pub type_name : Identifier P
   pub implementation : Option (Identifier P)
 
 abbrev pub identifier_parts : {P : Type 0} → Identifier P → List (Part P)
@@ -39,6 +40,10 @@ path_parts x = chained k.Dot identifier_parts x.first x.rest
 abbrev pub identifiers_parts : {P : Type 0} → Identifiers P → List (Part P)
 identifiers_parts x = chained k.Comma identifier_parts x.first x.rest
 
+-- id "::"
+abbrev pub qualifier_parts : {P : Type 0} → Identifier P → List (Part P)
+qualifier_parts x = identifier_parts x ++ plain k.Scope ∷ []
+
 -- { id "::" } id [ "." id ]
 abbrev pub reference_parts : {P : Type 0} → Reference P → List (Part P)
-reference_parts x = name_parts x.name ++ parts_if (behind k.Dot identifier_parts) x.implementation
+reference_parts x = flat_map qualifier_parts x.qualifiers ++ (identifier_parts x.type_name ++ parts_if (behind k.Dot identifier_parts) x.implementation)

@@ -3,7 +3,8 @@ use Rattle.std.specs.Prelude.{ℕ, map}
 use Rattle.aadl_tree.specs.declared.package.PackageTree as source
 use Rattle.aadl_tree.specs.Declarations.{PackageTree}
 use Rattle.aadl_tree.specs.NameViews.{name_view}
-use Rattle.aadl_tree.specs.Views.{with_view, declaration_view, kept_place, no_place}
+use Rattle.aadl_tree.specs.Views.{with_view, declaration_view}
+use Rattle.aadl_tree.specs.Maps.{kept_place, no_place}
 
 abbrev pub package_view : {P : Type 0} → (ℕ → P) → source.PackageTree → PackageTree P
 package_view place x =

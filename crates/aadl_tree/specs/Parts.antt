@@ -1,14 +1,37 @@
 -- What a tree is spelled by, part for part, and which terminals spell it.
 use Rattle.std.specs.Prelude.{ℕ, ◌≡◌, ◌⊎◌, Bool, true, false, List, [], ◌∷◌, ◌++◌, flat_map, Option, Some, None}
 use Rattle.aadl_tree.specs.declared.mark.Mark.{Mark}
+use Rattle.aadl_tree.specs.declared.mark.Mark.TheVariants as k
 use Rattle.aadl_tree.specs.Kinds.{Kind, mark, Spot}
+
+-- the sections of a type or an implementation
+pub data Section : Type 0 where
+  feature_section : Section
+  subcomponent_section : Section
+  connection_section : Section
+  property_section : Section
+
+abbrev pub section_mark : Section → Mark
+section_mark feature_section = k.Features
+section_mark subcomponent_section = k.Subcomponents
+section_mark connection_section = k.Connections
+section_mark property_section = k.Properties
+
+-- What a text may have and no tree keeps: a section of `none ;`, and a `;` behind the last action.
+pub data Extra : Type 0 where
+  empty_section : Section → Extra
+  last_semicolon : Extra
+
+abbrev pub extra_kinds : Extra → List Kind
+extra_kinds (empty_section section) = mark (section_mark section) ∷ mark k.Nothing ∷ mark k.Semicolon ∷ []
+extra_kinds last_semicolon = mark k.Semicolon ∷ []
 
 -- A part of a spelling. The trees keep places of the type P.
 pub data Part (P : Type 0) : Type 0 where
   -- a terminal, with the places that the tree keeps of it
   token : Kind → List P → Part P
-  -- terminals that a text may have here, and that mean nothing
-  may : List Kind → Part P
+  -- what a text may have here, and means nothing
+  may : Extra → Part P
 
 -- a keyword or a symbol without a place
 abbrev pub plain : {P : Type 0} → Mark → Part P
@@ -36,7 +59,7 @@ chained m parts first rest = parts first ++ flat_map (behind m parts) rest
 abbrev pub Spells : {P : Type 0} → List (Part P) → List Kind → List Kind → Type 0
 Spells [] ks rest = ks ≡ rest
 Spells (token kind places ∷ ps) ks rest = (more : List Kind) × (ks ≡ kind ∷ more) × Spells ps more rest
-Spells (may extra ∷ ps) ks rest = Spells ps ks rest ⊎ ((more : List Kind) × (ks ≡ extra ++ more) × Spells ps more rest)
+Spells (may extra ∷ ps) ks rest = Spells ps ks rest ⊎ ((more : List Kind) × (ks ≡ extra_kinds extra ++ more) × Spells ps more rest)
 
 -- each of the places is this one
 abbrev pub AreAt : List ℕ → ℕ → Type 0
@@ -52,7 +75,7 @@ HaveKinds (kind ∷ ks) ss rest = (s : Spot) × (more : List Spot) × (ss ≡ s 
 abbrev pub Written : List (Part ℕ) → List Spot → List Spot → Type 0
 Written [] ss rest = ss ≡ rest
 Written (token kind places ∷ ps) ss rest = (s : Spot) × (more : List Spot) × (ss ≡ s ∷ more) × (s.kind ≡ kind) × AreAt places s.at × Written ps more rest
-Written (may extra ∷ ps) ss rest = Written ps ss rest ⊎ ((more : List Spot) × HaveKinds extra ss more × Written ps more rest)
+Written (may extra ∷ ps) ss rest = Written ps ss rest ⊎ ((more : List Spot) × HaveKinds (extra_kinds extra) ss more × Written ps more rest)
 
 -- the terminals of the canonical text: all but those that mean nothing
 abbrev pub kept : {P : Type 0} → List (Part P) → List Kind

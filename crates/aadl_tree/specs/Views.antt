@@ -126,10 +126,3 @@ implementation_view place x =
 abbrev pub declaration_view : {P : Type 0} → (ℕ → P) → source_declaration.Declaration → Declaration P
 declaration_view place (declarations.Type x) = type (type_view place x)
 declaration_view place (declarations.Implementation x) = implementation (implementation_view place x)
-
--- what is kept of places: themselves, or nothing
-abbrev pub kept_place : ℕ → ℕ
-kept_place at = at
-
-abbrev pub no_place : ℕ → Unit {0}
-no_place at = tt

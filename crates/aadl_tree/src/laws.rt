@@ -7,6 +7,9 @@ ghost use Rattle.aadl_tree.specs.Kinds.{Kind, word, mark, Spot, spots, kinds_of}
 ghost use Rattle.aadl_tree.specs.Parts.{Part, Spells, Written, kept};
 ghost use Rattle.aadl_tree.specs.Annexes.{transition_parts};
 ghost use Rattle.aadl_tree.specs.Declarations.{PackageTree};
+ghost use Rattle.aadl_tree.specs.declared.package.PackageTree.{PackageTree as SourceTree};
+ghost use Rattle.aadl_tree.specs.Maps.{package_to, no_place};
+ghost use Rattle.aadl_tree.specs.PackageViews.{package_view, placed, meaning};
 ghost use Rattle.aadl_tree.specs.Grammar.{nesting};
 ghost use Rattle.aadl_tree.specs.Given.{IsTreeOf, StopsAt, NestsAt};
 ghost use Rattle.aadl_tree.specs.Canon.{canonical};
@@ -56,6 +59,13 @@ pub fn parts_are_spelled_in_turn()
 pub fn trees_exclude_faults()
     ensures stops { (text : List ℕ) (tree : PackageTree ℕ) (at : ℕ) → IsTreeOf text tree → ¬ StopsAt text at }
     ensures nests { (text : List ℕ) (tree : PackageTree ℕ) (at : ℕ) → IsTreeOf text tree → ¬ NestsAt text at }
+{}
+
+/// A tree's places may be looked at later: what a tree stands for with places that a map makes is what
+/// the map makes of the tree with its own places. So its meaning is the tree without places.
+pub fn places_can_be_dropped()
+    ensures moved { (f : ℕ → ℕ) (tree : SourceTree) → package_to f (placed tree) ≡ package_view f tree }
+    ensures dropped { (tree : SourceTree) → package_to no_place (placed tree) ≡ meaning tree }
 {}
 
 /// What the canonical text keeps of a tree spells it; and what is written in its places is spelled.

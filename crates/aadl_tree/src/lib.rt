@@ -15,6 +15,7 @@ pub mod meaning;
 pub mod names;
 pub mod package;
 pub mod places;
+mod spelling;
 pub mod values;
 
 pub use actions::{Action, Actions, Block, Bound, Choice, Elsif, Loop};

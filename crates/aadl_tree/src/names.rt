@@ -1,12 +1,15 @@
 //! Names and references. Each word keeps its place, the offset of its first byte in the text.
+ghost use Rattle.std.specs.Prelude.{IsTrue, string_bytes};
+ghost use Rattle.aadl_lex.specs.Rules.{is_word};
 
 /// A word that is no keyword, spelled as in the text.
 #[derive(Drop)]
 pub struct Identifier {
     /// Where it stands.
     pub at: usize,
-    /// Its bytes.
-    pub spelling: Vec<u8>,
+    /// A letter, and letters, digits and `_` behind it; 64 bytes at most.
+    pub spelling: String,
+    pub ghost word: { IsTrue (is_word (string_bytes spelling)) },
 }
 
 /// A name of words with `::` between them: `id { "::" id }`.
@@ -33,8 +36,10 @@ pub struct Identifiers {
 /// A reference to a type or an implementation: `{ id "::" } id [ "." id ]`.
 #[derive(Drop)]
 pub struct Reference {
-    /// The type, behind its package.
-    pub name: Name,
+    /// The names of the type's package, where they stand before it.
+    pub qualifiers: Vec<Identifier>,
+    /// The type.
+    pub type_name: Identifier,
     /// The implementation of the type.
     pub implementation: Option<Identifier>,
 }

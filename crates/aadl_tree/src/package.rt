@@ -2,7 +2,8 @@
 ghost use Rattle.std.specs.Prelude.{map};
 ghost use Rattle.aadl_tree.specs.Given.{IsGiven};
 ghost use Rattle.aadl_tree.specs.NameViews.{name_view};
-ghost use Rattle.aadl_tree.specs.Views.{with_view, declaration_view, kept_place};
+ghost use Rattle.aadl_tree.specs.Views.{with_view, declaration_view};
+ghost use Rattle.aadl_tree.specs.Maps.{kept_place};
 
 use crate::declarations::{Declaration, With};
 use crate::names::Name;

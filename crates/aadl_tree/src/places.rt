@@ -2,7 +2,7 @@
 ghost use Rattle.std.specs.Prelude.{◌≡◌};
 ghost use Rattle.aadl_tree.specs.ExpressionViews.{primary_view, factor_view, term_view, sum_view, relation_view, expression_view};
 ghost use Rattle.aadl_tree.specs.Places.{primary_at, factor_at, term_at, sum_at, relation_at, expression_at};
-ghost use Rattle.aadl_tree.specs.Views.{kept_place};
+ghost use Rattle.aadl_tree.specs.Maps.{kept_place};
 
 use crate::expressions::{Expression, Factor, Primary, Relation, Sum, Term};
 

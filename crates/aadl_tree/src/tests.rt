@@ -1,4 +1,6 @@
 //! Trees made by hand: what tells them apart, and where their expressions stand.
+ghost use Rattle.std.specs.Prelude.{IsTrue};
+ghost use Rattle.aadl_lex.specs.Rules.{is_word};
 
 use crate::actions::{Action, Actions, Block};
 use crate::annex::{Guard, Transition};
@@ -8,10 +10,12 @@ use crate::names::Identifier;
 use std::alloc::{AllocError, Global};
 use std::test::Fail;
 
-fn identifier(alloc: Global, at: u16, spelling: &str) -> Result<Identifier, AllocError> {
+fn identifier(alloc: Global, at: u16, spelling: &str) -> Result<Identifier, AllocError>
+    requires { IsTrue (is_word spelling.now) }
+{
     Ok(Identifier {
         at: usize::from(at),
-        spelling: Vec::from_slice(alloc, spelling.as_bytes())?,
+        spelling: String::from_str(alloc, spelling)?,
     })
 }
 
@@ -35,7 +39,9 @@ fn expression(alloc: Global, first: Term, rest: Vec<(Sign, Term)>) -> Expression
 }
 
 // `NAME + 1`, or `NAME - 1`
-fn counted(alloc: Global, at: u16, name: &str, sign: Sign) -> Result<Expression, AllocError> {
+fn counted(alloc: Global, at: u16, name: &str, sign: Sign) -> Result<Expression, AllocError>
+    requires { IsTrue (is_word name.now) }
+{
     let variable = Primary::Named {
         name: identifier(alloc, at, name)?,
         fresh: false,
@@ -49,7 +55,9 @@ fn counted(alloc: Global, at: u16, name: &str, sign: Sign) -> Result<Expression,
 }
 
 // `s -[on dispatch]-> s {x := NAME + 1}`, or with `-`
-fn counting(alloc: Global, at: u16, name: &str, sign: Sign) -> Result<Transition, AllocError> {
+fn counting(alloc: Global, at: u16, name: &str, sign: Sign) -> Result<Transition, AllocError>
+    requires { IsTrue (is_word name.now) }
+{
     let assign = Action::Assign {
         target: identifier(alloc, at.saturating_add(22), "x")?,
         value: counted(alloc, at.saturating_add(27), name, sign)?,

@@ -13,7 +13,7 @@ use crate::annex::{
 impl Same for Block {
     ghost use Rattle.aadl_tree.specs.Actions.{Block};
     ghost use Rattle.aadl_tree.specs.ActionViews.{block_view};
-    ghost use Rattle.aadl_tree.specs.Views.{no_place};
+    ghost use Rattle.aadl_tree.specs.Maps.{no_place};
 
     ghost Meaning = { Block (Unit {0}) };
 
@@ -26,7 +26,8 @@ impl Same for Block {
 
 impl Same for VariableDeclaration {
     ghost use Rattle.aadl_tree.specs.Annexes.{VariableDeclaration};
-    ghost use Rattle.aadl_tree.specs.Views.{variable_view, no_place};
+    ghost use Rattle.aadl_tree.specs.Views.{variable_view};
+    ghost use Rattle.aadl_tree.specs.Maps.{no_place};
 
     ghost Meaning = { VariableDeclaration (Unit {0}) };
 
@@ -41,7 +42,8 @@ impl Same for VariableDeclaration {
 
 impl Same for StateDeclaration {
     ghost use Rattle.aadl_tree.specs.Annexes.{StateDeclaration};
-    ghost use Rattle.aadl_tree.specs.Views.{state_view, no_place};
+    ghost use Rattle.aadl_tree.specs.Views.{state_view};
+    ghost use Rattle.aadl_tree.specs.Maps.{no_place};
 
     ghost Meaning = { StateDeclaration (Unit {0}) };
 
@@ -56,7 +58,8 @@ impl Same for StateDeclaration {
 
 impl Same for Guard {
     ghost use Rattle.aadl_tree.specs.Annexes.{Guard};
-    ghost use Rattle.aadl_tree.specs.Views.{guard_view, no_place};
+    ghost use Rattle.aadl_tree.specs.Views.{guard_view};
+    ghost use Rattle.aadl_tree.specs.Maps.{no_place};
 
     ghost Meaning = { Guard (Unit {0}) };
 
@@ -74,7 +77,8 @@ impl Same for Guard {
 
 impl Same for Transition {
     ghost use Rattle.aadl_tree.specs.Annexes.{Transition};
-    ghost use Rattle.aadl_tree.specs.Views.{transition_view, no_place};
+    ghost use Rattle.aadl_tree.specs.Views.{transition_view};
+    ghost use Rattle.aadl_tree.specs.Maps.{no_place};
 
     ghost Meaning = { Transition (Unit {0}) };
 
@@ -104,7 +108,8 @@ fn same_declared<T: Same>(left: &Option<Vec<T>>, right: &Option<Vec<T>>) -> bool
 
 impl Same for AnnexTree {
     ghost use Rattle.aadl_tree.specs.Annexes.{AnnexTree};
-    ghost use Rattle.aadl_tree.specs.Views.{annex_tree_view, no_place};
+    ghost use Rattle.aadl_tree.specs.Views.{annex_tree_view};
+    ghost use Rattle.aadl_tree.specs.Maps.{no_place};
 
     ghost Meaning = { AnnexTree (Unit {0}) };
 
@@ -119,7 +124,8 @@ impl Same for AnnexTree {
 
 impl Same for AnnexContent {
     ghost use Rattle.aadl_tree.specs.Annexes.{AnnexContent};
-    ghost use Rattle.aadl_tree.specs.Views.{content_view, no_place};
+    ghost use Rattle.aadl_tree.specs.Views.{content_view};
+    ghost use Rattle.aadl_tree.specs.Maps.{no_place};
 
     ghost Meaning = { AnnexContent (Unit {0}) };
 
@@ -138,7 +144,8 @@ impl Same for AnnexContent {
 
 impl Same for Annex {
     ghost use Rattle.aadl_tree.specs.Annexes.{Annex};
-    ghost use Rattle.aadl_tree.specs.Views.{annex_view, no_place};
+    ghost use Rattle.aadl_tree.specs.Views.{annex_view};
+    ghost use Rattle.aadl_tree.specs.Maps.{no_place};
 
     ghost Meaning = { Annex (Unit {0}) };
 

@@ -9,7 +9,8 @@ use crate::declarations::{
 
 impl Same for With {
     ghost use Rattle.aadl_tree.specs.Declarations.{With};
-    ghost use Rattle.aadl_tree.specs.Views.{with_view, no_place};
+    ghost use Rattle.aadl_tree.specs.Views.{with_view};
+    ghost use Rattle.aadl_tree.specs.Maps.{no_place};
 
     ghost Meaning = { With (Unit {0}) };
 
@@ -22,7 +23,8 @@ impl Same for With {
 
 impl Same for Feature {
     ghost use Rattle.aadl_tree.specs.Declarations.{Feature};
-    ghost use Rattle.aadl_tree.specs.Views.{feature_view, no_place};
+    ghost use Rattle.aadl_tree.specs.Views.{feature_view};
+    ghost use Rattle.aadl_tree.specs.Maps.{no_place};
 
     ghost Meaning = { Feature (Unit {0}) };
 
@@ -38,7 +40,8 @@ impl Same for Feature {
 
 impl Same for Subcomponent {
     ghost use Rattle.aadl_tree.specs.Declarations.{Subcomponent};
-    ghost use Rattle.aadl_tree.specs.Views.{subcomponent_view, no_place};
+    ghost use Rattle.aadl_tree.specs.Views.{subcomponent_view};
+    ghost use Rattle.aadl_tree.specs.Maps.{no_place};
 
     ghost Meaning = { Subcomponent (Unit {0}) };
 
@@ -54,7 +57,8 @@ impl Same for Subcomponent {
 
 impl Same for ConnectionEnd {
     ghost use Rattle.aadl_tree.specs.Declarations.{ConnectionEnd};
-    ghost use Rattle.aadl_tree.specs.Views.{end_view, no_place};
+    ghost use Rattle.aadl_tree.specs.Views.{end_view};
+    ghost use Rattle.aadl_tree.specs.Maps.{no_place};
 
     ghost Meaning = { ConnectionEnd (Unit {0}) };
 
@@ -67,7 +71,8 @@ impl Same for ConnectionEnd {
 
 impl Same for Connection {
     ghost use Rattle.aadl_tree.specs.Declarations.{Connection};
-    ghost use Rattle.aadl_tree.specs.Views.{connection_view, no_place};
+    ghost use Rattle.aadl_tree.specs.Views.{connection_view};
+    ghost use Rattle.aadl_tree.specs.Maps.{no_place};
 
     ghost Meaning = { Connection (Unit {0}) };
 
@@ -83,7 +88,8 @@ impl Same for Connection {
 
 impl Same for TypeDeclaration {
     ghost use Rattle.aadl_tree.specs.Declarations.{TypeDeclaration};
-    ghost use Rattle.aadl_tree.specs.Views.{type_view, no_place};
+    ghost use Rattle.aadl_tree.specs.Views.{type_view};
+    ghost use Rattle.aadl_tree.specs.Maps.{no_place};
 
     ghost Meaning = { TypeDeclaration (Unit {0}) };
 
@@ -101,7 +107,8 @@ impl Same for TypeDeclaration {
 
 impl Same for ImplementationName {
     ghost use Rattle.aadl_tree.specs.Declarations.{ImplementationName};
-    ghost use Rattle.aadl_tree.specs.Views.{implementation_name_view, no_place};
+    ghost use Rattle.aadl_tree.specs.Views.{implementation_name_view};
+    ghost use Rattle.aadl_tree.specs.Maps.{no_place};
 
     ghost Meaning = { ImplementationName (Unit {0}) };
 
@@ -115,7 +122,8 @@ impl Same for ImplementationName {
 
 impl Same for Implementation {
     ghost use Rattle.aadl_tree.specs.Declarations.{Implementation};
-    ghost use Rattle.aadl_tree.specs.Views.{implementation_view, no_place};
+    ghost use Rattle.aadl_tree.specs.Views.{implementation_view};
+    ghost use Rattle.aadl_tree.specs.Maps.{no_place};
 
     ghost Meaning = { Implementation (Unit {0}) };
 
@@ -137,7 +145,8 @@ impl Same for Implementation {
 
 impl Same for Declaration {
     ghost use Rattle.aadl_tree.specs.Declarations.{Declaration};
-    ghost use Rattle.aadl_tree.specs.Views.{declaration_view, no_place};
+    ghost use Rattle.aadl_tree.specs.Views.{declaration_view};
+    ghost use Rattle.aadl_tree.specs.Maps.{no_place};
 
     ghost Meaning = { Declaration (Unit {0}) };
 

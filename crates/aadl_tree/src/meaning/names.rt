@@ -6,21 +6,21 @@ use crate::names::{Identifier, Identifiers, Name, Path, Reference};
 impl Same for Identifier {
     ghost use Rattle.aadl_tree.specs.Names.{Identifier};
     ghost use Rattle.aadl_tree.specs.NameViews.{identifier_view};
-    ghost use Rattle.aadl_tree.specs.Views.{no_place};
+    ghost use Rattle.aadl_tree.specs.Maps.{no_place};
 
     ghost Meaning = { Identifier (Unit {0}) };
 
     ghost meaning = { identifier_view no_place };
 
     fn same(&self, other: &Identifier) -> bool {
-        self.spelling.as_slice() == other.spelling.as_slice()
+        self.spelling == other.spelling
     }
 }
 
 impl Same for Name {
     ghost use Rattle.aadl_tree.specs.Names.{Name};
     ghost use Rattle.aadl_tree.specs.NameViews.{name_view};
-    ghost use Rattle.aadl_tree.specs.Views.{no_place};
+    ghost use Rattle.aadl_tree.specs.Maps.{no_place};
 
     ghost Meaning = { Name (Unit {0}) };
 
@@ -34,7 +34,7 @@ impl Same for Name {
 impl Same for Path {
     ghost use Rattle.aadl_tree.specs.Names.{Path};
     ghost use Rattle.aadl_tree.specs.NameViews.{path_view};
-    ghost use Rattle.aadl_tree.specs.Views.{no_place};
+    ghost use Rattle.aadl_tree.specs.Maps.{no_place};
 
     ghost Meaning = { Path (Unit {0}) };
 
@@ -48,7 +48,7 @@ impl Same for Path {
 impl Same for Identifiers {
     ghost use Rattle.aadl_tree.specs.Names.{Identifiers};
     ghost use Rattle.aadl_tree.specs.NameViews.{identifiers_view};
-    ghost use Rattle.aadl_tree.specs.Views.{no_place};
+    ghost use Rattle.aadl_tree.specs.Maps.{no_place};
 
     ghost Meaning = { Identifiers (Unit {0}) };
 
@@ -62,13 +62,15 @@ impl Same for Identifiers {
 impl Same for Reference {
     ghost use Rattle.aadl_tree.specs.Names.{Reference};
     ghost use Rattle.aadl_tree.specs.NameViews.{reference_view};
-    ghost use Rattle.aadl_tree.specs.Views.{no_place};
+    ghost use Rattle.aadl_tree.specs.Maps.{no_place};
 
     ghost Meaning = { Reference (Unit {0}) };
 
     ghost meaning = { reference_view no_place };
 
     fn same(&self, other: &Reference) -> bool {
-        self.name.same(&other.name) && same_option(&self.implementation, &other.implementation)
+        same_items(self.qualifiers.as_slice(), other.qualifiers.as_slice())
+            && self.type_name.same(&other.type_name)
+            && same_option(&self.implementation, &other.implementation)
     }
 }

@@ -1,7 +1,7 @@
 //! Whether two properties, or two values, mean the same.
 ghost use Rattle.std.specs.Prelude.{◌≡◌, ◌↔◌, IsTrue};
 ghost use Rattle.aadl_tree.specs.ValueViews.{value_view, values_view, association_view, associations_view};
-ghost use Rattle.aadl_tree.specs.Views.{no_place};
+ghost use Rattle.aadl_tree.specs.Maps.{no_place};
 
 use super::items::{Same, same_items, same_option};
 use crate::values::{Association, Figure, Number, Quantity, Value};
@@ -39,7 +39,7 @@ impl Same for Number {
 impl Same for Quantity {
     ghost use Rattle.aadl_tree.specs.Values.{Quantity};
     ghost use Rattle.aadl_tree.specs.ValueViews.{quantity_view};
-    ghost use Rattle.aadl_tree.specs.Views.{no_place};
+    ghost use Rattle.aadl_tree.specs.Maps.{no_place};
 
     ghost Meaning = { Quantity (Unit {0}) };
 

@@ -1,7 +1,7 @@
 use Rattle.std.proofs.Common.{◌≡◌, true, arith, ap, sym, ◌∙◌, rules}
 use Rattle.std.proofs.lemmas.Grind.{common_steps}
 use Rattle.aadl_tree.specs.ActionViews.{action_view}
-use Rattle.aadl_tree.specs.Views.{no_place}
+use Rattle.aadl_tree.specs.Maps.{no_place}
 use Rattle.aadl_tree.proofs.ActionKinds.{only_assign, only_send, only_choose, only_loop}
 use Rattle.aadl_tree.proofs.ActionViews.{view-Assign, view-Send, view-If, view-For, view-out-choice, view-out-loop}
 use Rattle.aadl_tree.proofs.Lengths.{mores-length, elsifs-length}
@@ -57,3 +57,31 @@ same_choice-returns-else-same_elsifs t c =
             let f = w.if-same_actions.false in absurd cc)
       ],
     )
+
+pub same_action-returns-then-same : goal.same_action-returns-then-same
+same_action-returns-then-same t c =
+    let left = ap (action_view no_place) c.in-Assign-Assign.is-0 ∙ view-Assign no_place c.in-Assign-Assign.target c.in-Assign-Assign.value in
+    let right = ap (action_view no_place) c.in-Assign-Assign.is-1 ∙ view-Assign no_place c.in-Assign-Assign.other_target c.in-Assign-Assign.other_value in
+    let names = c.same.ensures.0 c.if-same.true in
+    (λ yes. let e = c.same_expression.ensures.0 yes in cc, λ both. c.same_expression.ensures.1 (cc))
+
+pub same_action-returns-else-same : goal.same_action-returns-else-same
+same_action-returns-else-same t c =
+    let left = ap (action_view no_place) c.in-Assign-Assign.is-0 ∙ view-Assign no_place c.in-Assign-Assign.target c.in-Assign-Assign.value in
+    let right = ap (action_view no_place) c.in-Assign-Assign.is-1 ∙ view-Assign no_place c.in-Assign-Assign.other_target c.in-Assign-Assign.other_value in
+    let no = c.if-same.false in
+    (λ yes. absurd cc, λ both. c.same.ensures.1 (cc))
+
+pub same_action-returns-then-same-2 : goal.same_action-returns-then-same-2
+same_action-returns-then-same-2 t c =
+    let left = ap (action_view no_place) c.in-Send-Send.is-0 ∙ view-Send no_place c.in-Send-Send.port c.in-Send-Send.value in
+    let right = ap (action_view no_place) c.in-Send-Send.is-1 ∙ view-Send no_place c.in-Send-Send.other_port c.in-Send-Send.other_value in
+    let names = c.same-in-Send-Send.ensures.0 c.if-same-2.true in
+    (λ yes. let e = c.same_expression-then-same-2.ensures.0 yes in cc, λ both. c.same_expression-then-same-2.ensures.1 (cc))
+
+pub same_action-returns-else-same-2 : goal.same_action-returns-else-same-2
+same_action-returns-else-same-2 t c =
+    let left = ap (action_view no_place) c.in-Send-Send.is-0 ∙ view-Send no_place c.in-Send-Send.port c.in-Send-Send.value in
+    let right = ap (action_view no_place) c.in-Send-Send.is-1 ∙ view-Send no_place c.in-Send-Send.other_port c.in-Send-Send.other_value in
+    let no = c.if-same-2.false in
+    (λ yes. absurd cc, λ both. c.same-in-Send-Send.ensures.1 (cc))

@@ -1,8 +1,9 @@
-use Rattle.std.proofs.Common.{◌≡◌, arith, ap, sym, ◌∙◌}
+use mathlib.Core.Bool.{beq}
+use Rattle.std.proofs.Common.{◌≡◌, Bool, true, false, refl, arith, ap, sym, ◌∙◌}
 use Rattle.std.proofs.lemmas.Grind.{common_steps}
 use Rattle.std.specs.Prelude.{option_map}
 use Rattle.aadl_tree.specs.ExpressionViews.{primary_view, leading_view, term_view}
-use Rattle.aadl_tree.specs.Views.{no_place}
+use Rattle.aadl_tree.specs.Maps.{no_place}
 use Rattle.aadl_tree.specs.declared.expressions.Factor.TheViews.{out-Sum}
 use Rattle.aadl_tree.proofs.ExpressionViews.{view-out-expression, view-out-sum, view-term, view-Whole, view-Truth, view-Named}
 use Rattle.aadl_tree.proofs.Primaries.{only_whole, only_truth, only_named}
@@ -67,3 +68,29 @@ same_primary-returns-in_default-3 t c =
     let here = c.in_default in
     let left = ap (primary_view no_place) here.is-0 ∙ view-Named no_place here.field-0-0 here.field-1-0 in
     (λ no. absurd (grind (arith, common_steps)), λ same. let found = only_named c.args.right.now _ here.field-1-0 (sym same ∙ left) in absurd (here.not-Named-1 found.0 found.1 found.2))
+
+alike : (a b : Bool) → beq a b ≡ true → a ≡ b
+alike true true e = refl
+alike false false e = refl
+alike true false e = absurd cc
+alike false true e = absurd cc
+
+same_flags : (a b : Bool) → a ≡ b → beq a b ≡ true
+same_flags true true e = refl
+same_flags false false e = refl
+same_flags true false e = absurd cc
+same_flags false true e = absurd cc
+
+pub same_primary-returns-then-same : goal.same_primary-returns-then-same
+same_primary-returns-then-same t c =
+    let left = ap (primary_view no_place) c.in-Named-Named.is-0 ∙ view-Named no_place c.in-Named-Named.name c.in-Named-Named.fresh in
+    let right = ap (primary_view no_place) c.in-Named-Named.is-1 ∙ view-Named no_place c.in-Named-Named.other_name c.in-Named-Named.other_fresh in
+    let names = c.same.ensures.0 c.if-same.true in
+    (λ yes. let e = alike c.in-Named-Named.fresh c.in-Named-Named.other_fresh yes in cc, λ both. same_flags c.in-Named-Named.fresh c.in-Named-Named.other_fresh (cc))
+
+pub same_primary-returns-else-same : goal.same_primary-returns-else-same
+same_primary-returns-else-same t c =
+    let left = ap (primary_view no_place) c.in-Named-Named.is-0 ∙ view-Named no_place c.in-Named-Named.name c.in-Named-Named.fresh in
+    let right = ap (primary_view no_place) c.in-Named-Named.is-1 ∙ view-Named no_place c.in-Named-Named.other_name c.in-Named-Named.other_fresh in
+    let no = c.if-same.false in
+    (λ yes. absurd cc, λ both. c.same.ensures.1 (cc))

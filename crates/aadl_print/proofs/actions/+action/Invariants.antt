@@ -1,0 +1,17 @@
+use Rattle.std.proofs.Common.{◌≡◌, drop}
+use Rattle.aadl_tree.specs.Actions.{mores_parts, elsifs_parts}
+use Rattle.aadl_tree.specs.ActionViews.{mores_view, elsifs_view}
+use Rattle.aadl_tree.specs.Maps.{no_place}
+use Rattle.aadl_print.specs.Printed.{printed}
+use Rattle.aadl_print.proofs.actions.+action.Given as goal
+
+-- what is left is still to be written
+abbrev pub invariant-print_actions-loop-action : goal.invariant-print_actions-loop-action
+invariant-print_actions-loop-action l =
+    printed l.initial.printer (mores_parts (mores_view no_place l.action-items))
+    ≡ printed l.printer (mores_parts (mores_view no_place (drop l.action-index l.action-items)))
+
+abbrev pub invariant-print_choice-loop-elsif : goal.invariant-print_choice-loop-elsif
+invariant-print_choice-loop-elsif l =
+    printed l.initial.printer (elsifs_parts (elsifs_view no_place l.elsif-items))
+    ≡ printed l.printer (elsifs_parts (elsifs_view no_place (drop l.elsif-index l.elsif-items)))

@@ -1,0 +1,13 @@
+use Rattle.std.proofs.Common.{◌≡◌, map, drop}
+use Rattle.std.specs.List.{flat_map}
+use Rattle.aadl_tree.specs.Names.{qualifier_parts}
+use Rattle.aadl_tree.specs.NameViews.{identifier_view}
+use Rattle.aadl_tree.specs.Maps.{no_place}
+use Rattle.aadl_print.specs.Printed.{printed}
+use Rattle.aadl_print.proofs.names.print_qualifiers.Given as goal
+
+-- what is left is still to be written
+abbrev pub invariant-loop-name : goal.invariant-loop-name
+invariant-loop-name l =
+    printed l.initial.printer (flat_map qualifier_parts (map (identifier_view no_place) l.names))
+    ≡ printed l.printer (flat_map qualifier_parts (map (identifier_view no_place) (drop l.name-index l.names)))

@@ -1,0 +1,66 @@
+//! What stands between two terminals.
+ghost use Rattle.std.specs.Prelude.{◌≡◌};
+ghost use Rattle.aadl_tree.specs.Kinds.{mark};
+ghost use Rattle.aadl_tree.specs.Canon.{holds_left};
+
+use aadl_tree::Mark;
+
+/// What stands behind a terminal, where the next one lets it.
+#[derive(Clone, Copy, Debug, PartialEq, Eq)]
+pub enum Gap {
+    Nothing,
+    Space,
+    LineEnd,
+}
+
+impl Gap {
+    ghost use Rattle.aadl_print.specs.Printed.{gap_text, gap_behind};
+
+    /// Its bytes.
+    pub fn text(self) -> &'static [u8]
+        ensures { result.now ≡ gap_text self }
+    {
+        match self {
+            Gap::Nothing => b"",
+            Gap::Space => b" ",
+            Gap::LineEnd => b"\n",
+        }
+    }
+
+    /// What stands behind a keyword or a symbol.
+    pub fn behind(last: Mark) -> Gap
+        ensures { result ≡ gap_behind (mark last) }
+    {
+        match last {
+            Mark::ParenOpen | Mark::Scope | Mark::Dot | Mark::Tick | Mark::Bang => Gap::Nothing,
+            Mark::Semicolon
+            | Mark::Public
+            | Mark::AnnexOpen
+            | Mark::Features
+            | Mark::Properties
+            | Mark::Subcomponents
+            | Mark::Connections
+            | Mark::Variables
+            | Mark::States
+            | Mark::Transitions => Gap::LineEnd,
+            _ => Gap::Space,
+        }
+    }
+}
+
+/// Whether nothing stands before a keyword or a symbol.
+pub fn stands_close(next: Mark) -> bool
+    ensures { result ≡ holds_left (mark next) }
+{
+    matches!(
+        next,
+        Mark::Semicolon
+            | Mark::Comma
+            | Mark::ParenClose
+            | Mark::Colon
+            | Mark::Scope
+            | Mark::Dot
+            | Mark::Tick
+            | Mark::Bang
+    )
+}

@@ -1,0 +1,51 @@
+//! The canonical text of a tree: its terminals in the order of the grammar, spelled in one way, with
+//! a space, an end of line or nothing between two of them. Comments and what means nothing are left
+//! out.
+#![tactic(auto)]
+
+ghost use Rattle.std.specs.Prelude.{◌≡◌, IfOk, OnOk};
+ghost use Rattle.aadl_tree.specs.Canon.{canon};
+ghost use Rattle.aadl_tree.specs.Declarations.{package_parts};
+ghost use Rattle.aadl_tree.specs.PackageViews.{meaning};
+ghost use Rattle.aadl_print.specs.Printed.{printed};
+
+mod actions;
+mod annex;
+mod declarations;
+mod expressions;
+mod gap;
+mod items;
+mod names;
+mod printer;
+mod values;
+
+use aadl_tree::{Mark, PackageTree};
+use items::{Print, print_all};
+use printer::Printer;
+use std::alloc::{AllocError, Global};
+
+/// The canonical text of a tree. It refuses for want of memory alone.
+pub fn print(alloc: Global, tree: &PackageTree) -> Result<Vec<u8>, AllocError>
+    ensures { IfOk result (λ text. text.items ≡ canon (meaning tree.now)) }
+{
+    let mut printer = Printer::new(alloc);
+    print_package(&mut printer, tree)?;
+    printer.finish()
+}
+
+#[tactic(auto, using(crate::proofs::Appends::printed_append))]
+fn print_package(printer: &mut Printer, tree: &PackageTree) -> Result<(), AllocError>
+    ensures { OnOk result (printer.new ≡ printed printer.old (package_parts (meaning tree.now))) }
+{
+    printer.mark(Mark::Package)?;
+    tree.name.print(printer)?;
+    printer.mark(Mark::Public)?;
+    print_all(printer, tree.withs.as_slice())?;
+    print_all(printer, tree.declarations.as_slice())?;
+    printer.mark(Mark::End)?;
+    tree.end_name.print(printer)?;
+    printer.mark(Mark::Semicolon)
+}
+
+#[cfg(test)]
+mod tests;

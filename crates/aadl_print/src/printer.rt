@@ -1,0 +1,88 @@
+//! The text that is being written.
+ghost use Rattle.std.specs.Prelude.{◌≡◌, OnOk};
+ghost use Rattle.aadl_tree.specs.Kinds.{word, whole, real, quoted, unread, mark};
+
+use crate::gap::{Gap, stands_close};
+use aadl_tree::Mark;
+use itoa::Buffer;
+use std::alloc::{AllocError, Global};
+use std::marker::Model;
+
+/// The text of the terminals so far. Contracts see it with what stands behind the last one.
+#[derive(Drop)]
+pub struct Printer {
+    text: Vec<u8>,
+    gap: Gap,
+}
+
+impl Model for Printer {
+    ghost use Rattle.aadl_print.specs.Printed.{Printed};
+
+    ghost Value = { Printed };
+
+    ghost view = { λ p. record { text = p.text.items; gap = p.gap } };
+}
+
+impl Printer {
+    ghost use Rattle.std.specs.Prelude.{◌++◌, IfOk};
+    ghost use Rattle.aadl_tree.specs.Canon.{line_end};
+    ghost use Rattle.aadl_print.specs.Printed.{blank, put};
+
+    /// Nothing is written. It takes no memory.
+    pub fn new(alloc: Global) -> Printer
+        ensures { result ≡ blank }
+    {
+        Printer {
+            text: Vec::new(alloc),
+            gap: Gap::Nothing,
+        }
+    }
+
+    /// Writes a keyword or a symbol.
+    #[tactic(auto, unfolding(crate::specs::Printed::put))]
+    pub fn mark(&mut self, next: Mark) -> Result<(), AllocError>
+        ensures { OnOk result (self.new ≡ put self.old (mark next)) }
+    {
+        if !stands_close(next) {
+            self.text.extend_from_slice(self.gap.text())?;
+        }
+        self.text.extend_from_slice(next.text())?;
+        self.gap = Gap::behind(next);
+        Ok(())
+    }
+
+    /// Writes a word, a real, a string or an annex of another language, byte for byte.
+    #[tactic(auto, unfolding(crate::specs::Printed::put))]
+    pub fn verbatim(&mut self, bytes: &[u8]) -> Result<(), AllocError>
+        ensures word { OnOk result (self.new ≡ put self.old (word bytes.now)) }
+        ensures real { OnOk result (self.new ≡ put self.old (real bytes.now)) }
+        ensures quoted { OnOk result (self.new ≡ put self.old (quoted bytes.now)) }
+        ensures unread { OnOk result (self.new ≡ put self.old (unread bytes.now)) }
+    {
+        self.text.extend_from_slice(self.gap.text())?;
+        self.text.extend_from_slice(bytes)?;
+        self.gap = Gap::Space;
+        Ok(())
+    }
+
+    /// Writes a whole number, in decimal digits.
+    #[tactic(auto, unfolding(crate::specs::Printed::put))]
+    pub fn whole(&mut self, value: i64) -> Result<(), AllocError>
+        ensures { OnOk result (self.new ≡ put self.old (whole value)) }
+    {
+        self.text.extend_from_slice(self.gap.text())?;
+        self.text
+            .extend_from_slice(Buffer::new().format(value).as_bytes())?;
+        self.gap = Gap::Space;
+        Ok(())
+    }
+
+    /// The whole text, which ends with an end of line.
+    pub fn finish(self) -> Result<Vec<u8>, AllocError>
+        ensures { IfOk result (λ text. text.items ≡ self.text ++ line_end) }
+    {
+        let mut text = self.text;
+        text.extend_from_slice(Gap::LineEnd.text())?;
+        Ok(text)
+    }
+}

@@ -1,0 +1,4 @@
+pub mod Firsts
+pub mod Rows
+pub mod Written
+pub mod Qualified

@@ -1,0 +1,21 @@
+use Rattle.std.proofs.Common.{◌∙◌, ◌∷◌, [], arith, refl}
+use Rattle.aadl_machine.specs.Symbols as s
+use Rattle.aadl_machine.specs.Machine.{move, depth}
+use Rattle.aadl_reader.specs.Reading.{here}
+use Rattle.aadl_reader.proofs.Rows.{takes_row, omits_unless, fails, along}
+use Rattle.aadl_reader.proofs.Written.{nothing, marked}
+use Rattle.aadl_reader.proofs.names.dot_identifier.Goals as goal
+
+pub returns-in_default : goal.returns-in_default
+returns-in_default c = record { runs = λ outer below h. omits_unless outer c.args.reader.now.end s.dot_identifier below (here c.args.reader.now c.args.at) refl (c.in_default.ensures, tt); reads = nothing }
+
+pub returns-in_err-found : goal.returns-in_err-found
+unfolding move depth
+returns-in_err-found c = fails _ c.from_residual.ensures.1 (λ outer below h. along _ _ _ (takes_row outer c.args.reader.now.end s.dot_identifier below c.in-Some.ensures refl (omega arith)) (c.in_err-found.ensures.runs outer below h))
+
+pub returns : goal.returns
+unfolding move depth
+returns c = record {
+  runs = λ outer below h. takes_row outer c.args.reader.now.end s.dot_identifier below c.in-Some.ensures refl (omega arith) ∙ c.in_ok-found.ensures.runs outer below h;
+  reads = marked c.in-Some.ensures c.in_ok-found.ensures.reads;
+}
