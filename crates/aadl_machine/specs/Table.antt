@@ -22,7 +22,7 @@ abbrev pub figure_rows : List Row
 figure_rows = by a_whole [] ∷ by a_real [] ∷ []
 
 abbrev pub quantity_rows : List Row
-quantity_rows = by a_whole (s.unit ∷ []) ∷ by a_real (s.unit ∷ []) ∷ on k.Plus (s.figure ∷ s.unit ∷ []) ∷ on k.Minus (s.figure ∷ s.unit ∷ []) ∷ []
+quantity_rows = on k.Plus (s.figure ∷ s.unit ∷ []) ∷ on k.Minus (s.figure ∷ s.unit ∷ []) ∷ behind (s.unit ∷ []) figure_rows
 
 abbrev pub reference_rows : List Row
 reference_rows = by a_word (s.names ∷ s.dot_identifier ∷ []) ∷ []

@@ -1,13 +1,13 @@
 -- What parts are read one behind the other, and that what is read ends no earlier.
-use Rattle.std.proofs.Common.{◌≡◌, ℕ, ◌<◌, ◌≤◌, ◌∙◌, sym, ap, subst, refl, List, [], ◌∷◌, ◌++◌, length, arith, inl, inr, map, flat_map, append_assoc}
+use Rattle.std.proofs.Common.{◌≡◌, ℕ, Bool, true, false, ◌<◌, ◌≤◌, ◌∙◌, sym, ap, subst, refl, List, [], ◌∷◌, ◌++◌, length, arith, inl, inr, map, flat_map, append_assoc}
 use Rattle.std.specs.Prelude.{IfOk, Result, Ok, Err}
 use Rattle.std.proofs.lemmas.List.{append-nil}
 use Rattle.aadl_tree.specs.declared.mark.Mark.{Mark}
 use Rattle.aadl_tree.specs.Kinds.{Kind, mark, word, Spot}
-use Rattle.aadl_tree.specs.Parts.{Part, token, may, extra_kinds, HaveKinds, Written}
+use Rattle.aadl_tree.specs.Parts.{Part, token, may, extra_kinds, HaveKinds, Written, marked_if}
 use Rattle.aadl_tree.specs.Names.{Identifier, identifier_parts}
 use Rattle.aadl_tree.proofs.Parts.{written_append}
-use Rattle.aadl_reader.specs.Reading.{spot, At, AtMark, AtWord, Reads}
+use Rattle.aadl_reader.specs.Reading.{spot, At, AtMark, AtWord, IsMarked, Reads}
 
 pub nothing : {ss : List Spot} → Reads [] ss ss
 nothing = record { written = refl }
@@ -63,4 +63,16 @@ pub shorter : {kind : Kind} {ps : List (Part ℕ)} {ss mid rest : List Spot} →
 shorter {kind} {ps} {ss} {mid} {rest} l a =
     let g : length ss ≡ length (spot kind l.at ∷ mid) = ap length l.whole in
     let h = written_length ps mid rest a.written in
+    omega arith
+
+-- a keyword that stands there or does not
+pub flagged : (m : Mark) (b : Bool) {ss rest : List Spot} → IsMarked m b ss rest → Reads (marked_if m b) ss rest
+flagged m true l = marked l nothing
+flagged m false {ss} {rest} (l, e) = record { written = sym e }
+
+-- the turn of a loop: a part that has a terminal at least
+pub begun : {kind : Kind} {places : List ℕ} {ps : List (Part ℕ)} {ss rest : List Spot} → Reads (token kind places ∷ ps) ss rest → length rest < length ss
+begun {kind} {places} {ps} {ss} {rest} a =
+    let g : length ss ≡ length (a.written.0 ∷ a.written.1) = ap length a.written.2 in
+    let h = written_length ps a.written.1 rest a.written.5 in
     omega arith
