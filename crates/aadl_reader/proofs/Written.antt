@@ -5,6 +5,7 @@ use Rattle.std.proofs.lemmas.List.{append-nil}
 use Rattle.aadl_tree.specs.declared.mark.Mark.{Mark}
 use Rattle.aadl_tree.specs.Kinds.{Kind, mark, word, Spot}
 use Rattle.aadl_tree.specs.Parts.{Part, token, may, extra_kinds, HaveKinds, Written, marked_if}
+use Rattle.aadl_tree.specs.Grammar.{place}
 use Rattle.aadl_tree.specs.Names.{Identifier, identifier_parts}
 use Rattle.aadl_tree.proofs.Parts.{written_append}
 use Rattle.aadl_reader.specs.Reading.{spot, At, AtMark, AtWord, IsMarked, Reads}
@@ -27,6 +28,10 @@ told {kind} {ps} {ss} {mid} {rest} l a = record { written = (spot kind l.at, mid
 -- the parts behind a terminal that keeps its place
 pub placed : {kind : Kind} {ps : List (Part ℕ)} {ss mid rest : List Spot} (at : ℕ) (l : At kind ss mid) → at ≡ l.at → Reads ps mid rest → Reads (token kind (at ∷ []) ∷ ps) ss rest
 placed {kind} {ps} {ss} {mid} {rest} at l e a = record { written = (spot kind l.at, mid, l.whole, refl, (e, tt), a.written) }
+
+-- the same, where the place is that of the first terminal
+pub placed_at : {kind : Kind} {ps : List (Part ℕ)} {ss mid rest : List Spot} (at end : ℕ) (l : At kind ss mid) → at ≡ place end ss → Reads ps mid rest → Reads (token kind (at ∷ []) ∷ ps) ss rest
+placed_at at end l e a = placed at l (e ∙ ap (place end) l.whole) a
 
 pub named : {x : Identifier ℕ} {ss rest : List Spot} → AtWord x ss rest → Reads (identifier_parts x) ss rest
 named {x} {ss} {rest} l = record { written = (spot (word x.spelling) x.at, rest, l.whole, refl, (refl, tt), refl) }
