@@ -6,7 +6,7 @@ use Rattle.aadl_tree.specs.Parts.{Part, Written}
 use Rattle.aadl_tree.specs.Names.{Identifier}
 use Rattle.aadl_tree.specs.Grammar.{greatest_nesting}
 use Rattle.aadl_machine.specs.Symbols.{Class, the, Symbol, only, Row}
-use Rattle.aadl_machine.specs.Machine.{Stack, fits, depth, Fate, syntax_at, deep_at, fate}
+use Rattle.aadl_machine.specs.Machine.{Stack, fits, takes, move, depth, Fate, syntax_at, deep_at, fate}
 use Rattle.aadl_reader.specs.declared.terminal.Terminal.{Terminal}
 use Rattle.aadl_reader.specs.declared.terminal.TerminalKind.TheVariants as t
 use Rattle.aadl_reader.specs.declared.reader.Reader.{Reader}
@@ -54,6 +54,14 @@ Misses c (x ∷ ss) = fits c x.kind ≡ false
 abbrev pub MissAll : List Row → List Spot → Type 0
 MissAll [] ss = Unit {0}
 MissAll (r ∷ rs) ss = Misses r.first ss × MissAll rs ss
+
+-- the symbol takes the terminal that comes first
+pub record Begins (x : Symbol) (ss : List Spot) : Type 0 where
+  pub kind : Kind
+  pub rest : List Spot
+  pub wanted : List Symbol
+  pub first : At kind ss rest
+  pub moves : move x kind ≡ takes wanted
 
 -- the fault that the machine meets; want of memory says nothing
 abbrev pub FailsAs : Fate → ParseFault → Type 0

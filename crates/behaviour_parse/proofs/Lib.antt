@@ -1,1 +1,3 @@
 pub mod Operators
+pub mod Acting
+pub mod Declaring

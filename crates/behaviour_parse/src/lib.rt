@@ -4,6 +4,9 @@
 //! actions and declarations are read one inside the other, no deeper than the greatest nesting.
 #![tactic(auto)]
 
+mod actions;
+mod annex;
 mod expressions;
 
 pub use aadl_reader::ParseFault;
+pub use annex::body;
