@@ -1,3 +1,4 @@
 pub mod Operators
 pub mod Acting
 pub mod Declaring
+pub mod Verdicts
