@@ -16,4 +16,4 @@ pub use fault::ParseFault;
 pub use names::{dot_identifier, identifier, identifiers, name, path, reference};
 pub use reader::{Parsed, Reader};
 pub use terminal::{Terminal, TerminalKind, resolve};
-pub use values::{associations, properties};
+pub use values::{association, associations, properties};

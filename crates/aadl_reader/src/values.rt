@@ -229,7 +229,7 @@ fn plain_value(reader: &Reader<'_>, at: usize) -> Parsed<Value>
 
 /// `name ( "=>" | "+=>" ) [ "constant" ] value [ applies ] ";"`
 #[cycle(value)]
-fn association(reader: &Reader<'_>, at: usize, room: usize) -> Parsed<Association>
+pub fn association(reader: &Reader<'_>, at: usize, room: usize) -> Parsed<Association>
     ensures { Parses reader.now (Room room) (s.association ∷ []) (λ x. association_parts (association_view kept_place x)) at result }
 {
     let (name, next) = name(reader, at)?;
