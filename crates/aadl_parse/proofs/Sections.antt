@@ -16,8 +16,13 @@ no_section section e = respelled (ap (section_parts section) e) (record { writte
 
 pub empty : (section : Section) {ps : List (Part ℕ)} {ss mid last rest : List Spot} → [] ≡ ps → AtMark (section_mark section) ss mid → AtMark k.Nothing mid last → AtMark k.Semicolon last rest → Reads (section_parts section ps) ss rest
 empty section {ps} {ss} {mid} {last} {rest} e a b c =
-    respelled (ap (section_parts section) e) (record { written = inr (rest,
-      (spot (mark (section_mark section)) a.at, mid, a.whole, refl, (spot (mark k.Nothing) b.at, last, b.whole, refl, (spot (mark k.Semicolon) c.at, rest, c.whole, refl, refl))), refl) })
+    respelled (ap (section_parts section) e) (record {
+      written = inr (
+        rest,
+        (spot (mark (section_mark section)) a.at, mid, a.whole, refl, (spot (mark k.Nothing) b.at, last, b.whole, refl, (spot (mark k.Semicolon) c.at, rest, c.whole, refl, refl))),
+        refl,
+      );
+    })
 
 -- properties are not nothing
 of_plain : (t : v.Association ℕ) (ts : v.Associations ℕ) {ss mid last rest : List Spot} → AtMark k.Properties ss mid → Reads (v.association_parts t) mid last → Reads (v.associations_parts ts) last rest

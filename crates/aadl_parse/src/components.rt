@@ -14,7 +14,8 @@ ghost use Rattle.aadl_machine.specs.Table.{rows};
 ghost use Rattle.aadl_reader.specs.Reading.{here, AtMark, MissAll, Parses, AnyRoom, Room};
 
 use aadl_reader::{
-    ParseFault, Parsed, Reader, association, associations, dot_identifier, identifier, properties, reference,
+    ParseFault, Parsed, Reader, association, associations, dot_identifier, identifier, properties,
+    reference,
 };
 use aadl_tree::{
     Association, Category, Connection, ConnectionEnd, Direction, Feature, Mark, Reference,

@@ -189,13 +189,15 @@ fn declared(at: usize, category: Category, rest: Rest) -> Declaration
     ensures { declaration_parts (declaration_view kept_place result) ≡ token (mark (category_mark category)) (at ∷ []) ∷ rest_parts rest }
 {
     match rest {
-        Rest::Type(TypeRest {
-            name,
-            features,
-            properties,
-            annexes,
-            end_name,
-        }) => Declaration::Type(TypeDeclaration {
+        Rest::Type(
+            TypeRest {
+                name,
+                features,
+                properties,
+                annexes,
+                end_name,
+            },
+        ) => Declaration::Type(TypeDeclaration {
             at,
             category,
             name,
@@ -204,14 +206,16 @@ fn declared(at: usize, category: Category, rest: Rest) -> Declaration
             annexes,
             end_name,
         }),
-        Rest::Implementation(ImplementationRest {
-            name,
-            subcomponents,
-            connections,
-            properties,
-            annexes,
-            end_name,
-        }) => Declaration::Implementation(Implementation {
+        Rest::Implementation(
+            ImplementationRest {
+                name,
+                subcomponents,
+                connections,
+                properties,
+                annexes,
+                end_name,
+            },
+        ) => Declaration::Implementation(Implementation {
             at,
             category,
             name,

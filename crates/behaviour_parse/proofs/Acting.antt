@@ -77,8 +77,8 @@ elsifs_listed [] e x = ap (λ l. plain k.Elsif ∷ (a.test_parts (expression_vie
 elsifs_listed (y ∷ xs) e x =
     ap (λ l. plain k.Elsif ∷ (a.test_parts (expression_view kept_place y.test) ++ (a.actions_parts (actions_view kept_place y.actions) ++ l))) (elsifs_listed xs e x)
     ∙ grouped (a.test_parts (expression_view kept_place y.test)) (a.actions_parts (actions_view kept_place y.actions)) (a.elsifs_parts (elsifs_view kept_place xs)) (plain k.Elsif ∷ (a.test_parts (expression_view kept_place e) ++ a.actions_parts (actions_view kept_place x))) where
-  grouped : (t u v w : List (Part ℕ)) → plain k.Elsif ∷ (t ++ (u ++ (v ++ w))) ≡ (plain k.Elsif ∷ (t ++ (u ++ v))) ++ w
-  grouped t u v w = simp append_assoc
+      grouped : (t u v w : List (Part ℕ)) → plain k.Elsif ∷ (t ++ (u ++ (v ++ w))) ≡ (plain k.Elsif ∷ (t ++ (u ++ v))) ++ w
+      grouped t u v w = simp append_assoc
 
 pub elsifs_push : (xs ys : List Elsif) (e : Expression) (x : Actions) {ss mid rest : List Spot} → ys ≡ xs ++ roll-Elsif (record { test = e; actions = x }) ∷ [] → Reads (a.elsifs_parts (elsifs_view kept_place xs)) ss mid
     → Reads (plain k.Elsif ∷ (a.test_parts (expression_view kept_place e) ++ a.actions_parts (actions_view kept_place x))) mid rest → Reads (a.elsifs_parts (elsifs_view kept_place ys)) ss rest

@@ -166,7 +166,7 @@ fn effect(reader: &Reader<'_>, at: usize, room: usize) -> Parsed<Option<Block>>
 fn arrival(reader: &Reader<'_>, at: usize, room: usize) -> Parsed<(Identifier, Option<Block>)>
     ensures { Parses reader.now (Room room) (s.identifier ∷ s.effect ∷ s.only k.Semicolon ∷ [])
         (λ x. identifier_parts (identifier_view kept_place x.0)
-          ++ (parts_if block_parts (option_map (block_view kept_place) x.1) ++ plain k.Semicolon ∷ [])) at result }
+        ++ (parts_if block_parts (option_map (block_view kept_place) x.1) ++ plain k.Semicolon ∷ [])) at result }
 {
     let (target, next) = identifier(reader, at)?;
     let (effect, next) = effect(reader, next, room)?;

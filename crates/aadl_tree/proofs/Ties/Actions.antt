@@ -148,43 +148,43 @@ action_rolled : {P Q : Type 0} (f : P → Q) (g : ℕ → P) (x : Action-F Actio
 action_rolled {P} {Q} f g x y is =
     let z = action_layer f g y in
     subst (λ w. ActionTied f g (roll-Action w)) is (
-      ap (action_to f) (fold-roll-Action (a.Action P) (a.Actions P) (a.Block P) (a.Action P) (e.Expression P × a.Actions P) (a.Action P) (action_step g) actions_step block_step (choice_step g) (elsif_step g) (loop_step g) z) ∙ action_by f g y
-      ∙ sym (fold-roll-Action (a.Action Q) (a.Actions Q) (a.Block Q) (a.Action Q) (e.Expression Q × a.Actions Q) (a.Action Q) (action_step (λ n. f (g n))) actions_step block_step (choice_step (λ n. f (g n))) (elsif_step (λ n. f (g n))) (loop_step (λ n. f (g n))) z))
+    ap (action_to f) (fold-roll-Action (a.Action P) (a.Actions P) (a.Block P) (a.Action P) (e.Expression P × a.Actions P) (a.Action P) (action_step g) actions_step block_step (choice_step g) (elsif_step g) (loop_step g) z) ∙ action_by f g y
+    ∙ sym (fold-roll-Action (a.Action Q) (a.Actions Q) (a.Block Q) (a.Action Q) (e.Expression Q × a.Actions Q) (a.Action Q) (action_step (λ n. f (g n))) actions_step block_step (choice_step (λ n. f (g n))) (elsif_step (λ n. f (g n))) (loop_step (λ n. f (g n))) z))
 
 actions_rolled : {P Q : Type 0} (f : P → Q) (g : ℕ → P) (x : Actions-F Action Actions Block Choice Elsif Loop) (y : Actions-F (AAction f g) (AActions f g) (ABlock f g) (AChoice f g) (AElsif f g) (ALoop f g)) → actions_layer f g y ≡ x → ActionsTied f g (roll-Actions x)
 actions_rolled {P} {Q} f g x y is =
     let z = actions_layer f g y in
     subst (λ w. ActionsTied f g (roll-Actions w)) is (
-      ap (actions_to f) (fold-roll-Actions (a.Action P) (a.Actions P) (a.Block P) (a.Action P) (e.Expression P × a.Actions P) (a.Action P) (action_step g) actions_step block_step (choice_step g) (elsif_step g) (loop_step g) z) ∙ actions_by f g y
-      ∙ sym (fold-roll-Actions (a.Action Q) (a.Actions Q) (a.Block Q) (a.Action Q) (e.Expression Q × a.Actions Q) (a.Action Q) (action_step (λ n. f (g n))) actions_step block_step (choice_step (λ n. f (g n))) (elsif_step (λ n. f (g n))) (loop_step (λ n. f (g n))) z))
+    ap (actions_to f) (fold-roll-Actions (a.Action P) (a.Actions P) (a.Block P) (a.Action P) (e.Expression P × a.Actions P) (a.Action P) (action_step g) actions_step block_step (choice_step g) (elsif_step g) (loop_step g) z) ∙ actions_by f g y
+    ∙ sym (fold-roll-Actions (a.Action Q) (a.Actions Q) (a.Block Q) (a.Action Q) (e.Expression Q × a.Actions Q) (a.Action Q) (action_step (λ n. f (g n))) actions_step block_step (choice_step (λ n. f (g n))) (elsif_step (λ n. f (g n))) (loop_step (λ n. f (g n))) z))
 
 block_rolled : {P Q : Type 0} (f : P → Q) (g : ℕ → P) (x : Block-F Action Actions Block Choice Elsif Loop) (y : Block-F (AAction f g) (AActions f g) (ABlock f g) (AChoice f g) (AElsif f g) (ALoop f g)) → block_layer f g y ≡ x → BlockTied f g (roll-Block x)
 block_rolled {P} {Q} f g x y is =
     let z = block_layer f g y in
     subst (λ w. BlockTied f g (roll-Block w)) is (
-      ap (block_to f) (fold-roll-Block (a.Action P) (a.Actions P) (a.Block P) (a.Action P) (e.Expression P × a.Actions P) (a.Action P) (action_step g) actions_step block_step (choice_step g) (elsif_step g) (loop_step g) z) ∙ block_by f g y
-      ∙ sym (fold-roll-Block (a.Action Q) (a.Actions Q) (a.Block Q) (a.Action Q) (e.Expression Q × a.Actions Q) (a.Action Q) (action_step (λ n. f (g n))) actions_step block_step (choice_step (λ n. f (g n))) (elsif_step (λ n. f (g n))) (loop_step (λ n. f (g n))) z))
+    ap (block_to f) (fold-roll-Block (a.Action P) (a.Actions P) (a.Block P) (a.Action P) (e.Expression P × a.Actions P) (a.Action P) (action_step g) actions_step block_step (choice_step g) (elsif_step g) (loop_step g) z) ∙ block_by f g y
+    ∙ sym (fold-roll-Block (a.Action Q) (a.Actions Q) (a.Block Q) (a.Action Q) (e.Expression Q × a.Actions Q) (a.Action Q) (action_step (λ n. f (g n))) actions_step block_step (choice_step (λ n. f (g n))) (elsif_step (λ n. f (g n))) (loop_step (λ n. f (g n))) z))
 
 choice_rolled : {P Q : Type 0} (f : P → Q) (g : ℕ → P) (x : Choice-F Action Actions Block Choice Elsif Loop) (y : Choice-F (AAction f g) (AActions f g) (ABlock f g) (AChoice f g) (AElsif f g) (ALoop f g)) → choice_layer f g y ≡ x → ChoiceTied f g (roll-Choice x)
 choice_rolled {P} {Q} f g x y is =
     let z = choice_layer f g y in
     subst (λ w. ChoiceTied f g (roll-Choice w)) is (
-      ap (action_to f) (fold-roll-Choice (a.Action P) (a.Actions P) (a.Block P) (a.Action P) (e.Expression P × a.Actions P) (a.Action P) (action_step g) actions_step block_step (choice_step g) (elsif_step g) (loop_step g) z) ∙ choice_by f g y
-      ∙ sym (fold-roll-Choice (a.Action Q) (a.Actions Q) (a.Block Q) (a.Action Q) (e.Expression Q × a.Actions Q) (a.Action Q) (action_step (λ n. f (g n))) actions_step block_step (choice_step (λ n. f (g n))) (elsif_step (λ n. f (g n))) (loop_step (λ n. f (g n))) z))
+    ap (action_to f) (fold-roll-Choice (a.Action P) (a.Actions P) (a.Block P) (a.Action P) (e.Expression P × a.Actions P) (a.Action P) (action_step g) actions_step block_step (choice_step g) (elsif_step g) (loop_step g) z) ∙ choice_by f g y
+    ∙ sym (fold-roll-Choice (a.Action Q) (a.Actions Q) (a.Block Q) (a.Action Q) (e.Expression Q × a.Actions Q) (a.Action Q) (action_step (λ n. f (g n))) actions_step block_step (choice_step (λ n. f (g n))) (elsif_step (λ n. f (g n))) (loop_step (λ n. f (g n))) z))
 
 elsif_rolled : {P Q : Type 0} (f : P → Q) (g : ℕ → P) (x : Elsif-F Action Actions Block Choice Elsif Loop) (y : Elsif-F (AAction f g) (AActions f g) (ABlock f g) (AChoice f g) (AElsif f g) (ALoop f g)) → elsif_layer f g y ≡ x → ElsifTied f g (roll-Elsif x)
 elsif_rolled {P} {Q} f g x y is =
     let z = elsif_layer f g y in
     subst (λ w. ElsifTied f g (roll-Elsif w)) is (
-      ap (pair_to f) (fold-roll-Elsif (a.Action P) (a.Actions P) (a.Block P) (a.Action P) (e.Expression P × a.Actions P) (a.Action P) (action_step g) actions_step block_step (choice_step g) (elsif_step g) (loop_step g) z) ∙ elsif_by f g y
-      ∙ sym (fold-roll-Elsif (a.Action Q) (a.Actions Q) (a.Block Q) (a.Action Q) (e.Expression Q × a.Actions Q) (a.Action Q) (action_step (λ n. f (g n))) actions_step block_step (choice_step (λ n. f (g n))) (elsif_step (λ n. f (g n))) (loop_step (λ n. f (g n))) z))
+    ap (pair_to f) (fold-roll-Elsif (a.Action P) (a.Actions P) (a.Block P) (a.Action P) (e.Expression P × a.Actions P) (a.Action P) (action_step g) actions_step block_step (choice_step g) (elsif_step g) (loop_step g) z) ∙ elsif_by f g y
+    ∙ sym (fold-roll-Elsif (a.Action Q) (a.Actions Q) (a.Block Q) (a.Action Q) (e.Expression Q × a.Actions Q) (a.Action Q) (action_step (λ n. f (g n))) actions_step block_step (choice_step (λ n. f (g n))) (elsif_step (λ n. f (g n))) (loop_step (λ n. f (g n))) z))
 
 loop_rolled : {P Q : Type 0} (f : P → Q) (g : ℕ → P) (x : Loop-F Action Actions Block Choice Elsif Loop) (y : Loop-F (AAction f g) (AActions f g) (ABlock f g) (AChoice f g) (AElsif f g) (ALoop f g)) → loop_layer f g y ≡ x → LoopTied f g (roll-Loop x)
 loop_rolled {P} {Q} f g x y is =
     let z = loop_layer f g y in
     subst (λ w. LoopTied f g (roll-Loop w)) is (
-      ap (action_to f) (fold-roll-Loop (a.Action P) (a.Actions P) (a.Block P) (a.Action P) (e.Expression P × a.Actions P) (a.Action P) (action_step g) actions_step block_step (choice_step g) (elsif_step g) (loop_step g) z) ∙ loop_by f g y
-      ∙ sym (fold-roll-Loop (a.Action Q) (a.Actions Q) (a.Block Q) (a.Action Q) (e.Expression Q × a.Actions Q) (a.Action Q) (action_step (λ n. f (g n))) actions_step block_step (choice_step (λ n. f (g n))) (elsif_step (λ n. f (g n))) (loop_step (λ n. f (g n))) z))
+    ap (action_to f) (fold-roll-Loop (a.Action P) (a.Actions P) (a.Block P) (a.Action P) (e.Expression P × a.Actions P) (a.Action P) (action_step g) actions_step block_step (choice_step g) (elsif_step g) (loop_step g) z) ∙ loop_by f g y
+    ∙ sym (fold-roll-Loop (a.Action Q) (a.Actions Q) (a.Block Q) (a.Action Q) (e.Expression Q × a.Actions Q) (a.Action Q) (action_step (λ n. f (g n))) actions_step block_step (choice_step (λ n. f (g n))) (elsif_step (λ n. f (g n))) (loop_step (λ n. f (g n))) z))
 
 pub block_tied : {P Q : Type 0} (f : P → Q) (g : ℕ → P) (x : Block) → BlockTied f g x
 block_tied f g = ind-Block (ActionTied f g) (ActionsTied f g) (BlockTied f g) (ChoiceTied f g) (ElsifTied f g) (LoopTied f g) (action_rolled f g) (actions_rolled f g) (block_rolled f g) (choice_rolled f g) (elsif_rolled f g) (loop_rolled f g)

@@ -149,43 +149,43 @@ factor_rolled : {P Q : Type 0} (f : P → Q) (g : ℕ → P) (x : Factor-F Facto
 factor_rolled {P} {Q} f g x y is =
     let z = factor_layer f g y in
     subst (λ w. FactorTied f g (roll-Factor w)) is (
-      ap (factor_to f) (fold-roll-Factor (e.Factor P) (e.Primary P) (e.Expression P) (e.Relation P) (e.Sum P) (e.Term P) (factor_step g) (primary_step g) expression_step relation_step (sum_step g) term_step z) ∙ factor_by f g y
-      ∙ sym (fold-roll-Factor (e.Factor Q) (e.Primary Q) (e.Expression Q) (e.Relation Q) (e.Sum Q) (e.Term Q) (factor_step (λ n. f (g n))) (primary_step (λ n. f (g n))) expression_step relation_step (sum_step (λ n. f (g n))) term_step z))
+    ap (factor_to f) (fold-roll-Factor (e.Factor P) (e.Primary P) (e.Expression P) (e.Relation P) (e.Sum P) (e.Term P) (factor_step g) (primary_step g) expression_step relation_step (sum_step g) term_step z) ∙ factor_by f g y
+    ∙ sym (fold-roll-Factor (e.Factor Q) (e.Primary Q) (e.Expression Q) (e.Relation Q) (e.Sum Q) (e.Term Q) (factor_step (λ n. f (g n))) (primary_step (λ n. f (g n))) expression_step relation_step (sum_step (λ n. f (g n))) term_step z))
 
 primary_rolled : {P Q : Type 0} (f : P → Q) (g : ℕ → P) (x : Primary-F Factor Primary Expression Relation Sum Term) (y : Primary-F (AFactor f g) (APrimary f g) (AExpression f g) (ARelation f g) (ASum f g) (ATerm f g)) → primary_layer f g y ≡ x → PrimaryTied f g (roll-Primary x)
 primary_rolled {P} {Q} f g x y is =
     let z = primary_layer f g y in
     subst (λ w. PrimaryTied f g (roll-Primary w)) is (
-      ap (primary_to f) (fold-roll-Primary (e.Factor P) (e.Primary P) (e.Expression P) (e.Relation P) (e.Sum P) (e.Term P) (factor_step g) (primary_step g) expression_step relation_step (sum_step g) term_step z) ∙ primary_by f g y
-      ∙ sym (fold-roll-Primary (e.Factor Q) (e.Primary Q) (e.Expression Q) (e.Relation Q) (e.Sum Q) (e.Term Q) (factor_step (λ n. f (g n))) (primary_step (λ n. f (g n))) expression_step relation_step (sum_step (λ n. f (g n))) term_step z))
+    ap (primary_to f) (fold-roll-Primary (e.Factor P) (e.Primary P) (e.Expression P) (e.Relation P) (e.Sum P) (e.Term P) (factor_step g) (primary_step g) expression_step relation_step (sum_step g) term_step z) ∙ primary_by f g y
+    ∙ sym (fold-roll-Primary (e.Factor Q) (e.Primary Q) (e.Expression Q) (e.Relation Q) (e.Sum Q) (e.Term Q) (factor_step (λ n. f (g n))) (primary_step (λ n. f (g n))) expression_step relation_step (sum_step (λ n. f (g n))) term_step z))
 
 expression_rolled : {P Q : Type 0} (f : P → Q) (g : ℕ → P) (x : Expression-F Factor Primary Expression Relation Sum Term) (y : Expression-F (AFactor f g) (APrimary f g) (AExpression f g) (ARelation f g) (ASum f g) (ATerm f g)) → expression_layer f g y ≡ x → ExpressionTied f g (roll-Expression x)
 expression_rolled {P} {Q} f g x y is =
     let z = expression_layer f g y in
     subst (λ w. ExpressionTied f g (roll-Expression w)) is (
-      ap (expression_to f) (fold-roll-Expression (e.Factor P) (e.Primary P) (e.Expression P) (e.Relation P) (e.Sum P) (e.Term P) (factor_step g) (primary_step g) expression_step relation_step (sum_step g) term_step z) ∙ expression_by f g y
-      ∙ sym (fold-roll-Expression (e.Factor Q) (e.Primary Q) (e.Expression Q) (e.Relation Q) (e.Sum Q) (e.Term Q) (factor_step (λ n. f (g n))) (primary_step (λ n. f (g n))) expression_step relation_step (sum_step (λ n. f (g n))) term_step z))
+    ap (expression_to f) (fold-roll-Expression (e.Factor P) (e.Primary P) (e.Expression P) (e.Relation P) (e.Sum P) (e.Term P) (factor_step g) (primary_step g) expression_step relation_step (sum_step g) term_step z) ∙ expression_by f g y
+    ∙ sym (fold-roll-Expression (e.Factor Q) (e.Primary Q) (e.Expression Q) (e.Relation Q) (e.Sum Q) (e.Term Q) (factor_step (λ n. f (g n))) (primary_step (λ n. f (g n))) expression_step relation_step (sum_step (λ n. f (g n))) term_step z))
 
 relation_rolled : {P Q : Type 0} (f : P → Q) (g : ℕ → P) (x : Relation-F Factor Primary Expression Relation Sum Term) (y : Relation-F (AFactor f g) (APrimary f g) (AExpression f g) (ARelation f g) (ASum f g) (ATerm f g)) → relation_layer f g y ≡ x → RelationTied f g (roll-Relation x)
 relation_rolled {P} {Q} f g x y is =
     let z = relation_layer f g y in
     subst (λ w. RelationTied f g (roll-Relation w)) is (
-      ap (relation_to f) (fold-roll-Relation (e.Factor P) (e.Primary P) (e.Expression P) (e.Relation P) (e.Sum P) (e.Term P) (factor_step g) (primary_step g) expression_step relation_step (sum_step g) term_step z) ∙ relation_by f g y
-      ∙ sym (fold-roll-Relation (e.Factor Q) (e.Primary Q) (e.Expression Q) (e.Relation Q) (e.Sum Q) (e.Term Q) (factor_step (λ n. f (g n))) (primary_step (λ n. f (g n))) expression_step relation_step (sum_step (λ n. f (g n))) term_step z))
+    ap (relation_to f) (fold-roll-Relation (e.Factor P) (e.Primary P) (e.Expression P) (e.Relation P) (e.Sum P) (e.Term P) (factor_step g) (primary_step g) expression_step relation_step (sum_step g) term_step z) ∙ relation_by f g y
+    ∙ sym (fold-roll-Relation (e.Factor Q) (e.Primary Q) (e.Expression Q) (e.Relation Q) (e.Sum Q) (e.Term Q) (factor_step (λ n. f (g n))) (primary_step (λ n. f (g n))) expression_step relation_step (sum_step (λ n. f (g n))) term_step z))
 
 sum_rolled : {P Q : Type 0} (f : P → Q) (g : ℕ → P) (x : Sum-F Factor Primary Expression Relation Sum Term) (y : Sum-F (AFactor f g) (APrimary f g) (AExpression f g) (ARelation f g) (ASum f g) (ATerm f g)) → sum_layer f g y ≡ x → SumTied f g (roll-Sum x)
 sum_rolled {P} {Q} f g x y is =
     let z = sum_layer f g y in
     subst (λ w. SumTied f g (roll-Sum w)) is (
-      ap (sum_to f) (fold-roll-Sum (e.Factor P) (e.Primary P) (e.Expression P) (e.Relation P) (e.Sum P) (e.Term P) (factor_step g) (primary_step g) expression_step relation_step (sum_step g) term_step z) ∙ sum_by f g y
-      ∙ sym (fold-roll-Sum (e.Factor Q) (e.Primary Q) (e.Expression Q) (e.Relation Q) (e.Sum Q) (e.Term Q) (factor_step (λ n. f (g n))) (primary_step (λ n. f (g n))) expression_step relation_step (sum_step (λ n. f (g n))) term_step z))
+    ap (sum_to f) (fold-roll-Sum (e.Factor P) (e.Primary P) (e.Expression P) (e.Relation P) (e.Sum P) (e.Term P) (factor_step g) (primary_step g) expression_step relation_step (sum_step g) term_step z) ∙ sum_by f g y
+    ∙ sym (fold-roll-Sum (e.Factor Q) (e.Primary Q) (e.Expression Q) (e.Relation Q) (e.Sum Q) (e.Term Q) (factor_step (λ n. f (g n))) (primary_step (λ n. f (g n))) expression_step relation_step (sum_step (λ n. f (g n))) term_step z))
 
 term_rolled : {P Q : Type 0} (f : P → Q) (g : ℕ → P) (x : Term-F Factor Primary Expression Relation Sum Term) (y : Term-F (AFactor f g) (APrimary f g) (AExpression f g) (ARelation f g) (ASum f g) (ATerm f g)) → term_layer f g y ≡ x → TermTied f g (roll-Term x)
 term_rolled {P} {Q} f g x y is =
     let z = term_layer f g y in
     subst (λ w. TermTied f g (roll-Term w)) is (
-      ap (term_to f) (fold-roll-Term (e.Factor P) (e.Primary P) (e.Expression P) (e.Relation P) (e.Sum P) (e.Term P) (factor_step g) (primary_step g) expression_step relation_step (sum_step g) term_step z) ∙ term_by f g y
-      ∙ sym (fold-roll-Term (e.Factor Q) (e.Primary Q) (e.Expression Q) (e.Relation Q) (e.Sum Q) (e.Term Q) (factor_step (λ n. f (g n))) (primary_step (λ n. f (g n))) expression_step relation_step (sum_step (λ n. f (g n))) term_step z))
+    ap (term_to f) (fold-roll-Term (e.Factor P) (e.Primary P) (e.Expression P) (e.Relation P) (e.Sum P) (e.Term P) (factor_step g) (primary_step g) expression_step relation_step (sum_step g) term_step z) ∙ term_by f g y
+    ∙ sym (fold-roll-Term (e.Factor Q) (e.Primary Q) (e.Expression Q) (e.Relation Q) (e.Sum Q) (e.Term Q) (factor_step (λ n. f (g n))) (primary_step (λ n. f (g n))) expression_step relation_step (sum_step (λ n. f (g n))) term_step z))
 
 pub expression_tied : {P Q : Type 0} (f : P → Q) (g : ℕ → P) (x : Expression) → ExpressionTied f g x
 expression_tied f g = ind-Expression (FactorTied f g) (PrimaryTied f g) (ExpressionTied f g) (RelationTied f g) (SumTied f g) (TermTied f g) (factor_rolled f g) (primary_rolled f g) (expression_rolled f g) (relation_rolled f g) (sum_rolled f g) (term_rolled f g)

@@ -69,15 +69,15 @@ value_rolled : {P Q : Type 0} (f : P → Q) (g : ℕ → P) (x : Value-F Value A
 value_rolled {P} {Q} f g x y is =
     let z = value_layer f g y in
     subst (λ w. ValueTied f g (roll-Value w)) is (
-      ap (value_to f) (fold-roll-Value (v.Value P) (v.Association P) (value_step g) (association_step g) z) ∙ value_by f g y
-      ∙ sym (fold-roll-Value (v.Value Q) (v.Association Q) (value_step (λ n. f (g n))) (association_step (λ n. f (g n))) z))
+    ap (value_to f) (fold-roll-Value (v.Value P) (v.Association P) (value_step g) (association_step g) z) ∙ value_by f g y
+    ∙ sym (fold-roll-Value (v.Value Q) (v.Association Q) (value_step (λ n. f (g n))) (association_step (λ n. f (g n))) z))
 
 association_rolled : {P Q : Type 0} (f : P → Q) (g : ℕ → P) (x : Association-F Value Association) (y : Association-F (V f g) (A f g)) → association_layer f g y ≡ x → AssociationTied f g (roll-Association x)
 association_rolled {P} {Q} f g x y is =
     let z = association_layer f g y in
     subst (λ w. AssociationTied f g (roll-Association w)) is (
-      ap (association_to f) (fold-roll-Association (v.Value P) (v.Association P) (value_step g) (association_step g) z) ∙ association_by f g y
-      ∙ sym (fold-roll-Association (v.Value Q) (v.Association Q) (value_step (λ n. f (g n))) (association_step (λ n. f (g n))) z))
+    ap (association_to f) (fold-roll-Association (v.Value P) (v.Association P) (value_step g) (association_step g) z) ∙ association_by f g y
+    ∙ sym (fold-roll-Association (v.Value Q) (v.Association Q) (value_step (λ n. f (g n))) (association_step (λ n. f (g n))) z))
 
 association_tied : {P Q : Type 0} (f : P → Q) (g : ℕ → P) (x : Association) → AssociationTied f g x
 association_tied f g = ind-Association (ValueTied f g) (AssociationTied f g) (value_rolled f g) (association_rolled f g)

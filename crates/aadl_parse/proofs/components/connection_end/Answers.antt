@@ -18,7 +18,7 @@ pub returns-in_err-second : goal.returns-in_err-second
 unfolding move depth
 returns-in_err-second c = record {
   runs = λ outer below h. exits _ _ _ _ _ _ _ c.from_residual-in_err-second.ensures.1 (along _ _ _ (begins_as outer c.args.reader.now.end s.connection_end s.identifier (s.dot_identifier ∷ []) (below) (here c.args.reader.now c.args.at) refl refl refl
-    ∙ c.in_ok-first.ensures.runs outer (s.dot_identifier ∷ below) (omega arith)) (c.in_err-second.ensures.runs outer (below) (omega arith)));
+      ∙ c.in_ok-first.ensures.runs outer (s.dot_identifier ∷ below) (omega arith)) (c.in_err-second.ensures.runs outer (below) (omega arith)));
   reads = no_reads _ _ _ c.from_residual-in_err-second.ensures.1;
 }
 

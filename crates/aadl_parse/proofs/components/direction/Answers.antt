@@ -23,5 +23,8 @@ returns-in-Some-take c = record {
 
 pub returns-in-None : goal.returns-in-None
 unfolding move depth
-returns-in-None c = record { runs = λ outer below h. refuses_unless outer c.args.reader.now.end s.direction (below) (here c.args.reader.now c.args.at) refl (c.in_default.ensures, (c.in-None.ensures, tt))
-    ∙ ap syntax_at (sym c.place.ensures); reads = tt }
+returns-in-None c = record {
+  runs = λ outer below h. refuses_unless outer c.args.reader.now.end s.direction (below) (here c.args.reader.now c.args.at) refl (c.in_default.ensures, (c.in-None.ensures, tt))
+      ∙ ap syntax_at (sym c.place.ensures);
+  reads = tt;
+}

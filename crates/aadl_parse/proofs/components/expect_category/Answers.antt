@@ -17,5 +17,8 @@ returns-in-Some c = record {
 
 pub returns-in-None : goal.returns-in-None
 unfolding move depth
-returns-in-None c = record { runs = λ outer below h. refuses_unless outer c.args.reader.now.end s.category below (here c.args.reader.now c.args.at) refl c.in-None.ensures
-    ∙ ap syntax_at (sym c.place.ensures); reads = tt }
+returns-in-None c = record {
+  runs = λ outer below h. refuses_unless outer c.args.reader.now.end s.category below (here c.args.reader.now c.args.at) refl c.in-None.ensures
+      ∙ ap syntax_at (sym c.place.ensures);
+  reads = tt;
+}

@@ -16,7 +16,7 @@ pub returns-in_err-next : goal.returns-in_err-next
 unfolding move depth
 returns-in_err-next c = record {
   runs = λ outer below h. exits _ _ _ _ _ _ _ c.from_residual.ensures.1 (along _ _ _ (c.loop-found.invariant.runs outer below (omega arith)
-    ∙ enters_as outer c.args.reader.now.end s.feature_list s.feature (s.feature_list ∷ []) (below) refl refl (starts_at (rw c.loop-found-test.true at c.is_word.ensures)) refl) (c.in_err-next.ensures.runs outer (s.feature_list ∷ below) (omega arith)));
+      ∙ enters_as outer c.args.reader.now.end s.feature_list s.feature (s.feature_list ∷ []) (below) refl refl (starts_at (rw c.loop-found-test.true at c.is_word.ensures)) refl) (c.in_err-next.ensures.runs outer (s.feature_list ∷ below) (omega arith)));
   reads = no_reads _ _ _ c.from_residual.ensures.1;
 }
 

@@ -25,7 +25,7 @@ pub returns-in_err-end : goal.returns-in_err-end
 unfolding move depth
 returns-in_err-end c = record {
   runs = λ outer below h. exits _ _ _ _ _ _ _ c.from_residual.ensures.1 (along _ _ _ (takes_row outer c.args.reader.now.end s.own_properties (below) c.in-Some.ensures refl (omega arith)
-    ∙ takes_row outer c.args.reader.now.end s.property_section (below) c.in-Some-take.ensures refl (omega arith)) (c.in_err-end.ensures.runs outer (below) (omega arith)));
+      ∙ takes_row outer c.args.reader.now.end s.property_section (below) c.in-Some-take.ensures refl (omega arith)) (c.in_err-end.ensures.runs outer (below) (omega arith)));
   reads = no_reads _ _ _ c.from_residual.ensures.1;
 }
 
@@ -42,7 +42,7 @@ pub returns-in_err-first : goal.returns-in_err-first
 unfolding move depth
 returns-in_err-first c = record {
   runs = λ outer below h. exits _ _ _ _ _ _ _ c.from_residual-in_err-first.ensures.1 (along _ _ _ (takes_row outer c.args.reader.now.end s.own_properties (below) c.in-Some.ensures refl (omega arith)
-    ∙ begins_past outer c.args.reader.now.end s.property_section s.association (on k.Nothing (s.only k.Semicolon ∷ []) ∷ []) (s.associations ∷ []) (below) (here c.args.reader.now c.in-Some.next) refl refl refl (c.in_default-take.ensures, tt)) (c.in_err-first.ensures.runs outer (s.associations ∷ below) (omega arith)));
+      ∙ begins_past outer c.args.reader.now.end s.property_section s.association (on k.Nothing (s.only k.Semicolon ∷ []) ∷ []) (s.associations ∷ []) (below) (here c.args.reader.now c.in-Some.next) refl refl refl (c.in_default-take.ensures, tt)) (c.in_err-first.ensures.runs outer (s.associations ∷ below) (omega arith)));
   reads = no_reads _ _ _ c.from_residual-in_err-first.ensures.1;
 }
 
@@ -50,8 +50,8 @@ pub returns-in_err-found : goal.returns-in_err-found
 unfolding move depth
 returns-in_err-found c = record {
   runs = λ outer below h. exits _ _ _ _ _ _ _ c.from_residual-in_err-found.ensures.1 (along _ _ _ (takes_row outer c.args.reader.now.end s.own_properties (below) c.in-Some.ensures refl (omega arith)
-    ∙ begins_past outer c.args.reader.now.end s.property_section s.association (on k.Nothing (s.only k.Semicolon ∷ []) ∷ []) (s.associations ∷ []) (below) (here c.args.reader.now c.in-Some.next) refl refl refl (c.in_default-take.ensures, tt)
-    ∙ c.in_ok-first.ensures.runs outer (s.associations ∷ below) (omega arith)) (c.in_err-found.ensures.runs outer (below) (omega arith)));
+      ∙ begins_past outer c.args.reader.now.end s.property_section s.association (on k.Nothing (s.only k.Semicolon ∷ []) ∷ []) (s.associations ∷ []) (below) (here c.args.reader.now c.in-Some.next) refl refl refl (c.in_default-take.ensures, tt)
+      ∙ c.in_ok-first.ensures.runs outer (s.associations ∷ below) (omega arith)) (c.in_err-found.ensures.runs outer (below) (omega arith)));
   reads = no_reads _ _ _ c.from_residual-in_err-found.ensures.1;
 }
 

@@ -18,7 +18,7 @@ pub returns-in_err-language : goal.returns-in_err-language
 unfolding move depth
 returns-in_err-language c = record {
   runs = λ outer below h. exits _ _ _ _ _ _ _ c.from_residual-in_err-language.ensures.1 (along _ _ _ (begins_as outer c.args.reader.now.end s.annex (s.only k.Annex) (s.identifier ∷ s.content ∷ s.only k.Semicolon ∷ []) (below) (here c.args.reader.now c.args.at) refl refl refl
-    ∙ c.in_ok-keyword.ensures.runs outer (s.identifier ∷ s.content ∷ s.only k.Semicolon ∷ below) (omega arith)) (c.in_err-language.ensures.runs outer (s.content ∷ s.only k.Semicolon ∷ below) (omega arith)));
+      ∙ c.in_ok-keyword.ensures.runs outer (s.identifier ∷ s.content ∷ s.only k.Semicolon ∷ below) (omega arith)) (c.in_err-language.ensures.runs outer (s.content ∷ s.only k.Semicolon ∷ below) (omega arith)));
   reads = no_reads _ _ _ c.from_residual-in_err-language.ensures.1;
 }
 
@@ -26,8 +26,8 @@ pub returns-in_err-content : goal.returns-in_err-content
 unfolding move depth
 returns-in_err-content c = record {
   runs = λ outer below h. exits _ _ _ _ _ _ _ c.from_residual-in_err-content.ensures.1 (along _ _ _ (begins_as outer c.args.reader.now.end s.annex (s.only k.Annex) (s.identifier ∷ s.content ∷ s.only k.Semicolon ∷ []) (below) (here c.args.reader.now c.args.at) refl refl refl
-    ∙ c.in_ok-keyword.ensures.runs outer (s.identifier ∷ s.content ∷ s.only k.Semicolon ∷ below) (omega arith)
-    ∙ c.in_ok-language.ensures.runs outer (s.content ∷ s.only k.Semicolon ∷ below) (omega arith)) (c.in_err-content.ensures.runs outer (s.only k.Semicolon ∷ below) (omega arith)));
+      ∙ c.in_ok-keyword.ensures.runs outer (s.identifier ∷ s.content ∷ s.only k.Semicolon ∷ below) (omega arith)
+      ∙ c.in_ok-language.ensures.runs outer (s.content ∷ s.only k.Semicolon ∷ below) (omega arith)) (c.in_err-content.ensures.runs outer (s.only k.Semicolon ∷ below) (omega arith)));
   reads = no_reads _ _ _ c.from_residual-in_err-content.ensures.1;
 }
 
@@ -35,9 +35,9 @@ pub returns-in_err-end : goal.returns-in_err-end
 unfolding move depth
 returns-in_err-end c = record {
   runs = λ outer below h. exits _ _ _ _ _ _ _ c.from_residual-in_err-end.ensures.1 (along _ _ _ (begins_as outer c.args.reader.now.end s.annex (s.only k.Annex) (s.identifier ∷ s.content ∷ s.only k.Semicolon ∷ []) (below) (here c.args.reader.now c.args.at) refl refl refl
-    ∙ c.in_ok-keyword.ensures.runs outer (s.identifier ∷ s.content ∷ s.only k.Semicolon ∷ below) (omega arith)
-    ∙ c.in_ok-language.ensures.runs outer (s.content ∷ s.only k.Semicolon ∷ below) (omega arith)
-    ∙ c.in_ok-content.ensures.runs outer (s.only k.Semicolon ∷ below) (omega arith)) (c.in_err-end.ensures.runs outer (below) (omega arith)));
+      ∙ c.in_ok-keyword.ensures.runs outer (s.identifier ∷ s.content ∷ s.only k.Semicolon ∷ below) (omega arith)
+      ∙ c.in_ok-language.ensures.runs outer (s.content ∷ s.only k.Semicolon ∷ below) (omega arith)
+      ∙ c.in_ok-content.ensures.runs outer (s.only k.Semicolon ∷ below) (omega arith)) (c.in_err-end.ensures.runs outer (below) (omega arith)));
   reads = no_reads _ _ _ c.from_residual-in_err-end.ensures.1;
 }
 

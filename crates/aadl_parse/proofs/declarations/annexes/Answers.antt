@@ -15,7 +15,7 @@ pub returns-in_err-next : goal.returns-in_err-next
 unfolding move depth
 returns-in_err-next c = record {
   runs = λ outer below h. exits _ _ _ _ _ _ _ c.from_residual.ensures.1 (along _ _ _ (c.loop-behind.invariant.runs outer below (omega arith)
-    ∙ enters_as outer c.args.reader.now.end s.annexes s.annex (s.annexes ∷ []) (below) refl refl c.in-Some.ensures refl) (c.in_err-next.ensures.runs outer (s.annexes ∷ below) (omega arith)));
+      ∙ enters_as outer c.args.reader.now.end s.annexes s.annex (s.annexes ∷ []) (below) refl refl c.in-Some.ensures refl) (c.in_err-next.ensures.runs outer (s.annexes ∷ below) (omega arith)));
   reads = no_reads _ _ _ c.from_residual.ensures.1;
 }
 

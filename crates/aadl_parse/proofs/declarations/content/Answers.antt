@@ -23,8 +23,11 @@ returns-in_err-inner c = record {
 
 pub returns-in_default-take : goal.returns-in_default-take
 unfolding move depth
-returns-in_default-take c = record { runs = λ outer below h. refuses_unless outer c.args.reader.now.end s.content (below) (here c.args.reader.now c.args.at) refl (rw c.in_default.is at c.in_ok-bytes.ensures.ok, (c.in_default-take.ensures, tt))
-    ∙ ap syntax_at (sym c.place.ensures); reads = tt }
+returns-in_default-take c = record {
+  runs = λ outer below h. refuses_unless outer c.args.reader.now.end s.content (below) (here c.args.reader.now c.args.at) refl (rw c.in_default.is at c.in_ok-bytes.ensures.ok, (c.in_default-take.ensures, tt))
+      ∙ ap syntax_at (sym c.place.ensures);
+  reads = tt;
+}
 
 pub returns-in_err-tree : goal.returns-in_err-tree
 unfolding move depth
@@ -37,7 +40,7 @@ pub returns-in_err-end : goal.returns-in_err-end
 unfolding move depth
 returns-in_err-end c = record {
   runs = λ outer below h. exits _ _ _ _ _ _ _ c.from_residual-in_err-end.ensures.1 (along _ _ _ (takes_row outer c.args.reader.now.end s.content (below) c.in-Some-take.ensures refl (omega (arith, c.in_ok-inner.ensures))
-    ∙ c.in_ok-tree.ensures.runs outer (s.only k.AnnexClose ∷ below) (omega (arith, c.in_ok-inner.ensures))) (c.in_err-end.ensures.runs outer (below) (omega (arith, c.in_ok-inner.ensures))));
+      ∙ c.in_ok-tree.ensures.runs outer (s.only k.AnnexClose ∷ below) (omega (arith, c.in_ok-inner.ensures))) (c.in_err-end.ensures.runs outer (below) (omega (arith, c.in_ok-inner.ensures))));
   reads = no_reads _ _ _ c.from_residual-in_err-end.ensures.1;
 }
 

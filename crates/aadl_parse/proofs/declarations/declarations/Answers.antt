@@ -15,7 +15,7 @@ pub returns-in_err-rest : goal.returns-in_err-rest
 unfolding move depth
 returns-in_err-rest c = record {
   runs = λ outer below h. exits _ _ _ _ _ _ _ c.from_residual.ensures.1 (along _ _ _ (c.loop-category.invariant.runs outer below (omega arith)
-    ∙ takes_row outer c.args.reader.now.end s.declarations below c.in-Some.ensures (declaration_moves c.in-Some.category) (omega arith)) (c.in_err-rest.ensures.runs outer (s.declarations ∷ below) (omega arith)));
+      ∙ takes_row outer c.args.reader.now.end s.declarations below c.in-Some.ensures (declaration_moves c.in-Some.category) (omega arith)) (c.in_err-rest.ensures.runs outer (s.declarations ∷ below) (omega arith)));
   reads = no_reads _ _ _ c.from_residual.ensures.1;
 }
 

@@ -18,7 +18,7 @@ pub returns-in_err-dot : goal.returns-in_err-dot
 unfolding move depth
 returns-in_err-dot c = record {
   runs = λ outer below h. exits _ _ _ _ _ _ _ c.from_residual-in_err-dot.ensures.1 (along _ _ _ (begins_as outer c.args.reader.now.end s.implementation_name s.identifier (s.only k.Dot ∷ s.identifier ∷ []) (below) (here c.args.reader.now c.args.at) refl refl refl
-    ∙ c.in_ok-component_type.ensures.runs outer (s.only k.Dot ∷ s.identifier ∷ below) (omega arith)) (c.in_err-dot.ensures.runs outer (s.identifier ∷ below) (omega arith)));
+      ∙ c.in_ok-component_type.ensures.runs outer (s.only k.Dot ∷ s.identifier ∷ below) (omega arith)) (c.in_err-dot.ensures.runs outer (s.identifier ∷ below) (omega arith)));
   reads = no_reads _ _ _ c.from_residual-in_err-dot.ensures.1;
 }
 
@@ -26,8 +26,8 @@ pub returns-in_err-implementation : goal.returns-in_err-implementation
 unfolding move depth
 returns-in_err-implementation c = record {
   runs = λ outer below h. exits _ _ _ _ _ _ _ c.from_residual-in_err-implementation.ensures.1 (along _ _ _ (begins_as outer c.args.reader.now.end s.implementation_name s.identifier (s.only k.Dot ∷ s.identifier ∷ []) (below) (here c.args.reader.now c.args.at) refl refl refl
-    ∙ c.in_ok-component_type.ensures.runs outer (s.only k.Dot ∷ s.identifier ∷ below) (omega arith)
-    ∙ c.in_ok-dot.ensures.runs outer (s.identifier ∷ below) (omega arith)) (c.in_err-implementation.ensures.runs outer (below) (omega arith)));
+      ∙ c.in_ok-component_type.ensures.runs outer (s.only k.Dot ∷ s.identifier ∷ below) (omega arith)
+      ∙ c.in_ok-dot.ensures.runs outer (s.identifier ∷ below) (omega arith)) (c.in_err-implementation.ensures.runs outer (below) (omega arith)));
   reads = no_reads _ _ _ c.from_residual-in_err-implementation.ensures.1;
 }
 

@@ -15,7 +15,7 @@ pub returns-in_err-next : goal.returns-in_err-next
 unfolding move depth
 returns-in_err-next c = record {
   runs = λ outer below h. exits _ _ _ _ _ _ _ c.from_residual.ensures.1 (along _ _ _ (c.loop-behind.invariant.runs outer below (omega arith)
-    ∙ takes_row outer c.args.reader.now.end s.more_names (below) c.in-Some.ensures refl (omega arith)) (c.in_err-next.ensures.runs outer (s.more_names ∷ below) (omega arith)));
+      ∙ takes_row outer c.args.reader.now.end s.more_names (below) c.in-Some.ensures refl (omega arith)) (c.in_err-next.ensures.runs outer (s.more_names ∷ below) (omega arith)));
   reads = no_reads _ _ _ c.from_residual.ensures.1;
 }
 

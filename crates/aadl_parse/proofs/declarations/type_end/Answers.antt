@@ -18,7 +18,7 @@ pub returns-in_err-name : goal.returns-in_err-name
 unfolding move depth
 returns-in_err-name c = record {
   runs = λ outer below h. exits _ _ _ _ _ _ _ c.from_residual-in_err-name.ensures.1 (along _ _ _ (begins_as outer c.args.reader.now.end s.type_end (s.only k.End) (s.identifier ∷ s.only k.Semicolon ∷ []) (below) (here c.args.reader.now c.args.at) refl refl refl
-    ∙ c.in_ok-keyword.ensures.runs outer (s.identifier ∷ s.only k.Semicolon ∷ below) (omega arith)) (c.in_err-name.ensures.runs outer (s.only k.Semicolon ∷ below) (omega arith)));
+      ∙ c.in_ok-keyword.ensures.runs outer (s.identifier ∷ s.only k.Semicolon ∷ below) (omega arith)) (c.in_err-name.ensures.runs outer (s.only k.Semicolon ∷ below) (omega arith)));
   reads = no_reads _ _ _ c.from_residual-in_err-name.ensures.1;
 }
 
@@ -26,8 +26,8 @@ pub returns-in_err-end : goal.returns-in_err-end
 unfolding move depth
 returns-in_err-end c = record {
   runs = λ outer below h. exits _ _ _ _ _ _ _ c.from_residual-in_err-end.ensures.1 (along _ _ _ (begins_as outer c.args.reader.now.end s.type_end (s.only k.End) (s.identifier ∷ s.only k.Semicolon ∷ []) (below) (here c.args.reader.now c.args.at) refl refl refl
-    ∙ c.in_ok-keyword.ensures.runs outer (s.identifier ∷ s.only k.Semicolon ∷ below) (omega arith)
-    ∙ c.in_ok-name.ensures.runs outer (s.only k.Semicolon ∷ below) (omega arith)) (c.in_err-end.ensures.runs outer (below) (omega arith)));
+      ∙ c.in_ok-keyword.ensures.runs outer (s.identifier ∷ s.only k.Semicolon ∷ below) (omega arith)
+      ∙ c.in_ok-name.ensures.runs outer (s.only k.Semicolon ∷ below) (omega arith)) (c.in_err-end.ensures.runs outer (below) (omega arith)));
   reads = no_reads _ _ _ c.from_residual-in_err-end.ensures.1;
 }
 

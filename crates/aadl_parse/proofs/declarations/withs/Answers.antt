@@ -14,7 +14,7 @@ pub returns-in_err-first : goal.returns-in_err-first
 unfolding move depth
 returns-in_err-first c = record {
   runs = λ outer below h. exits _ _ _ _ _ _ _ c.from_residual.ensures.1 (along _ _ _ (c.loop-keyword.invariant.runs outer below (omega arith)
-    ∙ takes_row outer c.args.reader.now.end s.withs (below) c.in-Some.ensures refl (omega arith)) (c.in_err-first.ensures.runs outer (s.more_names ∷ s.only k.Semicolon ∷ s.withs ∷ below) (omega arith)));
+      ∙ takes_row outer c.args.reader.now.end s.withs (below) c.in-Some.ensures refl (omega arith)) (c.in_err-first.ensures.runs outer (s.more_names ∷ s.only k.Semicolon ∷ s.withs ∷ below) (omega arith)));
   reads = no_reads _ _ _ c.from_residual.ensures.1;
 }
 
@@ -22,8 +22,8 @@ pub returns-in_err-others : goal.returns-in_err-others
 unfolding move depth
 returns-in_err-others c = record {
   runs = λ outer below h. exits _ _ _ _ _ _ _ c.from_residual-in_err-others.ensures.1 (along _ _ _ (c.loop-keyword.invariant.runs outer below (omega arith)
-    ∙ takes_row outer c.args.reader.now.end s.withs (below) c.in-Some.ensures refl (omega arith)
-    ∙ c.in_ok-first.ensures.runs outer (s.more_names ∷ s.only k.Semicolon ∷ s.withs ∷ below) (omega arith)) (c.in_err-others.ensures.runs outer (s.only k.Semicolon ∷ s.withs ∷ below) (omega arith)));
+      ∙ takes_row outer c.args.reader.now.end s.withs (below) c.in-Some.ensures refl (omega arith)
+      ∙ c.in_ok-first.ensures.runs outer (s.more_names ∷ s.only k.Semicolon ∷ s.withs ∷ below) (omega arith)) (c.in_err-others.ensures.runs outer (s.only k.Semicolon ∷ s.withs ∷ below) (omega arith)));
   reads = no_reads _ _ _ c.from_residual-in_err-others.ensures.1;
 }
 
@@ -31,9 +31,9 @@ pub returns-in_err-end : goal.returns-in_err-end
 unfolding move depth
 returns-in_err-end c = record {
   runs = λ outer below h. exits _ _ _ _ _ _ _ c.from_residual-in_err-end.ensures.1 (along _ _ _ (c.loop-keyword.invariant.runs outer below (omega arith)
-    ∙ takes_row outer c.args.reader.now.end s.withs (below) c.in-Some.ensures refl (omega arith)
-    ∙ c.in_ok-first.ensures.runs outer (s.more_names ∷ s.only k.Semicolon ∷ s.withs ∷ below) (omega arith)
-    ∙ c.in_ok-others.ensures.runs outer (s.only k.Semicolon ∷ s.withs ∷ below) (omega arith)) (c.in_err-end.ensures.runs outer (s.withs ∷ below) (omega arith)));
+      ∙ takes_row outer c.args.reader.now.end s.withs (below) c.in-Some.ensures refl (omega arith)
+      ∙ c.in_ok-first.ensures.runs outer (s.more_names ∷ s.only k.Semicolon ∷ s.withs ∷ below) (omega arith)
+      ∙ c.in_ok-others.ensures.runs outer (s.only k.Semicolon ∷ s.withs ∷ below) (omega arith)) (c.in_err-end.ensures.runs outer (s.withs ∷ below) (omega arith)));
   reads = no_reads _ _ _ c.from_residual-in_err-end.ensures.1;
 }
 

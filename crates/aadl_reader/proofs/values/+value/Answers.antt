@@ -33,7 +33,7 @@ pub values-returns-in_err-values : goal.values-returns-in_err-values
 unfolding move depth
 values-returns-in_err-values t c = record {
   runs = λ outer below h. exits _ _ _ _ _ _ _ c.from_residual-in_err-values.ensures.1 (along _ _ _ (before_closer outer c.args.reader.now.end s.values s.value [] (s.more_values ∷ []) k.ParenClose below (here c.args.reader.now c.args.at) refl refl refl tt c.in_default.ensures
-    ∙ c.in_ok-first.ensures.runs outer (s.more_values ∷ s.only k.ParenClose ∷ below) (omega arith)) (c.in_err-values.ensures.runs outer (s.only k.ParenClose ∷ below) (omega arith)));
+      ∙ c.in_ok-first.ensures.runs outer (s.more_values ∷ s.only k.ParenClose ∷ below) (omega arith)) (c.in_err-values.ensures.runs outer (s.only k.ParenClose ∷ below) (omega arith)));
   reads = no_reads _ _ _ c.from_residual-in_err-values.ensures.1;
 }
 
@@ -41,8 +41,8 @@ pub values-returns-in_err-end : goal.values-returns-in_err-end
 unfolding move depth
 values-returns-in_err-end t c = record {
   runs = λ outer below h. exits _ _ _ _ _ _ _ c.from_residual-in_err-end.ensures.1 (along _ _ _ (before_closer outer c.args.reader.now.end s.values s.value [] (s.more_values ∷ []) k.ParenClose below (here c.args.reader.now c.args.at) refl refl refl tt c.in_default.ensures
-    ∙ c.in_ok-first.ensures.runs outer (s.more_values ∷ s.only k.ParenClose ∷ below) (omega arith)
-    ∙ c.in_ok-values.ensures.runs outer (s.only k.ParenClose ∷ below) (omega arith)) (c.in_err-end.ensures.runs outer (below) (omega arith)));
+      ∙ c.in_ok-first.ensures.runs outer (s.more_values ∷ s.only k.ParenClose ∷ below) (omega arith)
+      ∙ c.in_ok-values.ensures.runs outer (s.only k.ParenClose ∷ below) (omega arith)) (c.in_err-end.ensures.runs outer (below) (omega arith)));
   reads = no_reads _ _ _ c.from_residual-in_err-end.ensures.1;
 }
 
@@ -60,7 +60,7 @@ pub more_values-returns-in_err-next : goal.more_values-returns-in_err-next
 unfolding move depth
 more_values-returns-in_err-next t c = record {
   runs = λ outer below h. exits _ _ _ _ _ _ _ c.from_residual.ensures.1 (along _ _ _ (c.loop-behind.invariant.runs outer below (omega arith)
-    ∙ takes_row outer c.args.reader.now.end s.more_values (below) c.in-Some.ensures refl (omega arith)) (c.in_err-next.ensures.runs outer (s.more_values ∷ below) (omega arith)));
+      ∙ takes_row outer c.args.reader.now.end s.more_values (below) c.in-Some.ensures refl (omega arith)) (c.in_err-next.ensures.runs outer (s.more_values ∷ below) (omega arith)));
   reads = no_reads _ _ _ c.from_residual.ensures.1;
 }
 
@@ -125,7 +125,7 @@ pub value-returns-in_err-end : goal.value-returns-in_err-end
 unfolding move depth
 value-returns-in_err-end t c = record {
   runs = λ outer below h. exits _ _ _ _ _ _ _ c.from_residual-in_err-end.ensures.1 (along _ _ _ (takes_row outer c.args.reader.now.end s.value (below) c.in-Some-take.ensures refl (omega (arith, c.in_ok-inner-2.ensures))
-    ∙ c.in_ok-fields.ensures.runs outer (s.only k.BracketClose ∷ below) (omega (arith, c.in_ok-inner-2.ensures))) (c.in_err-end.ensures.runs outer (below) (omega (arith, c.in_ok-inner-2.ensures))));
+      ∙ c.in_ok-fields.ensures.runs outer (s.only k.BracketClose ∷ below) (omega (arith, c.in_ok-inner-2.ensures))) (c.in_err-end.ensures.runs outer (below) (omega (arith, c.in_ok-inner-2.ensures))));
   reads = no_reads _ _ _ c.from_residual-in_err-end.ensures.1;
 }
 
@@ -187,7 +187,7 @@ pub association-returns-in_err-operator : goal.association-returns-in_err-operat
 unfolding move depth
 association-returns-in_err-operator t c = record {
   runs = λ outer below h. exits _ _ _ _ _ _ _ c.from_residual-in_err-operator.ensures.1 (along _ _ _ (begins_as outer c.args.reader.now.end s.association s.name (s.operator ∷ s.constant ∷ s.value ∷ s.applies ∷ s.only k.Semicolon ∷ []) (below) (here c.args.reader.now c.args.at) refl refl refl
-    ∙ c.in_ok-name.ensures.runs outer (s.operator ∷ s.constant ∷ s.value ∷ s.applies ∷ s.only k.Semicolon ∷ below) (omega arith)) (c.in_err-operator.ensures.runs outer (s.constant ∷ s.value ∷ s.applies ∷ s.only k.Semicolon ∷ below) (omega arith)));
+      ∙ c.in_ok-name.ensures.runs outer (s.operator ∷ s.constant ∷ s.value ∷ s.applies ∷ s.only k.Semicolon ∷ below) (omega arith)) (c.in_err-operator.ensures.runs outer (s.constant ∷ s.value ∷ s.applies ∷ s.only k.Semicolon ∷ below) (omega arith)));
   reads = no_reads _ _ _ c.from_residual-in_err-operator.ensures.1;
 }
 
@@ -195,9 +195,9 @@ pub association-returns-in_err-value : goal.association-returns-in_err-value
 unfolding move depth
 association-returns-in_err-value t c = record {
   runs = λ outer below h. exits _ _ _ _ _ _ _ c.from_residual-in_err-value.ensures.1 (along _ _ _ (begins_as outer c.args.reader.now.end s.association s.name (s.operator ∷ s.constant ∷ s.value ∷ s.applies ∷ s.only k.Semicolon ∷ []) (below) (here c.args.reader.now c.args.at) refl refl refl
-    ∙ c.in_ok-name.ensures.runs outer (s.operator ∷ s.constant ∷ s.value ∷ s.applies ∷ s.only k.Semicolon ∷ below) (omega arith)
-    ∙ c.in_ok-operator.ensures.runs outer (s.constant ∷ s.value ∷ s.applies ∷ s.only k.Semicolon ∷ below) (omega arith)
-    ∙ flag_runs outer c.args.reader.now.end s.constant (s.value ∷ s.applies ∷ s.only k.Semicolon ∷ below) k.Constant c.has-constant.result.0 (here c.args.reader.now c.in_ok-operator.next) (here c.args.reader.now c.has-constant.result.1) refl refl refl (omega arith) c.has-constant.ensures) (c.in_err-value.ensures.runs outer (s.applies ∷ s.only k.Semicolon ∷ below) (omega arith)));
+      ∙ c.in_ok-name.ensures.runs outer (s.operator ∷ s.constant ∷ s.value ∷ s.applies ∷ s.only k.Semicolon ∷ below) (omega arith)
+      ∙ c.in_ok-operator.ensures.runs outer (s.constant ∷ s.value ∷ s.applies ∷ s.only k.Semicolon ∷ below) (omega arith)
+      ∙ flag_runs outer c.args.reader.now.end s.constant (s.value ∷ s.applies ∷ s.only k.Semicolon ∷ below) k.Constant c.has-constant.result.0 (here c.args.reader.now c.in_ok-operator.next) (here c.args.reader.now c.has-constant.result.1) refl refl refl (omega arith) c.has-constant.ensures) (c.in_err-value.ensures.runs outer (s.applies ∷ s.only k.Semicolon ∷ below) (omega arith)));
   reads = no_reads _ _ _ c.from_residual-in_err-value.ensures.1;
 }
 
@@ -205,10 +205,10 @@ pub association-returns-in_err-applies_to : goal.association-returns-in_err-appl
 unfolding move depth
 association-returns-in_err-applies_to t c = record {
   runs = λ outer below h. exits _ _ _ _ _ _ _ c.from_residual-in_err-applies_to.ensures.1 (along _ _ _ (begins_as outer c.args.reader.now.end s.association s.name (s.operator ∷ s.constant ∷ s.value ∷ s.applies ∷ s.only k.Semicolon ∷ []) (below) (here c.args.reader.now c.args.at) refl refl refl
-    ∙ c.in_ok-name.ensures.runs outer (s.operator ∷ s.constant ∷ s.value ∷ s.applies ∷ s.only k.Semicolon ∷ below) (omega arith)
-    ∙ c.in_ok-operator.ensures.runs outer (s.constant ∷ s.value ∷ s.applies ∷ s.only k.Semicolon ∷ below) (omega arith)
-    ∙ flag_runs outer c.args.reader.now.end s.constant (s.value ∷ s.applies ∷ s.only k.Semicolon ∷ below) k.Constant c.has-constant.result.0 (here c.args.reader.now c.in_ok-operator.next) (here c.args.reader.now c.has-constant.result.1) refl refl refl (omega arith) c.has-constant.ensures
-    ∙ c.in_ok-value.ensures.runs outer (s.applies ∷ s.only k.Semicolon ∷ below) (omega arith)) (c.in_err-applies_to.ensures.runs outer (s.only k.Semicolon ∷ below) (omega arith)));
+      ∙ c.in_ok-name.ensures.runs outer (s.operator ∷ s.constant ∷ s.value ∷ s.applies ∷ s.only k.Semicolon ∷ below) (omega arith)
+      ∙ c.in_ok-operator.ensures.runs outer (s.constant ∷ s.value ∷ s.applies ∷ s.only k.Semicolon ∷ below) (omega arith)
+      ∙ flag_runs outer c.args.reader.now.end s.constant (s.value ∷ s.applies ∷ s.only k.Semicolon ∷ below) k.Constant c.has-constant.result.0 (here c.args.reader.now c.in_ok-operator.next) (here c.args.reader.now c.has-constant.result.1) refl refl refl (omega arith) c.has-constant.ensures
+      ∙ c.in_ok-value.ensures.runs outer (s.applies ∷ s.only k.Semicolon ∷ below) (omega arith)) (c.in_err-applies_to.ensures.runs outer (s.only k.Semicolon ∷ below) (omega arith)));
   reads = no_reads _ _ _ c.from_residual-in_err-applies_to.ensures.1;
 }
 
@@ -216,11 +216,11 @@ pub association-returns-in_err-end : goal.association-returns-in_err-end
 unfolding move depth
 association-returns-in_err-end t c = record {
   runs = λ outer below h. exits _ _ _ _ _ _ _ c.from_residual-in_err-end.ensures.1 (along _ _ _ (begins_as outer c.args.reader.now.end s.association s.name (s.operator ∷ s.constant ∷ s.value ∷ s.applies ∷ s.only k.Semicolon ∷ []) (below) (here c.args.reader.now c.args.at) refl refl refl
-    ∙ c.in_ok-name.ensures.runs outer (s.operator ∷ s.constant ∷ s.value ∷ s.applies ∷ s.only k.Semicolon ∷ below) (omega arith)
-    ∙ c.in_ok-operator.ensures.runs outer (s.constant ∷ s.value ∷ s.applies ∷ s.only k.Semicolon ∷ below) (omega arith)
-    ∙ flag_runs outer c.args.reader.now.end s.constant (s.value ∷ s.applies ∷ s.only k.Semicolon ∷ below) k.Constant c.has-constant.result.0 (here c.args.reader.now c.in_ok-operator.next) (here c.args.reader.now c.has-constant.result.1) refl refl refl (omega arith) c.has-constant.ensures
-    ∙ c.in_ok-value.ensures.runs outer (s.applies ∷ s.only k.Semicolon ∷ below) (omega arith)
-    ∙ c.in_ok-applies_to.ensures.runs outer (s.only k.Semicolon ∷ below) (omega arith)) (c.in_err-end.ensures.runs outer (below) (omega arith)));
+      ∙ c.in_ok-name.ensures.runs outer (s.operator ∷ s.constant ∷ s.value ∷ s.applies ∷ s.only k.Semicolon ∷ below) (omega arith)
+      ∙ c.in_ok-operator.ensures.runs outer (s.constant ∷ s.value ∷ s.applies ∷ s.only k.Semicolon ∷ below) (omega arith)
+      ∙ flag_runs outer c.args.reader.now.end s.constant (s.value ∷ s.applies ∷ s.only k.Semicolon ∷ below) k.Constant c.has-constant.result.0 (here c.args.reader.now c.in_ok-operator.next) (here c.args.reader.now c.has-constant.result.1) refl refl refl (omega arith) c.has-constant.ensures
+      ∙ c.in_ok-value.ensures.runs outer (s.applies ∷ s.only k.Semicolon ∷ below) (omega arith)
+      ∙ c.in_ok-applies_to.ensures.runs outer (s.only k.Semicolon ∷ below) (omega arith)) (c.in_err-end.ensures.runs outer (below) (omega arith)));
   reads = no_reads _ _ _ c.from_residual-in_err-end.ensures.1;
 }
 
@@ -241,7 +241,7 @@ pub associations-returns-in_err-next : goal.associations-returns-in_err-next
 unfolding move depth
 associations-returns-in_err-next t c = record {
   runs = λ outer below h. exits _ _ _ _ _ _ _ c.from_residual.ensures.1 (along _ _ _ (c.loop-found.invariant.runs outer below (omega arith)
-    ∙ enters_as outer c.args.reader.now.end s.associations s.association (s.associations ∷ []) (below) refl refl (starts_at (rw c.loop-found-test.true at c.is_word.ensures)) refl) (c.in_err-next.ensures.runs outer (s.associations ∷ below) (omega arith)));
+      ∙ enters_as outer c.args.reader.now.end s.associations s.association (s.associations ∷ []) (below) refl refl (starts_at (rw c.loop-found-test.true at c.is_word.ensures)) refl) (c.in_err-next.ensures.runs outer (s.associations ∷ below) (omega arith)));
   reads = no_reads _ _ _ c.from_residual.ensures.1;
 }
 

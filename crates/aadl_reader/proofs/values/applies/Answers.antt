@@ -28,7 +28,7 @@ pub returns-in_err-first : goal.returns-in_err-first
 unfolding move depth
 returns-in_err-first c = record {
   runs = λ outer below h. exits _ _ _ _ _ _ _ c.from_residual-in_err-first.ensures.1 (along _ _ _ (takes_row outer c.args.reader.now.end s.applies (below) c.in-Some.ensures refl (omega arith)
-    ∙ c.in_ok-start.ensures.runs outer (s.path ∷ s.more_paths ∷ below) (omega arith)) (c.in_err-first.ensures.runs outer (s.more_paths ∷ below) (omega arith)));
+      ∙ c.in_ok-start.ensures.runs outer (s.path ∷ s.more_paths ∷ below) (omega arith)) (c.in_err-first.ensures.runs outer (s.more_paths ∷ below) (omega arith)));
   reads = no_reads _ _ _ c.from_residual-in_err-first.ensures.1;
 }
 
@@ -36,8 +36,8 @@ pub returns-in_err-paths : goal.returns-in_err-paths
 unfolding move depth
 returns-in_err-paths c = record {
   runs = λ outer below h. exits _ _ _ _ _ _ _ c.from_residual-in_err-paths.ensures.1 (along _ _ _ (takes_row outer c.args.reader.now.end s.applies (below) c.in-Some.ensures refl (omega arith)
-    ∙ c.in_ok-start.ensures.runs outer (s.path ∷ s.more_paths ∷ below) (omega arith)
-    ∙ c.in_ok-first.ensures.runs outer (s.more_paths ∷ below) (omega arith)) (c.in_err-paths.ensures.runs outer (below) (omega arith)));
+      ∙ c.in_ok-start.ensures.runs outer (s.path ∷ s.more_paths ∷ below) (omega arith)
+      ∙ c.in_ok-first.ensures.runs outer (s.more_paths ∷ below) (omega arith)) (c.in_err-paths.ensures.runs outer (below) (omega arith)));
   reads = no_reads _ _ _ c.from_residual-in_err-paths.ensures.1;
 }
 

@@ -28,5 +28,8 @@ returns-in-Some-2 c = record {
 
 pub returns-in-None : goal.returns-in-None
 unfolding move depth
-returns-in-None c = record { runs = λ outer below h. refuses_unless outer c.args.reader.now.end s.figure (below) (here c.args.reader.now c.args.at) refl (c.in_default.ensures, (rw c.in-None.is at c.in_ok-bytes.ensures.ok, tt))
-    ∙ ap syntax_at (sym c.place.ensures); reads = tt }
+returns-in-None c = record {
+  runs = λ outer below h. refuses_unless outer c.args.reader.now.end s.figure (below) (here c.args.reader.now c.args.at) refl (c.in_default.ensures, (rw c.in-None.is at c.in_ok-bytes.ensures.ok, tt))
+      ∙ ap syntax_at (sym c.place.ensures);
+  reads = tt;
+}

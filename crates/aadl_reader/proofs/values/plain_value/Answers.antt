@@ -44,7 +44,7 @@ pub returns-in_err-high : goal.returns-in_err-high
 unfolding move depth
 returns-in_err-high c = record {
   runs = λ outer below h. exits _ _ _ _ _ _ _ c.from_residual-in_err-high.ensures.1 (along _ _ _ (begins_past outer c.args.reader.now.end s.value s.quantity (value_own) (s.upper ∷ []) (below) (here c.args.reader.now c.args.at) refl refl refl (rw c.in_default.is at c.in_ok-text.ensures.ok, (rw c.if-is_word.false at c.is_word.ensures, c.requires))
-    ∙ c.in_ok-low.ensures.runs outer (s.upper ∷ below) (omega arith)) (c.in_err-high.ensures.runs outer (below) (omega arith)));
+      ∙ c.in_ok-low.ensures.runs outer (s.upper ∷ below) (omega arith)) (c.in_err-high.ensures.runs outer (below) (omega arith)));
   reads = no_reads _ _ _ c.from_residual-in_err-high.ensures.1;
 }
 

@@ -20,7 +20,7 @@ pub returns-in_err-unit : goal.returns-in_err-unit
 unfolding move depth
 returns-in_err-unit c = record {
   runs = λ outer below h. exits _ _ _ _ _ _ _ c.from_residual-in_err-unit.ensures.1 (along _ _ _ (begins_past outer c.args.reader.now.end s.quantity s.figure (on k.Plus (s.figure ∷ s.unit ∷ []) ∷ on k.Minus (s.figure ∷ s.unit ∷ []) ∷ []) (s.unit ∷ []) (below) (here c.args.reader.now c.args.at) refl refl refl (c.in_default.ensures)
-    ∙ c.in_ok-figure.ensures.runs outer (s.unit ∷ below) (omega arith)) (c.in_err-unit.ensures.runs outer (below) (omega arith)));
+      ∙ c.in_ok-figure.ensures.runs outer (s.unit ∷ below) (omega arith)) (c.in_err-unit.ensures.runs outer (below) (omega arith)));
   reads = no_reads _ _ _ c.from_residual-in_err-unit.ensures.1;
 }
 
@@ -44,7 +44,7 @@ pub returns-in_err-unit-2 : goal.returns-in_err-unit-2
 unfolding move depth
 returns-in_err-unit-2 c = record {
   runs = λ outer below h. exits _ _ _ _ _ _ _ c.from_residual-in_err-unit-2.ensures.1 (along _ _ _ (takes_row outer c.args.reader.now.end s.quantity (below) c.in-Some.ensures (sign_quantity c.in-Some.sign) (omega arith)
-    ∙ c.in_ok-figure-2.ensures.runs outer (s.unit ∷ below) (omega arith)) (c.in_err-unit-2.ensures.runs outer (below) (omega arith)));
+      ∙ c.in_ok-figure-2.ensures.runs outer (s.unit ∷ below) (omega arith)) (c.in_err-unit-2.ensures.runs outer (below) (omega arith)));
   reads = no_reads _ _ _ c.from_residual-in_err-unit-2.ensures.1;
 }
 

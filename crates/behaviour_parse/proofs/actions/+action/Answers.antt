@@ -48,7 +48,7 @@ pub action-returns-in_err-body : goal.action-returns-in_err-body
 unfolding move depth
 action-returns-in_err-body t c = record {
   runs = λ outer below h. exits _ _ _ _ _ _ _ c.from_residual-in_err-body.ensures.1 (along _ _ _ (takes_row outer c.args.reader.now.end s.action (below) c.in-Some-take.ensures refl (omega arith)
-    ∙ c.in_ok-head.ensures.runs outer (s.block ∷ below) (omega arith)) (c.in_err-body.ensures.runs outer (below) (omega arith)));
+      ∙ c.in_ok-head.ensures.runs outer (s.block ∷ below) (omega arith)) (c.in_err-body.ensures.runs outer (below) (omega arith)));
   reads = no_reads _ _ _ c.from_residual-in_err-body.ensures.1;
 }
 
@@ -63,14 +63,17 @@ action-returns-in-Some-take t c = record {
 
 pub action-returns-in_default-2 : goal.action-returns-in_default-2
 unfolding move depth
-action-returns-in_default-2 t c = record { runs = λ outer below h. refuses_unless outer c.args.reader.now.end s.action (below) (here c.args.reader.now c.args.at) refl (rw c.in_default-2.is at c.in_ok-target.ensures.ok, (c.in_default.ensures, (c.in_default-take.ensures, tt)))
-    ∙ ap syntax_at (sym c.place-place.ensures); reads = tt }
+action-returns-in_default-2 t c = record {
+  runs = λ outer below h. refuses_unless outer c.args.reader.now.end s.action (below) (here c.args.reader.now c.args.at) refl (rw c.in_default-2.is at c.in_ok-target.ensures.ok, (c.in_default.ensures, (c.in_default-take.ensures, tt)))
+      ∙ ap syntax_at (sym c.place-place.ensures);
+  reads = tt;
+}
 
 pub action-returns-in_err-value : goal.action-returns-in_err-value
 unfolding move depth
 action-returns-in_err-value t c = record {
   runs = λ outer below h. exits _ _ _ _ _ _ _ c.from_residual-in_err-value.ensures.1 (along _ _ _ (takes_row outer c.args.reader.now.end s.action (below) (a_word_at (rw c.in-Some-2.is at c.in_ok-target.ensures.ok)) refl (omega arith)
-    ∙ takes_row outer c.args.reader.now.end s.after_target (below) c.in-Some-take-2.ensures refl (omega arith)) (c.in_err-value.ensures.runs outer (below) (omega arith)));
+      ∙ takes_row outer c.args.reader.now.end s.after_target (below) c.in-Some-take-2.ensures refl (omega arith)) (c.in_err-value.ensures.runs outer (below) (omega arith)));
   reads = no_reads _ _ _ c.from_residual-in_err-value.ensures.1;
 }
 
@@ -85,15 +88,18 @@ action-returns-in-Some-take-2 t c = record {
 
 pub action-returns-in_default-take-3 : goal.action-returns-in_default-take-3
 unfolding move depth
-action-returns-in_default-take-3 t c = record { runs = λ outer below h. takes_row outer c.args.reader.now.end s.action (below) (a_word_at (rw c.in-Some-2.is at c.in_ok-target.ensures.ok)) refl (omega arith)
-    ∙ refuses_unless outer c.args.reader.now.end s.after_target (below) (here c.args.reader.now c.in-Some-2.next) refl (c.in_default-take-2.ensures, (c.in_default-take-3.ensures, tt))
-    ∙ ap syntax_at (sym c.place.ensures); reads = tt }
+action-returns-in_default-take-3 t c = record {
+  runs = λ outer below h. takes_row outer c.args.reader.now.end s.action (below) (a_word_at (rw c.in-Some-2.is at c.in_ok-target.ensures.ok)) refl (omega arith)
+      ∙ refuses_unless outer c.args.reader.now.end s.after_target (below) (here c.args.reader.now c.in-Some-2.next) refl (c.in_default-take-2.ensures, (c.in_default-take-3.ensures, tt))
+      ∙ ap syntax_at (sym c.place.ensures);
+  reads = tt;
+}
 
 pub action-returns-in_err-value-2 : goal.action-returns-in_err-value-2
 unfolding move depth
 action-returns-in_err-value-2 t c = record {
   runs = λ outer below h. exits _ _ _ _ _ _ _ c.from_residual-in_err-value-2.ensures.1 (along _ _ _ (takes_row outer c.args.reader.now.end s.action (below) (a_word_at (rw c.in-Some-2.is at c.in_ok-target.ensures.ok)) refl (omega arith)
-    ∙ takes_row outer c.args.reader.now.end s.after_target (below) c.in-Some-take-3.ensures refl (omega arith)) (c.in_err-value-2.ensures.runs outer (below) (omega arith)));
+      ∙ takes_row outer c.args.reader.now.end s.after_target (below) c.in-Some-take-3.ensures refl (omega arith)) (c.in_err-value-2.ensures.runs outer (below) (omega arith)));
   reads = no_reads _ _ _ c.from_residual-in_err-value-2.ensures.1;
 }
 
@@ -124,7 +130,7 @@ pub choice-returns-in_err-elsifs : goal.choice-returns-in_err-elsifs
 unfolding move depth
 choice-returns-in_err-elsifs t c = record {
   runs = λ outer below h. exits _ _ _ _ _ _ _ c.from_residual-in_err-elsifs.ensures.1 (along _ _ _ (c.in_ok-test.ensures.runs outer (s.actions ∷ s.elsifs ∷ s.otherwise ∷ s.end_if ∷ below) (omega arith)
-    ∙ c.in_ok-actions.ensures.runs outer (s.elsifs ∷ s.otherwise ∷ s.end_if ∷ below) (omega arith)) (c.in_err-elsifs.ensures.runs outer (s.otherwise ∷ s.end_if ∷ below) (omega arith)));
+      ∙ c.in_ok-actions.ensures.runs outer (s.elsifs ∷ s.otherwise ∷ s.end_if ∷ below) (omega arith)) (c.in_err-elsifs.ensures.runs outer (s.otherwise ∷ s.end_if ∷ below) (omega arith)));
   reads = no_reads _ _ _ c.from_residual-in_err-elsifs.ensures.1;
 }
 
@@ -132,8 +138,8 @@ pub choice-returns-in_err-otherwise : goal.choice-returns-in_err-otherwise
 unfolding move depth
 choice-returns-in_err-otherwise t c = record {
   runs = λ outer below h. exits _ _ _ _ _ _ _ c.from_residual-in_err-otherwise.ensures.1 (along _ _ _ (c.in_ok-test.ensures.runs outer (s.actions ∷ s.elsifs ∷ s.otherwise ∷ s.end_if ∷ below) (omega arith)
-    ∙ c.in_ok-actions.ensures.runs outer (s.elsifs ∷ s.otherwise ∷ s.end_if ∷ below) (omega arith)
-    ∙ c.in_ok-elsifs.ensures.runs outer (s.otherwise ∷ s.end_if ∷ below) (omega arith)) (c.in_err-otherwise.ensures.runs outer (s.end_if ∷ below) (omega arith)));
+      ∙ c.in_ok-actions.ensures.runs outer (s.elsifs ∷ s.otherwise ∷ s.end_if ∷ below) (omega arith)
+      ∙ c.in_ok-elsifs.ensures.runs outer (s.otherwise ∷ s.end_if ∷ below) (omega arith)) (c.in_err-otherwise.ensures.runs outer (s.end_if ∷ below) (omega arith)));
   reads = no_reads _ _ _ c.from_residual-in_err-otherwise.ensures.1;
 }
 
@@ -141,10 +147,10 @@ pub choice-returns-in_err-close : goal.choice-returns-in_err-close
 unfolding move depth
 choice-returns-in_err-close t c = record {
   runs = λ outer below h. exits _ _ _ _ _ _ _ c.from_residual-in_err-close.ensures.1 (along _ _ _ (c.in_ok-test.ensures.runs outer (s.actions ∷ s.elsifs ∷ s.otherwise ∷ s.end_if ∷ below) (omega arith)
-    ∙ c.in_ok-actions.ensures.runs outer (s.elsifs ∷ s.otherwise ∷ s.end_if ∷ below) (omega arith)
-    ∙ c.in_ok-elsifs.ensures.runs outer (s.otherwise ∷ s.end_if ∷ below) (omega arith)
-    ∙ c.in_ok-otherwise.ensures.runs outer (s.end_if ∷ below) (omega arith)
-    ∙ begins_as outer c.args.reader.now.end s.end_if (s.only k.End) (s.closing_if ∷ []) below (here c.args.reader.now c.in_ok-otherwise.next) refl refl refl) (c.in_err-close.ensures.runs outer (s.closing_if ∷ below) (omega arith)));
+      ∙ c.in_ok-actions.ensures.runs outer (s.elsifs ∷ s.otherwise ∷ s.end_if ∷ below) (omega arith)
+      ∙ c.in_ok-elsifs.ensures.runs outer (s.otherwise ∷ s.end_if ∷ below) (omega arith)
+      ∙ c.in_ok-otherwise.ensures.runs outer (s.end_if ∷ below) (omega arith)
+      ∙ begins_as outer c.args.reader.now.end s.end_if (s.only k.End) (s.closing_if ∷ []) below (here c.args.reader.now c.in_ok-otherwise.next) refl refl refl) (c.in_err-close.ensures.runs outer (s.closing_if ∷ below) (omega arith)));
   reads = no_reads _ _ _ c.from_residual-in_err-close.ensures.1;
 }
 
@@ -152,12 +158,12 @@ pub choice-returns-in_err-end : goal.choice-returns-in_err-end
 unfolding move depth
 choice-returns-in_err-end t c = record {
   runs = λ outer below h. exits _ _ _ _ _ _ _ c.from_residual-in_err-end.ensures.1 (along _ _ _ (c.in_ok-test.ensures.runs outer (s.actions ∷ s.elsifs ∷ s.otherwise ∷ s.end_if ∷ below) (omega arith)
-    ∙ c.in_ok-actions.ensures.runs outer (s.elsifs ∷ s.otherwise ∷ s.end_if ∷ below) (omega arith)
-    ∙ c.in_ok-elsifs.ensures.runs outer (s.otherwise ∷ s.end_if ∷ below) (omega arith)
-    ∙ c.in_ok-otherwise.ensures.runs outer (s.end_if ∷ below) (omega arith)
-    ∙ begins_as outer c.args.reader.now.end s.end_if (s.only k.End) (s.closing_if ∷ []) below (here c.args.reader.now c.in_ok-otherwise.next) refl refl refl
-    ∙ c.in_ok-close.ensures.runs outer (s.closing_if ∷ below) (omega arith)
-    ∙ begins_as outer c.args.reader.now.end s.closing_if (s.only k.If) [] below (here c.args.reader.now c.in_ok-close.close) refl refl refl) (c.in_err-end.ensures.runs outer (below) (omega arith)));
+      ∙ c.in_ok-actions.ensures.runs outer (s.elsifs ∷ s.otherwise ∷ s.end_if ∷ below) (omega arith)
+      ∙ c.in_ok-elsifs.ensures.runs outer (s.otherwise ∷ s.end_if ∷ below) (omega arith)
+      ∙ c.in_ok-otherwise.ensures.runs outer (s.end_if ∷ below) (omega arith)
+      ∙ begins_as outer c.args.reader.now.end s.end_if (s.only k.End) (s.closing_if ∷ []) below (here c.args.reader.now c.in_ok-otherwise.next) refl refl refl
+      ∙ c.in_ok-close.ensures.runs outer (s.closing_if ∷ below) (omega arith)
+      ∙ begins_as outer c.args.reader.now.end s.closing_if (s.only k.If) [] below (here c.args.reader.now c.in_ok-close.close) refl refl refl) (c.in_err-end.ensures.runs outer (below) (omega arith)));
   reads = no_reads _ _ _ c.from_residual-in_err-end.ensures.1;
 }
 
@@ -179,7 +185,7 @@ pub elsifs-returns-in_err-test : goal.elsifs-returns-in_err-test
 unfolding move depth
 elsifs-returns-in_err-test t c = record {
   runs = λ outer below h. exits _ _ _ _ _ _ _ c.from_residual.ensures.1 (along _ _ _ (c.loop-behind.invariant.runs outer below (omega arith)
-    ∙ takes_row outer c.args.reader.now.end s.elsifs (below) c.in-Some.ensures refl (omega arith)) (c.in_err-test.ensures.runs outer (s.actions ∷ s.elsifs ∷ below) (omega arith)));
+      ∙ takes_row outer c.args.reader.now.end s.elsifs (below) c.in-Some.ensures refl (omega arith)) (c.in_err-test.ensures.runs outer (s.actions ∷ s.elsifs ∷ below) (omega arith)));
   reads = no_reads _ _ _ c.from_residual.ensures.1;
 }
 
@@ -187,8 +193,8 @@ pub elsifs-returns-in_err-actions : goal.elsifs-returns-in_err-actions
 unfolding move depth
 elsifs-returns-in_err-actions t c = record {
   runs = λ outer below h. exits _ _ _ _ _ _ _ c.from_residual-in_err-actions.ensures.1 (along _ _ _ (c.loop-behind.invariant.runs outer below (omega arith)
-    ∙ takes_row outer c.args.reader.now.end s.elsifs (below) c.in-Some.ensures refl (omega arith)
-    ∙ c.in_ok-test.ensures.runs outer (s.actions ∷ s.elsifs ∷ below) (omega arith)) (c.in_err-actions.ensures.runs outer (s.elsifs ∷ below) (omega arith)));
+      ∙ takes_row outer c.args.reader.now.end s.elsifs (below) c.in-Some.ensures refl (omega arith)
+      ∙ c.in_ok-test.ensures.runs outer (s.actions ∷ s.elsifs ∷ below) (omega arith)) (c.in_err-actions.ensures.runs outer (s.elsifs ∷ below) (omega arith)));
   reads = no_reads _ _ _ c.from_residual-in_err-actions.ensures.1;
 }
 
@@ -264,9 +270,9 @@ pub actions-returns-in_err-next : goal.actions-returns-in_err-next
 unfolding move depth
 actions-returns-in_err-next t c = record {
   runs = λ outer below h. exits _ _ _ _ _ _ _ c.from_residual-in_err-next.ensures.1 (along _ _ _ (c.loop-behind.invariant.runs outer below (omega arith)
-    ∙ takes_row outer c.args.reader.now.end s.mores (below) c.in-Some.ensures refl (omega arith)
-    ∙ begins_from outer c.args.reader.now.end below (rw c.if-not-begins_action.false at c.begins_action.ensures)
-    ∙ begins_as outer c.args.reader.now.end s.actions s.action (s.mores ∷ []) (below) (here c.args.reader.now c.in-Some.behind) refl refl refl) (c.in_err-next.ensures.runs outer (s.mores ∷ below) (omega arith)));
+      ∙ takes_row outer c.args.reader.now.end s.mores (below) c.in-Some.ensures refl (omega arith)
+      ∙ begins_from outer c.args.reader.now.end below (rw c.if-not-begins_action.false at c.begins_action.ensures)
+      ∙ begins_as outer c.args.reader.now.end s.actions s.action (s.mores ∷ []) (below) (here c.args.reader.now c.in-Some.behind) refl refl refl) (c.in_err-next.ensures.runs outer (s.mores ∷ below) (omega arith)));
   reads = no_reads _ _ _ c.from_residual-in_err-next.ensures.1;
 }
 
@@ -295,8 +301,11 @@ actions-returns t c = record {
 
 pub block-returns-in_default : goal.block-returns-in_default
 unfolding move depth
-block-returns-in_default t c = record { runs = λ outer below h. refuses_unless outer c.args.reader.now.end s.block (below) (here c.args.reader.now c.args.at) refl (c.in_default.ensures, tt)
-    ∙ ap syntax_at (sym c.place.ensures); reads = tt }
+block-returns-in_default t c = record {
+  runs = λ outer below h. refuses_unless outer c.args.reader.now.end s.block (below) (here c.args.reader.now c.args.at) refl (c.in_default.ensures, tt)
+      ∙ ap syntax_at (sym c.place.ensures);
+  reads = tt;
+}
 
 pub block-returns-in_err-inner : goal.block-returns-in_err-inner
 unfolding move depth
@@ -318,7 +327,7 @@ pub block-returns-in_err-found : goal.block-returns-in_err-found
 unfolding move depth
 block-returns-in_err-found t c = record {
   runs = λ outer below h. exits _ _ _ _ _ _ _ c.from_residual-in_err-found.ensures.1 (along _ _ _ (takes_row outer c.args.reader.now.end s.block (below) c.in-Some.ensures refl (omega (arith, c.in_ok-inner.ensures))
-    ∙ before_closer outer c.args.reader.now.end s.body s.actions [] [] k.BraceClose below (here c.args.reader.now c.in-Some.next) refl refl refl tt c.in_default-take.ensures) (c.in_err-found.ensures.runs outer (s.only k.BraceClose ∷ below) (omega (arith, c.in_ok-inner.ensures))));
+      ∙ before_closer outer c.args.reader.now.end s.body s.actions [] [] k.BraceClose below (here c.args.reader.now c.in-Some.next) refl refl refl tt c.in_default-take.ensures) (c.in_err-found.ensures.runs outer (s.only k.BraceClose ∷ below) (omega (arith, c.in_ok-inner.ensures))));
   reads = no_reads _ _ _ c.from_residual-in_err-found.ensures.1;
 }
 
@@ -326,8 +335,8 @@ pub block-returns-in_err-end : goal.block-returns-in_err-end
 unfolding move depth
 block-returns-in_err-end t c = record {
   runs = λ outer below h. exits _ _ _ _ _ _ _ c.from_residual-in_err-end.ensures.1 (along _ _ _ (takes_row outer c.args.reader.now.end s.block (below) c.in-Some.ensures refl (omega (arith, c.in_ok-inner.ensures))
-    ∙ before_closer outer c.args.reader.now.end s.body s.actions [] [] k.BraceClose below (here c.args.reader.now c.in-Some.next) refl refl refl tt c.in_default-take.ensures
-    ∙ c.in_ok-found.ensures.runs outer (s.only k.BraceClose ∷ below) (omega (arith, c.in_ok-inner.ensures))) (c.in_err-end.ensures.runs outer (below) (omega (arith, c.in_ok-inner.ensures))));
+      ∙ before_closer outer c.args.reader.now.end s.body s.actions [] [] k.BraceClose below (here c.args.reader.now c.in-Some.next) refl refl refl tt c.in_default-take.ensures
+      ∙ c.in_ok-found.ensures.runs outer (s.only k.BraceClose ∷ below) (omega (arith, c.in_ok-inner.ensures))) (c.in_err-end.ensures.runs outer (below) (omega (arith, c.in_ok-inner.ensures))));
   reads = no_reads _ _ _ c.from_residual-in_err-end.ensures.1;
 }
 

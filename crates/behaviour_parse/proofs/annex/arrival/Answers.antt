@@ -24,7 +24,7 @@ pub returns-in_err-end : goal.returns-in_err-end
 unfolding move depth
 returns-in_err-end c = record {
   runs = λ outer below h. exits _ _ _ _ _ _ _ c.from_residual-in_err-end.ensures.1 (along _ _ _ (c.in_ok-target.ensures.runs outer (s.effect ∷ s.only k.Semicolon ∷ below) (omega arith)
-    ∙ c.in_ok-effect.ensures.runs outer (s.only k.Semicolon ∷ below) (omega arith)) (c.in_err-end.ensures.runs outer (below) (omega arith)));
+      ∙ c.in_ok-effect.ensures.runs outer (s.only k.Semicolon ∷ below) (omega arith)) (c.in_err-end.ensures.runs outer (below) (omega arith)));
   reads = no_reads _ _ _ c.from_residual-in_err-end.ensures.1;
 }
 

@@ -24,7 +24,7 @@ pub returns-in_err-transitions : goal.returns-in_err-transitions
 unfolding move depth
 returns-in_err-transitions c = record {
   runs = λ outer below h. exits _ _ _ _ _ _ _ c.from_residual-in_err-transitions.ensures.1 (along _ _ _ (c.in_ok-variables.ensures.runs outer (s.states ∷ s.transitions ∷ below) (omega arith)
-    ∙ c.in_ok-states.ensures.runs outer (s.transitions ∷ below) (omega arith)) (c.in_err-transitions.ensures.runs outer (below) (omega arith)));
+      ∙ c.in_ok-states.ensures.runs outer (s.transitions ∷ below) (omega arith)) (c.in_err-transitions.ensures.runs outer (below) (omega arith)));
   reads = no_reads _ _ _ c.from_residual-in_err-transitions.ensures.1;
 }
 

@@ -27,7 +27,7 @@ pub returns-in_err-end : goal.returns-in_err-end
 unfolding move depth
 returns-in_err-end c = record {
   runs = λ outer below h. exits _ _ _ _ _ _ _ c.from_residual-in_err-end.ensures.1 (along _ _ _ (takes_row outer c.args.reader.now.end s.guard (s.only k.GuardClose ∷ below) c.in-Some-take.ensures refl (omega arith)
-    ∙ c.in_ok-dispatch.ensures.runs outer (s.only k.GuardClose ∷ below) (omega arith)) (c.in_err-end.ensures.runs outer (below) (omega arith)));
+      ∙ c.in_ok-dispatch.ensures.runs outer (s.only k.GuardClose ∷ below) (omega arith)) (c.in_err-end.ensures.runs outer (below) (omega arith)));
   reads = no_reads _ _ _ c.from_residual-in_err-end.ensures.1;
 }
 
@@ -66,7 +66,7 @@ pub returns-in_err-end-3 : goal.returns-in_err-end-3
 unfolding move depth
 returns-in_err-end-3 c = record {
   runs = λ outer below h. exits _ _ _ _ _ _ _ c.from_residual-in_err-end-3.ensures.1 (along _ _ _ (before_closer outer c.args.reader.now.end s.guard s.expression (on k.On (s.only k.Dispatch ∷ []) ∷ on k.Otherwise [] ∷ []) [] k.GuardClose below (here c.args.reader.now c.args.at) refl refl refl (c.in_default-take.ensures, (c.in_default-take-2.ensures, tt)) c.in_default.ensures
-    ∙ c.in_ok-found.ensures.runs outer (s.only k.GuardClose ∷ below) (omega arith)) (c.in_err-end-3.ensures.runs outer (below) (omega arith)));
+      ∙ c.in_ok-found.ensures.runs outer (s.only k.GuardClose ∷ below) (omega arith)) (c.in_err-end-3.ensures.runs outer (below) (omega arith)));
   reads = no_reads _ _ _ c.from_residual-in_err-end-3.ensures.1;
 }
 

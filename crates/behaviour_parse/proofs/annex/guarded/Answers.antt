@@ -9,8 +9,11 @@ use Rattle.behaviour_parse.proofs.annex.guarded.Goals as goal
 
 pub returns-in_default : goal.returns-in_default
 unfolding move depth
-returns-in_default c = record { runs = λ outer below h. refuses_unless outer c.args.reader.now.end s.guarded (below) (here c.args.reader.now c.args.at) refl (c.in_default.ensures, tt)
-    ∙ ap syntax_at (sym c.place.ensures); reads = tt }
+returns-in_default c = record {
+  runs = λ outer below h. refuses_unless outer c.args.reader.now.end s.guarded (below) (here c.args.reader.now c.args.at) refl (c.in_default.ensures, tt)
+      ∙ ap syntax_at (sym c.place.ensures);
+  reads = tt;
+}
 
 pub returns-in_err-inner : goal.returns-in_err-inner
 unfolding move depth

@@ -25,8 +25,8 @@ pub returns-in_err-guard : goal.returns-in_err-guard
 unfolding move depth
 returns-in_err-guard c = record {
   runs = λ outer below h. exits _ _ _ _ _ _ _ c.from_residual-in_err-guard.ensures.1 (along _ _ _ (begins_as outer c.args.reader.now.end s.transition s.identifier (s.after_word ∷ s.identifier ∷ s.effect ∷ s.only k.Semicolon ∷ []) (below) (here c.args.reader.now c.args.at) refl refl refl
-    ∙ c.in_ok-first.ensures.runs outer (s.after_word ∷ s.identifier ∷ s.effect ∷ s.only k.Semicolon ∷ below) (omega arith)
-    ∙ begins_past outer c.args.reader.now.end s.after_word s.guarded (on k.Colon (s.identifier ∷ s.guarded ∷ []) ∷ []) ([]) (s.identifier ∷ s.effect ∷ s.only k.Semicolon ∷ below) (here c.args.reader.now c.in_ok-first.next) refl refl refl (c.in_default.ensures, tt)) (c.in_err-guard.ensures.runs outer (s.identifier ∷ s.effect ∷ s.only k.Semicolon ∷ below) (omega arith)));
+      ∙ c.in_ok-first.ensures.runs outer (s.after_word ∷ s.identifier ∷ s.effect ∷ s.only k.Semicolon ∷ below) (omega arith)
+      ∙ begins_past outer c.args.reader.now.end s.after_word s.guarded (on k.Colon (s.identifier ∷ s.guarded ∷ []) ∷ []) ([]) (s.identifier ∷ s.effect ∷ s.only k.Semicolon ∷ below) (here c.args.reader.now c.in_ok-first.next) refl refl refl (c.in_default.ensures, tt)) (c.in_err-guard.ensures.runs outer (s.identifier ∷ s.effect ∷ s.only k.Semicolon ∷ below) (omega arith)));
   reads = no_reads _ _ _ c.from_residual-in_err-guard.ensures.1;
 }
 
@@ -34,9 +34,9 @@ pub returns-in_err-target : goal.returns-in_err-target
 unfolding move depth
 returns-in_err-target c = record {
   runs = λ outer below h. exits _ _ _ _ _ _ _ c.from_residual-in_err-target.ensures.1 (along _ _ _ (begins_as outer c.args.reader.now.end s.transition s.identifier (s.after_word ∷ s.identifier ∷ s.effect ∷ s.only k.Semicolon ∷ []) (below) (here c.args.reader.now c.args.at) refl refl refl
-    ∙ c.in_ok-first.ensures.runs outer (s.after_word ∷ s.identifier ∷ s.effect ∷ s.only k.Semicolon ∷ below) (omega arith)
-    ∙ begins_past outer c.args.reader.now.end s.after_word s.guarded (on k.Colon (s.identifier ∷ s.guarded ∷ []) ∷ []) ([]) (s.identifier ∷ s.effect ∷ s.only k.Semicolon ∷ below) (here c.args.reader.now c.in_ok-first.next) refl refl refl (c.in_default.ensures, tt)
-    ∙ c.in_ok-guard.ensures.runs outer (s.identifier ∷ s.effect ∷ s.only k.Semicolon ∷ below) (omega arith)) (c.in_err-target.ensures.runs outer (below) (omega arith)));
+      ∙ c.in_ok-first.ensures.runs outer (s.after_word ∷ s.identifier ∷ s.effect ∷ s.only k.Semicolon ∷ below) (omega arith)
+      ∙ begins_past outer c.args.reader.now.end s.after_word s.guarded (on k.Colon (s.identifier ∷ s.guarded ∷ []) ∷ []) ([]) (s.identifier ∷ s.effect ∷ s.only k.Semicolon ∷ below) (here c.args.reader.now c.in_ok-first.next) refl refl refl (c.in_default.ensures, tt)
+      ∙ c.in_ok-guard.ensures.runs outer (s.identifier ∷ s.effect ∷ s.only k.Semicolon ∷ below) (omega arith)) (c.in_err-target.ensures.runs outer (below) (omega arith)));
   reads = no_reads _ _ _ c.from_residual-in_err-target.ensures.1;
 }
 
@@ -55,8 +55,8 @@ pub returns-in_err-source : goal.returns-in_err-source
 unfolding move depth
 returns-in_err-source c = record {
   runs = λ outer below h. exits _ _ _ _ _ _ _ c.from_residual-in_err-source.ensures.1 (along _ _ _ (begins_as outer c.args.reader.now.end s.transition s.identifier (s.after_word ∷ s.identifier ∷ s.effect ∷ s.only k.Semicolon ∷ []) (below) (here c.args.reader.now c.args.at) refl refl refl
-    ∙ c.in_ok-first.ensures.runs outer (s.after_word ∷ s.identifier ∷ s.effect ∷ s.only k.Semicolon ∷ below) (omega arith)
-    ∙ takes_row outer c.args.reader.now.end s.after_word (s.identifier ∷ s.effect ∷ s.only k.Semicolon ∷ below) c.in-Some.ensures refl (omega arith)) (c.in_err-source.ensures.runs outer (s.guarded ∷ s.identifier ∷ s.effect ∷ s.only k.Semicolon ∷ below) (omega arith)));
+      ∙ c.in_ok-first.ensures.runs outer (s.after_word ∷ s.identifier ∷ s.effect ∷ s.only k.Semicolon ∷ below) (omega arith)
+      ∙ takes_row outer c.args.reader.now.end s.after_word (s.identifier ∷ s.effect ∷ s.only k.Semicolon ∷ below) c.in-Some.ensures refl (omega arith)) (c.in_err-source.ensures.runs outer (s.guarded ∷ s.identifier ∷ s.effect ∷ s.only k.Semicolon ∷ below) (omega arith)));
   reads = no_reads _ _ _ c.from_residual-in_err-source.ensures.1;
 }
 
@@ -64,9 +64,9 @@ pub returns-in_err-guard-2 : goal.returns-in_err-guard-2
 unfolding move depth
 returns-in_err-guard-2 c = record {
   runs = λ outer below h. exits _ _ _ _ _ _ _ c.from_residual-in_err-guard-2.ensures.1 (along _ _ _ (begins_as outer c.args.reader.now.end s.transition s.identifier (s.after_word ∷ s.identifier ∷ s.effect ∷ s.only k.Semicolon ∷ []) (below) (here c.args.reader.now c.args.at) refl refl refl
-    ∙ c.in_ok-first.ensures.runs outer (s.after_word ∷ s.identifier ∷ s.effect ∷ s.only k.Semicolon ∷ below) (omega arith)
-    ∙ takes_row outer c.args.reader.now.end s.after_word (s.identifier ∷ s.effect ∷ s.only k.Semicolon ∷ below) c.in-Some.ensures refl (omega arith)
-    ∙ c.in_ok-source.ensures.runs outer (s.guarded ∷ s.identifier ∷ s.effect ∷ s.only k.Semicolon ∷ below) (omega arith)) (c.in_err-guard-2.ensures.runs outer (s.identifier ∷ s.effect ∷ s.only k.Semicolon ∷ below) (omega arith)));
+      ∙ c.in_ok-first.ensures.runs outer (s.after_word ∷ s.identifier ∷ s.effect ∷ s.only k.Semicolon ∷ below) (omega arith)
+      ∙ takes_row outer c.args.reader.now.end s.after_word (s.identifier ∷ s.effect ∷ s.only k.Semicolon ∷ below) c.in-Some.ensures refl (omega arith)
+      ∙ c.in_ok-source.ensures.runs outer (s.guarded ∷ s.identifier ∷ s.effect ∷ s.only k.Semicolon ∷ below) (omega arith)) (c.in_err-guard-2.ensures.runs outer (s.identifier ∷ s.effect ∷ s.only k.Semicolon ∷ below) (omega arith)));
   reads = no_reads _ _ _ c.from_residual-in_err-guard-2.ensures.1;
 }
 
@@ -74,10 +74,10 @@ pub returns-in_err-target-2 : goal.returns-in_err-target-2
 unfolding move depth
 returns-in_err-target-2 c = record {
   runs = λ outer below h. exits _ _ _ _ _ _ _ c.from_residual-in_err-target-2.ensures.1 (along _ _ _ (begins_as outer c.args.reader.now.end s.transition s.identifier (s.after_word ∷ s.identifier ∷ s.effect ∷ s.only k.Semicolon ∷ []) (below) (here c.args.reader.now c.args.at) refl refl refl
-    ∙ c.in_ok-first.ensures.runs outer (s.after_word ∷ s.identifier ∷ s.effect ∷ s.only k.Semicolon ∷ below) (omega arith)
-    ∙ takes_row outer c.args.reader.now.end s.after_word (s.identifier ∷ s.effect ∷ s.only k.Semicolon ∷ below) c.in-Some.ensures refl (omega arith)
-    ∙ c.in_ok-source.ensures.runs outer (s.guarded ∷ s.identifier ∷ s.effect ∷ s.only k.Semicolon ∷ below) (omega arith)
-    ∙ c.in_ok-guard-2.ensures.runs outer (s.identifier ∷ s.effect ∷ s.only k.Semicolon ∷ below) (omega arith)) (c.in_err-target-2.ensures.runs outer (below) (omega arith)));
+      ∙ c.in_ok-first.ensures.runs outer (s.after_word ∷ s.identifier ∷ s.effect ∷ s.only k.Semicolon ∷ below) (omega arith)
+      ∙ takes_row outer c.args.reader.now.end s.after_word (s.identifier ∷ s.effect ∷ s.only k.Semicolon ∷ below) c.in-Some.ensures refl (omega arith)
+      ∙ c.in_ok-source.ensures.runs outer (s.guarded ∷ s.identifier ∷ s.effect ∷ s.only k.Semicolon ∷ below) (omega arith)
+      ∙ c.in_ok-guard-2.ensures.runs outer (s.identifier ∷ s.effect ∷ s.only k.Semicolon ∷ below) (omega arith)) (c.in_err-target-2.ensures.runs outer (below) (omega arith)));
   reads = no_reads _ _ _ c.from_residual-in_err-target-2.ensures.1;
 }
 

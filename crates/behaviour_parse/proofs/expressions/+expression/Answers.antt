@@ -37,7 +37,7 @@ pub primary-returns-in_err-end : goal.primary-returns-in_err-end
 unfolding move depth
 primary-returns-in_err-end t c = record {
   runs = λ outer below h. exits _ _ _ _ _ _ _ c.from_residual-in_err-end.ensures.1 (along _ _ _ (takes_row outer c.args.reader.now.end s.primary (below) c.in-Some.ensures refl (omega (arith, c.in_ok-deeper.ensures))
-    ∙ c.in_ok-inner.ensures.runs outer (s.only k.ParenClose ∷ below) (omega (arith, c.in_ok-deeper.ensures))) (c.in_err-end.ensures.runs outer (below) (omega (arith, c.in_ok-deeper.ensures))));
+      ∙ c.in_ok-inner.ensures.runs outer (s.only k.ParenClose ∷ below) (omega (arith, c.in_ok-deeper.ensures))) (c.in_err-end.ensures.runs outer (below) (omega (arith, c.in_ok-deeper.ensures))));
   reads = no_reads _ _ _ c.from_residual-in_err-end.ensures.1;
 }
 
@@ -73,8 +73,11 @@ primary-returns-in-Some-whole t c = let f : SFits w64 c.in-Some-whole.value = se
 
 pub primary-returns-in_default-2 : goal.primary-returns-in_default-2
 unfolding move depth
-primary-returns-in_default-2 t c = record { runs = λ outer below h. refuses_unless outer c.args.reader.now.end s.primary (below) (here c.args.reader.now c.args.at) refl (c.in_default-whole.ensures, (c.in_default-take.ensures, (c.in_default-take-2.ensures, (rw c.in_default-2.is at c.in_ok-name.ensures.ok, (c.in_default.ensures, tt)))))
-    ∙ ap syntax_at (sym c.place-place.ensures); reads = tt }
+primary-returns-in_default-2 t c = record {
+  runs = λ outer below h. refuses_unless outer c.args.reader.now.end s.primary (below) (here c.args.reader.now c.args.at) refl (c.in_default-whole.ensures, (c.in_default-take.ensures, (c.in_default-take-2.ensures, (rw c.in_default-2.is at c.in_ok-name.ensures.ok, (c.in_default.ensures, tt)))))
+      ∙ ap syntax_at (sym c.place-place.ensures);
+  reads = tt;
+}
 
 pub primary-returns-in_err-fresh : goal.primary-returns-in_err-fresh
 unfolding move depth
@@ -155,7 +158,7 @@ pub term-returns-in_err-operand : goal.term-returns-in_err-operand
 unfolding move depth
 term-returns-in_err-operand t c = record {
   runs = λ outer below h. exits _ _ _ _ _ _ _ c.from_residual-in_err-operand.ensures.1 (along _ _ _ (c.loop-operator.invariant.runs outer below (omega arith)
-    ∙ takes_row outer c.args.reader.now.end s.factors (below) c.in-Some.ensures (multiplies c.in-Some.operator) (omega arith)) (c.in_err-operand.ensures.runs outer (s.factors ∷ below) (omega arith)));
+      ∙ takes_row outer c.args.reader.now.end s.factors (below) c.in-Some.ensures (multiplies c.in-Some.operator) (omega arith)) (c.in_err-operand.ensures.runs outer (s.factors ∷ below) (omega arith)));
   reads = no_reads _ _ _ c.from_residual-in_err-operand.ensures.1;
 }
 
@@ -198,7 +201,7 @@ pub terms-returns-in_err-next : goal.terms-returns-in_err-next
 unfolding move depth
 terms-returns-in_err-next t c = record {
   runs = λ outer below h. exits _ _ _ _ _ _ _ c.from_residual-in_err-next.ensures.1 (along _ _ _ (c.loop-sign.invariant.runs outer below (omega arith)
-    ∙ takes_row outer c.args.reader.now.end s.terms (below) c.in-Some.ensures (sign_terms c.in-Some.sign) (omega arith)) (c.in_err-next.ensures.runs outer (s.terms ∷ below) (omega arith)));
+      ∙ takes_row outer c.args.reader.now.end s.terms (below) c.in-Some.ensures (sign_terms c.in-Some.sign) (omega arith)) (c.in_err-next.ensures.runs outer (s.terms ∷ below) (omega arith)));
   reads = no_reads _ _ _ c.from_residual-in_err-next.ensures.1;
 }
 
@@ -273,8 +276,8 @@ pub relation-returns-in_err-right : goal.relation-returns-in_err-right
 unfolding move depth
 relation-returns-in_err-right t c = record {
   runs = λ outer below h. exits _ _ _ _ _ _ _ c.from_residual-in_err-right.ensures.1 (along _ _ _ (begins_as outer c.args.reader.now.end s.relation s.sum (s.compared ∷ []) (below) (here c.args.reader.now c.args.at) refl refl refl
-    ∙ c.in_ok-left.ensures.runs outer (s.compared ∷ below) (omega arith)
-    ∙ takes_row outer c.args.reader.now.end s.compared (below) c.in-Some.ensures (compares c.in-Some.operator) (omega arith)) (c.in_err-right.ensures.runs outer (below) (omega arith)));
+      ∙ c.in_ok-left.ensures.runs outer (s.compared ∷ below) (omega arith)
+      ∙ takes_row outer c.args.reader.now.end s.compared (below) c.in-Some.ensures (compares c.in-Some.operator) (omega arith)) (c.in_err-right.ensures.runs outer (below) (omega arith)));
   reads = no_reads _ _ _ c.from_residual-in_err-right.ensures.1;
 }
 
@@ -307,7 +310,7 @@ pub expression-returns-in_err-next : goal.expression-returns-in_err-next
 unfolding move depth
 expression-returns-in_err-next t c = record {
   runs = λ outer below h. exits _ _ _ _ _ _ _ c.from_residual-in_err-next.ensures.1 (along _ _ _ (c.loop-operator.invariant.runs outer below (omega arith)
-    ∙ joined c.in-Some.operator outer c.args.reader.now.end below (here c.args.reader.now c.loop-operator.rest) (here c.args.reader.now c.in-Some.behind) (omega arith) c.in-Some.ensures) (c.in_err-next.ensures.runs outer (s.relations ∷ below) (omega arith)));
+      ∙ joined c.in-Some.operator outer c.args.reader.now.end below (here c.args.reader.now c.loop-operator.rest) (here c.args.reader.now c.in-Some.behind) (omega arith) c.in-Some.ensures) (c.in_err-next.ensures.runs outer (s.relations ∷ below) (omega arith)));
   reads = no_reads _ _ _ c.from_residual-in_err-next.ensures.1;
 }
 
