@@ -8,7 +8,8 @@ use crate::read_end::ReadEnd;
 use crate::steps::acts_of;
 use crate::writing::{Action, Direction, Port, Thread};
 use pals_base::{
-    Behaviour, BehaviourParts, Guard, Items, Kind, Named, StateDecl, Text, Transition, VarDecl,
+    Behaviour, BehaviourParts, Guard, Items, Kind, Named, StateDecl, Text, Transition, TryClone,
+    VarDecl,
 };
 use std::alloc::{AllocError, Global};
 
@@ -24,7 +25,7 @@ fn integer_ports(
         if !is_same(direction, port.direction) {
             continue;
         }
-        let name = port.name.copy(alloc)?;
+        let name = port.name.try_clone(alloc)?;
         list.push(Named {
             name,
             kind: Kind::Integer,
@@ -36,7 +37,7 @@ fn integer_ports(
 fn variables(alloc: Global, name: &Text) -> Result<Items<VarDecl>, AllocError>
     ensures { IfOk result (λ list. list ≡ record { name = name.now; kind = Kind.Integer; first = pos 0 } ∷ []) }
 {
-    let name = name.copy(alloc)?;
+    let name = name.try_clone(alloc)?;
     let mut list = Items::new(alloc);
     list.push(VarDecl {
         name,
@@ -49,7 +50,7 @@ fn variables(alloc: Global, name: &Text) -> Result<Items<VarDecl>, AllocError>
 fn states(alloc: Global, name: &Text) -> Result<Items<StateDecl>, AllocError>
     ensures { IfOk result (λ list. list ≡ record { name = name.now; complete = true } ∷ []) }
 {
-    let name = name.copy(alloc)?;
+    let name = name.try_clone(alloc)?;
     let mut list = Items::new(alloc);
     list.push(StateDecl {
         name,

@@ -1,30 +1,12 @@
 //! Names that are declared once.
-ghost use Rattle.std.specs.Prelude.{◌≡◌, ◌≢◌, ◌∷◌, ◌↔◌, All, AllPairs, IfOk, IsTrue, OnOk, map};
+ghost use Rattle.std.specs.Prelude.{◌≡◌, ◌∷◌, IfOk, OnOk, map};
 ghost use Rattle.first_form.specs.FirstForm.{AreDistinct, NamesOnce, process_names};
 
 use crate::read_end::ReadEnd;
 use crate::writing::{Process, Thread};
-use pals_base::{Items, Text};
+use pals_base::names::are_distinct;
+use pals_base::{Items, Text, TryClone};
 use std::alloc::{AllocError, Global};
-
-fn is_new(name: &Text, others: &[Text]) -> bool
-    ensures { IsTrue result ↔ All (λ other. name.now ≢ other) others.now }
-{
-    others
-        .iter()
-        .all(|other| name.as_bytes() != other.as_bytes())
-}
-
-fn are_distinct(names: &[Text]) -> bool
-    ensures { IsTrue result ↔ AllPairs (λ a b. a ≢ b) names.now }
-{
-    for (i, name) in names.iter().enumerate() {
-        if !is_new(name, &names[i + 1..]) {
-            return false;
-        }
-    }
-    true
-}
 
 fn check_names(names: &[Text]) -> Result<(), ReadEnd>
     ensures { OnOk result (AreDistinct names.now) }
@@ -40,7 +22,7 @@ fn thread_names(alloc: Global, threads: &[Thread]) -> Result<Items<Text>, AllocE
 {
     let mut names = Items::new(alloc);
     for thread in threads {
-        names.push(thread.name.copy(alloc)?)?;
+        names.push(thread.name.try_clone(alloc)?)?;
     }
     Ok(names)
 }
@@ -58,9 +40,9 @@ fn names_in(alloc: Global, thread: &Thread) -> Result<Items<Text>, AllocError>
     ensures { IfOk result (λ names. names ≡ thread.now.variable ∷ map (λ p. p.name) thread.now.ports) }
 {
     let mut names = Items::new(alloc);
-    names.push(thread.variable.copy(alloc)?)?;
+    names.push(thread.variable.try_clone(alloc)?)?;
     for port in thread.ports.as_slice() {
-        names.push(port.name.copy(alloc)?)?;
+        names.push(port.name.try_clone(alloc)?)?;
     }
     Ok(names)
 }
@@ -89,10 +71,10 @@ fn part_names(alloc: Global, process: &Process) -> Result<Items<Text>, AllocErro
 {
     let mut names = Items::new(alloc);
     for part in process.subcomponents.as_slice() {
-        names.push(part.name.copy(alloc)?)?;
+        names.push(part.name.try_clone(alloc)?)?;
     }
     for connection in process.connections.as_slice() {
-        names.push(connection.name.copy(alloc)?)?;
+        names.push(connection.name.try_clone(alloc)?)?;
     }
     Ok(names)
 }

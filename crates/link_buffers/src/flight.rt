@@ -43,6 +43,7 @@ impl Flight {
         ensures copies { self.new.copies ≡ self.old.copies }
         ensures room { OnOk result (max places self.old.spare ≤ self.new.spare) }
         ensures same { OnErr result (self.new ≡ self.old) }
+        ensures enough { places ≤ self.old.spare → result ≡ Ok tt }
     {
         let wanted = self.ring.len() + places as usize;
         if wanted <= self.ring.capacity() {

@@ -62,6 +62,7 @@ impl DueQueue {
         ensures entries { self.new.entries ≡ self.old.entries }
         ensures room { OnOk result (max places self.old.spare ≤ self.new.spare) }
         ensures same { OnErr result (self.new ≡ self.old) }
+        ensures enough { places ≤ self.old.spare → result ≡ Ok tt }
     {
         self.entries.reserve(places as usize)
     }

@@ -1,21 +1,40 @@
 //! The program: words from the command line, a bundle on standard input, the answer's text on
-//! standard output, and its status at the end.
+//! standard output, and its status at the end. It writes nothing else.
 #![tactic(auto)]
 
-use pals_base::Text;
+use pals_base::{NoMemory, Text};
 use pals_io::{ReadSource, WriteSink};
-use pals_top::pals;
+use pals_top::{NO_MEMORY, pals};
+use std::alloc::AllocError;
+use std::env;
+use std::io::ErrorKind;
 use std::process::ExitCode;
-use std::{env, io};
+use std::rt::Env;
 
-fn main(rt: HostRuntime) -> io::Result<ExitCode> {
-    let alloc = rt.alloc();
-    let mut words = Vec::new(alloc);
-    for word in env::args(&rt)?.skip(1) {
-        words.push(Text::new(word))?;
-    }
+fn main(rt: HostRuntime) -> ExitCode {
+    let Ok(words) = command_words(&rt) else {
+        return ExitCode::from(NO_MEMORY);
+    };
     let mut source = ReadSource::new(rt.stdin());
     let mut sink = WriteSink::new(rt.stdout());
-    let status = pals(alloc, words.as_slice(), &mut source, &mut sink);
-    Ok(ExitCode::from(status))
+    let status = pals(rt.alloc(), words.as_slice(), &mut source, &mut sink);
+    ExitCode::from(status)
 }
+
+// The words after the program's name. Where one is not UTF-8 there are none, which is no form.
+fn command_words(rt: &(impl Env + AllocGlobal)) -> Result<Vec<Text>, NoMemory> {
+    let mut words = Vec::new(rt.alloc());
+    match env::args(rt) {
+        Ok(args) => {
+            for word in args.skip(1) {
+                words.push(Text::new(word))?;
+            }
+        }
+        Err(error) if error.kind() == ErrorKind::InvalidData => {}
+        Err(_) => return Err(AllocError),
+    }
+    Ok(words)
+}
+
+#[cfg(test)]
+mod tests;

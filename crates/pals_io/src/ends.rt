@@ -2,17 +2,13 @@
 ghost use Rattle.std.specs.Prelude.{◌≡◌};
 ghost use Rattle.pals_io.specs.declared.ends.ReadEnd.TheVariants.{ReadFault, Memory};
 
-use std::alloc::{AllocError, AllocFailed};
+use std::alloc::AllocError;
 use std::error::Error;
 use std::fmt;
 
 /// A call of a source or of a sink failed. The count of its faults has the cause.
 #[derive(Clone, Copy, Debug, PartialEq, Eq)]
 pub struct Failed;
-
-/// There is no memory left.
-#[derive(Clone, Copy, Debug, PartialEq, Eq)]
-pub struct NoMemory;
 
 /// Why not all bytes of a source were read.
 #[derive(Clone, Copy, Debug, PartialEq, Eq)]
@@ -30,18 +26,21 @@ pub enum ReadEnd {
 pub struct WriteFault;
 
 impl fmt::Display for Failed {
+    ghost use Rattle.std.specs.Prelude.{Some, codes};
+
+    ghost output = { λ _. Some (codes "failed call") };
+
     fn fmt<W: fmt::Write>(&self, f: &mut fmt::Formatter<W>) -> fmt::Result {
         write!(f, "failed call")
     }
 }
 
-impl fmt::Display for NoMemory {
-    fn fmt<W: fmt::Write>(&self, f: &mut fmt::Formatter<W>) -> fmt::Result {
-        write!(f, "out of memory")
-    }
-}
-
 impl fmt::Display for ReadEnd {
+    ghost use Rattle.std.specs.Prelude.{Some};
+    ghost use Rattle.pals_io.specs.Messages.{message_of};
+
+    ghost output = { λ end'. Some (message_of end') };
+
     fn fmt<W: fmt::Write>(&self, f: &mut fmt::Formatter<W>) -> fmt::Result {
         match self {
             ReadEnd::ReadFault => write!(f, "read fault"),
@@ -52,6 +51,10 @@ impl fmt::Display for ReadEnd {
 }
 
 impl fmt::Display for WriteFault {
+    ghost use Rattle.std.specs.Prelude.{Some, codes};
+
+    ghost output = { λ _. Some (codes "write fault") };
+
     fn fmt<W: fmt::Write>(&self, f: &mut fmt::Formatter<W>) -> fmt::Result {
         write!(f, "write fault")
     }
@@ -59,23 +62,9 @@ impl fmt::Display for WriteFault {
 
 impl Error for Failed {}
 
-impl Error for NoMemory {}
-
 impl Error for ReadEnd {}
 
 impl Error for WriteFault {}
-
-impl From<AllocError> for NoMemory {
-    fn from(_: AllocError) -> NoMemory {
-        NoMemory
-    }
-}
-
-impl<T: Drop> From<AllocFailed<T>> for NoMemory {
-    fn from(_: AllocFailed<T>) -> NoMemory {
-        NoMemory
-    }
-}
 
 impl From<AllocError> for ReadEnd {
     ghost from_gives = { λ _ e. e ≡ Memory };

@@ -14,7 +14,7 @@ mod streams;
 mod transfers;
 mod writer;
 
-pub use ends::{Failed, NoMemory, ReadEnd, WriteFault};
+pub use ends::{Failed, ReadEnd, WriteFault};
 pub use memory_sink::MemSink;
 pub use memory_source::MemSource;
 pub use reader::ReadSource;

@@ -1,11 +1,11 @@
 //! A sink in memory.
 ghost use Rattle.std.specs.Prelude.{◌≡◌, ◌↔◌, ◌⊎◌, ◌<◌, ◌≤◌, [], length, Some, IsErr, IfOk, OnErr, Contains};
-ghost use Rattle.pals_io.specs.Stream.{one_more, HasCause, Takes};
+ghost use Rattle.pals_io.specs.Stream.{one_more};
 ghost use Rattle.pals_io.specs.Memory.{count_taken, after_taking, after_failed_write};
 
-use super::ends::{Failed, NoMemory};
+use super::ends::Failed;
 use super::streams::Sink;
-use std::alloc::Global;
+use std::alloc::{AllocError, Global};
 use std::marker::Model;
 
 /// A sink that keeps what it took, up to its room, and fails at the calls that it was told.
@@ -36,13 +36,13 @@ impl MemSink {
     ///
     /// # Errors
     ///
-    /// [`NoMemory`] where the room cannot be had. It is taken here, and writing takes no memory.
+    /// [`AllocError`] where the room cannot be had. It is taken here, and writing takes no memory.
     pub fn new(
         alloc: Global,
         room: usize,
         most: usize,
         failing: Vec<u64>,
-    ) -> Result<MemSink, NoMemory>
+    ) -> Result<MemSink, AllocError>
         requires { 0 < most }
         ensures { IfOk result (λ s. s ≡ record { held = []; room = room; most = most; failing = failing.items; calls = 0; faults = 0 }) }
     {
@@ -66,16 +66,11 @@ impl MemSink {
 }
 
 impl Sink for MemSink {
-    ghost held = { λ s. Some s.held };
-
-    ghost faults = { λ s. s.faults };
+    ghost shown = { λ s. record { held = Some s.held; faults = s.faults } };
 
     fn write(&mut self, piece: &[u8]) -> Result<usize, Failed>
         requires { 0 < length piece.now }
         ensures bound { IfOk result (λ n. (0 < n) × (n ≤ length piece.now)) }
-        ensures bytes { IfOk result (λ n. Takes (Some self.old.held) (Some self.new.held) piece.now n) }
-        ensures same { OnErr result (self.new.held ≡ self.old.held) }
-        ensures cause { HasCause self.old.faults self.new.faults result }
 
         // It fails exactly at the calls that it was told and where no room is left, and else takes
         // as much as it can.

@@ -1,6 +1,6 @@
 //! A source in memory.
-ghost use Rattle.std.specs.Prelude.{◌≡◌, ◌↔◌, ◌<◌, ◌≤◌, ◌++◌, length, take, drop, Some, IsErr, IfOk, OnErr, Contains};
-ghost use Rattle.pals_io.specs.Stream.{one_more, HasCause, Gives};
+ghost use Rattle.std.specs.Prelude.{◌≡◌, ◌↔◌, ◌<◌, ◌≤◌, [], ◌++◌, length, take, drop, Some, IsErr, IfOk, OnErr, Contains};
+ghost use Rattle.pals_io.specs.Stream.{one_more};
 ghost use Rattle.pals_io.specs.Memory.{count_given, after_giving, after_failed_read};
 
 use super::ends::Failed;
@@ -48,16 +48,12 @@ impl MemSource {
 }
 
 impl Source for MemSource {
-    ghost left = { λ s. Some s.left };
-
-    ghost faults = { λ s. s.faults };
+    ghost shown = { λ s. record { left = Some s.left; faults = s.faults } };
 
     fn read(&mut self, buf: &mut [u8]) -> Result<usize, Failed>
         requires { 0 < length buf.old }
         ensures bound { IfOk result (λ n. n ≤ length buf.new) }
-        ensures bytes { IfOk result (λ n. Gives (Some self.old.left) (Some self.new.left) buf.new n) }
-        ensures same { OnErr result (self.new.left ≡ self.old.left) }
-        ensures cause { HasCause self.old.faults self.new.faults result }
+        ensures end { IfOk result (λ n. (n ≡ 0) ↔ (self.old.left ≡ [])) }
 
         // It fails exactly at the calls that it was told, and else gives as much as it can.
         ensures fails { IsErr result ↔ Contains self.old.failing (one_more self.old.calls) }

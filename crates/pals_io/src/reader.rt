@@ -1,7 +1,7 @@
 //! A source over a reader of std.
 ghost use Rattle.std.specs.Prelude.{◌≡◌, ◌<◌, ◌≤◌, length, None, IfOk, OnOk, OnErr};
 ghost use Rattle.std.specs.Io.KnownBytes.{ReadConsumes};
-ghost use Rattle.pals_io.specs.Stream.{one_more, HasCause, Gives};
+ghost use Rattle.pals_io.specs.Stream.{one_more};
 
 use super::ends::Failed;
 use super::streams::Source;
@@ -34,15 +34,11 @@ impl<R> ReadSource<R> {
 }
 
 impl<R: Read> Source for ReadSource<R> {
-    ghost left = { λ _. None };
-
-    ghost faults = { λ s. s.faults };
+    ghost shown = { λ s. record { left = None; faults = s.faults } };
 
     fn read(&mut self, buf: &mut [u8]) -> Result<usize, Failed>
         requires { 0 < length buf.old }
         ensures bound { IfOk result (λ n. n ≤ length buf.new) }
-        ensures bytes { IfOk result (λ n. Gives None None buf.new n) }
-        ensures cause { HasCause self.old.faults self.new.faults result }
 
         // A reader that tells its bytes gives them. Each of its errors counts, and nothing else.
         ensures passed { ReadConsumes (R.remaining self.old.inner) (R.remaining self.new.inner) result buf.new }

@@ -1,6 +1,6 @@
 //! All bytes of a source, and all bytes to a sink.
-ghost use Rattle.std.specs.Prelude.{◌≡◌, ◌+◌, ◌≤◌, [], vec_len, Err, IfOk, OnOk, OnErr};
-ghost use Rattle.pals_io.specs.Stream.{Rose, HasCause, GivesAll, GivesWithin, GivesTooMany, TakesAll, TakesPart};
+ghost use Rattle.std.specs.Prelude.{◌≡◌, ◌≤◌, [], vec_len, Err, IfOk, OnOk, OnErr};
+ghost use Rattle.pals_io.specs.Stream.{GivesAll, GivesWithin, GivesTooMany, FailsWithin, after_taking, TakesPart};
 
 use super::ends::{ReadEnd, WriteFault};
 use super::streams::{Sink, Source};
@@ -9,23 +9,19 @@ use std::alloc::{AllocError, Global};
 // How many bytes a source is asked for at a time.
 const PIECE: usize = 65_536;
 
-/// Reads a source to its end, where it has at most `most` bytes left. It asks for at most
-/// `most + 1` bytes in all.
+/// Reads a source to its end, where it has at most `most` bytes left.
 ///
 /// # Errors
 ///
-/// [`ReadEnd::ReadFault`] where a call failed and the source's count of faults rose,
-/// [`ReadEnd::TooLong`] where the source gave more than `most` bytes, [`ReadEnd::Memory`] where no
-/// memory is left. What was read until then is lost.
+/// [`ReadEnd::ReadFault`] where a call failed, the last one, and [`ReadEnd::TooLong`] where the
+/// source gave `most + 1` bytes. [`ReadEnd::Memory`] where no memory is left: no call failed then,
+/// and the source gave no more than `most` bytes. What was read until then is lost.
 pub fn read_all<S: Source>(alloc: Global, source: &mut S, most: usize) -> Result<Vec<u8>, ReadEnd>
-    ensures all { IfOk result (λ v. GivesAll (S.left source.old) (S.left source.new) v.items) }
+    ensures all { IfOk result (λ v. GivesAll (S.shown source.old) (S.shown source.new) v.items) }
     ensures within { IfOk result (λ v. vec_len v ≤ most) }
-    ensures too_long { result ≡ Err ReadEnd.TooLong → GivesTooMany (S.left source.old) (S.left source.new) most }
-    ensures fault { result ≡ Err ReadEnd.ReadFault → Rose (S.faults source.old) (S.faults source.new) }
-
-    // Whatever the result, no more is gone than that, and no fault is forgotten.
-    ensures gone { GivesWithin (S.left source.old) (S.left source.new) (most + 1) }
-    ensures later { S.faults source.old ≤ S.faults source.new }
+    ensures fault { result ≡ Err ReadEnd.ReadFault → FailsWithin (S.shown source.old) (S.shown source.new) most }
+    ensures too_long { result ≡ Err ReadEnd.TooLong → GivesTooMany (S.shown source.old) (S.shown source.new) most }
+    ensures memory { result ≡ Err ReadEnd.Memory → GivesWithin (S.shown source.old) (S.shown source.new) most }
 {
     let mut buffer = zeros(alloc, PIECE)?;
     let piece = buffer.as_mut_slice();
@@ -55,12 +51,10 @@ fn zeros(alloc: Global, count: usize) -> Result<Vec<u8>, AllocError>
 ///
 /// # Errors
 ///
-/// [`WriteFault`] where a call failed and the sink's count of faults rose. Some first bytes were
-/// written, and not all.
+/// [`WriteFault`] where a call failed, the last one. Some first bytes were written, and not all.
 pub fn write_all<K: Sink>(sink: &mut K, bytes: &[u8]) -> Result<(), WriteFault>
-    ensures all { OnOk result (TakesAll (K.held sink.old) (K.held sink.new) bytes.now) }
-    ensures part { OnErr result (TakesPart (K.held sink.old) (K.held sink.new) bytes.now) }
-    ensures cause { HasCause (K.faults sink.old) (K.faults sink.new) result }
+    ensures all { OnOk result (K.shown sink.new ≡ after_taking (K.shown sink.old) bytes.now) }
+    ensures part { OnErr result (TakesPart (K.shown sink.old) (K.shown sink.new) bytes.now) }
     ensures nothing { bytes.now ≡ [] → sink.new ≡ sink.old }
 {
     let mut done = 0;

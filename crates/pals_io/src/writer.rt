@@ -1,7 +1,7 @@
 //! A sink over a writer of std.
 ghost use Rattle.std.specs.Prelude.{◌≡◌, ◌<◌, ◌≤◌, length, None, IfOk, OnOk, OnErr};
 ghost use Rattle.std.specs.Io.KnownBytes.{WriteAppends};
-ghost use Rattle.pals_io.specs.Stream.{one_more, HasCause, Takes};
+ghost use Rattle.pals_io.specs.Stream.{one_more};
 
 use super::ends::Failed;
 use super::streams::Sink;
@@ -35,15 +35,11 @@ impl<W> WriteSink<W> {
 }
 
 impl<W: Write> Sink for WriteSink<W> {
-    ghost held = { λ _. None };
-
-    ghost faults = { λ s. s.faults };
+    ghost shown = { λ s. record { held = None; faults = s.faults } };
 
     fn write(&mut self, piece: &[u8]) -> Result<usize, Failed>
         requires { 0 < length piece.now }
         ensures bound { IfOk result (λ n. (0 < n) × (n ≤ length piece.now)) }
-        ensures bytes { IfOk result (λ n. Takes None None piece.now n) }
-        ensures cause { HasCause self.old.faults self.new.faults result }
 
         // A writer that tells its bytes takes them. Each of its errors and each write that took
         // nothing counts, and nothing else.

@@ -1,3 +1,13 @@
-pub mod Pairs
 pub mod CompositionLaws
 pub mod Rows
+pub mod Tables
+pub mod Naming
+pub mod Values
+pub mod Lookups
+pub mod SourceLaws
+pub mod ShapeLaws
+pub mod Words
+pub mod NameLaws
+pub mod Numbers
+pub mod Copies
+pub mod RootInputLaws

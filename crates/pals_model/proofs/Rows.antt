@@ -1,8 +1,11 @@
 -- The first rounds of the two counters, computed.
 use Rattle.std.proofs.Common.{refl}
 use Rattle.std.specs.Fmt.{digits}
+use Rattle.pals_base.specs.Fire.{fire}
+use Rattle.pals_model.specs.Inputs.{feed}
+use Rattle.pals_model.specs.Composition.{comp, part}
 use Rattle.pals_model.specs.Counters.{CountersCount}
 
 pub counters_count : CountersCount
-unfolding digits
+unfolding digits fire comp part feed
 counters_count = refl

@@ -58,7 +58,7 @@ abbrev pub next : DesignParts → List Port → Configuration → Configuration
 next design values before = after_steps design (all_steps design values before)
 
 -- the configuration after so many rounds
-abbrev pub comp : DesignParts → Env → ℕ → Configuration
+unfoldable pub comp : DesignParts → Env → ℕ → Configuration
 comp design env zero = opening design
 comp design env (suc round) = next design (values_at env round) (comp design env round)
 
@@ -71,11 +71,11 @@ abbrev pub no_frame : Frame
 no_frame = record { state = 0; vars = []; held = []; halt = None }
 
 -- a component's frame after so many rounds
-abbrev pub state : DesignParts → Env → ℕ → ℕ → Frame
+unfoldable pub state : DesignParts → Env → ℕ → ℕ → Frame
 state design env node rounds = slice_index_or (comp design env rounds).frames node no_frame
 
 -- a link's message of a round
-abbrev pub msg : DesignParts → Env → ℕ → ℕ → List Port
+unfoldable pub msg : DesignParts → Env → ℕ → ℕ → List Port
 msg design env link round = slice_index_or (comp design env (suc round)).messages link []
 
 -- the taps of a component
@@ -89,5 +89,5 @@ part_of design all node = record {
   outs = map (λ (tap : Tap). tuple_of all node tap.out_port) (taps_of design node);
 }
 
-abbrev pub part : DesignParts → Env → ℕ → ℕ → Part
+unfoldable pub part : DesignParts → Env → ℕ → ℕ → Part
 part design env node round = part_of design (steps_of_round design env round) node

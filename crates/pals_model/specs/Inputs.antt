@@ -1,6 +1,7 @@
 -- What a component reads in a round.
-use Rattle.std.specs.Prelude.{if◌then◌else◌, ◌++◌, ℕ, nat_eq, ◌&&◌, not, bytes_eq, List, [], ◌∷◌, length, map, filter, find, position, zip, replicate, Option, Some, None, slice_get, slice_index_or}
-use Rattle.std.specs.List.{list_any}
+use Rattle.std.specs.Prelude.{if◌then◌else◌, ◌++◌, ℕ, nat_eq, ◌&&◌, Bool, bytes_eq, List, [], ◌∷◌, length, map, filter, position, replicate, Option, Some, None, slice_get, slice_index_or}
+use Rattle.std.specs.List.{list_any, enumerate_from}
+use Rattle.std.specs.Option.{unwrap_or}
 use Rattle.pals_base.specs.declared.values.Port.{Port}
 use Rattle.pals_base.specs.declared.values.Port.TheVariants.{Absent}
 use Rattle.pals_base.specs.Adaptors.{adapt}
@@ -10,6 +11,8 @@ use Rattle.pals_model.specs.declared.design.Link.{Link}
 use Rattle.pals_model.specs.declared.design.Feed.{Feed}
 use Rattle.pals_model.specs.declared.design.DesignParts.{DesignParts}
 use Rattle.pals_model.specs.declared.rounds.Env.{Env}
+use Rattle.pals_model.specs.declared.sources.PortSource.{PortSource}
+use Rattle.pals_model.specs.declared.sources.PortSource.TheVariants as source
 
 -- ---- the environment
 -- the names that do not stand among those before, each once
@@ -19,23 +22,26 @@ new_names before (name ∷ names) =
     if list_any (λ other. bytes_eq name other) before then new_names before names
     else name ∷ new_names (before ++ name ∷ []) names
 
+abbrev pub feed_names : DesignParts → List (List ℕ)
+feed_names design = map (λ (feed : Feed). feed.name) design.feeds
+
 -- the root in ports: the names of the feeds, each once, where it comes first
 abbrev pub root_inputs : DesignParts → List (List ℕ)
-root_inputs design = new_names [] (map (λ (feed : Feed). feed.name) design.feeds)
+root_inputs design = new_names [] (feed_names design)
+
+-- the place of a name among names, 0 where it is none of them
+abbrev pub place_of : List ℕ → List (List ℕ) → ℕ
+place_of name names = unwrap_or (position (bytes_eq name) names) 0
+
+-- the place among the root in ports of the one that a feed reads
+abbrev pub root_of : DesignParts → ℕ → ℕ
+root_of design feed = place_of (slice_index_or (feed_names design) feed []) (root_inputs design)
 
 -- the value that each root in port has in a round, absent past its list
 abbrev pub values_at : Env → ℕ → List Port
 values_at env round = column round env.lists
 
-abbrev pub value_at : Option ℕ → List Port → Port
-value_at None values = Absent
-value_at (Some at) values = slice_index_or values at Absent
-
--- the value of a root in port, by its name
-abbrev pub value_of : DesignParts → List Port → List ℕ → Port
-value_of design values name = value_at (position (λ other. bytes_eq name other) (root_inputs design)) values
-
--- ---- the tuple of an in port
+-- ---- rates
 abbrev pub rate_in : Option Component → ℕ
 rate_in None = 1
 rate_in (Some c) = c.rate
@@ -44,36 +50,64 @@ rate_in (Some c) = c.rate
 abbrev pub rate_of : DesignParts → ℕ → ℕ
 rate_of design node = rate_in (slice_get design.components node)
 
--- the link into an in port, with its message
-abbrev pub link_into : DesignParts → List (List Port) → ℕ → ℕ → Option (Link × List Port)
-link_into design messages node port = find (λ p. nat_eq p.0.target.0 node && nat_eq p.0.in_port port) (zip design.links messages)
+-- ---- where an in port reads from
+abbrev pub link_goes_to : ℕ → ℕ → Link → Bool
+link_goes_to node port link = nat_eq link.target.0 node && nat_eq link.in_port port
 
--- the feed into an in port
-abbrev pub feed_into : DesignParts → ℕ → ℕ → Option Feed
-feed_into design node port = find (λ feed. nat_eq feed.target.0 node && nat_eq feed.in_port port) design.feeds
+abbrev pub feed_goes_to : ℕ → ℕ → Feed → Bool
+feed_goes_to node port feed = nat_eq feed.target.0 node && nat_eq feed.in_port port
 
--- a root in port is read as a source of rate 1; an in port without a source is absent throughout
-abbrev pub from_feed : DesignParts → List Port → ℕ → Option Feed → List Port
-from_feed design values rate None = replicate rate Absent
-from_feed design values rate (Some feed) = adapt feed.adaptor 1 rate (value_of design values feed.name ∷ [])
+abbrev pub from_feed : DesignParts → Option ℕ → PortSource
+from_feed design None = source.Nothing
+from_feed design (Some feed) = source.Feed feed (root_of design feed)
 
-abbrev pub from_link : DesignParts → ℕ → Option (Link × List Port) → List Port → List Port
-from_link design rate None otherwise = otherwise
-from_link design rate (Some p) otherwise = adapt p.0.adaptor (rate_of design p.0.source.0) rate p.1
+abbrev pub from_link : Option ℕ → PortSource → PortSource
+from_link None otherwise = otherwise
+from_link (Some link) otherwise = source.Link link
 
--- what an in port of a component of this rate brings in a round
-abbrev pub tuple_into : DesignParts → List Port → List (List Port) → ℕ → ℕ → ℕ → List Port
-tuple_into design values messages node rate port =
-    from_link design rate (link_into design messages node port) (from_feed design values rate (feed_into design node port))
+-- the link into an in port, or the feed into it, or nothing
+abbrev pub source_of : DesignParts → ℕ → ℕ → PortSource
+source_of design node port = from_link (position (link_goes_to node port) design.links) (from_feed design (position (feed_goes_to node port) design.feeds))
 
--- ---- the input vectors of a round, from the root in ports' values and the messages of the round before
+-- the sources of a component's in ports
+abbrev pub sources_of : DesignParts → ℕ → Component → List PortSource
+sources_of design node c = map (λ port. source_of design node port) (upwards 0 (length c.behaviour.ins))
+
+-- those of all components
+abbrev pub all_sources : DesignParts → List (List PortSource)
+all_sources design = map (λ numbered. sources_of design numbered.0 numbered.1) (enumerate_from 0 design.components)
+
+-- the numbers of the links into a component, and of those from it, in their order
+abbrev pub links_into : DesignParts → ℕ → List ℕ
+links_into design node = map (λ numbered. numbered.0) (filter (λ numbered. nat_eq numbered.1.target.0 node) (enumerate_from 0 design.links))
+
+abbrev pub links_from : DesignParts → ℕ → List ℕ
+links_from design node = map (λ numbered. numbered.0) (filter (λ numbered. nat_eq numbered.1.source.0 node) (enumerate_from 0 design.links))
+
+-- ---- what it brings
+-- a root in port is read as a source of rate 1
+abbrev pub read_feed : Port → ℕ → Option Feed → List Port
+read_feed value rate None = replicate rate Absent
+read_feed value rate (Some feed) = adapt feed.adaptor 1 rate (value ∷ [])
+
+abbrev pub read_link : DesignParts → ℕ → List Port → Option Link → List Port
+read_link design rate message None = replicate rate Absent
+read_link design rate message (Some link) = adapt link.adaptor (rate_of design link.source.0) rate message
+
+-- the tuple that an in port of a component of this rate brings, from the root in ports' values and the links' messages
+abbrev pub reading : DesignParts → List Port → List (List Port) → ℕ → PortSource → List Port
+reading design values messages rate source.Nothing = replicate rate Absent
+reading design values messages rate (source.Feed feed root) = read_feed (slice_index_or values root Absent) rate (slice_get design.feeds feed)
+reading design values messages rate (source.Link link) = read_link design rate (slice_index_or messages link []) (slice_get design.links link)
+
+-- the input vectors of a component's round, one for each step: vector n has place n of each tuple
 abbrev pub inputs_of : DesignParts → List Port → List (List Port) → ℕ → Component → List (List Port)
-inputs_of design values messages node c =
-    columns c.rate (map (λ port. tuple_into design values messages node c.rate port) (upwards 0 (length c.behaviour.ins)))
+inputs_of design values messages node c = columns c.rate (map (reading design values messages c.rate) (sources_of design node c))
 
 abbrev pub inputs_in : DesignParts → List Port → List (List Port) → ℕ → Option Component → List (List Port)
 inputs_in design values messages node None = []
 inputs_in design values messages node (Some c) = inputs_of design values messages node c
 
-abbrev pub feed : DesignParts → Env → List (List Port) → ℕ → ℕ → List (List Port)
+-- the input vectors of a component's round, by the component's number
+unfoldable pub feed : DesignParts → Env → List (List Port) → ℕ → ℕ → List (List Port)
 feed design env messages node round = inputs_in design (values_at env round) messages node (slice_get design.components node)

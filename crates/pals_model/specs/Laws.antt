@@ -1,5 +1,9 @@
 -- Laws of the composition, at every design and environment.
-use Rattle.std.specs.Prelude.{◌≡◌, ◌≢◌, ℕ, suc, ◌<◌, [], length, flat_map, All, Some, slice_get, slice_index_or}
+pub mod Sources
+pub mod RootInputs
+pub mod Shapes
+pub mod Names
+use Rattle.std.specs.Prelude.{◌≡◌, ◌≢◌, ℕ, suc, ◌<◌, [], length, flat_map, All, Some, map, slice_get, slice_index_or}
 use Rattle.pals_base.specs.declared.values.Port.TheVariants.{Absent}
 use Rattle.pals_base.specs.Fire.{initial}
 use Rattle.pals_base.specs.Steps.{steps, Stepped, cut, frame_after, upwards}
@@ -9,7 +13,7 @@ use Rattle.pals_model.specs.declared.design.Link.{Link}
 use Rattle.pals_model.specs.declared.design.DesignParts.{DesignParts}
 use Rattle.pals_model.specs.declared.rounds.Env.{Env}
 use Rattle.pals_model.specs.Inputs.{values_at, feed}
-use Rattle.pals_model.specs.Composition.{comp, state, msg}
+use Rattle.pals_model.specs.Composition.{comp, state, msg, part, taps_of}
 
 -- the steps that one component makes in a round, from its own frame and its own feed
 abbrev pub own_steps : DesignParts → Env → ℕ → ℕ → Component → Stepped
@@ -39,6 +43,14 @@ abbrev pub MessageFromSource : Type 0
 MessageFromSource = (design : DesignParts) (env : Env) (number round : ℕ) (link : Link) (c : Component) →
     slice_get design.links number ≡ Some link → slice_get design.components link.source.0 ≡ Some c →
     msg design env number round ≡ cut (sent_steps design.gamma design.period c.rate) (slice_index_or (own_steps design env link.source.0 round c).tuples link.out_port [])
+
+-- a part is what the component's own steps leave: their frame, and their tuple for each of its taps
+abbrev pub PartFromSteps : Type 0
+PartFromSteps = (design : DesignParts) (env : Env) (node round : ℕ) (c : Component) → slice_get design.components node ≡ Some c →
+    part design env node round ≡ record {
+      frame = (own_steps design env node round c).frame;
+      outs = map (λ tap. slice_index_or (own_steps design env node round c).tuples tap.out_port []) (taps_of design node);
+    }
 
 -- a component that no link goes to runs alone: its frame is one fold of its steps over all that the root in ports bring
 abbrev pub RunsAlone : Type 0

@@ -1,5 +1,6 @@
--- The text of rounds.
-use Rattle.std.specs.Prelude.{ℕ, nat_eq, ℤ, codes, decimal, List, [], ◌∷◌, ◌++◌, length, map, filter, flat_map, take, Option, Some, None, slice_get, slice_index_or, if◌then◌else◌}
+-- The texts of values and of rounds. A text is a list of lines, each with its line end.
+use Rattle.std.specs.Prelude.{ℕ, nat_eq, ℤ, codes, decimal, List, [], ◌∷◌, ◌++◌, length, map, filter, flat_map, zip, take, Option, Some, None, slice_get, slice_index_or, if◌then◌else◌}
+use Rattle.std.specs.List.{enumerate_from}
 use Rattle.std.specs.Fmt.{signed_decimal}
 use Rattle.pals_base.specs.declared.values.Port.{Port}
 use Rattle.pals_base.specs.declared.values.Port.TheVariants.{Absent, Present}
@@ -8,7 +9,6 @@ use Rattle.pals_base.specs.declared.values.Trap.TheVariants.{Overflow, ZeroDivis
 use Rattle.pals_base.specs.declared.values.Frame.{Frame}
 use Rattle.pals_base.specs.declared.behaviour.Kind.{Kind}
 use Rattle.pals_base.specs.declared.behaviour.Kind.TheVariants.{Integer, Boolean}
-use Rattle.pals_base.specs.declared.behaviour.Named.{Named}
 use Rattle.pals_base.specs.declared.behaviour.VarDecl.{VarDecl}
 use Rattle.pals_base.specs.declared.behaviour.StateDecl.{StateDecl}
 use Rattle.pals_base.specs.declared.behaviour.BehaviourParts.{BehaviourParts}
@@ -19,11 +19,16 @@ use Rattle.pals_model.specs.declared.design.Tap.{Tap}
 use Rattle.pals_model.specs.declared.design.DesignParts.{DesignParts}
 use Rattle.pals_model.specs.declared.rounds.Env.{Env}
 use Rattle.pals_model.specs.declared.rounds.Part.{Part}
+use Rattle.pals_model.specs.Ports.{out_kind}
 use Rattle.pals_model.specs.Composition.{part}
 
 -- the end of a line: LF
 abbrev pub line_end : List ℕ
 line_end = 10 ∷ []
+
+-- the text of lines, of which none has a line end inside
+abbrev pub text_of : List (List ℕ) → List ℕ
+text_of lines = flat_map (λ line. line ++ line_end) lines
 
 -- ---- values
 -- numbers in decimal, Booleans by their names
@@ -55,58 +60,61 @@ state_text b frame None = state_name (slice_get b.states frame.state)
 state_text b frame (Some Overflow) = codes "halted(overflow)"
 state_text b frame (Some ZeroDivisor) = codes "halted(zero-divisor)"
 
+-- a variable's name and value, behind a space
+abbrev pub variable_text : VarDecl → ℤ → List ℕ
+variable_text var value = codes " " ++ var.name ++ codes "=" ++ value_text var.kind value
+
 -- each variable with its value
 abbrev pub vars_text : List VarDecl → List ℤ → List ℕ
-vars_text [] values = []
-vars_text (var ∷ vars) [] = []
-vars_text (var ∷ vars) (v ∷ values) = codes " " ++ var.name ++ codes "=" ++ value_text var.kind v ++ vars_text vars values
+vars_text vars values = flat_map (λ p. variable_text p.0 p.1) (zip vars values)
 
-abbrev pub component_text : Component → Frame → List ℕ
-component_text c frame = c.path ++ codes " " ++ state_text c.behaviour frame frame.halt ++ vars_text c.behaviour.vars frame.vars ++ line_end
-
-abbrev pub part_text : Option Component → Part → List ℕ
-part_text None part = []
-part_text (Some c) part = component_text c part.frame
+-- the line of a component that is shown by this name
+abbrev pub component_line : List ℕ → BehaviourParts → Frame → List ℕ
+component_line name b frame = name ++ codes " " ++ state_text b frame frame.halt ++ vars_text b.vars frame.vars
 
 -- ---- the line of a root out port
-abbrev pub kind_of : Option Named → Kind
-kind_of None = Integer
-kind_of (Some port) = port.kind
-
-abbrev pub out_kind : Option Component → ℕ → Kind
-out_kind None port = Integer
-out_kind (Some c) port = kind_of (slice_get c.behaviour.outs port)
-
-abbrev pub tap_line : DesignParts → Tap → List Port → List ℕ
-tap_line design tap tuple = codes "out " ++ tap.name ++ codes " " ++ tuple_text (out_kind (slice_get design.components tap.source.0) tap.out_port) tuple ++ line_end
+abbrev pub tap_line : Kind → Tap → List Port → List ℕ
+tap_line kind tap tuple = codes "out " ++ tap.name ++ codes " " ++ tuple_text kind tuple
 
 -- how many of the first n taps are of the node: the place of a tap among those of its source
 abbrev pub taps_before : List Tap → ℕ → ℕ → ℕ
 taps_before taps n node = length (filter (λ tap. nat_eq tap.source.0 node) (take n taps))
 
--- the line of the root out port with a number, from its source's part
-abbrev pub tap_text : DesignParts → ℕ → Option Tap → Part → List ℕ
-tap_text design number None part = []
-tap_text design number (Some tap) part = tap_line design tap (slice_index_or part.outs (taps_before design.taps number tap.source.0) [])
-
 -- ---- rows
 abbrev pub round_line : ℕ → List ℕ
-round_line round = codes "round " ++ decimal round ++ line_end
+round_line round = codes "round " ++ decimal round
 
-abbrev pub source_of : Option Tap → ℕ
-source_of None = 0
-source_of (Some tap) = tap.source.0
+-- the line of a component that has a part, and none else
+abbrev pub part_lines : Component → Option Part → List (List ℕ)
+part_lines c None = []
+part_lines c (Some part) = component_line c.path c.behaviour part.frame ∷ []
 
--- the row of a round, from the parts of its components: a line for each component, and one for each root out port
-abbrev pub row_text : DesignParts → (ℕ → Part) → ℕ → List ℕ
-row_text design part_at round =
+-- the line of a root out port whose source has a part, and none else
+abbrev pub tap_lines : DesignParts → ℕ → Tap → Option Part → List (List ℕ)
+tap_lines design number tap None = []
+tap_lines design number tap (Some part) =
+    tap_line (out_kind (slice_get design.components tap.source.0) tap.out_port) tap (slice_index_or part.outs (taps_before design.taps number tap.source.0) []) ∷ []
+
+-- the row of a round, from the parts of those components that are shown: the round, a line for each of these components, and
+-- one for each root out port of theirs
+abbrev pub row_lines : DesignParts → (ℕ → Option Part) → ℕ → List (List ℕ)
+row_lines design part_of round =
     round_line round
-    ++ flat_map (λ node. part_text (slice_get design.components node) (part_at node)) (upwards 0 (length design.components))
-    ++ flat_map (λ number. tap_text design number (slice_get design.taps number) (part_at (source_of (slice_get design.taps number)))) (upwards 0 (length design.taps))
+    ∷ flat_map (λ numbered. part_lines numbered.1 (part_of numbered.0)) (enumerate_from 0 design.components)
+    ++ flat_map (λ numbered. tap_lines design numbered.0 numbered.1 (part_of numbered.1.source.0)) (enumerate_from 0 design.taps)
 
+-- ---- the rounds of the composition
+abbrev pub composed_lines : DesignParts → Env → ℕ → List (List ℕ)
+composed_lines design env round = row_lines design (λ node. Some (part design env node round)) round
+
+-- the row of a round
 abbrev pub row : DesignParts → Env → ℕ → List ℕ
-row design env round = row_text design (λ node. part design env node round) round
+row design env round = text_of (composed_lines design env round)
 
--- the rows of the first n rounds
+-- the lines of the first n rounds
+abbrev pub report_lines : DesignParts → Env → ℕ → List (List ℕ)
+report_lines design env n = flat_map (composed_lines design env) (upwards 0 n)
+
+-- the report of the first n rounds
 abbrev pub report : DesignParts → Env → ℕ → List ℕ
-report design env n = flat_map (row design env) (upwards 0 n)
+report design env n = text_of (report_lines design env n)

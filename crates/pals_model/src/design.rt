@@ -88,6 +88,14 @@ impl Design {
         Design { parts }
     }
 
+    /// All parts at once.
+    pub fn parts(&self) -> &DesignParts
+        ensures value { result.now ≡ self.now }
+        ensures rules { IsDesign self.now }
+    {
+        &self.parts
+    }
+
     /// The period of the root system: one round, in nanoseconds.
     pub fn period(&self) -> Nanos
         ensures value { result ≡ self.now.period }

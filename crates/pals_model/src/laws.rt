@@ -1,7 +1,17 @@
 //! Laws of the composition. The functions do nothing: their contracts hold at every design and
 //! environment, and say what the composition means without its definition.
-ghost use Rattle.pals_model.specs.Laws.{OneFrameEach, OneMessageEach, StateBegins, LinksBeginAbsent, StateGoesOn, MessageFromSource, RunsAlone, DependsOnPast};
+ghost use Rattle.pals_model.specs.Laws.{OneFrameEach, OneMessageEach, StateBegins, LinksBeginAbsent, StateGoesOn, MessageFromSource, PartFromSteps, RunsAlone, DependsOnPast};
 ghost use Rattle.pals_model.specs.Counters.{CountersCount};
+
+mod names;
+mod root_inputs;
+mod shapes;
+mod sources;
+
+pub use names::{components_have_paths, in_ports_have_names, links_have_names};
+pub use root_inputs::{feeds_have_roots, root_inputs_are_feeds};
+pub use shapes::{messages_have_rates, parts_have_shapes, rounds_have_shapes, states_have_shapes};
+pub use sources::{sources_bring_readings, sources_of_ports};
 
 /// There is a frame for each component and a message for each link.
 pub fn lengths()
@@ -24,6 +34,11 @@ pub fn state_goes_on()
 /// as they end in time to be sent.
 pub fn message_from_source()
     ensures { MessageFromSource }
+{}
+
+/// A component's part of a round is what its own steps leave.
+pub fn part_from_steps()
+    ensures { PartFromSteps }
 {}
 
 /// A component that no link goes to runs alone on what the root in ports bring.

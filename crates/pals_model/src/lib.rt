@@ -2,18 +2,21 @@
 //! synchronous composition that a design means; and the text of its rounds.
 #![tactic(auto)]
 
-pub mod adaptors;
-pub mod bound;
+mod copy;
 pub mod design;
 pub mod flight;
 pub mod laws;
+pub mod links;
 pub mod parts;
 pub mod rounds;
 mod rules;
+mod same;
+pub mod sources;
 
 pub use design::{Component, Design, DesignParts, Feed, Link, Tap};
 pub use flight::FlightCopy;
-pub use rounds::{Env, Part};
+pub use rounds::{Delays, Env, Part};
+pub use sources::PortSource;
 
 #[cfg(test)]
 mod tests;

@@ -1,10 +1,11 @@
 //! What the parts of a design say of its components and ports, by their numbers.
 ghost use Rattle.std.specs.Prelude.{◌≡◌, fold, max, slice_get, option_copied};
 ghost use Rattle.pals_model.specs.Inputs.{rate_of};
-ghost use Rattle.pals_model.specs.RoundTexts.{kind_of, out_kind};
-ghost use Rattle.pals_model.specs.Rules.{ins_in, outs_in, in_kind, place_of, greatest_rate};
+ghost use Rattle.pals_model.specs.Ports.{ins_in, outs_in, kind_of, in_kind, out_kind};
+ghost use Rattle.pals_model.specs.Rules.{place_of, greatest_rate};
 
 use crate::design::{Component, DesignParts, Feed, Link};
+use pals_base::limits::PORTS;
 use pals_base::{Kind, Named, NodeNo};
 
 impl DesignParts {
@@ -93,7 +94,7 @@ pub fn place_of_feed(feed: &Feed) -> u64
 fn place_of(node: NodeNo, port: u32) -> u64
     ensures { result ≡ place_of node.0 port }
 {
-    64 * u64::from(node.0) + u64::from(port)
+    PORTS as u64 * u64::from(node.0) + u64::from(port)
 }
 
 fn kind_of(port: Option<&Named>) -> Kind

@@ -1,43 +1,33 @@
 //! Whether the parts of a design keep the rules of a design. The tests take no memory and hold at
 //! any numbers.
-ghost use Rattle.std.specs.Prelude.{◌≡◌, ◌≢◌, ◌↔◌, ◌≤◌, length, All, AllPairs, IsTrue};
+ghost use Rattle.std.specs.Prelude.{◌≡◌, ◌≢◌, ◌↔◌, ◌≤◌, All, AllPairs, IsTrue, IfSome, Option};
 ghost use Rattle.pals_base.specs.Bound.{least_period};
-ghost use Rattle.pals_model.specs.Rules.{hour, IsGamma, IsSmall, IsComponent, IsSource, IsTarget, IsLink, IsFeed, IsTap, IsApart, LinkPrecedes, FeedPrecedes, greatest_rate, IsDesign};
+ghost use Rattle.pals_model.specs.Rules.{IsGamma, IsSmall, IsComponent, IsSource, IsTarget, IsLink, IsFeed, IsTap, IsApart, AgreeInKind, AreComponents, AreLinks, AreFeeds, AreTaps, LinkPrecedes, FeedPrecedes, greatest_rate, IsDesign};
 
-use crate::adaptors::{divides_or_divided, is_allowed, suits_kind};
-use crate::bound::least_period;
-use crate::design::{Component, DesignParts, Feed, Link, Tap};
+use crate::design::{Component, Design, DesignParts, Feed, Link, Tap};
 use crate::parts::{greatest_rate, place_of_feed, place_of_link};
-use pals_base::{Behaviour, Gamma, Nanos, NodeNo, Text};
-
-// One hour, the greatest period, bound and delay.
-const HOUR: Nanos = 3_600_000_000_000;
+use pals_base::adaptors::{divides_or_divided, is_allowed, suits_kind};
+use pals_base::limits::{COMPONENTS, HOUR, LINKS, PATH_BYTES, PORTS, RATE, STATES, VARIABLES};
+use pals_base::names::{are_distinct, is_path, is_word};
+use pals_base::{Behaviour, Gamma, HasName, Nanos, NodeNo, Text};
 
 impl DesignParts {
-    /// Whether these are the parts of a design. It takes no memory.
+    /// Whether these are the parts of a design. It takes no memory, and compares each two paths,
+    /// feeds and taps.
     pub fn is_design(&self) -> bool
         ensures { IsTrue result ↔ IsDesign self.now }
     {
-        self.has_counts()
-            && self.has_times()
+        self.has_times()
             && self.has_components()
             && self.has_links()
             && self.has_feeds()
             && self.has_taps()
     }
 
-    // The numbers of components and links are in their limits.
-    fn has_counts(&self) -> bool
-        ensures { IsTrue result ↔ (
-            (length self.now.components ≤ 256) × (length self.now.links ≤ 4096)) }
-    {
-        self.components.len() <= 256 && self.links.len() <= 4096
-    }
-
     // The period and the bounds are in their ranges, and each message has time to arrive.
     fn has_times(&self) -> bool
         ensures { IsTrue result ↔ (
-            (1 ≤ self.now.period) × (self.now.period ≤ hour) × IsGamma self.now.gamma
+            (1 ≤ self.now.period) × (self.now.period ≤ HOUR) × IsGamma self.now.gamma
             × (least_period self.now.gamma (greatest_rate self.now.components) ≤ self.now.period)) }
     {
         1 <= self.period && self.period <= HOUR && is_gamma(&self.gamma) && self.meets_bound()
@@ -49,28 +39,27 @@ impl DesignParts {
             (least_period self.now.gamma (greatest_rate self.now.components) ≤ self.now.period) }
     {
         let rate = greatest_rate(self.components.as_slice());
-        least_period(&self.gamma, rate) <= u128::from(self.period)
+        self.gamma.least_period(rate) <= u128::from(self.period)
     }
 
-    // The components are sound, and of different paths.
+    // The components are sound, not too many, and of different paths.
     fn has_components(&self) -> bool
-        ensures { IsTrue result ↔ (
-            All (IsComponent self.now.period) self.now.components
-            × AllPairs (λ a b. a.path ≢ b.path) self.now.components) }
+        ensures { IsTrue result ↔ AreComponents self.now }
     {
         let components = self.components.as_slice();
-        components
-            .iter()
-            .all(|component| is_component(self.period, component))
-            && have_distinct_paths(components)
+        components.len() <= COMPONENTS
+            && components
+                .iter()
+                .all(|component| is_component(self.period, component))
+            && are_distinct(components)
     }
 
-    // The links are sound, and in order of their in ports.
+    // The links are sound, not too many, and in order of their in ports.
     fn has_links(&self) -> bool
-        ensures { IsTrue result ↔ (
-            All (IsLink self.now) self.now.links × AllPairs LinkPrecedes self.now.links) }
+        ensures { IsTrue result ↔ AreLinks self.now }
     {
-        self.has_sound_links() && are_links_in_order(self.links.as_slice())
+        let links = self.links.as_slice();
+        links.len() <= LINKS && self.has_sound_links() && are_links_in_order(links)
     }
 
     fn has_sound_links(&self) -> bool
@@ -79,26 +68,30 @@ impl DesignParts {
         self.links.as_slice().iter().all(|link| self.is_link(link))
     }
 
-    // The feeds are sound, in order of their in ports, and go to no in port of a link.
+    // The feeds are sound, in order of their in ports, of one type where they are of one name, and
+    // go to no in port of a link.
     fn has_feeds(&self) -> bool
-        ensures { IsTrue result ↔ (
-            All (IsFeed self.now) self.now.feeds × AllPairs FeedPrecedes self.now.feeds
-            × All (λ feed. All (IsApart feed) self.now.links) self.now.feeds) }
+        ensures { IsTrue result ↔ AreFeeds self.now }
     {
         let feeds = self.feeds.as_slice();
-        feeds.iter().all(|feed| self.is_feed(feed))
+        self.has_sound_feeds()
             && are_feeds_in_order(feeds)
+            && are_kinds_agreed(self, feeds)
             && are_apart(feeds, self.links.as_slice())
+    }
+
+    fn has_sound_feeds(&self) -> bool
+        ensures { IsTrue result ↔ All (IsFeed self.now) self.now.feeds }
+    {
+        self.feeds.as_slice().iter().all(|feed| self.is_feed(feed))
     }
 
     // The taps are sound, and of different names.
     fn has_taps(&self) -> bool
-        ensures { IsTrue result ↔ (
-            All (IsTap self.now) self.now.taps
-            × AllPairs (λ a b. a.name ≢ b.name) self.now.taps) }
+        ensures { IsTrue result ↔ AreTaps self.now }
     {
         let taps = self.taps.as_slice();
-        taps.iter().all(|tap| self.is_tap(tap)) && have_distinct_names(taps)
+        taps.iter().all(|tap| self.is_tap(tap)) && are_distinct(taps)
     }
 
     fn is_link(&self, link: &Link) -> bool
@@ -118,7 +111,8 @@ impl DesignParts {
     fn is_feed(&self, feed: &Feed) -> bool
         ensures { IsTrue result ↔ IsFeed self.now feed.now }
     {
-        self.is_target(feed.target, feed.in_port)
+        is_word(feed.name.as_bytes())
+            && self.is_target(feed.target, feed.in_port)
             && is_allowed(feed.adaptor, 1, self.rate(feed.target))
             && suits_kind(feed.adaptor, self.in_kind(feed.target, feed.in_port))
     }
@@ -126,7 +120,7 @@ impl DesignParts {
     fn is_tap(&self, tap: &Tap) -> bool
         ensures { IsTrue result ↔ IsTap self.now tap.now }
     {
-        self.is_source(tap.source, tap.out_port)
+        is_word(tap.name.as_bytes()) && self.is_source(tap.source, tap.out_port)
     }
 
     fn is_source(&self, node: NodeNo, port: u32) -> bool
@@ -139,6 +133,20 @@ impl DesignParts {
         ensures { IsTrue result ↔ IsTarget self.now node.0 port }
     {
         (node.0 as usize) < self.components.len() && (port as usize) < self.in_count(node)
+    }
+}
+
+impl Design {
+    /// The design of these parts, or none where they do not keep its rules. It takes no memory.
+    pub fn try_new(parts: DesignParts) -> Option<Design>
+        ensures some { IfSome result (λ design. (design ≡ parts) × IsDesign parts) }
+        ensures none { result ≡ Option.None → ¬ IsDesign parts }
+    {
+        if parts.is_design() {
+            Some(Design::new(parts))
+        } else {
+            None
+        }
     }
 }
 
@@ -156,9 +164,11 @@ fn is_gamma(gamma: &Gamma) -> bool
 fn is_component(period: Nanos, component: &Component) -> bool
     ensures { IsTrue result ↔ IsComponent period component.now }
 {
-    component.path.as_bytes().len() <= 128
+    let _behaviour = component.behaviour.parts();
+    is_path(component.path.as_bytes())
+        && component.path.as_bytes().len() <= PATH_BYTES
         && 1 <= component.rate
-        && component.rate <= 64
+        && component.rate <= RATE
         && period % u64::from(component.rate) == 0
         && is_small(&component.behaviour)
 }
@@ -168,45 +178,36 @@ fn is_small(behaviour: &Behaviour) -> bool
 {
     let ins = behaviour.ins().len();
     let outs = behaviour.outs().len();
-    ins <= 64 && outs <= 64 - ins && behaviour.vars().len() <= 64 && behaviour.states().len() <= 64
+    ins <= PORTS
+        && outs <= PORTS - ins
+        && behaviour.vars().len() <= VARIABLES
+        && behaviour.states().len() <= STATES
 }
 
-fn have_distinct_paths(components: &[Component]) -> bool
-    ensures { IsTrue result ↔ AllPairs (λ a b. a.path ≢ b.path) components.now }
+fn are_kinds_agreed(design: &DesignParts, feeds: &[Feed]) -> bool
+    ensures { IsTrue result ↔ AllPairs (AgreeInKind design.now) feeds.now }
 {
-    for (i, component) in components.iter().enumerate() {
-        if !is_new_path(&component.path, &components[i + 1..]) {
+    for (at, feed) in feeds.iter().enumerate() {
+        if !is_kind_agreed(design, feed, &feeds[at + 1..]) {
             return false;
         }
     }
     true
 }
 
-fn is_new_path(path: &Text, others: &[Component]) -> bool
-    ensures { IsTrue result ↔ All (λ other. path.now ≢ other.path) others.now }
+fn is_kind_agreed(design: &DesignParts, feed: &Feed, others: &[Feed]) -> bool
+    ensures { IsTrue result ↔ All (AgreeInKind design.now feed.now) others.now }
 {
     others
         .iter()
-        .all(|other| path.as_bytes() != other.path.as_bytes())
+        .all(|other| agree_in_kind(design, feed, other))
 }
 
-fn have_distinct_names(taps: &[Tap]) -> bool
-    ensures { IsTrue result ↔ AllPairs (λ a b. a.name ≢ b.name) taps.now }
+fn agree_in_kind(design: &DesignParts, feed: &Feed, other: &Feed) -> bool
+    ensures { IsTrue result ↔ AgreeInKind design.now feed.now other.now }
 {
-    for (i, tap) in taps.iter().enumerate() {
-        if !is_new_name(&tap.name, &taps[i + 1..]) {
-            return false;
-        }
-    }
-    true
-}
-
-fn is_new_name(name: &Text, others: &[Tap]) -> bool
-    ensures { IsTrue result ↔ All (λ other. name.now ≢ other.name) others.now }
-{
-    others
-        .iter()
-        .all(|other| name.as_bytes() != other.name.as_bytes())
+    feed.name.as_bytes() != other.name.as_bytes()
+        || design.in_kind(feed.target, feed.in_port) == design.in_kind(other.target, other.in_port)
 }
 
 fn are_links_in_order(links: &[Link]) -> bool
@@ -233,4 +234,20 @@ fn is_apart(feed: &Feed, links: &[Link]) -> bool
 {
     let place = place_of_feed(feed);
     links.iter().all(|link| place != place_of_link(link))
+}
+
+impl HasName for Component {
+    ghost name_of = { λ component. component.path };
+
+    fn name(&self) -> &Text {
+        &self.path
+    }
+}
+
+impl HasName for Tap {
+    ghost name_of = { λ tap. tap.name };
+
+    fn name(&self) -> &Text {
+        &self.name
+    }
 }

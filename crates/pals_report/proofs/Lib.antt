@@ -1,2 +1,3 @@
+pub mod Counts
+pub mod RowLines
 pub mod Texts
-pub mod Rows

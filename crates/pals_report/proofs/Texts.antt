@@ -4,9 +4,8 @@ use Rattle.std.specs.List.{flat_map}
 use Rattle.std.proofs.lemmas.List.{append-nil, take_all, take_rest}
 use Rattle.std.proofs.lemmas.List.Prefix.{front_rest}
 use Rattle.pals_base.specs.declared.behaviour.VarDecl.{VarDecl}
-use Rattle.pals_model.specs.RoundTexts.{with_commas, vars_text}
+use Rattle.pals_model.specs.RoundTexts.{with_commas, variable_text, vars_text}
 use Rattle.pals_report.specs.Appended.{BeginsWith}
-use Rattle.pals_report.specs.Lines.{variable_text}
 
 -- what begins with more begins with less
 begins_before : (text start more middle : List ℕ) → middle ≡ start ++ more → BeginsWith text middle → BeginsWith text start
@@ -14,6 +13,11 @@ begins_before text start more middle e h =
     let rest : List ℕ = more ++ drop (length middle) text in
     let joined : text ≡ start ++ rest = h ∙ ap (λ m. m ++ drop (length middle) text) e ∙ append_assoc start more (drop (length middle) text) in
     joined ∙ ap (λ t. start ++ t) (sym (front_rest text start rest joined))
+
+-- more text behind what begins with a start
+pub begins_more : (text middle start more : List ℕ) → BeginsWith middle start → text ≡ middle ++ more → BeginsWith text start
+begins_more text middle start more h e =
+    begins_before text start (drop (length start) middle) middle h (e ∙ ap (λ t. middle ++ t) (sym (front_rest text middle more e)))
 
 -- the same of a refused call
 pub begins-on_err : {T E : Type 0} (r : Result T E) (text start more middle : List ℕ) → middle ≡ start ++ more → BeginsWith text middle → OnErr r (BeginsWith text start)

@@ -1,3 +1,3 @@
 pub mod Appended
-pub mod Lines
-pub mod Parts
+pub mod Places
+pub mod Rows

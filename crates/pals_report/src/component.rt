@@ -1,12 +1,25 @@
-//! The line of a component: its path, its state or the trap that halted it, and its variables.
-ghost use Rattle.std.specs.Prelude.{◌≡◌, ◌++◌, OnOk, OnErr};
-ghost use Rattle.pals_model.specs.RoundTexts.{state_text, vars_text, component_text};
+//! The line of a component: its name, its state or the trap that halted it, and its variables.
+ghost use Rattle.std.specs.Prelude.{◌≡◌, ◌++◌, Some, OnOk, OnErr, option_copied};
+ghost use Rattle.pals_base.specs.declared.values.Frame.{Frame};
+ghost use Rattle.pals_base.specs.declared.behaviour.BehaviourParts.{BehaviourParts};
+ghost use Rattle.pals_model.specs.RoundTexts.{text_of, line_end, state_text, variable_text, vars_text, component_line, part_lines};
 ghost use Rattle.pals_report.specs.Appended.{BeginsWith};
-ghost use Rattle.pals_report.specs.Lines.{variable_text};
 
 use crate::value::add_value;
-use pals_base::{Behaviour, Frame, NoMemory, Trap, VarDecl};
-use pals_model::Component;
+use pals_base::{Behaviour, Frame, NoMemory, Text, Trap, VarDecl};
+use pals_model::{Component, Part};
+
+// The words for a trap, which stand in the place of a state's name.
+pub(crate) fn add_trap(out: &mut Vec<u8>, trap: Trap) -> Result<(), NoMemory>
+    ensures ok { (b : BehaviourParts) (frame : Frame)
+        → OnOk result (out.new.items ≡ out.old.items ++ state_text b frame (Some trap)) }
+    ensures err { OnErr result (BeginsWith out.new.items out.old.items) }
+{
+    match trap {
+        Trap::Overflow => out.extend_from_slice(b"halted(overflow)"),
+        Trap::ZeroDivisor => out.extend_from_slice(b"halted(zero-divisor)"),
+    }
+}
 
 // The state's name, or the trap.
 fn add_state(out: &mut Vec<u8>, behaviour: &Behaviour, frame: &Frame) -> Result<(), NoMemory>
@@ -15,8 +28,7 @@ fn add_state(out: &mut Vec<u8>, behaviour: &Behaviour, frame: &Frame) -> Result<
     ensures err { OnErr result (BeginsWith out.new.items out.old.items) }
 {
     match frame.halt {
-        Some(Trap::Overflow) => out.extend_from_slice(b"halted(overflow)"),
-        Some(Trap::ZeroDivisor) => out.extend_from_slice(b"halted(zero-divisor)"),
+        Some(trap) => add_trap(out, trap),
         None => match behaviour.states().get(frame.state as usize) {
             Some(state) => out.extend_from_slice(state.name.as_bytes()),
             None => Ok(()),
@@ -48,20 +60,38 @@ fn add_variables(out: &mut Vec<u8>, variables: &[VarDecl], values: &[i64]) -> Re
     Ok(())
 }
 
-// The whole line.
-pub(crate) fn add_component(
+// The line of a component that is shown by this name.
+fn add_component_line(
     out: &mut Vec<u8>,
-    component: &Component,
+    name: &Text,
+    behaviour: &Behaviour,
     frame: &Frame,
 ) -> Result<(), NoMemory>
     ensures ok { OnOk result
-        (out.new.items ≡ out.old.items ++ component_text component.now frame.now) }
+        (out.new.items ≡ out.old.items ++ component_line name.now behaviour.now frame.now ++ line_end) }
     ensures err { OnErr result (BeginsWith out.new.items out.old.items) }
 {
-    let behaviour = &component.behaviour;
-    out.extend_from_slice(component.path.as_bytes())?;
+    out.extend_from_slice(name.as_bytes())?;
     out.extend_from_slice(b" ")?;
     add_state(out, behaviour, frame)?;
     add_variables(out, behaviour.vars(), frame.vars.as_slice())?;
     out.extend_from_slice(b"\n")
+}
+
+// The line of a component that has a part, and none else.
+pub(crate) fn add_part_line(
+    out: &mut Vec<u8>,
+    component: &Component,
+    part: Option<&Part>,
+) -> Result<(), NoMemory>
+    ensures ok { OnOk result (out.new.items
+        ≡ out.old.items ++ text_of (part_lines component.now (option_copied part.entry))) }
+    ensures err { OnErr result (BeginsWith out.new.items out.old.items) }
+{
+    match part {
+        Some(part) => {
+            add_component_line(out, &component.path, &component.behaviour, &part.frame)
+        }
+        None => Ok(()),
+    }
 }

@@ -1,19 +1,23 @@
 //! Rounds of a run, written as text behind what a buffer holds. Each call writes all of its text or
 //! none of it.
-ghost use Rattle.std.specs.Prelude.{◌≡◌, ◌<◌, ◌++◌, length, take, slice_get, OnOk, OnErr};
+ghost use Rattle.std.specs.Prelude.{◌≡◌, ◌<◌, ◌++◌, Some, length, take, slice_get, OnOk, OnErr};
+ghost use Rattle.pals_model.specs.declared.design.Tap.{Tap};
 ghost use Rattle.pals_model.specs.declared.rounds.Env.{Env};
-ghost use Rattle.pals_model.specs.RoundTexts.{round_line, part_text, tap_text, row_text, row};
-ghost use Rattle.pals_report.specs.Parts.{part_in, ArePartsOf};
+ghost use Rattle.pals_model.specs.RoundTexts.{text_of, line_end, round_line, part_lines, tap_lines, row_lines, row};
+ghost use Rattle.pals_report.specs.Places.{tap_places};
+ghost use Rattle.pals_report.specs.Rows.{ArePartsOf};
 
-use crate::component::add_component;
+use crate::component::add_part_line;
+use crate::parts::RoundParts;
+use crate::places::TapPlaces;
 use crate::row::{add_lines, add_round_line};
-use crate::tap::add_tap_line;
-use pals_base::{NoMemory, NodeNo};
-use pals_model::{Design, Part};
+use crate::tap::{add_line_at_place, place_of_tap};
+use pals_base::NoMemory;
+use pals_model::{Component, Design, Part};
 
 /// Adds the line of a round. Where memory is wanting, nothing is added.
 pub fn add_round(out: &mut Vec<u8>, round: u32) -> Result<(), NoMemory>
-    ensures ok { OnOk result (out.new.items ≡ out.old.items ++ round_line round) }
+    ensures ok { OnOk result (out.new.items ≡ out.old.items ++ round_line round ++ line_end) }
     ensures err { OnErr result (out.new.items ≡ out.old.items) }
 {
     let start = out.len();
@@ -21,56 +25,54 @@ pub fn add_round(out: &mut Vec<u8>, round: u32) -> Result<(), NoMemory>
     whole_or_none(out, start, written)
 }
 
-/// Adds the line of a component after a round, from what it left. Where memory is wanting, nothing
-/// is added.
-pub fn add_part(
-    out: &mut Vec<u8>,
-    design: &Design,
-    node: NodeNo,
-    part: &Part,
-) -> Result<(), NoMemory>
-    requires { node.0 < length design.now.components }
-    ensures ok { OnOk result (out.new.items
-        ≡ out.old.items ++ part_text (slice_get design.now.components node.0) part.now) }
+/// Adds the line of a component after a round, from what it left. It is shown by its path. Where
+/// memory is wanting, nothing is added.
+pub fn add_part(out: &mut Vec<u8>, component: &Component, part: &Part) -> Result<(), NoMemory>
+    ensures ok { OnOk result
+        (out.new.items ≡ out.old.items ++ text_of (part_lines component.now (Some part.now))) }
     ensures err { OnErr result (out.new.items ≡ out.old.items) }
 {
-    let component = &design.components()[node.0 as usize];
     let start = out.len();
-    let written = add_component(out, component, &part.frame);
+    let written = add_part_line(out, component, Some(part));
     whole_or_none(out, start, written)
 }
 
 /// Adds the line of a root out port after a round, by its number among the taps and from what its
-/// source left. Where memory is wanting, nothing is added.
+/// source left. It takes time in line with the taps. Where memory is wanting, nothing is added.
 pub fn add_tap(out: &mut Vec<u8>, design: &Design, tap: u32, part: &Part) -> Result<(), NoMemory>
     requires { tap < length design.now.taps }
-    ensures ok { OnOk result (out.new.items
-        ≡ out.old.items ++ tap_text design.now tap (slice_get design.now.taps tap) part.now) }
+    ensures ok { (shown : Tap) → slice_get design.now.taps tap ≡ Some shown
+        → OnOk result (out.new.items
+        ≡ out.old.items ++ text_of (tap_lines design.now tap shown (Some part.now))) }
     ensures err { OnErr result (out.new.items ≡ out.old.items) }
 {
+    let number = tap as usize;
+    let tap = &design.taps()[number];
+    let place = place_of_tap(design.taps(), number, tap.source);
     let start = out.len();
-    let written = add_tap_line(out, design, tap as usize, part.outs.as_slice());
+    let written = add_line_at_place(out, design.parts(), tap, place, Some(part));
     whole_or_none(out, start, written)
 }
 
-/// Adds the row of a round, from what all components left, by their numbers. Where memory is
+/// Adds the row of a round, from the parts of those components that are shown. Where memory is
 /// wanting, nothing is added.
-pub fn add_row(
+pub fn add_row<P: RoundParts>(
     out: &mut Vec<u8>,
     design: &Design,
+    places: &TapPlaces,
     round: u32,
-    parts: &[Part],
+    parts: &P,
 ) -> Result<(), NoMemory>
-    requires { length parts.now ≡ length design.now.components }
-    ensures ok { OnOk result
-        (out.new.items ≡ out.old.items ++ row_text design.now (part_in parts.now) round) }
+    requires { places.now ≡ tap_places design.now.taps }
+    ensures ok { OnOk result (out.new.items
+        ≡ out.old.items ++ text_of (row_lines design.now (P.part_of parts.now) round)) }
     // the parts that the synchronous composition leaves give its row
-    ensures composed { (env : Env) → ArePartsOf design.now env round parts.now
+    ensures composed { (env : Env) → ArePartsOf design.now env round (P.part_of parts.now)
         → OnOk result (out.new.items ≡ out.old.items ++ row design.now env round) }
     ensures err { OnErr result (out.new.items ≡ out.old.items) }
 {
     let start = out.len();
-    let written = add_lines(out, design, round, parts);
+    let written = add_lines(out, design, places, round, parts);
     whole_or_none(out, start, written)
 }
 

@@ -1,19 +1,23 @@
 //! The row of a round: its own line, and those of its components and root out ports.
-ghost use Rattle.std.specs.Prelude.{◌≡◌, ◌++◌, length, OnOk, OnErr};
-ghost use Rattle.pals_model.specs.RoundTexts.{round_line, row_text};
+ghost use Rattle.std.specs.Prelude.{◌≡◌, ◌≤◌, ◌++◌, length, OnOk, OnErr};
+ghost use Rattle.pals_base.specs.declared.limits.TheConstants.{COMPONENTS};
+ghost use Rattle.pals_model.specs.RoundTexts.{text_of, line_end, round_line, row_lines};
+ghost use Rattle.pals_model.specs.Rules.{IsDesign};
 ghost use Rattle.pals_report.specs.Appended.{BeginsWith};
-ghost use Rattle.pals_report.specs.Lines.{component_lines, tap_lines};
-ghost use Rattle.pals_report.specs.Parts.{part_in};
+ghost use Rattle.pals_report.specs.Places.{tap_places};
+ghost use Rattle.pals_report.specs.Rows.{components_from, taps_from};
 
-use crate::component::add_component;
-use crate::tap::add_tap_line;
+use crate::component::add_part_line;
+use crate::parts::RoundParts;
+use crate::places::TapPlaces;
+use crate::tap::add_line_at_place;
 use itoa::Buffer;
-use pals_base::{NoMemory, NodeNo, Tuple};
-use pals_model::{Component, Design, Part};
+use pals_base::{NoMemory, NodeNo};
+use pals_model::{Component, Design, DesignParts};
 
 // The line of the round itself.
 pub(crate) fn add_round_line(out: &mut Vec<u8>, round: u32) -> Result<(), NoMemory>
-    ensures ok { OnOk result (out.new.items ≡ out.old.items ++ round_line round) }
+    ensures ok { OnOk result (out.new.items ≡ out.old.items ++ round_line round ++ line_end) }
     ensures err { OnErr result (BeginsWith out.new.items out.old.items) }
 {
     out.extend_from_slice(b"round ")?;
@@ -21,58 +25,58 @@ pub(crate) fn add_round_line(out: &mut Vec<u8>, round: u32) -> Result<(), NoMemo
     out.extend_from_slice(b"\n")
 }
 
-// A line for each component.
-fn add_component_lines(
+// A line for each component that has a part.
+fn add_component_lines<P: RoundParts>(
     out: &mut Vec<u8>,
     components: &[Component],
-    parts: &[Part],
+    parts: &P,
 ) -> Result<(), NoMemory>
-    requires { length parts.now ≡ length components.now }
-    ensures ok { OnOk result
-        (out.new.items ≡ out.old.items ++ component_lines components.now (part_in parts.now)) }
+    requires { length components.now ≤ COMPONENTS }
+    ensures ok { OnOk result (out.new.items
+        ≡ out.old.items ++ text_of (components_from (P.part_of parts.now) 0 components.now)) }
     ensures err { OnErr result (BeginsWith out.new.items out.old.items) }
 {
-    for (component, part) in components.iter().zip(parts) {
-        add_component(out, component, &part.frame)?;
+    for (node, component) in components.iter().enumerate() {
+        add_part_line(out, component, parts.part(NodeNo(node as u32)))?;
     }
     Ok(())
 }
 
-// The tuples of a component's taps, none where it has no part.
-fn tuples_of(parts: &[Part], node: NodeNo) -> &[Tuple]
-    ensures { result.now ≡ (part_in parts.now node.0).outs }
-{
-    match parts.get(node.0 as usize) {
-        Some(part) => part.outs.as_slice(),
-        None => &[],
-    }
-}
-
-// A line for each root out port.
-fn add_tap_lines(out: &mut Vec<u8>, design: &Design, parts: &[Part]) -> Result<(), NoMemory>
-    ensures ok { OnOk result
-        (out.new.items ≡ out.old.items ++ tap_lines design.now (part_in parts.now)) }
+// A line for each root out port whose source has a part.
+fn add_tap_lines<P: RoundParts>(
+    out: &mut Vec<u8>,
+    design: &DesignParts,
+    places: &TapPlaces,
+    parts: &P,
+) -> Result<(), NoMemory>
+    requires { places.now ≡ tap_places design.now.taps }
+    ensures ok { OnOk result (out.new.items
+        ≡ out.old.items ++ text_of (taps_from design.now (P.part_of parts.now) 0 design.now.taps)) }
     ensures err { OnErr result (BeginsWith out.new.items out.old.items) }
 {
-    for (number, tap) in design.taps().iter().enumerate() {
-        add_tap_line(out, design, number, tuples_of(parts, tap.source))?;
+    for (number, tap) in design.taps.as_slice().iter().enumerate() {
+        let part = parts.part(tap.source);
+        add_line_at_place(out, design, tap, places.place(number), part)?;
     }
     Ok(())
 }
 
 // The whole row.
-pub(crate) fn add_lines(
+pub(crate) fn add_lines<P: RoundParts>(
     out: &mut Vec<u8>,
     design: &Design,
+    places: &TapPlaces,
     round: u32,
-    parts: &[Part],
+    parts: &P,
 ) -> Result<(), NoMemory>
-    requires { length parts.now ≡ length design.now.components }
-    ensures ok { OnOk result
-        (out.new.items ≡ out.old.items ++ row_text design.now (part_in parts.now) round) }
+    requires { places.now ≡ tap_places design.now.taps }
+    ensures rules { IsDesign design.now }
+    ensures ok { OnOk result (out.new.items
+        ≡ out.old.items ++ text_of (row_lines design.now (P.part_of parts.now) round)) }
     ensures err { OnErr result (BeginsWith out.new.items out.old.items) }
 {
+    let design = design.parts();
     add_round_line(out, round)?;
-    add_component_lines(out, design.components(), parts)?;
-    add_tap_lines(out, design, parts)
+    add_component_lines(out, design.components.as_slice(), parts)?;
+    add_tap_lines(out, design, places, parts)
 }

@@ -1,15 +1,15 @@
 //! The line of a root out port: its name, and the whole tuple of its source.
-ghost use Rattle.std.specs.Prelude.{◌≡◌, ◌<◌, ◌++◌, [], length, slice_get, slice_index_or, OnOk, OnErr};
-ghost use Rattle.pals_model.specs.RoundTexts.{out_kind, taps_before, tap_text};
+ghost use Rattle.std.specs.Prelude.{◌≡◌, ◌++◌, [], OnOk, OnErr, slice_index_or, option_copied};
+ghost use Rattle.pals_model.specs.RoundTexts.{text_of, line_end, tap_line, taps_before};
 ghost use Rattle.pals_report.specs.Appended.{BeginsWith};
-ghost use Rattle.pals_report.specs.Parts.{part_with};
+ghost use Rattle.pals_report.specs.Rows.{lines_at_place};
 
 use crate::value::add_tuple;
 use pals_base::{Kind, NoMemory, NodeNo, Port, Tuple};
-use pals_model::{Component, Design, Tap};
+use pals_model::{DesignParts, Part, Tap};
 
 // The place of a tap among those of its source: how many of the taps before it have that source.
-fn place_of_tap(taps: &[Tap], number: usize, source: NodeNo) -> usize
+pub(crate) fn place_of_tap(taps: &[Tap], number: usize, source: NodeNo) -> usize
     ensures { result ≡ taps_before taps.now number source.0 }
 {
     taps.iter()
@@ -28,37 +28,37 @@ fn tuple_at(tuples: &[Tuple], place: usize) -> &[Port]
     }
 }
 
-// The type of the out port that a tap shows.
-fn kind_of_tap(components: &[Component], tap: &Tap) -> Kind
-    ensures { result ≡ out_kind (slice_get components.now tap.now.source.0) tap.now.out_port }
-{
-    let Some(component) = components.get(tap.source.0 as usize) else {
-        return Kind::Integer;
-    };
-    match component.behaviour.outs().get(tap.out_port as usize) {
-        Some(port) => port.kind,
-        None => Kind::Integer,
-    }
-}
-
-// The line, from the tuples of all taps of its source.
-pub(crate) fn add_tap_line(
-    out: &mut Vec<u8>,
-    design: &Design,
-    number: usize,
-    tuples: &[Tuple],
-) -> Result<(), NoMemory>
-    requires { number < length design.now.taps }
-    ensures ok { OnOk result (out.new.items ≡ out.old.items
-        ++ tap_text design.now number (slice_get design.now.taps number) (part_with tuples.now)) }
+// The line of a root out port of this type, with this tuple.
+fn add_tap_line(out: &mut Vec<u8>, kind: Kind, tap: &Tap, tuple: &[Port]) -> Result<(), NoMemory>
+    ensures ok { OnOk result
+        (out.new.items ≡ out.old.items ++ tap_line kind tap.now tuple.now ++ line_end) }
     ensures err { OnErr result (BeginsWith out.new.items out.old.items) }
 {
-    let taps = design.taps();
-    let tap = &taps[number];
-    let tuple = tuple_at(tuples, place_of_tap(taps, number, tap.source));
     out.extend_from_slice(b"out ")?;
     out.extend_from_slice(tap.name.as_bytes())?;
     out.extend_from_slice(b" ")?;
-    add_tuple(out, kind_of_tap(design.components(), tap), tuple)?;
+    add_tuple(out, kind, tuple)?;
     out.extend_from_slice(b"\n")
+}
+
+// The line of a root out port whose source has a part, and none else. The place is that of the tap
+// among those of its source.
+pub(crate) fn add_line_at_place(
+    out: &mut Vec<u8>,
+    design: &DesignParts,
+    tap: &Tap,
+    place: usize,
+    part: Option<&Part>,
+) -> Result<(), NoMemory>
+    ensures ok { OnOk result (out.new.items
+        ≡ out.old.items ++ text_of (lines_at_place design.now place tap.now (option_copied part.entry))) }
+    ensures err { OnErr result (BeginsWith out.new.items out.old.items) }
+{
+    match part {
+        Some(part) => {
+            let kind = design.out_kind(tap.source, tap.out_port);
+            add_tap_line(out, kind, tap, tuple_at(part.outs.as_slice(), place))
+        }
+        None => Ok(()),
+    }
 }

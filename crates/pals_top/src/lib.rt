@@ -5,7 +5,7 @@ mod answer;
 mod program;
 mod words;
 
-pub use program::pals;
+pub use program::{NO_MEMORY, pals};
 
 #[cfg(test)]
 mod tests;

@@ -1,10 +1,10 @@
 //! The one call that does all the program does.
 ghost use Rattle.std.specs.Prelude.{◌≡◌, ◌≢◌, ◌+◌, ◌++◌, ℕ, List, IfOk, OnOk, OnErr, IsSome};
-ghost use Rattle.pals_io.specs.Stream.{Rose, TakesAll, TakesPart};
+ghost use Rattle.pals_io.specs.Stream.{GivesWithin, after_taking, TakesPart};
 ghost use Rattle.pals_model.specs.Composition.{comp};
 ghost use Rattle.pals_model.specs.RoundTexts.{report, row};
 ghost use Rattle.pals_top.specs.Words.{form};
-ghost use Rattle.pals_top.specs.Answers.{IsAnswer, no_env};
+ghost use Rattle.pals_top.specs.Answers.{IsAnswer, most_bytes, no_env};
 ghost use Rattle.pals_top.specs.Statuses.{status_of, text_of, AnswersBundle};
 
 use crate::answer::Answer;
@@ -25,7 +25,7 @@ const MOST_BYTES: usize = 16_777_216;
 const WRITE_FAULT: u8 = 10;
 
 /// The status where memory was wanting.
-const NO_MEMORY: u8 = 11;
+pub const NO_MEMORY: u8 = 11;
 
 /// Does what the words say with the bytes of the source, writes the answer's text to the sink and
 /// returns its status.
@@ -36,16 +36,18 @@ const NO_MEMORY: u8 = 11;
 pub fn pals<S: Source, K: Sink>(alloc: Global, words: &[Text], source: &mut S, sink: &mut K) -> u8
     // The answer's whole text was written.
     ensures answered { result ≢ WRITE_FAULT → result ≢ NO_MEMORY → (text : List ℕ)
-        × IsAnswer (form words.now) (S.left source.old) (S.left source.new) (S.faults source.old) (S.faults source.new) result text
-        × TakesAll (K.held sink.old) (K.held sink.new) text }
+        × IsAnswer (form words.now) (S.shown source.old) (S.shown source.new) result text
+        × (K.shown sink.new ≡ after_taking (K.shown sink.old) text) }
 
     // The sink failed, and a part of an answer's text was written.
-    ensures cut_short { result ≡ WRITE_FAULT → Rose (K.faults sink.old) (K.faults sink.new) × (status : ℕ) × (text : List ℕ)
-        × IsAnswer (form words.now) (S.left source.old) (S.left source.new) (S.faults source.old) (S.faults source.new) status text
-        × TakesPart (K.held sink.old) (K.held sink.new) text }
+    ensures cut_short { result ≡ WRITE_FAULT → (status : ℕ) × (text : List ℕ)
+        × IsAnswer (form words.now) (S.shown source.old) (S.shown source.new) status text
+        × TakesPart (K.shown sink.old) (K.shown sink.new) text }
 
-    // Memory was wanting, and nothing was written.
-    ensures no_memory { result ≡ NO_MEMORY → IsSome (form words.now) × (sink.new ≡ sink.old) }
+    // Memory was wanting, no call failed, and nothing was written.
+    ensures no_memory { result ≡ NO_MEMORY → IsSome (form words.now)
+        × GivesWithin (S.shown source.old) (S.shown source.new) most_bytes
+        × (sink.new ≡ sink.old) }
 {
     let Ok(answer) = answer_to(alloc, words, source) else {
         return NO_MEMORY;
@@ -58,8 +60,8 @@ pub fn pals<S: Source, K: Sink>(alloc: Global, words: &[Text], source: &mut S, s
 
 // The answer, its whole text made.
 fn answer_to<S: Source>(alloc: Global, words: &[Text], source: &mut S) -> Result<Answer, NoMemory>
-    ensures ok { IfOk result (λ answer. IsAnswer (form words.now) (S.left source.old) (S.left source.new) (S.faults source.old) (S.faults source.new) (status_of answer) (text_of answer)) }
-    ensures err { OnErr result (IsSome (form words.now)) }
+    ensures ok { IfOk result (λ answer. IsAnswer (form words.now) (S.shown source.old) (S.shown source.new) (status_of answer) (text_of answer)) }
+    ensures err { OnErr result (IsSome (form words.now) × GivesWithin (S.shown source.old) (S.shown source.new) most_bytes) }
 {
     let Some(root) = root_of(words) else {
         return Ok(Answer::Usage);

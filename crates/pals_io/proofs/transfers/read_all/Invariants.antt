@@ -2,12 +2,11 @@ use Rattle.std.proofs.Common.{◌≤◌, ◌-◌, vec_len}
 use Rattle.pals_io.proofs.Transfer.{GivesFirst}
 use Rattle.pals_io.proofs.transfers.read_all.Given as goal
 
--- what was read so far, within the limit, and no count fell
+-- what was read so far, within the limit
 abbrev pub invariant-loop-all : goal.invariant-loop-all
 invariant-loop-all g l = record {
   within : vec_len l.all ≤ l.most;
-  later : g.S.Source.faults l.fn.source ≤ g.S.Source.faults l.source;
-  given : GivesFirst (g.S.Source.left l.fn.source) (g.S.Source.left l.source) l.all.items;
+  given : GivesFirst (g.S.Source.shown l.fn.source) (g.S.Source.shown l.source) l.all.items;
 }
 
 abbrev pub decreases-loop-all : goal.decreases-loop-all

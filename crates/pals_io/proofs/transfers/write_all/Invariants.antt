@@ -1,13 +1,12 @@
-use Rattle.std.proofs.Common.{◌≡◌, ◌≤◌, ◌-◌, length}
-use Rattle.pals_io.specs.Stream.{Takes}
+use Rattle.std.proofs.Common.{◌≡◌, ◌≤◌, ◌-◌, length, take}
+use Rattle.pals_io.specs.Stream.{after_taking}
 use Rattle.pals_io.proofs.transfers.write_all.Given as goal
 
--- the first `done` bytes were taken, no count fell, and with no bytes nothing was called
+-- the first `done` bytes were taken, and with no bytes nothing was called
 abbrev pub invariant-loop-done : goal.invariant-loop-done
 invariant-loop-done g l = record {
   within : l.done ≤ length l.bytes;
-  later : g.K.Sink.faults l.fn.sink ≤ g.K.Sink.faults l.sink;
-  taken : Takes (g.K.Sink.held l.fn.sink) (g.K.Sink.held l.sink) l.bytes l.done;
+  taken : g.K.Sink.shown l.sink ≡ after_taking (g.K.Sink.shown l.fn.sink) (take l.done l.bytes);
   untouched : l.done ≡ 0 → l.sink ≡ l.fn.sink;
 }
 

@@ -2,7 +2,7 @@ use Rattle.std.proofs.Common.{nat_lt, rules}
 use Rattle.pals_model.specs.declared.design.Link.{Link}
 use Rattle.std.proofs.lemmas.List.Sorted.{answers_always}
 use Rattle.pals_model.specs.Rules.{place_of}
-use Rattle.pals_model.proofs.Pairs.{rising_answer}
+use Rattle.pals_base.proofs.Pairs.{rising_answer}
 use Rattle.pals_model.proofs.rules.are_links_in_order.Goals as goal
 
 pub returns : goal.returns

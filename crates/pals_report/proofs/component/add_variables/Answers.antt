@@ -5,7 +5,7 @@ use Rattle.std.proofs.lemmas.List.{length_push}
 use Rattle.std.proofs.lemmas.Slice.Zip.{zip_turn, zip_end}
 use Rattle.std.specs.Slice.Iter.{iter_rest}
 use Rattle.std.specs.Iterator.Adapters.{zip_first, zip_second}
-use Rattle.pals_report.specs.Lines.{variable_text}
+use Rattle.pals_model.specs.RoundTexts.{variable_text}
 use Rattle.pals_report.proofs.Texts.{vars_text-turn, vars_text-all, begins-on_err}
 use Rattle.pals_report.proofs.component.add_variables.Goals as goal
 

@@ -1,20 +1,20 @@
-use Rattle.std.proofs.Common.{ap, ◌∙◌}
-use Rattle.std.proofs.lemmas.List.{length_push}
-use Rattle.std.proofs.lemmas.Slice.Zip.{zip_turn}
-use Rattle.std.specs.List.{slice_get}
-use Rattle.std.specs.Slice.Iter.{iter_rest}
-use Rattle.std.specs.Iterator.Adapters.{zip_first, zip_second}
-use Rattle.pals_model.specs.RoundTexts.{part_text}
-use Rattle.pals_report.specs.Parts.{part_in}
-use Rattle.pals_report.proofs.Rows.{lines-turn, component_text-at}
+use Rattle.std.proofs.Common.{◌≡◌, ◌+◌, ◌∷◌, drop, ap, arith}
+use Rattle.std.proofs.lemmas.Grind.{common_steps}
+use Rattle.pals_model.specs.RoundTexts.{part_lines}
+use Rattle.pals_report.specs.Rows.{components_from}
+use Rattle.pals_report.proofs.RowLines.{lines_turn}
+use Rattle.pals_report.proofs.Texts.{begins_more}
 use Rattle.pals_report.proofs.row.add_component_lines.Goals as goal
 
-pub loop-component-preserved : goal.loop-component-preserved
-loop-component-preserved c =
-    let gives = c.into_iter-component-iterator.ensures.into_iter_gives in
-    let first = ap (λ z. iter_rest (zip_first z)) gives ∙ ap iter_rest c.zip-component-items.ensures.first ∙ c.iter.ensures.rest in
-    let second = ap (λ z. iter_rest (zip_second z)) gives ∙ c.zip-component-items.ensures.second.0 in
-    let turn = zip_turn _ _ c.loop-component.yielded c.into_iter-component-iterator.result c.loop-component.component-iterator c.next.new.self c.next.result first second c.loop-component.yielded_by _ c.in-Some.is c.next.ensures.steps in
-    rw (length_push c.loop-component.yielded _)
-    (lines-turn (λ node. part_text (slice_get c.args.components.now node) (part_in c.args.parts.now node)) _ _ _ _ _ c.loop-component.invariant c.in_ok-add_component.ensures.ok
-    (component_text-at _ _ _ _ _ turn.0 turn.2 turn.3))
+pub loop-node-preserved : goal.loop-node-preserved
+loop-node-preserved g c =
+    let at = c.loop-node.node in
+    let component = c.index-components-node.result in
+    let part_of = g.P.RoundParts.part_of c.args.parts.now in
+    let split : drop at c.args.components.now ≡ component ∷ drop (at + 1) c.args.components.now = grind (arith, common_steps) in
+    let added = c.in_ok-add_part_line.ensures.ok in
+    let before = rw split at c.loop-node.invariant.rest in
+    record {
+      begun = begins_more _ _ _ _ c.loop-node.invariant.begun added;
+      rest = lines_turn c.loop-node.out.items _ _ _ (part_lines component (part_of at)) (components_from part_of (at + 1) (drop (at + 1) c.args.components.now)) added (ap (part_lines component) c.part.ensures) before;
+    }

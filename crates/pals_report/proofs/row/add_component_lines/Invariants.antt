@@ -1,11 +1,12 @@
-use Rattle.std.proofs.Common.{◌≡◌, ◌++◌, length}
-use Rattle.std.specs.List.{flat_map, slice_get}
-use Rattle.pals_base.specs.Steps.{upwards}
-use Rattle.pals_model.specs.RoundTexts.{part_text}
-use Rattle.pals_report.specs.Parts.{part_in}
+use Rattle.std.proofs.Common.{◌≡◌, ◌++◌, drop}
+use Rattle.pals_model.specs.RoundTexts.{text_of}
+use Rattle.pals_report.specs.Appended.{BeginsWith}
+use Rattle.pals_report.specs.Rows.{components_from}
 use Rattle.pals_report.proofs.row.add_component_lines.Given as goal
 
--- the lines so far
-abbrev pub invariant-loop-component : goal.invariant-loop-component
-invariant-loop-component l =
-    l.out.items ≡ l.fn.out.items ++ flat_map (λ node. part_text (slice_get l.components node) (part_in l.parts node)) (upwards 0 (length l.yielded))
+-- the lines so far, and those of the components that are left
+abbrev pub invariant-loop-node : goal.invariant-loop-node
+invariant-loop-node g l = record {
+  begun : BeginsWith l.out.items l.fn.out.items;
+  rest : l.out.items ++ text_of (components_from (g.P.RoundParts.part_of l.parts) l.node (drop l.node l.components)) ≡ l.fn.out.items ++ text_of (components_from (g.P.RoundParts.part_of l.parts) 0 l.components);
+}

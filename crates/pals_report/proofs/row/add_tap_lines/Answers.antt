@@ -1,18 +1,28 @@
-use Rattle.std.proofs.Common.{◌≡◌, sym, ap, ◌∙◌, arith, Some}
-use Rattle.std.specs.List.{slice_get}
+use Rattle.std.proofs.Common.{◌≡◌, ◌+◌, ◌∷◌, drop, get_or, ap, ◌∙◌, arith}
 use Rattle.std.proofs.lemmas.Grind.{common_steps}
-use Rattle.std.proofs.lemmas.Option.{slice_get_read}
-use Rattle.pals_model.specs.RoundTexts.{tap_text, source_of}
-use Rattle.pals_report.specs.Lines.{line_of_tap}
-use Rattle.pals_report.specs.Parts.{part_in, part_with}
-use Rattle.pals_report.proofs.Rows.{lines-turn, tap_text-part_with}
+use Rattle.pals_model.specs.RoundTexts.{tap_lines, taps_before}
+use Rattle.pals_report.specs.Rows.{taps_from}
+use Rattle.pals_report.proofs.Counts.{length-tap_places, place_at}
+use Rattle.pals_report.proofs.RowLines.{lines_turn, at_place}
+use Rattle.pals_report.proofs.Texts.{begins_more}
 use Rattle.pals_report.proofs.row.add_tap_lines.Goals as goal
 
+pub place-requires : goal.place-requires
+place-requires g c = omega (arith, ap length c.requires, length-tap_places c.args.design.now.taps)
+
 pub loop-number-preserved : goal.loop-number-preserved
-loop-number-preserved c =
-    let at = slice_get c.args.design.now.taps c.loop-number.number in
-    let is : slice_get c.args.design.now.taps c.loop-number.number ≡ Some c.tap-item.result = grind (arith, common_steps, slice_get_read) in
-    lines-turn (line_of_tap c.args.design.now (part_in c.args.parts.now)) c.loop-number.number _ _ _ _ c.loop-number.invariant c.in_ok-add_tap_line.ensures.ok
-    (ap (λ t. tap_text c.args.design.now c.loop-number.number at (part_with t)) c.tuples_of.ensures
-    ∙ tap_text-part_with c.args.design.now c.loop-number.number at (part_in c.args.parts.now c.tap-item.result.source.0)
-    ∙ ap (λ o. tap_text c.args.design.now c.loop-number.number at (part_in c.args.parts.now (source_of o))) (sym is))
+loop-number-preserved g c =
+    let design = c.args.design.now in
+    let at = c.loop-number.number in
+    let tap = c.tap-item.result in
+    let part_of = g.P.RoundParts.part_of c.args.parts.now in
+    let split : drop at design.taps ≡ tap ∷ drop (at + 1) design.taps = grind (arith, common_steps) in
+    let place : c.place.result ≡ taps_before design.taps at tap.source.0 =
+    place_at design.taps at c.place.result tap (omega arith) (c.tap-item.is ∙ ap (λ ts. get_or ts at tap) c.as_slice-tap-items.ensures.value) (c.place.ensures ∙ ap (λ ps. get_or ps at c.place.result) c.requires) in
+    let added = c.in_ok-add_line_at_place.ensures.ok in
+    let before = rw split at c.loop-number.invariant.rest in
+    record {
+      begun = begins_more _ _ _ _ c.loop-number.invariant.begun added;
+      rest = lines_turn c.loop-number.out.items _ _ _ (tap_lines design at tap (part_of tap.source.0)) (taps_from design part_of (at + 1) (drop (at + 1) design.taps)) added
+          (at_place design at c.place.result tap _ place ∙ ap (tap_lines design at tap) c.part-part.ensures) before;
+    }

@@ -1,11 +1,12 @@
-use Rattle.std.proofs.Common.{◌≡◌, ◌++◌}
-use Rattle.std.specs.List.{flat_map}
-use Rattle.pals_base.specs.Steps.{upwards}
-use Rattle.pals_report.specs.Lines.{line_of_tap}
-use Rattle.pals_report.specs.Parts.{part_in}
+use Rattle.std.proofs.Common.{◌≡◌, ◌++◌, drop}
+use Rattle.pals_model.specs.RoundTexts.{text_of}
+use Rattle.pals_report.specs.Appended.{BeginsWith}
+use Rattle.pals_report.specs.Rows.{taps_from}
 use Rattle.pals_report.proofs.row.add_tap_lines.Given as goal
 
--- the lines so far
+-- the lines so far, and those of the taps that are left
 abbrev pub invariant-loop-number : goal.invariant-loop-number
-invariant-loop-number l =
-    l.out.items ≡ l.fn.out.items ++ flat_map (λ number. line_of_tap l.design (part_in l.parts) number) (upwards 0 l.number)
+invariant-loop-number g l = record {
+  begun : BeginsWith l.out.items l.fn.out.items;
+  rest : l.out.items ++ text_of (taps_from l.design (g.P.RoundParts.part_of l.parts) l.number (drop l.number l.design.taps)) ≡ l.fn.out.items ++ text_of (taps_from l.design (g.P.RoundParts.part_of l.parts) 0 l.design.taps);
+}

@@ -1,0 +1,9 @@
+-- The messages of errors.
+use Rattle.std.specs.Prelude.{ℕ, List, codes}
+use Rattle.pals_io.specs.declared.ends.ReadEnd.{ReadEnd}
+use Rattle.pals_io.specs.declared.ends.ReadEnd.TheVariants.{ReadFault, TooLong, Memory}
+
+abbrev pub message_of : ReadEnd → List ℕ
+message_of ReadFault = codes "read fault"
+message_of TooLong = codes "too long"
+message_of Memory = codes "out of memory"

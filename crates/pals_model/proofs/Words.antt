@@ -1,0 +1,69 @@
+-- The bytes of words and paths.
+use Rattle.std.proofs.Common.{◌≡◌, ◌≢◌, ℕ, Bool, true, false, ◌&&◌, nat_le, List, [], ◌∷◌, ◌++◌, length, All, refl, sym, ap, ◌∙◌, subst}
+use Rattle.std.specs.Prelude.{bytes_eq}
+use Rattle.std.proofs.lemmas.Slice.Eq.{bytes_eq-Decides}
+use Rattle.std.specs.List.{list_all, slice_split, join_with_byte}
+use Rattle.std.proofs.lemmas.Bool.{and_parts, false_from_ne_true, true≢false}
+use Rattle.std.proofs.lemmas.List.Elements.{All-nil, All-cons, All-append, All-head, All-tail, All-weaker}
+use Rattle.std.proofs.lemmas.List.Splits.{join_with_byte-slice_split}
+use Rattle.pals_base.specs.declared.limits.TheConstants.{NAME_BYTES}
+use Rattle.pals_base.specs.Names.{is_word, is_word_byte, is_led_by_letter, is_dot, is_path}
+
+-- ---- equality
+pub same_bytes : (xs : List ℕ) → bytes_eq xs xs ≡ true
+same_bytes xs = (bytes_eq-Decides xs xs).1 refl
+
+pub other_bytes : (xs ys : List ℕ) → xs ≢ ys → bytes_eq xs ys ≡ false
+other_bytes xs ys apart = false_from_ne_true (bytes_eq xs ys) (λ same. apart ((bytes_eq-Decides xs ys).0 same))
+
+-- ---- bytes
+-- no byte of the text is this one
+abbrev pub IsWithout : ℕ → List ℕ → Type 0
+IsWithout byte text = All (λ b. b ≢ byte) text
+
+pub all_pass : {X : Type 0} (p : X → Bool) (xs : List X) → list_all p xs ≡ true → All (λ x. p x ≡ true) xs
+all_pass p [] passes = All-nil (λ x. p x ≡ true)
+all_pass p (x ∷ xs) passes =
+    let parts = and_parts (p x) (list_all p xs) passes in
+    All-cons (λ y. p y ≡ true) x xs parts.0 (all_pass p xs parts.1)
+
+-- a word has no byte that is none of a word
+pub word_without : (byte : ℕ) (word : List ℕ) → is_word_byte byte ≡ false → is_word word ≡ true → IsWithout byte word
+word_without byte word none is =
+    let bytes = and_parts (nat_le (length word) NAME_BYTES && is_led_by_letter word) (list_all is_word_byte word) is in
+    All-weaker (λ b. is_word_byte b ≡ true) (λ b. b ≢ byte) (λ b passes same. true≢false (sym passes ∙ ap is_word_byte same ∙ none)) word (all_pass is_word_byte word bytes.1)
+
+joined_without : (byte : ℕ) (words : List (List ℕ)) → 46 ≢ byte → All (IsWithout byte) words → IsWithout byte (join_with_byte 46 words)
+joined_without byte [] other each = All-nil (λ b. b ≢ byte)
+joined_without byte (word ∷ []) other each = All-head (IsWithout byte) word [] each
+joined_without byte (word ∷ next ∷ words) other each =
+    All-append (λ b. b ≢ byte) word (46 ∷ join_with_byte 46 (next ∷ words)) (All-head (IsWithout byte) word (next ∷ words) each)
+    (All-cons (λ b. b ≢ byte) 46 (join_with_byte 46 (next ∷ words)) other (joined_without byte (next ∷ words) other (All-tail (IsWithout byte) word (next ∷ words) each)))
+
+-- a path has no byte that is neither a `.` nor one of a word
+pub path_without : (byte : ℕ) (path : List ℕ) → 46 ≢ byte → is_word_byte byte ≡ false → is_path path ≡ true → IsWithout byte path
+path_without byte path other none is =
+    subst (IsWithout byte) (join_with_byte-slice_split 46 path)
+    (joined_without byte (slice_split is_dot path) other
+    (All-weaker (λ w. is_word w ≡ true) (IsWithout byte) (λ w passes. word_without byte w none passes) (slice_split is_dot path) (all_pass is_word (slice_split is_dot path) is)))
+
+-- ---- the last separator
+has_separator : (byte : ℕ) (xs ys : List ℕ) → IsWithout byte (xs ++ byte ∷ ys) → ⊥
+has_separator byte [] ys without = All-head (λ b. b ≢ byte) byte ys without refl
+has_separator byte (x ∷ xs) ys without = has_separator byte xs ys (All-tail (λ b. b ≢ byte) x (xs ++ byte ∷ ys) without)
+
+-- where no separator stands behind it, a text splits at its last one in one way
+pub splits_at_last : (byte : ℕ) (xs ys us vs : List ℕ) → IsWithout byte ys → IsWithout byte vs → xs ++ byte ∷ ys ≡ us ++ byte ∷ vs → (xs ≡ us) × (ys ≡ vs)
+splits_at_last byte [] ys [] vs left right same = (refl, cc)
+splits_at_last byte [] ys (u ∷ us) vs left right same =
+    let tail : ys ≡ us ++ byte ∷ vs = cc in
+    absurd (has_separator byte us vs (subst (IsWithout byte) tail left))
+splits_at_last byte (x ∷ xs) ys [] vs left right same =
+    let tail : xs ++ byte ∷ ys ≡ vs = cc in
+    absurd (has_separator byte xs ys (subst (IsWithout byte) (sym tail) right))
+splits_at_last byte (x ∷ xs) ys (u ∷ us) vs left right same =
+    let head : x ≡ u = cc in
+    let tail : xs ++ byte ∷ ys ≡ us ++ byte ∷ vs = cc in
+    let rest = splits_at_last byte xs ys us vs left right tail in
+    let front : xs ≡ us = rest.0 in
+    (cc, rest.1)

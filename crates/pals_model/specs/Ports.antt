@@ -1,0 +1,38 @@
+-- The ports of components, and the types of root in ports.
+use Rattle.std.specs.Prelude.{ℕ, bytes_eq, List, length, find, Option, Some, None, slice_get}
+use Rattle.pals_base.specs.declared.behaviour.Kind.{Kind}
+use Rattle.pals_base.specs.declared.behaviour.Kind.TheVariants.{Integer}
+use Rattle.pals_base.specs.declared.behaviour.Named.{Named}
+use Rattle.pals_model.specs.declared.design.Component.{Component}
+use Rattle.pals_model.specs.declared.design.Feed.{Feed}
+use Rattle.pals_model.specs.declared.design.DesignParts.{DesignParts}
+
+abbrev pub ins_in : Option Component → ℕ
+ins_in None = 0
+ins_in (Some c) = length c.behaviour.ins
+
+abbrev pub outs_in : Option Component → ℕ
+outs_in None = 0
+outs_in (Some c) = length c.behaviour.outs
+
+-- the type of a port, that of numbers where there is none
+abbrev pub kind_of : Option Named → Kind
+kind_of None = Integer
+kind_of (Some port) = port.kind
+
+abbrev pub in_kind : Option Component → ℕ → Kind
+in_kind None port = Integer
+in_kind (Some c) port = kind_of (slice_get c.behaviour.ins port)
+
+abbrev pub out_kind : Option Component → ℕ → Kind
+out_kind None port = Integer
+out_kind (Some c) port = kind_of (slice_get c.behaviour.outs port)
+
+-- the type of the in port that a feed goes to
+abbrev pub fed_kind : DesignParts → Option Feed → Kind
+fed_kind design None = Integer
+fed_kind design (Some feed) = in_kind (slice_get design.components feed.target.0) feed.in_port
+
+-- the type of the root in port of a name: that of its first feed
+abbrev pub root_kind : DesignParts → List ℕ → Kind
+root_kind design name = fed_kind design (find (λ feed. bytes_eq name feed.name) design.feeds)

@@ -1,0 +1,18 @@
+//! Laws of what in ports read.
+ghost use Rattle.pals_model.specs.Laws.Sources.{LinkIsSource, FeedIsSource, NothingIsSource, LinkBringsMessage, FeedBringsValue, NothingBringsAbsent};
+
+/// In a design the in port of a link reads from that link, and the in port of a feed from that feed
+/// and its root in port. An in port that none goes to reads from nothing.
+pub fn sources_of_ports()
+    ensures link { LinkIsSource }
+    ensures feed { FeedIsSource }
+    ensures nothing { NothingIsSource }
+{}
+
+/// A link brings its message by its adaptor, a feed the value of its root in port, as a source of
+/// rate 1 gives it, and nothing brings absent places.
+pub fn sources_bring_readings()
+    ensures link { LinkBringsMessage }
+    ensures feed { FeedBringsValue }
+    ensures nothing { NothingBringsAbsent }
+{}

@@ -1,0 +1,56 @@
+-- What verified code keeps.
+use Rattle.std.proofs.Common.{◌≡◌, ◌∙◌, inl, inr, ℕ, ◌+◌, ◌<◌, ◌≤◌, Bool, true, false, ◌&&◌, ◌||◌, List, [], ◌∷◌, length, Option, Some, None, refl, sym, ap, subst, ⊎_elim, arith, nat_eq, nat_lt}
+use Rattle.std.specs.Prelude.{not, slice_get}
+use Rattle.std.specs.List.{list_any}
+use Rattle.std.proofs.lemmas.Bool.{and_parts, ltb-true, false≢true}
+use Rattle.step_code.specs.declared.instr.Instr.{Instr}
+use Rattle.step_code.specs.declared.instr.CodeParts.{CodeParts}
+use Rattle.step_code.specs.declared.loops.Loop.{Loop}
+use Rattle.step_code.specs.Loops.{around}
+use Rattle.step_code.specs.Heights.{Member}
+use Rattle.step_code.specs.Rules.{is_none, enters_badly, is_entry, is_bad_entry, on_some, finds, jumps_badly, BadJump, IsVerified}
+use Rattle.step_code.proofs.Refusals.{untrue, or_left, not_false, is_sound, clean_closed}
+use Rattle.step_code.proofs.Crossing.{AreClosed}
+use Rattle.step_code.proofs.Placing.{IsKnown}
+
+pub verified_closed : (c : CodeParts) (p : ℕ) → IsVerified c → AreClosed c.instrs p
+verified_closed c p v = clean_closed c p (record { none = λ q r less. v.clean q r })
+
+good_entry : (c : CodeParts) (p : ℕ) → IsVerified c → is_bad_entry c.instrs c.entries p ≡ false
+good_entry c p v = or_left (is_bad_entry c.instrs c.entries p) (finds c (jumps_badly c.instrs p) p) (untrue (is_bad_entry c.instrs c.entries p || finds c (jumps_badly c.instrs p) p) (v.clean p BadJump))
+
+pub verified_known : (c : CodeParts) (p : ℕ) (i : Instr) → IsVerified c → slice_get c.instrs p ≡ Some i → IsKnown c p i
+verified_known c p i v here = record { here = here; entry = good_entry c p v; sound = is_sound c p i (v.clean p) here }
+
+-- ---- entries
+same_is : (p : ℕ) → nat_eq p p ≡ true
+same_is p = grind arith
+
+or_true : (a b : Bool) → b ≡ true → (a || b) ≡ true
+or_true true b is = refl
+or_true false b is = is
+
+member_entry : (entries : List (Option ℕ)) (e : ℕ) → Member entries (Some e) → is_entry entries e ≡ true
+member_entry [] e among = absurd among
+member_entry (x ∷ entries) e among =
+    ⊎_elim
+    (λ (is : x ≡ Some e). ap (λ o. on_some o (nat_eq e) || is_entry entries e) is ∙ ap (λ b. b || is_entry entries e) (same_is e))
+    (λ later. or_true (on_some x (nat_eq e)) (is_entry entries e) (member_entry entries e later))
+    among
+
+pub record EntersWell (code : List Instr) (e : ℕ) : Type 0 where
+  pub there : e < length code
+  pub outside : around code e ≡ []
+
+none_is : (ls : List Loop) → is_none ls ≡ true → ls ≡ []
+none_is [] is = refl
+none_is (l ∷ ls) is = absurd (false≢true is)
+
+second_false : (a b : Bool) → a ≡ true → (a && b) ≡ false → b ≡ false
+second_false a b is both = sym (ap (λ x. x && b) is) ∙ both
+
+pub verified_entry : (c : CodeParts) (e : ℕ) → IsVerified c → Member c.entries (Some e) → EntersWell c.instrs e
+verified_entry c e v among =
+    let bad = second_false (is_entry c.entries e) (enters_badly c.instrs e) (member_entry c.entries e among) (good_entry c e v) in
+    let both = and_parts (nat_lt e (length c.instrs)) (is_none (around c.instrs e)) (not_false (nat_lt e (length c.instrs) && is_none (around c.instrs e)) bad) in
+    record { there = ltb-true e (length c.instrs) both.0; outside = none_is (around c.instrs e) both.1 }

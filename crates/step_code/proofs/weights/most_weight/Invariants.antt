@@ -1,0 +1,7 @@
+use Rattle.std.proofs.Common.{◌≡◌, take}
+use Rattle.step_code.specs.Paths.{weight}
+use Rattle.step_code.specs.Capped.{capped}
+use Rattle.step_code.proofs.weights.most_weight.Given as goal
+
+abbrev pub invariant-loop-entry : goal.invariant-loop-entry
+invariant-loop-entry l = l.most ≡ capped (weight l.parts.instrs (take l.entry-index l.parts.entries))

@@ -1,0 +1,11 @@
+pub mod Step
+pub mod Loops
+pub mod Innermost
+pub mod Paths
+pub mod Exec
+pub mod Heights
+pub mod Walks
+pub mod Rules
+pub mod Checks
+pub mod Capped
+pub mod Means

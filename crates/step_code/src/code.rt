@@ -1,0 +1,76 @@
+//! Code that is verified.
+ghost use Rattle.std.specs.Prelude.{◌≡◌};
+ghost use Rattle.step_code.specs.Paths.{weight};
+ghost use Rattle.step_code.specs.Capped.{capped};
+
+use crate::instr::CodeParts;
+use std::marker::Model;
+
+/// The greatest number of instructions of a code.
+pub const MOST_INSTRS: usize = 4096;
+
+/// Instructions whose steps always end, and never lack an operand, a slot, a port or a place.
+/// Contracts see their parts. [`crate::verify`] makes code.
+#[derive(Drop)]
+pub struct Code {
+    parts: CodeParts,
+    most: u64,
+}
+
+impl Model for Code {
+    ghost use Rattle.step_code.specs.declared.instr.CodeParts.{CodeParts};
+
+    ghost Value = { CodeParts };
+
+    ghost use Rattle.step_code.specs.contracts.instr.CodeParts.{the_row};
+
+    ghost coded = { the_row.coded };
+
+    ghost view = { λ code. code.parts };
+
+    ghost use Rattle.std.specs.Prelude.{◌≡◌};
+    ghost use Rattle.step_code.specs.Paths.{weight};
+    ghost use Rattle.step_code.specs.Rules.{IsVerified};
+    ghost use Rattle.step_code.specs.Capped.{capped};
+
+    ghost invariant = { λ code. IsVerified code.parts × (code.most ≡ capped (weight code.parts.instrs code.parts.entries)) };
+}
+
+impl Code {
+    ghost use Rattle.std.specs.Prelude.{◌≡◌};
+    ghost use Rattle.step_code.specs.Paths.{weight};
+    ghost use Rattle.step_code.specs.Rules.{IsVerified};
+    ghost use Rattle.step_code.specs.Capped.{capped};
+
+    /// The code of verified parts and their weight. It takes no memory.
+    pub(crate) fn new(parts: CodeParts, most: u64) -> Code
+        requires verified { IsVerified parts }
+        requires most { most ≡ capped (weight parts.instrs parts.entries) }
+        ensures { result ≡ parts }
+    {
+        Code { parts, most }
+    }
+
+    /// All parts at once.
+    pub fn parts(&self) -> &CodeParts
+        ensures value { result.now ≡ self.now }
+        ensures verified { IsVerified self.now }
+    {
+        &self.parts
+    }
+
+    // The weight that is kept.
+    fn most(&self) -> u64
+        ensures { result ≡ capped (weight self.now.instrs self.now.entries) }
+    {
+        self.most
+    }
+}
+
+/// How many instructions one step takes at most, stopped at u64's greatest value. It takes no
+/// memory.
+pub fn most(code: &Code) -> u64
+    ensures { result ≡ capped (weight code.now.instrs code.now.entries) }
+{
+    code.most()
+}

@@ -1,0 +1,4 @@
+pub mod Cells
+pub mod Holding
+pub mod Running
+pub mod Leaving

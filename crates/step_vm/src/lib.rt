@@ -1,0 +1,13 @@
+//! The machine that runs step code.
+#![tactic(auto)]
+
+mod machine;
+mod operators;
+mod room;
+mod stack;
+mod steps;
+#[cfg(test)]
+mod tests;
+
+pub use room::Room;
+pub use steps::run;

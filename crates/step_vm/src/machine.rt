@@ -1,0 +1,162 @@
+//! What one instruction does.
+ghost use Rattle.std.specs.Prelude.{◌≡◌, ◌≤◌, ◌<◌, ◌+◌, length, map, Some, slice_get};
+ghost use Rattle.pals_base.specs.Fire.{is_present};
+ghost use Rattle.std.specs.Prelude.{List, ℤ, ◌∷◌};
+ghost use Rattle.pals_base.specs.declared.values.Port.{Port};
+ghost use Rattle.step_code.specs.declared.code.TheConstants.{MOST_INSTRS};
+ghost use Rattle.step_code.specs.Step.{step, on_two, on_result, Goes};
+ghost use Rattle.step_code.specs.Heights.{takes, Fed};
+ghost use Rattle.step_vm.specs.Stacks.{Met};
+
+use crate::operators::{apply, holds, number_of};
+use crate::stack::Stack;
+use pals_base::{Op, Port, Trap};
+use step_code::Instr;
+
+/// Where an instruction leads: to a place, to the end of the step in a state, or to a trap.
+#[derive(Clone, Copy, PartialEq, Eq, Debug)]
+pub enum Onward {
+    Goes(usize),
+    Ends(u32),
+    Traps(Trap),
+}
+
+/// What a step reads and never changes: the held inputs, and what the in ports have in this step.
+#[derive(Clone, Copy)]
+pub struct Inputs<'a> {
+    pub held: &'a [i64],
+    pub present: &'a [Port],
+}
+
+// Whether an input came to the port in this step.
+#[inline(always)]
+fn is_fresh(present: &[Port], port: usize) -> bool
+    requires { port < length present.now }
+    ensures { slice_get (map is_present present.now) port ≡ Some result }
+{
+    matches!(present[port], Port::Present(_))
+}
+
+// A result on the stack, or a trap.
+#[inline(always)]
+fn give(stack: &mut Stack, value: Result<i64, Trap>, place: usize) -> Onward
+    requires room { length stack.old.numbers < stack.old.size }
+    requires small { place < MOST_INSTRS }
+    ensures met { (slots : List ℤ) (outs : List Port) → Met result stack.new.numbers slots outs (on_result value (λ v. Goes (place + 1) (v ∷ stack.old.numbers) slots outs)) }
+    ensures size { stack.new.size ≡ stack.old.size }
+{
+    match value {
+        Ok(number) => {
+            stack.push(number);
+            Onward::Goes(place + 1)
+        }
+        Err(trap) => Onward::Traps(trap),
+    }
+}
+
+// The two topmost numbers give way to the result of an operator.
+#[inline(always)]
+fn two(stack: &mut Stack, op: Op, place: usize) -> Onward
+    requires both { 2 ≤ length stack.old.numbers }
+    requires room { length stack.old.numbers ≤ stack.old.size }
+    requires small { place < MOST_INSTRS }
+    ensures met { (slots : List ℤ) (outs : List Port) → Met result stack.new.numbers slots outs (on_two op place stack.old.numbers slots outs) }
+    ensures size { stack.new.size ≡ stack.old.size }
+{
+    let right = stack.pop();
+    let left = stack.pop();
+    give(stack, apply(op, left, right), place)
+}
+
+/// One instruction, where its operands, its slots and its ports are there.
+#[inline(always)]
+pub fn advance(
+    instr: Instr,
+    place: usize,
+    stack: &mut Stack,
+    slots: &mut [i64],
+    outs: &mut [Port],
+    inputs: Inputs,
+) -> Onward
+    requires operands { takes instr ≤ length stack.old.numbers }
+    requires there { Fed (length slots.old) (length inputs.held.now) (length outs.old) instr }
+    requires inputs { length inputs.present.now ≡ length inputs.held.now }
+    requires room { length stack.old.numbers < stack.old.size }
+    requires small { place < MOST_INSTRS }
+    ensures met { Met result stack.new.numbers slots.new outs.new (step (Some instr) (record { held = inputs.entry.held.now; fresh = map is_present inputs.entry.present.now }) place stack.old.numbers slots.old outs.old) }
+    ensures size { stack.new.size ≡ stack.old.size }
+{
+    match instr {
+        Instr::Push(value) => give(stack, Ok(value), place),
+        Instr::Load(slot) => give(stack, Ok(slots[slot as usize]), place),
+        Instr::Store(slot) => {
+            slots[slot as usize] = stack.pop();
+            Onward::Goes(place + 1)
+        }
+        Instr::Port(port) => give(stack, Ok(inputs.held[port as usize]), place),
+        Instr::Fresh(port) => {
+            let fresh = is_fresh(inputs.present, port as usize);
+            give(stack, Ok(number_of(fresh)), place)
+        }
+        Instr::Neg => {
+            let value = stack.pop();
+            give(stack, pals_base::neg(value), place)
+        }
+        Instr::Abs => {
+            let value = stack.pop();
+            give(stack, pals_base::abs(value), place)
+        }
+        Instr::Not => {
+            let value = stack.pop();
+            give(stack, Ok(number_of(!holds(value))), place)
+        }
+        Instr::Add => two(stack, Op::Add, place),
+        Instr::Sub => two(stack, Op::Sub, place),
+        Instr::Mul => two(stack, Op::Mul, place),
+        Instr::Quot => two(stack, Op::Quot, place),
+        Instr::Mod => two(stack, Op::Mod, place),
+        Instr::Rem => two(stack, Op::Rem, place),
+        Instr::Eq => two(stack, Op::Eq, place),
+        Instr::Ne => two(stack, Op::Ne, place),
+        Instr::Lt => two(stack, Op::Lt, place),
+        Instr::Le => two(stack, Op::Le, place),
+        Instr::Gt => two(stack, Op::Gt, place),
+        Instr::Ge => two(stack, Op::Ge, place),
+        Instr::And => two(stack, Op::And, place),
+        Instr::Or => two(stack, Op::Or, place),
+        Instr::Xor => two(stack, Op::Xor, place),
+        Instr::Jump(to) => Onward::Goes(to as usize),
+        Instr::JumpZero(to) => {
+            if holds(stack.pop()) {
+                Onward::Goes(place + 1)
+            } else {
+                Onward::Goes(to as usize)
+            }
+        }
+        Instr::LoopStart {
+            slot,
+            low,
+            high,
+            exit,
+        } => {
+            if high < low {
+                return Onward::Goes(exit as usize);
+            }
+            slots[slot as usize] = low;
+            Onward::Goes(place + 1)
+        }
+        Instr::LoopNext { slot, high, to } => {
+            let number = slots[slot as usize];
+            if number < high {
+                slots[slot as usize] = number + 1;
+                return Onward::Goes(to as usize);
+            }
+            Onward::Goes(place + 1)
+        }
+        Instr::Emit(port) => {
+            outs[port as usize] = Port::Present(stack.pop());
+            Onward::Goes(place + 1)
+        }
+        Instr::End(state) => Onward::Ends(state),
+    }
+}

@@ -1,0 +1,168 @@
+//! Steps of code.
+ghost use Rattle.std.specs.Prelude.{◌≡◌, ◌≤◌, ◌-◌, ◌++◌, [], length, take, replicate, pos, Some, true, slice_get, ◌+◌};
+ghost use Rattle.pals_base.specs.Fire.{holding};
+ghost use Rattle.step_code.specs.Paths.{weight};
+ghost use Rattle.step_code.specs.Exec.{FitsCode, Sized, Leaves, exec, has_entry, left, run_from, senses, silent, run as run_of};
+ghost use Rattle.step_code.specs.Heights.{Member};
+ghost use Rattle.step_code.specs.Rules.{IsVerified};
+ghost use Rattle.step_vm.specs.Stacks.{stack_of, HasEnded, LeavesBehind};
+ghost use Rattle.step_vm.specs.Rooms.{IsRoomOf};
+
+use crate::machine::{Inputs, Onward, advance};
+use crate::room::Room;
+use crate::stack::Stack;
+use pals_base::{Frame, Items, Port, Trap};
+use step_code::{Code, CodeParts};
+
+/// How a run comes to its end: in a state, or by a trap.
+enum Ended {
+    In(u32),
+    Trapped(Trap),
+}
+
+/// One step of the code at these inputs: the frame and the outputs become those that it leaves.
+/// It takes no memory and refuses nothing.
+pub fn run(code: &Code, room: &mut Room, frame: &mut Frame, inputs: &[Port], outs: &mut [Port])
+    requires room { IsRoomOf code.now room.old }
+    requires frame { FitsCode code.now frame.old }
+    requires inputs { length inputs.now ≡ code.now.ins }
+    requires outs { length outs.old ≡ code.now.outs }
+    ensures step { exec code.now frame.old inputs.now ≡ Leaves (record { frame = frame.new; outs = outs.new }) }
+    ensures room { room.new ≡ room.old }
+{
+    hold(&mut frame.held, inputs);
+    silence(outs);
+    if frame.halt.is_some() {
+        return;
+    }
+    let parts = code.parts();
+    let entry = entry_of(parts, frame.state);
+    room.stack.clear();
+    let slots = room.slots.as_mut_slice();
+    react(parts, entry, &mut room.stack, slots, frame, inputs, outs);
+}
+
+// The step of a frame that holds its inputs and is not halted.
+fn react(
+    parts: &CodeParts,
+    entry: usize,
+    stack: &mut Stack,
+    slots: &mut [i64],
+    frame: &mut Frame,
+    inputs: &[Port],
+    outs: &mut [Port],
+)
+    requires verified { IsVerified parts.now }
+    requires entry { Member parts.now.entries (Some entry) }
+    requires stack { stack.old ≡ stack_of [] (length parts.now.instrs) }
+    requires slots { length slots.old ≡ parts.now.vars + parts.now.loops }
+    requires sizes { Sized parts.now frame.old inputs.now }
+    requires outs { outs.old ≡ silent parts.now }
+    ensures step { left parts.now frame.old (run_from parts.now frame.old inputs.now entry) ≡ Leaves (record { frame = frame.new; outs = outs.new }) }
+    ensures size { stack.new.size ≡ stack.old.size }
+{
+    begin(slots, frame.vars.as_slice());
+    let reads = Inputs {
+        held: frame.held.as_slice(),
+        present: inputs,
+    };
+    let ended = run_from(parts, entry, stack, slots, outs, reads);
+    leave(ended, frame, slots, outs);
+}
+
+// What a run leaves: the state and the variables where it ended, or a trap and no outputs.
+fn leave(ended: Ended, frame: &mut Frame, slots: &[i64], outs: &mut [Port])
+    requires { length frame.old.vars ≤ length slots.now }
+    ensures { LeavesBehind ended slots.now frame.old frame.new outs.old outs.new }
+{
+    match ended {
+        Ended::In(state) => {
+            keep(&mut frame.vars, slots);
+            frame.state = state;
+        }
+        Ended::Trapped(trap) => {
+            silence(outs);
+            frame.halt = Some(trap);
+        }
+    }
+}
+
+// The place at which the step of a state begins.
+fn entry_of(parts: &CodeParts, state: u32) -> usize
+    requires { has_entry (slice_get parts.now.entries state) ≡ true }
+    ensures { slice_get parts.now.entries state ≡ Some (Some result) }
+{
+    match parts.entries.get(state as usize).copied() {
+        Some(Some(entry)) => entry as usize,
+        _ => unreachable!(),
+    }
+}
+
+// Instructions from an entry on, until one ends the step or traps.
+fn run_from(
+    parts: &CodeParts,
+    entry: usize,
+    stack: &mut Stack,
+    slots: &mut [i64],
+    outs: &mut [Port],
+    inputs: Inputs,
+) -> Ended
+    requires verified { IsVerified parts.now }
+    requires entry { Member parts.now.entries (Some entry) }
+    requires stack { stack.old ≡ stack_of [] (length parts.now.instrs) }
+    requires slots { length slots.old ≡ parts.now.vars + parts.now.loops }
+    requires outs { length outs.old ≡ parts.now.outs }
+    requires held { length inputs.held.now ≡ parts.now.ins }
+    requires present { length inputs.present.now ≡ parts.now.ins }
+    ensures ended { HasEnded result slots.new outs.new (run_of parts.now.instrs (senses inputs.entry.held.now inputs.entry.present.now) (weight parts.now.instrs parts.now.entries) entry [] slots.old outs.old) }
+    ensures size { stack.new.size ≡ stack.old.size }
+{
+    let instrs = parts.instrs.as_slice();
+    let mut place = entry;
+    loop {
+        match advance(instrs[place], place, stack, slots, outs, inputs) {
+            Onward::Goes(next) => place = next,
+            Onward::Ends(state) => return Ended::In(state),
+            Onward::Traps(trap) => return Ended::Trapped(trap),
+        }
+    }
+}
+
+// Holds each present input.
+fn hold(held: &mut Items<i64>, inputs: &[Port])
+    requires { length inputs.now ≡ length held.old }
+    ensures { held.new ≡ holding held.old inputs.now }
+{
+    for at in 0..inputs.len() {
+        if let Port::Present(value) = inputs[at] {
+            held.set(at, value);
+        }
+    }
+}
+
+// Leaves no value on any port.
+fn silence(outs: &mut [Port])
+    ensures { outs.new ≡ replicate (length outs.old) Port.Absent }
+{
+    outs.fill(Port::Absent);
+}
+
+// The slots at the start: the variables, and 0 for each loop.
+fn begin(slots: &mut [i64], vars: &[i64])
+    requires { length vars.now ≤ length slots.old }
+    ensures { slots.new ≡ vars.now ++ replicate (length slots.old - length vars.now) (pos 0) }
+{
+    let count = vars.len();
+    slots[..count].copy_from_slice(vars);
+    slots[count..].fill(0);
+}
+
+// The variables at the end: the first slots.
+fn keep(vars: &mut Items<i64>, slots: &[i64])
+    requires { length vars.old ≤ length slots.now }
+    ensures { vars.new ≡ take (length vars.old) slots.now }
+{
+    for at in 0..vars.len() {
+        vars.set(at, slots[at]);
+    }
+}
