@@ -1,5 +1,9 @@
-pub mod Naming
-pub mod Reading
-pub mod Rounds
+pub mod Filling
+pub mod Columns
+pub mod Sizing
+pub mod Following
 pub mod Tables
-pub mod Upwards
+pub mod TapPorts
+pub mod Stepping
+pub mod Sending
+pub mod Openings

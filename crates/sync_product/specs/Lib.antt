@@ -1,3 +1,5 @@
-pub mod Ready
-pub mod Sources
+pub mod Rounds
+pub mod Sizes
 pub mod State
+pub mod Ready
+pub mod Laws

@@ -1,7 +1,0 @@
-use Rattle.std.proofs.Common.{◌≡◌, ◌++◌, drop}
-use Rattle.pals_base.specs.Steps.{column}
-use Rattle.sync_product.proofs.columns.column.Given as goal
-
--- the places so far, and those of the tuples that are left
-abbrev pub invariant-loop-tuple : goal.invariant-loop-tuple
-invariant-loop-tuple l = l.places ++ column l.at (drop l.tuple-index l.tuples) ≡ column l.at l.tuples

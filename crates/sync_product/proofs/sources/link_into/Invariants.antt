@@ -1,9 +1,0 @@
-use Rattle.std.proofs.Common.{◌≡◌, ◌&&◌, drop, nat_eq}
-use Rattle.std.specs.List.{position_from}
-use Rattle.sync_product.proofs.sources.link_into.Given as goal
-
--- what is left answers for all
-abbrev pub invariant-loop-at : goal.invariant-loop-at
-invariant-loop-at l =
-    position_from (λ link. nat_eq link.target.0 l.node && nat_eq link.in_port l.port) l.at (drop l.at l.links)
-    ≡ position_from (λ link. nat_eq link.target.0 l.node && nat_eq link.in_port l.port) 0 l.links
