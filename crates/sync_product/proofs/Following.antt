@@ -1,12 +1,11 @@
 -- Products follow the composition.
-use Rattle.std.proofs.Common.{◌≡◌, ◌∙◌, ℕ, zero, suc, List, [], ◌∷◌, length, map, refl, sym, ap, ap₂}
-use Rattle.pals_base.specs.declared.values.Port.{Port}
+use Rattle.std.proofs.Common.{◌≡◌, ◌∙◌, ℕ, zero, suc, List, [], ◌∷◌, length, map, refl, ap, ap₂}
 use Rattle.pals_base.specs.Steps.{upwards}
 use Rattle.pals_model.specs.declared.design.DesignParts.{DesignParts}
 use Rattle.pals_model.specs.declared.rounds.Env.{Env}
 use Rattle.pals_model.specs.Inputs.{values_at}
 use Rattle.pals_model.specs.Composition.{Configuration, comp, next, part, part_of, all_steps}
-use Rattle.sync_product.specs.State.{state_after, parts_of}
+use Rattle.sync_product.specs.State.{parts_of}
 use Rattle.sync_product.specs.Laws.{DesignStays, StandsAtComposition, HasPartsOfRound}
 
 pub design_stays : DesignStays

@@ -7,3 +7,4 @@ pub mod TapPorts
 pub mod Stepping
 pub mod Sending
 pub mod Openings
+pub mod Standing

@@ -1,6 +1,9 @@
 -- Messages and the rows that they come from.
-use Rattle.std.proofs.Common.{◌≡◌, ◌∙◌, ℕ, ◌<◌, inl, inr, List, length, map, replicate, slice_get, slice_index_or, sym, ap, arith}
-use Rattle.std.proofs.lemmas.Option.{slice_get_cases}
+use Rattle.std.proofs.Common.{◌≡◌, ◌∙◌, ℕ, ◌<◌, inl, inr, List, length, map, slice_get, slice_index_or, refl, sym, ap, arith}
+use Rattle.std.proofs.lemmas.Option.{slice_get_cases, slice_get_read}
+use Rattle.std.proofs.lemmas.List.{get_or-map}
+use Rattle.pals_base.specs.Steps.{column, cut}
+use Rattle.sync_product.specs.Rounds.{sent_by, sent_from}
 use Rattle.pals_base.specs.declared.values.Port.{Port}
 use Rattle.pals_base.specs.Bound.{sent_steps}
 use Rattle.pals_model.specs.declared.design.Component.{Component}
@@ -34,3 +37,16 @@ sized_message design stages messages number source link message stage stages_fit
           ∙ sym (count_of_rows stage.rows comp.rate (length comp.behaviour.outs) (ap (λ (s : StageSize). s.rows) room))
       | inr past ↦ absurd (omega (arith, past.0))
     ]
+
+-- what a link's message has to be
+pub sent_item : (stages : List Stage) (links : List Link) (number : ℕ) (d : Link) (rows : List (List Port)) (stage : Stage) (message : List Port)
+    → number < length links → (slice_index_or links number d).source.0 < length stages
+    → stage ≡ slice_index_or stages (slice_index_or links number d).source.0 stage → rows ≡ stage.rows
+    → message ≡ cut stage.sent (column (slice_index_or links number d).out_port rows)
+    → message ≡ slice_index_or (map (sent_by stages) links) number message
+sent_item stages links number d rows stage message within inside stage_is rows_are is =
+    let link = slice_index_or links number d in
+    is
+    ∙ ap (λ rs. cut stage.sent (column link.out_port rs)) rows_are
+    ∙ sym (ap (λ o. sent_from o link.out_port) (slice_get_read stages (length stages) link.source.0 stage refl inside stage_is))
+    ∙ sym (get_or-map (sent_by stages) links number d message within)

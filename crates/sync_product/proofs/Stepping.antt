@@ -1,5 +1,5 @@
 -- The steps of one more component.
-use Rattle.std.proofs.Common.{◌≡◌, ◌∙◌, ℕ, ◌+◌, ◌<◌, ◌≤◌, inl, inr, List, length, map, set, slice_get, slice_index_or, Some, refl, sym, ap, ap₂, arith}
+use Rattle.std.proofs.Common.{◌≡◌, ◌∙◌, ℕ, ◌+◌, ◌<◌, inl, inr, List, length, map, set, slice_get, slice_index_or, Some, sym, ap, ap₂, arith}
 use Rattle.std.proofs.lemmas.Bool.{cases_lt}
 use Rattle.std.proofs.lemmas.List.{map-set, length-map, get_or-map}
 use Rattle.pals_base.specs.declared.values.Port.{Port}
@@ -15,7 +15,6 @@ use Rattle.sync_product.specs.declared.stage.Stage.{Stage}
 use Rattle.sync_product.specs.Sizes.{tap_ports}
 use Rattle.sync_product.specs.Rounds.{IsStepped, frames_of, own_part, own_rows, own_vectors, vectors}
 use Rattle.sync_product.proofs.Tables.{slice_get-set_same, slice_get-set_other}
-
 
 pub stepped_more : (round : RoundInputs) (frames : List Frame) (next : List Part) (stages : List Stage) (node : ℕ) (item : Component) (part' : Part) (stage' : Stage)
     → node < length next → node < length stages → slice_get round.design.now.components node ≡ Some item

@@ -1,5 +1,5 @@
 -- Lists with an element for each component, and their elements.
-use Rattle.std.proofs.Common.{◌≡◌, ◌≢◌, ◌∙◌, ℕ, zero, suc, ◌+◌, ◌<◌, List, [], ◌∷◌, length, map, set, slice_get, slice_index_or, Some, refl, sym, ap, arith}
+use Rattle.std.proofs.Common.{◌≡◌, ◌∙◌, ℕ, zero, suc, ◌+◌, ◌<◌, List, [], ◌∷◌, length, map, set, slice_get, slice_index_or, Some, refl, sym, ap, arith}
 use Rattle.std.specs.Option.{option_map}
 use Rattle.std.specs.List.{enumerate_from}
 use Rattle.std.proofs.lemmas.List.{length-map, get_or-map}
@@ -60,3 +60,6 @@ within_sized size xs f ys items k same is within = omega (arith, length-map xs s
 -- the element of a loop
 pub item_at : {X : Type 0} (xs items : List X) (k : ℕ) (x : X) → items ≡ xs → k < length items → x ≡ slice_index_or items k x → slice_get xs k ≡ Some x
 item_at xs items k x same within is = ap (λ l. slice_get l k) (sym same) ∙ slice_get_read items (length items) k x refl within is
+
+pub within_same : {a n m k : ℕ} → a < n → m ≡ k → k ≡ n → a < m
+within_same within same count = omega arith

@@ -8,5 +8,5 @@ use Rattle.sync_product.proofs.messages.send_all.Given as goal
 abbrev pub invariant-loop-number : goal.invariant-loop-number
 invariant-loop-number l = record {
   sizes : map (λ (tuple : List Port). length tuple) l.messages ≡ message_sizes l.design;
-  done : take l.number l.messages ≡ take l.number (map (sent_by l.stages) l.link-items)
+  done : take l.number l.messages ≡ take l.number (map (sent_by l.stages) l.link-items);
 }

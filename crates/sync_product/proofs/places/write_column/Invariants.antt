@@ -6,5 +6,5 @@ use Rattle.sync_product.proofs.places.write_column.Given as goal
 abbrev pub invariant-loop-at : goal.invariant-loop-at
 invariant-loop-at l = record {
   len : length l.to ≡ length l.rows;
-  done : take l.at l.to ≡ take l.at (cut l.count (column l.port l.rows))
+  done : take l.at l.to ≡ take l.at (cut l.count (column l.port l.rows));
 }

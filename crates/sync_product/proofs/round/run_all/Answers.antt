@@ -1,4 +1,4 @@
-use Rattle.std.proofs.Common.{◌≡◌, ◌∙◌, ℕ, ◌<◌, List, ap, sym, length, map, slice_index_or, arith}
+use Rattle.std.proofs.Common.{◌∙◌, ℕ, ◌<◌, ap, sym, length, slice_index_or, arith}
 use Rattle.std.proofs.lemmas.List.{length-map, get_or_default}
 use Rattle.std.proofs.lemmas.Option.{slice_get_within}
 use Rattle.pals_base.specs.Bound.{sent_steps}

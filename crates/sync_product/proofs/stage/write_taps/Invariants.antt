@@ -7,5 +7,5 @@ use Rattle.sync_product.proofs.stage.write_taps.Given as goal
 abbrev pub invariant-loop-at : goal.invariant-loop-at
 invariant-loop-at l = record {
   sizes : map (λ (tuple : List Port). length tuple) l.outs ≡ map (λ (tuple : List Port). length tuple) l.fn.outs;
-  done : take l.at l.outs ≡ take l.at (map (λ port. column port l.rows) l.taps)
+  done : take l.at l.outs ≡ take l.at (map (λ port. column port l.rows) l.taps);
 }

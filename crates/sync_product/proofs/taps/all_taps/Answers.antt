@@ -1,4 +1,4 @@
-use Rattle.std.proofs.Common.{◌≡◌, ◌∙◌, ◌++◌, ◌∷◌, ℕ, ◌<◌, List, [], ap, sym, length, map, take, set, slice_index_or, arith}
+use Rattle.std.proofs.Common.{◌∙◌, ◌++◌, ◌∷◌, ℕ, List, [], ap, sym, length, map, take, set, slice_index_or, arith}
 use Rattle.std.proofs.lemmas.List.{take_all, take_more}
 use Rattle.pals_model.specs.declared.design.Component.{Component}
 use Rattle.pals_model.specs.Rules.{IsTap}

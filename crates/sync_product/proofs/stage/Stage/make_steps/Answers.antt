@@ -1,6 +1,5 @@
-use Rattle.std.proofs.Common.{◌≡◌, ◌∙◌, ℕ, ◌+◌, ◌<◌, ◌≤◌, List, [], ◌∷◌, ◌++◌, ap, sym, length, map, take, slice_index_or, arith}
-use Rattle.std.proofs.lemmas.List.{take_more_set, take_all}
-use Rattle.pals_base.specs.declared.values.Port.{Port}
+use Rattle.std.proofs.Common.{◌∙◌, ◌+◌, [], ◌∷◌, ◌++◌, ap, sym, length, map, take, arith}
+use Rattle.std.proofs.lemmas.List.{take_more_set}
 use Rattle.pals_base.specs.declared.values.Frame.{Frame}
 use Rattle.pals_base.specs.Fire.{fire}
 use Rattle.pals_base.specs.Steps.{column, columns, frame_after, outputs}

@@ -5,5 +5,5 @@ use Rattle.sync_product.proofs.stage.Stage.new.Given as goal
 abbrev pub invariant-loop-step : goal.invariant-loop-step
 invariant-loop-step l = record {
   outs : l.outs ≡ length l.component.behaviour.outs;
-  rows : map (λ (row : List Port). length row) l.rows ≡ replicate l._step (length l.component.behaviour.outs)
+  rows : map (λ (row : List Port). length row) l.rows ≡ replicate l._step (length l.component.behaviour.outs);
 }
