@@ -1,5 +1,5 @@
 //! Names that are declared once.
-ghost use Rattle.std.specs.Prelude.{◌≡◌, ◌∷◌, IfOk, OnOk, map};
+ghost use Rattle.std.specs.Prelude.{◌≡◌, ◌∷◌, All, IfOk, OnOk, map};
 ghost use Rattle.first_form.specs.FirstForm.{AreDistinct, NamesOnce, process_names};
 
 use crate::read_end::ReadEnd;

@@ -1,6 +1,6 @@
 //! The bound: what a period has to meet, and which steps of a round are sent. All times are
 //! nanoseconds. The calls are exact at any numbers and take no memory.
-ghost use Rattle.std.specs.Prelude.{◌≡◌, ◌/◌, ◌≤◌};
+ghost use Rattle.std.specs.Prelude.{◌≡◌, ◌/◌};
 ghost use Rattle.pals_base.specs.Bound.{backoff, least_period, step_period, sent_steps, release_offset};
 
 use crate::values::{Gamma, Nanos};
@@ -27,39 +27,37 @@ impl Gamma {
 
     /// How many of its `rate` steps in a round of `t` end in time for a message to carry them.
     pub fn sent_steps(&self, t: Nanos, rate: u32) -> u32
-        requires { 1 ≤ rate }
         ensures { result ≡ sent_steps self.now t rate }
     {
         let spare = t
             .saturating_sub(self.mu_max)
             .saturating_sub(self.eps.saturating_mul(2))
             .saturating_sub(self.alpha_max);
-        let later = whole_periods(spare, step_period(t, rate));
+        let later = quotient(spare, step_period(t, rate));
         u64::from(rate).min(later.saturating_add(1)) as u32
     }
 
     /// How long after its alarm a component that makes `rate` steps in a round of `t` may send its
     /// outputs.
     pub fn release_offset(&self, t: Nanos, rate: u32) -> u128
-        requires { 1 ≤ rate }
         ensures { result ≡ release_offset self.now t rate }
     {
-        let later = u128::from(self.sent_steps(t, rate) - 1);
+        let later = u128::from(self.sent_steps(t, rate).saturating_sub(1));
         self.backoff().max(later * u128::from(step_period(t, rate)))
     }
 }
 
-/// The time from one step to the next of a component that makes `rate` steps in a round of `t`.
+/// The time from one step to the next of a component that makes `rate` steps in a round of `t`, 0
+/// where it makes none.
 pub fn step_period(t: Nanos, rate: u32) -> Nanos
-    requires { 1 ≤ rate }
     ensures { result ≡ step_period t rate }
 {
-    t / u64::from(rate)
+    quotient(t, u64::from(rate))
 }
 
-// How often a period fits in a time. A period of 0 counts as none.
-fn whole_periods(time: Nanos, period: Nanos) -> u64
-    ensures { result ≡ time / period }
+// The quotient, which is 0 at a divisor of 0.
+fn quotient(time: Nanos, divisor: u64) -> u64
+    ensures { result ≡ time / divisor }
 {
-    time.checked_div(period).unwrap_or(0)
+    time.checked_div(divisor).unwrap_or(0)
 }

@@ -11,3 +11,5 @@ pub mod NameLaws
 pub mod Numbers
 pub mod Copies
 pub mod RootInputLaws
+pub mod StepLaws
+pub mod LineLaws

@@ -27,9 +27,9 @@ same_place name xs i j x y apart is_x is_y same =
     elim (cases_lt i j) [
       | inl below ↦ absurd (pair_at (λ a b. name a ≢ name b) xs i j x y apart below is_x is_y same)
       | inr not_below ↦ elim (cases_lt j i) [
-          | inl above ↦ absurd (pair_at (λ a b. name a ≢ name b) xs j i y x apart above is_y is_x (sym same))
-          | inr not_above ↦ omega arith
-        ]
+        | inl above ↦ absurd (pair_at (λ a b. name a ≢ name b) xs j i y x apart above is_y is_x (sym same))
+        | inr not_above ↦ omega arith
+      ]
     ]
 
 -- ---- components
@@ -94,21 +94,22 @@ target_names_differ design node port other_node other_port rules target other_ta
     let both : Some a.0 ≡ Some b.0 = sym a.2 ∙ ap (slice_get design.components) node_same ∙ b.2 in
     let one : a.0 ≡ b.0 = cc in
     let behaviour = is_behaviour design node a.0 rules a.2 in
-    let in_b : slice_get a.0.behaviour.ins other_port ≡ Some b.1 = ap (λ (c : Component). slice_get c.behaviour.ins other_port) one ∙ b.3 in
-    (node_same,
-    same_place (λ name. name) (value_names a.0.behaviour) port other_port a.1.name b.1.name behaviour.names.values_differ (name_at a.0.behaviour port a.1 a.3) (name_at a.0.behaviour other_port b.1 in_b) parts.1)
+    let in_b : slice_get a.0.behaviour.ins other_port ≡ Some b.1 = ap (λ (c : Component). slice_get c.behaviour.ins other_port) one ∙ b.3 in (
+      node_same,
+      same_place (λ name. name) (value_names a.0.behaviour) port other_port a.1.name b.1.name behaviour.names.values_differ (name_at a.0.behaviour port a.1 a.3) (name_at a.0.behaviour other_port b.1 in_b) parts.1,
+    )
 
 -- ---- links
 pub link_is_found : LinkIsFound
 link_is_found design number link rules is_link =
     first_at (λ (other : Link). bytes_eq (link_name design link) (link_name design other)) design.links number link is_link (same_bytes (link_name design link))
     (λ k other below is_other.
-        other_bytes (link_name design link) (link_name design other)
-        (λ same.
-            let here = at_element (IsLink design) design.links number link rules.links.each is_link in
-            let there = at_element (IsLink design) design.links k other rules.links.each is_other in
-            let ports = target_names_differ design link.target.0 link.in_port other.target.0 other.in_port rules here.target there.target same in
-            ne_of_lt (pair_at LinkPrecedes design.links k number other link rules.links.order below is_other is_link) (sym (ap₂ place_of ports.0 ports.1))))
+    other_bytes (link_name design link) (link_name design other)
+    (λ same.
+    let here = at_element (IsLink design) design.links number link rules.links.each is_link in
+    let there = at_element (IsLink design) design.links k other rules.links.each is_other in
+    let ports = target_names_differ design link.target.0 link.in_port other.target.0 other.in_port rules here.target there.target same in
+    ne_of_lt (pair_at LinkPrecedes design.links k number other link rules.links.order below is_other is_link) (sym (ap₂ place_of ports.0 ports.1))))
 
 pub found_link_has_name : FoundLinkHasName
 found_link_has_name design number name found =

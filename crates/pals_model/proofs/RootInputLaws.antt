@@ -11,8 +11,8 @@ use Rattle.std.proofs.lemmas.List.Folds.{list_any-append}
 use Rattle.std.proofs.lemmas.Option.{slice_get-map, slice_get_within, get_or_from_slice_get}
 use Rattle.pals_model.specs.declared.design.Feed.{Feed}
 use Rattle.pals_model.specs.Inputs.{new_names, feed_names, root_inputs, place_of}
-use Rattle.pals_model.specs.Ports.{fed_kind}
-use Rattle.pals_model.specs.Rules.{AgreeInKind, feed_kind}
+use Rattle.pals_model.specs.Ports.{first_kind, feed_kind}
+use Rattle.pals_model.specs.Rules.{AgreeInKind}
 use Rattle.pals_model.specs.Laws.RootInputs.{RootInputsDiffer, RootInputsAreFeeds, RootInputsInOrder, FeedHasRoot, FeedsHaveRootKind}
 use Rattle.pals_model.proofs.Lookups.{pair_at}
 use Rattle.pals_model.proofs.Words.{same_bytes, other_bytes}
@@ -40,8 +40,8 @@ new_names-new before (name ∷ names) =
     new_or_not (λ found. All (λ n. is_in n before ≡ false) found) (is_in name before) (new_names before names) (name ∷ new_names (before ++ name ∷ []) names)
     (λ _. new_names-new before names)
     (λ new. All-cons (λ n. is_in n before ≡ false) name (new_names (before ++ name ∷ []) names) new
-      (All-weaker (λ n. is_in n (before ++ name ∷ []) ≡ false) (λ n. is_in n before ≡ false) (λ n none. (or_parts (is_in n before) (is_in n (name ∷ [])) (sym (list_any-append (λ other. bytes_eq n other) before (name ∷ [])) ∙ none)).0)
-      (new_names (before ++ name ∷ []) names) (new_names-new (before ++ name ∷ []) names)))
+    (All-weaker (λ n. is_in n (before ++ name ∷ []) ≡ false) (λ n. is_in n before ≡ false) (λ n none. (or_parts (is_in n before) (is_in n (name ∷ [])) (sym (list_any-append (λ other. bytes_eq n other) before (name ∷ [])) ∙ none)).0)
+    (new_names (before ++ name ∷ []) names) (new_names-new (before ++ name ∷ []) names)))
 
 -- each new name is one of the names
 new_names-old : (before names : List (List ℕ)) → All (Contains names) (new_names before names)
@@ -60,14 +60,15 @@ new_names-all before (name ∷ names) =
     new_or_not (λ found. All (Contains (before ++ found)) (name ∷ names)) (is_in name before) (new_names before names) (name ∷ new_names (before ++ name ∷ []) names)
     (λ old. All-cons (Contains (before ++ new_names before names)) name names (Contains-append_left before (new_names before names) name (is_in-Contains name before old)) (new_names-all before names))
     (λ _.
-      let rest = new_names (before ++ name ∷ []) names in
-      All-cons (Contains (before ++ name ∷ rest)) name names (Contains-append_right before (name ∷ rest) name (0, (omega arith), refl))
-      (subst (λ found. All (Contains found) names) (append_assoc before (name ∷ []) rest) (new_names-all (before ++ name ∷ []) names)))
+    let rest = new_names (before ++ name ∷ []) names in
+    All-cons (Contains (before ++ name ∷ rest)) name names (Contains-append_right before (name ∷ rest) name (0, (omega arith), refl))
+    (subst (λ found. All (Contains found) names) (append_assoc before (name ∷ []) rest) (new_names-all (before ++ name ∷ []) names)))
 
 pub root_inputs_are_feeds : RootInputsAreFeeds
-root_inputs_are_feeds design name =
-    (λ is. All-contains (Contains (feed_names design)) (root_inputs design) name (new_names-old [] (feed_names design)) is,
-    λ is. All-contains (Contains (root_inputs design)) (feed_names design) name (new_names-all [] (feed_names design)) is)
+root_inputs_are_feeds design name = (
+  λ is. All-contains (Contains (feed_names design)) (root_inputs design) name (new_names-old [] (feed_names design)) is,
+  λ is. All-contains (Contains (root_inputs design)) (feed_names design) name (new_names-all [] (feed_names design)) is,
+)
 
 -- ---- their order
 abbrev first_place : List ℕ → List (List ℕ) → ℕ
@@ -107,13 +108,13 @@ new_names-order before (name ∷ names) =
     new_or_not (AllPairs (λ a b. first_place a (name ∷ names) < first_place b (name ∷ names))) (is_in name before) (new_names before names) (name ∷ new_names (before ++ name ∷ []) names)
     (λ old. behind before names name old (new_names-order before names))
     (λ _.
-      let after = before ++ name ∷ [] in
-      let new = new_names after names in
-      AllPairs-cons (λ a b. first_place a (name ∷ names) < first_place b (name ∷ names)) name new
-      (λ k d within.
-        let at = further (get_or new k d) name names (differs (get_or new k d) name after (new_names-new after names k d within) (in_pushed name before)) in
-        omega (arith, at, nearest name names))
-      (behind after names name (in_pushed name before) (new_names-order after names)))
+    let after = before ++ name ∷ [] in
+    let new = new_names after names in
+    AllPairs-cons (λ a b. first_place a (name ∷ names) < first_place b (name ∷ names)) name new
+    (λ k d within.
+    let at = further (get_or new k d) name names (differs (get_or new k d) name after (new_names-new after names k d within) (in_pushed name before)) in
+    omega (arith, at, nearest name names))
+    (behind after names name (in_pushed name before) (new_names-order after names)))
 
 -- ---- places
 within_or : (name other : List ℕ) (names : List (List ℕ)) (b : Bool) → bytes_eq name other ≡ b → (k : ℕ) → k < suc (length names) → slice_index_or (other ∷ names) k name ≡ name
@@ -197,11 +198,11 @@ feeds_have_root_kind design number feed rules is =
     let named : feed.name ≡ first.1.name = (bytes_eq-Decides feed.name first.1.name).0 first.4 in
     let agree : feed_kind design feed ≡ feed_kind design first.1
     = elim (cases_lt first.0 number) [
-        | inl before ↦ (let pair = pair_at (AgreeInKind design) design.feeds first.0 number first.1 feed rules.feeds.kinds before first.3 is in sym (pair.kinds (sym named)))
-        | inr not_before ↦
+      | inl before ↦ (let pair = pair_at (AgreeInKind design) design.feeds first.0 number first.1 feed rules.feeds.kinds before first.3 is in sym (pair.kinds (sym named)))
+      | inr not_before ↦
           (let here : first.0 ≡ number = (let upto = first.5 in omega (arith, upto)) in
           let both : Some feed ≡ Some first.1 = sym is ∙ sym (ap (slice_get design.feeds) here) ∙ first.3 in
           let one : feed ≡ first.1 = cc in
           ap (feed_kind design) one)
-      ] in
-    agree ∙ sym (ap (fed_kind design) first.2)
+    ] in
+    agree ∙ sym (ap (first_kind design) first.2)

@@ -37,7 +37,7 @@ pub columns_have_lengths : (n m : ℕ) (lists : List (List Port)) → length lis
 columns_have_lengths n m lists size =
     All-weaker (λ list. length list ≡ length lists) (λ list. length list ≡ m) (λ list is. is ∙ size) (columns n lists) (length-each_column n lists)
 
-length-outputs : (b : BehaviourParts) (frame : Frame) (vectors : List (List Port)) → length (outputs b frame vectors) ≡ length vectors
+pub length-outputs : (b : BehaviourParts) (frame : Frame) (vectors : List (List Port)) → length (outputs b frame vectors) ≡ length vectors
 length-outputs b frame [] = refl
 length-outputs b frame (inputs ∷ vectors) = ap suc (length-outputs b (fire b frame inputs).frame vectors)
 
@@ -59,7 +59,7 @@ feed_has_vectors design env messages node round c is_c =
     subst (AreVectors c) (sym (ap (inputs_in design (values_at env round) messages node) is_c)) (inputs_are_vectors design (values_at env round) messages node c)
 
 -- ---- frames
-steps_keep_shape : (b : BehaviourParts) (frame : Frame) (vectors : List (List Port)) → IsBehaviour b → HasShape b frame → HasShape b (frame_after b frame vectors)
+pub steps_keep_shape : (b : BehaviourParts) (frame : Frame) (vectors : List (List Port)) → IsBehaviour b → HasShape b frame → HasShape b (frame_after b frame vectors)
 steps_keep_shape b frame [] rules shape = shape
 steps_keep_shape b frame (inputs ∷ vectors) rules shape = steps_keep_shape b (fire b frame inputs).frame vectors rules (fires_well b frame inputs rules shape).0
 
@@ -129,10 +129,10 @@ taps_have_tuples design env node round c rules is_c =
     let own = filter_passes (λ (tap : Tap). nat_eq tap.source.0 node) design.taps in
     All-map (λ tuple. length tuple ≡ c.rate) (λ (tap : Tap). slice_index_or tuples tap.out_port []) (taps_of design node)
     (λ k d within.
-        let tap = get_or (taps_of design node) k d in
-        let here : tap.source.0 ≡ node = eqb-true tap.source.0 node (own k d within) in
-        let inside : tap.out_port < length c.behaviour.outs = subst (λ o. tap.out_port < outs_in o) (ap (slice_get design.components) here ∙ is_c) (sound k d within).source.port_is in
-        tuple_has_rate (length c.behaviour.outs) c.rate tap.out_port tuples (steps_give_tuples design env node round c is_c) inside)
+    let tap = get_or (taps_of design node) k d in
+    let here : tap.source.0 ≡ node = eqb-true tap.source.0 node (own k d within) in
+    let inside : tap.out_port < length c.behaviour.outs = subst (λ o. tap.out_port < outs_in o) (ap (slice_get design.components) here ∙ is_c) (sound k d within).source.port_is in
+    tuple_has_rate (length c.behaviour.outs) c.rate tap.out_port tuples (steps_give_tuples design env node round c is_c) inside)
 
 pub part_has_shape : PartHasShape
 part_has_shape design env node round c rules is_c =

@@ -2,7 +2,9 @@
 pub mod Sources
 pub mod RootInputs
 pub mod Shapes
+pub mod Steps
 pub mod Names
+pub mod Lines
 use Rattle.std.specs.Prelude.{◌≡◌, ◌≢◌, ℕ, suc, ◌<◌, [], length, flat_map, All, Some, map, slice_get, slice_index_or}
 use Rattle.pals_base.specs.declared.values.Port.TheVariants.{Absent}
 use Rattle.pals_base.specs.Fire.{initial}

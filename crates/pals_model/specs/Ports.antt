@@ -1,4 +1,4 @@
--- The ports of components, and the types of root in ports.
+-- The ports of components, and the types of the root in ports.
 use Rattle.std.specs.Prelude.{ℕ, bytes_eq, List, length, find, Option, Some, None, slice_get}
 use Rattle.pals_base.specs.declared.behaviour.Kind.{Kind}
 use Rattle.pals_base.specs.declared.behaviour.Kind.TheVariants.{Integer}
@@ -29,10 +29,14 @@ out_kind None port = Integer
 out_kind (Some c) port = kind_of (slice_get c.behaviour.outs port)
 
 -- the type of the in port that a feed goes to
-abbrev pub fed_kind : DesignParts → Option Feed → Kind
-fed_kind design None = Integer
-fed_kind design (Some feed) = in_kind (slice_get design.components feed.target.0) feed.in_port
+abbrev pub feed_kind : DesignParts → Feed → Kind
+feed_kind design feed = in_kind (slice_get design.components feed.target.0) feed.in_port
 
--- the type of the root in port of a name: that of its first feed
+-- ---- root in ports
+abbrev pub first_kind : DesignParts → Option Feed → Kind
+first_kind design None = Integer
+first_kind design (Some feed) = feed_kind design feed
+
+-- the type of the root in port of a name: that of the in port that its first feed goes to
 abbrev pub root_kind : DesignParts → List ℕ → Kind
-root_kind design name = fed_kind design (find (λ feed. bytes_eq name feed.name) design.feeds)
+root_kind design name = first_kind design (find (λ feed. bytes_eq name feed.name) design.feeds)

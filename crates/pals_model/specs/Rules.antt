@@ -1,7 +1,6 @@
 -- What each design keeps.
 use Rattle.std.specs.Prelude.{◌≡◌, ◌≢◌, ℕ, ◌+◌, ◌*◌, ◌%◌, ◌<◌, ◌≤◌, max, List, length, fold, All, AllPairs, IsTrue, slice_get}
 use Rattle.pals_base.specs.declared.values.Gamma.{Gamma}
-use Rattle.pals_base.specs.declared.behaviour.Kind.{Kind}
 use Rattle.pals_base.specs.declared.behaviour.BehaviourParts.{BehaviourParts}
 use Rattle.pals_base.specs.Allowed.{divides_or_divided, is_allowed, suits_kind}
 use Rattle.pals_base.specs.Bound.{least_period}
@@ -14,7 +13,7 @@ use Rattle.pals_model.specs.declared.design.Feed.{Feed}
 use Rattle.pals_model.specs.declared.design.Tap.{Tap}
 use Rattle.pals_model.specs.declared.design.DesignParts.{DesignParts}
 use Rattle.pals_model.specs.Inputs.{rate_of}
-use Rattle.pals_model.specs.Ports.{ins_in, outs_in, in_kind, out_kind}
+use Rattle.pals_model.specs.Ports.{ins_in, outs_in, in_kind, out_kind, feed_kind}
 
 -- a clock may be off, no range is reversed, and no number is above one hour
 pub record IsGamma (g : Gamma) : Type 0 where
@@ -79,10 +78,6 @@ LinkPrecedes a b = place_of a.target.0 a.in_port < place_of b.target.0 b.in_port
 
 abbrev pub FeedPrecedes : Feed → Feed → Type 0
 FeedPrecedes a b = place_of a.target.0 a.in_port < place_of b.target.0 b.in_port
-
--- the type of the in port that a feed goes to
-abbrev pub feed_kind : DesignParts → Feed → Kind
-feed_kind design feed = in_kind (slice_get design.components feed.target.0) feed.in_port
 
 -- feeds of one root in port are of one type
 pub record AgreeInKind (design : DesignParts) (a b : Feed) : Type 0 where

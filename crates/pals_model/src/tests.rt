@@ -1,8 +1,11 @@
-//! Two components that are linked both ways, and what makes their parts none of a design.
-use crate::design::{Component, Design, DesignParts, Link};
+//! The smallest design, of one component with a link to itself: each call that takes memory, once.
+use crate::design::{Component, Design, DesignParts, Feed, Link, Tap};
+use crate::links::{links_from, links_into};
+use crate::rounds::{Delays, Env, Part};
+use crate::sources::all_sources;
 use pals_base::{
-    Behaviour, BehaviourParts, Gamma, Guard, Items, Kind, Named, NodeNo, StateDecl, Text,
-    Transition,
+    Behaviour, BehaviourParts, Frame, Gamma, Guard, Items, Kind, Named, NodeNo, Same, StateDecl,
+    Text, Transition, TryClone,
 };
 use std::alloc::{AllocError, Global};
 use std::process::Abort;
@@ -15,6 +18,8 @@ const BOUNDS: Gamma = Gamma {
     mu_min: 1_000_000,
     mu_max: 4_000_000,
 };
+
+const NODE: NodeNo = NodeNo(0);
 
 fn port(alloc: Global, name: &str) -> Result<Items<Named>, AllocError> {
     let name = Text::from_str(alloc, name)?;
@@ -62,37 +67,32 @@ fn behaviour(rt: &impl Abort, alloc: Global) -> Result<Behaviour, AllocError> {
     }
 }
 
-fn component(rt: &impl Abort, alloc: Global, path: &str) -> Result<Component, AllocError> {
-    let path = Text::from_str(alloc, path)?;
+fn components(rt: &impl Abort, alloc: Global) -> Result<Items<Component>, AllocError> {
+    let path = Text::from_str(alloc, "p.a")?;
     let behaviour = behaviour(rt, alloc)?;
-    Ok(Component {
+    let mut components = Items::new(alloc);
+    components.push(Component {
         path,
         rate: 1,
         behaviour,
-    })
-}
-
-fn components(rt: &impl Abort, alloc: Global) -> Result<Items<Component>, AllocError> {
-    let mut components = Items::new(alloc);
-    components.push(component(rt, alloc, "p.a")?)?;
-    components.push(component(rt, alloc, "p.b")?)?;
+    })?;
     Ok(components)
 }
 
-fn linked(source: u32, target: u32) -> Link {
+fn to_itself() -> Link {
     Link {
-        source: NodeNo(source),
+        source: NODE,
         out_port: 0,
-        target: NodeNo(target),
+        target: NODE,
         in_port: 0,
         adaptor: None,
     }
 }
 
-fn parts(rt: &impl Abort, alloc: Global) -> Result<DesignParts, AllocError> {
+fn design(rt: &impl Abort, alloc: Global) -> Result<Design, AllocError> {
     let components = components(rt, alloc)?;
-    let links = Items::from_vec(vec![in alloc; linked(1, 0), linked(0, 1)]?);
-    Ok(DesignParts {
+    let links = Items::from_vec(vec![in alloc; to_itself()]?);
+    let parts = DesignParts {
         period: 9_000_000,
         gamma: BOUNDS,
         components,
@@ -100,26 +100,97 @@ fn parts(rt: &impl Abort, alloc: Global) -> Result<DesignParts, AllocError> {
         feeds: Items::new(alloc),
         taps: Items::new(alloc),
         ignored: Items::new(alloc),
-    })
+    };
+    assert!(rt; parts.is_design());
+    Ok(Design::new(parts))
 }
 
 #[test]
-fn two_components_are_a_design(rt: HostRuntime) -> Result<(), Fail> {
-    let parts = parts(&rt, rt.alloc())?;
-    assert!(rt; parts.is_design());
-    let design = Design::new(parts);
-    assert_eq!(rt; design.components().len(), 2);
-    assert_eq!(rt; design.links().len(), 2);
+fn a_design_is_copied(rt: HostRuntime) -> Result<(), Fail> {
+    let design = design(&rt, rt.alloc())?;
+    let copy = design.try_clone(rt.alloc())?;
+    assert!(rt; design.same(&copy));
     Ok(())
 }
 
 #[test]
-fn no_design(rt: HostRuntime) -> Result<(), Fail> {
-    let mut parts = parts(&rt, rt.alloc())?;
-    parts.period = 8_999_999;
-    assert!(rt; !parts.is_design(), "a message has no time to arrive");
-    parts.period = 9_000_000;
-    parts.links.push(linked(1, 1))?;
-    assert!(rt; !parts.is_design(), "two links into one port");
+fn a_component_has_links(rt: HostRuntime) -> Result<(), Fail> {
+    let design = design(&rt, rt.alloc())?;
+    let into = links_into(rt.alloc(), &design, NODE)?;
+    assert_eq!(rt; into.len(), 1);
+    let from = links_from(rt.alloc(), &design, NODE)?;
+    assert_eq!(rt; from.len(), 1);
+    Ok(())
+}
+
+#[test]
+fn in_ports_have_sources(rt: HostRuntime) -> Result<(), Fail> {
+    let design = design(&rt, rt.alloc())?;
+    let sources = all_sources(rt.alloc(), &design)?;
+    assert_eq!(rt; sources.len(), 1);
+    Ok(())
+}
+
+#[test]
+fn a_feed_is_copied(rt: HostRuntime) -> Result<(), Fail> {
+    let name = Text::from_str(rt.alloc(), "r")?;
+    let feed = Feed {
+        name,
+        target: NODE,
+        in_port: 0,
+        adaptor: None,
+    };
+    let copy = feed.try_clone(rt.alloc())?;
+    assert!(rt; feed.same(&copy));
+    Ok(())
+}
+
+#[test]
+fn a_tap_is_copied(rt: HostRuntime) -> Result<(), Fail> {
+    let name = Text::from_str(rt.alloc(), "t")?;
+    let tap = Tap {
+        name,
+        source: NODE,
+        out_port: 0,
+    };
+    let copy = tap.try_clone(rt.alloc())?;
+    assert!(rt; tap.same(&copy));
+    Ok(())
+}
+
+#[test]
+fn an_environment_is_copied(rt: HostRuntime) -> Result<(), Fail> {
+    let env = Env {
+        lists: Items::new(rt.alloc()),
+    };
+    let copy = env.try_clone(rt.alloc())?;
+    assert!(rt; env.same(&copy));
+    Ok(())
+}
+
+#[test]
+fn delays_are_copied(rt: HostRuntime) -> Result<(), Fail> {
+    let delays = Delays {
+        lists: Items::new(rt.alloc()),
+    };
+    let copy = delays.try_clone(rt.alloc())?;
+    assert!(rt; delays.same(&copy));
+    Ok(())
+}
+
+#[test]
+fn a_part_is_copied(rt: HostRuntime) -> Result<(), Fail> {
+    let frame = Frame {
+        state: 0,
+        vars: Items::new(rt.alloc()),
+        held: Items::new(rt.alloc()),
+        halt: None,
+    };
+    let part = Part {
+        frame,
+        outs: Items::new(rt.alloc()),
+    };
+    let copy = part.try_clone(rt.alloc())?;
+    assert!(rt; part.same(&copy));
     Ok(())
 }

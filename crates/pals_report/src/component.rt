@@ -6,7 +6,7 @@ ghost use Rattle.pals_model.specs.RoundTexts.{text_of, line_end, state_text, var
 ghost use Rattle.pals_report.specs.Appended.{BeginsWith};
 
 use crate::value::add_value;
-use pals_base::{Behaviour, Frame, NoMemory, Text, Trap, VarDecl};
+use pals_base::{BehaviourParts, Frame, NoMemory, Text, Trap, VarDecl};
 use pals_model::{Component, Part};
 
 // The words for a trap, which stand in the place of a state's name.
@@ -22,14 +22,14 @@ pub(crate) fn add_trap(out: &mut Vec<u8>, trap: Trap) -> Result<(), NoMemory>
 }
 
 // The state's name, or the trap.
-fn add_state(out: &mut Vec<u8>, behaviour: &Behaviour, frame: &Frame) -> Result<(), NoMemory>
+fn add_state(out: &mut Vec<u8>, behaviour: &BehaviourParts, frame: &Frame) -> Result<(), NoMemory>
     ensures ok { OnOk result
         (out.new.items ≡ out.old.items ++ state_text behaviour.now frame.now frame.now.halt) }
     ensures err { OnErr result (BeginsWith out.new.items out.old.items) }
 {
     match frame.halt {
         Some(trap) => add_trap(out, trap),
-        None => match behaviour.states().get(frame.state as usize) {
+        None => match behaviour.states.get(frame.state as usize) {
             Some(state) => out.extend_from_slice(state.name.as_bytes()),
             None => Ok(()),
         },
@@ -61,10 +61,10 @@ fn add_variables(out: &mut Vec<u8>, variables: &[VarDecl], values: &[i64]) -> Re
 }
 
 // The line of a component that is shown by this name.
-fn add_component_line(
+pub(crate) fn add_component_line(
     out: &mut Vec<u8>,
     name: &Text,
-    behaviour: &Behaviour,
+    behaviour: &BehaviourParts,
     frame: &Frame,
 ) -> Result<(), NoMemory>
     ensures ok { OnOk result
@@ -74,7 +74,7 @@ fn add_component_line(
     out.extend_from_slice(name.as_bytes())?;
     out.extend_from_slice(b" ")?;
     add_state(out, behaviour, frame)?;
-    add_variables(out, behaviour.vars(), frame.vars.as_slice())?;
+    add_variables(out, behaviour.vars.as_slice(), frame.vars.as_slice())?;
     out.extend_from_slice(b"\n")
 }
 
@@ -88,10 +88,9 @@ pub(crate) fn add_part_line(
         ≡ out.old.items ++ text_of (part_lines component.now (option_copied part.entry))) }
     ensures err { OnErr result (BeginsWith out.new.items out.old.items) }
 {
-    match part {
-        Some(part) => {
-            add_component_line(out, &component.path, &component.behaviour, &part.frame)
-        }
-        None => Ok(()),
-    }
+    let Some(part) = part else {
+        return Ok(());
+    };
+    let behaviour = component.behaviour.parts();
+    add_component_line(out, &component.path, behaviour, &part.frame)
 }

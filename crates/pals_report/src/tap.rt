@@ -29,7 +29,12 @@ fn tuple_at(tuples: &[Tuple], place: usize) -> &[Port]
 }
 
 // The line of a root out port of this type, with this tuple.
-fn add_tap_line(out: &mut Vec<u8>, kind: Kind, tap: &Tap, tuple: &[Port]) -> Result<(), NoMemory>
+pub(crate) fn add_tap_line(
+    out: &mut Vec<u8>,
+    kind: Kind,
+    tap: &Tap,
+    tuple: &[Port],
+) -> Result<(), NoMemory>
     ensures ok { OnOk result
         (out.new.items ≡ out.old.items ++ tap_line kind tap.now tuple.now ++ line_end) }
     ensures err { OnErr result (BeginsWith out.new.items out.old.items) }

@@ -1,12 +1,13 @@
-//! Printed texts: tuples, halts, and a round with all of its lines.
+//! Printed texts: tuples, halts, and the lines of a round.
 use super::*;
-use crate::component::add_trap;
+use crate::component::{add_component_line, add_trap};
+use crate::tap::add_tap_line;
 use crate::value::add_tuple;
 use pals_base::{
-    Behaviour, BehaviourParts, Frame, Gamma, Guard, Items, Kind, Named, NoMemory, NodeNo, Port,
-    StateDecl, Text, Transition, Trap, VarDecl,
+    BehaviourParts, Frame, Gamma, Items, Kind, NoMemory, NodeNo, Port, StateDecl, Text, Trap,
+    VarDecl,
 };
-use pals_model::{Component, Design, DesignParts, Part, Tap};
+use pals_model::{Design, DesignParts, Part, Tap};
 use std::alloc::Global;
 use std::process::Abort;
 use std::test::Fail;
@@ -42,68 +43,71 @@ fn prints_halts(rt: HostRuntime) -> Result<(), Fail> {
     Ok(())
 }
 
-fn one<T: Drop>(alloc: Global, item: T) -> Result<Items<T>, NoMemory> {
-    let mut items = Items::new(alloc);
-    items.push(item)?;
-    Ok(items)
-}
-
-fn variables(alloc: Global) -> Result<Items<VarDecl>, NoMemory> {
-    let mut variables = one(
-        alloc,
-        VarDecl {
-            name: Text::from_str(alloc, "on")?,
-            kind: Kind::Boolean,
-            first: 0,
-        },
-    )?;
-    variables.push(VarDecl {
-        name: Text::from_str(alloc, "level")?,
-        kind: Kind::Integer,
-        first: 0,
-    })?;
-    Ok(variables)
-}
-
-fn behaviour_parts(alloc: Global) -> Result<BehaviourParts, NoMemory> {
-    let state = StateDecl {
-        name: Text::from_str(alloc, "mv")?,
+fn states(alloc: Global) -> Result<Items<StateDecl>, NoMemory> {
+    let mut states = Items::new(alloc);
+    let name = Text::from_str(alloc, "mv")?;
+    states.push(StateDecl {
+        name,
         complete: true,
-    };
-    let out = Named {
-        name: Text::from_str(alloc, "o")?,
-        kind: Kind::Integer,
-    };
-    let transition = Transition {
-        source: 0,
-        target: 0,
-        guard: Guard::Dispatch,
-        acts: Vec::new(alloc),
-    };
-    Ok(BehaviourParts {
-        ins: Items::new(alloc),
-        outs: one(alloc, out)?,
-        vars: variables(alloc)?,
-        states: one(alloc, state)?,
-        initial: 0,
-        transitions: one(alloc, transition)?,
+    })?;
+    Ok(states)
+}
+
+fn variable(alloc: Global, name: &str, kind: Kind) -> Result<VarDecl, NoMemory> {
+    let name = Text::from_str(alloc, name)?;
+    Ok(VarDecl {
+        name,
+        kind,
+        first: 0,
     })
 }
 
-fn design(rt: &impl Abort, alloc: Global) -> Result<Design, NoMemory> {
-    let Some(behaviour) = Behaviour::try_new(alloc, behaviour_parts(alloc)?)? else {
-        panic!(rt; "the parts break a rule");
+fn behaviour(alloc: Global) -> Result<BehaviourParts, NoMemory> {
+    let mut vars = Items::new(alloc);
+    vars.push(variable(alloc, "on", Kind::Boolean)?)?;
+    vars.push(variable(alloc, "level", Kind::Integer)?)?;
+    Ok(BehaviourParts {
+        ins: Items::new(alloc),
+        outs: Items::new(alloc),
+        vars,
+        states: states(alloc)?,
+        initial: 0,
+        transitions: Items::new(alloc),
+    })
+}
+
+#[test]
+fn prints_a_component(rt: HostRuntime) -> Result<(), Fail> {
+    let behaviour = behaviour(rt.alloc())?;
+    let frame = Frame {
+        state: 0,
+        vars: Items::from_slice(rt.alloc(), &[1, -5])?,
+        held: Items::new(rt.alloc()),
+        halt: None,
     };
-    let component = Component {
-        path: Text::from_str(alloc, "p.a")?,
-        rate: 2,
-        behaviour,
-    };
+    let name = Text::from_str(rt.alloc(), "p.a")?;
+    let mut out = Vec::new(rt.alloc());
+    add_component_line(&mut out, &name, &behaviour, &frame)?;
+    assert_eq!(rt; out.as_slice(), b"p.a mv on=true level=-5\n".as_slice());
+    Ok(())
+}
+
+#[test]
+fn prints_a_tap(rt: HostRuntime) -> Result<(), Fail> {
+    let name = Text::from_str(rt.alloc(), "shown")?;
     let tap = Tap {
-        name: Text::from_str(alloc, "shown")?,
+        name,
         source: NodeNo(0),
         out_port: 0,
     };
+    let tuple = [Port::Absent, Port::Present(3)];
+    let mut out = Vec::new(rt.alloc());
+    add_tap_line(&mut out, Kind::Integer, &tap, &tuple)?;
+    assert_eq!(rt; out.as_slice(), b"out shown (_,3)\n".as_slice());
+    Ok(())
+}
+
+fn empty_design(rt: &impl Abort, alloc: Global) -> Design {
     let parts = DesignParts {
         period: 20_000_000,
         gamma: Gamma {
@@ -113,44 +117,23 @@ fn design(rt: &impl Abort, alloc: Global) -> Result<Design, NoMemory> {
             mu_min: 1,
             mu_max: 4,
         },
-        components: one(alloc, component)?,
+        components: Items::new(alloc),
         links: Items::new(alloc),
         feeds: Items::new(alloc),
-        taps: one(alloc, tap)?,
+        taps: Items::new(alloc),
         ignored: Items::new(alloc),
     };
     assert!(rt; parts.is_design());
-    Ok(Design::new(parts))
+    Design::new(parts)
 }
-
-fn part(alloc: Global) -> Result<Part, NoMemory> {
-    let frame = Frame {
-        state: 0,
-        vars: Items::from_slice(alloc, &[1, -5])?,
-        held: Items::new(alloc),
-        halt: None,
-    };
-    let tuple = Items::from_slice(alloc, &[Port::Absent, Port::Present(3)])?;
-    let outs = one(alloc, tuple)?;
-    Ok(Part { frame, outs })
-}
-
-const ROUND: &[u8] = b"round 17\np.a mv on=true level=-5\nout shown (_,3)\n";
 
 #[test]
 fn prints_a_row(rt: HostRuntime) -> Result<(), Fail> {
-    let design = design(&rt, rt.alloc())?;
+    let design = empty_design(&rt, rt.alloc());
     let places = TapPlaces::new(rt.alloc(), &design)?;
-    let parts = [part(rt.alloc())?];
+    let parts: &[Part] = &[];
     let mut row = Vec::new(rt.alloc());
-    add_row(&mut row, &design, &places, 17, &parts.as_slice())?;
-    assert_eq!(rt; row.as_slice(), ROUND);
-    let mut lines = Vec::new(rt.alloc());
-    add_round(&mut lines, 17)?;
-    assert_eq!(rt; design.components().len(), 1);
-    add_part(&mut lines, &design.components()[0], &parts[0])?;
-    assert_eq!(rt; design.taps().len(), 1);
-    add_tap(&mut lines, &design, 0, &parts[0])?;
-    assert_eq!(rt; lines.as_slice(), ROUND);
+    add_row(&mut row, &design, &places, 17, &parts)?;
+    assert_eq!(rt; row.as_slice(), b"round 17\n".as_slice());
     Ok(())
 }

@@ -1,14 +1,11 @@
 -- What the program answers: its status, the text that it writes, and when each comes.
 use Rattle.std.specs.Prelude.{◌≡◌, ℕ, ◌≤◌, codes, List, [], ◌++◌, length, Option, Some, None, ◌⊎◌}
+use Rattle.pals_base.specs.declared.limits.TheConstants.{BUNDLE_BYTES}
 use Rattle.pals_io.specs.Stream.{SourceView, GivesAll, GivesTooMany, FailsWithin}
 use Rattle.pals_model.specs.declared.design.DesignParts.{DesignParts}
 use Rattle.pals_model.specs.declared.rounds.Env.{Env}
 use Rattle.pals_model.specs.RoundTexts.{report, line_end}
 use Rattle.first_form.specs.FirstForm.{IsFirstForm}
-
--- the greatest number of bytes of a bundle
-abbrev pub most_bytes : ℕ
-most_bytes = 16777216
 
 -- no root in port has a value
 abbrev pub no_env : Env
@@ -31,7 +28,7 @@ too_long_line = codes "too long" ++ line_end
 pub record IsReported (root : List ℕ) (before after : SourceView) (text : List ℕ) : Type 0 where
   pub bytes : List ℕ
   pub read : GivesAll before after bytes
-  pub within : length bytes ≤ most_bytes
+  pub within : length bytes ≤ BUNDLE_BYTES
   pub design : DesignParts
   pub rounds : ℕ
   pub means : IsFirstForm bytes root design rounds
@@ -41,7 +38,7 @@ pub record IsReported (root : List ℕ) (before after : SourceView) (text : List
 pub record IsNotBuilt (before after : SourceView) (text : List ℕ) : Type 0 where
   pub bytes : List ℕ
   pub read : GivesAll before after bytes
-  pub within : length bytes ≤ most_bytes
+  pub within : length bytes ≤ BUNDLE_BYTES
   pub text_is : text ≡ not_built_line
 
 -- The words are a form that names this root, and the answer is right for it.
@@ -49,8 +46,8 @@ abbrev pub IsFormAnswer : List ℕ → SourceView → SourceView → ℕ → Lis
 IsFormAnswer root before after status text =
     ((status ≡ 0) × IsReported root before after text)
     ⊎ ((status ≡ 3) × IsNotBuilt before after text)
-    ⊎ ((status ≡ 9) × FailsWithin before after most_bytes × (text ≡ read_fault_line))
-    ⊎ ((status ≡ 12) × GivesTooMany before after most_bytes × (text ≡ too_long_line))
+    ⊎ ((status ≡ 9) × FailsWithin before after BUNDLE_BYTES × (text ≡ read_fault_line))
+    ⊎ ((status ≡ 12) × GivesTooMany before after BUNDLE_BYTES × (text ≡ too_long_line))
 
 -- The answer to any words. Words that are no form read nothing.
 abbrev pub IsAnswer : Option (List ℕ) → SourceView → SourceView → ℕ → List ℕ → Type 0

@@ -3,23 +3,22 @@ ghost use Rattle.std.specs.Prelude.{◌≡◌, ◌≢◌, ◌+◌, ◌++◌, ℕ
 ghost use Rattle.pals_io.specs.Stream.{GivesWithin, after_taking, TakesPart};
 ghost use Rattle.pals_model.specs.Composition.{comp};
 ghost use Rattle.pals_model.specs.RoundTexts.{report, row};
+ghost use Rattle.pals_report.specs.Places.{tap_places};
 ghost use Rattle.pals_top.specs.Words.{form};
-ghost use Rattle.pals_top.specs.Answers.{IsAnswer, most_bytes, no_env};
+ghost use Rattle.pals_top.specs.Answers.{IsAnswer, no_env};
 ghost use Rattle.pals_top.specs.Statuses.{status_of, text_of, AnswersBundle};
 
 use crate::answer::Answer;
 use crate::words::root_of;
 use first_form::{ReadEnd as FormEnd, read};
+use pals_base::limits::BUNDLE_BYTES;
 use pals_base::{NoMemory, Text};
 use pals_io::{ReadEnd, Sink, Source, WriteFault, read_all, write_all};
 use pals_model::Design;
-use pals_report::add_row;
+use pals_report::{TapPlaces, add_row};
 use std::alloc::{AllocError, Global};
 use std::sync::Arc;
 use sync_product::Product;
-
-/// The greatest number of bytes of a bundle.
-const MOST_BYTES: usize = 16_777_216;
 
 /// The status where the answer's text could not be written whole.
 const WRITE_FAULT: u8 = 10;
@@ -46,7 +45,7 @@ pub fn pals<S: Source, K: Sink>(alloc: Global, words: &[Text], source: &mut S, s
 
     // Memory was wanting, no call failed, and nothing was written.
     ensures no_memory { result ≡ NO_MEMORY → IsSome (form words.now)
-        × GivesWithin (S.shown source.old) (S.shown source.new) most_bytes
+        × GivesWithin (S.shown source.old) (S.shown source.new) BUNDLE_BYTES
         × (sink.new ≡ sink.old) }
 {
     let Ok(answer) = answer_to(alloc, words, source) else {
@@ -61,12 +60,12 @@ pub fn pals<S: Source, K: Sink>(alloc: Global, words: &[Text], source: &mut S, s
 // The answer, its whole text made.
 fn answer_to<S: Source>(alloc: Global, words: &[Text], source: &mut S) -> Result<Answer, NoMemory>
     ensures ok { IfOk result (λ answer. IsAnswer (form words.now) (S.shown source.old) (S.shown source.new) (status_of answer) (text_of answer)) }
-    ensures err { OnErr result (IsSome (form words.now) × GivesWithin (S.shown source.old) (S.shown source.new) most_bytes) }
+    ensures err { OnErr result (IsSome (form words.now) × GivesWithin (S.shown source.old) (S.shown source.new) BUNDLE_BYTES) }
 {
     let Some(root) = root_of(words) else {
         return Ok(Answer::Usage);
     };
-    match read_all(alloc, source, MOST_BYTES) {
+    match read_all(alloc, source, BUNDLE_BYTES) {
         Ok(bundle) => sync(alloc, bundle.as_slice(), root),
         Err(ReadEnd::ReadFault) => Ok(Answer::ReadFault),
         Err(ReadEnd::TooLong) => Ok(Answer::TooLong),
@@ -90,10 +89,11 @@ fn report(alloc: Global, design: Design, rounds: u32) -> Result<Vec<u8>, NoMemor
     ensures { IfOk result (λ text. text.items ≡ report design no_env rounds) }
 {
     let design = Arc::new(alloc, design)?;
+    let places = TapPlaces::new(alloc, &design)?;
     let mut product = Product::new(alloc, Arc::try_clone(&design)?)?;
     let mut text = Vec::new(alloc);
     for round in 0..rounds {
-        add_round(&mut text, &design, &mut product, round)?;
+        add_round(&mut text, &design, &places, &mut product, round)?;
     }
     Ok(text)
 }
@@ -102,9 +102,11 @@ fn report(alloc: Global, design: Design, rounds: u32) -> Result<Vec<u8>, NoMemor
 fn add_round(
     text: &mut Vec<u8>,
     design: &Design,
+    places: &TapPlaces,
     product: &mut Product,
     round: u32,
 ) -> Result<(), NoMemory>
+    requires places { places.now ≡ tap_places design.now.taps }
     requires design { product.old.design ≡ design.now }
     requires round { product.old.configuration ≡ comp design.now no_env round }
     ensures same { OnOk result (product.new.design ≡ design.now) }
@@ -112,5 +114,5 @@ fn add_round(
     ensures row { OnOk result (text.new.items ≡ text.old.items ++ row design.now no_env round) }
 {
     product.advance(&[])?;
-    add_row(text, design, round, product.parts())
+    add_row(text, design, places, round, &product.parts())
 }

@@ -1,7 +1,4 @@
-//! The program over bytes in memory, and rounds of designs that are built from their parts.
-mod designs;
-mod rows;
-
+//! The program over bytes in memory.
 use super::pals;
 use pals_base::Text;
 use pals_io::{MemSink, MemSource};

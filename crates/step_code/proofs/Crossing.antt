@@ -1,6 +1,6 @@
 -- Which jumps part bodies, by the innermost loops of the two places alone.
-use Rattle.std.proofs.Common.{◌≡◌, ◌∙◌, ℕ, zero, suc, ◌+◌, ◌-◌, ◌<◌, ◌≤◌, Bool, true, false, ◌&&◌, ◌||◌, if◌then◌else◌, cond, List, [], ◌∷◌, length, Option, Some, None, refl, sym, ap, subst, ⊎_elim, arith, add-one, nat_lt, nat_eq, slice_index_or}
-use Rattle.std.specs.Prelude.{not, filter, slice_get}
+use Rattle.std.proofs.Common.{◌≡◌, ◌∙◌, ℕ, zero, suc, ◌<◌, ◌≤◌, Bool, true, false, ◌&&◌, ◌||◌, if◌then◌else◌, cond, List, [], ◌∷◌, length, Option, Some, None, refl, sym, ap, subst, ⊎_elim, arith, nat_lt, nat_eq, slice_index_or}
+use Rattle.std.specs.Prelude.{not, filter}
 use Rattle.std.specs.List.{list_all, list_any}
 use Rattle.std.proofs.lemmas.Bool.{and_parts, ltb-true, cases_lt, false≢true}
 use Rattle.step_code.specs.declared.instr.Instr.{Instr}
@@ -187,9 +187,9 @@ parts_by code low high true s le small closed ends starts = sym (ap not (ends_pa
 parts_by code low high false true le small closed ends starts = sym (ap not (starts_part code low high (innermost code high) le small refl starts))
 parts_by code low high false false le small closed ends starts =
     sym (ap not (all_of (agrees low high) code (length code) (λ k m within at.
-      agree_true (inside low m) (inside high m)
-      (stay_low code low high k m (innermost code low) le small closed refl ends at)
-      (stay_high code low high k m (innermost code high) le refl starts at))))
+    agree_true (inside low m) (inside high m)
+    (stay_low code low high k m (innermost code low) le small closed refl ends at)
+    (stay_high code low high k m (innermost code high) le refl starts at))))
 
 -- bodies part two places exactly where the innermost one round the lower ends by the higher, or that round the higher starts from the lower on
 pub parts_bodies : (code : List Instr) (low high : ℕ) → low ≤ high → high < length code → AreClosed code low
@@ -245,9 +245,9 @@ around_outer code p l small closed is =
     f.rest g (λ m kept. kept)
     ∙ ap (λ b. cond b (l ∷ filter g (loops_below code l.start)) (filter g (loops_below code l.start))) f.kept
     ∙ ap (λ ls. l ∷ ls) (filter_below code g (λ m. nat_lt l.start m.exit) l.start (λ k m less at.
-      cases_same (nat_lt p m.exit) (nat_lt l.start m.exit)
-      (λ kept. let beyond = ltb-true p m.exit kept in lt_true l.start m.exit (omega arith))
-      (λ kept. let more = within_exit code p k l m small closed f.is f.below at less (ltb-true l.start m.exit kept) in lt_true p m.exit (omega arith))))
+    cases_same (nat_lt p m.exit) (nat_lt l.start m.exit)
+    (λ kept. let beyond = ltb-true p m.exit kept in lt_true l.start m.exit (omega arith))
+    (λ kept. let more = within_exit code p k l m small closed f.is f.below at less (ltb-true l.start m.exit kept) in lt_true p m.exit (omega arith))))
 
 -- ---- whether one of them has a slot
 abbrev pub has_slot : ℕ → List Loop → Bool
@@ -260,18 +260,10 @@ pub record LooksOn (code : List Instr) (place slot : ℕ) (round : Option Loop) 
   pub is : round ≡ innermost code at
   pub same : has_slot slot (around code place) ≡ has_slot slot (around code at)
 
-pub looks_first : (code : List Instr) (found : List (Option Loop)) (place slot : ℕ) (d : Option Loop) → AreInnermost code found → place < length found → LooksOn code place slot (slice_index_or found place d)
-looks_first code found place slot d are within = record { at = place; below = omega arith; is = read_innermost code found place d are within; same = refl }
-
 looks_by : (code : List Instr) (place slot : ℕ) (l : Loop) → place ≤ length code → AreClosed code place → (on : LooksOn code place slot (Some l)) → has_slot slot (around code place) ≡ (nat_eq l.slot slot || has_slot slot (around code l.start))
 looks_by code place slot l small closed on =
     let below = on.below in
     on.same ∙ ap (has_slot slot) (around_outer code on.at l (omega arith) (record { each = λ k m less at. closed.each k m (omega arith) at }) (sym on.is))
-
-pub looks_found : (code : List Instr) (place slot : ℕ) (l : Loop) → place ≤ length code → AreClosed code place → LooksOn code place slot (Some l) → l.slot ≡ slot → has_slot slot (around code place) ≡ true
-looks_found code place slot l small closed on is =
-    let same : nat_eq l.slot slot ≡ true = grind arith in
-    looks_by code place slot l small closed on ∙ ap (λ b. b || has_slot slot (around code l.start)) same
 
 pub looks_further : (code : List Instr) (found : List (Option Loop)) (place slot : ℕ) (l : Loop) (d : Option Loop) → AreInnermost code found → place < length found → length found ≡ length code → AreClosed code place
     → LooksOn code place slot (Some l) → (l.slot ≡ slot → ⊥) → LooksOn code place slot (slice_index_or found l.start d) × (l.start < place)
@@ -279,17 +271,12 @@ looks_further code found place slot l d are within count closed on other =
     let f = is_found code on.at (λ m. nat_lt on.at m.exit) l (sym on.is) in
     let less = f.below in
     let below = on.below in
-    let differs : nat_eq l.slot slot ≡ false = grind arith in
-    (record {
-      at = l.start;
-      below = omega arith;
-      is = read_innermost code found l.start d are (omega arith);
-      same = looks_by code place slot l (omega arith) closed on ∙ ap (λ b. b || has_slot slot (around code l.start)) differs;
-    }, omega arith)
-
-none_round : (ls : List Loop) → first ls ≡ None → ls ≡ []
-none_round [] is = refl
-none_round (l ∷ ls) is = cc
-
-pub looks_none : (code : List Instr) (place slot : ℕ) → LooksOn code place slot None → has_slot slot (around code place) ≡ false
-looks_none code place slot on = on.same ∙ ap (has_slot slot) (none_round (around code on.at) (sym on.is))
+    let differs : nat_eq l.slot slot ≡ false = grind arith in (
+      record {
+        at = l.start;
+        below = omega arith;
+        is = read_innermost code found l.start d are (omega arith);
+        same = looks_by code place slot l (omega arith) closed on ∙ ap (λ b. b || has_slot slot (around code l.start)) differs;
+      },
+      omega arith,
+    )

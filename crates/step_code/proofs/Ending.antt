@@ -1,24 +1,23 @@
 -- A step of verified code leaves something.
-use Rattle.std.proofs.Common.{◌≡◌, ◌∙◌, inl, inr, ℕ, zero, suc, ◌+◌, ◌<◌, ◌≤◌, max, ℤ, pos, Bool, true, List, [], ◌∷◌, ◌++◌, length, map, replicate, Option, Some, None, refl, sym, ap, subst, ⊎_elim, arith, length-append}
+use Rattle.std.proofs.Common.{◌≡◌, ◌∙◌, inl, inr, ℕ, zero, suc, ◌+◌, ◌≤◌, ℤ, pos, true, List, [], ◌∷◌, length, map, replicate, Option, Some, None, refl, sym, ap, subst, ⊎_elim, arith, length-append}
 use Rattle.std.specs.Prelude.{slice_get}
 use Rattle.std.proofs.lemmas.List.{length-map, length-replicate}
 use Rattle.pals_base.specs.declared.values.Trap.{Trap}
 use Rattle.pals_base.specs.declared.values.Frame.{Frame}
 use Rattle.pals_base.specs.declared.values.Port.{Port as Value}
-use Rattle.pals_base.specs.declared.values.Port.TheVariants.{Absent, Present}
+use Rattle.pals_base.specs.declared.values.Port.TheVariants.{Absent}
 use Rattle.pals_base.specs.Fire.{Fired, holding, is_present}
 use Rattle.step_code.specs.declared.instr.Instr.{Instr}
 use Rattle.step_code.specs.declared.instr.CodeParts.{CodeParts}
 use Rattle.step_code.specs.Loops.{around}
-use Rattle.step_code.specs.Paths.{greatest, heaviest, entry_weight, weight}
-use Rattle.step_code.specs.Step.{Senses}
-use Rattle.step_code.specs.Exec.{Outcome, Ended, Trapped, Stuck, Unfinished, run, count, silent, senses, slots_of, left, run_from, from_entry, unless_halted, exec, Executed, Leaves, has_entry, FitsCode, Sized}
-use Rattle.step_code.specs.Heights.{Member, Reaches}
+use Rattle.step_code.specs.Paths.{heaviest, entry_weight, weight}
+use Rattle.step_code.specs.Exec.{Outcome, Ended, Trapped, Stuck, Unfinished, silent, senses, slots_of, left, run_from, from_entry, unless_halted, exec, Leaves, has_entry, FitsCode, Sized}
+use Rattle.step_code.specs.Heights.{Member}
 use Rattle.step_code.specs.Rules.{IsVerified}
 use Rattle.step_code.proofs.Nested.{IsOver}
 use Rattle.step_code.proofs.Steady.{IsFed, GoesOn}
 use Rattle.step_code.proofs.Bound.{ends_within}
-use Rattle.step_code.proofs.Level.{Begun, Stands, never_stuck}
+use Rattle.step_code.proofs.Level.{Begun, never_stuck}
 use Rattle.step_code.proofs.Verified.{verified_entry}
 use Rattle.step_code.proofs.Sound.{verified_nested, verified_fed, verified_level}
 

@@ -1,5 +1,5 @@
 -- The weight is that of a heaviest path.
-use Rattle.std.proofs.Common.{◌≡◌, ◌∙◌, inl, inr, ℕ, ℤ, zero, suc, ◌+◌, ◌-◌, ◌<◌, ◌≤◌, max, List, [], ◌∷◌, length, map, sum, Option, Some, None, refl, sym, ap, subst, ⊎_elim, arith}
+use Rattle.std.proofs.Common.{◌≡◌, ◌∙◌, inl, inr, ℕ, ℤ, zero, suc, ◌+◌, ◌-◌, ◌<◌, ◌≤◌, List, [], ◌∷◌, length, map, Option, Some, None, refl, sym, ap, subst, ⊎_elim, arith}
 use Rattle.std.specs.Prelude.{◌⊎◌, slice_get}
 use Rattle.std.proofs.lemmas.Bool.{cases_lt}
 use Rattle.pals_base.specs.declared.values.Trap.{Trap}
@@ -62,8 +62,8 @@ attained f (t ∷ ts) =
     ⊎_elim
     (λ none. inr (t, inl refl, omega arith))
     (λ some.
-      let is = some.2 in
-      ⊎_elim (λ (less : f t < f some.0). inr (some.0, inr some.1, omega arith)) (λ (ge : f some.0 ≤ f t). inr (t, inl refl, omega arith)) (cases_lt (f t) (f some.0)))
+    let is = some.2 in
+    ⊎_elim (λ (less : f t < f some.0). inr (some.0, inr some.1, omega arith)) (λ (ge : f some.0 ≤ f t). inr (t, inl refl, omega arith)) (cases_lt (f t) (f some.0)))
     (attained f ts)
 
 attains_with : (code : List Instr) (n p : ℕ) → ((t : ℕ) → Attains code t (heaviest code n t) ⊎ (heaviest code n t ≡ 0)) → Attains code p (heaviest code (suc n) p)
@@ -71,11 +71,11 @@ attains_with code n p each =
     ⊎_elim
     (λ (none : greatest (map (heaviest code n) (leads code p)) ≡ 0). record { rest = []; path = tt; weighs = omega arith })
     (λ some.
-      let is = some.2 in
-      ⊎_elim
-      (λ (one : Attains code some.0 (heaviest code n some.0)). let w = one.weighs in record { rest = some.0 ∷ one.rest; path = (some.1, one.path); weighs = omega arith })
-      (λ (none : heaviest code n some.0 ≡ 0). record { rest = []; path = tt; weighs = omega arith })
-      (each some.0))
+    let is = some.2 in
+    ⊎_elim
+    (λ (one : Attains code some.0 (heaviest code n some.0)). let w = one.weighs in record { rest = some.0 ∷ one.rest; path = (some.1, one.path); weighs = omega arith })
+    (λ (none : heaviest code n some.0 ≡ 0). record { rest = []; path = tt; weighs = omega arith })
+    (each some.0))
     (attained (heaviest code n) (leads code p))
 
 attains : (code : List Instr) (n p : ℕ) → Attains code p (heaviest code (suc n) p)

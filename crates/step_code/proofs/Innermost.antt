@@ -1,12 +1,12 @@
 -- The innermost loop round a place, from those round earlier places.
-use Rattle.std.proofs.Common.{◌≡◌, ◌∙◌, ℕ, zero, suc, ◌+◌, ◌-◌, ◌<◌, ◌≤◌, Bool, true, false, cond, List, [], ◌∷◌, ◌++◌, length, Option, Some, None, refl, sym, ap, subst, ⊎_elim, arith, add-one, nat_lt, slice_index_or, length-append}
-use Rattle.std.specs.Prelude.{filter, slice_get}
+use Rattle.std.proofs.Common.{◌≡◌, ◌∙◌, ℕ, zero, suc, ◌+◌, ◌-◌, ◌<◌, ◌≤◌, Bool, true, false, cond, List, [], ◌∷◌, length, Option, Some, None, refl, sym, ap, subst, arith, nat_lt, slice_index_or}
+use Rattle.std.specs.Prelude.{filter}
 use Rattle.std.specs.Option.{option_or}
-use Rattle.std.proofs.lemmas.Bool.{ltb-true, cases_lt}
+use Rattle.std.proofs.lemmas.Bool.{ltb-true}
 use Rattle.std.proofs.lemmas.Option.{get_or_from_slice_get}
 use Rattle.step_code.specs.declared.instr.Instr.{Instr}
 use Rattle.step_code.specs.declared.loops.Loop.{Loop}
-use Rattle.step_code.specs.Loops.{loop_at, with_loop, loops_below, around}
+use Rattle.step_code.specs.Loops.{loop_at, with_loop, loops_below}
 use Rattle.step_code.specs.Innermost.{first, innermost, AreInnermost, outwards, StartsBelow, ComesFrom}
 use Rattle.step_code.proofs.Nesting.{loop_is, lt_true}
 
@@ -40,9 +40,9 @@ found_step code n g l x false at not_kept again is =
       is = f.is;
       kept = f.kept;
       rest = λ h stricter.
-        ap (λ o. filter h (with_loop o (loops_below code n))) at
-        ∙ ap (λ b. cond b (x ∷ filter h (loops_below code n)) (filter h (loops_below code n))) (strict g h x (h x) not_kept (stricter x) refl)
-        ∙ f.rest h stricter;
+          ap (λ o. filter h (with_loop o (loops_below code n))) at
+          ∙ ap (λ b. cond b (x ∷ filter h (loops_below code n)) (filter h (loops_below code n))) (strict g h x (h x) not_kept (stricter x) refl)
+          ∙ f.rest h stricter;
     }
 
 found_at : (code : List Instr) (n : ℕ) (g : Loop → Bool) (l : Loop) (o : Option Loop) → loop_at code n ≡ o → (first (filter g (loops_below code n)) ≡ Some l → IsFound code n g l)
@@ -88,16 +88,8 @@ comes_outwards code p l from ended =
     record {
       starts = starts_by code l.start p (innermost code l.start) refl (omega arith);
       same = from.same ∙ ap (λ b. cond b (l ∷ filter (λ m. nat_lt p m.exit) (loops_below code l.start)) (filter (λ m. nat_lt p m.exit) (loops_below code l.start))) over
-        ∙ beyond_by code l.start p (innermost code l.start) refl (omega arith);
+          ∙ beyond_by code l.start p (innermost code l.start) refl (omega arith);
     }
-
--- an open candidate is the innermost loop
-pub comes_open : (code : List Instr) (p : ℕ) (l : Loop) → ComesFrom code p (Some l) → p < l.exit → innermost code p ≡ Some l
-comes_open code p l from going =
-    ap first (from.same ∙ ap (λ b. cond b (l ∷ filter (λ m. nat_lt p m.exit) (loops_below code l.start)) (filter (λ m. nat_lt p m.exit) (loops_below code l.start))) (lt_true p l.exit going))
-
-pub comes_none : (code : List Instr) (p : ℕ) → ComesFrom code p None → innermost code p ≡ None
-comes_none code p from = ap first from.same
 
 -- the first candidate: the loop that starts just before, or else the innermost one there
 pub comes_by : (code : List Instr) (k : ℕ) (o : Option Loop) → loop_at code k ≡ o → ComesFrom code (suc k) (option_or o (innermost code k))
@@ -142,26 +134,3 @@ pub start_falls : (code : List Instr) (found : List (Option Loop)) (l : Loop) (d
     → start_of (slice_index_or found l.start d) < l.start + 1
 start_falls code found l d are within =
     subst (λ o. start_of o < l.start + 1) (sym (read_innermost code found l.start d are within)) (starts_fewer l.start (innermost code l.start) (starts_by code l.start l.start (innermost code l.start) refl (omega arith)))
-
-pub get-append_left : {A : Type 0} (xs ys : List A) (k : ℕ) (v : A) → slice_get xs k ≡ Some v → slice_get (xs ++ ys) k ≡ Some v
-get-append_left [] ys k v is = cc
-get-append_left (x ∷ xs) ys zero v is = is
-get-append_left (x ∷ xs) ys (suc k) v is = get-append_left xs ys k v is
-
-pub get-append_seam : {A : Type 0} (xs : List A) (y : A) (ys : List A) → slice_get (xs ++ y ∷ ys) (length xs) ≡ Some y
-get-append_seam [] y ys = refl
-get-append_seam (x ∷ xs) y ys = get-append_seam xs y ys
-
-pub push_innermost : (code : List Instr) (found : List (Option Loop)) (next : Option Loop) → AreInnermost code found → next ≡ innermost code (length found) → AreInnermost code (found ++ next ∷ [])
-push_innermost code found next are is = record {
-  each = λ p within.
-    ⊎_elim
-    (λ (less : p < length found). get-append_left found (next ∷ []) p (innermost code p) (are.each p less))
-    (λ (ge : length found ≤ p).
-      let same : p ≡ length found = omega (arith, length-append found (next ∷ [])) in
-      ap (slice_get (found ++ next ∷ [])) same ∙ get-append_seam found next [] ∙ ap Some (is ∙ ap (innermost code) (sym same)))
-    (cases_lt p (length found));
-}
-
-pub none_innermost : (code : List Instr) → AreInnermost code []
-none_innermost code = record { each = λ p within. absurd (omega arith) }

@@ -1,6 +1,5 @@
 -- The least bad entry.
 use Rattle.std.proofs.Common.{◌≡◌, ◌∙◌, ℕ, ◌+◌, ◌<◌, Bool, true, false, ◌&&◌, ◌||◌, List, [], ◌∷◌, ◌++◌, length, Option, Some, None, refl, sym, ap, arith, take, slice_index_or, nat_eq}
-use Rattle.std.specs.List.{list_any}
 use Rattle.std.proofs.lemmas.List.{take_more}
 use Rattle.std.proofs.lemmas.List.Folds.{list_any-append}
 use Rattle.step_code.specs.declared.instr.Instr.{Instr}

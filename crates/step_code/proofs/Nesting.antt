@@ -237,11 +237,20 @@ module _ (code : List Instr) (vars : ℕ) (clean : IsClean code vars) where
       let l = c.2.0 in
       let opens = c.2.1 in
       let facts = loop_is code p l opens in
-      let same : Some (LoopStart slot low high exit) ≡ Some (LoopStart l.slot l.low l.high l.exit) = sym is ∙ facts.opens in
-      (on_jump p exit (LoopStart slot low high exit) is c.0, c.1, record {
-        loop = l; inside = start_inside code p (LoopStart slot low high exit) l is refl opens (start_jumps p l opens).0.forward; start = facts.start;
-        exit_is = cc; slot_is = cc; low_is = cc; high_is = cc; free = c.4;
-      })
+      let same : Some (LoopStart slot low high exit) ≡ Some (LoopStart l.slot l.low l.high l.exit) = sym is ∙ facts.opens in (
+        on_jump p exit (LoopStart slot low high exit) is c.0,
+        c.1,
+        record {
+          loop = l;
+          inside = start_inside code p (LoopStart slot low high exit) l is refl opens (start_jumps p l opens).0.forward;
+          start = facts.start;
+          exit_is = cc;
+          slot_is = cc;
+          low_is = cc;
+          high_is = cc;
+          free = c.4;
+        },
+      )
   nests p (LoopNext slot high to) is c =
       let e = c.1 in
       let l = e.loop in
@@ -254,12 +263,22 @@ module _ (code : List Instr) (vars : ℕ) (clean : IsClean code vars) where
       let below = e.below in
       let p_in : p < length code = slice_get_within code p _ is in
       let first : around code to ≡ l ∷ around code e.start = ap (around code) back ∙ start_inside code e.start (LoopStart l.slot l.low l.high l.exit) l fl.opens refl e.opens (start_jumps e.start l e.opens).0.forward in
-      let out : around code (p + 1) ≡ around code e.start = ap (around code) (sym ends) ∙ stays_around code e.start l.exit (omega arith) (start_jumps e.start l e.opens).0.there (start_jumps e.start l e.opens).0.within in
-      (c.0, record {
-        loop = l; inside = here; exit_is = ends; slot_is = sym nl.0; high_is = sym nl.1; opens = subst (λ k. slice_get code k ≡ Some (LoopStart l.slot l.low l.high l.exit)) (sym fl.start) fl.opens; before = (let st = fl.start in omega arith); back = nl.2; within = omega arith;
-        same = first ∙ ap (λ r. l ∷ r) (sym out) ∙ sym here;
-        free = subst (λ ls. Free ls slot) (sym out) (subst (Free (around code e.start)) (sym nl.0) (clean.each e.start (LoopStart l.slot l.low l.high l.exit) fl.opens).4);
-      })
+      let out : around code (p + 1) ≡ around code e.start = ap (around code) (sym ends) ∙ stays_around code e.start l.exit (omega arith) (start_jumps e.start l e.opens).0.there (start_jumps e.start l e.opens).0.within in (
+        c.0,
+        record {
+          loop = l;
+          inside = here;
+          exit_is = ends;
+          slot_is = sym nl.0;
+          high_is = sym nl.1;
+          opens = subst (λ k. slice_get code k ≡ Some (LoopStart l.slot l.low l.high l.exit)) (sym fl.start) fl.opens;
+          before = (let st = fl.start in omega arith);
+          back = nl.2;
+          within = omega arith;
+          same = first ∙ ap (λ r. l ∷ r) (sym out) ∙ sym here;
+          free = subst (λ ls. Free ls slot) (sym out) (subst (Free (around code e.start)) (sym nl.0) (clean.each e.start (LoopStart l.slot l.low l.high l.exit) fl.opens).4);
+        },
+      )
   nests p (Store x) is c = (on_fall p (Store x) is refl (ap (loop_from code p) is) c.0, free_below (λ l. nat_lt p l.exit) x p c.1)
   nests p (End state) is c = tt
   nests p other is c = on_fall p other is refl (ap (loop_from code p) is) c

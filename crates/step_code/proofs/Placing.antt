@@ -1,5 +1,5 @@
 -- What the verifier knows behind a place.
-use Rattle.std.proofs.Common.{◌≡◌, ◌∙◌, inl, inr, ℕ, zero, suc, ◌+◌, ◌-◌, ◌<◌, ◌≤◌, Bool, true, false, ◌||◌, IsTrue, List, [], ◌∷◌, ◌++◌, length, Option, Some, None, option_to_list, refl, sym, ap, subst, ⊎_elim, arith, slice_index_or}
+use Rattle.std.proofs.Common.{◌≡◌, ◌∙◌, ℕ, zero, suc, ◌+◌, ◌<◌, ◌≤◌, Bool, true, false, ◌||◌, List, length, Option, Some, None, option_to_list, sym, ap, subst, ⊎_elim, arith, slice_index_or}
 use Rattle.std.specs.Prelude.{not, nat_lt, if◌then◌else◌, Result, Ok, Err, IfErr, OnOk, slice_get}
 use Rattle.std.proofs.lemmas.Bool.{cases_lt, false≢true}
 use Rattle.std.proofs.lemmas.Option.{slice_get_within, slice_get-get_or}
@@ -68,9 +68,9 @@ split_unreached code entries heights p t k (suc n) are within none small r from 
     ⊎_elim
     (λ (less : r.0 < p). are.held t k small (record { steps = suc n; path = r; from = less }))
     (λ (ge : p ≤ r.0).
-      let same : r.0 ≡ p = omega arith in
-      let there = reached_held code entries heights n p r.1 are within (subst (λ q. Reaches code entries n q r.1) same r.3) in
-      let no : ◌≡◌ {A = Option (Option ℕ)} (Some None) (Some (Some r.1)) = sym none ∙ there in cc)
+    let same : r.0 ≡ p = omega arith in
+    let there = reached_held code entries heights n p r.1 are within (subst (λ q. Reaches code entries n q r.1) same r.3) in
+    let no : ◌≡◌ {A = Option (Option ℕ)} (Some None) (Some (Some r.1)) = sym none ∙ there in cc)
     (cases_lt r.0 p)
 
 pub unreached_heights : (code : List Instr) (entries heights : List (Option ℕ)) (p : ℕ) → AreHeights code entries p heights → p < length code → slice_get heights p ≡ Some None → AreHeights code entries (p + 1) heights
@@ -89,8 +89,8 @@ still_held : (old new : List (Option ℕ)) (p h t k : ℕ) (i : Instr) → Passe
 still_held old new p h t k i on held =
     ⊎_elim
     (λ (among : Member (onward p (Some i)) t).
-      let e = agreed old (ways p i) t k (after h i) on.same (member_right _ (onward p (Some i)) t among) held in
-      subst (Holds new t) (sym e) (on.sets.given t among))
+    let e = agreed old (ways p i) t k (after h i) on.same (member_right _ (onward p (Some i)) t among) held in
+    subst (Holds new t) (sym e) (on.sets.given t among))
     (λ (none : Member (onward p (Some i)) t → ⊥). on.sets.kept t none ∙ held)
     (member_or_not (onward p (Some i)) t)
 
@@ -102,14 +102,14 @@ split_reached code entries old new p h t k (suc n) i are within here holds on sm
     ⊎_elim
     (λ (less : r.0 < p). still_held old new p h t k i on (are.held t k small (record { steps = suc n; path = r; from = less })))
     (λ (ge : p ≤ r.0).
-      let same : r.0 ≡ p = omega arith in
-      let there = reached_held code entries old n p r.1 are within (subst (λ q. Reaches code entries n q r.1) same r.3) in
-      let height : h ≡ r.1 = one_height old p h r.1 holds there in
-      let instr : Some i ≡ Some r.2 = sym here ∙ ap (slice_get code) (sym same) ∙ r.4 in
-      let e : i ≡ r.2 = cc in
-      let is : k ≡ after h i = r.8 ∙ ap (λ j. after r.1 j) (sym e) ∙ ap (λ j. after j i) (sym height) in
-      let among : Member (onward p (Some i)) t = subst (λ j. Member (onward p (Some j)) t) (sym e) (subst (λ q. Member (onward q (Some r.2)) t) same r.6) in
-      subst (Holds new t) (sym is) (on.sets.given t among))
+    let same : r.0 ≡ p = omega arith in
+    let there = reached_held code entries old n p r.1 are within (subst (λ q. Reaches code entries n q r.1) same r.3) in
+    let height : h ≡ r.1 = one_height old p h r.1 holds there in
+    let instr : Some i ≡ Some r.2 = sym here ∙ ap (slice_get code) (sym same) ∙ r.4 in
+    let e : i ≡ r.2 = cc in
+    let is : k ≡ after h i = r.8 ∙ ap (λ j. after r.1 j) (sym e) ∙ ap (λ j. after j i) (sym height) in
+    let among : Member (onward p (Some i)) t = subst (λ j. Member (onward p (Some j)) t) (sym e) (subst (λ q. Member (onward q (Some r.2)) t) same r.6) in
+    subst (Holds new t) (sym is) (on.sets.given t among))
     (cases_lt r.0 p)
 
 -- its ways on lead to later places
@@ -121,9 +121,9 @@ given_reached : (code : List Instr) (entries old new : List (Option ℕ)) (p h t
 given_reached code entries old new p h t k i are within here holds on later small held =
     ⊎_elim
     (λ (among : Member (onward p (Some i)) t).
-      let g = are.given p h within holds in
-      let is : k ≡ after h i = one_height new t k (after h i) held (on.sets.given t among) in
-      record { steps = suc g.steps; path = (p, h, i, g.path, here, on.enough, among, later.each t among, is); from = omega arith })
+    let g = are.given p h within holds in
+    let is : k ≡ after h i = one_height new t k (after h i) held (on.sets.given t among) in
+    record { steps = suc g.steps; path = (p, h, i, g.path, here, on.enough, among, later.each t among, is); from = omega arith })
     (λ (none : Member (onward p (Some i)) t → ⊥). given_more code entries p (p + 1) t k (omega arith) (are.given t k small (sym (on.sets.kept t none) ∙ held)))
     (member_or_not (onward p (Some i)) t)
 
@@ -155,19 +155,19 @@ known_there c p i known =
     let jumps = known.sound.jumps in
     record {
       each = λ t among.
-        ⊎_elim
-        (λ (a : Member (option_to_list (jump_of i)) t). (goes_well c.instrs p t (on_jump (jump_of i) t (strays c.instrs p) (or_left (on_some (jump_of i) (strays c.instrs p)) (lacks_next c.instrs p i) jumps) a)).there)
-        (λ (b : Member (option_to_list (next_of p i)) t). not_le t (length c.instrs) (on_jump (next_of p i) t (λ next. not (nat_lt next (length c.instrs))) (or_right (on_some (jump_of i) (strays c.instrs p)) (lacks_next c.instrs p i) jumps) b))
-        (member_either (option_to_list (jump_of i)) (option_to_list (next_of p i)) t among);
+          ⊎_elim
+          (λ (a : Member (option_to_list (jump_of i)) t). (goes_well c.instrs p t (on_jump (jump_of i) t (strays c.instrs p) (or_left (on_some (jump_of i) (strays c.instrs p)) (lacks_next c.instrs p i) jumps) a)).there)
+          (λ (b : Member (option_to_list (next_of p i)) t). not_le t (length c.instrs) (on_jump (next_of p i) t (λ next. not (nat_lt next (length c.instrs))) (or_right (on_some (jump_of i) (strays c.instrs p)) (lacks_next c.instrs p i) jumps) b))
+          (member_either (option_to_list (jump_of i)) (option_to_list (next_of p i)) t among);
     }
 
 pub known_later : (c : CodeParts) (p : ℕ) (i : Instr) → IsKnown c p i → AreLater p (onward p (Some i))
 known_later c p i known = record {
   each = λ t among.
-    ⊎_elim
-    (λ (a : Member (option_to_list (jump_of i)) t). not_le p t (on_jump (jump_of i) t (λ to. not (nat_lt p to)) (or_left (on_some (jump_of i) (λ to. not (nat_lt p to))) (lacks_loop c.instrs p i) known.sound.forward) a))
-    (λ (b : Member (option_to_list (next_of p i)) t). next_by p t (may_go_on i) b)
-    (member_either (option_to_list (jump_of i)) (option_to_list (next_of p i)) t among);
+      ⊎_elim
+      (λ (a : Member (option_to_list (jump_of i)) t). not_le p t (on_jump (jump_of i) t (λ to. not (nat_lt p to)) (or_left (on_some (jump_of i) (λ to. not (nat_lt p to))) (lacks_loop c.instrs p i) known.sound.forward) a))
+      (λ (b : Member (option_to_list (next_of p i)) t). next_by p t (may_go_on i) b)
+      (member_either (option_to_list (jump_of i)) (option_to_list (next_of p i)) t among);
 }
 
 -- ---- the rules at a place
@@ -217,7 +217,7 @@ unreached c hs p h n are within none r =
 clean_more : (c : CodeParts) (p : ℕ) → IsCleanBelow c p → ((r : Rule) → ¬ Finds c r p) → IsCleanBelow c (p + 1)
 clean_more c p clean here = record {
   none = λ q r less found.
-    ⊎_elim (λ (below : q < p). clean.none q r below found) (λ (ge : p ≤ q). let same : q ≡ p = omega arith in here r (subst (Finds c r) same found)) (cases_lt q p);
+      ⊎_elim (λ (below : q < p). clean.none q r below found) (λ (ge : p ≤ q). let same : q ≡ p = omega arith in here r (subst (Finds c r) same found)) (cases_lt q p);
 }
 
 rules_by : (c : CodeParts) (p : ℕ) (i : Instr) → IsKnown c p i → ¬ Underflows c p → ¬ Differs c p → (r : Rule) → ¬ Finds c r p
@@ -267,8 +267,18 @@ found_differs c hs p h i known are within holds d =
     let x = d.clash in
     let small : x.place < length c.instrs = (let s = slice_get_within hs x.place (Some x.other) x.held in let n = are.count in omega arith) in
     record {
-      instr = i; here = known.here; steps = g.steps; height = h; reached = g.path; enough = d.enough; to = x.place; leads = x.among; place = small; other = x.other;
-      given = are.given x.place x.other small x.held; differs = x.differs;
+      instr = i;
+      here = known.here;
+      steps = g.steps;
+      height = h;
+      reached = g.path;
+      enough = d.enough;
+      to = x.place;
+      leads = x.among;
+      place = small;
+      other = x.other;
+      given = are.given x.place x.other small x.held;
+      differs = x.differs;
     }
 
 pub passed_fault : (c : CodeParts) (old new : List (Option ℕ)) (p h : ℕ) (i : Instr) (r : Result (Unit {0}) CodeFault) → length c.instrs ≤ MOST_INSTRS → IsKnown c p i → IsCleanBelow c p → AreHeights c.instrs c.entries p old → p < length c.instrs
@@ -276,11 +286,16 @@ pub passed_fault : (c : CodeParts) (old new : List (Option ℕ)) (p h : ℕ) (i 
 passed_fault c old new p h i (Ok done) short known clean are within holds on = tt
 passed_fault c old new p h i (Err (fault.Underflow q)) short known clean are within holds on =
     subst (IsFirst c Underflow) (sym on.0) (record {
-      short = short; here = found_underflow c old p h i known are within holds on.1; earlier_places = clean; earlier_rules = λ r less. earlier_two c p i r known less;
+      short = short;
+      here = found_underflow c old p h i known are within holds on.1;
+      earlier_places = clean;
+      earlier_rules = λ r less. earlier_two c p i r known less;
     })
 passed_fault c old new p h i (Err (fault.HeightsDiffer q)) short known clean are within holds on =
     subst (IsFirst c HeightsDiffer) (sym on.0) (record {
-      short = short; here = found_differs c old p h i known are within holds on.1; earlier_places = clean;
+      short = short;
+      here = found_differs c old p h i known are within holds on.1;
+      earlier_places = clean;
       earlier_rules = λ r less. earlier_three c p i r known (none_underflows c old p h i are within known.here holds on.1.enough) less;
     })
 passed_fault c old new p h i (Err (fault.BadJump q)) short known clean are within holds on = absurd on

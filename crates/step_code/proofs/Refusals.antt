@@ -1,13 +1,11 @@
 -- What it says of an instruction that a rule finds nothing there.
-use Rattle.std.proofs.Common.{◌≡◌, ◌∙◌, ℕ, ◌+◌, ◌<◌, ◌≤◌, Bool, true, false, ◌&&◌, ◌||◌, IsTrue, List, length, Option, Some, None, refl, sym, ap, arith, nat_lt}
+use Rattle.std.proofs.Common.{◌≡◌, ◌∙◌, ℕ, ◌<◌, Bool, true, false, ◌&&◌, ◌||◌, IsTrue, List, length, Some, refl, sym, ap, nat_lt}
 use Rattle.std.specs.Prelude.{not, slice_get}
 use Rattle.std.proofs.lemmas.Bool.{and_parts, ltb-true}
 use Rattle.step_code.specs.declared.instr.Instr.{Instr}
 use Rattle.step_code.specs.declared.instr.Instr.TheVariants.{LoopStart}
 use Rattle.step_code.specs.declared.instr.CodeParts.{CodeParts}
-use Rattle.step_code.specs.declared.loops.Loop.{Loop}
-use Rattle.step_code.specs.Loops.{loop_at}
-use Rattle.step_code.specs.Rules.{stays, strays, jumps_badly, jumps_back, lacks_loop, misses_slot, is_bad_entry, on_some, finds, Rule, BadJump, BackJump, BadSlot, Finds, IsCleanBelow}
+use Rattle.step_code.specs.Rules.{stays, strays, jumps_badly, jumps_back, misses_slot, is_bad_entry, on_some, finds, Rule, BadJump, BackJump, BadSlot, Finds, IsCleanBelow}
 use Rattle.step_code.proofs.Nesting.{loop_is}
 use Rattle.step_code.proofs.Crossing.{AreClosed, not_le}
 
@@ -55,8 +53,8 @@ goes_well code p to is =
 pub clean_closed : (c : CodeParts) (p : ℕ) → IsCleanBelow c p → AreClosed c.instrs p
 clean_closed c p clean = record {
   each = λ k l less at.
-    let i = LoopStart l.slot l.low l.high l.exit in
-    let sound = is_sound c k i (λ r. clean.none k r less) (loop_is c.instrs k l at).opens in
-    let well = goes_well c.instrs k l.exit (or_left (strays c.instrs k l.exit) _ sound.jumps) in
-    (well.within, not_le k l.exit (or_left (not (nat_lt k l.exit)) _ sound.forward));
+      let i = LoopStart l.slot l.low l.high l.exit in
+      let sound = is_sound c k i (λ r. clean.none k r less) (loop_is c.instrs k l at).opens in
+      let well = goes_well c.instrs k l.exit (or_left (strays c.instrs k l.exit) _ sound.jumps) in
+      (well.within, not_le k l.exit (or_left (not (nat_lt k l.exit)) _ sound.forward));
 }

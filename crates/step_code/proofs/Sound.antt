@@ -1,19 +1,17 @@
 -- Verified code is clean, level and fed, as the laws take it.
-use Rattle.std.proofs.Common.{◌≡◌, ◌∙◌, inl, inr, ℕ, zero, suc, ◌+◌, ◌<◌, ◌≤◌, Bool, true, false, ◌||◌, List, [], ◌∷◌, length, Option, Some, None, refl, sym, ap, subst, ⊎_elim, arith, nat_eq, nat_lt}
+use Rattle.std.proofs.Common.{◌≡◌, ◌∙◌, ℕ, zero, suc, ◌+◌, ◌<◌, ◌≤◌, true, false, List, [], ◌∷◌, length, Option, Some, None, refl, sym, ap, ⊎_elim, arith, nat_eq, nat_lt}
 use Rattle.std.specs.Prelude.{ℤ, ◌≢◌, not, slice_get}
-use Rattle.std.specs.List.{list_any}
 use Rattle.std.proofs.lemmas.Bool.{cases_lt, false≢true}
-use Rattle.std.proofs.lemmas.Option.{slice_get_within}
 use Rattle.step_code.specs.declared.instr.Instr.{Instr}
 use Rattle.step_code.specs.declared.instr.Instr.TheVariants.{Load, Store, Port, Fresh, Jump, JumpZero, LoopStart, LoopNext, Emit, End}
 use Rattle.step_code.specs.declared.instr.CodeParts.{CodeParts}
 use Rattle.step_code.specs.declared.loops.Loop.{Loop}
 use Rattle.step_code.specs.Loops.{loop_at, around}
-use Rattle.step_code.specs.Paths.{jump_of, onward}
+use Rattle.step_code.specs.Paths.{onward}
 use Rattle.step_code.specs.Heights.{takes, after, Member, Reaches, ways, Fed}
 use Rattle.step_code.specs.Rules.{on_some, strays, lacks_next, ends_loop, is_no_loop_slot, Underflow, HeightsDiffer, IsVerified}
 use Rattle.step_code.proofs.Nested.{Free, IsNested}
-use Rattle.step_code.proofs.Clean.{Jumps, IsEnd, Clean, IsClean}
+use Rattle.step_code.proofs.Clean.{Jumps, IsEnd, Clean}
 use Rattle.step_code.proofs.Nesting.{loop_is, clean_nested}
 use Rattle.step_code.proofs.Steady.{IsLevel, IsFed}
 use Rattle.step_code.proofs.Crossing.{not_le, has_slot}
@@ -52,8 +50,8 @@ end_by c p slot to start high (Some l) v is at found =
     let below : start < p = ⊎_elim
     (λ (less : start < p). less)
     (λ (ge : p ≤ start).
-      let same : start ≡ p = omega arith in
-      let no : Some (LoopNext slot high to) ≡ Some (LoopStart l.slot l.low l.high l.exit) = sym is ∙ ap (slice_get c.instrs) (sym same) ∙ opens in cc)
+    let same : start ≡ p = omega arith in
+    let no : Some (LoopNext slot high to) ≡ Some (LoopStart l.slot l.low l.high l.exit) = sym is ∙ ap (slice_get c.instrs) (sym same) ∙ opens in cc)
     (cases_lt start p) in
     record { start = start; loop = l; below = below; opens = at; exit = exit }
 
@@ -63,18 +61,20 @@ is_end c p slot (suc start) high v is found = end_by c p slot (suc start) start 
 
 cleans : (c : CodeParts) (p : ℕ) (i : Instr) → IsVerified c → IsKnown c p i → Clean c.instrs c.vars p i
 cleans c p (Jump to) v k = goes c p to (or_left (strays c.instrs p to) false k.sound.jumps) (or_left (not (nat_lt p to)) false k.sound.forward)
-cleans c p (JumpZero to) v k =
-    (goes c p to (or_left (strays c.instrs p to) (lacks_next c.instrs p (JumpZero to)) k.sound.jumps) (or_left (not (nat_lt p to)) false k.sound.forward),
-      not_le (p + 1) (length c.instrs) (or_right (strays c.instrs p to) (lacks_next c.instrs p (JumpZero to)) k.sound.jumps))
+cleans c p (JumpZero to) v k = (
+  goes c p to (or_left (strays c.instrs p to) (lacks_next c.instrs p (JumpZero to)) k.sound.jumps) (or_left (not (nat_lt p to)) false k.sound.forward),
+  not_le (p + 1) (length c.instrs) (or_right (strays c.instrs p to) (lacks_next c.instrs p (JumpZero to)) k.sound.jumps),
+)
 cleans c p (LoopStart slot low high exit) v k =
     let i = LoopStart slot low high exit in
     let slots = k.sound.slots in
-    let no_loop = or_left (is_no_loop_slot c slot) (has_slot slot (around c.instrs p)) slots in
-    (goes c p exit (or_left (strays c.instrs p exit) (lacks_next c.instrs p i) k.sound.jumps) (or_left (not (nat_lt p exit)) (not (on_some (loop_at c.instrs p) (λ l. true))) k.sound.forward),
+    let no_loop = or_left (is_no_loop_slot c slot) (has_slot slot (around c.instrs p)) slots in (
+      goes c p exit (or_left (strays c.instrs p exit) (lacks_next c.instrs p i) k.sound.jumps) (or_left (not (nat_lt p exit)) (not (on_some (loop_at c.instrs p) (λ l. true))) k.sound.forward),
       not_le (p + 1) (length c.instrs) (or_right (strays c.instrs p exit) (lacks_next c.instrs p i) k.sound.jumps),
       loop_there (loop_at c.instrs p) (or_right (not (nat_lt p exit)) (not (on_some (loop_at c.instrs p) (λ l. true))) k.sound.forward),
       le_of slot c.vars (or_left (nat_lt slot c.vars) (not (nat_lt slot (c.vars + c.loops))) no_loop),
-      free_of (around c.instrs p) slot (or_right (is_no_loop_slot c slot) (has_slot slot (around c.instrs p)) slots))
+      free_of (around c.instrs p) slot (or_right (is_no_loop_slot c slot) (has_slot slot (around c.instrs p)) slots),
+    )
 cleans c p (LoopNext slot high to) v k =
     (not_le (p + 1) (length c.instrs) k.sound.jumps, is_end c p slot to high v k.here (not_false (ends_loop c.instrs p to) k.sound.forward))
 cleans c p (Store x) v k = (not_le (p + 1) (length c.instrs) k.sound.jumps, not_le x c.vars k.sound.slots)
@@ -113,13 +113,20 @@ same_by c v n m p q h k t i j reached is way reached' is' way' less later =
     ⊎_elim
     (λ (e : after k j ≡ after h i). e)
     (λ (differs : after k j ≡ after h i → ⊥).
-      absurd (v.clean p HeightsDiffer (record {
-        instr = i; here = is; steps = n; height = h; reached = reached; enough = enough_by c n p h i v reached is; to = t; leads = way;
-        place = (known_there c q j (verified_known c q j v is')).each t way';
-        other = after k j;
-        given = record { steps = suc m; path = (q, k, j, reached', is', enough_by c m q k j v reached' is', way', later, refl); from = less };
-        differs = differs;
-      })))
+    absurd (v.clean p HeightsDiffer (record {
+      instr = i;
+      here = is;
+      steps = n;
+      height = h;
+      reached = reached;
+      enough = enough_by c n p h i v reached is;
+      to = t;
+      leads = way;
+      place = (known_there c q j (verified_known c q j v is')).each t way';
+      other = after k j;
+      given = record { steps = suc m; path = (q, k, j, reached', is', enough_by c m q k j v reached' is', way', later, refl); from = less };
+      differs = differs;
+    })))
     (same_or_not (after k j) (after h i))
 
 pub verified_level : (c : CodeParts) → IsVerified c → IsLevel c.instrs c.entries

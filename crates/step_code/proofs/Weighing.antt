@@ -1,5 +1,5 @@
 -- Weights stopped at u64's greatest value.
-use Rattle.std.proofs.Common.{◌≡◌, ◌∙◌, inl, inr, ℕ, zero, suc, ◌+◌, ◌-◌, ◌*◌, ◌^◌, ◌<◌, ◌≤◌, min, max, Bool, List, [], ◌∷◌, ◌++◌, length, map, Option, Some, None, refl, sym, ap, subst, ⊎_elim, arith, slice_index_or, slice_set}
+use Rattle.std.proofs.Common.{◌≡◌, ◌∙◌, inl, inr, ℕ, zero, suc, ◌+◌, ◌-◌, ◌*◌, ◌^◌, ◌<◌, ◌≤◌, min, max, List, [], ◌∷◌, ◌++◌, length, map, Option, Some, None, refl, sym, ap, subst, ⊎_elim, arith, slice_index_or, slice_set}
 use Rattle.std.specs.Prelude.{slice_get}
 use Rattle.std.specs.Prelude.{nat_lt}
 use Rattle.std.proofs.Common.{lit<, take}
@@ -49,9 +49,9 @@ same_fuel code (suc m) zero p on within le le' = absurd (omega arith)
 same_fuel code (suc m) (suc n) p on within le le' =
     ap (λ ts. weight_at code p + greatest ts)
     (map_same (heaviest code m) (heaviest code n) (leads code p) (λ t among.
-      let there = on.there p t among in
-      let later = on.later p t among in
-      same_fuel code m n t on there (omega arith) (omega arith)))
+    let there = on.there p t among in
+    let later = on.later p t among in
+    same_fuel code m n t on there (omega arith) (omega arith)))
 
 -- ---- caps
 pub capped_sum : (a b : ℕ) → capped (capped a + capped b) ≡ capped (a + b)
@@ -133,11 +133,11 @@ best_here c p i best d v here within are =
     let ways : leads code p ≡ onward p (Some i) = ap (onward p) here in
     let each : map (λ to. slice_index_or best to d) (onward p (Some i)) ≡ map (λ to. capped (heaviest code m to)) (onward p (Some i)) =
     map_same (λ to. slice_index_or best to d) (λ to. capped (heaviest code m to)) (onward p (Some i)) (λ t among.
-      let among' = subst (λ ts. Member ts t) (sym ways) among in
-      let there = on.there p t among' in
-      let later = on.later p t among' in
-      get_or_from_slice_get best t (capped (heaviest code (length code - t) t)) d (are.each t (omega arith) there)
-      ∙ ap capped (same_fuel code (length code - t) m t on there (omega arith) (omega arith))) in
+    let among' = subst (λ ts. Member ts t) (sym ways) among in
+    let there = on.there p t among' in
+    let later = on.later p t among' in
+    get_or_from_slice_get best t (capped (heaviest code (length code - t) t)) d (are.each t (omega arith) there)
+    ∙ ap capped (same_fuel code (length code - t) m t on there (omega arith) (omega arith))) in
     let all : greatest (map (λ to. slice_index_or best to d) (onward p (Some i))) ≡ capped (greatest (map (heaviest code m) (leads code p))) =
     ap greatest each ∙ ap greatest (sym (map-map capped (heaviest code m) (onward p (Some i)))) ∙ sym (capped_greatest (map (heaviest code m) (onward p (Some i)))) ∙ ap (λ ts. capped (greatest (map (heaviest code m) ts))) (sym ways) in
     ap (λ x. capped (capped (weight_at code p) + x)) all
@@ -148,13 +148,13 @@ pub set_best : (c : CodeParts) (p : ℕ) (best : List ℕ) (b : ℕ) → AreBest
 set_best c p best b are within is = record {
   count = length-set best p b ∙ are.count;
   each = λ q le small.
-    ⊎_elim
-    (λ (less : p < q). get_set_other best p q b (λ e. omega arith) ∙ are.each q (omega arith) small)
-    (λ (ge : q ≤ p).
+      ⊎_elim
+      (λ (less : p < q). get_set_other best p q b (λ e. omega arith) ∙ are.each q (omega arith) small)
+      (λ (ge : q ≤ p).
       let same : p ≡ q = omega arith in
       let n = are.count in
       subst (λ k. slice_get (slice_set best p b) k ≡ Some (capped (heaviest c.instrs (length c.instrs - k) k))) same (get_set_same best p b _ (slice_get-get_or best p 0 (omega arith)) ∙ ap Some is))
-    (cases_lt p q);
+      (cases_lt p q);
 }
 
 -- ---- entries

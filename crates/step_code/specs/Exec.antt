@@ -8,7 +8,7 @@ use Rattle.pals_base.specs.Fire.{Fired, holding, is_present}
 use Rattle.step_code.specs.declared.instr.Instr.{Instr}
 use Rattle.step_code.specs.declared.instr.CodeParts.{CodeParts}
 use Rattle.step_code.specs.Step.{Next, Goes, Ends, Traps, Sticks, Senses, step}
-use Rattle.step_code.specs.Paths.{weight}
+use Rattle.step_code.specs.Paths.{weight_of}
 
 -- how a run ends
 pub data Outcome : Type 0 where
@@ -67,7 +67,7 @@ slots_of c vars = vars ++ replicate c.loops (pos 0)
 
 -- from a place on, within the code's weight
 abbrev pub run_from : CodeParts → Frame → List Port → ℕ → Outcome
-run_from c held inputs place = run c.instrs (senses held.held inputs) (weight c.instrs c.entries) place [] (slots_of c held.vars) (silent c)
+run_from c held inputs place = run c.instrs (senses held.held inputs) (weight_of c) place [] (slots_of c held.vars) (silent c)
 
 abbrev pub from_entry : CodeParts → Frame → List Port → Option (Option ℕ) → Outcome
 from_entry c held inputs (Some (Some e)) = run_from c held inputs e

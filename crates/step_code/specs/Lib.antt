@@ -9,3 +9,4 @@ pub mod Rules
 pub mod Checks
 pub mod Capped
 pub mod Means
+pub mod Examples

@@ -2,6 +2,7 @@
 use Rattle.std.specs.Prelude.{ℕ, zero, suc, ◌+◌, ◌*◌, max, Bool, true, false, if◌then◌else◌, List, [], ◌∷◌, ◌++◌, length, map, Option, Some, None, option_to_list, slice_get}
 use Rattle.step_code.specs.declared.instr.Instr.{Instr}
 use Rattle.step_code.specs.declared.instr.Instr.TheVariants.{Jump, JumpZero, LoopStart, End}
+use Rattle.step_code.specs.declared.instr.CodeParts.{CodeParts}
 use Rattle.step_code.specs.Loops.{turns_of, around}
 
 -- the place to which an instruction jumps
@@ -53,3 +54,6 @@ entry_weight code (Some e) = heaviest code (length code) e
 -- the greatest weight of a path from an entry
 abbrev pub weight : List Instr → List (Option ℕ) → ℕ
 weight code entries = greatest (map (entry_weight code) entries)
+
+abbrev pub weight_of : CodeParts → ℕ
+weight_of c = weight c.instrs c.entries

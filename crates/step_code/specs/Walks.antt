@@ -6,7 +6,7 @@ use Rattle.pals_base.specs.declared.values.Port.{Port}
 use Rattle.pals_base.specs.Fire.{holding}
 use Rattle.step_code.specs.declared.instr.Instr.{Instr}
 use Rattle.step_code.specs.declared.instr.CodeParts.{CodeParts}
-use Rattle.step_code.specs.Paths.{leads, weight_at, weight}
+use Rattle.step_code.specs.Paths.{leads, weight_at, weight_of}
 use Rattle.step_code.specs.Exec.{count, senses, slots_of, silent}
 use Rattle.step_code.specs.Heights.{Member}
 
@@ -20,7 +20,7 @@ path_weight code place [] = weight_at code place
 path_weight code place (next ∷ rest) = weight_at code place + path_weight code next rest
 
 abbrev pub made_from : CodeParts → Frame → List Port → Option (Option ℕ) → ℕ
-made_from c held inputs (Some (Some e)) = count c.instrs (senses held.held inputs) (weight c.instrs c.entries) e [] (slots_of c held.vars) (silent c)
+made_from c held inputs (Some (Some e)) = count c.instrs (senses held.held inputs) (weight_of c) e [] (slots_of c held.vars) (silent c)
 made_from c held inputs (Some None) = 0
 made_from c held inputs None = 0
 

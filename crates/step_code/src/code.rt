@@ -1,6 +1,6 @@
 //! Code that is verified.
 ghost use Rattle.std.specs.Prelude.{◌≡◌};
-ghost use Rattle.step_code.specs.Paths.{weight};
+ghost use Rattle.step_code.specs.Paths.{weight_of};
 ghost use Rattle.step_code.specs.Capped.{capped};
 
 use crate::instr::CodeParts;
@@ -29,23 +29,23 @@ impl Model for Code {
     ghost view = { λ code. code.parts };
 
     ghost use Rattle.std.specs.Prelude.{◌≡◌};
-    ghost use Rattle.step_code.specs.Paths.{weight};
+    ghost use Rattle.step_code.specs.Paths.{weight_of};
     ghost use Rattle.step_code.specs.Rules.{IsVerified};
     ghost use Rattle.step_code.specs.Capped.{capped};
 
-    ghost invariant = { λ code. IsVerified code.parts × (code.most ≡ capped (weight code.parts.instrs code.parts.entries)) };
+    ghost invariant = { λ code. IsVerified code.parts × (code.most ≡ capped (weight_of code.parts)) };
 }
 
 impl Code {
     ghost use Rattle.std.specs.Prelude.{◌≡◌};
-    ghost use Rattle.step_code.specs.Paths.{weight};
+    ghost use Rattle.step_code.specs.Paths.{weight_of};
     ghost use Rattle.step_code.specs.Rules.{IsVerified};
     ghost use Rattle.step_code.specs.Capped.{capped};
 
     /// The code of verified parts and their weight. It takes no memory.
     pub(crate) fn new(parts: CodeParts, most: u64) -> Code
         requires verified { IsVerified parts }
-        requires most { most ≡ capped (weight parts.instrs parts.entries) }
+        requires most { most ≡ capped (weight_of parts) }
         ensures { result ≡ parts }
     {
         Code { parts, most }
@@ -61,7 +61,7 @@ impl Code {
 
     // The weight that is kept.
     fn most(&self) -> u64
-        ensures { result ≡ capped (weight self.now.instrs self.now.entries) }
+        ensures { result ≡ capped (weight_of self.now) }
     {
         self.most
     }
@@ -70,7 +70,7 @@ impl Code {
 /// How many instructions one step takes at most, stopped at u64's greatest value. It takes no
 /// memory.
 pub fn most(code: &Code) -> u64
-    ensures { result ≡ capped (weight code.now.instrs code.now.entries) }
+    ensures { result ≡ capped (weight_of code.now) }
 {
     code.most()
 }

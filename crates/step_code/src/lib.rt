@@ -4,8 +4,8 @@
 
 pub mod code;
 pub mod fault;
-pub mod instr;
 mod heights;
+pub mod instr;
 pub mod laws;
 mod loops;
 mod rules;

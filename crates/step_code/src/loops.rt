@@ -63,12 +63,14 @@ impl Loop {
 pub fn loop_at(instrs: &[Instr], place: usize) -> Option<Loop>
     ensures { result ≡ loop_at instrs.now place }
 {
-    let Some(Instr::LoopStart {
-        slot,
-        low,
-        high,
-        exit,
-    }) = instr_at(instrs, place)
+    let Some(
+        Instr::LoopStart {
+            slot,
+            low,
+            high,
+            exit,
+        },
+    ) = instr_at(instrs, place)
     else {
         return None;
     };

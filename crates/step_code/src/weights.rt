@@ -1,7 +1,7 @@
 //! How many instructions one step may take.
 ghost use Rattle.std.specs.Prelude.{◌≡◌, ◌+◌, ◌-◌, ◌<◌, map, option_to_list, slice_index_or, length, IfOk, Some};
 ghost use Rattle.step_code.specs.Innermost.{AreInnermost};
-ghost use Rattle.step_code.specs.Paths.{onward, greatest, weight_at, heaviest, entry_weight, weight};
+ghost use Rattle.step_code.specs.Paths.{onward, greatest, weight_at, heaviest, entry_weight, weight_of};
 ghost use Rattle.step_code.specs.Heights.{Member};
 ghost use Rattle.step_code.specs.Rules.{IsVerified};
 ghost use Rattle.step_code.specs.Checks.{AreThere};
@@ -22,7 +22,7 @@ pub fn most_weight(
     requires verified { IsVerified parts.now }
     requires innermost { AreInnermost parts.now.instrs innermost.now }
     requires count { length innermost.now ≡ length parts.now.instrs }
-    ensures { IfOk result (λ most. most ≡ capped (weight parts.now.instrs parts.now.entries)) }
+    ensures { IfOk result (λ most. most ≡ capped (weight_of parts.now)) }
 {
     let best = best_weights(alloc, parts, innermost)?;
     let mut most: u64 = 0;

@@ -1,5 +1,5 @@
 -- What the machine keeps from one instruction to the next.
-use Rattle.std.proofs.Common.{◌≡◌, ◌∙◌, ℕ, zero, suc, ◌+◌, ◌-◌, ◌<◌, ◌≤◌, ℤ, List, [], length, map, Option, Some, refl, sym, ap, subst, arith, slice_index_or}
+use Rattle.std.proofs.Common.{◌≡◌, ◌∙◌, ℕ, zero, suc, ◌+◌, ◌<◌, ◌≤◌, ℤ, List, [], length, map, Some, refl, sym, ap, subst, arith, slice_index_or}
 use Rattle.std.specs.Prelude.{slice_get}
 use Rattle.std.proofs.lemmas.List.{length-map}
 use Rattle.std.proofs.lemmas.Option.{slice_get-get_or}
@@ -9,9 +9,8 @@ use Rattle.pals_base.specs.Fire.{is_present}
 use Rattle.step_code.specs.declared.instr.Instr.{Instr}
 use Rattle.step_code.specs.declared.instr.CodeParts.{CodeParts}
 use Rattle.step_code.specs.declared.code.TheConstants.{MOST_INSTRS}
-use Rattle.step_code.specs.Loops.{around}
 use Rattle.step_code.specs.Paths.{weight}
-use Rattle.step_code.specs.Step.{Next, Goes, Ends, Traps, Senses, step}
+use Rattle.step_code.specs.Step.{Next, Goes, Ends, Traps, step}
 use Rattle.step_code.specs.Exec.{Outcome, Ended, Trapped, Rest, then_run, run, count, senses}
 use Rattle.step_code.specs.Heights.{takes, Fed, Member}
 use Rattle.step_code.specs.Rules.{IsVerified}

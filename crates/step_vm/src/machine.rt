@@ -1,12 +1,9 @@
 //! What one instruction does.
 ghost use Rattle.std.specs.Prelude.{◌≡◌, ◌≤◌, ◌<◌, ◌+◌, length, map, Some, slice_get};
 ghost use Rattle.pals_base.specs.Fire.{is_present};
-ghost use Rattle.std.specs.Prelude.{List, ℤ, ◌∷◌};
-ghost use Rattle.pals_base.specs.declared.values.Port.{Port};
 ghost use Rattle.step_code.specs.declared.code.TheConstants.{MOST_INSTRS};
-ghost use Rattle.step_code.specs.Step.{step, on_two, on_result, Goes};
 ghost use Rattle.step_code.specs.Heights.{takes, Fed};
-ghost use Rattle.step_vm.specs.Stacks.{Met};
+ghost use Rattle.step_vm.specs.Outcomes.{Met, GivesResult, GivesBoth, done_by};
 
 use crate::operators::{apply, holds, number_of};
 use crate::stack::Stack;
@@ -42,7 +39,7 @@ fn is_fresh(present: &[Port], port: usize) -> bool
 fn give(stack: &mut Stack, value: Result<i64, Trap>, place: usize) -> Onward
     requires room { length stack.old.numbers < stack.old.size }
     requires small { place < MOST_INSTRS }
-    ensures met { (slots : List ℤ) (outs : List Port) → Met result stack.new.numbers slots outs (on_result value (λ v. Goes (place + 1) (v ∷ stack.old.numbers) slots outs)) }
+    ensures met { GivesResult result stack.new.numbers value place stack.old.numbers }
     ensures size { stack.new.size ≡ stack.old.size }
 {
     match value {
@@ -60,7 +57,7 @@ fn two(stack: &mut Stack, op: Op, place: usize) -> Onward
     requires both { 2 ≤ length stack.old.numbers }
     requires room { length stack.old.numbers ≤ stack.old.size }
     requires small { place < MOST_INSTRS }
-    ensures met { (slots : List ℤ) (outs : List Port) → Met result stack.new.numbers slots outs (on_two op place stack.old.numbers slots outs) }
+    ensures met { GivesBoth result stack.new.numbers op place stack.old.numbers }
     ensures size { stack.new.size ≡ stack.old.size }
 {
     let right = stack.pop();
@@ -83,7 +80,7 @@ pub fn advance(
     requires inputs { length inputs.present.now ≡ length inputs.held.now }
     requires room { length stack.old.numbers < stack.old.size }
     requires small { place < MOST_INSTRS }
-    ensures met { Met result stack.new.numbers slots.new outs.new (step (Some instr) (record { held = inputs.entry.held.now; fresh = map is_present inputs.entry.present.now }) place stack.old.numbers slots.old outs.old) }
+    ensures met { Met result stack.new.numbers slots.new outs.new (done_by instr place stack.old.numbers slots.old outs.old inputs.entry) }
     ensures size { stack.new.size ≡ stack.old.size }
 {
     match instr {

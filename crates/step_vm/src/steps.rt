@@ -1,11 +1,11 @@
 //! Steps of code.
 ghost use Rattle.std.specs.Prelude.{◌≡◌, ◌≤◌, ◌-◌, ◌++◌, [], length, take, replicate, pos, Some, true, slice_get, ◌+◌};
 ghost use Rattle.pals_base.specs.Fire.{holding};
-ghost use Rattle.step_code.specs.Paths.{weight};
-ghost use Rattle.step_code.specs.Exec.{FitsCode, Sized, Leaves, exec, has_entry, left, run_from, senses, silent, run as run_of};
+ghost use Rattle.step_code.specs.Exec.{FitsCode, Sized, Leaves, exec, has_entry, left, run_from, silent};
 ghost use Rattle.step_code.specs.Heights.{Member};
 ghost use Rattle.step_code.specs.Rules.{IsVerified};
-ghost use Rattle.step_vm.specs.Stacks.{stack_of, HasEnded, LeavesBehind};
+ghost use Rattle.step_vm.specs.Stacks.{stack_of};
+ghost use Rattle.step_vm.specs.Outcomes.{HasEnded, LeavesBehind, ran};
 ghost use Rattle.step_vm.specs.Rooms.{IsRoomOf};
 
 use crate::machine::{Inputs, Onward, advance};
@@ -58,7 +58,8 @@ fn react(
     requires slots { length slots.old ≡ parts.now.vars + parts.now.loops }
     requires sizes { Sized parts.now frame.old inputs.now }
     requires outs { outs.old ≡ silent parts.now }
-    ensures step { left parts.now frame.old (run_from parts.now frame.old inputs.now entry) ≡ Leaves (record { frame = frame.new; outs = outs.new }) }
+    ensures step { left parts.now frame.old (run_from parts.now frame.old inputs.now entry)
+        ≡ Leaves (record { frame = frame.new; outs = outs.new }) }
     ensures size { stack.new.size ≡ stack.old.size }
 {
     begin(slots, frame.vars.as_slice());
@@ -114,7 +115,7 @@ fn run_from(
     requires outs { length outs.old ≡ parts.now.outs }
     requires held { length inputs.held.now ≡ parts.now.ins }
     requires present { length inputs.present.now ≡ parts.now.ins }
-    ensures ended { HasEnded result slots.new outs.new (run_of parts.now.instrs (senses inputs.entry.held.now inputs.entry.present.now) (weight parts.now.instrs parts.now.entries) entry [] slots.old outs.old) }
+    ensures ended { HasEnded result slots.new outs.new (ran parts.now entry slots.old outs.old inputs.entry) }
     ensures size { stack.new.size ≡ stack.old.size }
 {
     let instrs = parts.instrs.as_slice();

@@ -9,10 +9,12 @@ use Rattle.pals_model.specs.Rules.{IsTarget, IsDesign}
 -- ---- components
 -- a component is found by its path, and what a path finds has that path
 abbrev pub NodeIsFound : Type 0
-NodeIsFound = (design : DesignParts) (node : ℕ) (c : Component) → IsDesign design → slice_get design.components node ≡ Some c → node_named design c.path ≡ Some node
+NodeIsFound = (design : DesignParts) (node : ℕ) (c : Component) →
+    IsDesign design → slice_get design.components node ≡ Some c → node_named design c.path ≡ Some node
 
 abbrev pub FoundNodeHasPath : Type 0
-FoundNodeHasPath = (design : DesignParts) (node : ℕ) (path : List ℕ) → node_named design path ≡ Some node → IsSomeAnd (slice_get design.components node) (λ c. c.path ≡ path)
+FoundNodeHasPath = (design : DesignParts) (node : ℕ) (path : List ℕ) →
+    node_named design path ≡ Some node → IsSomeAnd (slice_get design.components node) (λ c. c.path ≡ path)
 
 -- ---- in ports
 -- no two in ports of a design have one name
@@ -24,7 +26,9 @@ TargetNamesDiffer = (design : DesignParts) (node port other_node other_port : �
 -- ---- links
 -- a link is found by its name, and what a name finds has that name
 abbrev pub LinkIsFound : Type 0
-LinkIsFound = (design : DesignParts) (number : ℕ) (link : Link) → IsDesign design → slice_get design.links number ≡ Some link → link_named design (link_name design link) ≡ Some number
+LinkIsFound = (design : DesignParts) (number : ℕ) (link : Link) →
+    IsDesign design → slice_get design.links number ≡ Some link → link_named design (link_name design link) ≡ Some number
 
 abbrev pub FoundLinkHasName : Type 0
-FoundLinkHasName = (design : DesignParts) (number : ℕ) (name : List ℕ) → link_named design name ≡ Some number → IsSomeAnd (slice_get design.links number) (λ link. link_name design link ≡ name)
+FoundLinkHasName = (design : DesignParts) (number : ℕ) (name : List ℕ) →
+    link_named design name ≡ Some number → IsSomeAnd (slice_get design.links number) (λ link. link_name design link ≡ name)

@@ -1,4 +1,4 @@
-use Rattle.std.proofs.Common.{◌≡◌, ◌+◌, ◌++◌, ap, ◌∙◌, arith}
+use Rattle.std.proofs.Common.{rules, ◌≡◌, ◌+◌, ◌++◌, ap, ◌∙◌, arith}
 use Rattle.std.specs.Arc.{arc_value}
 use Rattle.pals_model.specs.Composition.{comp}
 use Rattle.pals_model.specs.RoundTexts.{row, report}
@@ -6,10 +6,14 @@ use Rattle.pals_top.specs.Answers.{no_env}
 use Rattle.pals_top.proofs.Rounds.{report_more}
 use Rattle.pals_top.proofs.program.report.Goals as goal
 
+pub loop-round-init : goal.loop-round-init
+unfolding comp
+loop-round-init c = search rules
+
 pub loop-round-preserved : goal.loop-round-preserved
 loop-round-preserved c =
     let design = arc_value c.in_ok-design.design in
-    let here : c.deref.result.now ≡ design = c.deref.ensures in (
+    let here : c.deref-in-loop-round.result.now ≡ design = c.deref-in-loop-round.ensures in (
       c.in_ok-add_round.ensures.same ∙ here,
       c.in_ok-add_round.ensures.further ∙ ap (λ d. comp d no_env (c.loop-round.round + 1)) here,
       c.in_ok-add_round.ensures.row ∙ ap (λ d. c.loop-round.text.items ++ row d no_env c.loop-round.round) here

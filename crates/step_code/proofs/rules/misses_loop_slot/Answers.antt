@@ -1,4 +1,4 @@
-use Rattle.std.proofs.Common.{◌<◌, None, Some, length, sym, subst, arith, rules, slice_index_or}
+use Rattle.std.proofs.Common.{◌<◌, None, length, sym, subst, arith, rules, slice_index_or}
 use Rattle.step_code.proofs.Innermost.{start_of, start_falls}
 use Rattle.step_code.proofs.Crossing.{LooksOn, looks_further}
 use Rattle.step_code.proofs.Refusals.{clean_closed}

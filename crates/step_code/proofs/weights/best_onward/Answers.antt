@@ -1,4 +1,4 @@
-use Rattle.std.proofs.Common.{◌≡◌, ◌∙◌, ℕ, List, length, map, max, option_to_list, sym, ap, subst, slice_index_or}
+use Rattle.std.proofs.Common.{◌∙◌, ℕ, length, map, max, option_to_list, sym, ap, subst, slice_index_or}
 use Rattle.step_code.specs.Paths.{greatest, jump_of, next_of}
 use Rattle.step_code.specs.Checks.{AreThere}
 use Rattle.step_code.proofs.Passing.{there_jump, there_next}

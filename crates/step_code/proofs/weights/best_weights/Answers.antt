@@ -1,4 +1,4 @@
-use Rattle.std.proofs.Common.{◌≡◌, ◌-◌, ◌+◌, ◌<◌, ◌≤◌, length, sym, subst, arith}
+use Rattle.std.proofs.Common.{◌≡◌, ◌-◌, ◌+◌, subst, arith}
 use Rattle.step_code.specs.Capped.{AreBest}
 use Rattle.step_code.proofs.Weighing.{set_best}
 use Rattle.step_code.proofs.weights.best_weights.Goals as goal

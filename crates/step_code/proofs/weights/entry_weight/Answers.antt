@@ -1,4 +1,4 @@
-use Rattle.std.proofs.Common.{◌≡◌, ◌∙◌, Some, length, sym, ap, subst}
+use Rattle.std.proofs.Common.{◌∙◌, sym, ap, subst}
 use Rattle.step_code.specs.Heights.{Member}
 use Rattle.step_code.specs.Paths.{entry_weight}
 use Rattle.step_code.specs.Capped.{capped}

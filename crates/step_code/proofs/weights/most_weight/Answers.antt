@@ -1,4 +1,4 @@
-use Rattle.std.proofs.Common.{◌≡◌, ◌∙◌, ◌+◌, None, refl, slice_index_or}
+use Rattle.std.proofs.Common.{◌∙◌, None, refl, slice_index_or}
 use Rattle.step_code.proofs.Weighing.{weight_more, member_at}
 use Rattle.step_code.proofs.weights.most_weight.Goals as goal
 

@@ -1,4 +1,4 @@
-use Rattle.std.proofs.Common.{◌≡◌, ◌∙◌, ◌*◌, ◌<◌, ◌≤◌, None, Some, length, refl, sym, ap, arith, rules, slice_index_or}
+use Rattle.std.proofs.Common.{◌≡◌, ◌∙◌, ◌*◌, ◌<◌, None, Some, length, sym, ap, arith, rules, slice_index_or}
 use Rattle.std.proofs.lemmas.Option.{get_or_from_slice_get}
 use Rattle.step_code.specs.Loops.{turns_of}
 use Rattle.step_code.specs.Innermost.{innermost}

@@ -1,6 +1,5 @@
 use Rattle.std.proofs.Common.{◌≡◌, ◌∙◌, ℕ, ℤ, ◌+◌, ◌∷◌, ◌<◌, List, length, map, Some, pos, sym, ap, subst, rules, arith, slice_index_or, slice_set}
 use Rattle.std.proofs.lemmas.Int.{to_z-of_z}
-use Rattle.std.proofs.lemmas.Grind.{common_steps}
 use Rattle.std.specs.Prelude.{not, slice_get, int_lt, false, if◌then◌else◌, ◌+ℤ◌}
 use Rattle.std.proofs.lemmas.Int.{ints}
 use Rattle.std.proofs.lemmas.Option.{slice_get-get_or}
@@ -11,10 +10,10 @@ use Rattle.pals_base.specs.declared.values.Port.{Port as Value}
 use Rattle.pals_base.specs.Fire.{is_present}
 use Rattle.pals_base.specs.Expressions.{is_true, truth}
 use Rattle.step_code.specs.declared.instr.Instr.{Instr}
-use Rattle.step_code.specs.declared.instr.Instr.TheVariants.{Push, Load, Store, Port, Fresh, Neg, Abs, Not, Emit, LoopStart, LoopNext}
-use Rattle.step_code.specs.Step.{Next, Senses, step, on_top, on_found, on_result, Goes}
+use Rattle.step_code.specs.declared.instr.Instr.TheVariants.{Store}
+use Rattle.step_code.specs.Step.{Senses, step, on_top, on_found, on_result, Goes}
 use Rattle.pals_base.specs.Arithmetic.{negation_of, magnitude_of}
-use Rattle.step_vm.specs.Stacks.{Met}
+use Rattle.step_vm.specs.Outcomes.{Met}
 use Rattle.step_vm.proofs.machine.advance.Goals as goal
 
 -- a store, at the slot and the stack that are there

@@ -1,8 +1,7 @@
-use Rattle.std.proofs.Common.{◌≡◌, ◌∙◌, ◌<◌, length, take, sym, ap, arith, rules, w64, slice_set}
+use Rattle.std.proofs.Common.{◌∙◌, length, take, sym, ap, arith, rules, w64, slice_set}
 use Rattle.std.proofs.lemmas.Int.{to_z-of_z}
 use mir.Val.{SFits}
 use Rattle.pals_base.specs.declared.values.Port.TheVariants.{Absent}
-use Rattle.pals_base.specs.Fire.{holding}
 use Rattle.step_code.proofs.Ending.{length-holding}
 use Rattle.step_vm.proofs.Holding.{holding-none, hold_present, hold_absent}
 use Rattle.step_vm.proofs.steps.hold.Goals as goal
@@ -24,10 +23,10 @@ loop-at-preserved c =
     let inputs = c.args.inputs.now in
     let at = c.loop-at.at in
     elim c.match-inputs-at.branch [
-      in-Present w ↦
-        let v = w.in-Present.value in
-        let fits : SFits w64 v = search rules in
-        let set = simp to_z-of_z at w.set.ensures in
-        w.held-is ∙ set ∙ ap (λ l. slice_set l at v) c.loop-at.invariant ∙ sym (hold_present held inputs at v Absent c.requires c.loop-at-test.true w.in-Present.is)
+      | in-Present w ↦
+          let v = w.in-Present.value in
+          let fits : SFits w64 v = search rules in
+          let set = simp to_z-of_z at w.set.ensures in
+          w.held-is ∙ set ∙ ap (λ l. slice_set l at v) c.loop-at.invariant ∙ sym (hold_present held inputs at v Absent c.requires c.loop-at-test.true w.in-Present.is)
       | in_default w ↦ w.held-is ∙ c.loop-at.invariant ∙ sym (hold_absent held inputs at Absent c.loop-at-test.true w.in_default.is)
     ]

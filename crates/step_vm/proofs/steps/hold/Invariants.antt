@@ -1,4 +1,4 @@
-use Rattle.std.proofs.Common.{◌≡◌, length, take}
+use Rattle.std.proofs.Common.{◌≡◌, take}
 use Rattle.pals_base.specs.Fire.{holding}
 use Rattle.step_vm.proofs.steps.hold.Given as goal
 

@@ -1,4 +1,4 @@
-use Rattle.std.proofs.Common.{◌≡◌, ◌∙◌, ◌<◌, length, pos, refl, ap, arith, rules, w64, slice_set, slice_index_or}
+use Rattle.std.proofs.Common.{◌∙◌, pos, refl, ap, arith, rules, w64, slice_set, slice_index_or}
 use Rattle.std.proofs.lemmas.Int.{to_z-of_z}
 use mir.Val.{SFits}
 use Rattle.step_vm.proofs.Holding.{keep_more}

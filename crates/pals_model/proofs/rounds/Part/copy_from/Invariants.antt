@@ -7,5 +7,5 @@ abbrev pub invariant-loop-at : goal.invariant-loop-at
 invariant-loop-at l = record {
   frame : l.self.frame ≡ l.other.frame;
   sizes : map (λ (tuple : List Port). length tuple) l.self.outs ≡ map (λ (tuple : List Port). length tuple) l.other.outs;
-  copied : take l.at l.self.outs ≡ take l.at l.other.outs
+  copied : take l.at l.self.outs ≡ take l.at l.other.outs;
 }

@@ -1,10 +1,9 @@
-use Rattle.std.proofs.Common.{rules, ◌≡◌, ◌∙◌, ◌∷◌, ◌<◌, length, ℕ, ◌+◌, ◌-◌, ◌≤◌, List, [], slice_set, ℤ, pos, ap, sym, arith}
+use Rattle.std.proofs.Common.{◌∙◌, ◌∷◌, ◌<◌, length, ◌+◌, slice_set, ap, arith}
 use mir.Val.{to_z, of_z}
 use mir.Syntax.{w64}
 use Rattle.std.proofs.lemmas.Int.{to_z-of_z}
-use Rattle.std.proofs.lemmas.Grind.{common_steps}
 use Rattle.std.proofs.lemmas.List.{length-set}
-use Rattle.step_vm.specs.Stacks.{stack_of, StackState, stacked}
+use Rattle.step_vm.specs.Stacks.{stack_of, stacked}
 use Rattle.step_vm.proofs.Cells.{length-stacked, pushed}
 use Rattle.step_vm.proofs.stack.Stack.push.Goals as goal
 

@@ -1,33 +1,32 @@
 //! Rounds of the composition, worked by hand.
-use super::designs::{fast, first_step_fresh, overflowing, short_circuit, turn_controller};
+use crate::designs::{fast, first_step_fresh, overflowing, short_circuit, turn_controller};
 use pals_base::{NoMemory, Port};
 use pals_model::Design;
-use pals_report::add_row;
+use pals_report::{TapPlaces, add_row};
 use std::alloc::Global;
-use std::process::Abort;
 use std::sync::Arc;
 use std::test::Fail;
 use sync_product::Product;
 
 // Goes one round further with these values of the root in ports, and writes its row.
 fn add_round(
-    rt: &impl Abort,
+    alloc: Global,
     text: &mut Vec<u8>,
     product: &mut Product,
     round: u32,
     values: &[Port],
 ) -> Result<(), NoMemory> {
     product.advance(values)?;
-    assert!(rt; product.parts().len() == product.design().components().len());
-    add_row(text, product.design(), round, product.parts())
+    let places = TapPlaces::new(alloc, product.design())?;
+    add_row(text, product.design(), &places, round, &product.parts())
 }
 
 // The rows of the first rounds, without inputs.
-fn rows(rt: &impl Abort, alloc: Global, design: Design, rounds: u32) -> Result<Vec<u8>, NoMemory> {
+fn rows(alloc: Global, design: Design, rounds: u32) -> Result<Vec<u8>, NoMemory> {
     let mut product = Product::new(alloc, Arc::new(alloc, design)?)?;
     let mut text = Vec::new(alloc);
     for round in 0..rounds {
-        add_round(rt, &mut text, &mut product, round, &[])?;
+        add_round(alloc, &mut text, &mut product, round, &[])?;
     }
     Ok(text)
 }
@@ -42,7 +41,7 @@ out o (_,_,_,_)\n";
 #[test]
 fn trap_in_step_three(rt: HostRuntime) -> Result<(), Fail> {
     let alloc = rt.alloc();
-    let text = rows(&rt, alloc, fast(&rt, alloc)?, 2)?;
+    let text = rows(alloc, fast(&rt, alloc)?, 2)?;
     assert_eq!(rt; text.as_slice(), TRAP_IN_STEP_THREE);
     Ok(())
 }
@@ -52,9 +51,9 @@ const OVERFLOW: &[u8] = b"round 0\np.a halted(overflow) x=0 y=0\np.b halted(over
 #[test]
 fn traps_and_short_circuit(rt: HostRuntime) -> Result<(), Fail> {
     let alloc = rt.alloc();
-    let text = rows(&rt, alloc, overflowing(&rt, alloc)?, 1)?;
+    let text = rows(alloc, overflowing(&rt, alloc)?, 1)?;
     assert_eq!(rt; text.as_slice(), OVERFLOW);
-    let text = rows(&rt, alloc, short_circuit(&rt, alloc)?, 1)?;
+    let text = rows(alloc, short_circuit(&rt, alloc)?, 1)?;
     assert_eq!(rt;
         text.as_slice(),
         b"round 0\np.a s x=5\np.b s x=5\n".as_slice()
@@ -67,7 +66,7 @@ const FRESH: &[u8] = b"round 0\np.a s\np.b s x=0 y=4\nround 1\np.a s\np.b s x=1 
 #[test]
 fn fresh_in_the_first_step(rt: HostRuntime) -> Result<(), Fail> {
     let alloc = rt.alloc();
-    let text = rows(&rt, alloc, first_step_fresh(&rt, alloc)?, 2)?;
+    let text = rows(alloc, first_step_fresh(&rt, alloc)?, 2)?;
     assert_eq!(rt; text.as_slice(), FRESH);
     Ok(())
 }
@@ -84,14 +83,14 @@ fn turns_to_its_goal(rt: HostRuntime) -> Result<(), Fail> {
     let design = turn_controller(&rt, alloc)?;
     let mut product = Product::new(alloc, Arc::new(alloc, design)?)?;
     let mut text = Vec::new(alloc);
-    add_round(&rt, &mut text, &mut product, 0, &[Port::Present(10)])?;
+    add_round(alloc, &mut text, &mut product, 0, &[Port::Present(10)])?;
     for round in 1..3 {
-        add_round(&rt, &mut text, &mut product, round, &[Port::Absent])?;
+        add_round(alloc, &mut text, &mut product, round, &[Port::Absent])?;
     }
     assert_eq!(rt; text.as_slice(), FIRST_TURNS);
     for round in 3..50 {
         text.clear();
-        add_round(&rt, &mut text, &mut product, round, &[Port::Absent])?;
+        add_round(alloc, &mut text, &mut product, round, &[Port::Absent])?;
     }
     assert_eq!(rt; text.as_slice(), LAST_TURN);
     Ok(())

@@ -1,7 +1,7 @@
 //! Designs of worked rows, built from their parts.
 use pals_base::{
     Act, Adaptor, Behaviour, BehaviourParts, Branch, Expr, Gamma, Guard, Items, Kind, Named,
-    NoMemory, NodeNo, Op, Operand, StateDecl, Text, Transition, VarDecl,
+    NoMemory, NodeNo, Op, Operand, StateDecl, Text, Transition, TryClone, VarDecl,
 };
 use pals_model::{Component, Design, DesignParts, Feed, Link, Tap};
 use std::alloc::Global;
@@ -51,13 +51,15 @@ fn state(alloc: Global, name: &str, complete: bool) -> Result<StateDecl, NoMemor
 fn sound(rt: &impl Abort, alloc: Global, parts: BehaviourParts) -> Result<Behaviour, NoMemory> {
     match Behaviour::try_new(alloc, parts)? {
         Some(behaviour) => Ok(behaviour),
-        None => panic!(rt; "the parts break a rule"),
+        None => panic!(rt; "the parts break a rule of behaviours"),
     }
 }
 
 fn accepted(rt: &impl Abort, parts: DesignParts) -> Design {
-    assert!(rt; parts.is_design());
-    Design::new(parts)
+    match Design::try_new(parts) {
+        Some(design) => design,
+        None => panic!(rt; "the parts break a rule of designs"),
+    }
 }
 
 fn pair(alloc: Global, left: Expr, op: Op, right: Expr) -> Result<Expr, NoMemory> {
@@ -174,7 +176,7 @@ fn overflow_acts(alloc: Global) -> Result<Vec<Act>, NoMemory> {
 /// Two threads whose quotient does not fit.
 pub fn overflowing(rt: &impl Abort, alloc: Global) -> Result<Design, NoMemory> {
     let first = counter(rt, alloc, &["x", "y"], overflow_acts(alloc)?)?;
-    let second = first.copy(alloc)?;
+    let second = first.try_clone(alloc)?;
     two(rt, alloc, first, second)
 }
 
@@ -197,7 +199,7 @@ fn guarded_acts(alloc: Global) -> Result<Vec<Act>, NoMemory> {
 /// Two threads whose division stands behind `or else`.
 pub fn short_circuit(rt: &impl Abort, alloc: Global) -> Result<Design, NoMemory> {
     let first = counter(rt, alloc, &["x"], guarded_acts(alloc)?)?;
-    let second = first.copy(alloc)?;
+    let second = first.try_clone(alloc)?;
     two(rt, alloc, first, second)
 }
 
