@@ -1,17 +1,17 @@
 -- How many places an adaptor gives, and the groups that they are made of.
-use Rattle.std.proofs.Common.{◌≡◌, ◌∙◌, ap, sym, refl, ℕ, zero, suc, ◌+◌, ◌-◌, ◌*◌, ◌/◌, ◌<◌, ◌≤◌, inl, inr, Bool, if◌then◌else◌, List, [], ◌∷◌, ◌++◌, length, take, drop, map, Option, Some, None, arith}
-use Rattle.std.specs.Prelude.{slice_get, replicate, flat_map, All}
-use Rattle.std.proofs.lemmas.Option.{slice_get_within}
-use Rattle.std.proofs.lemmas.Bool.{lt-ltb, le-ltb}
+use Rattle.std.proofs.Common.{◌≡◌, ◌∙◌, ap, sym, refl, ℕ, zero, suc, ◌+◌, ◌-◌, ◌*◌, ◌/◌, ◌<◌, ◌≤◌, inl, inr, ◌⊎◌, ◌%◌, ◌||◌, Bool, true, false, if◌then◌else◌, List, [], ◌∷◌, ◌++◌, length, take, drop, map, Option, Some, None, arith}
+use Rattle.std.specs.Prelude.{IsTrue, nat_eq, slice_get, slice_index_or, replicate, flat_map, All}
+use Rattle.std.proofs.lemmas.Option.{slice_get_within, get_or_from_slice_get}
+use Rattle.std.proofs.lemmas.Bool.{lt-ltb, le-ltb, eqb-true, cases_lt}
 use Rattle.std.proofs.lemmas.List.{length-append, length-map, length-set, length-replicate, length-take-le, length-drop, drop-drop, take-append-drop}
 use Rattle.std.proofs.lemmas.List.Elements.{All-nil, All-cons}
-use Rattle.std.proofs.Math.Nat.{mul-div_cancel_left}
+use Rattle.std.proofs.Math.Nat.{div-add-mod, mod-eq_of_lt}
 use Rattle.pals_base.specs.declared.values.Port.{Port}
 use Rattle.pals_base.specs.declared.values.Port.TheVariants.{Absent}
 use Rattle.pals_base.specs.declared.values.Adaptor.{Adaptor}
 use Rattle.pals_base.specs.declared.values.Adaptor.TheVariants.{Repeat, First, Last, At, Latest, Max, Min, Average}
 use Rattle.pals_base.specs.Adaptors.{adapt, groups, joined, spread, placed}
-use Rattle.input_adaptors.specs.Allowed.{Divides, IsAllowed}
+use Rattle.pals_base.specs.Allowed.{is_allowed, divides_or_divided}
 use Rattle.input_adaptors.specs.Places.{group_at}
 
 -- ---- which side of the table
@@ -46,19 +46,27 @@ length-groups : (count m : ℕ) (tuple : List Port) → length (groups count m t
 length-groups zero m tuple = refl
 length-groups (suc count) m tuple = ap suc (length-groups count m (drop m tuple))
 
-whole_quotient : (p q : ℕ) → p < q → Divides p q → p * (q / p) ≡ q
-whole_quotient zero q below divides = absurd (omega (arith, divides.1))
-whole_quotient (suc p) q below divides =
-    let e : q / suc p ≡ divides.0 = ap (λ x. x / suc p) divides.1 ∙ mul-div_cancel_left divides.0 (omega arith) in
-    ap (λ x. suc p * x) e ∙ sym divides.1
+either : (a b : Bool) → IsTrue (a || b) → IsTrue a ⊎ IsTrue b
+either true b one = inl one
+either false b one = inr one
 
-pub length-adapt : (adaptor : Option Adaptor) (p q : ℕ) (tuple : List Port) → length tuple ≡ p → IsAllowed adaptor p q → length (adapt adaptor p q tuple) ≡ q
-length-adapt None p q tuple size allowed = size ∙ allowed
-length-adapt (Some a) p q tuple size allowed =
-    elim allowed [
-      | inl up ↦ ap length (adapt-faster a p q tuple up.0) ∙ length-spread_all a (q / p) tuple ∙ ap (λ n. n * (q / p)) size ∙ whole_quotient p q up.0 up.1
-      | inr down ↦
-          ap length (adapt-slower a p q tuple (omega (arith, down.0))) ∙ length-map (groups q (p / q) tuple) (joined a) ∙ length-groups q (p / q) tuple
+-- the higher rate is a multiple of the lower
+whole_quotient : (p q : ℕ) → 0 < p → p < q → IsTrue (divides_or_divided p q) → p * (q / p) ≡ q
+whole_quotient p q some below one =
+    elim (either (nat_eq (q % p) 0) (nat_eq (p % q) 0) one) [
+      | inl up ↦ let e : q % p ≡ 0 = eqb-true _ _ up in omega (arith, div-add-mod q p)
+      | inr down ↦ let e : p % q ≡ 0 = eqb-true _ _ down in absurd (omega (arith, mod-eq_of_lt below))
+    ]
+
+length-slower : (a : Adaptor) (p q : ℕ) (tuple : List Port) → length (map (joined a) (groups q (p / q) tuple)) ≡ q
+length-slower a p q tuple = length-map (groups q (p / q) tuple) (joined a) ∙ length-groups q (p / q) tuple
+
+pub length-adapt : (adaptor : Option Adaptor) (p q : ℕ) (tuple : List Port) → 0 < p → IsTrue (divides_or_divided p q) → IsTrue (is_allowed adaptor p q) → length tuple ≡ p → length (adapt adaptor p q tuple) ≡ q
+length-adapt None p q tuple some one allowed size = size ∙ eqb-true p q allowed
+length-adapt (Some a) p q tuple some one allowed size =
+    elim (cases_lt p q) [
+      | inl below ↦ ap length (adapt-faster a p q tuple below) ∙ length-spread_all a (q / p) tuple ∙ ap (λ n. n * (q / p)) size ∙ whole_quotient p q some below one
+      | inr above ↦ ap length (adapt-slower a p q tuple above) ∙ length-slower a p q tuple
     ]
 
 -- ---- groups
@@ -85,10 +93,13 @@ pub slice_get-adapt : (a : Adaptor) (p q k : ℕ) (tuple : List Port) → q ≤ 
 slice_get-adapt a p q k tuple above below =
     ap (λ places. slice_get places k) (adapt-slower a p q tuple above) ∙ slice_get-groups (joined a) q (p / q) k tuple below
 
+pub joined-place : (a : Adaptor) (p q k : ℕ) (tuple : List Port) → q ≤ p → k < q → slice_index_or (adapt (Some a) p q tuple) k Absent ≡ joined a (group_at p q k tuple)
+joined-place a p q k tuple above below = get_or_from_slice_get (adapt (Some a) p q tuple) k (joined a (group_at p q k tuple)) Absent (slice_get-adapt a p q k tuple above below)
+
 -- a place that is there is one of the first q
 pub place_below : (a : Adaptor) (p q k : ℕ) (tuple : List Port) (place : Port) → q ≤ p → slice_get (adapt (Some a) p q tuple) k ≡ Some place → k < q
 place_below a p q k tuple place above found =
-    let e : length (map (joined a) (groups q (p / q) tuple)) ≡ q = length-map (groups q (p / q) tuple) (joined a) ∙ length-groups q (p / q) tuple in
+    let e = length-slower a p q tuple in
     omega (arith, slice_get_within (map (joined a) (groups q (p / q) tuple)) k place (ap (λ places. slice_get places k) (sym (adapt-slower a p q tuple above)) ∙ found))
 
 pub joined-from : (a : Adaptor) (p q k : ℕ) (tuple : List Port) (place : Port) → q ≤ p → slice_get (adapt (Some a) p q tuple) k ≡ Some place → joined a (group_at p q k tuple) ≡ place

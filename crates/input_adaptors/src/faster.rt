@@ -3,6 +3,7 @@ ghost use Rattle.std.specs.Prelude.{◌≡◌, ◌<◌, ◌++◌, IfOk, OnOk, fl
 ghost use Rattle.pals_base.specs.Adaptors.{spread};
 ghost use Rattle.pals_base.specs.declared.values.Port.TheVariants.{Absent};
 
+use pals_base::tuples::place;
 use pals_base::{Adaptor, NoMemory, Port, Tuple};
 use std::alloc::Global;
 
@@ -20,6 +21,17 @@ pub fn spread_all(
         push_spread(&mut tuple, adaptor, m, *value)?;
     }
     Ok(tuple)
+}
+
+/// Place `step`, from 0, of all values over `m` places each.
+pub fn spread_place(adaptor: Adaptor, m: u32, values: &[Port], step: usize) -> Port
+    ensures { result ≡ slice_index_or (flat_map (spread adaptor m) values.now) step Absent }
+{
+    if m == 0 {
+        return Port::Absent;
+    }
+    let value = place(values, step / m as usize);
+    at_place(adaptor, m, value, (step % m as usize) as u32)
 }
 
 // Adds the `m` places of one value.

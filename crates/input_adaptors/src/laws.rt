@@ -1,18 +1,19 @@
 //! What holds of every adaptor. Each law is the contract of a function that does nothing.
-ghost use Rattle.std.specs.Prelude.{◌≡◌, ◌≢◌, ℕ, ◌+◌, ◌*◌, ◌/◌, ◌<◌, ◌≤◌, ℤ, ◌≤ℤ◌, List, length, flat_map, slice_get, All, Contains, Option};
+ghost use Rattle.std.specs.Prelude.{◌≡◌, ◌≢◌, ℕ, ◌+◌, ◌*◌, ◌/◌, ◌<◌, ◌≤◌, ℤ, ◌≤ℤ◌, List, length, flat_map, slice_get, All, Contains, IsTrue, Option};
 ghost use Rattle.pals_base.specs.declared.values.Port.{Port};
 ghost use Rattle.pals_base.specs.declared.values.Port.TheVariants.{Absent, Present};
 ghost use Rattle.pals_base.specs.declared.values.Adaptor.{Adaptor};
 ghost use Rattle.pals_base.specs.declared.values.Adaptor.TheVariants.{Latest, Max, Min, Average};
 ghost use Rattle.pals_base.specs.Adaptors.{adapt, groups, joined};
-ghost use Rattle.input_adaptors.specs.Allowed.{IsAllowed};
+ghost use Rattle.pals_base.specs.Allowed.{is_allowed, divides_or_divided};
 ghost use Rattle.input_adaptors.specs.Places.{group_at, TakesPlace, MakesNumber, IsAboveSome, IsBelowSome, IsLeast, IsGreatest, IsLatest};
 
-/// Between rates where it is allowed, an adaptor takes a whole tuple of the source to a whole tuple
-/// of the target.
+/// Between rates of which one divides the other, and where it is allowed, an adaptor takes a whole
+/// tuple of the source to a whole tuple of the target.
 pub fn allowed_adaptors_meet_the_rate()
-    ensures { (adaptor : Option Adaptor) (p q : ℕ) (tuple : List Port) →
-        length tuple ≡ p → IsAllowed adaptor p q → length (adapt adaptor p q tuple) ≡ q }
+    ensures { (adaptor : Option Adaptor) (p q : ℕ) (tuple : List Port) → 0 < p →
+        IsTrue (divides_or_divided p q) → IsTrue (is_allowed adaptor p q) →
+        length tuple ≡ p → length (adapt adaptor p q tuple) ≡ q }
 {}
 
 /// Cut into `count` groups of `m`, a tuple of `count` times `m` places gives equal groups, and loses
@@ -26,10 +27,10 @@ pub fn groups_are_equal()
 
 /// To a higher rate, a value stands in the places that its adaptor names, and the others are absent.
 pub fn values_stand_in_their_places()
-    ensures there { (adaptor : Adaptor) (p q i j : ℕ) (tuple : List Port) → p < q → IsAllowed (Some adaptor) p q →
+    ensures there { (adaptor : Adaptor) (p q i j : ℕ) (tuple : List Port) → p < q → IsTrue (is_allowed (Some adaptor) p q) →
         length tuple ≡ p → i < p → j < q / p → TakesPlace adaptor (q / p) j →
         slice_get (adapt (Some adaptor) p q tuple) (i * (q / p) + j) ≡ slice_get tuple i }
-    ensures absent { (adaptor : Adaptor) (p q i j : ℕ) (tuple : List Port) → p < q → IsAllowed (Some adaptor) p q →
+    ensures absent { (adaptor : Adaptor) (p q i j : ℕ) (tuple : List Port) → p < q → IsTrue (is_allowed (Some adaptor) p q) →
         length tuple ≡ p → i < p → j < q / p → ¬ TakesPlace adaptor (q / p) j →
         slice_get (adapt (Some adaptor) p q tuple) (i * (q / p) + j) ≡ Some Absent }
 {}

@@ -9,10 +9,12 @@ mod slower;
 #[cfg(test)]
 mod tests;
 
-ghost use Rattle.std.specs.Prelude.{◌≡◌, ◌/◌, IfOk};
+ghost use Rattle.std.specs.Prelude.{◌≡◌, ◌/◌, ◌<◌, IfOk, slice_index_or};
+ghost use Rattle.pals_base.specs.declared.values.Port.TheVariants.{Absent};
 ghost use Rattle.pals_base.specs.Adaptors.{adapt};
 
-use pals_base::{Adaptor, NoMemory, Tuple};
+use pals_base::tuples::place;
+use pals_base::{Adaptor, NoMemory, Port, Tuple};
 use std::alloc::Global;
 
 /// What a target that makes `q` steps a round reads of the tuple of a source that makes `p` steps.
@@ -32,6 +34,19 @@ pub fn adapt(
         None => Tuple::from_slice(alloc, places),
         Some(adaptor) if p < q => faster::spread_all(alloc, adaptor, ratio(q, p), places),
         Some(adaptor) => slower::join_all(alloc, adaptor, q, ratio(p, q), places),
+    }
+}
+
+/// Place `step`, from 0, of what `adapt` gives. It takes no memory, so that a step can read its
+/// inputs in the tuples themselves.
+pub fn adapted_place(adaptor: Option<Adaptor>, p: u32, q: u32, tuple: &[Port], step: usize) -> Port
+    requires { step < q }
+    ensures { result ≡ slice_index_or (adapt adaptor p q tuple.now) step Absent }
+{
+    match adaptor {
+        None => place(tuple, step),
+        Some(adaptor) if p < q => faster::spread_place(adaptor, ratio(q, p), tuple, step),
+        Some(adaptor) => slower::joined_place(adaptor, ratio(p, q), tuple, step),
     }
 }
 

@@ -1,5 +1,5 @@
 //! To a lower rate: one place of the target from each group of the source's places.
-ghost use Rattle.std.specs.Prelude.{◌≡◌, IfOk, map};
+ghost use Rattle.std.specs.Prelude.{◌≡◌, ◌<◌, ◌*◌, ◌^◌, IfOk, map, take, drop};
 ghost use Rattle.pals_base.specs.Adaptors.{joined, groups};
 
 use crate::group;
@@ -24,4 +24,14 @@ pub fn join_all(
         rest = later;
     }
     Ok(tuple)
+}
+
+/// What group `at`, from 0, of `m` places gives.
+pub fn joined_place(adaptor: Adaptor, m: u32, places: &[Port], at: usize) -> Port
+    requires { at * m < 2 ^ 64 }
+    ensures { result ≡ joined adaptor (take m (drop (at * m) places.now)) }
+{
+    let (_earlier, rest) = places.split_at((at * m as usize).min(places.len()));
+    let (group, _later) = rest.split_at((m as usize).min(rest.len()));
+    group::joined(adaptor, group)
 }

@@ -1,1 +1,10 @@
-pub mod Rounds
+pub mod Filling
+pub mod Columns
+pub mod Sizing
+pub mod Following
+pub mod Tables
+pub mod TapPorts
+pub mod Stepping
+pub mod Sending
+pub mod Openings
+pub mod Standing

@@ -1,2 +1,5 @@
-pub mod Ready
+pub mod Rounds
+pub mod Sizes
 pub mod State
+pub mod Ready
+pub mod Laws

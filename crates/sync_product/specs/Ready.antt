@@ -1,13 +1,20 @@
 -- What each product keeps.
-use Rattle.std.specs.Prelude.{◌≡◌, List, length}
+use Rattle.std.specs.Prelude.{◌≡◌, ℕ, List, length, map}
 use Rattle.pals_base.specs.declared.values.Port.{Port}
-use Rattle.pals_base.specs.declared.values.Frame.{Frame}
 use Rattle.pals_model.specs.declared.design.DesignParts.{DesignParts}
+use Rattle.pals_model.specs.declared.rounds.Part.{Part}
 use Rattle.pals_model.specs.declared.sources.PortSource.{PortSource}
 use Rattle.pals_model.specs.Inputs.{all_sources}
+use Rattle.sync_product.specs.declared.stage.Stage.{Stage}
+use Rattle.sync_product.specs.Sizes.{all_taps, part_size, part_sizes, stage_size, stage_sizes, message_sizes}
 
--- the table is the design's, and there is a frame for each component and a message for each link
-pub record IsReady (design : DesignParts) (sources : List (List PortSource)) (frames : List Frame) (messages : List (List Port)) : Type 0 where
-  pub table : sources ≡ all_sources design
-  pub frame_each : length frames ≡ length design.components
-  pub message_each : length messages ≡ length design.links
+-- room for what a round leaves
+pub record HasRoom (design : DesignParts) (parts : List Part) (messages : List (List Port)) : Type 0 where
+  pub parts_fit : map part_size parts ≡ part_sizes design
+  pub messages_fit : map (λ (tuple : List Port). length tuple) messages ≡ message_sizes design
+
+-- the tables are the design's, and there is room for its components
+pub record IsReady (design : DesignParts) (sources : List (List PortSource)) (taps : List (List ℕ)) (stages : List Stage) : Type 0 where
+  pub sources_are : sources ≡ all_sources design
+  pub taps_are : taps ≡ all_taps design
+  pub stages_fit : map stage_size stages ≡ stage_sizes design

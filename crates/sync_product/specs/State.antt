@@ -1,5 +1,6 @@
 -- What contracts see of a product.
-use Rattle.std.specs.Prelude.{List, map, length, replicate, refl}
+use Rattle.std.specs.Prelude.{ℕ, zero, suc, List, map, length, replicate, refl}
+use Rattle.std.specs.List.{enumerate_from}
 use Rattle.std.specs.Coded.{Coded, code_by, coded×, coded_list}
 use Rattle.pals_base.specs.contracts.values.Frame.{the_row as frames}
 use Rattle.pals_base.specs.contracts.values.Port.{the_row as ports}
@@ -13,7 +14,10 @@ use Rattle.pals_base.specs.Steps.{Stepped, upwards}
 use Rattle.pals_model.specs.declared.design.Component.{Component}
 use Rattle.pals_model.specs.declared.design.DesignParts.{DesignParts}
 use Rattle.pals_model.specs.declared.rounds.Part.{Part}
+use Rattle.pals_model.specs.declared.rounds.Env.{Env}
+use Rattle.pals_model.specs.Inputs.{values_at}
 use Rattle.pals_model.specs.Composition.{Configuration, part_of, opening, next, all_steps}
+use Rattle.sync_product.specs.Sizes.{tap_ports}
 
 -- a design, its configuration after some rounds, and what its components left in the last of them
 pub record ProductState : Type 0 where
@@ -35,11 +39,11 @@ abbrev pub parts_of : DesignParts → List Stepped → List Part
 parts_of design all = map (part_of design all) (upwards 0 (length design.components))
 
 -- before the first round: each component with its initial frame and no values
-abbrev pub not_stepped : Component → Stepped
-not_stepped c = record { frame = initial c.behaviour; tuples = map (λ _. replicate c.rate Absent) c.behaviour.outs }
+abbrev pub opening_part : DesignParts → ℕ → Component → Part
+opening_part design node c = record { frame = initial c.behaviour; outs = map (λ (port : ℕ). replicate c.rate Absent) (tap_ports design.taps node) }
 
 abbrev pub opening_parts : DesignParts → List Part
-opening_parts design = parts_of design (map not_stepped design.components)
+opening_parts design = map (λ numbered. opening_part design numbered.0 numbered.1) (enumerate_from 0 design.components)
 
 -- before the first round
 abbrev pub begun : DesignParts → ProductState
@@ -52,3 +56,8 @@ advanced state values = record {
   configuration = next state.design values state.configuration;
   parts = parts_of state.design (all_steps state.design values state.configuration);
 }
+
+-- after so many rounds of an environment
+abbrev pub state_after : DesignParts → Env → ℕ → ProductState
+state_after design env zero = begun design
+state_after design env (suc round) = advanced (state_after design env round) (values_at env round)

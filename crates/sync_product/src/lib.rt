@@ -1,12 +1,14 @@
 //! The multirate synchronous composition of a design, round by round.
 #![tactic(auto)]
 
-mod inputs;
+pub mod laws;
 mod messages;
 mod opening;
-mod parts;
+mod places;
 mod product;
+mod reads;
 mod round;
-mod steps;
+mod stage;
+mod taps;
 
 pub use product::Product;

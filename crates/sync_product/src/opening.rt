@@ -1,26 +1,28 @@
 //! What a product begins with.
 ghost use Rattle.std.specs.Prelude.{◌≡◌, IfOk, map, replicate};
 ghost use Rattle.pals_base.specs.declared.values.Port.TheVariants.{Absent};
-ghost use Rattle.pals_base.specs.Fire.{initial};
 ghost use Rattle.pals_model.specs.Inputs.{rate_of};
-ghost use Rattle.sync_product.specs.State.{not_stepped, opening_parts};
+ghost use Rattle.sync_product.specs.State.{opening_parts};
+ghost use Rattle.sync_product.specs.Sizes.{all_taps, stage_size, stage_sizes};
 
-use crate::parts::parts_of;
-use crate::steps::Stepped;
+use crate::stage::Stage;
 use pals_base::tuples::absent;
-use pals_base::{Frame, Items, Named, NoMemory, Tuple};
-use pals_model::{Component, Design, Part};
+use pals_base::{Frame, Items, NoMemory, Tuple};
+use pals_model::{Design, Part};
 use std::alloc::Global;
 
-/// The components' initial frames.
-pub fn initial_frames(alloc: Global, components: &[Component]) -> Result<Items<Frame>, NoMemory>
-    ensures { IfOk result (λ frames. frames ≡ map (λ c. initial c.behaviour) components.now) }
+/// Room for the steps of each component.
+pub fn stages(alloc: Global, design: &Design) -> Result<Vec<Stage>, NoMemory>
+    ensures { IfOk result (λ stages. map stage_size stages.items ≡ stage_sizes design.now) }
 {
-    let mut frames = Items::new(alloc);
-    for component in components {
-        frames.push(Frame::initial(alloc, &component.behaviour)?)?;
+    let gamma = design.gamma();
+    let period = design.period();
+    let mut stages = Vec::new(alloc);
+    for component in design.components() {
+        let sent = gamma.sent_steps(period, component.rate);
+        stages.push(Stage::new(alloc, component, sent as usize)?)?;
     }
-    Ok(frames)
+    Ok(stages)
 }
 
 /// An absent message on each link.
@@ -29,13 +31,14 @@ pub fn opening_messages(alloc: Global, design: &Design) -> Result<Items<Tuple>, 
 {
     let mut messages = Items::new(alloc);
     for link in design.links() {
-        messages.push(absent(alloc, design.parts().rate(link.source) as usize)?)?;
+        let rate = design.parts().rate(link.source);
+        messages.push(absent(alloc, rate as usize)?)?;
     }
     Ok(messages)
 }
 
 // An absent tuple for each of these ports.
-fn absent_each(alloc: Global, ports: &[Named], rate: u32) -> Result<Items<Tuple>, NoMemory>
+fn absent_each(alloc: Global, ports: &[u32], rate: u32) -> Result<Items<Tuple>, NoMemory>
     ensures { IfOk result (λ tuples. tuples ≡ map (λ _. replicate rate Absent) ports.now) }
 {
     let mut tuples = Items::new(alloc);
@@ -45,31 +48,21 @@ fn absent_each(alloc: Global, ports: &[Named], rate: u32) -> Result<Items<Tuple>
     Ok(tuples)
 }
 
-// What stands for a component's steps before the first round.
-fn not_stepped(alloc: Global, component: &Component) -> Result<Stepped, NoMemory>
-    ensures { IfOk result (λ s. s ≡ not_stepped component.now) }
-{
-    Ok(Stepped {
-        frame: Frame::initial(alloc, &component.behaviour)?,
-        tuples: absent_each(alloc, component.behaviour.outs(), component.rate)?,
-    })
-}
-
-// The same for all components.
-fn none_stepped(alloc: Global, components: &[Component]) -> Result<Vec<Stepped>, NoMemory>
-    ensures { IfOk result (λ all. all.items ≡ map not_stepped components.now) }
-{
-    let mut all = Vec::new(alloc);
-    for component in components {
-        all.push(not_stepped(alloc, component)?)?;
-    }
-    Ok(all)
-}
-
-/// The parts before the first round.
-pub fn opening_parts(alloc: Global, design: &Design) -> Result<Items<Part>, NoMemory>
+/// The parts before the first round, for these taps of each component.
+pub fn opening_parts(
+    alloc: Global,
+    design: &Design,
+    taps: &[Items<u32>],
+) -> Result<Items<Part>, NoMemory>
+    requires { taps.now ≡ all_taps design.now }
     ensures { IfOk result (λ parts. parts ≡ opening_parts design.now) }
 {
-    let all = none_stepped(alloc, design.components())?;
-    parts_of(alloc, design, all.as_slice())
+    let mut parts = Items::new(alloc);
+    for (node, component) in design.components().iter().enumerate() {
+        parts.push(Part {
+            frame: Frame::initial(alloc, &component.behaviour)?,
+            outs: absent_each(alloc, taps[node].as_slice(), component.rate)?,
+        })?;
+    }
+    Ok(parts)
 }

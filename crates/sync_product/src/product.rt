@@ -3,28 +3,34 @@ ghost use Rattle.std.specs.Prelude.{◌≡◌, ◌<◌, IfOk, OnOk, OnErr, Some,
 ghost use Rattle.std.specs.Arc.{arc_value};
 ghost use Rattle.sync_product.specs.State.{begun, advanced};
 
-use crate::messages::messages;
-use crate::opening::{initial_frames, opening_messages, opening_parts};
-use crate::parts::parts_of;
-use crate::round::all_steps;
-use crate::steps::frames_of;
-use pals_base::{Frame, Items, LinkNo, NoMemory, NodeNo, Port, Tuple};
+use crate::messages::send_all;
+use crate::opening::{opening_messages, opening_parts, stages};
+use crate::reads::RoundInputs;
+use crate::round::run_all;
+use crate::stage::Stage;
+use crate::taps::all_taps;
+use pals_base::{Items, LinkNo, NoMemory, NodeNo, Port, Tuple};
 use pals_model::sources::all_sources;
 use pals_model::{Design, Part, PortSource};
 use std::alloc::Global;
 use std::marker::Model;
+use std::mem::swap;
 use std::sync::Arc;
 
 /// The composition of a design after some rounds: its configuration, and what each component left
-/// in the last round. Contracts see these beside the design.
+/// in the last round. Contracts see these beside the design. It has its memory twice: a round is
+/// made in the other half, and becomes what stands at its end.
 #[derive(Drop)]
 pub struct Product {
     alloc: Global,
     design: Arc<Design>,
     sources: Items<Items<PortSource>>,
-    frames: Items<Frame>,
-    messages: Items<Tuple>,
+    taps: Items<Items<u32>>,
+    stages: Vec<Stage>,
     parts: Items<Part>,
+    messages: Items<Tuple>,
+    next_parts: Items<Part>,
+    next_messages: Items<Tuple>,
 }
 
 impl Model for Product {
@@ -35,11 +41,15 @@ impl Model for Product {
     ghost coded = { state_code };
 
     ghost use Rattle.std.specs.Arc.{arc_value};
-    ghost use Rattle.sync_product.specs.Ready.{IsReady};
+    ghost use Rattle.sync_product.specs.Rounds.{frames_of};
+    ghost use Rattle.sync_product.specs.Ready.{IsReady, HasRoom};
 
-    ghost view = { λ p. record { design = arc_value p.design; configuration = record { frames = p.frames; messages = p.messages }; parts = p.parts } };
+    ghost view = { λ p. record { design = arc_value p.design; configuration = record { frames = frames_of p.parts; messages = p.messages }; parts = p.parts } };
 
-    ghost invariant = { λ p. IsReady (arc_value p.design) p.sources p.frames p.messages };
+    ghost invariant = { λ p.
+        IsReady (arc_value p.design) p.sources p.taps p.stages.items
+        × HasRoom (arc_value p.design) p.parts p.messages
+        × HasRoom (arc_value p.design) p.next_parts p.next_messages };
 }
 
 impl Product {
@@ -48,39 +58,55 @@ impl Product {
         ensures { IfOk result (λ product. product ≡ begun (arc_value design)) }
     {
         let sources = all_sources(alloc, &design)?;
-        let frames = initial_frames(alloc, design.components())?;
+        let taps = all_taps(alloc, &design)?;
+        let stages = stages(alloc, &design)?;
+        let parts = opening_parts(alloc, &design, taps.as_slice())?;
         let messages = opening_messages(alloc, &design)?;
-        let parts = opening_parts(alloc, &design)?;
+        let next_parts = opening_parts(alloc, &design, taps.as_slice())?;
+        let next_messages = opening_messages(alloc, &design)?;
         Ok(Product {
             alloc,
             design,
             sources,
-            frames,
-            messages,
+            taps,
+            stages,
             parts,
+            messages,
+            next_parts,
+            next_messages,
         })
     }
 
-    /// Goes one round further, with these values of the root in ports. Where memory is wanting,
-    /// nothing changes.
+    /// Goes one round further. The values are those of the root in ports in this round, in the order
+    /// of the design's feeds, each name where it comes first; a value that is missing at the end is
+    /// absent, and those past the last port mean nothing. A port for truth values takes any number: 0
+    /// is false, and each other number is true. Where memory is wanting, nothing changes. After the
+    /// first two rounds it takes memory only where a loop runs that did not run before.
     pub fn advance(&mut self, values: &[Port]) -> Result<(), NoMemory>
         ensures ok { OnOk result (self.new ≡ advanced self.old values.now) }
         ensures err { OnErr result (self.new ≡ self.old) }
     {
-        let all = all_steps(
-            self.alloc,
-            &self.design,
-            self.sources.as_slice(),
+        let round = RoundInputs {
+            design: &self.design,
             values,
-            self.messages.as_slice(),
-            self.frames.as_slice(),
+            messages: self.messages.as_slice(),
+        };
+        run_all(
+            self.alloc,
+            round,
+            self.sources.as_slice(),
+            self.taps.as_slice(),
+            self.parts.as_slice(),
+            &mut self.stages,
+            &mut self.next_parts,
         )?;
-        let frames = frames_of(self.alloc, all.as_slice())?;
-        let messages = messages(self.alloc, &self.design, all.as_slice())?;
-        let parts = parts_of(self.alloc, &self.design, all.as_slice())?;
-        self.frames = frames;
-        self.messages = messages;
-        self.parts = parts;
+        send_all(
+            &self.design,
+            self.stages.as_slice(),
+            &mut self.next_messages,
+        );
+        swap(&mut self.parts, &mut self.next_parts);
+        swap(&mut self.messages, &mut self.next_messages);
         Ok(())
     }
 
@@ -100,7 +126,7 @@ impl Product {
 
     /// What a component left in the last round.
     pub fn part(&self, node: NodeNo) -> &Part
-        requires { node.0 < length self.now.parts }
+        requires { node.0 < length self.now.design.components }
         ensures { slice_get self.now.parts node.0 ≡ Some result.now }
     {
         &self.parts.as_slice()[node.0 as usize]
@@ -108,7 +134,7 @@ impl Product {
 
     /// A link's message of the last round.
     pub fn message(&self, link: LinkNo) -> &Tuple
-        requires { link.0 < length self.now.configuration.messages }
+        requires { link.0 < length self.now.design.links }
         ensures { slice_get self.now.configuration.messages link.0 ≡ Some result.now }
     {
         &self.messages.as_slice()[link.0 as usize]

@@ -1,58 +1,45 @@
 //! The steps of all components in a round.
-ghost use Rattle.std.specs.Prelude.{◌≡◌, IfOk, map, length};
-ghost use Rattle.pals_base.specs.Steps.{steps, columns};
-ghost use Rattle.pals_model.specs.Composition.{steps_from};
-ghost use Rattle.pals_model.specs.Inputs.{reading, all_sources};
+ghost use Rattle.std.specs.Prelude.{◌≡◌, OnOk, length, map};
+ghost use Rattle.pals_model.specs.Inputs.{all_sources};
+ghost use Rattle.sync_product.specs.Sizes.{part_size, stage_size, part_sizes, stage_sizes, all_taps};
+ghost use Rattle.sync_product.specs.Rounds.{AreStepped, frames_of};
 
-use crate::inputs::vectors;
-use crate::steps::{Stepped, steps};
-use pals_base::{Frame, Items, NoMemory, Port, Tuple};
-use pals_model::{Component, Design, PortSource};
+use crate::reads::RoundInputs;
+use crate::stage::Stage;
+use pals_base::{Items, NoMemory};
+use pals_model::{Part, PortSource};
 use std::alloc::Global;
 
-// The steps of a component whose in ports read from these sources.
-fn component_steps(
+/// Makes the steps of all components, from their frames in the parts of the round before. At Ok the
+/// new parts and the rows of the stages are those of the steps; the sizes stay in every case.
+pub fn run_all(
     alloc: Global,
-    design: &Design,
-    values: &[Port],
-    messages: &[Tuple],
-    component: &Component,
-    sources: &[PortSource],
-    frame: &Frame,
-) -> Result<Stepped, NoMemory>
-    ensures { IfOk result (λ s. s ≡ steps component.now.behaviour frame.now (columns component.now.rate (map (reading design.now values.now messages.now component.now.rate) sources.now))) }
-{
-    let vectors = vectors(alloc, design, values, messages, component, sources)?;
-    steps(alloc, &component.behaviour, frame, vectors.as_slice())
-}
-
-/// The steps of all components, from their frames and the messages of the round before.
-pub fn all_steps(
-    alloc: Global,
-    design: &Design,
+    round: RoundInputs,
     sources: &[Items<PortSource>],
-    values: &[Port],
-    messages: &[Tuple],
-    frames: &[Frame],
-) -> Result<Vec<Stepped>, NoMemory>
-    requires table { sources.now ≡ all_sources design.now }
-    requires frame_each { length frames.now ≡ length design.now.components }
-    requires message_each { length messages.now ≡ length design.now.links }
-    ensures { IfOk result (λ all. all.items ≡ steps_from design.now values.now messages.now 0 design.now.components frames.now) }
+    taps: &[Items<u32>],
+    parts: &[Part],
+    stages: &mut Vec<Stage>,
+    next: &mut Items<Part>,
+) -> Result<(), NoMemory>
+    requires sources { sources.now ≡ all_sources round.design.now }
+    requires taps { taps.now ≡ all_taps round.design.now }
+    requires parts { map part_size parts.now ≡ part_sizes round.design.now }
+    requires stages { map stage_size stages.old.items ≡ stage_sizes round.design.now }
+    requires next { map part_size next.old ≡ part_sizes round.design.now }
+    ensures stepped { OnOk result (AreStepped round.entry (frames_of parts.now) next.new stages.new.items) }
+    ensures parts { map part_size next.new ≡ map part_size next.old }
+    ensures stages { map stage_size stages.new.items ≡ map stage_size stages.old.items }
 {
-    let mut all = Vec::new(alloc);
-    for (node, component) in design.components().iter().enumerate() {
-        let table = &sources[node];
-        let frame = &frames[node];
-        all.push(component_steps(
+    for (node, component) in round.design.components().iter().enumerate() {
+        stages[node].run(
             alloc,
-            design,
-            values,
-            messages,
             component,
-            table.as_slice(),
-            frame,
-        )?)?;
+            sources[node].as_slice(),
+            taps[node].as_slice(),
+            round,
+            &parts[node].frame,
+            &mut next[node],
+        )?;
     }
-    Ok(all)
+    Ok(())
 }

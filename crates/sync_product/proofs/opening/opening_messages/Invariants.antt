@@ -1,11 +1,8 @@
-use Rattle.std.proofs.Common.{◌≡◌, ◌++◌, map, drop}
-use Rattle.std.specs.Prelude.{replicate}
+use Rattle.std.proofs.Common.{◌≡◌, map, replicate, take}
 use Rattle.pals_base.specs.declared.values.Port.TheVariants.{Absent}
 use Rattle.pals_model.specs.declared.design.Link.{Link}
 use Rattle.pals_model.specs.Inputs.{rate_of}
 use Rattle.sync_product.proofs.opening.opening_messages.Given as goal
 
 abbrev pub invariant-loop-link : goal.invariant-loop-link
-invariant-loop-link l =
-    l.messages ++ map (λ (link : Link). replicate (rate_of l.design link.source.0) Absent) (drop l.link-index l.link-items)
-    ≡ map (λ (link : Link). replicate (rate_of l.design link.source.0) Absent) l.link-items
+invariant-loop-link l = l.messages ≡ map (λ (link : Link). replicate (rate_of l.design link.source.0) Absent) (take l.link-index l.link-items)

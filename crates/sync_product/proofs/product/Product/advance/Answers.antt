@@ -1,21 +1,45 @@
-use Rattle.std.proofs.Common.{ap, sym, ◌∙◌, length}
-use Rattle.std.proofs.lemmas.List.{length-map}
+use Rattle.std.proofs.Common.{◌≡◌, ◌∙◌, ℕ, ap, sym, subst, length, map, arith}
+use Rattle.std.specs.Arc.{arc_value}
+use Rattle.pals_model.specs.declared.design.Component.{Component}
 use Rattle.pals_model.specs.declared.design.DesignParts.{DesignParts}
-use Rattle.sync_product.proofs.Rounds.{length-steps_from}
+use Rattle.pals_model.specs.Rules.{IsDesign}
+use Rattle.sync_product.specs.declared.reads.RoundInputs.{RoundInputs}
+use Rattle.sync_product.specs.Sizes.{part_size, part_size_of, part_sizes, stage_size, stage_sizes, tap_ports}
+use Rattle.sync_product.specs.Rounds.{frames_of, sent_by}
+use Rattle.sync_product.specs.State.{ProductState, advanced}
+use Rattle.sync_product.proofs.Tables.{count_of_sized, length-numbered}
+use Rattle.sync_product.proofs.Standing.{standing, advanced-by}
 use Rattle.sync_product.proofs.product.Product.advance.Goals as goal
 
--- the new frames are those of the steps, one for each component, and the new messages those of the links
-pub invariant_of-self : goal.invariant_of-self
-invariant_of-self c = record {
-  table = c.self.invariant.table;
-  frame_each =
-      ap length c.in_ok-frames.ensures
-      ∙ length-map _ _
-      ∙ ap length (c.as_slice-4.ensures.value ∙ c.in_ok-all.ensures)
-      ∙ length-steps_from c.deref.result.now c.args.values.now c.as_slice-2.result.now 0 c.deref.result.now.components c.as_slice-3.result.now (ap length c.as_slice-3.ensures.value ∙ c.self.invariant.frame_each ∙ ap (λ (d : DesignParts). length d.components) (sym c.deref.ensures))
-      ∙ ap (λ (d : DesignParts). length d.components) c.deref.ensures;
-  message_each =
-      ap length c.in_ok-messages.ensures
-      ∙ length-map _ _
-      ∙ ap (λ (d : DesignParts). length d.links) c.deref-2.ensures;
-}
+pub returns-clause-ok : goal.returns-clause-ok
+returns-clause-ok c =
+    let inside = c.self.inside in
+    let design = arc_value inside.design in
+    let here = c.deref.result.now in
+    let values = c.args.values.now in
+    let round : RoundInputs = record { design = c.deref.result; values = c.args.values; messages = c.as_slice.result } in
+    let before = c.as_slice-4.result.now in
+    let next = c.run_all.new.next in
+    let stages = c.run_all.new.stages.items in
+    let messages = c.send_all.new.messages in
+    let same = c.deref-2.ensures ∙ sym c.deref.ensures in
+    let rules : IsDesign here = subst IsDesign same c.send_all.ensures.rules in
+    let sizes = length-numbered (λ (numbered : ℕ × Component). part_size_of numbered.1 (tap_ports design.taps numbered.0)) 0 design.components in
+    let components = ap (λ (d : DesignParts). length d.components) c.deref.ensures in
+    let size : length before ≡ length here.components =
+    omega (arith, c.as_slice-4.ensures.len, count_of_sized part_size inside.parts (part_sizes design) c.self.invariant.1.parts_fit) in
+    let count : length next ≡ length here.components =
+    omega (arith, count_of_sized part_size next (part_sizes design) (c.in_ok-run_all.ensures.parts ∙ c.self.invariant.2.parts_fit)) in
+    let fit : map stage_size stages ≡ stage_sizes here = c.in_ok-run_all.ensures.stages ∙ c.self.invariant.0.stages_fit ∙ ap stage_sizes (sym c.deref.ensures) in
+    let are : messages ≡ map (sent_by stages) here.links =
+    (c.send_all.ensures.sent
+    ∙ ap (λ ss. map (sent_by ss) c.deref-2.result.now.links) c.as_slice-5.ensures.value
+    ∙ ap (λ (d : DesignParts). map (sent_by stages) d.links) same) in
+    ap (λ ps. standing design (frames_of ps) c.swap-2.new.x ps) c.swap.ensures.x_after
+    ∙ ap (λ ms. standing design (frames_of next) ms next) c.swap-2.ensures.x_after
+    ∙ ap (λ (d : DesignParts). standing d (frames_of next) messages next) (sym c.deref.ensures)
+    ∙ advanced-by round before next stages messages rules size count c.in_ok-run_all.ensures.stepped fit are
+    ∙ ap (λ (d : DesignParts). advanced (standing d (frames_of before) c.as_slice.result.now before) values) c.deref.ensures
+    ∙ ap (λ ms. advanced (standing design (frames_of before) ms before) values) c.as_slice.ensures.value
+    ∙ ap (λ ps. advanced (standing design (frames_of ps) inside.messages ps) values) c.as_slice-4.ensures.value
+    ∙ ap (λ (s : ProductState). advanced s values) c.self.view_is

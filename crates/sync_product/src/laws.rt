@@ -1,0 +1,10 @@
+//! What holds of every product. Each law is the contract of a function that does nothing.
+ghost use Rattle.sync_product.specs.Laws.{DesignStays, StandsAtComposition, HasPartsOfRound};
+
+/// After any number of rounds of any environment, a product stands where the composition does, and
+/// shows what its components left in the last of these rounds.
+pub fn products_follow_the_composition()
+    ensures design { DesignStays }
+    ensures configuration { StandsAtComposition }
+    ensures parts { HasPartsOfRound }
+{}

@@ -1,0 +1,28 @@
+//! Tuples written place by place. The calls take no memory.
+ghost use Rattle.std.specs.Prelude.{◌≡◌, length};
+ghost use Rattle.pals_base.specs.Steps.{column, cut};
+ghost use Rattle.sync_product.specs.Rounds.{place_before};
+
+use pals_base::tuples::place;
+use pals_base::{Port, Tuple};
+
+/// Writes the place `port` of each row, one row a place, and absent places after the first `count`.
+pub fn write_column(to: &mut Tuple, rows: &[Tuple], port: usize, count: usize)
+    requires { length to.old ≡ length rows.now }
+    ensures { to.new ≡ cut count (column port rows.now) }
+{
+    for at in 0..rows.len() {
+        to.set(at, place_before(rows[at].as_slice(), port, at < count));
+    }
+}
+
+// A place of a row where it counts, else an absent one.
+fn place_before(row: &[Port], port: usize, counts: bool) -> Port
+    ensures { result ≡ place_before counts port row.now }
+{
+    if counts {
+        place(row, port)
+    } else {
+        Port::Absent
+    }
+}

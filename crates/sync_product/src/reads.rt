@@ -1,0 +1,70 @@
+//! What the in ports of a component read, step by step. The calls take no memory.
+ghost use Rattle.std.specs.Prelude.{◌≡◌, ◌<◌, [], length, map, slice_index_or};
+ghost use Rattle.pals_base.specs.declared.values.Port.TheVariants.{Absent};
+ghost use Rattle.pals_base.specs.Steps.{column};
+ghost use Rattle.sync_product.specs.Rounds.{brought};
+
+use input_adaptors::adapted_place;
+use pals_base::tuples::place;
+use pals_base::{Port, Tuple};
+use pals_model::{Design, PortSource};
+
+/// What all components read in a round: the values of the root in ports, and the messages of the
+/// round before.
+#[derive(Clone, Copy)]
+pub struct RoundInputs<'a> {
+    pub design: &'a Design,
+    pub values: &'a [Port],
+    pub messages: &'a [Tuple],
+}
+
+/// Writes what the in ports with these sources have in a step, from 0, of a component of this rate.
+pub fn write_inputs(
+    inputs: &mut Tuple,
+    round: RoundInputs,
+    sources: &[PortSource],
+    rate: u32,
+    step: usize,
+)
+    requires count { length inputs.old ≡ length sources.now }
+    requires step { step < rate }
+    ensures inputs { inputs.new ≡ column step (map (brought round.entry rate) sources.now) }
+    ensures len { length inputs.new ≡ length inputs.old }
+{
+    for at in 0..sources.len() {
+        inputs.set(at, place_brought(round, rate, sources[at], step));
+    }
+}
+
+// What an in port of a component of this rate has in a step.
+fn place_brought(round: RoundInputs, rate: u32, source: PortSource, step: usize) -> Port
+    requires { step < rate }
+    ensures { result ≡ slice_index_or (brought round.entry rate source) step Absent }
+{
+    match source {
+        PortSource::Nothing => Port::Absent,
+        PortSource::Feed(feed, root) => match round.design.feeds().get(feed) {
+            None => Port::Absent,
+            Some(feed) => adapted_place(feed.adaptor, 1, rate, &[place(round.values, root)], step),
+        },
+        PortSource::Link(number) => match round.design.links().get(number) {
+            None => Port::Absent,
+            Some(link) => {
+                let source_rate = round.design.parts().rate(link.source);
+                let message = message_at(round.messages, number);
+                adapted_place(link.adaptor, source_rate, rate, message, step)
+            }
+        },
+    }
+}
+
+// The places of a message, none where there is no such message.
+fn message_at(messages: &[Tuple], number: usize) -> &[Port]
+    ensures { result.now ≡ slice_index_or messages.now number [] }
+{
+    if number < messages.len() {
+        messages[number].as_slice()
+    } else {
+        &[]
+    }
+}

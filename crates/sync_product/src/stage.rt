@@ -1,0 +1,143 @@
+//! The steps that one component makes in a round.
+ghost use Rattle.std.specs.Prelude.{◌≡◌, ◌<◌, [], IfOk, OnOk, length, map, vec_len, slice_index_or, slice_set};
+ghost use Rattle.pals_base.specs.Fire.{fire};
+ghost use Rattle.pals_base.specs.Steps.{frame_after, outputs, column, columns};
+ghost use Rattle.sync_product.specs.Rounds.{brought, vectors};
+ghost use Rattle.sync_product.specs.Sizes.{frame_size, part_size, stage_size, frame_size_of, part_size_of, stage_size_of};
+
+use crate::places::write_column;
+use crate::reads::{RoundInputs, write_inputs};
+use behaviour_sem::fire_into;
+use pals_base::tuples::absent;
+use pals_base::{Behaviour, Frame, Items, NoMemory, Port, Tuple};
+use pals_model::{Component, Part, PortSource};
+use std::alloc::Global;
+use std::mem::swap;
+
+/// The room in which one component makes its steps: the inputs and outputs of a step, the frame
+/// before it, the outputs of each step of the round, and how many of the steps are sent.
+#[derive(Drop)]
+pub struct Stage {
+    pub inputs: Tuple,
+    pub outs: Vec<Port>,
+    pub before: Frame,
+    pub rows: Items<Tuple>,
+    pub sent: usize,
+}
+
+impl Stage {
+    /// Room for a component of which so many steps are sent.
+    pub fn new(alloc: Global, component: &Component, sent: usize) -> Result<Stage, NoMemory>
+        ensures { IfOk result (λ stage. stage_size stage ≡ stage_size_of sent component.now) }
+    {
+        let outs = component.behaviour.outs().len();
+        let mut rows = Items::new(alloc);
+        for _step in 0..component.rate {
+            rows.push(absent(alloc, outs)?)?;
+        }
+        Ok(Stage {
+            inputs: absent(alloc, component.behaviour.ins().len())?,
+            outs: vec![in alloc; Port::Absent; outs]?,
+            before: Frame::initial(alloc, &component.behaviour)?,
+            rows,
+            sent,
+        })
+    }
+
+    /// Makes the steps of a round from a frame. At Ok the part and the rows are theirs; the sizes
+    /// stay in every case.
+    pub fn run(
+        &mut self,
+        alloc: Global,
+        component: &Component,
+        sources: &[PortSource],
+        taps: &[u32],
+        round: RoundInputs,
+        from: &Frame,
+        part: &mut Part,
+    ) -> Result<(), NoMemory>
+        requires stage { stage_size self.old ≡ stage_size_of self.old.sent component.now }
+        requires sources { length sources.now ≡ length component.now.behaviour.ins }
+        requires from { frame_size from.now ≡ frame_size_of component.now }
+        requires part { part_size part.old ≡ part_size_of component.now taps.now }
+        ensures frame { OnOk result (part.new.frame ≡ frame_after component.now.behaviour from.now (vectors round.entry component.now sources.now)) }
+        ensures rows { OnOk result (self.new.rows ≡ outputs component.now.behaviour from.now (vectors round.entry component.now sources.now)) }
+        ensures outs { OnOk result (part.new.outs ≡ map (λ port. column port self.new.rows) taps.now) }
+        ensures part_size { part_size part.new ≡ part_size part.old }
+        ensures stage_size { stage_size self.new ≡ stage_size self.old }
+    {
+        self.make_steps(alloc, component, sources, round, from, &mut part.frame)?;
+        write_taps(&mut part.outs, self.rows.as_slice(), taps);
+        Ok(())
+    }
+
+    // Makes the steps into another frame.
+    fn make_steps(
+        &mut self,
+        alloc: Global,
+        component: &Component,
+        sources: &[PortSource],
+        round: RoundInputs,
+        from: &Frame,
+        to: &mut Frame,
+    ) -> Result<(), NoMemory>
+        requires stage { stage_size self.old ≡ stage_size_of self.old.sent component.now }
+        requires sources { length sources.now ≡ length component.now.behaviour.ins }
+        requires from { frame_size from.now ≡ frame_size_of component.now }
+        requires to { frame_size to.old ≡ frame_size_of component.now }
+        ensures frame { OnOk result (to.new ≡ frame_after component.now.behaviour from.now (vectors round.entry component.now sources.now)) }
+        ensures rows { OnOk result (self.new.rows ≡ outputs component.now.behaviour from.now (vectors round.entry component.now sources.now)) }
+        ensures frame_size { frame_size to.new ≡ frame_size to.old }
+        ensures stage_size { stage_size self.new ≡ stage_size self.old }
+    {
+        to.copy_from(from);
+        for step in 0..component.rate as usize {
+            write_inputs(&mut self.inputs, round, sources, component.rate, step);
+            self.make_step(alloc, &component.behaviour, step, to)?;
+        }
+        Ok(())
+    }
+
+    // Makes one step from the inputs that stand ready, and keeps its outputs in the row of its number.
+    fn make_step(
+        &mut self,
+        alloc: Global,
+        behaviour: &Behaviour,
+        step: usize,
+        frame: &mut Frame,
+    ) -> Result<(), NoMemory>
+        requires frame { frame_size self.old.before ≡ frame_size frame.old }
+        requires outs { vec_len self.old.outs ≡ length behaviour.now.outs }
+        requires step { step < length self.old.rows }
+        requires row { length (slice_index_or self.old.rows step []) ≡ length behaviour.now.outs }
+        ensures frame { OnOk result (frame.new ≡ (fire behaviour.now frame.old self.old.inputs).frame) }
+        ensures row { OnOk result (self.new.rows ≡ slice_set self.old.rows step (fire behaviour.now frame.old self.old.inputs).outs) }
+        ensures frame_size { frame_size frame.new ≡ frame_size frame.old }
+        ensures stage_size { stage_size self.new ≡ stage_size self.old }
+    {
+        swap(&mut self.before, frame);
+        let inputs = self.inputs.as_slice();
+        fire_into(
+            alloc,
+            behaviour,
+            &self.before,
+            inputs,
+            frame,
+            self.outs.as_mut_slice(),
+        )?;
+        let row = &mut self.rows[step];
+        row.copy_from_slice(self.outs.as_slice());
+        Ok(())
+    }
+}
+
+// Writes what the root out ports show of these rows.
+fn write_taps(outs: &mut Items<Tuple>, rows: &[Tuple], taps: &[u32])
+    requires { map (λ tuple. length tuple) outs.old ≡ map (λ _. length rows.now) taps.now }
+    ensures after { outs.new ≡ map (λ port. column port rows.now) taps.now }
+    ensures sizes { map (λ tuple. length tuple) outs.new ≡ map (λ tuple. length tuple) outs.old }
+{
+    for at in 0..taps.len() {
+        write_column(&mut outs[at], rows, taps[at] as usize, rows.len());
+    }
+}
