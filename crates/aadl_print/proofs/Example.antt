@@ -1,6 +1,5 @@
 -- A package that is read from `package P public end P;`.
-use Rattle.std.proofs.Common.{◌≡◌, ℕ, zero, suc, ◌≤◌, map, Bool, true, false, ◌&&◌, ◌∙◌, sym, ap, subst, refl, List, [], ◌∷◌, ◌++◌, arith}
-use Rattle.std.specs.Prelude.{codes}
+use Rattle.std.proofs.Common.{◌≡◌, ℕ, zero, suc, Bool, true, false, ◌&&◌, ◌∙◌, sym, ap, subst, refl, List, [], ◌∷◌, ◌++◌, arith}
 use Rattle.std.specs.Prelude.{nat_lt}
 use Rattle.std.specs.List.{list_all}
 use Rattle.std.specs.Str.{IsAscii}
@@ -16,7 +15,7 @@ use Rattle.aadl_tree.specs.Parts.{Written}
 use Rattle.aadl_tree.specs.Names.{Name}
 use Rattle.aadl_tree.specs.Declarations.{With, Declaration, package_parts}
 use Rattle.aadl_tree.specs.Grammar.{opened, is_end, nesting_from, IsShallow}
-use Rattle.aadl_tree.specs.Given.{IsTreeOf, IsGiven}
+use Rattle.aadl_tree.specs.Given.{IsGiven}
 use Rattle.aadl_print.specs.Example.{package_text, name_at, small_package}
 
 abbrev tokens : List Token
