@@ -49,7 +49,7 @@ abbrev pub guarded_builders : Builders s.guarded (rows s.guarded)
 guarded_builders = ((λ w ts. ts.0), tt)
 
 abbrev pub after_word_builders : Builders s.after_word (rows s.after_word)
-after_word_builders = ((λ w ts. (None, ts.0)), ((λ w ts. (Some ts.0, ts.1.0)), tt))
+after_word_builders = ((λ w ts. (Some ts.0, ts.1.0)), ((λ w ts. (None, ts.0)), tt))
 
 abbrev pub effect_joins : Joins s.effect s.block []
 effect_joins u ts = Some u

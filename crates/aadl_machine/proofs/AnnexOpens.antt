@@ -59,8 +59,8 @@ pub guarded_opens : Opens s.guarded guarded_builders
 guarded_opens t ks rest (more, e, sp) = inl (uses tt (t, (tt, tt)) more e sp)
 
 pub after_word_opens : Opens s.after_word after_word_builders
-after_word_opens (None, g) ks rest (more, e, sp) = inl (uses tt (g, (tt, tt)) more e sp)
-after_word_opens (Some y, g) ks rest (more, e, sp) = inr (inl (uses tt (y, (g, tt)) more e sp))
+after_word_opens (None, g) ks rest (more, e, sp) = inr (inl (uses tt (g, (tt, tt)) more e sp))
+after_word_opens (Some y, g) ks rest (more, e, sp) = inl (uses tt (y, (g, tt)) more e sp)
 
 pub effect_opens : OpensOr s.effect effect_builders None
 effect_opens None ks rest e = inr (refl, e)

@@ -45,7 +45,9 @@ abbrev pub unit_builders : Builders s.unit (rows s.unit)
 unit_builders = ((λ w ts. Some (id w)), tt)
 
 abbrev pub quantity_builders : Builders s.quantity (rows s.quantity)
-quantity_builders = ((λ w ts. record { number = record { sign = None; figure = v.whole_figure w }; unit = ts.0 }), ((λ w ts. record { number = record { sign = None; figure = v.real_figure w }; unit = ts.0 }), ((λ w ts. record { number = record { sign = Some signs.Plus; figure = ts.0 }; unit = ts.1.0 }), ((λ w ts. record { number = record { sign = Some signs.Minus; figure = ts.0 }; unit = ts.1.0 }), tt))))
+quantity_builders =
+    ((λ w ts. record { number = record { sign = Some signs.Plus; figure = ts.0 }; unit = ts.1.0 }), ((λ w ts. record { number = record { sign = Some signs.Minus; figure = ts.0 }; unit = ts.1.0 }),
+    ((λ w ts. record { number = record { sign = None; figure = v.whole_figure w }; unit = ts.0 }), ((λ w ts. record { number = record { sign = None; figure = v.real_figure w }; unit = ts.0 }), tt))))
 
 abbrev pub upper_builders : Builders s.upper (rows s.upper)
 upper_builders = ((λ w ts. Some ts.0), tt)

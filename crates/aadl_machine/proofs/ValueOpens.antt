@@ -56,10 +56,10 @@ unit_opens (Some x) ks rest (more, e, sp) = inl (inl (uses x.spelling tt more e 
 
 quantity_by : (sign : Option Sign) (g : v.Figure) (u : Option (n.Identifier U)) (ks rest : List Kind) → Spells (parts s.quantity (record { number = record { sign = sign; figure = g }; unit = u })) ks rest
     → InRows s.quantity (rows s.quantity) quantity_builders (record { number = record { sign = sign; figure = g }; unit = u }) ks rest
-quantity_by None (v.whole_figure w) u ks rest (more, e, sp) = inl (uses w (u, tt) more e sp)
-quantity_by None (v.real_figure w) u ks rest (more, e, sp) = inr (inl (uses w (u, tt) more e sp))
-quantity_by (Some signs.Plus) g u ks rest (more, e, sp) = inr (inr (inl (uses tt (g, (u, tt)) more e sp)))
-quantity_by (Some signs.Minus) g u ks rest (more, e, sp) = inr (inr (inr (inl (uses tt (g, (u, tt)) more e sp))))
+quantity_by None (v.whole_figure w) u ks rest (more, e, sp) = inr (inr (inl (uses w (u, tt) more e sp)))
+quantity_by None (v.real_figure w) u ks rest (more, e, sp) = inr (inr (inr (inl (uses w (u, tt) more e sp))))
+quantity_by (Some signs.Plus) g u ks rest (more, e, sp) = inl (uses tt (g, (u, tt)) more e sp)
+quantity_by (Some signs.Minus) g u ks rest (more, e, sp) = inr (inl (uses tt (g, (u, tt)) more e sp))
 
 pub quantity_opens : Opens s.quantity quantity_builders
 quantity_opens t ks rest sp = quantity_by t.number.sign t.number.figure t.unit ks rest sp

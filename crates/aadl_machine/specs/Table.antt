@@ -22,7 +22,7 @@ abbrev pub figure_rows : List Row
 figure_rows = by a_whole [] ∷ by a_real [] ∷ []
 
 abbrev pub quantity_rows : List Row
-quantity_rows = by a_whole (s.unit ∷ []) ∷ by a_real (s.unit ∷ []) ∷ on k.Plus (s.figure ∷ s.unit ∷ []) ∷ on k.Minus (s.figure ∷ s.unit ∷ []) ∷ []
+quantity_rows = on k.Plus (s.figure ∷ s.unit ∷ []) ∷ on k.Minus (s.figure ∷ s.unit ∷ []) ∷ behind (s.unit ∷ []) figure_rows
 
 abbrev pub reference_rows : List Row
 reference_rows = by a_word (s.names ∷ s.dot_identifier ∷ []) ∷ []
@@ -170,7 +170,7 @@ rows s.state_list = behind (s.state_list ∷ []) state_rows
 rows s.states = on k.States (s.state_list ∷ []) ∷ []
 rows s.guard = on k.On (s.only k.Dispatch ∷ []) ∷ on k.Otherwise [] ∷ behind [] expression_rows
 rows s.guarded = on k.GuardOpen (s.guard ∷ s.only k.GuardClose ∷ []) ∷ []
-rows s.after_word = on k.GuardOpen (s.guard ∷ s.only k.GuardClose ∷ []) ∷ on k.Colon (s.identifier ∷ s.guarded ∷ []) ∷ []
+rows s.after_word = on k.Colon (s.identifier ∷ s.guarded ∷ []) ∷ on k.GuardOpen (s.guard ∷ s.only k.GuardClose ∷ []) ∷ []
 rows s.effect = behind [] block_rows
 rows s.transition = transition_rows
 rows s.transition_list = behind (s.transition_list ∷ []) transition_rows

@@ -14,5 +14,5 @@ pub qualified : (xs ys : List Identifier) (x : Identifier) {ss mid rest : List S
     → Reads (flat_map qualifier_parts (map (identifier_view kept_place) ys)) ss rest
 qualified xs ys x e a l = respelled
     (append_assoc (flat_map qualifier_parts (map (identifier_view kept_place) xs)) (identifier_parts (identifier_view kept_place x)) (plain k.Scope ∷ [])
-      ∙ sym (ap (λ l. flat_map qualifier_parts (map (identifier_view kept_place) l)) e ∙ listed qualifier_parts (identifier_view kept_place) xs x))
+    ∙ sym (ap (λ l. flat_map qualifier_parts (map (identifier_view kept_place) l)) e ∙ listed qualifier_parts (identifier_view kept_place) xs x))
     (then a (marked l nothing))

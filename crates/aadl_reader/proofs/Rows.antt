@@ -11,7 +11,7 @@ use Rattle.aadl_tree.specs.Names.{Identifier}
 use Rattle.aadl_tree.specs.Grammar.{place, greatest_nesting}
 use Rattle.aadl_machine.specs.Symbols.{Class, the, Symbol, Row}
 use Rattle.aadl_machine.specs.Symbols as s
-use Rattle.aadl_machine.specs.Table.{behind, rows, can_omit}
+use Rattle.aadl_machine.specs.Table.{on, behind, rows, can_omit}
 use Rattle.aadl_machine.specs.Machine.{Stack, Move, takes, omitted, refuses, kind_number, class_number, fits, move_by, move, depth, Fate, syntax_at, deep_at, fate}
 use Rattle.aadl_machine.proofs.Tails.{among, firsts}
 use Rattle.aadl_machine.proofs.Derivations.{move_omits, move_refuses}
@@ -19,7 +19,7 @@ use Rattle.aadl_machine.proofs.Steps.{move_at, fate_by, fate_is, fate_takes, fat
 use Rattle.aadl_reader.specs.declared.reader.Reader.{Reader}
 use Rattle.aadl_reader.specs.declared.fault.ParseFault.{ParseFault}
 use Rattle.aadl_reader.specs.declared.fault.ParseFault.TheVariants.{Memory, Syntax, TooDeep}
-use Rattle.aadl_reader.specs.Reading.{here, spot, At, AtMark, AtWord, Misses, MissAll, FailsAs, RunsTo, Parses}
+use Rattle.aadl_reader.specs.Reading.{here, spot, At, AtMark, AtWord, Misses, MissAll, IsMarked, FailsAs, RunsTo, Parses}
 
 -- the symbol takes the first terminal
 pub takes_row : (outer end : ℕ) (x : Symbol) (below : Stack) {kind : Kind} {ss rest : List Spot} {f : List Symbol} → At kind ss rest → move x kind ≡ takes f → outer + depth (f ++ below) ≤ greatest_nesting
@@ -131,23 +131,23 @@ along a b (Syntax at) h f = h ∙ f
 along a b (TooDeep at) h f = h ∙ f
 
 -- the exits by `?`
-exits : {X : Type 0} (next : X → ℕ) (r : Reader) (outer : ℕ) (below : Stack) (was : Fate) (e : ParseFault) (result : Result X ParseFault) → IsErrAnd result (λ y. y ≡ e) → FailsAs was e → RunsTo next r outer below was result
+pub exits : {X : Type 0} (next : X → ℕ) (r : Reader) (outer : ℕ) (below : Stack) (was : Fate) (e : ParseFault) (result : Result X ParseFault) → IsErrAnd result (λ y. y ≡ e) → FailsAs was e → RunsTo next r outer below was result
 exits next r outer below was e (Ok x) h g = absurd h
 exits next r outer below was e (Err y) h g = subst (λ (z : ParseFault). FailsAs was z) (sym h) g
 
-no_reads : {X : Type 0} (P : X → Type 0) (e : ParseFault) (result : Result X ParseFault) → IsErrAnd result (λ y. y ≡ e) → IfOk result P
+pub no_reads : {X : Type 0} (P : X → Type 0) (e : ParseFault) (result : Result X ParseFault) → IsErrAnd result (λ y. y ≡ e) → IfOk result P
 no_reads P e (Ok x) h = absurd h
 no_reads P e (Err y) h = tt
 
-pub fails : {X : Type 0} {r : Reader} {Allowed : ℕ → Type 0} {x : Symbol} {parts : X → List (Part ℕ)} {at : ℕ} {result : Result (X × ℕ) ParseFault} (e : ParseFault) → IsErrAnd result (λ y. y ≡ e)
-    → ((outer : ℕ) (below : Stack) → Allowed (outer + depth below) → FailsAs (fate outer r.end (x ∷ below) (here r at)) e) → Parses r Allowed x parts at result
-fails {X} {r} {Allowed} {x} {parts} {at} {result} e h f = record {
-  runs = λ outer below allowed. exits (λ (y : X × ℕ). y.1) r outer below (fate outer r.end (x ∷ below) (here r at)) e result h (f outer below allowed);
-  reads = no_reads _ e result h;
-}
+-- an opener for which there is no room
+pub too_deep : (was : Fate) (at : ℕ) (e : ParseFault) → e ≡ TooDeep at → was ≡ deep_at at → FailsAs was e
+too_deep was at e is h = subst (λ (z : ParseFault). FailsAs was z) (sym is) h
 
-pub fails_memory : {X : Type 0} {r : Reader} {Allowed : ℕ → Type 0} {x : Symbol} {parts : X → List (Part ℕ)} {at : ℕ} {result : Result (X × ℕ) ParseFault} → IsErrAnd result (λ y. y ≡ Memory) → Parses r Allowed x parts at result
-fails_memory h = fails Memory h (λ outer below allowed. tt)
+-- a keyword that may be left out
+pub flag_runs : (outer end : ℕ) (x : Symbol) (below : Stack) (m : Mark) (b : Bool) (ss rest : List Spot) → rows x ≡ on m [] ∷ [] → can_omit x ≡ true → move x (mark m) ≡ takes [] → outer + depth below ≤ greatest_nesting → IsMarked m b ss rest
+    → fate outer end (x ∷ below) ss ≡ fate outer end below rest
+flag_runs outer end x below m true ss rest r o t h l = takes_row outer end x below l t h
+flag_runs outer end x below m false ss rest r o t h (l, e) = omits_unless outer end x below ss o (subst (λ (rs : List Row). MissAll rs ss) (sym r) (l, tt)) ∙ ap (fate outer end below) (sym e)
 
 pub only_takes : (m : Mark) → move (s.only m) (mark m) ≡ takes []
 unfolding move

@@ -1,13 +1,14 @@
 -- What parts are read one behind the other, and that what is read ends no earlier.
-use Rattle.std.proofs.Common.{◌≡◌, ℕ, ◌<◌, ◌≤◌, ◌∙◌, sym, ap, subst, refl, List, [], ◌∷◌, ◌++◌, length, arith, inl, inr, map, flat_map, append_assoc}
+use Rattle.std.proofs.Common.{◌≡◌, ℕ, Bool, true, false, ◌<◌, ◌≤◌, ◌∙◌, sym, ap, subst, refl, List, [], ◌∷◌, ◌++◌, length, arith, inl, inr, map, flat_map, append_assoc}
 use Rattle.std.specs.Prelude.{IfOk, Result, Ok, Err}
 use Rattle.std.proofs.lemmas.List.{append-nil}
 use Rattle.aadl_tree.specs.declared.mark.Mark.{Mark}
 use Rattle.aadl_tree.specs.Kinds.{Kind, mark, word, Spot}
-use Rattle.aadl_tree.specs.Parts.{Part, token, may, extra_kinds, HaveKinds, Written}
+use Rattle.aadl_tree.specs.Parts.{Part, token, may, extra_kinds, HaveKinds, Written, marked_if}
+use Rattle.aadl_tree.specs.Grammar.{place}
 use Rattle.aadl_tree.specs.Names.{Identifier, identifier_parts}
 use Rattle.aadl_tree.proofs.Parts.{written_append}
-use Rattle.aadl_reader.specs.Reading.{spot, At, AtMark, AtWord, Reads}
+use Rattle.aadl_reader.specs.Reading.{spot, At, AtMark, AtWord, IsMarked, Reads}
 
 pub nothing : {ss : List Spot} → Reads [] ss ss
 nothing = record { written = refl }
@@ -27,6 +28,10 @@ told {kind} {ps} {ss} {mid} {rest} l a = record { written = (spot kind l.at, mid
 -- the parts behind a terminal that keeps its place
 pub placed : {kind : Kind} {ps : List (Part ℕ)} {ss mid rest : List Spot} (at : ℕ) (l : At kind ss mid) → at ≡ l.at → Reads ps mid rest → Reads (token kind (at ∷ []) ∷ ps) ss rest
 placed {kind} {ps} {ss} {mid} {rest} at l e a = record { written = (spot kind l.at, mid, l.whole, refl, (e, tt), a.written) }
+
+-- the same, where the place is that of the first terminal
+pub placed_at : {kind : Kind} {ps : List (Part ℕ)} {ss mid rest : List Spot} (at end : ℕ) (l : At kind ss mid) → at ≡ place end ss → Reads ps mid rest → Reads (token kind (at ∷ []) ∷ ps) ss rest
+placed_at at end l e a = placed at l (e ∙ ap (place end) l.whole) a
 
 pub named : {x : Identifier ℕ} {ss rest : List Spot} → AtWord x ss rest → Reads (identifier_parts x) ss rest
 named {x} {ss} {rest} l = record { written = (spot (word x.spelling) x.at, rest, l.whole, refl, (refl, tt), refl) }
@@ -63,4 +68,16 @@ pub shorter : {kind : Kind} {ps : List (Part ℕ)} {ss mid rest : List Spot} →
 shorter {kind} {ps} {ss} {mid} {rest} l a =
     let g : length ss ≡ length (spot kind l.at ∷ mid) = ap length l.whole in
     let h = written_length ps mid rest a.written in
+    omega arith
+
+-- a keyword that stands there or does not
+pub flagged : (m : Mark) (b : Bool) {ss rest : List Spot} → IsMarked m b ss rest → Reads (marked_if m b) ss rest
+flagged m true l = marked l nothing
+flagged m false {ss} {rest} (l, e) = record { written = sym e }
+
+-- the turn of a loop: a part that has a terminal at least
+pub begun : {kind : Kind} {places : List ℕ} {ps : List (Part ℕ)} {ss rest : List Spot} → Reads (token kind places ∷ ps) ss rest → length rest < length ss
+begun {kind} {places} {ps} {ss} {rest} a =
+    let g : length ss ≡ length (a.written.0 ∷ a.written.1) = ap length a.written.2 in
+    let h = written_length ps a.written.1 rest a.written.5 in
     omega arith

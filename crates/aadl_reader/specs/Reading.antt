@@ -1,12 +1,12 @@
 -- What a part of a parser answers, in terms of what the machine wants.
-use Rattle.std.specs.Prelude.{ℕ, ◌+◌, ◌≡◌, ◌≤◌, true, false, IfOk, List, [], ◌∷◌, drop, Result, Ok, Err}
+use Rattle.std.specs.Prelude.{ℕ, ◌+◌, ◌≡◌, ◌≤◌, true, false, IfOk, List, [], ◌∷◌, ◌++◌, drop, Bool, Result, Ok, Err}
 use Rattle.aadl_tree.specs.declared.mark.Mark.{Mark}
 use Rattle.aadl_tree.specs.Kinds.{Kind, word, mark, Spot}
 use Rattle.aadl_tree.specs.Parts.{Part, Written}
 use Rattle.aadl_tree.specs.Names.{Identifier}
 use Rattle.aadl_tree.specs.Grammar.{greatest_nesting}
-use Rattle.aadl_machine.specs.Symbols.{Class, Symbol, only, Row}
-use Rattle.aadl_machine.specs.Machine.{Stack, fits, depth, Fate, syntax_at, deep_at, fate}
+use Rattle.aadl_machine.specs.Symbols.{Class, the, Symbol, only, Row}
+use Rattle.aadl_machine.specs.Machine.{Stack, fits, takes, move, depth, Fate, syntax_at, deep_at, fate}
 use Rattle.aadl_reader.specs.declared.terminal.Terminal.{Terminal}
 use Rattle.aadl_reader.specs.declared.terminal.TerminalKind.TheVariants as t
 use Rattle.aadl_reader.specs.declared.reader.Reader.{Reader}
@@ -55,6 +55,14 @@ abbrev pub MissAll : List Row → List Spot → Type 0
 MissAll [] ss = Unit {0}
 MissAll (r ∷ rs) ss = Misses r.first ss × MissAll rs ss
 
+-- the symbol takes the terminal that comes first
+pub record Begins (x : Symbol) (ss : List Spot) : Type 0 where
+  pub kind : Kind
+  pub rest : List Spot
+  pub wanted : List Symbol
+  pub first : At kind ss rest
+  pub moves : move x kind ≡ takes wanted
+
 -- the fault that the machine meets; want of memory says nothing
 abbrev pub FailsAs : Fate → ParseFault → Type 0
 FailsAs was Memory = Unit {0}
@@ -68,21 +76,31 @@ RunsTo next r outer below was (Err e) = FailsAs was e
 
 -- how many openers may be open before a part that is read with this room, or that has no openers
 abbrev pub Room : ℕ → ℕ → Type 0
-Room room open_before = open_before + room ≡ greatest_nesting
+Room room before = before + room ≡ greatest_nesting
 
 abbrev pub AnyRoom : ℕ → Type 0
-AnyRoom open_before = open_before ≤ greatest_nesting
+AnyRoom before = before ≤ greatest_nesting
+
+-- one opener more goes into the room, or this one is too deep
+abbrev pub Deepens : ℕ → ℕ → Result ℕ ParseFault → Type 0
+Deepens room at (Ok inner) = room ≡ inner + 1
+Deepens room at (Err e) = (room ≡ 0) × (e ≡ TooDeep at)
+
+-- the keyword stands there or does not
+abbrev pub IsMarked : Mark → Bool → List Spot → List Spot → Type 0
+IsMarked m true ss rest = AtMark m ss rest
+IsMarked m false ss rest = Misses (the m) ss × (rest ≡ ss)
 
 -- the terminals up to these are those of the parts
 pub record Reads (ps : List (Part ℕ)) (ss rest : List Spot) : Type 0 where
   pub written : Written ps ss rest
 
--- The part of a parser for this symbol: it follows the machine, and reads its tree.
-pub record Parses {X : Type 0} (r : Reader) (Allowed : ℕ → Type 0) (x : Symbol) (parts : X → List (Part ℕ)) (at : ℕ) (result : Result (X × ℕ) ParseFault) : Type 0 where
-  pub runs : (outer : ℕ) (below : Stack) → Allowed (outer + depth below) → RunsTo (λ (y : X × ℕ). y.1) r outer below (fate outer r.end (x ∷ below) (here r at)) result
+-- The part of a parser for what is wanted: it follows the machine, and reads its tree.
+pub record Parses {X : Type 0} (r : Reader) (Allowed : ℕ → Type 0) (wanted : Stack) (parts : X → List (Part ℕ)) (at : ℕ) (result : Result (X × ℕ) ParseFault) : Type 0 where
+  pub runs : (outer : ℕ) (below : Stack) → Allowed (outer + depth (wanted ++ below)) → RunsTo (λ (y : X × ℕ). y.1) r outer below (fate outer r.end (wanted ++ below) (here r at)) result
   pub reads : IfOk result (λ y. Reads (parts y.0) (here r at) (here r y.1))
 
 -- the part for one keyword or symbol
 pub record Expects (r : Reader) (m : Mark) (at : ℕ) (result : Result ℕ ParseFault) : Type 0 where
-  pub runs : (outer : ℕ) (below : Stack) → AnyRoom (outer + depth below) → RunsTo (λ (y : ℕ). y) r outer below (fate outer r.end (only m ∷ below) (here r at)) result
+  pub runs : (outer : ℕ) (below : Stack) → AnyRoom (outer + depth (only m ∷ below)) → RunsTo (λ (y : ℕ). y) r outer below (fate outer r.end (only m ∷ below) (here r at)) result
   pub reads : IfOk result (λ next. AtMark m (here r at) (here r next))

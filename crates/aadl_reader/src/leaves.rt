@@ -4,15 +4,18 @@ ghost use Rattle.aadl_tree.specs.Grammar as grammar;
 ghost use Rattle.aadl_tree.specs.Kinds.{whole, real, quoted, unread};
 ghost use Rattle.aadl_tree.specs.NameViews.{identifier_view};
 ghost use Rattle.aadl_tree.specs.Maps.{kept_place};
+ghost use Rattle.aadl_machine.specs.Symbols as s;
+ghost use Rattle.aadl_machine.specs.Table.{rows};
+ghost use Rattle.aadl_tree.specs.Values.{sign_mark};
 ghost use Rattle.aadl_machine.specs.Symbols.{a_word, a_whole, a_real, a_quoted, an_unread, the};
 ghost use Rattle.aadl_reader.specs.declared.fault.ParseFault.TheVariants.{Memory};
 ghost use Rattle.aadl_reader.specs.Terminals.{between, is_word_at};
-ghost use Rattle.aadl_reader.specs.Reading.{here, IsFirst, AtMark, AtWord, At, Misses, StartsWord, Expects};
+ghost use Rattle.aadl_reader.specs.Reading.{here, IsFirst, AtMark, AtWord, At, Misses, StartsWord, Expects, MissAll, IsMarked, Deepens};
 
 use crate::fault::ParseFault;
 use crate::reader::Reader;
 use crate::terminal::{Terminal, TerminalKind, between};
-use aadl_tree::{Identifier, Mark};
+use aadl_tree::{Identifier, Mark, Sign};
 use std::str;
 
 impl Reader<'_> {
@@ -42,13 +45,7 @@ impl Reader<'_> {
     {
         let (terminal, next) = self.first(at)?;
         match terminal.kind {
-            TerminalKind::Mark(found) => {
-                if found.is(mark) {
-                    Some(next)
-                } else {
-                    None
-                }
-            }
+            TerminalKind::Mark(found) => { if found.is(mark) { Some(next) } else { None } }
             _ => None,
         }
     }
@@ -163,9 +160,40 @@ impl Reader<'_> {
     {
         match self.take(at, mark) {
             Some(next) => Ok(next),
-            None => Err(ParseFault::Syntax {
-                at: self.place(at),
-            }),
+            None => Err(ParseFault::Syntax { at: self.place(at) }),
         }
+    }
+
+    /// Whether this keyword comes first, and the number behind it, if it does.
+    pub fn has(&self, at: usize, mark: Mark) -> (bool, usize)
+        ensures { IsMarked mark result.0 (here self.now at) (here self.now result.1) }
+    {
+        match self.take(at, mark) {
+            Some(next) => (true, next),
+            None => (false, at),
+        }
+    }
+
+    /// The sign that comes first, and the number behind it.
+    pub fn sign(&self, at: usize) -> Option<(Sign, usize)>
+        ensures { MatchOption result (MissAll (rows s.terms) (here self.now at)) (λ x. AtMark (sign_mark x.0) (here self.now at) (here self.now x.1)) }
+    {
+        if let Some(next) = self.take(at, Mark::Plus) {
+            return Some((Sign::Plus, next));
+        }
+        if let Some(next) = self.take(at, Mark::Minus) {
+            return Some((Sign::Minus, next));
+        }
+        None
+    }
+
+    /// The room behind the opener that stands at this number.
+    pub fn deeper(&self, at: usize, room: usize) -> Result<usize, ParseFault>
+        ensures { Deepens room (grammar.place self.now.end (here self.now at)) result }
+    {
+        if room == 0 {
+            return Err(ParseFault::TooDeep { at: self.place(at) });
+        }
+        Ok(room - 1)
     }
 }

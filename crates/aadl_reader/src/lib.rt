@@ -10,10 +10,10 @@ mod leaves;
 mod names;
 mod reader;
 mod terminal;
-
+mod values;
 
 pub use fault::ParseFault;
-pub use names::{dot_identifier, identifier, name, reference};
+pub use names::{dot_identifier, identifier, identifiers, name, path, reference};
 pub use reader::{Parsed, Reader};
 pub use terminal::{Terminal, TerminalKind, resolve};
-
+pub use values::{association, associations, properties};

@@ -9,6 +9,7 @@ use std::alloc::Global;
 pub type Parsed<T> = Result<(T, usize), ParseFault>;
 
 /// The terminals of a text.
+#[derive(Clone, Copy)]
 pub struct Reader<'a> {
     /// What the trees are made with.
     pub alloc: Global,

@@ -1,16 +1,16 @@
-use Rattle.std.proofs.Common.{◌∙◌, ap, sym, refl}
+use Rattle.std.proofs.Common.{◌∙◌, ap, sym, refl, arith}
 use Rattle.aadl_machine.specs.Symbols as s
-use Rattle.aadl_machine.specs.Machine.{move, syntax_at}
+use Rattle.aadl_machine.specs.Machine.{move, depth, syntax_at}
 use Rattle.aadl_reader.specs.Reading.{here}
 use Rattle.aadl_reader.proofs.Rows.{takes_row, refuses_unless, a_word_at}
 use Rattle.aadl_reader.proofs.Written.{named}
 use Rattle.aadl_reader.proofs.names.identifier.Goals as goal
 
 pub returns-in-Some : goal.returns-in-Some
-unfolding move
+unfolding move depth
 returns-in-Some c =
     let l = rw c.in-Some.is at c.in_ok-found.ensures.ok in
-    record { runs = λ outer below h. takes_row outer c.args.reader.now.end s.identifier below (a_word_at l) refl h; reads = named l }
+    record { runs = λ outer below h. takes_row outer c.args.reader.now.end s.identifier below (a_word_at l) refl (omega arith); reads = named l }
 
 pub returns-in-None : goal.returns-in-None
 returns-in-None c =

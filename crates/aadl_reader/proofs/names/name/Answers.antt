@@ -1,6 +1,6 @@
 use Rattle.std.proofs.Common.{◌∙◌, ◌∷◌, [], refl, arith}
 use Rattle.aadl_reader.specs.Reading.{here}
-use Rattle.aadl_reader.proofs.Rows.{begins_as, along, fails}
+use Rattle.aadl_reader.proofs.Rows.{begins_as, along, exits, no_reads}
 use Rattle.aadl_reader.proofs.Written.{then}
 use Rattle.aadl_tree.specs.declared.mark.Mark.TheVariants as k
 use Rattle.aadl_machine.specs.Symbols as s
@@ -9,12 +9,18 @@ use Rattle.aadl_reader.proofs.names.name.Goals as goal
 
 pub returns-in_err-first : goal.returns-in_err-first
 unfolding move depth
-returns-in_err-first c = fails _ c.from_residual.ensures.1 (λ outer below h. along _ _ _ (begins_as outer c.args.reader.now.end s.name s.identifier (s.names ∷ []) (below) (here c.args.reader.now c.args.at) refl refl refl) (c.in_err-first.ensures.runs outer (s.names ∷ below) (omega arith)))
+returns-in_err-first c = record {
+  runs = λ outer below h. exits _ _ _ _ _ _ _ c.from_residual.ensures.1 (along _ _ _ (begins_as outer c.args.reader.now.end s.name s.identifier (s.names ∷ []) (below) (here c.args.reader.now c.args.at) refl refl refl) (c.in_err-first.ensures.runs outer (s.names ∷ below) (omega arith)));
+  reads = no_reads _ _ _ c.from_residual.ensures.1;
+}
 
 pub returns-in_err-others : goal.returns-in_err-others
 unfolding move depth
-returns-in_err-others c = fails _ c.from_residual-in_err-others.ensures.1 (λ outer below h. along _ _ _ (begins_as outer c.args.reader.now.end s.name s.identifier (s.names ∷ []) (below) (here c.args.reader.now c.args.at) refl refl refl
-    ∙ c.in_ok-first.ensures.runs outer (s.names ∷ below) (omega arith)) (c.in_err-others.ensures.runs outer (below) (omega arith)))
+returns-in_err-others c = record {
+  runs = λ outer below h. exits _ _ _ _ _ _ _ c.from_residual-in_err-others.ensures.1 (along _ _ _ (begins_as outer c.args.reader.now.end s.name s.identifier (s.names ∷ []) (below) (here c.args.reader.now c.args.at) refl refl refl
+      ∙ c.in_ok-first.ensures.runs outer (s.names ∷ below) (omega arith)) (c.in_err-others.ensures.runs outer (below) (omega arith)));
+  reads = no_reads _ _ _ c.from_residual-in_err-others.ensures.1;
+}
 
 pub returns : goal.returns
 unfolding move depth

@@ -1,6 +1,6 @@
 use Rattle.std.proofs.Common.{◌∙◌, ◌∷◌, [], refl, arith}
 use Rattle.aadl_reader.specs.Reading.{here}
-use Rattle.aadl_reader.proofs.Rows.{takes_row, omits_unless, begins_as, along, fails}
+use Rattle.aadl_reader.proofs.Rows.{takes_row, omits_unless, begins_as, along, exits, no_reads}
 use Rattle.aadl_reader.proofs.Written.{marked, pushed}
 use Rattle.aadl_tree.specs.Parts.{behind}
 use Rattle.aadl_tree.specs.Names.{identifier_parts}
@@ -13,14 +13,17 @@ use Rattle.aadl_reader.proofs.names.names.Goals as goal
 
 pub returns-in_err-next : goal.returns-in_err-next
 unfolding move depth
-returns-in_err-next c = fails _ c.from_residual.ensures.1 (λ outer below h. along _ _ _ (c.loop-behind.invariant.runs outer below h
-    ∙ takes_row outer c.args.reader.now.end s.names (below) c.in-Some.ensures refl (omega arith)
-    ∙ begins_as outer c.args.reader.now.end s.name s.identifier (s.names ∷ []) (below) (here c.args.reader.now c.in-Some.behind) refl refl refl) (c.in_err-next.ensures.runs outer (s.names ∷ below) (omega arith)))
+returns-in_err-next c = record {
+  runs = λ outer below h. exits _ _ _ _ _ _ _ c.from_residual.ensures.1 (along _ _ _ (c.loop-behind.invariant.runs outer below (omega arith)
+      ∙ takes_row outer c.args.reader.now.end s.names (below) c.in-Some.ensures refl (omega arith)
+      ∙ begins_as outer c.args.reader.now.end s.name s.identifier (s.names ∷ []) (below) (here c.args.reader.now c.in-Some.behind) refl refl refl) (c.in_err-next.ensures.runs outer (s.names ∷ below) (omega arith)));
+  reads = no_reads _ _ _ c.from_residual.ensures.1;
+}
 
 pub loop-behind-preserved : goal.loop-behind-preserved
 unfolding move depth
 loop-behind-preserved c = record {
-  runs = λ outer below h. c.loop-behind.invariant.runs outer below h
+  runs = λ outer below h. c.loop-behind.invariant.runs outer below (omega arith)
       ∙ takes_row outer c.args.reader.now.end s.names (below) c.in-Some.ensures refl (omega arith)
       ∙ begins_as outer c.args.reader.now.end s.name s.identifier (s.names ∷ []) (below) (here c.args.reader.now c.in-Some.behind) refl refl refl
       ∙ c.in_ok-next.ensures.runs outer (s.names ∷ below) (omega arith);
@@ -30,7 +33,7 @@ loop-behind-preserved c = record {
 pub returns : goal.returns
 unfolding move depth
 returns c = record {
-  runs = λ outer below h. c.loop-behind.invariant.runs outer below h
+  runs = λ outer below h. c.loop-behind.invariant.runs outer below (omega arith)
       ∙ omits_unless outer c.args.reader.now.end s.names (below) (here c.args.reader.now c.loop-behind.rest) refl (c.in_default.ensures, tt);
   reads = c.loop-behind.invariant.reads;
 }

@@ -1,6 +1,6 @@
 use Rattle.std.proofs.Common.{◌+◌, ◌∙◌, ◌∷◌, [], ◌++◌, ap, sym, refl, arith, map}
 use Rattle.aadl_reader.specs.Reading.{here}
-use Rattle.aadl_reader.proofs.Rows.{takes_row, omits_unless, begins_as, along, fails}
+use Rattle.aadl_reader.proofs.Rows.{takes_row, omits_unless, begins_as, along, exits, no_reads}
 use Rattle.aadl_reader.proofs.Written.{then, respelled, regroup}
 use Rattle.std.specs.Prelude.{flat_map}
 use Rattle.aadl_tree.specs.Names.{identifier_parts, qualifier_parts}
@@ -14,8 +14,11 @@ use Rattle.aadl_reader.proofs.names.reference.Goals as goal
 
 pub returns-in_err-type_name : goal.returns-in_err-type_name
 unfolding move depth
-returns-in_err-type_name c = fails _ c.from_residual.ensures.1 (λ outer below h. along _ _ _ (begins_as outer c.args.reader.now.end s.reference s.name (s.dot_identifier ∷ []) (below) (here c.args.reader.now c.args.at) refl refl refl
-    ∙ begins_as outer c.args.reader.now.end s.name s.identifier (s.names ∷ []) (s.dot_identifier ∷ below) (here c.args.reader.now c.args.at) refl refl refl) (c.in_err-type_name.ensures.runs outer (s.names ∷ s.dot_identifier ∷ below) (omega arith)))
+returns-in_err-type_name c = record {
+  runs = λ outer below h. exits _ _ _ _ _ _ _ c.from_residual.ensures.1 (along _ _ _ (begins_as outer c.args.reader.now.end s.reference s.name (s.dot_identifier ∷ []) (below) (here c.args.reader.now c.args.at) refl refl refl
+      ∙ begins_as outer c.args.reader.now.end s.name s.identifier (s.names ∷ []) (s.dot_identifier ∷ below) (here c.args.reader.now c.args.at) refl refl refl) (c.in_err-type_name.ensures.runs outer (s.names ∷ s.dot_identifier ∷ below) (omega arith)));
+  reads = no_reads _ _ _ c.from_residual.ensures.1;
+}
 
 pub loop-behind-init : goal.loop-behind-init
 unfolding move depth
@@ -28,14 +31,17 @@ loop-behind-init c = record {
 
 pub returns-in_err-next : goal.returns-in_err-next
 unfolding move depth
-returns-in_err-next c = fails _ c.from_residual-in_err-next.ensures.1 (λ outer below h. along _ _ _ (c.loop-behind.invariant.runs outer below h
-    ∙ takes_row outer c.args.reader.now.end s.names (s.dot_identifier ∷ below) c.in-Some.ensures refl (omega arith)
-    ∙ begins_as outer c.args.reader.now.end s.name s.identifier (s.names ∷ []) (s.dot_identifier ∷ below) (here c.args.reader.now c.in-Some.behind) refl refl refl) (c.in_err-next.ensures.runs outer (s.names ∷ s.dot_identifier ∷ below) (omega arith)))
+returns-in_err-next c = record {
+  runs = λ outer below h. exits _ _ _ _ _ _ _ c.from_residual-in_err-next.ensures.1 (along _ _ _ (c.loop-behind.invariant.runs outer below (omega arith)
+      ∙ takes_row outer c.args.reader.now.end s.names (s.dot_identifier ∷ below) c.in-Some.ensures refl (omega arith)
+      ∙ begins_as outer c.args.reader.now.end s.name s.identifier (s.names ∷ []) (s.dot_identifier ∷ below) (here c.args.reader.now c.in-Some.behind) refl refl refl) (c.in_err-next.ensures.runs outer (s.names ∷ s.dot_identifier ∷ below) (omega arith)));
+  reads = no_reads _ _ _ c.from_residual-in_err-next.ensures.1;
+}
 
 pub loop-behind-preserved : goal.loop-behind-preserved
 unfolding move depth
 loop-behind-preserved c = record {
-  runs = λ outer below h. c.loop-behind.invariant.runs outer below h
+  runs = λ outer below h. c.loop-behind.invariant.runs outer below (omega arith)
       ∙ takes_row outer c.args.reader.now.end s.names (s.dot_identifier ∷ below) c.in-Some.ensures refl (omega arith)
       ∙ begins_as outer c.args.reader.now.end s.name s.identifier (s.names ∷ []) (s.dot_identifier ∷ below) (here c.args.reader.now c.in-Some.behind) refl refl refl
       ∙ c.in_ok-next.ensures.runs outer (s.names ∷ s.dot_identifier ∷ below) (omega arith);
@@ -44,13 +50,16 @@ loop-behind-preserved c = record {
 
 pub returns-in_err-implementation : goal.returns-in_err-implementation
 unfolding move depth
-returns-in_err-implementation c = fails _ c.from_residual-in_err-implementation.ensures.1 (λ outer below h. along _ _ _ (c.loop-behind.invariant.runs outer below h
-    ∙ omits_unless outer c.args.reader.now.end s.names (s.dot_identifier ∷ below) (here c.args.reader.now c.loop-behind.rest) refl (c.in_default.ensures, tt)) (c.in_err-implementation.ensures.runs outer (below) (omega arith)))
+returns-in_err-implementation c = record {
+  runs = λ outer below h. exits _ _ _ _ _ _ _ c.from_residual-in_err-implementation.ensures.1 (along _ _ _ (c.loop-behind.invariant.runs outer below (omega arith)
+      ∙ omits_unless outer c.args.reader.now.end s.names (s.dot_identifier ∷ below) (here c.args.reader.now c.loop-behind.rest) refl (c.in_default.ensures, tt)) (c.in_err-implementation.ensures.runs outer (below) (omega arith)));
+  reads = no_reads _ _ _ c.from_residual-in_err-implementation.ensures.1;
+}
 
 pub returns : goal.returns
 unfolding move depth
 returns c = record {
-  runs = λ outer below h. c.loop-behind.invariant.runs outer below h
+  runs = λ outer below h. c.loop-behind.invariant.runs outer below (omega arith)
       ∙ omits_unless outer c.args.reader.now.end s.names (s.dot_identifier ∷ below) (here c.args.reader.now c.loop-behind.rest) refl (c.in_default.ensures, tt)
       ∙ c.in_ok-implementation.ensures.runs outer (below) (omega arith);
   reads = regroup (flat_map qualifier_parts (map (identifier_view kept_place) c.loop-behind.qualifiers.items)) (identifier_parts (identifier_view kept_place c.loop-behind.type_name)) c.loop-behind.invariant.reads c.in_ok-implementation.ensures.reads;

@@ -1,13 +1,14 @@
-use Rattle.std.proofs.Common.{◌∙◌, ap, sym, refl}
+use Rattle.std.proofs.Common.{◌∙◌, ap, sym, refl, arith}
 use Rattle.aadl_machine.specs.Symbols as s
-use Rattle.aadl_machine.specs.Machine.{syntax_at}
+use Rattle.aadl_machine.specs.Machine.{depth, syntax_at}
 use Rattle.aadl_reader.specs.Reading.{here}
 use Rattle.aadl_reader.proofs.Rows.{takes_row, refuses_unless, only_takes}
 use Rattle.aadl_reader.proofs.reader.Reader.expect.Goals as goal
 
 pub returns-in-Some : goal.returns-in-Some
+unfolding depth
 returns-in-Some c = record {
-  runs = λ outer below h. takes_row outer c.args.self.now.end (s.only c.args.mark) below c.in-Some.ensures (only_takes c.args.mark) h;
+  runs = λ outer below h. takes_row outer c.args.self.now.end (s.only c.args.mark) below c.in-Some.ensures (only_takes c.args.mark) (omega arith);
   reads = c.in-Some.ensures;
 }
 

@@ -1,0 +1,266 @@
+//! Features, subcomponents, connections, and the sections that have them.
+ghost use Rattle.std.specs.Prelude.{ℕ, [], ◌∷◌, ◌++◌, flat_map, map, option_map, MatchOption};
+ghost use Rattle.aadl_tree.specs.declared.mark.Mark.TheVariants as k;
+ghost use Rattle.aadl_tree.specs.Parts.{plain, parts_if, feature_section, subcomponent_section, connection_section, property_section};
+ghost use Rattle.aadl_tree.specs.Names.{reference_parts};
+ghost use Rattle.aadl_tree.specs.Values.{associations_parts};
+ghost use Rattle.aadl_tree.specs.Declarations.{category_mark, direction_mark, section_parts, feature_parts, subcomponent_parts, connection_parts, end_parts};
+ghost use Rattle.aadl_tree.specs.NameViews.{reference_view};
+ghost use Rattle.aadl_tree.specs.ValueViews.{associations_view};
+ghost use Rattle.aadl_tree.specs.Views.{feature_view, subcomponent_view, connection_view, end_view};
+ghost use Rattle.aadl_tree.specs.Maps.{kept_place};
+ghost use Rattle.aadl_machine.specs.Symbols as s;
+ghost use Rattle.aadl_machine.specs.Table.{rows};
+ghost use Rattle.aadl_reader.specs.Reading.{here, AtMark, MissAll, Parses, AnyRoom, Room};
+
+use aadl_reader::{
+    ParseFault, Parsed, Reader, association, associations, dot_identifier, identifier, properties, reference,
+};
+use aadl_tree::{
+    Association, Category, Connection, ConnectionEnd, Direction, Feature, Mark, Reference,
+    Subcomponent,
+};
+
+/// `"system" | "process" | "thread"`
+pub fn category(reader: &Reader<'_>, at: usize) -> Option<(Category, usize)>
+    ensures { MatchOption result (MissAll (rows s.category) (here reader.now at))
+        (λ x. AtMark (category_mark x.0) (here reader.now at) (here reader.now x.1)) }
+{
+    if let Some(next) = reader.take(at, Mark::System) {
+        return Some((Category::System, next));
+    }
+    if let Some(next) = reader.take(at, Mark::Process) {
+        return Some((Category::Process, next));
+    }
+    if let Some(next) = reader.take(at, Mark::Thread) {
+        return Some((Category::Thread, next));
+    }
+    None
+}
+
+/// A category, which has to come.
+fn expect_category(reader: &Reader<'_>, at: usize) -> Parsed<Category>
+    ensures { Parses reader.now AnyRoom (s.category ∷ []) (λ x. plain (category_mark x) ∷ []) at result }
+{
+    match category(reader, at) {
+        Some(found) => Ok(found),
+        None => Err(ParseFault::Syntax {
+            at: reader.place(at),
+        }),
+    }
+}
+
+/// `"in" | "out"`
+fn direction(reader: &Reader<'_>, at: usize) -> Parsed<Direction>
+    ensures { Parses reader.now AnyRoom (s.direction ∷ []) (λ x. plain (direction_mark x) ∷ []) at result }
+{
+    if let Some(next) = reader.take(at, Mark::In) {
+        return Ok((Direction::In, next));
+    }
+    match reader.take(at, Mark::Out) {
+        Some(next) => Ok((Direction::Out, next)),
+        None => Err(ParseFault::Syntax {
+            at: reader.place(at),
+        }),
+    }
+}
+
+/// `[ reference ]`
+fn data_type(reader: &Reader<'_>, at: usize) -> Parsed<Option<Reference>>
+    ensures { Parses reader.now AnyRoom (s.data_type ∷ [])
+        (λ x. parts_if reference_parts (option_map (reference_view kept_place) x)) at result }
+{
+    if !reader.is_word(at) {
+        return Ok((None, at));
+    }
+    let (found, end) = reference(reader, at)?;
+    Ok((Some(found), end))
+}
+
+/// `id ":" ( "in" | "out" ) "data" "port" [ reference ] [ properties ] ";"`
+fn feature(reader: &Reader<'_>, at: usize, room: usize) -> Parsed<Feature>
+    ensures { Parses reader.now (Room room) (s.feature ∷ []) (λ x. feature_parts (feature_view kept_place x)) at result }
+{
+    let (name, next) = identifier(reader, at)?;
+    let colon = reader.expect(next, Mark::Colon)?;
+    let (direction, next) = direction(reader, colon)?;
+    let data = reader.expect(next, Mark::Data)?;
+    let port = reader.expect(data, Mark::Port)?;
+    let (data_type, next) = data_type(reader, port)?;
+    let (properties, next) = properties(reader, next, room)?;
+    let end = reader.expect(next, Mark::Semicolon)?;
+    let feature = Feature {
+        name,
+        direction,
+        data_type,
+        properties,
+    };
+    Ok((feature, end))
+}
+
+/// `{ feature }`
+fn feature_list(reader: &Reader<'_>, at: usize, room: usize) -> Parsed<Vec<Feature>>
+    ensures { Parses reader.now (Room room) (s.feature_list ∷ [])
+        (λ x. flat_map feature_parts (map (feature_view kept_place) x.items)) at result }
+{
+    let mut found = Vec::new(reader.alloc);
+    let mut rest = at;
+    while reader.is_word(rest) {
+        let (next, behind) = feature(reader, rest, room)?;
+        found.push(next)?;
+        rest = behind;
+    }
+    Ok((found, rest))
+}
+
+/// `[ "features" ( "none" ";" | feature { feature } ) ]`
+pub fn features(reader: &Reader<'_>, at: usize, room: usize) -> Parsed<Vec<Feature>>
+    ensures { Parses reader.now (Room room) (s.features ∷ [])
+        (λ x. section_parts feature_section (flat_map feature_parts (map (feature_view kept_place) x.items))) at result }
+{
+    let Some(next) = reader.take(at, Mark::Features) else {
+        return Ok((Vec::new(reader.alloc), at));
+    };
+    if let Some(nothing) = reader.take(next, Mark::Nothing) {
+        let end = reader.expect(nothing, Mark::Semicolon)?;
+        return Ok((Vec::new(reader.alloc), end));
+    }
+    let (first, next) = feature(reader, next, room)?;
+    let (mut found, end) = feature_list(reader, next, room)?;
+    found.insert(0, first)?;
+    Ok((found, end))
+}
+
+/// `id ":" category reference [ properties ] ";"`
+fn subcomponent(reader: &Reader<'_>, at: usize, room: usize) -> Parsed<Subcomponent>
+    ensures { Parses reader.now (Room room) (s.subcomponent ∷ [])
+        (λ x. subcomponent_parts (subcomponent_view kept_place x)) at result }
+{
+    let (name, next) = identifier(reader, at)?;
+    let colon = reader.expect(next, Mark::Colon)?;
+    let (category, next) = expect_category(reader, colon)?;
+    let (classifier, next) = reference(reader, next)?;
+    let (properties, next) = properties(reader, next, room)?;
+    let end = reader.expect(next, Mark::Semicolon)?;
+    let subcomponent = Subcomponent {
+        name,
+        category,
+        classifier,
+        properties,
+    };
+    Ok((subcomponent, end))
+}
+
+/// `{ subcomponent }`
+fn subcomponent_list(reader: &Reader<'_>, at: usize, room: usize) -> Parsed<Vec<Subcomponent>>
+    ensures { Parses reader.now (Room room) (s.subcomponent_list ∷ [])
+        (λ x. flat_map subcomponent_parts (map (subcomponent_view kept_place) x.items)) at result }
+{
+    let mut found = Vec::new(reader.alloc);
+    let mut rest = at;
+    while reader.is_word(rest) {
+        let (next, behind) = subcomponent(reader, rest, room)?;
+        found.push(next)?;
+        rest = behind;
+    }
+    Ok((found, rest))
+}
+
+/// `[ "subcomponents" ( "none" ";" | subcomponent { subcomponent } ) ]`
+pub fn subcomponents(reader: &Reader<'_>, at: usize, room: usize) -> Parsed<Vec<Subcomponent>>
+    ensures { Parses reader.now (Room room) (s.subcomponents ∷ [])
+        (λ x. section_parts subcomponent_section (flat_map subcomponent_parts (map (subcomponent_view kept_place) x.items))) at result }
+{
+    let Some(next) = reader.take(at, Mark::Subcomponents) else {
+        return Ok((Vec::new(reader.alloc), at));
+    };
+    if let Some(nothing) = reader.take(next, Mark::Nothing) {
+        let end = reader.expect(nothing, Mark::Semicolon)?;
+        return Ok((Vec::new(reader.alloc), end));
+    }
+    let (first, next) = subcomponent(reader, next, room)?;
+    let (mut found, end) = subcomponent_list(reader, next, room)?;
+    found.insert(0, first)?;
+    Ok((found, end))
+}
+
+/// `id [ "." id ]`
+fn connection_end(reader: &Reader<'_>, at: usize) -> Parsed<ConnectionEnd>
+    ensures { Parses reader.now AnyRoom (s.connection_end ∷ []) (λ x. end_parts (end_view kept_place x)) at result }
+{
+    let (first, next) = identifier(reader, at)?;
+    let (second, end) = dot_identifier(reader, next)?;
+    Ok((ConnectionEnd { first, second }, end))
+}
+
+/// `id ":" "port" end "->" end [ properties ] ";"`
+fn connection(reader: &Reader<'_>, at: usize, room: usize) -> Parsed<Connection>
+    ensures { Parses reader.now (Room room) (s.connection ∷ []) (λ x. connection_parts (connection_view kept_place x)) at result }
+{
+    let (name, next) = identifier(reader, at)?;
+    let colon = reader.expect(next, Mark::Colon)?;
+    let port = reader.expect(colon, Mark::Port)?;
+    let (source, next) = connection_end(reader, port)?;
+    let arrow = reader.expect(next, Mark::Arrow)?;
+    let (target, next) = connection_end(reader, arrow)?;
+    let (properties, next) = properties(reader, next, room)?;
+    let end = reader.expect(next, Mark::Semicolon)?;
+    let connection = Connection {
+        name,
+        source,
+        target,
+        properties,
+    };
+    Ok((connection, end))
+}
+
+/// `{ connection }`
+fn connection_list(reader: &Reader<'_>, at: usize, room: usize) -> Parsed<Vec<Connection>>
+    ensures { Parses reader.now (Room room) (s.connection_list ∷ [])
+        (λ x. flat_map connection_parts (map (connection_view kept_place) x.items)) at result }
+{
+    let mut found = Vec::new(reader.alloc);
+    let mut rest = at;
+    while reader.is_word(rest) {
+        let (next, behind) = connection(reader, rest, room)?;
+        found.push(next)?;
+        rest = behind;
+    }
+    Ok((found, rest))
+}
+
+/// `[ "connections" ( "none" ";" | connection { connection } ) ]`
+pub fn connections(reader: &Reader<'_>, at: usize, room: usize) -> Parsed<Vec<Connection>>
+    ensures { Parses reader.now (Room room) (s.connections ∷ [])
+        (λ x. section_parts connection_section (flat_map connection_parts (map (connection_view kept_place) x.items))) at result }
+{
+    let Some(next) = reader.take(at, Mark::Connections) else {
+        return Ok((Vec::new(reader.alloc), at));
+    };
+    if let Some(nothing) = reader.take(next, Mark::Nothing) {
+        let end = reader.expect(nothing, Mark::Semicolon)?;
+        return Ok((Vec::new(reader.alloc), end));
+    }
+    let (first, next) = connection(reader, next, room)?;
+    let (mut found, end) = connection_list(reader, next, room)?;
+    found.insert(0, first)?;
+    Ok((found, end))
+}
+
+/// `[ "properties" ( "none" ";" | property { property } ) ]`
+pub fn own_properties(reader: &Reader<'_>, at: usize, room: usize) -> Parsed<Vec<Association>>
+    ensures { Parses reader.now (Room room) (s.own_properties ∷ [])
+        (λ x. section_parts property_section (associations_parts (associations_view kept_place x.items))) at result }
+{
+    let Some(next) = reader.take(at, Mark::Properties) else {
+        return Ok((Vec::new(reader.alloc), at));
+    };
+    if let Some(nothing) = reader.take(next, Mark::Nothing) {
+        let end = reader.expect(nothing, Mark::Semicolon)?;
+        return Ok((Vec::new(reader.alloc), end));
+    }
+    let (first, next) = association(reader, next, room)?;
+    let (mut found, end) = associations(reader, next, room)?;
+    found.insert(0, first)?;
+    Ok((found, end))
+}

@@ -1,0 +1,4 @@
+pub mod Operators
+pub mod Acting
+pub mod Declaring
+pub mod Verdicts

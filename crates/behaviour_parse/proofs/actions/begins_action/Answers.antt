@@ -1,0 +1,19 @@
+use Rattle.std.proofs.Common.{refl}
+use Rattle.aadl_reader.proofs.Lists.{starts_at}
+use Rattle.behaviour_parse.proofs.Acting.{begins_by}
+use Rattle.aadl_tree.specs.declared.mark.Mark.TheVariants as k
+use Rattle.aadl_machine.specs.Symbols as s
+use Rattle.aadl_machine.specs.Machine.{move, depth, syntax_at, deep_at}
+use Rattle.behaviour_parse.proofs.actions.begins_action.Goals as goal
+
+pub returns-then-is_word : goal.returns-then-is_word
+unfolding move depth
+returns-then-is_word c = begins_by (starts_at (rw c.if-is_word.true at c.is_word.ensures)) refl
+
+pub returns-in-Some : goal.returns-in-Some
+unfolding move depth
+returns-in-Some c = begins_by c.in-Some.ensures refl
+
+pub returns-in-Some-take : goal.returns-in-Some-take
+unfolding move depth
+returns-in-Some-take c = begins_by c.in-Some-take.ensures refl
