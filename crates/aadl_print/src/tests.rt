@@ -1,12 +1,16 @@
 //! Trees made by hand, and their canonical texts.
-ghost use Rattle.std.specs.Prelude.{IsTrue};
+ghost use Rattle.std.specs.Prelude.{◌≡◌, IsTrue, IfOk};
+ghost use Rattle.aadl_tree.specs.NameViews.{name_view};
+ghost use Rattle.aadl_tree.specs.Maps.{kept_place};
+ghost use Rattle.aadl_print.specs.Example.{name_at};
 ghost use Rattle.aadl_lex.specs.Rules.{is_word};
 
 use crate::items::Print;
+use crate::print;
 use crate::printer::Printer;
 use aadl_tree::{
-    Action, Actions, Block, Expression, Factor, Guard, Identifier, Primary, Relation, Sign, Sum,
-    Term, Transition,
+    Action, Actions, Block, Expression, Factor, Guard, Identifier, Name, PackageTree, Primary,
+    Relation, Sign, Sum, Term, Transition,
 };
 use std::alloc::{AllocError, Global};
 use std::test::Fail;
@@ -93,5 +97,32 @@ fn a_transition_of_the_two_counters(rt: HostRuntime) -> Result<(), Fail> {
     let text = printed(alloc, &counting(alloc)?)?;
     let expected: &[u8] = b"s -[ on dispatch ]-> s { x := x + i + 1;\no!(x) };\n";
     assert!(rt; text.as_slice() == expected);
+    Ok(())
+}
+
+// `P`
+fn package_name(alloc: Global, at: u16) -> Result<Name, AllocError>
+    ensures { IfOk result (λ name. name_view kept_place name ≡ name_at at) }
+{
+    Ok(Name {
+        first: Identifier {
+            at: usize::from(at),
+            spelling: String::from_str(alloc, "P")?,
+        },
+        rest: Vec::new(alloc),
+    })
+}
+
+#[test]
+fn a_package_of_nothing(rt: HostRuntime) -> Result<(), Fail> {
+    let alloc = rt.alloc();
+    let tree = PackageTree {
+        name: package_name(alloc, 8)?,
+        withs: Vec::new(alloc),
+        declarations: Vec::new(alloc),
+        end_name: package_name(alloc, 21)?,
+    };
+    let expected: &[u8] = b"package P public\nend P;\n";
+    assert!(rt; print(alloc, &tree)?.as_slice() == expected);
     Ok(())
 }
