@@ -1,2 +1,3 @@
 pub mod Declaring
 pub mod Sections
+pub mod Verdicts

@@ -1,7 +1,70 @@
 //! Design texts, read into trees.
+//!
+//! [`parse`] gives the tree of a text, or its first lexical fault, or the fault at the least place
+//! among its tokens.
 #![tactic(auto)]
+
+ghost use Rattle.std.specs.Prelude.{ℕ, ◌≡◌, ◌≢◌, List, IfOk, IfErr};
+ghost use Rattle.aadl_tree.specs.Declarations.{PackageTree as Tree};
+ghost use Rattle.aadl_tree.specs.Given.{IsTreeOf};
+ghost use Rattle.aadl_tree.specs.PackageViews.{placed};
+ghost use Rattle.aadl_parse.specs.declared.fault.TextFault.{TextFault};
+ghost use Rattle.aadl_parse.specs.Texts.{IsOnlyTreeOf, IsFaultOfText};
 
 mod components;
 mod declarations;
+mod fault;
 
-pub use declarations::package;
+use aadl_lex::{LexFault, lex};
+use aadl_reader::{Reader, resolve};
+use aadl_tree::PackageTree;
+use declarations::{PackageParts, package};
+pub use fault::TextFault;
+use std::alloc::Global;
+
+/// How many openers may be open in a text.
+const ROOM: usize = 64;
+
+/// The tree of the text, or why it has none.
+pub fn parse(alloc: Global, text: &[u8]) -> Result<PackageTree, TextFault>
+    ensures tree { IfOk result (λ tree. IsOnlyTreeOf text.now (placed tree)) }
+    ensures fault { IfErr result (IsFaultOfText text.now) }
+{
+    let tokens = match lex(alloc, text) {
+        Ok(tokens) => tokens,
+        Err(LexFault::Memory) => return Err(TextFault::Memory),
+        Err(fault) => return Err(TextFault::Lex(fault)),
+    };
+    let terminals = resolve(alloc, false, text, tokens.as_slice())?;
+    let reader = Reader {
+        alloc,
+        text,
+        terminals: terminals.as_slice(),
+        end: text.len(),
+    };
+    let (parts, next) = package(&reader, 0, ROOM)?;
+    if next < terminals.len() {
+        return Err(TextFault::Syntax {
+            at: reader.place(next),
+        });
+    }
+    let PackageParts {
+        name,
+        withs,
+        declarations,
+        end_name,
+    } = parts;
+    Ok(PackageTree {
+        name,
+        withs,
+        declarations,
+        end_name,
+    })
+}
+
+/// A text has one tree or one fault, and never both.
+pub fn one_answer()
+    ensures tree { (text : List ℕ) (t u : Tree ℕ) → IsTreeOf text t → IsTreeOf text u → t ≡ u }
+    ensures fault { (text : List ℕ) (f g : TextFault) → f ≢ TextFault.Memory → g ≢ TextFault.Memory → IsFaultOfText text f → IsFaultOfText text g → f ≡ g }
+    ensures either { (text : List ℕ) (t : Tree ℕ) (f : TextFault) → f ≢ TextFault.Memory → IsTreeOf text t → ¬ IsFaultOfText text f }
+{}
