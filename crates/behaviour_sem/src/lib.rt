@@ -9,6 +9,3 @@ mod stop;
 mod transitions;
 
 pub use step::{fire, fire_into};
-
-#[cfg(test)]
-mod tests;

@@ -7,8 +7,6 @@ mod bound;
 mod divisors;
 pub mod laws;
 mod multiple;
-#[cfg(test)]
-mod tests;
 
 pub use bound::{backoff, least_period, meets};
 pub use multiple::least_multiple;

@@ -88,6 +88,3 @@ pub fn read(alloc: Global, bundle: &[u8], root: &Text) -> Result<(Design, u32), 
     }
     Ok((Design::new(parts), rounds))
 }
-
-#[cfg(test)]
-mod tests;

@@ -6,8 +6,6 @@ mod faster;
 mod group;
 pub mod laws;
 mod slower;
-#[cfg(test)]
-mod tests;
 
 ghost use Rattle.std.specs.Prelude.{◌≡◌, ◌/◌, ◌<◌, IfOk, slice_index_or};
 ghost use Rattle.pals_base.specs.declared.values.Port.TheVariants.{Absent};

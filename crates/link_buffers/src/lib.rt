@@ -7,8 +7,6 @@ pub mod laws;
 pub mod queue;
 mod ring;
 pub mod slot;
-#[cfg(test)]
-mod tests;
 
 pub use flight::Flight;
 pub use pals_model::FlightCopy;

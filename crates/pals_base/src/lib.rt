@@ -15,8 +15,6 @@ pub mod limits;
 pub mod names;
 pub mod rules;
 pub mod same;
-#[cfg(test)]
-mod tests;
 pub mod text;
 pub mod tuples;
 pub mod values;

@@ -5,7 +5,5 @@
 
 pub mod clock;
 pub mod laws;
-#[cfg(test)]
-mod tests;
 
 pub use clock::{ClockEnd, Clocks, ListClock};

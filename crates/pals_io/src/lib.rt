@@ -21,6 +21,3 @@ pub use reader::ReadSource;
 pub use streams::{Sink, Source};
 pub use transfers::{read_all, write_all};
 pub use writer::WriteSink;
-
-#[cfg(test)]
-mod tests;

@@ -17,6 +17,3 @@ pub use design::{Component, Design, DesignParts, Feed, Link, Tap};
 pub use flight::FlightCopy;
 pub use rounds::{Delays, Env, Part};
 pub use sources::PortSource;
-
-#[cfg(test)]
-mod tests;

@@ -82,7 +82,8 @@ fn set(variable: u32, value: Expr) -> Act {
     Act::Assign { variable, value }
 }
 
-fn send(value: Expr) -> Act {
+/// Sends a value on the first out port.
+pub fn send(value: Expr) -> Act {
     Act::Emit { port: 0, value }
 }
 
@@ -95,22 +96,31 @@ fn go(source: u32, target: u32, guard: Guard, acts: Vec<Act>) -> Transition {
     }
 }
 
-// A thread of one state, with the in port `i` and the out port `o`.
-fn counter(
-    rt: &impl Abort,
+/// The parts of a thread of one state, with the in port `i` and the out port `o`.
+pub fn counter_parts(
     alloc: Global,
     names: &[&str],
     acts: Vec<Act>,
-) -> Result<Behaviour, NoMemory> {
+) -> Result<BehaviourParts, NoMemory> {
     let step = go(0, 0, Guard::Dispatch, acts);
-    let parts = BehaviourParts {
+    Ok(BehaviourParts {
         ins: ports(alloc, &["i"])?,
         outs: ports(alloc, &["o"])?,
         vars: variables(alloc, names)?,
         states: Items::from_vec(vec![in alloc; state(alloc, "s", true)?]?),
         initial: 0,
         transitions: Items::from_vec(vec![in alloc; step]?),
-    };
+    })
+}
+
+/// That thread.
+pub fn counter(
+    rt: &impl Abort,
+    alloc: Global,
+    names: &[&str],
+    acts: Vec<Act>,
+) -> Result<Behaviour, NoMemory> {
+    let parts = counter_parts(alloc, names, acts)?;
     sound(rt, alloc, parts)
 }
 

@@ -1,7 +1,28 @@
-//! Rounds of worked designs, through the crates that build, step and print them.
+//! Tests above the crates on values, behaviours and designs: worked rounds, and each call that takes
+//! memory once where there is memory.
 #![tactic(auto)]
 
+#[cfg(test)]
+mod adaptors;
+#[cfg(test)]
+mod alarms;
+#[cfg(test)]
+mod bounds;
+#[cfg(test)]
+mod buffers;
+#[cfg(test)]
+mod bundles;
+#[cfg(test)]
+mod clocks;
+#[cfg(test)]
+mod design_calls;
 #[cfg(test)]
 mod designs;
 #[cfg(test)]
 mod rows;
+#[cfg(test)]
+mod steps;
+#[cfg(test)]
+mod streams;
+#[cfg(test)]
+mod values;

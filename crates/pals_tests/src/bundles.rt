@@ -1,4 +1,6 @@
-use super::*;
+//! Bundles that the small reader takes, and some that it refuses.
+use first_form::{ReadEnd, read};
+use pals_base::Text;
 use std::test::Fail;
 
 const COUNTERS: &str = "package Two

@@ -1,5 +1,8 @@
-use super::*;
+//! Worked tuples that go over to another rate.
+use input_adaptors::adapt;
 use pals_base::Port::{self, Absent, Present};
+use pals_base::{Adaptor, NoMemory, Tuple};
+use std::alloc::Global;
 use std::test::Fail;
 
 // The places that a tuple goes over to.

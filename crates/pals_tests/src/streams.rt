@@ -1,5 +1,8 @@
 //! What no clause says: that calls succeed, the printed texts, and std's readers and writers.
-use super::*;
+use pals_io::{
+    Failed, MemSink, MemSource, ReadEnd, ReadSource, Source, WriteFault, WriteSink, read_all,
+    write_all,
+};
 use std::alloc::{AllocError, Global};
 use std::io;
 use std::io::{ErrorKind, Read, Write};

@@ -1,5 +1,6 @@
-use crate::clock::{ClockEnd, ListClock};
+//! Clocks that are lists of readings, call by call.
 use pals_base::{Items, NoMemory};
+use pals_clock::{ClockEnd, ListClock};
 use std::alloc::Global;
 use std::test::Fail;
 

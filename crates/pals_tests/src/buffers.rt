@@ -1,4 +1,5 @@
-use crate::{DueEntry, DueQueue, Flight, Slot};
+//! Slots, flights and queues of due messages, call by call.
+use link_buffers::{DueEntry, DueQueue, Flight, Slot};
 use pals_base::{Items, LinkNo, NoMemory, Port, Tuple};
 use std::alloc::Global;
 use std::test::Fail;

@@ -1,4 +1,5 @@
-use super::*;
+//! The bound, by worked numbers.
+use bound_checker::{backoff, least_multiple, least_period, meets};
 use pals_base::{Gamma, Nanos};
 use std::test::Fail;
 
