@@ -12,9 +12,11 @@ use Rattle.aadl_tree.specs.declared.mark.Mark.TheVariants as k
 use Rattle.aadl_tree.specs.Marks.{mark_text}
 use Rattle.aadl_tree.specs.Kinds.{Kind, mark}
 use Rattle.aadl_tree.specs.Canon.{kind_text}
-use Rattle.aadl_machine.proofs.Basics.{both_left, both_right}
+use Rattle.aadl_lex.proofs.Basics.{both_left, both_right}
 use Rattle.aadl_canon.proofs.Firsts.{other_bytes}
-use Rattle.aadl_canon.proofs.Literals.{IsReal, IsString, number_digits}
+use Rattle.aadl_lex.proofs.Closes.{and_none, none_parts}
+use Rattle.aadl_lex.specs.Spelled.{IsReal, IsString}
+use Rattle.aadl_canon.proofs.Literals.{number_digits}
 use Rattle.aadl_canon.proofs.Spoken.{Spoken, a_word, a_number, a_real, a_string, a_keyword, a_symbol, closes}
 use Rattle.aadl_canon.proofs.Tokens.{Ends, IsPlain, keyword_is_word}
 
@@ -32,19 +34,11 @@ star_past : (s : List ℕ) (n : ℕ) → Ends (mark k.Star) s → close_from n (
 star_past [] n e = refl
 star_past (h ∷ t) n e = rw e refl
 
-pub and_none : (a : Bool) → (a && false) ≡ false
-and_none true = refl
-and_none false = refl
-
 -- where a `**}` begins hangs on three bytes
 starts_same : (c : ℕ) (w s : List ℕ) → starts_with nat_eq (c ∷ (w ++ 34 ∷ [])) (codes "**}") ≡ false → starts_with nat_eq (c ∷ (w ++ 34 ∷ s)) (codes "**}") ≡ false
 starts_same c [] s e = and_none (42 == c)
 starts_same c (d ∷ []) s e = ap (λ b. (42 == c) && b) (and_none (42 == d)) ∙ and_none (42 == c)
 starts_same c (d ∷ (f ∷ w)) s e = e
-
-pub none_parts : (b : Bool) (x : ℕ) (y : Option ℕ) → cond b (Some x) y ≡ None → (b ≡ false) × (y ≡ None)
-none_parts true x y e = absurd cc
-none_parts false x y e = (refl, e)
 
 -- a string has no `**}` in it, and ends with a quote
 string_past : (w s : List ℕ) (n m : ℕ) → close_from m (w ++ 34 ∷ []) ≡ None → close_from n (w ++ 34 ∷ s) ≡ close_from (n + length w + 1) s

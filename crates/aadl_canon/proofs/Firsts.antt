@@ -10,11 +10,12 @@ use Rattle.aadl_lex.specs.declared.fault.LexFault.TheVariants.{LongName}
 use Rattle.aadl_lex.specs.declared.rules.First.{First}
 use Rattle.aadl_lex.specs.declared.rules.First.TheVariants.{Skipped, Taken, Refused}
 use Rattle.aadl_lex.specs.declared.rules.Reading.{Reading}
-use Rattle.aadl_lex.specs.Rules.{is_blank, is_in_word, run, longest_name, is_word, first}
+use Rattle.aadl_lex.specs.declared.token.TheConstants.{NAME_BYTES}
+use Rattle.aadl_lex.specs.Rules.{is_blank, is_in_word, run, is_word, first}
 use Rattle.aadl_tree.specs.declared.mark.Mark.{Mark}
 use Rattle.aadl_tree.specs.declared.mark.Mark.TheVariants as k
 use Rattle.aadl_tree.specs.Marks.{mark_text, symbol_of}
-use Rattle.aadl_machine.proofs.Basics.{both_left, both_right}
+use Rattle.aadl_lex.proofs.Basics.{both_left, both_right}
 
 -- a byte that passes a test is none that does not
 pub other_byte : (p : ℕ → Bool) (c d : ℕ) → p c ≡ true → p d ≡ false → (c == d) ≡ false
@@ -76,7 +77,7 @@ fourth false true c d x y z w v e f g h = absurd cc
 fourth true b c d x y z w v e f g h = absurd cc
 
 -- a letter begins a word
-letter_goes : (r : Reading) (at c : ℕ) (s : List ℕ) → is_ascii_alphabetic c ≡ true → nat_le (run is_in_word (c ∷ s)) longest_name ≡ true → first r at (c ∷ s) ≡ Taken Word (run is_in_word (c ∷ s))
+letter_goes : (r : Reading) (at c : ℕ) (s : List ℕ) → is_ascii_alphabetic c ≡ true → nat_le (run is_in_word (c ∷ s)) NAME_BYTES ≡ true → first r at (c ∷ s) ≡ Taken Word (run is_in_word (c ∷ s))
 unfolding first
 letter_goes r at c s letter short =
     let v : Visible is_ascii_alphabetic = record { space = refl; tab = refl; line = refl; return = refl; dash = refl } in
@@ -88,9 +89,9 @@ word_first r at [] rest w stop = absurd cc
 word_first r at (c ∷ cs) rest w stop =
     let letter : is_ascii_alphabetic c ≡ true = both_left (is_ascii_alphabetic c) _ (both_left (is_ascii_alphabetic c && list_all is_in_word (c ∷ cs)) _ w) in
     let all : list_all is_in_word (c ∷ cs) ≡ true = both_right (is_ascii_alphabetic c) _ (both_left (is_ascii_alphabetic c && list_all is_in_word (c ∷ cs)) _ w) in
-    let short : nat_le (length (c ∷ cs)) longest_name ≡ true = both_right (is_ascii_alphabetic c && list_all is_in_word (c ∷ cs)) _ w in
+    let short : nat_le (length (c ∷ cs)) NAME_BYTES ≡ true = both_right (is_ascii_alphabetic c && list_all is_in_word (c ∷ cs)) _ w in
     let len = run_all is_in_word (c ∷ cs) rest all stop in
-    letter_goes r at c (cs ++ rest) letter (ap (λ n. nat_le n longest_name) len ∙ short) ∙ ap (λ n. Taken Word n) len
+    letter_goes r at c (cs ++ rest) letter (ap (λ n. nat_le n NAME_BYTES) len ∙ short) ∙ ap (λ n. Taken Word n) len
 
 -- what goes on with a symbol; or with `*` to a `**}`
 abbrev pub extends : Mark → ℕ → Bool

@@ -5,8 +5,8 @@ use Rattle.aadl_machine.specs.Symbols.{Class, Symbol, Row}
 use Rattle.aadl_machine.specs.Symbols as s
 use Rattle.aadl_machine.specs.Table.{rows, can_omit}
 use Rattle.aadl_machine.specs.Machine.{class_number}
-use Rattle.aadl_machine.proofs.Basics.{both_left, both_right}
-use Rattle.aadl_machine.proofs.Derivations.{Member}
+use Rattle.aadl_lex.proofs.Basics.{both_left, both_right}
+use Rattle.aadl_machine.proofs.Derived.Derivations.{Member}
 use Rattle.aadl_canon.proofs.Guards.{neat, on_top, last_of, seam, Guard}
 
 abbrev pub is_only : ℕ → Symbol → Bool

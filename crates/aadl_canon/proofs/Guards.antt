@@ -6,8 +6,8 @@ use Rattle.aadl_tree.specs.Kinds.{Kind}
 use Rattle.aadl_machine.specs.Symbols.{Symbol, Row}
 use Rattle.aadl_machine.specs.Table.{rows, can_omit}
 use Rattle.aadl_machine.specs.Machine.{Stack, class_number, kind_number}
-use Rattle.aadl_machine.proofs.Basics.{both_left, both_right}
-use Rattle.aadl_machine.proofs.Derivations.{Member, Derives, nothing, take, omit}
+use Rattle.aadl_lex.proofs.Basics.{both_left, both_right}
+use Rattle.aadl_machine.proofs.Derived.Derivations.{Member, Derives, nothing, take, omit}
 
 -- symbols one below the other
 abbrev pub neat : (Symbol → Symbol → Bool) → Stack → Bool

@@ -13,7 +13,8 @@ use Rattle.aadl_tree.specs.declared.mark.Mark.{Mark}
 use Rattle.aadl_tree.specs.declared.mark.Mark.TheVariants as k
 use Rattle.aadl_tree.specs.Marks.{mark_text, keywords, symbols, keyword_of, symbol_of}
 use Rattle.aadl_tree.specs.Kinds.{mark}
-use Rattle.aadl_machine.proofs.Basics.{heads, tails, some_is}
+use Rattle.aadl_lex.proofs.Basics.{some_is}
+use Rattle.aadl_machine.proofs.Basics.{heads, tails}
 use Rattle.aadl_canon.proofs.Spoken.{is_inside, behind}
 use Rattle.aadl_canon.proofs.Tokens.{keyword_then, symbol_then}
 

@@ -11,9 +11,7 @@ pub mod Meets
 pub mod Closes
 pub mod Pieces
 pub mod Lexing
-pub mod Shapes
 pub mod Keywords
 pub mod Sayings
-pub mod Texts
 pub mod Utf8
 pub mod Reading

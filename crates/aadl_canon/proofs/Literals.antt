@@ -14,8 +14,10 @@ use Rattle.aadl_lex.specs.declared.rules.First.TheVariants.{Taken, Body, Refused
 use Rattle.aadl_lex.specs.declared.rules.Reading.{Reading}
 use Rattle.aadl_lex.specs.declared.rules.Reading.TheVariants.{Outside, AfterName}
 use Rattle.aadl_lex.specs.Rules.{is_blank, is_in_string, run, whole_len, decimal, decimal_from, most, real_len, number_by, close_from, annex_by, first}
+use Rattle.aadl_lex.specs.Spelled.{IsReal, IsString, IsUnread}
+use Rattle.aadl_lex.proofs.Closes.{unread_ends}
 use Rattle.aadl_lex.proofs.Scans.{more_by, decimal_cons}
-use Rattle.aadl_machine.proofs.Basics.{both_left, both_right}
+use Rattle.aadl_lex.proofs.Basics.{both_left, both_right}
 use Rattle.aadl_canon.proofs.Firsts.{stops, run_all, Visible, not_blank, not_comment, fourth}
 
 pub at_seam : (w rest : List ℕ) → get_or (w ++ rest) (length w) 0 ≡ get_or rest 0 0
@@ -136,16 +138,6 @@ number_some n fits = (says n (omega arith)).some
 pub number_digits : (n : ℕ) → n ≤ most → list_all is_ascii_digit (fmt.decimal n) ≡ true
 number_digits n fits = (says n (omega arith)).digits
 
--- digits, a point, and digits
-pub record IsReal (b : List ℕ) : Type 0 where
-  pub whole : List ℕ
-  pub fraction : List ℕ
-  pub spelled : b ≡ whole ++ 46 ∷ fraction
-  pub has_whole : 0 < length whole
-  pub has_fraction : 0 < length fraction
-  pub whole_digits : list_all is_ascii_digit whole ≡ true
-  pub fraction_digits : list_all is_ascii_digit fraction ≡ true
-
 with_fraction : (a : Bool) (m n k : ℕ) → a ≡ true → 0 < m → n ≡ k → cond (a && nat_lt 0 m) (Some n) None ≡ Some k
 with_fraction true m n k e h f = ap (λ b. cond b (Some n) None) (lt-ltb 0 m h) ∙ ap Some f
 with_fraction false m n k e h f = absurd cc
@@ -175,12 +167,6 @@ real_first r at b rest h stop =
     (ap (λ (l : List ℕ). number_by at l (real_len l)) (sym (append_assoc h.whole (46 ∷ h.fraction) rest))
     ∙ ap (number_by at ((h.whole ++ 46 ∷ h.fraction) ++ rest)) (is_real h.whole h.fraction rest h.has_fraction h.whole_digits h.fraction_digits stop)))
 
--- a quote, bytes of one line, and a quote
-pub record IsString (b : List ℕ) : Type 0 where
-  pub inner : List ℕ
-  pub spelled : b ≡ 34 ∷ (inner ++ 34 ∷ [])
-  pub line : list_all is_in_string inner ≡ true
-
 closed_string : (a : Bool) (x y : First) → a ≡ true → cond a x y ≡ x
 closed_string true x y e = refl
 closed_string false x y e = absurd cc
@@ -199,24 +185,15 @@ string_first r at b rest h =
     (ap (λ (l : List ℕ). first r at (34 ∷ l)) (append_assoc h.inner (34 ∷ []) rest) ∙ string_goes r at h.inner rest h.line
     ∙ ap (Taken Quoted) (let e : length (h.inner ++ 34 ∷ []) ≡ length h.inner + 1 = length-append h.inner (34 ∷ []) in let g : length h.inner + 2 ≡ suc (length (h.inner ++ 34 ∷ [])) = omega arith in g))
 
--- `{**`, and bytes of which the first `**}` is at their end
-pub record IsUnread (b : List ℕ) : Type 0 where
-  pub body : List ℕ
-  pub size : ℕ
-  pub spelled : b ≡ 123 ∷ 42 ∷ 42 ∷ body
-  pub whole : length body ≡ size + 3
-  pub closes : (rest : List ℕ) → close_from 0 (body ++ rest) ≡ Some size
-  pub front : List ℕ
-  pub last : body ≡ front ++ 125 ∷ []
-
 unread_goes : (at n : ℕ) (s : List ℕ) → close_from 0 s ≡ Some n → first Outside at (123 ∷ 42 ∷ 42 ∷ s) ≡ Taken Unread (n + 6)
 unfolding first
 unread_goes at n s e = ap (annex_by Outside at) e
 
 pub unread_first : (at : ℕ) (b rest : List ℕ) → IsUnread b → first Outside at (b ++ rest) ≡ Taken Unread (length b)
 unread_first at b rest h =
+    let size = length-append h.inner (codes "**}") in
     subst (λ (l : List ℕ). first Outside at (l ++ rest) ≡ Taken Unread (length l)) (sym h.spelled)
-    (unread_goes at h.size (h.body ++ rest) (h.closes rest) ∙ ap (Taken Unread) (let e = h.whole in let g : h.size + 6 ≡ suc (suc (suc (length h.body))) = omega arith in g))
+    (unread_goes at (length h.inner) ((h.inner ++ codes "**}") ++ rest) (unread_ends b rest h) ∙ ap (Taken Unread) (let g : length h.inner + 6 ≡ suc (suc (suc (length (h.inner ++ codes "**}")))) = omega arith in g))
 
 pub body_first : (at n : ℕ) (s : List ℕ) → close_from 0 s ≡ Some n → first AfterName at (123 ∷ 42 ∷ 42 ∷ s) ≡ Body n
 unfolding first

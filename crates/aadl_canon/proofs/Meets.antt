@@ -12,7 +12,7 @@ use Rattle.aadl_tree.specs.Marks.{mark_text, mark_number}
 use Rattle.aadl_tree.specs.Kinds.{Kind, whole, mark}
 use Rattle.aadl_tree.specs.Canon.{kind_text, holds_left, holds_right, ends_line, line_end, text_behind}
 use Rattle.aadl_machine.specs.Machine.{kind_number}
-use Rattle.aadl_machine.proofs.Basics.{both_left}
+use Rattle.aadl_lex.proofs.Basics.{both_left}
 use Rattle.aadl_canon.proofs.SideBySide.{may_stand_behind, AreNeighbours}
 use Rattle.aadl_canon.proofs.Firsts.{other_bytes}
 use Rattle.aadl_canon.proofs.Spoken.{Spoken, a_word, Said}

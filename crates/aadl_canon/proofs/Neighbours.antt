@@ -8,7 +8,7 @@ use Rattle.aadl_tree.specs.Kinds.{Kind}
 use Rattle.aadl_machine.specs.Symbols.{Class, a_word, a_whole, a_real, a_quoted, an_unread, the, Symbol}
 use Rattle.aadl_machine.specs.Symbols as s
 use Rattle.aadl_machine.specs.Machine.{class_number, kind_number, whole_package}
-use Rattle.aadl_machine.proofs.Derivations.{Derives}
+use Rattle.aadl_machine.proofs.Derived.Derivations.{Derives}
 use Rattle.aadl_canon.proofs.SideBySide.{of_class, AreNeighbours}
 use Rattle.aadl_canon.proofs.Guards.{neat, on_top, seam, Guard, Beside, guarded}
 use Rattle.aadl_canon.proofs.Forms.{after_check, after_beside, after_guard, before_check, before_beside, before_guard}

@@ -17,18 +17,18 @@ use Rattle.aadl_tree.specs.Canon.{canon, canonical}
 use Rattle.aadl_tree.proofs.Parts.{written_spells, kept_spells}
 use Rattle.aadl_machine.specs.Machine.{whole_package}
 use Rattle.aadl_machine.specs.Moved.{Behind, Rising}
-use Rattle.aadl_machine.proofs.Alike.{alike_kept}
-use Rattle.aadl_machine.proofs.DeclarationPlaces.{package_alike}
-use Rattle.aadl_machine.proofs.Derivations.{Derives}
+use Rattle.aadl_machine.proofs.Places.Alike.{alike_kept}
+use Rattle.aadl_machine.proofs.Places.Declarations.{package_alike}
+use Rattle.aadl_machine.proofs.Derived.Derivations.{Derives}
 use Rattle.aadl_machine.proofs.Placed.All.{one_placed_package}
 use Rattle.aadl_machine.proofs.Placed.Canons.{same_package}
-use Rattle.aadl_machine.proofs.Starts.{packages}
+use Rattle.aadl_machine.proofs.Fates.Starts.{packages}
 use Rattle.aadl_canon.specs.Reads.{HasTree}
 use Rattle.aadl_canon.proofs.Neighbours.{neighbours}
 use Rattle.aadl_canon.proofs.Shallow.{kept_shallow}
 use Rattle.aadl_canon.proofs.Spoken.{Said, kept_said}
 use Rattle.aadl_canon.proofs.Lexing.{outer}
-use Rattle.aadl_canon.proofs.Texts.{text_said}
+use Rattle.aadl_canon.proofs.Sayings.{text_said}
 use Rattle.aadl_canon.proofs.Utf8.{text_utf8}
 
 -- tokens in order stand one behind the other
@@ -60,7 +60,7 @@ reads_back text tree h =
     let first = kinds_of (spots text h.tokens) in
     let spelled : Spells parts first [] = written_spells parts (spots text h.tokens) [] h.written in
     let near = neighbours first (derived tree first spelled) in
-    let said : Said Outside (kept parts) = kept_said parts 0 Outside first spelled near (text_said text h.tokens 0 h.lexed near) in
+    let said : Said Outside (kept parts) = kept_said parts 0 Outside first spelled near (text_said text h.tokens h.lexed) in
     let again : Spells parts (kept parts) [] = subst (λ (l : List Kind). Spells parts l []) (append-nil (kept parts)) (kept_spells parts []) in
     let beside = neighbours (kept parts) (derived tree (kept parts) again) in
     let lexed = outer (mark k.ParenOpen) (kept parts) Outside (canon tree) 0 refl (refl, beside.1) said refl in

@@ -3,19 +3,20 @@ use Rattle.std.proofs.Common.{◌≡◌, ℕ, ◌≤◌, Bool, true, false, ap, 
 use Rattle.aadl_tree.specs.declared.mark.Mark.TheVariants as k
 use Rattle.aadl_tree.specs.Kinds.{Kind, mark}
 use Rattle.aadl_tree.specs.Parts.{Part, token, may, feature_section, subcomponent_section, connection_section, property_section, Extra, empty_section, last_semicolon, extra_kinds, Spells, kept}
-use Rattle.aadl_tree.specs.Grammar.{opened, is_end, nesting_from, greatest_nesting, IsShallow}
+use Rattle.aadl_tree.specs.declared.limits.TheConstants.{GREATEST_NESTING}
+use Rattle.aadl_tree.specs.Grammar.{opened, is_end, nesting_from, IsShallow}
 
 -- nowhere are too many open, where n are open before
 abbrev Low : ℕ → Bool → List Kind → Type 0
-Low n ended [] = n ≤ greatest_nesting
-Low n ended (kind ∷ ks) = (n ≤ greatest_nesting) × Low (opened n ended kind) (is_end kind) ks
+Low n ended [] = n ≤ GREATEST_NESTING
+Low n ended (kind ∷ ks) = (n ≤ GREATEST_NESTING) × Low (opened n ended kind) (is_end kind) ks
 
-low_front : (n : ℕ) (ended : Bool) (front back : List Kind) → Low n ended (front ++ back) → nesting_from n ended front ≤ greatest_nesting
+low_front : (n : ℕ) (ended : Bool) (front back : List Kind) → Low n ended (front ++ back) → nesting_from n ended front ≤ GREATEST_NESTING
 low_front n ended [] [] h = h
 low_front n ended [] (kind ∷ ks) h = h.0
 low_front n ended (kind ∷ front) back h = low_front (opened n ended kind) (is_end kind) front back h.1
 
-front_low : (n : ℕ) (ended : Bool) (ks : List Kind) → ((front back : List Kind) → ks ≡ front ++ back → nesting_from n ended front ≤ greatest_nesting) → Low n ended ks
+front_low : (n : ℕ) (ended : Bool) (ks : List Kind) → ((front back : List Kind) → ks ≡ front ++ back → nesting_from n ended front ≤ GREATEST_NESTING) → Low n ended ks
 front_low n ended [] h = h [] [] refl
 front_low n ended (kind ∷ ks) h = (h [] (kind ∷ ks) refl, front_low (opened n ended kind) (is_end kind) ks (λ front back e. h (kind ∷ front) back (ap (λ l. kind ∷ l) e)))
 

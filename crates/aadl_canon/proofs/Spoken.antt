@@ -13,7 +13,7 @@ use Rattle.aadl_tree.specs.Kinds.{Kind, word, whole, real, quoted, unread, mark}
 use Rattle.aadl_tree.specs.Parts.{Part, token, may, feature_section, subcomponent_section, connection_section, property_section, Extra, empty_section, last_semicolon, extra_kinds, Spells, kept}
 use Rattle.aadl_machine.specs.Machine.{kind_number}
 use Rattle.aadl_canon.proofs.SideBySide.{may_stand_behind, AreNeighbours}
-use Rattle.aadl_canon.proofs.Literals.{IsReal, IsString, IsUnread}
+use Rattle.aadl_lex.specs.Spelled.{IsReal, IsString, IsUnread}
 
 abbrev pub is_inside : Reading → Bool
 is_inside Inside = true

@@ -1,5 +1,9 @@
+pub mod Basics
 pub mod Order
 pub mod Scans
 pub mod Unique
 pub mod Within
 pub mod Words
+pub mod Closes
+pub mod Shapes
+pub mod Spelled

@@ -11,15 +11,9 @@ use Rattle.std.specs.Char.{is_ascii_digit, is_ascii_alphabetic}
 use Rattle.aadl_lex.specs.declared.rules.First.{First}
 use Rattle.aadl_lex.specs.declared.rules.Reading.{Reading}
 use Rattle.aadl_lex.specs.declared.rules.Reading.TheVariants.{Outside, AfterName, Inside}
-use Rattle.aadl_lex.specs.Rules.{run, is_in_line, is_in_word, is_in_string, is_blank, longest_name, word_first, whole_len, decimal, most, whole_first, real_len, number_by, number_first, string_first, close_from, body_len, annex_by, annex_first, can_open, symbols_of_three, symbols_of_two, symbols_of_one, symbol_len, symbol_first, first, IsWithin}
-
-and_first : (a b : Bool) → (a && b) ≡ true → a ≡ true
-and_first true b h = refl
-and_first false b h = h
-
-and_second : (a b : Bool) → (a && b) ≡ true → b ≡ true
-and_second true b h = h
-and_second false b h = absurd cc
+use Rattle.aadl_lex.specs.declared.token.TheConstants.{NAME_BYTES}
+use Rattle.aadl_lex.proofs.Basics.{both_left, both_right}
+use Rattle.aadl_lex.specs.Rules.{run, is_in_line, is_in_word, is_in_string, is_blank, word_first, whole_len, decimal, most, whole_first, real_len, number_by, number_first, string_first, close_from, body_len, annex_by, annex_first, can_open, symbols_of_three, symbols_of_two, symbols_of_one, symbol_len, symbol_first, first, IsWithin}
 
 or_second : (a b : Bool) → a ≡ false → (a || b) ≡ true → b ≡ true
 or_second true b e h = absurd cc
@@ -68,8 +62,8 @@ any_le : (s : List ℕ) (n : ℕ) (symbols : List (List ℕ)) → list_all (λ x
 any_le s n [] all h = absurd cc
 any_le s n (x ∷ xs) all h =
     by_test (starts_with nat_eq s x) (n ≤ length s)
-    (λ holds. let within = begins_le s x holds in let len : (length x == n) ≡ true = and_first (length x == n) (list_all (λ y. length y == n) xs) all in grind (arith, nat_tests))
-    (λ not_this. any_le s n xs (and_second (length x == n) (list_all (λ y. length y == n) xs) all) (or_second (starts_with nat_eq s x) (list_any (starts_with nat_eq s) xs) not_this h))
+    (λ holds. let within = begins_le s x holds in let len : (length x == n) ≡ true = both_left (length x == n) (list_all (λ y. length y == n) xs) all in grind (arith, nat_tests))
+    (λ not_this. any_le s n xs (both_right (length x == n) (list_all (λ y. length y == n) xs) all) (or_second (starts_with nat_eq s x) (list_any (starts_with nat_eq s) xs) not_this h))
 
 comment_dash : (s : List ℕ) → 0 < length s → starts_with nat_eq s (codes "--") ≡ true → get_or s 0 0 ≡ 45
 comment_dash [] some h = absurd (omega arith)
@@ -94,7 +88,7 @@ symbol_within at s some = if_within (symbol_len s == 0) (length s) _ _ (λ _. tt
 
 word_within : (at : ℕ) (s : List ℕ) → 0 < length s → is_ascii_alphabetic (get_or s 0 0) ≡ true → IsWithin (length s) (word_first at s)
 word_within at s some h =
-    if_within (nat_le (run is_in_word s) longest_name) (length s) _ _
+    if_within (nat_le (run is_in_word s) NAME_BYTES) (length s) _ _
     (λ _. (run_some is_in_word s some (rw h refl), run_le is_in_word s)) (λ _. tt)
 
 whole_within : (at : ℕ) (s : List ℕ) → 0 < length s → is_ascii_digit (get_or s 0 0) ≡ true → IsWithin (length s) (whole_first at (take (whole_len s) s))
@@ -115,7 +109,7 @@ real_within s n e =
     let fraction = run is_ascii_digit (drop (whole + 1) s) in
     by_test (get_or s whole 0 == 46 && nat_lt 0 fraction) ((0 < n) × (n ≤ length s))
     (λ holds.
-    let some : nat_lt 0 fraction ≡ true = and_second (get_or s whole 0 == 46) (nat_lt 0 fraction) holds in
+    let some : nat_lt 0 fraction ≡ true = both_right (get_or s whole 0 == 46) (nat_lt 0 fraction) holds in
     let positive : 0 < fraction = grind (arith, nat_tests) in
     let same : Some (whole + 1 + fraction) ≡ Some n = rw holds at e in
     let len : whole + 1 + fraction ≡ n = cc in
@@ -158,5 +152,5 @@ first_within reading at s some =
     (λ not_word. if_within (is_ascii_digit (get_or s 0 0)) len _ _ (number_within at s some)
     (λ not_number. if_within (get_or s 0 0 == 34) len _ _ (λ _. string_within at s)
     (λ not_string. if_within (starts_with nat_eq s (codes "{**") && can_open reading) len _ _
-    (λ opens. annex_within reading at s (begins_le s (codes "{**") (and_first (starts_with nat_eq s (codes "{**")) (can_open reading) opens)))
+    (λ opens. annex_within reading at s (begins_le s (codes "{**") (both_left (starts_with nat_eq s (codes "{**")) (can_open reading) opens)))
     (λ closed. symbol_within at s some))))))

@@ -3,6 +3,7 @@ use Rattle.std.specs.Prelude.{ℕ, ◌+◌, ◌-◌, ◌*◌, ◌==◌, Bool, tr
 use Rattle.std.specs.List.{starts_with, list_any, list_all}
 use Rattle.std.specs.Char.{is_ascii_alphabetic, is_ascii_digit}
 use Rattle.std.specs.Str.{str_eq_ignore_ascii_case}
+use Rattle.aadl_lex.specs.declared.token.TheConstants.{NAME_BYTES}
 use Rattle.aadl_lex.specs.declared.token.TokenKind.{TokenKind}
 use Rattle.aadl_lex.specs.declared.token.TokenKind.TheVariants.{Word, Whole, Real, Quoted, Symbol, Unread}
 use Rattle.aadl_lex.specs.declared.fault.LexFault.TheVariants.{BadByte, OpenString, OpenAnnex, BigNumber, LongName}
@@ -31,16 +32,13 @@ is_in_string c = not (c == 34) && not (c == 10)
 abbrev pub run : (ℕ → Bool) → List ℕ → ℕ
 run p s = length (take_while p s)
 
--- A word is the longest run of its bytes, and has 64 at most.
-abbrev pub longest_name : ℕ
-longest_name = 64
-
 -- the bytes are a word, from its letter to its end
 abbrev pub is_word : List ℕ → Bool
-is_word s = is_ascii_alphabetic (slice_index s 0) && list_all is_in_word s && nat_le (length s) longest_name
+is_word s = is_ascii_alphabetic (slice_index s 0) && list_all is_in_word s && nat_le (length s) NAME_BYTES
 
+-- A word is the longest run of its bytes.
 abbrev pub word_first : ℕ → List ℕ → First
-word_first at s = if nat_le (run is_in_word s) longest_name then Taken Word (run is_in_word s) else Refused (LongName at)
+word_first at s = if nat_le (run is_in_word s) NAME_BYTES then Taken Word (run is_in_word s) else Refused (LongName at)
 
 -- A whole number is digits, with a `_` only before a digit.
 abbrev pub whole_len : List ℕ → ℕ

@@ -8,7 +8,8 @@ ghost use Rattle.std.specs.Prelude.{ℕ, ◌≡◌, ◌≢◌, ◌+◌, ◌<◌,
 ghost use Rattle.std.specs.Str.{IsUtf8};
 ghost use Rattle.aadl_lex.specs.declared.fault.LexFault.{LexFault};
 ghost use Rattle.aadl_lex.specs.declared.token.Token.{Token};
-ghost use Rattle.aadl_lex.specs.Spelled.{IsWordAt, AreAmongTokensOf};
+ghost use Rattle.aadl_lex.specs.declared.rules.Reading.TheVariants.{Outside};
+ghost use Rattle.aadl_lex.specs.Spelled.{IsWordAt, AreAmongTokensOf, AreSpelled};
 ghost use Rattle.aadl_lex.specs.Tokens.{Lexes, Faults, AreTokensOf, AreInOrder, IsFaultOf};
 
 mod fault;
@@ -20,7 +21,7 @@ pub use fault::LexFault;
 use rules::{First, Reading, front};
 use std::alloc::Global;
 use std::str;
-pub use token::{Token, TokenKind};
+pub use token::{NAME_BYTES, Token, TokenKind};
 
 /// The tokens of the text, or its first fault. That the text is no UTF-8 goes before all else.
 pub fn lex(alloc: Global, text: &[u8]) -> Result<Vec<Token>, LexFault>
@@ -85,11 +86,13 @@ pub fn tokens_in_order()
     ensures within { (text : List ℕ) (ts : List Token) → AreTokensOf text ts → All (λ t. (t.start < t.end) × (t.end ≤ length text)) ts }
 {}
 
-/// Each word of a text is a letter, and letters, digits and `_` behind it; 64 bytes at most.
+/// Each token of a text is spelled as its class says: a word is a letter, and letters, digits and `_`
+/// behind it, [`NAME_BYTES`] at most; a whole number is digits with single `_` between them, of its
+/// value; a real is digits, a point and digits; a string is on one line, with no quote inside; a
+/// symbol is one of the thirty; an annex of another language ends at its first `**}`. A `{**` whose
+/// tokens follow stands behind the word `behavior_specification`, and ends at the first `**}`.
 pub fn tokens_are_as_written()
+    ensures all { (text : List ℕ) (ts : List Token) → AreTokensOf text ts → AreSpelled text Outside ts }
     ensures word { (text : List ℕ) (ts : List Token) → AreTokensOf text ts → All (IsWordAt text) ts }
     ensures among { (text : List ℕ) (ts : List Token) → AreAmongTokensOf text ts → All (IsWordAt text) ts }
 {}
-
-#[cfg(test)]
-mod tests;

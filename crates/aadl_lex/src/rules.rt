@@ -6,10 +6,7 @@ ghost use Rattle.aadl_lex.specs.Rules.{IsWithin};
 
 use crate::fault::LexFault;
 use crate::scan;
-use crate::token::TokenKind;
-
-/// The most bytes of a word.
-const LONGEST_NAME: usize = 64;
+use crate::token::{NAME_BYTES, TokenKind};
 
 /// How a text is read at a place.
 #[derive(Clone, Copy, Debug, PartialEq, Eq)]
@@ -60,7 +57,7 @@ fn word_first(text: &[u8], at: usize) -> First
     ensures { result ≡ spec.word_first at text.now }
 {
     let len = scan::word_len(text);
-    if len <= LONGEST_NAME {
+    if len <= NAME_BYTES {
         First::Taken(TokenKind::Word, len)
     } else {
         First::Refused(LexFault::LongName { at })

@@ -1,9 +1,12 @@
 //! What a token is.
 
+/// The most bytes of a word.
+pub const NAME_BYTES: usize = 64;
+
 /// The class of a token.
 #[derive(Clone, Copy, Debug, PartialEq, Eq)]
 pub enum TokenKind {
-    /// A letter, and letters, digits and `_` behind it; 64 bytes at most.
+    /// A letter, and letters, digits and `_` behind it; [`NAME_BYTES`] at most.
     Word,
     /// Digits with single `_` between them: the number that they say.
     Whole(i64),

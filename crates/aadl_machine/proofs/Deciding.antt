@@ -4,8 +4,9 @@ use Rattle.std.proofs.lemmas.Bool.{or_left, or_right}
 use Rattle.aadl_machine.specs.Symbols.{Class, Symbol, Row}
 use Rattle.aadl_machine.specs.Table.{rows, Differ, Decides}
 use Rattle.aadl_machine.specs.Machine.{class_number}
-use Rattle.aadl_machine.proofs.Basics.{both_left, both_right, not_both}
-use Rattle.aadl_machine.proofs.Tails.{among, firsts, distinct, distinct_firsts}
+use Rattle.aadl_lex.proofs.Basics.{both_left, both_right}
+use Rattle.aadl_machine.proofs.Basics.{not_both}
+use Rattle.aadl_machine.proofs.Derived.Tails.{among, firsts, distinct, distinct_firsts}
 
 differ : (c : Class) (rs : List Row) → (among (class_number c) (firsts rs) ≡ true → ⊥) → Differ c rs
 differ c [] never = tt

@@ -4,7 +4,7 @@ use Rattle.aadl_tree.specs.declared.mark.Mark.{Mark}
 use Rattle.aadl_tree.specs.declared.mark.Mark.TheVariants as k
 use Rattle.aadl_tree.specs.Marks.{mark_number}
 use Rattle.aadl_tree.specs.Kinds.{Kind, word, whole, real, quoted, unread, mark, other, Spot}
-use Rattle.aadl_tree.specs.Grammar.{greatest_nesting}
+use Rattle.aadl_tree.specs.declared.limits.TheConstants.{GREATEST_NESTING}
 use Rattle.aadl_machine.specs.Symbols.{Class, a_word, a_whole, a_real, a_quoted, an_unread, the, Symbol, Row}
 use Rattle.aadl_machine.specs.Symbols as s
 use Rattle.aadl_machine.specs.Table.{rows, can_omit}
@@ -89,7 +89,7 @@ pub data Fate : Type 0 where
 
 abbrev pub fate_after : ℕ → Option Stack → ℕ → (Stack → Fate) → Fate
 fate_after outer None at more = syntax_at at
-fate_after outer (Some wanted) at more = if nat_lt greatest_nesting (outer + depth wanted) then deep_at at else more wanted
+fate_after outer (Some wanted) at more = if nat_lt GREATEST_NESTING (outer + depth wanted) then deep_at at else more wanted
 
 -- What comes of the terminals where the stack is wanted. So many openers are open outside, and the second number is the end of the text.
 unfoldable pub fate : ℕ → ℕ → Stack → List Spot → Fate

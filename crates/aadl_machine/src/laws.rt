@@ -1,5 +1,6 @@
 //! Laws of the machine. Each function does nothing; its contract is proved.
-ghost use Rattle.std.specs.Prelude.{◌≡◌, ◌↔◌, ℕ, List, [], ◌∷◌, map, false};
+ghost use Rattle.std.specs.Prelude.{◌≡◌, ◌↔◌, ◌+◌, ℕ, List, [], ◌∷◌, map, false};
+ghost use Rattle.aadl_tree.specs.declared.limits.TheConstants.{GREATEST_NESTING};
 ghost use Rattle.aadl_tree.specs.Kinds.{Kind, mark, Spot, kinds_of};
 ghost use Rattle.aadl_tree.specs.declared.mark.Mark.TheVariants as k;
 ghost use Rattle.aadl_tree.specs.Parts.{Spells, Written, kept};
@@ -61,13 +62,13 @@ pub fn one_tree_with_places()
 {}
 
 /// The machine on a transition of the two counters, on `x := ;` and on the text's end, on a small
-/// package, and on parentheses that are nested 64 and 65 deep.
+/// package, and on parentheses that are nested as deep as may be and one deeper.
 pub fn worked_fates()
     ensures transition { fate 1 99 (s.transition ∷ []) (numbered 0 (counting_kinds [])) ≡ finished }
     ensures ended { fate 1 99 (s.transition ∷ []) (numbered 0 (counting_kinds (mark k.Semicolon ∷ []))) ≡ finished }
     ensures without_value { fate 1 99 (s.action ∷ []) (numbered 0 without_value) ≡ syntax_at 2 }
     ensures cut_off { fate 1 99 (s.action ∷ []) [] ≡ syntax_at 99 }
     ensures package { fate 0 99 whole_package (numbered 0 small_package) ≡ finished }
-    ensures nested { fate 0 99 (s.expression ∷ []) (numbered 0 (nested 64)) ≡ finished }
-    ensures too_deep { fate 0 99 (s.expression ∷ []) (numbered 0 (nested 65)) ≡ deep_at 64 }
+    ensures nested { fate 0 99 (s.expression ∷ []) (numbered 0 (nested GREATEST_NESTING)) ≡ finished }
+    ensures too_deep { fate 0 99 (s.expression ∷ []) (numbered 0 (nested (GREATEST_NESTING + 1))) ≡ deep_at GREATEST_NESTING }
 {}

@@ -17,13 +17,10 @@ mod fault;
 
 use aadl_lex::{LexFault, lex};
 use aadl_reader::{Reader, resolve};
-use aadl_tree::PackageTree;
+use aadl_tree::{GREATEST_NESTING, PackageTree};
 use declarations::{PackageParts, package};
 pub use fault::TextFault;
 use std::alloc::Global;
-
-/// How many openers may be open in a text.
-const ROOM: usize = 64;
 
 /// The tree of the text, or why it has none.
 pub fn parse(alloc: Global, text: &[u8]) -> Result<PackageTree, TextFault>
@@ -42,7 +39,7 @@ pub fn parse(alloc: Global, text: &[u8]) -> Result<PackageTree, TextFault>
         terminals: terminals.as_slice(),
         end: text.len(),
     };
-    let (parts, next) = package(&reader, 0, ROOM)?;
+    let (parts, next) = package(&reader, 0, GREATEST_NESTING)?;
     if next < terminals.len() {
         return Err(TextFault::Syntax {
             at: reader.place(next),

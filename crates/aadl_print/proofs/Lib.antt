@@ -2,4 +2,3 @@ pub mod Appends
 pub mod Views
 pub mod Sections
 pub mod Canons
-pub mod Example

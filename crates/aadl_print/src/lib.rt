@@ -46,6 +46,3 @@ fn print_package(printer: &mut Printer, tree: &PackageTree) -> Result<(), AllocE
     tree.end_name.print(printer)?;
     printer.mark(Mark::Semicolon)
 }
-
-#[cfg(test)]
-mod tests;

@@ -10,7 +10,9 @@ use Rattle.std.proofs.lemmas.Str.{IsUtf8-from_ascii}
 use Rattle.std.proofs.lemmas.Bool.Decides.{nat_tests}
 use Rattle.std.proofs.lemmas.List.Sums.{AllPass-from_list_all}
 use Rattle.std.proofs.lemmas.List.Elements.{All-append}
-use Rattle.aadl_lex.specs.Rules.{is_word, is_in_word, longest_name}
+use Rattle.aadl_lex.specs.declared.token.TheConstants.{NAME_BYTES}
+use Rattle.aadl_lex.proofs.Basics.{both_left, both_right}
+use Rattle.aadl_lex.specs.Rules.{is_word, is_in_word}
 use Rattle.aadl_reader.specs.declared.terminal.Terminal.{Terminal}
 use Rattle.aadl_reader.specs.declared.terminal.TerminalKind.TheVariants as t
 use Rattle.aadl_reader.specs.Terminals.{spot_of, spots_of, is_word_at, AreWords}
@@ -35,21 +37,13 @@ by_test : (b : Bool) (P : Type 0) → (b ≡ true → P) → (b ≡ false → P)
 by_test true P holds fails = holds refl
 by_test false P holds fails = fails refl
 
-and_first : (a b : Bool) → (a && b) ≡ true → a ≡ true
-and_first true b h = refl
-and_first false b h = h
-
-and_second : (a b : Bool) → (a && b) ≡ true → b ≡ true
-and_second true b h = h
-and_second false b h = absurd cc
-
 byte_in_word : (c : ℕ) → is_in_word c ≡ true → c < 128
 byte_in_word c h = grind (arith, nat_tests)
 
 -- the bytes of words are ASCII, so a word is a text
 pub word_is_text : (s : List ℕ) → is_word s ≡ true → IsUtf8 s
 word_is_text s h =
-    let all = AllPass-from_list_all is_in_word s (and_second (is_ascii_alphabetic (get_or s 0 0)) (list_all is_in_word s) (and_first (is_ascii_alphabetic (get_or s 0 0) && list_all is_in_word s) (nat_le (length s) longest_name) h)) in
+    let all = AllPass-from_list_all is_in_word s (both_right (is_ascii_alphabetic (get_or s 0 0)) (list_all is_in_word s) (both_left (is_ascii_alphabetic (get_or s 0 0) && list_all is_in_word s) (nat_le (length s) NAME_BYTES) h)) in
     IsUtf8-from_ascii s (λ i. by_test (nat_lt i (length s)) (get_or s i 0 < 128) (λ less. let l : i < length s = grind (arith, nat_tests) in byte_in_word (get_or s i 0) (all i 0 l))
     (λ past. let le : length s ≤ i = grind (arith, nat_tests) in let e = get_or_past s i 0 le in omega arith))
 

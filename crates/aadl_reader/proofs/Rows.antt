@@ -8,25 +8,26 @@ use Rattle.aadl_tree.specs.Marks.{mark_number}
 use Rattle.aadl_tree.specs.Kinds.{Kind, mark, word, Spot}
 use Rattle.aadl_tree.specs.Parts.{Part}
 use Rattle.aadl_tree.specs.Names.{Identifier}
-use Rattle.aadl_tree.specs.Grammar.{place, greatest_nesting}
+use Rattle.aadl_tree.specs.declared.limits.TheConstants.{GREATEST_NESTING}
+use Rattle.aadl_tree.specs.Grammar.{place}
 use Rattle.aadl_machine.specs.Symbols.{Class, the, Symbol, Row}
 use Rattle.aadl_machine.specs.Symbols as s
 use Rattle.aadl_machine.specs.Table.{on, behind, rows, can_omit}
 use Rattle.aadl_machine.specs.Machine.{Stack, Move, takes, omitted, refuses, kind_number, class_number, fits, move_by, move, depth, Fate, syntax_at, deep_at, fate}
-use Rattle.aadl_machine.proofs.Tails.{among, firsts}
-use Rattle.aadl_machine.proofs.Derivations.{move_omits, move_refuses}
-use Rattle.aadl_machine.proofs.Steps.{move_at, fate_by, fate_is, fate_takes, fate_deep, fate_omits, fate_refuses, fate_expands, fate_enters, fate_passes, NoneFits, none_own, fits_itself}
+use Rattle.aadl_machine.proofs.Derived.Tails.{among, firsts}
+use Rattle.aadl_machine.proofs.Derived.Derivations.{move_omits, move_refuses}
+use Rattle.aadl_machine.proofs.Fates.Steps.{move_at, fate_by, fate_is, fate_takes, fate_deep, fate_omits, fate_refuses, fate_expands, fate_enters, fate_passes, NoneFits, none_own, fits_itself}
 use Rattle.aadl_reader.specs.declared.reader.Reader.{Reader}
 use Rattle.aadl_reader.specs.declared.fault.ParseFault.{ParseFault}
 use Rattle.aadl_reader.specs.declared.fault.ParseFault.TheVariants.{Memory, Syntax, TooDeep}
 use Rattle.aadl_reader.specs.Reading.{here, spot, At, AtMark, AtWord, Misses, MissAll, IsMarked, FailsAs, RunsTo, Parses}
 
 -- the symbol takes the first terminal
-pub takes_row : (outer end : ℕ) (x : Symbol) (below : Stack) {kind : Kind} {ss rest : List Spot} {f : List Symbol} → At kind ss rest → move x kind ≡ takes f → outer + depth (f ++ below) ≤ greatest_nesting
+pub takes_row : (outer end : ℕ) (x : Symbol) (below : Stack) {kind : Kind} {ss rest : List Spot} {f : List Symbol} → At kind ss rest → move x kind ≡ takes f → outer + depth (f ++ below) ≤ GREATEST_NESTING
     → fate outer end (x ∷ below) ss ≡ fate outer end (f ++ below) rest
 takes_row outer end x below {kind} {ss} {rest} {f} l m h = ap (fate outer end (x ∷ below)) l.whole ∙ fate_takes outer end x below (spot kind l.at) rest f m h
 
-pub deep_row : (outer end : ℕ) (x : Symbol) (below : Stack) {kind : Kind} {ss rest : List Spot} {f : List Symbol} → At kind ss rest → move x kind ≡ takes f → greatest_nesting < outer + depth (f ++ below)
+pub deep_row : (outer end : ℕ) (x : Symbol) (below : Stack) {kind : Kind} {ss rest : List Spot} {f : List Symbol} → At kind ss rest → move x kind ≡ takes f → GREATEST_NESTING < outer + depth (f ++ below)
     → fate outer end (x ∷ below) ss ≡ deep_at (place end ss)
 deep_row outer end x below {kind} {ss} {rest} {f} l m h =
     ap (fate outer end (x ∷ below)) l.whole ∙ fate_deep outer end x below (spot kind l.at) rest f m h ∙ ap (λ l. deep_at (place end l)) (sym l.whole)
@@ -144,7 +145,7 @@ pub too_deep : (was : Fate) (at : ℕ) (e : ParseFault) → e ≡ TooDeep at →
 too_deep was at e is h = subst (λ (z : ParseFault). FailsAs was z) (sym is) h
 
 -- a keyword that may be left out
-pub flag_runs : (outer end : ℕ) (x : Symbol) (below : Stack) (m : Mark) (b : Bool) (ss rest : List Spot) → rows x ≡ on m [] ∷ [] → can_omit x ≡ true → move x (mark m) ≡ takes [] → outer + depth below ≤ greatest_nesting → IsMarked m b ss rest
+pub flag_runs : (outer end : ℕ) (x : Symbol) (below : Stack) (m : Mark) (b : Bool) (ss rest : List Spot) → rows x ≡ on m [] ∷ [] → can_omit x ≡ true → move x (mark m) ≡ takes [] → outer + depth below ≤ GREATEST_NESTING → IsMarked m b ss rest
     → fate outer end (x ∷ below) ss ≡ fate outer end below rest
 flag_runs outer end x below m true ss rest r o t h l = takes_row outer end x below l t h
 flag_runs outer end x below m false ss rest r o t h (l, e) = omits_unless outer end x below ss o (subst (λ (rs : List Row). MissAll rs ss) (sym r) (l, tt)) ∙ ap (fate outer end below) (sym e)

@@ -4,7 +4,7 @@ use Rattle.aadl_tree.specs.declared.mark.Mark.{Mark}
 use Rattle.aadl_tree.specs.Kinds.{Kind, word, mark, Spot}
 use Rattle.aadl_tree.specs.Parts.{Part, Written}
 use Rattle.aadl_tree.specs.Names.{Identifier}
-use Rattle.aadl_tree.specs.Grammar.{greatest_nesting}
+use Rattle.aadl_tree.specs.declared.limits.TheConstants.{GREATEST_NESTING}
 use Rattle.aadl_machine.specs.Symbols.{Class, the, Symbol, only, Row}
 use Rattle.aadl_machine.specs.Machine.{Stack, fits, takes, move, depth, Fate, syntax_at, deep_at, fate}
 use Rattle.aadl_reader.specs.declared.terminal.Terminal.{Terminal}
@@ -76,10 +76,10 @@ RunsTo next r outer below was (Err e) = FailsAs was e
 
 -- how many openers may be open before a part that is read with this room, or that has no openers
 abbrev pub Room : ℕ → ℕ → Type 0
-Room room before = before + room ≡ greatest_nesting
+Room room before = before + room ≡ GREATEST_NESTING
 
 abbrev pub AnyRoom : ℕ → Type 0
-AnyRoom before = before ≤ greatest_nesting
+AnyRoom before = before ≤ GREATEST_NESTING
 
 -- one opener more goes into the room, or this one is too deep
 abbrev pub Deepens : ℕ → ℕ → Result ℕ ParseFault → Type 0

@@ -6,7 +6,8 @@ pub mod ActionViews
 pub mod Lengths
 pub mod Primaries
 pub mod ActionKinds
-pub mod Exclusion
+pub mod Symbols
+pub mod SmallPackage
 pub mod Numbers
 pub mod Finds
 pub mod Ties

@@ -1,5 +1,6 @@
 -- What the texts of the grammar are, and where terminals stop being the beginning of one.
 use Rattle.std.specs.Prelude.{ℕ, ◌≡◌, ◌+◌, ◌-◌, ◌≤◌, Bool, true, false, List, [], ◌∷◌, ◌++◌}
+use Rattle.aadl_tree.specs.declared.limits.TheConstants.{GREATEST_NESTING}
 use Rattle.aadl_tree.specs.declared.mark.Mark.TheVariants as k
 use Rattle.aadl_tree.specs.Kinds.{Kind, mark, Spot, kinds_of}
 use Rattle.aadl_tree.specs.Parts.{Spells}
@@ -18,7 +19,7 @@ pub record IsBehaviour (ks : List Kind) : Type 0 where
 
 -- Below, a language is which terminals are its texts.
 
--- some text begins with the terminals
+-- Some text begins with the terminals. What is behind them may be terminals that no token has, as words of any bytes: plain ones may stand in their places.
 pub record Begins (IsText : List Kind → Type 0) (ks : List Kind) : Type 0 where
   pub more : List Kind
   pub text : IsText (ks ++ more)
@@ -51,12 +52,9 @@ nesting_from n ended (kind ∷ ks) = nesting_from (opened n ended kind) (is_end 
 abbrev pub nesting : ℕ → List Kind → ℕ
 nesting outer ks = nesting_from outer false ks
 
-abbrev pub greatest_nesting : ℕ
-greatest_nesting = 64
-
 -- nowhere in the terminals are more openers open than may be
 abbrev pub IsShallow : ℕ → List Kind → Type 0
-IsShallow outer ks = (front back : List Kind) → ks ≡ front ++ back → nesting outer front ≤ greatest_nesting
+IsShallow outer ks = (front back : List Kind) → ks ≡ front ++ back → nesting outer front ≤ GREATEST_NESTING
 
 -- no text goes on from the terminals with the first of those that are left, or ends with them where none is left
 abbrev pub IsStuck : (List Kind → Type 0) → List Kind → List Spot → Type 0
@@ -88,4 +86,4 @@ pub record DeepAt (IsText : List Kind → Type 0) (outer : ℕ) (spots : List Sp
   pub place : at ≡ opener.at
   pub begins : Begins IsText (kinds_of seen ++ opener.kind ∷ [])
   pub shallow : IsShallow outer (kinds_of seen)
-  pub deep : nesting outer (kinds_of seen ++ opener.kind ∷ []) ≡ greatest_nesting + 1
+  pub deep : nesting outer (kinds_of seen ++ opener.kind ∷ []) ≡ GREATEST_NESTING + 1

@@ -19,3 +19,4 @@ pub mod Views
 pub mod Places
 pub mod Given
 pub mod PackageViews
+pub mod SmallPackage

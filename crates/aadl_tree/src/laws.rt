@@ -1,5 +1,7 @@
 //! Laws of the grammar's definitions. Each function does nothing; its contract is proved.
-ghost use Rattle.std.specs.Prelude.{◌≡◌, ◌↔◌, ℕ, List, [], ◌∷◌, ◌++◌, Option, Some, None, codes, true, false, map};
+ghost use Rattle.std.specs.Prelude.{◌≡◌, ◌↔◌, ℕ, List, [], ◌∷◌, ◌++◌, Option, Some, None, codes, true, false, map, IsTrue, is_some};
+ghost use Rattle.aadl_lex.specs.Spelled.{IsSymbol};
+ghost use Rattle.aadl_lex.specs.Tokens.{AreTokensOf};
 ghost use Rattle.aadl_tree.specs.declared.mark.Mark.{Mark};
 ghost use Rattle.aadl_tree.specs.declared.mark.Mark.TheVariants as k;
 ghost use Rattle.aadl_tree.specs.Marks.{mark_text, keywords_inside, keywords_outside, symbols, keyword_of, symbol_of};
@@ -11,15 +13,18 @@ ghost use Rattle.aadl_tree.specs.declared.package.PackageTree.{PackageTree as So
 ghost use Rattle.aadl_tree.specs.Maps.{package_to, no_place};
 ghost use Rattle.aadl_tree.specs.PackageViews.{package_view, placed, meaning};
 ghost use Rattle.aadl_tree.specs.Grammar.{nesting};
-ghost use Rattle.aadl_tree.specs.Given.{IsTreeOf, StopsAt, NestsAt};
-ghost use Rattle.aadl_tree.specs.Canon.{canonical};
+ghost use Rattle.aadl_tree.specs.Given.{IsTreeOf};
+ghost use Rattle.aadl_tree.specs.Canon.{canonical, canon};
 ghost use Rattle.aadl_tree.specs.Example.{counting, counting_kinds, counting_text, annex_text, annex_tokens, choice_kinds};
+ghost use Rattle.aadl_tree.specs.SmallPackage.{package_text, package_tokens, small_package, printed_text};
 
 /// Each keyword and each symbol is read as itself, where it is one, whatever the case of its letters.
+/// Each symbol that a text can have is one of the grammar.
 pub fn marks_are_read()
     ensures inside { map (λ m. keyword_of true (mark_text m)) keywords_inside ≡ map Some keywords_inside }
     ensures outside { map (λ m. keyword_of false (mark_text m)) keywords_outside ≡ map Some keywords_outside }
     ensures symbols { map (λ m. symbol_of (mark_text m)) symbols ≡ map Some symbols }
+    ensures known { (b : List ℕ) → IsSymbol b → IsTrue (is_some (symbol_of b)) }
     ensures case { keyword_of false (codes "PaCkAgE") ≡ Some k.Package }
     ensures names_outside { map (λ word. keyword_of false word) (codes "true" ∷ codes "fresh" ∷ codes "state" ∷ [])
         ≡ None ∷ None ∷ None ∷ [] }
@@ -55,10 +60,12 @@ pub fn parts_are_spelled_in_turn()
         → Written (a ++ b) ss rest ↔ ((mid : List Spot) × Written a ss mid × Written b mid rest) }
 {}
 
-/// A text that has a tree stops nowhere, and nests nowhere too deep.
-pub fn trees_exclude_faults()
-    ensures stops { (text : List ℕ) (tree : PackageTree ℕ) (at : ℕ) → IsTreeOf text tree → ¬ StopsAt text at }
-    ensures nests { (text : List ℕ) (tree : PackageTree ℕ) (at : ℕ) → IsTreeOf text tree → ¬ NestsAt text at }
+/// A package of nothing, whose text has a keyword in capitals and a comment: its tokens, its tree
+/// with its places, and its canonical text.
+pub fn small_package_is_read()
+    ensures tokens { AreTokensOf package_text package_tokens }
+    ensures tree { IsTreeOf package_text small_package }
+    ensures canonical { canon small_package ≡ printed_text }
 {}
 
 /// A tree's places may be looked at later: what a tree stands for with places that a map makes is what

@@ -10,6 +10,7 @@ pub mod annex;
 pub mod declarations;
 pub mod expressions;
 pub mod laws;
+pub mod limits;
 pub mod mark;
 pub mod meaning;
 pub mod names;
@@ -30,11 +31,9 @@ pub use expressions::{
     Expression, Factor, LeadingSign, LogicOperator, MultiplyOperator, Primary, Relation,
     RelationOperator, Sign, Sum, Term,
 };
+pub use limits::GREATEST_NESTING;
 pub use mark::Mark;
 pub use meaning::{Same, same};
 pub use names::{Identifier, Identifiers, Name, Path, Reference};
 pub use package::PackageTree;
 pub use values::{Association, AssociationOperator, Figure, Number, Quantity, Value};
-
-#[cfg(test)]
-mod tests;

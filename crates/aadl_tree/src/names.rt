@@ -7,7 +7,7 @@ ghost use Rattle.aadl_lex.specs.Rules.{is_word};
 pub struct Identifier {
     /// Where it stands.
     pub at: usize,
-    /// A letter, and letters, digits and `_` behind it; 64 bytes at most.
+    /// A letter, and letters, digits and `_` behind it; [`aadl_lex::NAME_BYTES`] at most.
     pub spelling: String,
     pub ghost word: { IsTrue (is_word (string_bytes spelling)) },
 }

@@ -11,7 +11,8 @@ use Rattle.aadl_tree.specs.declared.actions.Block.{Block}
 use Rattle.aadl_tree.specs.declared.actions.Loop.{Loop}
 use Rattle.aadl_tree.specs.declared.actions.Action.TheOpen.{Choice-F}
 use Rattle.aadl_tree.specs.declared.actions.Action.TheViews.{out-roll-Choice}
-use Rattle.aadl_tree.specs.Grammar.{place, greatest_nesting}
+use Rattle.aadl_tree.specs.declared.limits.TheConstants.{GREATEST_NESTING}
+use Rattle.aadl_tree.specs.Grammar.{place}
 use Rattle.aadl_tree.specs.Kinds.{Kind, whole, mark, Spot}
 use Rattle.aadl_tree.specs.Parts.{Part, plain, token, may, last_semicolon}
 use Rattle.aadl_tree.specs.Names.{identifier_parts, reference_parts}
@@ -49,13 +50,13 @@ pub begins_by : {x : Symbol} {kind : Kind} {ss rest : List Spot} {f : List Symbo
 begins_by {x} {kind} {ss} {rest} {f} l m = record { kind = kind; rest = rest; wanted = f; first = l; moves = m }
 
 -- an end of a loop's range
-pub bound_runs : (b : Bool) (outer end : ℕ) (below : Stack) {n : ℤ} (ss : List Spot) {mid rest : List Spot} → outer + depth below ≤ greatest_nesting → IsMarked k.Minus b ss mid → At (whole n) mid rest
+pub bound_runs : (b : Bool) (outer end : ℕ) (below : Stack) {n : ℤ} (ss : List Spot) {mid rest : List Spot} → outer + depth below ≤ GREATEST_NESTING → IsMarked k.Minus b ss mid → At (whole n) mid rest
     → fate outer end (s.bound ∷ below) ss ≡ fate outer end below rest
 unfolding move depth
 bound_runs true outer end below ss h l m = takes_row outer end s.bound below l refl (omega arith) ∙ takes_row outer end s.whole_number below m refl h
 bound_runs false outer end below ss h (l, e) m = ap (fate outer end (s.bound ∷ below)) (sym e) ∙ takes_row outer end s.bound below m refl h
 
-pub bound_refuses : (b : Bool) (outer end : ℕ) (below : Stack) (ss mid : List Spot) → outer + depth below ≤ greatest_nesting → IsMarked k.Minus b ss mid → Misses a_whole mid
+pub bound_refuses : (b : Bool) (outer end : ℕ) (below : Stack) (ss mid : List Spot) → outer + depth below ≤ GREATEST_NESTING → IsMarked k.Minus b ss mid → Misses a_whole mid
     → fate outer end (s.bound ∷ below) ss ≡ syntax_at (place end mid)
 unfolding move depth
 bound_refuses true outer end below ss mid h l m = takes_row outer end s.bound below l refl (omega arith) ∙ refuses_unless outer end s.whole_number below mid refl (m, tt)

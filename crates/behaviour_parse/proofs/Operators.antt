@@ -19,7 +19,7 @@ use Rattle.aadl_tree.specs.Values.{sign_mark}
 use Rattle.aadl_tree.specs.Expressions as e
 use Rattle.aadl_tree.specs.ExpressionViews.{factor_view, factors_view, term_view, terms_view, relation_view, relations_view}
 use Rattle.aadl_tree.specs.Maps.{kept_place}
-use Rattle.aadl_tree.specs.Grammar.{greatest_nesting}
+use Rattle.aadl_tree.specs.declared.limits.TheConstants.{GREATEST_NESTING}
 use Rattle.aadl_machine.specs.Symbols as s
 use Rattle.aadl_machine.specs.Table.{on}
 use Rattle.aadl_machine.specs.Machine.{Stack, takes, move, depth, fate}
@@ -54,7 +54,7 @@ compares compare.LessOrEqual = refl
 compares compare.Greater = refl
 compares compare.GreaterOrEqual = refl
 
-pub joined : (o : LogicOperator) (outer end : ℕ) (below : Stack) (ss rest : List Spot) → outer + depth below ≤ greatest_nesting → Joins o ss rest → fate outer end (s.relations ∷ below) ss ≡ fate outer end (s.relation ∷ s.relations ∷ below) rest
+pub joined : (o : LogicOperator) (outer end : ℕ) (below : Stack) (ss rest : List Spot) → outer + depth below ≤ GREATEST_NESTING → Joins o ss rest → fate outer end (s.relations ∷ below) ss ≡ fate outer end (s.relation ∷ s.relations ∷ below) rest
 unfolding move depth
 joined logic.And outer end below ss rest h (l, miss) =
     takes_row outer end s.relations below l refl (omega arith) ∙ begins_past outer end s.after_and s.relation (on k.Then (s.relation ∷ []) ∷ []) [] (s.relations ∷ below) rest refl refl refl (miss, tt)

@@ -10,10 +10,10 @@ use Rattle.aadl_tree.specs.Annexes.{AnnexTree, annex_tree_parts}
 use Rattle.aadl_tree.specs.Grammar.{IsBehaviour, place}
 use Rattle.aadl_tree.specs.Given.{end_of, IsBehaviourOf}
 use Rattle.aadl_machine.specs.Machine.{finished, fate, annex_body, syntax_at}
-use Rattle.aadl_machine.proofs.Answers.{answers_text, answers_fault, answers_depth}
+use Rattle.aadl_machine.proofs.Fates.Answers.{answers_text, answers_fault, answers_depth}
 use Rattle.aadl_machine.proofs.Placed.All.{one_placed_behaviour}
-use Rattle.aadl_machine.proofs.Starts.{behaviours}
-use Rattle.aadl_machine.proofs.Steps.{fate_end, fate_left}
+use Rattle.aadl_machine.proofs.Fates.Starts.{behaviours}
+use Rattle.aadl_machine.proofs.Fates.Steps.{fate_end, fate_left}
 use Rattle.aadl_reader.specs.declared.fault.ParseFault.{ParseFault}
 use Rattle.aadl_reader.specs.declared.fault.ParseFault.TheVariants.{Memory, Syntax, TooDeep}
 use Rattle.aadl_reader.specs.declared.terminal.Terminal.{Terminal}

@@ -20,12 +20,9 @@ mod expressions;
 use aadl_lex::Token;
 pub use aadl_reader::ParseFault;
 use aadl_reader::{Reader, resolve};
-use aadl_tree::AnnexTree;
+use aadl_tree::{AnnexTree, GREATEST_NESTING};
 pub use annex::body;
 use std::alloc::Global;
-
-/// How many openers may be open in an annex, whose `{**` is open round it.
-const ROOM: usize = 63;
 
 /// Where the last token ends.
 fn end_of(tokens: &[Token]) -> usize
@@ -52,7 +49,8 @@ pub fn parse_annex(alloc: Global, text: &[u8], tokens: &[Token]) -> Result<Annex
         terminals: terminals.as_slice(),
         end: end_of(tokens),
     };
-    let (tree, next) = body(&reader, 0, ROOM)?;
+    // The `{**` of the annex is open round its tokens.
+    let (tree, next) = body(&reader, 0, GREATEST_NESTING - 1)?;
     if next < terminals.len() {
         return Err(ParseFault::Syntax {
             at: reader.place(next),

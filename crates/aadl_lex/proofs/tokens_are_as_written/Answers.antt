@@ -1,5 +1,8 @@
-use Rattle.aadl_lex.proofs.Words.{words_of, words_among}
+use Rattle.aadl_lex.proofs.Spelled.{spelled_tokens, words_of, words_among}
 use Rattle.aadl_lex.proofs.tokens_are_as_written.Goals as goal
+
+pub returns-clause-all : goal.returns-clause-all
+returns-clause-all c = spelled_tokens
 
 pub returns-clause-word : goal.returns-clause-word
 returns-clause-word c = words_of

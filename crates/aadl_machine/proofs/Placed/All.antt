@@ -6,12 +6,12 @@ use Rattle.aadl_tree.specs.Annexes.{AnnexTree, annex_tree_parts}
 use Rattle.aadl_tree.specs.Declarations.{PackageTree, package_parts}
 use Rattle.aadl_tree.proofs.Parts.{written_spells}
 use Rattle.aadl_machine.proofs.Placed.Shapes.{shape}
-use Rattle.aadl_machine.proofs.Alike.{Alike, alike_spells, alike_shape}
+use Rattle.aadl_machine.proofs.Places.Alike.{Alike, alike_spells, alike_shape}
 use Rattle.aadl_tree.specs.Maps.{no_place, annex_tree_to}
-use Rattle.aadl_machine.proofs.AnnexPlaces.{annex_tree_alike}
+use Rattle.aadl_machine.proofs.Places.Annexes.{annex_tree_alike}
 use Rattle.aadl_tree.specs.Maps.{package_to}
-use Rattle.aadl_machine.proofs.DeclarationPlaces.{package_alike}
-use Rattle.aadl_machine.proofs.Starts.{one_package, one_behaviour}
+use Rattle.aadl_machine.proofs.Places.Declarations.{package_alike}
+use Rattle.aadl_machine.proofs.Fates.Starts.{one_package, one_behaviour}
 use Rattle.aadl_machine.proofs.Placed.Order.{same_places}
 use Rattle.aadl_machine.proofs.Placed.Names.{Fixed}
 use Rattle.aadl_machine.proofs.Placed.Annexes.{annex_tree_fixed}

@@ -8,10 +8,10 @@ use Rattle.aadl_tree.specs.Parts.{Part, token, may, extra_kinds, HaveKinds, Writ
 use Rattle.aadl_tree.specs.Declarations.{PackageTree, package_parts}
 use Rattle.aadl_tree.proofs.Parts.{written_spells, kept_spells}
 use Rattle.aadl_machine.proofs.Basics.{heads, tails}
-use Rattle.aadl_machine.proofs.Alike.{alike_spells, alike_kept}
+use Rattle.aadl_machine.proofs.Places.Alike.{alike_spells, alike_kept}
 use Rattle.aadl_tree.specs.Maps.{package_to}
-use Rattle.aadl_machine.proofs.DeclarationPlaces.{package_alike}
-use Rattle.aadl_machine.proofs.Starts.{one_package}
+use Rattle.aadl_machine.proofs.Places.Declarations.{package_alike}
+use Rattle.aadl_machine.proofs.Fates.Starts.{one_package}
 use Rattle.aadl_machine.specs.Moved.{Behind, Rising, SamePackage}
 use Rattle.aadl_tree.specs.Maps.{no_place}
 use Rattle.aadl_machine.proofs.Placed.Replaced.{moved, survivors, survivors_kinds, package_replaced}

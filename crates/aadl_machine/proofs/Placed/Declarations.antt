@@ -1,6 +1,5 @@
 -- Declarations and packages are fixed by what is left without places, and by their places.
 use Rattle.std.proofs.Common.{◌≡◌, ℕ, ◌∙◌, sym, ap, ap₂, List, [], ◌∷◌, ◌++◌, map, flat_map, Option, refl}
-use Rattle.aadl_tree.specs.declared.mark.Mark.{Mark}
 use Rattle.aadl_tree.specs.declared.mark.Mark.TheVariants as k
 use Rattle.aadl_tree.specs.declared.declarations.Category.{Category}
 use Rattle.aadl_tree.specs.declared.declarations.Category.TheVariants as categories

@@ -4,9 +4,9 @@ use Rattle.std.proofs.Common.{inl, inr}
 use Rattle.aadl_tree.specs.Kinds.{Spot, kinds_of}
 use Rattle.aadl_tree.specs.Parts.{Part, token, may, AreAt, Written, kept}
 use Rattle.aadl_tree.specs.Declarations.{PackageTree, package_parts}
-use Rattle.aadl_machine.proofs.Alike.{Alike, none, one, extra}
+use Rattle.aadl_machine.proofs.Places.Alike.{Alike, none, one, extra}
 use Rattle.aadl_tree.specs.Maps.{package_to}
-use Rattle.aadl_machine.proofs.DeclarationPlaces.{package_alike}
+use Rattle.aadl_machine.proofs.Places.Declarations.{package_alike}
 
 -- the terminals that the tree keeps, of those that spell it
 abbrev pub survivors : (a : List (Part ℕ)) (ss rest : List Spot) → Written a ss rest → List Spot

@@ -2,7 +2,7 @@ use Rattle.std.proofs.Common.{◌≡◌, ◌∙◌, List, subst, sym, ap, refl, 
 use Rattle.std.specs.List.{All}
 use Rattle.aadl_lex.specs.declared.token.Token.{Token}
 use Rattle.aadl_lex.specs.Spelled.{IsWordAt}
-use Rattle.aadl_lex.proofs.Words.{words_of}
+use Rattle.aadl_lex.proofs.Spelled.{words_of}
 use Rattle.aadl_tree.specs.Kinds.{spots}
 use Rattle.aadl_machine.specs.Machine.{depth}
 use Rattle.aadl_reader.specs.Reading.{here}

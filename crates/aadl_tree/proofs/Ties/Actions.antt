@@ -1,5 +1,5 @@
 -- Actions.
-use Rattle.std.proofs.Common.{◌≡◌, ℕ, ◌∙◌, ap, ap₂, sym, subst, refl, List, [], ◌∷◌, map, Option, Some, None, option_map}
+use Rattle.std.proofs.Common.{◌≡◌, ℕ, ◌∙◌, ap, ap₂, sym, subst, refl, List, [], ◌∷◌, map, Option, Some, None}
 use Rattle.aadl_tree.specs.declared.actions.Action.{Action}
 use Rattle.aadl_tree.specs.declared.actions.Actions.{Actions}
 use Rattle.aadl_tree.specs.declared.actions.Block.{Block}
@@ -11,10 +11,10 @@ use Rattle.aadl_tree.specs.declared.actions.Action.TheViews.{roll-Action, roll-A
 use Rattle.aadl_tree.specs.declared.actions.Action.TheFolds.{ind-Block, map-Action, map-Actions, map-Block, map-Choice, map-Elsif, map-Loop, fold-roll-Action, fold-roll-Actions, fold-roll-Block, fold-roll-Choice, fold-roll-Elsif, fold-roll-Loop}
 use Rattle.aadl_tree.specs.Expressions as e
 use Rattle.aadl_tree.specs.Actions as a
-use Rattle.aadl_tree.specs.Maps.{identifier_to, reference_to, expression_to, action_to, actions_to, mores_to, elsifs_to, otherwise_to, block_to}
-use Rattle.aadl_tree.specs.NameViews.{identifier_view, reference_view}
+use Rattle.aadl_tree.specs.Maps.{expression_to, action_to, actions_to, mores_to, elsifs_to, block_to}
+use Rattle.aadl_tree.specs.NameViews.{identifier_view}
 use Rattle.aadl_tree.specs.ExpressionViews.{expression_view}
-use Rattle.aadl_tree.specs.ActionViews.{mores_of, elsifs_of, otherwise_of, block_of, action_step, actions_step, block_step, choice_step, elsif_step, loop_step, action_view, actions_view, block_view, choice_view, elsif_view, loop_view}
+use Rattle.aadl_tree.specs.ActionViews.{mores_of, elsifs_of, action_step, actions_step, block_step, choice_step, elsif_step, loop_step, action_view, actions_view, block_view, choice_view, elsif_view, loop_view}
 use Rattle.aadl_tree.proofs.Ties.Names.{reference_tied}
 use Rattle.aadl_tree.proofs.Ties.Expressions.{expression_tied}
 

@@ -1,5 +1,5 @@
 -- Declarations, and packages.
-use Rattle.std.proofs.Common.{◌≡◌, ℕ, ◌∙◌, ap, ap₂, refl, List, map, Option, option_map}
+use Rattle.std.proofs.Common.{◌≡◌, ℕ, ◌∙◌, ap, List, map, Option, option_map}
 use Rattle.aadl_tree.specs.declared.declarations.With as source_with
 use Rattle.aadl_tree.specs.declared.declarations.Feature as source_feature
 use Rattle.aadl_tree.specs.declared.declarations.Subcomponent as source_subcomponent
@@ -14,7 +14,7 @@ use Rattle.aadl_tree.specs.Names as n
 use Rattle.aadl_tree.specs.Values as v
 use Rattle.aadl_tree.specs.Annexes as x
 use Rattle.aadl_tree.specs.Declarations as d
-use Rattle.aadl_tree.specs.Maps.{identifier_to, name_to, reference_to, associations_to, annex_to, feature_to, subcomponent_to, end_to, connection_to, type_to, implementation_to, declaration_to, with_to, package_to}
+use Rattle.aadl_tree.specs.Maps.{name_to, reference_to, associations_to, annex_to, feature_to, subcomponent_to, end_to, connection_to, type_to, implementation_to, declaration_to, with_to, package_to}
 use Rattle.aadl_tree.specs.NameViews.{identifier_view, name_view, reference_view}
 use Rattle.aadl_tree.specs.ValueViews.{associations_view}
 use Rattle.aadl_tree.specs.Views.{annex_view, with_view, feature_view, subcomponent_view, end_view, connection_view, type_view, implementation_name_view, implementation_view, declaration_view}

@@ -4,7 +4,6 @@ use Rattle.aadl_tree.specs.declared.expressions.Sign.{Sign}
 use Rattle.aadl_tree.specs.declared.expressions.LogicOperator.{LogicOperator}
 use Rattle.aadl_tree.specs.declared.expressions.RelationOperator.{RelationOperator}
 use Rattle.aadl_tree.specs.declared.expressions.MultiplyOperator.{MultiplyOperator}
-use Rattle.aadl_tree.specs.declared.expressions.LeadingSign as source_leading
 use Rattle.aadl_tree.specs.declared.expressions.Factor.{Factor}
 use Rattle.aadl_tree.specs.declared.expressions.Primary.{Primary}
 use Rattle.aadl_tree.specs.declared.expressions.Expression.{Expression}
@@ -16,7 +15,7 @@ use Rattle.aadl_tree.specs.declared.expressions.Factor.TheViews.{roll-Factor, ro
 use Rattle.aadl_tree.specs.declared.expressions.Factor.TheFolds.{ind-Expression, map-Factor, map-Primary, map-Expression, map-Relation, map-Sum, map-Term, fold-roll-Factor, fold-roll-Primary, fold-roll-Expression, fold-roll-Relation, fold-roll-Sum, fold-roll-Term}
 use Rattle.aadl_tree.specs.Expressions as e
 use Rattle.aadl_tree.specs.Maps.{leading_to, primary_to, factor_to, term_to, factors_to, sum_to, terms_to, relation_to, expression_to, relations_to}
-use Rattle.aadl_tree.specs.ExpressionViews.{leading_view, factors_of, terms_of, relations_of, relation_of, primary_step, factor_step, term_step, sum_step, relation_step, expression_step, primary_view, factor_view, term_view, sum_view, relation_view, expression_view}
+use Rattle.aadl_tree.specs.ExpressionViews.{leading_view, factors_of, terms_of, relations_of, primary_step, factor_step, term_step, sum_step, relation_step, expression_step, primary_view, factor_view, term_view, sum_view, relation_view, expression_view}
 use Rattle.aadl_tree.proofs.Ties.Names.{perhaps_tied}
 
 abbrev FactorTied : {P Q : Type 0} → (P → Q) → (ℕ → P) → Factor → Type 0

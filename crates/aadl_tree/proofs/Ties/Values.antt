@@ -1,9 +1,9 @@
 -- Properties and their values.
-use Rattle.std.proofs.Common.{◌≡◌, ℕ, ◌∙◌, ap, ap₂, sym, subst, refl, List, [], ◌∷◌, map, Option, option_map}
+use Rattle.std.proofs.Common.{◌≡◌, ℕ, ◌∙◌, ap, ap₂, sym, subst, refl, List, [], ◌∷◌, map, Option}
 use Rattle.aadl_tree.specs.declared.values.Value.{Value}
 use Rattle.aadl_tree.specs.declared.values.Value.TheOpen.{Value-F, Association-F}
 use Rattle.aadl_tree.specs.declared.values.Value.TheViews.{roll-Value, roll-Association}
-use Rattle.aadl_tree.specs.declared.values.Value.TheFolds.{ind-Value, ind-Association, map-Value, map-Association, fold-roll-Value, fold-roll-Association}
+use Rattle.aadl_tree.specs.declared.values.Value.TheFolds.{ind-Association, map-Value, map-Association, fold-roll-Value, fold-roll-Association}
 use Rattle.aadl_tree.specs.declared.values.Association.{Association}
 use Rattle.aadl_tree.specs.declared.values.Quantity as source_quantity
 use Rattle.aadl_tree.specs.Names as n

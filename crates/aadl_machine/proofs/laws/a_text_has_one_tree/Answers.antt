@@ -1,4 +1,4 @@
-use Rattle.aadl_machine.proofs.Starts.{one_package, one_behaviour, package_kept, behaviour_kept}
+use Rattle.aadl_machine.proofs.Fates.Starts.{one_package, one_behaviour, package_kept, behaviour_kept}
 use Rattle.aadl_machine.proofs.laws.a_text_has_one_tree.Goals as goal
 
 pub returns-clause-package : goal.returns-clause-package

@@ -1,6 +1,6 @@
 use Rattle.aadl_tree.specs.Grammar.{IsPackage}
-use Rattle.aadl_machine.proofs.Starts.{packages}
-use Rattle.aadl_machine.proofs.Answers.{answers_text, answers_fault, answers_depth}
+use Rattle.aadl_machine.proofs.Fates.Starts.{packages}
+use Rattle.aadl_machine.proofs.Fates.Answers.{answers_text, answers_fault, answers_depth}
 use Rattle.aadl_machine.proofs.laws.fate_of_package.Goals as goal
 
 pub returns-clause-finished : goal.returns-clause-finished

@@ -5,7 +5,7 @@ use Rattle.aadl_tree.specs.declared.mark.Mark.TheVariants as k
 use Rattle.aadl_tree.specs.Names.{name_parts}
 use Rattle.aadl_tree.specs.NameViews.{name_view}
 use Rattle.aadl_tree.specs.Maps.{kept_place}
-use Rattle.aadl_tree.specs.Grammar.{greatest_nesting}
+use Rattle.aadl_tree.specs.declared.limits.TheConstants.{GREATEST_NESTING}
 use Rattle.aadl_machine.specs.Symbols as s
 use Rattle.aadl_machine.specs.Machine.{Stack, depth, fate}
 use Rattle.aadl_reader.specs.Reading.{here, Reads}
@@ -13,7 +13,7 @@ use Rattle.aadl_parse.proofs.declarations.more_names.Given as goal
 
 abbrev pub invariant-loop-behind : goal.invariant-loop-behind
 invariant-loop-behind l = record {
-  runs : (outer : ℕ) (below : Stack) → outer + depth below ≤ greatest_nesting → fate outer l.reader.end (s.more_names ∷ below) (here l.reader l.at) ≡ fate outer l.reader.end (s.more_names ∷ below) (here l.reader l.rest);
+  runs : (outer : ℕ) (below : Stack) → outer + depth below ≤ GREATEST_NESTING → fate outer l.reader.end (s.more_names ∷ below) (here l.reader l.at) ≡ fate outer l.reader.end (s.more_names ∷ below) (here l.reader l.rest);
   reads : Reads (flat_map (behind k.Comma name_parts) (map (name_view kept_place) l.found.items)) (here l.reader l.at) (here l.reader l.rest);
 }
 

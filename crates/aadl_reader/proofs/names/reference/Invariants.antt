@@ -3,7 +3,7 @@ use Rattle.std.specs.Prelude.{flat_map}
 use Rattle.aadl_tree.specs.Names.{identifier_parts, qualifier_parts}
 use Rattle.aadl_tree.specs.NameViews.{identifier_view}
 use Rattle.aadl_tree.specs.Maps.{kept_place}
-use Rattle.aadl_tree.specs.Grammar.{greatest_nesting}
+use Rattle.aadl_tree.specs.declared.limits.TheConstants.{GREATEST_NESTING}
 use Rattle.aadl_machine.specs.Symbols as s
 use Rattle.aadl_machine.specs.Machine.{Stack, depth, fate}
 use Rattle.aadl_reader.specs.Reading.{here, Reads}
@@ -11,7 +11,7 @@ use Rattle.aadl_reader.proofs.names.reference.Given as goal
 
 abbrev pub invariant-loop-behind : goal.invariant-loop-behind
 invariant-loop-behind l = record {
-  runs : (outer : ℕ) (below : Stack) → outer + depth below ≤ greatest_nesting → fate outer l.reader.end (s.reference ∷ below) (here l.reader l.at) ≡ fate outer l.reader.end (s.names ∷ s.dot_identifier ∷ below) (here l.reader l.rest);
+  runs : (outer : ℕ) (below : Stack) → outer + depth below ≤ GREATEST_NESTING → fate outer l.reader.end (s.reference ∷ below) (here l.reader l.at) ≡ fate outer l.reader.end (s.names ∷ s.dot_identifier ∷ below) (here l.reader l.rest);
   reads : Reads (flat_map qualifier_parts (map (identifier_view kept_place) l.qualifiers.items) ++ identifier_parts (identifier_view kept_place l.type_name)) (here l.reader l.at) (here l.reader l.rest);
 }
 

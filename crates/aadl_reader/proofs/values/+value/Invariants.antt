@@ -2,7 +2,7 @@ use Rattle.std.proofs.Common.{◌≡◌, ℕ, ◌+◌, ◌*◌, ◌∷◌, lengt
 use Rattle.aadl_tree.specs.Values.{more_values_parts, associations_parts}
 use Rattle.aadl_tree.specs.ValueViews.{values_view, associations_view}
 use Rattle.aadl_tree.specs.Maps.{kept_place}
-use Rattle.aadl_tree.specs.Grammar.{greatest_nesting}
+use Rattle.aadl_tree.specs.declared.limits.TheConstants.{GREATEST_NESTING}
 use Rattle.aadl_machine.specs.Symbols as s
 use Rattle.aadl_machine.specs.Machine.{Stack, depth, fate}
 use Rattle.aadl_reader.specs.Reading.{here, Reads}
@@ -25,7 +25,7 @@ decreases-associations l = 8 * l.room + 2
 
 abbrev pub invariant-more_values-loop-behind : goal.invariant-more_values-loop-behind
 invariant-more_values-loop-behind l = record {
-  runs : (outer : ℕ) (below : Stack) → outer + depth below + l.room ≡ greatest_nesting → fate outer l.reader.end (s.more_values ∷ below) (here l.reader l.at) ≡ fate outer l.reader.end (s.more_values ∷ below) (here l.reader l.rest);
+  runs : (outer : ℕ) (below : Stack) → outer + depth below + l.room ≡ GREATEST_NESTING → fate outer l.reader.end (s.more_values ∷ below) (here l.reader l.at) ≡ fate outer l.reader.end (s.more_values ∷ below) (here l.reader l.rest);
   reads : Reads (more_values_parts (values_view kept_place l.found.items)) (here l.reader l.at) (here l.reader l.rest);
 }
 
@@ -34,7 +34,7 @@ decreases-more_values-loop-behind l = length (here l.reader l.rest)
 
 abbrev pub invariant-associations-loop-found : goal.invariant-associations-loop-found
 invariant-associations-loop-found l = record {
-  runs : (outer : ℕ) (below : Stack) → outer + depth below + l.room ≡ greatest_nesting → fate outer l.reader.end (s.associations ∷ below) (here l.reader l.at) ≡ fate outer l.reader.end (s.associations ∷ below) (here l.reader l.rest);
+  runs : (outer : ℕ) (below : Stack) → outer + depth below + l.room ≡ GREATEST_NESTING → fate outer l.reader.end (s.associations ∷ below) (here l.reader l.at) ≡ fate outer l.reader.end (s.associations ∷ below) (here l.reader l.rest);
   reads : Reads (associations_parts (associations_view kept_place l.found.items)) (here l.reader l.at) (here l.reader l.rest);
 }
 

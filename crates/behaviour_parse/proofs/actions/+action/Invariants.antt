@@ -2,7 +2,7 @@ use Rattle.std.proofs.Common.{◌≡◌, ℕ, ◌+◌, ◌*◌, ◌∷◌, ◌++
 use Rattle.aadl_tree.specs.Actions.{action_parts, mores_parts, elsifs_parts}
 use Rattle.aadl_tree.specs.ActionViews.{action_view, mores_view, elsifs_view}
 use Rattle.aadl_tree.specs.Maps.{kept_place}
-use Rattle.aadl_tree.specs.Grammar.{greatest_nesting}
+use Rattle.aadl_tree.specs.declared.limits.TheConstants.{GREATEST_NESTING}
 use Rattle.aadl_machine.specs.Symbols as s
 use Rattle.aadl_machine.specs.Machine.{Stack, depth, fate}
 use Rattle.aadl_reader.specs.Reading.{here, Reads}
@@ -28,7 +28,7 @@ decreases-choice l = 8 * l.room + 4
 
 abbrev pub invariant-elsifs-loop-behind : goal.invariant-elsifs-loop-behind
 invariant-elsifs-loop-behind l = record {
-  runs : (outer : ℕ) (below : Stack) → outer + depth below + l.room ≡ greatest_nesting → fate outer l.reader.end (s.elsifs ∷ below) (here l.reader l.at) ≡ fate outer l.reader.end (s.elsifs ∷ below) (here l.reader l.rest);
+  runs : (outer : ℕ) (below : Stack) → outer + depth below + l.room ≡ GREATEST_NESTING → fate outer l.reader.end (s.elsifs ∷ below) (here l.reader l.at) ≡ fate outer l.reader.end (s.elsifs ∷ below) (here l.reader l.rest);
   reads : Reads (elsifs_parts (elsifs_view kept_place l.found.items)) (here l.reader l.at) (here l.reader l.rest);
 }
 
@@ -37,7 +37,7 @@ decreases-elsifs-loop-behind l = length (here l.reader l.rest)
 
 abbrev pub invariant-actions-loop-behind : goal.invariant-actions-loop-behind
 invariant-actions-loop-behind l = record {
-  runs : (outer : ℕ) (below : Stack) → outer + depth below + l.room ≡ greatest_nesting → fate outer l.reader.end (s.actions ∷ below) (here l.reader l.at) ≡ fate outer l.reader.end (s.mores ∷ below) (here l.reader l.rest);
+  runs : (outer : ℕ) (below : Stack) → outer + depth below + l.room ≡ GREATEST_NESTING → fate outer l.reader.end (s.actions ∷ below) (here l.reader l.at) ≡ fate outer l.reader.end (s.mores ∷ below) (here l.reader l.rest);
   reads : Reads (action_parts (action_view kept_place l.first) ++ mores_parts (mores_view kept_place l.others.items)) (here l.reader l.at) (here l.reader l.rest);
 }
 

@@ -3,7 +3,7 @@ use Rattle.std.specs.Prelude.{flat_map}
 use Rattle.aadl_tree.specs.Annexes.{transition_parts}
 use Rattle.aadl_tree.specs.Views.{transition_view}
 use Rattle.aadl_tree.specs.Maps.{kept_place}
-use Rattle.aadl_tree.specs.Grammar.{greatest_nesting}
+use Rattle.aadl_tree.specs.declared.limits.TheConstants.{GREATEST_NESTING}
 use Rattle.aadl_machine.specs.Symbols as s
 use Rattle.aadl_machine.specs.Machine.{Stack, depth, fate}
 use Rattle.aadl_reader.specs.Reading.{here, Reads}
@@ -11,7 +11,7 @@ use Rattle.behaviour_parse.proofs.annex.transition_list.Given as goal
 
 abbrev pub invariant-loop-found : goal.invariant-loop-found
 invariant-loop-found l = record {
-  runs : (outer : ℕ) (below : Stack) → outer + depth below + l.room ≡ greatest_nesting → fate outer l.reader.end (s.transition_list ∷ below) (here l.reader l.at) ≡ fate outer l.reader.end (s.transition_list ∷ below) (here l.reader l.rest);
+  runs : (outer : ℕ) (below : Stack) → outer + depth below + l.room ≡ GREATEST_NESTING → fate outer l.reader.end (s.transition_list ∷ below) (here l.reader l.at) ≡ fate outer l.reader.end (s.transition_list ∷ below) (here l.reader l.rest);
   reads : Reads (flat_map transition_parts (map (transition_view kept_place) l.found.items)) (here l.reader l.at) (here l.reader l.rest);
 }
 

@@ -2,7 +2,7 @@ use Rattle.std.proofs.Common.{◌≡◌, ℕ, ◌+◌, ◌*◌, ◌∷◌, ◌++
 use Rattle.aadl_tree.specs.Expressions.{factor_parts, factors_parts, term_parts, terms_parts, relation_parts, relations_parts}
 use Rattle.aadl_tree.specs.ExpressionViews.{factor_view, factors_view, term_view, terms_view, relation_view, relations_view}
 use Rattle.aadl_tree.specs.Maps.{kept_place}
-use Rattle.aadl_tree.specs.Grammar.{greatest_nesting}
+use Rattle.aadl_tree.specs.declared.limits.TheConstants.{GREATEST_NESTING}
 use Rattle.aadl_machine.specs.Symbols as s
 use Rattle.aadl_machine.specs.Machine.{Stack, depth, fate}
 use Rattle.aadl_reader.specs.Reading.{here, Reads}
@@ -31,7 +31,7 @@ decreases-expression l = 8 * l.room + 6
 
 abbrev pub invariant-term-loop-operator : goal.invariant-term-loop-operator
 invariant-term-loop-operator l = record {
-  runs : (outer : ℕ) (below : Stack) → outer + depth below + l.room ≡ greatest_nesting → fate outer l.reader.end (s.term ∷ below) (here l.reader l.at) ≡ fate outer l.reader.end (s.factors ∷ below) (here l.reader l.rest);
+  runs : (outer : ℕ) (below : Stack) → outer + depth below + l.room ≡ GREATEST_NESTING → fate outer l.reader.end (s.term ∷ below) (here l.reader l.at) ≡ fate outer l.reader.end (s.factors ∷ below) (here l.reader l.rest);
   reads : Reads (factor_parts (factor_view kept_place l.first) ++ factors_parts (factors_view kept_place l.others.items)) (here l.reader l.at) (here l.reader l.rest);
 }
 
@@ -40,7 +40,7 @@ decreases-term-loop-operator l = length (here l.reader l.rest)
 
 abbrev pub invariant-terms-loop-sign : goal.invariant-terms-loop-sign
 invariant-terms-loop-sign l = record {
-  runs : (outer : ℕ) (below : Stack) → outer + depth below + l.room ≡ greatest_nesting → fate outer l.reader.end (s.term ∷ s.terms ∷ below) (here l.reader l.at) ≡ fate outer l.reader.end (s.terms ∷ below) (here l.reader l.rest);
+  runs : (outer : ℕ) (below : Stack) → outer + depth below + l.room ≡ GREATEST_NESTING → fate outer l.reader.end (s.term ∷ s.terms ∷ below) (here l.reader l.at) ≡ fate outer l.reader.end (s.terms ∷ below) (here l.reader l.rest);
   reads : Reads (term_parts (term_view kept_place l.first) ++ terms_parts (terms_view kept_place l.others.items)) (here l.reader l.at) (here l.reader l.rest);
 }
 
@@ -49,7 +49,7 @@ decreases-terms-loop-sign l = length (here l.reader l.rest)
 
 abbrev pub invariant-expression-loop-operator : goal.invariant-expression-loop-operator
 invariant-expression-loop-operator l = record {
-  runs : (outer : ℕ) (below : Stack) → outer + depth below + l.room ≡ greatest_nesting → fate outer l.reader.end (s.expression ∷ below) (here l.reader l.at) ≡ fate outer l.reader.end (s.relations ∷ below) (here l.reader l.rest);
+  runs : (outer : ℕ) (below : Stack) → outer + depth below + l.room ≡ GREATEST_NESTING → fate outer l.reader.end (s.expression ∷ below) (here l.reader l.at) ≡ fate outer l.reader.end (s.relations ∷ below) (here l.reader l.rest);
   reads : Reads (relation_parts (relation_view kept_place l.first) ++ relations_parts (relations_view kept_place l.others.items)) (here l.reader l.at) (here l.reader l.rest);
 }
 

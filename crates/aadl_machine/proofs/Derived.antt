@@ -1,0 +1,10 @@
+pub mod Tails
+pub mod Settled
+pub mod Derivations
+pub mod Trees
+pub mod References
+pub mod Rows
+pub mod Contents
+pub mod Languages
+pub mod Unique
+pub mod Texts

@@ -1,0 +1,9 @@
+pub mod Shifts
+pub mod Nesting
+pub mod Walks
+pub mod Stops
+pub mod Verdict
+pub mod Starts
+pub mod Exclusive
+pub mod Answers
+pub mod Steps

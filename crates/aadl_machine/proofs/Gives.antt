@@ -1,0 +1,5 @@
+pub mod Values
+pub mod Expressions
+pub mod Actions
+pub mod Annexes
+pub mod Declarations
