@@ -8,7 +8,7 @@ use Rattle.step_code.specs.declared.instr.Instr.TheVariants.{Store, Jump, JumpZe
 use Rattle.step_code.specs.declared.instr.CodeParts.{CodeParts}
 use Rattle.step_code.specs.declared.fault.CodeFault.{CodeFault}
 use Rattle.step_code.specs.declared.fault.CodeFault.TheVariants as fault
-use Rattle.step_code.specs.declared.code.TheConstants.{MOST_INSTRS}
+use Rattle.pals_base.specs.declared.limits.TheConstants.{INSTRUCTIONS}
 use Rattle.step_code.specs.Paths.{jump_of, may_go_on, next_of, onward}
 use Rattle.step_code.specs.Heights.{takes, after, Member, Reaches, ComesFromBelow, Given, ways}
 use Rattle.step_code.specs.Rules.{strays, lacks_next, jumps_badly, jumps_back, lacks_loop, misses_slot, is_bad_entry, on_some, finds, Underflows, Differs, Rule, BadJump, BackJump, BadSlot, Underflow, HeightsDiffer, rank, Finds, IsCleanBelow, IsFirst, IsFaultOf}
@@ -281,7 +281,7 @@ found_differs c hs p h i known are within holds d =
       differs = x.differs;
     }
 
-pub passed_fault : (c : CodeParts) (old new : List (Option ℕ)) (p h : ℕ) (i : Instr) (r : Result (Unit {0}) CodeFault) → length c.instrs ≤ MOST_INSTRS → IsKnown c p i → IsCleanBelow c p → AreHeights c.instrs c.entries p old → p < length c.instrs
+pub passed_fault : (c : CodeParts) (old new : List (Option ℕ)) (p h : ℕ) (i : Instr) (r : Result (Unit {0}) CodeFault) → length c.instrs ≤ INSTRUCTIONS → IsKnown c p i → IsCleanBelow c p → AreHeights c.instrs c.entries p old → p < length c.instrs
     → Holds old p h → Passed old new p i h r → IfErr r (λ f. IsFaultOf c f)
 passed_fault c old new p h i (Ok done) short known clean are within holds on = tt
 passed_fault c old new p h i (Err (fault.Underflow q)) short known clean are within holds on =

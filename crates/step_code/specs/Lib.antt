@@ -8,5 +8,6 @@ pub mod Walks
 pub mod Rules
 pub mod Checks
 pub mod Capped
+pub mod Lengths
 pub mod Means
 pub mod Examples

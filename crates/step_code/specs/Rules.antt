@@ -6,7 +6,7 @@ use Rattle.step_code.specs.declared.instr.Instr.TheVariants.{Load, Store, Port, 
 use Rattle.step_code.specs.declared.instr.CodeParts.{CodeParts}
 use Rattle.step_code.specs.declared.fault.CodeFault.{CodeFault}
 use Rattle.step_code.specs.declared.fault.CodeFault.TheVariants as fault
-use Rattle.step_code.specs.declared.code.TheConstants.{MOST_INSTRS}
+use Rattle.pals_base.specs.declared.limits.TheConstants.{INSTRUCTIONS}
 use Rattle.step_code.specs.declared.loops.Loop.{Loop}
 use Rattle.step_code.specs.Loops.{loop_at, loops_below, around}
 use Rattle.step_code.specs.Paths.{jump_of, next_of}
@@ -149,22 +149,22 @@ pub record IsCleanBelow (c : CodeParts) (p : ℕ) : Type 0 where
 
 -- no rule finds anything at earlier places, nor an earlier rule at this one
 pub record IsFirst (c : CodeParts) (rule : Rule) (p : ℕ) : Type 0 where
-  pub short : length c.instrs ≤ MOST_INSTRS
+  pub short : length c.instrs ≤ INSTRUCTIONS
   pub here : Finds c rule p
   pub earlier_places : IsCleanBelow c p
   pub earlier_rules : (r : Rule) → rank r < rank rule → ¬ Finds c r p
 
--- the fault is the first one of these parts
+-- the fault is the first one of these parts; memory may be wanting where they are not too long
 abbrev pub IsFaultOf : CodeParts → CodeFault → Type 0
 IsFaultOf c (fault.BadJump p) = IsFirst c BadJump p
 IsFaultOf c (fault.BackJump p) = IsFirst c BackJump p
 IsFaultOf c (fault.BadSlot p) = IsFirst c BadSlot p
 IsFaultOf c (fault.Underflow p) = IsFirst c Underflow p
 IsFaultOf c (fault.HeightsDiffer p) = IsFirst c HeightsDiffer p
-IsFaultOf c (fault.TooLong n) = (n ≡ length c.instrs) × (MOST_INSTRS < length c.instrs)
-IsFaultOf c fault.Memory = ⊥
+IsFaultOf c (fault.TooLong n) = (n ≡ length c.instrs) × (INSTRUCTIONS < length c.instrs)
+IsFaultOf c fault.Memory = length c.instrs ≤ INSTRUCTIONS
 
 -- no rule finds anything
 pub record IsVerified (c : CodeParts) : Type 0 where
-  pub short : length c.instrs ≤ MOST_INSTRS
+  pub short : length c.instrs ≤ INSTRUCTIONS
   pub clean : (p : ℕ) (rule : Rule) → ¬ Finds c rule p

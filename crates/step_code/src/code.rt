@@ -6,9 +6,6 @@ ghost use Rattle.step_code.specs.Capped.{capped};
 use crate::instr::CodeParts;
 use std::marker::Model;
 
-/// The greatest number of instructions of a code.
-pub const MOST_INSTRS: usize = 4096;
-
 /// Instructions whose steps always end, and never lack an operand, a slot, a port or a place.
 /// Contracts see their parts. [`crate::verify`] makes code.
 #[derive(Drop)]

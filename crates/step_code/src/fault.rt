@@ -26,7 +26,7 @@ pub enum CodeFault {
     /// A jump to a place that is not greater, or a part of a loop that is none.
     #[error("BackJump")]
     BackJump { at: usize },
-    /// There was not enough memory.
+    /// There was not enough memory, for instructions that are not too many.
     #[error("Memory")]
     Memory,
 }

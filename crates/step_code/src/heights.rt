@@ -2,7 +2,7 @@
 ghost use Rattle.std.specs.Prelude.{◌≡◌, ◌≤◌, ◌<◌, ◌↔◌, length, option_to_list, IfOk, IsTrue, Some};
 ghost use Rattle.step_code.specs.Paths.{onward};
 ghost use Rattle.step_code.specs.Checks.{AreHeights, Clashes, AreThere, AreSet, Passed};
-ghost use Rattle.step_code.specs.declared.code.TheConstants.{MOST_INSTRS};
+ghost use Rattle.pals_base.specs.declared.limits.TheConstants.{INSTRUCTIONS};
 
 use crate::fault::CodeFault;
 use crate::instr::{CodeParts, Instr};
@@ -33,7 +33,7 @@ pub fn pass_on(
     instr: Instr,
     height: usize,
 ) -> Result<(), CodeFault>
-    requires small { at < MOST_INSTRS }
+    requires small { at < INSTRUCTIONS }
     requires low { height ≤ at }
     requires there { AreThere (onward at (Some instr)) (length heights.old) }
     ensures { Passed heights.old heights.new at instr height result }

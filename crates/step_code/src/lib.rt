@@ -9,8 +9,6 @@ pub mod instr;
 pub mod laws;
 mod loops;
 mod rules;
-#[cfg(test)]
-mod tests;
 mod verifier;
 mod weights;
 

@@ -1,16 +1,18 @@
 //! Whether parts are code.
-ghost use Rattle.std.specs.Prelude.{◌≡◌, ◌≢◌, ◌<◌, ◌≤◌, ◌+◌, ℕ, Bool, false, length, IfOk, IfErr, OnOk};
+ghost use Rattle.std.specs.Prelude.{◌≡◌, ◌<◌, ◌≤◌, ◌+◌, ℕ, Bool, false, length, IfOk, IfErr, OnOk};
 ghost use Rattle.step_code.specs.Innermost.{AreInnermost};
 ghost use Rattle.step_code.specs.Rules.{is_bad_entry, enters_badly, IsCleanBelow, IsFaultOf, IsVerified};
 ghost use Rattle.step_code.specs.Checks.{IsLeast, or_bad, AreHeights};
+ghost use Rattle.pals_base.specs.declared.limits.TheConstants.{INSTRUCTIONS};
 
-use crate::code::{Code, MOST_INSTRS};
+use crate::code::Code;
 use crate::fault::CodeFault;
 use crate::heights::{entry_heights, pass_on};
 use crate::instr::CodeParts;
 use crate::loops::{Loop, innermost};
 use crate::rules::{jumps_back, jumps_badly, misses_slot};
 use crate::weights::most_weight;
+use pals_base::limits::INSTRUCTIONS;
 use std::alloc::Global;
 
 /// The code of these parts, or their first fault: too many instructions, or else the first place
@@ -18,10 +20,10 @@ use std::alloc::Global;
 pub fn verify(alloc: Global, parts: CodeParts) -> Result<Code, CodeFault>
     ensures code { IfOk result (λ code. code ≡ parts) }
     ensures verified { OnOk result (IsVerified parts) }
-    ensures fault { IfErr result (λ fault. fault ≢ CodeFault.Memory → IsFaultOf parts fault) }
+    ensures fault { IfErr result (λ fault. IsFaultOf parts fault) }
 {
     let length = parts.instrs.len();
-    if length > MOST_INSTRS {
+    if length > INSTRUCTIONS {
         return Err(CodeFault::TooLong {
             length: length as u64,
         });
@@ -34,11 +36,11 @@ pub fn verify(alloc: Global, parts: CodeParts) -> Result<Code, CodeFault>
 
 // What the rules find first.
 fn check(alloc: Global, parts: &CodeParts, innermost: &[Option<Loop>]) -> Result<(), CodeFault>
-    requires short { length parts.now.instrs ≤ MOST_INSTRS }
+    requires short { length parts.now.instrs ≤ INSTRUCTIONS }
     requires innermost { AreInnermost parts.now.instrs innermost.now }
     requires count { length innermost.now ≡ length parts.now.instrs }
     ensures verified { OnOk result (IsVerified parts.now) }
-    ensures fault { IfErr result (λ fault. fault ≢ CodeFault.Memory → IsFaultOf parts.now fault) }
+    ensures fault { IfErr result (λ fault. IsFaultOf parts.now fault) }
 {
     let bad_entry = first_bad_entry(parts, innermost);
     let mut heights = entry_heights(alloc, parts)?;
@@ -61,7 +63,7 @@ fn check_place(
     heights: &mut [Option<usize>],
     at: usize,
 ) -> Result<(), CodeFault>
-    requires short { length parts.now.instrs ≤ MOST_INSTRS }
+    requires short { length parts.now.instrs ≤ INSTRUCTIONS }
     requires innermost { AreInnermost parts.now.instrs innermost.now }
     requires count { length innermost.now ≡ length parts.now.instrs }
     requires within { at < length parts.now.instrs }

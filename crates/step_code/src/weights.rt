@@ -6,7 +6,7 @@ ghost use Rattle.step_code.specs.Heights.{Member};
 ghost use Rattle.step_code.specs.Rules.{IsVerified};
 ghost use Rattle.step_code.specs.Checks.{AreThere};
 ghost use Rattle.step_code.specs.Capped.{capped, AreWeights, AreBest};
-ghost use Rattle.step_code.specs.declared.code.TheConstants.{MOST_INSTRS};
+ghost use Rattle.pals_base.specs.declared.limits.TheConstants.{INSTRUCTIONS};
 
 use crate::instr::{CodeParts, Instr};
 use crate::loops::Loop;
@@ -81,7 +81,7 @@ fn best_at(parts: &CodeParts, weights: &[u64], best: &[u64], place: usize) -> u6
 
 // The greatest of the numbers at the places to which an instruction leads.
 fn best_onward(best: &[u64], place: usize, instr: Instr) -> u64
-    requires small { place < MOST_INSTRS }
+    requires small { place < INSTRUCTIONS }
     requires there { AreThere (onward place (Some instr)) (length best.now) }
     ensures { result ≡ greatest (map (λ to. slice_index_or best.now to 0) (onward place (Some instr))) }
 {

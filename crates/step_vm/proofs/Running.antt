@@ -8,7 +8,7 @@ use Rattle.pals_base.specs.declared.values.Port.{Port}
 use Rattle.pals_base.specs.Fire.{is_present}
 use Rattle.step_code.specs.declared.instr.Instr.{Instr}
 use Rattle.step_code.specs.declared.instr.CodeParts.{CodeParts}
-use Rattle.step_code.specs.declared.code.TheConstants.{MOST_INSTRS}
+use Rattle.pals_base.specs.declared.limits.TheConstants.{INSTRUCTIONS}
 use Rattle.step_code.specs.Paths.{weight}
 use Rattle.step_code.specs.Step.{Next, Goes, Ends, Traps, step}
 use Rattle.step_code.specs.Exec.{Outcome, Ended, Trapped, Rest, then_run, run, count, senses}
@@ -81,7 +81,7 @@ pub record IsReady (t : Task) (i : Instr) (place : ℕ) (stack slots : List ℤ)
   pub operands : takes i ≤ length stack
   pub there : Fed (length slots) (length t.held) (length outs) i
   pub low : length stack ≤ place
-  pub small : place < MOST_INSTRS
+  pub small : place < INSTRUCTIONS
 
 fed_here : (t : Task) → IsTask t → IsFed t.parts.instrs (t.parts.vars + t.parts.loops) (length t.held) t.parts.outs
 fed_here t is = subst (λ n. IsFed t.parts.instrs (t.parts.vars + t.parts.loops) n t.parts.outs) (sym is.held') (verified_fed t.parts is.verified)

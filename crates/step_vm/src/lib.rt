@@ -6,8 +6,6 @@ mod operators;
 mod room;
 mod stack;
 mod steps;
-#[cfg(test)]
-mod tests;
 
 pub use room::Room;
 pub use steps::run;

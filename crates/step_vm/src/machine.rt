@@ -1,7 +1,7 @@
 //! What one instruction does.
 ghost use Rattle.std.specs.Prelude.{◌≡◌, ◌≤◌, ◌<◌, ◌+◌, length, map, Some, slice_get};
 ghost use Rattle.pals_base.specs.Fire.{is_present};
-ghost use Rattle.step_code.specs.declared.code.TheConstants.{MOST_INSTRS};
+ghost use Rattle.pals_base.specs.declared.limits.TheConstants.{INSTRUCTIONS};
 ghost use Rattle.step_code.specs.Heights.{takes, Fed};
 ghost use Rattle.step_vm.specs.Outcomes.{Met, GivesResult, GivesBoth, done_by};
 
@@ -38,7 +38,7 @@ fn is_fresh(present: &[Port], port: usize) -> bool
 #[inline(always)]
 fn give(stack: &mut Stack, value: Result<i64, Trap>, place: usize) -> Onward
     requires room { length stack.old.numbers < stack.old.size }
-    requires small { place < MOST_INSTRS }
+    requires small { place < INSTRUCTIONS }
     ensures met { GivesResult result stack.new.numbers value place stack.old.numbers }
     ensures size { stack.new.size ≡ stack.old.size }
 {
@@ -56,7 +56,7 @@ fn give(stack: &mut Stack, value: Result<i64, Trap>, place: usize) -> Onward
 fn two(stack: &mut Stack, op: Op, place: usize) -> Onward
     requires both { 2 ≤ length stack.old.numbers }
     requires room { length stack.old.numbers ≤ stack.old.size }
-    requires small { place < MOST_INSTRS }
+    requires small { place < INSTRUCTIONS }
     ensures met { GivesBoth result stack.new.numbers op place stack.old.numbers }
     ensures size { stack.new.size ≡ stack.old.size }
 {
@@ -79,7 +79,7 @@ pub fn advance(
     requires there { Fed (length slots.old) (length inputs.held.now) (length outs.old) instr }
     requires inputs { length inputs.present.now ≡ length inputs.held.now }
     requires room { length stack.old.numbers < stack.old.size }
-    requires small { place < MOST_INSTRS }
+    requires small { place < INSTRUCTIONS }
     ensures met { Met result stack.new.numbers slots.new outs.new (done_by instr place stack.old.numbers slots.old outs.old inputs.entry) }
     ensures size { stack.new.size ≡ stack.old.size }
 {

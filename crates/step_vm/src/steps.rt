@@ -20,14 +20,34 @@ enum Ended {
     Trapped(Trap),
 }
 
-/// One step of the code at these inputs: the frame and the outputs become those that it leaves.
-/// It takes no memory and refuses nothing.
+/// One step of the code at these inputs: the frame and the outputs become those that it leaves, and
+/// the frame fits the code again. It takes no memory and refuses nothing.
 pub fn run(code: &Code, room: &mut Room, frame: &mut Frame, inputs: &[Port], outs: &mut [Port])
     requires room { IsRoomOf code.now room.old }
     requires frame { FitsCode code.now frame.old }
     requires inputs { length inputs.now ≡ code.now.ins }
     requires outs { length outs.old ≡ code.now.outs }
     ensures step { exec code.now frame.old inputs.now ≡ Leaves (record { frame = frame.new; outs = outs.new }) }
+    ensures fits { FitsCode code.now frame.new }
+    ensures room { room.new ≡ room.old }
+{
+    take_step(code.parts(), room, frame, inputs, outs);
+}
+
+// The same of the parts of a code.
+fn take_step(
+    parts: &CodeParts,
+    room: &mut Room,
+    frame: &mut Frame,
+    inputs: &[Port],
+    outs: &mut [Port],
+)
+    requires verified { IsVerified parts.now }
+    requires room { IsRoomOf parts.now room.old }
+    requires frame { FitsCode parts.now frame.old }
+    requires inputs { length inputs.now ≡ parts.now.ins }
+    requires outs { length outs.old ≡ parts.now.outs }
+    ensures step { exec parts.now frame.old inputs.now ≡ Leaves (record { frame = frame.new; outs = outs.new }) }
     ensures room { room.new ≡ room.old }
 {
     hold(&mut frame.held, inputs);
@@ -35,7 +55,6 @@ pub fn run(code: &Code, room: &mut Room, frame: &mut Frame, inputs: &[Port], out
     if frame.halt.is_some() {
         return;
     }
-    let parts = code.parts();
     let entry = entry_of(parts, frame.state);
     room.stack.clear();
     let slots = room.slots.as_mut_slice();

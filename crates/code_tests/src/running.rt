@@ -1,8 +1,9 @@
-use crate::{Room, run};
+//! What the steps of code leave.
 use pals_base::{Frame, Items, Port, Trap};
 use std::alloc::Global;
 use std::test::Fail;
 use step_code::{CodeParts, Instr, verify};
+use step_vm::{Room, run};
 
 // What a step of these instructions leaves of a frame whose variable is 4 and which holds 0, and
 // of the one out port. There are one entry, at 0, two slots for loops and one in port.

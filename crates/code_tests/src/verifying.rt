@@ -1,8 +1,9 @@
-use crate::{CodeFault, CodeParts, Instr, most, verify};
+//! Which parts are code, and what code weighs.
 use pals_base::Items;
 use std::alloc::{AllocError, Global};
 use std::process::Abort;
 use std::test::Fail;
+use step_code::{CodeFault, CodeParts, Instr, most, verify};
 
 // Parts with one entry, at 0, one variable and two slots for loops, one in port and one out port.
 fn parts(alloc: Global, instrs: &[Instr]) -> Result<CodeParts, AllocError> {

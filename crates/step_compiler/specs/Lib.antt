@@ -1,0 +1,6 @@
+pub mod Layout
+pub mod Depths
+pub mod Order
+pub mod Blocks
+pub mod Adding
+pub mod Refusals

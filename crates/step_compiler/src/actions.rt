@@ -1,0 +1,109 @@
+//! The instructions of actions.
+ghost use Rattle.std.specs.Prelude.{[], ◌∷◌, OnOk};
+ghost use Rattle.pals_base.specs.Seen.{action_of, actions_along, branches_along};
+ghost use Rattle.pals_base.specs.Tree.{For};
+ghost use Rattle.step_compiler.specs.Layout.{code_act, code_acts, code_branches};
+ghost use Rattle.step_compiler.specs.Adding.{Adds};
+
+use crate::expressions::push_expr;
+use crate::lengths::{acts_length, branches_length, expr_length};
+use crate::places::{behind, deeper};
+use pals_base::{Act, Branch, Items, NoMemory};
+use step_code::Instr;
+
+/// Adds the instructions of actions, where so many variables are in sight, those of the loops round
+/// the place too. It recurs as deep as the tree is, and counts each part again at each level above
+/// it.
+#[cycle(push_act)]
+pub fn push_acts(code: &mut Items<Instr>, acts: &[Act], variables: u32) -> Result<(), NoMemory>
+    ensures { OnOk result (Adds code.old code.new (code_acts (actions_along acts.now) variables)) }
+{
+    for act in acts {
+        push_act(code, act, variables)?;
+    }
+    Ok(())
+}
+
+#[cycle(push_act)]
+fn push_act(code: &mut Items<Instr>, act: &Act, variables: u32) -> Result<(), NoMemory>
+    ensures { OnOk result (Adds code.old code.new (code_act (action_of act.now) variables)) }
+{
+    match act {
+        Act::Assign { variable, value } => {
+            push_expr(code, value)?;
+            code.push(Instr::Store(*variable))
+        }
+        Act::Emit { port, value } => {
+            push_expr(code, value)?;
+            code.push(Instr::Emit(*port))
+        }
+        Act::If {
+            branches,
+            otherwise,
+        } => {
+            let length = branches_length(branches).saturating_add(acts_length(otherwise));
+            let end = behind(code.len(), length)?;
+            push_branches(code, branches, variables, end)?;
+            push_acts(code, otherwise, variables)
+        }
+        Act::For { low, high, body } => push_for(code, *low, *high, body, variables),
+    }
+}
+
+// The body between the two ends of a loop.
+#[cycle(push_act)]
+fn push_for(
+    code: &mut Items<Instr>,
+    low: i64,
+    high: i64,
+    body: &[Act],
+    variables: u32,
+) -> Result<(), NoMemory>
+    ensures { OnOk result (Adds code.old code.new (code_act (For low high (actions_along body.now)) variables)) }
+{
+    let slot = variables;
+    let to = behind(code.len(), 1)?;
+    let exit = behind(code.len(), acts_length(body).saturating_add(2))?;
+    code.push(Instr::LoopStart {
+        slot,
+        low,
+        high,
+        exit,
+    })?;
+    push_acts(code, body, deeper(variables)?)?;
+    code.push(Instr::LoopNext { slot, high, to })
+}
+
+// The branches of an `if`, each of which jumps to the end of all.
+#[cycle(push_act)]
+fn push_branches(
+    code: &mut Items<Instr>,
+    branches: &[Branch],
+    variables: u32,
+    end: u32,
+) -> Result<(), NoMemory>
+    ensures { OnOk result (Adds code.old code.new (code_branches (branches_along branches.now) variables end)) }
+{
+    for branch in branches {
+        push_branch(code, branch, variables, end)?;
+    }
+    Ok(())
+}
+
+// One branch: where its guard is not true, it jumps to the next one.
+#[cycle(push_act)]
+fn push_branch(
+    code: &mut Items<Instr>,
+    branch: &Branch,
+    variables: u32,
+    end: u32,
+) -> Result<(), NoMemory>
+    ensures { OnOk result (Adds code.old code.new (code_branches (branches_along (branch.now ∷ [])) variables end)) }
+{
+    let length = expr_length(&branch.guard).saturating_add(acts_length(&branch.acts));
+    let next = behind(code.len(), length.saturating_add(2))?;
+    push_expr(code, &branch.guard)?;
+    code.push(Instr::JumpZero(next))?;
+    push_acts(code, &branch.acts, variables)?;
+    code.push(Instr::Jump(end))
+}

@@ -1,0 +1,65 @@
+//! Code of behaviours.
+ghost use Rattle.std.specs.Prelude.{◌≡◌, length, IfOk, IfErr};
+ghost use Rattle.step_code.specs.Lengths.{code_length};
+ghost use Rattle.step_code.specs.Means.{Means};
+ghost use Rattle.step_compiler.specs.Blocks.{compiled};
+ghost use Rattle.step_compiler.specs.Refusals.{IsCauseFor};
+
+use crate::blocks::{entries, push_blocks, starts};
+use crate::depths::transitions_depth;
+use crate::fault::CompileFault;
+use crate::lengths::transitions_length;
+use crate::order::block_order;
+use crate::places::count;
+use pals_base::limits::INSTRUCTIONS;
+use pals_base::{Behaviour, Items, NoMemory};
+use std::alloc::Global;
+use step_code::{Code, CodeFault, CodeParts, verify};
+
+/// The code of a behaviour: each step of it leaves what the behaviour's step leaves. Code that is
+/// longer than a component's code may be is refused, and nothing else is.
+pub fn compile(alloc: Global, behaviour: &Behaviour) -> Result<Code, CompileFault>
+    ensures means { IfOk result (λ code. Means code behaviour.now) }
+    ensures length { IfOk result (λ code. length code.instrs ≡ code_length behaviour.now) }
+    ensures fault { IfErr result (IsCauseFor behaviour.now) }
+{
+    let length = transitions_length(behaviour.parts().transitions.as_slice());
+    if length > INSTRUCTIONS as u64 {
+        return Err(CompileFault::CodeTooLong { length });
+    }
+    let parts = compiled(alloc, behaviour)?;
+    match verify(alloc, parts) {
+        Ok(code) => Ok(code),
+        Err(fault) => Err(refusal(fault)),
+    }
+}
+
+// Of the parts of a behaviour's code the verifier refuses none: memory alone can be wanting.
+fn refusal(fault: CodeFault) -> CompileFault
+    requires { fault ≡ CodeFault.Memory }
+    ensures { result ≡ CompileFault.Memory }
+{
+    match fault {
+        CodeFault::Memory => CompileFault::Memory,
+        _ => unreachable!(),
+    }
+}
+
+// The parts of the code of a behaviour.
+fn compiled(alloc: Global, behaviour: &Behaviour) -> Result<CodeParts, NoMemory>
+    ensures { IfOk result (λ parts. parts ≡ compiled behaviour.now) }
+{
+    let parts = behaviour.parts();
+    let order = block_order(alloc, behaviour)?;
+    let starts = starts(alloc, behaviour, &order)?;
+    let mut instrs = Items::new(alloc);
+    push_blocks(&mut instrs, behaviour, &starts, &order)?;
+    Ok(CodeParts {
+        instrs,
+        entries: entries(alloc, behaviour, &starts)?,
+        vars: count(parts.vars.len())?,
+        loops: transitions_depth(parts.transitions.as_slice())?,
+        ins: count(parts.ins.len())?,
+        outs: count(parts.outs.len())?,
+    })
+}

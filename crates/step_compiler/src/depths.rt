@@ -1,0 +1,59 @@
+//! How deep loops nest in actions. A depth past what a number can count is want of memory.
+ghost use Rattle.std.specs.Prelude.{◌≡◌, IfOk};
+ghost use Rattle.pals_base.specs.Seen.{action_of, actions_along, branches_along};
+ghost use Rattle.step_compiler.specs.Depths.{depth_act, depth_acts, depth_branches, depth_edges};
+
+use crate::places::deeper;
+use pals_base::{Act, Branch, NoMemory, Transition};
+
+/// How deep loops nest in actions.
+#[cycle(depth)]
+pub fn acts_depth(acts: &[Act]) -> Result<u32, NoMemory>
+    ensures { IfOk result (λ depth. depth ≡ depth_acts (actions_along acts.now)) }
+{
+    let mut depth = 0;
+    for act in acts {
+        depth = act_depth(act)?.max(depth);
+    }
+    Ok(depth)
+}
+
+#[cycle(depth)]
+fn act_depth(act: &Act) -> Result<u32, NoMemory>
+    ensures { IfOk result (λ depth. depth ≡ depth_act (action_of act.now)) }
+{
+    match act {
+        Act::Assign { .. } => Ok(0),
+        Act::Emit { .. } => Ok(0),
+        Act::If {
+            branches,
+            otherwise,
+        } => {
+            let depth = branches_depth(branches)?;
+            Ok(depth.max(acts_depth(otherwise)?))
+        }
+        Act::For { body, .. } => deeper(acts_depth(body)?),
+    }
+}
+
+#[cycle(depth)]
+fn branches_depth(branches: &[Branch]) -> Result<u32, NoMemory>
+    ensures { IfOk result (λ depth. depth ≡ depth_branches (branches_along branches.now)) }
+{
+    let mut depth = 0;
+    for branch in branches {
+        depth = acts_depth(&branch.acts)?.max(depth);
+    }
+    Ok(depth)
+}
+
+/// How deep loops nest in the actions of transitions.
+pub fn transitions_depth(transitions: &[Transition]) -> Result<u32, NoMemory>
+    ensures { IfOk result (λ depth. depth ≡ depth_edges transitions.now) }
+{
+    let mut depth = 0;
+    for transition in transitions {
+        depth = acts_depth(&transition.acts)?.max(depth);
+    }
+    Ok(depth)
+}

@@ -1,0 +1,16 @@
+//! The compiler from behaviours to step code: no node can tell the code from the behaviour.
+#![tactic(auto)]
+
+mod actions;
+mod blocks;
+mod compiler;
+mod depths;
+mod expressions;
+mod fault;
+mod lengths;
+mod order;
+mod places;
+mod transitions;
+
+pub use compiler::compile;
+pub use fault::CompileFault;
