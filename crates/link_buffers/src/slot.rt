@@ -1,5 +1,5 @@
 //! The slot of an in port.
-ghost use Rattle.std.specs.Prelude.{◌≡◌, ◌↔◌, IsTrue, IsSome, is_some, if◌then◌else◌};
+ghost use Rattle.std.specs.Prelude.{◌≡◌, ◌↔◌, IsTrue, IsSome, is_some, option_copied, if◌then◌else◌};
 
 use pals_base::Tuple;
 use std::marker::Model;
@@ -32,6 +32,13 @@ impl Slot {
         ensures { IsTrue result ↔ IsSome self.now }
     {
         self.tuple.is_some()
+    }
+
+    /// The message that the slot holds, which stays there.
+    pub fn message(&self) -> Option<&Tuple>
+        ensures { option_copied result ≡ self.now }
+    {
+        self.tuple.as_ref()
     }
 
     /// Puts a message into the slot. It comes back exactly where the slot is full, which then keeps

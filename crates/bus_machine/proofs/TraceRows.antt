@@ -1,0 +1,14 @@
+-- The rows of traces and of targets, computed.
+use Rattle.std.proofs.Common.{refl}
+use Rattle.std.specs.Fmt.{digits}
+use Rattle.pals_base.specs.Fire.{fire}
+use Rattle.pals_model.specs.Inputs.{feed}
+use Rattle.pals_model.specs.Composition.{comp, part}
+use Rattle.bus_machine.specs.TraceRows.{TracesAreJudged, NodesHaveTargets}
+
+pub traces_are_judged : TracesAreJudged
+unfolding digits fire comp part feed
+traces_are_judged = record { sound = refl; row = refl; release = refl; unfinished = refl }
+
+pub nodes_have_targets : NodesHaveTargets
+nodes_have_targets = record { slow = refl; fast = refl }

@@ -1,0 +1,5 @@
+use Rattle.bus_machine.proofs.Rows.{early_row}
+use Rattle.bus_machine.proofs.laws.early_arrival.Goals as goal
+
+pub returns : goal.returns
+returns c = early_row

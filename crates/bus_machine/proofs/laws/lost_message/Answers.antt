@@ -1,0 +1,5 @@
+use Rattle.bus_machine.proofs.Rows.{lost_row}
+use Rattle.bus_machine.proofs.laws.lost_message.Goals as goal
+
+pub returns : goal.returns
+returns c = lost_row

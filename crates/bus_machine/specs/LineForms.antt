@@ -1,0 +1,111 @@
+-- Which lines have the form of a journal line, and what they say.
+use Rattle.std.specs.Prelude.{ℕ, ◌+◌, ◌-◌, ◌*◌, nat_eq, nat_le, Bool, not, ◌&&◌, if◌then◌else◌, List, [], ◌∷◌, length, fold, bytes_eq, codes, decimal, Option, Some, None, option_and_then, option_map}
+use Rattle.std.specs.List.{list_all, slice_split}
+use Rattle.pals_base.specs.declared.limits.TheConstants.{ROUNDS, READING}
+use Rattle.pals_runs.specs.declared.journal.Arrived.{Arrived}
+use Rattle.pals_runs.specs.declared.journal.Arrived.TheVariants.{Kept, Ignored, Early}
+use Rattle.pals_runs.specs.declared.journal.Cause.{Cause}
+use Rattle.pals_runs.specs.declared.journal.Cause.TheVariants.{NotSent, InTransit, Lost}
+
+-- a line with its name as it stands; a reading may be none, as in a loose world
+pub data Form : Type 0 where
+  ArriveLine : List ℕ → ℕ → Option ℕ → Arrived → Form
+  StartLine : List ℕ → ℕ → Option ℕ → Form
+  StepLine : List ℕ → ℕ → ℕ → Option ℕ → Form
+  FinishLine : List ℕ → ℕ → Form
+  SendLine : List ℕ → ℕ → Option ℕ → Form
+  DropLine : List ℕ → ℕ → Form
+  RepeatLine : List ℕ → ℕ → Form
+  EarlyLine : List ℕ → ℕ → Option ℕ → Form
+  MissedLine : List ℕ → ℕ → Option ℕ → Cause → Form
+
+-- ---- words
+abbrev pub is : List ℕ → List ℕ → Bool
+is word other = bytes_eq word other
+
+-- the number that digits spell
+abbrev pub spelled : List ℕ → ℕ
+spelled word = fold (λ n digit. n * 10 + (digit - 48)) 0 word
+
+-- a number up to this one, in decimal digits without a leading zero
+abbrev pub number_up_to : ℕ → List ℕ → Option ℕ
+number_up_to most word = if is word (decimal (spelled word)) && nat_le (spelled word) most then Some (spelled word) else None
+
+abbrev pub round_in : List ℕ → Option ℕ
+round_in word = number_up_to ROUNDS word
+
+abbrev pub reading_in : List ℕ → Option (Option ℕ)
+reading_in word = if is word (codes "_") then Some None else option_map (λ n. Some n) (number_up_to READING word)
+
+abbrev pub arrived_in : List ℕ → Option Arrived
+arrived_in word =
+    if is word (codes "kept") then Some Kept
+    else if is word (codes "ignored") then Some Ignored
+    else if is word (codes "early") then Some Early
+    else None
+
+abbrev pub cause_in : List ℕ → Option Cause
+cause_in word =
+    if is word (codes "not-sent") then Some NotSent
+    else if is word (codes "in-transit") then Some InTransit
+    else if is word (codes "lost") then Some Lost
+    else None
+
+-- ---- what follows a first word
+-- a name and a round, and then what is left
+abbrev pub named : List (List ℕ) → (List ℕ → ℕ → List (List ℕ) → Option Form) → Option Form
+named [] go = None
+named (name ∷ []) go = None
+named (name ∷ round ∷ rest) go = option_and_then (λ r. go name r rest) (round_in round)
+
+abbrev pub at_end : Form → List (List ℕ) → Option Form
+at_end form [] = Some form
+at_end form (word ∷ rest) = None
+
+-- a reading, and then what is left
+abbrev pub read : List (List ℕ) → (Option ℕ → List (List ℕ) → Option Form) → Option Form
+read [] go = None
+read (word ∷ rest) go = option_and_then (λ reading. go reading rest) (reading_in word)
+
+abbrev pub with_result : List (List ℕ) → (Arrived → Form) → Option Form
+with_result [] go = None
+with_result (word ∷ rest) go = option_and_then (λ result. at_end (go result) rest) (arrived_in word)
+
+abbrev pub with_cause : List (List ℕ) → (Cause → Form) → Option Form
+with_cause [] go = None
+with_cause (word ∷ rest) go = option_and_then (λ cause. at_end (go cause) rest) (cause_in word)
+
+abbrev pub step_line : List ℕ → ℕ → List (List ℕ) → Option Form
+step_line name round [] = None
+step_line name round (step ∷ rest) = option_and_then (λ i. read rest (λ reading left. at_end (StepLine name round i reading) left)) (round_in step)
+
+abbrev pub stop_line : List (List ℕ) → Option Form
+stop_line [] = None
+stop_line (why ∷ rest) =
+    if is why (codes "early") then named rest (λ name round more. read more (λ reading left. at_end (EarlyLine name round reading) left))
+    else if is why (codes "missed") then named rest (λ name round more. read more (λ reading left. with_cause left (λ cause. MissedLine name round reading cause)))
+    else None
+
+-- ---- lines
+abbrev pub form_of_words : List (List ℕ) → Option Form
+form_of_words [] = None
+form_of_words (first ∷ rest) =
+    if is first (codes "arrive") then named rest (λ name round more. read more (λ reading left. with_result left (λ result. ArriveLine name round reading result)))
+    else if is first (codes "start") then named rest (λ name round more. read more (λ reading left. at_end (StartLine name round reading) left))
+    else if is first (codes "step") then named rest step_line
+    else if is first (codes "finish") then named rest (λ name round left. at_end (FinishLine name round) left)
+    else if is first (codes "send") then named rest (λ name round more. read more (λ reading left. at_end (SendLine name round reading) left))
+    else if is first (codes "drop") then named rest (λ name round left. at_end (DropLine name round) left)
+    else if is first (codes "repeat") then named rest (λ name round left. at_end (RepeatLine name round) left)
+    else if is first (codes "stop") then stop_line rest
+    else None
+
+abbrev pub is_there : List ℕ → Bool
+is_there word = not (nat_eq (length word) 0)
+
+-- exactly one space parts each two words
+abbrev pub words_of : List ℕ → List (List ℕ)
+words_of line = slice_split (nat_eq 32) line
+
+abbrev pub form_of : List ℕ → Option Form
+form_of line = if list_all is_there (words_of line) then form_of_words (words_of line) else None

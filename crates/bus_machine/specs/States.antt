@@ -1,0 +1,56 @@
+-- The state of a run: its nodes, its links and perhaps a stop.
+use Rattle.std.specs.Prelude.{ℕ, true, List, [], length, map, Option, None, slice_index_or, slice_set}
+use Rattle.pals_base.specs.Steps.{upwards}
+use Rattle.pals_model.specs.declared.design.Link.{Link}
+use Rattle.pals_model.specs.declared.design.DesignParts.{DesignParts}
+use Rattle.pals_model.specs.declared.rounds.Env.{Env}
+use Rattle.pals_model.specs.declared.rounds.Delays.{Delays}
+use Rattle.pals_model.specs.declared.flight.FlightCopy.{FlightCopy}
+use Rattle.pals_model.specs.Composition.{no_frame}
+use Rattle.pals_runs.specs.declared.journal.Phase.TheVariants.{Done}
+use Rattle.pals_runs.specs.declared.journal.Stop.{Stop}
+use Rattle.bus_machine.specs.Plans.{plan_of}
+use Rattle.bus_machine.specs.Nodes.{NodeState, opening_node}
+
+-- what a run is of: a design, the values of its root in ports, how many rounds, and how long messages take
+pub record Run : Type 0 where
+  pub design : DesignParts
+  pub env : Env
+  pub rounds : ℕ
+  pub delays : Delays
+
+pub record BusState : Type 0 where
+  pub nodes : List NodeState
+  -- the copies in flight on each link
+  pub flights : List (List FlightCopy)
+  pub stop : Option Stop
+
+abbrev pub opening : Run → BusState
+opening run = record {
+  nodes = map (λ node. opening_node (plan_of run.design node)) (upwards 0 (length run.design.components));
+  flights = map (λ (_ : Link). []) run.design.links;
+  stop = None;
+}
+
+-- ---- what stands where
+-- a node that is not there has nothing to do
+abbrev pub no_node : NodeState
+no_node = record { count = 0; phase = Done; frame = no_frame; slots = []; vectors = []; outs = []; sent = true; parts = [] }
+
+abbrev pub node_at : BusState → ℕ → NodeState
+node_at s node = slice_index_or s.nodes node no_node
+
+abbrev pub flight_at : BusState → ℕ → List FlightCopy
+flight_at s link = slice_index_or s.flights link []
+
+abbrev pub no_link : Link
+no_link = record { source = record { 0 = 0 }; out_port = 0; target = record { 0 = 0 }; in_port = 0; adaptor = None }
+
+abbrev pub link_at : DesignParts → ℕ → Link
+link_at design link = slice_index_or design.links link no_link
+
+abbrev pub with_node : BusState → ℕ → NodeState → BusState
+with_node s node n = record s { nodes = slice_set s.nodes node n }
+
+abbrev pub with_flight : BusState → ℕ → List FlightCopy → BusState
+with_flight s link flight = record s { flights = slice_set s.flights link flight }

@@ -1,0 +1,47 @@
+//! Laws of the machine. The functions do nothing: their contracts are the laws.
+ghost use Rattle.bus_machine.specs.Laws.{OpeningAgrees, StepKeepsAgreement, ReplayAgrees};
+ghost use Rattle.bus_machine.specs.WorldRows.{EventsAreRefused, ArrivesTooSoon, EarliestSender, LatestSender};
+ghost use Rattle.bus_machine.specs.TraceRows.{TracesAreJudged, NodesHaveTargets};
+ghost use Rattle.bus_machine.specs.Rows.{counters, early_arrival, early_lines, lost_message, lost_lines, Tells};
+
+/// Two counters, of which the second has not started when the first one's message arrives: the run
+/// stops early.
+pub fn early_arrival()
+    ensures { Tells (counters 1) early_arrival early_lines }
+{}
+
+/// Two counters, of which one gets its message twice, and the other loses it: the run stops at the
+/// round that misses it.
+pub fn lost_message()
+    ensures { Tells (counters 2) lost_message lost_lines }
+{}
+
+/// At its opening a run agrees with the composition; each step keeps the agreement, losses and
+/// repeats included; so whatever a journal replays to agrees.
+pub fn runs_agree()
+    ensures opening { OpeningAgrees }
+    ensures step { StepKeepsAgreement }
+    ensures replay { ReplayAgrees }
+{}
+
+/// Events that a world of two counters refuses, each with its cause.
+pub fn refused_events()
+    ensures table { EventsAreRefused }
+    ensures too_soon { ArrivesTooSoon }
+{}
+
+/// Two worlds of two counters at the ends of their bounds, and the texts that they leave.
+pub fn worlds_at_their_bounds()
+    ensures earliest { EarliestSender }
+    ensures latest { LatestSender }
+{}
+
+/// The verdict on the trace of one round of two counters, and on three that are wrong.
+pub fn judged_traces()
+    ensures { TracesAreJudged }
+{}
+
+/// The targets of a node of one step in a round, and of one of four.
+pub fn node_targets()
+    ensures { NodesHaveTargets }
+{}

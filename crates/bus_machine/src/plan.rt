@@ -1,0 +1,37 @@
+//! What one node needs to know of its design.
+use pals_base::{Adaptor, Behaviour, Items, Nanos, NodeNo};
+
+/// What an in port brings to the steps of a round.
+#[derive(Clone, Copy, PartialEq, Eq, Debug)]
+pub enum Input {
+    /// Nothing: no link and no feed goes to the port.
+    Nothing,
+    /// The value of a root in port, by its place among all of them.
+    Root {
+        root: usize,
+        adaptor: Option<Adaptor>,
+    },
+    /// The message of a source that makes so many steps in a round.
+    Link {
+        rate: u32,
+        adaptor: Option<Adaptor>,
+    },
+}
+
+/// What a node needs to know: its number, what its component does and how often in a round, what
+/// each in port brings, the out port of each link from it and of each tap of it, the period of the
+/// round and of its steps, how many of its steps are sent, and how long after its alarm. All times
+/// are nanoseconds.
+#[derive(Drop)]
+pub struct Plan {
+    pub node: NodeNo,
+    pub behaviour: Behaviour,
+    pub rate: u32,
+    pub inputs: Items<Input>,
+    pub out_links: Items<u32>,
+    pub taps: Items<u32>,
+    pub period: Nanos,
+    pub step_period: Nanos,
+    pub sent_steps: u32,
+    pub release_offset: Nanos,
+}

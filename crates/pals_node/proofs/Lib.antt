@@ -1,0 +1,6 @@
+pub mod Places
+pub mod Programs
+pub mod Ends
+pub mod Plans
+pub mod Starts
+pub mod KeyLaws

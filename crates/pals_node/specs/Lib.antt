@@ -1,0 +1,5 @@
+pub mod Values
+pub mod Answers
+pub mod Keeping
+pub mod Codes
+pub mod Keys

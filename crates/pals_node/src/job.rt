@@ -1,0 +1,220 @@
+//! The job of one step, which may run anywhere, and what it leaves.
+ghost use Rattle.std.specs.Prelude.{◌≡◌, ◌↔◌, length, IsTrue, IfOk};
+ghost use Rattle.std.specs.Arc.{arc_value};
+ghost use Rattle.step_code.specs.Exec.{FitsCode};
+ghost use Rattle.pals_node.specs.Values.{IsResult, job_value};
+
+use crate::keys::same_instr;
+use crate::plan::NodePlan;
+use pals_base::{Frame, Items, NoMemory, NodeNo, Port, Same, TryClone, Tuple};
+use std::alloc::Global;
+use std::marker::Model;
+use std::sync::Arc;
+use step_code::{CodeParts, Instr};
+use step_vm::Room;
+
+/// The job of one step: the inputs, the frame that it goes on from, and all the room that it needs.
+/// Contracts see its step and its code.
+#[derive(Drop)]
+pub struct Job {
+    plan: Arc<NodePlan>,
+    round: u32,
+    step: u32,
+    frame: Frame,
+    inputs: Tuple,
+    result: Frame,
+    outs: Vec<Port>,
+    room: Room,
+}
+
+impl Model for Job {
+    ghost use Rattle.std.specs.Arc.{arc_value};
+    ghost use Rattle.pals_node.specs.Values.{JobValue, job_value};
+
+    ghost Value = { JobValue };
+
+    ghost use Rattle.pals_node.specs.Keeping.{IsJob};
+
+    ghost view = { λ j. job_value (arc_value j.plan) j.round j.step j.frame j.inputs };
+
+    ghost invariant = { λ j. IsJob (arc_value j.plan).code j.frame j.inputs j.result j.outs.items j.room };
+}
+
+/// A job that is done: what its code left. Contracts see the job.
+#[derive(Drop)]
+pub struct Done {
+    plan: Arc<NodePlan>,
+    round: u32,
+    step: u32,
+    frame: Frame,
+    inputs: Tuple,
+    result: Frame,
+    outs: Vec<Port>,
+}
+
+impl Model for Done {
+    ghost use Rattle.std.specs.Arc.{arc_value};
+    ghost use Rattle.pals_node.specs.Values.{JobValue, IsResult, job_value};
+
+    ghost Value = { JobValue };
+
+    ghost view = { λ d. job_value (arc_value d.plan) d.round d.step d.frame d.inputs };
+
+    ghost invariant = { λ d. IsResult (job_value (arc_value d.plan) d.round d.step d.frame d.inputs) (record { frame = d.result; outs = d.outs.items }) };
+}
+
+impl Job {
+    /// The job of a step, which fits its code.
+    pub(crate) fn new(
+        alloc: Global,
+        plan: &Arc<NodePlan>,
+        round: u32,
+        step: u32,
+        frame: &Frame,
+        inputs: &Tuple,
+    ) -> Result<Job, NoMemory>
+        requires frame { FitsCode (arc_value plan.now).code frame.now }
+        requires inputs { length inputs.now ≡ (arc_value plan.now).code.ins }
+        ensures { IfOk result (λ job. job ≡ job_value (arc_value plan.now) round step frame.now inputs.now) }
+    {
+        let outs = plan.code.parts().outs as usize;
+        Ok(Job {
+            plan: Arc::try_clone(plan)?,
+            round,
+            step,
+            frame: frame.try_clone(alloc)?,
+            inputs: inputs.try_clone(alloc)?,
+            result: frame.try_clone(alloc)?,
+            outs: vec![in alloc; Port::Absent; outs]?,
+            room: Room::for_code(alloc, &plan.code)?,
+        })
+    }
+
+    /// The node whose step it is.
+    pub fn node(&self) -> NodeNo
+        ensures { result ≡ self.now.work.node }
+    {
+        self.plan.plan.node
+    }
+
+    /// The round of the step.
+    pub fn round(&self) -> u32
+        ensures { result ≡ self.now.work.round }
+    {
+        self.round
+    }
+
+    /// The step, from 0, within the round.
+    pub fn step(&self) -> u32
+        ensures { result ≡ self.now.work.step }
+    {
+        self.step
+    }
+
+    /// The frame that the step goes on from.
+    pub fn frame(&self) -> &Frame
+        ensures { result.now ≡ self.now.work.frame }
+    {
+        &self.frame
+    }
+
+    /// What the in ports have in the step.
+    pub fn inputs(&self) -> &Tuple
+        ensures { result.now ≡ self.now.work.inputs }
+    {
+        &self.inputs
+    }
+
+    /// Runs the step. It takes no memory.
+    pub fn run(self) -> Done
+        ensures { result ≡ self }
+    {
+        let Job {
+            plan,
+            round,
+            step,
+            frame,
+            inputs,
+            mut result,
+            mut outs,
+            mut room,
+        } = self;
+        step_vm::run(
+            &plan.code,
+            &mut room,
+            &mut result,
+            inputs.as_slice(),
+            &mut outs,
+        );
+        Done {
+            plan,
+            round,
+            step,
+            frame,
+            inputs,
+            result,
+            outs,
+        }
+    }
+}
+
+impl Done {
+    /// Whether this is the job of a step.
+    pub(crate) fn is_of(
+        &self,
+        plan: &NodePlan,
+        round: u32,
+        step: u32,
+        frame: &Frame,
+        inputs: &Tuple,
+    ) -> bool
+        ensures { IsTrue result ↔ (self.now ≡ job_value plan.now round step frame.now inputs.now) }
+    {
+        self.plan.plan.node == plan.plan.node
+            && self.round == round
+            && self.step == step
+            && self.frame.same(frame)
+            && self.inputs.same(inputs)
+            && same_code(self.plan.code.parts(), plan.code.parts())
+    }
+
+    /// The frame and the outputs that it left.
+    pub(crate) fn into_result(self) -> (Frame, Vec<Port>)
+        ensures { IsResult self (record { frame = result.0; outs = result.1.items }) }
+    {
+        let Done { result, outs, .. } = self;
+        (result, outs)
+    }
+}
+
+// Whether two codes are the same.
+fn same_code(left: &CodeParts, right: &CodeParts) -> bool
+    ensures { IsTrue result ↔ (left.now ≡ right.now) }
+{
+    same_instrs(left.instrs.as_slice(), right.instrs.as_slice())
+        && same_entries(left.entries.as_slice(), right.entries.as_slice())
+        && left.vars == right.vars
+        && left.loops == right.loops
+        && left.ins == right.ins
+        && left.outs == right.outs
+}
+
+fn same_instrs(left: &[Instr], right: &[Instr]) -> bool
+    ensures { IsTrue result ↔ (left.now ≡ right.now) }
+{
+    if left.len() != right.len() {
+        return false;
+    }
+    for at in 0..left.len() {
+        if !same_instr(left[at], right[at]) {
+            return false;
+        }
+    }
+    true
+}
+
+fn same_entries(left: &[Option<u32>], right: &[Option<u32>]) -> bool
+    ensures { IsTrue result ↔ (left.now ≡ right.now) }
+{
+    left == right
+}

@@ -1,0 +1,18 @@
+//! One node: the machine that runs a component, round by round. It starts a round once its messages
+//! are there, hands the job of each step out, takes what was done back, and sends what its steps
+//! gave. Its contracts are the rows of the bus machine for one node (`bus_machine`).
+#![tactic(auto)]
+
+mod answers;
+mod buffers;
+mod fields;
+mod inputs;
+mod job;
+mod keys;
+mod node;
+mod plan;
+
+pub use answers::{FinishEnd, Finished, SendEnd, StartEnd, StepEnd};
+pub use job::{Done, Job};
+pub use node::Node;
+pub use plan::NodePlan;

@@ -1,0 +1,4 @@
+pub mod Formula
+pub mod FormulaCode
+pub mod FormulaOf
+pub mod Journal

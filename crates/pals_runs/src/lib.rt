@@ -1,0 +1,18 @@
+//! What scenarios, runs and audits speak of: the commands of the program, events of worlds and why
+//! one is refused, the journal of a run with its stops, the verdict on a trace, and what monitors,
+//! votes and plants are given. The text of a journal line is defined in `specs/Journal.antt`.
+#![tactic(auto)]
+
+mod commands;
+mod events;
+mod forms;
+mod journal;
+mod pairs;
+mod verdicts;
+
+pub use commands::Command;
+pub use events::{Event, EventFault, Which};
+pub use forms::{Compare, Form};
+pub use journal::{Arrived, Cause, JournalEntry, Phase, Stop};
+pub use pairs::{Pair, VoteFault};
+pub use verdicts::{TraceRule, Verdict};
