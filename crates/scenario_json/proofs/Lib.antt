@@ -1,0 +1,4 @@
+pub mod FormulaSteps
+pub mod Lists
+pub mod Readings
+pub mod Search
