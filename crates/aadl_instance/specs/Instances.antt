@@ -1,0 +1,78 @@
+-- The instance that a flattened design is shown as: threads with the text of their paths, and chains between numbers.
+use Rattle.std.specs.Prelude.{◌≡◌, ℕ, Bool, false, not, List, [], ◌∷◌, ◌++◌, map, reverse, take, count_by, Option, Some, None}
+use Rattle.std.specs.Option.{option_map_or}
+use Rattle.pals_base.specs.declared.values.NodeNo.{NodeNo}
+use Rattle.aadl_tree.specs.declared.declarations.Direction.{Direction}
+use Rattle.aadl_tree.specs.declared.declarations.Direction.TheVariants as directions
+use Rattle.aadl_tree.specs.Declarations.{Feature, PackageTree}
+use Rattle.aadl_names.specs.Resolving.{first_number, ports_at}
+use Rattle.aadl_names.specs.PackageFaults.{goes_in}
+use Rattle.aadl_instance.specs.declared.parts.ThreadAt.{ThreadAt}
+use Rattle.aadl_instance.specs.declared.parts.SubAt.{SubAt}
+use Rattle.aadl_instance.specs.declared.parts.Chain.{Chain}
+use Rattle.aadl_instance.specs.declared.parts.ChainEnd.{ChainEnd}
+use Rattle.aadl_instance.specs.declared.parts.ChainEnd.TheVariants.{Thread, Root}
+use Rattle.aadl_instance.specs.Uses.{standing, component_at}
+use Rattle.aadl_instance.specs.Chains.{Port, port_of}
+use Rattle.aadl_instance.specs.Flat.{same_path, spelled_path, Ends, Parts, IsFlat}
+
+abbrev pub same_direction : Direction → Direction → Bool
+same_direction directions.In other = goes_in (Some other)
+same_direction directions.Out other = not (goes_in (Some other))
+
+-- ---- threads
+abbrev pub sub_in : Option ℕ → ℕ → List SubAt
+sub_in None s = []
+sub_in (Some n) s = record { declaration = n; sub = s } ∷ []
+
+-- the subcomponents along a path, the innermost first
+abbrev pub subs_along : PackageTree ℕ → ℕ → List ℕ → List SubAt
+subs_along tree root [] = []
+subs_along tree root (s ∷ path) = sub_in (standing tree root path) s ++ subs_along tree root path
+
+abbrev pub thread_at : PackageTree ℕ → ℕ → List ℕ → ThreadAt
+thread_at tree root path = record { path = spelled_path tree root path; subs = reverse (subs_along tree root path) }
+
+-- ---- chains
+-- the number of the thread at a path
+abbrev pub node_at : List (List ℕ) → List ℕ → NodeNo
+node_at threads path = record { 0 = option_map_or (λ n. n) (first_number (same_path path) threads) 0 }
+
+abbrev pub goes_as : Option (Feature ℕ) → Feature ℕ → Bool
+goes_as None other = false
+goes_as (Some f) other = same_direction f.direction other.direction
+
+-- the number of a port among the ports of its component that go as it does
+abbrev pub port_number : PackageTree ℕ → ℕ → Port → ℕ
+port_number tree root p = count_by (goes_as (port_of tree root p)) (take p.port (ports_at tree (component_at tree root p.path)))
+
+abbrev pub port_name : Option (Feature ℕ) → List ℕ
+port_name None = []
+port_name (Some f) = f.name.spelling
+
+-- the root has the empty path, and threads the others
+abbrev pub end_by : PackageTree ℕ → Parts → Port → List ℕ → ChainEnd
+end_by tree parts p [] = Root (port_name (port_of tree parts.root p))
+end_by tree parts p (s ∷ path) = Thread (node_at parts.threads p.path) (port_number tree parts.root p)
+
+abbrev pub end_at : PackageTree ℕ → Parts → Port → ChainEnd
+end_at tree parts p = end_by tree parts p p.path
+
+abbrev pub chain_at : PackageTree ℕ → Parts → Ends → Chain
+chain_at tree parts ends =
+    record {
+      from = end_at tree parts ends.from;
+      to = end_at tree parts ends.to;
+      carrier = record { declaration = ends.declaration; connection = ends.connection };
+    }
+
+-- the instance of a flattened design of the package
+pub record IsInstance (tree : PackageTree ℕ) (root : ℕ) (threads : List ThreadAt) (links feeds taps : List Chain) : Type 0 where
+  pub name : List ℕ
+  pub parts : Parts
+  pub flat : IsFlat tree name parts
+  pub root_is : root ≡ parts.root
+  pub threads_are : threads ≡ map (thread_at tree parts.root) parts.threads
+  pub links_are : links ≡ map (chain_at tree parts) parts.links
+  pub feeds_are : feeds ≡ map (chain_at tree parts) parts.feeds
+  pub taps_are : taps ≡ map (chain_at tree parts) parts.taps

@@ -1,0 +1,4 @@
+pub mod Uses
+pub mod Chains
+pub mod Flat
+pub mod Instances

@@ -1,0 +1,26 @@
+//! What an instance is.
+ghost use Rattle.aadl_tree.specs.PackageViews.{placed};
+ghost use Rattle.aadl_instance.specs.Instances.{IsInstance};
+
+use crate::parts::{Chain, ThreadAt};
+use aadl_tree::PackageTree;
+use pals_base::Items;
+
+/// The instance of a package below one root. Its type keeps that the package has no fault, and that
+/// these are all threads, links, feeds and taps, each once, in their order.
+#[derive(Drop)]
+pub struct Instance<'t> {
+    /// The package.
+    pub tree: &'t PackageTree,
+    /// The number of the root's implementation among the package's declarations.
+    pub root: u32,
+    /// In depth-first order of declaration.
+    pub threads: Items<ThreadAt>,
+    /// The chains between threads, in order of target thread, then of the in port's declaration.
+    pub links: Items<Chain>,
+    /// The chains from the root's in ports to threads, in the same order.
+    pub feeds: Items<Chain>,
+    /// The chains from threads to the root's out ports, in order of these ports' declaration.
+    pub taps: Items<Chain>,
+    pub ghost flat: { ∥ IsInstance (placed tree.now) root threads links feeds taps ∥₁ },
+}

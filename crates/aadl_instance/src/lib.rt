@@ -1,0 +1,10 @@
+//! The instance of a package: what stands where below its root, and which ports messages go between.
+#![tactic(auto)]
+
+pub mod instance;
+pub mod laws;
+pub mod parts;
+
+pub use aadl_names::FlatFault;
+pub use instance::Instance;
+pub use parts::{Chain, ChainEnd, ConnAt, SubAt, ThreadAt};

@@ -1,0 +1,45 @@
+//! The parts of an instance. Numbers count in the text's order, from 0.
+
+use pals_base::{Items, NodeNo, Text};
+
+/// A thread of the instance.
+#[derive(Drop)]
+pub struct ThreadAt {
+    /// The names of the subcomponents on the way to it, with a `.` between each two.
+    pub path: Text,
+    /// The same subcomponents, the outermost first; the last one is the thread's own.
+    pub subs: Items<SubAt>,
+}
+
+/// A subcomponent: the number of the declaration in which it stands, and its own number there.
+#[derive(Clone, Copy, Debug, PartialEq, Eq)]
+pub struct SubAt {
+    pub declaration: u32,
+    pub sub: u32,
+}
+
+/// Connections, one behind the other, from where a message begins to where it ends.
+#[derive(Drop)]
+pub struct Chain {
+    pub from: ChainEnd,
+    pub to: ChainEnd,
+    /// The connection whose properties are the chain's: the one between two subcomponents, or, of a
+    /// feed or a tap, the one in the root's implementation.
+    pub carrier: ConnAt,
+}
+
+/// Where a chain begins or ends.
+#[derive(Drop)]
+pub enum ChainEnd {
+    /// A port of a thread, by its number among the thread's in ports or out ports.
+    Thread { node: NodeNo, port: u32 },
+    /// A port of the root.
+    Root { name: Text },
+}
+
+/// A connection: the number of the declaration in which it stands, and its own number there.
+#[derive(Clone, Copy, Debug, PartialEq, Eq)]
+pub struct ConnAt {
+    pub declaration: u32,
+    pub connection: u32,
+}

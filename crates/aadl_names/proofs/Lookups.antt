@@ -1,0 +1,53 @@
+-- Look-ups in tables of names.
+use Rattle.std.proofs.Common.{◌≡◌, ℕ, Bool, true, false, cond, List, [], ◌∷◌, ◌++◌, Option, Some, None, refl, sym, ap, ◌∙◌, map, not}
+use Rattle.std.specs.Map.{lookup}
+use Rattle.std.specs.Option.{option_or, is_some}
+use Rattle.std.specs.Str.{bytes_eq}
+use Rattle.std.proofs.lemmas.Bool.{true≢false, false≢true}
+use Rattle.std.proofs.lemmas.Slice.Eq.{bytes_eq-Decides}
+use Rattle.aadl_names.specs.Spelling.{folded, same_name}
+use Rattle.aadl_names.specs.Tables.{value_of}
+
+-- look-ups by a part of the keys
+pub lookup_keys : {K J X : Type 0} (part : K → J) (test : J → Bool) (es : List (K × X)) → lookup test (map (λ e. (part e.0, e.1)) es) ≡ lookup (λ k. test (part k)) es
+lookup_keys part test [] = refl
+lookup_keys part test (e ∷ es) = ap (cond (test (part e.0)) (Some e.1)) (lookup_keys part test es)
+
+or_by : {X : Type 0} (b : Bool) (n : X) (old new more : Option X) → new ≡ option_or old more → cond b (Some n) new ≡ option_or (cond b (Some n) old) more
+or_by true n old new more e = refl
+or_by false n old new more e = e
+
+pub lookup-push : {K X : Type 0} (test : K → Bool) (es : List (K × X)) (e : K × X) → lookup test (es ++ e ∷ []) ≡ option_or (lookup test es) (cond (test e.0) (Some e.1) None)
+lookup-push test [] e = refl
+lookup-push test (f ∷ es) e = or_by (test f.0) f.1 (lookup test es) _ (cond (test e.0) (Some e.1) None) (lookup-push test es e)
+
+-- a value that is there stays
+kept_by : {X : Type 0} (a : Option X) (b : Bool) (n : X) → (b ≡ true → (m : X) × (a ≡ Some m)) → a ≡ option_or a (cond b (Some n) None)
+kept_by (Some m) b n h = refl
+kept_by None true n h = let e = (h refl).1 in absurd (cc e)
+kept_by None false n h = refl
+
+-- what `is_none` says of what `get` found
+pub found_none : {B X : Type 0} (copied : Option B → Option X) (none_is : copied None ≡ None) (o : Option B) (g : Option X) (b : Bool) → is_some o ≡ not b → copied o ≡ g → b ≡ true → g ≡ None
+found_none copied none_is None g b e c t = sym c ∙ none_is
+found_none copied none_is (Some x) g b e c t = absurd (true≢false (e ∙ ap not t))
+
+pub found_some : {B X : Type 0} (copied : Option B → Option X) (some_is : (b : B) → (m : X) × (copied (Some b) ≡ Some m)) (o : Option B) (g : Option X) (b : Bool) → is_some o ≡ not b → copied o ≡ g → b ≡ false → (m : X) × (g ≡ Some m)
+found_some copied some_is None g b e c t = absurd (false≢true (e ∙ ap not t))
+found_some copied some_is (Some x) g b e c t = ((some_is x).0, sym c ∙ (some_is x).1)
+
+-- one more name in a table whose keys have parts
+pub value-added : {K X : Type 0} (part : K → List ℕ) (es new : List (K × X)) (key : K) (name : List ℕ) (value : X) → part key ≡ folded name → new ≡ es ++ (key, value) ∷ []
+    → (other : List ℕ) → value_of (map (λ e. (part e.0, e.1)) new) other ≡ option_or (value_of (map (λ e. (part e.0, e.1)) es) other) (cond (same_name other name) (Some value) None)
+value-added part es new key name value is more other =
+    lookup_keys part (bytes_eq (folded other)) new
+    ∙ (ap (lookup (λ k. bytes_eq (folded other) (part k))) more
+    ∙ (lookup-push (λ k. bytes_eq (folded other) (part k)) es (key, value)
+    ∙ (ap (λ (o : Option _). option_or o (cond (bytes_eq (folded other) (part key)) (Some value) None)) (sym (lookup_keys part (bytes_eq (folded other)) es))
+    ∙ ap (λ (bs : List ℕ). option_or (value_of (map (λ e. (part e.0, e.1)) es) other) (cond (bytes_eq (folded other) bs) (Some value) None)) is)))
+
+pub value-kept : {X : Type 0} (table : List (List ℕ × X)) (name : List ℕ) (value m : X) → value_of table name ≡ Some m
+    → (other : List ℕ) → value_of table other ≡ option_or (value_of table other) (cond (same_name other name) (Some value) None)
+value-kept table name value m there other =
+    kept_by (value_of table other) (same_name other name) value
+    (λ s. (m, ap (λ (bs : List ℕ). lookup (λ k. bytes_eq bs k) table) ((bytes_eq-Decides (folded other) (folded name)).0 s) ∙ there))

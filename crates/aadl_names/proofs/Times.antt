@@ -1,0 +1,21 @@
+-- The shapes of values.
+use Rattle.std.proofs.Common.{◌≡◌, ℕ, Bool, true, false, not, ◌&&◌, Option, Some, None, refl, cond, List, [], ◌∷◌, length, ◌≤◌, arith}
+use Rattle.aadl_tree.specs.Values.{Value, list}
+use Rattle.aadl_tree.specs.ValueViews.{values_of}
+use Rattle.aadl_names.specs.Properties.{has_some, times, only_text, is_initial_text}
+
+pub has_time : (signed : Bool) (a b : Option ℕ) → has_some (cond signed None (times a b)) ≡ (not signed && has_some a && has_some b)
+has_time true a b = refl
+has_time false None b = refl
+has_time false (Some n) None = refl
+has_time false (Some n) (Some m) = refl
+
+pub small_by : {X : Type 0} (small : Bool) (x : X) → None ≡ cond small (Some x) None → false ≡ small
+small_by true x e = absurd (cc e)
+small_by false x e = refl
+
+-- a list of two and more is not one text
+pub no_only_text : (vs : List (Value ℕ)) → 2 ≤ length vs → false ≡ is_initial_text (only_text (list (values_of vs)))
+no_only_text [] many = absurd (omega arith)
+no_only_text (v ∷ []) many = absurd (omega arith)
+no_only_text (v ∷ w ∷ vs) many = refl

@@ -1,0 +1,9 @@
+use Rattle.std.proofs.Common.{◌≡◌, ℕ, List, map, take}
+use Rattle.aadl_tree.specs.Views.{subcomponent_view}
+use Rattle.aadl_tree.specs.Maps.{kept_place}
+use Rattle.aadl_names.specs.Tables.{value_of}
+use Rattle.aadl_names.specs.Resolving.{sub_named}
+use Rattle.aadl_names.proofs.names.sub_numbers.Given as goal
+
+abbrev pub invariant-loop-number : goal.invariant-loop-number
+invariant-loop-number l = (name : List ℕ) → value_of l.table name ≡ sub_named (map (subcomponent_view kept_place) (take l.number l.subs)) name

@@ -1,0 +1,14 @@
+use Rattle.std.proofs.Common.{ℕ, List, sym, ap, ◌∙◌}
+use Rattle.std.specs.Map.{lookup}
+use Rattle.std.specs.Str.{bytes_eq}
+use Rattle.aadl_names.specs.Spelling.{folded}
+use Rattle.aadl_names.specs.Tables.{value_of}
+use Rattle.aadl_names.proofs.Lookups.{lookup_keys}
+use Rattle.aadl_names.proofs.table.Table.value.Goals as goal
+
+pub returns : goal.returns
+returns g c =
+    c.copied.ensures ∙ (c.get.ensures.value
+    ∙ (ap (λ (bs : List ℕ). lookup (λ k. bytes_eq bs k.items) c.self.inside.values.entries) (c.in_ok-key.ensures.ok ∙ ap folded c.as_bytes.ensures.value)
+    ∙ (sym (lookup_keys (λ k. k.items) (bytes_eq (folded c.args.name.now)) c.self.inside.values.entries)
+    ∙ ap (λ t. value_of t c.args.name.now) c.self.view_is)))

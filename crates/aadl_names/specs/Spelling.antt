@@ -1,0 +1,33 @@
+-- Names, which are compared without regard to case, and how they are spelled.
+use Rattle.std.specs.Prelude.{ℕ, Bool, List, ◌++◌, flat_map, Option, Some, None, codes}
+use Rattle.std.specs.Str.{str_to_ascii_lowercase, str_eq_ignore_ascii_case}
+use Rattle.aadl_tree.specs.Names.{Identifier, Name, Reference}
+use Rattle.aadl_tree.specs.Declarations.{ImplementationName, ConnectionEnd}
+use Rattle.aadl_names.specs.declared.entry.Entry.{Entry}
+
+-- a name with its capitals made small
+abbrev pub folded : List ℕ → List ℕ
+folded name = str_to_ascii_lowercase name
+
+abbrev pub same_name : List ℕ → List ℕ → Bool
+same_name a b = str_eq_ignore_ascii_case a b
+
+abbrev pub entry_of : Identifier ℕ → Entry
+entry_of x = record { name = x.spelling; at = x.at }
+
+-- ---- nothing stands between the tokens of a name
+abbrev pub spelled_name : Name ℕ → List ℕ
+spelled_name x = x.first.spelling ++ flat_map (λ y. codes "::" ++ y.spelling) x.rest
+
+abbrev pub dotted : List ℕ → Option (Identifier ℕ) → List ℕ
+dotted front None = front
+dotted front (Some x) = front ++ codes "." ++ x.spelling
+
+abbrev pub spelled_reference : Reference ℕ → List ℕ
+spelled_reference x = flat_map (λ y. y.spelling ++ codes "::") x.qualifiers ++ dotted x.type_name.spelling x.implementation
+
+abbrev pub spelled_implementation : ImplementationName ℕ → List ℕ
+spelled_implementation x = dotted x.component_type.spelling (Some x.implementation)
+
+abbrev pub spelled_end : ConnectionEnd ℕ → List ℕ
+spelled_end x = dotted x.first.spelling x.second

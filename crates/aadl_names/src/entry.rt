@@ -1,0 +1,10 @@
+//! Something that is declared under a name.
+
+use pals_base::Text;
+
+/// A name as its declaration spells it, and the declaration's place.
+#[derive(Drop)]
+pub struct Entry {
+    pub name: Text,
+    pub at: usize,
+}

@@ -1,0 +1,122 @@
+//! The first of the findings so far.
+
+use crate::fault::FlatFault;
+use pals_base::Text;
+use std::alloc::{AllocError, Global};
+use std::marker::Model;
+
+/// The first finding so far, if anything was found.
+#[derive(Drop)]
+pub struct Finder {
+    alloc: Global,
+    first: Option<FlatFault>,
+}
+
+impl Model for Finder {
+    ghost use Rattle.std.specs.Prelude.{Option};
+    ghost use Rattle.aadl_names.specs.declared.fault.FlatFault.{FlatFault};
+
+    ghost Value = { Option FlatFault };
+
+    ghost view = { λ finder. finder.first };
+}
+
+impl Finder {
+    ghost use Rattle.std.specs.Prelude.{◌≡◌, OnOk, None, [], ◌∷◌};
+    ghost use Rattle.aadl_names.specs.declared.fault.FlatFault.TheVariants as faults;
+    ghost use Rattle.aadl_names.specs.Found.{found, comes_first};
+    ghost use Rattle.aadl_names.specs.Findings as spec;
+
+    /// Nothing is found yet. It takes no memory.
+    pub fn new(alloc: Global) -> Finder
+        ensures { result ≡ None }
+    {
+        Finder { alloc, first: None }
+    }
+
+    /// Where memory comes from.
+    pub fn alloc(&self) -> Global {
+        self.alloc
+    }
+
+    // Whether a finding of the place and number would be the first.
+    fn is_first(&self, at: usize, number: u32) -> bool
+        ensures { result ≡ comes_first at number self.now }
+    {
+        match &self.first {
+            None => true,
+            Some(first) => at < first.place() || (at == first.place() && number < first.number()),
+        }
+    }
+
+    /// What the name stands for is not declared.
+    pub fn unknown(&mut self, name: &str, at: usize) -> Result<(), AllocError>
+        ensures { OnOk result (self.new ≡ found self.old (faults.Unknown name.now at ∷ [])) }
+    {
+        if self.is_first(at, 2) {
+            let name = Text::from_str(self.alloc, name)?;
+            self.first = Some(FlatFault::Unknown { name, at });
+        }
+        Ok(())
+    }
+
+    /// The name is declared again.
+    pub fn twice(&mut self, name: &str, at: usize) -> Result<(), AllocError>
+        ensures { OnOk result (self.new ≡ found self.old (faults.Twice name.now at ∷ [])) }
+    {
+        if self.is_first(at, 3) {
+            let name = Text::from_str(self.alloc, name)?;
+            self.first = Some(FlatFault::Twice { name, at });
+        }
+        Ok(())
+    }
+
+    /// The subcomponent leads back to the implementation in which it stands.
+    pub fn recursive(&mut self, name: &str, at: usize) -> Result<(), AllocError>
+        ensures { OnOk result (self.new ≡ found self.old (faults.Recursive name.now at ∷ [])) }
+    {
+        if self.is_first(at, 5) {
+            let name = Text::from_str(self.alloc, name)?;
+            self.first = Some(FlatFault::Recursive { name, at });
+        }
+        Ok(())
+    }
+
+    /// The connection is on no chain.
+    pub fn dead_end(&mut self, name: &str, at: usize) -> Result<(), AllocError>
+        ensures { OnOk result (self.new ≡ found self.old (faults.DeadEnd name.now at ∷ [])) }
+    {
+        if self.is_first(at, 6) {
+            let name = Text::from_str(self.alloc, name)?;
+            self.first = Some(FlatFault::DeadEnd { name, at });
+        }
+        Ok(())
+    }
+
+    /// The connection goes into a port into which another one goes.
+    pub fn two_sources(&mut self, name: &str, at: usize) -> Result<(), AllocError>
+        ensures { OnOk result (self.new ≡ found self.old (faults.TwoSources name.now at ∷ [])) }
+    {
+        if self.is_first(at, 7) {
+            let name = Text::from_str(self.alloc, name)?;
+            self.first = Some(FlatFault::TwoSources { name, at });
+        }
+        Ok(())
+    }
+
+    /// Something of another kind is due, where it is wrong.
+    pub fn wrong_if(&mut self, wrong: bool, at: usize)
+        ensures { self.new ≡ found self.old (spec.wrong_if wrong at) }
+    {
+        if wrong && self.is_first(at, 4) {
+            self.first = Some(FlatFault::WrongKind { at });
+        }
+    }
+
+    /// The first finding.
+    pub fn finish(self) -> Option<FlatFault>
+        ensures { result ≡ self }
+    {
+        self.first
+    }
+}

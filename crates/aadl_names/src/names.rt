@@ -1,0 +1,212 @@
+//! What the names of a package name.
+ghost use Rattle.std.specs.Prelude.{◌≡◌, ℕ, List, [], IfOk, OnOk, map, Some, None, if◌then◌else◌, string_bytes, slice_index_or, slice_get};
+ghost use Rattle.std.proofs.Props.{props};
+ghost use Rattle.std.specs.Option.{option_or};
+ghost use Rattle.aadl_tree.specs.PackageViews.{placed};
+ghost use Rattle.aadl_tree.specs.NameViews.{identifier_view, reference_view};
+ghost use Rattle.aadl_tree.specs.Views.{feature_view, subcomponent_view, declaration_view};
+ghost use Rattle.aadl_tree.specs.Maps.{kept_place};
+ghost use Rattle.aadl_names.specs.Tables.{value_of};
+ghost use Rattle.aadl_names.specs.Members.{member_of};
+ghost use Rattle.aadl_names.specs.Resolving as spec;
+ghost use Rattle.aadl_names.specs.Spelling.{same_name};
+ghost use Rattle.aadl_names.specs.Resolving.{first_number, is_type, is_implementation, port_named, sub_named};
+
+use crate::spelling::{joined, spelled_implementation};
+use crate::table::Table;
+use aadl_tree::{
+    Declaration, Feature, Identifier, Implementation, PackageTree, Reference, Subcomponent,
+};
+use pals_base::Items;
+use std::alloc::{AllocError, Global};
+
+/// A package with its names.
+#[derive(Drop)]
+pub struct Names<'t> {
+    /// The package.
+    pub tree: &'t PackageTree,
+    types: Table<usize>,
+    implementations: Table<usize>,
+    // the ports of each type, and the subcomponents of each implementation
+    members: Items<Table<usize>>,
+    ghost of_types: { (name : List ℕ) → value_of types name ≡ first_number (is_type name) (placed tree.now).declarations } by { Prim.hlevel props },
+    ghost of_implementations: { (name : List ℕ) → value_of implementations name ≡ first_number (is_implementation name) (placed tree.now).declarations } by { Prim.hlevel props },
+    ghost of_members: { (number : ℕ) (name : List ℕ) → value_of (slice_index_or members number []) name ≡ member_of (slice_get (placed tree.now).declarations number) name } by { Prim.hlevel props },
+}
+
+impl<'t> Names<'t> {
+    /// The names of a package.
+    pub fn of(alloc: Global, tree: &'t PackageTree) -> Result<Names<'t>, AllocError>
+        ensures { IfOk result (λ names. names.tree.now ≡ tree.now) }
+    {
+        let mut types = Table::new(alloc);
+        let mut implementations = Table::new(alloc);
+        let mut members = Items::new(alloc);
+        for (number, declaration) in tree.declarations.iter().enumerate() {
+            add_type(&mut types, alloc, declaration, number)?;
+            add_implementation(&mut implementations, alloc, declaration, number)?;
+            members.push(member_numbers(alloc, declaration)?)?;
+        }
+        Ok(Names {
+            tree,
+            types,
+            implementations,
+            members,
+        })
+    }
+
+    /// The number of the first type of a name.
+    pub fn type_number(&self, alloc: Global, name: &Identifier) -> Result<Option<usize>, AllocError>
+        ensures { IfOk result (λ number. number ≡ first_number (is_type (string_bytes name.now.spelling)) (placed self.now.tree.now).declarations) }
+    {
+        self.types.value(alloc, name.spelling.as_str())
+    }
+
+    /// The number of the implementation that a reference names.
+    #[tactic(auto, unfolding(crate::specs::Resolving::referred))]
+    pub fn referred(&self, alloc: Global, x: &Reference) -> Result<Option<usize>, AllocError>
+        ensures { IfOk result (λ number. number ≡ spec.referred (placed self.now.tree.now) (reference_view kept_place x.now)) }
+    {
+        let Some(implementation) = &x.implementation else {
+            return Ok(None);
+        };
+        if !self.is_of(x) {
+            return Ok(None);
+        }
+        let name = joined(alloc, &x.type_name, implementation)?;
+        self.implementations.value(alloc, name.as_str())
+    }
+
+    /// The number of a port of a type, or of a subcomponent of an implementation, by its name.
+    pub fn member(
+        &self,
+        alloc: Global,
+        number: usize,
+        name: &str,
+    ) -> Result<Option<usize>, AllocError>
+        ensures { IfOk result (λ member. member ≡ member_of (slice_get (placed self.now.tree.now).declarations number) name.now) }
+    {
+        match self.members.as_slice().get(number) {
+            Some(table) => table.value(alloc, name),
+            None => Ok(None),
+        }
+    }
+
+    // Whether a reference is to this package.
+    fn is_of(&self, reference: &Reference) -> bool
+        ensures { result ≡ spec.is_of (placed self.now.tree.now) (reference_view kept_place reference.now) }
+    {
+        match reference.qualifiers.as_slice() {
+            [] => true,
+            [first, others @ ..] => {
+                same_word(first, &self.tree.name.first)
+                    && same_words(others, self.tree.name.rest.as_slice())
+            }
+        }
+    }
+}
+
+/// Whether two words are one name.
+pub fn same_word(a: &Identifier, b: &Identifier) -> bool
+    ensures { result ≡ same_name (string_bytes a.now.spelling) (string_bytes b.now.spelling) }
+{
+    a.spelling
+        .as_str()
+        .eq_ignore_ascii_case(b.spelling.as_str())
+}
+
+// Whether words are the same, one by one.
+fn same_words(a: &[Identifier], b: &[Identifier]) -> bool
+    ensures { result ≡ spec.same_words (map (identifier_view kept_place) a.now) (map (identifier_view kept_place) b.now) }
+{
+    if a.len() != b.len() {
+        return false;
+    }
+    for at in 0..a.len() {
+        if !same_word(&a[at], &b[at]) {
+            return false;
+        }
+    }
+    true
+}
+
+// Adds a word.
+fn add_word(
+    table: &mut Table<usize>,
+    alloc: Global,
+    word: &Identifier,
+    number: usize,
+) -> Result<(), AllocError>
+    ensures { OnOk result ((name : List ℕ) → value_of table.new name
+        ≡ option_or (value_of table.old name) (if same_name name (string_bytes word.now.spelling) then Some number else None)) }
+{
+    table.add(alloc, word.spelling.as_str(), number)
+}
+
+// Adds a declaration to the types, if it is one.
+fn add_type(
+    types: &mut Table<usize>,
+    alloc: Global,
+    declaration: &Declaration,
+    number: usize,
+) -> Result<(), AllocError>
+    ensures { OnOk result ((name : List ℕ) → value_of types.new name
+        ≡ option_or (value_of types.old name) (if is_type name (declaration_view kept_place declaration.now) then Some number else None)) }
+{
+    match declaration {
+        Declaration::Type(x) => types.add(alloc, x.name.spelling.as_str(), number),
+        Declaration::Implementation(_) => Ok(()),
+    }
+}
+
+// Adds a declaration to the implementations, if it is one.
+fn add_implementation(
+    implementations: &mut Table<usize>,
+    alloc: Global,
+    declaration: &Declaration,
+    number: usize,
+) -> Result<(), AllocError>
+    ensures { OnOk result ((name : List ℕ) → value_of implementations.new name
+        ≡ option_or (value_of implementations.old name) (if is_implementation name (declaration_view kept_place declaration.now) then Some number else None)) }
+{
+    match declaration {
+        Declaration::Type(_) => Ok(()),
+        Declaration::Implementation(x) => {
+            let name = spelled_implementation(alloc, &x.name)?;
+            implementations.add(alloc, name.as_str(), number)
+        }
+    }
+}
+
+// The numbers of ports by their names.
+fn port_numbers(alloc: Global, ports: &[Feature]) -> Result<Table<usize>, AllocError>
+    ensures { IfOk result (λ table. (name : List ℕ) → value_of table name ≡ port_named (map (feature_view kept_place) ports.now) name) }
+{
+    let mut table = Table::new(alloc);
+    for (number, port) in ports.iter().enumerate() {
+        add_word(&mut table, alloc, &port.name, number)?;
+    }
+    Ok(table)
+}
+
+// The numbers of subcomponents by their names.
+fn sub_numbers(alloc: Global, subs: &[Subcomponent]) -> Result<Table<usize>, AllocError>
+    ensures { IfOk result (λ table. (name : List ℕ) → value_of table name ≡ sub_named (map (subcomponent_view kept_place) subs.now) name) }
+{
+    let mut table = Table::new(alloc);
+    for (number, sub) in subs.iter().enumerate() {
+        add_word(&mut table, alloc, &sub.name, number)?;
+    }
+    Ok(table)
+}
+
+// The numbers of what a declaration has: the ports of a type, or the subcomponents of an
+// implementation.
+fn member_numbers(alloc: Global, declaration: &Declaration) -> Result<Table<usize>, AllocError>
+    ensures { IfOk result (λ table. (name : List ℕ) → value_of table name ≡ member_of (Some (declaration_view kept_place declaration.now)) name) }
+{
+    match declaration {
+        Declaration::Type(x) => port_numbers(alloc, x.features.as_slice()),
+        Declaration::Implementation(x) => sub_numbers(alloc, x.subcomponents.as_slice()),
+    }
+}

@@ -1,0 +1,136 @@
+//! The ports that connections join.
+ghost use Rattle.std.specs.Prelude.{◌≡◌, IfOk, Some, string_bytes, slice_get, option_map};
+ghost use Rattle.std.specs.Option.{option_and_then};
+ghost use Rattle.aadl_tree.specs.PackageViews.{placed};
+ghost use Rattle.aadl_tree.specs.Views.{implementation_view, subcomponent_view, end_view};
+ghost use Rattle.aadl_tree.specs.Maps.{kept_place};
+ghost use Rattle.aadl_tree.specs.Declarations.{implementation};
+ghost use Rattle.aadl_names.specs.PackageFaults.{sited};
+ghost use Rattle.aadl_names.specs.Resolving as spec;
+
+use crate::names::Names;
+use crate::site::Site;
+use aadl_tree::{ConnectionEnd, Declaration, Direction, Identifier, Implementation, Subcomponent};
+use std::alloc::{AllocError, Global};
+
+/// The number of an implementation's type.
+pub fn type_number(
+    names: &Names<'_>,
+    alloc: Global,
+    x: &Implementation,
+) -> Result<Option<usize>, AllocError>
+    ensures { IfOk result (λ number. number ≡ spec.type_number (placed names.now.tree.now) (implementation_view kept_place x.now)) }
+{
+    names.type_number(alloc, &x.name.component_type)
+}
+
+/// The number of the type of what a subcomponent names.
+pub fn type_number_of_sub(
+    names: &Names<'_>,
+    alloc: Global,
+    sub: &Subcomponent,
+) -> Result<Option<usize>, AllocError>
+    ensures { IfOk result (λ number. number ≡ option_and_then (spec.type_number (placed names.now.tree.now)) (spec.target_of (placed names.now.tree.now) (subcomponent_view kept_place sub.now))) }
+{
+    let Some(number) = names.referred(alloc, &sub.classifier)? else {
+        return Ok(None);
+    };
+    match names.tree.declarations.get(number) {
+        Some(Declaration::Implementation(x)) => type_number(names, alloc, x),
+        Some(Declaration::Type(_)) => Ok(None),
+        None => Ok(None),
+    }
+}
+
+/// The number of a port of the type of a number.
+pub fn port_number(
+    names: &Names<'_>,
+    alloc: Global,
+    of_type: Option<usize>,
+    name: &str,
+) -> Result<Option<usize>, AllocError>
+    ensures { IfOk result (λ port. port ≡ spec.port_named (spec.features_of (spec.type_numbered (placed names.now.tree.now) of_type)) name.now) }
+{
+    let Some(number) = of_type else {
+        return Ok(None);
+    };
+    match names.tree.declarations.get(number) {
+        Some(Declaration::Type(_)) => names.member(alloc, number, name),
+        Some(Declaration::Implementation(_)) => Ok(None),
+        None => Ok(None),
+    }
+}
+
+/// Which way a port of the type of a number goes.
+pub fn port_direction(names: &Names<'_>, of_type: Option<usize>, port: usize) -> Option<Direction>
+    ensures { result ≡ spec.direction_in (spec.features_of (spec.type_numbered (placed names.now.tree.now) of_type)) port }
+{
+    match names.tree.declarations.get(of_type?) {
+        Some(Declaration::Type(x)) => match x.features.get(port) {
+            Some(feature) => Some(feature.direction),
+            None => None,
+        },
+        Some(Declaration::Implementation(_)) => None,
+        None => None,
+    }
+}
+
+// An own port.
+fn own_site(
+    names: &Names<'_>,
+    alloc: Global,
+    x: &Implementation,
+    name: &Identifier,
+) -> Result<Option<(Site, Option<Direction>)>, AllocError>
+    ensures { IfOk result (λ site. site ≡ option_map (spec.with_direction (placed names.now.tree.now) (implementation_view kept_place x.now))
+        (option_map Site.Own (spec.port_named (spec.ports_of (placed names.now.tree.now) (implementation_view kept_place x.now)) (string_bytes name.now.spelling)))) }
+{
+    let of_type = type_number(names, alloc, x)?;
+    match port_number(names, alloc, of_type, name.spelling.as_str())? {
+        Some(port) => Ok(Some((Site::Own(port), port_direction(names, of_type, port)))),
+        None => Ok(None),
+    }
+}
+
+// A port of a subcomponent.
+fn inner_site(
+    names: &Names<'_>,
+    alloc: Global,
+    x: &Implementation,
+    sub: usize,
+    name: &Identifier,
+) -> Result<Option<(Site, Option<Direction>)>, AllocError>
+    ensures { IfOk result (λ site. site ≡ option_map (spec.with_direction (placed names.now.tree.now) (implementation_view kept_place x.now))
+        (spec.inner_site (placed names.now.tree.now) (implementation_view kept_place x.now) (string_bytes name.now.spelling) sub)) }
+{
+    let Some(subcomponent) = x.subcomponents.get(sub) else {
+        return Ok(None);
+    };
+    let of_type = type_number_of_sub(names, alloc, subcomponent)?;
+    match port_number(names, alloc, of_type, name.spelling.as_str())? {
+        Some(port) => Ok(Some((Site::Inner(sub, port), port_direction(names, of_type, port)))),
+        None => Ok(None),
+    }
+}
+
+/// The port that an end of a connection of an implementation names, if it is declared, and which way
+/// it goes.
+#[tactic(auto, unfolding(crate::specs::Resolving::site))]
+pub fn site(
+    names: &Names<'_>,
+    alloc: Global,
+    number: usize,
+    x: &Implementation,
+    end: &ConnectionEnd,
+) -> Result<Option<(Site, Option<Direction>)>, AllocError>
+    requires { slice_get (placed names.now.tree.now).declarations number ≡ Some (implementation (implementation_view kept_place x.now)) }
+    ensures { IfOk result (λ site. site ≡ sited (placed names.now.tree.now) (implementation_view kept_place x.now) (end_view kept_place end.now)) }
+{
+    let Some(port) = &end.second else {
+        return own_site(names, alloc, x, &end.first);
+    };
+    match names.member(alloc, number, end.first.spelling.as_str())? {
+        Some(sub) => inner_site(names, alloc, x, sub, port),
+        None => Ok(None),
+    }
+}

@@ -1,0 +1,55 @@
+//! What names stand for, found without regard to case.
+
+use indexmap::IndexMap;
+use std::alloc::{AllocError, Global};
+use std::marker::Model;
+
+/// Values of names. Contracts see the names, with their capitals made small, and their values.
+#[derive(Drop)]
+pub struct Table<V: Copy> {
+    values: IndexMap<Vec<u8>, V>,
+}
+
+impl<V: Copy> Model for Table<V> {
+    ghost use Rattle.std.specs.Prelude.{ℕ, List, map};
+
+    ghost Value = { List (List ℕ × V) };
+
+    ghost view = { λ t. map (λ entry. (entry.0.items, entry.1)) t.values.entries };
+}
+
+impl<V: Copy> Table<V> {
+    ghost use Rattle.std.specs.Prelude.{◌≡◌, ℕ, List, None, Some, OnOk, IfOk, if◌then◌else◌};
+    ghost use Rattle.std.specs.Option.{option_or};
+    ghost use Rattle.aadl_names.specs.Spelling.{same_name};
+    ghost use Rattle.aadl_names.specs.Tables.{value_of};
+
+    /// No names. It takes no memory.
+    pub fn new(alloc: Global) -> Table<V>
+        ensures { (name : List ℕ) → value_of result name ≡ None }
+    {
+        Table {
+            values: IndexMap::new(alloc),
+        }
+    }
+
+    /// Adds a name with its value, unless the name is there.
+    pub fn add(&mut self, alloc: Global, name: &str, value: V) -> Result<(), AllocError>
+        ensures { OnOk result ((other : List ℕ)
+            → value_of self.new other ≡ option_or (value_of self.old other) (if same_name other name.now then Some value else None)) }
+    {
+        let key = name.as_bytes().to_ascii_lowercase(alloc)?;
+        if self.values.get(&key).is_none() {
+            self.values.insert(key, value)?;
+        }
+        Ok(())
+    }
+
+    /// What a name stands for.
+    pub fn value(&self, alloc: Global, name: &str) -> Result<Option<V>, AllocError>
+        ensures { IfOk result (λ value. value ≡ value_of self.now name.now) }
+    {
+        let key = name.as_bytes().to_ascii_lowercase(alloc)?;
+        Ok(self.values.get(&key).copied())
+    }
+}

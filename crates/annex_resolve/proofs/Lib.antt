@@ -1,0 +1,9 @@
+pub mod Views
+pub mod Chains
+pub mod Reading
+pub mod Names
+pub mod Acting
+pub mod CycleWays
+pub mod Tables
+pub mod Listing
+pub mod Wholes

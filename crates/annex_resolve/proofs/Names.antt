@@ -1,0 +1,13 @@
+-- A list of one name.
+use Rattle.std.proofs.Common.{◌≡◌, ◌≤◌, ◌<◌, Bool, List, [], ◌∷◌, length, get_or, codes, map, string_bytes, ap, ◌∙◌, arith}
+use Rattle.aadl_tree.specs.declared.names.Identifier as source
+use Rattle.aadl_tree.specs.Maps.{kept_place}
+use Rattle.aadl_tree.specs.NameViews.{identifier_view}
+use Rattle.annex_resolve.specs.Scopes.{same_name}
+use Rattle.annex_resolve.specs.Types.{is_base_types}
+
+pub one_qualifier : (xs : List source.Identifier) (x : source.Identifier) (r : Bool) → 1 ≤ length xs → length xs < 2 → x ≡ get_or xs 0 x
+    → r ≡ same_name (string_bytes x.spelling) (codes "Base_Types") → r ≡ is_base_types (map (identifier_view kept_place) xs)
+one_qualifier [] x r least most is same = absurd (omega arith)
+one_qualifier (y ∷ []) x r least most is same = same ∙ ap (λ (z : source.Identifier). same_name (string_bytes z.spelling) (codes "Base_Types")) is
+one_qualifier (y ∷ z ∷ zs) x r least most is same = absurd (omega arith)

@@ -1,0 +1,8 @@
+pub mod Scopes
+pub mod Types
+pub mod Resolved
+pub mod Actions
+pub mod Reads
+pub mod CycleRules
+pub mod Behaviours
+pub mod Tables

@@ -1,0 +1,73 @@
+//! What names stand for in a behaviour.
+ghost use Rattle.std.specs.Prelude.{◌≡◌, IfOk, option_copied};
+ghost use Rattle.aadl_tree.specs.Maps.{kept_place};
+ghost use Rattle.aadl_tree.specs.NameViews.{identifier_view};
+ghost use Rattle.annex_resolve.specs.Scopes.{entry_named, with_loop};
+
+use aadl_tree::Identifier;
+use pals_base::{Items, Kind, NoMemory, Text, TryClone};
+use std::alloc::{AllocError, Global};
+
+/// What a name stands for. In ports, out ports and variables are numbered apart; a loop variable has
+/// a number behind those of all variables and of the loops round it.
+#[derive(Clone, Copy, PartialEq, Eq, Debug)]
+pub enum Meaning {
+    InPort(u32),
+    OutPort(u32),
+    Variable(u32),
+    LoopVariable(u32),
+}
+
+/// Something declared: its name, its type (none where it is neither Integer nor Boolean), and what
+/// it is.
+#[derive(Drop)]
+pub struct Entry {
+    pub name: Text,
+    pub kind: Option<Kind>,
+    pub meaning: Meaning,
+}
+
+impl TryClone for Entry {
+    fn try_clone(&self, alloc: Global) -> Result<Entry, NoMemory> {
+        Ok(Entry {
+            name: self.name.try_clone(alloc)?,
+            kind: self.kind,
+            meaning: self.meaning,
+        })
+    }
+}
+
+/// The names that are known at a place.
+#[derive(Drop)]
+pub struct Scope {
+    /// What is declared, in order.
+    pub entries: Items<Entry>,
+    /// The number of the next loop's variable.
+    pub next: u32,
+}
+
+impl Scope {
+    /// What is declared under a name; capitals are as good as small letters. Of two declarations the
+    /// first counts.
+    pub fn find(&self, name: &str) -> Option<&Entry>
+        ensures { option_copied result ≡ entry_named self.now name.now }
+    {
+        self.entries
+            .iter()
+            .find(|entry| entry.name.as_str().eq_ignore_ascii_case(name))
+    }
+
+    /// The names that are known in a loop: its variable as well.
+    pub fn with_loop(&self, alloc: Global, variable: &Identifier) -> Result<Scope, NoMemory>
+        ensures { IfOk result (λ inner. inner ≡ with_loop self.now (identifier_view kept_place variable.now)) }
+    {
+        let next = self.next.checked_add(1).ok_or(AllocError)?;
+        let mut entries = self.entries.try_clone(alloc)?;
+        entries.push(Entry {
+            name: Text::from_str(alloc, variable.spelling.as_str())?,
+            kind: Some(Kind::Integer),
+            meaning: Meaning::LoopVariable(self.next),
+        })?;
+        Ok(Scope { entries, next })
+    }
+}

@@ -1,0 +1,152 @@
+//! The states of an annex.
+ghost use Rattle.std.specs.Prelude.{◌≡◌, [], ◌∷◌, ◌++◌, IfOk, OnOk, length, filter, map, position};
+ghost use Rattle.std.specs.List.{list_all};
+ghost use Rattle.aadl_tree.specs.Maps.{kept_place};
+ghost use Rattle.aadl_tree.specs.NameViews.{identifier_view};
+ghost use Rattle.aadl_tree.specs.Views.{state_view, annex_tree_view};
+ghost use Rattle.annex_resolve.specs.Behaviours.{state_at, states_in, states_of, state_number, first_initial, has_initial, declared};
+ghost use Rattle.annex_resolve.specs.Scopes.{same_name};
+
+use aadl_tree::{AnnexTree, Identifier, StateDeclaration};
+use pals_base::{Items, NoMemory, StateDecl, Text, TryClone};
+use std::alloc::{AllocError, Global};
+
+/// A state of an annex: its place, its name, and what is declared of it.
+#[derive(Drop)]
+pub struct StateAt {
+    pub at: usize,
+    pub name: Text,
+    pub initial: bool,
+    pub complete: bool,
+}
+
+// Adds a state of a declaration.
+fn add_state(
+    alloc: Global,
+    states: &mut Items<StateAt>,
+    declaration: &StateDeclaration,
+    name: &Identifier,
+) -> Result<(), NoMemory>
+    ensures { OnOk result (states.new
+        ≡ states.old ++ state_at (state_view kept_place declaration.now) (identifier_view kept_place name.now) ∷ []) }
+{
+    states.push(StateAt {
+        at: name.at,
+        name: Text::from_str(alloc, name.spelling.as_str())?,
+        initial: declaration.initial,
+        complete: declaration.complete,
+    })?;
+    Ok(())
+}
+
+// Adds the states of a declaration.
+fn add_states(
+    alloc: Global,
+    states: &mut Items<StateAt>,
+    declaration: &StateDeclaration,
+) -> Result<(), NoMemory>
+    ensures { OnOk result (states.new ≡ states.old ++ states_in (state_view kept_place declaration.now)) }
+{
+    add_state(alloc, states, declaration, &declaration.names.first)?;
+    for name in &declaration.names.rest {
+        add_state(alloc, states, declaration, name)?;
+    }
+    Ok(())
+}
+
+/// The states of an annex, in order.
+pub fn states_of(alloc: Global, annex: &AnnexTree) -> Result<Items<StateAt>, NoMemory>
+    ensures { IfOk result (λ states. states ≡ states_of (annex_tree_view kept_place annex.now)) }
+{
+    let mut states = Items::new(alloc);
+    if let Some(declarations) = &annex.states {
+        for declaration in declarations {
+            add_states(alloc, &mut states, declaration)?;
+        }
+    }
+    Ok(states)
+}
+
+// A number that 32 bits hold; more of anything is more than memory holds.
+fn to_number(at: usize) -> Result<u32, NoMemory>
+    ensures { IfOk result (λ number. number ≡ at) }
+{
+    if at > u32::MAX as usize {
+        return Err(AllocError);
+    }
+    Ok(at as u32)
+}
+
+// The first state of a name.
+fn named_state(states: &[StateAt], name: &str) -> Option<usize>
+    ensures { result ≡ position (λ s. same_name s.name name.now) states.now }
+{
+    states
+        .iter()
+        .position(|state| state.name.as_str().eq_ignore_ascii_case(name))
+}
+
+// The first initial state.
+fn initial_state(states: &[StateAt]) -> Option<usize>
+    ensures { result ≡ position (λ s. s.initial) states.now }
+{
+    states.iter().position(|state| state.initial)
+}
+
+/// The number of the state of a name, or that of no state.
+pub fn state_number(states: &[StateAt], name: &str) -> Result<u32, NoMemory>
+    ensures { IfOk result (λ number. number ≡ state_number states.now name.now) }
+{
+    match named_state(states, name) {
+        None => to_number(states.len()),
+        Some(number) => to_number(number),
+    }
+}
+
+/// The number of the initial state, or that of no state.
+pub fn first_initial(states: &[StateAt]) -> Result<u32, NoMemory>
+    ensures { IfOk result (λ number. number ≡ first_initial states.now) }
+{
+    match initial_state(states) {
+        None => to_number(states.len()),
+        Some(number) => to_number(number),
+    }
+}
+
+// How many states are initial.
+fn initial_count(states: &[StateAt]) -> usize
+    ensures { result ≡ length (filter (λ s. s.initial) states.now) }
+{
+    states.iter().filter(|state| state.initial).count()
+}
+
+// Whether those that are initial are complete.
+fn begin_complete(states: &[StateAt]) -> bool
+    ensures { result ≡ list_all (λ s. s.complete) (filter (λ s. s.initial) states.now) }
+{
+    states
+        .iter()
+        .filter(|state| state.initial)
+        .all(|state| state.complete)
+}
+
+/// Whether exactly one state is initial, and it is complete.
+pub fn has_initial(states: &[StateAt]) -> bool
+    ensures { result ≡ has_initial states.now }
+{
+    initial_count(states) == 1 && begin_complete(states)
+}
+
+/// The states as a behaviour has them.
+pub fn declared_states(alloc: Global, states: &[StateAt]) -> Result<Items<StateDecl>, NoMemory>
+    ensures { IfOk result (λ all. all ≡ map declared states.now) }
+{
+    let mut all = Items::new(alloc);
+    for state in states {
+        all.push(StateDecl {
+            name: state.name.try_clone(alloc)?,
+            complete: state.complete,
+        })?;
+    }
+    Ok(all)
+}
