@@ -1,3 +1,5 @@
 pub mod Appended
 pub mod Places
+pub mod Positions
 pub mod Rows
+pub mod TextFaults

@@ -77,7 +77,7 @@ pub fn add_row<P: RoundParts>(
 }
 
 // Takes back what a refused call has written from `start` on.
-fn whole_or_none(
+pub(crate) fn whole_or_none(
     out: &mut Vec<u8>,
     start: usize,
     written: Result<(), NoMemory>,

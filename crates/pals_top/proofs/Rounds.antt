@@ -10,7 +10,7 @@ use Rattle.pals_model.specs.Composition.{comp, part, all_steps, part_of}
 use Rattle.pals_model.specs.RoundTexts.{line_end, text_of, composed_lines, report_lines, row, report}
 use Rattle.pals_report.specs.Rows.{ArePartsOf}
 use Rattle.sync_product.specs.State.{ProductState, advanced, parts_of}
-use Rattle.pals_top.specs.Answers.{no_env}
+use Rattle.pals_top.specs.Sync.{no_env}
 
 -- ---- counting up
 slice_get-map-upwards : {A : Type 0} (f : ℕ → A) (from n k : ℕ) → k < n → slice_get (map f (upwards from n)) k ≡ Some (f (from + k))

@@ -1,3 +1,9 @@
-pub mod Words
 pub mod Answers
+pub mod Bundles
+pub mod Outside
+pub mod Print
+pub mod RefusedTexts
 pub mod Statuses
+pub mod Sync
+pub mod Texts
+pub mod Words

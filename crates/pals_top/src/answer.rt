@@ -5,12 +5,12 @@ ghost use Rattle.pals_top.specs.Statuses.{status_of, text_of};
 /// An answer of the program.
 #[derive(Drop)]
 pub enum Answer {
-    /// The report of all rounds.
-    Report(Vec<u8>),
+    /// What the command asks for.
+    Done(Vec<u8>),
     /// The words are no form.
     Usage,
-    /// The bytes are no bundle that the reader takes.
-    NotBuilt,
+    /// Why the bundle's design text is refused.
+    TextRefused(Vec<u8>),
     /// The source failed.
     ReadFault,
     /// The source has too many bytes.
@@ -23,9 +23,9 @@ impl Answer {
         ensures { result ≡ status_of self.now }
     {
         match self {
-            Answer::Report(_) => 0,
+            Answer::Done(_) => 0,
             Answer::Usage => 2,
-            Answer::NotBuilt => 3,
+            Answer::TextRefused(_) => 3,
             Answer::ReadFault => 9,
             Answer::TooLong => 12,
         }
@@ -36,10 +36,9 @@ impl Answer {
         ensures { result.now ≡ text_of self.now }
     {
         match self {
-            Answer::Report(text) => text.as_slice(),
+            Answer::Done(text) | Answer::TextRefused(text) => text.as_slice(),
             Answer::Usage =>
                 b"usage: pals print / check ROOT / sync ROOT / world [--loose] ROOT / run [--trace] ROOT / audit ROOT / self N R\n",
-            Answer::NotBuilt => b"not built\n",
             Answer::ReadFault => b"read fault\n",
             Answer::TooLong => b"too long\n",
         }

@@ -2,10 +2,12 @@
 #![tactic(auto)]
 
 mod answer;
+mod bundle;
+mod print;
 mod program;
+mod refused_text;
+mod sync;
 mod words;
 
 pub use program::{NO_MEMORY, pals};
-
-#[cfg(test)]
-mod tests;
+pub use words::{WordsEnd, read_words};

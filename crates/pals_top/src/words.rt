@@ -1,28 +1,48 @@
 //! The words of the command line.
-ghost use Rattle.std.specs.Prelude.{◌≡◌};
-ghost use Rattle.std.specs.Option.{option_copied};
-ghost use Rattle.pals_top.specs.Words.{form, is_plain};
+ghost use Rattle.std.specs.Prelude.{◌≡◌, Some, IfOk, IfErr};
+ghost use Rattle.pals_top.specs.Words.{form, is_plain, HasForm, IsWordsEnd};
 
-use pals_base::Text;
+use pals_base::{Text, TryClone};
+use pals_runs::Command;
+use std::alloc::{AllocError, Global};
 
-/// The root that the words name, or none where they are no form.
-pub fn root_of(words: &[Text]) -> Option<&Text>
-    ensures { option_copied result ≡ form words.now }
+/// Why words are no command.
+#[derive(Clone, Copy, Debug, PartialEq, Eq)]
+pub enum WordsEnd {
+    /// They are no form.
+    Usage,
+    /// There was not enough memory.
+    Memory,
+}
+
+impl From<AllocError> for WordsEnd {
+    ghost use Rattle.std.specs.Prelude.{◌≡◌};
+    ghost use Rattle.pals_top.specs.declared.words.WordsEnd.TheVariants.{Memory};
+
+    ghost from_gives = { λ _ e. e ≡ Memory };
+
+    fn from(_error: AllocError) -> WordsEnd {
+        WordsEnd::Memory
+    }
+}
+
+/// The command that the words are. `Usage` is answered exactly where they are no form.
+pub fn read_words(alloc: Global, words: &[Text]) -> Result<Command, WordsEnd>
+    ensures command { IfOk result (λ command. form words.now ≡ Some command) }
+    ensures known { IfOk result HasForm }
+    ensures none { IfErr result (λ end. IsWordsEnd (form words.now) end) }
 {
     match words {
-        [command, root] => {
-            if command.as_str() == "sync" && is_plain_word(root) {
-                Some(root)
-            } else {
-                None
-            }
-        }
-        _ => None,
+        [word] if word.as_str() == "print" => Ok(Command::Print),
+        [word, root] if word.as_str() == "sync" && is_plain(root) => Ok(Command::Sync {
+            root: root.try_clone(alloc)?,
+        }),
+        _ => Err(WordsEnd::Usage),
     }
 }
 
 // Whether a word is no flag.
-fn is_plain_word(word: &Text) -> bool
+fn is_plain(word: &Text) -> bool
     ensures { result ≡ is_plain word.now }
 {
     match word.as_bytes() {

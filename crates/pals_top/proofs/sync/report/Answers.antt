@@ -2,9 +2,9 @@ use Rattle.std.proofs.Common.{rules, ◌≡◌, ◌+◌, ◌++◌, ap, ◌∙◌
 use Rattle.std.specs.Arc.{arc_value}
 use Rattle.pals_model.specs.Composition.{comp}
 use Rattle.pals_model.specs.RoundTexts.{row, report}
-use Rattle.pals_top.specs.Answers.{no_env}
+use Rattle.pals_top.specs.Sync.{no_env}
 use Rattle.pals_top.proofs.Rounds.{report_more}
-use Rattle.pals_top.proofs.program.report.Goals as goal
+use Rattle.pals_top.proofs.sync.report.Goals as goal
 
 pub loop-round-init : goal.loop-round-init
 unfolding comp

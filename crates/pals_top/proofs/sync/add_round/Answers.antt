@@ -1,8 +1,8 @@
 use Rattle.std.proofs.Common.{◌≡◌, [], ap, ◌∙◌}
 use Rattle.sync_product.specs.State.{ProductState, advanced}
-use Rattle.pals_top.specs.Answers.{no_env}
+use Rattle.pals_top.specs.Sync.{no_env}
 use Rattle.pals_top.proofs.Rounds.{on_ok, further, parts_after}
-use Rattle.pals_top.proofs.program.add_round.Goals as goal
+use Rattle.pals_top.proofs.sync.add_round.Goals as goal
 
 pub returns-clause-row : goal.returns-clause-row
 returns-clause-row c =

@@ -1,12 +1,12 @@
-//! The program over bytes in memory.
-use super::pals;
+//! The two counters as a bundle, and what the program answers to words and bytes.
 use pals_base::Text;
 use pals_io::{MemSink, MemSource};
+use pals_top::pals;
 use std::alloc::{AllocError, Global};
 use std::test::Fail;
 
 /// Two counters, each of which adds 1 and the other's last sum to its own.
-const TWO_COUNTERS: &str = "package Two\n\
+pub const TWO_COUNTERS: &str = "package Two\n\
 public\n\
 with Base_Types;\n\
 with PALS_Profile;\n\
@@ -53,12 +53,13 @@ end Two;\n\
 {\"rounds\":3}\n";
 
 /// Their first three rounds.
-const ROWS: &str =
+pub const ROWS: &str =
     "round 0\np.a s x=1\np.b s x=1\nround 1\np.a s x=3\np.b s x=3\nround 2\np.a s x=7\np.b s x=7\n";
 
-const USAGE: &str =
+pub const USAGE: &str =
     "usage: pals print / check ROOT / sync ROOT / world [--loose] ROOT / run [--trace] ROOT / audit ROOT / self N R\n";
 
+// The words of a command line.
 fn texts(alloc: Global, words: &[&str]) -> Result<Vec<Text>, AllocError> {
     let mut all = Vec::new(alloc);
     for word in words {
@@ -67,12 +68,13 @@ fn texts(alloc: Global, words: &[&str]) -> Result<Vec<Text>, AllocError> {
     Ok(all)
 }
 
-fn blanks(alloc: Global, count: usize) -> Result<Vec<u8>, AllocError> {
+/// That many blanks.
+pub fn blanks(alloc: Global, count: usize) -> Result<Vec<u8>, AllocError> {
     vec![in alloc; b' '; count]
 }
 
-// Whether these words and bytes have this answer, where the source and the sink fail at these calls.
-fn answers(
+/// Whether these words and bytes have this answer, where the source and the sink fail at these calls.
+pub fn answers(
     alloc: Global,
     words: &[&str],
     bytes: Vec<u8>,
@@ -86,59 +88,13 @@ fn answers(
     Ok(status == wanted.0 && sink.taken() == wanted.1.as_bytes())
 }
 
-#[test]
-fn two_counters(rt: HostRuntime) -> Result<(), Fail> {
-    let alloc = rt.alloc();
-    let bundle = TWO_COUNTERS.as_bytes().to_vec(alloc)?;
-    let none = (Vec::new(alloc), Vec::new(alloc));
-    assert!(rt; answers(alloc, &["sync", "Top.impl"], bundle, none, (0, ROWS))?);
-    Ok(())
-}
-
-#[test]
-fn usage(rt: HostRuntime) -> Result<(), Fail> {
-    let alloc = rt.alloc();
-    let none: [&[&str]; 5] = [
-        &[],
-        &["sync"],
-        &["run", "--trace", "--trace", "Top.impl"],
-        &["self", "1", "3"],
-        &["--help"],
-    ];
-    for words in none {
-        let quiet = (Vec::new(alloc), Vec::new(alloc));
-        assert!(rt;
-            answers(alloc, words, Vec::new(alloc), quiet, (2, USAGE))?,
-            "{words:?}"
-        );
-    }
-    Ok(())
-}
-
-#[test]
-fn outside_faults(rt: HostRuntime) -> Result<(), Fail> {
-    let alloc = rt.alloc();
-    let sync: &[&str] = &["sync", "Top.impl"];
-    let first = (vec![in alloc; 1u64]?, Vec::new(alloc));
-    let bundle = TWO_COUNTERS.as_bytes().to_vec(alloc)?;
-    assert!(rt; answers(alloc, sync, bundle, first, (9, "read fault\n"))?);
-
-    let none = (Vec::new(alloc), Vec::new(alloc));
-    assert!(rt;
-        answers(
-            alloc,
-            sync,
-            blanks(alloc, 16_777_217)?,
-            none,
-            (12, "too long\n")
-        )?
-    );
-
-    let second = (Vec::new(alloc), vec![in alloc; 2u64]?);
-    let bundle = TWO_COUNTERS.as_bytes().to_vec(alloc)?;
-    assert!(rt; answers(alloc, sync, bundle, second, (10, "round 0\n"))?);
-
-    let none = (Vec::new(alloc), Vec::new(alloc));
-    assert!(rt; answers(alloc, sync, Vec::new(alloc), none, (3, "not built\n"))?);
-    Ok(())
+/// Whether these words and bytes have this answer, where nothing fails.
+pub fn is_answered(
+    alloc: Global,
+    words: &[&str],
+    bundle: &[u8],
+    wanted: (u8, &str),
+) -> Result<bool, Fail> {
+    let quiet = (Vec::new(alloc), Vec::new(alloc));
+    answers(alloc, words, bundle.to_vec(alloc)?, quiet, wanted)
 }

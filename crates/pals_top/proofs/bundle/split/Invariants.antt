@@ -1,0 +1,8 @@
+use Rattle.std.proofs.Common.{◌≡◌, ◌<◌, ℕ}
+use Rattle.std.specs.Prelude.{None}
+use Rattle.pals_top.specs.Bundles.{divided_at}
+use Rattle.pals_top.proofs.bundle.split.Given as goal
+
+-- no line so far divides
+abbrev pub invariant-loop-at : goal.invariant-loop-at
+invariant-loop-at l = (before : ℕ) → before < l.at → divided_at l.bundle before ≡ None

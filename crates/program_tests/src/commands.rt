@@ -1,0 +1,61 @@
+//! The words of the command line, and a source and a sink that fail.
+use crate::bundles::{ROWS, TWO_COUNTERS, USAGE, answers, blanks, is_answered};
+use std::test::Fail;
+
+#[test]
+fn two_counters(rt: HostRuntime) -> Result<(), Fail> {
+    let bundle = TWO_COUNTERS.as_bytes();
+    assert!(rt; is_answered(rt.alloc(), &["sync", "Top.impl"], bundle, (0, ROWS))?);
+    Ok(())
+}
+
+#[test]
+fn usage(rt: HostRuntime) -> Result<(), Fail> {
+    let none: [&[&str]; 7] = [
+        &[],
+        &["sync"],
+        &["print", "Top.impl"],
+        &["sync", "--loose"],
+        &["run", "--trace", "--trace", "Top.impl"],
+        &["self", "1", "3"],
+        &["--help"],
+    ];
+    for words in none {
+        assert!(rt;
+            is_answered(rt.alloc(), words, b"", (2, USAGE))?,
+            "{words:?}"
+        );
+    }
+    Ok(())
+}
+
+#[test]
+fn outside_faults(rt: HostRuntime) -> Result<(), Fail> {
+    let alloc = rt.alloc();
+    let sync: &[&str] = &["sync", "Top.impl"];
+    let bundle = TWO_COUNTERS.as_bytes();
+    let first = (vec![in alloc; 1u64]?, Vec::new(alloc));
+    assert!(rt;
+        answers(
+            alloc,
+            sync,
+            bundle.to_vec(alloc)?,
+            first,
+            (9, "read fault\n")
+        )?
+    );
+    let long = blanks(alloc, 16_777_217)?;
+    assert!(rt; is_answered(alloc, sync, long.as_slice(), (12, "too long\n"))?);
+    let second = (Vec::new(alloc), vec![in alloc; 2u64]?);
+    assert!(rt;
+        answers(
+            alloc,
+            sync,
+            bundle.to_vec(alloc)?,
+            second,
+            (10, "round 0\n")
+        )?
+    );
+    assert!(rt; is_answered(alloc, sync, b"", (3, "not built\n"))?);
+    Ok(())
+}
