@@ -3,17 +3,7 @@
 #![tactic(auto)]
 
 #[cfg(test)]
-mod adaptors;
-#[cfg(test)]
-mod alarms;
-#[cfg(test)]
-mod bounds;
-#[cfg(test)]
-mod buffers;
-#[cfg(test)]
 mod bundles;
-#[cfg(test)]
-mod clocks;
 #[cfg(test)]
 mod design_calls;
 #[cfg(test)]
@@ -22,7 +12,5 @@ mod designs;
 mod rows;
 #[cfg(test)]
 mod steps;
-#[cfg(test)]
-mod streams;
 #[cfg(test)]
 mod values;
