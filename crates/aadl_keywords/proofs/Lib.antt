@@ -1,0 +1,4 @@
+mod Lists
+mod Ways
+mod Sides
+mod WaysOf

@@ -1,0 +1,41 @@
+-- Keywords in lists, and tests of each item of a list.
+use Rattle.std.proofs.Common.{◌≡◌, suc, Bool, true, false, not, ◌||◌, ◌==◌, List, [], ◌∷◌, refl, arith}
+use Rattle.std.specs.Prelude.{Contains}
+use Rattle.std.specs.List.{list_all}
+use Rattle.std.proofs.lemmas.List.Sums.{AllPass-from_list_all}
+use Rattle.std.proofs.lemmas.Bool.{eqb-true}
+use Rattle.std.proofs.lemmas.List.Elements.{All-contains}
+use Rattle.aadl_tree.specs.declared.mark.Mark.{Mark}
+use Rattle.aadl_tree.specs.Marks.{mark_number}
+use Rattle.aadl_tree.proofs.Numbers.{same_number}
+
+pub passes : {X : Type 0} (p : X → Bool) (xs : List X) (x : X) → list_all p xs ≡ true → Contains xs x → p x ≡ true
+passes p xs x e c = All-contains (λ x. p x ≡ true) xs x (AllPass-from_list_all p xs e) c
+
+pub or_not : (a b : Bool) → (a || not b) ≡ true → b ≡ true → a ≡ true
+or_not true b e f = refl
+or_not false true e f = e
+or_not false false e f = cc
+
+pub or_false : (a b : Bool) → (a || b) ≡ true → b ≡ false → a ≡ true
+or_false true b e f = refl
+or_false false b e f = cc
+
+abbrev pub listed : List Mark → Mark → Bool
+listed [] m = false
+listed (x ∷ xs) m = mark_number x == mark_number m || listed xs m
+
+behind : (x m : Mark) (xs : List Mark) → Contains xs m → Contains (x ∷ xs) m
+behind x m xs c = let within = c.1 in (suc c.0, omega arith, c.2)
+
+listed_first : (b : Bool) (x m : Mark) (xs : List Mark) → (b ≡ true → x ≡ m) → (listed xs m ≡ true → Contains xs m) → (b || listed xs m) ≡ true → Contains (x ∷ xs) m
+listed_first true x m xs same more e = (0, omega arith, same refl)
+listed_first false x m xs same more e = behind x m xs (more e)
+
+pub is_listed : (xs : List Mark) (m : Mark) → listed xs m ≡ true → Contains xs m
+is_listed [] m e = cc
+is_listed (x ∷ xs) m e = listed_first _ x m xs (λ f. same_number x m (eqb-true _ _ f)) (is_listed xs m) e
+
+pub false_unless : (b : Bool) → (b ≡ true → ⊥) → b ≡ false
+false_unless true never = absurd (never refl)
+false_unless false never = refl
