@@ -1,4 +1,1 @@
-pub mod FormulaSteps
-pub mod Lists
-pub mod Readings
-pub mod Search
+pub mod Keeping

@@ -1,15 +1,2 @@
-pub mod Cells
-pub mod Clocks
-pub mod Events
-pub mod Inputs
-pub mod NameTables
-pub mod Outcomes
-pub mod Places
-pub mod Plants
-pub mod Processors
-pub mod Properties
-pub mod PropertyValues
-pub mod Replicas
+pub mod Facts
 pub mod Scenarios
-pub mod Traces
-pub mod Values

@@ -1,31 +1,29 @@
 -- What a scenario means, or its first fault.
-use Rattle.std.specs.Prelude.{◌≡◌, ◌≢◌, ◌⊎◌, IsUtf8, MatchResult, ℕ, ◌^◌, ◌-◌, min, nat_le, bytes_eq, codes, List, [], ◌∷◌, ◌++◌, length, map, find, replicate, Bool, true, false, not, Option, Some, None, Result, Ok, Err, if◌then◌else◌}
+use Rattle.std.specs.Prelude.{◌≡◌, ◌≢◌, ◌⊎◌, IsUtf8, MatchResult, ℕ, ◌^◌, ◌-◌, min, nat_le, bytes_eq, codes, List, [], ◌∷◌, length, find, replicate, Bool, true, false, not, Option, Some, None, Result, Ok, Err, if◌then◌else◌}
 use Rattle.std.specs.List.{list_any}
 use Rattle.serde_json.specs.Data.{Data}
 use Rattle.serde_json.specs.Find.{get}
 use Rattle.serde_json.specs.Read.{read}
-use Rattle.pals_base.specs.declared.limits.TheConstants.{ROUNDS, CELLS, LIST_ITEMS}
-use Rattle.pals_clock.specs.declared.clock.Clocks.{Clocks}
+use Rattle.pals_base.specs.declared.limits.TheConstants.{ROUNDS, CELLS}
 use Rattle.pals_clock.specs.declared.clock.Clocks.TheVariants.{Meet}
 use Rattle.pals_model.specs.declared.design.DesignParts.{DesignParts}
 use Rattle.pals_model.specs.Inputs.{root_inputs}
 use Rattle.pals_runs.specs.declared.commands.Command.{Command}
 use Rattle.pals_runs.specs.declared.commands.Command.TheVariants.{World, Audit, Watch, Budget}
-use Rattle.scenario_json.specs.declared.fault.ScenarioFault.{ScenarioFault}
-use Rattle.scenario_json.specs.declared.fault.ScenarioFault.TheVariants.{NotJson, Field, Unknown, TooBig, Memory}
+use Rattle.scenario_values.specs.declared.fault.ScenarioFault.{ScenarioFault}
+use Rattle.scenario_values.specs.declared.fault.ScenarioFault.TheVariants.{NotJson, Field, Unknown, TooBig, Memory}
 use Rattle.scenario_json.specs.declared.scenario.Scenario.{Scenario}
-use Rattle.scenario_json.specs.Outcomes.{◌>>=◌, only_if, through}
-use Rattle.scenario_json.specs.Values.{entries, short_list, text, whole}
-use Rattle.scenario_json.specs.Places.{inside}
-use Rattle.scenario_json.specs.Cells.{cells_of}
-use Rattle.scenario_json.specs.Inputs.{inputs_in, delays_in}
-use Rattle.scenario_json.specs.Traces.{trace_in}
-use Rattle.scenario_json.specs.Clocks.{clocks_in}
-use Rattle.scenario_json.specs.Events.{events_in}
-use Rattle.scenario_json.specs.Properties.{properties_in}
-use Rattle.scenario_json.specs.Replicas.{replicas_in, faults_in}
-use Rattle.scenario_json.specs.Plants.{plants_in}
-use Rattle.scenario_json.specs.Processors.{processors_in}
+use Rattle.scenario_values.specs.Outcomes.{◌>>=◌, only_if}
+use Rattle.scenario_values.specs.Values.{entries, whole}
+use Rattle.run_fields.specs.Cells.{cells_of}
+use Rattle.run_fields.specs.Inputs.{inputs_in, delays_in}
+use Rattle.run_fields.specs.Traces.{trace_in}
+use Rattle.run_fields.specs.Clocks.{clocks_in}
+use Rattle.run_fields.specs.Events.{events_in}
+use Rattle.analysis_fields.specs.Properties.{properties_in}
+use Rattle.analysis_fields.specs.Replicas.{replicas_in, faults_in}
+use Rattle.analysis_fields.specs.Plants.{plants_in}
+use Rattle.analysis_fields.specs.Processors.{processors_in}
 
 -- ---- fields
 abbrev pub fields : List (List ℕ)

@@ -1,41 +1,40 @@
 //! A whole scenario, field by field.
-ghost use Rattle.std.specs.Prelude.{◌≡◌, ◌≢◌, ◌↔◌, [], ◌∷◌, codes, false, true, find, length, map, not, option_map, replicate, string_bytes, IfErr, IfOk, IsUtf8};
+ghost use Rattle.std.specs.Prelude.{◌≡◌, [], ◌∷◌, codes, false, find, length, map, not, option_map, replicate, IfOk};
 ghost use Rattle.serde_json.specs.Find.{get};
 ghost use Rattle.serde_json.specs.View.{view};
 ghost use Rattle.pals_clock.specs.declared.clock.Clocks.TheVariants.{Meet};
 ghost use Rattle.pals_model.specs.Inputs.{root_inputs};
-ghost use Rattle.scenario_json.specs.Outcomes.{Answers, Shows};
-ghost use Rattle.scenario_json.specs.Values.{entry_of};
-ghost use Rattle.scenario_json.specs.Inputs.{inputs_in, delays_in};
-ghost use Rattle.scenario_json.specs.Traces.{trace_in};
-ghost use Rattle.scenario_json.specs.Clocks.{clocks_in};
-ghost use Rattle.scenario_json.specs.Events.{events_in};
-ghost use Rattle.scenario_json.specs.Properties.{properties_in};
-ghost use Rattle.scenario_json.specs.Replicas.{replicas_in, faults_in};
-ghost use Rattle.scenario_json.specs.Plants.{plants_in};
-ghost use Rattle.scenario_json.specs.Processors.{processors_in};
+ghost use Rattle.scenario_values.specs.Outcomes.{Answers};
+ghost use Rattle.scenario_values.specs.Values.{entry_of};
+ghost use Rattle.run_fields.specs.Inputs.{inputs_in, delays_in};
+ghost use Rattle.run_fields.specs.Traces.{trace_in};
+ghost use Rattle.run_fields.specs.Clocks.{clocks_in};
+ghost use Rattle.run_fields.specs.Events.{events_in};
+ghost use Rattle.analysis_fields.specs.Properties.{properties_in};
+ghost use Rattle.analysis_fields.specs.Replicas.{replicas_in, faults_in};
+ghost use Rattle.analysis_fields.specs.Plants.{plants_in};
+ghost use Rattle.analysis_fields.specs.Processors.{processors_in};
+ghost use Rattle.scenario_json.specs.Facts.{IsScenarioOf};
 ghost use Rattle.scenario_json.specs.Scenarios.{is_field, field, needs_events, needs_trace, needs_properties, needs_processors, rounds_in, fields_in, scen, IsAnswer};
 
-use crate::cells::cells_of;
-use crate::clocks::read_clocks;
-use crate::events::read_events;
-use crate::fault::ScenarioFault;
-use crate::faults::read_faults;
-use crate::inputs::{least_delays, no_inputs, read_delays, read_inputs};
-use crate::json::{entries, whole};
-use crate::names::Names;
-use crate::place::{Place, missing, unknown};
-use crate::plants::read_plants;
-use crate::processors::read_processors;
-use crate::properties::read_properties;
-use crate::replicas::read_replicas;
-use crate::scenario::{Processor, Property, RoundFault, Scenario};
-use crate::traces::read_trace;
+use crate::scenario::Scenario;
+use analysis_fields::{
+    Processor, Property, RoundFault, read_faults, read_plants, read_processors, read_properties,
+    read_replicas,
+};
 use pals_base::limits::{CELLS, ROUNDS};
 use pals_base::{Items, Nanos, NodeNo, Text, Tuple};
 use pals_clock::Clocks;
 use pals_model::{Delays, Design, Env};
 use pals_runs::{Command, Event, Pair};
+use run_fields::{
+    cells_of, least_delays, no_inputs, read_clocks, read_delays, read_events, read_inputs,
+    read_trace,
+};
+use scenario_names::Names;
+use scenario_values::ScenarioFault;
+use scenario_values::json::{entries, whole};
+use scenario_values::place::{Place, missing, unknown};
 use serde_json::{Category, Map, Value};
 use std::alloc::Global;
 
@@ -285,7 +284,8 @@ fn scenario_in(
     command: &Command,
     value: &Value,
 ) -> Result<Scenario, ScenarioFault>
-    ensures { Answers (scen (view value.now) design.now command.now) result }
+    ensures value { Answers (scen (view value.now) design.now command.now) result }
+    ensures kept { IfOk result (IsScenarioOf design.now) }
 {
     let members = entries(alloc, Place::Field("scenario"), value)?;
     if let Some(name) = unknown_field(members) {
@@ -304,7 +304,9 @@ pub fn read_scenario(
     design: &Design,
     job: Command,
 ) -> Result<Scenario, ScenarioFault>
-    ensures { IsAnswer bytes.now design.now job result }
+    ensures answer { IsAnswer bytes.now design.now job result }
+    // what users of a scenario need not look at again
+    ensures kept { IfOk result (IsScenarioOf design.now) }
 {
     match Value::from_slice(alloc, bytes) {
         Ok(value) => scenario_in(alloc, design, &job, &value),

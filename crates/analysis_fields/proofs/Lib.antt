@@ -1,0 +1,4 @@
+pub mod FaultFacts
+pub mod FaultPlaces
+pub mod FormulaSteps
+pub mod ProcessorFacts

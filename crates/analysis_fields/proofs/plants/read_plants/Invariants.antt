@@ -1,0 +1,11 @@
+use Rattle.std.proofs.Common.{◌≡◌, [], map}
+use Rattle.analysis_fields.specs.Plants.{with_pair}
+use Rattle.scenario_values.specs.Outcomes.{through}
+use Rattle.scenario_values.specs.Values.{entry_of}
+use Rattle.analysis_fields.proofs.plants.read_plants.Given as goal
+
+-- what is made so far, and what is meant
+abbrev pub invariant-loop-name : goal.invariant-loop-name
+invariant-loop-name l =
+    let step = with_pair l.names l.all.items in
+    (through step l.pairs (map entry_of l.name-iterator) ≡ through step [] (map entry_of l.initial.name-iterator))

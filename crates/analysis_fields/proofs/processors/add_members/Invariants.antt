@@ -1,0 +1,12 @@
+use Rattle.std.proofs.Common.{◌≡◌, map, drop}
+use Rattle.serde_json.specs.View.{view}
+use Rattle.scenario_values.specs.Outcomes.{through}
+use Rattle.scenario_values.specs.Places.{place_text}
+use Rattle.analysis_fields.specs.Processors.{with_member}
+use Rattle.analysis_fields.proofs.processors.add_members.Given as goal
+
+-- what is made so far, and what is meant
+abbrev pub invariant-loop-value : goal.invariant-loop-value
+invariant-loop-value l =
+    let step = with_member l.names (place_text l.place) l.number in
+    through step l.owners (map view (drop l.value-index l.values)) ≡ through step l.initial.owners (map view l.values)

@@ -1,0 +1,11 @@
+use Rattle.std.proofs.Common.{◌≡◌, [], map}
+use Rattle.analysis_fields.specs.Processors.{with_processor}
+use Rattle.scenario_values.specs.Outcomes.{through}
+use Rattle.scenario_values.specs.Values.{entry_of}
+use Rattle.analysis_fields.proofs.processors.place_all.Given as goal
+
+-- what is made so far, and what is meant
+abbrev pub invariant-loop-name : goal.invariant-loop-name
+invariant-loop-name l =
+    let step = with_processor l.names in
+    (through step (l.owners, l.processors) (map entry_of l.name-iterator) ≡ through step (l.initial.owners, []) (map entry_of l.initial.name-iterator))

@@ -1,0 +1,11 @@
+use Rattle.std.proofs.Common.{◌≡◌, [], map}
+use Rattle.analysis_fields.specs.Properties.{with_property}
+use Rattle.scenario_values.specs.Outcomes.{through}
+use Rattle.scenario_values.specs.Values.{entry_of}
+use Rattle.analysis_fields.proofs.properties.read_properties.Given as goal
+
+-- what is made so far, and what is meant
+abbrev pub invariant-loop-name : goal.invariant-loop-name
+invariant-loop-name l =
+    let step = with_property l.names in
+    (through step l.properties (map entry_of l.name-iterator) ≡ through step [] (map entry_of l.initial.name-iterator))

@@ -1,0 +1,11 @@
+use Rattle.std.proofs.Common.{◌≡◌, [], map, drop}
+use Rattle.analysis_fields.specs.Replicas.{with_replica}
+use Rattle.serde_json.specs.View.{view}
+use Rattle.scenario_values.specs.Outcomes.{through}
+use Rattle.analysis_fields.proofs.replicas.read_replicas.Given as goal
+
+-- what is made so far, and what is meant
+abbrev pub invariant-loop-item : goal.invariant-loop-item
+invariant-loop-item l =
+    let step = with_replica l.names in
+    (through step l.replicas (map view (drop l.item-index l.items)) ≡ through step [] (map view l.items))

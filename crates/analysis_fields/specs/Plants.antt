@@ -1,0 +1,69 @@
+-- Plants and their controllers.
+use Rattle.std.specs.Prelude.{ℕ, nat_eq, codes, List, [], ◌∷◌, ◌++◌, map, count_by, Bool, false, not, ◌&&◌, ◌||◌, Option, Some, None, option_and_then, Result, Ok, if◌then◌else◌}
+use Rattle.std.specs.List.{list_all}
+use Rattle.serde_json.specs.Data.{Data}
+use Rattle.serde_json.specs.Find.{as_str}
+use Rattle.pals_model.specs.declared.design.Link.{Link}
+use Rattle.pals_model.specs.declared.design.DesignParts.{DesignParts}
+use Rattle.pals_model.specs.Inputs.{rate_of}
+use Rattle.pals_model.specs.LinkNames.{node_named}
+use Rattle.pals_runs.specs.declared.pairs.Pair.{Pair}
+use Rattle.scenario_values.specs.declared.fault.ScenarioFault.{ScenarioFault}
+use Rattle.scenario_values.specs.declared.fault.ScenarioFault.TheVariants.{OutOfRange}
+use Rattle.scenario_values.specs.Outcomes.{◌>>=◌, only_if, through}
+use Rattle.scenario_values.specs.Places.{inside}
+use Rattle.scenario_values.specs.Values.{entries, text}
+use Rattle.scenario_names.specs.Names.{node_no, node_at}
+use Rattle.analysis_fields.specs.declared.plants.Named.{Named}
+
+abbrev pub pair : ℕ → ℕ → Pair
+pair plant controller = record { plant = node_no plant; controller = node_no controller }
+
+-- the components that an entry names, whatever else is wrong with it
+abbrev pub controller_in : DesignParts → Data → Option ℕ
+controller_in design d = option_and_then (node_named design) (as_str d)
+
+abbrev pub named_in : DesignParts → List ℕ × Data → Named
+named_in design entry = record { plant = node_named design entry.0; controller = controller_in design entry.1 }
+
+abbrev pub is_number : Option ℕ → ℕ → Bool
+is_number None node = false
+is_number (Some number) node = nat_eq number node
+
+abbrev pub names_node : ℕ → Named → Bool
+names_node node n = is_number n.plant node || is_number n.controller node
+
+-- an entry names a component of a pair
+abbrev pub shares : Pair → Named → Bool
+shares p n = names_node p.plant.0 n || names_node p.controller.0 n
+
+-- where one end of a link is the plant, the other is the controller
+abbrev pub is_between : Pair → Link → Bool
+is_between p link =
+    (not (nat_eq link.source.0 p.plant.0) || nat_eq link.target.0 p.controller.0)
+    && (not (nat_eq link.target.0 p.plant.0) || nat_eq link.source.0 p.controller.0)
+
+-- two components of one rate
+abbrev pub are_equals : DesignParts → Pair → Bool
+are_equals design p = nat_eq (rate_of design p.plant.0) (rate_of design p.controller.0) && not (nat_eq p.plant.0 p.controller.0)
+
+-- no entry but its own names one of these components
+abbrev pub is_alone : List Named → Pair → Bool
+is_alone all p = nat_eq (count_by (shares p) all) 1
+
+-- such components, whose plant is linked to the controller alone
+unfoldable pub is_sound : DesignParts → List Named → Pair → Bool
+is_sound design all p = are_equals design p && is_alone all p && list_all (is_between p) design.links
+
+-- one pair; what all entries name is given
+unfoldable pub pair_in : DesignParts → List Named → List ℕ × Data → Result Pair ScenarioFault
+pair_in design all entry =
+    let place = inside (codes "plants") entry.0 in
+    node_at place design entry.0 >>= λ plant. text place entry.1 >>= λ path. node_at place design path >>= λ controller.
+    only_if (is_sound design all (pair plant controller)) (OutOfRange place) (Ok (pair plant controller))
+
+abbrev pub with_pair : DesignParts → List Named → List Pair → List ℕ × Data → Result (List Pair) ScenarioFault
+with_pair design all before entry = pair_in design all entry >>= λ p. Ok (before ++ p ∷ [])
+
+unfoldable pub plants_in : DesignParts → Data → Result (List Pair) ScenarioFault
+plants_in design d = entries (codes "plants") d >>= λ es. through (with_pair design (map (named_in design) es)) [] es

@@ -1,0 +1,18 @@
+//! The fields of scenarios that monitors, votes, fused plants and round budgets use: properties, replicas and
+//! their faults, plants with their controllers, and processors. Each field has its definition, by the name of
+//! its module, in `specs`.
+#![tactic(auto)]
+
+mod faults;
+mod formulas;
+mod limits;
+mod plants;
+mod processors;
+mod properties;
+mod replicas;
+
+pub use faults::{RoundFault, read_faults};
+pub use plants::read_plants;
+pub use processors::{Processor, read_processors};
+pub use properties::{Property, read_properties};
+pub use replicas::read_replicas;

@@ -1,0 +1,57 @@
+//! Replicas.
+ghost use Rattle.std.specs.Prelude.{◌≡◌, ◌∷◌, ◌++◌, []};
+ghost use Rattle.serde_json.specs.View.{view};
+ghost use Rattle.scenario_values.specs.Outcomes.{Answers, Shows};
+ghost use Rattle.analysis_fields.specs.Replicas.{is_among, with_replica, replicas_in};
+
+use pals_base::{Items, NodeNo};
+use scenario_names::Names;
+use scenario_values::ScenarioFault;
+use scenario_values::json::{elements, text};
+use scenario_values::place::{Place, out_of_range};
+use serde_json::Value;
+use std::alloc::Global;
+
+/// Whether a component is among some.
+pub fn is_among(nodes: &[NodeNo], node: NodeNo) -> bool
+    ensures { result ≡ is_among nodes.now node.0 }
+{
+    nodes.iter().any(|other| other.0 == node.0)
+}
+
+// One more component, which is not among those before it.
+#[tactic(auto, unfolding(crate::specs::Replicas::with_replica))]
+fn read_replica(
+    alloc: Global,
+    names: &Names<'_>,
+    replicas: &[NodeNo],
+    value: &Value,
+) -> Result<NodeNo, ScenarioFault>
+    ensures { Shows (λ node. replicas.now ++ node ∷ []) (with_replica names.now replicas.now (view value.now)) result }
+{
+    let place = Place::Index("replicas", replicas.len());
+    let path = text(alloc, place, value)?;
+    let node = names.node(alloc, place, path)?;
+    if is_among(replicas, node) {
+        return Err(out_of_range(alloc, place));
+    }
+    Ok(node)
+}
+
+/// The components that are replicated. They differ, so each list of them that is read is short.
+#[tactic(auto, unfolding(crate::specs::Replicas::replicas_in))]
+pub fn read_replicas(
+    alloc: Global,
+    names: &Names<'_>,
+    value: &Value,
+) -> Result<Items<NodeNo>, ScenarioFault>
+    ensures { Answers (replicas_in names.now (view value.now)) result }
+{
+    let items = elements(alloc, Place::Field("replicas"), value)?;
+    let mut replicas = Items::new(alloc);
+    for item in items {
+        let node = read_replica(alloc, names, replicas.as_slice(), item)?;
+        replicas.push(node)?;
+    }
+    Ok(replicas)
+}

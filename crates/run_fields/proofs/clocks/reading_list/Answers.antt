@@ -1,0 +1,17 @@
+use Rattle.std.proofs.Common.{◌≤◌, sym, arith}
+use Rattle.std.proofs.lemmas.Grind.{common_steps}
+use Rattle.run_fields.specs.Clocks.{last_of}
+use Rattle.run_fields.proofs.Readings.{last_push, order_push}
+use Rattle.run_fields.proofs.clocks.reading_list.Goals as goal
+
+pub loop-at-preserved : goal.loop-at-preserved
+loop-at-preserved c =
+    let readings = c.loop-at.readings in
+    let reading = c.in_ok-reading.reading in
+    let above : last_of readings ≤ reading = grind (arith, common_steps, c.in_ok-reading.ensures.range, c.loop-at.invariant.1) in
+    rw c.in_ok-push.ensures.ok (
+      grind (arith, common_steps),
+      sym (last_push readings reading),
+      order_push readings reading c.loop-at.invariant.2 above,
+      grind (arith, common_steps),
+    )

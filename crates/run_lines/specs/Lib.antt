@@ -1,0 +1,3 @@
+pub mod EventFaults
+pub mod ScenarioFaults
+pub mod Words

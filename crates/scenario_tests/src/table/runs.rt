@@ -1,0 +1,172 @@
+//! Clocks, delays and traces.
+use super::Row;
+use crate::designs::Example::Pair;
+
+pub const ROWS: [Row; 31] = [
+    (Pair, "run", r#"{"rounds":1,"clocks":"meet"}"#, "read"),
+    (
+        Pair,
+        "run",
+        r#"{"rounds":1,"clocks":"Meet"}"#,
+        "scenario WrongKind clocks",
+    ),
+    (
+        Pair,
+        "run",
+        r#"{"rounds":1,"clocks":null}"#,
+        "scenario WrongKind clocks",
+    ),
+    (
+        Pair,
+        "run",
+        r#"{"rounds":1,"clocks":[]}"#,
+        "scenario WrongKind clocks",
+    ),
+    (Pair, "run", r#"{"rounds":1,"clocks":{}}"#, "read"),
+    (
+        Pair,
+        "run",
+        r#"{"rounds":1,"clocks":{"p.a":[1,1,2],"p.b":[]}}"#,
+        "read",
+    ),
+    (
+        Pair,
+        "run",
+        r#"{"rounds":1,"clocks":{"p.a":[2,1]}}"#,
+        "scenario OutOfRange clocks/p.a/1",
+    ),
+    (
+        Pair,
+        "run",
+        r#"{"rounds":1,"clocks":{"p.c":[2,1]}}"#,
+        "scenario Unknown clocks/p.c",
+    ),
+    (
+        Pair,
+        "run",
+        r#"{"rounds":1,"clocks":{"p.a":{}}}"#,
+        "scenario WrongKind clocks/p.a",
+    ),
+    (
+        Pair,
+        "run",
+        r#"{"rounds":1,"clocks":{"p.a":[0,null]}}"#,
+        "scenario WrongKind clocks/p.a/1",
+    ),
+    (
+        Pair,
+        "run",
+        r#"{"rounds":1,"clocks":{"p.a":[576460752303423488]}}"#,
+        "read",
+    ),
+    (
+        Pair,
+        "run",
+        r#"{"rounds":1,"clocks":{"p.a":[576460752303423489]}}"#,
+        "scenario OutOfRange clocks/p.a/0",
+    ),
+    (
+        Pair,
+        "run",
+        r#"{"rounds":1,"clocks":{"p.a":[-1]}}"#,
+        "scenario OutOfRange clocks/p.a/0",
+    ),
+    (
+        Pair,
+        "run",
+        r#"{"rounds":1,"clocks":{"p.b":[3,2],"p.a":[5,7,6]}}"#,
+        "scenario OutOfRange clocks/p.a/2",
+    ),
+    (
+        Pair,
+        "run",
+        r#"{"rounds":1,"delays":{"p.b.i":[]}}"#,
+        "scenario OutOfRange delays/p.b.i",
+    ),
+    (
+        Pair,
+        "run",
+        r#"{"rounds":1,"delays":{"p.b.i":[0,3600000000000]}}"#,
+        "read",
+    ),
+    (
+        Pair,
+        "run",
+        r#"{"rounds":1,"delays":{"p.b.i":[3600000000001]}}"#,
+        "scenario OutOfRange delays/p.b.i/0",
+    ),
+    (
+        Pair,
+        "run",
+        r#"{"rounds":1,"delays":{"p.b.i":[1,-1]}}"#,
+        "scenario OutOfRange delays/p.b.i/1",
+    ),
+    (
+        Pair,
+        "run",
+        r#"{"rounds":1,"delays":{"p.b.o":[]}}"#,
+        "scenario Unknown delays/p.b.o",
+    ),
+    (
+        Pair,
+        "run",
+        r#"{"rounds":1,"delays":{"p.b.i":5}}"#,
+        "scenario WrongKind delays/p.b.i",
+    ),
+    (
+        Pair,
+        "run",
+        r#"{"rounds":1,"delays":[5]}"#,
+        "scenario WrongKind delays",
+    ),
+    (
+        Pair,
+        "run",
+        r#"{"rounds":1,"delays":{"p.b.i":[1.5]}}"#,
+        "scenario WrongKind delays/p.b.i/0",
+    ),
+    (
+        Pair,
+        "run",
+        r#"{"rounds":1,"delays":[],"clocks":1}"#,
+        "scenario WrongKind clocks",
+    ),
+    (Pair, "audit", r#"{"rounds":1}"#, "scenario Field trace"),
+    (Pair, "audit", r#"{"rounds":1,"trace":[]}"#, "read"),
+    (
+        Pair,
+        "audit",
+        r#"{"rounds":1,"trace":["round 0","no line"]}"#,
+        "read",
+    ),
+    (
+        Pair,
+        "audit",
+        r#"{"rounds":1,"trace":"round 0"}"#,
+        "scenario WrongKind trace",
+    ),
+    (
+        Pair,
+        "audit",
+        r#"{"rounds":1,"trace":["round 0",0]}"#,
+        "scenario WrongKind trace/1",
+    ),
+    (
+        Pair,
+        "sync",
+        r#"{"rounds":1,"trace":[null]}"#,
+        "scenario WrongKind trace/0",
+    ),
+    (
+        Pair,
+        "audit",
+        r#"{"rounds":1,"delays":[]}"#,
+        "scenario WrongKind delays",
+    ),
+    (
+        Pair,
+        "audit",
+        r#"{"rounds":1,"properties":{}}"#,
+        "scenario Field trace",
+    ),
+];

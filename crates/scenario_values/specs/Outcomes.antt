@@ -1,0 +1,36 @@
+-- Reading that may meet a fault.
+use Rattle.std.specs.Prelude.{◌≡◌, ◌≢◌, Bool, List, [], ◌∷◌, Option, Some, None, Result, Ok, Err, MatchResult, if◌then◌else◌}
+use Rattle.scenario_values.specs.declared.fault.ScenarioFault.{ScenarioFault}
+use Rattle.scenario_values.specs.declared.fault.ScenarioFault.TheVariants.{Memory}
+
+-- goes on with what was read; the first fault is the answer
+infixl 10 ◌>>=◌
+abbrev pub ◌>>=◌ : {A B : Type 0} → Result A ScenarioFault → (A → Result B ScenarioFault) → Result B ScenarioFault
+Ok x >>= go = go x
+Err fault >>= go = Err fault
+
+-- what is there, or a fault
+abbrev pub given : {A : Type 0} → ScenarioFault → Option A → Result A ScenarioFault
+given fault None = Err fault
+given fault (Some x) = Ok x
+
+-- goes on where a test passes
+abbrev pub only_if : {A : Type 0} → Bool → ScenarioFault → Result A ScenarioFault → Result A ScenarioFault
+only_if test fault next = if test then next else Err fault
+
+-- goes through values one after another, with what was made of those before
+abbrev pub through : {A S : Type 0} → (S → A → Result S ScenarioFault) → S → List A → Result S ScenarioFault
+through step s [] = Ok s
+through step s (x ∷ xs) = step s x >>= λ t. through step t xs
+
+-- a call's answer shows what is meant, unless memory was wanting
+abbrev pub Shows : {A B : Type 0} → (A → B) → Result B ScenarioFault → Result A ScenarioFault → Type 0
+Shows seen meant answer = MatchResult answer (λ x. meant ≡ Ok (seen x)) (λ fault. fault ≢ Memory → meant ≡ Err fault)
+
+-- a call's answer is what is meant, unless memory was wanting
+abbrev pub Answers : {A : Type 0} → Result A ScenarioFault → Result A ScenarioFault → Type 0
+Answers meant answer = Shows (λ x. x) meant answer
+
+-- the same of a call that writes what it makes over what was there
+abbrev pub Makes : {A S : Type 0} → S → Result S ScenarioFault → Result A ScenarioFault → Type 0
+Makes new meant answer = MatchResult answer (λ _. meant ≡ Ok new) (λ fault. fault ≢ Memory → meant ≡ Err fault)

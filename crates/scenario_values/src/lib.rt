@@ -1,0 +1,9 @@
+//! JSON values as the fields of scenarios ask for them: numbers in their ranges, texts, lists, objects and
+//! values of ports. And the faults of scenarios, each with the name of the place where it stands.
+#![tactic(auto)]
+
+mod fault;
+pub mod json;
+pub mod place;
+
+pub use fault::ScenarioFault;
