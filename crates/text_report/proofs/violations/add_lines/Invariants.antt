@@ -6,6 +6,6 @@ use Rattle.text_report.proofs.violations.add_lines.Given as goal
 -- the lines so far, of places in one text
 abbrev pub invariant-loop-violation : goal.invariant-loop-violation
 invariant-loop-violation l = record {
-  text : l.cursor.text.now ≡ l.fn.text.now;
-  lines : l.out.items ≡ l.fn.out.items ++ text_of (map (violation_line l.fn.text.now) (take l.violation-index l.found));
+  text : l.cursor.text.now ≡ l.fn.text;
+  lines : l.out.items ≡ l.fn.out.items ++ text_of (map (violation_line l.fn.text) (take l.violation-index l.found));
 }
