@@ -23,6 +23,8 @@ struct Walk {
     groups: Vec<usize>,
     // declarations whose subcomponents are not all looked at, each with the next one's number
     calls: Vec<(usize, usize)>,
+    // the declarations that have a level, as they got it
+    finished: Vec<usize>,
     level: usize,
 }
 
@@ -37,6 +39,7 @@ impl Walk {
             open: Vec::new(alloc),
             groups: Vec::new(alloc),
             calls: Vec::new(alloc),
+            finished: Vec::new(alloc),
             level: 0,
         })
     }
@@ -79,12 +82,12 @@ impl Walk {
     }
 
     // Gives the declarations of the last group their level, if it begins with this one.
-    fn leave(&mut self, number: usize) {
+    fn leave(&mut self, number: usize) -> Result<(), AllocError> {
         let Some(begin) = self.groups.last().copied() else {
-            return;
+            return Ok(());
         };
         if self.open.get(begin).copied() != Some(number) {
-            return;
+            return Ok(());
         }
         let _left = self.groups.pop();
         for _turn in 0..u64::MAX {
@@ -93,9 +96,11 @@ impl Walk {
             }
             if let Some(member) = self.open.pop() {
                 self.mark(member, Mark::Done(self.level));
+                self.finished.push(member)?;
             }
         }
         self.level = self.level.saturating_add(1);
+        Ok(())
     }
 
     // One step; whether there was one.
@@ -110,7 +115,7 @@ impl Walk {
                     self.follow(target)?;
                 }
             }
-            None => self.leave(number),
+            None => self.leave(number)?,
         }
         Ok(true)
     }
@@ -129,16 +134,29 @@ impl Walk {
 /// A level for each declaration. Declarations that lead to one another should have one level, and
 /// others a greater one than those that they lead to; nothing is promised.
 pub fn levels(alloc: Global, graph: &Containment) -> Result<Vec<usize>, AllocError> {
-    let mut walk = Walk::new(alloc, graph.len())?;
-    for number in 0..graph.len() {
-        walk.follow(number)?;
-        walk.finish(graph)?;
-    }
+    let walk = walked(alloc, graph)?;
     let mut levels = Vec::new(alloc);
     for mark in &walk.marks {
         levels.push(level_of(*mark))?;
     }
     Ok(levels)
+}
+
+/// Declarations as they got their levels. Each should stand behind those that it leads to, unless these
+/// lead back; nothing is promised.
+pub fn finished(alloc: Global, graph: &Containment) -> Result<Vec<usize>, AllocError> {
+    let walk = walked(alloc, graph)?;
+    Ok(walk.finished)
+}
+
+// A walk that has come to each declaration.
+fn walked(alloc: Global, graph: &Containment) -> Result<Walk, AllocError> {
+    let mut walk = Walk::new(alloc, graph.len())?;
+    for number in 0..graph.len() {
+        walk.follow(number)?;
+        walk.finish(graph)?;
+    }
+    Ok(walk)
 }
 
 fn level_of(mark: Mark) -> usize {
