@@ -11,32 +11,12 @@ use Rattle.aadl_names.specs.declared.site.Site.TheVariants.{Own, Inner}
 use Rattle.aadl_names.specs.Resolving.{implementation_at, root_number, ports_of, site}
 use Rattle.aadl_names.specs.Behaviours.{behaviours, variables_of, states_of}
 use Rattle.aadl_names.specs.PackageFaults.{package_faults}
-use Rattle.aadl_instance.specs.Uses.{sub_at, standing, IsRecursive}
-use Rattle.aadl_instance.specs.Chains.{Port, Place, IsThreadOf, IsThreadAt, IsChain, IsEndFault}
+use Rattle.aadl_uses.specs.Uses.{sub_at, standing, IsRecursive}
+use Rattle.aadl_uses.specs.Threads.{Lists, MoreThan, IsThreadOf, IsThreadAt, PathBefore}
+use Rattle.containment.specs.Counts.{path_before}
+use Rattle.aadl_chains.specs.Chains.{Port, Place, IsChain, IsEndFault}
 
--- a list of all that have P, each once, in an order
-pub record Lists {X : Type 0} (P : X → Type 0) (Before : X → X → Type 0) (xs : List X) : Type 0 where
-  pub each : All P xs
-  pub in_order : AllPairs Before xs
-  pub complete : (x : X) → P x → Contains xs x
-
--- more than n have P
-pub record MoreThan {X : Type 0} (n : ℕ) (P : X → Type 0) (Before : X → X → Type 0) : Type 0 where
-  pub some : List X
-  pub each : All P some
-  pub in_order : AllPairs Before some
-  pub many : n < length some
-
--- ---- components, in depth-first order of declaration
-abbrev pub path_before : List ℕ → List ℕ → Bool
-path_before [] [] = false
-path_before [] (y ∷ ys) = true
-path_before (x ∷ xs) [] = false
-path_before (x ∷ xs) (y ∷ ys) = nat_lt x y || (nat_eq x y && path_before xs ys)
-
-abbrev pub PathBefore : List ℕ → List ℕ → Type 0
-PathBefore a b = path_before (reverse a) (reverse b) ≡ true
-
+-- ---- components
 -- the names along a path, the innermost first
 abbrev pub name_at : Option (Subcomponent ℕ) → List (List ℕ)
 name_at None = []

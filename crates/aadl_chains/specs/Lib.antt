@@ -1,0 +1,4 @@
+pub mod Chains
+pub mod Flows
+pub mod Sound
+pub mod Seconds
