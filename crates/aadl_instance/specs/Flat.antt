@@ -11,8 +11,8 @@ use Rattle.aadl_names.specs.declared.site.Site.TheVariants.{Own, Inner}
 use Rattle.aadl_names.specs.Resolving.{implementation_at, root_number, ports_of, site}
 use Rattle.aadl_names.specs.Behaviours.{behaviours, variables_of, states_of}
 use Rattle.aadl_names.specs.PackageFaults.{package_faults}
-use Rattle.aadl_instance.specs.Uses.{sub_at, standing, IsRecursive}
-use Rattle.aadl_instance.specs.Chains.{Port, Place, IsThreadOf, IsThreadAt, IsChain, IsEndFault}
+use Rattle.aadl_uses.specs.Uses.{sub_at, standing, IsRecursive}
+use Rattle.aadl_chains.specs.Chains.{Port, Place, IsThreadOf, IsThreadAt, IsChain, IsEndFault}
 
 -- a list of all that have P, each once, in an order
 pub record Lists {X : Type 0} (P : X → Type 0) (Before : X → X → Type 0) (xs : List X) : Type 0 where

@@ -12,8 +12,8 @@ use Rattle.aadl_instance.specs.declared.parts.SubAt.{SubAt}
 use Rattle.aadl_instance.specs.declared.parts.Chain.{Chain}
 use Rattle.aadl_instance.specs.declared.parts.ChainEnd.{ChainEnd}
 use Rattle.aadl_instance.specs.declared.parts.ChainEnd.TheVariants.{Thread, Root}
-use Rattle.aadl_instance.specs.Uses.{standing, component_at}
-use Rattle.aadl_instance.specs.Chains.{Port, port_of}
+use Rattle.aadl_uses.specs.Uses.{standing, component_at}
+use Rattle.aadl_chains.specs.Chains.{Port, port_of}
 use Rattle.aadl_instance.specs.Flat.{same_path, spelled_path, Ends, Parts, IsFlat}
 
 abbrev pub same_direction : Direction → Direction → Bool

@@ -1,10 +1,15 @@
 //! The instance of a package: what stands where below its root, and which ports messages go between.
 #![tactic(auto)]
 
+mod build;
+pub mod flatten;
 pub mod instance;
 pub mod laws;
+mod limits;
 pub mod parts;
+mod threads;
 
 pub use aadl_names::FlatFault;
+pub use flatten::flatten;
 pub use instance::Instance;
 pub use parts::{Chain, ChainEnd, ConnAt, SubAt, ThreadAt};

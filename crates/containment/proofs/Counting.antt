@@ -1,0 +1,270 @@
+-- What stands below a declaration stands below its first subcomponents, or below the next one.
+use Rattle.std.proofs.Common.{◌≡◌, ◌≢◌, ℕ, ◌+◌, ◌<◌, ◌≤◌, Bool, true, false, ◌&&◌, ◌||◌, nat_eq, nat_lt, min, List, [], ◌∷◌, ◌++◌, length, map, Option, Some, None, get_or, set, slice_get, refl, sym, ap, ◌∙◌, subst, arith, inl, inr, ◌⊎◌, get_or-set_other, get_or-set_same}
+use Rattle.containment.proofs.Searches.{contains_at, at_contains}
+use Rattle.std.specs.List.{AllByRecursion}
+use Rattle.std.specs.Option.{option_and_then}
+use Rattle.std.proofs.lemmas.List.{length-append, length-map, length-set}
+use Rattle.std.proofs.lemmas.Bool.{cases_order, true≢false}
+use Rattle.std.proofs.lemmas.Bool.Decides.{nat_tests}
+use Rattle.std.proofs.lemmas.Option.{slice_get_within, slice_get-get_or, option_and_then_some, none-some, same_Some}
+use Rattle.containment.specs.Graphs.{Graph, targets_in, below_in, IsWithin}
+use Rattle.containment.specs.Orders.{IsSequence, IsOrder}
+use Rattle.containment.specs.Counts.{stands_at, IsMarkedAt, path_before, Among, Ordered, AreListed, Counted, own_count, count_of}
+use Rattle.containment.proofs.Suspected.{one_of_two}
+
+-- ---- lists
+all_append : {X : Type 0} (P : X → Type 0) (xs ys : List X) → AllByRecursion P xs → AllByRecursion P ys → AllByRecursion P (xs ++ ys)
+all_append P [] ys a b = b
+all_append P (x ∷ xs) ys a b = (a.0, all_append P xs ys a.1 b)
+
+all_map : {X Y : Type 0} (P : Y → Type 0) (f : X → Y) (xs : List X) → AllByRecursion (λ x. P (f x)) xs → AllByRecursion P (map f xs)
+all_map P f [] a = tt
+all_map P f (x ∷ xs) a = (a.0, all_map P f xs a.1)
+
+all_weaker : {X : Type 0} (P Q : X → Type 0) → ((x : X) → P x → Q x) → (xs : List X) → AllByRecursion P xs → AllByRecursion Q xs
+all_weaker P Q f [] a = tt
+all_weaker P Q f (x ∷ xs) a = (f x a.0, all_weaker P Q f xs a.1)
+
+among_left : {X : Type 0} (xs ys : List X) (x : X) → Among xs x → Among (xs ++ ys) x
+among_left [] ys x a = absurd a
+among_left (y ∷ xs) ys x (inl e) = inl e
+among_left (y ∷ xs) ys x (inr a) = inr (among_left xs ys x a)
+
+among_right : {X : Type 0} (xs ys : List X) (x : X) → Among ys x → Among (xs ++ ys) x
+among_right [] ys x a = a
+among_right (y ∷ xs) ys x a = inr (among_right xs ys x a)
+
+among_map : {X Y : Type 0} (f : X → Y) (xs : List X) (x : X) → Among xs x → Among (map f xs) (f x)
+among_map f [] x a = absurd a
+among_map f (y ∷ xs) x (inl e) = inl (ap f e)
+among_map f (y ∷ xs) x (inr a) = inr (among_map f xs x a)
+
+ordered_append : {X : Type 0} (before : X → X → Bool) (xs ys : List X) → Ordered before xs → Ordered before ys → AllByRecursion (λ x. AllByRecursion (λ y. before x y ≡ true) ys) xs → Ordered before (xs ++ ys)
+ordered_append before [] ys a b c = b
+ordered_append before (x ∷ xs) ys a b c = (all_append (λ y. before x y ≡ true) xs ys a.0 c.0, ordered_append before xs ys a.1 b c.1)
+
+-- ---- paths
+-- the path of the declaration itself, and those that begin with one of the first subcomponents
+abbrev pub starts : ℕ → List ℕ → Type 0
+starts i [] = Unit {0}
+starts i (s ∷ path) = s < i
+
+pub record Begun (g : Graph) (marks : List Bool) (n i : ℕ) (path : List ℕ) : Type 0 where
+  pub marked : IsMarkedAt g marks n path
+  pub first : starts i path
+
+same_number : (i : ℕ) → nat_eq i i ≡ true
+same_number i = grind (arith, nat_tests)
+
+by_tests : (a b c : Bool) → b ≡ true → c ≡ true → (a || (b && c)) ≡ true
+by_tests true b c e f = refl
+by_tests false true true e f = refl
+by_tests false true false e f = f
+by_tests false false c e f = absurd (cc e)
+
+behind_same : (i : ℕ) (p q : List ℕ) → path_before p q ≡ true → path_before (i ∷ p) (i ∷ q) ≡ true
+behind_same i p q e = by_tests (nat_lt i i) (nat_eq i i) (path_before p q) (same_number i) e
+
+less_first : (i s : ℕ) (p q : List ℕ) → s < i → path_before (s ∷ p) (i ∷ q) ≡ true
+less_first i s p q h = let e : nat_lt s i ≡ true = grind (arith, nat_tests) in ap (λ b. b || (nat_eq s i && path_before p q)) e
+
+ordered_map : (i : ℕ) (xs : List (List ℕ)) → Ordered path_before xs → Ordered path_before (map (λ p. i ∷ p) xs)
+ordered_map i [] a = tt
+ordered_map i (x ∷ xs) a = (all_map (λ y. path_before (i ∷ x) y ≡ true) (λ p. i ∷ p) xs (all_weaker (λ y. path_before x y ≡ true) (λ y. path_before (i ∷ x) (i ∷ y) ≡ true) (λ y e. behind_same i x y e) xs a.0), ordered_map i xs a.1)
+
+all_later : (i : ℕ) (x : List ℕ) (ys : List (List ℕ)) → starts i x → AllByRecursion (λ y. path_before x y ≡ true) (map (λ p. i ∷ p) ys)
+all_later i [] [] h = tt
+all_later i [] (y ∷ ys) h = (refl, all_later i [] ys h)
+all_later i (s ∷ p) [] h = tt
+all_later i (s ∷ p) (y ∷ ys) h = (less_first i s p y h, all_later i (s ∷ p) ys h)
+
+module _ (g : Graph) (marks : List Bool) (n i : ℕ) where
+  -- what stands below a subcomponent stands below the declaration, one level deeper
+  deeper : (k : ℕ) (p : List ℕ) → below_in g n i ≡ Some k → IsMarkedAt g marks k p → Begun g marks n (i + 1) (i ∷ p)
+  deeper k p e t = record {
+    marked = record { number = t.number; stands = ap (option_and_then (λ m. stands_at g m p)) e ∙ t.stands; is_marked = t.is_marked };
+    first = omega arith;
+  }
+
+  shallower : (k : ℕ) (p : List ℕ) → below_in g n i ≡ Some k → IsMarkedAt g marks n (i ∷ p) → IsMarkedAt g marks k p
+  shallower k p e t = record { number = t.number; stands = sym (ap (option_and_then (λ m. stands_at g m p)) e) ∙ t.stands; is_marked = t.is_marked }
+
+  more_begun : (p : List ℕ) → Begun g marks n i p → Begun g marks n (i + 1) p
+  more_begun [] b = record { marked = b.marked; first = tt }
+  more_begun (s ∷ p) b = let h = b.first in record { marked = b.marked; first = omega (arith, h) }
+
+  complete_by : (k : ℕ) (xs ys : List (List ℕ)) → below_in g n i ≡ Some k → AreListed (Begun g marks n i) path_before xs → AreListed (IsMarkedAt g marks k) path_before ys → (s : ℕ) (p : List ℕ)
+      → Begun g marks n (i + 1) (s ∷ p) → (s ≡ i) ⊎ ((s < i) ⊎ (i < s)) → Among (xs ++ map (λ q. i ∷ q) ys) (s ∷ p)
+  complete_by k xs ys e a b s p h (inl same) =
+      let t : IsMarkedAt g marks n (i ∷ p) = subst (λ m. IsMarkedAt g marks n (m ∷ p)) same h.marked in
+      among_right xs (map (λ q. i ∷ q) ys) (s ∷ p) (subst (λ m. Among (map (λ q. i ∷ q) ys) (m ∷ p)) (sym same) (among_map (λ q. i ∷ q) ys p (b.complete p (shallower k p e t))))
+  complete_by k xs ys e a b s p h (inr (inl less)) = among_left xs (map (λ q. i ∷ q) ys) (s ∷ p) (a.complete (s ∷ p) (record { marked = h.marked; first = less }))
+  complete_by k xs ys e a b s p h (inr (inr more)) = let f = h.first in absurd (omega (arith, f, more))
+
+  complete_at : (k : ℕ) (xs ys : List (List ℕ)) → below_in g n i ≡ Some k → AreListed (Begun g marks n i) path_before xs → AreListed (IsMarkedAt g marks k) path_before ys → (p : List ℕ)
+      → Begun g marks n (i + 1) p → Among (xs ++ map (λ q. i ∷ q) ys) p
+  complete_at k xs ys e a b [] h = among_left xs (map (λ q. i ∷ q) ys) [] (a.complete [] (record { marked = h.marked; first = tt }))
+  complete_at k xs ys e a b (s ∷ p) h = complete_by k xs ys e a b s p h (cases_order s i)
+
+  -- one more subcomponent
+  listed_more : (k : ℕ) (xs ys : List (List ℕ)) → below_in g n i ≡ Some k → AreListed (Begun g marks n i) path_before xs → AreListed (IsMarkedAt g marks k) path_before ys
+      → AreListed (Begun g marks n (i + 1)) path_before (xs ++ map (λ q. i ∷ q) ys)
+  listed_more k xs ys e a b = record {
+    each = all_append (Begun g marks n (i + 1)) xs (map (λ q. i ∷ q) ys) (all_weaker (Begun g marks n i) (Begun g marks n (i + 1)) more_begun xs a.each)
+        (all_map (Begun g marks n (i + 1)) (λ q. i ∷ q) ys (all_weaker (IsMarkedAt g marks k) (λ q. Begun g marks n (i + 1) (i ∷ q)) (λ q t. deeper k q e t) ys b.each));
+    ordered = ordered_append path_before xs (map (λ q. i ∷ q) ys) a.ordered (ordered_map i ys b.ordered) (all_weaker (Begun g marks n i) (λ x. AllByRecursion (λ y. path_before x y ≡ true) (map (λ q. i ∷ q) ys)) (λ x h. all_later i x ys h.first) xs a.each);
+    complete = λ p h. complete_at k xs ys e a b p h;
+  }
+
+  -- one that names nothing
+  nothing_at : (s : ℕ) (p : List ℕ) → below_in g n i ≡ None → Begun g marks n (i + 1) (s ∷ p) → (s ≡ i) ⊎ ((s < i) ⊎ (i < s)) → Begun g marks n i (s ∷ p)
+  nothing_at s p e h (inl same) =
+      option_and_then_some (λ k. stands_at g k p) (below_in g n s) h.marked.number h.marked.stands
+      (λ k a b. absurd (none-some k (sym e ∙ (ap (below_in g n) (sym same) ∙ a))))
+  nothing_at s p e h (inr (inl less)) = record { marked = h.marked; first = less }
+  nothing_at s p e h (inr (inr more)) = let f = h.first in absurd (omega (arith, f, more))
+
+  fewer_begun : (p : List ℕ) → below_in g n i ≡ None → Begun g marks n (i + 1) p → Begun g marks n i p
+  fewer_begun [] e h = record { marked = h.marked; first = tt }
+  fewer_begun (s ∷ p) e h = nothing_at s p e h (cases_order s i)
+
+  listed_same : (xs : List (List ℕ)) → below_in g n i ≡ None → AreListed (Begun g marks n i) path_before xs → AreListed (Begun g marks n (i + 1)) path_before xs
+  listed_same xs e a = record {
+    each = all_weaker (Begun g marks n i) (Begun g marks n (i + 1)) more_begun xs a.each;
+    ordered = a.ordered;
+    complete = λ p h. a.complete p (fewer_begun p e h);
+  }
+
+-- ---- counts
+-- The count so far: of the declaration itself, and of the paths that begin with the first subcomponents.
+pub record CountedSome (limit : ℕ) (g : Graph) (marks : List Bool) (n i count : ℕ) : Type 0 where
+  pub paths : List (List ℕ)
+  pub listed : AreListed (Begun g marks n i) path_before paths
+  pub count_is : count ≡ min limit (length paths)
+
+capped : (limit a b x y : ℕ) → a ≡ min limit x → b ≡ min limit y → min limit (a + b) ≡ min limit (x + y)
+capped limit a b x y e f = omega arith
+
+capped_same : (limit a x : ℕ) → a ≡ min limit x → min limit (a + 0) ≡ min limit x
+capped_same limit a x e = omega arith
+
+module _ (limit : ℕ) (g : Graph) (marks : List Bool) (n i : ℕ) where
+  -- by what the next subcomponent names
+  pub counted_more : (counts : List ℕ) (target : Option ℕ) (a b : ℕ) → below_in g n i ≡ target → ((m : ℕ) → below_in g n i ≡ Some m → Counted limit g marks m (get_or counts m 0))
+      → CountedSome limit g marks n i a → b ≡ min limit (a + count_of counts target) → CountedSome limit g marks n (i + 1) b
+  counted_more counts None a b e known x is = record {
+    paths = x.paths;
+    listed = listed_same g marks n i x.paths e x.listed;
+    count_is = is ∙ capped_same limit a (length x.paths) x.count_is;
+  }
+  counted_more counts (Some m) a b e known x is =
+      let y = known m e in
+      record {
+        paths = x.paths ++ map (λ q. i ∷ q) y.paths;
+        listed = listed_more g marks n i m x.paths y.paths e x.listed y.listed;
+        count_is = is ∙ (capped limit a (get_or counts m 0) (length x.paths) (length y.paths) x.count_is y.count_is ∙ ap (min limit) (sym (simp (length-append, length-map) refl)));
+      }
+
+-- ---- the declaration itself
+none_begun : (g : Graph) (marks : List Bool) (n : ℕ) (p : List ℕ) → get_or marks n false ≡ false → Begun g marks n 0 p → ⊥
+none_begun g marks n [] e h = true≢false (sym h.marked.is_marked ∙ (ap (λ k. get_or marks k false) (sym (same_Some n h.marked.number h.marked.stands)) ∙ e))
+none_begun g marks n (s ∷ p) e h = let f = h.first in omega (arith, f)
+
+own_begun : (g : Graph) (marks : List Bool) (n : ℕ) (p : List ℕ) → Begun g marks n 0 p → Among ([] ∷ []) p
+own_begun g marks n [] h = inl refl
+own_begun g marks n (s ∷ p) h = let f = h.first in absurd (omega (arith, f))
+
+pub counted_own : (limit : ℕ) (g : Graph) (marks : List Bool) (n count : ℕ) → count ≡ own_count limit (get_or marks n false) → CountedSome limit g marks n 0 count
+counted_own limit g marks n count is = by (get_or marks n false) refl
+  where
+    by : (b : Bool) → get_or marks n false ≡ b → CountedSome limit g marks n 0 count
+    by true e = record {
+      paths = [] ∷ [];
+      listed = record {
+        each = (record { marked = record { number = n; stands = refl; is_marked = e }; first = tt }, tt);
+        ordered = (tt, tt);
+        complete = λ p h. own_begun g marks n p h;
+      };
+      count_is = is ∙ ap (own_count limit) e;
+    }
+    by false e = record {
+      paths = [];
+      listed = record { each = tt; ordered = tt; complete = λ p h. absurd (none_begun g marks n p e h) };
+      count_is = is ∙ (ap (own_count limit) e ∙ omega arith);
+    }
+
+-- ---- the first subcomponents are all
+all_begun : (g : Graph) (marks : List Bool) (n i : ℕ) (p : List ℕ) → length (targets_in g n) ≤ i → IsMarkedAt g marks n p → Begun g marks n i p
+all_begun g marks n i [] past t = record { marked = t; first = tt }
+all_begun g marks n i (s ∷ p) past t =
+    option_and_then_some (λ k. stands_at g k p) (below_in g n s) t.number t.stands
+    (λ k a b. option_and_then_some (λ o. o) (slice_get (targets_in g n) s) k a (λ o c d. let least = slice_get_within (targets_in g n) s o c in record { marked = t; first = omega arith }))
+
+pub counted_all : (limit : ℕ) (g : Graph) (marks : List Bool) (n i count : ℕ) → length (targets_in g n) ≤ i → CountedSome limit g marks n i count → Counted limit g marks n count
+counted_all limit g marks n i count past x = record {
+  paths = x.paths;
+  listed = record {
+    each = all_weaker (Begun g marks n i) (IsMarkedAt g marks n) (λ p h. h.marked) x.paths x.listed.each;
+    ordered = x.listed.ordered;
+    complete = λ p t. x.listed.complete p (all_begun g marks n i p past t);
+  };
+  count_is = x.count_is;
+}
+
+-- ---- all declarations, in order
+-- the counts of the first so many of a sequence
+pub record CountedFront (limit : ℕ) (g : Graph) (marks : List Bool) (keys : List ℕ) (at : ℕ) (counts : List ℕ) : Type 0 where
+  pub size : length counts ≡ length g
+  pub known : (k n : ℕ) → k < at → slice_get keys k ≡ Some n → Counted limit g marks n (get_or counts n 0)
+
+module _ (limit : ℕ) (g : Graph) (marks : List Bool) (keys : List ℕ) (at : ℕ) (counts : List ℕ) (sequence : IsSequence g keys) (front : CountedFront limit g marks keys at counts) where
+  pub front_counted : (n : ℕ) → slice_get keys at ≡ Some n → (s m : ℕ) → below_in g n s ≡ Some m → Counted limit g marks m (get_or counts m 0)
+  front_counted n here s m e = let j = sequence.behind at n s m here e in front.known j.0 m j.1 j.2
+
+  pub front_more : (n count : ℕ) → slice_get keys at ≡ Some n → Counted limit g marks n count → CountedFront limit g marks keys (at + 1) (set counts n count)
+  front_more n count here counted = record {
+    size = length-set counts n count ∙ front.size;
+    known = λ k m lt e. by k m e (one_of_two k at) lt;
+  }
+    where
+      here_is : n < length counts
+      here_is = let declared = sequence.declared n (contains_at keys at n here) in omega (arith, front.size)
+
+      other : (k m : ℕ) → k < at → slice_get keys k ≡ Some m → (n ≡ m) ⊎ ((n < m) ⊎ (m < n)) → Counted limit g marks m (get_or (set counts n count) m 0)
+      other k m lt e (inl same) = subst (λ x. Counted limit g marks x (get_or (set counts n count) x 0)) same (subst (Counted limit g marks n) (sym (get_or-set_same counts n count 0 here_is)) counted)
+      other k m lt e (inr h) = subst (Counted limit g marks m) (sym (get_or-set_other counts n m count 0 (differ h))) (front.known k m lt e)
+        where
+          differ : (n < m) ⊎ (m < n) → m ≢ n
+          differ (inl h) = omega arith
+          differ (inr h) = omega arith
+
+      by : (k m : ℕ) → slice_get keys k ≡ Some m → (k < at) ⊎ (at ≤ k) → k < at + 1 → Counted limit g marks m (get_or (set counts n count) m 0)
+      by k m e (inl h) lt = other k m h e (cases_order n m)
+      by k m e (inr h) lt =
+          let same : k ≡ at = omega arith in
+          let is : n ≡ m = same_Some n m (sym here ∙ (ap (slice_get keys) (sym same) ∙ e)) in
+          subst (λ x. Counted limit g marks x (get_or (set counts n count) x 0)) is (subst (Counted limit g marks n) (sym (get_or-set_same counts n count 0 here_is)) counted)
+
+-- ---- by the code's reads
+pub below_is : (g : Graph) (n i : ℕ) (ts : List (Option ℕ)) → ts ≡ targets_in g n → i < length ts → below_in g n i ≡ get_or ts i None
+below_is g n i ts e lt =
+    ap (λ (l : List (Option ℕ)). option_and_then (λ t. t) (slice_get l i)) (sym e) ∙ ap (option_and_then (λ t. t)) (slice_get-get_or ts i None lt)
+
+pub no_front : (limit : ℕ) (g : Graph) (marks : List Bool) (keys counts : List ℕ) → length counts ≡ length g → CountedFront limit g marks keys 0 counts
+no_front limit g marks keys counts size = record { size = size; known = λ k n lt e. absurd (omega arith) }
+
+pub front_past : (limit : ℕ) (g : Graph) (marks : List Bool) (keys : List ℕ) (at : ℕ) (counts : List ℕ) → CountedFront limit g marks keys at counts → slice_get keys at ≡ None → CountedFront limit g marks keys (at + 1) counts
+front_past limit g marks keys at counts front none = record {
+  size = front.size;
+  known = λ k n lt e. by k n e (one_of_two k at) lt;
+}
+  where
+    by : (k n : ℕ) → slice_get keys k ≡ Some n → (k < at) ⊎ (at ≤ k) → k < at + 1 → Counted limit g marks n (get_or counts n 0)
+    by k n e (inl h) lt = front.known k n h e
+    by k n e (inr h) lt = let same : k ≡ at = omega arith in absurd (none-some n (sym none ∙ (ap (slice_get keys) (sym same) ∙ e)))
+
+pub front_all : (limit : ℕ) (g : Graph) (marks : List Bool) (keys : List ℕ) (at : ℕ) (counts : List ℕ) → IsOrder g keys → length keys ≤ at → CountedFront limit g marks keys at counts → (n : ℕ) → n < length g → Counted limit g marks n (get_or counts n 0)
+front_all limit g marks keys at counts order past front n lt =
+    let there = order.all n lt in
+    let within = there.1 in
+    front.known there.0 n (omega arith) (at_contains keys n there)

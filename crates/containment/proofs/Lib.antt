@@ -1,0 +1,4 @@
+pub mod Searches
+pub mod Suspected
+pub mod Sequences
+pub mod Counting

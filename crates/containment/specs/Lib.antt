@@ -1,0 +1,4 @@
+pub mod Graphs
+pub mod Suspects
+pub mod Orders
+pub mod Counts

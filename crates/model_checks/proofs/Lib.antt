@@ -1,0 +1,3 @@
+pub mod Numbers
+pub mod Sorting
+pub mod Accepted

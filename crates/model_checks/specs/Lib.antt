@@ -1,0 +1,5 @@
+pub mod Use
+pub mod Declarations
+pub mod Violations
+pub mod Designs
+pub mod Refused

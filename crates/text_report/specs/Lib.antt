@@ -1,0 +1,2 @@
+pub mod FlatFaults
+pub mod Violations

@@ -1,0 +1,93 @@
+//! What is wrong with a design, a line for each finding.
+ghost use Rattle.std.specs.Prelude.{◌≡◌, ◌++◌, OnOk, OnErr};
+ghost use Rattle.pals_model.specs.RoundTexts.{line_end, text_of};
+ghost use Rattle.text_buffer.specs.Appended.{BeginsWith};
+ghost use Rattle.text_report.specs.Violations.{rule_name, details_text, violation_line, violation_lines};
+
+use annex_resolve::Violation;
+use itoa::Buffer;
+use pals_base::NoMemory;
+use text_buffer::{Cursor, whole_or_none};
+
+/// Adds a line for each finding: its place, its rule's number and name, and the details. Findings in
+/// the order of their places take one pass through the text. Where memory is wanting, nothing is
+/// added.
+pub fn add_violations(out: &mut Vec<u8>, text: &[u8], found: &[Violation]) -> Result<(), NoMemory>
+    ensures ok { OnOk result
+        (out.new.items ≡ out.old.items ++ text_of (violation_lines text.now found.now)) }
+    ensures err { OnErr result (out.new.items ≡ out.old.items) }
+{
+    let start = out.len();
+    let written = add_lines(out, text, found);
+    whole_or_none(out, start, written)
+}
+
+fn add_lines(out: &mut Vec<u8>, text: &[u8], found: &[Violation]) -> Result<(), NoMemory>
+    ensures ok { OnOk result
+        (out.new.items ≡ out.old.items ++ text_of (violation_lines text.now found.now)) }
+    ensures err { OnErr result (BeginsWith out.new.items out.old.items) }
+{
+    let mut cursor = Cursor::new(text);
+    for violation in found {
+        add_line(out, &mut cursor, violation)?;
+    }
+    Ok(())
+}
+
+fn add_line(
+    out: &mut Vec<u8>,
+    cursor: &mut Cursor<'_>,
+    violation: &Violation,
+) -> Result<(), NoMemory>
+    ensures text { cursor.new.text.now ≡ cursor.old.text.now }
+    ensures ok { OnOk result
+        (out.new.items ≡ out.old.items ++ violation_line cursor.old.text.now violation.now ++ line_end) }
+    ensures err { OnErr result (BeginsWith out.new.items out.old.items) }
+{
+    cursor.add_position(out, violation.at)?;
+    out.extend_from_slice(b" ")?;
+    out.extend_from_slice(Buffer::new().format(violation.number).as_bytes())?;
+    out.extend_from_slice(b" ")?;
+    out.extend_from_slice(rule_name(violation.number))?;
+    add_details(out, violation.details.as_bytes())?;
+    out.extend_from_slice(b"\n")
+}
+
+fn add_details(out: &mut Vec<u8>, details: &[u8]) -> Result<(), NoMemory>
+    ensures ok { OnOk result (out.new.items ≡ out.old.items ++ details_text details.now) }
+    ensures err { OnErr result (BeginsWith out.new.items out.old.items) }
+{
+    if details.is_empty() {
+        return Ok(());
+    }
+    out.extend_from_slice(b" ")?;
+    out.extend_from_slice(details)
+}
+
+fn rule_name(number: u32) -> &'static [u8]
+    ensures { result.now ≡ rule_name number }
+{
+    match number {
+        1 => b"BadType",
+        2 => b"NotPeriodic",
+        3 => b"NoPeriod",
+        4 => b"NotDivisor",
+        5 => b"RateTooHigh",
+        6 => b"RatesDontDivide",
+        7 => b"NotDelayed",
+        8 => b"DelayedRoot",
+        9 => b"NoAdaptor",
+        10 => b"StrayAdaptor",
+        11 => b"AdaptorOutOfRange",
+        12 => b"NoInitial",
+        13 => b"DispatchCount",
+        14 => b"NoOtherwise",
+        15 => b"CycleWithoutComplete",
+        16 => b"GammaMissing",
+        17 => b"GammaOrder",
+        18 => b"PeriodTooShort",
+        19 => b"LoopTooLong",
+        20 => b"NumberTooBig",
+        _ => b"",
+    }
+}
