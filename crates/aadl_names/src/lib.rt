@@ -15,7 +15,7 @@ pub mod role;
 pub mod scope;
 pub mod shapes;
 pub mod site;
-mod sites;
+pub mod sites;
 pub mod spelling;
 pub mod table;
 mod types;

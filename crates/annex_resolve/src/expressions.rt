@@ -32,8 +32,9 @@ pub struct Typed {
     pub kind: Option<Kind>,
 }
 
-// Whether a value of a type may stand where a type is wanted. A bad type fits everywhere.
-fn fits(given: Option<Kind>, wanted: Option<Kind>) -> bool
+/// Whether a value of a type may stand where a type is wanted. None is a type that is neither Integer
+/// nor Boolean; it fits everywhere.
+pub fn fits(given: Option<Kind>, wanted: Option<Kind>) -> bool
     ensures { result ≡ fits given wanted }
 {
     match (given, wanted) {
@@ -42,8 +43,8 @@ fn fits(given: Option<Kind>, wanted: Option<Kind>) -> bool
     }
 }
 
-// Adds a finding where a value is not of the type that its place takes.
-fn expect(
+/// Adds a finding where a value is not of the type that its place takes.
+pub fn expect(
     alloc: Global,
     found: &mut Items<Violation>,
     at: usize,

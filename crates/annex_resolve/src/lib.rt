@@ -18,7 +18,7 @@ pub mod ways;
 
 pub use actions::resolve_block;
 pub use behaviour::Values;
-pub use expressions::{Typed, resolve_whole};
+pub use expressions::{Typed, expect, fits, resolve_whole};
 pub use rules::resolve_annex;
 pub use scope::{Entry, Meaning, Scope};
 pub use violation::{Violation, add_if};

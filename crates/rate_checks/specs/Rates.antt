@@ -65,15 +65,15 @@ abbrev pub is_right : Option Adaptor → Option Kind → ℕ → ℕ → Bool
 is_right None kind p q = false
 is_right (Some a) kind p q = is_allowed (Some a) p q && kind_suits (Some a) kind
 
--- ---- the rates at both ends of a link or a feed, its name and the text of its adaptor
-abbrev pub adaptor_findings : ℕ → List ℕ → Option (List ℕ) → Option Kind → ℕ → ℕ → List Violation
+-- ---- the rates at both ends of a link or a feed, its name and its adaptor: none is given, or a text, of which the adaptor may be none
+abbrev pub adaptor_findings : ℕ → List ℕ → Option (Option Adaptor) → Option Kind → ℕ → ℕ → List Violation
 adaptor_findings at name None kind p q = finding at NO_ADAPTOR name ∷ []
-adaptor_findings at name (Some text) kind p q = found_if (not (is_right (adaptor_named text) kind p q)) at ADAPTOR_OUT_OF_RANGE name
+adaptor_findings at name (Some adaptor) kind p q = found_if (not (is_right adaptor kind p q)) at ADAPTOR_OUT_OF_RANGE name
 
-abbrev pub pair_findings : ℕ → List ℕ → Option (List ℕ) → Option Kind → ℕ → ℕ → List Violation
-pair_findings at name text kind p q =
-    if nat_eq p q then found_if (has_some text) at STRAY_ADAPTOR name
-    else if divides_or_divided p q then adaptor_findings at name text kind p q
+abbrev pub pair_findings : ℕ → List ℕ → Option (Option Adaptor) → Option Kind → ℕ → ℕ → List Violation
+pair_findings at name given kind p q =
+    if nat_eq p q then found_if (has_some given) at STRAY_ADAPTOR name
+    else if divides_or_divided p q then adaptor_findings at name given kind p q
     else finding at RATES_DONT_DIVIDE (and_number (and_number name p) q) ∷ []
 
 -- ---- the root's period against the bound, with the greatest rate

@@ -46,25 +46,25 @@ fn place_of(text: &[u8]) -> Option<u32>
 }
 
 /// The adaptor of a text: its name, with small letters, or `at n` with one space and n from 1 to 99.
-pub fn adaptor_named(text: &str) -> Option<Adaptor>
+pub fn adaptor_named(text: &[u8]) -> Option<Adaptor>
     ensures { result ≡ adaptor_named text.now }
 {
-    if text == "repeat" {
+    if text == b"repeat".as_slice() {
         Some(Adaptor::Repeat)
-    } else if text == "first" {
+    } else if text == b"first".as_slice() {
         Some(Adaptor::First)
-    } else if text == "last" {
+    } else if text == b"last".as_slice() {
         Some(Adaptor::Last)
-    } else if text == "latest" {
+    } else if text == b"latest".as_slice() {
         Some(Adaptor::Latest)
-    } else if text == "max" {
+    } else if text == b"max".as_slice() {
         Some(Adaptor::Max)
-    } else if text == "min" {
+    } else if text == b"min".as_slice() {
         Some(Adaptor::Min)
-    } else if text == "average" {
+    } else if text == b"average".as_slice() {
         Some(Adaptor::Average)
-    } else if text.starts_with("at ") {
-        place_of(text.as_bytes()).map(Adaptor::At)
+    } else if text.starts_with(b"at ") {
+        place_of(text).map(Adaptor::At)
     } else {
         None
     }
@@ -114,13 +114,13 @@ fn add_named(
     Ok(())
 }
 
-/// A link or a feed: the place of its carrier, its name, the text of its adaptor and the type of its
-/// target.
+/// A link or a feed: the place of its carrier, its name, its adaptor and the type of its target.
 #[derive(Drop)]
 pub struct Carrier {
     pub at: usize,
     pub name: Text,
-    pub adaptor: Option<Text>,
+    /// None is given, or a text, of which the adaptor may be none.
+    pub adaptor: Option<Option<Adaptor>>,
     pub kind: Option<Kind>,
 }
 
@@ -140,10 +140,10 @@ impl Carrier {
         ensures { OnOk result (found.new ≡ found.old
             ++ adaptor_findings self.now.at self.now.name self.now.adaptor self.now.kind source target) }
     {
-        match &self.adaptor {
+        match self.adaptor {
             None => add_named(alloc, found, true, self.at, NO_ADAPTOR, &self.name),
-            Some(text) => {
-                let right = is_right(adaptor_named(text.as_str()), self.kind, source, target);
+            Some(adaptor) => {
+                let right = is_right(adaptor, self.kind, source, target);
                 add_named(
                     alloc,
                     found,
@@ -156,7 +156,6 @@ impl Carrier {
         }
     }
 
-    // Between two rates.
     /// Adds what is wrong with the adaptor between two rates.
     pub fn add_pair_findings(
         &self,

@@ -1,0 +1,4 @@
+pub mod Looking
+pub mod Hours
+pub mod Added
+pub mod Singles

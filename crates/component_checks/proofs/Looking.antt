@@ -1,0 +1,71 @@
+-- Associations of a name, and properties in several lists.
+use Rattle.std.proofs.Common.{◌≡◌, ◌∙◌, ℕ, Bool, true, false, cond, ◌&&◌, ◌++◌, List, [], ◌∷◌, ◌+◌, ◌<◌, length, take, get_or, reverse, append_assoc, Option, Some, None, refl, sym, ap, map, rules, find}
+use Rattle.std.specs.Prelude.{flat_map}
+use Rattle.std.specs.Option.{option_or}
+use Rattle.std.proofs.lemmas.Bool.{false≢true}
+use Rattle.std.proofs.lemmas.List.{reverse-append}
+use Rattle.std.proofs.lemmas.Option.{get_or_from_slice_get, slice_get-get_or}
+use Rattle.aadl_tree.specs.declared.values.Value.{the_lemmas as value_lemmas}
+use Rattle.aadl_tree.specs.declared.values.Value.TheViews.{out-Association}
+use Rattle.aadl_tree.specs.declared.values.Association.{Association as source}
+use Rattle.aadl_tree.specs.Values.{Association, Associations, association, associate}
+use Rattle.aadl_tree.specs.NameViews.{name_view, path_view}
+use Rattle.aadl_tree.specs.ValueViews.{value_view, association_view}
+use Rattle.aadl_names.specs.declared.holder.Property.{Property}
+use Rattle.aadl_names.specs.Properties.{counts, is_named, name_of, association_named}
+use Rattle.aadl_tree.specs.Declarations.{PackageTree}
+use Rattle.aadl_instance.specs.declared.parts.SubAt.{SubAt}
+use Rattle.annex_resolve.proofs.Reading.{take_next}
+use Rattle.component_checks.specs.Lists.{first_in, lists_at, lists_along, root_lists}
+
+pub view_out_association : {P : Type 0} (place : ℕ → P) (x : source)
+    → association_view place x
+    ≡ association (name_view place (out-Association x).name) (out-Association x).operator (out-Association x).constant (value_view place (out-Association x).value) (map (path_view place) (out-Association x).applies_to.items)
+view_out_association place x = search (rules, value_lemmas)
+
+-- ---- the first of those that count
+hit_by : {A : Type 0} (p : A → Bool) (x : A) (xs : List A) (b : Bool) → (b && p x) ≡ true → find p (cond b (x ∷ xs) xs) ≡ Some x
+hit_by p x xs true h = rw h refl
+hit_by p x xs false h = absurd (false≢true h)
+
+miss_by : {A : Type 0} (p : A → Bool) (x : A) (xs : List A) (b : Bool) → (b && p x) ≡ false → find p (cond b (x ∷ xs) xs) ≡ find p xs
+miss_by p x xs true h = rw h refl
+miss_by p x xs false h = refl
+
+pub named_here : (name : List ℕ) (x : Association ℕ) (xs : Associations ℕ) → (counts x && is_named name x) ≡ true → association_named (associate x xs) name ≡ Some x
+named_here name x xs h = hit_by (is_named name) x _ (counts x) h
+
+pub named_later : (name : List ℕ) (x : Association ℕ) (xs : Associations ℕ) → (counts x && is_named name x) ≡ false → association_named (associate x xs) name ≡ association_named xs name
+named_later name x xs h = miss_by (is_named name) x _ (counts x) h
+
+-- ---- one list behind the other
+or_none : {A : Type 0} (x : Option A) → option_or x None ≡ x
+or_none None = refl
+or_none (Some x) = refl
+
+or_or : {A : Type 0} (x y z : Option A) → option_or (option_or x y) z ≡ option_or x (option_or y z)
+or_or None y z = refl
+or_or (Some x) y z = refl
+
+pub first_of_one : (p : Property) (xs : Associations ℕ) → first_in p (xs ∷ []) ≡ association_named xs (name_of p)
+first_of_one p xs = or_none (association_named xs (name_of p))
+
+pub first-append : (p : Property) (a b : List (Associations ℕ)) → first_in p (a ++ b) ≡ option_or (first_in p a) (first_in p b)
+first-append p [] b = refl
+first-append p (x ∷ a) b = ap (option_or (association_named x (name_of p))) (first-append p a b) ∙ sym (or_or (association_named x (name_of p)) (first_in p a) (first_in p b))
+
+-- one place further in
+pub along_next : (p : Property) (tree : PackageTree ℕ) (root : ℕ) (subs : List SubAt) (i : ℕ) (x : SubAt) → i < length subs → x ≡ get_or subs i x
+    → option_or (first_in p (lists_at tree x)) (first_in p (lists_along tree root (take i subs))) ≡ first_in p (lists_along tree root (take (i + 1) subs))
+along_next p tree root subs i x within is =
+    let front = reverse (take i subs) in
+    let turned : reverse (take (i + 1) subs) ≡ x ∷ front = ap reverse (take_next subs i x within is) ∙ reverse-append (take i subs) (x ∷ []) in
+    sym (ap (λ l. first_in p (flat_map (lists_at tree) l ++ root_lists tree root)) turned
+    ∙ ap (first_in p) (append_assoc (lists_at tree x) (flat_map (lists_at tree) front) (root_lists tree root))
+    ∙ first-append p (lists_at tree x) (flat_map (lists_at tree) front ++ root_lists tree root))
+
+pub along_turn : (p : Property) (tree : PackageTree ℕ) (root : ℕ) (subs : List SubAt) (i : ℕ) (none : SubAt) → i < length subs
+    → option_or (first_in p (lists_at tree (get_or subs i none))) (first_in p (lists_along tree root (take i subs))) ≡ first_in p (lists_along tree root (take (i + 1) subs))
+along_turn p tree root subs i none within =
+    let x = get_or subs i none in
+    along_next p tree root subs i x within (sym (get_or_from_slice_get subs i x x (slice_get-get_or subs i none within)))

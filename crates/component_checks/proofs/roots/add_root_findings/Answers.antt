@@ -1,0 +1,10 @@
+use Rattle.std.proofs.Common.{sym, ◌∙◌}
+use Rattle.aadl_tree.specs.PackageViews.{placed}
+use Rattle.aadl_names.specs.declared.holder.Property.TheVariants.{Skew, Execution, Network}
+use Rattle.component_checks.specs.Times.{time_at, range_at}
+use Rattle.component_checks.specs.Roots.{at_root}
+use Rattle.component_checks.proofs.Hours.{gamma_within}
+use Rattle.component_checks.proofs.roots.add_root_findings.Goals as goal
+
+pub add_bound_findings-requires-clause-gamma : goal.add_bound_findings-requires-clause-gamma
+add_bound_findings-requires-clause-gamma c = λ x is. gamma_within (time_at (at_root (placed c.args.names.now.tree.now) c.args.root Skew)) (range_at (at_root (placed c.args.names.now.tree.now) c.args.root Execution)) (range_at (at_root (placed c.args.names.now.tree.now) c.args.root Network)) x (sym c.in_ok-gamma.ensures ∙ is)

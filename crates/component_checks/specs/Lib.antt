@@ -1,0 +1,5 @@
+pub mod Lists
+pub mod Times
+pub mod Threads
+pub mod Roots
+pub mod Types

@@ -1,0 +1,212 @@
+//! What is wrong with the root.
+ghost use Rattle.std.specs.Prelude.{◌≡◌, ◌≤◌, ◌++◌, IfOk, OnOk, option_map, option_copied};
+ghost use Rattle.pals_base.specs.declared.limits.TheConstants.{RATE};
+ghost use Rattle.aadl_tree.specs.Maps.{kept_place};
+ghost use Rattle.aadl_tree.specs.PackageViews.{placed};
+ghost use Rattle.aadl_tree.specs.ValueViews.{association_view};
+ghost use Rattle.component_checks.specs.Roots as spec;
+
+use crate::lists::{implementation_at, root_property};
+use crate::rules::{GAMMA_MISSING, GAMMA_ORDER, NO_PERIOD};
+use crate::threads::{add_named, root_period};
+use crate::times::{range_within, shown, time_within};
+use aadl_names::{Names, Property};
+use aadl_tree::{Association, PackageTree};
+use annex_resolve::Violation;
+use pals_base::{Gamma, Items, Nanos, NoMemory};
+use rate_checks::{add_bound_findings, gamma_by};
+use std::alloc::Global;
+
+// The skew of the root.
+#[tactic(auto, using(crate::proofs::Hours::skew_twice))]
+fn root_skew(names: &Names<'_>, alloc: Global, root: u32) -> Result<Option<Nanos>, NoMemory>
+    ensures { IfOk result (λ skew. skew ≡ spec.root_skew (placed names.now.tree.now) root) }
+{
+    match root_property(names, alloc, root, Property::Skew)? {
+        Some(found) => Ok(rate_checks::skew_of(time_within(&found.value))),
+        None => Ok(None),
+    }
+}
+
+// A range of the root.
+#[tactic(auto, using(crate::proofs::Hours::range_twice))]
+fn root_range(
+    names: &Names<'_>,
+    alloc: Global,
+    root: u32,
+    property: Property,
+) -> Result<Option<(Nanos, Nanos)>, NoMemory>
+    ensures { IfOk result (λ range. range ≡ spec.root_range (placed names.now.tree.now) root property) }
+{
+    match root_property(names, alloc, root, property)? {
+        Some(found) => Ok(rate_checks::range_of(range_within(&found.value))),
+        None => Ok(None),
+    }
+}
+
+/// The bounds of the root, where none of the three is missing or refused.
+pub fn root_gamma(names: &Names<'_>, alloc: Global, root: u32) -> Result<Option<Gamma>, NoMemory>
+    ensures { IfOk result (λ gamma. gamma ≡ spec.root_gamma (placed names.now.tree.now) root) }
+{
+    let skew = root_skew(names, alloc, root)?;
+    let execution = root_range(names, alloc, root, Property::Execution)?;
+    let network = root_range(names, alloc, root, Property::Network)?;
+    Ok(gamma_by(skew, execution, network))
+}
+
+// Where the root's name stands.
+fn root_place(tree: &PackageTree, root: u32) -> usize
+    ensures { result ≡ spec.root_place (placed tree.now) root }
+{
+    match implementation_at(tree, root as usize) {
+        Some(x) => x.name.component_type.at,
+        None => 0,
+    }
+}
+
+// Adds the finding that the root lacks a property.
+fn add_missing(
+    names: &Names<'_>,
+    alloc: Global,
+    root: u32,
+    number: u32,
+    details: &str,
+    property: Property,
+    found: &mut Items<Violation>,
+) -> Result<(), NoMemory>
+    ensures { OnOk result (found.new ≡ found.old ++ spec.missing (placed names.now.tree.now) root number details.now property) }
+{
+    let at = root_place(names.tree, root);
+    let given = root_property(names, alloc, root, property)?;
+    add_named(alloc, found, given.is_none(), at, number, details)
+}
+
+// Adds the finding that the root lacks one of the bounds.
+fn add_missing_bound(
+    names: &Names<'_>,
+    alloc: Global,
+    root: u32,
+    property: Property,
+    found: &mut Items<Violation>,
+) -> Result<(), NoMemory>
+    ensures { OnOk result (found.new ≡ found.old ++ spec.missing_bound (placed names.now.tree.now) root property) }
+{
+    let number = GAMMA_MISSING;
+    add_missing(names, alloc, root, number, shown(property), property, found)
+}
+
+// Adds the findings that the root lacks its period or bounds.
+fn add_missing_findings(
+    names: &Names<'_>,
+    alloc: Global,
+    root: u32,
+    found: &mut Items<Violation>,
+) -> Result<(), NoMemory>
+    ensures { OnOk result (found.new ≡ found.old ++ spec.missing_findings (placed names.now.tree.now) root) }
+{
+    add_missing(names, alloc, root, NO_PERIOD, "", Property::Period, found)?;
+    add_missing_bound(names, alloc, root, Property::Skew, found)?;
+    add_missing_bound(names, alloc, root, Property::Execution, found)?;
+    add_missing_bound(names, alloc, root, Property::Network, found)
+}
+
+// Adds the finding that a skew is 0.
+fn add_zero_skew(
+    alloc: Global,
+    given: Option<&Association>,
+    found: &mut Items<Violation>,
+) -> Result<(), NoMemory>
+    ensures { OnOk result (found.new ≡ found.old ++ spec.zero_skew (option_map (association_view kept_place) (option_copied given.entry))) }
+{
+    let Some(given) = given else {
+        return Ok(());
+    };
+    let zero = time_within(&given.value) == Some(0);
+    add_named(
+        alloc,
+        found,
+        zero,
+        given.name.first.at,
+        GAMMA_ORDER,
+        shown(Property::Skew),
+    )
+}
+
+// Whether a range's lower end is above the upper.
+fn is_reversed(range: Option<(Nanos, Nanos)>) -> bool
+    ensures { result ≡ spec.is_reversed range }
+{
+    match range {
+        Some((low, high)) => high < low,
+        None => false,
+    }
+}
+
+// Adds the finding that a range's lower end is above the upper.
+fn add_reversed_range(
+    alloc: Global,
+    property: Property,
+    given: Option<&Association>,
+    found: &mut Items<Violation>,
+) -> Result<(), NoMemory>
+    ensures { OnOk result (found.new ≡ found.old ++ spec.reversed_range property (option_map (association_view kept_place) (option_copied given.entry))) }
+{
+    let Some(given) = given else {
+        return Ok(());
+    };
+    add_named(
+        alloc,
+        found,
+        is_reversed(range_within(&given.value)),
+        given.name.first.at,
+        GAMMA_ORDER,
+        shown(property),
+    )
+}
+
+// Adds the findings that the skew is 0, or a range reversed.
+fn add_order_findings(
+    names: &Names<'_>,
+    alloc: Global,
+    root: u32,
+    found: &mut Items<Violation>,
+) -> Result<(), NoMemory>
+    ensures { OnOk result (found.new ≡ found.old ++ spec.order_findings (placed names.now.tree.now) root) }
+{
+    let skew = root_property(names, alloc, root, Property::Skew)?;
+    add_zero_skew(alloc, skew, found)?;
+    let execution = root_property(names, alloc, root, Property::Execution)?;
+    add_reversed_range(alloc, Property::Execution, execution, found)?;
+    let network = root_property(names, alloc, root, Property::Network)?;
+    add_reversed_range(alloc, Property::Network, network, found)
+}
+
+// Where the root's period stands.
+fn period_place(names: &Names<'_>, alloc: Global, root: u32) -> Result<usize, NoMemory>
+    ensures { IfOk result (λ at. at ≡ spec.place_of (spec.at_root (placed names.now.tree.now) root Property.Period)) }
+{
+    match root_property(names, alloc, root, Property::Period)? {
+        Some(given) => Ok(given.name.first.at),
+        None => Ok(0),
+    }
+}
+
+/// Adds what is wrong with the root, where `rate` is the greatest rate of its components: its period or
+/// a bound is missing, the skew is 0, a range is reversed, the period is below the bound.
+pub fn add_root_findings(
+    names: &Names<'_>,
+    alloc: Global,
+    root: u32,
+    rate: u32,
+    found: &mut Items<Violation>,
+) -> Result<(), NoMemory>
+    requires { rate ≤ RATE }
+    ensures { OnOk result (found.new ≡ found.old ++ spec.root_findings (placed names.now.tree.now) root rate) }
+{
+    add_missing_findings(names, alloc, root, found)?;
+    add_order_findings(names, alloc, root, found)?;
+    let at = period_place(names, alloc, root)?;
+    let period = root_period(names, alloc, root)?;
+    let gamma = root_gamma(names, alloc, root)?;
+    add_bound_findings(alloc, found, at, period, gamma, rate)
+}

@@ -1,0 +1,246 @@
+//! The times of properties, and those that are above an hour.
+ghost use Rattle.std.specs.Prelude.{◌≡◌, ◌*◌, ◌++◌, nat_lt, OnOk, option_map};
+ghost use Rattle.pals_base.specs.declared.limits.TheConstants.{HOUR};
+ghost use Rattle.std.specs.Option.{option_and_then};
+ghost use Rattle.aadl_tree.specs.Maps.{kept_place};
+ghost use Rattle.aadl_tree.specs.NameViews.{identifier_view};
+ghost use Rattle.aadl_tree.specs.ValueViews.{figure_view, quantity_view, value_view, association_view, associations_view};
+ghost use Rattle.aadl_names.specs.Properties as properties;
+ghost use Rattle.rate_checks.specs.Numbers.{within_hour, range_within};
+ghost use Rattle.component_checks.specs.Times as spec;
+
+use crate::rules::NUMBER_TOO_BIG;
+use aadl_names::shapes::unit_of;
+use aadl_names::spelling::spelled_name;
+use aadl_names::{Holder, Property};
+use aadl_tree::{Association, Figure, Identifier, Quantity, Sign, Value};
+use annex_resolve::Violation;
+use pals_base::limits::HOUR;
+use pals_base::{Items, Nanos, NoMemory, Text};
+use std::alloc::Global;
+
+// A whole number.
+fn whole_of(figure: &Figure) -> Option<u64>
+    ensures { result ≡ properties.whole_of (figure_view figure.now) }
+{
+    match figure {
+        Figure::Whole(number) if *number >= 0 => Some(*number as u64),
+        _ => None,
+    }
+}
+
+// A unit of time in nanoseconds.
+fn unit_in(unit: &Option<Identifier>) -> Option<u64>
+    ensures { result ≡ properties.unit_in (option_map (identifier_view kept_place) unit.now) }
+{
+    match unit {
+        Some(unit) => unit_of(unit.spelling.as_str()),
+        None => None,
+    }
+}
+
+// So many units.
+#[tactic(auto, using(crate::proofs::Hours::product_fits))]
+fn product(number: u64, unit: u64) -> u128
+    ensures { result ≡ number * unit }
+{
+    u128::from(number) * u128::from(unit)
+}
+
+// A number with its unit, where it is a time.
+#[tactic(auto, unfolding(aadl_names::specs::Properties::time_in))]
+fn time_in(x: &Quantity) -> Option<u128>
+    ensures { result ≡ properties.time_in (quantity_view kept_place x.now) }
+{
+    if is_signed(x.number.sign) {
+        return None;
+    }
+    let number = whole_of(&x.number.figure)?;
+    let unit = unit_in(&x.unit)?;
+    Some(product(number, unit))
+}
+
+fn is_signed(sign: Option<Sign>) -> bool
+    ensures { result ≡ properties.is_signed sign }
+{
+    match sign {
+        Some(_) => true,
+        None => false,
+    }
+}
+
+// The time that a value is, in nanoseconds.
+fn time_of(value: &Value) -> Option<u128>
+    ensures { result ≡ properties.time_of (value_view kept_place value.now) }
+{
+    match value {
+        Value::Number { low, high: None } => time_in(low),
+        _ => None,
+    }
+}
+
+// Two times, where both are there.
+fn pair_of(low: Option<u128>, high: Option<u128>) -> Option<(u128, u128)>
+    ensures { result ≡ properties.pair_of low high }
+{
+    match low {
+        Some(low) => match high {
+            Some(high) => Some((low, high)),
+            None => None,
+        },
+        None => None,
+    }
+}
+
+// The range of times that a value is, in nanoseconds.
+fn range_of(value: &Value) -> Option<(u128, u128)>
+    ensures { result ≡ properties.range_of (value_view kept_place value.now) }
+{
+    match value {
+        Value::Number {
+            low,
+            high: Some(high),
+        } => pair_of(time_in(low), time_in(high)),
+        _ => None,
+    }
+}
+
+fn is_above(time: u128) -> bool
+    ensures { result ≡ nat_lt HOUR time }
+{
+    u128::from(HOUR) < time
+}
+
+/// The time that a value is, in nanoseconds, where it is at most an hour.
+pub fn time_within(value: &Value) -> Option<Nanos>
+    ensures { result ≡ option_and_then within_hour (properties.time_of (value_view kept_place value.now)) }
+{
+    match time_of(value) {
+        Some(time) => {
+            if is_above(time) {
+                None
+            } else {
+                Some(time as u64)
+            }
+        }
+        None => None,
+    }
+}
+
+/// The range of times that a value is, in nanoseconds, where neither end is above an hour.
+pub fn range_within(value: &Value) -> Option<(Nanos, Nanos)>
+    ensures { result ≡ option_and_then range_within (properties.range_of (value_view kept_place value.now)) }
+{
+    match range_of(value) {
+        Some((low, high)) => {
+            if is_above(low) || is_above(high) {
+                None
+            } else {
+                Some((low as u64, high as u64))
+            }
+        }
+        None => None,
+    }
+}
+
+/// Whether a value is a time above an hour, or a range with such an end, where the property takes one.
+pub fn is_too_big(property: Property, value: &Value) -> bool
+    ensures { result ≡ spec.is_too_big property (value_view kept_place value.now) }
+{
+    match property {
+        Property::Period | Property::Skew => match time_of(value) {
+            Some(time) => is_above(time),
+            None => false,
+        },
+        Property::Execution | Property::Network => match range_of(value) {
+            Some((low, high)) => is_above(low) || is_above(high),
+            None => false,
+        },
+        Property::Dispatch | Property::Timing | Property::Adaptor | Property::Initial => false,
+    }
+}
+
+/// The name by which findings speak of a property.
+pub fn shown(property: Property) -> &'static str
+    ensures { result.now ≡ spec.shown property }
+{
+    match property {
+        Property::Period => "Period",
+        Property::Dispatch => "Dispatch_Protocol",
+        Property::Timing => "Timing",
+        Property::Adaptor => "Input_Adaptor",
+        Property::Skew => "Skew",
+        Property::Execution => "Execution",
+        Property::Network => "Network",
+        Property::Initial => "Initial_Value",
+    }
+}
+
+// Adds the finding that an association, of this name, gives a property a time above an hour.
+fn add_big_as(
+    alloc: Global,
+    association: &Association,
+    name: &str,
+    property: Property,
+    found: &mut Items<Violation>,
+) -> Result<(), NoMemory>
+    requires { name.now ≡ properties.association_name (association_view kept_place association.now) }
+    ensures { OnOk result (found.new ≡ found.old ++ spec.big_as (association_view kept_place association.now) property) }
+{
+    if name.eq_ignore_ascii_case(property.name()) && is_too_big(property, &association.value) {
+        found.push(Violation {
+            at: association.name.first.at,
+            number: NUMBER_TOO_BIG,
+            details: Text::from_str(alloc, shown(property))?,
+        })?;
+    }
+    Ok(())
+}
+
+// Adds what is above an hour in an association at a kind of place.
+fn add_association_big(
+    alloc: Global,
+    holder: Holder,
+    association: &Association,
+    found: &mut Items<Violation>,
+) -> Result<(), NoMemory>
+    ensures { OnOk result (found.new ≡ found.old ++ spec.association_big holder (association_view kept_place association.now)) }
+{
+    let name = spelled_name(alloc, &association.name)?;
+    for property in holder.recognised() {
+        add_big_as(alloc, association, name.as_str(), *property, found)?;
+    }
+    Ok(())
+}
+
+// The same, where the association does not apply elsewhere.
+#[tactic(auto, using(crate::proofs::Looking::view_out_association))]
+fn add_counted_big(
+    alloc: Global,
+    holder: Holder,
+    association: &Association,
+    found: &mut Items<Violation>,
+) -> Result<(), NoMemory>
+    ensures { OnOk result (found.new ≡ found.old ++ spec.counted_big holder (association_view kept_place association.now)) }
+{
+    if !association.applies_to.is_empty() {
+        return Ok(());
+    }
+    add_association_big(alloc, holder, association, found)
+}
+
+/// Adds the times above an hour in a list of properties at a kind of place. What applies elsewhere
+/// does not count.
+pub fn add_list_big(
+    alloc: Global,
+    holder: Holder,
+    list: &[Association],
+    found: &mut Items<Violation>,
+) -> Result<(), NoMemory>
+    ensures { OnOk result (found.new ≡ found.old ++ spec.list_big holder (associations_view kept_place list.now)) }
+{
+    for association in list {
+        add_counted_big(alloc, holder, association, found)?;
+    }
+    Ok(())
+}

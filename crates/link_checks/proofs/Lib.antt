@@ -1,0 +1,3 @@
+pub mod Numbered
+pub mod Mapped
+pub mod Filtered
