@@ -11,6 +11,7 @@ mod job;
 mod keys;
 mod node;
 mod plan;
+mod targets;
 
 pub use answers::{FinishEnd, Finished, SendEnd, StartEnd, StepEnd};
 pub use job::{Done, Job};

@@ -1,10 +1,11 @@
 //! A node, event by event.
-ghost use Rattle.std.specs.Prelude.{◌≡◌, ◌<◌, ◌≤◌, ◌-◌, ◌&&◌, not, false, nat_eq, nat_le, IfOk, IfErr, OnErr, OnOk, length, option_copied, slice_get, slice_index_or, position, zip, None, if◌then◌else◌};
+ghost use Rattle.std.specs.Prelude.{◌≡◌, ◌<◌, ◌≤◌, ◌-◌, ◌&&◌, not, false, nat_eq, nat_le, IfOk, IfErr, OnErr, OnOk, length, option_copied, option_map, slice_get, slice_index_or, position, zip, None, if◌then◌else◌};
 ghost use Rattle.std.specs.Option.{option_map_or};
 ghost use Rattle.std.specs.Arc.{arc_value};
 ghost use Rattle.pals_base.specs.declared.limits.TheConstants.{ROUNDS, PORTS};
 ghost use Rattle.bus_machine.specs.Nodes.{finished_steps};
 ghost use Rattle.bus_machine.specs.NodeEvents.{arrived, received, lacks};
+ghost use Rattle.bus_machine.specs.Targets.{target, action_of};
 ghost use Rattle.pals_node.specs.Values.{opening_value, with_state};
 ghost use Rattle.pals_node.specs.Answers.{is_early, Starts, StartEnds, Steps, StepEnds, FinishesWith, FinishesHere, NoneRuns, Sends, SendEnds};
 
@@ -12,6 +13,7 @@ use crate::answers::{FinishEnd, Finished, SendEnd, StartEnd, StepEnd};
 use crate::fields::Fields;
 use crate::job::{Done, Job};
 use crate::plan::NodePlan;
+use crate::targets::next_target;
 use bus_machine::{Input, Plan};
 use link_buffers::Slot;
 use output_backoff::release_at;
@@ -56,6 +58,15 @@ impl Node {
         Ok(Node {
             fields: Fields::new(alloc, plan, rounds)?,
         })
+    }
+
+    /// A node before its first round, of the same plan and of as many rounds.
+    pub fn fresh(&self, alloc: Global) -> Result<Node, NoMemory>
+        requires { 1 ≤ self.now.rounds }
+        ensures { IfOk result (λ node. node ≡ opening_value self.now.program self.now.rounds) }
+    {
+        let plan = Arc::try_clone(&self.fields.plan)?;
+        Node::new(alloc, plan, self.fields.rounds)
     }
 
     /// A message of a round comes to an in port. It takes no memory.
@@ -194,6 +205,28 @@ impl Node {
         ensures { result ≡ self.now.state.sent }
     {
         self.fields.sent
+    }
+
+    /// From which reading on it may do what it does, or what it does next: a start, a step or a
+    /// send. None where it is done.
+    pub fn target(&self) -> Option<Nanos>
+        ensures { result ≡ option_map (target self.now.program.plan) (action_of self.now.program.plan self.now.state) }
+    {
+        let f = &self.fields;
+        let plan = &f.plan.plan;
+        match f.phase {
+            Phase::Waiting => Some(alarm(plan.period, f.count)),
+            Phase::Running(0) => Some(alarm(plan.period, f.count - 1)),
+            Phase::Running(step) => Some(step_alarm(
+                plan.period,
+                plan.step_period,
+                f.count - 1,
+                step,
+            )),
+            Phase::Between(steps) => Some(next_target(plan, f.count - 1, steps, f.sent)),
+            Phase::Holding => Some(release_at(plan.period, plan.release_offset, f.count - 1)),
+            Phase::Done => None,
+        }
     }
 
     /// What each round that it finished left.

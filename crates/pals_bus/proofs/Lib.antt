@@ -1,0 +1,12 @@
+pub mod NodeChanges
+pub mod Rooms
+pub mod QueueRooms
+pub mod QueueMessages
+pub mod QueueSends
+pub mod SameDues
+pub mod Events
+pub mod Sendings
+pub mod Openings
+pub mod AfterEvents
+pub mod Views
+pub mod LooseSteps

@@ -1,0 +1,45 @@
+-- The messages that are due to a node.
+use Rattle.std.specs.Prelude.{◌≡◌, ◌⊎◌, ℕ, ◌<◌, ◌≤◌, ¬, true, Option, Some, None, slice_get}
+use Rattle.pals_base.specs.declared.values.LinkNo.{LinkNo}
+use Rattle.pals_model.specs.declared.design.Link.{Link}
+use Rattle.pals_model.specs.declared.flight.FlightCopy.{FlightCopy}
+use Rattle.pals_runs.specs.declared.journal.Stop.{Stop}
+use Rattle.link_buffers.specs.Flights.{is_due}
+use Rattle.bus_machine.specs.States.{flight_at}
+use Rattle.bus_machine.specs.Machine.{Arrive}
+use Rattle.pals_bus.specs.declared.answers.DueEnd.{DueEnd}
+use Rattle.pals_bus.specs.declared.answers.DueEnd.TheVariants as due_end
+use Rattle.pals_bus.specs.Values.{BusValue, Happens}
+
+-- a message of this round of this link is due to a node at a reading
+pub record IsDueTo (b : BusValue) (node reading link round : ℕ) : Type 0 where
+  pub the_link : Link
+  pub is_link : slice_get b.run.design.links link ≡ Some the_link
+  pub to_node : the_link.target.0 ≡ node
+  pub place : ℕ
+  pub copy : FlightCopy
+  pub is_copy : slice_get (flight_at b.state link) place ≡ Some copy
+  pub of_round : copy.round ≡ round
+  pub due : is_due reading copy ≡ true
+
+-- the first of them: in link order, and then in order of rounds
+pub record IsNextDue (b : BusValue) (node reading link round : ℕ) : Type 0 where
+  pub is_due : IsDueTo b node reading link round
+  pub first : (other later : ℕ) → IsDueTo b node reading other later → (link < other) ⊎ ((link ≡ other) × (round ≤ later))
+
+-- they arrive one after the other
+pub data TakesDue (node reading : ℕ) : BusValue → BusValue → Type 0 where
+  takes_none : {b : BusValue} → TakesDue node reading b b
+  takes_next : {a b c : BusValue} (link : LinkNo) (round : ℕ) → TakesDue node reading a b → IsNextDue b node reading link.0 round → Happens b (Arrive link round (Some reading)) c → TakesDue node reading a c
+
+-- all have arrived, and no stop stands
+pub record TakesAllDue (old : BusValue) (node reading : ℕ) (new : BusValue) : Type 0 where
+  pub takes : TakesDue node reading old new
+  pub going : new.state.stop ≡ None
+  pub none_left : (link round : ℕ) → ¬ IsDueTo new node reading link round
+
+-- the stop stood before, or the last of them that arrived gave it
+abbrev pub DueEnds : BusValue → ℕ → ℕ → BusValue → DueEnd → Type 0
+DueEnds old node reading new (due_end.Stopped why) =
+    ((old.state.stop ≡ Some why) × (new ≡ old)) ⊎ ((old.state.stop ≡ None) × TakesDue node reading old new × (new.state.stop ≡ Some why))
+DueEnds old node reading new due_end.Memory = new ≡ old

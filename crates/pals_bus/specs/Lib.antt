@@ -1,0 +1,11 @@
+pub mod Values
+pub mod Absent
+pub mod Codes
+pub mod Keeping
+pub mod Answers
+pub mod Due
+pub mod Queues
+pub mod Meeting
+pub mod Loose
+pub mod Openings
+pub mod Sending
