@@ -9,10 +9,10 @@ pub found_append : (first : Option FlatFault) (a b : List FlatFault) → found f
 found_append first [] b = refl
 found_append first (x ∷ a) b = found_append (earlier first x) a b
 
-first_left : {A : Type 0} (xs : List A) (i : ℕ) (x : A) → i < length xs → x ≡ get_or xs i x → drop i xs ≡ x ∷ drop (i + 1) xs
+pub first_left : {A : Type 0} (xs : List A) (i : ℕ) (x : A) → i < length xs → x ≡ get_or xs i x → drop i xs ≡ x ∷ drop (i + 1) xs
 first_left xs i x within is = drop-cons xs i x within ∙ grind (arith, common_steps)
 
-none_left : {A : Type 0} (xs : List A) (i : ℕ) → length xs ≤ i → drop i xs ≡ []
+pub none_left : {A : Type 0} (xs : List A) (i : ℕ) → length xs ≤ i → drop i xs ≡ []
 none_left xs i past = grind (arith, common_steps)
 
 -- One turn of a loop finds what is wrong with the first of the things that are left.
@@ -33,3 +33,8 @@ last_found parts xs i whole now past none left =
 pub closed : {T E : Type 0} (r : Result T E) (now last whole : (Option FlatFault)) → last ≡ whole → OnOk r (now ≡ last) → OnOk r (now ≡ whole)
 closed (Ok x) now last whole e is = is ∙ e
 closed (Err x) now last whole e is = tt
+
+-- What is so where a call did not fail.
+pub on_ok : {T E P Q : Type 0} (r : Result T E) → (P → Q) → OnOk r P → OnOk r Q
+on_ok (Ok x) f p = f p
+on_ok (Err x) f p = tt

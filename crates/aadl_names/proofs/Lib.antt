@@ -1,6 +1,6 @@
 pub mod Finds
 pub mod Lookups
-pub mod Views
-pub mod Times
 pub mod Firsts
 pub mod Words
+pub mod Spots
+pub mod Adds

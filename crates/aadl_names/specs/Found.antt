@@ -17,3 +17,8 @@ earlier (Some first) fault = if precedes fault first then Some fault else Some f
 abbrev pub found : Option FlatFault → List FlatFault → Option FlatFault
 found first [] = first
 found first (fault ∷ faults) = found (earlier first fault) faults
+
+-- what was found, as a list
+abbrev pub as_list : Option FlatFault → List FlatFault
+as_list None = []
+as_list (Some fault) = fault ∷ []

@@ -2,11 +2,12 @@ pub mod Spelling
 pub mod Findings
 pub mod Found
 pub mod Resolving
+pub mod Twice
+pub mod Earliest
 pub mod Properties
 pub mod Behaviours
-pub mod Twice
+pub mod Spaces
 pub mod AnnexNames
 pub mod Tables
 pub mod Members
-pub mod Scopes
 pub mod PackageFaults

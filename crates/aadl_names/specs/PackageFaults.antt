@@ -1,6 +1,7 @@
 -- What is wrong with the names of a whole package, one list for each sentence of the rules. What is declared twice stands
 -- in a file of its own.
-use Rattle.std.specs.Prelude.{ℕ, Bool, true, false, not, ◌&&◌, nat_eq, nat_lt, List, [], ◌∷◌, ◌++◌, map, flat_map, Option, Some, None, slice_get, option_map, find, if◌then◌else◌}
+use Rattle.std.specs.Prelude.{ℕ, Bool, true, false, not, ◌&&◌, nat_eq, nat_lt, List, [], ◌∷◌, ◌++◌, map, flat_map, Option, Some, None, slice_get}
+use Rattle.std.specs.Prelude.{option_map, find, if◌then◌else◌}
 use Rattle.std.specs.List.{list_any, enumerate_from}
 use Rattle.aadl_tree.specs.declared.declarations.Category.{Category}
 use Rattle.aadl_tree.specs.declared.declarations.Category.TheVariants as categories
@@ -8,7 +9,8 @@ use Rattle.aadl_tree.specs.declared.declarations.Direction.{Direction}
 use Rattle.aadl_tree.specs.declared.declarations.Direction.TheVariants as directions
 use Rattle.aadl_tree.specs.Names.{Identifier, Reference}
 use Rattle.aadl_tree.specs.Annexes.{VariableDeclaration, Guard, dispatch, otherwise, when, Transition, AnnexTree, foreign, behaviour, Annex}
-use Rattle.aadl_tree.specs.Declarations.{Feature, Subcomponent, ConnectionEnd, Connection, TypeDeclaration, Implementation, Declaration, type, implementation, PackageTree}
+use Rattle.aadl_tree.specs.Declarations.{Feature, Subcomponent, ConnectionEnd, Connection, TypeDeclaration, Implementation, Declaration, type}
+use Rattle.aadl_tree.specs.Declarations.{implementation, PackageTree}
 use Rattle.aadl_tree.specs.Actions.{Block}
 use Rattle.aadl_names.specs.declared.fault.FlatFault.{FlatFault}
 use Rattle.aadl_names.specs.declared.fault.FlatFault.TheVariants.{Unknown, WrongKind}
@@ -16,7 +18,7 @@ use Rattle.aadl_names.specs.Findings.{wrong_if}
 use Rattle.aadl_names.specs.Spelling.{same_name, spelled_name, spelled_reference, spelled_implementation, spelled_end}
 use Rattle.aadl_names.specs.Resolving.{type_number, is_system, is_process, is_thread, ports_of, type_of, target_of, implementation_in, site, with_direction}
 use Rattle.aadl_names.specs.Properties.{list_faults}
-use Rattle.aadl_names.specs.Twice.{twice_names}
+use Rattle.aadl_names.specs.Spaces.{twice_names}
 use Rattle.aadl_names.specs.Behaviours.{behaviours, listed_in, variables_in, variables_of, states_of}
 use Rattle.aadl_names.specs.declared.role.Role.{Role}
 use Rattle.aadl_names.specs.declared.role.Role.TheVariants.{Receives, Gives, Varies}
@@ -30,12 +32,16 @@ abbrev pub role_in : Direction → Role
 role_in directions.In = Receives
 role_in directions.Out = Gives
 
+-- whether a name is one of these
+abbrev pub is_among : List (Identifier ℕ) → List ℕ → Bool
+is_among words = λ name. list_any (λ x. same_name name x.spelling) words
+
 -- what the names of ports, and of variables, stand for
 abbrev pub port_roles : List (Feature ℕ) → Known
 port_roles ports = λ name. option_map (λ p. role_in p.direction) (find (λ p. same_name name p.name.spelling) ports)
 
 abbrev pub variable_roles : List (Identifier ℕ) → Known
-variable_roles variables = λ name. if list_any (λ x. same_name name x.spelling) variables then Some Varies else None
+variable_roles variables = λ name. if is_among variables name then Some Varies else None
 
 -- what a type declares goes before what an implementation declares where it stands before it
 abbrev pub comes_first : Option (TypeDeclaration ℕ) → Implementation ℕ → Bool
@@ -48,8 +54,8 @@ in_order first a b = if first then either a b else either b a
 abbrev pub known_in : PackageTree ℕ → Implementation ℕ → AnnexTree ℕ → Known
 known_in tree x annex = in_order (comes_first (type_of tree x) x) (port_roles (ports_of tree x)) (variable_roles (variables_of annex))
 
-abbrev pub state_uses : List (Identifier ℕ) → Identifier ℕ → List FlatFault
-state_uses states x = if list_any (λ s. same_name x.spelling s.spelling) states then [] else Unknown x.spelling x.at ∷ []
+abbrev pub state_uses : (List ℕ → Bool) → Identifier ℕ → List FlatFault
+state_uses is_state x = if is_state x.spelling then [] else Unknown x.spelling x.at ∷ []
 
 abbrev pub guard_uses : Known → Option (Guard ℕ) → List FlatFault
 guard_uses known None = []
@@ -61,13 +67,13 @@ abbrev pub effect_uses : Known → Option (Block ℕ) → List FlatFault
 effect_uses known None = []
 effect_uses known (Some x) = block_uses known x
 
-abbrev pub transition_uses : List (Identifier ℕ) → Known → Transition ℕ → List FlatFault
-transition_uses states known x =
-    state_uses states x.source ++ state_uses states x.target ++ guard_uses known x.guard ++ effect_uses known x.effect
+abbrev pub transition_uses : (List ℕ → Bool) → Known → Transition ℕ → List FlatFault
+transition_uses is_state known x =
+    state_uses is_state x.source ++ state_uses is_state x.target ++ guard_uses known x.guard ++ effect_uses known x.effect
 
 unfoldable pub behaviour_faults : PackageTree ℕ → Implementation ℕ → AnnexTree ℕ → List FlatFault
 behaviour_faults tree x annex =
-    flat_map (transition_uses (states_of annex) (known_in tree x annex)) (listed_in annex.transitions)
+    flat_map (transition_uses (is_among (states_of annex)) (known_in tree x annex)) (listed_in annex.transitions)
 
 -- the annexes of a thread's implementation: the first behaviour counts, and each later one is too many
 abbrev pub annex_faults : PackageTree ℕ → Implementation ℕ → List (ℕ × AnnexTree ℕ) → List FlatFault

@@ -1,11 +1,13 @@
 -- The properties that mean something, where they do, and the shapes of their values.
-use Rattle.std.specs.Prelude.{ℕ, ◌*◌, ◌-◌, ◌==◌, pos, Bool, true, false, not, ◌&&◌, ◌||◌, nat_le, nat_eq, take, drop, List, [], ◌∷◌, ◌++◌, length, filter, flat_map, codes, Option, Some, None, if◌then◌else◌, find}
+use Rattle.std.specs.Prelude.{ℕ, ◌*◌, ◌-◌, ◌==◌, pos, Bool, true, false, not, ◌&&◌, ◌||◌, nat_le, nat_eq, take, drop, List, [], ◌∷◌, ◌++◌, length, filter}
+use Rattle.std.specs.Prelude.{map, flat_map, codes, Option, Some, None, if◌then◌else◌, find}
 use Rattle.std.specs.List.{list_any, starts_with}
 use Rattle.std.specs.Str.{bytes_eq}
 use Rattle.aadl_lex.specs.Rules.{whole_len, decimal, most}
 use Rattle.aadl_tree.specs.declared.declarations.Category.{Category}
 use Rattle.aadl_tree.specs.Names.{Path, Reference, Identifier}
-use Rattle.aadl_tree.specs.Values.{Figure, whole_figure, real_figure, Quantity, Value, list, text, named, number, no_values, value, Association, association, Associations, no_associations, associate}
+use Rattle.aadl_tree.specs.Values.{Figure, whole_figure, real_figure, Quantity, Value, list, text, named, number, no_values, value, Association}
+use Rattle.aadl_tree.specs.Values.{association, Associations, no_associations, associate}
 use Rattle.aadl_names.specs.declared.fault.FlatFault.{FlatFault}
 use Rattle.aadl_names.specs.declared.holder.Property.{Property}
 use Rattle.aadl_names.specs.declared.holder.Property.TheVariants.{Period, Dispatch, Timing, Adaptor, Skew, Execution, Network, Initial}
@@ -15,6 +17,7 @@ use Rattle.aadl_names.specs.declared.entry.Entry.{Entry}
 use Rattle.aadl_names.specs.Findings.{wrong_if}
 use Rattle.aadl_names.specs.Spelling.{same_name, spelled_name}
 use Rattle.aadl_names.specs.Resolving.{is_thread}
+use Rattle.aadl_names.specs.Twice.{twice}
 
 abbrev pub listed : Associations ℕ → List (Association ℕ)
 listed no_associations = []
@@ -166,9 +169,13 @@ misshapen holder x = list_any (λ p. is_named (name_of p) x && not (has_shape p 
 abbrev pub association_entry : Association ℕ → Entry
 association_entry x = record { name = association_name x; at = association_at x }
 
--- one association, and a list of them
+-- one association
 abbrev pub shape_fault : Holder → Association ℕ → List FlatFault
 shape_fault holder x = if counts x then wrong_if (misshapen holder x) (association_at x) else []
 
+abbrev pub property_entries : Associations ℕ → List Entry
+property_entries xs = map association_entry (counted xs)
+
+-- a list of them, and one property twice in it
 abbrev pub list_faults : Holder → Associations ℕ → List FlatFault
-list_faults holder xs = flat_map (shape_fault holder) (listed xs)
+list_faults holder xs = flat_map (shape_fault holder) (listed xs) ++ twice (property_entries xs)

@@ -1,7 +1,7 @@
 //! Why a package has no instance.
 
-use pals_base::Text;
-use std::alloc::{AllocError, AllocFailed};
+use pals_base::{NoMemory, Text, TryClone};
+use std::alloc::{AllocError, AllocFailed, Global};
 use std::fmt;
 use thiserror::Error;
 
@@ -73,6 +73,39 @@ impl FlatFault {
             FlatFault::TwoSources { .. } => 7,
             FlatFault::TooMany { .. } => 8,
             FlatFault::Memory => 9,
+        }
+    }
+}
+
+impl TryClone for FlatFault {
+    fn try_clone(&self, alloc: Global) -> Result<FlatFault, NoMemory> {
+        match self {
+            FlatFault::NoRoot => Ok(FlatFault::NoRoot),
+            FlatFault::Unknown { name, at } => Ok(FlatFault::Unknown {
+                name: name.try_clone(alloc)?,
+                at: *at,
+            }),
+            FlatFault::Twice { name, at } => Ok(FlatFault::Twice {
+                name: name.try_clone(alloc)?,
+                at: *at,
+            }),
+            FlatFault::WrongKind { at } => Ok(FlatFault::WrongKind { at: *at }),
+            FlatFault::Recursive { name, at } => Ok(FlatFault::Recursive {
+                name: name.try_clone(alloc)?,
+                at: *at,
+            }),
+            FlatFault::DeadEnd { name, at } => Ok(FlatFault::DeadEnd {
+                name: name.try_clone(alloc)?,
+                at: *at,
+            }),
+            FlatFault::TwoSources { name, at } => Ok(FlatFault::TwoSources {
+                name: name.try_clone(alloc)?,
+                at: *at,
+            }),
+            FlatFault::TooMany { what } => Ok(FlatFault::TooMany {
+                what: what.try_clone(alloc)?,
+            }),
+            FlatFault::Memory => Ok(FlatFault::Memory),
         }
     }
 }

@@ -1,7 +1,7 @@
 //! The first of the findings so far.
 
 use crate::fault::FlatFault;
-use pals_base::Text;
+use pals_base::{Text, TryClone};
 use std::alloc::{AllocError, Global};
 use std::marker::Model;
 
@@ -24,7 +24,7 @@ impl Model for Finder {
 impl Finder {
     ghost use Rattle.std.specs.Prelude.{◌≡◌, OnOk, None, [], ◌∷◌};
     ghost use Rattle.aadl_names.specs.declared.fault.FlatFault.TheVariants as faults;
-    ghost use Rattle.aadl_names.specs.Found.{found, comes_first};
+    ghost use Rattle.aadl_names.specs.Found.{found, comes_first, as_list};
     ghost use Rattle.aadl_names.specs.Findings as spec;
 
     /// Nothing is found yet. It takes no memory.
@@ -111,6 +111,18 @@ impl Finder {
         if wrong && self.is_first(at, 4) {
             self.first = Some(FlatFault::WrongKind { at });
         }
+    }
+
+    /// What was found elsewhere.
+    pub fn add(&mut self, fault: &Option<FlatFault>) -> Result<(), AllocError>
+        ensures { OnOk result (self.new ≡ found self.old (as_list fault.now)) }
+    {
+        if let Some(fault) = fault
+            && self.is_first(fault.place(), fault.number())
+        {
+            self.first = Some(fault.try_clone(self.alloc)?);
+        }
+        Ok(())
     }
 
     /// The first finding.

@@ -1,25 +1,20 @@
-//! The names of a whole package: what its declarations, references, properties and annexes name, and
-//! the first name that is wrong.
+//! The names of a package: what its references and the ends of its connections name, and the first
+//! name that is wrong so far.
 #![tactic(auto)]
 
-mod components;
-mod digits;
+pub mod earliest;
 pub mod entry;
 pub mod fault;
 pub mod finder;
 pub mod holder;
-mod implementations;
 pub mod names;
-pub mod properties;
 pub mod role;
-pub mod scope;
-pub mod shapes;
 pub mod site;
-mod sites;
+pub mod sites;
 pub mod spelling;
+pub mod spot;
 pub mod table;
-mod types;
-pub mod uses;
+pub mod twice;
 
 pub use entry::Entry;
 pub use fault::FlatFault;
@@ -28,3 +23,5 @@ pub use holder::{Holder, Property};
 pub use names::Names;
 pub use role::{Role, Usage};
 pub use site::Site;
+pub use spot::Spot;
+pub use table::Table;

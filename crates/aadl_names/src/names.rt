@@ -30,8 +30,10 @@ pub struct Names<'t> {
     // the ports of each type, and the subcomponents of each implementation
     members: Items<Table<usize>>,
     ghost of_types: { (name : List ℕ) → value_of types name ≡ first_number (is_type name) (placed tree.now).declarations } by { Prim.hlevel props },
-    ghost of_implementations: { (name : List ℕ) → value_of implementations name ≡ first_number (is_implementation name) (placed tree.now).declarations } by { Prim.hlevel props },
-    ghost of_members: { (number : ℕ) (name : List ℕ) → value_of (slice_index_or members number []) name ≡ member_of (slice_get (placed tree.now).declarations number) name } by { Prim.hlevel props },
+    ghost of_implementations: { (name : List ℕ) → value_of implementations name
+        ≡ first_number (is_implementation name) (placed tree.now).declarations } by { Prim.hlevel props },
+    ghost of_members: { (number : ℕ) (name : List ℕ) → value_of (slice_index_or members number []) name
+        ≡ member_of (slice_get (placed tree.now).declarations number) name } by { Prim.hlevel props },
 }
 
 impl<'t> Names<'t> {

@@ -30,7 +30,8 @@ pub fn type_number_of_sub(
     alloc: Global,
     sub: &Subcomponent,
 ) -> Result<Option<usize>, AllocError>
-    ensures { IfOk result (λ number. number ≡ option_and_then (spec.type_number (placed names.now.tree.now)) (spec.target_of (placed names.now.tree.now) (subcomponent_view kept_place sub.now))) }
+    ensures { IfOk result (λ number. number ≡ option_and_then (spec.type_number (placed names.now.tree.now))
+        (spec.target_of (placed names.now.tree.now) (subcomponent_view kept_place sub.now))) }
 {
     let Some(number) = names.referred(alloc, &sub.classifier)? else {
         return Ok(None);
@@ -83,7 +84,8 @@ fn own_site(
     name: &Identifier,
 ) -> Result<Option<(Site, Option<Direction>)>, AllocError>
     ensures { IfOk result (λ site. site ≡ option_map (spec.with_direction (placed names.now.tree.now) (implementation_view kept_place x.now))
-        (option_map Site.Own (spec.port_named (spec.ports_of (placed names.now.tree.now) (implementation_view kept_place x.now)) (string_bytes name.now.spelling)))) }
+        (option_map Site.Own (spec.port_named (spec.ports_of (placed names.now.tree.now) (implementation_view kept_place x.now))
+        (string_bytes name.now.spelling)))) }
 {
     let of_type = type_number(names, alloc, x)?;
     match port_number(names, alloc, of_type, name.spelling.as_str())? {

@@ -45,6 +45,16 @@ impl<V: Copy> Table<V> {
         Ok(())
     }
 
+    /// Gives a name this value, whether it is there or not.
+    pub fn set(&mut self, alloc: Global, name: &str, value: V) -> Result<(), AllocError>
+        ensures { OnOk result ((other : List ℕ)
+            → value_of self.new other ≡ (if same_name other name.now then Some value else value_of self.old other)) }
+    {
+        let key = name.as_bytes().to_ascii_lowercase(alloc)?;
+        self.values.insert(key, value)?;
+        Ok(())
+    }
+
     /// What a name stands for.
     pub fn value(&self, alloc: Global, name: &str) -> Result<Option<V>, AllocError>
         ensures { IfOk result (λ value. value ≡ value_of self.now name.now) }

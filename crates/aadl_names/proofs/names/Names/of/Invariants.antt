@@ -11,7 +11,9 @@ use Rattle.aadl_names.proofs.names.Names.of.Given as goal
 abbrev pub invariant-loop-number : goal.invariant-loop-number
 invariant-loop-number l = record {
   types : (name : List ℕ) → value_of l.types name ≡ first_number (is_type name) (map (declaration_view kept_place) (take l.number l.declaration-items));
-  implementations : (name : List ℕ) → value_of l.implementations name ≡ first_number (is_implementation name) (map (declaration_view kept_place) (take l.number l.declaration-items));
+  implementations : (name : List ℕ) → value_of l.implementations name
+      ≡ first_number (is_implementation name) (map (declaration_view kept_place) (take l.number l.declaration-items));
   count : length l.members ≡ l.number;
-  members : (n : ℕ) (name : List ℕ) → value_of (get_or l.members n []) name ≡ member_of (slice_get (map (declaration_view kept_place) (take l.number l.declaration-items)) n) name;
+  members : (n : ℕ) (name : List ℕ) → value_of (get_or l.members n []) name
+      ≡ member_of (slice_get (map (declaration_view kept_place) (take l.number l.declaration-items)) n) name;
 }

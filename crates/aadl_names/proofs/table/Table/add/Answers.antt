@@ -22,4 +22,5 @@ returns-else-is_none g c =
     value-kept c.args.self.now c.args.name.now c.args.value some.0
     (ap (λ t. value_of t c.args.name.now) (sym c.self.view_is)
     ∙ (lookup_keys (λ k. k.items) (bytes_eq (folded c.args.name.now)) c.self.inside.values.entries
-    ∙ (ap (λ (bs : List ℕ). lookup (λ k. bytes_eq bs k.items) c.self.inside.values.entries) (sym (c.in_ok-key.ensures.ok ∙ ap folded c.as_bytes.ensures.value)) ∙ some.1)))
+    ∙ (ap (λ (bs : List ℕ). lookup (λ k. bytes_eq bs k.items) c.self.inside.values.entries)
+    (sym (c.in_ok-key.ensures.ok ∙ ap folded c.as_bytes.ensures.value)) ∙ some.1)))

@@ -1,0 +1,8 @@
+use Rattle.std.proofs.Common.{◌≡◌, ℕ, List, drop}
+use Rattle.aadl_names.specs.Tables.{value_of}
+use Rattle.aadl_names.specs.Earliest.{sooner, earliest}
+use Rattle.aadl_names.proofs.earliest.earliest_of.Given as goal
+
+-- what is left may have the earliest one
+abbrev pub invariant-loop-number : goal.invariant-loop-number
+invariant-loop-number l = (name : List ℕ) → sooner (value_of l.table name) (earliest name l.number (drop l.number l.entries)) ≡ earliest name 0 l.entries

@@ -1,0 +1,10 @@
+//! Where a declaration stands.
+
+/// A declaration, by its number among others and its place.
+#[derive(Clone, Copy, Debug, PartialEq, Eq)]
+pub struct Spot {
+    /// Its number among the declarations.
+    pub number: usize,
+    /// Its place in the text.
+    pub at: usize,
+}

@@ -1,0 +1,37 @@
+//! Names that are declared twice.
+#![tactic(auto, using(crate::proofs::Finds::found_append))]
+
+ghost use Rattle.std.specs.Prelude.{◌≡◌, OnOk};
+ghost use Rattle.aadl_names.specs.Found.{found};
+ghost use Rattle.aadl_names.specs.Tables.{value_of};
+ghost use Rattle.aadl_names.specs.Earliest.{again_by};
+ghost use Rattle.aadl_names.specs.Twice.{twice};
+
+use crate::earliest::{earliest_of, is_before};
+use crate::entry::Entry;
+use crate::finder::Finder;
+use crate::spot::Spot;
+use crate::table::Table;
+use std::alloc::AllocError;
+
+/// Finds the declarations that have the name of an earlier one.
+pub fn check_twice(finder: &mut Finder, entries: &[Entry]) -> Result<(), AllocError>
+    ensures { OnOk result (finder.new ≡ found finder.old (twice entries.now)) }
+{
+    let table = earliest_of(finder.alloc(), entries)?;
+    for entry in entries {
+        check_entry(finder, &table, entry)?;
+    }
+    Ok(())
+}
+
+// Finds that an entry stands behind the earliest one of its name.
+fn check_entry(finder: &mut Finder, table: &Table<Spot>, entry: &Entry) -> Result<(), AllocError>
+    ensures { OnOk result (finder.new ≡ found finder.old (again_by (value_of table.now entry.now.name) entry.now)) }
+{
+    let earliest = table.value(finder.alloc(), entry.name.as_str())?;
+    if is_before(earliest, entry.at) {
+        finder.twice(entry.name.as_str(), entry.at)?;
+    }
+    Ok(())
+}

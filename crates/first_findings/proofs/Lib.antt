@@ -1,0 +1,4 @@
+pub mod Elements
+pub mod Covers
+pub mod Besides
+pub mod FirstFaults

@@ -1,0 +1,3 @@
+pub mod Annexes
+pub mod Uses
+pub mod Numbered

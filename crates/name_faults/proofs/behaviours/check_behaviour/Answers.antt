@@ -1,0 +1,24 @@
+use Rattle.std.proofs.Common.{◌≡◌, ap, ◌∙◌}
+use Rattle.aadl_tree.specs.PackageViews.{placed}
+use Rattle.aadl_tree.specs.Views.{implementation_view}
+use Rattle.aadl_tree.specs.Maps.{kept_place}
+use Rattle.aadl_names.specs.Found.{found}
+use Rattle.aadl_names.specs.Resolving.{type_numbered}
+use Rattle.aadl_names.specs.PackageFaults.{comes_first, behaviour_faults}
+use Rattle.aadl_names.proofs.Finds.{closed}
+use Rattle.name_faults.proofs.Uses.{for_all, same_uses, same_order}
+use Rattle.name_faults.proofs.behaviours.check_behaviour.Goals as goal
+
+pub returns : goal.returns
+unfolding behaviour_faults
+returns c =
+    let tree = placed c.args.names.now.tree.now in
+    let x = implementation_view kept_place c.args.x.now in
+    closed c.check_transitions.result c.check_transitions.new.finder _ _
+    (ap (found c.args.finder.now) (same_uses _ _ _ _ _ _
+    (for_all _ _ c.in_ok-states.ensures)
+    (c.scope_of-scope.ensures
+    ∙ same_order _ _ _ _ _ _ (c.comes_first.ensures ∙ ap (λ n. comes_first (type_numbered tree n) x) c.in_ok-of_type.ensures) (for_all _ _ c.requires)
+    (for_all _ _ c.in_ok-variables.ensures))
+    c.transitions_in.ensures))
+    c.check_transitions.ensures

@@ -1,0 +1,17 @@
+use Rattle.std.proofs.Common.{◌≡◌, map, drop}
+use Rattle.aadl_tree.specs.PackageViews.{placed}
+use Rattle.aadl_tree.specs.Views.{implementation_view, annex_view}
+use Rattle.aadl_tree.specs.Maps.{kept_place}
+use Rattle.aadl_names.specs.Found.{found}
+use Rattle.aadl_names.specs.Behaviours.{behaviours}
+use Rattle.aadl_names.specs.Resolving.{is_thread}
+use Rattle.name_faults.specs.Expected.{behaviours_left}
+use Rattle.name_faults.proofs.behaviours.check_behaviours.Given as goal
+
+-- what is left is still to be looked at
+abbrev pub invariant-loop-annex : goal.invariant-loop-annex
+invariant-loop-annex l =
+    found l.initial.finder (behaviours_left (placed l.names.tree.now) (implementation_view kept_place l.x) (is_thread l.x.category)
+    (behaviours (map (annex_view kept_place) l.annex-items)))
+    ≡ found l.finder (behaviours_left (placed l.names.tree.now) (implementation_view kept_place l.x) l.expected
+    (behaviours (map (annex_view kept_place) (drop l.annex-index l.annex-items))))

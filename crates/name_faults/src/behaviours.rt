@@ -1,0 +1,128 @@
+//! What is wrong with the behaviours of an implementation.
+#![tactic(auto, using(aadl_names::proofs::Finds::found_append))]
+
+ghost use Rattle.std.specs.Prelude.{◌≡◌, ℕ, List, OnOk, IfOk};
+ghost use Rattle.aadl_tree.specs.PackageViews.{placed};
+ghost use Rattle.aadl_tree.specs.Views.{annex_tree_view, annex_view, implementation_view};
+ghost use Rattle.aadl_tree.specs.Maps.{kept_place};
+ghost use Rattle.aadl_names.specs.Found.{found};
+ghost use Rattle.aadl_names.specs.Tables.{value_of};
+ghost use Rattle.aadl_names.specs.Behaviours.{behaviours};
+ghost use Rattle.aadl_names.specs.Resolving.{ports_of, type_numbered};
+ghost use Rattle.aadl_names.specs.PackageFaults as spec;
+ghost use Rattle.behaviour_names.specs.Scopes.{known_by};
+ghost use Rattle.name_faults.specs.Expected.{annex_uses, still_expected};
+
+use aadl_names::sites::type_number;
+use aadl_names::{Finder, Names, Role, Table};
+use aadl_tree::{Annex, AnnexContent, AnnexTree, Declaration, Implementation};
+use behaviour_names::parts::transitions_in;
+use behaviour_names::{Scope, check_transitions, state_names, variable_roles};
+use name_spaces::categories::is_thread;
+use std::alloc::{AllocError, Global};
+
+// Whether what a type declares goes before what an implementation declares.
+fn comes_first(names: &Names<'_>, of_type: Option<usize>, x: &Implementation) -> bool
+    ensures { result ≡ spec.comes_first (type_numbered (placed names.now.tree.now) of_type) (implementation_view kept_place x.now) }
+{
+    let Some(number) = of_type else {
+        return true;
+    };
+    match names.tree.declarations.get(number) {
+        Some(Declaration::Type(declaration)) => declaration.at < x.at,
+        Some(Declaration::Implementation(_)) => true,
+        None => true,
+    }
+}
+
+// What the names of a behaviour stand for, where those of ports go first or last.
+fn scope_of<'t>(
+    alloc: Global,
+    ports_first: bool,
+    ports: &'t Table<Role>,
+    variables: &'t Table<Role>,
+) -> Scope<'t>
+    ensures { known_by result ≡ spec.in_order ports_first (value_of ports.now) (value_of variables.now) }
+{
+    if ports_first {
+        Scope::new(alloc, ports, variables)
+    } else {
+        Scope::new(alloc, variables, ports)
+    }
+}
+
+// Finds how a behaviour of an implementation uses names wrongly.
+fn check_behaviour(
+    finder: &mut Finder,
+    names: &Names<'_>,
+    roles: &Table<Role>,
+    x: &Implementation,
+    behaviour: &AnnexTree,
+) -> Result<(), AllocError>
+    requires { (name : List ℕ) → value_of roles.now name ≡ spec.port_roles (ports_of (placed names.now.tree.now) (implementation_view kept_place x.now)) name }
+    ensures { OnOk result (finder.new ≡ found finder.old
+        (spec.behaviour_faults (placed names.now.tree.now) (implementation_view kept_place x.now) (annex_tree_view kept_place behaviour.now))) }
+{
+    let alloc = finder.alloc();
+    let variables = variable_roles(alloc, behaviour)?;
+    let states = state_names(alloc, behaviour)?;
+    let of_type = type_number(names, alloc, x)?;
+    let scope = scope_of(alloc, comes_first(names, of_type, x), roles, &variables);
+    check_transitions(finder, &states, &scope, transitions_in(behaviour))
+}
+
+// Finds what is wrong with an annex, where a behaviour is expected or is one too many.
+fn check_annex(
+    finder: &mut Finder,
+    names: &Names<'_>,
+    roles: &Table<Role>,
+    x: &Implementation,
+    expected: bool,
+    annex: &Annex,
+) -> Result<(), AllocError>
+    requires { (name : List ℕ) → value_of roles.now name ≡ spec.port_roles (ports_of (placed names.now.tree.now) (implementation_view kept_place x.now)) name }
+    ensures { OnOk result (finder.new ≡ found finder.old
+        (annex_uses (placed names.now.tree.now) (implementation_view kept_place x.now) expected (annex_view kept_place annex.now))) }
+{
+    match &annex.content {
+        AnnexContent::Unread(_) => Ok(()),
+        AnnexContent::Behaviour(behaviour) => {
+            if expected {
+                check_behaviour(finder, names, roles, x, behaviour)
+            } else {
+                finder.wrong_if(true, annex.at);
+                Ok(())
+            }
+        }
+    }
+}
+
+// Whether a behaviour is still expected behind an annex.
+fn still_expected(expected: bool, annex: &Annex) -> bool
+    ensures { result ≡ still_expected expected (annex_view kept_place annex.now) }
+{
+    match &annex.content {
+        AnnexContent::Unread(_) => expected,
+        AnnexContent::Behaviour(_) => false,
+    }
+}
+
+/// Finds how the first behaviour of a thread's implementation uses names wrongly, and each behaviour
+/// that is one too many.
+pub fn check_behaviours(
+    finder: &mut Finder,
+    names: &Names<'_>,
+    roles: &Table<Role>,
+    x: &Implementation,
+) -> Result<(), AllocError>
+    requires { (name : List ℕ) → value_of roles.now name ≡ spec.port_roles (ports_of (placed names.now.tree.now) (implementation_view kept_place x.now)) name }
+    ensures { OnOk result (finder.new ≡ found finder.old
+        (spec.annex_faults (placed names.now.tree.now) (implementation_view kept_place x.now) (behaviours (implementation_view kept_place x.now).annexes))) }
+{
+    let mut expected = is_thread(x.category);
+    for annex in &x.annexes {
+        check_annex(finder, names, roles, x, expected, annex)?;
+        expected = still_expected(expected, annex);
+    }
+    Ok(())
+}

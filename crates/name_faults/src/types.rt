@@ -1,0 +1,96 @@
+//! What is wrong with the names in types, and in annexes wherever they stand.
+#![tactic(auto, using(aadl_names::proofs::Finds::found_append))]
+
+ghost use Rattle.std.specs.Prelude.{◌≡◌, OnOk, map, flat_map};
+ghost use Rattle.aadl_tree.specs.Views.{variable_view, annex_view, type_view};
+ghost use Rattle.aadl_tree.specs.Maps.{kept_place};
+ghost use Rattle.aadl_names.specs.Found.{found};
+ghost use Rattle.aadl_names.specs.Behaviours.{variables_in};
+ghost use Rattle.aadl_names.specs.PackageFaults as spec;
+
+use crate::components::check_ports;
+use aadl_names::names::same_word;
+use aadl_names::{Finder, Holder};
+use aadl_tree::{Annex, AnnexContent, TypeDeclaration, VariableDeclaration};
+use property_shapes::check_properties;
+use std::alloc::AllocError;
+
+// The declarations of variables in an annex.
+fn variables_in(annex: &Annex) -> &[VariableDeclaration]
+    ensures { map (variable_view kept_place) result.now ≡ variables_in (annex_view kept_place annex.now) }
+{
+    match &annex.content {
+        AnnexContent::Unread(_) => &[],
+        AnnexContent::Behaviour(tree) => match &tree.variables {
+            Some(variables) => variables.as_slice(),
+            None => &[],
+        },
+    }
+}
+
+fn check_variable(finder: &mut Finder, x: &VariableDeclaration) -> Result<(), AllocError>
+    ensures { OnOk result (finder.new ≡ found finder.old (spec.variable_faults (variable_view kept_place x.now))) }
+{
+    check_properties(finder, Holder::Variable, x.properties.as_slice())
+}
+
+fn check_variable_list(
+    finder: &mut Finder,
+    variables: &[VariableDeclaration],
+) -> Result<(), AllocError>
+    ensures { OnOk result (finder.new ≡ found finder.old (flat_map spec.variable_faults (map (variable_view kept_place) variables.now))) }
+{
+    for variable in variables {
+        check_variable(finder, variable)?;
+    }
+    Ok(())
+}
+
+fn check_annex_variables(finder: &mut Finder, annex: &Annex) -> Result<(), AllocError>
+    ensures { OnOk result (finder.new ≡ found finder.old (spec.variables_faults (annex_view kept_place annex.now))) }
+{
+    check_variable_list(finder, variables_in(annex))
+}
+
+/// Finds what is wrong with the properties of variables in annexes.
+pub fn check_variables(finder: &mut Finder, annexes: &[Annex]) -> Result<(), AllocError>
+    ensures { OnOk result (finder.new ≡ found finder.old (flat_map spec.variables_faults (map (annex_view kept_place) annexes.now))) }
+{
+    for annex in annexes {
+        check_annex_variables(finder, annex)?;
+    }
+    Ok(())
+}
+
+fn check_stray(finder: &mut Finder, annex: &Annex)
+    ensures { finder.new ≡ found finder.old (spec.stray_faults (annex_view kept_place annex.now)) }
+{
+    match &annex.content {
+        AnnexContent::Unread(_) => {}
+        AnnexContent::Behaviour(_) => finder.wrong_if(true, annex.at),
+    }
+}
+
+/// Finds behaviours where none may stand.
+pub fn check_no_behaviour(finder: &mut Finder, annexes: &[Annex])
+    ensures { finder.new ≡ found finder.old (flat_map spec.stray_faults (map (annex_view kept_place) annexes.now)) }
+{
+    for annex in annexes {
+        check_stray(finder, annex);
+    }
+}
+
+/// Finds what is wrong with the names in a type.
+pub fn check_type(finder: &mut Finder, of_root: bool, x: &TypeDeclaration) -> Result<(), AllocError>
+    ensures { OnOk result (finder.new ≡ found finder.old (spec.type_faults of_root (type_view kept_place x.now))) }
+{
+    finder.wrong_if(!same_word(&x.end_name, &x.name), x.end_name.at);
+    check_ports(finder, x.features.as_slice())?;
+    check_properties(
+        finder,
+        Holder::Declaration(x.category, of_root),
+        x.properties.as_slice(),
+    )?;
+    check_no_behaviour(finder, x.annexes.as_slice());
+    check_variables(finder, x.annexes.as_slice())
+}

@@ -1,0 +1,3 @@
+pub mod PortEntries
+pub mod PortLists
+pub mod FirstBehaviours

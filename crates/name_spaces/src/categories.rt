@@ -1,0 +1,15 @@
+//! Categories of components.
+ghost use Rattle.std.specs.Prelude.{◌≡◌};
+ghost use Rattle.aadl_names.specs.Resolving.{is_thread};
+
+use aadl_tree::Category;
+
+/// Whether it is a thread.
+pub fn is_thread(category: Category) -> bool
+    ensures { result ≡ is_thread category }
+{
+    match category {
+        Category::Thread => true,
+        Category::System | Category::Process => false,
+    }
+}

@@ -1,0 +1,24 @@
+//! What the ports of a type are called.
+
+use aadl_names::{FlatFault, Role, Spot, Table};
+use pals_base::Items;
+
+/// What the ports of one type are called: what is asked of them for each of its implementations.
+#[derive(Drop)]
+pub struct PortNames {
+    /// What each name stands for.
+    pub roles: Table<Role>,
+    /// The earliest port of each name.
+    pub earliest: Table<Spot>,
+    /// The first port that has the name of an earlier one.
+    pub again: Option<FlatFault>,
+}
+
+/// What the ports of all types are called.
+#[derive(Drop)]
+pub struct AllPortNames {
+    /// Of each declaration, by its number.
+    pub of_declarations: Items<PortNames>,
+    /// Of no ports.
+    pub none: PortNames,
+}

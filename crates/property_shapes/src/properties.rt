@@ -1,0 +1,106 @@
+//! Lists of properties.
+#![tactic(auto, using(aadl_names::proofs::Finds::found_append))]
+
+ghost use Rattle.std.specs.Prelude.{◌≡◌, ◌&&◌, ◌++◌, not, OnOk, IfOk, flat_map};
+ghost use Rattle.std.specs.List.{list_any};
+ghost use Rattle.aadl_tree.specs.Values.{associate, no_associations};
+ghost use Rattle.aadl_tree.specs.ValueViews.{value_view, association_view, associations_view};
+ghost use Rattle.aadl_tree.specs.Maps.{kept_place};
+ghost use Rattle.aadl_names.specs.Found.{found};
+ghost use Rattle.aadl_names.specs.Spelling.{same_name};
+ghost use Rattle.aadl_names.specs.Properties as spec;
+ghost use Rattle.aadl_names.specs.Properties.{property_entries};
+
+use crate::shapes::has_shape;
+use aadl_names::spelling::spelled_name;
+use aadl_names::twice::check_twice;
+use aadl_names::{Entry, Finder, Holder};
+use aadl_tree::{Association, Value};
+use pals_base::Items;
+use std::alloc::{AllocError, Global};
+
+// Whether a property of the name is recognised here, and the value has another shape.
+fn is_misshapen(holder: Holder, name: &str, value: &Value) -> bool
+    ensures { result ≡ list_any (λ p. same_name name.now (spec.name_of p) && not (spec.has_shape p (value_view kept_place value.now)))
+        (spec.recognised holder) }
+{
+    holder.recognised().iter().any(|property| name.eq_ignore_ascii_case(property.name())
+        && !has_shape(*property, value))
+}
+
+// Finds the value of another shape of one property. What applies elsewhere does not count.
+fn check_property(
+    finder: &mut Finder,
+    holder: Holder,
+    association: &Association,
+) -> Result<(), AllocError>
+    ensures { OnOk result (finder.new ≡ found finder.old (spec.shape_fault holder (association_view kept_place association.now))) }
+{
+    if association.applies_to.is_empty() {
+        let name = spelled_name(finder.alloc(), &association.name)?;
+        finder.wrong_if(
+            is_misshapen(holder, name.as_str(), &association.value),
+            association.name.first.at,
+        );
+    }
+    Ok(())
+}
+
+// Finds the values of other shapes in one list of properties.
+fn check_shapes(finder: &mut Finder, holder: Holder, list: &[Association]) -> Result<(), AllocError>
+    ensures { OnOk result (finder.new ≡ found finder.old (flat_map (spec.shape_fault holder) (spec.listed (associations_view kept_place list.now)))) }
+{
+    for association in list {
+        check_property(finder, holder, association)?;
+    }
+    Ok(())
+}
+
+// What a property declares.
+fn association_entry(alloc: Global, association: &Association) -> Result<Entry, AllocError>
+    ensures { IfOk result (λ entry. entry ≡ spec.association_entry (association_view kept_place association.now)) }
+{
+    Ok(Entry {
+        name: spelled_name(alloc, &association.name)?,
+        at: association.name.first.at,
+    })
+}
+
+// Adds a property, unless it applies elsewhere.
+fn add_property(
+    entries: &mut Items<Entry>,
+    alloc: Global,
+    association: &Association,
+) -> Result<(), AllocError>
+    ensures { OnOk result (entries.new ≡ entries.old ++ property_entries (associate (association_view kept_place association.now) no_associations)) }
+{
+    if association.applies_to.is_empty() {
+        entries.push(association_entry(alloc, association)?)?;
+    }
+    Ok(())
+}
+
+// The properties of a list, but for those that apply elsewhere.
+fn property_entries(alloc: Global, list: &[Association]) -> Result<Items<Entry>, AllocError>
+    ensures { IfOk result (λ entries. entries ≡ property_entries (associations_view kept_place list.now)) }
+{
+    let mut entries = Items::new(alloc);
+    for association in list {
+        add_property(&mut entries, alloc, association)?;
+    }
+    Ok(entries)
+}
+
+/// Finds the values of other shapes, and properties that are given twice, in one list of properties.
+/// What applies elsewhere does not count.
+pub fn check_properties(
+    finder: &mut Finder,
+    holder: Holder,
+    list: &[Association],
+) -> Result<(), AllocError>
+    ensures { OnOk result (finder.new ≡ found finder.old (spec.list_faults holder (associations_view kept_place list.now))) }
+{
+    check_shapes(finder, holder, list)?;
+    let entries = property_entries(finder.alloc(), list)?;
+    check_twice(finder, entries.as_slice())
+}

@@ -1,0 +1,176 @@
+//! The shapes of the values of properties.
+
+ghost use Rattle.std.specs.Prelude.{◌≡◌, IsTrue, ◌↔◌, string_bytes, option_map};
+ghost use Rattle.std.specs.Option.{is_some};
+ghost use Rattle.aadl_tree.specs.NameViews.{identifier_view, reference_view};
+ghost use Rattle.aadl_tree.specs.ValueViews.{figure_view, quantity_view, value_view, values_view};
+ghost use Rattle.aadl_tree.specs.Values.{list};
+ghost use Rattle.aadl_tree.specs.Maps.{kept_place};
+ghost use Rattle.aadl_names.specs.Properties as spec;
+
+use crate::digits::is_number;
+use aadl_names::Property;
+use aadl_tree::{Figure, Identifier, Quantity, Sign, Value};
+
+/// A unit of time in nanoseconds.
+pub fn unit_of(name: &str) -> Option<u64>
+    ensures { result ≡ spec.unit_of name.now }
+{
+    if name.eq_ignore_ascii_case("ns") {
+        Some(1)
+    } else if name.eq_ignore_ascii_case("us") {
+        Some(1_000)
+    } else if name.eq_ignore_ascii_case("ms") {
+        Some(1_000_000)
+    } else if name.eq_ignore_ascii_case("sec") {
+        Some(1_000_000_000)
+    } else if name.eq_ignore_ascii_case("min") {
+        Some(60_000_000_000)
+    } else if name.eq_ignore_ascii_case("hr") {
+        Some(3_600_000_000_000)
+    } else {
+        None
+    }
+}
+
+// Whether it is a unit of time.
+fn is_unit(unit: &Option<Identifier>) -> bool
+    ensures { result ≡ spec.has_some (spec.unit_in (option_map (identifier_view kept_place) unit.now)) }
+{
+    match unit {
+        Some(unit) => unit_of(unit.spelling.as_str()).is_some(),
+        None => false,
+    }
+}
+
+// Whether it is a whole number.
+fn is_whole(figure: &Figure) -> bool
+    ensures { result ≡ spec.has_some (spec.whole_of (figure_view figure.now)) }
+{
+    match figure {
+        Figure::Whole(value) => *value >= 0,
+        Figure::Real(_) => false,
+    }
+}
+
+/// Whether it is a time: a whole number without a sign, and a unit.
+#[tactic(auto, using(crate::proofs::Times::has_time), unfolding(aadl_names::specs::Properties::time_in))]
+pub fn is_time(x: &Quantity) -> bool
+    ensures { result ≡ spec.has_some (spec.time_in (quantity_view kept_place x.now)) }
+{
+    !is_signed(x.number.sign) && is_whole(&x.number.figure) && is_unit(&x.unit)
+}
+
+fn is_signed(sign: Option<Sign>) -> bool
+    ensures { result ≡ spec.is_signed sign }
+{
+    match sign {
+        Some(_) => true,
+        None => false,
+    }
+}
+
+// The bytes between the quotes of a string.
+fn unquoted(bytes: &[u8]) -> &[u8]
+    ensures { result.now ≡ spec.unquoted bytes.now }
+{
+    match bytes {
+        [_, inner @ .., _] => inner,
+        _ => &[],
+    }
+}
+
+// The text of an initial value: `true`, `false`, or a number with a sign or without.
+fn is_initial(bytes: &[u8]) -> bool
+    ensures { result ≡ spec.is_initial bytes.now }
+{
+    if bytes == b"true".as_slice() || bytes == b"false".as_slice() {
+        return true;
+    }
+    match bytes {
+        [b'-', digits @ ..] => is_number(digits),
+        _ => is_number(bytes),
+    }
+}
+
+// A text that is an initial value.
+fn is_initial_text(value: &Value) -> bool
+    ensures { result ≡ spec.is_initial_text (spec.text_of (value_view kept_place value.now)) }
+{
+    match value {
+        Value::Text(bytes) => is_initial(unquoted(bytes.as_slice())),
+        _ => false,
+    }
+}
+
+// One text that is an initial value.
+fn is_initial_only(values: &[Value]) -> bool
+    ensures { result ≡ spec.is_initial_text (spec.only_text (list (values_view kept_place values.now))) }
+{
+    match values {
+        [only] => is_initial_text(only),
+        _ => false,
+    }
+}
+
+// A list of one text that is an initial value.
+fn is_initial_list(value: &Value) -> bool
+    ensures { result ≡ spec.has_shape Property.Initial (value_view kept_place value.now) }
+{
+    match value {
+        Value::List(values) => is_initial_only(values.as_slice()),
+        _ => false,
+    }
+}
+
+fn is_time_value(value: &Value) -> bool
+    ensures { result ≡ spec.has_some (spec.time_of (value_view kept_place value.now)) }
+{
+    match value {
+        Value::Number { low, high: None } => is_time(low),
+        _ => false,
+    }
+}
+
+fn is_range_value(value: &Value) -> bool
+    ensures { result ≡ spec.has_some (spec.range_of (value_view kept_place value.now)) }
+{
+    match value {
+        Value::Number {
+            low,
+            high: Some(high),
+        } => is_time(low) && is_time(high),
+        _ => false,
+    }
+}
+
+fn is_text_value(value: &Value) -> bool
+    ensures { result ≡ spec.has_some (spec.text_of (value_view kept_place value.now)) }
+{
+    match value {
+        Value::Text(_) => true,
+        _ => false,
+    }
+}
+
+fn is_reference(value: &Value) -> bool
+    ensures { result ≡ spec.has_some (spec.reference_of (value_view kept_place value.now)) }
+{
+    match value {
+        Value::Named(_) => true,
+        _ => false,
+    }
+}
+
+/// Whether a value has the shape that a property takes.
+pub fn has_shape(property: Property, value: &Value) -> bool
+    ensures { result ≡ spec.has_shape property (value_view kept_place value.now) }
+{
+    match property {
+        Property::Period | Property::Skew => is_time_value(value),
+        Property::Dispatch | Property::Timing => is_reference(value),
+        Property::Adaptor => is_text_value(value),
+        Property::Execution | Property::Network => is_range_value(value),
+        Property::Initial => is_initial_list(value),
+    }
+}
