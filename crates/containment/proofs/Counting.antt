@@ -9,7 +9,7 @@ use Rattle.std.proofs.lemmas.Bool.Decides.{nat_tests}
 use Rattle.std.proofs.lemmas.Option.{slice_get_within, slice_get-get_or, option_and_then_some, none-some, same_Some}
 use Rattle.containment.specs.Graphs.{Graph, targets_in, below_in, IsWithin}
 use Rattle.containment.specs.Orders.{IsSequence, IsOrder}
-use Rattle.containment.specs.Counts.{stands_at, IsMarkedAt, path_before, Among, Ordered, AreListed, Counted, own_count, count_of}
+use Rattle.containment.specs.Counts.{stands_at, IsMarkedAt, path_before, Among, Ordered, AreListed, Counted, own_count, own_paths, count_of}
 use Rattle.containment.proofs.Suspected.{one_of_two}
 
 -- ---- lists
@@ -80,16 +80,16 @@ all_later i (s ∷ p) (y ∷ ys) h = (less_first i s p y h, all_later i (s ∷ p
 
 module _ (g : Graph) (marks : List Bool) (n i : ℕ) where
   -- what stands below a subcomponent stands below the declaration, one level deeper
-  deeper : (k : ℕ) (p : List ℕ) → below_in g n i ≡ Some k → IsMarkedAt g marks k p → Begun g marks n (i + 1) (i ∷ p)
+  pub deeper : (k : ℕ) (p : List ℕ) → below_in g n i ≡ Some k → IsMarkedAt g marks k p → Begun g marks n (i + 1) (i ∷ p)
   deeper k p e t = record {
     marked = record { number = t.number; stands = ap (option_and_then (λ m. stands_at g m p)) e ∙ t.stands; is_marked = t.is_marked };
     first = omega arith;
   }
 
-  shallower : (k : ℕ) (p : List ℕ) → below_in g n i ≡ Some k → IsMarkedAt g marks n (i ∷ p) → IsMarkedAt g marks k p
+  pub shallower : (k : ℕ) (p : List ℕ) → below_in g n i ≡ Some k → IsMarkedAt g marks n (i ∷ p) → IsMarkedAt g marks k p
   shallower k p e t = record { number = t.number; stands = sym (ap (option_and_then (λ m. stands_at g m p)) e) ∙ t.stands; is_marked = t.is_marked }
 
-  more_begun : (p : List ℕ) → Begun g marks n i p → Begun g marks n (i + 1) p
+  pub more_begun : (p : List ℕ) → Begun g marks n i p → Begun g marks n (i + 1) p
   more_begun [] b = record { marked = b.marked; first = tt }
   more_begun (s ∷ p) b = let h = b.first in record { marked = b.marked; first = omega (arith, h) }
 
@@ -107,7 +107,7 @@ module _ (g : Graph) (marks : List Bool) (n i : ℕ) where
   complete_at k xs ys e a b (s ∷ p) h = complete_by k xs ys e a b s p h (cases_order s i)
 
   -- one more subcomponent
-  listed_more : (k : ℕ) (xs ys : List (List ℕ)) → below_in g n i ≡ Some k → AreListed (Begun g marks n i) path_before xs → AreListed (IsMarkedAt g marks k) path_before ys
+  pub listed_more : (k : ℕ) (xs ys : List (List ℕ)) → below_in g n i ≡ Some k → AreListed (Begun g marks n i) path_before xs → AreListed (IsMarkedAt g marks k) path_before ys
       → AreListed (Begun g marks n (i + 1)) path_before (xs ++ map (λ q. i ∷ q) ys)
   listed_more k xs ys e a b = record {
     each = all_append (Begun g marks n (i + 1)) xs (map (λ q. i ∷ q) ys) (all_weaker (Begun g marks n i) (Begun g marks n (i + 1)) more_begun xs a.each)
@@ -124,11 +124,11 @@ module _ (g : Graph) (marks : List Bool) (n i : ℕ) where
   nothing_at s p e h (inr (inl less)) = record { marked = h.marked; first = less }
   nothing_at s p e h (inr (inr more)) = let f = h.first in absurd (omega (arith, f, more))
 
-  fewer_begun : (p : List ℕ) → below_in g n i ≡ None → Begun g marks n (i + 1) p → Begun g marks n i p
+  pub fewer_begun : (p : List ℕ) → below_in g n i ≡ None → Begun g marks n (i + 1) p → Begun g marks n i p
   fewer_begun [] e h = record { marked = h.marked; first = tt }
   fewer_begun (s ∷ p) e h = nothing_at s p e h (cases_order s i)
 
-  listed_same : (xs : List (List ℕ)) → below_in g n i ≡ None → AreListed (Begun g marks n i) path_before xs → AreListed (Begun g marks n (i + 1)) path_before xs
+  pub listed_same : (xs : List (List ℕ)) → below_in g n i ≡ None → AreListed (Begun g marks n i) path_before xs → AreListed (Begun g marks n (i + 1)) path_before xs
   listed_same xs e a = record {
     each = all_weaker (Begun g marks n i) (Begun g marks n (i + 1)) more_begun xs a.each;
     ordered = a.ordered;
@@ -166,7 +166,7 @@ module _ (limit : ℕ) (g : Graph) (marks : List Bool) (n i : ℕ) where
       }
 
 -- ---- the declaration itself
-none_begun : (g : Graph) (marks : List Bool) (n : ℕ) (p : List ℕ) → get_or marks n false ≡ false → Begun g marks n 0 p → ⊥
+pub none_begun : (g : Graph) (marks : List Bool) (n : ℕ) (p : List ℕ) → get_or marks n false ≡ false → Begun g marks n 0 p → ⊥
 none_begun g marks n [] e h = true≢false (sym h.marked.is_marked ∙ (ap (λ k. get_or marks k false) (sym (same_Some n h.marked.number h.marked.stands)) ∙ e))
 none_begun g marks n (s ∷ p) e h = let f = h.first in omega (arith, f)
 
@@ -174,97 +174,43 @@ own_begun : (g : Graph) (marks : List Bool) (n : ℕ) (p : List ℕ) → Begun g
 own_begun g marks n [] h = inl refl
 own_begun g marks n (s ∷ p) h = let f = h.first in absurd (omega (arith, f))
 
-pub counted_own : (limit : ℕ) (g : Graph) (marks : List Bool) (n count : ℕ) → count ≡ own_count limit (get_or marks n false) → CountedSome limit g marks n 0 count
-counted_own limit g marks n count is = by (get_or marks n false) refl
+pub own_listed : (g : Graph) (marks : List Bool) (n : ℕ) → AreListed (Begun g marks n 0) path_before (own_paths (get_or marks n false))
+own_listed g marks n = by (get_or marks n false) refl
   where
-    by : (b : Bool) → get_or marks n false ≡ b → CountedSome limit g marks n 0 count
+    by : (b : Bool) → get_or marks n false ≡ b → AreListed (Begun g marks n 0) path_before (own_paths b)
     by true e = record {
-      paths = [] ∷ [];
-      listed = record {
-        each = (record { marked = record { number = n; stands = refl; is_marked = e }; first = tt }, tt);
-        ordered = (tt, tt);
-        complete = λ p h. own_begun g marks n p h;
-      };
-      count_is = is ∙ ap (own_count limit) e;
+      each = (record { marked = record { number = n; stands = refl; is_marked = e }; first = tt }, tt);
+      ordered = (tt, tt);
+      complete = λ p h. own_begun g marks n p h;
     }
-    by false e = record {
-      paths = [];
-      listed = record { each = tt; ordered = tt; complete = λ p h. absurd (none_begun g marks n p e h) };
-      count_is = is ∙ (ap (own_count limit) e ∙ omega arith);
-    }
+    by false e = record { each = tt; ordered = tt; complete = λ p h. absurd (none_begun g marks n p e h) }
+
+own_size : (limit : ℕ) (b : Bool) → own_count limit b ≡ min limit (length (own_paths b))
+own_size limit true = refl
+own_size limit false = omega arith
+
+pub counted_own : (limit : ℕ) (g : Graph) (marks : List Bool) (n count : ℕ) → count ≡ own_count limit (get_or marks n false) → CountedSome limit g marks n 0 count
+counted_own limit g marks n count is = record { paths = own_paths (get_or marks n false); listed = own_listed g marks n; count_is = is ∙ own_size limit (get_or marks n false) }
 
 -- ---- the first subcomponents are all
-all_begun : (g : Graph) (marks : List Bool) (n i : ℕ) (p : List ℕ) → length (targets_in g n) ≤ i → IsMarkedAt g marks n p → Begun g marks n i p
+pub all_begun : (g : Graph) (marks : List Bool) (n i : ℕ) (p : List ℕ) → length (targets_in g n) ≤ i → IsMarkedAt g marks n p → Begun g marks n i p
 all_begun g marks n i [] past t = record { marked = t; first = tt }
 all_begun g marks n i (s ∷ p) past t =
     option_and_then_some (λ k. stands_at g k p) (below_in g n s) t.number t.stands
     (λ k a b. option_and_then_some (λ o. o) (slice_get (targets_in g n) s) k a (λ o c d. let least = slice_get_within (targets_in g n) s o c in record { marked = t; first = omega arith }))
 
-pub counted_all : (limit : ℕ) (g : Graph) (marks : List Bool) (n i count : ℕ) → length (targets_in g n) ≤ i → CountedSome limit g marks n i count → Counted limit g marks n count
-counted_all limit g marks n i count past x = record {
-  paths = x.paths;
-  listed = record {
-    each = all_weaker (Begun g marks n i) (IsMarkedAt g marks n) (λ p h. h.marked) x.paths x.listed.each;
-    ordered = x.listed.ordered;
-    complete = λ p t. x.listed.complete p (all_begun g marks n i p past t);
-  };
-  count_is = x.count_is;
+pub all_listed : (g : Graph) (marks : List Bool) (n i : ℕ) (paths : List (List ℕ)) → length (targets_in g n) ≤ i → AreListed (Begun g marks n i) path_before paths
+    → AreListed (IsMarkedAt g marks n) path_before paths
+all_listed g marks n i paths past x = record {
+  each = all_weaker (Begun g marks n i) (IsMarkedAt g marks n) (λ p h. h.marked) paths x.each;
+  ordered = x.ordered;
+  complete = λ p t. x.complete p (all_begun g marks n i p past t);
 }
 
--- ---- all declarations, in order
--- the counts of the first so many of a sequence
-pub record CountedFront (limit : ℕ) (g : Graph) (marks : List Bool) (keys : List ℕ) (at : ℕ) (counts : List ℕ) : Type 0 where
-  pub size : length counts ≡ length g
-  pub known : (k n : ℕ) → k < at → slice_get keys k ≡ Some n → Counted limit g marks n (get_or counts n 0)
-
-module _ (limit : ℕ) (g : Graph) (marks : List Bool) (keys : List ℕ) (at : ℕ) (counts : List ℕ) (sequence : IsSequence g keys) (front : CountedFront limit g marks keys at counts) where
-  pub front_counted : (n : ℕ) → slice_get keys at ≡ Some n → (s m : ℕ) → below_in g n s ≡ Some m → Counted limit g marks m (get_or counts m 0)
-  front_counted n here s m e = let j = sequence.behind at n s m here e in front.known j.0 m j.1 j.2
-
-  pub front_more : (n count : ℕ) → slice_get keys at ≡ Some n → Counted limit g marks n count → CountedFront limit g marks keys (at + 1) (set counts n count)
-  front_more n count here counted = record {
-    size = length-set counts n count ∙ front.size;
-    known = λ k m lt e. by k m e (one_of_two k at) lt;
-  }
-    where
-      here_is : n < length counts
-      here_is = let declared = sequence.declared n (contains_at keys at n here) in omega (arith, front.size)
-
-      other : (k m : ℕ) → k < at → slice_get keys k ≡ Some m → (n ≡ m) ⊎ ((n < m) ⊎ (m < n)) → Counted limit g marks m (get_or (set counts n count) m 0)
-      other k m lt e (inl same) = subst (λ x. Counted limit g marks x (get_or (set counts n count) x 0)) same (subst (Counted limit g marks n) (sym (get_or-set_same counts n count 0 here_is)) counted)
-      other k m lt e (inr h) = subst (Counted limit g marks m) (sym (get_or-set_other counts n m count 0 (differ h))) (front.known k m lt e)
-        where
-          differ : (n < m) ⊎ (m < n) → m ≢ n
-          differ (inl h) = omega arith
-          differ (inr h) = omega arith
-
-      by : (k m : ℕ) → slice_get keys k ≡ Some m → (k < at) ⊎ (at ≤ k) → k < at + 1 → Counted limit g marks m (get_or (set counts n count) m 0)
-      by k m e (inl h) lt = other k m h e (cases_order n m)
-      by k m e (inr h) lt =
-          let same : k ≡ at = omega arith in
-          let is : n ≡ m = same_Some n m (sym here ∙ (ap (slice_get keys) (sym same) ∙ e)) in
-          subst (λ x. Counted limit g marks x (get_or (set counts n count) x 0)) is (subst (Counted limit g marks n) (sym (get_or-set_same counts n count 0 here_is)) counted)
+pub counted_all : (limit : ℕ) (g : Graph) (marks : List Bool) (n i count : ℕ) → length (targets_in g n) ≤ i → CountedSome limit g marks n i count → Counted limit g marks n count
+counted_all limit g marks n i count past x = record { paths = x.paths; listed = all_listed g marks n i x.paths past x.listed; count_is = x.count_is }
 
 -- ---- by the code's reads
 pub below_is : (g : Graph) (n i : ℕ) (ts : List (Option ℕ)) → ts ≡ targets_in g n → i < length ts → below_in g n i ≡ get_or ts i None
 below_is g n i ts e lt =
     ap (λ (l : List (Option ℕ)). option_and_then (λ t. t) (slice_get l i)) (sym e) ∙ ap (option_and_then (λ t. t)) (slice_get-get_or ts i None lt)
-
-pub no_front : (limit : ℕ) (g : Graph) (marks : List Bool) (keys counts : List ℕ) → length counts ≡ length g → CountedFront limit g marks keys 0 counts
-no_front limit g marks keys counts size = record { size = size; known = λ k n lt e. absurd (omega arith) }
-
-pub front_past : (limit : ℕ) (g : Graph) (marks : List Bool) (keys : List ℕ) (at : ℕ) (counts : List ℕ) → CountedFront limit g marks keys at counts → slice_get keys at ≡ None → CountedFront limit g marks keys (at + 1) counts
-front_past limit g marks keys at counts front none = record {
-  size = front.size;
-  known = λ k n lt e. by k n e (one_of_two k at) lt;
-}
-  where
-    by : (k n : ℕ) → slice_get keys k ≡ Some n → (k < at) ⊎ (at ≤ k) → k < at + 1 → Counted limit g marks n (get_or counts n 0)
-    by k n e (inl h) lt = front.known k n h e
-    by k n e (inr h) lt = let same : k ≡ at = omega arith in absurd (none-some n (sym none ∙ (ap (slice_get keys) (sym same) ∙ e)))
-
-pub front_all : (limit : ℕ) (g : Graph) (marks : List Bool) (keys : List ℕ) (at : ℕ) (counts : List ℕ) → IsOrder g keys → length keys ≤ at → CountedFront limit g marks keys at counts → (n : ℕ) → n < length g → Counted limit g marks n (get_or counts n 0)
-front_all limit g marks keys at counts order past front n lt =
-    let there = order.all n lt in
-    let within = there.1 in
-    front.known there.0 n (omega arith) (at_contains keys n there)

@@ -1,4 +1,5 @@
 pub mod Searches
 pub mod Suspected
 pub mod Sequences
+pub mod Fronts
 pub mod Counting

@@ -24,10 +24,10 @@ right_part (y ∷ xs) ys (suc k) x le e = right_part xs ys k x (omega arith) e
 any_of : (xs : List ℕ) (n : ℕ) → Contains xs n → list_any (nat_eq n) xs ≡ true
 any_of xs n h = list_any_at (nat_eq n) xs h.0 n h.1 (eq-eqb n (get_or xs h.0 n) (sym h.2))
 
-of_any : (xs : List ℕ) (n : ℕ) → list_any (nat_eq n) xs ≡ true → Contains xs n
+pub of_any : (xs : List ℕ) (n : ℕ) → list_any (nat_eq n) xs ≡ true → Contains xs n
 of_any xs n e = Contains-list_any nat_eq eqb-true xs n e
 
-not_of_any : (xs : List ℕ) (n : ℕ) → list_any (nat_eq n) xs ≡ false → Contains xs n → ⊥
+pub not_of_any : (xs : List ℕ) (n : ℕ) → list_any (nat_eq n) xs ≡ false → Contains xs n → ⊥
 not_of_any xs n e h = true≢false (sym (any_of xs n h) ∙ e)
 
 each_by : (n x : ℕ) (xs : List ℕ) → (list_any (nat_eq n) xs ≡ false → AllByRecursion (λ y. nat_eq n y ≡ false) xs) → (b : Bool) → nat_eq n x ≡ b → list_any (nat_eq n) (x ∷ xs) ≡ false → AllByRecursion (λ y. nat_eq n y ≡ false) (x ∷ xs)

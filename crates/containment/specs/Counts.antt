@@ -53,3 +53,8 @@ own_count limit false = 0
 abbrev pub count_of : List ℕ → Option ℕ → ℕ
 count_of counts None = 0
 count_of counts (Some m) = slice_index counts m
+
+-- the empty path leads to the declaration itself
+abbrev pub own_paths : Bool → List (List ℕ)
+own_paths true = [] ∷ []
+own_paths false = []

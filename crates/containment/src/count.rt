@@ -92,8 +92,8 @@ fn count_of(counts: &[usize], target: Option<usize>) -> usize
     }
 }
 
-// The sum, or the limit where it is above.
-fn add_up_to(limit: usize, a: usize, b: usize) -> usize
+/// The sum of two counts, or the limit where it is above.
+pub fn add_up_to(limit: usize, a: usize, b: usize) -> usize
     ensures { result ≡ min limit (a + b) }
 {
     if a >= limit || b >= limit - a {

@@ -1,11 +1,12 @@
 use Rattle.std.proofs.Common.{◌+◌, ◌∙◌, arith, subst, sym}
+use Rattle.containment.specs.Counts.{Counted}
 use Rattle.containment.proofs.Searches.{contains_at}
-use Rattle.containment.proofs.Counting.{CountedFront, no_front, front_more, front_past, front_all}
+use Rattle.containment.proofs.Fronts.{FrontOf, no_front, front_known, front_more, front_past, front_all}
 use Rattle.containment.proofs.count.counts_below.Goals.{in-Some, in_default}
 use Rattle.containment.proofs.count.counts_below.Goals as goal
 
 pub loop-at-init : goal.loop-at-init
-loop-at-init c = no_front c.args.limit c.args.graph.now c.args.marks.now c.args.order.now.keys c.in_ok-counts.counts.items (c.in_ok-counts.ensures ∙ c.len.ensures)
+loop-at-init c = no_front (Counted c.args.limit c.args.graph.now c.args.marks.now) 0 c.args.graph.now c.args.order.now.keys c.in_ok-counts.counts.items (c.in_ok-counts.ensures ∙ c.len.ensures)
 
 pub put-requires : goal.put-requires
 put-requires c =
@@ -14,21 +15,21 @@ put-requires c =
 
 pub loop-at-preserved : goal.loop-at-preserved
 loop-at-preserved c =
-    let limit = c.args.limit in
     let g = c.args.graph.now in
-    let marks = c.args.marks.now in
+    let right = Counted c.args.limit g c.args.marks.now in
     let keys = c.args.order.now.keys in
     let at = c.loop-at.at in
     let counts = c.loop-at.counts.items in
     elim c.match-get_index.branch [
       | in-Some w ↦
-          subst (λ v. CountedFront limit g marks keys (at + 1) v.items) (sym w.counts-is)
-          (subst (CountedFront limit g marks keys (at + 1)) (sym w.put.ensures)
-          (front_more limit g marks keys at counts c.requires.sequence c.loop-at.invariant w.in-Some.number.now w.count_below-count.result (sym w.in-Some.ensures.key) w.count_below-count.ensures))
+          subst (λ v. FrontOf right 0 g keys (at + 1) v.items) (sym w.counts-is)
+          (subst (FrontOf right 0 g keys (at + 1)) (sym w.put.ensures)
+          (front_more right 0 g keys at counts c.loop-at.invariant w.in-Some.number.now w.count_below-count.result c.requires.sequence (sym w.in-Some.ensures.key) w.count_below-count.ensures))
       | in_default w ↦
-          subst (λ v. CountedFront limit g marks keys (at + 1) v.items) (sym w.counts-is)
-          (front_past limit g marks keys at counts c.loop-at.invariant (sym w.in_default.ensures.key))
+          subst (λ v. FrontOf right 0 g keys (at + 1) v.items) (sym w.counts-is)
+          (front_past right 0 g keys at counts c.loop-at.invariant (sym w.in_default.ensures.key))
     ]
 
 pub returns : goal.returns
-returns c = front_all c.args.limit c.args.graph.now c.args.marks.now c.args.order.now.keys c.loop-at.at c.loop-at.counts.items c.requires (omega arith) c.loop-at.invariant
+returns c =
+    front_all (Counted c.args.limit c.args.graph.now c.args.marks.now) 0 c.args.graph.now c.args.order.now.keys c.loop-at.at c.loop-at.counts.items c.loop-at.invariant c.requires (omega arith)

@@ -1,0 +1,3 @@
+pub mod Containing
+pub mod Cycles
+pub mod Counted

@@ -1,0 +1,10 @@
+use Rattle.std.proofs.Common.{◌∙◌, ap}
+use Rattle.aadl_tree.specs.PackageViews.{placed}
+use Rattle.containment.specs.Graphs.{Graph, targets_in}
+use Rattle.aadl_uses.proofs.Containing.{row}
+use Rattle.aadl_uses.proofs.uses.Uses.targets.Goals as goal
+
+pub returns : goal.returns
+returns c =
+    let tree = placed c.args.self.now.tree.now in
+    c.targets.ensures ∙ (ap (λ (g : Graph). targets_in g c.args.number) c.args.self.now.of_subs ∙ row tree tree.declarations c.args.number)

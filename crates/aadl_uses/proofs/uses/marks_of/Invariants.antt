@@ -1,0 +1,8 @@
+use Rattle.std.proofs.Common.{◌≡◌, map, take}
+use Rattle.aadl_tree.specs.Maps.{kept_place}
+use Rattle.aadl_tree.specs.Views.{declaration_view}
+use Rattle.aadl_uses.specs.Threads.{is_thread_declaration}
+use Rattle.aadl_uses.proofs.uses.marks_of.Given as goal
+
+abbrev pub invariant-loop-declaration : goal.invariant-loop-declaration
+invariant-loop-declaration l = l.marks.items ≡ map is_thread_declaration (map (declaration_view kept_place) (take l.declaration-index l.declarations))

@@ -1,0 +1,16 @@
+use Rattle.std.proofs.Common.{◌∙◌, ap, sym, map, List}
+use Rattle.aadl_tree.specs.PackageViews.{placed}
+use Rattle.aadl_tree.specs.Maps.{kept_place}
+use Rattle.aadl_tree.specs.Views.{declaration_view, subcomponent_view}
+use Rattle.aadl_names.specs.Resolving.{referred}
+use Rattle.aadl_uses.specs.Uses.{targets_in}
+use Rattle.aadl_uses.proofs.Containing.{ok_items}
+use Rattle.aadl_uses.proofs.uses.targets_of.Goals as goal
+
+pub returns-in-Implementation : goal.returns-in-Implementation
+returns-in-Implementation c =
+    let tree = placed c.args.names.now.tree.now in
+    ok_items (λ v. v.items) c.targets_of_subs.result _ _
+    (ap (λ (l : List _). map (λ sub. referred tree sub.classifier) (map (subcomponent_view kept_place) l)) c.as_slice.ensures.value
+    ∙ sym (ap (λ d. targets_in tree (declaration_view kept_place d)) c.in-Implementation.is))
+    c.targets_of_subs.ensures

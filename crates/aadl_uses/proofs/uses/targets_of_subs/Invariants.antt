@@ -1,0 +1,10 @@
+use Rattle.std.proofs.Common.{◌≡◌, map, take}
+use Rattle.aadl_tree.specs.PackageViews.{placed}
+use Rattle.aadl_tree.specs.Maps.{kept_place}
+use Rattle.aadl_tree.specs.Views.{subcomponent_view}
+use Rattle.aadl_names.specs.Resolving.{referred}
+use Rattle.aadl_uses.proofs.uses.targets_of_subs.Given as goal
+
+abbrev pub invariant-loop-sub : goal.invariant-loop-sub
+invariant-loop-sub l = l.targets.items ≡ map (λ sub. referred (placed l.names.tree.now) sub.classifier)
+    (map (subcomponent_view kept_place) (take l.sub-index l.subs))

@@ -1,0 +1,53 @@
+-- Which implementation contains which, and what is in use.
+use Rattle.std.specs.Prelude.{◌≡◌, ℕ, List, [], ◌∷◌, ◌++◌, map, Option, Some, None, slice_get}
+use Rattle.std.specs.Option.{option_and_then}
+use Rattle.aadl_tree.specs.Declarations.{Subcomponent, Implementation, Declaration, PackageTree}
+use Rattle.aadl_names.specs.declared.fault.FlatFault.{FlatFault}
+use Rattle.aadl_names.specs.declared.fault.FlatFault.TheVariants.{Recursive}
+use Rattle.aadl_names.specs.Findings.{IsFirst}
+use Rattle.aadl_names.specs.Resolving.{implementation_in, implementation_at, subcomponents_of, referred}
+use Rattle.containment.specs.Graphs.{Graph}
+
+abbrev pub sub_at : PackageTree ℕ → ℕ → ℕ → Option (Subcomponent ℕ)
+sub_at tree n s = slice_get (subcomponents_of (implementation_at tree n)) s
+
+-- the number of the implementation of a subcomponent
+abbrev pub below : PackageTree ℕ → ℕ → ℕ → Option ℕ
+below tree n s = option_and_then (λ sub. referred tree sub.classifier) (sub_at tree n s)
+
+-- The implementation at the end of a path of subcomponents, by their numbers, the innermost first.
+abbrev pub standing : PackageTree ℕ → ℕ → List ℕ → Option ℕ
+standing tree root [] = Some root
+standing tree root (s ∷ path) = option_and_then (λ n. below tree n s) (standing tree root path)
+
+abbrev pub component_at : PackageTree ℕ → ℕ → List ℕ → Option (Implementation ℕ)
+component_at tree root path = option_and_then (implementation_at tree) (standing tree root path)
+
+abbrev pub IsInUse : PackageTree ℕ → ℕ → ℕ → Type 0
+IsInUse tree root n = (path : List ℕ) × (standing tree root path ≡ Some n)
+
+-- a subcomponent that leads back to the implementation in which it stands
+pub record ClosesCycle (tree : PackageTree ℕ) (sub : Subcomponent ℕ) : Type 0 where
+  pub within : ℕ
+  pub number : ℕ
+  pub path : List ℕ
+  pub is_sub : sub_at tree within number ≡ Some sub
+  pub returns : standing tree within (path ++ number ∷ []) ≡ Some within
+
+abbrev pub IsRecursive : PackageTree ℕ → FlatFault → Type 0
+IsRecursive tree fault = (sub : Subcomponent ℕ) × ClosesCycle tree sub × (fault ≡ Recursive sub.name.spelling sub.name.at)
+
+-- the first of what is found, or none where nothing is
+abbrev pub FirstIn : (FlatFault → Type 0) → Option FlatFault → Type 0
+FirstIn Found None = (fault : FlatFault) → Found fault → ⊥
+FirstIn Found (Some fault) = IsFirst Found fault
+
+-- ---- the numbers that subcomponents name
+abbrev pub targets_of : PackageTree ℕ → Option (Implementation ℕ) → List (Option ℕ)
+targets_of tree x = map (λ sub. referred tree sub.classifier) (subcomponents_of x)
+
+abbrev pub targets_in : PackageTree ℕ → Declaration ℕ → List (Option ℕ)
+targets_in tree d = targets_of tree (implementation_in (Some d))
+
+abbrev pub containment : PackageTree ℕ → Graph
+containment tree = map (targets_in tree) tree.declarations

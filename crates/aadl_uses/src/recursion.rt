@@ -1,0 +1,69 @@
+//! Implementations that contain themselves.
+ghost use Rattle.std.specs.Prelude.{◌≡◌, IfOk};
+ghost use Rattle.aadl_tree.specs.PackageViews.{placed};
+ghost use Rattle.aadl_uses.specs.Uses.{FirstIn, IsRecursive};
+ghost use Rattle.aadl_uses.specs.Recursion.{is_sooner, IsFirstOf, IsSooner};
+
+use crate::uses::Uses;
+use aadl_names::FlatFault;
+use containment::{leads_back, suspects};
+use pals_base::Text;
+use std::alloc::{AllocError, Global};
+
+/// The first subcomponent of a package that leads back to the implementation in which it stands.
+pub fn first_recursive(alloc: Global, uses: &Uses<'_>) -> Result<Option<FlatFault>, AllocError>
+    ensures { IfOk result (FirstIn (IsRecursive (placed uses.now.tree.now))) }
+{
+    let suspects = suspects(alloc, uses.containment())?;
+    first_of(alloc, uses, suspects.as_slice())
+}
+
+// The first of some subcomponents that leads back.
+fn first_of(
+    alloc: Global,
+    uses: &Uses<'_>,
+    suspects: &[(usize, usize)],
+) -> Result<Option<FlatFault>, AllocError>
+    ensures { IfOk result (IsFirstOf (placed uses.now.tree.now) suspects.now) }
+{
+    let mut first = None;
+    for suspect in suspects {
+        first = sooner(alloc, uses, first, suspect.0, suspect.1)?;
+    }
+    Ok(first)
+}
+
+// The first of what was found before and a subcomponent, if that leads back. What stands behind the
+// first one is not looked at further.
+fn sooner(
+    alloc: Global,
+    uses: &Uses<'_>,
+    first: Option<FlatFault>,
+    within: usize,
+    sub: usize,
+) -> Result<Option<FlatFault>, AllocError>
+    ensures { IfOk result (IsSooner (placed uses.now.tree.now) first within sub) }
+{
+    let Some(declared) = uses.subcomponent(within, sub) else {
+        return Ok(first);
+    };
+    if !comes_first(&first, declared.name.at)
+        || !leads_back(alloc, uses.containment(), within, sub)?
+    {
+        return Ok(first);
+    }
+    Ok(Some(FlatFault::Recursive {
+        name: Text::from_str(alloc, declared.name.spelling.as_str())?,
+        at: declared.name.at,
+    }))
+}
+
+// Whether something at a place stands before what was found.
+fn comes_first(first: &Option<FlatFault>, at: usize) -> bool
+    ensures { result ≡ is_sooner at first.now }
+{
+    match first {
+        Some(fault) => at < fault.place(),
+        None => true,
+    }
+}

@@ -1,0 +1,243 @@
+//! What the subcomponents of a package name.
+ghost use Rattle.std.specs.Prelude.{◌≡◌, ◌↔◌, ◌<◌, ℕ, IfOk, IsTrue, Contains, map, length, slice_index, option_map, option_copied};
+ghost use Rattle.std.proofs.Props.{props};
+ghost use Rattle.aadl_tree.specs.PackageViews.{placed};
+ghost use Rattle.aadl_tree.specs.Views.{declaration_view, implementation_view, subcomponent_view};
+ghost use Rattle.aadl_tree.specs.Maps.{kept_place};
+ghost use Rattle.aadl_names.specs.declared.fault.FlatFault.{FlatFault};
+ghost use Rattle.aadl_names.specs.Resolving as names;
+ghost use Rattle.aadl_names.specs.Resolving.{implementation_at, referred};
+ghost use Rattle.aadl_uses.specs.Uses as spec;
+ghost use Rattle.aadl_uses.specs.Uses.{targets_in, sub_at, below, IsInUse, IsRecursive};
+ghost use Rattle.aadl_uses.specs.Threads.{is_thread_in, is_thread_declaration, thread_marks, IsThreadAt, PathBefore, MoreThan, AreCounted};
+ghost use Rattle.containment.specs.Orders.{IsOrder};
+ghost use Rattle.pals_base.specs.declared.limits.TheConstants.{COMPONENTS};
+
+use aadl_names::Names;
+use aadl_tree::{Category, Declaration, Implementation, PackageTree, Subcomponent};
+use containment::{Containment, counts_below, order, reached};
+use indexmap::IndexSet;
+use pals_base::limits::COMPONENTS;
+use std::alloc::{AllocError, Global};
+
+/// A package with the implementations that its subcomponents name.
+#[derive(Drop)]
+pub struct Uses<'t> {
+    /// The package.
+    pub tree: &'t PackageTree,
+    graph: Containment,
+    ghost of_subs: { graph ≡ spec.containment (placed tree.now) } by { Prim.hlevel props },
+}
+
+impl<'t> Uses<'t> {
+    /// The uses of a package with these names.
+    pub fn of(alloc: Global, names: &Names<'t>) -> Result<Uses<'t>, AllocError>
+        ensures { IfOk result (λ uses. uses.tree.now ≡ names.now.tree.now) }
+    {
+        let graph = containment_of(alloc, names, names.tree.declarations.as_slice())?;
+        Ok(Uses {
+            tree: names.tree,
+            graph,
+        })
+    }
+
+    /// What each declaration contains, by numbers.
+    pub fn containment(&self) -> &Containment
+        ensures { result.now ≡ spec.containment (placed self.now.tree.now) }
+    {
+        &self.graph
+    }
+
+    /// How many declarations there are.
+    pub fn len(&self) -> usize
+        ensures { result ≡ length (placed self.now.tree.now).declarations }
+    {
+        self.graph.len()
+    }
+
+    /// The numbers of the implementations that the subcomponents of a declaration name, in order.
+    pub fn targets(&self, number: usize) -> &[Option<usize>]
+        ensures { result.now ≡ spec.targets_of (placed self.now.tree.now) (implementation_at (placed self.now.tree.now) number) }
+    {
+        self.graph.targets(number)
+    }
+
+    /// All declarations, each behind those that its subcomponents name. None contains itself.
+    pub fn order(&self, alloc: Global) -> Result<IndexSet<usize>, AllocError>
+        requires { (fault : FlatFault) → ¬ IsRecursive (placed self.now.tree.now) fault }
+        ensures { IfOk result (λ order. IsOrder (spec.containment (placed self.now.tree.now)) order.keys) }
+    {
+        order(alloc, &self.graph)
+    }
+
+    /// Which declarations are implementations of threads.
+    pub fn thread_marks(&self, alloc: Global) -> Result<Vec<bool>, AllocError>
+        ensures { IfOk result (λ marks. marks.items ≡ thread_marks (placed self.now.tree.now)) }
+    {
+        marks_of(alloc, self.tree.declarations.as_slice())
+    }
+
+    /// How many threads stand below each declaration, itself among them; the limit where there are
+    /// more.
+    pub fn thread_counts(
+        &self,
+        alloc: Global,
+        order: &IndexSet<usize>,
+        limit: usize,
+    ) -> Result<Vec<usize>, AllocError>
+        requires { IsOrder (spec.containment (placed self.now.tree.now)) order.now.keys }
+        ensures { IfOk result (λ counts. (n : ℕ) → n < length (placed self.now.tree.now).declarations
+            → AreCounted (placed self.now.tree.now) limit n (slice_index counts.items n)) }
+    {
+        let marks = self.thread_marks(alloc)?;
+        counts_below(alloc, &self.graph, marks.as_slice(), order, limit)
+    }
+
+    /// Whether there are more components below a root than a design may have.
+    pub fn has_too_many_threads(
+        &self,
+        alloc: Global,
+        order: &IndexSet<usize>,
+        root: usize,
+    ) -> Result<bool, AllocError>
+        requires order { IsOrder (spec.containment (placed self.now.tree.now)) order.now.keys }
+        requires root { root < length (placed self.now.tree.now).declarations }
+        ensures { IfOk result (λ more. IsTrue more ↔ MoreThan COMPONENTS (IsThreadAt (placed self.now.tree.now) root) PathBefore) }
+    {
+        let counts = self.thread_counts(alloc, order, COMPONENTS + 1)?;
+        let count = count_at(counts.as_slice(), root);
+        Ok(count > COMPONENTS)
+    }
+
+    /// Whether a declaration is the implementation of a thread.
+    pub fn is_thread(&self, number: usize) -> bool
+        ensures { result ≡ is_thread_in (implementation_at (placed self.now.tree.now) number) }
+    {
+        match self.tree.declarations.get(number) {
+            Some(declaration) => is_thread(declaration),
+            None => false,
+        }
+    }
+
+    /// The number of the implementation that a subcomponent of a declaration names.
+    pub fn below(&self, number: usize, sub: usize) -> Option<usize>
+        ensures { result ≡ below (placed self.now.tree.now) number sub }
+    {
+        self.graph.below(number, sub)
+    }
+
+    /// The numbers of the implementations that are in use below a root, its own among them.
+    pub fn in_use(&self, alloc: Global, root: usize) -> Result<IndexSet<usize>, AllocError>
+        requires { root < length (placed self.now.tree.now).declarations }
+        ensures { IfOk result (λ used. (n : ℕ) → Contains used.keys n ↔ IsInUse (placed self.now.tree.now) root n) }
+    {
+        reached(alloc, &self.graph, root)
+    }
+
+    /// The implementation of a number.
+    pub fn implementation(&self, number: usize) -> Option<&'t Implementation>
+        ensures { option_map (implementation_view kept_place) (option_copied result) ≡ implementation_at (placed self.now.tree.now) number }
+    {
+        match self.tree.declarations.get(number) {
+            Some(Declaration::Implementation(x)) => Some(x),
+            Some(Declaration::Type(_)) => None,
+            None => None,
+        }
+    }
+
+    /// A subcomponent of a declaration.
+    pub fn subcomponent(&self, number: usize, sub: usize) -> Option<&'t Subcomponent>
+        ensures { option_map (subcomponent_view kept_place) (option_copied result) ≡ sub_at (placed self.now.tree.now) number sub }
+    {
+        match self.implementation(number) {
+            Some(x) => x.subcomponents.get(sub),
+            None => None,
+        }
+    }
+}
+
+// Whether a declaration is the implementation of a thread.
+fn is_thread(declaration: &Declaration) -> bool
+    ensures { result ≡ is_thread_declaration (declaration_view kept_place declaration.now) }
+{
+    match declaration {
+        Declaration::Type(_) => false,
+        Declaration::Implementation(x) => is_thread_category(x.category),
+    }
+}
+
+fn is_thread_category(category: Category) -> bool
+    ensures { result ≡ names.is_thread category }
+{
+    match category {
+        Category::Thread => true,
+        Category::System => false,
+        Category::Process => false,
+    }
+}
+
+// Which declarations are implementations of threads.
+fn marks_of(alloc: Global, declarations: &[Declaration]) -> Result<Vec<bool>, AllocError>
+    ensures { IfOk result (λ marks. marks.items ≡ map is_thread_declaration (map (declaration_view kept_place) declarations.now)) }
+{
+    let mut marks = Vec::new(alloc);
+    for declaration in declarations {
+        marks.push(is_thread(declaration))?;
+    }
+    Ok(marks)
+}
+
+// The count of a declaration.
+fn count_at(counts: &[usize], number: usize) -> usize
+    ensures { result ≡ slice_index counts.now number }
+{
+    match counts.get(number) {
+        Some(count) => *count,
+        None => 0,
+    }
+}
+
+// What declarations contain.
+fn containment_of(
+    alloc: Global,
+    names: &Names<'_>,
+    declarations: &[Declaration],
+) -> Result<Containment, AllocError>
+    ensures { IfOk result (λ graph. graph ≡ map (targets_in (placed names.now.tree.now)) (map (declaration_view kept_place) declarations.now)) }
+{
+    let mut graph = Containment::new(alloc);
+    for declaration in declarations {
+        graph.push(targets_of(alloc, names, declaration)?)?;
+    }
+    Ok(graph)
+}
+
+// What the subcomponents of a declaration name.
+fn targets_of(
+    alloc: Global,
+    names: &Names<'_>,
+    declaration: &Declaration,
+) -> Result<Vec<Option<usize>>, AllocError>
+    ensures { IfOk result (λ targets. targets.items ≡ targets_in (placed names.now.tree.now) (declaration_view kept_place declaration.now)) }
+{
+    match declaration {
+        Declaration::Type(_) => Ok(Vec::new(alloc)),
+        Declaration::Implementation(x) => targets_of_subs(alloc, names, x.subcomponents.as_slice()),
+    }
+}
+
+// What subcomponents name.
+fn targets_of_subs(
+    alloc: Global,
+    names: &Names<'_>,
+    subs: &[Subcomponent],
+) -> Result<Vec<Option<usize>>, AllocError>
+    ensures { IfOk result (λ targets. targets.items ≡ map (λ sub. referred (placed names.now.tree.now) sub.classifier)
+        (map (subcomponent_view kept_place) subs.now)) }
+{
+    let mut targets = Vec::new(alloc);
+    for sub in subs {
+        targets.push(names.referred(alloc, &sub.classifier)?)?;
+    }
+    Ok(targets)
+}
