@@ -1,0 +1,5 @@
+pub mod OnChains
+pub mod FromChains
+pub mod Findings
+pub mod EndFaults
+pub mod Declared

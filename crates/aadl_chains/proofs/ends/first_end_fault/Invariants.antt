@@ -1,0 +1,8 @@
+use Rattle.std.proofs.Common.{None}
+use Rattle.aadl_tree.specs.PackageViews.{placed}
+use Rattle.aadl_chains.specs.Findings.{FindsAll}
+use Rattle.aadl_chains.proofs.EndFaults.{FoundAmong}
+use Rattle.aadl_chains.proofs.ends.first_end_fault.Given as goal
+
+abbrev pub invariant-loop-at : goal.invariant-loop-at
+invariant-loop-at l = FindsAll (FoundAmong (placed l.wires.uses.tree.now) l.ways.root l.used.keys l.at) None l.finder

@@ -1,0 +1,90 @@
+-- Ports and connections of the flattened design, and the chains that connections make.
+use Rattle.std.specs.Prelude.{◌≡◌, ◌⊎◌, ◌≢◌, ℕ, Bool, true, false, List, [], ◌∷◌, Option, Some, option_map, slice_get, Contains}
+use Rattle.aadl_tree.specs.Declarations.{Feature, Connection, Implementation, PackageTree}
+use Rattle.aadl_names.specs.declared.fault.FlatFault.{FlatFault}
+use Rattle.aadl_names.specs.declared.fault.FlatFault.TheVariants.{DeadEnd, TwoSources}
+use Rattle.aadl_names.specs.declared.site.Site.{Site}
+use Rattle.aadl_names.specs.declared.site.Site.TheVariants.{Own, Inner}
+use Rattle.aadl_names.specs.Resolving.{implementation_at, connections_of, ports_at, site}
+use Rattle.aadl_names.specs.PackageFaults.{goes_in}
+use Rattle.aadl_uses.specs.Uses.{standing, component_at, IsInUse}
+use Rattle.aadl_uses.specs.Threads.{IsThreadAt}
+use Rattle.aadl_wires.specs.Firsts.{IsSecond}
+use Rattle.aadl_wires.specs.Wiring.{wires_at}
+
+-- a port of the component at a path
+pub record Port : Type 0 where
+  pub path : List ℕ
+  pub port : ℕ
+
+-- a connection of the component at a path
+pub record Place : Type 0 where
+  pub path : List ℕ
+  pub connection : ℕ
+
+-- the port of a site, seen from the component at the path
+abbrev pub port_at : List ℕ → Site → Port
+port_at path (Own p) = record { path = path; port = p }
+port_at path (Inner s p) = record { path = s ∷ path; port = p }
+
+-- The connection of a place goes from one port to another.
+pub record Goes (tree : PackageTree ℕ) (root : ℕ) (place : Place) (from to : Port) : Type 0 where
+  pub number : ℕ
+  pub component : Implementation ℕ
+  pub link : Connection ℕ
+  pub source : Site
+  pub target : Site
+  pub stands : standing tree root place.path ≡ Some number
+  pub is_component : implementation_at tree number ≡ Some component
+  pub is_link : slice_get component.connections place.connection ≡ Some link
+  pub is_source : site tree component link.source ≡ Some source
+  pub is_target : site tree component link.target ≡ Some target
+  pub leaves : from ≡ port_at place.path source
+  pub enters : to ≡ port_at place.path target
+
+-- Connections one behind the other lead from one port to another; the last of them stands first in the list.
+abbrev pub Leads : PackageTree ℕ → ℕ → List Place → Port → Port → Type 0
+Leads tree root [] from to = from ≡ to
+Leads tree root (c ∷ cs) from to = (mid : Port) × Leads tree root cs from mid × Goes tree root c mid to
+
+-- the port of a component, if it has one of this number
+abbrev pub port_of : PackageTree ℕ → ℕ → Port → Option (Feature ℕ)
+port_of tree root p = slice_get (ports_at tree (component_at tree root p.path)) p.port
+
+abbrev pub is_in : PackageTree ℕ → ℕ → Port → Bool
+is_in tree root p = goes_in (option_map (λ f. f.direction) (port_of tree root p))
+
+-- where chains begin, and where they end
+abbrev pub IsStart : PackageTree ℕ → ℕ → Port → Type 0
+IsStart tree root p = (IsThreadAt tree root p.path × (is_in tree root p ≡ false)) ⊎ ((p.path ≡ []) × (is_in tree root p ≡ true))
+
+abbrev pub IsEnd : PackageTree ℕ → ℕ → Port → Type 0
+IsEnd tree root p = (IsThreadAt tree root p.path × (is_in tree root p ≡ true)) ⊎ ((p.path ≡ []) × (is_in tree root p ≡ false))
+
+-- A chain: from a thread's out port or a root in port to a thread's in port or a root out port.
+pub record IsChain (tree : PackageTree ℕ) (root : ℕ) (chain : List Place) (from to : Port) : Type 0 where
+  pub leads : Leads tree root chain from to
+  pub start : IsStart tree root from
+  pub ends : IsEnd tree root to
+
+-- a connection of an implementation in use that is on no chain, wherever it stands in the design
+pub record IsDeadEnd (tree : PackageTree ℕ) (root : ℕ) (x : Connection ℕ) : Type 0 where
+  pub number : ℕ
+  pub connection : ℕ
+  pub used : IsInUse tree root number
+  pub is_connection : slice_get (connections_of (implementation_at tree number)) connection ≡ Some x
+  pub on_none : (chain : List Place) (from to : Port) (place : Place) → IsChain tree root chain from to → Contains chain place
+      → standing tree root place.path ≡ Some number → place.connection ≢ connection
+
+-- a connection of an implementation in use into a port into which one goes that stands before it
+pub record IsSecondEnd (tree : PackageTree ℕ) (root : ℕ) (x : Connection ℕ) : Type 0 where
+  pub number : ℕ
+  pub connection : ℕ
+  pub used : IsInUse tree root number
+  pub is_connection : slice_get (connections_of (implementation_at tree number)) connection ≡ Some x
+  pub is_second : IsSecond (wires_at tree number) connection
+
+abbrev pub IsEndFault : PackageTree ℕ → ℕ → FlatFault → Type 0
+IsEndFault tree root fault =
+    ((x : Connection ℕ) × IsDeadEnd tree root x × (fault ≡ DeadEnd x.name.spelling x.name.at))
+    ⊎ ((x : Connection ℕ) × IsSecondEnd tree root x × (fault ≡ TwoSources x.name.spelling x.name.at))

@@ -1,0 +1,4 @@
+pub mod Chains
+pub mod Sound
+pub mod OnChains
+pub mod Findings

@@ -1,0 +1,126 @@
+//! Connections on no chain, and second ones into a port.
+ghost use Rattle.std.specs.Prelude.{◌≡◌, ◌↔◌, ℕ, Some, slice_get, IfOk, OnOk, Contains};
+ghost use Rattle.aadl_tree.specs.PackageViews.{placed};
+ghost use Rattle.aadl_tree.specs.Views.{connection_view};
+ghost use Rattle.aadl_tree.specs.Maps.{kept_place};
+ghost use Rattle.aadl_names.specs.Found.{found};
+ghost use Rattle.aadl_uses.specs.Uses.{containment, IsInUse, FirstIn};
+ghost use Rattle.aadl_wires.specs.Wiring.{wires_at};
+ghost use Rattle.containment.specs.Orders.{IsOrder};
+ghost use Rattle.aadl_chains.specs.Chains.{IsEndFault};
+ghost use Rattle.aadl_chains.specs.Sound.{AreDeclared};
+ghost use Rattle.aadl_chains.specs.OnChains.{AreWays};
+ghost use Rattle.aadl_chains.specs.Findings.{FindsAll, IsFoundIn, IsFoundAt, dead_end, second};
+
+use crate::ways::Ways;
+use aadl_names::{Finder, FlatFault};
+use aadl_tree::Connection;
+use aadl_wires::{Wire, Wires};
+use indexmap::IndexSet;
+use std::alloc::{AllocError, Global};
+
+/// The first connection of an implementation in use that is on no chain, or goes into a port into which another one
+/// goes. The package has no fault of names, and no implementation contains itself.
+pub fn first_end_fault(
+    alloc: Global,
+    wires: &Wires<'_>,
+    order: &IndexSet<usize>,
+    used: &IndexSet<usize>,
+    root: usize,
+) -> Result<Option<FlatFault>, AllocError>
+    requires order { IsOrder (containment (placed wires.now.uses.tree.now)) order.now.keys }
+    requires used { (n : ℕ) → Contains used.now.keys n ↔ IsInUse (placed wires.now.uses.tree.now) root n }
+    requires declared { AreDeclared (placed wires.now.uses.tree.now) }
+    ensures { IfOk result (FirstIn (IsEndFault (placed wires.now.uses.tree.now) root)) }
+{
+    let ways = Ways::of(alloc, wires, order, used, root)?;
+    let mut finder = Finder::new(alloc);
+    for at in 0..used.len() {
+        if let Some(number) = used.get_index(at) {
+            let number = *number;
+            check_all(&mut finder, wires, &ways, number)?;
+        }
+    }
+    Ok(finder.finish())
+}
+
+// Finds what is wrong with the ends of the connections of an implementation.
+fn check_all(
+    finder: &mut Finder,
+    wires: &Wires<'_>,
+    ways: &Ways,
+    number: usize,
+) -> Result<(), AllocError>
+    requires { AreWays (placed wires.now.uses.tree.now) ways.now }
+    ensures { OnOk result (FindsAll (IsFoundIn (placed wires.now.uses.tree.now) ways.now.root number) finder.old finder.new) }
+{
+    for (at, wire) in wires.wires(number).iter().enumerate() {
+        check(finder, wires, ways, number, at, *wire)?;
+    }
+    Ok(())
+}
+
+// Finds what is wrong with the ends of a connection.
+fn check(
+    finder: &mut Finder,
+    wires: &Wires<'_>,
+    ways: &Ways,
+    number: usize,
+    at: usize,
+    wire: Wire,
+) -> Result<(), AllocError>
+    requires ways { AreWays (placed wires.now.uses.tree.now) ways.now }
+    requires wire { slice_get (wires_at (placed wires.now.uses.tree.now) number) at ≡ Some wire }
+    ensures { OnOk result (FindsAll (IsFoundAt (placed wires.now.uses.tree.now) ways.now.root number at) finder.old finder.new) }
+{
+    match wires.connection(number, at) {
+        Some(connection) => {
+            let is_on_way = ways.has(wires, number, wire);
+            let is_second = wires.is_second(number, at);
+            report(finder, connection, is_on_way, is_second)
+        }
+        None => Ok(()),
+    }
+}
+
+// Finds that a connection is on no chain, and that it is a second one.
+fn report(
+    finder: &mut Finder,
+    connection: &Connection,
+    is_on_way: bool,
+    is_second: bool,
+) -> Result<(), AllocError>
+    ensures { OnOk result (finder.new ≡ found (found finder.old (dead_end is_on_way (connection_view kept_place connection.now)))
+        (second is_second (connection_view kept_place connection.now))) }
+{
+    report_dead_end(finder, connection, is_on_way)?;
+    report_second(finder, connection, is_second)
+}
+
+fn report_dead_end(
+    finder: &mut Finder,
+    connection: &Connection,
+    is_on_way: bool,
+) -> Result<(), AllocError>
+    ensures { OnOk result (finder.new ≡ found finder.old (dead_end is_on_way (connection_view kept_place connection.now))) }
+{
+    if is_on_way {
+        Ok(())
+    } else {
+        finder.dead_end(connection.name.spelling.as_str(), connection.name.at)
+    }
+}
+
+fn report_second(
+    finder: &mut Finder,
+    connection: &Connection,
+    is_second: bool,
+) -> Result<(), AllocError>
+    ensures { OnOk result (finder.new ≡ found finder.old (second is_second (connection_view kept_place connection.now))) }
+{
+    if is_second {
+        finder.two_sources(connection.name.spelling.as_str(), connection.name.at)
+    } else {
+        Ok(())
+    }
+}

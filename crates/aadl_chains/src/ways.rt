@@ -1,0 +1,98 @@
+//! Which connections are on chains.
+ghost use Rattle.std.specs.Prelude.{◌≡◌, ◌↔◌, ◌&&◌, ℕ, Some, IfOk, IsTrue, Contains};
+ghost use Rattle.aadl_tree.specs.PackageViews.{placed};
+ghost use Rattle.aadl_uses.specs.Uses.{containment, IsInUse};
+ghost use Rattle.containment.specs.Orders.{IsOrder};
+ghost use Rattle.aadl_chains.specs.OnChains.{IsOnWay, AreWays};
+
+use aadl_names::Site;
+use aadl_tree::Direction;
+use aadl_wires::{Wire, Wires};
+use indexmap::IndexSet;
+use port_flow::{Inside, Outside, Side};
+use std::alloc::{AllocError, Global};
+
+/// The ports that connections join to threads below, and to threads or the root outside.
+#[derive(Drop)]
+pub struct Ways {
+    /// The number of the root.
+    pub root: usize,
+    /// Out ports to which threads below give.
+    pub gives: Inside,
+    /// In ports from which threads below take.
+    pub takes: Inside,
+    /// In ports to which something outside gives.
+    pub fed: Outside,
+    /// Out ports from which something outside takes.
+    pub led: Outside,
+}
+
+impl Ways {
+    /// The ports of a package below a root. The order has each declaration behind those that it contains, and those
+    /// in use are below the root.
+    pub fn of(
+        alloc: Global,
+        wires: &Wires<'_>,
+        order: &IndexSet<usize>,
+        used: &IndexSet<usize>,
+        root: usize,
+    ) -> Result<Ways, AllocError>
+        requires order { IsOrder (containment (placed wires.now.uses.tree.now)) order.now.keys }
+        requires used { (n : ℕ) → Contains used.now.keys n ↔ IsInUse (placed wires.now.uses.tree.now) root n }
+        ensures { IfOk result (λ ways. (ways.root ≡ root) × AreWays (placed wires.now.uses.tree.now) ways) }
+    {
+        let gives = Inside::of(alloc, wires, order, Direction::Out)?;
+        let takes = Inside::of(alloc, wires, order, Direction::In)?;
+        let inward = Side {
+            root,
+            direction: Direction::In,
+        };
+        let fed = Outside::of(alloc, wires, &gives, order, used, inward)?;
+        let outward = Side {
+            root,
+            direction: Direction::Out,
+        };
+        let led = Outside::of(alloc, wires, &takes, order, used, outward)?;
+        Ok(Ways {
+            root,
+            gives,
+            takes,
+            fed,
+            led,
+        })
+    }
+
+    /// Whether a connection of an implementation in use is on a chain, at some place where the implementation
+    /// stands.
+    pub fn has(&self, wires: &Wires<'_>, number: usize, wire: Wire) -> bool
+        requires { AreWays (placed wires.now.uses.tree.now) self.now }
+        ensures { IsTrue result ↔ IsOnWay (placed wires.now.uses.tree.now) self.now.root number wire }
+    {
+        match wire.source {
+            Some(source) => self.goes_on(wires, number, wire, source),
+            None => false,
+        }
+    }
+
+    // Whether a connection from this port is on a chain.
+    fn goes_on(&self, wires: &Wires<'_>, number: usize, wire: Wire, source: Site) -> bool
+        requires ways { AreWays (placed wires.now.uses.tree.now) self.now }
+        requires source { wire.source ≡ Some source }
+        ensures { IsTrue result ↔ IsOnWay (placed wires.now.uses.tree.now) self.now.root number wire }
+    {
+        match wire.target {
+            Some(target) => {
+                let comes = self.fed.leads(wires, &self.gives, number, source);
+                let goes = self.led.leads(wires, &self.takes, number, target);
+                both(comes, goes)
+            }
+            None => false,
+        }
+    }
+}
+
+fn both(comes: bool, goes: bool) -> bool
+    ensures { result ≡ (comes && goes) }
+{
+    comes && goes
+}
