@@ -1,5 +1,5 @@
 -- The instance that a flattened design is shown as: threads with the text of their paths, and chains between numbers.
-use Rattle.std.specs.Prelude.{◌≡◌, ℕ, Bool, false, not, List, [], ◌∷◌, ◌++◌, map, reverse, take, count_by, Option, Some, None}
+use Rattle.std.specs.Prelude.{◌≡◌, ℕ, Bool, false, not, List, [], ◌∷◌, map, take, count_by, Option, Some, None}
 use Rattle.std.specs.Option.{option_map_or}
 use Rattle.pals_base.specs.declared.values.NodeNo.{NodeNo}
 use Rattle.aadl_tree.specs.declared.declarations.Direction.{Direction}
@@ -7,31 +7,18 @@ use Rattle.aadl_tree.specs.declared.declarations.Direction.TheVariants as direct
 use Rattle.aadl_tree.specs.Declarations.{Feature, PackageTree}
 use Rattle.aadl_names.specs.Resolving.{first_number, ports_at}
 use Rattle.aadl_names.specs.PackageFaults.{goes_in}
-use Rattle.aadl_instance.specs.declared.parts.ThreadAt.{ThreadAt}
-use Rattle.aadl_instance.specs.declared.parts.SubAt.{SubAt}
+use Rattle.instance_threads.specs.declared.places.ThreadAt.{ThreadAt}
+use Rattle.instance_threads.specs.Places.{thread_at}
 use Rattle.aadl_instance.specs.declared.parts.Chain.{Chain}
 use Rattle.aadl_instance.specs.declared.parts.ChainEnd.{ChainEnd}
 use Rattle.aadl_instance.specs.declared.parts.ChainEnd.TheVariants.{Thread, Root}
-use Rattle.aadl_instance.specs.Uses.{standing, component_at}
-use Rattle.aadl_instance.specs.Chains.{Port, port_of}
-use Rattle.aadl_instance.specs.Flat.{same_path, spelled_path, Ends, Parts, IsFlat}
+use Rattle.aadl_uses.specs.Uses.{component_at}
+use Rattle.aadl_chains.specs.Chains.{Port, port_of}
+use Rattle.aadl_instance.specs.Flat.{same_path, Ends, Parts, IsFlat}
 
 abbrev pub same_direction : Direction → Direction → Bool
 same_direction directions.In other = goes_in (Some other)
 same_direction directions.Out other = not (goes_in (Some other))
-
--- ---- threads
-abbrev pub sub_in : Option ℕ → ℕ → List SubAt
-sub_in None s = []
-sub_in (Some n) s = record { declaration = n; sub = s } ∷ []
-
--- the subcomponents along a path, the innermost first
-abbrev pub subs_along : PackageTree ℕ → ℕ → List ℕ → List SubAt
-subs_along tree root [] = []
-subs_along tree root (s ∷ path) = sub_in (standing tree root path) s ++ subs_along tree root path
-
-abbrev pub thread_at : PackageTree ℕ → ℕ → List ℕ → ThreadAt
-thread_at tree root path = record { path = spelled_path tree root path; subs = reverse (subs_along tree root path) }
 
 -- ---- chains
 -- the number of the thread at a path

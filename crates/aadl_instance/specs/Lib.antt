@@ -1,4 +1,2 @@
-pub mod Uses
-pub mod Chains
 pub mod Flat
 pub mod Instances

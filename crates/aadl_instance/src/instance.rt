@@ -2,8 +2,9 @@
 ghost use Rattle.aadl_tree.specs.PackageViews.{placed};
 ghost use Rattle.aadl_instance.specs.Instances.{IsInstance};
 
-use crate::parts::{Chain, ThreadAt};
+use crate::parts::Chain;
 use aadl_tree::PackageTree;
+use instance_threads::ThreadAt;
 use pals_base::Items;
 
 /// The instance of a package below one root. Its type keeps that the package has no fault, and that
@@ -13,7 +14,7 @@ pub struct Instance<'t> {
     /// The package.
     pub tree: &'t PackageTree,
     /// The number of the root's implementation among the package's declarations.
-    pub root: u32,
+    pub root: usize,
     /// In depth-first order of declaration.
     pub threads: Items<ThreadAt>,
     /// The chains between threads, in order of target thread, then of the in port's declaration.

@@ -7,4 +7,5 @@ pub mod parts;
 
 pub use aadl_names::FlatFault;
 pub use instance::Instance;
-pub use parts::{Chain, ChainEnd, ConnAt, SubAt, ThreadAt};
+pub use instance_threads::{SubAt, ThreadAt};
+pub use parts::{Chain, ChainEnd, ConnAt};

@@ -1,22 +1,6 @@
-//! The parts of an instance. Numbers count in the text's order, from 0.
+//! The chains of an instance. Numbers count in the text's order, from 0.
 
 use pals_base::{Items, NodeNo, Text};
-
-/// A thread of the instance.
-#[derive(Drop)]
-pub struct ThreadAt {
-    /// The names of the subcomponents on the way to it, with a `.` between each two.
-    pub path: Text,
-    /// The same subcomponents, the outermost first; the last one is the thread's own.
-    pub subs: Items<SubAt>,
-}
-
-/// A subcomponent: the number of the declaration in which it stands, and its own number there.
-#[derive(Clone, Copy, Debug, PartialEq, Eq)]
-pub struct SubAt {
-    pub declaration: u32,
-    pub sub: u32,
-}
 
 /// Connections, one behind the other, from where a message begins to where it ends.
 #[derive(Drop)]
@@ -40,6 +24,6 @@ pub enum ChainEnd {
 /// A connection: the number of the declaration in which it stands, and its own number there.
 #[derive(Clone, Copy, Debug, PartialEq, Eq)]
 pub struct ConnAt {
-    pub declaration: u32,
-    pub connection: u32,
+    pub declaration: usize,
+    pub connection: usize,
 }
