@@ -1,9 +1,6 @@
 -- One turn of a loop adds what is found of the first of the things that are left.
-use Rattle.std.proofs.Common.{◌≡◌, ◌∙◌, ℕ, ◌+◌, ◌<◌, List, ◌∷◌, ◌++◌, length, drop, get_or, sym, ap, append_assoc, drop-cons, arith}
-use Rattle.std.proofs.lemmas.Grind.{common_steps}
-
-first_left : {A : Type 0} (xs : List A) (i : ℕ) (x : A) → i < length xs → x ≡ get_or xs i x → drop i xs ≡ x ∷ drop (i + 1) xs
-first_left xs i x within is = drop-cons xs i x within ∙ grind (arith, common_steps)
+use Rattle.std.proofs.Common.{◌≡◌, ◌∙◌, ℕ, ◌+◌, ◌<◌, List, ◌∷◌, ◌++◌, length, drop, get_or, sym, ap, append_assoc}
+use Rattle.aadl_names.proofs.Finds.{first_left}
 
 pub next_added : {A V : Type 0} (parts : List A → List V) (here : A → List V) → ((x : A) (xs : List A) → parts (x ∷ xs) ≡ here x ++ parts xs)
     → (xs : List A) (i : ℕ) (x : A) (whole before after : List V) → i < length xs → x ≡ get_or xs i x

@@ -2,3 +2,4 @@ pub mod Looking
 pub mod Hours
 pub mod Added
 pub mod Singles
+pub mod Numbered

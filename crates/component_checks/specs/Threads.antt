@@ -7,8 +7,8 @@ use Rattle.aadl_tree.specs.Declarations.{Subcomponent, PackageTree}
 use Rattle.aadl_names.specs.declared.holder.Property.TheVariants.{Period, Dispatch}
 use Rattle.aadl_names.specs.Spelling.{same_name, spelled_reference}
 use Rattle.aadl_names.specs.Properties.{association_value, reference_of}
-use Rattle.aadl_instance.specs.declared.parts.SubAt.{SubAt}
-use Rattle.aadl_instance.specs.declared.parts.ThreadAt.{ThreadAt}
+use Rattle.instance_threads.specs.declared.places.SubAt.{SubAt}
+use Rattle.instance_threads.specs.declared.places.ThreadAt.{ThreadAt}
 use Rattle.annex_resolve.specs.declared.violation.Violation.{Violation}
 use Rattle.annex_resolve.specs.Scopes.{found_if}
 use Rattle.rate_checks.specs.Numbers.{within_hour, rate_of}

@@ -9,12 +9,16 @@ use Rattle.aadl_tree.specs.Values.{Association}
 use Rattle.aadl_tree.specs.Declarations.{Feature}
 use Rattle.aadl_tree.specs.Annexes.{VariableDeclaration, AnnexTree}
 use Rattle.aadl_names.specs.declared.holder.Property.TheVariants.{Initial}
+use Rattle.aadl_names.specs.PackageFaults.{goes_in}
 use Rattle.aadl_names.specs.Properties.{association_at, association_value, association_named, name_of, only_text}
 use Rattle.annex_resolve.specs.declared.violation.Violation.{Violation}
 use Rattle.annex_resolve.specs.declared.violation.TheConstants.{BAD_TYPE}
 use Rattle.annex_resolve.specs.Scopes.{found_if, has_some}
 use Rattle.annex_resolve.specs.Types.{kind_named, kind_in, misfit}
 use Rattle.annex_resolve.specs.Behaviours.{listed_in, identifiers}
+
+abbrev pub is_in : Feature ℕ → Bool
+is_in f = goes_in (Some f.direction)
 
 -- ---- a port's type is Integer or Boolean
 abbrev pub port_findings : Feature ℕ → List Violation

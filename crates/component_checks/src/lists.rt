@@ -9,12 +9,12 @@ ghost use Rattle.aadl_names.specs.Properties.{name_of, counts, is_named, associa
 ghost use Rattle.aadl_names.specs.Resolving as resolving;
 ghost use Rattle.component_checks.specs.Lists as spec;
 
-use aadl_instance::SubAt;
 use aadl_names::spelling::spelled_name;
 use aadl_names::{Names, Property};
 use aadl_tree::{
     Association, Declaration, Implementation, PackageTree, Subcomponent, TypeDeclaration,
 };
+use instance_threads::SubAt;
 use pals_base::NoMemory;
 use std::alloc::Global;
 
@@ -68,8 +68,8 @@ pub fn target_of<'t>(
 pub fn sub_of<'t>(tree: &'t PackageTree, sub: SubAt) -> Option<&'t Subcomponent>
     ensures { option_map (subcomponent_view kept_place) (option_copied result) ≡ spec.sub_of (placed tree.now) sub }
 {
-    match implementation_at(tree, sub.declaration as usize) {
-        Some(x) => x.subcomponents.get(sub.sub as usize),
+    match implementation_at(tree, sub.declaration) {
+        Some(x) => x.subcomponents.get(sub.sub),
         None => None,
     }
 }

@@ -10,13 +10,13 @@ ghost use Rattle.rate_checks.specs.Numbers.{within_hour, range_within};
 ghost use Rattle.component_checks.specs.Times as spec;
 
 use crate::rules::NUMBER_TOO_BIG;
-use aadl_names::shapes::unit_of;
 use aadl_names::spelling::spelled_name;
 use aadl_names::{Holder, Property};
 use aadl_tree::{Association, Figure, Identifier, Quantity, Sign, Value};
 use annex_resolve::Violation;
 use pals_base::limits::HOUR;
 use pals_base::{Items, Nanos, NoMemory, Text};
+use property_shapes::shapes::unit_of;
 use std::alloc::Global;
 
 // A whole number.

@@ -14,7 +14,7 @@ use crate::lists::property_in;
 use crate::texts::unquoted;
 use aadl_names::Property;
 use aadl_tree::{
-    AnnexTree, Association, Feature, Identifiers, Reference, Value, VariableDeclaration,
+    AnnexTree, Association, Direction, Feature, Identifiers, Reference, Value, VariableDeclaration,
 };
 use annex_resolve::types::kind_named;
 use annex_resolve::violation::BAD_TYPE;
@@ -29,6 +29,16 @@ pub fn kind_in(reference: &Option<Reference>) -> Option<Kind>
     match reference {
         Some(reference) => kind_named(reference),
         None => None,
+    }
+}
+
+/// Whether a port is an in port.
+pub fn is_in(port: &Feature) -> bool
+    ensures { result ≡ spec.is_in (feature_view kept_place port.now) }
+{
+    match port.direction {
+        Direction::In => true,
+        Direction::Out => false,
     }
 }
 

@@ -1,0 +1,47 @@
+-- What a loop over numbered things has made of them, with one more.
+use Rattle.std.proofs.Common.{◌≡◌, ℕ, ◌+◌, ◌<◌, suc, List, [], ◌∷◌, ◌++◌, length, map, take, get_or, ap, sym, ◌∙◌, append_assoc, arith}
+use Rattle.std.specs.Prelude.{flat_map}
+use Rattle.std.specs.List.{enumerate_from}
+use Rattle.std.proofs.lemmas.List.{append-nil, length-map, map-append}
+use Rattle.std.proofs.lemmas.Grind.{common_steps, flat_map-append}
+use Rattle.annex_resolve.proofs.Listing.{map_next}
+use Rattle.annex_resolve.proofs.Reading.{take_next}
+
+enumerate-push : {A : Type 0} (from : ℕ) (xs : List A) (x : A) → enumerate_from from (xs ++ x ∷ []) ≡ enumerate_from from xs ++ (from + length xs, x) ∷ []
+enumerate-push from [] x = let e : from ≡ from + 0 = omega arith in ap (λ n. (n, x) ∷ []) e
+enumerate-push from (y ∷ ys) x =
+    let e : (from + 1) + length ys ≡ from + suc (length ys) = omega arith in
+    ap (λ l. (from, y) ∷ l) (enumerate-push (from + 1) ys x ∙ ap (λ n. enumerate_from (from + 1) ys ++ (n, x) ∷ []) e)
+
+taken : {A : Type 0} (xs : List A) (i : ℕ) → i < length xs → length (take i xs) ≡ i
+taken xs i within = grind (arith, common_steps)
+
+-- the number of one more thing is how many stand before it
+numbered_more : {A : Type 0} (xs more : List A) (i : ℕ) (x : A) → more ≡ xs ++ x ∷ [] → length xs ≡ i → enumerate_from 0 more ≡ enumerate_from 0 xs ++ (i, x) ∷ []
+numbered_more xs more i x pushed long =
+    let e : 0 + length xs ≡ i = omega (arith, long) in
+    ap (enumerate_from 0) pushed ∙ enumerate-push 0 xs x ∙ ap (λ n. enumerate_from 0 xs ++ (n, x) ∷ []) e
+
+pub numbers_next : {A B : Type 0} (v : A → B) (xs : List A) (i : ℕ) (x : A) → i < length xs → x ≡ get_or xs i x
+    → enumerate_from 0 (map v (take (i + 1) xs)) ≡ enumerate_from 0 (map v (take i xs)) ++ (i, v x) ∷ []
+numbers_next v xs i x within is =
+    let h = taken xs i within in
+    numbered_more (map v (take i xs)) (map v (take (i + 1) xs)) i (v x) (map_next v xs i x within is) (rw length-map h)
+
+-- what is found of one more
+pub one_more : {A B C : Type 0} (f : ℕ × B → List C) (v : A → B) (xs : List A) (i : ℕ) (x : A) (b m a : List C) → i < length xs → x ≡ get_or xs i x
+    → m ≡ b ++ flat_map f (enumerate_from 0 (map v (take i xs))) → a ≡ m ++ f (i, v x) → a ≡ b ++ flat_map f (enumerate_from 0 (map v (take (i + 1) xs)))
+one_more f v xs i x b m a within is before added =
+    let before_all = flat_map f (enumerate_from 0 (map v (take i xs))) in
+    let whole : flat_map f (enumerate_from 0 (map v (take (i + 1) xs))) ≡ before_all ++ f (i, v x) =
+    ap (flat_map f) (numbers_next v xs i x within is) ∙ flat_map-append f (enumerate_from 0 (map v (take i xs))) ((i, v x) ∷ []) ∙ ap (λ l. before_all ++ l) (append-nil (f (i, v x))) in
+    added ∙ ap (λ l. l ++ f (i, v x)) before ∙ append_assoc b before_all (f (i, v x)) ∙ ap (λ l. b ++ l) (sym whole)
+
+-- what is made of one more
+pub entries_next : {A C : Type 0} (f : ℕ × A → C) (xs : List A) (i : ℕ) (x : A) (b m a : List C) → i < length xs → x ≡ get_or xs i x
+    → m ≡ b ++ map f (enumerate_from 0 (take i xs)) → a ≡ m ++ f (i, x) ∷ [] → a ≡ b ++ map f (enumerate_from 0 (take (i + 1) xs))
+entries_next f xs i x b m a within is before added =
+    let before_all = map f (enumerate_from 0 (take i xs)) in
+    let whole : map f (enumerate_from 0 (take (i + 1) xs)) ≡ before_all ++ f (i, x) ∷ [] =
+    ap (map f) (numbered_more (take i xs) (take (i + 1) xs) i x (take_next xs i x within is) (taken xs i within)) ∙ map-append f (enumerate_from 0 (take i xs)) ((i, x) ∷ []) in
+    added ∙ ap (λ l. l ++ f (i, x) ∷ []) before ∙ append_assoc b before_all (f (i, x) ∷ []) ∙ ap (λ l. b ++ l) (sym whole)

@@ -1,0 +1,4 @@
+pub mod Ports
+pub mod Carriers
+pub mod Chains
+pub mod Connections
