@@ -1,11 +1,14 @@
 //! The instance of a package: what stands where below its root, and which ports messages go between.
 #![tactic(auto)]
 
+mod build;
+pub mod flatten;
 pub mod instance;
 pub mod laws;
 pub mod parts;
 
 pub use aadl_names::FlatFault;
+pub use flatten::flatten;
 pub use instance::Instance;
 pub use instance_threads::{SubAt, ThreadAt};
 pub use parts::{Chain, ChainEnd, ConnAt};

@@ -6,16 +6,14 @@
 mod component;
 mod parts;
 mod places;
-mod positions;
 mod report;
 mod row;
 mod tap;
 #[cfg(test)]
 mod tests;
-mod text_faults;
 mod value;
 
 pub use parts::RoundParts;
 pub use places::TapPlaces;
 pub use report::{add_part, add_round, add_row, add_tap};
-pub use text_faults::{add_no_divider, add_text_fault};
+pub use value::add_tuple;

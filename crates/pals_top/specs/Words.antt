@@ -1,7 +1,8 @@
 -- What the words of a command line are.
-use Rattle.std.specs.Prelude.{ℕ, nat_eq, Bool, false, not, if◌then◌else◌, ◌&&◌, codes, bytes_eq, List, [], ◌∷◌, Option, Some, None, ◌≡◌, IsSome}
+use Rattle.std.specs.List.{list_all}
+use Rattle.std.specs.Prelude.{ℕ, nat_eq, Bool, true, false, not, if◌then◌else◌, ◌||◌, codes, bytes_eq, List, [], ◌∷◌, filter, Option, Some, None, ◌≡◌, IsSome}
 use Rattle.pals_runs.specs.declared.commands.Command.{Command}
-use Rattle.pals_runs.specs.declared.commands.Command.TheVariants.{Print, Sync}
+use Rattle.pals_runs.specs.declared.commands.Command.TheVariants.{Print, Check, Sync, World}
 use Rattle.pals_top.specs.declared.words.WordsEnd.{WordsEnd}
 use Rattle.pals_top.specs.declared.words.WordsEnd.TheVariants.{Usage, Memory}
 
@@ -10,16 +11,41 @@ abbrev pub is_plain : List ℕ → Bool
 is_plain [] = not false
 is_plain (c ∷ cs) = not (nat_eq c 45)
 
--- The command that the words are. A word that begins with `-` is part of no form that stands.
+-- ---- flags may stand anywhere
+abbrev pub is_flag : List ℕ → Bool
+is_flag word = bytes_eq word (codes "--loose") || bytes_eq word (codes "--trace")
+
+abbrev pub flags : List (List ℕ) → List (List ℕ)
+flags words = filter is_flag words
+
+abbrev pub plain_words : List (List ℕ) → List (List ℕ)
+plain_words words = filter (λ word. not (is_flag word)) words
+
+-- ---- a command by its plain words, without flags or with one
+abbrev pub plain_form : List (List ℕ) → Option Command
+plain_form (word ∷ []) = if bytes_eq word (codes "print") then Some Print else None
+plain_form (word ∷ root ∷ []) = if bytes_eq word (codes "check") then Some (Check root) else if bytes_eq word (codes "sync") then Some (Sync root) else None
+plain_form _ = None
+
+abbrev pub loose_form : List (List ℕ) → Option Command
+loose_form (word ∷ root ∷ []) = if bytes_eq word (codes "world") then Some (World root true) else None
+loose_form _ = None
+
+abbrev pub form_by : List (List ℕ) → List (List ℕ) → Option Command
+form_by plain [] = plain_form plain
+form_by plain (flag ∷ []) = if bytes_eq flag (codes "--loose") then loose_form plain else None
+form_by plain _ = None
+
+-- The command that the words are. No plain word begins with `-`.
 abbrev pub form : List (List ℕ) → Option Command
-form (word ∷ []) = if bytes_eq word (codes "print") then Some Print else None
-form (word ∷ root ∷ []) = if bytes_eq word (codes "sync") && is_plain root then Some (Sync root) else None
-form _ = None
+form words = if list_all is_plain (plain_words words) then form_by (plain_words words) (flags words) else None
 
 -- the commands that have a form
 abbrev pub HasForm : Command → Type 0
 HasForm Print = Unit {0}
+HasForm (Check root) = Unit {0}
 HasForm (Sync root) = Unit {0}
+HasForm (World root true) = Unit {0}
 HasForm _ = ⊥
 
 -- Why words give no command: they are no form, or they are one and memory was wanting.

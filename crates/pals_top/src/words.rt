@@ -34,11 +34,38 @@ pub fn read_words(alloc: Global, words: &[Text]) -> Result<Command, WordsEnd>
 {
     match words {
         [word] if word.as_str() == "print" => Ok(Command::Print),
-        [word, root] if word.as_str() == "sync" && is_plain(root) => Ok(Command::Sync {
+        [word, root] if is_plain(root) => rooted(alloc, word, root),
+        [flag, word, root] if is_loose(flag) => loose_world(alloc, word, root),
+        [word, flag, root] if is_loose(flag) => loose_world(alloc, word, root),
+        [word, root, flag] if is_loose(flag) => loose_world(alloc, word, root),
+        _ => Err(WordsEnd::Usage),
+    }
+}
+
+// The command of a word with a root, without flags.
+fn rooted(alloc: Global, word: &Text, root: &Text) -> Result<Command, WordsEnd> {
+    match word.as_str() {
+        "check" => Ok(Command::Check {
+            root: root.try_clone(alloc)?,
+        }),
+        "sync" => Ok(Command::Sync {
             root: root.try_clone(alloc)?,
         }),
         _ => Err(WordsEnd::Usage),
     }
+}
+
+// The command of a word with a root and `--loose`.
+fn loose_world(alloc: Global, word: &Text, root: &Text) -> Result<Command, WordsEnd> {
+    if word.as_str() == "world" && is_plain(root) {
+        let root = root.try_clone(alloc)?;
+        return Ok(Command::World { root, loose: true });
+    }
+    Err(WordsEnd::Usage)
+}
+
+fn is_loose(word: &Text) -> bool {
+    word.as_str() == "--loose"
 }
 
 // Whether a word is no flag.

@@ -3,3 +3,5 @@
 
 #[cfg(test)]
 mod recursion;
+#[cfg(test)]
+mod threads;
