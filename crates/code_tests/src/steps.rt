@@ -2,12 +2,13 @@
 ghost use Rattle.std.specs.Prelude.{◌≡◌, IsTrue, slice_get};
 ghost use Rattle.step_code.specs.Exec.{FitsCode, has_entry};
 
-use crate::behaviours::{
-    chain, counter, nested_loops, never_taken, one_loop, operator, sent_twice, short_circuit,
-    surface, trapping_guard,
+use crate::behaviours::{behaviour, one_state};
+use crate::texts::{
+    AND_THEN, CHAIN, COUNTER, NESTED_LOOPS, NEVER_TAKEN, OR_ELSE, SENT_TWICE, SURFACE,
+    TRAPPING_GUARD,
 };
 use behaviour_sem::fire;
-use pals_base::{Behaviour, Frame, Items, NoMemory, Op, Port};
+use pals_base::{Behaviour, Frame, Items, NoMemory, Port};
 use std::alloc::Global;
 use std::process::Abort;
 use std::test::Fail;
@@ -86,12 +87,8 @@ fn assert_step(
 }
 
 // From a state, at each number and each input.
-fn assert_steps(
-    rt: &impl Abort,
-    alloc: Global,
-    behaviour: Behaviour,
-    state: u32,
-) -> Result<(), Fail> {
+fn assert_steps(rt: &impl Abort, alloc: Global, text: &str, state: u32) -> Result<(), Fail> {
+    let behaviour = behaviour(rt, alloc, text)?;
     let code = compile(alloc, &behaviour)?;
     for number in &NUMBERS {
         for input in &INPUTS {
@@ -102,47 +99,59 @@ fn assert_steps(
     Ok(())
 }
 
-#[test]
-fn code_steps_as_behaviours_do(rt: HostRuntime) -> Result<(), Fail> {
-    let alloc = rt.alloc();
-    assert_steps(&rt, alloc, counter(&rt, alloc)?, 0)?;
-    assert_steps(&rt, alloc, surface(&rt, alloc)?, 0)?;
-    assert_steps(&rt, alloc, nested_loops(&rt, alloc)?, 0)?;
-    assert_steps(&rt, alloc, chain(&rt, alloc)?, 0)?;
-    assert_steps(&rt, alloc, chain(&rt, alloc)?, 2)?;
-    assert_steps(&rt, alloc, trapping_guard(&rt, alloc)?, 0)?;
-    assert_steps(&rt, alloc, never_taken(&rt, alloc)?, 0)?;
-    assert_steps(&rt, alloc, sent_twice(&rt, alloc)?, 0)?;
-    assert_steps(&rt, alloc, short_circuit(&rt, alloc, Op::AndThen)?, 0)?;
-    assert_steps(&rt, alloc, short_circuit(&rt, alloc, Op::OrElse)?, 0)?;
-    Ok(())
-}
+const STEPPED: [(&str, u32); 10] = [
+    (COUNTER, 0),
+    (SURFACE, 0),
+    (NESTED_LOOPS, 0),
+    (CHAIN, 0),
+    (CHAIN, 2),
+    (TRAPPING_GUARD, 0),
+    (NEVER_TAKEN, 0),
+    (SENT_TWICE, 0),
+    (AND_THEN, 0),
+    (OR_ELSE, 0),
+];
 
 #[test]
-fn loops_at_both_ends(rt: HostRuntime) -> Result<(), Fail> {
-    let alloc = rt.alloc();
-    let ends = [
-        (i64::MAX - 1, i64::MAX),
-        (i64::MAX, i64::MAX),
-        (i64::MIN, i64::MIN + 1),
-        (i64::MIN, i64::MIN),
-        (i64::MAX, i64::MIN),
-        (1, 0),
-        (0, 0),
-    ];
-    for (low, high) in &ends {
-        assert_steps(&rt, alloc, one_loop(&rt, alloc, *low, *high)?, 0)?;
+fn code_steps_as_behaviours_do(rt: HostRuntime) -> Result<(), Fail> {
+    for (text, state) in &STEPPED {
+        assert_steps(&rt, rt.alloc(), text, *state)?;
     }
     Ok(())
 }
 
-const ARITHMETIC: [Op; 6] = [Op::Add, Op::Sub, Op::Mul, Op::Quot, Op::Mod, Op::Rem];
+const ENDS: [(i64, i64); 7] = [
+    (i64::MAX - 1, i64::MAX),
+    (i64::MAX, i64::MAX),
+    (-i64::MAX, 1 - i64::MAX),
+    (-i64::MAX, -i64::MAX),
+    (i64::MAX, -i64::MAX),
+    (1, 0),
+    (0, 0),
+];
+
+#[test]
+fn loops_at_both_ends(rt: HostRuntime) -> Result<(), Fail> {
+    let alloc = rt.alloc();
+    for (low, high) in &ENDS {
+        let actions = format!(in alloc;
+            "for (j: Base_Types::Integer in {low} .. {high}) {{x := j; y := y + 1}}; o!(y)"
+        )?;
+        let text = one_state(alloc, actions.as_str())?;
+        assert_steps(&rt, alloc, text.as_str(), 0)?;
+    }
+    Ok(())
+}
+
+const OPERATORS: [&str; 6] = ["+", "-", "*", "/", "mod", "rem"];
 
 #[test]
 fn operators(rt: HostRuntime) -> Result<(), Fail> {
     let alloc = rt.alloc();
-    for op in &ARITHMETIC {
-        assert_steps(&rt, alloc, operator(&rt, alloc, *op)?, 0)?;
+    for operator in &OPERATORS {
+        let actions = format!(in alloc; "x := x {operator} i; o!(x)")?;
+        let text = one_state(alloc, actions.as_str())?;
+        assert_steps(&rt, alloc, text.as_str(), 0)?;
     }
     Ok(())
 }

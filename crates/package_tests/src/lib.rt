@@ -1,0 +1,8 @@
+//! Packages: the first name that is wrong in one, what stands in what, and which implementation contains
+//! itself.
+#![tactic(auto)]
+
+#[cfg(test)]
+mod faults;
+#[cfg(test)]
+mod recursion;

@@ -1,5 +1,0 @@
-//! What stands in what, and which implementation contains itself, in packages of systems.
-#![tactic(auto)]
-
-#[cfg(test)]
-mod recursion;
