@@ -19,10 +19,12 @@ three_by m n (inr (inr e)) = inr (inl e)
 three_ways : (m n : ℕ) → (m < n) ⊎ (n < m) ⊎ (m ≡ n)
 three_ways m n = three_by m n (cases_order m n)
 
-by_line : (Found : ℕ → FlatFault → Type 0) (a b : FlatFault) → (x : IsFirstByLine Found a) (y : IsFirstByLine Found b) → (x.line < y.line) ⊎ (y.line < x.line) ⊎ (x.line ≡ y.line) → (place_of a ≡ place_of b) × (number_of a ≡ number_of b)
+by_line : (Found : ℕ → FlatFault → Type 0) (a b : FlatFault) → (x : IsFirstByLine Found a) (y : IsFirstByLine Found b)
+    → (x.line < y.line) ⊎ (y.line < x.line) ⊎ (x.line ≡ y.line) → (place_of a ≡ place_of b) × (number_of a ≡ number_of b)
 by_line Found a b x y (inl h) = absurd (y.none_before x.line a h x.here.found)
 by_line Found a b x y (inr (inl h)) = absurd (x.none_before y.line b h y.here.found)
 by_line Found a b x y (inr (inr h)) = one_first (Found y.line) a b (subst (λ l. IsFirst (Found l) a) h x.here) y.here
 
-pub one_by_line : (Found : ℕ → FlatFault → Type 0) (a b : FlatFault) → IsFirstByLine Found a → IsFirstByLine Found b → (place_of a ≡ place_of b) × (number_of a ≡ number_of b)
+pub one_by_line : (Found : ℕ → FlatFault → Type 0) (a b : FlatFault) → IsFirstByLine Found a → IsFirstByLine Found b
+    → (place_of a ≡ place_of b) × (number_of a ≡ number_of b)
 one_by_line Found a b x y = by_line Found a b x y (three_ways x.line y.line)

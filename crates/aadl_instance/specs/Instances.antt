@@ -1,5 +1,5 @@
 -- The instance that a flattened design is shown as: threads with the text of their paths, and chains between numbers.
-use Rattle.std.specs.Prelude.{◌≡◌, ℕ, Bool, false, not, List, [], ◌∷◌, map, take, count_by, Option, Some, None}
+use Rattle.std.specs.Prelude.{◌≡◌, ℕ, Bool, false, not, List, [], ◌∷◌, map, take, count_by, Option, Some, None, slice_get}
 use Rattle.std.specs.Option.{option_map_or}
 use Rattle.pals_base.specs.declared.values.NodeNo.{NodeNo}
 use Rattle.aadl_tree.specs.declared.declarations.Direction.{Direction}
@@ -14,7 +14,8 @@ use Rattle.aadl_instance.specs.declared.parts.ChainEnd.{ChainEnd}
 use Rattle.aadl_instance.specs.declared.parts.ChainEnd.TheVariants.{Thread, Root}
 use Rattle.aadl_uses.specs.Uses.{component_at}
 use Rattle.aadl_chains.specs.Chains.{Port, port_of}
-use Rattle.aadl_instance.specs.Flat.{same_path, Ends, Parts, IsFlat}
+use Rattle.chain_walks.specs.Links.{same_path, Ends}
+use Rattle.aadl_instance.specs.Flat.{Parts, IsFlat}
 
 abbrev pub same_direction : Direction → Direction → Bool
 same_direction directions.In other = goes_in (Some other)
@@ -29,29 +30,36 @@ abbrev pub goes_as : Option (Feature ℕ) → Feature ℕ → Bool
 goes_as None other = false
 goes_as (Some f) other = same_direction f.direction other.direction
 
--- the number of a port among the ports of its component that go as it does
+-- the number of a port among the ports that go as it does
+abbrev pub number_among : List (Feature ℕ) → ℕ → ℕ
+number_among ports port = count_by (goes_as (slice_get ports port)) (take port ports)
+
 abbrev pub port_number : PackageTree ℕ → ℕ → Port → ℕ
-port_number tree root p = count_by (goes_as (port_of tree root p)) (take p.port (ports_at tree (component_at tree root p.path)))
+port_number tree root p = number_among (ports_at tree (component_at tree root p.path)) p.port
 
 abbrev pub port_name : Option (Feature ℕ) → List ℕ
 port_name None = []
 port_name (Some f) = f.name.spelling
 
 -- the root has the empty path, and threads the others
-abbrev pub end_by : PackageTree ℕ → Parts → Port → List ℕ → ChainEnd
-end_by tree parts p [] = Root (port_name (port_of tree parts.root p))
-end_by tree parts p (s ∷ path) = Thread (node_at parts.threads p.path) (port_number tree parts.root p)
+abbrev pub end_by : PackageTree ℕ → ℕ → List (List ℕ) → Port → List ℕ → ChainEnd
+end_by tree root threads p [] = Root (port_name (port_of tree root p))
+end_by tree root threads p (s ∷ path) = Thread (node_at threads p.path) (port_number tree root p)
 
-abbrev pub end_at : PackageTree ℕ → Parts → Port → ChainEnd
-end_at tree parts p = end_by tree parts p p.path
+abbrev pub end_in : PackageTree ℕ → ℕ → List (List ℕ) → Port → ChainEnd
+end_in tree root threads p = end_by tree root threads p p.path
 
-abbrev pub chain_at : PackageTree ℕ → Parts → Ends → Chain
-chain_at tree parts ends =
+-- with the threads at these paths
+abbrev pub chain_in : PackageTree ℕ → ℕ → List (List ℕ) → Ends → Chain
+chain_in tree root threads ends =
     record {
-      from = end_at tree parts ends.from;
-      to = end_at tree parts ends.to;
+      from = end_in tree root threads ends.from;
+      to = end_in tree root threads ends.to;
       carrier = record { declaration = ends.declaration; connection = ends.connection };
     }
+
+abbrev pub chain_at : PackageTree ℕ → Parts → Ends → Chain
+chain_at tree parts = chain_in tree parts.root parts.threads
 
 -- the instance of a flattened design of the package
 pub record IsInstance (tree : PackageTree ℕ) (root : ℕ) (threads : List ThreadAt) (links feeds taps : List Chain) : Type 0 where

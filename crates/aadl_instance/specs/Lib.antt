@@ -1,2 +1,4 @@
 pub mod Flat
 pub mod Instances
+pub mod Passed
+pub mod Networks

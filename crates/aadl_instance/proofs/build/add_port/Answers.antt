@@ -1,0 +1,17 @@
+use Rattle.std.proofs.Common.{◌∙◌, sym, reverse}
+use Rattle.aadl_tree.specs.PackageViews.{placed}
+use Rattle.aadl_chains.proofs.OnChains.{port, is_in-at}
+use Rattle.aadl_instance.specs.Passed.{paths_of}
+use Rattle.aadl_instance.proofs.Passing.{thread_listed}
+use Rattle.aadl_instance.proofs.Adding.{out_added}
+use Rattle.aadl_instance.proofs.build.add_port.Goals as goal
+
+pub returns-else-is_in : goal.returns-else-is_in
+returns-else-is_in c = λ node at into.
+    let net = c.args.network.now in
+    let tree = placed net.wires.now.uses.tree.now in
+    let paths = paths_of net.threads.now in
+    let path = reverse c.args.path.now in
+    out_added tree net.root c.requires.settled.no_thread paths c.requires.settled.threads.in_order node c.args.port path at c.args.incoming.now
+    (thread_listed tree net.root paths c.requires.settled.threads node path at)
+    (is_in-at tree net.root (port path c.args.port) c.args.declaration c.requires.stands ∙ (sym c.is_in.ensures ∙ c.if-is_in.false)) into

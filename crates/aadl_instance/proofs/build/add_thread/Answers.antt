@@ -1,0 +1,29 @@
+use Rattle.std.proofs.Common.{◌≤◌, ◌∙◌, sym, ap, arith, length, reverse}
+use Rattle.std.proofs.lemmas.List.{length-map}
+use Rattle.aadl_tree.specs.Maps.{kept_place}
+use Rattle.aadl_tree.specs.PackageViews.{placed}
+use Rattle.aadl_tree.specs.Views.{feature_view}
+use Rattle.aadl_names.specs.Resolving.{implementation_at, ports_at}
+use Rattle.aadl_instance.specs.Passed.{paths_of}
+use Rattle.aadl_instance.proofs.Passing.{thread_listed, into_thread}
+use Rattle.aadl_instance.proofs.Shown.{stands}
+use Rattle.aadl_instance.proofs.build.add_thread.Goals as goal
+
+pub unreachable-requires : goal.unreachable-requires
+unreachable-requires c =
+    let net = c.args.network.now in
+    let tree = placed net.wires.now.uses.tree.now in
+    let path = reverse c.args.path.now in
+    let there = stands tree net.root path
+    (thread_listed tree net.root (paths_of net.threads.now) c.requires.settled.threads c.requires.thread.0 path c.requires.thread.1) in
+    c.in_default.not-Some there.0 (c.standing.ensures ∙ there.1)
+
+pub returns : goal.returns
+returns c = λ node at into.
+    let net = c.args.network.now in
+    let tree = placed net.wires.now.uses.tree.now in
+    let size = sym (length-map c.ports-port-end.result.now (feature_view kept_place)) ∙ ap length c.ports-port-end.ensures in
+    let past = c.loop-port-test.false in
+    let all : length (ports_at tree (implementation_at tree c.in-Some.declaration)) ≤ c.loop-port.port = omega arith in
+    into_thread tree net.root (paths_of net.threads.now) c.requires.settled.no_thread node c.loop-port.port c.in-Some.declaration (reverse c.args.path.now)
+    c.loop-port.incoming at (sym c.standing.ensures ∙ c.in-Some.is) all (c.loop-port.invariant node at into)

@@ -1,0 +1,45 @@
+use Rattle.std.proofs.Common.{◌∙◌}
+use Rattle.aadl_tree.specs.PackageViews.{placed}
+use Rattle.aadl_instance.specs.Passed.{paths_of}
+use Rattle.aadl_instance.proofs.Settled.{all_listed, all_stand, settled, instance_is, threads_same}
+use Rattle.aadl_instance.proofs.flattening.instance_of.Goals as goal
+
+pub threads_at-requires : goal.threads_at-requires
+threads_at-requires c =
+    let checked = c.args.checked.now in
+    let tree = placed checked.wires.uses.tree.now in
+    all_stand tree checked.root c.from.result.now (all_listed tree checked.root c.from.result.now _ c.from.ensures c.in_ok-paths.ensures)
+
+pub incoming_of-requires : goal.incoming_of-requires
+incoming_of-requires c =
+    let checked = c.args.checked.now in
+    let tree = placed checked.wires.uses.tree.now in
+    settled tree checked c.requires.checked (paths_of c.from.result.now)
+    (all_listed tree checked.root c.from.result.now _ c.from.ensures c.in_ok-paths.ensures)
+
+pub taps_of-requires : goal.taps_of-requires
+taps_of-requires c =
+    let checked = c.args.checked.now in
+    let tree = placed checked.wires.uses.tree.now in
+    settled tree checked c.requires.checked (paths_of c.from.result.now)
+    (all_listed tree checked.root c.from.result.now _ c.from.ensures c.in_ok-paths.ensures)
+
+pub returns-clause-instance : goal.returns-clause-instance
+returns-clause-instance c = λ name root.
+    let checked = c.args.checked.now in
+    let tree = placed checked.wires.uses.tree.now in
+    instance_is tree checked c.requires.checked (paths_of c.from.result.now)
+    (all_listed tree checked.root c.from.result.now _ c.from.ensures c.in_ok-paths.ensures) name c.in_ok-threads.threads c.in_ok-incoming.incoming.links
+    c.in_ok-incoming.incoming.feeds c.in_ok-taps.taps root (c.in_ok-threads.ensures ∙ threads_same tree checked.root c.from.result.now)
+    c.in_ok-incoming.ensures.links c.in_ok-incoming.ensures.feeds c.in_ok-taps.ensures
+
+pub invariant_of-result : goal.invariant_of-result
+invariant_of-result c =
+    let checked = c.args.checked.now in
+    let tree = placed checked.wires.uses.tree.now in
+    let whole = instance_is tree checked c.requires.checked (paths_of c.from.result.now)
+    (all_listed tree checked.root c.from.result.now _ c.from.ensures c.in_ok-paths.ensures) c.requires.name.0 c.in_ok-threads.threads
+    c.in_ok-incoming.incoming.links c.in_ok-incoming.incoming.feeds c.in_ok-taps.taps c.requires.name.1
+    (c.in_ok-threads.ensures ∙ threads_same tree checked.root c.from.result.now) c.in_ok-incoming.ensures.links c.in_ok-incoming.ensures.feeds
+    c.in_ok-taps.ensures in
+    record { flat = ∣ whole.0 ∣₁ }

@@ -1,0 +1,186 @@
+//! The links, feeds and taps of a package that has no fault.
+ghost use Rattle.std.specs.Prelude.{◌≡◌, ◌+◌, ℕ, Some, true, [], reverse, IfOk, OnOk};
+ghost use Rattle.aadl_uses.specs.Uses as uses;
+ghost use Rattle.port_flow.specs.Inside.{is_in_at};
+ghost use Rattle.chain_walks.specs.Links.{IsLink, IsFeed, IsTap, TargetBefore, PortBefore};
+ghost use Rattle.aadl_instance.specs.Passed as shown;
+ghost use Rattle.aadl_instance.specs.Networks.{tree_of, paths_in, IsReady, IsNumbered, Shows, ShowsInto, ShowsTaps};
+ghost use Rattle.aadl_instance.specs.Passed.{HasPort, IsBegin};
+
+use crate::ends::{Network, begin_end, root_end, thread_end};
+use crate::parts::{Chain, ChainEnd, ConnAt};
+use chain_walks::{Begin, Route, trace_back, trace_tap};
+use instance_threads::standing;
+use pals_base::Items;
+use std::alloc::{AllocError, Global};
+
+/// The chains into threads.
+#[derive(Drop)]
+pub struct Incoming {
+    /// From threads.
+    pub links: Items<Chain>,
+    /// From the root.
+    pub feeds: Items<Chain>,
+}
+
+/// All links and feeds, in order of their targets.
+pub fn incoming_of(alloc: Global, network: &Network<'_>) -> Result<Incoming, AllocError>
+    requires { IsReady network.now }
+    ensures links { IfOk result (λ incoming. Shows network.now IsLink TargetBefore incoming.links) }
+    ensures feeds { IfOk result (λ incoming. Shows network.now IsFeed TargetBefore incoming.feeds) }
+{
+    let mut incoming = Incoming {
+        links: Items::new(alloc),
+        feeds: Items::new(alloc),
+    };
+    for thread in network.threads {
+        add_thread(&mut incoming, alloc, network, thread.as_slice())?;
+    }
+    Ok(incoming)
+}
+
+// Adds the chains into a thread.
+fn add_thread(
+    incoming: &mut Incoming,
+    alloc: Global,
+    network: &Network<'_>,
+    path: &[usize],
+) -> Result<(), AllocError>
+    requires settled { IsReady network.now }
+    requires thread { (node : ℕ) × IsNumbered network.now node (reverse path.now) }
+    ensures { OnOk result ((node : ℕ) → IsNumbered network.now node (reverse path.now)
+        → ShowsInto network.now node 0 incoming.old
+        → ShowsInto network.now (node + 1) 0 incoming.new) }
+{
+    let Some(declaration) = standing(&network.wires.uses, network.root, path) else {
+        unreachable!();
+    };
+    for port in 0..network.wires.ports(declaration).len() {
+        add_port(incoming, alloc, network, path, declaration, port)?;
+    }
+    Ok(())
+}
+
+// Adds the chain into a port of a thread, if there is one.
+fn add_port(
+    incoming: &mut Incoming,
+    alloc: Global,
+    network: &Network<'_>,
+    path: &[usize],
+    declaration: usize,
+    port: usize,
+) -> Result<(), AllocError>
+    requires settled { IsReady network.now }
+    requires thread { (node : ℕ) × IsNumbered network.now node (reverse path.now) }
+    requires stands { uses.standing (tree_of network.now) network.now.root (reverse path.now) ≡ Some declaration }
+    ensures { OnOk result ((node : ℕ) → IsNumbered network.now node (reverse path.now)
+        → ShowsInto network.now node port incoming.old
+        → ShowsInto network.now node (port + 1) incoming.new) }
+{
+    if network.wires.is_in(declaration, port) {
+        add_chain(incoming, alloc, network, path, declaration, port)
+    } else {
+        Ok(())
+    }
+}
+
+// Adds the chain into an in port of a thread, if there is one.
+fn add_chain(
+    incoming: &mut Incoming,
+    alloc: Global,
+    network: &Network<'_>,
+    path: &[usize],
+    declaration: usize,
+    port: usize,
+) -> Result<(), AllocError>
+    requires settled { IsReady network.now }
+    requires thread { (node : ℕ) × IsNumbered network.now node (reverse path.now) }
+    requires stands { uses.standing (tree_of network.now) network.now.root (reverse path.now) ≡ Some declaration }
+    requires goes_in { is_in_at (tree_of network.now) declaration port ≡ true }
+    ensures { OnOk result ((node : ℕ) → IsNumbered network.now node (reverse path.now)
+        → ShowsInto network.now node port incoming.old
+        → ShowsInto network.now node (port + 1) incoming.new) }
+{
+    let wires = network.wires;
+    match trace_back(alloc, wires, network.order, network.root, path, port)? {
+        Some(route) => {
+            let to = thread_end(network, path, port);
+            let chain = chain_by(alloc, network, &route, to)?;
+            incoming.push(&route.begin, chain)
+        }
+        None => Ok(()),
+    }
+}
+
+impl Incoming {
+    ghost use Rattle.std.specs.Prelude.{OnOk};
+    ghost use Rattle.aadl_instance.specs.Passed.{with_chain};
+
+    // Adds a chain by where it begins.
+    fn push(&mut self, begin: &Begin, chain: Chain) -> Result<(), AllocError>
+        ensures { OnOk result (self.new ≡ with_chain self.old begin.now chain) }
+    {
+        match begin {
+            Begin::Root(_) => self.feeds.push(chain),
+            Begin::Thread(_, _) => self.links.push(chain),
+        }
+    }
+}
+
+/// All taps, in order of the ports to which they go.
+pub fn taps_of(alloc: Global, network: &Network<'_>) -> Result<Items<Chain>, AllocError>
+    requires { IsReady network.now }
+    ensures { IfOk result (λ taps. Shows network.now IsTap PortBefore taps) }
+{
+    let mut taps = Items::new(alloc);
+    for port in 0..network.wires.ports(network.root).len() {
+        add_tap(&mut taps, alloc, network, port)?;
+    }
+    Ok(taps)
+}
+
+// Adds the tap to a port of the root, if there is one.
+fn add_tap(
+    taps: &mut Items<Chain>,
+    alloc: Global,
+    network: &Network<'_>,
+    port: usize,
+) -> Result<(), AllocError>
+    requires settled { IsReady network.now }
+    requires port { HasPort (tree_of network.now) network.now.root (record { path = []; port = port }) }
+    ensures { OnOk result (ShowsTaps network.now port taps.old
+        → ShowsTaps network.now (port + 1) taps.new) }
+{
+    let wires = network.wires;
+    if wires.is_in(network.root, port) {
+        return Ok(());
+    }
+    match trace_tap(alloc, wires, network.order, network.root, port)? {
+        Some(route) => {
+            let to = root_end(alloc, network, port)?;
+            taps.push(chain_by(alloc, network, &route, to)?)
+        }
+        None => Ok(()),
+    }
+}
+
+// A chain by how it was found and the end to which it leads.
+fn chain_by(
+    alloc: Global,
+    network: &Network<'_>,
+    route: &Route,
+    to: ChainEnd,
+) -> Result<Chain, AllocError>
+    requires settled { IsReady network.now }
+    requires begins { IsBegin (tree_of network.now) network.now.root route.now.begin }
+    ensures { IfOk result (λ chain. chain ≡ shown.chain_by (tree_of network.now) network.now.root (paths_in network.now) route.now to) }
+{
+    Ok(Chain {
+        from: begin_end(alloc, network, &route.begin)?,
+        to,
+        carrier: ConnAt {
+            declaration: route.declaration,
+            connection: route.connection,
+        },
+    })
+}

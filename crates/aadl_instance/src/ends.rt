@@ -1,0 +1,130 @@
+//! Ends of chains, as an instance shows them.
+ghost use Rattle.std.specs.Prelude.{◌≡◌, ◌<◌, ◌≤◌, Some, [], count_by, length, map, reverse, slice_get, Contains, IfOk, MatchOption};
+ghost use Rattle.pals_base.specs.declared.limits.TheConstants.{PORTS};
+ghost use Rattle.aadl_tree.specs.Maps.{kept_place};
+ghost use Rattle.aadl_tree.specs.Views.{feature_view};
+ghost use Rattle.aadl_uses.specs.Threads.{IsThreadAt};
+ghost use Rattle.chain_walks.specs.Routes.{begin_port};
+ghost use Rattle.aadl_instance.specs.Instances as spec;
+ghost use Rattle.aadl_instance.specs.Instances.{end_in, number_among};
+ghost use Rattle.aadl_instance.specs.Networks.{tree_of, paths_in, IsReady};
+ghost use Rattle.aadl_instance.specs.Passed.{paths_of, HasPort, IsBegin};
+
+use crate::parts::ChainEnd;
+use aadl_tree::{Direction, Feature};
+use aadl_wires::Wires;
+use aadl_wires::wires::goes_in;
+use chain_walks::Begin;
+use indexmap::IndexSet;
+use instance_threads::standing;
+use pals_base::{NodeNo, Text};
+use std::alloc::{AllocError, Global};
+
+/// Where the chains of an instance are: the connections of its package, an order of the declarations, the number of
+/// its root, and the paths of its threads, in depth-first order of declaration.
+#[derive(Clone, Copy)]
+pub struct Network<'t> {
+    pub wires: &'t Wires<'t>,
+    pub order: &'t IndexSet<usize>,
+    pub root: usize,
+    pub threads: &'t [Vec<usize>],
+}
+
+/// Where a chain begins.
+pub fn begin_end(
+    alloc: Global,
+    network: &Network<'_>,
+    begin: &Begin,
+) -> Result<ChainEnd, AllocError>
+    requires settled { IsReady network.now }
+    requires begins { IsBegin (tree_of network.now) network.now.root begin.now }
+    ensures { IfOk result (λ end. end ≡ end_in (tree_of network.now) network.now.root (paths_in network.now) (begin_port begin.now)) }
+{
+    match begin {
+        Begin::Root(port) => root_end(alloc, network, *port),
+        Begin::Thread(path, port) => Ok(thread_end(network, path.as_slice(), *port)),
+    }
+}
+
+/// A port of the root, which has so many.
+pub fn root_end(alloc: Global, network: &Network<'_>, port: usize) -> Result<ChainEnd, AllocError>
+    requires { HasPort (tree_of network.now) network.now.root (record { path = []; port = port }) }
+    ensures { IfOk result (λ end. end ≡ end_in (tree_of network.now) network.now.root (paths_in network.now)
+        (record { path = []; port = port })) }
+{
+    let feature = &network.wires.ports(network.root)[port];
+    Ok(ChainEnd::Root {
+        name: Text::from_str(alloc, feature.name.spelling.as_str())?,
+    })
+}
+
+/// A port of a thread, by its number among those that go as it does.
+pub fn thread_end(network: &Network<'_>, path: &[usize], port: usize) -> ChainEnd
+    requires settled { IsReady network.now }
+    requires thread { IsThreadAt (tree_of network.now) network.now.root (reverse path.now) }
+    requires port { HasPort (tree_of network.now) network.now.root (record { path = reverse path.now; port = port }) }
+    ensures { result ≡ end_in (tree_of network.now) network.now.root (paths_in network.now)
+        (record { path = reverse path.now; port = port }) }
+{
+    let Some(declaration) = standing(&network.wires.uses, network.root, path) else {
+        unreachable!();
+    };
+    ChainEnd::Thread {
+        node: node_of(network.threads, path),
+        port: port_number(network.wires.ports(declaration), port),
+    }
+}
+
+// The number of the thread at a path.
+fn node_of(threads: &[Vec<usize>], path: &[usize]) -> NodeNo
+    requires among { Contains (paths_of threads.now) (reverse path.now) }
+    requires few { length threads.now ≤ u32.MAX }
+    ensures { slice_get (paths_of threads.now) result.0 ≡ Some (reverse path.now) }
+{
+    match place_of(threads, path) {
+        Some(node) => NodeNo(node as u32),
+        None => unreachable!(),
+    }
+}
+
+// The place of a path among those of threads, if it is one of them.
+fn place_of(threads: &[Vec<usize>], path: &[usize]) -> Option<usize>
+    ensures { MatchOption result (¬ Contains (paths_of threads.now) (reverse path.now))
+        (λ node. slice_get (paths_of threads.now) node ≡ Some (reverse path.now)) }
+{
+    for (node, thread) in threads.iter().enumerate() {
+        if thread.as_slice() == path {
+            return Some(node);
+        }
+    }
+    None
+}
+
+// The number of a port among those that go as it does.
+fn port_number(ports: &[Feature], port: usize) -> u32
+    requires within { port < length ports.now }
+    requires few { length ports.now ≤ PORTS }
+    ensures { result ≡ number_among (map (feature_view kept_place) ports.now) port }
+{
+    count_as(&ports[port], &ports[..port]) as u32
+}
+
+// How many ports go as one does.
+fn count_as(one: &Feature, ports: &[Feature]) -> usize
+    ensures { result ≡ count_by (λ port. spec.same_direction one.now.direction port.direction) ports.now }
+{
+    let direction = one.direction;
+    ports
+        .iter()
+        .filter(|port| same_direction(direction, port.direction))
+        .count()
+}
+
+fn same_direction(a: Direction, b: Direction) -> bool
+    ensures { result ≡ spec.same_direction a b }
+{
+    match a {
+        Direction::In => goes_in(b),
+        Direction::Out => !goes_in(b),
+    }
+}

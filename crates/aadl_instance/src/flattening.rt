@@ -1,0 +1,63 @@
+//! From a package to its instance.
+ghost use Rattle.std.specs.Prelude.{◌≡◌, ◌⊎◌, ℕ, List, Some, IfErr, IfOk};
+ghost use Rattle.aadl_tree.specs.PackageViews.{placed};
+ghost use Rattle.aadl_names.specs.declared.fault.FlatFault.TheVariants.{Memory};
+ghost use Rattle.aadl_names.specs.Resolving.{root_number};
+ghost use Rattle.flat_faults.specs.Faults.{IsFault};
+ghost use Rattle.flat_faults.specs.Silence.{IsChecked};
+ghost use Rattle.aadl_instance.specs.Instances.{IsInstance};
+
+use crate::build::{incoming_of, taps_of};
+use crate::ends::Network;
+use crate::instance::Instance;
+use aadl_names::FlatFault;
+use aadl_tree::PackageTree;
+use flat_faults::{Checked, check_package};
+use instance_threads::{thread_paths, threads_at};
+use pals_base::{NoMemory, Text};
+use std::alloc::Global;
+
+/// The instance of a package below the root of a name, or the package's first fault.
+pub fn flatten<'t>(
+    alloc: Global,
+    tree: &'t PackageTree,
+    root: &Text,
+) -> Result<Instance<'t>, FlatFault>
+    ensures fault { IfErr result (λ fault. (fault ≡ Memory) ⊎ IsFault (placed tree.now) root.now fault) }
+    ensures tree { IfOk result (λ x. x.tree.now ≡ tree.now) }
+    ensures instance { IfOk result (λ x. (i : IsInstance (placed tree.now) x.root x.threads x.links x.feeds x.taps) × (i.name ≡ root.now)) }
+{
+    match check_package(alloc, tree, root) {
+        Ok(checked) => Ok(instance_of(alloc, &checked)?),
+        Err(fault) => Err(fault),
+    }
+}
+
+// The instance of a package that has no fault below a root that has a name.
+fn instance_of<'t>(alloc: Global, checked: &Checked<'t>) -> Result<Instance<'t>, NoMemory>
+    requires checked { IsChecked (placed checked.now.wires.uses.tree.now) checked.now }
+    requires name { (name : List ℕ) × (root_number (placed checked.now.wires.uses.tree.now) name ≡ Some checked.now.root) }
+    ensures tree { IfOk result (λ x. x.tree.now ≡ checked.now.wires.uses.tree.now) }
+    ensures instance { IfOk result (λ x. (name : List ℕ) → root_number (placed checked.now.wires.uses.tree.now) name ≡ Some checked.now.root
+        → (i : IsInstance (placed checked.now.wires.uses.tree.now) x.root x.threads x.links x.feeds x.taps) × (i.name ≡ name)) }
+{
+    let uses = &checked.wires.uses;
+    let paths = thread_paths(alloc, uses, &checked.order, &checked.used, checked.root)?;
+    let network = Network {
+        wires: &checked.wires,
+        order: &checked.order,
+        root: checked.root,
+        threads: paths.from(checked.root),
+    };
+    let threads = threads_at(alloc, uses, network.root, network.threads)?;
+    let incoming = incoming_of(alloc, &network)?;
+    let taps = taps_of(alloc, &network)?;
+    Ok(Instance {
+        tree: uses.tree,
+        root: network.root,
+        threads,
+        links: incoming.links,
+        feeds: incoming.feeds,
+        taps,
+    })
+}

@@ -1,0 +1,14 @@
+pub mod Passing
+pub mod Numbers
+pub mod Steps
+pub mod Climbs
+pub mod Coming
+pub mod Linked
+pub mod Deepened
+pub mod Through
+pub mod Tables
+pub mod Counted
+pub mod Soundness
+pub mod Routes
+pub mod Climbing
+pub mod Tracing

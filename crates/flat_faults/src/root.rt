@@ -1,0 +1,88 @@
+//! The root of a package.
+ghost use Rattle.std.specs.Prelude.{◌≡◌, ◌&&◌, IfOk, map};
+ghost use Rattle.std.specs.List.{position_from};
+ghost use Rattle.aadl_tree.specs.Maps.{kept_place};
+ghost use Rattle.aadl_tree.specs.PackageViews.{placed};
+ghost use Rattle.aadl_tree.specs.Views.{declaration_view, implementation_view, implementation_name_view};
+ghost use Rattle.aadl_names.specs.Spelling.{same_name, spelled_implementation};
+ghost use Rattle.aadl_names.specs.Resolving as spec;
+
+use aadl_names::spelling::spelled_implementation;
+use aadl_tree::{Category, Declaration, Implementation, PackageTree};
+use pals_base::Text;
+use std::alloc::{AllocError, Global};
+
+/// The number of the first system implementation of a name.
+pub fn root_number(
+    alloc: Global,
+    tree: &PackageTree,
+    name: &Text,
+) -> Result<Option<usize>, AllocError>
+    ensures { IfOk result (λ number. number ≡ spec.root_number (placed tree.now) name.now) }
+{
+    first_root(alloc, tree.declarations.as_slice(), name)
+}
+
+fn first_root(
+    alloc: Global,
+    declarations: &[Declaration],
+    name: &Text,
+) -> Result<Option<usize>, AllocError>
+    ensures { IfOk result (λ number. number ≡ position_from (spec.is_root name.now) 0 (map (declaration_view kept_place) declarations.now)) }
+{
+    for (number, declaration) in declarations.iter().enumerate() {
+        if is_root(alloc, declaration, name)? {
+            return Ok(Some(number));
+        }
+    }
+    Ok(None)
+}
+
+// Whether a declaration is the system implementation of a name.
+fn is_root(alloc: Global, declaration: &Declaration, name: &Text) -> Result<bool, AllocError>
+    ensures { IfOk result (λ is. is ≡ spec.is_root name.now (declaration_view kept_place declaration.now)) }
+{
+    match declaration {
+        Declaration::Type(_) => Ok(false),
+        Declaration::Implementation(x) => is_root_implementation(alloc, x, name),
+    }
+}
+
+fn is_root_implementation(
+    alloc: Global,
+    x: &Implementation,
+    name: &Text,
+) -> Result<bool, AllocError>
+    ensures { IfOk result (λ is. is ≡ (spec.is_system (implementation_view kept_place x.now).category
+        && same_name name.now (spelled_implementation (implementation_view kept_place x.now).name))) }
+{
+    if !is_system(x.category) {
+        return Ok(false);
+    }
+    let spelled = is_spelled(alloc, x, name)?;
+    Ok(spelled)
+}
+
+// Whether an implementation has a name.
+fn is_spelled(alloc: Global, x: &Implementation, name: &Text) -> Result<bool, AllocError>
+    ensures { IfOk result (λ is. is ≡ same_name name.now (spelled_implementation (implementation_name_view kept_place x.now.name))) }
+{
+    let spelled = spelled_implementation(alloc, &x.name)?;
+    Ok(same_text(name.as_str(), spelled.as_str()))
+}
+
+fn same_text(a: &str, b: &str) -> bool
+    ensures { result ≡ same_name a.now b.now }
+{
+    a.eq_ignore_ascii_case(b)
+}
+
+fn is_system(category: Category) -> bool
+    ensures { result ≡ spec.is_system category }
+{
+    match category {
+        Category::System => true,
+        Category::Process => false,
+        Category::Thread => false,
+    }
+}
