@@ -179,13 +179,13 @@ fn nearer_property<'t>(
 pub fn root_property<'t>(
     names: &Names<'t>,
     alloc: Global,
-    root: u32,
+    root: usize,
     property: Property,
 ) -> Result<Option<&'t Association>, NoMemory>
     ensures { IfOk result (λ found. option_map (association_view kept_place) (option_copied found)
         ≡ spec.first_in property (spec.root_lists (placed names.now.tree.now) root)) }
 {
-    match implementation_at(names.tree, root as usize) {
+    match implementation_at(names.tree, root) {
         Some(x) => own_property(names, alloc, x, property),
         None => Ok(None),
     }
@@ -195,7 +195,7 @@ pub fn root_property<'t>(
 pub fn property_along<'t>(
     names: &Names<'t>,
     alloc: Global,
-    root: u32,
+    root: usize,
     subs: &[SubAt],
     property: Property,
 ) -> Result<Option<&'t Association>, NoMemory>

@@ -19,7 +19,7 @@ use std::alloc::Global;
 
 // The skew of the root.
 #[tactic(auto, using(crate::proofs::Hours::skew_twice))]
-fn root_skew(names: &Names<'_>, alloc: Global, root: u32) -> Result<Option<Nanos>, NoMemory>
+fn root_skew(names: &Names<'_>, alloc: Global, root: usize) -> Result<Option<Nanos>, NoMemory>
     ensures { IfOk result (λ skew. skew ≡ spec.root_skew (placed names.now.tree.now) root) }
 {
     match root_property(names, alloc, root, Property::Skew)? {
@@ -33,7 +33,7 @@ fn root_skew(names: &Names<'_>, alloc: Global, root: u32) -> Result<Option<Nanos
 fn root_range(
     names: &Names<'_>,
     alloc: Global,
-    root: u32,
+    root: usize,
     property: Property,
 ) -> Result<Option<(Nanos, Nanos)>, NoMemory>
     ensures { IfOk result (λ range. range ≡ spec.root_range (placed names.now.tree.now) root property) }
@@ -45,7 +45,7 @@ fn root_range(
 }
 
 /// The bounds of the root, where none of the three is missing or refused.
-pub fn root_gamma(names: &Names<'_>, alloc: Global, root: u32) -> Result<Option<Gamma>, NoMemory>
+pub fn root_gamma(names: &Names<'_>, alloc: Global, root: usize) -> Result<Option<Gamma>, NoMemory>
     ensures { IfOk result (λ gamma. gamma ≡ spec.root_gamma (placed names.now.tree.now) root) }
 {
     let skew = root_skew(names, alloc, root)?;
@@ -55,10 +55,10 @@ pub fn root_gamma(names: &Names<'_>, alloc: Global, root: u32) -> Result<Option<
 }
 
 // Where the root's name stands.
-fn root_place(tree: &PackageTree, root: u32) -> usize
+fn root_place(tree: &PackageTree, root: usize) -> usize
     ensures { result ≡ spec.root_place (placed tree.now) root }
 {
-    match implementation_at(tree, root as usize) {
+    match implementation_at(tree, root) {
         Some(x) => x.name.component_type.at,
         None => 0,
     }
@@ -68,7 +68,7 @@ fn root_place(tree: &PackageTree, root: u32) -> usize
 fn add_missing(
     names: &Names<'_>,
     alloc: Global,
-    root: u32,
+    root: usize,
     number: u32,
     details: &str,
     property: Property,
@@ -85,7 +85,7 @@ fn add_missing(
 fn add_missing_bound(
     names: &Names<'_>,
     alloc: Global,
-    root: u32,
+    root: usize,
     property: Property,
     found: &mut Items<Violation>,
 ) -> Result<(), NoMemory>
@@ -99,7 +99,7 @@ fn add_missing_bound(
 fn add_missing_findings(
     names: &Names<'_>,
     alloc: Global,
-    root: u32,
+    root: usize,
     found: &mut Items<Violation>,
 ) -> Result<(), NoMemory>
     ensures { OnOk result (found.new ≡ found.old ++ spec.missing_findings (placed names.now.tree.now) root) }
@@ -168,7 +168,7 @@ fn add_reversed_range(
 fn add_order_findings(
     names: &Names<'_>,
     alloc: Global,
-    root: u32,
+    root: usize,
     found: &mut Items<Violation>,
 ) -> Result<(), NoMemory>
     ensures { OnOk result (found.new ≡ found.old ++ spec.order_findings (placed names.now.tree.now) root) }
@@ -182,7 +182,7 @@ fn add_order_findings(
 }
 
 // Where the root's period stands.
-fn period_place(names: &Names<'_>, alloc: Global, root: u32) -> Result<usize, NoMemory>
+fn period_place(names: &Names<'_>, alloc: Global, root: usize) -> Result<usize, NoMemory>
     ensures { IfOk result (λ at. at ≡ spec.place_of (spec.at_root (placed names.now.tree.now) root Property.Period)) }
 {
     match root_property(names, alloc, root, Property::Period)? {
@@ -196,7 +196,7 @@ fn period_place(names: &Names<'_>, alloc: Global, root: u32) -> Result<usize, No
 pub fn add_root_findings(
     names: &Names<'_>,
     alloc: Global,
-    root: u32,
+    root: usize,
     rate: u32,
     found: &mut Items<Violation>,
 ) -> Result<(), NoMemory>

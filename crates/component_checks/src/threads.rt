@@ -21,7 +21,7 @@ use rate_checks::{add_period_findings, rate_of};
 use std::alloc::Global;
 
 /// The period of the root in nanoseconds; none where it is missing or above an hour.
-pub fn root_period(names: &Names<'_>, alloc: Global, root: u32) -> Result<Option<Nanos>, NoMemory>
+pub fn root_period(names: &Names<'_>, alloc: Global, root: usize) -> Result<Option<Nanos>, NoMemory>
     ensures { IfOk result (λ period. period ≡ spec.root_period (placed names.now.tree.now) root) }
 {
     match root_property(names, alloc, root, Property::Period)? {
@@ -35,7 +35,7 @@ pub fn root_period(names: &Names<'_>, alloc: Global, root: u32) -> Result<Option
 pub fn own_period(
     names: &Names<'_>,
     alloc: Global,
-    root: u32,
+    root: usize,
     subs: &[SubAt],
 ) -> Result<Option<Nanos>, NoMemory>
     ensures { IfOk result (λ period. period ≡ spec.own_period (placed names.now.tree.now) root subs.now) }
@@ -50,7 +50,7 @@ pub fn own_period(
 pub fn thread_rate(
     names: &Names<'_>,
     alloc: Global,
-    root: u32,
+    root: usize,
     thread: &ThreadAt,
 ) -> Result<Option<u32>, NoMemory>
     ensures { IfOk result (λ rate. rate ≡ spec.thread_rate (placed names.now.tree.now) root thread.now) }
@@ -138,7 +138,7 @@ pub fn add_named(
 pub fn add_thread_findings(
     names: &Names<'_>,
     alloc: Global,
-    root: u32,
+    root: usize,
     thread: &ThreadAt,
     found: &mut Items<Violation>,
 ) -> Result<(), NoMemory>

@@ -1,0 +1,6 @@
+pub mod Numbers
+pub mod Flats
+pub mod Rates
+pub mod Carrying
+pub mod Sorting
+pub mod Found

@@ -1,0 +1,13 @@
+use Rattle.std.proofs.Common.{◌∙◌, sym, ap}
+use Rattle.std.specs.Prelude.{◌||◌}
+use Rattle.ignored_names.specs.Ignored.{is_number}
+use Rattle.model_violations.specs.Use.{has}
+use Rattle.model_violations.proofs.Numbers.{or_nothing, has_inserted}
+use Rattle.model_violations.proofs.usage.add_number.Goals as goal
+
+pub returns-in_ok-insert-in-Some : goal.returns-in_ok-insert-in-Some
+returns-in_ok-insert-in-Some c = λ n.
+    has_inserted c.args.numbers.now.keys _ c.in-Some.number n c.in_ok-insert-in-Some.ensures.keys ∙ ap (λ o. has c.args.numbers.now.keys n || is_number n o) (sym c.in-Some.is)
+
+pub returns-in-None : goal.returns-in-None
+returns-in-None c = λ n. sym (or_nothing (has c.args.numbers.now.keys n)) ∙ ap (λ o. has c.args.numbers.now.keys n || is_number n o) (sym c.in-None.is)

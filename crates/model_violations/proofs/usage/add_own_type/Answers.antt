@@ -1,0 +1,20 @@
+use Rattle.std.proofs.Common.{◌∙◌, sym, ap}
+use Rattle.std.specs.Prelude.{◌||◌}
+use Rattle.aadl_tree.specs.Maps.{kept_place}
+use Rattle.aadl_tree.specs.PackageViews.{placed}
+use Rattle.aadl_tree.specs.Views.{declaration_view}
+use Rattle.ignored_names.specs.Ignored.{is_number}
+use Rattle.model_violations.specs.Use.{has, own_type}
+use Rattle.model_violations.proofs.Numbers.{or_untested, or_tested}
+use Rattle.model_violations.proofs.usage.add_own_type.Goals as goal
+
+pub returns-in_ok-add_number : goal.returns-in_ok-add_number
+returns-in_ok-add_number c = λ n.
+    let number = own_type (placed c.args.names.now.tree.now) (declaration_view kept_place c.args.declaration.now) in
+    or_tested (has c.args.types.now.keys n) (has c.args.used.now.keys c.args.number) (is_number n number) _ (sym c.contains.ensures ∙ c.if-contains.true)
+    (c.in_ok-add_number.ensures n ∙ ap (λ o. has c.args.types.now.keys n || is_number n o) c.in_ok-of_type.ensures)
+
+pub returns-else-contains : goal.returns-else-contains
+returns-else-contains c = λ n.
+    let number = own_type (placed c.args.names.now.tree.now) (declaration_view kept_place c.args.declaration.now) in
+    or_untested (has c.args.types.now.keys n) (has c.args.used.now.keys c.args.number) (is_number n number) (sym c.contains.ensures ∙ c.if-contains.false)

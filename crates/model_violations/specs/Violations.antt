@@ -1,0 +1,87 @@
+-- All that is wrong with an instance, in order of place, then of number.
+use Rattle.std.specs.Prelude.{◌≡◌, ℕ, nat_eq, nat_lt, Bool, ◌&&◌, ◌||◌, List, ◌++◌, map, flat_map, Option}
+use Rattle.std.specs.List.Sorted.{IsSortedBy, IsStableBy}
+use Rattle.aadl_tree.specs.Declarations.{PackageTree}
+use Rattle.instance_threads.specs.declared.places.ThreadAt.{ThreadAt}
+use Rattle.aadl_instance.specs.declared.parts.Chain.{Chain}
+use Rattle.aadl_instance.specs.declared.instance.Instance.{Instance}
+use Rattle.aadl_instance.specs.Flat.{Parts}
+use Rattle.aadl_instance.specs.Instances.{chain_at}
+use Rattle.instance_threads.specs.Places.{thread_at}
+use Rattle.annex_resolve.specs.declared.violation.Violation.{Violation}
+use Rattle.component_checks.specs.Threads.{thread_rate, greatest_rate, thread_findings}
+use Rattle.component_checks.specs.Roots.{root_findings}
+use Rattle.link_checks.specs.Carriers.{carries}
+use Rattle.link_checks.specs.Chains.{link_findings, feed_findings, tap_findings}
+use Rattle.model_violations.specs.Use.{IsUse, type_used}
+use Rattle.model_violations.specs.Declarations.{declarations_findings}
+
+-- what an instance shows
+pub record Shown : Type 0 where
+  pub root : ℕ
+  pub threads : List ThreadAt
+  pub links : List Chain
+  pub feeds : List Chain
+  pub taps : List Chain
+
+abbrev pub shown : Instance → Shown
+shown x = record { root = x.root; threads = x.threads; links = x.links; feeds = x.feeds; taps = x.taps }
+
+-- what the instance of a flattened design shows
+abbrev pub shown_by : PackageTree ℕ → Parts → Shown
+shown_by tree parts = record {
+  root = parts.root;
+  threads = map (thread_at tree parts.root) parts.threads;
+  links = map (chain_at tree parts) parts.links;
+  feeds = map (chain_at tree parts) parts.feeds;
+  taps = map (chain_at tree parts) parts.taps;
+}
+
+-- ---- each rule in component, link or connection order
+abbrev pub rates_of : PackageTree ℕ → Shown → List (Option ℕ)
+rates_of tree s = map (thread_rate tree s.root) s.threads
+
+abbrev pub place_of : Chain → ℕ × ℕ
+place_of x = (x.carrier.declaration, x.carrier.connection)
+
+-- the connections that carry links, feeds or taps
+abbrev pub carriers_of : Shown → List (ℕ × ℕ)
+carriers_of s = map place_of s.links ++ map place_of s.feeds ++ map place_of s.taps
+
+-- over the rates of the threads
+abbrev pub chain_findings : PackageTree ℕ → Shown → List (Option ℕ) → List Violation
+chain_findings tree s rates =
+    flat_map (link_findings tree s.threads rates) s.links ++ flat_map (feed_findings tree s.threads rates) s.feeds
+    ++ flat_map (tap_findings tree s.threads) s.taps
+
+-- with the test for what is in use
+abbrev pub used_findings : PackageTree ℕ → Shown → (ℕ → Bool) → List Violation
+used_findings tree s used = declarations_findings tree s.root used (type_used tree used) (carries (carriers_of s))
+
+unfoldable pub findings : PackageTree ℕ → Shown → (ℕ → Bool) → List Violation
+findings tree s used =
+    root_findings tree s.root (greatest_rate (rates_of tree s)) ++ flat_map (thread_findings tree s.root) s.threads
+    ++ chain_findings tree s (rates_of tree s) ++ used_findings tree s used
+
+-- the list with the findings of the declarations in use behind it
+pub record AddUsed (tree : PackageTree ℕ) (s : Shown) (old new : List Violation) : Type 0 where
+  pub used : ℕ → Bool
+  pub is_use : IsUse tree s.root used
+  pub added : new ≡ old ++ used_findings tree s used
+
+-- all findings
+pub record AreFindings (tree : PackageTree ℕ) (s : Shown) (list : List Violation) : Type 0 where
+  pub used : ℕ → Bool
+  pub is_use : IsUse tree s.root used
+  pub all : list ≡ findings tree s used
+
+-- ---- by place, then by number
+abbrev pub goes_before : Violation → Violation → Bool
+goes_before a b = nat_lt a.at b.at || (nat_eq a.at b.at && nat_lt a.number b.number)
+
+-- all findings in this order; what agrees in place and number stays in the order in which it is found
+pub record AreViolations (tree : PackageTree ℕ) (s : Shown) (list : List Violation) : Type 0 where
+  pub used : ℕ → Bool
+  pub is_use : IsUse tree s.root used
+  pub in_order : IsSortedBy goes_before list
+  pub same : IsStableBy goes_before (findings tree s used) list

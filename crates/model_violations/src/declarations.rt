@@ -1,0 +1,180 @@
+//! What is wrong with the declarations that are in use.
+ghost use Rattle.std.specs.Prelude.{◌≡◌, ◌++◌, true, IfOk, OnOk, Some, slice_get, map, flat_map};
+ghost use Rattle.aadl_tree.specs.Maps.{kept_place};
+ghost use Rattle.aadl_tree.specs.PackageViews.{placed};
+ghost use Rattle.aadl_tree.specs.Declarations.{implementation};
+ghost use Rattle.aadl_tree.specs.Views.{declaration_view, implementation_view, subcomponent_view, type_view};
+ghost use Rattle.aadl_names.specs.Resolving.{is_thread};
+ghost use Rattle.thread_checks.specs.Threads.{IsSmall};
+ghost use Rattle.ignored_names.specs.Ignored.{is_root_type};
+ghost use Rattle.link_checks.specs.Carriers.{carries};
+ghost use Rattle.model_violations.specs.Use.{has};
+ghost use Rattle.model_violations.specs.Declarations as spec;
+
+use aadl_names::{Holder, Names};
+use aadl_tree::{Category, Declaration, Implementation, Subcomponent, TypeDeclaration};
+use annex_resolve::Violation;
+use component_checks::times::add_list_big;
+use component_checks::types::add_port_findings;
+use ignored_names::declarations::is_number;
+use ignored_names::ignored::root_type;
+use indexmap::IndexSet;
+use link_checks::carriers::Carriers;
+use link_checks::connections::add_connections_findings;
+use pals_base::{Items, NoMemory};
+use std::alloc::Global;
+use thread_checks::resolve_implementation;
+
+// Whether a type is the root's.
+fn is_root_type(
+    names: &Names<'_>,
+    alloc: Global,
+    root: usize,
+    number: usize,
+) -> Result<bool, NoMemory>
+    ensures { IfOk result (λ is. is ≡ is_root_type (placed names.now.tree.now) root number) }
+{
+    let of_root = root_type(names, alloc, root)?;
+    Ok(is_number(number, of_root))
+}
+
+// Adds what is wrong with the type of a number.
+fn add_type_findings(
+    names: &Names<'_>,
+    alloc: Global,
+    root: usize,
+    number: usize,
+    x: &TypeDeclaration,
+    found: &mut Items<Violation>,
+) -> Result<(), NoMemory>
+    ensures { OnOk result (found.new ≡ found.old
+        ++ spec.type_findings (is_root_type (placed names.now.tree.now) root number) (type_view kept_place x.now)) }
+{
+    let of_root = is_root_type(names, alloc, root, number)?;
+    add_port_findings(alloc, x.features.as_slice(), found)?;
+    let holder = Holder::Declaration(x.category, of_root);
+    add_list_big(alloc, holder, x.properties.as_slice(), found)
+}
+
+// Adds the times above an hour of subcomponents.
+fn add_subs_findings(
+    alloc: Global,
+    subs: &[Subcomponent],
+    found: &mut Items<Violation>,
+) -> Result<(), NoMemory>
+    ensures { OnOk result (found.new ≡ found.old ++ flat_map spec.sub_findings (map (subcomponent_view kept_place) subs.now)) }
+{
+    for sub in subs {
+        let holder = Holder::Subcomponent(sub.category);
+        add_list_big(alloc, holder, sub.properties.as_slice(), found)?;
+    }
+    Ok(())
+}
+
+// Adds what is wrong with the behaviour of an implementation, if it is a thread's.
+fn add_thread_findings(
+    names: &Names<'_>,
+    alloc: Global,
+    x: &Implementation,
+    found: &mut Items<Violation>,
+) -> Result<(), NoMemory>
+    requires { is_thread x.now.category ≡ true → IsSmall (placed names.now.tree.now) (implementation_view kept_place x.now) }
+    ensures { OnOk result (found.new ≡ found.old ++ spec.thread_findings (placed names.now.tree.now) (implementation_view kept_place x.now)) }
+{
+    match x.category {
+        Category::Thread => {
+            let _behaviour = resolve_implementation(names, alloc, x, found)?;
+            Ok(())
+        }
+        Category::System | Category::Process => Ok(()),
+    }
+}
+
+// Adds what is wrong with the implementation of a number.
+fn add_implementation_findings(
+    names: &Names<'_>,
+    alloc: Global,
+    root: usize,
+    carriers: &Carriers,
+    number: usize,
+    x: &Implementation,
+    found: &mut Items<Violation>,
+) -> Result<(), NoMemory>
+    requires number { slice_get (placed names.now.tree.now).declarations number ≡ Some (implementation (implementation_view kept_place x.now)) }
+    requires small { is_thread x.now.category ≡ true → IsSmall (placed names.now.tree.now) (implementation_view kept_place x.now) }
+    ensures { OnOk result (found.new ≡ found.old
+        ++ spec.implementation_findings (placed names.now.tree.now) root (carries carriers.now) number (implementation_view kept_place x.now)) }
+{
+    let holder = Holder::Declaration(x.category, number == root);
+    add_list_big(alloc, holder, x.properties.as_slice(), found)?;
+    add_subs_findings(alloc, x.subcomponents.as_slice(), found)?;
+    add_connections_findings(names, alloc, carriers, number, x, found)?;
+    add_thread_findings(names, alloc, x, found)
+}
+
+// Adds what is wrong with the declaration of a number, where it is in use.
+fn add_declaration_findings(
+    names: &Names<'_>,
+    alloc: Global,
+    root: usize,
+    used: &IndexSet<usize>,
+    types: &IndexSet<usize>,
+    carriers: &Carriers,
+    number: usize,
+    declaration: &Declaration,
+    found: &mut Items<Violation>,
+) -> Result<(), NoMemory>
+    requires number { slice_get (placed names.now.tree.now).declarations number ≡ Some (declaration_view kept_place declaration.now) }
+    requires small { spec.AreSmall (placed names.now.tree.now) (has used.now.keys) }
+    ensures { OnOk result (found.new ≡ found.old
+        ++ spec.declaration_findings (placed names.now.tree.now) root (has used.now.keys) (has types.now.keys) (carries carriers.now)
+        (number, declaration_view kept_place declaration.now)) }
+{
+    match declaration {
+        Declaration::Type(x) => {
+            if types.contains(&number) {
+                add_type_findings(names, alloc, root, number, x, found)
+            } else {
+                Ok(())
+            }
+        }
+        Declaration::Implementation(x) => {
+            if used.contains(&number) {
+                add_implementation_findings(names, alloc, root, carriers, number, x, found)
+            } else {
+                Ok(())
+            }
+        }
+    }
+}
+
+/// Adds what is wrong with the declarations in use: the implementations and types of these numbers,
+/// where the connections carry chains.
+pub fn add_declarations_findings(
+    names: &Names<'_>,
+    alloc: Global,
+    root: usize,
+    used: &IndexSet<usize>,
+    types: &IndexSet<usize>,
+    carriers: &Carriers,
+    found: &mut Items<Violation>,
+) -> Result<(), NoMemory>
+    requires { spec.AreSmall (placed names.now.tree.now) (has used.now.keys) }
+    ensures { OnOk result (found.new ≡ found.old
+        ++ spec.declarations_findings (placed names.now.tree.now) root (has used.now.keys) (has types.now.keys) (carries carriers.now)) }
+{
+    for (number, declaration) in names.tree.declarations.iter().enumerate() {
+        add_declaration_findings(
+            names,
+            alloc,
+            root,
+            used,
+            types,
+            carriers,
+            number,
+            declaration,
+            found,
+        )?;
+    }
+    Ok(())
+}

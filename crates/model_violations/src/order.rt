@@ -1,0 +1,32 @@
+//! Findings in order of place, then of number.
+ghost use Rattle.std.specs.Prelude.{◌≡◌, IfOk};
+ghost use Rattle.std.specs.List.Sorted.{IsSortedBy, IsStableBy};
+ghost use Rattle.std.specs.Ordering.{is_lt};
+ghost use Rattle.model_violations.specs.Violations.{goes_before};
+
+use annex_resolve::Violation;
+use pals_base::{Items, NoMemory};
+use std::cmp::Ordering;
+
+// How two findings stand to one another.
+fn compare(a: &Violation, b: &Violation) -> Ordering
+    ensures { is_lt result ≡ goes_before a.now b.now }
+{
+    if a.at < b.at || (a.at == b.at && a.number < b.number) {
+        Ordering::Less
+    } else if a.at == b.at && a.number == b.number {
+        Ordering::Equal
+    } else {
+        Ordering::Greater
+    }
+}
+
+/// The findings by place, then by number. Those of one place and number stay in their order.
+pub fn in_order(findings: Items<Violation>) -> Result<Items<Violation>, NoMemory>
+    ensures sorted { IfOk result (λ list. IsSortedBy goes_before list) }
+    ensures same { IfOk result (λ list. IsStableBy goes_before findings list) }
+{
+    let mut list = findings.into_vec();
+    list.sort_by(|a, b| compare(a, b))?;
+    Ok(Items::from_vec(list))
+}
