@@ -1,0 +1,4 @@
+//! Places rise along a tree.
+#![tactic(auto)]
+
+pub mod laws;

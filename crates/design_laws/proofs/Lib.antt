@@ -1,0 +1,4 @@
+pub mod Listed
+pub mod Orders
+pub mod Sorted
+pub mod Verdicts

@@ -1,0 +1,62 @@
+-- There is one list of all that have a property, in an order that goes one way.
+use Rattle.std.proofs.Common.{◌≡◌, ◌⊎◌, inl, inr, ℕ, zero, suc, ◌<◌, List, [], ◌∷◌, length, get_or, AllPairs, All, Contains, sym, subst, arith}
+use Rattle.aadl_uses.specs.Threads.{Lists}
+
+none_in : {X : Type 0} (x : X) → Contains [] x → ⊥
+none_in x h = let lt = h.1 in absurd (omega arith)
+
+module _ {X : Type 0} where
+  in_head : (x : X) (xs : List X) → Contains (x ∷ xs) x
+  in_head x xs = (0, omega arith, λ i. x)
+
+  in_tail : (y : X) (xs : List X) (x : X) → Contains xs x → Contains (y ∷ xs) x
+  in_tail y xs x h = let lt = h.1 in (suc h.0, omega arith, h.2)
+
+  later_at : (y x : X) (ys : List X) (k : ℕ) → k < length (y ∷ ys) → get_or (y ∷ ys) k x ≡ x → (y ≡ x) ⊎ Contains ys x
+  later_at y x ys zero lt e = inl e
+  later_at y x ys (suc k) lt e = inr (k, omega arith, e)
+
+  first_or_later : (y x : X) (ys : List X) → Contains (y ∷ ys) x → (y ≡ x) ⊎ Contains ys x
+  first_or_later y x ys h = later_at y x ys h.0 h.1 h.2
+
+module _ {X : Type 0} (Before : X → X → Type 0) (one_way : (x y : X) → Before x y → Before y x → ⊥) where
+  head_before : (x z : X) (xs : List X) → AllPairs Before (x ∷ xs) → Contains xs z → Before x z
+  head_before x z xs a h = let lt = h.1 in subst (Before x) h.2 (a 0 (suc h.0) z (omega arith) (omega arith))
+
+  tail_pairs : (x : X) (xs : List X) → AllPairs Before (x ∷ xs) → AllPairs Before xs
+  tail_pairs x xs a i j d less lt = a (suc i) (suc j) d (omega arith) (omega arith)
+
+  -- each begins with the other's first
+  same_first : (x y : X) (xs ys : List X) → AllPairs Before (x ∷ xs) → AllPairs Before (y ∷ ys) → (y ≡ x) ⊎ Contains ys x → (x ≡ y) ⊎ Contains xs y → x ≡ y
+  same_first x y xs ys a b (inl e) h = sym e
+  same_first x y xs ys a b (inr k) (inl e) = e
+  same_first x y xs ys a b (inr k) (inr h) = absurd (one_way x y (head_before x y xs a h) (head_before y x ys b k))
+
+  -- what stands behind the first of one list stands behind the same first of the other
+  behind : (x y z : X) (xs ys : List X) → x ≡ y → AllPairs Before (x ∷ xs) → Contains xs z → (y ≡ z) ⊎ Contains ys z → Contains ys z
+  behind x y z xs ys e a h (inl f) =
+      let before = head_before x z xs a h in
+      let round = subst (λ w. Before w z) e before in
+      let back = subst (λ w. Before w w) f (subst (Before y) (sym f) round) in
+      absurd (one_way z z back back)
+  behind x y z xs ys e a h (inr k) = k
+
+  same_lists : (xs ys : List X) → AllPairs Before xs → AllPairs Before ys
+      → ((z : X) → Contains xs z → Contains ys z) → ((z : X) → Contains ys z → Contains xs z) → xs ≡ ys
+  same_lists [] [] a b there back = λ i. []
+  same_lists [] (y ∷ ys) a b there back = absurd (none_in y (back y (in_head y ys)))
+  same_lists (x ∷ xs) [] a b there back = absurd (none_in x (there x (in_head x xs)))
+  same_lists (x ∷ xs) (y ∷ ys) a b there back =
+      let first = same_first x y xs ys a b (first_or_later y x ys (there x (in_head x xs))) (first_or_later x y xs (back y (in_head y ys))) in
+      let rest =
+      same_lists xs ys (tail_pairs x xs a) (tail_pairs y ys b)
+      (λ z h. behind x y z xs ys first a h (first_or_later y z ys (there z (in_tail x xs z h))))
+      (λ z h. behind y x z ys xs (sym first) b h (first_or_later x z xs (back z (in_tail y ys z h)))) in
+      λ i. first i ∷ rest i
+
+  has_each : (P : X → Type 0) (xs : List X) (z : X) → All P xs → Contains xs z → P z
+  has_each P xs z each h = subst P h.2 (each h.0 z h.1)
+
+  pub one_listing : (P : X → Type 0) (xs ys : List X) → Lists P Before xs → Lists P Before ys → xs ≡ ys
+  one_listing P xs ys a b =
+      same_lists xs ys a.in_order b.in_order (λ z h. b.complete z (has_each P xs z a.each h)) (λ z h. a.complete z (has_each P ys z b.each h))

@@ -1,0 +1,4 @@
+//! Why a package has one answer: one instance below a root, one list of what is wrong with it, and one design.
+#![tactic(auto)]
+
+pub mod laws;

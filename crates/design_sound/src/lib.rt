@@ -1,0 +1,4 @@
+//! Why an instance in which nothing is found has a design.
+#![tactic(auto)]
+
+pub mod laws;

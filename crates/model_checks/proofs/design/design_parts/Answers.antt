@@ -1,0 +1,20 @@
+use Rattle.std.proofs.Common.{subst, sym}
+use Rattle.std.specs.Prelude.{All}
+use Rattle.std.proofs.lemmas.List.Elements.{All-same}
+use Rattle.aadl_tree.specs.PackageViews.{placed}
+use Rattle.model_sound.specs.Designs.{HasRules}
+use Rattle.model_checks.specs.Limits.{IsWithinLimits}
+use Rattle.model_checks.proofs.Threads.{within_limits}
+use Rattle.model_checks.proofs.design.design_parts.Goals as goal
+
+pub components-requires-clause-limits : goal.components-requires-clause-limits
+components-requires-clause-limits c =
+    let threads = c.as_slice.result.now in
+    subst (λ tree. All (IsWithinLimits (placed tree)) threads) (sym c.requires.names)
+    (All-same (IsWithinLimits (placed c.args.instance.now.tree.now)) threads c.args.instance.now.threads c.as_slice.ensures.value (within_limits c.args.instance.now.flat))
+
+pub components-requires-clause-rules : goal.components-requires-clause-rules
+components-requires-clause-rules c =
+    let threads = c.as_slice.result.now in
+    subst (λ tree. All (HasRules (placed tree)) threads) (sym c.requires.names)
+    (All-same (HasRules (placed c.args.instance.now.tree.now)) threads c.args.instance.now.threads c.as_slice.ensures.value c.requires.rules)

@@ -1,0 +1,7 @@
+use Rattle.std.proofs.Common.{◌≡◌, map, take, Some}
+use Rattle.aadl_tree.specs.PackageViews.{placed}
+use Rattle.model_sound.specs.Designs.{all_of, link_in}
+use Rattle.model_checks.proofs.design.links.Given as goal
+
+abbrev pub invariant-loop-chain : goal.invariant-loop-chain
+invariant-loop-chain l = Some l.links ≡ all_of (map (link_in (placed l.names.tree.now)) (take l.chain-index l.chains))

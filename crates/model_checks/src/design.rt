@@ -1,0 +1,255 @@
+//! The design of an instance.
+ghost use Rattle.std.specs.Prelude.{◌≡◌, IfOk, All, MatchOption, map};
+ghost use Rattle.aadl_tree.specs.PackageViews.{placed};
+ghost use Rattle.model_violations.specs.Violations.{shown};
+ghost use Rattle.model_sound.specs.Designs as spec;
+ghost use Rattle.model_checks.specs.Limits.{IsWithinLimits};
+ghost use Rattle.model_checks.specs.Refused.{HasNoDesign};
+
+use aadl_instance::{Chain, ChainEnd, Instance, ThreadAt};
+use aadl_names::Names;
+use component_checks::roots::root_gamma;
+use component_checks::threads::{root_period, thread_rate};
+use ignored_names::ignored_names;
+use link_checks::carriers::{adaptor_of, connection_of};
+use link_checks::ports::component_of;
+use pals_base::{Adaptor, Behaviour, Items, NoMemory, TryClone};
+use pals_model::{Component, DesignParts, Feed, Link, Tap};
+use std::alloc::Global;
+use thread_checks::resolve_implementation;
+
+// The behaviour of a thread, if it has one.
+fn behaviour(
+    names: &Names<'_>,
+    alloc: Global,
+    thread: &ThreadAt,
+) -> Result<Option<Behaviour>, NoMemory>
+    requires limits { IsWithinLimits (placed names.now.tree.now) thread.now }
+    requires rules { spec.HasRules (placed names.now.tree.now) thread.now }
+    ensures { IfOk result (λ found. found ≡ spec.thread_behaviour (placed names.now.tree.now) thread.now) }
+{
+    let mut found = Items::new(alloc);
+    let Some(x) = component_of(names, alloc, thread)? else {
+        return Ok(None);
+    };
+    let Some(parts) = resolve_implementation(names, alloc, x, &mut found)? else {
+        return Ok(None);
+    };
+    Ok(Some(Behaviour::new(parts)))
+}
+
+// A component, if nothing of it is refused.
+fn component(
+    names: &Names<'_>,
+    alloc: Global,
+    root: usize,
+    thread: &ThreadAt,
+) -> Result<Option<Component>, NoMemory>
+    requires limits { IsWithinLimits (placed names.now.tree.now) thread.now }
+    requires rules { spec.HasRules (placed names.now.tree.now) thread.now }
+    ensures { IfOk result (λ found. found ≡ spec.component_in (placed names.now.tree.now) root thread.now) }
+{
+    let Some(rate) = thread_rate(names, alloc, root, thread)? else {
+        return Ok(None);
+    };
+    let Some(behaviour) = behaviour(names, alloc, thread)? else {
+        return Ok(None);
+    };
+    Ok(Some(Component {
+        path: thread.path.try_clone(alloc)?,
+        rate,
+        behaviour,
+    }))
+}
+
+// The components, if nothing of them is refused.
+fn components(
+    names: &Names<'_>,
+    alloc: Global,
+    root: usize,
+    threads: &[ThreadAt],
+) -> Result<Option<Items<Component>>, NoMemory>
+    requires limits { All (IsWithinLimits (placed names.now.tree.now)) threads.now }
+    requires rules { All (spec.HasRules (placed names.now.tree.now)) threads.now }
+    ensures { IfOk result (λ found. found ≡ spec.all_of (map (spec.component_in (placed names.now.tree.now) root) threads.now)) }
+{
+    let mut components = Items::new(alloc);
+    for thread in threads {
+        let Some(component) = component(names, alloc, root, thread)? else {
+            return Ok(None);
+        };
+        components.push(component)?;
+    }
+    Ok(Some(components))
+}
+
+// The adaptor of a chain.
+fn adaptor(names: &Names<'_>, alloc: Global, chain: &Chain) -> Result<Option<Adaptor>, NoMemory>
+    ensures { IfOk result (λ found. found ≡ spec.chain_adaptor (placed names.now.tree.now) chain.now) }
+{
+    match connection_of(names.tree, chain.carrier) {
+        Some(connection) => Ok(adaptor_of(alloc, connection)?.flatten()),
+        None => Ok(None),
+    }
+}
+
+// The link of a chain, if it runs between threads.
+fn link(names: &Names<'_>, alloc: Global, chain: &Chain) -> Result<Option<Link>, NoMemory>
+    ensures { IfOk result (λ found. found ≡ spec.link_in (placed names.now.tree.now) chain.now) }
+{
+    let ChainEnd::Thread {
+        node: source,
+        port: out_port,
+    } = &chain.from
+    else {
+        return Ok(None);
+    };
+    let ChainEnd::Thread {
+        node: target,
+        port: in_port,
+    } = &chain.to
+    else {
+        return Ok(None);
+    };
+    Ok(Some(Link {
+        source: *source,
+        out_port: *out_port,
+        target: *target,
+        in_port: *in_port,
+        adaptor: adaptor(names, alloc, chain)?,
+    }))
+}
+
+// The links.
+fn links(
+    names: &Names<'_>,
+    alloc: Global,
+    chains: &[Chain],
+) -> Result<Option<Items<Link>>, NoMemory>
+    ensures { IfOk result (λ found. found ≡ spec.all_of (map (spec.link_in (placed names.now.tree.now)) chains.now)) }
+{
+    let mut links = Items::new(alloc);
+    for chain in chains {
+        let Some(link) = link(names, alloc, chain)? else {
+            return Ok(None);
+        };
+        links.push(link)?;
+    }
+    Ok(Some(links))
+}
+
+// The feed of a chain, if it runs from the root to a thread.
+fn feed(names: &Names<'_>, alloc: Global, chain: &Chain) -> Result<Option<Feed>, NoMemory>
+    ensures { IfOk result (λ found. found ≡ spec.feed_in (placed names.now.tree.now) chain.now) }
+{
+    let ChainEnd::Root { name } = &chain.from else {
+        return Ok(None);
+    };
+    let ChainEnd::Thread {
+        node: target,
+        port: in_port,
+    } = &chain.to
+    else {
+        return Ok(None);
+    };
+    Ok(Some(Feed {
+        name: name.try_clone(alloc)?,
+        target: *target,
+        in_port: *in_port,
+        adaptor: adaptor(names, alloc, chain)?,
+    }))
+}
+
+// The feeds.
+fn feeds(
+    names: &Names<'_>,
+    alloc: Global,
+    chains: &[Chain],
+) -> Result<Option<Items<Feed>>, NoMemory>
+    ensures { IfOk result (λ found. found ≡ spec.all_of (map (spec.feed_in (placed names.now.tree.now)) chains.now)) }
+{
+    let mut feeds = Items::new(alloc);
+    for chain in chains {
+        let Some(feed) = feed(names, alloc, chain)? else {
+            return Ok(None);
+        };
+        feeds.push(feed)?;
+    }
+    Ok(Some(feeds))
+}
+
+// The tap of a chain, if it runs from a thread to the root.
+fn tap(alloc: Global, chain: &Chain) -> Result<Option<Tap>, NoMemory>
+    ensures { IfOk result (λ found. found ≡ spec.tap_in chain.now) }
+{
+    let ChainEnd::Thread {
+        node: source,
+        port: out_port,
+    } = &chain.from
+    else {
+        return Ok(None);
+    };
+    let ChainEnd::Root { name } = &chain.to else {
+        return Ok(None);
+    };
+    Ok(Some(Tap {
+        name: name.try_clone(alloc)?,
+        source: *source,
+        out_port: *out_port,
+    }))
+}
+
+// The taps.
+fn taps(alloc: Global, chains: &[Chain]) -> Result<Option<Items<Tap>>, NoMemory>
+    ensures { IfOk result (λ found. found ≡ spec.all_of (map spec.tap_in chains.now)) }
+{
+    let mut taps = Items::new(alloc);
+    for chain in chains {
+        let Some(tap) = tap(alloc, chain)? else {
+            return Ok(None);
+        };
+        taps.push(tap)?;
+    }
+    Ok(Some(taps))
+}
+
+/// The parts of the design of an instance, by the names of its package, if nothing of it is refused.
+pub fn design_parts(
+    names: &Names<'_>,
+    alloc: Global,
+    instance: &Instance<'_>,
+) -> Result<Option<DesignParts>, NoMemory>
+    requires names { names.now.tree.now ≡ instance.now.tree.now }
+    requires rules { All (spec.HasRules (placed instance.now.tree.now)) instance.now.threads }
+    ensures { IfOk result (λ found. MatchOption found (HasNoDesign (placed instance.now.tree.now) (shown instance.now))
+        (λ design. spec.IsDesignOf (placed instance.now.tree.now) (shown instance.now) design)) }
+{
+    let root = instance.root;
+    let Some(period) = root_period(names, alloc, root)? else {
+        return Ok(None);
+    };
+    let Some(gamma) = root_gamma(names, alloc, root)? else {
+        return Ok(None);
+    };
+    let Some(components) = components(names, alloc, root, instance.threads.as_slice())? else {
+        return Ok(None);
+    };
+    let Some(links) = links(names, alloc, instance.links.as_slice())? else {
+        return Ok(None);
+    };
+    let Some(feeds) = feeds(names, alloc, instance.feeds.as_slice())? else {
+        return Ok(None);
+    };
+    let Some(taps) = taps(alloc, instance.taps.as_slice())? else {
+        return Ok(None);
+    };
+    Ok(Some(DesignParts {
+        period,
+        gamma,
+        components,
+        links,
+        feeds,
+        taps,
+        ignored: ignored_names(names, alloc, root)?,
+    }))
+}

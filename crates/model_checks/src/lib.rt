@@ -1,0 +1,7 @@
+//! The design of an instance, or all that is wrong with it.
+#![tactic(auto)]
+
+pub mod design;
+pub mod verdict;
+
+pub use verdict::{CheckFault, check};

@@ -1,0 +1,70 @@
+//! From an instance to its design.
+ghost use Rattle.std.specs.Prelude.{◌≡◌, [], IfOk, IfErr};
+ghost use Rattle.aadl_tree.specs.PackageViews.{placed};
+ghost use Rattle.model_violations.specs.Violations.{shown, AreViolations};
+ghost use Rattle.model_sound.specs.Designs.{IsDesignOf};
+ghost use Rattle.model_checks.specs.Refused.{IsRefused};
+
+use crate::design::design_parts;
+use aadl_instance::Instance;
+use aadl_names::Names;
+use annex_resolve::Violation;
+use design_sound::laws::{designs_are_there, designs_keep_their_rules};
+use model_sound::laws::{behaviours_keep_their_rules, no_violations_are_no_findings};
+use model_violations::list::violations_by;
+use names_sound::laws::texts_name;
+use pals_base::{Items, NoMemory};
+use pals_model::Design;
+use std::alloc::{AllocError, Global};
+
+/// Why an instance has no design.
+#[derive(Drop)]
+pub enum CheckFault {
+    /// All that is wrong with it, in order of place, then of number.
+    Violations(Items<Violation>),
+    /// There is no memory.
+    Memory,
+}
+
+impl From<AllocError> for CheckFault {
+    ghost use Rattle.std.specs.Prelude.{◌≡◌};
+    ghost use Rattle.model_checks.specs.declared.verdict.CheckFault.TheVariants.{Memory};
+
+    ghost from_gives = { λ _ e. e ≡ Memory };
+
+    fn from(_error: AllocError) -> CheckFault {
+        CheckFault::Memory
+    }
+}
+
+// The design of an instance in which nothing is wrong.
+fn accepted(names: &Names<'_>, alloc: Global, instance: &Instance<'_>) -> Result<Design, NoMemory>
+    requires names { names.now.tree.now ≡ instance.now.tree.now }
+    requires none { AreViolations (placed instance.now.tree.now) (shown instance.now) [] }
+    ensures { IfOk result (λ design. IsDesignOf (placed instance.now.tree.now) (shown instance.now) design) }
+{
+    texts_name();
+    no_violations_are_no_findings();
+    behaviours_keep_their_rules();
+    designs_are_there();
+    designs_keep_their_rules();
+    let Some(parts) = design_parts(names, alloc, instance)? else {
+        unreachable!();
+    };
+    Ok(Design::new(parts))
+}
+
+/// The design of an instance, or all that is wrong with it.
+pub fn check(alloc: Global, instance: &Instance<'_>) -> Result<Design, CheckFault>
+    ensures accepted { IfOk result (λ _. AreViolations (placed instance.now.tree.now) (shown instance.now) []) }
+    ensures design { IfOk result (λ design. IsDesignOf (placed instance.now.tree.now) (shown instance.now) design) }
+    ensures refused { IfErr result (λ fault. IsRefused (placed instance.now.tree.now) (shown instance.now) fault) }
+{
+    let names = Names::of(alloc, instance.tree)?;
+    let found = violations_by(alloc, &names, instance)?;
+    if !found.is_empty() {
+        return Err(CheckFault::Violations(found));
+    }
+    let design = accepted(&names, alloc, instance)?;
+    Ok(design)
+}

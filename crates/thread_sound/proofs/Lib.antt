@@ -1,0 +1,5 @@
+pub mod Partition
+pub mod Naming
+pub mod Typing
+pub mod Stating
+pub mod Readying
