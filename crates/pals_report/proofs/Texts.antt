@@ -1,35 +1,9 @@
 -- Texts of lists, place by place.
-use Rattle.std.proofs.Common.{◌≡◌, ℕ, ℤ, zero, suc, ◌<◌, ◌≤◌, ◌-◌, min, Result, Ok, Err, OnOk, OnErr, List, [], ◌∷◌, ◌++◌, length, map, take, drop, get_or, codes, refl, sym, ap, ◌∙◌, subst, arith, append_assoc, add-one, ◌+◌}
+use Rattle.std.proofs.Common.{◌≡◌, ℕ, ℤ, zero, suc, ◌<◌, ◌≤◌, ◌-◌, min, List, [], ◌∷◌, ◌++◌, length, map, take, drop, get_or, codes, refl, sym, ap, ◌∙◌, arith, append_assoc, add-one, ◌+◌}
 use Rattle.std.specs.List.{flat_map}
 use Rattle.std.proofs.lemmas.List.{append-nil, take_all, take_rest}
-use Rattle.std.proofs.lemmas.List.Prefix.{front_rest}
 use Rattle.pals_base.specs.declared.behaviour.VarDecl.{VarDecl}
 use Rattle.pals_model.specs.RoundTexts.{with_commas, variable_text, vars_text}
-use Rattle.pals_report.specs.Appended.{BeginsWith}
-
--- what begins with more begins with less
-begins_before : (text start more middle : List ℕ) → middle ≡ start ++ more → BeginsWith text middle → BeginsWith text start
-begins_before text start more middle e h =
-    let rest : List ℕ = more ++ drop (length middle) text in
-    let joined : text ≡ start ++ rest = h ∙ ap (λ m. m ++ drop (length middle) text) e ∙ append_assoc start more (drop (length middle) text) in
-    joined ∙ ap (λ t. start ++ t) (sym (front_rest text start rest joined))
-
--- more text behind what begins with a start
-pub begins_more : (text middle start more : List ℕ) → BeginsWith middle start → text ≡ middle ++ more → BeginsWith text start
-begins_more text middle start more h e =
-    begins_before text start (drop (length start) middle) middle h (e ∙ ap (λ t. middle ++ t) (sym (front_rest text middle more e)))
-
--- the same of a refused call
-pub begins-on_err : {T E : Type 0} (r : Result T E) (text start more middle : List ℕ) → middle ≡ start ++ more → BeginsWith text middle → OnErr r (BeginsWith text start)
-begins-on_err (Ok x) text start more middle e h = tt
-begins-on_err (Err x) text start more middle e h = begins_before text start more middle e h
-
--- a call that keeps what another has added
-pub joined-on_ok : {T E : Type 0} (r written : Result T E) (new middle old text same : List ℕ) → r ≡ written → OnOk written (new ≡ middle) → OnOk written (middle ≡ old ++ text) → text ≡ same → OnOk r (new ≡ old ++ same)
-joined-on_ok r (Ok x) new middle old text same is kept added e =
-    subst (λ q. OnOk q (new ≡ old ++ same)) (sym is) (kept ∙ added ∙ ap (λ t. old ++ t) e)
-joined-on_ok r (Err x) new middle old text same is kept added e =
-    subst (λ q. OnOk q (new ≡ old ++ same)) (sym is) tt
 
 -- commas stand before each text but the first
 with_commas-cons : {X : Type 0} (f : X → List ℕ) (x : X) (xs : List X) → with_commas (map f (x ∷ xs)) ≡ f x ++ flat_map (λ y. codes "," ++ f y) xs

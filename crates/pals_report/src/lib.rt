@@ -1,21 +1,17 @@
 //! What the program writes. The text of rounds: a line for the round, a line for each component that
 //! is shown with its state and its variables, and a line for each root out port of theirs with its
-//! tuple. And the lines that say why a bundle is refused.
+//! tuple.
 #![tactic(auto)]
 
 mod component;
 mod parts;
 mod places;
-mod positions;
 mod report;
 mod row;
 mod tap;
-#[cfg(test)]
-mod tests;
-mod text_faults;
 mod value;
 
 pub use parts::RoundParts;
 pub use places::TapPlaces;
 pub use report::{add_part, add_round, add_row, add_tap};
-pub use text_faults::{add_no_divider, add_text_fault};
+pub use value::add_tuple;

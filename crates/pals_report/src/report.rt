@@ -1,6 +1,6 @@
 //! Rounds of a run, written as text behind what a buffer holds. Each call writes all of its text or
 //! none of it.
-ghost use Rattle.std.specs.Prelude.{◌≡◌, ◌<◌, ◌++◌, Some, length, take, slice_get, OnOk, OnErr};
+ghost use Rattle.std.specs.Prelude.{◌≡◌, ◌<◌, ◌++◌, Some, length, slice_get, OnOk, OnErr};
 ghost use Rattle.pals_model.specs.declared.design.Tap.{Tap};
 ghost use Rattle.pals_model.specs.declared.rounds.Env.{Env};
 ghost use Rattle.pals_model.specs.RoundTexts.{text_of, line_end, round_line, part_lines, tap_lines, row_lines, row};
@@ -14,6 +14,7 @@ use crate::row::{add_lines, add_round_line};
 use crate::tap::{add_line_at_place, place_of_tap};
 use pals_base::NoMemory;
 use pals_model::{Component, Design, Part};
+use text_buffer::whole_or_none;
 
 /// Adds the line of a round. Where memory is wanting, nothing is added.
 pub fn add_round(out: &mut Vec<u8>, round: u32) -> Result<(), NoMemory>
@@ -74,20 +75,4 @@ pub fn add_row<P: RoundParts>(
     let start = out.len();
     let written = add_lines(out, design, places, round, parts);
     whole_or_none(out, start, written)
-}
-
-// Takes back what a refused call has written from `start` on.
-pub(crate) fn whole_or_none(
-    out: &mut Vec<u8>,
-    start: usize,
-    written: Result<(), NoMemory>,
-) -> Result<(), NoMemory>
-    ensures same { result ≡ written }
-    ensures ok { OnOk written (out.new.items ≡ out.old.items) }
-    ensures err { OnErr written (out.new.items ≡ take start out.old.items) }
-{
-    if written.is_err() {
-        out.truncate(start);
-    }
-    written
 }

@@ -2,7 +2,7 @@
 ghost use Rattle.std.specs.Prelude.{◌≡◌, ◌++◌, map, OnOk, OnErr};
 ghost use Rattle.std.specs.Fmt.{signed_decimal};
 ghost use Rattle.pals_model.specs.RoundTexts.{value_text, port_text, with_commas, tuple_text};
-ghost use Rattle.pals_report.specs.Appended.{BeginsWith};
+ghost use Rattle.text_buffer.specs.Appended.{BeginsWith};
 
 use itoa::Buffer;
 use pals_base::{Kind, NoMemory, Port};
@@ -55,8 +55,9 @@ fn add_places(out: &mut Vec<u8>, kind: Kind, tuple: &[Port]) -> Result<(), NoMem
     Ok(())
 }
 
-// A tuple, in parentheses.
-pub(crate) fn add_tuple(out: &mut Vec<u8>, kind: Kind, tuple: &[Port]) -> Result<(), NoMemory>
+/// Adds a tuple of values of one type, in parentheses. Where memory is wanting, a part of it may be
+/// there.
+pub fn add_tuple(out: &mut Vec<u8>, kind: Kind, tuple: &[Port]) -> Result<(), NoMemory>
     ensures ok { OnOk result (out.new.items ≡ out.old.items ++ tuple_text kind tuple.now) }
     ensures err { OnErr result (BeginsWith out.new.items out.old.items) }
 {

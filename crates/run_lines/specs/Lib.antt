@@ -1,3 +1,4 @@
 pub mod EventFaults
 pub mod ScenarioFaults
+pub mod SentLines
 pub mod Words

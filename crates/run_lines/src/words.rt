@@ -3,18 +3,23 @@ ghost use Rattle.std.specs.Prelude.{◌≡◌, ◌++◌, map, Some, OnOk, OnErr}
 ghost use Rattle.pals_model.specs.LinkNames.{in_port_name};
 ghost use Rattle.pals_model.specs.RoundTexts.{line_end};
 ghost use Rattle.pals_runs.specs.Journal.{node_word, link_word, reading_word, spaced};
-ghost use Rattle.run_lines.specs.Words.{BeginsWith, word_text};
+ghost use Rattle.run_lines.specs.Words.{word_text};
+ghost use Rattle.text_buffer.specs.Appended.{BeginsWith};
 
 use itoa::Buffer;
-use pals_base::{LinkNo, Nanos, NoMemory, NodeNo};
+use pals_base::{Kind, LinkNo, Nanos, NoMemory, NodeNo, Port};
 use pals_model::{Component, DesignParts};
+use pals_report::add_tuple;
+use text_buffer::whole_or_none;
 
-/// A word of a line: bytes, a number, or the name of an in port, which is a path, a `.` and a name.
+/// A word of a line: bytes, a number, the name of an in port, which is a path, a `.` and a name, or a
+/// tuple of values of one type.
 #[derive(Clone, Copy)]
 pub enum Word<'a> {
     Bytes(&'a [u8]),
     Number(u64),
     Port(&'a [u8], &'a [u8]),
+    Tuple(Kind, &'a [Port]),
 }
 
 // Adds a word.
@@ -30,6 +35,7 @@ fn add_word(out: &mut Vec<u8>, word: Word<'_>) -> Result<(), NoMemory>
             out.extend_from_slice(b".")?;
             out.extend_from_slice(name)
         }
+        Word::Tuple(kind, tuple) => add_tuple(out, kind, tuple),
     }
 }
 
@@ -67,13 +73,8 @@ pub(crate) fn add_line(out: &mut Vec<u8>, words: &[Word<'_>]) -> Result<(), NoMe
     ensures err { OnErr result (out.new.items ≡ out.old.items) }
 {
     let start = out.len();
-    match add_whole_line(out, words) {
-        Ok(()) => Ok(()),
-        Err(error) => {
-            out.truncate(start);
-            Err(error)
-        }
-    }
+    let written = add_whole_line(out, words);
+    whole_or_none(out, start, written)
 }
 
 /// The path of a component, empty where there is none.

@@ -1,2 +1,3 @@
 pub mod FlatFaults
 pub mod Violations
+pub mod TextFaults

@@ -6,7 +6,8 @@ use Rattle.std.proofs.lemmas.Slice.Zip.{zip_turn, zip_end}
 use Rattle.std.specs.Slice.Iter.{iter_rest}
 use Rattle.std.specs.Iterator.Adapters.{zip_first, zip_second}
 use Rattle.pals_model.specs.RoundTexts.{variable_text}
-use Rattle.pals_report.proofs.Texts.{vars_text-turn, vars_text-all, begins-on_err}
+use Rattle.pals_report.proofs.Texts.{vars_text-turn, vars_text-all}
+use Rattle.text_buffer.proofs.Begins.{begins_on_err}
 use Rattle.pals_report.proofs.component.add_variables.Goals as goal
 
 pub loop-variable-preserved : goal.loop-variable-preserved
@@ -21,7 +22,7 @@ loop-variable-preserved c =
 
 pub returns-in_err-add_variable-clause-err : goal.returns-in_err-add_variable-clause-err
 returns-in_err-add_variable-clause-err c =
-    begins-on_err c.from_residual.result _ _ _ _ c.loop-variable.invariant c.in_err-add_variable.ensures.err
+    begins_on_err c.from_residual.result _ _ _ _ c.loop-variable.invariant c.in_err-add_variable.ensures.err
 
 pub returns-clause-ok : goal.returns-clause-ok
 returns-clause-ok c =

@@ -1,14 +1,13 @@
 //! Why the design text of a bundle is refused, as a line of text.
 ghost use Rattle.std.specs.Prelude.{◌≡◌, ◌++◌, string_bytes, OnOk, OnErr};
 ghost use Rattle.pals_model.specs.RoundTexts.{line_end};
-ghost use Rattle.pals_report.specs.Appended.{BeginsWith};
-ghost use Rattle.pals_report.specs.TextFaults.{lexical_name, lexical_place, fault_name, fault_place, text_line, text_fault_line, no_divider_line};
+ghost use Rattle.text_buffer.specs.Appended.{BeginsWith};
+ghost use Rattle.text_report.specs.TextFaults.{lexical_name, lexical_place, fault_name, fault_place, text_line, text_fault_line, no_divider_line};
 
-use crate::positions::add_position;
-use crate::report::whole_or_none;
 use aadl_lex::LexFault;
 use aadl_parse::TextFault;
 use pals_base::NoMemory;
+use text_buffer::{Cursor, whole_or_none};
 
 /// Adds the line of a fault of a design text: its place as `LINE:COLUMN`, and its name. Where memory
 /// is wanting, nothing is added.
@@ -41,7 +40,7 @@ fn add_text_line(out: &mut Vec<u8>, text: &[u8], at: usize, name: &[u8]) -> Resu
     ensures err { OnErr result (BeginsWith out.new.items out.old.items) }
 {
     out.extend_from_slice(b"text ")?;
-    add_position(out, text, at)?;
+    Cursor::new(text).add_position(out, at)?;
     out.extend_from_slice(b" ")?;
     out.extend_from_slice(name)?;
     out.extend_from_slice(b"\n")

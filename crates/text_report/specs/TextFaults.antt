@@ -4,7 +4,7 @@ use Rattle.aadl_lex.specs.declared.fault.LexFault.{LexFault}
 use Rattle.aadl_lex.specs.declared.fault.LexFault.TheVariants as lexical
 use Rattle.aadl_parse.specs.declared.fault.TextFault.{TextFault}
 use Rattle.aadl_parse.specs.declared.fault.TextFault.TheVariants.{Lex, Memory, Syntax, TooDeep}
-use Rattle.pals_report.specs.Positions.{position_text}
+use Rattle.text_buffer.specs.Positions.{position_text}
 
 -- ---- the name of a fault and its place; want of memory, which is no fault of a text, stands at 0
 abbrev pub lexical_name : LexFault → List ℕ
