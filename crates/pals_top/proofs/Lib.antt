@@ -1,1 +1,3 @@
+mod Forms
 pub mod Rounds
+mod Scenarios

@@ -1,8 +1,11 @@
+pub mod Accepted
 pub mod Answers
 pub mod Bundles
+pub mod Check
 pub mod Outside
 pub mod Print
 pub mod RefusedTexts
+pub mod Scenarios
 pub mod Statuses
 pub mod Sync
 pub mod Texts

@@ -1,13 +1,15 @@
 -- The status and the text of an answer.
 use Rattle.std.specs.Prelude.{ℕ, List}
 use Rattle.pals_top.specs.declared.answer.Answer.{Answer}
-use Rattle.pals_top.specs.declared.answer.Answer.TheVariants.{Done, Usage, TextRefused, ReadFault, TooLong}
+use Rattle.pals_top.specs.declared.answer.Answer.TheVariants.{Done, Usage, TextRefused, DesignRefused, ScenarioRefused, ReadFault, TooLong}
 use Rattle.pals_top.specs.Texts.{usage_line, read_fault_line, too_long_line}
 
 abbrev pub status_of : Answer → ℕ
 status_of (Done text) = 0
 status_of Usage = 2
 status_of (TextRefused text) = 3
+status_of (DesignRefused text) = 4
+status_of (ScenarioRefused text) = 5
 status_of ReadFault = 9
 status_of TooLong = 12
 
@@ -15,5 +17,7 @@ abbrev pub text_of : Answer → List ℕ
 text_of (Done text) = text.items
 text_of Usage = usage_line
 text_of (TextRefused text) = text.items
+text_of (DesignRefused text) = text.items
+text_of (ScenarioRefused text) = text.items
 text_of ReadFault = read_fault_line
 text_of TooLong = too_long_line

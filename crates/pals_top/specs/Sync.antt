@@ -1,23 +1,21 @@
 -- What `sync` answers to a bundle.
-use Rattle.std.specs.Prelude.{◌≡◌, ℕ, List, [], ◌⊎◌}
+use Rattle.std.specs.Prelude.{◌≡◌, ℕ, List, ◌⊎◌}
 use Rattle.pals_model.specs.declared.design.DesignParts.{DesignParts}
-use Rattle.pals_model.specs.declared.rounds.Env.{Env}
 use Rattle.pals_model.specs.RoundTexts.{report}
-use Rattle.first_form.specs.FirstForm.{IsFirstForm}
-use Rattle.pals_top.specs.Texts.{not_built_line}
+use Rattle.pals_runs.specs.declared.commands.Command.TheVariants.{Sync}
+use Rattle.scenario_json.specs.declared.scenario.Scenario.{Scenario}
+use Rattle.pals_top.specs.Accepted.{IsBundleRefused}
+use Rattle.pals_top.specs.Scenarios.{HasScenario, IsScenarioRefused}
 
--- no root in port has a value
-abbrev pub no_env : Env
-no_env = record { lists = [] }
-
--- the rows of all rounds of the design that the bundle means
+-- the rows of all rounds of the design and the scenario that the bundle means
 pub record IsReported (root bundle text : List ℕ) : Type 0 where
   pub design : DesignParts
-  pub rounds : ℕ
-  pub means : IsFirstForm bundle root design rounds
-  pub text_is : text ≡ report design no_env rounds
+  pub scenario : Scenario
+  pub means : HasScenario root bundle (Sync root) design scenario
+  pub text_is : text ≡ report design scenario.env scenario.rounds
 
--- 3: the small reader does not take the bundle
 abbrev pub IsSyncAnswer : List ℕ → List ℕ → ℕ → List ℕ → Type 0
 IsSyncAnswer root bundle status text =
-    ((status ≡ 0) × IsReported root bundle text) ⊎ ((status ≡ 3) × (text ≡ not_built_line))
+    ((status ≡ 0) × IsReported root bundle text)
+    ⊎ IsBundleRefused root bundle status text
+    ⊎ IsScenarioRefused root bundle (Sync root) status text

@@ -5,9 +5,6 @@ use Rattle.pals_model.specs.RoundTexts.{line_end}
 abbrev pub usage_line : List ℕ
 usage_line = codes "usage: pals print / check ROOT / sync ROOT / world [--loose] ROOT / run [--trace] ROOT / audit ROOT / self N R" ++ line_end
 
-abbrev pub not_built_line : List ℕ
-not_built_line = codes "not built" ++ line_end
-
 abbrev pub read_fault_line : List ℕ
 read_fault_line = codes "read fault" ++ line_end
 

@@ -11,6 +11,10 @@ pub enum Answer {
     Usage,
     /// Why the bundle's design text is refused.
     TextRefused(Vec<u8>),
+    /// Why the design is refused: the first fault of its package, or all that is wrong with it.
+    DesignRefused(Vec<u8>),
+    /// Why the scenario is refused.
+    ScenarioRefused(Vec<u8>),
     /// The source failed.
     ReadFault,
     /// The source has too many bytes.
@@ -26,6 +30,8 @@ impl Answer {
             Answer::Done(_) => 0,
             Answer::Usage => 2,
             Answer::TextRefused(_) => 3,
+            Answer::DesignRefused(_) => 4,
+            Answer::ScenarioRefused(_) => 5,
             Answer::ReadFault => 9,
             Answer::TooLong => 12,
         }
@@ -36,7 +42,10 @@ impl Answer {
         ensures { result.now ≡ text_of self.now }
     {
         match self {
-            Answer::Done(text) | Answer::TextRefused(text) => text.as_slice(),
+            Answer::Done(text)
+            | Answer::TextRefused(text)
+            | Answer::DesignRefused(text)
+            | Answer::ScenarioRefused(text) => text.as_slice(),
             Answer::Usage =>
                 b"usage: pals print / check ROOT / sync ROOT / world [--loose] ROOT / run [--trace] ROOT / audit ROOT / self N R\n",
             Answer::ReadFault => b"read fault\n",

@@ -8,6 +8,7 @@ ghost use Rattle.pals_top.specs.Answers.{IsAnswer, IsCommandAnswer};
 ghost use Rattle.pals_top.specs.Statuses.{status_of, text_of};
 
 use crate::answer::Answer;
+use crate::check::answer_check;
 use crate::print::answer_print;
 use crate::sync::answer_sync;
 use crate::words::{WordsEnd, read_words};
@@ -27,8 +28,9 @@ pub const NO_MEMORY: u8 = 11;
 /// returns its status.
 ///
 /// 0: what the command asks for was written. 2: the words are no form. 3: the bundle's design text is
-/// refused. 9: the source failed. 10: the sink failed. 11: memory was wanting, and nothing was
-/// written. 12: there were more bytes than a bundle may have.
+/// refused. 4: the design is refused. 5: the scenario is refused. 9: the source failed. 10: the sink
+/// failed. 11: memory was wanting, and nothing was written. 12: there were more bytes than a bundle may
+/// have.
 pub fn pals<S: Source, K: Sink>(alloc: Global, words: &[Text], source: &mut S, sink: &mut K) -> u8
     // The answer's whole text was written.
     ensures answered { result ≢ WRITE_FAULT → result ≢ NO_MEMORY → (text : List ℕ)
@@ -79,6 +81,7 @@ fn answer_bundle(alloc: Global, command: &Command, bundle: &[u8]) -> Result<Answ
 {
     match command {
         Command::Print => answer_print(alloc, bundle),
+        Command::Check { root } => answer_check(alloc, bundle, root),
         Command::Sync { root } => answer_sync(alloc, bundle, root),
         _ => unreachable!(),
     }

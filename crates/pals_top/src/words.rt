@@ -1,6 +1,6 @@
 //! The words of the command line.
 ghost use Rattle.std.specs.Prelude.{◌≡◌, Some, IfOk, IfErr};
-ghost use Rattle.pals_top.specs.Words.{form, is_plain, HasForm, IsWordsEnd};
+ghost use Rattle.pals_top.specs.Words.{form, rooted_form, is_plain, HasForm, IsWordsEnd};
 
 use pals_base::{Text, TryClone};
 use pals_runs::Command;
@@ -34,7 +34,22 @@ pub fn read_words(alloc: Global, words: &[Text]) -> Result<Command, WordsEnd>
 {
     match words {
         [word] if word.as_str() == "print" => Ok(Command::Print),
-        [word, root] if word.as_str() == "sync" && is_plain(root) => Ok(Command::Sync {
+        [word, root] if is_plain(root) => rooted(alloc, word, root),
+        _ => Err(WordsEnd::Usage),
+    }
+}
+
+// The command of a word with a root.
+fn rooted(alloc: Global, word: &Text, root: &Text) -> Result<Command, WordsEnd>
+    ensures command { IfOk result (λ command. rooted_form word.now root.now ≡ Some command) }
+    ensures known { IfOk result HasForm }
+    ensures none { IfErr result (λ end. IsWordsEnd (rooted_form word.now root.now) end) }
+{
+    match word.as_str() {
+        "check" => Ok(Command::Check {
+            root: root.try_clone(alloc)?,
+        }),
+        "sync" => Ok(Command::Sync {
             root: root.try_clone(alloc)?,
         }),
         _ => Err(WordsEnd::Usage),

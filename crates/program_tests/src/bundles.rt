@@ -1,58 +1,12 @@
-//! The two counters as a bundle, and what the program answers to words and bytes.
+//! Bundles, and what the program answers to words and bytes.
+use crate::designs::TWO_COUNTERS;
 use pals_base::Text;
 use pals_io::{MemSink, MemSource};
 use pals_top::pals;
 use std::alloc::{AllocError, Global};
 use std::test::Fail;
 
-/// Two counters, each of which adds 1 and the other's last sum to its own.
-pub const TWO_COUNTERS: &str = "package Two\n\
-public\n\
-with Base_Types;\n\
-with PALS_Profile;\n\
-thread Counter\n\
-features\n\
-\x20i: in data port Base_Types::Integer;\n\
-\x20o: out data port Base_Types::Integer;\n\
-properties\n\
-\x20Dispatch_Protocol => Periodic;\n\
-end Counter;\n\
-thread implementation Counter.impl\n\
-annex behavior_specification {**\n\
-variables\n\
-\x20x: Base_Types::Integer;\n\
-states\n\
-\x20s: initial complete state;\n\
-transitions\n\
-\x20s -[on dispatch]-> s {x := x + i + 1; o!(x)};\n\
-**};\n\
-end Counter.impl;\n\
-process Pair\n\
-end Pair;\n\
-process implementation Pair.impl\n\
-subcomponents\n\
-\x20a: thread Counter.impl;\n\
-\x20b: thread Counter.impl;\n\
-connections\n\
-\x20c1: port a.o -> b.i {Timing => Delayed;};\n\
-\x20c2: port b.o -> a.i {Timing => Delayed;};\n\
-end Pair.impl;\n\
-system Top\n\
-end Top;\n\
-system implementation Top.impl\n\
-subcomponents\n\
-\x20p: process Pair.impl;\n\
-properties\n\
-\x20Period => 9 ms;\n\
-\x20PALS_Profile::Skew => 1 ms;\n\
-\x20PALS_Profile::Execution => 0 ms .. 3 ms;\n\
-\x20PALS_Profile::Network => 1 ms .. 4 ms;\n\
-end Top.impl;\n\
-end Two;\n\
-%%%\n\
-{\"rounds\":3}\n";
-
-/// Their first three rounds.
+/// The first three rounds of the two counters.
 pub const ROWS: &str =
     "round 0\np.a s x=1\np.b s x=1\nround 1\np.a s x=3\np.b s x=3\nround 2\np.a s x=7\np.b s x=7\n";
 
@@ -66,6 +20,31 @@ fn texts(alloc: Global, words: &[&str]) -> Result<Vec<Text>, AllocError> {
         all.push(Text::from_str(alloc, word)?)?;
     }
     Ok(all)
+}
+
+// A text in which a part is replaced by another.
+fn replaced(alloc: Global, text: &str, old: &str, new: &str) -> Result<String, Fail> {
+    let (front, back) = text.split_once(old).ok_or("no such part")?;
+    Ok(format!(in alloc; "{front}{new}{back}")?)
+}
+
+/// A design in which parts are replaced, each by another, with a scenario behind the divider.
+pub fn bundle(
+    alloc: Global,
+    design: &str,
+    changes: &[(&str, &str)],
+    scenario: &str,
+) -> Result<String, Fail> {
+    let mut text = String::from_str(alloc, design)?;
+    for (old, new) in changes {
+        text = replaced(alloc, text.as_str(), old, new)?;
+    }
+    Ok(format!(in alloc; "{text}%%%\n{scenario}\n")?)
+}
+
+/// The two counters with their scenario.
+pub fn two_counters(alloc: Global) -> Result<String, Fail> {
+    bundle(alloc, TWO_COUNTERS, &[], "{\"rounds\":3}")
 }
 
 /// That many blanks.

@@ -1,21 +1,16 @@
 //! The words of the command line, and a source and a sink that fail.
-use crate::bundles::{ROWS, TWO_COUNTERS, USAGE, answers, blanks, is_answered};
+use crate::bundles::{USAGE, answers, blanks, is_answered, two_counters};
 use std::test::Fail;
 
 #[test]
-fn two_counters(rt: HostRuntime) -> Result<(), Fail> {
-    let bundle = TWO_COUNTERS.as_bytes();
-    assert!(rt; is_answered(rt.alloc(), &["sync", "Top.impl"], bundle, (0, ROWS))?);
-    Ok(())
-}
-
-#[test]
 fn usage(rt: HostRuntime) -> Result<(), Fail> {
-    let none: [&[&str]; 7] = [
+    let none: [&[&str]; 9] = [
         &[],
         &["sync"],
+        &["check"],
         &["print", "Top.impl"],
-        &["sync", "--loose"],
+        &["check", "--loose"],
+        &["sync", "Top.impl", "--trace"],
         &["run", "--trace", "--trace", "Top.impl"],
         &["self", "1", "3"],
         &["--help"],
@@ -33,7 +28,8 @@ fn usage(rt: HostRuntime) -> Result<(), Fail> {
 fn outside_faults(rt: HostRuntime) -> Result<(), Fail> {
     let alloc = rt.alloc();
     let sync: &[&str] = &["sync", "Top.impl"];
-    let bundle = TWO_COUNTERS.as_bytes();
+    let text = two_counters(alloc)?;
+    let bundle = text.as_bytes();
     let first = (vec![in alloc; 1u64]?, Vec::new(alloc));
     assert!(rt;
         answers(
@@ -56,6 +52,5 @@ fn outside_faults(rt: HostRuntime) -> Result<(), Fail> {
             (10, "round 0\n")
         )?
     );
-    assert!(rt; is_answered(alloc, sync, b"", (3, "not built\n"))?);
     Ok(())
 }

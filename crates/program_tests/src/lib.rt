@@ -4,8 +4,14 @@
 #[cfg(test)]
 mod bundles;
 #[cfg(test)]
+mod checks;
+#[cfg(test)]
 mod commands;
+#[cfg(test)]
+mod designs;
 #[cfg(test)]
 mod print;
 #[cfg(test)]
 mod refused_texts;
+#[cfg(test)]
+mod rounds;

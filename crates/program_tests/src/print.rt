@@ -1,5 +1,5 @@
 //! Canonical texts.
-use crate::bundles::{TWO_COUNTERS, is_answered};
+use crate::bundles::{is_answered, two_counters};
 use std::test::Fail;
 
 const LOOSE: &[u8] = b"PACKAGE Small Public -- of one type
@@ -41,7 +41,7 @@ end Pair.impl;\nsystem Top end Top;\nsystem implementation Top.impl subcomponent
 p: process Pair.impl;\nproperties\nPeriod => 9 ms;\nPALS_Profile::Skew => 1 ms;\n\
 PALS_Profile::Execution => 0 ms .. 3 ms;\nPALS_Profile::Network => 1 ms .. 4 ms;\n\
 end Top.impl;\nend Two;\n";
-    let bundle = TWO_COUNTERS.as_bytes();
-    assert!(rt; is_answered(rt.alloc(), &["print"], bundle, (0, text))?);
+    let bundle = two_counters(rt.alloc())?;
+    assert!(rt; is_answered(rt.alloc(), &["print"], bundle.as_bytes(), (0, text))?);
     Ok(())
 }

@@ -1,0 +1,110 @@
+-- A command and a bundle have one status, and one text at each status but that of a refused design.
+use Rattle.std.proofs.Common.{◌≡◌, ◌≢◌, ◌∙◌, inl, inr, ℕ, List, ◌++◌, Ok, Err, sym, ap, subst}
+use Rattle.pals_model.specs.declared.design.DesignParts.{DesignParts}
+use Rattle.pals_model.specs.RoundTexts.{line_end, report}
+use Rattle.pals_runs.specs.declared.commands.Command.{Command}
+use Rattle.pals_runs.specs.declared.commands.Command.TheVariants.{Print, Check, Sync}
+use Rattle.aadl_tree.specs.Declarations.{PackageTree}
+use Rattle.aadl_tree.specs.Canon.{canon}
+use Rattle.aadl_names.specs.declared.fault.FlatFault.{FlatFault}
+use Rattle.aadl_names.specs.Findings.{place_of, number_of}
+use Rattle.flat_faults.specs.Faults.{IsFault}
+use Rattle.scenario_values.specs.declared.fault.ScenarioFault.{ScenarioFault}
+use Rattle.check_report.specs.CheckReports.{IsCheckReport}
+use Rattle.run_lines.specs.ScenarioFaults.{scenario_fault_line}
+use Rattle.design_laws.specs.Designs as laws
+use Rattle.pals_top.specs.Accepted.{IsBundleRefused}
+use Rattle.pals_top.specs.Scenarios.{HasScenarioFault}
+use Rattle.pals_top.specs.Print.{IsPrinted, IsPrintAnswer}
+use Rattle.pals_top.specs.Check.{IsChecked, IsCheckAnswer}
+use Rattle.pals_top.specs.Sync.{IsReported, IsSyncAnswer}
+use Rattle.pals_top.specs.Answers.{IsCommandAnswer}
+use Rattle.answer_laws.specs.Agreement.{TellTheSame}
+use Rattle.answer_laws.proofs.Designs.{IsRead, one_tree, read_or_refused, one_refused_text, one_accepted, accepted_or_refused, package_or_text, packages_told}
+use Rattle.answer_laws.proofs.Meanings.{one_report, same_scenario, same_fault}
+use Rattle.answer_laws.proofs.Scenarios.{moved, meant_or_refused}
+
+-- two answers agree
+abbrev pub Agree : ℕ → List ℕ → ℕ → List ℕ → Type 0
+Agree s a t b = (s ≡ t) × (s ≢ 4 → a ≡ b) × TellTheSame a b
+
+-- both are of one status, and have one text
+alike : (n s t : ℕ) (a b : List ℕ) → s ≡ n → t ≡ n → a ≡ b → Agree s a t b
+alike n s t a b e f same = (e ∙ sym f, λ other. same, inl same)
+
+-- ---- print
+printed : (bundle a b : List ℕ) → IsPrinted bundle a → IsPrinted bundle b → a ≡ b
+printed bundle a b x y =
+    let first : IsRead bundle x.design x.scenario x.tree = record { split = x.split; read = x.read } in
+    let second : IsRead bundle y.design y.scenario y.tree = record { split = y.split; read = y.read } in
+    let tree = one_tree bundle x.design y.design x.scenario y.scenario x.tree y.tree first second in
+    x.text_is ∙ (ap (λ (t : PackageTree ℕ). canon t) tree ∙ sym y.text_is)
+
+print_agrees : (bundle : List ℕ) (s t : ℕ) (a b : List ℕ) → IsPrintAnswer bundle s a → IsPrintAnswer bundle t b → Agree s a t b
+print_agrees bundle s t a b (inl x) (inl y) = alike 0 s t a b x.0 y.0 (printed bundle a b x.1 y.1)
+print_agrees bundle s t a b (inl x) (inr y) =
+    absurd (read_or_refused bundle x.1.design x.1.scenario x.1.tree t b (record { split = x.1.split; read = x.1.read }) y)
+print_agrees bundle s t a b (inr x) (inl y) =
+    absurd (read_or_refused bundle y.1.design y.1.scenario y.1.tree s a (record { split = y.1.split; read = y.1.read }) x)
+print_agrees bundle s t a b (inr x) (inr y) = alike 3 s t a b x.0 y.0 (one_refused_text bundle s t a b x y)
+
+module _ (one_design : (tree : PackageTree ℕ) (root : List ℕ) (a b : DesignParts) → laws.IsDesignIn tree root a → laws.IsDesignIn tree root b → a ≡ b)
+    (one_fault : (tree : PackageTree ℕ) (root : List ℕ) (f g : FlatFault) → IsFault tree root f → IsFault tree root g
+    → (place_of f ≡ place_of g) × (number_of f ≡ number_of g)) where
+  -- ---- refusals
+  refusals_agree : (root bundle : List ℕ) (s t : ℕ) (a b : List ℕ) → IsBundleRefused root bundle s a → IsBundleRefused root bundle t b → Agree s a t b
+  refusals_agree root bundle s t a b (inl x) (inl y) = alike 3 s t a b x.0 y.0 (one_refused_text bundle s t a b x y)
+  refusals_agree root bundle s t a b (inl x) (inr y) = absurd (package_or_text root bundle t s b a y x)
+  refusals_agree root bundle s t a b (inr x) (inl y) = absurd (package_or_text root bundle s t a b x y)
+  refusals_agree root bundle s t a b (inr x) (inr y) = (x.0 ∙ sym y.0, λ other. absurd (other x.0), packages_told one_fault root bundle a b x.1 y.1)
+
+  -- ---- check
+  checked : (root bundle a b : List ℕ) → IsChecked root bundle a → IsChecked root bundle b → a ≡ b
+  checked root bundle a b x y =
+      let design = (one_accepted one_design root bundle x.design y.design x.scenario y.scenario x.accepted y.accepted).0 in
+      one_report y.design a b (subst (λ (d : DesignParts). IsCheckReport d a) design x.report) y.report
+
+  check_agrees : (root bundle : List ℕ) (s t : ℕ) (a b : List ℕ) → IsCheckAnswer root bundle s a → IsCheckAnswer root bundle t b → Agree s a t b
+  check_agrees root bundle s t a b (inl x) (inl y) = alike 0 s t a b x.0 y.0 (checked root bundle a b x.1 y.1)
+  check_agrees root bundle s t a b (inl x) (inr y) = absurd (accepted_or_refused root bundle x.1.design x.1.scenario t b x.1.accepted y)
+  check_agrees root bundle s t a b (inr x) (inl y) = absurd (accepted_or_refused root bundle y.1.design y.1.scenario s a y.1.accepted x)
+  check_agrees root bundle s t a b (inr x) (inr y) = refusals_agree root bundle s t a b x y
+
+  -- ---- sync
+  module _ (root bundle : List ℕ) where
+    reported : (a b : List ℕ) (x : IsReported root bundle a) (y : IsReported root bundle b) → a ≡ b
+    reported a b x y =
+        let m = x.means in
+        let n = y.means in
+        let design = (one_accepted one_design root bundle x.design y.design m.bytes n.bytes m.accepted n.accepted).0 in
+        let means = moved one_design root bundle (Sync root) (Ok x.scenario) m.accepted n.accepted m.means in
+        let scenario = same_scenario n.bytes y.design (Sync root) x.scenario y.scenario means n.means in
+        x.text_is ∙ ((λ i. report (design i) (scenario i).env (scenario i).rounds) ∙ sym y.text_is)
+
+    scenario_refused : (a b : List ℕ) → HasScenarioFault root bundle (Sync root) a → HasScenarioFault root bundle (Sync root) b → a ≡ b
+    scenario_refused a b x y =
+        let faulty = moved one_design root bundle (Sync root) (Err x.fault) x.accepted y.accepted x.faulty in
+        let fault = same_fault y.bytes y.design (Sync root) x.fault y.fault faulty y.faulty in
+        x.text_is ∙ (ap (λ (f : ScenarioFault). scenario_fault_line f ++ line_end) fault ∙ sym y.text_is)
+
+    reported_or_refused : (a b : List ℕ) → IsReported root bundle a → HasScenarioFault root bundle (Sync root) b → ⊥
+    reported_or_refused a b x y = meant_or_refused one_design root bundle (Sync root) x.design x.scenario b x.means y
+
+    sync_agrees : (s t : ℕ) (a b : List ℕ) → IsSyncAnswer root bundle s a → IsSyncAnswer root bundle t b → Agree s a t b
+    sync_agrees s t a b (inl x) (inl y) = alike 0 s t a b x.0 y.0 (reported a b x.1 y.1)
+    sync_agrees s t a b (inl x) (inr (inl y)) = absurd (accepted_or_refused root bundle x.1.design x.1.means.bytes t b x.1.means.accepted y)
+    sync_agrees s t a b (inl x) (inr (inr y)) = absurd (reported_or_refused a b x.1 y.1)
+    sync_agrees s t a b (inr (inl x)) (inl y) = absurd (accepted_or_refused root bundle y.1.design y.1.means.bytes s a y.1.means.accepted x)
+    sync_agrees s t a b (inr (inl x)) (inr (inl y)) = refusals_agree root bundle s t a b x y
+    sync_agrees s t a b (inr (inl x)) (inr (inr y)) = absurd (accepted_or_refused root bundle y.1.design y.1.bytes s a y.1.accepted x)
+    sync_agrees s t a b (inr (inr x)) (inl y) = absurd (reported_or_refused b a y.1 x.1)
+    sync_agrees s t a b (inr (inr x)) (inr (inl y)) = absurd (accepted_or_refused root bundle x.1.design x.1.bytes t b x.1.accepted y)
+    sync_agrees s t a b (inr (inr x)) (inr (inr y)) = alike 5 s t a b x.0 y.0 (scenario_refused a b x.1 y.1)
+
+  -- ---- each command that has a form
+  pub answers_agree : (command : Command) (bundle : List ℕ) (s t : ℕ) (a b : List ℕ) → IsCommandAnswer command bundle s a → IsCommandAnswer command bundle t b
+      → Agree s a t b
+  answers_agree Print bundle s t a b x y = print_agrees bundle s t a b x y
+  answers_agree (Check root) bundle s t a b x y = check_agrees root bundle s t a b x y
+  answers_agree (Sync root) bundle s t a b x y = sync_agrees root bundle s t a b x y
+  answers_agree _ bundle s t a b x y = absurd x

@@ -1,0 +1,5 @@
+use Rattle.answer_laws.proofs.Designs.{one_accepted}
+use Rattle.answer_laws.proofs.bundles.one_design_of_a_bundle.Goals as goal
+
+pub returns : goal.returns
+returns c = one_accepted c.one_design.ensures

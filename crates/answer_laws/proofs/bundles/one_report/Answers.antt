@@ -1,0 +1,5 @@
+use Rattle.answer_laws.proofs.Meanings.{one_report}
+use Rattle.answer_laws.proofs.bundles.one_report.Goals as goal
+
+pub returns : goal.returns
+returns c = one_report

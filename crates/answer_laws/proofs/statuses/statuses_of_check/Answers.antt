@@ -1,0 +1,12 @@
+use Rattle.answer_laws.proofs.Ways.{done, without_text, without_design}
+use Rattle.answer_laws.proofs.Standing.{has_tree, check_ways}
+use Rattle.answer_laws.proofs.statuses.statuses_of_check.Goals as goal
+
+pub returns-clause-done : goal.returns-clause-done
+returns-clause-done c root bundle s a x = done (has_tree root bundle) (λ h. h) s (check_ways root bundle s a x)
+
+pub returns-clause-text : goal.returns-clause-text
+returns-clause-text c root bundle s a x = without_text (has_tree root bundle) (λ h. h) s (check_ways root bundle s a x)
+
+pub returns-clause-design : goal.returns-clause-design
+returns-clause-design c root bundle s a x = without_design (has_tree root bundle) (λ h. h) s (check_ways root bundle s a x)

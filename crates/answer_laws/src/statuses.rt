@@ -1,0 +1,39 @@
+//! What a bundle has decides the status of a command's answer. Each law is the contract of a function
+//! that does nothing.
+ghost use Rattle.std.specs.Prelude.{◌≡◌, ◌↔◌, ℕ, List};
+ghost use Rattle.pals_runs.specs.declared.commands.Command.TheVariants.{Sync};
+ghost use Rattle.pals_top.specs.Print.{IsPrintAnswer};
+ghost use Rattle.pals_top.specs.Check.{IsCheckAnswer};
+ghost use Rattle.pals_top.specs.Sync.{IsSyncAnswer};
+ghost use Rattle.answer_laws.specs.Meanings.{HasTree, MeansDesign, MeansScenario};
+
+use design_laws::laws::one_design;
+
+/// `print` answers 0 exactly where the bundle has a design text of the grammar, and 3 exactly where it has none.
+pub fn statuses_of_print()
+    ensures done { (bundle : List ℕ) (status : ℕ) (text : List ℕ) → IsPrintAnswer bundle status text → (status ≡ 0) ↔ HasTree bundle }
+    ensures text { (bundle : List ℕ) (status : ℕ) (text : List ℕ) → IsPrintAnswer bundle status text → (status ≡ 3) ↔ (HasTree bundle → ⊥) }
+{}
+
+/// `check` answers 0 exactly where the bundle means a design, 3 exactly where it has no design text of
+/// the grammar, and 4 exactly where it has one and means no design.
+pub fn statuses_of_check()
+    ensures done { (root bundle : List ℕ) (status : ℕ) (text : List ℕ) → IsCheckAnswer root bundle status text → (status ≡ 0) ↔ MeansDesign root bundle }
+    ensures text { (root bundle : List ℕ) (status : ℕ) (text : List ℕ) → IsCheckAnswer root bundle status text → (status ≡ 3) ↔ (HasTree bundle → ⊥) }
+    ensures design { (root bundle : List ℕ) (status : ℕ) (text : List ℕ) → IsCheckAnswer root bundle status text
+        → (status ≡ 4) ↔ (HasTree bundle × (MeansDesign root bundle → ⊥)) }
+{}
+
+/// `sync` answers 0 exactly where the bundle means a design and a scenario for it, 3 and 4 as `check`
+/// does, and 5 exactly where the bundle means a design and no scenario.
+pub fn statuses_of_sync()
+    ensures done { (root bundle : List ℕ) (status : ℕ) (text : List ℕ) → IsSyncAnswer root bundle status text
+        → (status ≡ 0) ↔ MeansScenario root bundle (Sync root) }
+    ensures text { (root bundle : List ℕ) (status : ℕ) (text : List ℕ) → IsSyncAnswer root bundle status text → (status ≡ 3) ↔ (HasTree bundle → ⊥) }
+    ensures design { (root bundle : List ℕ) (status : ℕ) (text : List ℕ) → IsSyncAnswer root bundle status text
+        → (status ≡ 4) ↔ (HasTree bundle × (MeansDesign root bundle → ⊥)) }
+    ensures scenario { (root bundle : List ℕ) (status : ℕ) (text : List ℕ) → IsSyncAnswer root bundle status text
+        → (status ≡ 5) ↔ (MeansDesign root bundle × (MeansScenario root bundle (Sync root) → ⊥)) }
+{
+    one_design();
+}

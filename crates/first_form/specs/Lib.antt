@@ -1,4 +1,0 @@
-pub mod Tokens
-pub mod Spelling
-pub mod Meaning
-pub mod FirstForm
