@@ -1,0 +1,7 @@
+pub mod Values
+pub mod Absent
+pub mod Keeping
+pub mod Answers
+pub mod Queues
+pub mod Due
+pub mod Sending

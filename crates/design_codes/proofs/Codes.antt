@@ -1,0 +1,36 @@
+-- The codes of the first components of a design.
+use Rattle.std.proofs.Common.{◌≡◌, inl, inr, ℕ, ◌<◌, ◌≤◌, List, [], ◌∷◌, ◌++◌, length, sym, subst, arith, length-append}
+use Rattle.std.proofs.lemmas.Bool.{cases_lt}
+use Rattle.std.proofs.lemmas.List.{get_or_append_left, get_or_push}
+use Rattle.pals_base.specs.declared.limits.TheConstants.{INSTRUCTIONS}
+use Rattle.pals_model.specs.declared.design.DesignParts.{DesignParts}
+use Rattle.step_code.specs.declared.instr.CodeParts.{CodeParts}
+use Rattle.step_code.specs.Means.{Means}
+use Rattle.bus_machine.specs.Plans.{component_at}
+use Rattle.bus_fields.specs.Values.{code_at, no_code}
+use Rattle.design_codes.specs.Causes.{length_of}
+
+-- each means what its component does, and is no longer than may be
+pub record AreFirst (design : DesignParts) (codes : List CodeParts) : Type 0 where
+  pub mean : (k : ℕ) → k < length codes → Means (code_at codes k) (component_at design k).behaviour
+  pub short : (k : ℕ) → k < length codes → length_of design k ≤ INSTRUCTIONS
+
+pub first_none : (design : DesignParts) → AreFirst design []
+first_none design = record { mean = λ k lt. absurd (omega (arith, lt)); short = λ k lt. absurd (omega (arith, lt)) }
+
+pub first_more : (design : DesignParts) (codes : List CodeParts) (code : CodeParts) → AreFirst design codes → Means code (component_at design (length codes)).behaviour → length_of design (length codes) ≤ INSTRUCTIONS
+    → AreFirst design (codes ++ code ∷ [])
+first_more design codes code are means size =
+    let many = length-append codes (code ∷ []) in
+    record {
+      mean = λ k lt. elim (cases_lt k (length codes)) [
+        | inl before ↦ subst (λ (c : CodeParts). Means c (component_at design k).behaviour) (sym (get_or_append_left codes (code ∷ []) no_code k before)) (are.mean k before)
+        | inr at ↦
+            let here : length codes ≡ k = omega (arith, many, lt, at) in
+            subst (λ (c : CodeParts). Means c (component_at design k).behaviour) (sym (get_or_push codes code no_code k here)) (subst (λ (j : ℕ). Means code (component_at design j).behaviour) here means)
+      ];
+      short = λ k lt. elim (cases_lt k (length codes)) [
+        | inl before ↦ are.short k before
+        | inr at ↦ let here : length codes ≡ k = omega (arith, many, lt, at) in subst (λ (j : ℕ). length_of design j ≤ INSTRUCTIONS) here size
+      ];
+    }

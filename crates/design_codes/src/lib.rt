@@ -1,0 +1,56 @@
+//! The step code of all components of a design.
+#![tactic(auto)]
+
+ghost use Rattle.std.specs.Prelude.{IfOk, IfErr};
+ghost use Rattle.bus_fields.specs.Values.{AreCodes};
+ghost use Rattle.design_codes.specs.Causes.{IsCause};
+
+use pals_base::{Items, NoMemory, NodeNo};
+use pals_model::Design;
+use std::alloc::Global;
+use step_code::Code;
+use step_compiler::{CompileFault, compile};
+
+/// Why a design has no codes.
+#[derive(Clone, Copy, PartialEq, Eq, Debug)]
+pub enum CodesEnd {
+    /// The code of this component would have so many instructions, which is more than may be. It is
+    /// the first such component.
+    TooLong { node: NodeNo, length: u64 },
+    /// There was not enough memory.
+    Memory,
+}
+
+impl From<NoMemory> for CodesEnd {
+    ghost use Rattle.std.specs.Prelude.{◌≡◌};
+    ghost use Rattle.design_codes.specs.declared.CodesEnd.TheVariants.{Memory};
+
+    ghost from_gives = { λ _ e. e ≡ Memory };
+
+    fn from(_error: NoMemory) -> CodesEnd {
+        CodesEnd::Memory
+    }
+}
+
+/// The code of each component, which means what the component does.
+pub fn compile_all(alloc: Global, design: &Design) -> Result<Items<Code>, CodesEnd>
+    ensures ok { IfOk result (AreCodes design.now) }
+    ensures fault { IfErr result (IsCause design.now) }
+{
+    let mut codes = Items::new(alloc);
+    for component in design.components() {
+        match compile(alloc, &component.behaviour) {
+            Ok(code) => {
+                // Each code keeps that it is no longer than may be.
+                let _verified = code.parts();
+                codes.push(code)?;
+            }
+            Err(CompileFault::Memory) => return Err(CodesEnd::Memory),
+            Err(CompileFault::CodeTooLong { length }) => {
+                let node = NodeNo(codes.len() as u32);
+                return Err(CodesEnd::TooLong { node, length });
+            }
+        }
+    }
+    Ok(codes)
+}

@@ -1,0 +1,81 @@
+-- A list of events in a loose world.
+use Rattle.std.specs.Prelude.{◌≡◌, ℕ, List, [], ◌∷◌, ◌++◌, take, Some, slice_get}
+use Rattle.pals_model.specs.declared.design.DesignParts.{DesignParts}
+use Rattle.pals_model.specs.RoundTexts.{text_of}
+use Rattle.pals_runs.specs.declared.events.Event.{Event}
+use Rattle.pals_runs.specs.declared.events.Event.TheVariants as event
+use Rattle.pals_runs.specs.declared.events.EventFault.{EventFault}
+use Rattle.pals_runs.specs.declared.events.EventFault.TheVariants as fault
+use Rattle.pals_runs.specs.declared.journal.Stop.{Stop}
+use Rattle.bus_machine.specs.Machine.{BusEvent}
+use Rattle.bus_fields.specs.Values.{BusValue}
+use Rattle.pals_bus.specs.Loose.{loose_event, IsNamedIn, node_of, message_of, HappensLoose, GoesOn, IsRefused}
+use Rattle.world_report.specs.Sent.{sent_lines}
+use Rattle.loose_world.specs.declared.LooseEnd.{LooseEnd}
+use Rattle.loose_world.specs.declared.LooseEnd.TheVariants as end
+
+-- an event of a loose world of a design: no passing of time, and of a node or a link that is there
+pub record IsLooseIn (design : DesignParts) (e : Event) : Type 0 where
+  pub what : BusEvent
+  pub is_what : loose_event e ≡ Some what
+  pub named : IsNamedIn design e
+
+-- the lines of the messages that are sent by an event, where the bus stands like this after it
+abbrev pub told_by : BusValue → Event → List (List ℕ)
+told_by b (event.Pass time readings) = []
+told_by b (event.Start node) = []
+told_by b (event.Step node) = []
+told_by b (event.Finish node) = []
+told_by b (event.Send node) = sent_lines b node.0
+told_by b (event.Arrive link round) = []
+told_by b (event.Drop link round) = []
+told_by b (event.Repeat link round) = []
+
+-- each event happens, none gives a stop, and these are the lines of what is sent
+abbrev pub AllHappen : BusValue → List Event → BusValue → List (List ℕ) → Type 0
+AllHappen s [] t lines = (t ≡ s) × (lines ≡ [])
+AllHappen s (e ∷ events) t lines = (next : BusValue) × (rest : List (List ℕ)) × GoesOn s e next × AllHappen next events t rest × (lines ≡ told_by next e ++ rest)
+
+-- an event gives this stop, and all before it happen without one
+pub record StopsAt (s : BusValue) (events : List Event) (why : Stop) (t : BusValue) (lines : List (List ℕ)) : Type 0 where
+  pub index : ℕ
+  pub event : Event
+  pub is_event : slice_get events index ≡ Some event
+  pub before : BusValue
+  pub happen : AllHappen s (take index events) before lines
+  pub last : HappensLoose before event t
+  pub stops : t.state.stop ≡ Some why
+
+-- the fault of an event that is not allowed
+abbrev pub IsFaultOf : Event → EventFault → Type 0
+IsFaultOf e (fault.WrongPhase node) = node_of e ≡ Some node
+IsFaultOf e (fault.NoSuchMessage link round) = message_of e ≡ Some (link, round)
+IsFaultOf e fault.BadName = ⊥
+IsFaultOf e fault.LossOrRepeat = ⊥
+IsFaultOf e (fault.TimeBack time) = ⊥
+IsFaultOf e (fault.ClockBack node reading) = ⊥
+IsFaultOf e (fault.ClockApart node reading) = ⊥
+IsFaultOf e (fault.PastDeadline which last) = ⊥
+IsFaultOf e (fault.NotDue node alarm reading) = ⊥
+IsFaultOf e (fault.TooSoon which earliest) = ⊥
+IsFaultOf e fault.Memory = ⊥
+
+-- an event is not allowed, and all before it happen without a stop
+pub record IsRefusedAt (s : BusValue) (events : List Event) (index : ℕ) (why : EventFault) (t : BusValue) (lines : List (List ℕ)) : Type 0 where
+  pub event : Event
+  pub is_event : slice_get events index ≡ Some event
+  pub happen : AllHappen s (take index events) t lines
+  pub refused : IsRefused t event t
+  pub fault : IsFaultOf event why
+
+-- how a loose world ends
+abbrev pub RunsLoosely : BusValue → List Event → LooseEnd → BusValue → List (List ℕ) → Type 0
+RunsLoosely s events end.All t lines = AllHappen s events t lines
+RunsLoosely s events (end.Stopped why) t lines = StopsAt s events why t lines
+RunsLoosely s events (end.Refused index why) t lines = IsRefusedAt s events index why t lines
+
+-- and the lines of what was sent are added to a text
+pub record Tells (s : BusValue) (events : List Event) (how : LooseEnd) (t : BusValue) (old new : List ℕ) : Type 0 where
+  pub lines : List (List ℕ)
+  pub runs : RunsLoosely s events how t lines
+  pub told : new ≡ old ++ text_of lines

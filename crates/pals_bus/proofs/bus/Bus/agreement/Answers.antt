@@ -1,0 +1,12 @@
+use Rattle.std.proofs.Common.{◌≡◌, subst}
+use Rattle.bus_machine.specs.Agreement.{Agrees}
+use Rattle.bus_fields.specs.Keeping.{value_of}
+use Rattle.bus_fields.specs.Values.{BusValue}
+use Rattle.bus_fields.proofs.Views.{agrees}
+use Rattle.pals_bus.proofs.bus.Bus.agreement.Goals as goal
+
+pub returns-clause-agrees : goal.returns-clause-agrees
+returns-clause-agrees c =
+    let f = c.self.inside.fields in
+    let shows : value_of f ≡ c.args.self.now = cc in
+    subst (λ (b : BusValue). Agrees b.run b.state) shows (agrees f c.self.invariant)

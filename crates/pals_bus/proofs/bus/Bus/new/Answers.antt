@@ -1,0 +1,74 @@
+use Rattle.std.proofs.Common.{◌∙◌, None, false, map, refl, ap, subst}
+use Rattle.pals_model.specs.declared.design.DesignParts.{DesignParts}
+use Rattle.pals_model.specs.declared.design.Link.{Link}
+use Rattle.pals_model.specs.Rules.{IsDesign}
+use Rattle.pals_node.specs.Values.{NodeValue}
+use Rattle.bus_fields.specs.declared.fields.Fields.{Fields}
+use Rattle.bus_fields.specs.Absent.{no_flight, no_queue}
+use Rattle.pals_bus.specs.Openings.{AreOpening}
+use Rattle.pals_bus.proofs.Openings.{IsOpening, opening_keeps, opening_shows}
+use Rattle.pals_bus.proofs.bus.Bus.new.Goals as goal
+
+pub invariant_of-result : goal.invariant_of-result
+invariant_of-result c =
+    let f : Fields = record {
+      alloc = c.args.alloc;
+      design = c.args.design;
+      env = c.args.env;
+      rounds = c.args.rounds;
+      delays = c.args.delays;
+      meeting = c.args.meeting;
+      closed = false;
+      nodes = c.in_ok-nodes.nodes;
+      flights = c.in_ok-flights.flights;
+      queues = c.in_ok-queues.queues;
+      stop = None;
+      journal = c.new.result;
+      values = c.in_ok-values.values;
+    } in
+    let is : IsOpening f c.args.codes = record {
+      design = subst IsDesign c.deref-2.ensures c.empty_flights.ensures.rules;
+      rounds = (c.requires.some, c.requires.most);
+      delays = c.requires.delays;
+      values = c.in_ok-values.ensures;
+      count = c.requires.codes.count;
+      nodes = subst (λ (d : DesignParts). AreOpening d c.args.codes c.args.rounds c.in_ok-nodes.nodes) c.deref.ensures c.in_ok-nodes.ensures;
+      flights = c.in_ok-flights.ensures.flights ∙ ap (λ (d : DesignParts). map (λ (_ : Link). no_flight) d.links) c.deref-2.ensures;
+      queues = c.in_ok-queues.ensures ∙ ap (map (λ (_ : NodeValue). no_queue)) c.as_slice.ensures.value;
+      stop = refl;
+      journal = c.new.ensures.items;
+      closed = refl;
+    } in
+    opening_keeps f c.args.codes is
+
+pub returns : goal.returns
+returns c =
+    let f : Fields = record {
+      alloc = c.args.alloc;
+      design = c.args.design;
+      env = c.args.env;
+      rounds = c.args.rounds;
+      delays = c.args.delays;
+      meeting = c.args.meeting;
+      closed = false;
+      nodes = c.in_ok-nodes.nodes;
+      flights = c.in_ok-flights.flights;
+      queues = c.in_ok-queues.queues;
+      stop = None;
+      journal = c.new.result;
+      values = c.in_ok-values.values;
+    } in
+    let is : IsOpening f c.args.codes = record {
+      design = subst IsDesign c.deref-2.ensures c.empty_flights.ensures.rules;
+      rounds = (c.requires.some, c.requires.most);
+      delays = c.requires.delays;
+      values = c.in_ok-values.ensures;
+      count = c.requires.codes.count;
+      nodes = subst (λ (d : DesignParts). AreOpening d c.args.codes c.args.rounds c.in_ok-nodes.nodes) c.deref.ensures c.in_ok-nodes.ensures;
+      flights = c.in_ok-flights.ensures.flights ∙ ap (λ (d : DesignParts). map (λ (_ : Link). no_flight) d.links) c.deref-2.ensures;
+      queues = c.in_ok-queues.ensures ∙ ap (map (λ (_ : NodeValue). no_queue)) c.as_slice.ensures.value;
+      stop = refl;
+      journal = c.new.ensures.items;
+      closed = refl;
+    } in
+    opening_shows f c.args.codes is

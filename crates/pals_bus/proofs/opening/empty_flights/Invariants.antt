@@ -1,0 +1,8 @@
+use Rattle.std.proofs.Common.{◌≡◌, map, take}
+use Rattle.pals_model.specs.declared.design.Link.{Link}
+use Rattle.bus_fields.specs.Absent.{no_flight}
+use Rattle.pals_bus.proofs.opening.empty_flights.Given as goal
+
+-- so many flights are empty
+abbrev pub invariant-loop-link : goal.invariant-loop-link
+invariant-loop-link l = l.flights ≡ map (λ (_ : Link). no_flight) (take l._link-index l._link-items)

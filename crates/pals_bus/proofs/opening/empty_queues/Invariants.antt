@@ -1,0 +1,8 @@
+use Rattle.std.proofs.Common.{◌≡◌, map, take}
+use Rattle.pals_node.specs.Values.{NodeValue}
+use Rattle.bus_fields.specs.Absent.{no_queue}
+use Rattle.pals_bus.proofs.opening.empty_queues.Given as goal
+
+-- so many queues are empty
+abbrev pub invariant-loop-node : goal.invariant-loop-node
+invariant-loop-node l = l.queues ≡ map (λ (_ : NodeValue). no_queue) (take l._node-index l.nodes)

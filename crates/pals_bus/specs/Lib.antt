@@ -1,0 +1,4 @@
+pub mod Codes
+pub mod Meeting
+pub mod Loose
+pub mod Openings

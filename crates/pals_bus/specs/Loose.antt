@@ -1,0 +1,122 @@
+-- The events of a loose world, which has no time.
+use Rattle.std.specs.Prelude.{◌≡◌, ◌<◌, ◌⊎◌, ℕ, false, length, Option, Some, None}
+use Rattle.pals_base.specs.declared.values.NodeNo.{NodeNo}
+use Rattle.pals_base.specs.declared.values.LinkNo.{LinkNo}
+use Rattle.pals_model.specs.declared.design.DesignParts.{DesignParts}
+use Rattle.pals_runs.specs.declared.events.Event.{Event}
+use Rattle.pals_runs.specs.declared.events.Event.TheVariants as event
+use Rattle.pals_runs.specs.declared.journal.Stop.{Stop}
+use Rattle.bus_machine.specs.Machine.{BusEvent, Start, Step, Finish, Send, Arrive, Drop, Repeat, is_allowed}
+use Rattle.bus_fields.specs.declared.answers.BusStartEnd.{BusStartEnd}
+use Rattle.bus_fields.specs.declared.answers.BusStartEnd.TheVariants as bus_start
+use Rattle.bus_fields.specs.declared.answers.BusStepEnd.{BusStepEnd}
+use Rattle.bus_fields.specs.declared.answers.BusStepEnd.TheVariants as bus_step
+use Rattle.bus_fields.specs.declared.answers.BusFinishEnd.{BusFinishEnd}
+use Rattle.bus_fields.specs.declared.answers.BusFinishEnd.TheVariants as bus_finish
+use Rattle.bus_fields.specs.declared.answers.BusSendEnd.{BusSendEnd}
+use Rattle.bus_fields.specs.declared.answers.BusSendEnd.TheVariants as bus_send
+use Rattle.bus_fields.specs.declared.answers.LinkEnd.{LinkEnd}
+use Rattle.bus_fields.specs.declared.answers.LinkEnd.TheVariants as link_end
+use Rattle.pals_bus.specs.declared.answers.LooseFault.{LooseFault}
+use Rattle.pals_bus.specs.declared.answers.LooseFault.TheVariants as fault
+use Rattle.bus_fields.specs.Values.{BusValue, Happens}
+
+-- what it is to the bus: no event has a reading, and none is a passing of time
+abbrev pub loose_event : Event → Option BusEvent
+loose_event (event.Pass time readings) = None
+loose_event (event.Start node) = Some (Start node None)
+loose_event (event.Step node) = Some (Step node None)
+loose_event (event.Finish node) = Some (Finish node)
+loose_event (event.Send node) = Some (Send node None)
+loose_event (event.Arrive link round) = Some (Arrive link round None)
+loose_event (event.Drop link round) = Some (Drop link round)
+loose_event (event.Repeat link round) = Some (Repeat link round)
+
+-- it names a node or a link of the design
+abbrev pub IsNamedIn : DesignParts → Event → Type 0
+IsNamedIn design (event.Pass time readings) = Unit {0}
+IsNamedIn design (event.Start node) = node.0 < length design.components
+IsNamedIn design (event.Step node) = node.0 < length design.components
+IsNamedIn design (event.Finish node) = node.0 < length design.components
+IsNamedIn design (event.Send node) = node.0 < length design.components
+IsNamedIn design (event.Arrive link round) = link.0 < length design.links
+IsNamedIn design (event.Drop link round) = link.0 < length design.links
+IsNamedIn design (event.Repeat link round) = link.0 < length design.links
+
+-- the node of an event of a node
+abbrev pub node_of : Event → Option NodeNo
+node_of (event.Pass time readings) = None
+node_of (event.Start node) = Some node
+node_of (event.Step node) = Some node
+node_of (event.Finish node) = Some node
+node_of (event.Send node) = Some node
+node_of (event.Arrive link round) = None
+node_of (event.Drop link round) = None
+node_of (event.Repeat link round) = None
+
+-- the link and the round of an event of a message
+abbrev pub message_of : Event → Option (LinkNo × ℕ)
+message_of (event.Pass time readings) = None
+message_of (event.Start node) = None
+message_of (event.Step node) = None
+message_of (event.Finish node) = None
+message_of (event.Send node) = None
+message_of (event.Arrive link round) = Some (link, round)
+message_of (event.Drop link round) = Some (link, round)
+message_of (event.Repeat link round) = Some (link, round)
+
+-- it happened
+abbrev pub HappensLoose : BusValue → Event → BusValue → Type 0
+HappensLoose old e new = (what : BusEvent) × (loose_event e ≡ Some what) × Happens old what new
+
+-- it happened, and no stop stands
+pub record GoesOn (old : BusValue) (e : Event) (new : BusValue) : Type 0 where
+  pub happens : HappensLoose old e new
+  pub going : new.state.stop ≡ None
+
+-- no stop stands, and the machine does not allow it; nothing has changed
+pub record IsRefused (old : BusValue) (e : Event) (new : BusValue) : Type 0 where
+  pub same : new ≡ old
+  pub going : old.state.stop ≡ None
+  pub what : BusEvent
+  pub is_what : loose_event e ≡ Some what
+  pub refused : is_allowed old.run old.state what ≡ false
+
+-- the stop stood before, or the event gave it
+abbrev pub StopsLoose : BusValue → Event → BusValue → Stop → Type 0
+StopsLoose old e new why = ((old.state.stop ≡ Some why) × (new ≡ old)) ⊎ (HappensLoose old e new × (new.state.stop ≡ Some why))
+
+abbrev pub LooseEnds : BusValue → Event → BusValue → LooseFault → Type 0
+LooseEnds old e new (fault.Stopped why) = StopsLoose old e new why
+LooseEnds old e new (fault.WrongPhase node) = IsRefused old e new × (node_of e ≡ Some node)
+LooseEnds old e new (fault.NoSuchMessage link round) = IsRefused old e new × (message_of e ≡ Some (link, round))
+LooseEnds old e new fault.Timed = (new ≡ old) × (old.state.stop ≡ None) × (loose_event e ≡ None)
+LooseEnds old e new fault.Memory = new ≡ old
+
+-- ---- why nothing happens, as a loose world says it
+abbrev pub start_fault : BusStartEnd → NodeNo → LooseFault
+start_fault (bus_start.Stopped why) node = fault.Stopped why
+start_fault (bus_start.NotYet alarm) node = fault.WrongPhase node
+start_fault bus_start.Busy node = fault.WrongPhase node
+start_fault bus_start.Over node = fault.WrongPhase node
+start_fault bus_start.Memory node = fault.Memory
+
+abbrev pub step_fault : BusStepEnd → NodeNo → LooseFault
+step_fault (bus_step.Stopped why) node = fault.Stopped why
+step_fault (bus_step.NotYet alarm) node = fault.WrongPhase node
+step_fault bus_step.NotBetween node = fault.WrongPhase node
+step_fault bus_step.Memory node = fault.Memory
+
+abbrev pub finish_fault : BusFinishEnd → NodeNo → LooseFault
+finish_fault (bus_finish.Stopped why) node = fault.Stopped why
+finish_fault bus_finish.NotRunning node = fault.WrongPhase node
+
+abbrev pub send_fault : BusSendEnd → NodeNo → LooseFault
+send_fault (bus_send.Stopped why) node = fault.Stopped why
+send_fault (bus_send.NotYet release) node = fault.WrongPhase node
+send_fault bus_send.NotFinished node = fault.WrongPhase node
+
+abbrev pub link_fault : LinkEnd → LinkNo → ℕ → LooseFault
+link_fault (link_end.Stopped why) link round = fault.Stopped why
+link_fault link_end.NoSuchMessage link round = fault.NoSuchMessage link round
+link_fault link_end.Memory link round = fault.Memory

@@ -1,0 +1,20 @@
+//! All messages that are due to a node.
+ghost use Rattle.std.specs.Prelude.{◌≡◌, ◌<◌, length, IfErr, OnOk};
+ghost use Rattle.bus_fields.specs.Due.{TakesAllDue, DueEnds};
+
+use crate::bus::Bus;
+use bus_fields::DueEnd;
+use pals_base::{Nanos, NodeNo};
+
+impl Bus {
+    /// All messages to a node that are due at a reading of its clock arrive, in link order and then
+    /// in order of rounds, up to the first that comes too early, which stops the run. Where there is
+    /// not enough memory, none has arrived.
+    pub fn take_due(&mut self, node: NodeNo, reading: Nanos) -> Result<(), DueEnd>
+        requires { node.0 < length self.old.run.design.components }
+        ensures ok { OnOk result (TakesAllDue self.old node.0 reading self.new) }
+        ensures end { IfErr result (λ end. DueEnds self.old node.0 reading self.new end) }
+    {
+        self.fields.take_due(node, reading)
+    }
+}

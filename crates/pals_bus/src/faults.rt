@@ -1,0 +1,62 @@
+//! Why nothing happens, as a loose world says it.
+ghost use Rattle.std.specs.Prelude.{◌≡◌};
+ghost use Rattle.pals_bus.specs.Loose.{start_fault, step_fault, finish_fault, send_fault, link_fault};
+
+use crate::answers::LooseFault;
+use bus_fields::{BusFinishEnd, BusSendEnd, BusStartEnd, BusStepEnd, LinkEnd};
+use pals_base::{LinkNo, NodeNo};
+
+/// Of a start.
+pub fn start_fault(end: BusStartEnd, node: NodeNo) -> LooseFault
+    ensures { result ≡ start_fault end node }
+{
+    match end {
+        BusStartEnd::Stopped(stop) => LooseFault::Stopped(stop),
+        BusStartEnd::NotYet { .. } | BusStartEnd::Busy | BusStartEnd::Over => {
+            LooseFault::WrongPhase { node }
+        }
+        BusStartEnd::Memory => LooseFault::Memory,
+    }
+}
+
+/// Of a step.
+pub fn step_fault(end: BusStepEnd, node: NodeNo) -> LooseFault
+    ensures { result ≡ step_fault end node }
+{
+    match end {
+        BusStepEnd::Stopped(stop) => LooseFault::Stopped(stop),
+        BusStepEnd::NotYet { .. } | BusStepEnd::NotBetween => LooseFault::WrongPhase { node },
+        BusStepEnd::Memory => LooseFault::Memory,
+    }
+}
+
+/// Of a finish.
+pub fn finish_fault(end: BusFinishEnd, node: NodeNo) -> LooseFault
+    ensures { result ≡ finish_fault end node }
+{
+    match end {
+        BusFinishEnd::Stopped(stop) => LooseFault::Stopped(stop),
+        BusFinishEnd::NotRunning => LooseFault::WrongPhase { node },
+    }
+}
+
+/// Of a send.
+pub fn send_fault(end: BusSendEnd, node: NodeNo) -> LooseFault
+    ensures { result ≡ send_fault end node }
+{
+    match end {
+        BusSendEnd::Stopped(stop) => LooseFault::Stopped(stop),
+        BusSendEnd::NotYet { .. } | BusSendEnd::NotFinished => LooseFault::WrongPhase { node },
+    }
+}
+
+/// Of an event of a message.
+pub fn link_fault(end: LinkEnd, link: LinkNo, round: u32) -> LooseFault
+    ensures { result ≡ link_fault end link round }
+{
+    match end {
+        LinkEnd::Stopped(stop) => LooseFault::Stopped(stop),
+        LinkEnd::NoSuchMessage => LooseFault::NoSuchMessage { link, round },
+        LinkEnd::Memory => LooseFault::Memory,
+    }
+}

@@ -1,0 +1,67 @@
+//! The events of the nodes.
+ghost use Rattle.std.specs.Prelude.{◌≡◌, ◌<◌, ◌≤◌, length, IfOk, IfErr, OnOk, OnErr, IfSome};
+ghost use Rattle.pals_base.specs.declared.limits.TheConstants.{READING};
+ghost use Rattle.bus_machine.specs.Machine.{Finish};
+ghost use Rattle.bus_fields.specs.Values.{Happens};
+ghost use Rattle.bus_fields.specs.Answers.{StartsRound, BusStartEnds, StepsOn, BusStepEnds, FinishesStep, BusFinishEnds, SendsRound, BusSendEnds};
+
+use crate::bus::Bus;
+use bus_fields::{BusFinishEnd, BusSendEnd, BusStartEnd, BusStepEnd};
+use pals_base::{Nanos, NodeNo};
+use pals_node::{Done, Finished, Job};
+
+impl Bus {
+    /// A node starts its next round, and the job of its first step goes out. Where a message of the
+    /// round before is not there, the run stops. It reserves all memory that the end of the step and
+    /// the send of the round need.
+    pub fn start(&mut self, node: NodeNo, reading: Option<Nanos>) -> Result<Job, BusStartEnd>
+        requires { node.0 < length self.old.run.design.components }
+        ensures ok { IfOk result (λ job. StartsRound self.old node reading self.new job) }
+        ensures end { IfErr result (λ end. BusStartEnds self.old node reading self.new end) }
+    {
+        self.fields.start_round(node, reading)
+    }
+
+    /// A node starts the next step of its round, and the job goes out. It reserves the memory that
+    /// the end of the step needs.
+    pub fn step(&mut self, node: NodeNo, reading: Option<Nanos>) -> Result<Job, BusStepEnd>
+        requires { node.0 < length self.old.run.design.components }
+        ensures ok { IfOk result (λ job. StepsOn self.old node reading self.new job) }
+        ensures same { OnErr result (self.new ≡ self.old) }
+        ensures cause { IfErr result (BusStepEnds self.old node reading) }
+    {
+        self.fields.start_step(node, reading)
+    }
+
+    /// A node finishes the step whose job is out: with what was handed in, where it is of that job,
+    /// and else by running that job here. Both leave the same, and neither takes memory.
+    pub fn finish(&mut self, node: NodeNo, done: Done) -> Result<Finished, BusFinishEnd>
+        requires { node.0 < length self.old.run.design.components }
+        ensures ok { IfOk result (λ how. FinishesStep self.old node done self.new how) }
+        ensures same { OnErr result (self.new ≡ self.old) }
+        ensures cause { IfErr result (BusFinishEnds self.old node) }
+    {
+        self.fields.finish_step(node, done)
+    }
+
+    /// A node finishes the step whose job is out by running it here. It takes no memory.
+    pub fn finish_here(&mut self, node: NodeNo) -> Result<(), BusFinishEnd>
+        requires { node.0 < length self.old.run.design.components }
+        ensures ok { OnOk result (Happens self.old (Finish node) self.new) }
+        ensures same { OnErr result (self.new ≡ self.old) }
+        ensures cause { IfErr result (BusFinishEnds self.old node) }
+    {
+        self.fields.finish_step_here(node)
+    }
+
+    /// A node sends its round: one message goes into flight on each link from it. It takes no memory.
+    pub fn send(&mut self, node: NodeNo, reading: Option<Nanos>) -> Result<(), BusSendEnd>
+        requires node { node.0 < length self.old.run.design.components }
+        requires reading { IfSome reading (λ at. at ≤ READING) }
+        ensures ok { OnOk result (SendsRound self.old node reading self.new) }
+        ensures same { OnErr result (self.new ≡ self.old) }
+        ensures cause { IfErr result (BusSendEnds self.old node reading) }
+    {
+        self.fields.send_round(node, reading)
+    }
+}

@@ -1,0 +1,38 @@
+//! Laws of loose worlds. The functions do nothing: their contracts are the laws.
+ghost use Rattle.world_laws.specs.Laws.{StepCounts, EventsAgree, RoundsAreFinished, RoundsAreSent, FinishedRows};
+ghost use Rattle.world_laws.specs.Laws.{CommonRows, SendsAreInFlight, LinesAreTold, TextIsTold, StopIsTold};
+
+/// A finish adds one to the steps that its node has finished, a send one to the rounds that its node
+/// has sent, and every other event leaves both.
+pub fn step_counts()
+    ensures { StepCounts }
+{}
+
+/// What events leave agrees with the composition. A node has finished as many rounds as its finishes
+/// make up, and has sent as many as it has sends.
+pub fn events_are_counted()
+    ensures agree { EventsAgree }
+    ensures finished { RoundsAreFinished }
+    ensures sent { RoundsAreSent }
+{}
+
+/// The rows of the rounds that some node has finished are those of the world; those of the rounds that
+/// every node has finished are a report of the composition.
+pub fn rows_are_told()
+    ensures world { FinishedRows }
+    ensures common { CommonRows }
+{}
+
+/// Behind a send each link from its node has a copy in flight, of the round and with the message that
+/// the world tells; so the lines that are told are those of the world.
+pub fn messages_are_told()
+    ensures in_flight { SendsAreInFlight }
+    ensures lines { LinesAreTold }
+{}
+
+/// Where all events happen, the rows and the lines of messages are the text of the world; where one
+/// gives a stop, the rows of the rounds that every node has finished are a report.
+pub fn texts_are_told()
+    ensures all { TextIsTold }
+    ensures stopped { StopIsTold }
+{}
