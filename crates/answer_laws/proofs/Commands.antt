@@ -20,6 +20,7 @@ use Rattle.pals_top.specs.Check.{IsChecked, IsCheckAnswer}
 use Rattle.pals_top.specs.Sync.{IsReported, IsSyncAnswer}
 use Rattle.pals_top.specs.Answers.{IsCommandAnswer}
 use Rattle.answer_laws.specs.Agreement.{TellTheSame}
+use Rattle.answer_laws.specs.Decided.{TakesNoEvents}
 use Rattle.answer_laws.proofs.Designs.{IsRead, one_tree, read_or_refused, one_refused_text, one_accepted, accepted_or_refused, package_or_text, packages_told}
 use Rattle.answer_laws.proofs.Meanings.{one_report, same_scenario, same_fault}
 use Rattle.answer_laws.proofs.Scenarios.{moved, meant_or_refused}
@@ -101,10 +102,10 @@ module _ (one_design : (tree : PackageTree ℕ) (root : List ℕ) (a b : DesignP
     sync_agrees s t a b (inr (inr x)) (inr (inl y)) = absurd (accepted_or_refused root bundle x.1.design x.1.bytes t b x.1.accepted y)
     sync_agrees s t a b (inr (inr x)) (inr (inr y)) = alike 5 s t a b x.0 y.0 (scenario_refused a b x.1 y.1)
 
-  -- ---- each command that has a form
-  pub answers_agree : (command : Command) (bundle : List ℕ) (s t : ℕ) (a b : List ℕ) → IsCommandAnswer command bundle s a → IsCommandAnswer command bundle t b
-      → Agree s a t b
-  answers_agree Print bundle s t a b x y = print_agrees bundle s t a b x y
-  answers_agree (Check root) bundle s t a b x y = check_agrees root bundle s t a b x y
-  answers_agree (Sync root) bundle s t a b x y = sync_agrees root bundle s t a b x y
-  answers_agree _ bundle s t a b x y = absurd x
+  -- ---- each command that takes no events
+  pub answers_agree : (command : Command) (bundle : List ℕ) (s t : ℕ) (a b : List ℕ) → TakesNoEvents command → IsCommandAnswer command bundle s a
+      → IsCommandAnswer command bundle t b → Agree s a t b
+  answers_agree Print bundle s t a b calm x y = print_agrees bundle s t a b x y
+  answers_agree (Check root) bundle s t a b calm x y = check_agrees root bundle s t a b x y
+  answers_agree (Sync root) bundle s t a b calm x y = sync_agrees root bundle s t a b x y
+  answers_agree _ bundle s t a b calm x y = absurd calm

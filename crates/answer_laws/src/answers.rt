@@ -1,17 +1,18 @@
-//! A bundle and a command have one status, and one text unless a package's fault is named. Each law is
+//! A bundle and a command that takes no events have one status, and one text unless a package's fault is named. Each law is
 //! the contract of a function that does nothing.
 ghost use Rattle.std.specs.Prelude.{◌≡◌, ◌≢◌, ◌<◌, ◌-◌, ◌^◌, ℕ, List, Option, Some};
 ghost use Rattle.pals_runs.specs.declared.commands.Command.{Command};
 ghost use Rattle.pals_top.specs.Answers.{IsCommandAnswer, IsAnswer};
 ghost use Rattle.pals_top.specs.Outside.{Reading};
 ghost use Rattle.answer_laws.specs.Agreement.{TellTheSame};
+ghost use Rattle.answer_laws.specs.Decided.{TakesNoEvents, TakeNoEvents};
 
 use aadl_instance::laws::one_first_fault;
 use design_laws::laws::one_design;
 
 /// The cases of an answer exclude each other: so each status comes exactly where its case does.
 pub fn status_is_decided()
-    ensures { (command : Command) (bundle : List ℕ) (s t : ℕ) (a b : List ℕ)
+    ensures { (command : Command) (bundle : List ℕ) (s t : ℕ) (a b : List ℕ) → TakesNoEvents command
         → IsCommandAnswer command bundle s a → IsCommandAnswer command bundle t b → s ≡ t }
 {
     one_design();
@@ -21,9 +22,9 @@ pub fn status_is_decided()
 /// Each status comes with one text, but where a design is refused for a fault of its package: of its
 /// first faults, which are of one kind and stand at one place, any may be named.
 pub fn text_is_decided()
-    ensures text { (command : Command) (bundle : List ℕ) (status : ℕ) (a b : List ℕ)
+    ensures text { (command : Command) (bundle : List ℕ) (status : ℕ) (a b : List ℕ) → TakesNoEvents command
         → status ≢ 4 → IsCommandAnswer command bundle status a → IsCommandAnswer command bundle status b → a ≡ b }
-    ensures refusal { (command : Command) (bundle : List ℕ) (status : ℕ) (a b : List ℕ)
+    ensures refusal { (command : Command) (bundle : List ℕ) (status : ℕ) (a b : List ℕ) → TakesNoEvents command
         → IsCommandAnswer command bundle status a → IsCommandAnswer command bundle status b → TellTheSame a b }
 {
     one_design();
@@ -33,7 +34,7 @@ pub fn text_is_decided()
 /// What the program's source shows decides the status of a call, with the words: where the source
 /// tells what is left, and its count of failed calls can still rise.
 pub fn status_of_a_call_is_decided()
-    ensures { (command : Option Command) (seen : Reading) (left : List ℕ) (s t : ℕ) (a b : List ℕ)
+    ensures { (command : Option Command) (seen : Reading) (left : List ℕ) (s t : ℕ) (a b : List ℕ) → TakeNoEvents command
         → seen.before.left ≡ Some left → seen.before.faults < 2 ^ 64 - 1
         → IsAnswer command seen s a → IsAnswer command seen t b → s ≡ t }
 {

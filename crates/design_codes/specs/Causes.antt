@@ -12,6 +12,10 @@ use Rattle.design_codes.specs.declared.CodesEnd.TheVariants as end
 abbrev pub length_of : DesignParts → ℕ → ℕ
 length_of design node = code_length (component_at design node).behaviour
 
+-- no component's code is too long
+abbrev pub AreShort : DesignParts → Type 0
+AreShort design = (node : ℕ) → node < length design.components → length_of design node ≤ INSTRUCTIONS
+
 -- the code of this component is too long, and those of all before it are not
 pub record IsFirstTooLong (design : DesignParts) (node size : ℕ) : Type 0 where
   pub within : node < length design.components

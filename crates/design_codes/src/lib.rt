@@ -3,7 +3,7 @@
 
 ghost use Rattle.std.specs.Prelude.{IfOk, IfErr};
 ghost use Rattle.bus_fields.specs.Values.{AreCodes};
-ghost use Rattle.design_codes.specs.Causes.{IsCause};
+ghost use Rattle.design_codes.specs.Causes.{AreShort, IsCause};
 
 use pals_base::{Items, NoMemory, NodeNo};
 use pals_model::Design;
@@ -35,6 +35,7 @@ impl From<NoMemory> for CodesEnd {
 /// The code of each component, which means what the component does.
 pub fn compile_all(alloc: Global, design: &Design) -> Result<Items<Code>, CodesEnd>
     ensures ok { IfOk result (AreCodes design.now) }
+    ensures short { IfOk result (λ _. AreShort design.now) }
     ensures fault { IfErr result (IsCause design.now) }
 {
     let mut codes = Items::new(alloc);

@@ -1,31 +1,126 @@
--- Two words are a form by the second, where that is no flag: a first word that is a flag is no command.
-use Rattle.std.proofs.Common.{◌≡◌, ℕ, ◌<◌, ◌≤◌, Bool, true, false, not, nat_eq, ◌&&◌, cond, List, [], ◌∷◌, length, get_or, Option, None, refl, sym, ap, arith}
+-- What words are by their number, with flags or without.
+use Rattle.std.proofs.Common.{◌≡◌, ℕ, ◌+◌, ◌<◌, ◌≤◌, Bool, true, false, not, nat_eq, suc, ◌&&◌, ◌||◌, cond, List, [], ◌∷◌, length, codes, bytes_eq, get_or, Option, None, refl, sym, ap, ◌∙◌, subst, arith}
+use Rattle.std.specs.List.{list_all}
 use Rattle.std.proofs.lemmas.Bool.{eqb-true, true≢false}
+use Rattle.std.proofs.lemmas.Slice.Eq.{bytes_eq-Decides}
 use Rattle.pals_runs.specs.declared.commands.Command.{Command}
-use Rattle.pals_top.specs.Words.{is_plain, rooted_form, form}
+use Rattle.pals_top.specs.Words.{is_plain, is_flag, flags, plain_words, plain_form, rooted_form, flagged_form, form_by, form}
 
-flag_begins : (c : ℕ) → not (nat_eq c 45) ≡ false → nat_eq c 45 ≡ true
-flag_begins c e = not-false (nat_eq c 45) e where
+-- ---- flags
+either : (w x y : List ℕ) → (bytes_eq w x || bytes_eq w y) ≡ true → is_plain x ≡ false → is_plain y ≡ false → is_plain w ≡ false
+either w x y e px py = by-cases (bytes_eq w x) (bytes_eq w y) e (λ t. ap is_plain ((bytes_eq-Decides w x).0 t) ∙ px) (λ t. ap is_plain ((bytes_eq-Decides w y).0 t) ∙ py) where
+  by-cases : (a b : Bool) → (a || b) ≡ true → (a ≡ true → is_plain w ≡ false) → (b ≡ true → is_plain w ≡ false) → is_plain w ≡ false
+  by-cases true b e p q = p refl
+  by-cases false b e p q = q e
+
+-- a flag is no plain word
+flag_begins : (w : List ℕ) → is_flag w ≡ true → is_plain w ≡ false
+flag_begins w e = either w (codes "--loose") (codes "--trace") e refl refl
+
+-- and is no command with a root
+begins : (c : ℕ) → not (nat_eq c 45) ≡ false → nat_eq c 45 ≡ true
+begins c e = not-false (nat_eq c 45) e where
   not-false : (b : Bool) → not b ≡ false → b ≡ true
   not-false true e = refl
   not-false false e = absurd (true≢false e)
 
 flag_alone : (word root : List ℕ) → is_plain word ≡ false → rooted_form word root ≡ None
 flag_alone [] root e = absurd (true≢false e)
-flag_alone (c ∷ cs) root e = ap (λ b. rooted_form (b ∷ cs) root) (eqb-true c 45 (flag_begins c e))
+flag_alone (c ∷ cs) root e = ap (λ b. rooted_form (b ∷ cs) root) (eqb-true c 45 (begins c e))
 
-chosen : (first second : Bool) (command : Option Command) → second ≡ true → (first ≡ false → command ≡ None)
-    → cond (first && (second && true)) command None ≡ command
-chosen true true command e none = refl
-chosen true false command e none = absurd (true≢false (sym e))
-chosen false second command e none = sym (none refl)
+-- ---- words by which of them are flags
+abbrev kept : Bool → List ℕ → List (List ℕ) → List (List ℕ)
+kept keep w rest = cond keep (w ∷ rest) rest
 
-pub form_rooted : (word root : List ℕ) → is_plain root ≡ true → form (word ∷ root ∷ []) ≡ rooted_form word root
-form_rooted word root plain = chosen (is_plain word) (is_plain root) (rooted_form word root) plain (flag_alone word root)
+abbrev by_parts : List (List ℕ) → List (List ℕ) → Option Command
+by_parts plain chosen = cond (list_all is_plain plain) (form_by plain chosen) None
 
--- a list of two
+abbrev two : Bool → Bool → List ℕ → List ℕ → Option Command
+two x y a b = by_parts (kept (not x) a (kept (not y) b [])) (kept x a (kept y b []))
+
+abbrev three : Bool → Bool → Bool → List ℕ → List ℕ → List ℕ → Option Command
+three x y z a b c = by_parts (kept (not x) a (kept (not y) b (kept (not z) c []))) (kept x a (kept y b (kept z c [])))
+
+-- no command either way
+idle : (p : Bool) (command : Option Command) → command ≡ None → cond p command None ≡ None
+idle true command e = e
+idle false command e = refl
+
+-- ---- two words
+rooted_by : (x y : Bool) (a b : List ℕ) → is_flag a ≡ x → is_flag b ≡ y → is_plain b ≡ true → two x y a b ≡ rooted_form a b
+rooted_by x true a b ex ey plain = absurd (true≢false (sym plain ∙ flag_begins b ey))
+rooted_by true false a b ex ey plain =
+    idle (list_all is_plain (b ∷ [])) (form_by (b ∷ []) (a ∷ [])) (idle (bytes_eq a (codes "--loose")) None refl) ∙ sym (flag_alone a b (flag_begins a ex))
+rooted_by false false a b ex ey plain = both (is_plain a) (is_plain b) (rooted_form a b) plain (λ e. flag_alone a b e) where
+  both : (first second : Bool) (command : Option Command) → second ≡ true → (first ≡ false → command ≡ None) → cond (first && (second && true)) command None ≡ command
+  both true true command e none = refl
+  both true false command e none = absurd (true≢false (sym e))
+  both false second command e none = sym (none refl)
+
+pub form_rooted : (a b : List ℕ) → is_plain b ≡ true → form (a ∷ b ∷ []) ≡ rooted_form a b
+form_rooted a b plain = rooted_by (is_flag a) (is_flag b) a b refl refl plain
+
+none_by : (x y : Bool) (a b : List ℕ) → is_plain b ≡ false → two x y a b ≡ None
+none_by true true a b plain = refl
+none_by false true a b plain = idle (list_all is_plain (a ∷ [])) (form_by (a ∷ []) (b ∷ [])) (idle (bytes_eq b (codes "--loose")) None refl)
+none_by true false a b plain = ap (λ p. cond (p && true) (form_by (b ∷ []) (a ∷ [])) None) plain
+none_by false false a b plain = ap (λ p. cond (is_plain a && (p && true)) (rooted_form a b) None) plain ∙ nothing (is_plain a) (rooted_form a b) where
+  nothing : (p : Bool) (command : Option Command) → cond (p && (false && true)) command None ≡ None
+  nothing true command = refl
+  nothing false command = refl
+
+pub form_none : (a b : List ℕ) → is_plain b ≡ false → form (a ∷ b ∷ []) ≡ None
+form_none a b plain = none_by (is_flag a) (is_flag b) a b plain
+
+-- ---- three words, of which none is a flag
+unflagged : (x y z : Bool) (a b c : List ℕ) → x ≡ false → y ≡ false → z ≡ false → three x y z a b c ≡ None
+unflagged false false false a b c ex ey ez = idle (list_all is_plain (a ∷ b ∷ c ∷ [])) None refl
+unflagged true y z a b c ex ey ez = absurd (true≢false ex)
+unflagged false true z a b c ex ey ez = absurd (true≢false ey)
+unflagged false false true a b c ex ey ez = absurd (true≢false ez)
+
+pub form_unflagged : (a b c : List ℕ) → is_flag a ≡ false → is_flag b ≡ false → is_flag c ≡ false → form (a ∷ b ∷ c ∷ []) ≡ None
+form_unflagged a b c ea eb ec = unflagged (is_flag a) (is_flag b) (is_flag c) a b c ea eb ec
+
+-- ---- four words or more
+one_more : (x : Bool) (w : List ℕ) (plain chosen : List (List ℕ)) (n : ℕ) → length plain + length chosen ≡ n → length (kept (not x) w plain) + length (kept x w chosen) ≡ suc n
+one_more true w plain chosen n e = omega arith
+one_more false w plain chosen n e = omega arith
+
+counts : (words : List (List ℕ)) → length (plain_words words) + length (flags words) ≡ length words
+counts [] = refl
+counts (w ∷ words) = one_more (is_flag w) w (plain_words words) (flags words) (length words) (counts words)
+
+no_form : (plain chosen : List (List ℕ)) → 4 ≤ length plain + length chosen → form_by plain chosen ≡ None
+no_form [] [] many = absurd (omega arith)
+no_form (a ∷ []) [] many = absurd (omega arith)
+no_form (a ∷ b ∷ []) [] many = absurd (omega arith)
+no_form (a ∷ b ∷ c ∷ plain) [] many = refl
+no_form [] (f ∷ []) many = absurd (omega arith)
+no_form (a ∷ []) (f ∷ []) many = absurd (omega arith)
+no_form (a ∷ b ∷ []) (f ∷ []) many = absurd (omega arith)
+no_form (a ∷ b ∷ c ∷ plain) (f ∷ []) many = idle (bytes_eq f (codes "--loose")) None refl
+no_form plain (f ∷ g ∷ chosen) many = refl
+
+pub form_long : (words : List (List ℕ)) → 4 ≤ length words → form words ≡ None
+form_long words many =
+    let count = counts words in
+    idle (list_all is_plain (plain_words words)) (form_by (plain_words words) (flags words)) (no_form (plain_words words) (flags words) (omega (arith, many, count)))
+
+-- ---- lists by their length
+pub no_items : {A : Type 0} (xs : List A) → length xs < 1 → xs ≡ []
+no_items [] e = refl
+no_items (x ∷ xs) e = absurd (omega arith)
+
 pub two_items : {A : Type 0} (xs : List A) (a b : A) → 2 ≤ length xs → length xs < 3 → a ≡ get_or xs 0 a → b ≡ get_or xs 1 b → xs ≡ a ∷ b ∷ []
 two_items [] a b least most first second = absurd (omega arith)
 two_items (x ∷ []) a b least most first second = absurd (omega arith)
 two_items (x ∷ y ∷ []) a b least most first second = cc
 two_items (x ∷ y ∷ z ∷ zs) a b least most first second = absurd (omega arith)
+
+pub three_items : {A : Type 0} (xs : List A) (a b c : A) → 3 ≤ length xs → length xs < 4 → a ≡ get_or xs 0 a → b ≡ get_or xs 1 b → c ≡ get_or xs 2 c → xs ≡ a ∷ b ∷ c ∷ []
+three_items [] a b c least most e1 e2 e3 = absurd (omega arith)
+three_items (x ∷ []) a b c least most e1 e2 e3 = absurd (omega arith)
+three_items (x ∷ y ∷ []) a b c least most e1 e2 e3 = absurd (omega arith)
+three_items (x ∷ y ∷ z ∷ []) a b c least most e1 e2 e3 = cc
+three_items (x ∷ y ∷ z ∷ w ∷ ws) a b c least most e1 e2 e3 = absurd (omega arith)

@@ -1,3 +1,5 @@
 mod Forms
+mod LooseAnswers
+mod LooseWorlds
 pub mod Rounds
 mod Scenarios

@@ -2,6 +2,7 @@ pub mod Accepted
 pub mod Answers
 pub mod Bundles
 pub mod Check
+pub mod Loose
 pub mod Outside
 pub mod Print
 pub mod RefusedTexts

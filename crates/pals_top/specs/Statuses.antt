@@ -1,7 +1,7 @@
 -- The status and the text of an answer.
-use Rattle.std.specs.Prelude.{ℕ, List}
+use Rattle.std.specs.Prelude.{◌≡◌, ℕ, List}
 use Rattle.pals_top.specs.declared.answer.Answer.{Answer}
-use Rattle.pals_top.specs.declared.answer.Answer.TheVariants.{Done, Usage, TextRefused, DesignRefused, ScenarioRefused, ReadFault, TooLong}
+use Rattle.pals_top.specs.declared.answer.Answer.TheVariants.{Done, Usage, TextRefused, DesignRefused, ScenarioRefused, Stopped, CodeTooLong, ReadFault, TooLong}
 use Rattle.pals_top.specs.Texts.{usage_line, read_fault_line, too_long_line}
 
 abbrev pub status_of : Answer → ℕ
@@ -10,6 +10,8 @@ status_of Usage = 2
 status_of (TextRefused text) = 3
 status_of (DesignRefused text) = 4
 status_of (ScenarioRefused text) = 5
+status_of (Stopped text) = 6
+status_of (CodeTooLong text) = 13
 status_of ReadFault = 9
 status_of TooLong = 12
 
@@ -19,5 +21,11 @@ text_of Usage = usage_line
 text_of (TextRefused text) = text.items
 text_of (DesignRefused text) = text.items
 text_of (ScenarioRefused text) = text.items
+text_of (Stopped text) = text.items
+text_of (CodeTooLong text) = text.items
 text_of ReadFault = read_fault_line
 text_of TooLong = too_long_line
+
+-- it has this status and this text
+abbrev pub Says : ℕ → List ℕ → Answer → Type 0
+Says status text answer = (status_of answer ≡ status) × (text_of answer ≡ text)

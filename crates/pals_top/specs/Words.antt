@@ -1,8 +1,8 @@
 -- What the words of a command line are.
 use Rattle.std.specs.List.{list_all}
-use Rattle.std.specs.Prelude.{ℕ, nat_eq, Bool, false, not, if◌then◌else◌, codes, bytes_eq, List, [], ◌∷◌, Option, Some, None, ◌≡◌, IsSome}
+use Rattle.std.specs.Prelude.{ℕ, nat_eq, Bool, true, false, not, if◌then◌else◌, ◌||◌, ◌&&◌, codes, bytes_eq, List, [], ◌∷◌, filter, Option, Some, None, Result, Ok, Err, ◌≡◌, IsSome}
 use Rattle.pals_runs.specs.declared.commands.Command.{Command}
-use Rattle.pals_runs.specs.declared.commands.Command.TheVariants.{Print, Check, Sync}
+use Rattle.pals_runs.specs.declared.commands.Command.TheVariants.{Print, Check, Sync, World}
 use Rattle.pals_top.specs.declared.words.WordsEnd.{WordsEnd}
 use Rattle.pals_top.specs.declared.words.WordsEnd.TheVariants.{Usage, Memory}
 
@@ -11,28 +11,57 @@ abbrev pub is_plain : List ℕ → Bool
 is_plain [] = not false
 is_plain (c ∷ cs) = not (nat_eq c 45)
 
+-- ---- flags may stand anywhere
+abbrev pub is_flag : List ℕ → Bool
+is_flag word = bytes_eq word (codes "--loose") || bytes_eq word (codes "--trace")
+
+abbrev pub flags : List (List ℕ) → List (List ℕ)
+flags words = filter is_flag words
+
+abbrev pub plain_words : List (List ℕ) → List (List ℕ)
+plain_words words = filter (λ word. not (is_flag word)) words
+
+-- ---- a command by its plain words, without flags or with one
 -- the command of a word with a root
 abbrev pub rooted_form : List ℕ → List ℕ → Option Command
 rooted_form word root = if bytes_eq word (codes "check") then Some (Check root) else (if bytes_eq word (codes "sync") then Some (Sync root) else None)
 
--- a command by its plain words
 abbrev pub plain_form : List (List ℕ) → Option Command
 plain_form (word ∷ []) = if bytes_eq word (codes "print") then Some Print else None
 plain_form (word ∷ root ∷ []) = rooted_form word root
 plain_form _ = None
 
--- The command that the words are. None of these commands takes a flag, and no other word begins with `-`.
+abbrev pub loose_form : List (List ℕ) → Option Command
+loose_form (word ∷ root ∷ []) = if bytes_eq word (codes "world") then Some (World root true) else None
+loose_form _ = None
+
+abbrev pub form_by : List (List ℕ) → List (List ℕ) → Option Command
+form_by plain [] = plain_form plain
+form_by plain (flag ∷ []) = if bytes_eq flag (codes "--loose") then loose_form plain else None
+form_by plain _ = None
+
+-- The command that the words are. No plain word begins with `-`.
 abbrev pub form : List (List ℕ) → Option Command
-form words = if list_all is_plain words then plain_form words else None
+form words = if list_all is_plain (plain_words words) then form_by (plain_words words) (flags words) else None
+
+-- a word with a root and one flag
+abbrev pub flagged_form : List ℕ → List ℕ → List ℕ → Option Command
+flagged_form flag word root = if is_plain word && is_plain root then form_by (word ∷ root ∷ []) (flag ∷ []) else None
 
 -- the commands that have a form
 abbrev pub HasForm : Command → Type 0
 HasForm Print = Unit {0}
 HasForm (Check root) = Unit {0}
 HasForm (Sync root) = Unit {0}
+HasForm (World root true) = Unit {0}
 HasForm _ = ⊥
 
 -- Why words give no command: they are no form, or they are one and memory was wanting.
 abbrev pub IsWordsEnd : Option Command → WordsEnd → Type 0
 IsWordsEnd command Usage = command ≡ None
 IsWordsEnd command Memory = IsSome command
+
+-- What is read from words: the command that they are, or why there is none.
+abbrev pub IsRead : Option Command → Result Command WordsEnd → Type 0
+IsRead form (Ok command) = (form ≡ Some command) × HasForm command
+IsRead form (Err end) = IsWordsEnd form end

@@ -15,6 +15,11 @@ pub enum Answer {
     DesignRefused(Vec<u8>),
     /// Why the scenario is refused.
     ScenarioRefused(Vec<u8>),
+    /// A run that a missed or an early input stopped: the rounds that all nodes finished, and the
+    /// journal, which ends with the stop.
+    Stopped(Vec<u8>),
+    /// Which component's step code is too long.
+    CodeTooLong(Vec<u8>),
     /// The source failed.
     ReadFault,
     /// The source has too many bytes.
@@ -32,8 +37,10 @@ impl Answer {
             Answer::TextRefused(_) => 3,
             Answer::DesignRefused(_) => 4,
             Answer::ScenarioRefused(_) => 5,
+            Answer::Stopped(_) => 6,
             Answer::ReadFault => 9,
             Answer::TooLong => 12,
+            Answer::CodeTooLong(_) => 13,
         }
     }
 
@@ -45,7 +52,9 @@ impl Answer {
             Answer::Done(text)
             | Answer::TextRefused(text)
             | Answer::DesignRefused(text)
-            | Answer::ScenarioRefused(text) => text.as_slice(),
+            | Answer::ScenarioRefused(text)
+            | Answer::Stopped(text)
+            | Answer::CodeTooLong(text) => text.as_slice(),
             Answer::Usage =>
                 b"usage: pals print / check ROOT / sync ROOT / world [--loose] ROOT / run [--trace] ROOT / audit ROOT / self N R\n",
             Answer::ReadFault => b"read fault\n",

@@ -5,6 +5,7 @@ mod accepted;
 mod answer;
 mod bundle;
 mod check;
+mod loose;
 mod print;
 mod program;
 mod refused_design;

@@ -9,6 +9,7 @@ ghost use Rattle.pals_top.specs.Statuses.{status_of, text_of};
 
 use crate::answer::Answer;
 use crate::check::answer_check;
+use crate::loose::answer_loose;
 use crate::print::answer_print;
 use crate::sync::answer_sync;
 use crate::words::{WordsEnd, read_words};
@@ -83,6 +84,7 @@ fn answer_bundle(alloc: Global, command: &Command, bundle: &[u8]) -> Result<Answ
         Command::Print => answer_print(alloc, bundle),
         Command::Check { root } => answer_check(alloc, bundle, root),
         Command::Sync { root } => answer_sync(alloc, bundle, root),
+        Command::World { root, loose: true } => answer_loose(alloc, bundle, root),
         _ => unreachable!(),
     }
 }

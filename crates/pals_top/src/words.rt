@@ -1,6 +1,6 @@
 //! The words of the command line.
-ghost use Rattle.std.specs.Prelude.{◌≡◌, Some, IfOk, IfErr};
-ghost use Rattle.pals_top.specs.Words.{form, rooted_form, is_plain, HasForm, IsWordsEnd};
+ghost use Rattle.std.specs.Prelude.{◌≡◌, [], ◌∷◌};
+ghost use Rattle.pals_top.specs.Words.{form, plain_form, rooted_form, flagged_form, is_flag, is_plain, IsRead};
 
 use pals_base::{Text, TryClone};
 use pals_runs::Command;
@@ -28,22 +28,31 @@ impl From<AllocError> for WordsEnd {
 
 /// The command that the words are. `Usage` is answered exactly where they are no form.
 pub fn read_words(alloc: Global, words: &[Text]) -> Result<Command, WordsEnd>
-    ensures command { IfOk result (λ command. form words.now ≡ Some command) }
-    ensures known { IfOk result HasForm }
-    ensures none { IfErr result (λ end. IsWordsEnd (form words.now) end) }
+    ensures { IsRead (form words.now) result }
 {
     match words {
-        [word] if word.as_str() == "print" => Ok(Command::Print),
+        [word] => alone(word),
         [word, root] if is_plain(root) => rooted(alloc, word, root),
+        [first, second, third] if is_flag(first) => flagged(alloc, first, second, third),
+        [first, second, third] if is_flag(second) => flagged(alloc, second, first, third),
+        [first, second, third] if is_flag(third) => flagged(alloc, third, first, second),
         _ => Err(WordsEnd::Usage),
     }
 }
 
+// The command of one word.
+fn alone(word: &Text) -> Result<Command, WordsEnd>
+    ensures { IsRead (plain_form (word.now ∷ [])) result }
+{
+    if word.as_str() == "print" {
+        return Ok(Command::Print);
+    }
+    Err(WordsEnd::Usage)
+}
+
 // The command of a word with a root.
 fn rooted(alloc: Global, word: &Text, root: &Text) -> Result<Command, WordsEnd>
-    ensures command { IfOk result (λ command. rooted_form word.now root.now ≡ Some command) }
-    ensures known { IfOk result HasForm }
-    ensures none { IfErr result (λ end. IsWordsEnd (rooted_form word.now root.now) end) }
+    ensures { IsRead (rooted_form word.now root.now) result }
 {
     match word.as_str() {
         "check" => Ok(Command::Check {
@@ -56,7 +65,30 @@ fn rooted(alloc: Global, word: &Text, root: &Text) -> Result<Command, WordsEnd>
     }
 }
 
-// Whether a word is no flag.
+// The command of a word with a root and a flag.
+fn flagged(alloc: Global, flag: &Text, word: &Text, root: &Text) -> Result<Command, WordsEnd>
+    ensures { IsRead (flagged_form flag.now word.now root.now) result }
+{
+    if !is_plain(word) || !is_plain(root) {
+        return Err(WordsEnd::Usage);
+    }
+    match (flag.as_str(), word.as_str()) {
+        ("--loose", "world") => Ok(Command::World {
+            root: root.try_clone(alloc)?,
+            loose: true,
+        }),
+        _ => Err(WordsEnd::Usage),
+    }
+}
+
+// Whether a word is a flag.
+fn is_flag(word: &Text) -> bool
+    ensures { result ≡ is_flag word.now }
+{
+    word.as_str() == "--loose" || word.as_str() == "--trace"
+}
+
+// Whether a word does not begin as flags do.
 fn is_plain(word: &Text) -> bool
     ensures { result ≡ is_plain word.now }
 {

@@ -15,3 +15,5 @@ mod print;
 mod refused_texts;
 #[cfg(test)]
 mod rounds;
+#[cfg(test)]
+mod worlds;

@@ -1,20 +1,34 @@
-use Rattle.std.proofs.Common.{◌≡◌, Some, IfOk, IfErr, ◌∷◌, [], ap, ◌∙◌, sym, subst}
-use Rattle.pals_top.specs.Words.{form, rooted_form, IsWordsEnd}
-use Rattle.pals_top.proofs.Forms.{form_rooted, two_items}
+use Rattle.std.proofs.Common.{◌≡◌, ◌∷◌, [], None, ap, ◌∙◌, sym, subst, arith}
+use Rattle.std.proofs.lemmas.Bool.Decides.{nat_tests}
+use Rattle.pals_top.specs.Words.{form, rooted_form, IsRead}
+use Rattle.pals_top.proofs.Forms.{form_rooted, form_none, form_unflagged, form_long, no_items, two_items, three_items}
+use Rattle.pals_top.proofs.words.read_words.Goals.{in_default-via-then-words-lt1, in_default-via-in-len2+else-is_plain, in_default-via-in-len3-3+else-is_flag-3, in_default-via-else-words-lt1+else-words-lt2+else-words-lt3+else-words-lt4}
 use Rattle.pals_top.proofs.words.read_words.Goals as goal
 
-pub returns-in-len2-clause-command : goal.returns-in-len2-clause-command
-returns-in-len2-clause-command c =
+pub returns-in-len2 : goal.returns-in-len2
+returns-in-len2 c =
     let word = c.word-item-then-words-lt3.result in
     let root = c.root-item.result in
     let words : c.args.words.now ≡ word ∷ root ∷ [] = two_items _ _ _ c.in-len2.len_at_least c.in-len2.len_below c.word-item-then-words-lt3.is c.root-item.is in
     let same : form c.args.words.now ≡ rooted_form word root = ap form words ∙ form_rooted word root (sym c.is_plain.ensures ∙ c.if-is_plain.true) in
-    subst (λ o. IfOk c.rooted.result (λ command. o ≡ Some command)) (sym same) c.rooted.ensures.command
+    subst (λ o. IsRead o c.rooted.result) (sym same) c.rooted.ensures
 
-pub returns-in-len2-clause-none : goal.returns-in-len2-clause-none
-returns-in-len2-clause-none c =
-    let word = c.word-item-then-words-lt3.result in
-    let root = c.root-item.result in
-    let words : c.args.words.now ≡ word ∷ root ∷ [] = two_items _ _ _ c.in-len2.len_at_least c.in-len2.len_below c.word-item-then-words-lt3.is c.root-item.is in
-    let same : form c.args.words.now ≡ rooted_form word root = ap form words ∙ form_rooted word root (sym c.is_plain.ensures ∙ c.if-is_plain.true) in
-    subst (λ o. IfErr c.rooted.result (λ end. IsWordsEnd o end)) (sym same) c.rooted.ensures.none
+pub returns-in_default : goal.returns-in_default
+returns-in_default c = elim c.in_default.branch [
+  | in_default-via-then-words-lt1 w ↦ ap form (no_items c.args.words.now (grind (arith, nat_tests)))
+  | in_default-via-in-len2+else-is_plain w ↦
+      let word = w.word-item-then-words-lt3.result in
+      let root = w.root-item.result in
+      let words : c.args.words.now ≡ word ∷ root ∷ [] = two_items _ _ _ w.in-len2.len_at_least w.in-len2.len_below w.word-item-then-words-lt3.is w.root-item.is in
+      ap form words ∙ form_none word root (sym w.is_plain.ensures ∙ w.if-is_plain.false)
+  | in_default-via-in-len3-3+else-is_flag-3 w ↦
+      let first = w.first-item.result in
+      let second = w.second-item-then-words-lt4.result in
+      let third = w.third-item-then-words-lt4-2.result in
+      let words : c.args.words.now ≡ first ∷ second ∷ third ∷ [] =
+      three_items _ _ _ _ w.in-len3.len_at_least w.in-len3.len_below w.first-item.is w.second-item-then-words-lt4.is w.third-item-then-words-lt4-2.is in
+      ap form words
+      ∙ form_unflagged first second third (sym w.is_flag.ensures ∙ w.if-is_flag.false) (sym w.is_flag-then-words-lt4.ensures ∙ w.if-is_flag-2.false)
+      (sym w.is_flag-then-words-lt4-2.ensures ∙ w.if-is_flag-3.false)
+  | in_default-via-else-words-lt1+else-words-lt2+else-words-lt3+else-words-lt4 w ↦ form_long c.args.words.now (grind (arith, nat_tests))
+]

@@ -1,0 +1,216 @@
+//! The command `world --loose`: what a list of events without time leaves.
+ghost use Rattle.std.specs.Prelude.{◌≡◌, ◌≤◌, ℕ, List, [], ◌++◌, false, map, length, None, IfOk};
+ghost use Rattle.pals_base.specs.declared.limits.TheConstants.{ROUNDS};
+ghost use Rattle.pals_model.specs.Delays.{AreDelays};
+ghost use Rattle.loose_world.specs.declared.LooseEnd.{LooseEnd};
+ghost use Rattle.loose_world.specs.Worlds.{Tells};
+ghost use Rattle.world_report.specs.Sent.{AreOutLinks};
+ghost use Rattle.pals_model.specs.Rules.{IsDesign};
+ghost use Rattle.pals_model.specs.RoundTexts.{line_end, text_of as lines_text};
+ghost use Rattle.pals_runs.specs.Journal.{entry_line};
+ghost use Rattle.bus_fields.specs.Values.{AreCodes, opening_bus};
+ghost use Rattle.scenario_json.specs.Facts.{IsScenarioOf};
+ghost use Rattle.design_codes.specs.Causes.{AreShort};
+ghost use Rattle.run_lines.specs.EventFaults.{event_fault_line};
+ghost use Rattle.world_report.specs.Finished.{finished_lines, common_lines};
+ghost use Rattle.pals_top.specs.Accepted.{IsAccepted};
+ghost use Rattle.loose_events.specs.Laws.{AreLooseEvents};
+ghost use Rattle.pals_top.specs.Loose.{run_of, code_fault_line, status_at, text_at, IsWorldAnswer, IsLooseAnswer};
+ghost use Rattle.pals_top.specs.Statuses.{status_of, text_of, Says};
+
+use crate::accepted::{Accepted, Refusal, accept};
+use crate::answer::Answer;
+use crate::refused_scenario::refused_scenario;
+use design_codes::{CodesEnd, compile_all};
+use loose_events::laws::events_are_loose;
+use loose_world::{LooseEnd, run_loose};
+use pals_base::{Items, NoMemory, NodeNo, Text, TryClone};
+use pals_bus::Bus;
+use pals_model::{Delays, Design, Env};
+use pals_runs::{Command, Event, EventFault};
+use run_lines::{add_code_fault, add_event_fault};
+use scenario_json::{Scenario, read_scenario};
+use std::alloc::{AllocError, Global};
+use std::sync::Arc;
+use step_code::Code;
+use world_laws::laws::texts_are_told;
+use world_report::{OutLinks, add_finished, add_finished_by_all, add_journal};
+
+/// The answer of `world --loose` to a bundle.
+pub fn answer_loose(alloc: Global, bundle: &[u8], root: &Text) -> Result<Answer, NoMemory>
+    ensures { IfOk result (λ answer. IsLooseAnswer root.now bundle.now (status_of answer) (text_of answer)) }
+{
+    match accept(alloc, bundle, root) {
+        Ok(accepted) => answer_accepted(alloc, accepted, root),
+        Err(Refusal::Answered(answer)) => Ok(answer),
+        Err(Refusal::Memory) => Err(AllocError),
+    }
+}
+
+// The answer to a bundle whose design is accepted. The codes come before the scenario.
+fn answer_accepted(alloc: Global, accepted: Accepted<'_>, root: &Text) -> Result<Answer, NoMemory>
+    ensures { (bundle : List ℕ) → IsAccepted root.now bundle accepted.entry.design accepted.entry.scenario.now
+        → IfOk result (λ answer. IsLooseAnswer root.now bundle (status_of answer) (text_of answer)) }
+{
+    match compile_all(alloc, &accepted.design) {
+        Ok(codes) => answer_coded(alloc, accepted, root, codes),
+        Err(CodesEnd::TooLong { node, length }) => code_too_long(
+            alloc,
+            &accepted.design,
+            node,
+            length,
+        ),
+        Err(CodesEnd::Memory) => Err(AllocError),
+    }
+}
+
+// The answer to a bundle whose design is accepted and has its codes.
+fn answer_coded(
+    alloc: Global,
+    accepted: Accepted<'_>,
+    root: &Text,
+    codes: Items<Code>,
+) -> Result<Answer, NoMemory>
+    requires codes { AreCodes accepted.design codes }
+    requires short { AreShort accepted.design }
+    ensures { (bundle : List ℕ) → IsAccepted root.now bundle accepted.entry.design accepted.entry.scenario.now
+        → IfOk result (λ answer. IsLooseAnswer root.now bundle (status_of answer) (text_of answer)) }
+{
+    events_are_loose();
+    let command = Command::World {
+        root: root.try_clone(alloc)?,
+        loose: true,
+    };
+    match read_scenario(alloc, accepted.scenario, &accepted.design, command) {
+        Ok(scenario) => answer_scenario(alloc, accepted.design, codes, scenario),
+        Err(fault) => refused_scenario(alloc, &fault),
+    }
+}
+
+// The answer to a design with a component whose code is too long.
+fn code_too_long(
+    alloc: Global,
+    design: &Design,
+    node: NodeNo,
+    length: u64,
+) -> Result<Answer, NoMemory>
+    ensures { IfOk result (Says 13 (code_fault_line design.now node.0 length ++ line_end)) }
+{
+    let mut line = Vec::new(alloc);
+    add_code_fault(&mut line, design, node, length)?;
+    Ok(Answer::CodeTooLong(line))
+}
+
+// The answer to a scenario.
+fn answer_scenario(
+    alloc: Global,
+    design: Design,
+    codes: Items<Code>,
+    scenario: Scenario,
+) -> Result<Answer, NoMemory>
+    requires codes { AreCodes design codes }
+    requires kept { IsScenarioOf design scenario }
+    requires events { AreLooseEvents design scenario.events }
+    ensures { IfOk result (λ answer. IsWorldAnswer design scenario (opening_bus (run_of design scenario) codes false) (status_of answer) (text_of answer)) }
+{
+    keeps_rules(&design);
+    texts_are_told();
+    let links = OutLinks::new(alloc, &design)?;
+    let Scenario {
+        rounds,
+        env,
+        events,
+        delays,
+        ..
+    } = scenario;
+    let mut bus = opened(alloc, design, codes, env, rounds, delays)?;
+    answer_events(alloc, &mut bus, events.as_slice(), &links)
+}
+
+// The bus before the first event.
+fn opened(
+    alloc: Global,
+    design: Design,
+    codes: Items<Code>,
+    env: Env,
+    rounds: u32,
+    delays: Delays,
+) -> Result<Bus, NoMemory>
+    requires codes { AreCodes design codes }
+    requires rounds { (1 ≤ rounds) × (rounds ≤ ROUNDS) }
+    requires delays { AreDelays (length design.links) delays }
+    ensures { IfOk result (λ bus. bus ≡ opening_bus (record { design = design; env = env; rounds = rounds; delays = delays }) codes false) }
+{
+    let design = Arc::new(alloc, design)?;
+    Bus::new(alloc, design, codes, env, rounds, delays, false)
+}
+
+// What the events leave.
+fn answer_events(
+    alloc: Global,
+    bus: &mut Bus,
+    events: &[Event],
+    links: &OutLinks,
+) -> Result<Answer, NoMemory>
+    requires going { bus.old.state.stop ≡ None }
+    requires events { AreLooseEvents bus.old.run.design events.now }
+    requires links { AreOutLinks bus.old.run.design links.now }
+    ensures { IfOk result (λ answer. (end : LooseEnd) × (sent : List ℕ)
+        × Tells bus.old events.now end bus.new [] sent × Says (status_at end) (text_at end bus.new sent) answer) }
+{
+    let mut sent = Vec::new(alloc);
+    let end = run_loose(bus, events, links, &mut sent)?;
+    answer_end(alloc, bus, &end, sent.as_slice())
+}
+
+// What is written at the end of a world.
+fn answer_end(alloc: Global, bus: &Bus, end: &LooseEnd, sent: &[u8]) -> Result<Answer, NoMemory>
+    ensures { IfOk result (Says (status_at end.now) (text_at end.now bus.now sent.now)) }
+{
+    match end {
+        LooseEnd::All => finished(alloc, bus, sent),
+        LooseEnd::Stopped(_) => stopped(alloc, bus),
+        LooseEnd::Refused { index, fault } => refused_event(alloc, bus.design(), *index, fault),
+    }
+}
+
+// Every design keeps its rules.
+fn keeps_rules(design: &Design)
+    ensures { IsDesign design.now }
+{
+    let _parts = design.parts();
+}
+
+// The rounds that some node has finished, and the messages that were sent.
+fn finished(alloc: Global, bus: &Bus, sent: &[u8]) -> Result<Answer, NoMemory>
+    ensures { IfOk result (Says 0 (lines_text (finished_lines bus.now) ++ sent.now)) }
+{
+    let mut text = Vec::new(alloc);
+    add_finished(alloc, &mut text, bus)?;
+    text.extend_from_slice(sent)?;
+    Ok(Answer::Done(text))
+}
+
+// The rounds that every node has finished, and the journal.
+fn stopped(alloc: Global, bus: &Bus) -> Result<Answer, NoMemory>
+    ensures { IfOk result (Says 6 (lines_text (common_lines bus.now) ++ lines_text (map (entry_line bus.now.run.design) bus.now.journal))) }
+{
+    let mut text = Vec::new(alloc);
+    add_finished_by_all(alloc, &mut text, bus)?;
+    add_journal(&mut text, bus)?;
+    Ok(Answer::Stopped(text))
+}
+
+// The answer to an event that is not allowed.
+fn refused_event(
+    alloc: Global,
+    design: &Design,
+    index: u32,
+    fault: &EventFault,
+) -> Result<Answer, NoMemory>
+    ensures { IfOk result (Says 5 (event_fault_line design.now index fault.now ++ line_end)) }
+{
+    let mut line = Vec::new(alloc);
+    add_event_fault(&mut line, design, index, fault)?;
+    Ok(Answer::ScenarioRefused(line))
+}
