@@ -29,9 +29,10 @@ pub const NO_MEMORY: u8 = 11;
 /// returns its status.
 ///
 /// 0: what the command asks for was written. 2: the words are no form. 3: the bundle's design text is
-/// refused. 4: the design is refused. 5: the scenario is refused. 9: the source failed. 10: the sink
-/// failed. 11: memory was wanting, and nothing was written. 12: there were more bytes than a bundle may
-/// have.
+/// refused. 4: the design is refused. 5: the scenario is refused, or an event of it. 6: a missed or an
+/// early input stopped the nodes. 9: the source failed. 10: the sink failed. 11: memory was wanting, and
+/// nothing was written. 12: there were more bytes than a bundle may have. 13: the step code of a component
+/// is too long.
 pub fn pals<S: Source, K: Sink>(alloc: Global, words: &[Text], source: &mut S, sink: &mut K) -> u8
     // The answer's whole text was written.
     ensures answered { result ≢ WRITE_FAULT → result ≢ NO_MEMORY → (text : List ℕ)
