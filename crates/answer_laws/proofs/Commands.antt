@@ -13,7 +13,7 @@ use Rattle.scenario_values.specs.declared.fault.ScenarioFault.{ScenarioFault}
 use Rattle.check_report.specs.CheckReports.{IsCheckReport}
 use Rattle.run_lines.specs.ScenarioFaults.{scenario_fault_line}
 use Rattle.design_laws.specs.Designs as laws
-use Rattle.pals_top.specs.Accepted.{IsBundleRefused}
+use Rattle.pals_top.specs.Refusals.{IsBundleRefused}
 use Rattle.pals_top.specs.Scenarios.{HasScenarioFault}
 use Rattle.pals_top.specs.Print.{IsPrinted, IsPrintAnswer}
 use Rattle.pals_top.specs.Check.{IsChecked, IsCheckAnswer}
@@ -21,7 +21,7 @@ use Rattle.pals_top.specs.Sync.{IsReported, IsSyncAnswer}
 use Rattle.pals_top.specs.Answers.{IsCommandAnswer}
 use Rattle.answer_laws.specs.Agreement.{TellTheSame}
 use Rattle.answer_laws.specs.Decided.{TakesNoEvents}
-use Rattle.answer_laws.proofs.Designs.{IsRead, one_tree, read_or_refused, one_refused_text, one_accepted, accepted_or_refused, package_or_text, packages_told}
+use Rattle.answer_laws.proofs.Designs.{one_tree, read_or_refused, one_refused_text, one_accepted, accepted_or_refused, package_or_text, packages_told}
 use Rattle.answer_laws.proofs.Meanings.{one_report, same_scenario, same_fault}
 use Rattle.answer_laws.proofs.Scenarios.{moved, meant_or_refused}
 
@@ -36,27 +36,25 @@ alike n s t a b e f same = (e ∙ sym f, λ other. same, inl same)
 -- ---- print
 printed : (bundle a b : List ℕ) → IsPrinted bundle a → IsPrinted bundle b → a ≡ b
 printed bundle a b x y =
-    let first : IsRead bundle x.design x.scenario x.tree = record { split = x.split; read = x.read } in
-    let second : IsRead bundle y.design y.scenario y.tree = record { split = y.split; read = y.read } in
-    let tree = one_tree bundle x.design y.design x.scenario y.scenario x.tree y.tree first second in
+    let tree = one_tree bundle x.design y.design x.scenario y.scenario x.tree y.tree x.parsed y.parsed in
     x.text_is ∙ (ap (λ (t : PackageTree ℕ). canon t) tree ∙ sym y.text_is)
 
 print_agrees : (bundle : List ℕ) (s t : ℕ) (a b : List ℕ) → IsPrintAnswer bundle s a → IsPrintAnswer bundle t b → Agree s a t b
 print_agrees bundle s t a b (inl x) (inl y) = alike 0 s t a b x.0 y.0 (printed bundle a b x.1 y.1)
 print_agrees bundle s t a b (inl x) (inr y) =
-    absurd (read_or_refused bundle x.1.design x.1.scenario x.1.tree t b (record { split = x.1.split; read = x.1.read }) y)
+    absurd (read_or_refused bundle x.1.design x.1.scenario x.1.tree b x.1.parsed y.1)
 print_agrees bundle s t a b (inr x) (inl y) =
-    absurd (read_or_refused bundle y.1.design y.1.scenario y.1.tree s a (record { split = y.1.split; read = y.1.read }) x)
-print_agrees bundle s t a b (inr x) (inr y) = alike 3 s t a b x.0 y.0 (one_refused_text bundle s t a b x y)
+    absurd (read_or_refused bundle y.1.design y.1.scenario y.1.tree a y.1.parsed x.1)
+print_agrees bundle s t a b (inr x) (inr y) = alike 3 s t a b x.0 y.0 (one_refused_text bundle a b x.1 y.1)
 
 module _ (one_design : (tree : PackageTree ℕ) (root : List ℕ) (a b : DesignParts) → laws.IsDesignIn tree root a → laws.IsDesignIn tree root b → a ≡ b)
     (one_fault : (tree : PackageTree ℕ) (root : List ℕ) (f g : FlatFault) → IsFault tree root f → IsFault tree root g
     → (place_of f ≡ place_of g) × (number_of f ≡ number_of g)) where
   -- ---- refusals
   refusals_agree : (root bundle : List ℕ) (s t : ℕ) (a b : List ℕ) → IsBundleRefused root bundle s a → IsBundleRefused root bundle t b → Agree s a t b
-  refusals_agree root bundle s t a b (inl x) (inl y) = alike 3 s t a b x.0 y.0 (one_refused_text bundle s t a b x y)
-  refusals_agree root bundle s t a b (inl x) (inr y) = absurd (package_or_text root bundle t s b a y x)
-  refusals_agree root bundle s t a b (inr x) (inl y) = absurd (package_or_text root bundle s t a b x y)
+  refusals_agree root bundle s t a b (inl x) (inl y) = alike 3 s t a b x.0 y.0 (one_refused_text bundle a b x.1 y.1)
+  refusals_agree root bundle s t a b (inl x) (inr y) = absurd (package_or_text root bundle b a y.1 x.1)
+  refusals_agree root bundle s t a b (inr x) (inl y) = absurd (package_or_text root bundle a b x.1 y.1)
   refusals_agree root bundle s t a b (inr x) (inr y) = (x.0 ∙ sym y.0, λ other. absurd (other x.0), packages_told one_fault root bundle a b x.1 y.1)
 
   -- ---- check

@@ -16,34 +16,30 @@ use Rattle.text_report.specs.TextFaults.{text_fault_line}
 use Rattle.text_report.specs.Violations.{violation_lines}
 use Rattle.design_laws.specs.Designs as laws
 use Rattle.design_laws.proofs.Verdicts.{one_instance, one_list, no_list}
-use Rattle.pals_top.specs.Bundles.{IsSplit}
-use Rattle.pals_top.specs.RefusedTexts.{IsUndivided, IsUnread, IsTextRefused}
-use Rattle.pals_top.specs.Accepted.{IsFaulty, HasViolations, IsRefusedIn, IsAccepted, IsPackageRefused, IsDesignRefused, IsBundleRefused}
+use Rattle.bundle_designs.specs.Parsed.{IsParsed}
+use Rattle.bundle_designs.specs.RefusedTexts.{IsUndivided, IsUnread, IsTextRefused}
+use Rattle.bundle_designs.specs.Accepted.{IsFaulty, HasViolations, IsRefusedIn, IsAccepted, IsPackageRefused}
+use Rattle.pals_top.specs.Refusals.{IsBundleRefused}
 use Rattle.answer_laws.specs.Agreement.{NameOneFault, TellTheSame}
 use Rattle.answer_laws.proofs.Splits.{one_split, divided}
 
--- a bundle whose design text has a tree
-pub record IsRead (bundle : List ℕ) (text scenario : List ℕ) (tree : PackageTree ℕ) : Type 0 where
-  pub split : IsSplit bundle text scenario
-  pub read : IsTreeOf text tree
-
 -- ---- two trees of one bundle
-pub one_text : (bundle a b s t : List ℕ) (u v : PackageTree ℕ) → IsRead bundle a s u → IsRead bundle b t v → a ≡ b
+pub one_text : (bundle a b s t : List ℕ) (u v : PackageTree ℕ) → IsParsed bundle a s u → IsParsed bundle b t v → a ≡ b
 one_text bundle a b s t u v x y = (one_split bundle a b s t x.split y.split).0
 
-pub one_tree : (bundle a b s t : List ℕ) (u v : PackageTree ℕ) → IsRead bundle a s u → IsRead bundle b t v → u ≡ v
+pub one_tree : (bundle a b s t : List ℕ) (u v : PackageTree ℕ) → IsParsed bundle a s u → IsParsed bundle b t v → u ≡ v
 one_tree bundle a b s t u v x y = only_tree b u v (subst (λ (w : List ℕ). IsTreeOf w u) (one_text bundle a b s t u v x y) x.read) y.read
 
 -- ---- a tree, or a text that is refused
-unread : (bundle text scenario written : List ℕ) (tree : PackageTree ℕ) → IsRead bundle text scenario tree → IsUnread bundle written → ⊥
+unread : (bundle text scenario written : List ℕ) (tree : PackageTree ℕ) → IsParsed bundle text scenario tree → IsUnread bundle written → ⊥
 unread bundle text scenario written tree x y =
     let same = (one_split bundle text y.design scenario y.scenario x.split y.split).0 in
     tree_or_fault y.design tree y.fault y.named (subst (λ (w : List ℕ). IsTreeOf w tree) same x.read) y.faulty
 
-pub read_or_refused : (bundle text scenario : List ℕ) (tree : PackageTree ℕ) (status : ℕ) (written : List ℕ) → IsRead bundle text scenario tree
-    → IsTextRefused bundle status written → ⊥
-read_or_refused bundle text scenario tree status written x (e, inl none) = divided bundle text scenario x.split none.undivided
-read_or_refused bundle text scenario tree status written x (e, inr y) = unread bundle text scenario written tree x y
+pub read_or_refused : (bundle text scenario : List ℕ) (tree : PackageTree ℕ) (written : List ℕ) → IsParsed bundle text scenario tree
+    → IsTextRefused bundle written → ⊥
+read_or_refused bundle text scenario tree written x (inl none) = divided bundle text scenario x.split none.undivided
+read_or_refused bundle text scenario tree written x (inr y) = unread bundle text scenario written tree x y
 
 -- ---- two refusals of one text
 undivided_or : (bundle a b : List ℕ) → IsUndivided bundle a → IsUnread bundle b → ⊥
@@ -55,28 +51,19 @@ one_unread bundle a b x y =
     let fault = one_text_fault y.design x.fault y.fault x.named y.named (subst (λ (w : List ℕ). IsFaultOfText w x.fault) same x.faulty) y.faulty in
     x.text_is ∙ ((λ i. text_fault_line (same i) (fault i) ++ line_end) ∙ sym y.text_is)
 
-pub one_refused_text : (bundle : List ℕ) (s t : ℕ) (a b : List ℕ) → IsTextRefused bundle s a → IsTextRefused bundle t b → a ≡ b
-one_refused_text bundle s t a b (e, inl x) (f, inl y) = x.text_is ∙ sym y.text_is
-one_refused_text bundle s t a b (e, inl x) (f, inr y) = absurd (undivided_or bundle a b x y)
-one_refused_text bundle s t a b (e, inr x) (f, inl y) = absurd (undivided_or bundle b a y x)
-one_refused_text bundle s t a b (e, inr x) (f, inr y) = one_unread bundle a b x y
+pub one_refused_text : (bundle a b : List ℕ) → IsTextRefused bundle a → IsTextRefused bundle b → a ≡ b
+one_refused_text bundle a b (inl x) (inl y) = x.text_is ∙ sym y.text_is
+one_refused_text bundle a b (inl x) (inr y) = absurd (undivided_or bundle a b x y)
+one_refused_text bundle a b (inr x) (inl y) = absurd (undivided_or bundle b a y x)
+one_refused_text bundle a b (inr x) (inr y) = one_unread bundle a b x y
 
 -- ---- a design
-read_as : (root bundle : List ℕ) (design : DesignParts) (scenario : List ℕ)
-    → (x : IsAccepted root bundle design scenario) → IsRead bundle x.text scenario x.tree
-read_as root bundle design scenario x = record { split = x.split; read = x.read }
-
-design_in : (root bundle : List ℕ) (design : DesignParts) (scenario : List ℕ)
-    → (x : IsAccepted root bundle design scenario) → laws.IsDesignIn x.tree root design
-design_in root bundle design scenario x =
-    record { parts = x.design_in.parts; flat = x.design_in.flat; nothing_wrong = x.design_in.nothing_wrong; design_of = x.design_in.design_of }
-
 pub one_accepted : ((tree : PackageTree ℕ) (root : List ℕ) (a b : DesignParts) → laws.IsDesignIn tree root a → laws.IsDesignIn tree root b → a ≡ b)
     → (root bundle : List ℕ) (a b : DesignParts) (s t : List ℕ) → IsAccepted root bundle a s → IsAccepted root bundle b t → (a ≡ b) × (s ≡ t)
 one_accepted one_design root bundle a b s t x y =
-    let tree = one_tree bundle x.text y.text s t x.tree y.tree (read_as root bundle a s x) (read_as root bundle b t y) in (
-      one_design y.tree root a b (subst (λ (u : PackageTree ℕ). laws.IsDesignIn u root a) tree (design_in root bundle a s x)) (design_in root bundle b t y),
-      (one_split bundle x.text y.text s t x.split y.split).1,
+    let tree = one_tree bundle x.text y.text s t x.tree y.tree x.parsed y.parsed in (
+      one_design y.tree root a b (subst (λ (u : PackageTree ℕ). laws.IsDesignIn u root a) tree x.design_in) y.design_in,
+      (one_split bundle x.text y.text s t x.parsed.split y.parsed.split).1,
     )
 
 -- ---- a design, or a package that is refused
@@ -88,21 +75,19 @@ refused_in text tree root written design d (inr x) = x.some (no_list tree root d
 pub package_refused : (root bundle : List ℕ) (design : DesignParts) (scenario written : List ℕ) → IsAccepted root bundle design scenario
     → IsPackageRefused root bundle written → ⊥
 package_refused root bundle design scenario written x y =
-    let first = read_as root bundle design scenario x in
-    let second : IsRead bundle y.text y.scenario y.tree = record { split = y.split; read = y.read } in
-    let tree = one_tree bundle x.text y.text scenario y.scenario x.tree y.tree first second in
-    let moved = subst (λ (u : PackageTree ℕ). laws.IsDesignIn u root design) tree (design_in root bundle design scenario x) in
+    let tree = one_tree bundle x.text y.text scenario y.scenario x.tree y.tree x.parsed y.parsed in
+    let moved = subst (λ (u : PackageTree ℕ). laws.IsDesignIn u root design) tree x.design_in in
     refused_in y.text y.tree root written design moved y.refused
 
 pub accepted_or_refused : (root bundle : List ℕ) (design : DesignParts) (scenario : List ℕ) (status : ℕ) (written : List ℕ)
     → IsAccepted root bundle design scenario → IsBundleRefused root bundle status written → ⊥
 accepted_or_refused root bundle design scenario status written x (inl y) =
-    read_or_refused bundle x.text scenario x.tree status written (read_as root bundle design scenario x) y
+    read_or_refused bundle x.text scenario x.tree written x.parsed y.1
 accepted_or_refused root bundle design scenario status written x (inr y) = package_refused root bundle design scenario written x y.1
 
 -- a package that is refused, or a text that is
-pub package_or_text : (root bundle : List ℕ) (s t : ℕ) (a b : List ℕ) → IsDesignRefused root bundle s a → IsTextRefused bundle t b → ⊥
-package_or_text root bundle s t a b x y = read_or_refused bundle x.1.text x.1.scenario x.1.tree t b (record { split = x.1.split; read = x.1.read }) y
+pub package_or_text : (root bundle a b : List ℕ) → IsPackageRefused root bundle a → IsTextRefused bundle b → ⊥
+package_or_text root bundle a b x y = read_or_refused bundle x.text x.scenario x.tree b x.parsed y
 
 -- ---- violations
 pub one_list_text : (text : List ℕ) (tree : PackageTree ℕ) (root a b : List ℕ) → HasViolations text tree root a → HasViolations text tree root b → a ≡ b
@@ -131,9 +116,7 @@ module _ (one_fault : (tree : PackageTree ℕ) (root : List ℕ) (f g : FlatFaul
 
   pub packages_told : (root bundle a b : List ℕ) → IsPackageRefused root bundle a → IsPackageRefused root bundle b → TellTheSame a b
   packages_told root bundle a b x y =
-      let first : IsRead bundle x.text x.scenario x.tree = record { split = x.split; read = x.read } in
-      let second : IsRead bundle y.text y.scenario y.tree = record { split = y.split; read = y.read } in
-      let text = one_text bundle x.text y.text x.scenario y.scenario x.tree y.tree first second in
-      let tree = one_tree bundle x.text y.text x.scenario y.scenario x.tree y.tree first second in
+      let text = one_text bundle x.text y.text x.scenario y.scenario x.tree y.tree x.parsed y.parsed in
+      let tree = one_tree bundle x.text y.text x.scenario y.scenario x.tree y.tree x.parsed y.parsed in
       let moved = subst (λ (u : PackageTree ℕ). IsRefusedIn y.text u root a) tree (subst (λ (w : List ℕ). IsRefusedIn w x.tree root a) text x.refused) in
       same_refusal y.text y.tree root a b moved y.refused

@@ -7,7 +7,7 @@ use Rattle.scenario_values.specs.declared.fault.ScenarioFault.{ScenarioFault}
 use Rattle.scenario_json.specs.declared.scenario.Scenario.{Scenario}
 use Rattle.scenario_json.specs.Scenarios.{Means}
 use Rattle.design_laws.specs.Designs as laws
-use Rattle.pals_top.specs.Accepted.{IsAccepted}
+use Rattle.bundle_designs.specs.Accepted.{IsAccepted}
 use Rattle.pals_top.specs.Scenarios.{HasScenario, HasScenarioFault}
 use Rattle.answer_laws.proofs.Designs.{one_accepted}
 use Rattle.answer_laws.proofs.Meanings.{scenario_or_fault}

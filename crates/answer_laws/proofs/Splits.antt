@@ -4,7 +4,7 @@ use Rattle.std.proofs.Common.{length, take, Option, Some, None, sym, ap, arith}
 use Rattle.std.proofs.Math.ListN.{drop_of_length-le}
 use Rattle.std.proofs.lemmas.Bool.{cases_lt, cases_order}
 use Rattle.std.proofs.lemmas.Option.{none-some, same_Some}
-use Rattle.pals_top.specs.Bundles.{behind_divider, begins_line, divided_at, IsSplit, HasNoDivider}
+use Rattle.bundle_designs.specs.Bundles.{behind_divider, begins_line, divided_at, IsSplit, HasNoDivider}
 
 too_soon : (bundle a b s t : List ℕ) (x : IsSplit bundle a s) (y : IsSplit bundle b t) → x.at < y.at → ⊥
 too_soon bundle a b s t x y less = none-some s (sym (y.first x.at less) ∙ x.divided)

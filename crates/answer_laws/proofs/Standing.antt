@@ -4,8 +4,9 @@ use Rattle.pals_model.specs.declared.design.DesignParts.{DesignParts}
 use Rattle.pals_runs.specs.declared.commands.Command.TheVariants.{Sync}
 use Rattle.design_laws.specs.Designs as laws
 use Rattle.aadl_tree.specs.Declarations.{PackageTree}
-use Rattle.pals_top.specs.RefusedTexts.{IsTextRefused}
-use Rattle.pals_top.specs.Accepted.{IsPackageRefused, IsBundleRefused}
+use Rattle.bundle_designs.specs.RefusedTexts.{IsTextRefused}
+use Rattle.bundle_designs.specs.Accepted.{IsPackageRefused}
+use Rattle.pals_top.specs.Refusals.{IsBundleRefused}
 use Rattle.pals_top.specs.Scenarios.{HasScenarioFault}
 use Rattle.pals_top.specs.Print.{IsPrintAnswer}
 use Rattle.pals_top.specs.Check.{IsCheckAnswer}
@@ -16,29 +17,29 @@ use Rattle.answer_laws.proofs.Scenarios.{meant_or_refused}
 use Rattle.answer_laws.proofs.Ways.{Ways}
 
 -- what is refused is not there
-no_tree : (bundle : List ℕ) (s : ℕ) (a : List ℕ) → IsTextRefused bundle s a → HasTree bundle → ⊥
-no_tree bundle s a x h = read_or_refused bundle h.text h.scenario h.tree s a (record { split = h.split; read = h.read }) x
+no_tree : (bundle a : List ℕ) → IsTextRefused bundle a → HasTree bundle → ⊥
+no_tree bundle a x h = read_or_refused bundle h.text h.scenario h.tree a h.parsed x
 
 no_design : (root bundle a : List ℕ) → IsPackageRefused root bundle a → MeansDesign root bundle → ⊥
 no_design root bundle a x h = package_refused root bundle h.0 h.1 a h.2 x
 
 refused_tree : (root bundle a : List ℕ) → IsPackageRefused root bundle a → HasTree bundle
-refused_tree root bundle a x = record { text = x.text; scenario = x.scenario; split = x.split; tree = x.tree; read = x.read }
+refused_tree root bundle a x = record { text = x.text; scenario = x.scenario; tree = x.tree; parsed = x.parsed }
 
 -- what has the one has the other
 pub has_tree : (root bundle : List ℕ) → MeansDesign root bundle → HasTree bundle
-has_tree root bundle h = record { text = h.2.text; scenario = h.1; split = h.2.split; tree = h.2.tree; read = h.2.read }
+has_tree root bundle h = record { text = h.2.text; scenario = h.1; tree = h.2.tree; parsed = h.2.parsed }
 
 pub has_design : (root bundle : List ℕ) → MeansScenario root bundle (Sync root) → MeansDesign root bundle
 has_design root bundle h = (h.0, h.2.bytes, h.2.accepted)
 
 pub print_ways : (bundle : List ℕ) (s : ℕ) (a : List ℕ) → IsPrintAnswer bundle s a → Ways s (HasTree bundle) (HasTree bundle) (HasTree bundle)
-print_ways bundle s a (inl x) = inl (x.0, record { text = x.1.design; scenario = x.1.scenario; split = x.1.split; tree = x.1.tree; read = x.1.read })
-print_ways bundle s a (inr x) = inr (inl (x.0, no_tree bundle s a x))
+print_ways bundle s a (inl x) = inl (x.0, record { text = x.1.design; scenario = x.1.scenario; tree = x.1.tree; parsed = x.1.parsed })
+print_ways bundle s a (inr x) = inr (inl (x.0, no_tree bundle a x.1))
 
 refused_ways : (scenario : Type 0) (root bundle : List ℕ) (s : ℕ) (a : List ℕ) → IsBundleRefused root bundle s a
     → Ways s (HasTree bundle) (MeansDesign root bundle) scenario
-refused_ways scenario root bundle s a (inl x) = inr (inl (x.0, no_tree bundle s a x))
+refused_ways scenario root bundle s a (inl x) = inr (inl (x.0, no_tree bundle a x.1))
 refused_ways scenario root bundle s a (inr x) = inr (inr (inl (x.0, refused_tree root bundle a x.1, no_design root bundle a x.1)))
 
 pub check_ways : (root bundle : List ℕ) (s : ℕ) (a : List ℕ) → IsCheckAnswer root bundle s a

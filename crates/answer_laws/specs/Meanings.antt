@@ -3,19 +3,17 @@ use Rattle.std.specs.Prelude.{ℕ, List}
 use Rattle.pals_model.specs.declared.design.DesignParts.{DesignParts}
 use Rattle.pals_runs.specs.declared.commands.Command.{Command}
 use Rattle.aadl_tree.specs.Declarations.{PackageTree}
-use Rattle.aadl_tree.specs.Given.{IsTreeOf}
 use Rattle.scenario_json.specs.declared.scenario.Scenario.{Scenario}
-use Rattle.pals_top.specs.Bundles.{IsSplit}
-use Rattle.pals_top.specs.Accepted.{IsAccepted}
+use Rattle.bundle_designs.specs.Parsed.{IsParsed}
+use Rattle.bundle_designs.specs.Accepted.{IsAccepted}
 use Rattle.pals_top.specs.Scenarios.{HasScenario}
 
 -- A line divides it, and the design text before that line has a tree.
 pub record HasTree (bundle : List ℕ) : Type 0 where
   pub text : List ℕ
   pub scenario : List ℕ
-  pub split : IsSplit bundle text scenario
   pub tree : PackageTree ℕ
-  pub read : IsTreeOf text tree
+  pub parsed : IsParsed bundle text scenario tree
 
 -- The package of its design text has a design below the root.
 abbrev pub MeansDesign : List ℕ → List ℕ → Type 0

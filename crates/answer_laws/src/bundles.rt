@@ -7,8 +7,9 @@ ghost use Rattle.scenario_values.specs.declared.fault.ScenarioFault.{ScenarioFau
 ghost use Rattle.scenario_json.specs.declared.scenario.Scenario.{Scenario};
 ghost use Rattle.scenario_json.specs.Scenarios.{Means};
 ghost use Rattle.check_report.specs.CheckReports.{IsCheckReport};
-ghost use Rattle.pals_top.specs.Bundles.{IsSplit, HasNoDivider};
-ghost use Rattle.pals_top.specs.Accepted.{IsFaulty, HasViolations, IsAccepted, IsBundleRefused};
+ghost use Rattle.bundle_designs.specs.Bundles.{IsSplit, HasNoDivider};
+ghost use Rattle.bundle_designs.specs.Accepted.{IsFaulty, HasViolations, IsAccepted};
+ghost use Rattle.pals_top.specs.Refusals.{IsBundleRefused};
 ghost use Rattle.answer_laws.specs.Agreement.{NameOneFault};
 
 use aadl_instance::laws::one_first_fault;

@@ -13,7 +13,7 @@ use Rattle.bus_fields.specs.Values.{AreCodes, opening_bus}
 use Rattle.design_codes.specs.Causes.{AreShort, IsFirstTooLong}
 use Rattle.loose_events.specs.Laws.{loosely}
 use Rattle.pals_top.specs.declared.answer.Answer.{Answer}
-use Rattle.pals_top.specs.Accepted.{IsAccepted}
+use Rattle.bundle_designs.specs.Accepted.{IsAccepted}
 use Rattle.pals_top.specs.Loose.{run_of, code_fault_line, IsWorldAnswer, IsLooseAnswer}
 use Rattle.pals_top.specs.Statuses.{status_of, text_of, Says}
 

@@ -8,7 +8,7 @@ use Rattle.scenario_values.specs.declared.fault.ScenarioFault.TheVariants.{Memor
 use Rattle.scenario_json.specs.Scenarios.{Means}
 use Rattle.run_lines.specs.ScenarioFaults.{scenario_fault_line}
 use Rattle.pals_top.specs.declared.answer.Answer.{Answer}
-use Rattle.pals_top.specs.Accepted.{IsAccepted}
+use Rattle.bundle_designs.specs.Accepted.{IsAccepted}
 use Rattle.pals_top.specs.Statuses.{status_of, text_of}
 use Rattle.pals_top.specs.Sync.{IsSyncAnswer}
 

@@ -2,7 +2,8 @@
 use Rattle.std.specs.Prelude.{◌≡◌, ℕ, List, ◌⊎◌}
 use Rattle.pals_model.specs.declared.design.DesignParts.{DesignParts}
 use Rattle.check_report.specs.CheckReports.{IsCheckReport}
-use Rattle.pals_top.specs.Accepted.{IsAccepted, IsBundleRefused}
+use Rattle.bundle_designs.specs.Accepted.{IsAccepted}
+use Rattle.pals_top.specs.Refusals.{IsBundleRefused}
 
 -- the report of the design that the bundle means
 pub record IsChecked (root bundle text : List ℕ) : Type 0 where

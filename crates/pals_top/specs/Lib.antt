@@ -1,11 +1,9 @@
-pub mod Accepted
 pub mod Answers
-pub mod Bundles
 pub mod Check
 pub mod Loose
 pub mod Outside
 pub mod Print
-pub mod RefusedTexts
+pub mod Refusals
 pub mod Scenarios
 pub mod Statuses
 pub mod Sync

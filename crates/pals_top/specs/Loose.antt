@@ -18,7 +18,8 @@ use Rattle.loose_world.specs.Worlds.{AllHappen, StopsAt, IsRefusedAt}
 use Rattle.loose_events.specs.Laws.{loosely}
 use Rattle.world_report.specs.Finished.{finished, finished_lines, common_rounds, common_lines}
 use Rattle.run_lines.specs.EventFaults.{event_fault_line}
-use Rattle.pals_top.specs.Accepted.{IsAccepted, IsBundleRefused}
+use Rattle.bundle_designs.specs.Accepted.{IsAccepted}
+use Rattle.pals_top.specs.Refusals.{IsBundleRefused}
 use Rattle.pals_top.specs.Scenarios.{HasScenario, HasScenarioFault}
 
 -- the run that a scenario asks for

@@ -1,19 +1,17 @@
 -- What `print` answers to a bundle.
 use Rattle.std.specs.Prelude.{◌≡◌, ℕ, List, ◌⊎◌}
 use Rattle.aadl_tree.specs.Declarations.{PackageTree}
-use Rattle.aadl_tree.specs.Given.{IsTreeOf}
 use Rattle.aadl_tree.specs.Canon.{canon}
-use Rattle.pals_top.specs.Bundles.{IsSplit}
-use Rattle.pals_top.specs.RefusedTexts.{IsTextRefused}
+use Rattle.bundle_designs.specs.Parsed.{IsParsed}
+use Rattle.bundle_designs.specs.RefusedTexts.{IsTextRefused}
 
 -- The design text has a tree, and the text is its canonical text.
 pub record IsPrinted (bundle text : List ℕ) : Type 0 where
   pub design : List ℕ
   pub scenario : List ℕ
-  pub split : IsSplit bundle design scenario
   pub tree : PackageTree ℕ
-  pub read : IsTreeOf design tree
+  pub parsed : IsParsed bundle design scenario tree
   pub text_is : text ≡ canon tree
 
 abbrev pub IsPrintAnswer : List ℕ → ℕ → List ℕ → Type 0
-IsPrintAnswer bundle status text = ((status ≡ 0) × IsPrinted bundle text) ⊎ IsTextRefused bundle status text
+IsPrintAnswer bundle status text = ((status ≡ 0) × IsPrinted bundle text) ⊎ ((status ≡ 3) × IsTextRefused bundle text)

@@ -8,7 +8,7 @@ use Rattle.scenario_values.specs.declared.fault.ScenarioFault.TheVariants.{Memor
 use Rattle.scenario_json.specs.declared.scenario.Scenario.{Scenario}
 use Rattle.scenario_json.specs.Scenarios.{Means}
 use Rattle.run_lines.specs.ScenarioFaults.{scenario_fault_line}
-use Rattle.pals_top.specs.Accepted.{IsAccepted}
+use Rattle.bundle_designs.specs.Accepted.{IsAccepted}
 
 -- The bundle means this design and this scenario.
 pub record HasScenario (root bundle : List ℕ) (command : Command) (design : DesignParts) (scenario : Scenario) : Type 0 where

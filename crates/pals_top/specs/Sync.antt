@@ -4,7 +4,7 @@ use Rattle.pals_model.specs.declared.design.DesignParts.{DesignParts}
 use Rattle.pals_model.specs.RoundTexts.{report}
 use Rattle.pals_runs.specs.declared.commands.Command.TheVariants.{Sync}
 use Rattle.scenario_json.specs.declared.scenario.Scenario.{Scenario}
-use Rattle.pals_top.specs.Accepted.{IsBundleRefused}
+use Rattle.pals_top.specs.Refusals.{IsBundleRefused}
 use Rattle.pals_top.specs.Scenarios.{HasScenario, IsScenarioRefused}
 
 -- the rows of all rounds of the design and the scenario that the bundle means

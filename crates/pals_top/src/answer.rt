@@ -1,6 +1,12 @@
 //! Answers: what is written, and with which status.
-ghost use Rattle.std.specs.Prelude.{◌≡◌};
+ghost use Rattle.std.specs.Prelude.{◌≡◌, IfOk, OnErr};
+ghost use Rattle.bundle_designs.specs.declared.refusal.Refusal.{Refusal};
+ghost use Rattle.pals_top.specs.Refusals.{SaysWhy};
 ghost use Rattle.pals_top.specs.Statuses.{status_of, text_of};
+
+use bundle_designs::Refusal;
+use pals_base::NoMemory;
+use std::alloc::AllocError;
 
 /// An answer of the program.
 #[derive(Drop)]
@@ -27,6 +33,18 @@ pub enum Answer {
 }
 
 impl Answer {
+    /// The answer to a bundle that has no design. There is none where memory was wanting.
+    pub fn refused(refusal: Refusal) -> Result<Answer, NoMemory>
+        ensures answer { IfOk result (SaysWhy refusal) }
+        ensures no_memory { OnErr result (refusal ≡ Refusal.Memory) }
+    {
+        match refusal {
+            Refusal::Text(text) => Ok(Answer::TextRefused(text)),
+            Refusal::Design(text) => Ok(Answer::DesignRefused(text)),
+            Refusal::Memory => Err(AllocError),
+        }
+    }
+
     /// The status that the program ends with.
     pub fn status(&self) -> u8
         ensures { result ≡ status_of self.now }

@@ -3,11 +3,11 @@ ghost use Rattle.std.specs.Prelude.{IfOk};
 ghost use Rattle.pals_top.specs.Check.{IsCheckAnswer};
 ghost use Rattle.pals_top.specs.Statuses.{status_of, text_of};
 
-use crate::accepted::{Refusal, accept};
 use crate::answer::Answer;
+use bundle_designs::accept;
 use check_report::add_check;
 use pals_base::{NoMemory, Text};
-use std::alloc::{AllocError, Global};
+use std::alloc::Global;
 
 /// The answer of `check` to a bundle. What stands behind the divider is not looked at.
 pub fn answer_check(alloc: Global, bundle: &[u8], root: &Text) -> Result<Answer, NoMemory>
@@ -19,7 +19,6 @@ pub fn answer_check(alloc: Global, bundle: &[u8], root: &Text) -> Result<Answer,
             add_check(alloc, &mut report, &accepted.design)?;
             Ok(Answer::Done(report))
         }
-        Err(Refusal::Answered(answer)) => Ok(answer),
-        Err(Refusal::Memory) => Err(AllocError),
+        Err(refusal) => Answer::refused(refusal),
     }
 }

@@ -1,16 +1,12 @@
 //! The whole program as one call: words and bytes in, a status and bytes out.
 #![tactic(auto)]
 
-mod accepted;
 mod answer;
-mod bundle;
 mod check;
 mod loose;
 mod print;
 mod program;
-mod refused_design;
 mod refused_scenario;
-mod refused_text;
 mod sync;
 mod words;
 

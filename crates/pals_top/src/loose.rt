@@ -13,14 +13,14 @@ ghost use Rattle.scenario_json.specs.Facts.{IsScenarioOf};
 ghost use Rattle.design_codes.specs.Causes.{AreShort};
 ghost use Rattle.run_lines.specs.EventFaults.{event_fault_line};
 ghost use Rattle.world_report.specs.Finished.{finished_lines, common_lines};
-ghost use Rattle.pals_top.specs.Accepted.{IsAccepted};
+ghost use Rattle.bundle_designs.specs.Accepted.{IsAccepted};
 ghost use Rattle.loose_events.specs.Laws.{AreLooseEvents};
 ghost use Rattle.pals_top.specs.Loose.{run_of, code_fault_line, status_at, text_at, IsWorldAnswer, IsLooseAnswer};
 ghost use Rattle.pals_top.specs.Statuses.{status_of, text_of, Says};
 
-use crate::accepted::{Accepted, Refusal, accept};
 use crate::answer::Answer;
 use crate::refused_scenario::refused_scenario;
+use bundle_designs::{Accepted, accept};
 use design_codes::{CodesEnd, compile_all};
 use loose_events::laws::events_are_loose;
 use loose_world::{LooseEnd, run_loose};
@@ -42,8 +42,7 @@ pub fn answer_loose(alloc: Global, bundle: &[u8], root: &Text) -> Result<Answer,
 {
     match accept(alloc, bundle, root) {
         Ok(accepted) => answer_accepted(alloc, accepted, root),
-        Err(Refusal::Answered(answer)) => Ok(answer),
-        Err(Refusal::Memory) => Err(AllocError),
+        Err(refusal) => Answer::refused(refusal),
     }
 }
 

@@ -5,19 +5,19 @@ ghost use Rattle.pals_model.specs.Composition.{comp};
 ghost use Rattle.pals_model.specs.Inputs.{values_at};
 ghost use Rattle.pals_model.specs.RoundTexts.{report, row};
 ghost use Rattle.pals_report.specs.Places.{tap_places};
-ghost use Rattle.pals_top.specs.Accepted.{IsAccepted};
+ghost use Rattle.bundle_designs.specs.Accepted.{IsAccepted};
 ghost use Rattle.pals_top.specs.Sync.{IsSyncAnswer};
 ghost use Rattle.pals_top.specs.Statuses.{status_of, text_of};
 
-use crate::accepted::{Accepted, Refusal, accept};
 use crate::answer::Answer;
 use crate::refused_scenario::refused_scenario;
+use bundle_designs::{Accepted, accept};
 use pals_base::{NoMemory, Port, Text, TryClone};
 use pals_model::{Design, Env};
 use pals_report::{TapPlaces, add_row};
 use pals_runs::Command;
 use scenario_json::read_scenario;
-use std::alloc::{AllocError, Global};
+use std::alloc::Global;
 use std::sync::Arc;
 use sync_product::Product;
 
@@ -27,8 +27,7 @@ pub fn answer_sync(alloc: Global, bundle: &[u8], root: &Text) -> Result<Answer, 
 {
     match accept(alloc, bundle, root) {
         Ok(accepted) => answer_accepted(alloc, accepted, root),
-        Err(Refusal::Answered(answer)) => Ok(answer),
-        Err(Refusal::Memory) => Err(AllocError),
+        Err(refusal) => Answer::refused(refusal),
     }
 }
 

@@ -1,7 +1,6 @@
--- From a bundle to the design that it means, or why it has none.
+-- From a bundle to the design that it means, or why its package has none.
 use Rattle.std.specs.Prelude.{ℕ, ◌≡◌, ◌≢◌, List, [], ◌++◌, ◌⊎◌}
 use Rattle.aadl_tree.specs.Declarations.{PackageTree}
-use Rattle.aadl_tree.specs.Given.{IsTreeOf}
 use Rattle.aadl_names.specs.declared.fault.FlatFault.{FlatFault}
 use Rattle.aadl_names.specs.declared.fault.FlatFault.TheVariants as flat
 use Rattle.aadl_instance.specs.Flat.{Parts, IsFlat}
@@ -13,11 +12,7 @@ use Rattle.pals_model.specs.declared.design.DesignParts.{DesignParts}
 use Rattle.pals_model.specs.RoundTexts.{line_end, text_of as lines_text}
 use Rattle.text_report.specs.FlatFaults.{flat_fault_line}
 use Rattle.text_report.specs.Violations.{violation_lines}
-use Rattle.pals_top.specs.declared.accepted.Refusal.{Refusal}
-use Rattle.pals_top.specs.declared.accepted.Refusal.TheVariants as refusal
-use Rattle.pals_top.specs.Bundles.{IsSplit}
-use Rattle.pals_top.specs.RefusedTexts.{IsTextRefused}
-use Rattle.pals_top.specs.Statuses.{status_of, text_of}
+use Rattle.bundle_designs.specs.Parsed.{IsParsed}
 
 -- ---- packages
 -- The package has no instance below the root of this name, and the text names its first fault.
@@ -43,33 +38,14 @@ IsRefusedIn text tree root written = IsFaulty text tree root written ⊎ HasViol
 -- The design text has a tree, and this is the design of that package; this scenario stands behind the text.
 pub record IsAccepted (root bundle : List ℕ) (design : DesignParts) (scenario : List ℕ) : Type 0 where
   pub text : List ℕ
-  pub split : IsSplit bundle text scenario
   pub tree : PackageTree ℕ
-  pub read : IsTreeOf text tree
+  pub parsed : IsParsed bundle text scenario tree
   pub design_in : IsDesignIn tree root design
 
 -- The design text has a tree, and the package is refused.
 pub record IsPackageRefused (root bundle written : List ℕ) : Type 0 where
   pub text : List ℕ
   pub scenario : List ℕ
-  pub split : IsSplit bundle text scenario
   pub tree : PackageTree ℕ
-  pub read : IsTreeOf text tree
+  pub parsed : IsParsed bundle text scenario tree
   pub refused : IsRefusedIn text tree root written
-
--- 4: the design is refused
-abbrev pub IsDesignRefused : List ℕ → List ℕ → ℕ → List ℕ → Type 0
-IsDesignRefused root bundle status written = (status ≡ 4) × IsPackageRefused root bundle written
-
--- 3 or 4: the bundle has no design
-abbrev pub IsBundleRefused : List ℕ → List ℕ → ℕ → List ℕ → Type 0
-IsBundleRefused root bundle status written = IsTextRefused bundle status written ⊎ IsDesignRefused root bundle status written
-
--- ---- what the code answers; nothing is said of want of memory
-abbrev pub IsRefusalIn : List ℕ → PackageTree ℕ → List ℕ → Refusal → Type 0
-IsRefusalIn text tree root (refusal.Answered answer) = (status_of answer ≡ 4) × IsRefusedIn text tree root (text_of answer)
-IsRefusalIn text tree root refusal.Memory = Unit {0}
-
-abbrev pub IsRefusal : List ℕ → List ℕ → Refusal → Type 0
-IsRefusal root bundle (refusal.Answered answer) = IsBundleRefused root bundle (status_of answer) (text_of answer)
-IsRefusal root bundle refusal.Memory = Unit {0}

@@ -1,7 +1,7 @@
 //! Bundles: the text of a design, the line `%%%`, and a scenario.
 ghost use Rattle.std.specs.Prelude.{◌≡◌, ◌<◌, length, MatchOption};
 ghost use Rattle.std.specs.Option.{option_copied};
-ghost use Rattle.pals_top.specs.Bundles.{behind_line_end, divided_at, IsSplit, HasNoDivider};
+ghost use Rattle.bundle_designs.specs.Bundles.{behind_line_end, divided_at, IsSplit, HasNoDivider};
 
 /// The design's text, which ends where the first line `%%%` begins, and what stands behind that line.
 /// It is none exactly where no line is `%%%`, ended by LF, CR LF or the bundle's end.

@@ -1,7 +1,7 @@
 use Rattle.std.proofs.Common.{◌≡◌, ◌<◌, ℕ}
 use Rattle.std.specs.Prelude.{None}
-use Rattle.pals_top.specs.Bundles.{divided_at}
-use Rattle.pals_top.proofs.bundle.split.Given as goal
+use Rattle.bundle_designs.specs.Bundles.{divided_at}
+use Rattle.bundle_designs.proofs.bundle.split.Given as goal
 
 -- no line so far divides
 abbrev pub invariant-loop-at : goal.invariant-loop-at

@@ -1,11 +1,11 @@
--- 3: a bundle whose design text is refused.
+-- A bundle whose design text is refused.
 use Rattle.std.specs.Prelude.{◌≡◌, ◌≢◌, ℕ, List, ◌++◌, ◌⊎◌}
 use Rattle.aadl_parse.specs.declared.fault.TextFault.{TextFault}
 use Rattle.aadl_parse.specs.declared.fault.TextFault.TheVariants.{Memory}
 use Rattle.aadl_parse.specs.Texts.{IsFaultOfText}
 use Rattle.pals_model.specs.RoundTexts.{line_end}
 use Rattle.text_report.specs.TextFaults.{text_fault_line, no_divider_line}
-use Rattle.pals_top.specs.Bundles.{IsSplit, HasNoDivider}
+use Rattle.bundle_designs.specs.Bundles.{IsSplit, HasNoDivider}
 
 -- No line divides the bundle, and the text says so.
 pub record IsUndivided (bundle text : List ℕ) : Type 0 where
@@ -22,5 +22,6 @@ pub record IsUnread (bundle text : List ℕ) : Type 0 where
   pub named : fault ≢ Memory
   pub text_is : text ≡ text_fault_line design fault ++ line_end
 
-abbrev pub IsTextRefused : List ℕ → ℕ → List ℕ → Type 0
-IsTextRefused bundle status text = (status ≡ 3) × (IsUndivided bundle text ⊎ IsUnread bundle text)
+-- The bundle has no design text of the grammar, and the text says why.
+abbrev pub IsTextRefused : List ℕ → List ℕ → Type 0
+IsTextRefused bundle text = IsUndivided bundle text ⊎ IsUnread bundle text

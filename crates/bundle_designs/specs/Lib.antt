@@ -1,0 +1,5 @@
+pub mod Accepted
+pub mod Bundles
+pub mod Parsed
+pub mod RefusedTexts
+pub mod Refusals

@@ -1,0 +1,58 @@
+//! From a bundle to the design that it means.
+ghost use Rattle.std.specs.Prelude.{IfOk, IfErr};
+ghost use Rattle.aadl_tree.specs.PackageViews.{placed};
+ghost use Rattle.design_laws.specs.Designs.{IsDesignIn};
+ghost use Rattle.bundle_designs.specs.Accepted.{IsAccepted};
+ghost use Rattle.bundle_designs.specs.Refusals.{IsPackageRefusal, IsRefusal};
+
+use crate::parsed::{Parsed, parse_bundle};
+use crate::refusal::Refusal;
+use crate::refused_design::{refused_instance, refused_package};
+use aadl_instance::flatten;
+use aadl_tree::PackageTree;
+use model_checks::{CheckFault, check};
+use pals_base::Text;
+use pals_model::Design;
+use std::alloc::Global;
+
+/// What a bundle holds: a design that is accepted, and the bytes of a scenario.
+#[derive(Drop)]
+pub struct Accepted<'b> {
+    /// The design of the root.
+    pub design: Design,
+    /// What stands behind the divider.
+    pub scenario: &'b [u8],
+}
+
+/// The design of a root in a bundle, or why the bundle has none.
+pub fn accept<'b>(alloc: Global, bundle: &'b [u8], root: &Text) -> Result<Accepted<'b>, Refusal>
+    ensures accepted { IfOk result (λ a. IsAccepted root.now bundle.now a.design a.scenario.now) }
+    ensures refused { IfErr result (IsRefusal root.now bundle.now) }
+{
+    let Parsed {
+        text,
+        tree,
+        scenario,
+    } = parse_bundle(alloc, bundle)?;
+    let design = design_of(alloc, text, &tree, root)?;
+    Ok(Accepted { design, scenario })
+}
+
+// The design of a root in the package of a text.
+fn design_of(alloc: Global, text: &[u8], tree: &PackageTree, root: &Text) -> Result<Design, Refusal>
+    ensures accepted { IfOk result (IsDesignIn (placed tree.now) root.now) }
+    ensures refused { IfErr result (IsPackageRefusal text.now (placed tree.now) root.now) }
+{
+    let instance = match flatten(alloc, tree, root) {
+        Ok(instance) => instance,
+        Err(fault) => return Err(Refusal::Design(refused_package(alloc, text, &fault)?)),
+    };
+    match check(alloc, &instance) {
+        Ok(design) => Ok(design),
+        Err(CheckFault::Violations(found)) => {
+            let lines = refused_instance(alloc, text, found.as_slice())?;
+            Err(Refusal::Design(lines))
+        }
+        Err(CheckFault::Memory) => Err(Refusal::Memory),
+    }
+}

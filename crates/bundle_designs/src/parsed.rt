@@ -1,0 +1,41 @@
+//! From a bundle to the tree of its design text.
+ghost use Rattle.std.specs.Prelude.{IfOk, IfErr};
+ghost use Rattle.aadl_tree.specs.PackageViews.{placed};
+ghost use Rattle.bundle_designs.specs.Parsed.{IsParsed};
+ghost use Rattle.bundle_designs.specs.Refusals.{IsTextRefusal};
+
+use crate::bundle::split;
+use crate::refusal::Refusal;
+use crate::refused_text::{refused_text, undivided};
+use aadl_parse::parse;
+use aadl_tree::PackageTree;
+use std::alloc::Global;
+
+/// A bundle whose design text is read.
+#[derive(Drop)]
+pub struct Parsed<'b> {
+    /// The design's text, in front of the divider.
+    pub text: &'b [u8],
+    /// The tree of that text.
+    pub tree: PackageTree,
+    /// What stands behind the divider.
+    pub scenario: &'b [u8],
+}
+
+/// The tree of a bundle's design text, or why it has none. What stands behind the divider is not looked at.
+pub fn parse_bundle<'b>(alloc: Global, bundle: &'b [u8]) -> Result<Parsed<'b>, Refusal>
+    ensures parsed { IfOk result (λ p. IsParsed bundle.now p.text.now p.scenario.now (placed p.tree)) }
+    ensures refused { IfErr result (IsTextRefusal bundle.now) }
+{
+    let Some((text, scenario)) = split(bundle) else {
+        return Err(Refusal::Text(undivided(alloc, bundle)?));
+    };
+    match parse(alloc, text) {
+        Ok(tree) => Ok(Parsed {
+            text,
+            tree,
+            scenario,
+        }),
+        Err(fault) => Err(Refusal::Text(refused_text(alloc, text, fault)?)),
+    }
+}

@@ -1,0 +1,38 @@
+//! The texts that say why a package has no design.
+ghost use Rattle.std.specs.Prelude.{◌≡◌, ◌≢◌, ◌++◌, IfOk, OnOk};
+ghost use Rattle.aadl_names.specs.declared.fault.FlatFault.{FlatFault};
+ghost use Rattle.pals_model.specs.RoundTexts.{line_end, text_of as lines_text};
+ghost use Rattle.text_report.specs.FlatFaults.{flat_fault_line};
+ghost use Rattle.text_report.specs.Violations.{violation_lines};
+
+use aadl_instance::FlatFault;
+use annex_resolve::Violation;
+use pals_base::NoMemory;
+use std::alloc::{AllocError, Global};
+use text_report::{add_flat_fault, add_violations};
+
+/// The text of a package with this fault. Want of memory is no fault of a package, and goes on.
+pub fn refused_package(alloc: Global, text: &[u8], fault: &FlatFault) -> Result<Vec<u8>, NoMemory>
+    ensures text { IfOk result (λ line. line.items ≡ flat_fault_line text.now fault.now ++ line_end) }
+    ensures named { OnOk result (fault.now ≢ FlatFault.Memory) }
+{
+    if let FlatFault::Memory = fault {
+        return Err(AllocError);
+    }
+    let mut line = Vec::new(alloc);
+    add_flat_fault(&mut line, text, fault)?;
+    Ok(line)
+}
+
+/// The text of an instance in which all this is wrong.
+pub fn refused_instance(
+    alloc: Global,
+    text: &[u8],
+    found: &[Violation],
+) -> Result<Vec<u8>, NoMemory>
+    ensures { IfOk result (λ lines. lines.items ≡ lines_text (violation_lines text.now found.now)) }
+{
+    let mut lines = Vec::new(alloc);
+    add_violations(&mut lines, text, found)?;
+    Ok(lines)
+}

@@ -1,0 +1,32 @@
+//! The texts that say why the design text of a bundle is refused.
+ghost use Rattle.std.specs.Prelude.{◌≡◌, ◌≢◌, ◌++◌, IfOk, OnOk};
+ghost use Rattle.aadl_parse.specs.declared.fault.TextFault.{TextFault};
+ghost use Rattle.pals_model.specs.RoundTexts.{line_end};
+ghost use Rattle.text_report.specs.TextFaults.{text_fault_line, no_divider_line};
+
+use aadl_parse::TextFault;
+use pals_base::NoMemory;
+use std::alloc::{AllocError, Global};
+use text_report::{add_no_divider, add_text_fault};
+
+/// The text of a bundle that no line divides.
+pub fn undivided(alloc: Global, bundle: &[u8]) -> Result<Vec<u8>, NoMemory>
+    ensures { IfOk result (λ text. text.items ≡ no_divider_line bundle.now ++ line_end) }
+{
+    let mut text = Vec::new(alloc);
+    add_no_divider(&mut text, bundle)?;
+    Ok(text)
+}
+
+/// The text of a design text with this fault. Want of memory is no fault of a text, and goes on.
+pub fn refused_text(alloc: Global, design: &[u8], fault: TextFault) -> Result<Vec<u8>, NoMemory>
+    ensures text { IfOk result (λ text. text.items ≡ text_fault_line design.now fault ++ line_end) }
+    ensures named { OnOk result (fault ≢ TextFault.Memory) }
+{
+    if let TextFault::Memory = fault {
+        return Err(AllocError);
+    }
+    let mut text = Vec::new(alloc);
+    add_text_fault(&mut text, design, &fault)?;
+    Ok(text)
+}
