@@ -1,29 +1,26 @@
 -- A command and a bundle have one status, and one text at each status but that of a refused design.
-use Rattle.std.proofs.Common.{◌≡◌, ◌≢◌, ◌∙◌, inl, inr, ℕ, List, ◌++◌, Ok, Err, sym, ap, subst}
+use Rattle.std.proofs.Common.{◌≡◌, ◌≢◌, ◌∙◌, inl, inr, ℕ, true, List, sym, ap, subst}
 use Rattle.pals_model.specs.declared.design.DesignParts.{DesignParts}
-use Rattle.pals_model.specs.RoundTexts.{line_end, report}
+use Rattle.pals_model.specs.RoundTexts.{report}
 use Rattle.pals_runs.specs.declared.commands.Command.{Command}
-use Rattle.pals_runs.specs.declared.commands.Command.TheVariants.{Print, Check, Sync}
+use Rattle.pals_runs.specs.declared.commands.Command.TheVariants.{Print, Check, Sync, World}
 use Rattle.aadl_tree.specs.Declarations.{PackageTree}
 use Rattle.aadl_tree.specs.Canon.{canon}
-use Rattle.aadl_names.specs.declared.fault.FlatFault.{FlatFault}
-use Rattle.aadl_names.specs.Findings.{place_of, number_of}
-use Rattle.flat_faults.specs.Faults.{IsFault}
-use Rattle.scenario_values.specs.declared.fault.ScenarioFault.{ScenarioFault}
 use Rattle.check_report.specs.CheckReports.{IsCheckReport}
-use Rattle.run_lines.specs.ScenarioFaults.{scenario_fault_line}
-use Rattle.design_laws.specs.Designs as laws
+use Rattle.world_laws.specs.Ends.{OneEnd}
 use Rattle.pals_top.specs.Refusals.{IsBundleRefused}
 use Rattle.pals_top.specs.Scenarios.{HasScenarioFault}
 use Rattle.pals_top.specs.Print.{IsPrinted, IsPrintAnswer}
 use Rattle.pals_top.specs.Check.{IsChecked, IsCheckAnswer}
 use Rattle.pals_top.specs.Sync.{IsReported, IsSyncAnswer}
+use Rattle.pals_top.specs.Loose.{IsLooseAnswer}
 use Rattle.pals_top.specs.Answers.{IsCommandAnswer}
 use Rattle.answer_laws.specs.Agreement.{TellTheSame}
-use Rattle.answer_laws.specs.Decided.{TakesNoEvents}
+use Rattle.answer_laws.proofs.Laws.{OneDesign, OneFault}
 use Rattle.answer_laws.proofs.Designs.{one_tree, read_or_refused, one_refused_text, one_accepted, accepted_or_refused, package_or_text, packages_told}
-use Rattle.answer_laws.proofs.Meanings.{one_report, same_scenario, same_fault}
-use Rattle.answer_laws.proofs.Scenarios.{moved, meant_or_refused}
+use Rattle.answer_laws.proofs.Meanings.{one_report}
+use Rattle.answer_laws.proofs.Scenarios.{one_meaning, one_scenario_fault, meant_or_refused}
+use Rattle.answer_laws.proofs.Loose.{IsAnswered, answered_design, one_answered}
 
 -- two answers agree
 abbrev pub Agree : ℕ → List ℕ → ℕ → List ℕ → Type 0
@@ -47,9 +44,7 @@ print_agrees bundle s t a b (inr x) (inl y) =
     absurd (read_or_refused bundle y.1.design y.1.scenario y.1.tree a y.1.parsed x.1)
 print_agrees bundle s t a b (inr x) (inr y) = alike 3 s t a b x.0 y.0 (one_refused_text bundle a b x.1 y.1)
 
-module _ (one_design : (tree : PackageTree ℕ) (root : List ℕ) (a b : DesignParts) → laws.IsDesignIn tree root a → laws.IsDesignIn tree root b → a ≡ b)
-    (one_fault : (tree : PackageTree ℕ) (root : List ℕ) (f g : FlatFault) → IsFault tree root f → IsFault tree root g
-    → (place_of f ≡ place_of g) × (number_of f ≡ number_of g)) where
+module _ (one_design : OneDesign) (one_fault : OneFault) (one_end : OneEnd) where
   -- ---- refusals
   refusals_agree : (root bundle : List ℕ) (s t : ℕ) (a b : List ℕ) → IsBundleRefused root bundle s a → IsBundleRefused root bundle t b → Agree s a t b
   refusals_agree root bundle s t a b (inl x) (inl y) = alike 3 s t a b x.0 y.0 (one_refused_text bundle a b x.1 y.1)
@@ -73,18 +68,8 @@ module _ (one_design : (tree : PackageTree ℕ) (root : List ℕ) (a b : DesignP
   module _ (root bundle : List ℕ) where
     reported : (a b : List ℕ) (x : IsReported root bundle a) (y : IsReported root bundle b) → a ≡ b
     reported a b x y =
-        let m = x.means in
-        let n = y.means in
-        let design = (one_accepted one_design root bundle x.design y.design m.bytes n.bytes m.accepted n.accepted).0 in
-        let means = moved one_design root bundle (Sync root) (Ok x.scenario) m.accepted n.accepted m.means in
-        let scenario = same_scenario n.bytes y.design (Sync root) x.scenario y.scenario means n.means in
-        x.text_is ∙ ((λ i. report (design i) (scenario i).env (scenario i).rounds) ∙ sym y.text_is)
-
-    scenario_refused : (a b : List ℕ) → HasScenarioFault root bundle (Sync root) a → HasScenarioFault root bundle (Sync root) b → a ≡ b
-    scenario_refused a b x y =
-        let faulty = moved one_design root bundle (Sync root) (Err x.fault) x.accepted y.accepted x.faulty in
-        let fault = same_fault y.bytes y.design (Sync root) x.fault y.fault faulty y.faulty in
-        x.text_is ∙ (ap (λ (f : ScenarioFault). scenario_fault_line f ++ line_end) fault ∙ sym y.text_is)
+        let same = one_meaning one_design root bundle (Sync root) x.design y.design x.scenario y.scenario x.means y.means in
+        x.text_is ∙ ((λ i. report (same.0 i) (same.1 i).env (same.1 i).rounds) ∙ sym y.text_is)
 
     reported_or_refused : (a b : List ℕ) → IsReported root bundle a → HasScenarioFault root bundle (Sync root) b → ⊥
     reported_or_refused a b x y = meant_or_refused one_design root bundle (Sync root) x.design x.scenario b x.means y
@@ -98,12 +83,25 @@ module _ (one_design : (tree : PackageTree ℕ) (root : List ℕ) (a b : DesignP
     sync_agrees s t a b (inr (inl x)) (inr (inr y)) = absurd (accepted_or_refused root bundle y.1.design y.1.bytes s a y.1.accepted x)
     sync_agrees s t a b (inr (inr x)) (inl y) = absurd (reported_or_refused b a y.1 x.1)
     sync_agrees s t a b (inr (inr x)) (inr (inl y)) = absurd (accepted_or_refused root bundle x.1.design x.1.bytes t b x.1.accepted y)
-    sync_agrees s t a b (inr (inr x)) (inr (inr y)) = alike 5 s t a b x.0 y.0 (scenario_refused a b x.1 y.1)
+    sync_agrees s t a b (inr (inr x)) (inr (inr y)) = alike 5 s t a b x.0 y.0 (one_scenario_fault one_design root bundle (Sync root) a b x.1 y.1)
 
-  -- ---- each command that takes no events
-  pub answers_agree : (command : Command) (bundle : List ℕ) (s t : ℕ) (a b : List ℕ) → TakesNoEvents command → IsCommandAnswer command bundle s a
+  -- ---- world --loose
+  module _ (root bundle : List ℕ) where
+    answered_or_refused : (s t : ℕ) (a b : List ℕ) → IsAnswered root bundle s a → IsBundleRefused root bundle t b → ⊥
+    answered_or_refused s t a b x y = let d = answered_design root bundle s a x in accepted_or_refused root bundle d.0 d.1 t b d.2 y
+
+    loose_agrees : (s t : ℕ) (a b : List ℕ) → IsLooseAnswer root bundle s a → IsLooseAnswer root bundle t b → Agree s a t b
+    loose_agrees s t a b (inl x) (inl y) = refusals_agree root bundle s t a b x y
+    loose_agrees s t a b (inl x) (inr y) = absurd (answered_or_refused t s b a y x)
+    loose_agrees s t a b (inr x) (inl y) = absurd (answered_or_refused s t a b x y)
+    loose_agrees s t a b (inr x) (inr y) =
+        let same = one_answered one_design root bundle one_end s t a b x y in (same.0, λ other. same.1, inl same.1)
+
+  -- ---- each command; no other has an answer
+  pub answers_agree : (command : Command) (bundle : List ℕ) (s t : ℕ) (a b : List ℕ) → IsCommandAnswer command bundle s a
       → IsCommandAnswer command bundle t b → Agree s a t b
-  answers_agree Print bundle s t a b calm x y = print_agrees bundle s t a b x y
-  answers_agree (Check root) bundle s t a b calm x y = check_agrees root bundle s t a b x y
-  answers_agree (Sync root) bundle s t a b calm x y = sync_agrees root bundle s t a b x y
-  answers_agree _ bundle s t a b calm x y = absurd calm
+  answers_agree Print bundle s t a b x y = print_agrees bundle s t a b x y
+  answers_agree (Check root) bundle s t a b x y = check_agrees root bundle s t a b x y
+  answers_agree (Sync root) bundle s t a b x y = sync_agrees root bundle s t a b x y
+  answers_agree (World root true) bundle s t a b x y = loose_agrees root bundle s t a b x y
+  answers_agree _ bundle s t a b x y = absurd x

@@ -6,10 +6,7 @@ use Rattle.aadl_tree.specs.Declarations.{PackageTree}
 use Rattle.aadl_tree.specs.Given.{IsTreeOf}
 use Rattle.aadl_parse.specs.Texts.{IsFaultOfText}
 use Rattle.aadl_parse.proofs.Verdicts.{only_tree, one_text_fault, tree_or_fault}
-use Rattle.aadl_names.specs.declared.fault.FlatFault.{FlatFault}
-use Rattle.aadl_names.specs.Findings.{place_of, number_of}
 use Rattle.aadl_instance.specs.Flat.{Parts}
-use Rattle.flat_faults.specs.Faults.{IsFault}
 use Rattle.annex_resolve.specs.declared.violation.Violation.{Violation}
 use Rattle.model_violations.specs.Violations.{shown_by, AreViolations}
 use Rattle.text_report.specs.TextFaults.{text_fault_line}
@@ -22,6 +19,7 @@ use Rattle.bundle_designs.specs.Accepted.{IsFaulty, HasViolations, IsRefusedIn, 
 use Rattle.pals_top.specs.Refusals.{IsBundleRefused}
 use Rattle.answer_laws.specs.Agreement.{NameOneFault, TellTheSame}
 use Rattle.answer_laws.proofs.Splits.{one_split, divided}
+use Rattle.answer_laws.proofs.Laws.{OneDesign, OneFault}
 
 -- ---- two trees of one bundle
 pub one_text : (bundle a b s t : List ℕ) (u v : PackageTree ℕ) → IsParsed bundle a s u → IsParsed bundle b t v → a ≡ b
@@ -58,8 +56,8 @@ one_refused_text bundle a b (inr x) (inl y) = absurd (undivided_or bundle b a y 
 one_refused_text bundle a b (inr x) (inr y) = one_unread bundle a b x y
 
 -- ---- a design
-pub one_accepted : ((tree : PackageTree ℕ) (root : List ℕ) (a b : DesignParts) → laws.IsDesignIn tree root a → laws.IsDesignIn tree root b → a ≡ b)
-    → (root bundle : List ℕ) (a b : DesignParts) (s t : List ℕ) → IsAccepted root bundle a s → IsAccepted root bundle b t → (a ≡ b) × (s ≡ t)
+pub one_accepted : OneDesign → (root bundle : List ℕ) (a b : DesignParts) (s t : List ℕ) → IsAccepted root bundle a s → IsAccepted root bundle b t
+    → (a ≡ b) × (s ≡ t)
 one_accepted one_design root bundle a b s t x y =
     let tree = one_tree bundle x.text y.text s t x.tree y.tree x.parsed y.parsed in (
       one_design y.tree root a b (subst (λ (u : PackageTree ℕ). laws.IsDesignIn u root a) tree x.design_in) y.design_in,
@@ -100,8 +98,7 @@ pub fault_or_list : (text : List ℕ) (tree : PackageTree ℕ) (root a b : List 
 fault_or_list text tree root a b x y = y.flat.sound x.faulty.line x.fault x.faulty.here.found
 
 -- ---- two refusals of one package
-module _ (one_fault : (tree : PackageTree ℕ) (root : List ℕ) (f g : FlatFault) → IsFault tree root f → IsFault tree root g
-    → (place_of f ≡ place_of g) × (number_of f ≡ number_of g)) where
+module _ (one_fault : OneFault) where
   pub one_fault_text : (text : List ℕ) (tree : PackageTree ℕ) (root a b : List ℕ) → IsFaulty text tree root a → IsFaulty text tree root b
       → NameOneFault text a b
   one_fault_text text tree root a b x y =

@@ -1,8 +1,12 @@
 pub mod Splits
 pub mod Meanings
+pub mod Laws
 pub mod Designs
 pub mod Scenarios
+pub mod Worlds
+pub mod Loose
 pub mod Commands
 pub mod Calls
 pub mod Ways
 pub mod Standing
+pub mod LooseStanding

@@ -1,9 +1,6 @@
 -- The status of each command's answer by what the bundle has.
-use Rattle.std.proofs.Common.{◌≡◌, inl, inr, ℕ, List}
-use Rattle.pals_model.specs.declared.design.DesignParts.{DesignParts}
+use Rattle.std.proofs.Common.{inl, inr, ℕ, List}
 use Rattle.pals_runs.specs.declared.commands.Command.TheVariants.{Sync}
-use Rattle.design_laws.specs.Designs as laws
-use Rattle.aadl_tree.specs.Declarations.{PackageTree}
 use Rattle.bundle_designs.specs.RefusedTexts.{IsTextRefused}
 use Rattle.bundle_designs.specs.Accepted.{IsPackageRefused}
 use Rattle.pals_top.specs.Refusals.{IsBundleRefused}
@@ -12,18 +9,19 @@ use Rattle.pals_top.specs.Print.{IsPrintAnswer}
 use Rattle.pals_top.specs.Check.{IsCheckAnswer}
 use Rattle.pals_top.specs.Sync.{IsSyncAnswer}
 use Rattle.answer_laws.specs.Meanings.{HasTree, MeansDesign, MeansScenario}
+use Rattle.answer_laws.proofs.Laws.{OneDesign}
 use Rattle.answer_laws.proofs.Designs.{read_or_refused, package_refused}
 use Rattle.answer_laws.proofs.Scenarios.{meant_or_refused}
 use Rattle.answer_laws.proofs.Ways.{Ways}
 
 -- what is refused is not there
-no_tree : (bundle a : List ℕ) → IsTextRefused bundle a → HasTree bundle → ⊥
+pub no_tree : (bundle a : List ℕ) → IsTextRefused bundle a → HasTree bundle → ⊥
 no_tree bundle a x h = read_or_refused bundle h.text h.scenario h.tree a h.parsed x
 
-no_design : (root bundle a : List ℕ) → IsPackageRefused root bundle a → MeansDesign root bundle → ⊥
+pub no_design : (root bundle a : List ℕ) → IsPackageRefused root bundle a → MeansDesign root bundle → ⊥
 no_design root bundle a x h = package_refused root bundle h.0 h.1 a h.2 x
 
-refused_tree : (root bundle a : List ℕ) → IsPackageRefused root bundle a → HasTree bundle
+pub refused_tree : (root bundle a : List ℕ) → IsPackageRefused root bundle a → HasTree bundle
 refused_tree root bundle a x = record { text = x.text; scenario = x.scenario; tree = x.tree; parsed = x.parsed }
 
 -- what has the one has the other
@@ -47,7 +45,7 @@ pub check_ways : (root bundle : List ℕ) (s : ℕ) (a : List ℕ) → IsCheckAn
 check_ways root bundle s a (inl x) = inl (x.0, (x.1.design, x.1.scenario, x.1.accepted))
 check_ways root bundle s a (inr x) = refused_ways (MeansDesign root bundle) root bundle s a x
 
-module _ (one_design : (tree : PackageTree ℕ) (root : List ℕ) (a b : DesignParts) → laws.IsDesignIn tree root a → laws.IsDesignIn tree root b → a ≡ b) where
+module _ (one_design : OneDesign) where
   no_scenario : (root bundle a : List ℕ) → HasScenarioFault root bundle (Sync root) a → MeansScenario root bundle (Sync root) → ⊥
   no_scenario root bundle a x h = meant_or_refused one_design root bundle (Sync root) h.0 h.1 a h.2 x
 

@@ -1,3 +1,2 @@
 pub mod Agreement
 pub mod Meanings
-pub mod Decided
