@@ -1,6 +1,7 @@
 //! Why a bundle has one answer: what it means is one, and the cases of an answer exclude each other.
 #![tactic(auto)]
 
+pub mod accepted;
 pub mod answers;
 pub mod bundles;
 pub mod statuses;

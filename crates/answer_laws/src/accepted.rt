@@ -1,0 +1,24 @@
+//! What the design that a bundle means is worth. The law is the contract of a function that does
+//! nothing.
+ghost use Rattle.std.specs.Prelude.{ℕ, List, []};
+ghost use Rattle.pals_model.specs.declared.design.DesignParts.{DesignParts};
+ghost use Rattle.pals_model.specs.Rules.{IsDesign};
+ghost use Rattle.aadl_tree.specs.Declarations.{PackageTree};
+ghost use Rattle.aadl_instance.specs.Flat.{Parts, IsFlat};
+ghost use Rattle.model_violations.specs.Violations.{shown_by, AreViolations};
+ghost use Rattle.bundle_designs.specs.Parsed.{IsParsed};
+ghost use Rattle.bundle_designs.specs.Accepted.{IsAccepted};
+ghost use Rattle.answer_laws.specs.Meanings.{MeansDesign};
+
+use design_laws::laws::designs_of_texts_keep_their_rules;
+
+/// The design that a bundle means keeps the rules of designs, so its period is at least the least one
+/// that the bound allows. A bundle means a design where its design text has a tree, the package has an
+/// instance below the root, and the list of all that is wrong with that instance is empty.
+pub fn accepted_designs_keep_their_rules()
+    ensures rules { (root bundle : List ℕ) (design : DesignParts) (scenario : List ℕ) → IsAccepted root bundle design scenario → IsDesign design }
+    ensures there { (root bundle text scenario : List ℕ) (tree : PackageTree ℕ) (parts : Parts) → IsParsed bundle text scenario tree
+        → IsFlat tree root parts → AreViolations tree (shown_by tree parts) [] → MeansDesign root bundle }
+{
+    designs_of_texts_keep_their_rules();
+}
