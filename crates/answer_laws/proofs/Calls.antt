@@ -12,21 +12,21 @@ abbrev pub StatusIsDecided : Type 0
 StatusIsDecided =
     (command : Command) (bundle : List ℕ) (s t : ℕ) (a b : List ℕ) → IsCommandAnswer command bundle s a → IsCommandAnswer command bundle t b → s ≡ t
 
-no_room : (n top : ℕ) → n < top → min (n + 1) top ≡ n → ⊥
+pub no_room : (n top : ℕ) → n < top → min (n + 1) top ≡ n → ⊥
 no_room n top few e = absurd (omega arith)
 
-too_long_by : (n m most : ℕ) → n ≡ m → n ≤ most → most < m → ⊥
+pub too_long_by : (n m most : ℕ) → n ≡ m → n ≤ most → most < m → ⊥
 too_long_by n m most e le lt = absurd (omega arith)
 
 module _ (seen : Reading) (left : List ℕ) (told : seen.before.left ≡ Some left) (few : seen.before.faults < 2 ^ 64 - 1) where
-  all_read : (bytes : List ℕ) → HasRead seen bytes → bytes ≡ left
+  pub all_read : (bytes : List ℕ) → HasRead seen bytes → bytes ≡ left
   all_read bytes x = subst (λ (o : Option (List ℕ)). IfSome o (λ l. bytes ≡ l)) told x.all.bytes
 
-  too_long : GivesTooMany seen.before seen.after BUNDLE_BYTES → BUNDLE_BYTES < length left
+  pub too_long : GivesTooMany seen.before seen.after BUNDLE_BYTES → BUNDLE_BYTES < length left
   too_long x = subst (λ (o : Option (List ℕ)). IfSome o (λ l. BUNDLE_BYTES < length l)) told x.bytes
 
   -- a call of the source that failed is counted
-  not_counted : seen.after.faults ≡ seen.before.faults → FailsWithin seen.before seen.after BUNDLE_BYTES → ⊥
+  pub not_counted : seen.after.faults ≡ seen.before.faults → FailsWithin seen.before seen.after BUNDLE_BYTES → ⊥
   not_counted same x = no_room seen.before.faults (2 ^ 64 - 1) few (sym (ap (λ (v : SourceView). v.faults) x.view) ∙ same)
 
   read_or_failed : (bytes : List ℕ) → HasRead seen bytes → FailsWithin seen.before seen.after BUNDLE_BYTES → ⊥

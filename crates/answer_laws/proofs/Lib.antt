@@ -10,3 +10,5 @@ pub mod Calls
 pub mod Ways
 pub mod Standing
 pub mod LooseStanding
+pub mod Reading
+pub mod BundleStatuses

@@ -4,4 +4,5 @@
 pub mod accepted;
 pub mod answers;
 pub mod bundles;
+pub mod sources;
 pub mod statuses;
