@@ -1,5 +1,5 @@
 -- A bundle means one design, or is refused.
-use Rattle.std.proofs.Common.{◌≡◌, ◌∙◌, inl, inr, ℕ, List, ◌++◌, sym, ap, subst}
+use Rattle.std.proofs.Common.{◌≡◌, ◌∙◌, ◌⊎◌, inl, inr, ℕ, List, ◌++◌, sym, ap, subst}
 use Rattle.pals_model.specs.declared.design.DesignParts.{DesignParts}
 use Rattle.pals_model.specs.RoundTexts.{line_end, text_of}
 use Rattle.aadl_tree.specs.Declarations.{PackageTree}
@@ -17,7 +17,7 @@ use Rattle.bundle_designs.specs.Parsed.{IsParsed}
 use Rattle.bundle_designs.specs.RefusedTexts.{IsUndivided, IsUnread, IsTextRefused}
 use Rattle.bundle_designs.specs.Accepted.{IsFaulty, HasViolations, IsRefusedIn, IsAccepted, IsPackageRefused}
 use Rattle.pals_top.specs.Refusals.{IsBundleRefused}
-use Rattle.answer_laws.specs.Agreement.{NameOneFault, TellTheSame}
+use Rattle.answer_laws.specs.Agreement.{NameOneFault, NameOneFaultOf}
 use Rattle.answer_laws.proofs.Splits.{one_split, divided}
 use Rattle.answer_laws.proofs.Laws.{OneDesign, OneFault}
 
@@ -100,20 +100,38 @@ fault_or_list text tree root a b x y = y.flat.sound x.faulty.line x.fault x.faul
 -- ---- two refusals of one package
 module _ (one_fault : OneFault) where
   pub one_fault_text : (text : List ℕ) (tree : PackageTree ℕ) (root a b : List ℕ) → IsFaulty text tree root a → IsFaulty text tree root b
-      → NameOneFault text a b
+      → NameOneFault text tree root a b
   one_fault_text text tree root a b x y =
       let same = one_fault tree root x.fault y.fault x.faulty y.faulty in
-      record { one = x.fault; other = y.fault; place = same.0; kind = same.1; first_is = x.text_is; second_is = y.text_is }
+      record {
+        one = x.fault;
+        other = y.fault;
+        one_is = x.faulty;
+        other_is = y.faulty;
+        place = same.0;
+        kind = same.1;
+        first_is = x.text_is;
+        second_is = y.text_is;
+      }
 
-  same_refusal : (text : List ℕ) (tree : PackageTree ℕ) (root a b : List ℕ) → IsRefusedIn text tree root a → IsRefusedIn text tree root b → TellTheSame a b
-  same_refusal text tree root a b (inl x) (inl y) = inr (text, one_fault_text text tree root a b x y)
+  same_refusal : (text : List ℕ) (tree : PackageTree ℕ) (root a b : List ℕ) → IsRefusedIn text tree root a → IsRefusedIn text tree root b
+      → (a ≡ b) ⊎ NameOneFault text tree root a b
+  same_refusal text tree root a b (inl x) (inl y) = inr (one_fault_text text tree root a b x y)
   same_refusal text tree root a b (inl x) (inr y) = absurd (fault_or_list text tree root a b x y)
   same_refusal text tree root a b (inr x) (inl y) = absurd (fault_or_list text tree root b a y x)
   same_refusal text tree root a b (inr x) (inr y) = inl (one_list_text text tree root a b x y)
 
-  pub packages_told : (root bundle a b : List ℕ) → IsPackageRefused root bundle a → IsPackageRefused root bundle b → TellTheSame a b
+  -- of a bundle's package
+  told_of : (root bundle a b : List ℕ) → (y : IsPackageRefused root bundle b) → (a ≡ b) ⊎ NameOneFault y.text y.tree root a b
+      → (a ≡ b) ⊎ NameOneFaultOf root bundle a b
+  told_of root bundle a b y (inl same) = inl same
+  told_of root bundle a b y (inr told) =
+      inr (record { text = y.text; scenario = y.scenario; tree = y.tree; parsed = y.parsed; named = told })
+
+  pub packages_told : (root bundle a b : List ℕ) → IsPackageRefused root bundle a → IsPackageRefused root bundle b
+      → (a ≡ b) ⊎ NameOneFaultOf root bundle a b
   packages_told root bundle a b x y =
       let text = one_text bundle x.text y.text x.scenario y.scenario x.tree y.tree x.parsed y.parsed in
       let tree = one_tree bundle x.text y.text x.scenario y.scenario x.tree y.tree x.parsed y.parsed in
       let moved = subst (λ (u : PackageTree ℕ). IsRefusedIn y.text u root a) tree (subst (λ (w : List ℕ). IsRefusedIn w x.tree root a) text x.refused) in
-      same_refusal y.text y.tree root a b moved y.refused
+      told_of root bundle a b y (same_refusal y.text y.tree root a b moved y.refused)

@@ -26,7 +26,7 @@ pub fn text_is_decided()
     ensures text { (command : Command) (bundle : List ℕ) (status : ℕ) (a b : List ℕ) → status ≢ 4
         → IsCommandAnswer command bundle status a → IsCommandAnswer command bundle status b → a ≡ b }
     ensures refusal { (command : Command) (bundle : List ℕ) (status : ℕ) (a b : List ℕ)
-        → IsCommandAnswer command bundle status a → IsCommandAnswer command bundle status b → TellTheSame a b }
+        → IsCommandAnswer command bundle status a → IsCommandAnswer command bundle status b → TellTheSame command bundle a b }
 {
     one_design();
     one_first_fault();

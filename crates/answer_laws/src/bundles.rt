@@ -40,7 +40,7 @@ pub fn accepted_is_not_refused()
 pub fn one_refusal()
     ensures violations { (text : List ℕ) (tree : PackageTree ℕ) (root a b : List ℕ) → HasViolations text tree root a → HasViolations text tree root b → a ≡ b }
     ensures either { (text : List ℕ) (tree : PackageTree ℕ) (root a b : List ℕ) → IsFaulty text tree root a → HasViolations text tree root b → ⊥ }
-    ensures fault { (text : List ℕ) (tree : PackageTree ℕ) (root a b : List ℕ) → IsFaulty text tree root a → IsFaulty text tree root b → NameOneFault text a b }
+    ensures fault { (text : List ℕ) (tree : PackageTree ℕ) (root a b : List ℕ) → IsFaulty text tree root a → IsFaulty text tree root b → NameOneFault text tree root a b }
 {
     one_first_fault();
 }
