@@ -5,3 +5,5 @@ pub mod Histories
 pub mod Rows
 pub mod Sends
 pub mod Texts
+pub mod Alike
+pub mod Ends

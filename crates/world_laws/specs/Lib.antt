@@ -1,4 +1,5 @@
 pub mod Counts
 pub mod Histories
 pub mod Senders
+pub mod Ends
 pub mod Laws

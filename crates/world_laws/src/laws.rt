@@ -1,6 +1,7 @@
 //! Laws of loose worlds. The functions do nothing: their contracts are the laws.
 ghost use Rattle.world_laws.specs.Laws.{StepCounts, EventsAgree, RoundsAreFinished, RoundsAreSent, FinishedRows};
 ghost use Rattle.world_laws.specs.Laws.{CommonRows, SendsAreInFlight, LinesAreTold, TextIsTold, StopIsTold};
+ghost use Rattle.world_laws.specs.Ends.{EndsAlike, OneEnd};
 
 /// A finish adds one to the steps that its node has finished, a send one to the rounds that its node
 /// has sent, and every other event leaves both.
@@ -35,4 +36,12 @@ pub fn messages_are_told()
 pub fn texts_are_told()
     ensures all { TextIsTold }
     ensures stopped { StopIsTold }
+{}
+
+/// A list of loose events ends in one way: with one stop, or with one event that is not allowed and its
+/// fault, or with neither; at one state, with one journal, and with the same lines. The codes of the
+/// nodes do not matter.
+pub fn one_end()
+    ensures alike { EndsAlike }
+    ensures opening { OneEnd }
 {}
