@@ -1,6 +1,6 @@
 //! Laws of loose worlds. The functions do nothing: their contracts are the laws.
 ghost use Rattle.world_laws.specs.Laws.{StepCounts, EventsAgree, RoundsAreFinished, RoundsAreSent, FinishedRows};
-ghost use Rattle.world_laws.specs.Laws.{CommonRows, SendsAreInFlight, LinesAreTold, TextIsTold, StopIsTold};
+ghost use Rattle.world_laws.specs.Laws.{CommonRows, RoundsWithoutNodes, SendsAreInFlight, LinesAreTold, TextIsTold, StopIsTold};
 ghost use Rattle.world_laws.specs.Ends.{EndsAlike, OneEnd};
 
 /// A finish adds one to the steps that its node has finished, a send one to the rounds that its node
@@ -18,10 +18,11 @@ pub fn events_are_counted()
 {}
 
 /// The rows of the rounds that some node has finished are those of the world; those of the rounds that
-/// every node has finished are a report of the composition.
+/// every node has finished are a report of the composition. Without nodes these are all of the run.
 pub fn rows_are_told()
     ensures world { FinishedRows }
     ensures common { CommonRows }
+    ensures none { RoundsWithoutNodes }
 {}
 
 /// Behind a send each link from its node has a copy in flight, of the round and with the message that
