@@ -1,5 +1,5 @@
 -- Lists of events that go on.
-use Rattle.std.proofs.Common.{◌≡◌, ◌∙◌, ℕ, ◌+◌, ◌<◌, List, [], ◌∷◌, ◌++◌, length, take, None, refl, sym, ap, subst, append_assoc, append-nil}
+use Rattle.std.proofs.Common.{◌≡◌, ◌∙◌, Result, Ok, Err, OnErr, ℕ, ◌+◌, ◌<◌, List, [], ◌∷◌, ◌++◌, length, take, None, refl, sym, ap, subst, append_assoc, append-nil}
 use Rattle.std.specs.Prelude.{slice_index_or}
 use Rattle.std.proofs.lemmas.List.{take_more}
 use Rattle.std.proofs.lemmas.List.Concat.{flat_map-append}
@@ -7,7 +7,7 @@ use Rattle.pals_model.specs.RoundTexts.{line_end, text_of}
 use Rattle.pals_runs.specs.declared.events.Event.{Event}
 use Rattle.bus_fields.specs.Values.{BusValue, Happens}
 use Rattle.pals_bus.specs.Loose.{GoesOn, HappensLoose}
-use Rattle.loose_world.specs.Worlds.{AllHappen, told_by}
+use Rattle.loose_world.specs.Worlds.{AllHappen, IsCutShort, told_by}
 
 -- one more event
 happen_more : (s t u : BusValue) (events : List Event) (e : Event) (lines : List (List ℕ)) → AllHappen s events t lines → GoesOn t e u → AllHappen s (events ++ e ∷ []) u (lines ++ told_by u e)
@@ -53,4 +53,23 @@ done_more s events first t u old mid new d within done goes told =
           ∙ ap (λ (xs : List ℕ). old ++ xs) (sym (text_more done.lines (told_by u e)));
       going = goes.going;
       run = run_loose t e u goes.happens ∙ done.run;
+    }
+
+-- ---- where memory is wanting
+-- what a refused call leaves
+pub on_err : {T E P : Type 0} (r : Result T E) → P → OnErr r P
+on_err (Ok x) here = tt
+on_err (Err x) here = here
+
+-- behind an event whose lines are not told
+pub cut_behind : (s : BusValue) (events : List Event) (first : ℕ) (t u : BusValue) (old mid new : List ℕ) (d : Event) → first < length events → AreDone s events first t old mid → GoesOn t (slice_index_or events first d) u → new ≡ mid
+    → IsCutShort s events u old new
+cut_behind s events first t u old mid new d within done goes kept =
+    let e = slice_index_or events first d in
+    record {
+      done = first + 1;
+      told = done.lines;
+      untold = told_by u e;
+      happen = subst (λ (es : List Event). AllHappen s es u (done.lines ++ told_by u e)) (sym (take_more events first d within)) (happen_more s t u (take first events) e done.lines done.happen goes);
+      text = kept ∙ done.told;
     }

@@ -79,3 +79,12 @@ pub record Tells (s : BusValue) (events : List Event) (how : LooseEnd) (t : BusV
   pub lines : List (List ℕ)
   pub runs : RunsLoosely s events how t lines
   pub told : new ≡ old ++ text_of lines
+
+-- what is left where memory is wanting: the first events, this many, have happened, and none gave a stop; of the lines of what
+-- they sent the first ones are added to a text
+pub record IsCutShort (s : BusValue) (events : List Event) (t : BusValue) (old new : List ℕ) : Type 0 where
+  pub done : ℕ
+  pub told : List (List ℕ)
+  pub untold : List (List ℕ)
+  pub happen : AllHappen s (take done events) t (told ++ untold)
+  pub text : new ≡ old ++ text_of told

@@ -2,12 +2,12 @@
 //! reordered, up to the first that gives a stop or is not allowed.
 #![tactic(auto)]
 
-ghost use Rattle.std.specs.Prelude.{◌≡◌, ◌≤◌, ◌++◌, length, All, IfOk, OnOk, None};
+ghost use Rattle.std.specs.Prelude.{◌≡◌, ◌≤◌, ◌++◌, length, All, IfOk, OnOk, OnErr, None};
 ghost use Rattle.pals_base.specs.declared.limits.TheConstants.{LIST_ITEMS};
 ghost use Rattle.pals_model.specs.RoundTexts.{text_of};
 ghost use Rattle.pals_bus.specs.Loose.{IsNamedIn};
 ghost use Rattle.world_report.specs.Sent.{AreOutLinks};
-ghost use Rattle.loose_world.specs.Worlds.{IsLooseIn, Tells, told_by};
+ghost use Rattle.loose_world.specs.Worlds.{IsLooseIn, Tells, IsCutShort, told_by};
 
 use pals_base::NoMemory;
 use pals_bus::{Bus, LooseFault, apply_loose};
@@ -27,7 +27,8 @@ pub enum LooseEnd {
 }
 
 /// Does the events in order, up to the first that gives a stop or is not allowed, and adds a line for
-/// each message that they send. Where there is not enough memory, the bus stands after some of them.
+/// each message that they send. Where there is not enough memory, the bus stands after a first part of
+/// them, which all happened without a stop, and the text has lines of these events alone.
 pub fn run_loose(
     bus: &mut Bus,
     events: &[Event],
@@ -38,7 +39,8 @@ pub fn run_loose(
     requires events { All (IsLooseIn bus.old.run.design) events.now }
     requires few { length events.now ≤ LIST_ITEMS }
     requires links { AreOutLinks bus.old.run.design links.now }
-    ensures { IfOk result (λ end. Tells bus.old events.now end bus.new sent.old.items sent.new.items) }
+    ensures ok { IfOk result (λ end. Tells bus.old events.now end bus.new sent.old.items sent.new.items) }
+    ensures err { OnErr result (IsCutShort bus.old events.now bus.new sent.old.items sent.new.items) }
 {
     for index in 0..events.len() {
         match apply_loose(bus, &events[index]) {
@@ -62,7 +64,7 @@ pub fn run_loose(
     Ok(LooseEnd::All)
 }
 
-// Adds a line for each message that an event has sent.
+// Adds a line for each message that an event has sent. Where memory is wanting, nothing is added.
 fn tell_messages(
     links: &OutLinks,
     sent: &mut Vec<u8>,
@@ -71,7 +73,8 @@ fn tell_messages(
 ) -> Result<(), NoMemory>
     requires links { AreOutLinks bus.now.run.design links.now }
     requires named { IsNamedIn bus.now.run.design event.now }
-    ensures { OnOk result (sent.new.items ≡ sent.old.items ++ text_of (told_by bus.now event.now)) }
+    ensures ok { OnOk result (sent.new.items ≡ sent.old.items ++ text_of (told_by bus.now event.now)) }
+    ensures err { OnErr result (sent.new.items ≡ sent.old.items) }
 {
     match *event {
         Event::Send(node) => links.add_messages(sent, bus, node),

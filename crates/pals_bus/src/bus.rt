@@ -101,6 +101,13 @@ impl Bus {
         &self.fields.design
     }
 
+    /// How many rounds the run has.
+    pub fn rounds(&self) -> u32
+        ensures { result ≡ self.now.run.rounds }
+    {
+        self.fields.rounds
+    }
+
     /// What happened so far.
     pub fn journal(&self) -> &[JournalEntry]
         ensures { result.now ≡ self.now.journal }

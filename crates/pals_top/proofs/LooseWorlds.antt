@@ -11,6 +11,7 @@ use Rattle.pals_runs.specs.declared.journal.Stop.{Stop}
 use Rattle.pals_runs.specs.Journal.{entry_line}
 use Rattle.bus_machine.specs.Laws.{IsRunOf}
 use Rattle.bus_machine.specs.States.{Run}
+use Rattle.bus_machine.specs.Traces.{finished_by_all}
 use Rattle.bus_machine.specs.WorldTexts.{worldtext}
 use Rattle.bus_fields.specs.Values.{BusValue, Happens, opening_bus}
 use Rattle.pals_bus.specs.Loose.{HappensLoose}
@@ -19,7 +20,7 @@ use Rattle.scenario_json.specs.Facts.{IsScenarioOf}
 use Rattle.loose_world.specs.declared.LooseEnd.{LooseEnd}
 use Rattle.loose_world.specs.declared.LooseEnd.TheVariants as end
 use Rattle.loose_world.specs.Worlds.{AllHappen, StopsAt, IsRefusedAt, Tells}
-use Rattle.world_report.specs.Finished.{finished, finished_lines, common_rounds, common_lines}
+use Rattle.world_report.specs.Finished.{finished_lines, common_lines}
 use Rattle.world_laws.specs.Laws.{TextIsTold, StopIsTold}
 use Rattle.run_lines.specs.EventFaults.{event_fault_line}
 use Rattle.pals_top.specs.declared.answer.Answer.{Answer}
@@ -69,7 +70,7 @@ stopped_says : (design : DesignParts) (scenario : Scenario) (programs : List Cod
     → IsWorldAnswer design scenario (opens design scenario programs) (status_of a) (text_of a)
 stopped_says design scenario programs why t sent a rules kept law tells says =
     let run : t.run ≡ run_of design scenario = stop_run (opens design scenario programs) t scenario.events why tells.lines tells.runs in
-    let rows : lines_text (common_lines t) ≡ report design scenario.env (common_rounds (finished t)) =
+    let rows : lines_text (common_lines t) ≡ report design scenario.env (finished_by_all (run_of design scenario) t.state) =
     law (run_of design scenario) programs scenario.events why t sent (rules_of design scenario rules kept) tells in
     inr (inl (
       says.0,
@@ -81,7 +82,7 @@ stopped_says design scenario programs why t sent a rules kept law tells says =
         text_is =
             says.1
             ∙ ap (λ (xs : List ℕ). xs ++ lines_text (map (entry_line t.run.design) t.journal)) rows
-            ∙ ap (λ (r : Run). report design scenario.env (common_rounds (finished t)) ++ lines_text (map (entry_line r.design) t.journal)) run;
+            ∙ ap (λ (r : Run). report design scenario.env (finished_by_all (run_of design scenario) t.state) ++ lines_text (map (entry_line r.design) t.journal)) run;
       },
     ))
 

@@ -9,6 +9,7 @@ use Rattle.pals_runs.specs.declared.journal.Stop.{Stop}
 use Rattle.pals_runs.specs.Journal.{node_word, spaced, entry_line}
 use Rattle.scenario_json.specs.declared.scenario.Scenario.{Scenario}
 use Rattle.bus_machine.specs.States.{Run}
+use Rattle.bus_machine.specs.Traces.{finished_by_all}
 use Rattle.bus_machine.specs.WorldTexts.{worldtext}
 use Rattle.bus_fields.specs.Values.{BusValue, opening_bus, AreCodes}
 use Rattle.design_codes.specs.Causes.{AreShort, IsFirstTooLong}
@@ -16,7 +17,7 @@ use Rattle.loose_world.specs.declared.LooseEnd.{LooseEnd}
 use Rattle.loose_world.specs.declared.LooseEnd.TheVariants as end
 use Rattle.loose_world.specs.Worlds.{AllHappen, StopsAt, IsRefusedAt}
 use Rattle.loose_events.specs.Laws.{loosely}
-use Rattle.world_report.specs.Finished.{finished, finished_lines, common_rounds, common_lines}
+use Rattle.world_report.specs.Finished.{finished_lines, common_lines}
 use Rattle.run_lines.specs.EventFaults.{event_fault_line}
 use Rattle.bundle_designs.specs.Accepted.{IsAccepted}
 use Rattle.pals_top.specs.Refusals.{IsBundleRefused}
@@ -40,7 +41,7 @@ pub record IsStoppedWorld (design : DesignParts) (scenario : Scenario) (before :
   pub after : BusValue
   pub lines : List (List ℕ)
   pub stops : StopsAt before scenario.events why after lines
-  pub text_is : text ≡ report design scenario.env (common_rounds (finished after)) ++ text_of (map (entry_line design) after.journal)
+  pub text_is : text ≡ report design scenario.env (finished_by_all (run_of design scenario) after.state) ++ text_of (map (entry_line design) after.journal)
 
 -- an event is not allowed, and none before it gives a stop
 pub record HasEventFault (design : DesignParts) (scenario : Scenario) (before : BusValue) (text : List ℕ) : Type 0 where

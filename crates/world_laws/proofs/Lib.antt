@@ -4,6 +4,8 @@ pub mod Senders
 pub mod Histories
 pub mod Rows
 pub mod Sends
+pub mod Reports
 pub mod Texts
+pub mod Journals
 pub mod Alike
 pub mod Ends

@@ -1,6 +1,6 @@
 -- The rows of the rounds that nodes have finished.
 use Rattle.std.proofs.Common.{◌≡◌, inl, inr, ℕ, zero, suc, ◌+◌, ◌<◌, ◌≤◌, Bool, List, [], ◌∷◌, ◌++◌, length, map, slice_get, Option, Some, None, All, refl, sym, ap, ap₂, ◌∙◌, arith}
-use Rattle.std.specs.Prelude.{fold, max, min, flat_map, if◌then◌else◌}
+use Rattle.std.specs.Prelude.{fold, max, min, flat_map, slice_index_or, if◌then◌else◌}
 use Rattle.std.specs.List.{enumerate_from}
 use Rattle.std.proofs.lemmas.Bool.{lt-ltb, le-ltb, cases_lt}
 use Rattle.std.proofs.lemmas.List.Elements.{All-head, All-tail}
@@ -15,21 +15,23 @@ use Rattle.pals_model.specs.RoundTexts.{part_lines, tap_lines, row_lines, round_
 use Rattle.pals_model.specs.Rules.{IsDesign, IsTap}
 use Rattle.pals_runs.specs.declared.events.Event.{Event}
 use Rattle.bus_machine.specs.Plans.{component_at, no_component}
-use Rattle.bus_machine.specs.States.{Run, node_at}
+use Rattle.bus_machine.specs.Nodes.{NodeState}
+use Rattle.bus_machine.specs.States.{Run, BusState, node_at, no_node}
+use Rattle.bus_machine.specs.Traces.{finished_by_all}
 use Rattle.bus_machine.specs.Agreement.{Agrees}
 use Rattle.bus_machine.specs.Laws.{IsRunOf}
 use Rattle.bus_machine.specs.WorldTexts.{finished_by, part_shown, rounds_shown, world_rows}
 use Rattle.bus_fields.specs.Values.{BusValue}
-use Rattle.world_report.specs.Finished.{part_of_round, finished, finished_lines, common_rounds, common_lines}
+use Rattle.world_report.specs.Finished.{part_of_round, finished, finished_lines, common_lines}
 use Rattle.world_laws.specs.Histories.{IsLeftBy}
 use Rattle.world_laws.proofs.Histories.{events_agree, rounds_are_finished}
 
 -- ---- numbers from one on
-same_map : {X : Type 0} (f g : ℕ → X) (from n : ℕ) → ((k : ℕ) → k < from + n → f k ≡ g k) → map f (upwards from n) ≡ map g (upwards from n)
+pub same_map : {X : Type 0} (f g : ℕ → X) (from n : ℕ) → ((k : ℕ) → k < from + n → f k ≡ g k) → map f (upwards from n) ≡ map g (upwards from n)
 same_map f g from zero same = refl
 same_map f g from (suc n) same = ap₂ (λ x xs. x ∷ xs) (same from (omega arith)) (same_map f g (suc from) n (λ k below. same k (omega arith)))
 
-same_flat_map : {X : Type 0} (f g : ℕ → List X) (from n : ℕ) → ((k : ℕ) → k < from + n → f k ≡ g k)
+pub same_flat_map : {X : Type 0} (f g : ℕ → List X) (from n : ℕ) → ((k : ℕ) → k < from + n → f k ≡ g k)
     → flat_map f (upwards from n) ≡ flat_map g (upwards from n)
 same_flat_map f g from zero same = refl
 same_flat_map f g from (suc n) same = ap₂ (λ x xs. x ++ xs) (same from (omega arith)) (same_flat_map f g (suc from) n (λ k below. same k (omega arith)))
@@ -45,25 +47,27 @@ past_from f from zero k past = refl
 past_from f from (suc m) zero past = absurd (omega arith)
 past_from f from (suc m) (suc k) past = past_from f (suc from) m k (omega arith)
 
--- the least is at most each
-least_at_most : (f : ℕ → ℕ) (a from m : ℕ) → fold min a (map f (upwards from m)) ≤ a
-least_at_most f a from zero = omega arith
-least_at_most f a from (suc m) = let rest = least_at_most f (min a (f from)) (suc from) m in omega arith
+-- ---- the rounds that all nodes have finished
+-- at most those of the run
+least_at_most : (a : ℕ) (ns : List NodeState) → fold (λ least (n : NodeState). min least (length n.parts)) a ns ≤ a
+least_at_most a [] = omega arith
+least_at_most a (n ∷ ns) = let rest = least_at_most (min a (length n.parts)) ns in omega arith
 
-least_at : (f : ℕ → ℕ) (a from m k : ℕ) → from ≤ k → k < from + m → fold min a (map f (upwards from m)) ≤ f k
-least_at f a from zero k above below = absurd (omega arith)
-least_at f a from (suc m) k above below = elim (cases_lt from k) [
-  | inl later ↦ least_at f (min a (f from)) (suc from) m k (omega arith) (omega arith)
-  | inr first ↦
-      let same : f from ≡ f k = ap f (omega arith) in
-      let rest = least_at_most f (min a (f from)) (suc from) m in
-      omega arith
-]
+-- and at most those of each node
+least_at : (a : ℕ) (ns : List NodeState) (k : ℕ) (d : NodeState) → k < length ns
+    → fold (λ least (n : NodeState). min least (length n.parts)) a ns ≤ length (slice_index_or ns k d).parts
+least_at a [] k d within = absurd (omega (arith, within))
+least_at a (n ∷ ns) zero d within = let rest = least_at_most (min a (length n.parts)) ns in omega arith
+least_at a (n ∷ ns) (suc k) d within = least_at (min a (length n.parts)) ns k d (omega (arith, within))
 
-common_at : (f : ℕ → ℕ) (m k : ℕ) → k < m → common_rounds (map f (upwards 0 m)) ≤ f k
-common_at f zero k below = absurd (omega arith)
-common_at f (suc m) zero below = least_at_most f (f 0) 1 m
-common_at f (suc m) (suc k) below = least_at f (f 0) 1 m (suc k) (omega arith) (omega arith)
+none_left : {X : Type 0} (xs : List X) → length xs ≡ 0 → xs ≡ []
+none_left [] none = refl
+none_left (x ∷ xs) none = absurd (omega (arith, none))
+
+pub rounds_without_nodes : (run : Run) (s : BusState) → Agrees run s → run.design.components ≡ [] → finished_by_all run s ≡ run.rounds
+rounds_without_nodes run s agree none =
+    ap (fold (λ least (n : NodeState). min least (length n.parts)) run.rounds)
+    (none_left s.nodes (agree.node_count ∙ ap (λ (cs : List Component). length cs) none))
 
 -- ---- a row tells of components alone
 same_part_lines : (f g : ℕ → Option Part) (from : ℕ) (components : List Component) → ((k : ℕ) → k < from + length components → f k ≡ g k)
@@ -80,7 +84,7 @@ same_tap_lines design f g from (tap ∷ taps) rules same =
     ap₂ (λ x xs. x ++ xs) (ap (tap_lines design from tap) (same tap.source.0 (All-head (IsTap design) tap taps rules).source.node_is))
     (same_tap_lines design f g (from + 1) taps (All-tail (IsTap design) tap taps rules) same)
 
-same_row : (design : DesignParts) (f g : ℕ → Option Part) (round : ℕ) → IsDesign design
+pub same_row : (design : DesignParts) (f g : ℕ → Option Part) (round : ℕ) → IsDesign design
     → ((k : ℕ) → k < length design.components → f k ≡ g k) → row_lines design f round ≡ row_lines design g round
 same_row design f g round rules same =
     ap₂ (λ parts taps. round_line round ∷ parts ++ taps) (same_part_lines f g 0 design.components (λ k below. same k (omega arith)))
@@ -128,12 +132,13 @@ finished_rows run events t lines rules left =
     (λ round below. same_row run.design (part_of_round t round) (part_shown run.design run.env events round) round rules.design (λ node within. same_part run events t lines node round rules left within))
 
 pub common_rows : (t : BusValue) → IsRunOf t.run → Agrees t.run t.state
-    → text_of (common_lines t) ≡ report t.run.design t.run.env (common_rounds (finished t))
+    → text_of (common_lines t) ≡ report t.run.design t.run.env (finished_by_all t.run t.state)
 common_rows t rules agree =
     let design = t.run.design in
     let env = t.run.env in
-    ap text_of (same_flat_map (λ round. row_lines design (part_of_round t round) round) (composed_lines design env) 0 (common_rounds (finished t))
+    let count = agree.node_count in
+    ap text_of (same_flat_map (λ round. row_lines design (part_of_round t round) round) (composed_lines design env) 0 (finished_by_all t.run t.state)
     (λ round below. same_row design (part_of_round t round) (λ node. Some (part design env node round)) round rules.design
     (λ node within.
-    let least = common_at (λ k. length (node_at t.state k).parts) (length design.components) node within in
+    let least = least_at t.run.rounds t.state.nodes node no_node (omega (arith, count, within)) in
     part_is t.run t node round agree within (omega arith))))

@@ -10,10 +10,11 @@ use Rattle.bus_machine.specs.States.{Run}
 use Rattle.bus_machine.specs.Machine.{IsStep}
 use Rattle.bus_machine.specs.Agreement.{Agrees}
 use Rattle.bus_machine.specs.Laws.{IsRunOf}
+use Rattle.bus_machine.specs.Traces.{finished_by_all}
 use Rattle.bus_machine.specs.WorldTexts.{sent_lines, world_rows, worldtext}
 use Rattle.bus_machine.proofs.Arrivals.{step_keeps_agreement}
 use Rattle.bus_fields.specs.Values.{BusValue, opening_bus, Happens}
-use Rattle.world_report.specs.Finished.{finished, finished_lines, common_rounds, common_lines}
+use Rattle.world_report.specs.Finished.{finished_lines, common_lines}
 use Rattle.loose_world.specs.declared.LooseEnd.TheVariants.{All, Stopped}
 use Rattle.loose_world.specs.Worlds.{StopsAt, Tells}
 use Rattle.world_laws.specs.Histories.{IsLeftBy}
@@ -31,7 +32,7 @@ text_is_told run programs events t sent rules tells =
 
 pub stop_is_told : (run : Run) (programs : List CodeParts) (events : List Event) (why : Stop) (t : BusValue) (sent : List ℕ) → IsRunOf run
     → Tells (opening_bus run programs false) events (Stopped why) t [] sent
-    → text_of (common_lines t) ≡ report run.design run.env (common_rounds (finished t))
+    → text_of (common_lines t) ≡ report run.design run.env (finished_by_all run t.state)
 stop_is_told run programs events why t sent rules tells =
     let stops : StopsAt (opening_bus run programs false) events why t tells.lines = tells.runs in
     let left : IsLeftBy run (take stops.index events) stops.before tells.lines = record { programs = programs; happen = stops.happen } in
@@ -41,4 +42,4 @@ stop_is_told run programs events why t sent rules tells =
     let run_is : t.run ≡ run = ap (λ (b : BusValue). b.run) happens.others ∙ agree.0 in
     let after_it : Agrees run t.state = step_keeps_agreement run stops.before.state t.state stops.last.0 rules agree.1 step in
     common_rows t (subst IsRunOf (sym run_is) rules) (subst (λ r. Agrees r t.state) (sym run_is) after_it)
-    ∙ ap (λ (r : Run). report r.design r.env (common_rounds (finished t))) run_is
+    ∙ ap (λ (r : Run). report r.design r.env (finished_by_all r t.state)) run_is

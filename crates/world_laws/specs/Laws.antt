@@ -11,10 +11,11 @@ use Rattle.bus_machine.specs.Stops.{sent_rounds}
 use Rattle.bus_machine.specs.Machine.{BusEvent, IsStep}
 use Rattle.bus_machine.specs.Agreement.{Agrees}
 use Rattle.bus_machine.specs.Laws.{IsRunOf}
+use Rattle.bus_machine.specs.Traces.{finished_by_all}
 use Rattle.bus_machine.specs.WorldTexts.{finished_by, sends_of, sent_lines, world_rows, worldtext}
 use Rattle.bus_fields.specs.Values.{BusValue, opening_bus}
 use Rattle.pals_bus.specs.Loose.{GoesOn}
-use Rattle.world_report.specs.Finished.{finished, finished_lines, common_rounds, common_lines}
+use Rattle.world_report.specs.Finished.{finished_lines, common_lines}
 use Rattle.loose_world.specs.declared.LooseEnd.TheVariants.{All, Stopped}
 use Rattle.loose_world.specs.Worlds.{Tells}
 use Rattle.world_laws.specs.Counts.{IsCounted}
@@ -60,7 +61,11 @@ FinishedRows = AtEachEnd (λ run events t lines. finished_lines t ≡ world_rows
 abbrev pub CommonRows : Type 0
 CommonRows =
     (t : BusValue) → IsRunOf t.run → Agrees t.run t.state
-    → text_of (common_lines t) ≡ report t.run.design t.run.env (common_rounds (finished t))
+    → text_of (common_lines t) ≡ report t.run.design t.run.env (finished_by_all t.run t.state)
+
+-- without components these are all rounds of the run
+abbrev pub RoundsWithoutNodes : Type 0
+RoundsWithoutNodes = (run : Run) (s : BusState) → Agrees run s → run.design.components ≡ [] → finished_by_all run s ≡ run.rounds
 
 -- ---- messages
 -- behind a send, each link from its node has the message of the round that the sends before it tell
@@ -87,4 +92,4 @@ abbrev pub StopIsTold : Type 0
 StopIsTold =
     (run : Run) (programs : List CodeParts) (events : List Event) (why : Stop) (t : BusValue) (sent : List ℕ)
     → IsRunOf run → Tells (opening_bus run programs false) events (Stopped why) t [] sent
-    → text_of (common_lines t) ≡ report run.design run.env (common_rounds (finished t))
+    → text_of (common_lines t) ≡ report run.design run.env (finished_by_all run t.state)

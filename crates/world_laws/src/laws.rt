@@ -1,7 +1,9 @@
 //! Laws of loose worlds. The functions do nothing: their contracts are the laws.
 ghost use Rattle.world_laws.specs.Laws.{StepCounts, EventsAgree, RoundsAreFinished, RoundsAreSent, FinishedRows};
-ghost use Rattle.world_laws.specs.Laws.{CommonRows, SendsAreInFlight, LinesAreTold, TextIsTold, StopIsTold};
+ghost use Rattle.world_laws.specs.Laws.{CommonRows, RoundsWithoutNodes, SendsAreInFlight, LinesAreTold, TextIsTold, StopIsTold};
 ghost use Rattle.world_laws.specs.Ends.{EndsAlike, OneEnd};
+ghost use Rattle.world_laws.specs.Journals.{JournalReplays};
+ghost use Rattle.world_laws.specs.Reports.{WorldIsReported, WorldTextIsReported};
 
 /// A finish adds one to the steps that its node has finished, a send one to the rounds that its node
 /// has sent, and every other event leaves both.
@@ -18,10 +20,11 @@ pub fn events_are_counted()
 {}
 
 /// The rows of the rounds that some node has finished are those of the world; those of the rounds that
-/// every node has finished are a report of the composition.
+/// every node has finished are a report of the composition. Without nodes these are all of the run.
 pub fn rows_are_told()
     ensures world { FinishedRows }
     ensures common { CommonRows }
+    ensures none { RoundsWithoutNodes }
 {}
 
 /// Behind a send each link from its node has a copy in flight, of the round and with the message that
@@ -36,6 +39,19 @@ pub fn messages_are_told()
 pub fn texts_are_told()
     ensures all { TextIsTold }
     ensures stopped { StopIsTold }
+{}
+
+/// Where all components have finished the same rounds, the rows of a world are those of the report that
+/// `sync` writes of these rounds.
+pub fn worlds_are_reported()
+    ensures rows { WorldIsReported }
+    ensures text { WorldTextIsReported }
+{}
+
+/// However a list of loose events ends, the journal replays to where the bus stands, up to and including
+/// the event that gives a stop, and the bus agrees with the composition.
+pub fn journals_are_replayed()
+    ensures { JournalReplays }
 {}
 
 /// A list of loose events ends in one way: with one stop, or with one event that is not allowed and its

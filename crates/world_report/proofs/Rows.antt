@@ -1,15 +1,17 @@
 -- The rows of the first rounds, and how many rounds the first nodes have finished.
-use Rattle.std.proofs.Common.{◌≡◌, ◌∙◌, ℕ, zero, suc, ◌+◌, ◌≤◌, List, [], ◌∷◌, ◌++◌, length, map, fold, max, min, refl, ap, arith, add-one, zero-add, append-nil}
+use Rattle.std.proofs.Common.{◌≡◌, ◌∙◌, ℕ, ◌+◌, ◌<◌, ◌≤◌, List, [], ◌∷◌, ◌++◌, length, map, take, fold, max, min, ap, add-one, zero-add, append-nil}
 use Rattle.std.specs.Prelude.{flat_map}
-use Rattle.std.proofs.lemmas.List.{length-map}
+use Rattle.std.proofs.lemmas.List.{take_all}
 use Rattle.std.proofs.lemmas.List.Concat.{flat_map-append}
-use Rattle.std.proofs.lemmas.List.Sums.{fold-append}
+use Rattle.std.proofs.lemmas.List.Sums.{fold-append, fold_more}
 use Rattle.pals_base.specs.Steps.{upwards}
 use Rattle.pals_base.proofs.Upwards.{upwards-more, map_upwards_more}
 use Rattle.pals_model.specs.RoundTexts.{line_end, row_lines, text_of}
-use Rattle.bus_machine.specs.States.{node_at}
+use Rattle.bus_machine.specs.Nodes.{NodeState}
+use Rattle.bus_machine.specs.States.{node_at, no_node}
+use Rattle.bus_machine.specs.Traces.{finished_by_all}
 use Rattle.bus_fields.specs.Values.{BusValue}
-use Rattle.world_report.specs.Finished.{part_of_round, lines_before, common_rounds}
+use Rattle.world_report.specs.Finished.{part_of_round, lines_before}
 
 -- ---- rows
 pub rows_more : (b : BusValue) (round : ℕ) → text_of (lines_before b (round + 1)) ≡ text_of (lines_before b round) ++ text_of (row_lines b.run.design (part_of_round b round) round)
@@ -30,17 +32,13 @@ most_more b first =
     let f : ℕ → ℕ = λ node. length (node_at b.state node).parts in
     ap (fold max 0) (map_upwards_more f first) ∙ fold-append max 0 (finished_first b first) (f first ∷ [])
 
-least_more : (xs : List ℕ) (y : ℕ) → 1 ≤ length xs → common_rounds (xs ++ y ∷ []) ≡ min (common_rounds xs) y
-least_more [] y some = absurd (omega (arith, some))
-least_more (x ∷ xs) y some = fold-append min x xs (y ∷ [])
+-- the least of the first nodes, and of the run's rounds
+abbrev pub least_first : BusValue → ℕ → ℕ
+least_first b first = finished_by_all b.run (record b.state { nodes = take first b.state.nodes })
 
-length_first : (from n : ℕ) → length (upwards from n) ≡ n
-length_first from zero = refl
-length_first from (suc n) = ap suc (length_first (suc from) n)
+pub least_more : (b : BusValue) (first : ℕ) → first < length b.state.nodes
+    → least_first b (first + 1) ≡ min (least_first b first) (length (node_at b.state first).parts)
+least_more b first within = fold_more (λ (so_far : ℕ) (n : NodeState). min so_far (length n.parts)) b.run.rounds b.state.nodes first no_node within
 
-pub common_more : (b : BusValue) (first : ℕ) → 1 ≤ first → common_rounds (finished_first b (first + 1)) ≡ min (common_rounds (finished_first b first)) (length (node_at b.state first).parts)
-common_more b first some =
-    let f : ℕ → ℕ = λ node. length (node_at b.state node).parts in
-    let size = length-map (upwards 0 first) f in
-    let count = length_first 0 first in
-    ap common_rounds (map_upwards_more f first) ∙ least_more (finished_first b first) (f first) (omega (arith, size, count, some))
+pub least_all : (b : BusValue) (first : ℕ) → length b.state.nodes ≤ first → least_first b first ≡ finished_by_all b.run b.state
+least_all b first past = ap (λ (ns : List NodeState). finished_by_all b.run (record b.state { nodes = ns })) (take_all first b.state.nodes past)

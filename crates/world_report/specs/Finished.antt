@@ -1,9 +1,10 @@
 -- The rows of the rounds that the nodes of a bus have finished.
-use Rattle.std.specs.Prelude.{ℕ, List, [], ◌∷◌, map, flat_map, fold, max, min, length, Option, slice_get}
+use Rattle.std.specs.Prelude.{ℕ, List, map, flat_map, fold, max, length, Option, slice_get}
 use Rattle.pals_base.specs.Steps.{upwards}
 use Rattle.pals_model.specs.declared.rounds.Part.{Part}
 use Rattle.pals_model.specs.RoundTexts.{row_lines}
 use Rattle.bus_machine.specs.States.{node_at}
+use Rattle.bus_machine.specs.Traces.{finished_by_all}
 use Rattle.bus_fields.specs.Values.{BusValue}
 
 -- what a node left in a round, where it has finished that
@@ -21,9 +22,6 @@ lines_before b rounds = flat_map (λ round. row_lines b.run.design (part_of_roun
 abbrev pub finished_lines : BusValue → List (List ℕ)
 finished_lines b = lines_before b (fold max 0 (finished b))
 
--- the rounds that every node has finished; none without nodes
-abbrev pub common_rounds : List ℕ → ℕ
-common_rounds counts = elim counts as (λ _. ℕ) [ [] ↦ 0 | n ∷ ns ↦ fold min n ns ]
-
+-- the rounds that every node has finished: without nodes, all of the run
 abbrev pub common_lines : BusValue → List (List ℕ)
-common_lines b = lines_before b (common_rounds (finished b))
+common_lines b = lines_before b (finished_by_all b.run b.state)

@@ -1,6 +1,7 @@
 //! The messages that the nodes of a bus have sent.
-ghost use Rattle.std.specs.Prelude.{◌≡◌, ◌<◌, ◌++◌, length, IfOk, OnOk};
+ghost use Rattle.std.specs.Prelude.{◌≡◌, ◌<◌, ◌++◌, length, IfOk, OnOk, OnErr};
 ghost use Rattle.pals_model.specs.RoundTexts.{text_of};
+ghost use Rattle.text_buffer.specs.Appended.{BeginsWith};
 ghost use Rattle.world_report.specs.Sent.{AreOutLinks, message_lines, sent_lines};
 
 use pals_base::{Items, LinkNo, NoMemory, NodeNo};
@@ -10,6 +11,7 @@ use pals_model::links::links_from;
 use run_lines::add_sent;
 use std::alloc::Global;
 use std::marker::Model;
+use text_buffer::whole_or_none;
 
 /// The links from each node of a design, in their order. Contracts see their numbers, node by node.
 #[derive(Drop)]
@@ -38,11 +40,25 @@ impl OutLinks {
         Ok(OutLinks { nodes })
     }
 
-    /// Adds a line for each message that a node has just sent, in order of the links.
+    /// Adds a line for each message that a node has just sent, in order of the links. Where memory is
+    /// wanting, nothing is added.
     pub fn add_messages(&self, out: &mut Vec<u8>, bus: &Bus, node: NodeNo) -> Result<(), NoMemory>
         requires links { AreOutLinks bus.now.run.design self.now }
         requires node { node.0 < length bus.now.run.design.components }
-        ensures { OnOk result (out.new.items ≡ out.old.items ++ text_of (sent_lines bus.now node.0)) }
+        ensures ok { OnOk result (out.new.items ≡ out.old.items ++ text_of (sent_lines bus.now node.0)) }
+        ensures err { OnErr result (out.new.items ≡ out.old.items) }
+    {
+        let start = out.len();
+        let written = self.add_each(out, bus, node);
+        whole_or_none(out, start, written)
+    }
+
+    // Adds the lines one by one.
+    fn add_each(&self, out: &mut Vec<u8>, bus: &Bus, node: NodeNo) -> Result<(), NoMemory>
+        requires links { AreOutLinks bus.now.run.design self.now }
+        requires node { node.0 < length bus.now.run.design.components }
+        ensures ok { OnOk result (out.new.items ≡ out.old.items ++ text_of (sent_lines bus.now node.0)) }
+        ensures err { OnErr result (BeginsWith out.new.items out.old.items) }
     {
         let round = bus.count(node).saturating_sub(1);
         for link in self.nodes[node.0 as usize].as_slice() {
@@ -52,10 +68,12 @@ impl OutLinks {
     }
 }
 
-// Adds the line of the message of a round that is in flight on a link, if there is one.
+// Adds the line of the message of a round that is in flight on a link, if there is one. Where memory
+// is wanting, nothing is added.
 fn add_message(out: &mut Vec<u8>, bus: &Bus, link: LinkNo, round: u32) -> Result<(), NoMemory>
     requires { link.0 < length bus.now.run.design.links }
-    ensures { OnOk result (out.new.items ≡ out.old.items ++ text_of (message_lines bus.now round link.0)) }
+    ensures ok { OnOk result (out.new.items ≡ out.old.items ++ text_of (message_lines bus.now round link.0)) }
+    ensures err { OnErr result (out.new.items ≡ out.old.items) }
 {
     match bus.in_flight(link, round) {
         None => Ok(()),

@@ -3,7 +3,7 @@ use Rattle.std.specs.Prelude.{flat_map}
 use Rattle.pals_base.specs.declared.values.LinkNo.{LinkNo}
 use Rattle.pals_model.specs.RoundTexts.{text_of}
 use Rattle.world_report.specs.Sent.{message_lines}
-use Rattle.world_report.proofs.messages.OutLinks.add_messages.Given as goal
+use Rattle.world_report.proofs.messages.OutLinks.add_each.Given as goal
 
 -- the lines of the first links are there
 abbrev pub invariant-loop-link : goal.invariant-loop-link

@@ -7,7 +7,7 @@ use Rattle.pals_model.specs.RoundTexts.{text_of}
 use Rattle.bus_machine.specs.States.{node_at}
 use Rattle.world_report.specs.Sent.{message_lines}
 use Rattle.world_report.proofs.Links.{items_are, link_within}
-use Rattle.world_report.proofs.messages.OutLinks.add_messages.Goals as goal
+use Rattle.world_report.proofs.messages.OutLinks.add_each.Goals as goal
 
 pub add_message-requires : goal.add_message-requires
 add_message-requires c =
@@ -18,8 +18,8 @@ add_message-requires c =
     let are = items_are design c.self.inside.nodes c.args.self.now items c.index.result.now c.args.node.0 c.requires.links same c.requires.node c.as_slice-link-items.ensures.value c.index.ensures in
     link_within design c.args.node.0 items c.loop-link.link-index none are c.loop-link-test.true
 
-pub returns : goal.returns
-returns c =
+pub returns-clause-ok : goal.returns-clause-ok
+returns-clause-ok c =
     let b = c.args.bus.now in
     let old = c.args.out.now.items in
     let node = c.args.node.0 in

@@ -3,7 +3,7 @@ use Rattle.pals_model.specs.declared.design.DesignParts.{DesignParts}
 use Rattle.pals_model.specs.RoundTexts.{row_lines, text_of}
 use Rattle.world_report.specs.Finished.{part_of_round, lines_before}
 use Rattle.world_report.proofs.Rows.{rows_more}
-use Rattle.world_report.proofs.rounds.add_rows.Goals as goal
+use Rattle.world_report.proofs.rounds.add_each_row.Goals as goal
 
 pub loop-round-preserved : goal.loop-round-preserved
 loop-round-preserved c =
