@@ -4,7 +4,8 @@
 
 use pals_base::{NoMemory, Text};
 use pals_io::{ReadSource, WriteSink};
-use pals_top::{NO_MEMORY, pals};
+use pals_top::pals;
+use pals_top::status::NO_MEMORY;
 use std::alloc::AllocError;
 use std::env;
 use std::io::ErrorKind;

@@ -12,7 +12,6 @@ use Rattle.pals_runs.specs.Journal.{entry_line}
 use Rattle.bus_machine.specs.Laws.{IsRunOf}
 use Rattle.bus_machine.specs.States.{Run}
 use Rattle.bus_machine.specs.Traces.{finished_by_all}
-use Rattle.bus_machine.specs.WorldTexts.{worldtext}
 use Rattle.bus_fields.specs.Values.{BusValue, Happens, opening_bus}
 use Rattle.pals_bus.specs.Loose.{HappensLoose}
 use Rattle.scenario_json.specs.declared.scenario.Scenario.{Scenario}
@@ -22,9 +21,12 @@ use Rattle.loose_world.specs.declared.LooseEnd.TheVariants as end
 use Rattle.loose_world.specs.Worlds.{AllHappen, StopsAt, IsRefusedAt, Tells}
 use Rattle.world_report.specs.Finished.{finished_lines, common_lines}
 use Rattle.world_laws.specs.Laws.{TextIsTold, StopIsTold}
+use Rattle.world_laws.specs.Steps.{EventsAreSteps}
 use Rattle.run_lines.specs.EventFaults.{event_fault_line}
 use Rattle.pals_top.specs.declared.answer.Answer.{Answer}
-use Rattle.pals_top.specs.Loose.{run_of, status_at, text_at, IsWorldAnswer}
+use Rattle.pals_top.specs.Code.{status_at, text_at}
+use Rattle.pals_top.specs.Loose.{run_of, IsWorldAnswer}
+use Rattle.pals_top.specs.declared.status.TheConstants.{DONE, SCENARIO_REFUSED, STOPPED}
 use Rattle.pals_top.specs.Statuses.{status_of, text_of, Says}
 
 -- ---- conditions of a bus
@@ -52,75 +54,79 @@ rules_of : (design : DesignParts) (scenario : Scenario) → IsDesign design → 
 rules_of design scenario rules kept = record { design = rules; rounds = kept.long.0 }
 
 -- ---- answers
-finished_says : (design : DesignParts) (scenario : Scenario) (programs : List CodeParts) (t : BusValue) (sent : List ℕ) (a : Answer) → IsDesign design → IsScenarioOf design scenario → TextIsTold
-    → Tells (opens design scenario programs) scenario.events end.All t [] sent → Says 0 (lines_text (finished_lines t) ++ sent) a
-    → IsWorldAnswer design scenario (opens design scenario programs) (status_of a) (text_of a)
-finished_says design scenario programs t sent a rules kept law tells says = inl (
-  says.0,
-  record {
-    after = t;
-    lines = tells.lines;
-    happen = tells.runs;
-    text_is = says.1 ∙ law (run_of design scenario) programs scenario.events t sent (rules_of design scenario rules kept) tells;
-  },
-)
+module _ (design : DesignParts) (scenario : Scenario) (programs : List CodeParts) (rules : IsDesign design) (kept : IsScenarioOf design scenario) where
+  finished_says : (t : BusValue) (sent : List ℕ) (a : Answer) → TextIsTold → EventsAreSteps
+      → Tells (opens design scenario programs) scenario.events end.All t [] sent → Says DONE (lines_text (finished_lines t) ++ sent) a
+      → IsWorldAnswer design scenario (status_of a) (text_of a)
+  finished_says t sent a law steps tells says = inl (
+    says.0,
+    record {
+      state = t.state;
+      journal = t.journal;
+      steps = steps (run_of design scenario) programs scenario.events end.All t tells.lines tells.runs;
+      text_is = says.1 ∙ law (run_of design scenario) programs scenario.events t sent (rules_of design scenario rules kept) tells;
+    },
+  )
 
-stopped_says : (design : DesignParts) (scenario : Scenario) (programs : List CodeParts) (why : Stop) (t : BusValue) (sent : List ℕ) (a : Answer) → IsDesign design → IsScenarioOf design scenario → StopIsTold
-    → Tells (opens design scenario programs) scenario.events (end.Stopped why) t [] sent → Says 6 (lines_text (common_lines t) ++ lines_text (map (entry_line t.run.design) t.journal)) a
-    → IsWorldAnswer design scenario (opens design scenario programs) (status_of a) (text_of a)
-stopped_says design scenario programs why t sent a rules kept law tells says =
-    let run : t.run ≡ run_of design scenario = stop_run (opens design scenario programs) t scenario.events why tells.lines tells.runs in
-    let rows : lines_text (common_lines t) ≡ report design scenario.env (finished_by_all (run_of design scenario) t.state) =
-    law (run_of design scenario) programs scenario.events why t sent (rules_of design scenario rules kept) tells in
-    inr (inl (
-      says.0,
-      record {
-        why = why;
-        after = t;
-        lines = tells.lines;
-        stops = tells.runs;
-        text_is =
-            says.1
-            ∙ ap (λ (xs : List ℕ). xs ++ lines_text (map (entry_line t.run.design) t.journal)) rows
-            ∙ ap (λ (r : Run). report design scenario.env (finished_by_all (run_of design scenario) t.state) ++ lines_text (map (entry_line r.design) t.journal)) run;
-      },
-    ))
+  stopped_says : (why : Stop) (t : BusValue) (sent : List ℕ) (a : Answer) → StopIsTold → EventsAreSteps
+      → Tells (opens design scenario programs) scenario.events (end.Stopped why) t [] sent
+      → Says STOPPED (lines_text (common_lines t) ++ lines_text (map (entry_line t.run.design) t.journal)) a
+      → IsWorldAnswer design scenario (status_of a) (text_of a)
+  stopped_says why t sent a law steps tells says =
+      let run : t.run ≡ run_of design scenario = stop_run (opens design scenario programs) t scenario.events why tells.lines tells.runs in
+      let rows : lines_text (common_lines t) ≡ report design scenario.env (finished_by_all (run_of design scenario) t.state) =
+      law (run_of design scenario) programs scenario.events why t sent (rules_of design scenario rules kept) tells in
+      inr (inl (
+        says.0,
+        record {
+          why = why;
+          state = t.state;
+          journal = t.journal;
+          stops = steps (run_of design scenario) programs scenario.events (end.Stopped why) t tells.lines tells.runs;
+          text_is =
+              says.1
+              ∙ ap (λ (xs : List ℕ). xs ++ lines_text (map (entry_line t.run.design) t.journal)) rows
+              ∙ ap (λ (r : Run). report design scenario.env (finished_by_all (run_of design scenario) t.state) ++ lines_text (map (entry_line r.design) t.journal)) run;
+        },
+      ))
 
-refused_says : (design : DesignParts) (scenario : Scenario) (programs : List CodeParts) (index : ℕ) (fault : EventFault) (t : BusValue) (sent : List ℕ) (a : Answer)
-    → Tells (opens design scenario programs) scenario.events (end.Refused index fault) t [] sent → Says 5 (event_fault_line t.run.design index fault ++ line_end) a
-    → IsWorldAnswer design scenario (opens design scenario programs) (status_of a) (text_of a)
-refused_says design scenario programs index fault t sent a tells says =
-    let refused : IsRefusedAt (opens design scenario programs) scenario.events index fault t tells.lines = tells.runs in
-    let run : t.run ≡ run_of design scenario = all_run (opens design scenario programs) t (take index scenario.events) tells.lines refused.happen in
-    let same : t.run.design ≡ design = ap (λ (r : Run). r.design) run in
-    inr (inr (
-      says.0,
-      record {
-        index = index;
-        fault = fault;
-        after = t;
-        lines = tells.lines;
-        refused = refused;
-        text_is = says.1 ∙ ap (λ (d : DesignParts). event_fault_line d index fault ++ line_end) same;
-      },
-    ))
+  refused_says : (index : ℕ) (fault : EventFault) (t : BusValue) (sent : List ℕ) (a : Answer) → EventsAreSteps
+      → Tells (opens design scenario programs) scenario.events (end.Refused index fault) t [] sent
+      → Says SCENARIO_REFUSED (event_fault_line t.run.design index fault ++ line_end) a → IsWorldAnswer design scenario (status_of a) (text_of a)
+  refused_says index fault t sent a steps tells says =
+      let refused : IsRefusedAt (opens design scenario programs) scenario.events index fault t tells.lines = tells.runs in
+      let run : t.run ≡ run_of design scenario = all_run (opens design scenario programs) t (take index scenario.events) tells.lines refused.happen in
+      let same : t.run.design ≡ design = ap (λ (r : Run). r.design) run in
+      inr (inr (
+        says.0,
+        record {
+          index = index;
+          fault = fault;
+          refused = steps (run_of design scenario) programs scenario.events (end.Refused index fault) t tells.lines tells.runs;
+          text_is = says.1 ∙ ap (λ (d : DesignParts). event_fault_line d index fault ++ line_end) same;
+        },
+      ))
 
 -- what a world leaves is an answer to its scenario
 abbrev Left : BusValue → List Event → BusValue → Answer → Type 0
 Left before events after a = (how : LooseEnd) × (sent : List ℕ) × Tells before events how after [] sent × Says (status_at how) (text_at how after sent) a
 
-left_by : (design : DesignParts) (scenario : Scenario) (programs : List CodeParts) (how : LooseEnd) (t : BusValue) (sent : List ℕ) (a : Answer) → IsDesign design → IsScenarioOf design scenario → TextIsTold → StopIsTold
-    → Tells (opens design scenario programs) scenario.events how t [] sent → Says (status_at how) (text_at how t sent) a
-    → IsWorldAnswer design scenario (opens design scenario programs) (status_of a) (text_of a)
-left_by design scenario programs end.All t sent a rules kept all stopped tells says = finished_says design scenario programs t sent a rules kept all tells says
-left_by design scenario programs (end.Stopped why) t sent a rules kept all stopped tells says = stopped_says design scenario programs why t sent a rules kept stopped tells says
-left_by design scenario programs (end.Refused index fault) t sent a rules kept all stopped tells says = refused_says design scenario programs index fault t sent a tells says
+left_by : (design : DesignParts) (scenario : Scenario) (programs : List CodeParts) (how : LooseEnd) (t : BusValue) (sent : List ℕ) (a : Answer) → IsDesign design → IsScenarioOf design scenario
+    → TextIsTold → StopIsTold → EventsAreSteps → Tells (opens design scenario programs) scenario.events how t [] sent → Says (status_at how) (text_at how t sent) a
+    → IsWorldAnswer design scenario (status_of a) (text_of a)
+left_by design scenario programs end.All t sent a rules kept all stopped steps tells says =
+    finished_says design scenario programs rules kept t sent a all steps tells says
+left_by design scenario programs (end.Stopped why) t sent a rules kept all stopped steps tells says =
+    stopped_says design scenario programs rules kept why t sent a stopped steps tells says
+left_by design scenario programs (end.Refused index fault) t sent a rules kept all stopped steps tells says =
+    refused_says design scenario programs rules kept index fault t sent a steps tells says
 
-pub left_says : {E : Type 0} (design : DesignParts) (scenario : Scenario) (programs : List CodeParts) (before after : BusValue) (events : List Event) (answered : Result Answer E) → IsDesign design → IsScenarioOf design scenario → TextIsTold → StopIsTold
+pub left_says : {E : Type 0} (design : DesignParts) (scenario : Scenario) (programs : List CodeParts) (before after : BusValue) (events : List Event) (answered : Result Answer E)
+    → IsDesign design → IsScenarioOf design scenario → TextIsTold → StopIsTold → EventsAreSteps
     → before ≡ opens design scenario programs → events ≡ scenario.events → IfOk answered (λ a. Left before events after a)
-    → IfOk answered (λ a. IsWorldAnswer design scenario (opens design scenario programs) (status_of a) (text_of a))
-left_says design scenario programs before after events (Ok a) rules kept all stopped same are left =
+    → IfOk answered (λ a. IsWorldAnswer design scenario (status_of a) (text_of a))
+left_says design scenario programs before after events (Ok a) rules kept all stopped steps same are left =
     let here : Left (opens design scenario programs) scenario.events after a =
     subst (λ (b : BusValue). Left b scenario.events after a) same (subst (λ (es : List Event). Left before es after a) are left) in
-    left_by design scenario programs here.0 after here.1 a rules kept all stopped here.2 here.3
-left_says design scenario programs before after events (Err e) rules kept all stopped same are left = tt
+    left_by design scenario programs here.0 after here.1 a rules kept all stopped steps here.2 here.3
+left_says design scenario programs before after events (Err e) rules kept all stopped steps same are left = tt

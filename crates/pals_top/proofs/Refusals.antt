@@ -6,11 +6,12 @@ use Rattle.bundle_designs.specs.RefusedTexts.{IsTextRefused}
 use Rattle.bundle_designs.specs.Accepted.{IsPackageRefused}
 use Rattle.bundle_designs.specs.Refusals.{IsTextRefusal, IsRefusal}
 use Rattle.pals_top.specs.declared.answer.Answer.{Answer}
+use Rattle.pals_top.specs.declared.status.TheConstants.{TEXT_REFUSED}
 use Rattle.pals_top.specs.Refusals.{IsBundleRefused, SaysWhy}
 use Rattle.pals_top.specs.Statuses.{status_of, text_of}
 
 pub text_refused : (bundle : List ℕ) (refusal : Refusal) (a : Answer) → IsTextRefusal bundle refusal → SaysWhy refusal a
-    → (status_of a ≡ 3) × IsTextRefused bundle (text_of a)
+    → (status_of a ≡ TEXT_REFUSED) × IsTextRefused bundle (text_of a)
 text_refused bundle (Text text) a is says = (says.0, subst (λ (w : List ℕ). IsTextRefused bundle w) (sym says.1) is)
 text_refused bundle (Design text) a is says = absurd is
 text_refused bundle Memory a is says = absurd says

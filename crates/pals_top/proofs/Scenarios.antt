@@ -9,12 +9,13 @@ use Rattle.scenario_json.specs.Scenarios.{Means}
 use Rattle.run_lines.specs.ScenarioFaults.{scenario_fault_line}
 use Rattle.pals_top.specs.declared.answer.Answer.{Answer}
 use Rattle.bundle_designs.specs.Accepted.{IsAccepted}
+use Rattle.pals_top.specs.declared.status.TheConstants.{SCENARIO_REFUSED}
 use Rattle.pals_top.specs.Statuses.{status_of, text_of}
 use Rattle.pals_top.specs.Sync.{IsSyncAnswer}
 
 pub scenario_refused : {E : Type 0} (root copy bundle : List ℕ) (design : DesignParts) (bytes : List ℕ) (fault : ScenarioFault) (answered : Result Answer E)
     → copy ≡ root → IsAccepted root bundle design bytes → (fault ≢ Memory → Means bytes design (Sync copy) (Err fault))
-    → IfOk answered (λ a. status_of a ≡ 5) → IfOk answered (λ a. text_of a ≡ scenario_fault_line fault ++ line_end) → IfOk answered (λ a. fault ≢ Memory)
+    → IfOk answered (λ a. status_of a ≡ SCENARIO_REFUSED) → IfOk answered (λ a. text_of a ≡ scenario_fault_line fault ++ line_end) → IfOk answered (λ a. fault ≢ Memory)
     → IfOk answered (λ a. IsSyncAnswer root bundle (status_of a) (text_of a))
 scenario_refused root copy bundle design bytes fault (Ok a) same accepted means status text named =
     inr (inr (

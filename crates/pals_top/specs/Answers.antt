@@ -2,6 +2,7 @@
 use Rattle.std.specs.Prelude.{◌≡◌, ℕ, List, Option, Some, None, ◌⊎◌, true}
 use Rattle.pals_runs.specs.declared.commands.Command.{Command}
 use Rattle.pals_runs.specs.declared.commands.Command.TheVariants.{Print, Check, Sync, World}
+use Rattle.pals_top.specs.declared.status.TheConstants.{USAGE}
 use Rattle.pals_top.specs.Outside.{Reading, HasRead, IsReadFault}
 use Rattle.pals_top.specs.Texts.{usage_line}
 use Rattle.pals_top.specs.Print.{IsPrintAnswer}
@@ -25,5 +26,5 @@ pub record IsBundleAnswer (command : Command) (seen : Reading) (status : ℕ) (t
 
 -- Words that are no form read nothing.
 abbrev pub IsAnswer : Option Command → Reading → ℕ → List ℕ → Type 0
-IsAnswer None seen status text = (status ≡ 2) × (text ≡ usage_line) × (seen.after ≡ seen.before)
+IsAnswer None seen status text = (status ≡ USAGE) × (text ≡ usage_line) × (seen.after ≡ seen.before)
 IsAnswer (Some command) seen status text = IsBundleAnswer command seen status text ⊎ IsReadFault seen status text

@@ -3,6 +3,7 @@ use Rattle.std.specs.Prelude.{◌≡◌, ℕ, List, ◌⊎◌}
 use Rattle.pals_model.specs.declared.design.DesignParts.{DesignParts}
 use Rattle.check_report.specs.CheckReports.{IsCheckReport}
 use Rattle.bundle_designs.specs.Accepted.{IsAccepted}
+use Rattle.pals_top.specs.declared.status.TheConstants.{DONE}
 use Rattle.pals_top.specs.Refusals.{IsBundleRefused}
 
 -- the report of the design that the bundle means
@@ -13,4 +14,4 @@ pub record IsChecked (root bundle text : List ℕ) : Type 0 where
   pub report : IsCheckReport design text
 
 abbrev pub IsCheckAnswer : List ℕ → List ℕ → ℕ → List ℕ → Type 0
-IsCheckAnswer root bundle status text = ((status ≡ 0) × IsChecked root bundle text) ⊎ IsBundleRefused root bundle status text
+IsCheckAnswer root bundle status text = ((status ≡ DONE) × IsChecked root bundle text) ⊎ IsBundleRefused root bundle status text

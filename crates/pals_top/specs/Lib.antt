@@ -1,5 +1,6 @@
 pub mod Answers
 pub mod Check
+pub mod Code
 pub mod Loose
 pub mod Outside
 pub mod Print

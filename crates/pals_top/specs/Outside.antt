@@ -2,6 +2,7 @@
 use Rattle.std.specs.Prelude.{◌≡◌, ℕ, ◌≤◌, List, length, ◌⊎◌}
 use Rattle.pals_base.specs.declared.limits.TheConstants.{BUNDLE_BYTES}
 use Rattle.pals_io.specs.Stream.{SourceView, GivesAll, GivesTooMany, FailsWithin}
+use Rattle.pals_top.specs.declared.status.TheConstants.{READ_FAULT, TOO_LONG}
 use Rattle.pals_top.specs.Texts.{read_fault_line, too_long_line}
 
 -- what a source shows before the call and after it
@@ -17,8 +18,8 @@ pub record HasRead (seen : Reading) (bytes : List ℕ) : Type 0 where
   pub all : GivesAll seen.before seen.after bytes
   pub within : length bytes ≤ BUNDLE_BYTES
 
--- 9: a call of the source failed. 12: the source had more bytes than a bundle may have.
+-- A call of the source failed, or the source had more bytes than a bundle may have.
 abbrev pub IsReadFault : Reading → ℕ → List ℕ → Type 0
 IsReadFault seen status text =
-    ((status ≡ 9) × FailsWithin seen.before seen.after BUNDLE_BYTES × (text ≡ read_fault_line))
-    ⊎ ((status ≡ 12) × GivesTooMany seen.before seen.after BUNDLE_BYTES × (text ≡ too_long_line))
+    ((status ≡ READ_FAULT) × FailsWithin seen.before seen.after BUNDLE_BYTES × (text ≡ read_fault_line))
+    ⊎ ((status ≡ TOO_LONG) × GivesTooMany seen.before seen.after BUNDLE_BYTES × (text ≡ too_long_line))

@@ -14,4 +14,4 @@ pub record IsPrinted (bundle text : List ℕ) : Type 0 where
   pub text_is : text ≡ canon tree
 
 abbrev pub IsPrintAnswer : List ℕ → ℕ → List ℕ → Type 0
-IsPrintAnswer bundle status text = ((status ≡ 0) × IsPrinted bundle text) ⊎ ((status ≡ 3) × IsTextRefused bundle text)
+IsPrintAnswer bundle status text = ((status ≡ DONE) × IsPrinted bundle text) ⊎ ((status ≡ TEXT_REFUSED) × IsTextRefused bundle text)

@@ -1,4 +1,4 @@
--- 5: a bundle whose scenario is refused.
+-- Bundles whose scenario is refused.
 use Rattle.std.specs.Prelude.{◌≡◌, ◌≢◌, ℕ, List, ◌++◌, Ok, Err}
 use Rattle.pals_model.specs.declared.design.DesignParts.{DesignParts}
 use Rattle.pals_model.specs.RoundTexts.{line_end}
@@ -9,6 +9,7 @@ use Rattle.scenario_json.specs.declared.scenario.Scenario.{Scenario}
 use Rattle.scenario_json.specs.Scenarios.{Means}
 use Rattle.run_lines.specs.ScenarioFaults.{scenario_fault_line}
 use Rattle.bundle_designs.specs.Accepted.{IsAccepted}
+use Rattle.pals_top.specs.declared.status.TheConstants.{SCENARIO_REFUSED}
 
 -- The bundle means this design and this scenario.
 pub record HasScenario (root bundle : List ℕ) (command : Command) (design : DesignParts) (scenario : Scenario) : Type 0 where
@@ -27,4 +28,4 @@ pub record HasScenarioFault (root bundle : List ℕ) (command : Command) (text :
   pub text_is : text ≡ scenario_fault_line fault ++ line_end
 
 abbrev pub IsScenarioRefused : List ℕ → List ℕ → Command → ℕ → List ℕ → Type 0
-IsScenarioRefused root bundle command status text = (status ≡ 5) × HasScenarioFault root bundle command text
+IsScenarioRefused root bundle command status text = (status ≡ SCENARIO_REFUSED) × HasScenarioFault root bundle command text

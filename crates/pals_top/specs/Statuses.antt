@@ -2,18 +2,19 @@
 use Rattle.std.specs.Prelude.{◌≡◌, ℕ, List}
 use Rattle.pals_top.specs.declared.answer.Answer.{Answer}
 use Rattle.pals_top.specs.declared.answer.Answer.TheVariants.{Done, Usage, TextRefused, DesignRefused, ScenarioRefused, Stopped, CodeTooLong, ReadFault, TooLong}
+use Rattle.pals_top.specs.declared.status.TheConstants.{DONE, USAGE, TEXT_REFUSED, DESIGN_REFUSED, SCENARIO_REFUSED, STOPPED, CODE_TOO_LONG, READ_FAULT, TOO_LONG}
 use Rattle.pals_top.specs.Texts.{usage_line, read_fault_line, too_long_line}
 
 abbrev pub status_of : Answer → ℕ
-status_of (Done text) = 0
-status_of Usage = 2
-status_of (TextRefused text) = 3
-status_of (DesignRefused text) = 4
-status_of (ScenarioRefused text) = 5
-status_of (Stopped text) = 6
-status_of (CodeTooLong text) = 13
-status_of ReadFault = 9
-status_of TooLong = 12
+status_of (Done text) = DONE
+status_of Usage = USAGE
+status_of (TextRefused text) = TEXT_REFUSED
+status_of (DesignRefused text) = DESIGN_REFUSED
+status_of (ScenarioRefused text) = SCENARIO_REFUSED
+status_of (Stopped text) = STOPPED
+status_of (CodeTooLong text) = CODE_TOO_LONG
+status_of ReadFault = READ_FAULT
+status_of TooLong = TOO_LONG
 
 abbrev pub text_of : Answer → List ℕ
 text_of (Done text) = text.items

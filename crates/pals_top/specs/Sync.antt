@@ -4,6 +4,7 @@ use Rattle.pals_model.specs.declared.design.DesignParts.{DesignParts}
 use Rattle.pals_model.specs.RoundTexts.{report}
 use Rattle.pals_runs.specs.declared.commands.Command.TheVariants.{Sync}
 use Rattle.scenario_json.specs.declared.scenario.Scenario.{Scenario}
+use Rattle.pals_top.specs.declared.status.TheConstants.{DONE}
 use Rattle.pals_top.specs.Refusals.{IsBundleRefused}
 use Rattle.pals_top.specs.Scenarios.{HasScenario, IsScenarioRefused}
 
@@ -16,6 +17,6 @@ pub record IsReported (root bundle text : List ℕ) : Type 0 where
 
 abbrev pub IsSyncAnswer : List ℕ → List ℕ → ℕ → List ℕ → Type 0
 IsSyncAnswer root bundle status text =
-    ((status ≡ 0) × IsReported root bundle text)
+    ((status ≡ DONE) × IsReported root bundle text)
     ⊎ IsBundleRefused root bundle status text
     ⊎ IsScenarioRefused root bundle (Sync root) status text

@@ -8,7 +8,7 @@ use Rattle.pals_top.specs.declared.words.WordsEnd.TheVariants.{Usage, Memory}
 
 -- no flag: it does not begin with `-`
 abbrev pub is_plain : List ℕ → Bool
-is_plain [] = not false
+is_plain [] = true
 is_plain (c ∷ cs) = not (nat_eq c 45)
 
 -- ---- flags may stand anywhere
@@ -43,10 +43,6 @@ form_by plain _ = None
 -- The command that the words are. No plain word begins with `-`.
 abbrev pub form : List (List ℕ) → Option Command
 form words = if list_all is_plain (plain_words words) then form_by (plain_words words) (flags words) else None
-
--- a word with a root and one flag
-abbrev pub flagged_form : List ℕ → List ℕ → List ℕ → Option Command
-flagged_form flag word root = if is_plain word && is_plain root then form_by (word ∷ root ∷ []) (flag ∷ []) else None
 
 -- the commands that have a form
 abbrev pub HasForm : Command → Type 0

@@ -4,6 +4,10 @@ ghost use Rattle.bundle_designs.specs.declared.refusal.Refusal.{Refusal};
 ghost use Rattle.pals_top.specs.Refusals.{SaysWhy};
 ghost use Rattle.pals_top.specs.Statuses.{status_of, text_of};
 
+use crate::status::{
+    CODE_TOO_LONG, DESIGN_REFUSED, DONE, READ_FAULT, SCENARIO_REFUSED, STOPPED, TEXT_REFUSED,
+    TOO_LONG, USAGE,
+};
 use bundle_designs::Refusal;
 use pals_base::NoMemory;
 use std::alloc::AllocError;
@@ -50,15 +54,15 @@ impl Answer {
         ensures { result ≡ status_of self.now }
     {
         match self {
-            Answer::Done(_) => 0,
-            Answer::Usage => 2,
-            Answer::TextRefused(_) => 3,
-            Answer::DesignRefused(_) => 4,
-            Answer::ScenarioRefused(_) => 5,
-            Answer::Stopped(_) => 6,
-            Answer::ReadFault => 9,
-            Answer::TooLong => 12,
-            Answer::CodeTooLong(_) => 13,
+            Answer::Done(_) => DONE,
+            Answer::Usage => USAGE,
+            Answer::TextRefused(_) => TEXT_REFUSED,
+            Answer::DesignRefused(_) => DESIGN_REFUSED,
+            Answer::ScenarioRefused(_) => SCENARIO_REFUSED,
+            Answer::Stopped(_) => STOPPED,
+            Answer::ReadFault => READ_FAULT,
+            Answer::TooLong => TOO_LONG,
+            Answer::CodeTooLong(_) => CODE_TOO_LONG,
         }
     }
 

@@ -7,8 +7,9 @@ mod loose;
 mod print;
 mod program;
 mod refused_scenario;
+pub mod status;
 mod sync;
 mod words;
 
-pub use program::{NO_MEMORY, pals};
+pub use program::pals;
 pub use words::{WordsEnd, read_words};

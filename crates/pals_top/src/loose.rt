@@ -15,7 +15,9 @@ ghost use Rattle.run_lines.specs.EventFaults.{event_fault_line};
 ghost use Rattle.world_report.specs.Finished.{finished_lines, common_lines};
 ghost use Rattle.bundle_designs.specs.Accepted.{IsAccepted};
 ghost use Rattle.loose_events.specs.Laws.{AreLooseEvents};
-ghost use Rattle.pals_top.specs.Loose.{run_of, code_fault_line, status_at, text_at, IsWorldAnswer, IsLooseAnswer};
+ghost use Rattle.pals_top.specs.declared.status.TheConstants.{CODE_TOO_LONG, DONE, SCENARIO_REFUSED, STOPPED};
+ghost use Rattle.pals_top.specs.Loose.{code_fault_line, IsWorldAnswer, IsLooseAnswer};
+ghost use Rattle.pals_top.specs.Code.{status_at, text_at};
 ghost use Rattle.pals_top.specs.Statuses.{status_of, text_of, Says};
 
 use crate::answer::Answer;
@@ -33,7 +35,7 @@ use scenario_json::{Scenario, read_scenario};
 use std::alloc::{AllocError, Global};
 use std::sync::Arc;
 use step_code::Code;
-use world_laws::laws::texts_are_told;
+use world_laws::laws::{events_are_steps, texts_are_told};
 use world_report::{OutLinks, add_finished, add_finished_by_all, add_journal};
 
 /// The answer of `world --loose` to a bundle.
@@ -93,7 +95,7 @@ fn code_too_long(
     node: NodeNo,
     length: u64,
 ) -> Result<Answer, NoMemory>
-    ensures { IfOk result (Says 13 (code_fault_line design.now node.0 length ++ line_end)) }
+    ensures { IfOk result (Says CODE_TOO_LONG (code_fault_line design.now node.0 length ++ line_end)) }
 {
     let mut line = Vec::new(alloc);
     add_code_fault(&mut line, design, node, length)?;
@@ -110,10 +112,11 @@ fn answer_scenario(
     requires codes { AreCodes design codes }
     requires kept { IsScenarioOf design scenario }
     requires events { AreLooseEvents design scenario.events }
-    ensures { IfOk result (λ answer. IsWorldAnswer design scenario (opening_bus (run_of design scenario) codes false) (status_of answer) (text_of answer)) }
+    ensures { IfOk result (λ answer. IsWorldAnswer design scenario (status_of answer) (text_of answer)) }
 {
     keeps_rules(&design);
     texts_are_told();
+    events_are_steps();
     let links = OutLinks::new(alloc, &design)?;
     let Scenario {
         rounds,
@@ -182,7 +185,7 @@ fn keeps_rules(design: &Design)
 
 // The rounds that some node has finished, and the messages that were sent.
 fn finished(alloc: Global, bus: &Bus, sent: &[u8]) -> Result<Answer, NoMemory>
-    ensures { IfOk result (Says 0 (lines_text (finished_lines bus.now) ++ sent.now)) }
+    ensures { IfOk result (Says DONE (lines_text (finished_lines bus.now) ++ sent.now)) }
 {
     let mut text = Vec::new(alloc);
     add_finished(alloc, &mut text, bus)?;
@@ -192,7 +195,7 @@ fn finished(alloc: Global, bus: &Bus, sent: &[u8]) -> Result<Answer, NoMemory>
 
 // The rounds that every node has finished, and the journal.
 fn stopped(alloc: Global, bus: &Bus) -> Result<Answer, NoMemory>
-    ensures { IfOk result (Says 6 (lines_text (common_lines bus.now) ++ lines_text (map (entry_line bus.now.run.design) bus.now.journal))) }
+    ensures { IfOk result (Says STOPPED (lines_text (common_lines bus.now) ++ lines_text (map (entry_line bus.now.run.design) bus.now.journal))) }
 {
     let mut text = Vec::new(alloc);
     add_finished_by_all(alloc, &mut text, bus)?;
@@ -207,7 +210,7 @@ fn refused_event(
     index: u32,
     fault: &EventFault,
 ) -> Result<Answer, NoMemory>
-    ensures { IfOk result (Says 5 (event_fault_line design.now index fault.now ++ line_end)) }
+    ensures { IfOk result (Says SCENARIO_REFUSED (event_fault_line design.now index fault.now ++ line_end)) }
 {
     let mut line = Vec::new(alloc);
     add_event_fault(&mut line, design, index, fault)?;

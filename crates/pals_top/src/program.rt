@@ -11,6 +11,7 @@ use crate::answer::Answer;
 use crate::check::answer_check;
 use crate::loose::answer_loose;
 use crate::print::answer_print;
+use crate::status::{NO_MEMORY, WRITE_FAULT};
 use crate::sync::answer_sync;
 use crate::words::{WordsEnd, read_words};
 use pals_base::limits::BUNDLE_BYTES;
@@ -18,12 +19,6 @@ use pals_base::{NoMemory, Text};
 use pals_io::{ReadEnd, Sink, Source, WriteFault, read_all, write_all};
 use pals_runs::Command;
 use std::alloc::{AllocError, Global};
-
-/// The status where the answer's text could not be written whole.
-const WRITE_FAULT: u8 = 10;
-
-/// The status where memory was wanting.
-pub const NO_MEMORY: u8 = 11;
 
 /// Does what the words say with the bytes of the source, writes the answer's text to the sink and
 /// returns its status.

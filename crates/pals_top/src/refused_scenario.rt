@@ -3,6 +3,7 @@ ghost use Rattle.std.specs.Prelude.{◌≡◌, ◌≢◌, ◌++◌, IfOk};
 ghost use Rattle.pals_model.specs.RoundTexts.{line_end};
 ghost use Rattle.run_lines.specs.ScenarioFaults.{scenario_fault_line};
 ghost use Rattle.scenario_values.specs.declared.fault.ScenarioFault.{ScenarioFault};
+ghost use Rattle.pals_top.specs.declared.status.TheConstants.{SCENARIO_REFUSED};
 ghost use Rattle.pals_top.specs.Statuses.{status_of, text_of};
 
 use crate::answer::Answer;
@@ -13,7 +14,7 @@ use std::alloc::{AllocError, Global};
 
 /// The answer to a scenario with this fault. Want of memory is no fault of a scenario, and goes on.
 pub fn refused_scenario(alloc: Global, fault: &ScenarioFault) -> Result<Answer, NoMemory>
-    ensures status { IfOk result (λ answer. status_of answer ≡ 5) }
+    ensures status { IfOk result (λ answer. status_of answer ≡ SCENARIO_REFUSED) }
     ensures text { IfOk result (λ answer. text_of answer ≡ scenario_fault_line fault.now ++ line_end) }
     ensures named { IfOk result (λ answer. fault.now ≢ ScenarioFault.Memory) }
 {

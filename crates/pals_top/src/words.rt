@@ -1,6 +1,7 @@
 //! The words of the command line.
 ghost use Rattle.std.specs.Prelude.{◌≡◌, [], ◌∷◌};
-ghost use Rattle.pals_top.specs.Words.{form, plain_form, rooted_form, flagged_form, is_flag, is_plain, IsRead};
+ghost use Rattle.pals_top.specs.Words.{form, plain_form, rooted_form, is_flag, is_plain, IsRead};
+ghost use Rattle.pals_top.specs.Code.{flagged_form};
 
 use pals_base::{Text, TryClone};
 use pals_runs::Command;

@@ -9,3 +9,4 @@ pub mod Texts
 pub mod Journals
 pub mod Alike
 pub mod Ends
+pub mod StepsOf

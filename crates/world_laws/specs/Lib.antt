@@ -5,3 +5,4 @@ pub mod Ends
 pub mod Journals
 pub mod Reports
 pub mod Laws
+pub mod Steps

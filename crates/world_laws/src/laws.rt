@@ -4,6 +4,7 @@ ghost use Rattle.world_laws.specs.Laws.{CommonRows, RoundsWithoutNodes, SendsAre
 ghost use Rattle.world_laws.specs.Ends.{EndsAlike, OneEnd};
 ghost use Rattle.world_laws.specs.Journals.{JournalReplays};
 ghost use Rattle.world_laws.specs.Reports.{WorldIsReported, WorldTextIsReported};
+ghost use Rattle.world_laws.specs.Steps.{EventsAreSteps};
 
 /// A finish adds one to the steps that its node has finished, a send one to the rounds that its node
 /// has sent, and every other event leaves both.
@@ -60,4 +61,10 @@ pub fn journals_are_replayed()
 pub fn one_end()
     ensures alike { EndsAlike }
     ensures opening { OneEnd }
+{}
+
+/// What happens on the bus of a run, whatever codes its nodes have, is steps of the bus machine from the
+/// run's opening on, and the journal has their entries.
+pub fn events_are_steps()
+    ensures { EventsAreSteps }
 {}

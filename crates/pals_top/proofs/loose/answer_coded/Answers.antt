@@ -7,8 +7,8 @@ answer_scenario-requires-clause-events c =
 
 pub returns-in-Ok : goal.returns-in-Ok
 returns-in-Ok c bundle accepted =
-    world_answered c.args.root.now c.in_ok-try_clone.field-0 bundle c.args.accepted.design c.args.accepted.scenario.now c.in-Ok.scenario c.args.codes c.answer_scenario.result
-    c.in_ok-try_clone.ensures accepted c.requires.short c.requires.codes c.in-Ok.ensures.answer c.answer_scenario.ensures
+    world_answered c.args.root.now c.in_ok-try_clone.field-0 bundle c.args.accepted.design c.args.accepted.scenario.now c.in-Ok.scenario c.answer_scenario.result
+    c.in_ok-try_clone.ensures accepted c.requires.short c.in-Ok.ensures.answer c.answer_scenario.ensures
 
 pub returns-in-Err : goal.returns-in-Err
 returns-in-Err c bundle accepted =
