@@ -6,6 +6,7 @@ use Rattle.pals_model.specs.declared.design.DesignParts.{DesignParts}
 use Rattle.pals_model.specs.RoundTexts.{line_end}
 use Rattle.step_code.specs.Capped.{capped}
 use Rattle.design_codes.specs.Causes.{length_of, AreShort, IsFirstTooLong}
+use Rattle.scenario_json.specs.declared.scenario.Scenario.{Scenario}
 use Rattle.loose_events.specs.Laws.{loosely}
 use Rattle.world_laws.specs.Ends.{OneEnd}
 use Rattle.bundle_designs.specs.Accepted.{IsAccepted}
@@ -67,9 +68,9 @@ module _ (one_design : OneDesign) (root bundle : List ℕ) where
   worlds_agree : OneEnd → (s t : ℕ) (a b : List ℕ) → IsWorldOf root bundle s a → IsWorldOf root bundle t b → (s ≡ t) × (a ≡ b)
   worlds_agree one_end s t a b x y =
       let same = one_meaning one_design root bundle (loosely root) x.design y.design x.scenario y.scenario x.means y.means in
-      let first = end_of x.design x.scenario x.programs s a x.answer in
-      let moved = subst (λ sc. IsEnd y.design sc x.programs s a) same.1 (subst (λ d. IsEnd d x.scenario x.programs s a) same.0 first) in
-      one_world one_end y.design y.scenario x.programs y.programs s t a b moved (end_of y.design y.scenario y.programs t b y.answer)
+      let first = end_of x.design x.scenario s a x.answer in
+      let moved = subst (λ (sc : Scenario). IsEnd y.design sc s a) same.1 (subst (λ (d : DesignParts). IsEnd d x.scenario s a) same.0 first) in
+      one_world one_end y.design y.scenario s t a b moved (end_of y.design y.scenario t b y.answer)
 
   -- ---- two of them
   long_or_refused : (s t : ℕ) (a b : List ℕ) → IsCodeTooLong root bundle s a → IsScenarioRefusedIn root bundle t b → ⊥

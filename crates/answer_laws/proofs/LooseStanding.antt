@@ -1,20 +1,19 @@
 -- The status of an answer of `world --loose` by what the bundle has.
-use Rattle.std.proofs.Common.{◌≡◌, ◌∙◌, ◌⊎◌, ◌↔◌, inl, inr, ℕ, nat_eq, false, List, refl, sym, ap, subst}
+use Rattle.std.proofs.Common.{◌≡◌, ◌∙◌, ◌⊎◌, ◌↔◌, inl, inr, ℕ, nat_eq, List, refl, sym, ap, subst}
 use Rattle.std.specs.Prelude.{MatchBool}
 use Rattle.pals_model.specs.declared.design.DesignParts.{DesignParts}
 use Rattle.scenario_json.specs.declared.scenario.Scenario.{Scenario}
-use Rattle.bus_fields.specs.Values.{opening_bus}
 use Rattle.loose_world.specs.declared.LooseEnd.{LooseEnd}
 use Rattle.loose_world.specs.declared.LooseEnd.TheVariants as end
-use Rattle.loose_world.specs.Worlds.{RunsLoosely}
 use Rattle.loose_events.specs.Laws.{loosely}
 use Rattle.world_laws.specs.Ends.{OneEnd}
-use Rattle.pals_top.specs.Loose.{run_of, status_at, IsScenarioRefusedIn, IsWorldOf, IsLooseAnswer}
-use Rattle.answer_laws.specs.Meanings.{HasTree, MeansDesign, MeansScenario, HasLongCode, LacksLooseScenario, WorldEnds, HasWorld, HasStop, HasRefusedEvent}
+use Rattle.pals_top.specs.Code.{status_at}
+use Rattle.pals_top.specs.Loose.{run_of, IsScenarioRefusedIn, IsWorldOf, IsLooseAnswer}
+use Rattle.answer_laws.specs.Meanings.{HasTree, MeansDesign, MeansScenario, HasLongCode, LacksLooseScenario, EventsEnd, WorldEnds, HasWorld, HasStop, HasRefusedEvent}
 use Rattle.answer_laws.proofs.Laws.{OneDesign}
 use Rattle.answer_laws.proofs.Standing.{no_tree, no_design, refused_tree, has_tree}
 use Rattle.answer_laws.proofs.Scenarios.{one_meaning, meant_or_refused}
-use Rattle.answer_laws.proofs.Worlds.{end_of}
+use Rattle.answer_laws.proofs.Worlds.{end_of, one_how}
 use Rattle.answer_laws.proofs.Loose.{long_code, long_or_short}
 
 module _ (root bundle : List ℕ) where
@@ -90,11 +89,8 @@ module _ (one_design : OneDesign) (one_end : OneEnd) (root bundle : List ℕ) wh
 
   ends_at : (s : ℕ) (a : List ℕ) → IsWorldOf root bundle s a → EndsAt root bundle s
   ends_at s a x =
-      let e = end_of x.design x.scenario x.programs s a x.answer in (
-        e.how,
-        e.status_is,
-        record { design = x.design; scenario = x.scenario; means = x.means; short = x.short; codes = x.programs; after = e.after; lines = e.lines; runs = e.runs },
-      )
+      let e = end_of x.design x.scenario s a x.answer in
+      (e.how, e.status_is, record { design = x.design; scenario = x.scenario; means = x.means; short = x.short; ends = e.ends })
 
   pub stands : (s : ℕ) (a : List ℕ) → IsLooseAnswer root bundle s a → Stands root bundle s
   stands s a (inl (inl x)) = inl (x.0, no_tree bundle a x.1)
@@ -104,15 +100,15 @@ module _ (one_design : OneDesign) (one_end : OneEnd) (root bundle : List ℕ) wh
   stands s a (inr (inr (inr x))) = inr (inr (inr (inr (ends_at s a x))))
 
   -- ---- a bundle stands at one status
-  one_how : (how other : LooseEnd) → WorldEnds root bundle how → WorldEnds root bundle other → how ≡ other
-  one_how how other x y =
+  same_how : (how other : LooseEnd) → WorldEnds root bundle how → WorldEnds root bundle other → how ≡ other
+  same_how how other x y =
       let same = one_meaning one_design root bundle (loosely root) x.design y.design x.scenario y.scenario x.means y.means in
-      let Runs : DesignParts → Scenario → Type 0 = λ d sc. RunsLoosely (opening_bus (run_of d sc) x.codes false) sc.events how x.after x.lines in
-      let runs : Runs y.design y.scenario = subst (λ sc. Runs y.design sc) same.1 (subst (λ d. Runs d x.scenario) same.0 x.runs) in
-      (one_end (run_of y.design y.scenario) x.codes y.codes y.scenario.events x.after y.after how other x.lines y.lines runs y.runs).end
+      let Ends : DesignParts → Scenario → Type 0 = λ d sc. EventsEnd (run_of d sc) sc.events how in
+      let ends : Ends y.design y.scenario = subst (λ sc. Ends y.design sc) same.1 (subst (λ d. Ends d x.scenario) same.0 x.ends) in
+      one_how one_end (run_of y.design y.scenario) y.scenario.events how other ends y.ends
 
   same_end : (s t : ℕ) → EndsAt root bundle s → EndsAt root bundle t → s ≡ t
-  same_end s t x y = x.1 ∙ ap status_at (one_how x.0 y.0 x.2 y.2) ∙ sym y.1
+  same_end s t x y = x.1 ∙ ap status_at (same_how x.0 y.0 x.2 y.2) ∙ sym y.1
 
   same_scenario : (s t : ℕ) → WithCodes root bundle s → WithCodes root bundle t → s ≡ t
   same_scenario s t (inl x) (inl y) = x.0 ∙ sym y.0

@@ -1,64 +1,79 @@
 -- What the events of a scenario give in a loose world is one.
-use Rattle.std.proofs.Common.{◌≡◌, ◌∙◌, inl, inr, ℕ, false, List, ◌++◌, refl, sym, ap}
+use Rattle.std.proofs.Common.{◌≡◌, ◌∙◌, inl, inr, ℕ, List, [], ◌++◌, refl, sym, ap}
 use Rattle.std.specs.Prelude.{map}
-use Rattle.step_code.specs.declared.instr.CodeParts.{CodeParts}
 use Rattle.pals_model.specs.declared.design.DesignParts.{DesignParts}
 use Rattle.pals_model.specs.RoundTexts.{line_end, text_of, report}
+use Rattle.pals_runs.specs.declared.events.Event.{Event}
+use Rattle.pals_runs.specs.declared.journal.JournalEntry.{JournalEntry}
 use Rattle.pals_runs.specs.Journal.{entry_line}
 use Rattle.scenario_json.specs.declared.scenario.Scenario.{Scenario}
+use Rattle.bus_machine.specs.States.{Run, BusState, opening}
+use Rattle.bus_machine.specs.Traces.{finished_by_all}
 use Rattle.bus_machine.specs.WorldTexts.{worldtext}
-use Rattle.bus_fields.specs.Values.{BusValue, opening_bus}
-use Rattle.world_report.specs.Finished.{finished, common_rounds}
 use Rattle.run_lines.specs.EventFaults.{event_fault_line}
 use Rattle.loose_world.specs.declared.LooseEnd.{LooseEnd}
 use Rattle.loose_world.specs.declared.LooseEnd.TheVariants as end
-use Rattle.loose_world.specs.Worlds.{RunsLoosely}
-use Rattle.world_laws.specs.Ends.{AreAlike, AreOneEnd, OneEnd}
-use Rattle.pals_top.specs.Loose.{run_of, IsWorldAnswer, status_at}
+use Rattle.world_laws.specs.Steps.{StepsTo}
+use Rattle.world_laws.specs.Ends.{IsOneLeft, AreOneEnd, OneEnd}
+use Rattle.pals_top.specs.Code.{status_at}
+use Rattle.pals_top.specs.Loose.{run_of, IsWorldAnswer}
+use Rattle.answer_laws.specs.Meanings.{EventsEnd}
 
--- the text that tells how the events of a scenario end
-abbrev pub told_at : DesignParts → Scenario → LooseEnd → BusValue → List ℕ
-told_at design scenario end.All after = worldtext design scenario.env scenario.events
-told_at design scenario (end.Stopped why) after =
-    report design scenario.env (common_rounds (finished after)) ++ text_of (map (entry_line design) after.journal)
-told_at design scenario (end.Refused index fault) after = event_fault_line design index fault ++ line_end
+-- ---- the ends of a run
+-- the end, with what is left there
+abbrev pub Leaves : Run → List Event → LooseEnd → Type 0
+Leaves run events how = (t : BusState) × (journal : List JournalEntry) × StepsTo run events how t journal
+
+-- where an event is not allowed, nothing is said of what is left
+abbrev pub leaves : (run : Run) (events : List Event) (how : LooseEnd) → EventsEnd run events how → Leaves run events how
+leaves run events end.All x = x
+leaves run events (end.Stopped why) x = x
+leaves run events (end.Refused index fault) x = (opening run, [], x)
+
+pub one_how : OneEnd → (run : Run) (events : List Event) (how other : LooseEnd) → EventsEnd run events how → EventsEnd run events other → how ≡ other
+one_how one_end run events how other x y =
+    let one = leaves run events how x in
+    let two = leaves run events other y in
+    (one_end run events how other one.0 two.0 one.1 two.1 one.2 two.2).end
+
+-- ---- answers
+-- the text that tells how the events of a run end
+abbrev told_at : Run → List Event → LooseEnd → BusState → List JournalEntry → List ℕ
+told_at run events end.All t journal = worldtext run.design run.env events
+told_at run events (end.Stopped why) t journal = report run.design run.env (finished_by_all run t) ++ text_of (map (entry_line run.design) journal)
+told_at run events (end.Refused index fault) t journal = event_fault_line run.design index fault ++ line_end
 
 -- an answer is how the events end, with its status and its text
-pub record IsEnd (design : DesignParts) (scenario : Scenario) (codes : List CodeParts) (status : ℕ) (text : List ℕ) : Type 0 where
+pub record IsEnd (design : DesignParts) (scenario : Scenario) (status : ℕ) (text : List ℕ) : Type 0 where
   pub how : LooseEnd
-  pub after : BusValue
-  pub lines : List (List ℕ)
-  pub runs : RunsLoosely (opening_bus (run_of design scenario) codes false) scenario.events how after lines
+  pub ends : EventsEnd (run_of design scenario) scenario.events how
   pub status_is : status ≡ status_at how
-  pub text_is : text ≡ told_at design scenario how after
+  pub text_is :
+      let left = leaves (run_of design scenario) scenario.events how ends in
+      text ≡ told_at (run_of design scenario) scenario.events how left.0 left.1
 
-pub end_of : (design : DesignParts) (scenario : Scenario) (codes : List CodeParts) (s : ℕ) (a : List ℕ)
-    → IsWorldAnswer design scenario (opening_bus (run_of design scenario) codes false) s a → IsEnd design scenario codes s a
-end_of design scenario codes s a (inl x) =
-    record { how = end.All; after = x.1.after; lines = x.1.lines; runs = x.1.happen; status_is = x.0; text_is = x.1.text_is }
-end_of design scenario codes s a (inr (inl x)) =
-    record { how = end.Stopped x.1.why; after = x.1.after; lines = x.1.lines; runs = x.1.stops; status_is = x.0; text_is = x.1.text_is }
-end_of design scenario codes s a (inr (inr x)) = record {
-  how = end.Refused x.1.index x.1.fault;
-  after = x.1.after;
-  lines = x.1.lines;
-  runs = x.1.refused;
-  status_is = x.0;
-  text_is = x.1.text_is;
-}
+pub end_of : (design : DesignParts) (scenario : Scenario) (s : ℕ) (a : List ℕ) → IsWorldAnswer design scenario s a → IsEnd design scenario s a
+end_of design scenario s a (inl x) =
+    record { how = end.All; ends = (x.1.state, x.1.journal, x.1.steps); status_is = x.0; text_is = x.1.text_is }
+end_of design scenario s a (inr (inl x)) =
+    record { how = end.Stopped x.1.why; ends = (x.1.state, x.1.journal, x.1.stops); status_is = x.0; text_is = x.1.text_is }
+end_of design scenario s a (inr (inr x)) =
+    record { how = end.Refused x.1.index x.1.fault; ends = x.1.refused; status_is = x.0; text_is = x.1.text_is }
 
--- buses that are alike are told alike
-told_alike : (design : DesignParts) (scenario : Scenario) (how : LooseEnd) (u v : BusValue) → AreAlike u v
-    → told_at design scenario how u ≡ told_at design scenario how v
-told_alike design scenario end.All u v same = refl
-told_alike design scenario (end.Stopped why) u v same =
-    λ i. told_at design scenario (end.Stopped why) (record u { run = same.run i; state = same.state i; journal = same.journal i })
-told_alike design scenario (end.Refused index fault) u v same = refl
+-- what is left there is told alike
+told_alike : (run : Run) (events : List Event) (how : LooseEnd) (t u : BusState) (journal more : List JournalEntry) → IsOneLeft how t u journal more
+    → told_at run events how t journal ≡ told_at run events how u more
+told_alike run events end.All t u journal more same = refl
+told_alike run events (end.Stopped why) t u journal more same = λ i. told_at run events (end.Stopped why) (same.0 i) (same.1 i)
+told_alike run events (end.Refused index fault) t u journal more same = refl
 
-pub one_world : OneEnd → (design : DesignParts) (scenario : Scenario) (codes programs : List CodeParts) (s t : ℕ) (a b : List ℕ)
-    → IsEnd design scenario codes s a → IsEnd design scenario programs t b → (s ≡ t) × (a ≡ b)
-one_world one_end design scenario codes programs s t a b x y =
-    let both : AreOneEnd x.how y.how x.after y.after x.lines y.lines =
-    one_end (run_of design scenario) codes programs scenario.events x.after y.after x.how y.how x.lines y.lines x.runs y.runs in
-    let text = ap (λ how. told_at design scenario how x.after) both.end ∙ told_alike design scenario y.how x.after y.after both.buses in
-    (x.status_is ∙ ap status_at both.end ∙ sym y.status_is, x.text_is ∙ text ∙ sym y.text_is)
+pub one_world : OneEnd → (design : DesignParts) (scenario : Scenario) (s t : ℕ) (a b : List ℕ) → IsEnd design scenario s a → IsEnd design scenario t b
+    → (s ≡ t) × (a ≡ b)
+one_world one_end design scenario s t a b x y =
+    let run : Run = run_of design scenario in
+    let events : List Event = scenario.events in
+    let one : Leaves run events x.how = leaves run events x.how x.ends in
+    let two : Leaves run events y.how = leaves run events y.how y.ends in
+    let both : AreOneEnd x.how y.how one.0 two.0 one.1 two.1 = one_end run events x.how y.how one.0 two.0 one.1 two.1 one.2 two.2 in
+    let told = told_alike run events x.how one.0 two.0 one.1 two.1 both.left ∙ ap (λ (how : LooseEnd). told_at run events how two.0 two.1) both.end in
+    (x.status_is ∙ (ap status_at both.end ∙ sym y.status_is), x.text_is ∙ (told ∙ sym y.text_is))

@@ -1,18 +1,19 @@
 -- What a bundle has: a text of the grammar, a design, a scenario, a loose world.
-use Rattle.std.specs.Prelude.{ℕ, ◌<◌, false, List, length}
+use Rattle.std.specs.Prelude.{ℕ, ◌<◌, List, length}
 use Rattle.pals_base.specs.declared.limits.TheConstants.{INSTRUCTIONS}
-use Rattle.step_code.specs.declared.instr.CodeParts.{CodeParts}
 use Rattle.pals_model.specs.declared.design.DesignParts.{DesignParts}
 use Rattle.pals_runs.specs.declared.commands.Command.{Command}
+use Rattle.pals_runs.specs.declared.events.Event.{Event}
 use Rattle.pals_runs.specs.declared.events.EventFault.{EventFault}
+use Rattle.pals_runs.specs.declared.journal.JournalEntry.{JournalEntry}
 use Rattle.pals_runs.specs.declared.journal.Stop.{Stop}
 use Rattle.aadl_tree.specs.Declarations.{PackageTree}
 use Rattle.scenario_json.specs.declared.scenario.Scenario.{Scenario}
-use Rattle.bus_fields.specs.Values.{BusValue, opening_bus}
+use Rattle.bus_machine.specs.States.{Run, BusState, opening}
 use Rattle.design_codes.specs.Causes.{length_of, AreShort}
 use Rattle.loose_world.specs.declared.LooseEnd.{LooseEnd}
 use Rattle.loose_world.specs.declared.LooseEnd.TheVariants as end
-use Rattle.loose_world.specs.Worlds.{RunsLoosely}
+use Rattle.world_laws.specs.Steps.{AllStep, StepsToStop, StepsToFault}
 use Rattle.loose_events.specs.Laws.{loosely}
 use Rattle.bundle_designs.specs.Parsed.{IsParsed}
 use Rattle.bundle_designs.specs.Accepted.{IsAccepted}
@@ -48,17 +49,20 @@ pub record HasLongCode (root bundle : List ℕ) : Type 0 where
 abbrev pub LacksLooseScenario : List ℕ → List ℕ → Type 0
 LacksLooseScenario root bundle = MeansDesign root bundle × (HasLongCode root bundle → ⊥) × (MeansScenario root bundle (loosely root) → ⊥)
 
--- It has such a scenario, no step code is too long, and the scenario's events end so from the opening of their run on; which
--- codes the nodes have does not matter.
+-- The events of a run end so, from its opening on: each is a step of the bus machine and none gives a stop; or one gives this
+-- stop; or the one of this index is not allowed, for this fault, and none before it gives a stop.
+abbrev pub EventsEnd : Run → List Event → LooseEnd → Type 0
+EventsEnd run events end.All = (t : BusState) × (journal : List JournalEntry) × AllStep run (opening run) events t journal
+EventsEnd run events (end.Stopped why) = (t : BusState) × (journal : List JournalEntry) × StepsToStop run events why t journal
+EventsEnd run events (end.Refused index fault) = StepsToFault run events index fault
+
+-- It has such a scenario, no step code is too long, and the events of the scenario end so.
 pub record WorldEnds (root bundle : List ℕ) (how : LooseEnd) : Type 0 where
   pub design : DesignParts
   pub scenario : Scenario
   pub means : HasScenario root bundle (loosely root) design scenario
   pub short : AreShort design
-  pub codes : List CodeParts
-  pub after : BusValue
-  pub lines : List (List ℕ)
-  pub runs : RunsLoosely (opening_bus (run_of design scenario) codes false) scenario.events how after lines
+  pub ends : EventsEnd (run_of design scenario) scenario.events how
 
 -- each event happens, and none gives a stop
 abbrev pub HasWorld : List ℕ → List ℕ → Type 0

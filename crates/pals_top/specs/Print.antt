@@ -4,6 +4,7 @@ use Rattle.aadl_tree.specs.Declarations.{PackageTree}
 use Rattle.aadl_tree.specs.Canon.{canon}
 use Rattle.bundle_designs.specs.Parsed.{IsParsed}
 use Rattle.bundle_designs.specs.RefusedTexts.{IsTextRefused}
+use Rattle.pals_top.specs.declared.status.TheConstants.{DONE, TEXT_REFUSED}
 
 -- The design text has a tree, and the text is its canonical text.
 pub record IsPrinted (bundle text : List ℕ) : Type 0 where

@@ -7,6 +7,6 @@ pub mod Sends
 pub mod Reports
 pub mod Texts
 pub mod Journals
-pub mod Alike
+pub mod Faults
 pub mod Ends
 pub mod StepsOf

@@ -1,10 +1,10 @@
 //! Laws of loose worlds. The functions do nothing: their contracts are the laws.
 ghost use Rattle.world_laws.specs.Laws.{StepCounts, EventsAgree, RoundsAreFinished, RoundsAreSent, FinishedRows};
 ghost use Rattle.world_laws.specs.Laws.{CommonRows, RoundsWithoutNodes, SendsAreInFlight, LinesAreTold, TextIsTold, StopIsTold};
-ghost use Rattle.world_laws.specs.Ends.{EndsAlike, OneEnd};
 ghost use Rattle.world_laws.specs.Journals.{JournalReplays};
 ghost use Rattle.world_laws.specs.Reports.{WorldIsReported, WorldTextIsReported};
 ghost use Rattle.world_laws.specs.Steps.{EventsAreSteps};
+ghost use Rattle.world_laws.specs.Ends.{OneEnd};
 
 /// A finish adds one to the steps that its node has finished, a send one to the rounds that its node
 /// has sent, and every other event leaves both.
@@ -55,16 +55,15 @@ pub fn journals_are_replayed()
     ensures { JournalReplays }
 {}
 
-/// A list of loose events ends in one way: with one stop, or with one event that is not allowed and its
-/// fault, or with neither; at one state, with one journal, and with the same lines. The codes of the
-/// nodes do not matter.
-pub fn one_end()
-    ensures alike { EndsAlike }
-    ensures opening { OneEnd }
-{}
-
 /// What happens on the bus of a run, whatever codes its nodes have, is steps of the bus machine from the
 /// run's opening on, and the journal has their entries.
 pub fn events_are_steps()
     ensures { EventsAreSteps }
+{}
+
+/// A list of loose events ends in one way: with one stop, or with one event that is not allowed and its
+/// fault, or with neither. Where all events are steps, or one gives a stop, they lead to one state, and
+/// leave one journal.
+pub fn one_end()
+    ensures { OneEnd }
 {}
