@@ -1,10 +1,10 @@
-//! One node, call by call.
+//! Nodes, call by call.
 ghost use Rattle.std.specs.Prelude.{◌≡◌, ◌≤◌, IfOk};
 ghost use Rattle.pals_base.specs.declared.limits.TheConstants.{ROUNDS};
 
 use crate::designs::{TURN, TWO_COUNTERS, design_of};
-use pals_base::{Items, Nanos, NodeNo, Port, Tuple};
-use pals_node::{FinishEnd, Finished, Node, NodePlan, SendEnd, StartEnd, StepEnd};
+use pals_base::{Nanos, NodeNo, Port};
+use pals_node::{FinishEnd, Finished, Job, Node, NodePlan, SendEnd, StartEnd, StepEnd};
 use pals_runs::Phase;
 use std::alloc::Global;
 use std::process::Abort;
@@ -33,133 +33,154 @@ fn opening_node(
     Ok(Node::new(alloc, Arc::new(alloc, plan)?, rounds)?)
 }
 
-// Why a start gives no job, or nothing where it gives one.
-fn start_end(node: &mut Node, reading: Option<Nanos>) -> Option<StartEnd> {
-    node.start(&[], reading).err()
+// A call at a reading, and what it gives.
+#[derive(Clone, Copy)]
+enum Row {
+    /// A start that gives a job, which is run and used.
+    Start(Nanos),
+    /// The step of this number that gives a job, which is run and used.
+    Step(u32, Nanos),
+    /// A send of one message.
+    Send(Nanos, &'static [Port]),
+    NoStart(Nanos, StartEnd),
+    NoStep(Nanos, StepEnd),
+    NoSend(Nanos, SendEnd),
+    /// How many rounds the node has started, what it does, and which reading it waits for.
+    Stands(u32, Phase, Option<Nanos>),
 }
 
-// Why a step gives no job, or nothing where it gives one.
-fn step_end(node: &mut Node, reading: Nanos) -> Option<StepEnd> {
-    node.step(Some(reading)).err()
-}
-
-// Why a send sends nothing, or nothing where it sends.
-fn send_end(node: &mut Node, reading: Option<Nanos>) -> Option<SendEnd> {
-    node.send(reading).err()
-}
-
-// The one message that a send gives.
-fn message(rt: &impl Abort, node: &mut Node, reading: Nanos) -> Result<Tuple, Fail> {
-    let mut messages = node.send(Some(reading))?.into_vec();
-    let Some(message) = messages.pop() else {
-        panic!(rt; "no link goes from the node");
-    };
-    assert!(rt; messages.is_empty());
-    Ok(message)
-}
-
-// A start at a reading, whose job is run and used.
-fn start_and_finish(rt: &impl Abort, node: &mut Node, reading: Nanos) -> Result<(), Fail> {
-    let job = node.start(&[], Some(reading))?;
-    assert_eq!(rt; (job.round(), job.step()), (0, 0));
-    assert_eq!(rt; node.finish(job.run()), Ok(Finished::Used));
+// A node does what rows say, and gives what they say.
+fn assert_rows(rt: &impl Abort, node: &mut Node, rows: &[Row]) -> Result<(), Fail> {
+    for row in rows {
+        assert_row(rt, node, *row)?;
+    }
     Ok(())
 }
 
-// The step of this number at a reading, whose job is run and used.
-fn step_and_finish(
-    rt: &impl Abort,
-    node: &mut Node,
-    step: u32,
-    reading: Nanos,
-) -> Result<(), Fail> {
-    let job = node.step(Some(reading))?;
-    assert_eq!(rt; (job.round(), job.step()), (0, step));
-    assert_eq!(rt; node.finish(job.run()), Ok(Finished::Used));
+fn assert_row(rt: &impl Abort, node: &mut Node, row: Row) -> Result<(), Fail> {
+    match row {
+        Row::Start(at) => {
+            let job = node.start(&[], Some(at))?;
+            assert_used(rt, node, job, 0)
+        }
+        Row::Step(step, at) => {
+            let job = node.step(Some(at))?;
+            assert_used(rt, node, job, step)
+        }
+        Row::Send(at, message) => assert_sent(rt, node, at, message),
+        Row::NoStart(at, end) => {
+            assert_no_start(rt, node, at, end);
+            Ok(())
+        }
+        Row::NoStep(at, end) => {
+            assert_no_step(rt, node, at, end);
+            Ok(())
+        }
+        Row::NoSend(at, end) => {
+            assert_no_send(rt, node, at, end);
+            Ok(())
+        }
+        Row::Stands(count, phase, target) => {
+            assert_eq!(rt; node.count(), count);
+            assert_eq!(rt; node.phase(), phase);
+            assert_eq!(rt; node.target(), target);
+            Ok(())
+        }
+    }
+}
+
+// While the job of a step is out no other is given, and it is used once.
+fn assert_used(rt: &impl Abort, node: &mut Node, job: Job, step: u32) -> Result<(), Fail> {
+    assert_eq!(rt; job.step(), step);
+    assert_no_start(rt, node, u64::MAX, StartEnd::Busy);
+    assert_no_step(rt, node, u64::MAX, StepEnd::NotBetween);
+    assert_eq!(rt; node.finish(job.run())?, Finished::Used);
+    assert_eq!(rt; node.finish_here(), Err(FinishEnd::NotRunning));
     Ok(())
 }
+
+fn assert_sent(rt: &impl Abort, node: &mut Node, at: Nanos, message: &[Port]) -> Result<(), Fail> {
+    let sent = node.send(Some(at))?;
+    assert_eq!(rt; sent.len(), 1);
+    assert_eq!(rt; sent[0].as_slice(), message);
+    Ok(())
+}
+
+fn assert_no_start(rt: &impl Abort, node: &mut Node, at: Nanos, end: StartEnd) {
+    assert_eq!(rt; node.start(&[], Some(at)).err(), Some(end));
+}
+
+fn assert_no_step(rt: &impl Abort, node: &mut Node, at: Nanos, end: StepEnd) {
+    assert_eq!(rt; node.step(Some(at)).err(), Some(end));
+}
+
+fn assert_no_send(rt: &impl Abort, node: &mut Node, at: Nanos, end: SendEnd) {
+    assert_eq!(rt; node.send(Some(at)).err(), Some(end));
+}
+
+const COUNTER: [Row; 7] = [
+    Row::NoStart(8_999_999, StartEnd::NotYet { alarm: 9_000_000 }),
+    Row::NoSend(8_999_999, SendEnd::NotFinished),
+    Row::Start(9_000_000),
+    Row::NoSend(
+        9_999_999,
+        SendEnd::NotYet {
+            release: 10_000_000,
+        },
+    ),
+    Row::Send(10_000_000, &[Port::Present(1)]),
+    Row::NoStart(18_000_000, StartEnd::Over),
+    Row::Stands(1, Phase::Done, None),
+];
 
 #[test]
 fn counter_starts_and_sends_in_time(rt: HostRuntime) -> Result<(), Fail> {
     let mut node = opening_node(&rt, rt.alloc(), TWO_COUNTERS, 0, 1)?;
-    let not_yet = StartEnd::NotYet { alarm: 9_000_000 };
-    assert_eq!(rt; start_end(&mut node, Some(8_999_999)), Some(not_yet));
-    assert_eq!(rt; send_end(&mut node, None), Some(SendEnd::NotFinished));
-    start_and_finish(&rt, &mut node, 9_000_000)?;
-    assert_eq!(rt; node.finish_here(), Err(FinishEnd::NotRunning));
-    assert_eq!(rt; node.target(), Some(10_000_000));
-    let not_yet = SendEnd::NotYet {
-        release: 10_000_000,
-    };
-    assert_eq!(rt; send_end(&mut node, Some(9_999_999)), Some(not_yet));
-    let sent = message(&rt, &mut node, 10_000_000)?;
-    assert_eq!(rt; sent.as_slice(), [Port::Present(1)].as_slice());
-    assert_eq!(rt;
-        start_end(&mut node, Some(18_000_000)),
-        Some(StartEnd::Over)
-    );
-    assert_eq!(rt; node.phase(), Phase::Done);
-    Ok(())
+    assert_rows(&rt, &mut node, &COUNTER)
 }
 
-#[test]
-fn counter_starts_once_a_round(rt: HostRuntime) -> Result<(), Fail> {
-    let mut node = opening_node(&rt, rt.alloc(), TWO_COUNTERS, 0, 1)?;
-    assert_eq!(rt; start_end(&mut node, Some(9_000_000)), None);
-    assert_eq!(rt; start_end(&mut node, Some(9_000_000)), Some(StartEnd::Busy));
-    assert_eq!(rt; node.count(), 1);
-    assert_eq!(rt; node.phase(), Phase::Running(0));
-    Ok(())
-}
-
-#[test]
-fn surface_steps_in_time(rt: HostRuntime) -> Result<(), Fail> {
-    let mut node = opening_node(&rt, rt.alloc(), TURN, 3, 1)?;
-    assert_eq!(rt; start_end(&mut node, Some(20_000_000)), None);
-    assert_eq!(rt; step_end(&mut node, 25_000_000), Some(StepEnd::NotBetween));
-    assert_eq!(rt; node.finish_here(), Ok(()));
-    let not_yet = StepEnd::NotYet { alarm: 25_000_000 };
-    assert_eq!(rt; step_end(&mut node, 24_999_999), Some(not_yet));
-    assert_eq!(rt; node.target(), Some(25_000_000));
-    Ok(())
-}
-
-#[test]
-fn surface_sends_three_of_four_steps(rt: HostRuntime) -> Result<(), Fail> {
-    let mut node = opening_node(&rt, rt.alloc(), TURN, 3, 1)?;
-    start_and_finish(&rt, &mut node, 20_000_000)?;
-    step_and_finish(&rt, &mut node, 1, 25_000_000)?;
-    step_and_finish(&rt, &mut node, 2, 30_000_000)?;
-    let not_yet = SendEnd::NotYet {
-        release: 30_000_000,
-    };
-    assert_eq!(rt; send_end(&mut node, Some(29_999_999)), Some(not_yet));
-    let sent = message(&rt, &mut node, 30_000_000)?;
-    let zero = Port::Present(0);
-    assert_eq!(rt;
-        sent.as_slice(),
-        [zero, zero, zero, Port::Absent].as_slice()
-    );
-    step_and_finish(&rt, &mut node, 3, 35_000_000)?;
-    assert_eq!(rt; start_end(&mut node, None), Some(StartEnd::Over));
-    Ok(())
-}
+const MISSED_START: [Row; 4] = [
+    Row::Start(9_000_000),
+    Row::Send(10_000_000, &[Port::Present(1)]),
+    Row::NoStart(18_000_000, StartEnd::Missed { port: 0 }),
+    Row::Stands(1, Phase::Waiting, Some(18_000_000)),
+];
 
 #[test]
 fn counter_misses_a_message(rt: HostRuntime) -> Result<(), Fail> {
     let alloc = rt.alloc();
-    let mut node = opening_node(&rt, alloc, TWO_COUNTERS, 1, 2)?;
-    let fresh = node.fresh(alloc)?;
-    start_and_finish(&rt, &mut node, 9_000_000)?;
-    assert_eq!(rt; send_end(&mut node, None), None);
-    let missed = StartEnd::Missed { port: 0 };
-    assert_eq!(rt; start_end(&mut node, Some(18_000_000)), Some(missed));
-    assert_eq!(rt; (node.count(), node.sent()), (1, true));
-    assert_eq!(rt;
-        (node.phase(), node.target()),
-        (Phase::Waiting, Some(18_000_000))
-    );
-    assert_eq!(rt; node.parts().len(), 1);
-    assert_eq!(rt; (fresh.count(), fresh.target()), (0, Some(9_000_000)));
-    Ok(())
+    let mut node = opening_node(&rt, alloc, TWO_COUNTERS, 1, 2)?.fresh(alloc)?;
+    assert_rows(&rt, &mut node, &MISSED_START)
+}
+
+const SURFACE: [Row; 10] = [
+    Row::Start(20_000_000),
+    Row::NoStep(24_999_999, StepEnd::NotYet { alarm: 25_000_000 }),
+    Row::Step(1, 25_000_000),
+    Row::Step(2, 30_000_000),
+    Row::NoSend(
+        29_999_999,
+        SendEnd::NotYet {
+            release: 30_000_000,
+        },
+    ),
+    Row::Send(
+        30_000_000,
+        &[
+            Port::Present(0),
+            Port::Present(0),
+            Port::Present(0),
+            Port::Absent,
+        ],
+    ),
+    Row::Stands(1, Phase::Between(3), Some(35_000_000)),
+    Row::Step(3, 35_000_000),
+    Row::NoStart(40_000_000, StartEnd::Over),
+    Row::Stands(1, Phase::Done, None),
+];
+
+#[test]
+fn surface_sends_three_of_four_steps(rt: HostRuntime) -> Result<(), Fail> {
+    let mut node = opening_node(&rt, rt.alloc(), TURN, 3, 1)?;
+    assert_rows(&rt, &mut node, &SURFACE)
 }
