@@ -6,3 +6,5 @@
 mod faults;
 #[cfg(test)]
 mod recursion;
+#[cfg(test)]
+mod threads;
