@@ -3,50 +3,55 @@
 use aadl_parse::parse;
 use aadl_tree::{AnnexContent, AnnexTree, Declaration, PackageTree};
 use annex_resolve::{Entry, Meaning, Scope, Values, resolve_annex};
-use pals_base::{Behaviour, Items, Kind, Named, NoMemory, Text, VarDecl};
+use pals_base::{Behaviour, BehaviourParts, Items, Kind, Named, NoMemory, Text, VarDecl};
 use std::alloc::Global;
 use std::process::Abort;
 use std::test::Fail;
 
-fn port(alloc: Global, name: &str) -> Result<Named, NoMemory> {
+fn port(alloc: Global, name: &str) -> Result<Items<Named>, NoMemory> {
     let name = Text::from_str(alloc, name)?;
     let kind = Kind::Integer;
-    Ok(Named { name, kind })
+    let mut ports = Items::new(alloc);
+    ports.push(Named { name, kind })?;
+    Ok(ports)
 }
 
-fn variable(alloc: Global, name: &str) -> Result<VarDecl, NoMemory> {
-    let Named { name, kind } = port(alloc, name)?;
-    Ok(VarDecl {
-        name,
-        kind,
-        first: 0,
-    })
+fn variables(alloc: Global) -> Result<Items<VarDecl>, NoMemory> {
+    let mut variables = Items::new(alloc);
+    for name in &["x", "y"] {
+        variables.push(VarDecl {
+            name: Text::from_str(alloc, name)?,
+            kind: Kind::Integer,
+            first: 0,
+        })?;
+    }
+    Ok(variables)
 }
 
 fn values(alloc: Global) -> Result<Values, NoMemory> {
     Ok(Values {
-        ins: Items::from_vec(vec![in alloc; port(alloc, "i")?]?),
-        outs: Items::from_vec(vec![in alloc; port(alloc, "o")?]?),
-        vars: Items::from_vec(vec![in alloc; variable(alloc, "x")?, variable(alloc, "y")?]?),
+        ins: port(alloc, "i")?,
+        outs: port(alloc, "o")?,
+        vars: variables(alloc)?,
     })
 }
 
-fn entry(alloc: Global, name: &str, meaning: Meaning) -> Result<Entry, NoMemory> {
-    let name = Text::from_str(alloc, name)?;
-    let kind = Some(Kind::Integer);
-    Ok(Entry {
-        name,
-        kind,
-        meaning,
-    })
-}
+const NAMES: [(&str, Meaning); 4] = [
+    ("i", Meaning::InPort(0)),
+    ("o", Meaning::OutPort(0)),
+    ("x", Meaning::Variable(0)),
+    ("y", Meaning::Variable(1)),
+];
 
 fn scope(alloc: Global) -> Result<Scope, NoMemory> {
     let mut entries = Items::new(alloc);
-    entries.push(entry(alloc, "i", Meaning::InPort(0))?)?;
-    entries.push(entry(alloc, "o", Meaning::OutPort(0))?)?;
-    entries.push(entry(alloc, "x", Meaning::Variable(0))?)?;
-    entries.push(entry(alloc, "y", Meaning::Variable(1))?)?;
+    for (name, meaning) in &NAMES {
+        entries.push(Entry {
+            name: Text::from_str(alloc, name)?,
+            kind: Some(Kind::Integer),
+            meaning: *meaning,
+        })?;
+    }
     Ok(Scope { entries, next: 2 })
 }
 
@@ -63,24 +68,39 @@ fn annex(package: &PackageTree) -> Option<&AnnexTree> {
     None
 }
 
+// The parts of an annex, in which nothing is wrong.
+fn parts(rt: &impl Abort, alloc: Global, tree: &AnnexTree) -> Result<BehaviourParts, NoMemory> {
+    let scope = scope(alloc)?;
+    let mut found = Items::new(alloc);
+    let parts = resolve_annex(alloc, values(alloc)?, &scope, 0, tree, &mut found)?;
+    assert!(rt; found.is_empty());
+    Ok(parts)
+}
+
+// The behaviour of a package's first annex.
+fn first_behaviour(
+    rt: &impl Abort,
+    alloc: Global,
+    package: &PackageTree,
+) -> Result<Behaviour, NoMemory> {
+    let Some(tree) = annex(package) else {
+        panic!(rt; "there is no behaviour");
+    };
+    match Behaviour::try_new(alloc, parts(rt, alloc, tree)?)? {
+        Some(behaviour) => Ok(behaviour),
+        None => panic!(rt; "the parts break a rule of behaviours"),
+    }
+}
+
 /// The behaviour with these states and transitions, in which nothing is wrong.
 pub fn behaviour(rt: &impl Abort, alloc: Global, text: &str) -> Result<Behaviour, Fail> {
-    let package = format!(in alloc;
+    let text = format!(in alloc;
         "package P public thread implementation T.i
 annex behavior_specification {{** {text} **}};
 end T.i; end P;"
     )?;
-    let package = parse(alloc, package.as_bytes())?;
-    let Some(tree) = annex(&package) else {
-        panic!(rt; "there is no behaviour");
-    };
-    let mut found = Items::new(alloc);
-    let parts = resolve_annex(alloc, values(alloc)?, &scope(alloc)?, 0, tree, &mut found)?;
-    assert!(rt; found.is_empty());
-    match Behaviour::try_new(alloc, parts)? {
-        Some(behaviour) => Ok(behaviour),
-        None => panic!(rt; "the parts break a rule of behaviours"),
-    }
+    let package = parse(alloc, text.as_bytes())?;
+    Ok(first_behaviour(rt, alloc, &package)?)
 }
 
 /// The text of a behaviour of one state with these actions.

@@ -1,7 +1,8 @@
 //! What behaviours compile to.
 use crate::behaviours::{behaviour, one_state};
+use crate::running;
 use crate::texts::{COUNTER, SUM_OF_THREE, SURFACE};
-use pals_base::NoMemory;
+use pals_base::{Behaviour, NoMemory};
 use std::alloc::Global;
 use std::process::Abort;
 use std::test::Fail;
@@ -9,39 +10,44 @@ use step_code::{Instr, most};
 use step_compiler::{CompileFault, compile};
 
 // The length and the weight of a behaviour's code.
-fn assert_code(
-    rt: &impl Abort,
+type Size = Result<(usize, u64), CompileFault>;
+
+fn size(alloc: Global, behaviour: &Behaviour) -> Size {
+    let code = compile(alloc, behaviour)?;
+    Ok((code.parts().instrs.len(), most(&code)))
+}
+
+fn is_compiled_to(
     alloc: Global,
-    text: &str,
-    length: usize,
-    weight: u64,
-) -> Result<(), Fail> {
-    let code = compile(alloc, &behaviour(rt, alloc, text)?)?;
-    assert_eq!(rt; code.parts().instrs.len(), length);
-    assert_eq!(rt; most(&code), weight);
+    behaviour: &Behaviour,
+    instrs: &[Instr],
+) -> Result<bool, CompileFault> {
+    let code = compile(alloc, behaviour)?;
+    Ok(code.parts().instrs.as_slice() == instrs)
+}
+
+fn assert_size(rt: &impl Abort, alloc: Global, text: &str, wanted: Size) -> Result<(), Fail> {
+    let behaviour = behaviour(rt, alloc, text)?;
+    if size(alloc, &behaviour) != wanted {
+        panic!(rt; "{text}");
+    }
     Ok(())
 }
 
-const COUNTER_CODE: [Instr; 9] = [
-    Instr::Load(0),
-    Instr::Port(0),
-    Instr::Add,
-    Instr::Push(1),
-    Instr::Add,
-    Instr::Store(0),
-    Instr::Load(0),
-    Instr::Emit(0),
-    Instr::End(0),
-];
+#[test]
+fn worked_code(rt: HostRuntime) -> Result<(), Fail> {
+    let counter = behaviour(&rt, rt.alloc(), COUNTER)?;
+    assert!(rt; is_compiled_to(rt.alloc(), &counter, &running::COUNTER)?);
+    Ok(())
+}
+
+const SIZES: [(&str, usize, u64); 3] = [(COUNTER, 9, 9), (SURFACE, 26, 16), (SUM_OF_THREE, 9, 9)];
 
 #[test]
-fn worked_codes(rt: HostRuntime) -> Result<(), Fail> {
-    let alloc = rt.alloc();
-    let code = compile(alloc, &behaviour(&rt, alloc, COUNTER)?)?;
-    assert_eq!(rt; code.parts().instrs.as_slice(), COUNTER_CODE.as_slice());
-    assert_code(&rt, alloc, COUNTER, 9, 9)?;
-    assert_code(&rt, alloc, SURFACE, 26, 16)?;
-    assert_code(&rt, alloc, SUM_OF_THREE, 9, 9)?;
+fn worked_sizes(rt: HostRuntime) -> Result<(), Fail> {
+    for (text, length, weight) in &SIZES {
+        assert_size(&rt, rt.alloc(), text, Ok((*length, *weight)))?;
+    }
     Ok(())
 }
 
@@ -54,16 +60,16 @@ fn additions(alloc: Global, count: usize) -> Result<String, NoMemory> {
     one_state(alloc, actions.as_str())
 }
 
+const GREATEST: [(usize, Size); 2] = [
+    (1_023, Ok((4_093, 4_093))),
+    (1_024, Err(CompileFault::CodeTooLong { length: 4_097 })),
+];
+
 #[test]
 fn greatest_code(rt: HostRuntime) -> Result<(), Fail> {
-    let alloc = rt.alloc();
-    assert_code(&rt, alloc, additions(alloc, 1_023)?.as_str(), 4_093, 4_093)?;
-    let longer = behaviour(&rt, alloc, additions(alloc, 1_024)?.as_str())?;
-    match compile(alloc, &longer) {
-        Ok(_code) => assert!(rt; false, "the code is too long"),
-        Err(fault) => {
-            assert_eq!(rt; fault, CompileFault::CodeTooLong { length: 4_097 });
-        }
+    for (count, wanted) in &GREATEST {
+        let text = additions(rt.alloc(), *count)?;
+        assert_size(&rt, rt.alloc(), text.as_str(), *wanted)?;
     }
     Ok(())
 }

@@ -5,6 +5,8 @@
 #[cfg(test)]
 mod behaviours;
 #[cfg(test)]
+mod codes;
+#[cfg(test)]
 mod compiling;
 #[cfg(test)]
 mod running;

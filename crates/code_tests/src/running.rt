@@ -1,40 +1,13 @@
 //! What the steps of code leave.
-use pals_base::{Frame, Items, Port, Trap};
+use crate::codes::{code, frame, step};
+use pals_base::{Frame, Port, Trap};
 use std::alloc::Global;
+use std::process::Abort;
 use std::test::Fail;
-use step_code::{CodeParts, Instr, verify};
-use step_vm::{Room, run};
+use step_code::{CodeFault, Instr};
 
-// What a step of these instructions leaves of a frame whose variable is 4 and which holds 0, and
-// of the one out port. There are one entry, at 0, two slots for loops and one in port.
-fn step(
-    alloc: Global,
-    instrs: &[Instr],
-    halt: Option<Trap>,
-    input: Port,
-) -> Result<(Frame, Port), Fail> {
-    let parts = CodeParts {
-        instrs: Items::from_slice(alloc, instrs)?,
-        entries: Items::from_slice(alloc, &[Some(0)])?,
-        vars: 1,
-        loops: 2,
-        ins: 1,
-        outs: 1,
-    };
-    let code = verify(alloc, parts)?;
-    let mut room = Room::for_code(alloc, &code)?;
-    let mut frame = Frame {
-        state: 0,
-        vars: Items::from_slice(alloc, &[4])?,
-        held: Items::from_slice(alloc, &[0])?,
-        halt,
-    };
-    let mut outs = [Port::Present(9)];
-    run(&code, &mut room, &mut frame, &[input], &mut outs);
-    Ok((frame, outs[0]))
-}
-
-const COUNTER: [Instr; 9] = [
+/// Adds the input and 1, and sends the sum.
+pub const COUNTER: [Instr; 9] = [
     Instr::Load(0),
     Instr::Port(0),
     Instr::Add,
@@ -46,77 +19,111 @@ const COUNTER: [Instr; 9] = [
     Instr::End(0),
 ];
 
-#[test]
-fn counter_counts(rt: HostRuntime) -> Result<(), Fail> {
-    let (frame, out) = step(rt.alloc(), &COUNTER, None, Port::Present(2))?;
-    assert_eq!(rt; out, Port::Present(7));
-    assert_eq!(rt; frame.vars.get(0).copied(), Some(7));
-    assert_eq!(rt; frame.held.get(0).copied(), Some(2));
-    Ok(())
+// Adds the numbers from 1 to 4 three times.
+const LOOPS: [Instr; 9] = [
+    Instr::LoopStart {
+        slot: 1,
+        low: -1,
+        high: 1,
+        exit: 8,
+    },
+    Instr::LoopStart {
+        slot: 2,
+        low: 1,
+        high: 4,
+        exit: 7,
+    },
+    Instr::Load(0),
+    Instr::Load(2),
+    Instr::Add,
+    Instr::Store(0),
+    Instr::LoopNext {
+        slot: 2,
+        high: 4,
+        to: 2,
+    },
+    Instr::LoopNext {
+        slot: 1,
+        high: 1,
+        to: 1,
+    },
+    Instr::End(0),
+];
+
+// Sends 1, sets the variable, and divides by the input.
+const DIVISION: [Instr; 9] = [
+    Instr::Push(1),
+    Instr::Emit(0),
+    Instr::Push(8),
+    Instr::Store(0),
+    Instr::Push(1),
+    Instr::Port(0),
+    Instr::Quot,
+    Instr::Store(0),
+    Instr::End(0),
+];
+
+// The variable, what is held, the trap, and what is sent.
+type Left = (i64, i64, Option<Trap>, Port);
+
+// Instructions, the trap of the frame before, the input, and what a step leaves.
+type Case = (&'static [Instr], Option<Trap>, Port, Left);
+
+const CASES: [Case; 4] = [
+    (
+        &COUNTER,
+        None,
+        Port::Present(2),
+        (7, 2, None, Port::Present(7)),
+    ),
+    // A halted frame stays.
+    (
+        &COUNTER,
+        Some(Trap::Overflow),
+        Port::Present(2),
+        (4, 2, Some(Trap::Overflow), Port::Absent),
+    ),
+    (&LOOPS, None, Port::Absent, (34, 0, None, Port::Absent)),
+    (
+        &DIVISION,
+        None,
+        Port::Absent,
+        (4, 0, Some(Trap::ZeroDivisor), Port::Absent),
+    ),
+];
+
+fn is_left(frame: &Frame, out: Port, left: Left) -> bool {
+    let (variable, held, halt, sent) = left;
+    frame.vars.as_slice() == [variable].as_slice()
+        && frame.held.as_slice() == [held].as_slice()
+        && frame.halt == halt
+        && out == sent
+}
+
+// What a step of these instructions from a frame sends.
+fn sent(
+    rt: &impl Abort,
+    alloc: Global,
+    instrs: &[Instr],
+    frame: &mut Frame,
+    input: Port,
+) -> Result<Port, CodeFault> {
+    let code = code(alloc, instrs)?;
+    Ok(step(rt, alloc, &code, frame, input)?)
+}
+
+// Whether a step from a frame whose variable is 4 and which holds 0 leaves what it should.
+fn leaves(rt: &impl Abort, alloc: Global, case: &Case) -> Result<bool, CodeFault> {
+    let (instrs, halt, input, left) = *case;
+    let mut frame = frame(alloc, 0, &[4], 0, halt)?;
+    let out = sent(rt, alloc, instrs, &mut frame, input)?;
+    Ok(is_left(&frame, out, left))
 }
 
 #[test]
-fn halted_frame_stays(rt: HostRuntime) -> Result<(), Fail> {
-    let (frame, out) = step(rt.alloc(), &COUNTER, Some(Trap::Overflow), Port::Present(2))?;
-    assert_eq!(rt; out, Port::Absent);
-    assert_eq!(rt; frame.vars.get(0).copied(), Some(4));
-    assert_eq!(rt; frame.held.get(0).copied(), Some(2));
-    Ok(())
-}
-
-#[test]
-fn loops_turn(rt: HostRuntime) -> Result<(), Fail> {
-    // Adds the numbers from 1 to 4 three times.
-    let instrs = [
-        Instr::LoopStart {
-            slot: 1,
-            low: -1,
-            high: 1,
-            exit: 8,
-        },
-        Instr::LoopStart {
-            slot: 2,
-            low: 1,
-            high: 4,
-            exit: 7,
-        },
-        Instr::Load(0),
-        Instr::Load(2),
-        Instr::Add,
-        Instr::Store(0),
-        Instr::LoopNext {
-            slot: 2,
-            high: 4,
-            to: 2,
-        },
-        Instr::LoopNext {
-            slot: 1,
-            high: 1,
-            to: 1,
-        },
-        Instr::End(0),
-    ];
-    let (frame, _out) = step(rt.alloc(), &instrs, None, Port::Absent)?;
-    assert_eq!(rt; frame.vars.get(0).copied(), Some(34));
-    Ok(())
-}
-
-#[test]
-fn trap_halts(rt: HostRuntime) -> Result<(), Fail> {
-    let instrs = [
-        Instr::Push(1),
-        Instr::Emit(0),
-        Instr::Push(8),
-        Instr::Store(0),
-        Instr::Push(1),
-        Instr::Port(0),
-        Instr::Quot,
-        Instr::Store(0),
-        Instr::End(0),
-    ];
-    let (frame, out) = step(rt.alloc(), &instrs, None, Port::Absent)?;
-    assert_eq!(rt; frame.halt, Some(Trap::ZeroDivisor));
-    assert_eq!(rt; frame.vars.get(0).copied(), Some(4));
-    assert_eq!(rt; out, Port::Absent);
+fn steps(rt: HostRuntime) -> Result<(), Fail> {
+    for case in &CASES {
+        assert!(rt; leaves(&rt, rt.alloc(), case)?, "{case:?}");
+    }
     Ok(())
 }

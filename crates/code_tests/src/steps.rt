@@ -1,20 +1,17 @@
 //! The steps of code beside those of the behaviour.
-ghost use Rattle.std.specs.Prelude.{◌≡◌, IsTrue, slice_get};
-ghost use Rattle.step_code.specs.Exec.{FitsCode, has_entry};
-
 use crate::behaviours::{behaviour, one_state};
+use crate::codes::{frame, step};
 use crate::texts::{
     AND_THEN, CHAIN, COUNTER, NESTED_LOOPS, NEVER_TAKEN, OR_ELSE, SENT_TWICE, SURFACE,
     TRAPPING_GUARD,
 };
 use behaviour_sem::fire;
-use pals_base::{Behaviour, Frame, Items, NoMemory, Port};
+use pals_base::{Behaviour, Frame, NoMemory, Port};
 use std::alloc::Global;
 use std::process::Abort;
 use std::test::Fail;
 use step_code::Code;
 use step_compiler::compile;
-use step_vm::{Room, run};
 
 const NUMBERS: [i64; 7] = [i64::MIN, i64::MIN + 1, -1, 0, 1, 10, i64::MAX];
 
@@ -29,73 +26,50 @@ const INPUTS: [Port; 8] = [
     Port::Present(i64::MAX),
 ];
 
-// A frame with a number in `x` and the same one held.
-fn frame(alloc: Global, state: u32, number: i64) -> Result<Frame, NoMemory> {
-    Ok(Frame {
-        state,
-        vars: Items::from_slice(alloc, &[number, 1])?,
-        held: Items::from_slice(alloc, &[number])?,
-        halt: None,
-    })
+fn are_same(left: &Frame, right: &Frame) -> bool {
+    left.state == right.state
+        && left.vars.as_slice() == right.vars.as_slice()
+        && left.held.as_slice() == right.held.as_slice()
+        && left.halt == right.halt
 }
 
-// Whether a step of a code may begin in a state.
-fn has_entry(code: &Code, state: u32) -> bool
-    ensures { result ≡ has_entry (slice_get code.now.entries state) }
-{
-    let parts = code.parts();
-    matches!(parts.entries.get(state as usize).copied(), Some(Some(_)))
-}
-
-// Whether a frame fits a code that has one in port and one out port.
-fn fits(code: &Code, frame: &Frame) -> bool
-    ensures frame { IsTrue result → FitsCode code.now frame.now }
-    ensures ins { IsTrue result → code.now.ins ≡ 1 }
-    ensures outs { IsTrue result → code.now.outs ≡ 1 }
-{
-    let parts = code.parts();
-    has_entry(code, frame.state)
-        && frame.vars.len() == parts.vars as usize
-        && frame.held.len() == parts.ins as usize
-        && parts.ins == 1
-        && parts.outs == 1
-}
-
-// A step of the code from a frame leaves what the behaviour's step leaves.
-fn assert_step(
+// Whether a step of the code from a frame leaves what the behaviour's step leaves.
+fn steps_agree(
     rt: &impl Abort,
     alloc: Global,
     behaviour: &Behaviour,
     code: &Code,
-    mut before: Frame,
+    before: &mut Frame,
     input: Port,
+) -> Result<bool, NoMemory> {
+    let (after, outs) = fire(alloc, behaviour, before, &[input])?;
+    let sent = step(rt, alloc, code, before, input)?;
+    Ok(are_same(before, &after) && outs.as_slice() == [sent].as_slice())
+}
+
+// From a state, at each number in `x`, the same one held, and each input.
+fn assert_all_steps(
+    rt: &impl Abort,
+    alloc: Global,
+    behaviour: &Behaviour,
+    code: &Code,
+    state: u32,
 ) -> Result<(), NoMemory> {
-    let inputs = [input];
-    let (after, outs) = fire(alloc, behaviour, &before, &inputs)?;
-    let mut room = Room::for_code(alloc, code)?;
-    let mut sent = [Port::Present(77)];
-    if !fits(code, &before) {
-        panic!(rt; "the frame does not fit the code");
+    for number in &NUMBERS {
+        for input in &INPUTS {
+            let mut before = frame(alloc, state, &[*number, 1], *number, None)?;
+            if !steps_agree(rt, alloc, behaviour, code, &mut before, *input)? {
+                panic!(rt; "state {state}, x and held {number}, input {input:?}");
+            }
+        }
     }
-    run(code, &mut room, &mut before, &inputs, &mut sent);
-    assert_eq!(rt; before.state, after.state);
-    assert_eq!(rt; before.vars.as_slice(), after.vars.as_slice());
-    assert_eq!(rt; before.held.as_slice(), after.held.as_slice());
-    assert_eq!(rt; before.halt, after.halt);
-    assert_eq!(rt; sent.as_slice(), outs.as_slice());
     Ok(())
 }
 
-// From a state, at each number and each input.
 fn assert_steps(rt: &impl Abort, alloc: Global, text: &str, state: u32) -> Result<(), Fail> {
     let behaviour = behaviour(rt, alloc, text)?;
     let code = compile(alloc, &behaviour)?;
-    for number in &NUMBERS {
-        for input in &INPUTS {
-            let before = frame(alloc, state, *number)?;
-            assert_step(rt, alloc, &behaviour, &code, before, *input)?;
-        }
-    }
+    assert_all_steps(rt, alloc, &behaviour, &code, state)?;
     Ok(())
 }
 

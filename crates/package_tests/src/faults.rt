@@ -2,8 +2,10 @@
 
 use aadl_names::{FlatFault, Names};
 use aadl_parse::parse;
+use aadl_tree::PackageTree;
 use name_faults::first_name_fault;
 use std::alloc::{AllocError, Global};
+use std::process::Abort;
 use std::test::Fail;
 
 /// What stands before the declarations of a package, and behind them.
@@ -16,46 +18,69 @@ const BEHAVIOUR: (&str, &str) = (
     " **}; end T.i; end P;",
 );
 
-/// A fault, and whether it stands at the place; nothing where there is none.
-fn told(alloc: Global, fault: Option<FlatFault>, at: usize) -> Result<String, AllocError> {
-    let Some(fault) = fault else {
-        return Ok(String::new(alloc));
-    };
+/// A fault, and whether it stands at the place.
+fn told(alloc: Global, fault: &FlatFault, at: usize) -> Result<String, AllocError> {
     let place = if fault.place() == at {
         ""
     } else {
         " elsewhere"
     };
-    match &fault {
+    match fault {
         FlatFault::Unknown { name, at: _ } => format!(in alloc; "Unknown {name}{place}"),
         FlatFault::Twice { name, at: _ } => format!(in alloc; "Twice {name}{place}"),
         other => format!(in alloc; "{other}{place}"),
     }
 }
 
-/// The first fault of a package whose last declaration is the root, wanted between two parts of what
-/// it declares.
-fn answer(alloc: Global, frame: (&str, &str), before: &str, behind: &str) -> Result<String, Fail> {
-    let text = format!(in alloc; "{}{before}{behind}{}", frame.0, frame.1)?;
-    let tree = parse(alloc, text.as_bytes())?;
-    let names = Names::of(alloc, &tree)?;
+/// The first fault of a package whose last declaration is the root.
+fn first_fault(alloc: Global, tree: &PackageTree) -> Result<Option<FlatFault>, AllocError> {
+    let names = Names::of(alloc, tree)?;
     let root = tree.declarations.len().saturating_sub(1);
-    let fault = first_name_fault(alloc, &names, root)?;
-    Ok(told(
-        alloc,
-        fault,
-        format!(in alloc; "{}{before}", frame.0)?.len(),
-    )?)
+    first_name_fault(alloc, &names, root)
 }
 
-/// What stands before the fault, what stands behind, and the fault.
+/// What is found in a package, wanted at a place; nothing where there is no fault.
+fn line(alloc: Global, tree: &PackageTree, at: usize) -> Result<String, AllocError> {
+    match first_fault(alloc, tree)? {
+        Some(fault) => told(alloc, &fault, at),
+        None => Ok(String::new(alloc)),
+    }
+}
+
+/// The same of a text.
+fn found(alloc: Global, text: &str, at: usize) -> Result<String, Fail> {
+    let tree = parse(alloc, text.as_bytes())?;
+    Ok(line(alloc, &tree, at)?)
+}
+
+/// What stands before the fault, what stands behind, and the fault; nothing where there is none.
 type Case = (&'static str, &'static str, &'static str);
 
-const SOUND: [&str; 4] = [
-    "",
-    "thread T end T; thread implementation t.i end T.I;",
-    "thread T features a: in data port; a: in data port; end T;",
-    "thread T features i: in data port; o: out data port; end T;
+/// Whether the fault of a case stands between its two parts, within what stands round all cases.
+fn is_found(alloc: Global, frame: (&str, &str), case: Case) -> Result<bool, Fail> {
+    let (before, behind, wanted) = case;
+    let front = format!(in alloc; "{}{before}", frame.0)?;
+    let text = format!(in alloc; "{front}{behind}{}", frame.1)?;
+    Ok(found(alloc, text.as_str(), front.len())?.as_str() == wanted)
+}
+
+fn check(rt: &impl Abort, alloc: Global, frame: (&str, &str), cases: &[Case]) -> Result<(), Fail> {
+    for case in cases {
+        assert!(rt; is_found(alloc, frame, *case)?, "{}", case.0);
+    }
+    Ok(())
+}
+
+const SOUND: [Case; 4] = [
+    ("", "", ""),
+    ("thread T end T; thread implementation t.i end T.I;", "", ""),
+    (
+        "thread T features a: in data port; a: in data port; end T;",
+        "",
+        "",
+    ),
+    (
+        "thread T features i: in data port; o: out data port; end T;
      thread implementation T.i annex behavior_specification {**
      variables x: B {Data_Model::Initial_Value => (\"-1\");};
      states s: initial complete state; r: state;
@@ -69,15 +94,14 @@ const SOUND: [&str; 4] = [
      system S end S; system implementation S.i subcomponents q: process Q.i;
      properties Period => 9 ms; PALS_Profile::Skew => 1 us; PALS_Profile::Network => 1 ns .. 2 sec;
      end S.i;",
+        "",
+        "",
+    ),
 ];
 
 #[test]
 fn sound_packages(rt: HostRuntime) -> Result<(), Fail> {
-    for text in SOUND {
-        let answer = answer(rt.alloc(), PACKAGE, text, "")?;
-        assert_eq!(rt; answer.as_str(), "", "{text}");
-    }
-    Ok(())
+    check(&rt, rt.alloc(), PACKAGE, &SOUND)
 }
 
 const UNKNOWN: [Case; 7] = [
@@ -123,11 +147,7 @@ const UNKNOWN: [Case; 7] = [
 
 #[test]
 fn unknown_names(rt: HostRuntime) -> Result<(), Fail> {
-    for (before, behind, wanted) in UNKNOWN {
-        let answer = answer(rt.alloc(), PACKAGE, before, behind)?;
-        assert_eq!(rt; answer.as_str(), wanted, "{before}");
-    }
-    Ok(())
+    check(&rt, rt.alloc(), PACKAGE, &UNKNOWN)
 }
 
 const TWICE: [Case; 12] = [
@@ -201,11 +221,7 @@ const TWICE: [Case; 12] = [
 
 #[test]
 fn names_declared_twice(rt: HostRuntime) -> Result<(), Fail> {
-    for (before, behind, wanted) in TWICE {
-        let answer = answer(rt.alloc(), PACKAGE, before, behind)?;
-        assert_eq!(rt; answer.as_str(), wanted, "{before}");
-    }
-    Ok(())
+    check(&rt, rt.alloc(), PACKAGE, &TWICE)
 }
 
 const WRONG_KIND: [Case; 22] = [
@@ -313,11 +329,7 @@ const WRONG_KIND: [Case; 22] = [
 
 #[test]
 fn things_of_a_wrong_kind(rt: HostRuntime) -> Result<(), Fail> {
-    for (before, behind, wanted) in WRONG_KIND {
-        let answer = answer(rt.alloc(), PACKAGE, before, behind)?;
-        assert_eq!(rt; answer.as_str(), wanted, "{before}");
-    }
-    Ok(())
+    check(&rt, rt.alloc(), PACKAGE, &WRONG_KIND)
 }
 
 const IN_BEHAVIOURS: [Case; 17] = [
@@ -382,16 +394,11 @@ const IN_BEHAVIOURS: [Case; 17] = [
 
 #[test]
 fn faults_in_behaviours(rt: HostRuntime) -> Result<(), Fail> {
-    for (before, behind, wanted) in IN_BEHAVIOURS {
-        let answer = answer(rt.alloc(), BEHAVIOUR, before, behind)?;
-        assert_eq!(rt; answer.as_str(), wanted, "{before}");
-    }
-    Ok(())
+    check(&rt, rt.alloc(), BEHAVIOUR, &IN_BEHAVIOURS)
 }
 
 #[test]
 fn another_name_at_the_end(rt: HostRuntime) -> Result<(), Fail> {
-    let answer = answer(rt.alloc(), ("package P::q public end ", ";"), "", "p::r")?;
-    assert_eq!(rt; answer.as_str(), "WrongKind");
-    Ok(())
+    let frame = ("package P::q public end ", ";");
+    check(&rt, rt.alloc(), frame, &[("", "p::r", "WrongKind")])
 }

@@ -2,110 +2,125 @@
 
 use aadl_names::{FlatFault, Names};
 use aadl_parse::parse;
+use aadl_tree::PackageTree;
 use aadl_uses::{Uses, first_recursive};
+use indexmap::IndexSet;
 use std::alloc::{AllocError, Global};
 use std::test::Fail;
 
-/// A system that contains others of these names.
-fn system(alloc: Global, name: &str, parts: &[&str]) -> Result<String, AllocError> {
-    let mut subs = String::new(alloc);
-    for (number, part) in parts.iter().enumerate() {
-        let sub = format!(in alloc; " s{number}: system {part}.i;")?;
-        subs.push_str(sub.as_str())?;
-    }
-    let section = if parts.is_empty() {
-        ""
-    } else {
-        "subcomponents"
+/// What the subcomponents of a package name.
+fn uses(alloc: Global, tree: &PackageTree) -> Result<Uses<'_>, AllocError> {
+    let names = Names::of(alloc, tree)?;
+    Uses::of(alloc, &names)
+}
+
+/// The first subcomponent that leads back to where it stands.
+fn first(alloc: Global, tree: &PackageTree) -> Result<Option<FlatFault>, AllocError> {
+    let uses = uses(alloc, tree)?;
+    first_recursive(alloc, &uses)
+}
+
+/// The name of a fault and what stands at its place in the text.
+fn told(alloc: Global, text: &str, fault: &FlatFault) -> Result<String, AllocError> {
+    let FlatFault::Recursive { name, at } = fault else {
+        return format!(in alloc; "{fault}");
     };
-    format!(in alloc;
-        "system {name} end {name}; system implementation {name}.i {section}{subs} end {name}.i; "
-    )
+    let (_, rest) = text.split_at_checked(*at).unwrap_or(("", ""));
+    let (part, _) = rest.split_once(';').unwrap_or(("", ""));
+    format!(in alloc; "{name} at {part}")
 }
 
-/// A package of systems.
-fn package(alloc: Global, systems: &[(&str, &[&str])]) -> Result<String, AllocError> {
-    let mut text = String::from_str(alloc, "package P public ")?;
-    for (name, parts) in systems {
-        text.push_str(system(alloc, name, parts)?.as_str())?;
-    }
-    text.push_str("end P;")?;
-    Ok(text)
-}
-
-/// The first fault, its name and what follows it in the text; nothing where there is none.
-fn told(alloc: Global, systems: &[(&str, &[&str])]) -> Result<String, Fail> {
-    let text = package(alloc, systems)?;
-    let tree = parse(alloc, text.as_bytes())?;
-    let names = Names::of(alloc, &tree)?;
-    let uses = Uses::of(alloc, &names)?;
-    match first_recursive(alloc, &uses)? {
-        Some(FlatFault::Recursive { name, at }) => {
-            let rest = text.as_str().get(at..).unwrap_or("");
-            let end = rest.find(';').unwrap_or(0);
-            let part = rest.get(..end).unwrap_or("");
-            Ok(format!(in alloc; "{name} at {part}")?)
-        }
-        Some(other) => Ok(format!(in alloc; "{other}")?),
+/// What is found in the tree of a text; nothing where no subcomponent leads back.
+fn line(alloc: Global, text: &str, tree: &PackageTree) -> Result<String, AllocError> {
+    match first(alloc, tree)? {
+        Some(fault) => told(alloc, text, &fault),
         None => Ok(String::new(alloc)),
     }
 }
 
-/// Systems, and what is found.
-type Case = (
-    &'static [(&'static str, &'static [&'static str])],
-    &'static str,
-);
+fn is_found(alloc: Global, text: &str, wanted: &str) -> Result<bool, Fail> {
+    let tree = parse(alloc, text.as_bytes())?;
+    Ok(line(alloc, text, &tree)?.as_str() == wanted)
+}
 
-const CASES: [Case; 5] = [
-    (&[("A", &["B", "B"]), ("B", &["C"]), ("C", &[])], ""),
-    (&[("A", &["A"])], "s0 at s0: system A.i"),
+/// Packages of systems, and what is found.
+const CASES: [(&str, &str); 5] = [
+    (
+        "package P public
+         system A end A; system implementation A.i subcomponents s0: system B.i; s1: system B.i; end A.i;
+         system B end B; system implementation B.i subcomponents s0: system C.i; end B.i;
+         system C end C; system implementation C.i end C.i;
+         end P;",
+        "",
+    ),
+    (
+        "package P public
+         system A end A; system implementation A.i subcomponents s0: system A.i; end A.i;
+         end P;",
+        "s0 at s0: system A.i",
+    ),
     // A way from one cycle to another is on neither.
     (
-        &[
-            ("X", &["A"]),
-            ("A", &["B", "A"]),
-            ("B", &["C"]),
-            ("C", &["D"]),
-            ("D", &["C"]),
-        ],
+        "package P public
+         system X end X; system implementation X.i subcomponents s0: system A.i; end X.i;
+         system A end A; system implementation A.i subcomponents s0: system B.i; s1: system A.i; end A.i;
+         system B end B; system implementation B.i subcomponents s0: system C.i; end B.i;
+         system C end C; system implementation C.i subcomponents s0: system D.i; end C.i;
+         system D end D; system implementation D.i subcomponents s0: system C.i; end D.i;
+         end P;",
         "s1 at s1: system A.i",
     ),
     (
-        &[
-            ("A", &["B"]),
-            ("B", &["C", "D"]),
-            ("C", &["Nothing"]),
-            ("D", &["C", "B"]),
-        ],
+        "package P public
+         system A end A; system implementation A.i subcomponents s0: system B.i; end A.i;
+         system B end B; system implementation B.i subcomponents s0: system C.i; s1: system D.i; end B.i;
+         system C end C; system implementation C.i subcomponents s0: system Nothing.i; end C.i;
+         system D end D; system implementation D.i subcomponents s0: system C.i; s1: system B.i; end D.i;
+         end P;",
         "s1 at s1: system D.i",
     ),
     (
-        &[("Root", &[]), ("A", &["B"]), ("B", &["a"])],
+        "package P public
+         system Root end Root; system implementation Root.i end Root.i;
+         system A end A; system implementation A.i subcomponents s0: system B.i; end A.i;
+         system B end B; system implementation B.i subcomponents s0: system a.i; end B.i;
+         end P;",
         "s0 at s0: system B.i",
     ),
 ];
 
 #[test]
 fn cycles(rt: HostRuntime) -> Result<(), Fail> {
-    for (systems, wanted) in CASES {
-        let found = told(rt.alloc(), systems)?;
-        assert_eq!(rt; found.as_str(), wanted);
+    for (text, wanted) in &CASES {
+        assert!(rt; is_found(rt.alloc(), text, wanted)?, "{text}");
     }
     Ok(())
 }
 
+const IN_USE: &str = "package P public
+    system A end A; system implementation A.i subcomponents s0: system C.i; end A.i;
+    system B end B; system implementation B.i subcomponents s0: system A.i; end B.i;
+    system C end C; system implementation C.i end C.i;
+    end P;";
+
+/// The numbers of the declarations in use below the one of number 1; none where it is not there.
+fn used(alloc: Global, tree: &PackageTree) -> Result<IndexSet<usize>, AllocError> {
+    let uses = uses(alloc, tree)?;
+    if 1 < uses.tree.declarations.len() {
+        uses.in_use(alloc, 1)
+    } else {
+        Ok(IndexSet::new(alloc))
+    }
+}
+
+fn are_used_one_and_five(alloc: Global, tree: &PackageTree) -> Result<bool, AllocError> {
+    let used = used(alloc, tree)?;
+    Ok(used.len() == 2 && used.contains(&1) && used.contains(&5))
+}
+
 #[test]
 fn what_is_in_use(rt: HostRuntime) -> Result<(), Fail> {
-    let alloc = rt.alloc();
-    let text = package(alloc, &[("A", &["C"]), ("B", &["A"]), ("C", &[])])?;
-    let tree = parse(alloc, text.as_bytes())?;
-    let names = Names::of(alloc, &tree)?;
-    let uses = Uses::of(alloc, &names)?;
-    if 1 < tree.declarations.len() {
-        let used = uses.in_use(alloc, 1)?;
-        assert_eq!(rt; used.len(), 2);
-        assert!(rt; used.contains(&1) && used.contains(&5));
-    }
+    let tree = parse(rt.alloc(), IN_USE.as_bytes())?;
+    assert!(rt; are_used_one_and_five(rt.alloc(), &tree)?);
     Ok(())
 }
