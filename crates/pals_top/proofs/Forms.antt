@@ -1,11 +1,10 @@
 -- What words are by their number, with flags or without.
-use Rattle.std.proofs.Common.{◌≡◌, ℕ, ◌+◌, ◌<◌, ◌≤◌, Bool, true, false, not, nat_eq, suc, ◌&&◌, ◌||◌, cond, List, [], ◌∷◌, length, codes, bytes_eq, get_or, Option, None, refl, sym, ap, ◌∙◌, subst, arith}
+use Rattle.std.proofs.Common.{◌≡◌, ℕ, ◌+◌, ◌<◌, ◌≤◌, Bool, true, false, not, nat_eq, suc, ◌&&◌, ◌||◌, cond, List, [], ◌∷◌, length, codes, bytes_eq, get_or, Option, None, refl, sym, ap, ◌∙◌, arith}
 use Rattle.std.specs.List.{list_all}
 use Rattle.std.proofs.lemmas.Bool.{eqb-true, true≢false}
 use Rattle.std.proofs.lemmas.Slice.Eq.{bytes_eq-Decides}
 use Rattle.pals_runs.specs.declared.commands.Command.{Command}
-use Rattle.pals_top.specs.Words.{is_plain, is_flag, flags, plain_words, plain_form, rooted_form, form_by, form}
-use Rattle.pals_top.specs.Code.{flagged_form}
+use Rattle.pals_top.specs.Words.{is_plain, is_flag, flags, plain_words, rooted_form, form_by, form}
 
 -- ---- flags
 either : (w x y : List ℕ) → (bytes_eq w x || bytes_eq w y) ≡ true → is_plain x ≡ false → is_plain y ≡ false → is_plain w ≡ false

@@ -1,8 +1,7 @@
 -- What the program answers to a list of loose events.
-use Rattle.std.proofs.Common.{◌≡◌, ◌∙◌, inl, inr, ℕ, ◌≤◌, List, [], ◌∷◌, ◌++◌, map, length, take, false, Result, Ok, Err, IfOk, All, refl, sym, ap, subst}
+use Rattle.std.proofs.Common.{◌≡◌, ◌∙◌, inl, inr, ℕ, List, [], ◌∷◌, ◌++◌, map, take, false, Result, Ok, Err, IfOk, All, ap, subst}
 use Rattle.step_code.specs.declared.instr.CodeParts.{CodeParts}
 use Rattle.pals_model.specs.declared.design.DesignParts.{DesignParts}
-use Rattle.pals_model.specs.Delays as model
 use Rattle.pals_model.specs.Rules.{IsDesign}
 use Rattle.pals_model.specs.RoundTexts.{line_end, text_of as lines_text, report}
 use Rattle.pals_runs.specs.declared.events.Event.{Event}
@@ -29,15 +28,9 @@ use Rattle.pals_top.specs.Loose.{run_of, IsWorldAnswer}
 use Rattle.pals_top.specs.declared.status.TheConstants.{DONE, SCENARIO_REFUSED, STOPPED}
 use Rattle.pals_top.specs.Statuses.{status_of, text_of, Says}
 
--- ---- conditions of a bus
+-- the bus that a scenario opens
 abbrev opens : DesignParts → Scenario → List CodeParts → BusValue
 opens design scenario programs = opening_bus (run_of design scenario) programs false
-
-pub delays_fit : (design : DesignParts) (scenario : Scenario) → IsScenarioOf design scenario → model.AreDelays (length design.links) scenario.delays
-delays_fit design scenario kept = record {
-  each = kept.delay.links;
-  lists = λ i d within. record { some' = (kept.delay.each i d within).some; within = (kept.delay.each i d within).within };
-}
 
 -- ---- events are of the run that they began with
 one_run : (s t : BusValue) (e : Event) → HappensLoose s e t → t.run ≡ s.run

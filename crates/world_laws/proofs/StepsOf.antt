@@ -1,12 +1,12 @@
 -- What happens on a bus is steps of the machine.
-use Rattle.std.proofs.Common.{◌≡◌, ◌∙◌, ℕ, List, [], ◌∷◌, ◌++◌, take, false, None, refl, sym, ap, subst, append_assoc}
+use Rattle.std.proofs.Common.{◌≡◌, ◌∙◌, ℕ, List, [], ◌∷◌, ◌++◌, take, false, refl, sym, ap, subst, append_assoc}
 use Rattle.std.proofs.lemmas.List.{append-nil}
 use Rattle.step_code.specs.declared.instr.CodeParts.{CodeParts}
 use Rattle.pals_runs.specs.declared.events.Event.{Event}
 use Rattle.pals_runs.specs.declared.events.EventFault.{EventFault}
 use Rattle.pals_runs.specs.declared.journal.JournalEntry.{JournalEntry}
 use Rattle.pals_runs.specs.declared.journal.Stop.{Stop}
-use Rattle.bus_machine.specs.States.{Run, BusState, opening}
+use Rattle.bus_machine.specs.States.{Run, opening}
 use Rattle.bus_machine.specs.Machine.{BusEvent, is_allowed, IsStep}
 use Rattle.bus_machine.specs.Replay.{entries}
 use Rattle.bus_fields.specs.Values.{BusValue, Happens, opening_bus}
@@ -14,7 +14,7 @@ use Rattle.pals_bus.specs.Loose.{IsRefused}
 use Rattle.loose_world.specs.declared.LooseEnd.{LooseEnd}
 use Rattle.loose_world.specs.declared.LooseEnd.TheVariants as end
 use Rattle.loose_world.specs.Worlds.{AllHappen, StopsAt, IsRefusedAt, RunsLoosely}
-use Rattle.world_laws.specs.Steps.{AllStep, ComesTo, StepsToStop, StepsToFault, StepsTo}
+use Rattle.world_laws.specs.Steps.{AllStep, StepsToStop, StepsToFault, StepsTo}
 
 -- the steps of a bus, and what they add to its journal
 record AreSteps (s t : BusValue) (events : List Event) : Type 0 where

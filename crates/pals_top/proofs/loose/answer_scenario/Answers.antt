@@ -1,4 +1,4 @@
-use Rattle.pals_top.proofs.LooseWorlds.{delays_fit, left_says}
+use Rattle.pals_top.proofs.LooseWorlds.{left_says}
 use Rattle.pals_top.proofs.loose.answer_scenario.Goals as goal
 
 pub returns : goal.returns

@@ -1,4 +1,4 @@
-use Rattle.std.proofs.Common.{◌≡◌, ◌∷◌, [], None, ap, ◌∙◌, sym, subst, arith}
+use Rattle.std.proofs.Common.{◌≡◌, ◌∷◌, [], ap, ◌∙◌, sym, subst, arith}
 use Rattle.std.proofs.lemmas.Bool.Decides.{nat_tests}
 use Rattle.pals_top.specs.Words.{form, rooted_form, IsRead}
 use Rattle.pals_top.proofs.Forms.{form_rooted, form_none, form_unflagged, form_long, no_items, two_items, three_items}
