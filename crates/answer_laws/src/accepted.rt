@@ -16,7 +16,8 @@ use design_laws::laws::designs_of_texts_keep_their_rules;
 /// that the bound allows. A bundle means a design where its design text has a tree, the package has an
 /// instance below the root, and the list of all that is wrong with that instance is empty.
 pub fn accepted_designs_keep_their_rules()
-    ensures rules { (root bundle : List ℕ) (design : DesignParts) (scenario : List ℕ) → IsAccepted root bundle design scenario → IsDesign design }
+    ensures rules { (root bundle : List ℕ) (design : DesignParts) (scenario : List ℕ)
+        → IsAccepted root bundle design scenario → IsDesign design }
     ensures there { (root bundle text scenario : List ℕ) (tree : PackageTree ℕ) (parts : Parts) → IsParsed bundle text scenario tree
         → IsFlat tree root parts → AreViolations tree (shown_by tree parts) [] → MeansDesign root bundle }
 {

@@ -19,12 +19,14 @@ use design_laws::laws::one_design;
 pub fn one_split()
     ensures one { (bundle a b s t : List ℕ) → IsSplit bundle a s → IsSplit bundle b t → (a ≡ b) × (s ≡ t) }
     ensures divided { (bundle text scenario : List ℕ) → IsSplit bundle text scenario → HasNoDivider bundle → ⊥ }
-    ensures either { (bundle : List ℕ) → ((text : List ℕ) × (scenario : List ℕ) × IsSplit bundle text scenario) ⊎ HasNoDivider bundle }
+    ensures either { (bundle : List ℕ)
+        → ((text : List ℕ) × (scenario : List ℕ) × IsSplit bundle text scenario) ⊎ HasNoDivider bundle }
 {}
 
 /// A bundle means one design at most, with one scenario's bytes.
 pub fn one_design_of_a_bundle()
-    ensures { (root bundle : List ℕ) (a b : DesignParts) (s t : List ℕ) → IsAccepted root bundle a s → IsAccepted root bundle b t → (a ≡ b) × (s ≡ t) }
+    ensures { (root bundle : List ℕ) (a b : DesignParts) (s t : List ℕ)
+        → IsAccepted root bundle a s → IsAccepted root bundle b t → (a ≡ b) × (s ≡ t) }
 {
     one_design();
 }
@@ -38,9 +40,12 @@ pub fn accepted_is_not_refused()
 /// Of a package that is refused, either a fault is named or all that is wrong with its instance. There
 /// is one text of all that is wrong, and the faults that may be named are of one kind and stand at one place.
 pub fn one_refusal()
-    ensures violations { (text : List ℕ) (tree : PackageTree ℕ) (root a b : List ℕ) → HasViolations text tree root a → HasViolations text tree root b → a ≡ b }
-    ensures either { (text : List ℕ) (tree : PackageTree ℕ) (root a b : List ℕ) → IsFaulty text tree root a → HasViolations text tree root b → ⊥ }
-    ensures fault { (text : List ℕ) (tree : PackageTree ℕ) (root a b : List ℕ) → IsFaulty text tree root a → IsFaulty text tree root b → NameOneFault text tree root a b }
+    ensures violations { (text : List ℕ) (tree : PackageTree ℕ) (root a b : List ℕ)
+        → HasViolations text tree root a → HasViolations text tree root b → a ≡ b }
+    ensures either { (text : List ℕ) (tree : PackageTree ℕ) (root a b : List ℕ)
+        → IsFaulty text tree root a → HasViolations text tree root b → ⊥ }
+    ensures fault { (text : List ℕ) (tree : PackageTree ℕ) (root a b : List ℕ)
+        → IsFaulty text tree root a → IsFaulty text tree root b → NameOneFault text tree root a b }
 {
     one_first_fault();
 }

@@ -14,15 +14,19 @@ use world_laws::laws::one_end;
 
 /// `print` answers 0 exactly where the bundle has a design text of the grammar, and 3 exactly where it has none.
 pub fn statuses_of_print()
-    ensures done { (bundle : List ℕ) (status : ℕ) (text : List ℕ) → IsPrintAnswer bundle status text → (status ≡ 0) ↔ HasTree bundle }
-    ensures text { (bundle : List ℕ) (status : ℕ) (text : List ℕ) → IsPrintAnswer bundle status text → (status ≡ 3) ↔ (HasTree bundle → ⊥) }
+    ensures done { (bundle : List ℕ) (status : ℕ) (text : List ℕ) → IsPrintAnswer bundle status text
+        → (status ≡ 0) ↔ HasTree bundle }
+    ensures text { (bundle : List ℕ) (status : ℕ) (text : List ℕ) → IsPrintAnswer bundle status text
+        → (status ≡ 3) ↔ (HasTree bundle → ⊥) }
 {}
 
 /// `check` answers 0 exactly where the bundle means a design, 3 exactly where it has no design text of
 /// the grammar, and 4 exactly where it has one and means no design.
 pub fn statuses_of_check()
-    ensures done { (root bundle : List ℕ) (status : ℕ) (text : List ℕ) → IsCheckAnswer root bundle status text → (status ≡ 0) ↔ MeansDesign root bundle }
-    ensures text { (root bundle : List ℕ) (status : ℕ) (text : List ℕ) → IsCheckAnswer root bundle status text → (status ≡ 3) ↔ (HasTree bundle → ⊥) }
+    ensures done { (root bundle : List ℕ) (status : ℕ) (text : List ℕ) → IsCheckAnswer root bundle status text
+        → (status ≡ 0) ↔ MeansDesign root bundle }
+    ensures text { (root bundle : List ℕ) (status : ℕ) (text : List ℕ) → IsCheckAnswer root bundle status text
+        → (status ≡ 3) ↔ (HasTree bundle → ⊥) }
     ensures design { (root bundle : List ℕ) (status : ℕ) (text : List ℕ) → IsCheckAnswer root bundle status text
         → (status ≡ 4) ↔ (HasTree bundle × (MeansDesign root bundle → ⊥)) }
 {}
@@ -32,7 +36,8 @@ pub fn statuses_of_check()
 pub fn statuses_of_sync()
     ensures done { (root bundle : List ℕ) (status : ℕ) (text : List ℕ) → IsSyncAnswer root bundle status text
         → (status ≡ 0) ↔ MeansScenario root bundle (Sync root) }
-    ensures text { (root bundle : List ℕ) (status : ℕ) (text : List ℕ) → IsSyncAnswer root bundle status text → (status ≡ 3) ↔ (HasTree bundle → ⊥) }
+    ensures text { (root bundle : List ℕ) (status : ℕ) (text : List ℕ) → IsSyncAnswer root bundle status text
+        → (status ≡ 3) ↔ (HasTree bundle → ⊥) }
     ensures design { (root bundle : List ℕ) (status : ℕ) (text : List ℕ) → IsSyncAnswer root bundle status text
         → (status ≡ 4) ↔ (HasTree bundle × (MeansDesign root bundle → ⊥)) }
     ensures scenario { (root bundle : List ℕ) (status : ℕ) (text : List ℕ) → IsSyncAnswer root bundle status text
@@ -46,14 +51,18 @@ pub fn statuses_of_sync()
 /// scenario for it or an event is not allowed, 6 exactly where an event gives a stop, and 0 exactly where
 /// all events happen and none gives a stop.
 pub fn statuses_of_loose()
-    ensures done { (root bundle : List ℕ) (status : ℕ) (text : List ℕ) → IsLooseAnswer root bundle status text → (status ≡ 0) ↔ HasWorld root bundle }
-    ensures text { (root bundle : List ℕ) (status : ℕ) (text : List ℕ) → IsLooseAnswer root bundle status text → (status ≡ 3) ↔ (HasTree bundle → ⊥) }
+    ensures done { (root bundle : List ℕ) (status : ℕ) (text : List ℕ) → IsLooseAnswer root bundle status text
+        → (status ≡ 0) ↔ HasWorld root bundle }
+    ensures text { (root bundle : List ℕ) (status : ℕ) (text : List ℕ) → IsLooseAnswer root bundle status text
+        → (status ≡ 3) ↔ (HasTree bundle → ⊥) }
     ensures design { (root bundle : List ℕ) (status : ℕ) (text : List ℕ) → IsLooseAnswer root bundle status text
         → (status ≡ 4) ↔ (HasTree bundle × (MeansDesign root bundle → ⊥)) }
-    ensures code { (root bundle : List ℕ) (status : ℕ) (text : List ℕ) → IsLooseAnswer root bundle status text → (status ≡ 13) ↔ HasLongCode root bundle }
+    ensures code { (root bundle : List ℕ) (status : ℕ) (text : List ℕ) → IsLooseAnswer root bundle status text
+        → (status ≡ 13) ↔ HasLongCode root bundle }
     ensures scenario { (root bundle : List ℕ) (status : ℕ) (text : List ℕ) → IsLooseAnswer root bundle status text
         → (status ≡ 5) ↔ (LacksLooseScenario root bundle ⊎ HasRefusedEvent root bundle) }
-    ensures stop { (root bundle : List ℕ) (status : ℕ) (text : List ℕ) → IsLooseAnswer root bundle status text → (status ≡ 6) ↔ HasStop root bundle }
+    ensures stop { (root bundle : List ℕ) (status : ℕ) (text : List ℕ) → IsLooseAnswer root bundle status text
+        → (status ≡ 6) ↔ HasStop root bundle }
 {
     one_design();
     one_end();
