@@ -10,7 +10,8 @@ use Rattle.check_report.specs.CheckReports.{IsCheckReport}
 use Rattle.world_laws.specs.Ends.{OneEnd}
 use Rattle.pals_top.specs.Refusals.{IsBundleRefused}
 use Rattle.pals_top.specs.Scenarios.{HasScenarioFault}
-use Rattle.pals_top.specs.Print.{IsPrinted, IsPrintAnswer}
+use Rattle.bundle_designs.specs.Printed.{IsPrinted}
+use Rattle.pals_top.specs.Print.{IsPrintAnswer}
 use Rattle.pals_top.specs.Check.{IsChecked, IsCheckAnswer}
 use Rattle.pals_top.specs.Sync.{IsReported, IsSyncAnswer}
 use Rattle.pals_top.specs.Loose.{IsLooseAnswer}

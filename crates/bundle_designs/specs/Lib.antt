@@ -1,5 +1,6 @@
 pub mod Accepted
 pub mod Bundles
 pub mod Parsed
+pub mod Printed
 pub mod RefusedTexts
 pub mod Refusals

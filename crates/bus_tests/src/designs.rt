@@ -1,7 +1,5 @@
 //! Designs from their texts.
-use aadl_instance::flatten;
-use aadl_parse::parse;
-use model_checks::check;
+use bundle_designs::accept;
 use pals_base::Text;
 use pals_model::Design;
 use std::alloc::Global;
@@ -51,7 +49,7 @@ properties\n\
 \x20PALS_Profile::Execution => 0 ms .. 3 ms;\n\
 \x20PALS_Profile::Network => 1 ms .. 4 ms;\n\
 end Top.impl;\n\
-end Two;\n";
+end Two;\n%%%\n";
 
 /// A main component and three surfaces that it turns, of rates 1, 1, 2 and 4.
 pub const TURN: &str = "package Turn public\n\
@@ -108,17 +106,13 @@ properties Period => 20 ms; PALS_Profile::Skew => 1 ms;\n\
 \x20PALS_Profile::Execution => 0 ms .. 3 ms;\n\
 \x20PALS_Profile::Network => 1 ms .. 4 ms;\n\
 end Top.impl;\n\
-end Turn;\n";
+end Turn;\n%%%\n";
 
-/// The design of a text in which nothing is wrong.
-pub fn design_of(rt: &impl Abort, alloc: Global, text: &str) -> Result<Design, Fail> {
-    let tree = parse(alloc, text.as_bytes())?;
+/// The design of a bundle whose text is a design in which nothing is wrong.
+pub fn design_of(rt: &impl Abort, alloc: Global, bundle: &str) -> Result<Design, Fail> {
     let root = Text::from_str(alloc, "Top.impl")?;
-    let Ok(instance) = flatten(alloc, &tree, &root) else {
-        panic!(rt; "the package has a fault");
-    };
-    match check(alloc, &instance) {
-        Ok(design) => Ok(design),
-        Err(_fault) => panic!(rt; "something is wrong with the design"),
+    match accept(alloc, bundle.as_bytes(), &root) {
+        Ok(accepted) => Ok(accepted.design),
+        Err(_refusal) => panic!(rt; "the bundle has no design"),
     }
 }

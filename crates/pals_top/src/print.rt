@@ -4,8 +4,7 @@ ghost use Rattle.pals_top.specs.Print.{IsPrintAnswer};
 ghost use Rattle.pals_top.specs.Statuses.{status_of, text_of};
 
 use crate::answer::Answer;
-use aadl_print::print;
-use bundle_designs::parse_bundle;
+use bundle_designs::print_bundle;
 use pals_base::NoMemory;
 use std::alloc::Global;
 
@@ -13,8 +12,8 @@ use std::alloc::Global;
 pub fn answer_print(alloc: Global, bundle: &[u8]) -> Result<Answer, NoMemory>
     ensures { IfOk result (λ answer. IsPrintAnswer bundle.now (status_of answer) (text_of answer)) }
 {
-    match parse_bundle(alloc, bundle) {
-        Ok(parsed) => Ok(Answer::Done(print(alloc, &parsed.tree)?)),
+    match print_bundle(alloc, bundle) {
+        Ok(text) => Ok(Answer::Done(text)),
         Err(refusal) => Answer::refused(refusal),
     }
 }
