@@ -1,13 +1,13 @@
 //! The bus, event by event.
 use crate::calls::{
-    apply, bus_of, count, deliver, finish, finish_here, is_in_flight, meet, part, phase, repeat,
+    apply, bus_of, count, finish, finish_here, is_in_flight, journal, meet, part, phase, repeat,
     send, start, step, take_due,
 };
 use crate::designs::{TURN, TWO_COUNTERS};
 use pals_base::{LinkNo, Nanos, NodeNo, Same};
-use pals_bus::{Bus, BusStartEnd, DueEnd, LooseFault, Meet};
+use pals_bus::{Bus, Meet};
 use pals_node::{Done, Finished};
-use pals_runs::{Arrived, Cause, Event, JournalEntry, Phase, Stop};
+use pals_runs::{Event, Phase};
 use std::process::Abort;
 use std::test::Fail;
 
@@ -29,107 +29,12 @@ const ROUND_OF_A: [Event; 3] = [Event::Start(A), Event::Finish(A), Event::Send(A
 
 const ROUND_OF_B: [Event; 3] = [Event::Start(B), Event::Finish(B), Event::Send(B)];
 
-const EARLY: Stop = Stop::Early {
-    link: TO_B,
-    round: 0,
-    reading: None,
-};
+// The ends of journals.
+const BOTH_ARRIVE: &[u8] =
+    b"repeat p.b.i 0\narrive p.b.i 0 11000000 kept\narrive p.b.i 0 11000000 ignored\n";
 
-const LOST: Stop = Stop::Missed {
-    link: TO_B,
-    round: 0,
-    reading: None,
-    cause: Cause::Lost,
-};
-
-// The entry of a message that arrives in round 0.
-fn arrival(link: LinkNo, reading: Option<Nanos>, what: Arrived) -> JournalEntry {
-    JournalEntry::Arrive {
-        link,
-        round: 0,
-        reading,
-        result: what,
-    }
-}
-
-// The entries of a node's round in a loose world.
-fn round_entries(node: NodeNo, round: u32) -> [JournalEntry; 3] {
-    let reading = None;
-    [
-        JournalEntry::Start {
-            node,
-            round,
-            reading,
-        },
-        JournalEntry::Finish { node, round },
-        JournalEntry::Send {
-            node,
-            round,
-            reading,
-        },
-    ]
-}
-
-#[test]
-fn early_message_stops_the_run(rt: HostRuntime) -> Result<(), Fail> {
-    let mut bus = bus_of(&rt, rt.alloc(), TWO_COUNTERS, 1)?;
-    apply(&rt, &mut bus, &ROUND_OF_A)?;
-    let end = apply(&rt, &mut bus, &[Event::Arrive(TO_B, 0)]);
-    assert_eq!(rt; end, Err(LooseFault::Stopped(EARLY)));
-    let end = apply(&rt, &mut bus, &[Event::Start(B)]);
-    assert_eq!(rt; end, Err(LooseFault::Stopped(EARLY)));
-    assert_eq!(rt; bus.stop(), Some(EARLY));
-    let [started, finished, sent] = round_entries(A, 0);
-    let arrived = arrival(TO_B, None, Arrived::Early);
-    let told = [
-        started,
-        finished,
-        sent,
-        arrived,
-        JournalEntry::Stopped(EARLY),
-    ];
-    assert_eq!(rt; bus.journal(), told.as_slice());
-    Ok(())
-}
-
-#[test]
-fn lost_message_stops_the_run(rt: HostRuntime) -> Result<(), Fail> {
-    let mut bus = bus_of(&rt, rt.alloc(), TWO_COUNTERS, 2)?;
-    apply(&rt, &mut bus, &ROUND_OF_A)?;
-    apply(&rt, &mut bus, &ROUND_OF_B)?;
-    repeat(&rt, &mut bus, TO_A, 0)?;
-    assert_eq!(rt; deliver(&rt, &mut bus, TO_A, 0), Ok(Arrived::Kept));
-    assert_eq!(rt; deliver(&rt, &mut bus, TO_A, 0), Ok(Arrived::Ignored));
-    apply(&rt, &mut bus, &[Event::Drop(TO_B, 0), Event::Start(A)])?;
-    let end = start(&rt, &mut bus, B, None).err();
-    assert_eq!(rt; end, Some(BusStartEnd::Stopped(LOST)));
-    assert_eq!(rt; phase(&rt, &bus, B), Phase::Waiting);
-    let [started_a, finished_a, sent_a] = round_entries(A, 0);
-    let [started_b, finished_b, sent_b] = round_entries(B, 0);
-    let [started_again, ..] = round_entries(A, 1);
-    let told = [
-        started_a,
-        finished_a,
-        sent_a,
-        started_b,
-        finished_b,
-        sent_b,
-        JournalEntry::Repeat {
-            link: TO_A,
-            round: 0,
-        },
-        arrival(TO_A, None, Arrived::Kept),
-        arrival(TO_A, None, Arrived::Ignored),
-        JournalEntry::Drop {
-            link: TO_B,
-            round: 0,
-        },
-        started_again,
-        JournalEntry::Stopped(LOST),
-    ];
-    assert_eq!(rt; bus.journal(), told.as_slice());
-    Ok(())
-}
+const STOPS_EARLY: &[u8] =
+    b"repeat p.b.i 0\narrive p.b.i 0 11000000 early\nstop early p.b.i 0 11000000\n";
 
 // The first round of both counters, whose messages arrive; gives the first counter's work of it, which
 // is made again on the bus.
@@ -156,7 +61,8 @@ fn work_of_an_earlier_round_is_redone(rt: HostRuntime) -> Result<(), Fail> {
     let left = part(&rt, &redone, A, 1);
     assert_eq!(rt; left.frame.vars.as_slice(), [3].as_slice());
     assert!(rt; left.same(part(&rt, &used, A, 1)));
-    assert_eq!(rt; redone.journal(), used.journal());
+    let (told, wanted) = (journal(rt.alloc(), &redone)?, journal(rt.alloc(), &used)?);
+    assert!(rt; told.as_slice() == wanted.as_slice());
     Ok(())
 }
 
@@ -195,12 +101,9 @@ fn due_messages_arrive(rt: HostRuntime) -> Result<(), Fail> {
     take_due(&rt, &mut bus, B, 10_999_999)?;
     assert_eq!(rt; bus.journal().len(), 7);
     take_due(&rt, &mut bus, B, 11_000_000)?;
-    let reading = Some(11_000_000);
-    let kept = arrival(TO_B, reading, Arrived::Kept);
-    let ignored = arrival(TO_B, reading, Arrived::Ignored);
     assert_eq!(rt; bus.journal().len(), 9);
-    assert_eq!(rt; bus.journal().get(7), Some(&kept));
-    assert_eq!(rt; bus.journal().get(8), Some(&ignored));
+    let told = journal(rt.alloc(), &bus)?;
+    assert!(rt; told.as_slice().ends_with(BOTH_ARRIVE));
     assert!(rt; !is_in_flight(&rt, &bus, TO_B, 0));
     Ok(())
 }
@@ -224,14 +127,10 @@ fn early_message_stops_those_behind_it(rt: HostRuntime) -> Result<(), Fail> {
     let mut bus = bus_of(&rt, rt.alloc(), TWO_COUNTERS, 2)?;
     make_round(&rt, &mut bus, A, 9_000_000, 10_000_000)?;
     repeat(&rt, &mut bus, TO_B, 0)?;
-    let early = Stop::Early {
-        link: TO_B,
-        round: 0,
-        reading: Some(11_000_000),
-    };
     let end = take_due(&rt, &mut bus, B, 11_000_000);
-    assert_eq!(rt; end, Err(DueEnd::Stopped(early)));
-    assert_eq!(rt; bus.journal().len(), 6);
+    assert!(rt; end.is_err());
+    let told = journal(rt.alloc(), &bus)?;
+    assert!(rt; told.as_slice().ends_with(STOPS_EARLY));
     assert!(rt; is_in_flight(&rt, &bus, TO_B, 0));
     assert_eq!(rt; meet(&rt, &bus, B), Meet::Ended);
     Ok(())

@@ -14,11 +14,12 @@ use pals_bus::{
 };
 use pals_model::{Delays, Design, Env, Part};
 use pals_node::{Done, Finished, Job};
-use pals_runs::{Arrived, Event, Phase};
+use pals_runs::{Event, Phase};
 use std::alloc::Global;
 use std::process::Abort;
 use std::sync::Arc;
 use std::test::Fail;
+use world_report::add_journal;
 
 const MILLI: Nanos = 1_000_000;
 
@@ -132,16 +133,6 @@ pub fn send(
     bus.send(node, Some(reading))
 }
 
-pub fn deliver(
-    rt: &impl Abort,
-    bus: &mut Bus,
-    link: LinkNo,
-    round: u32,
-) -> Result<Arrived, LinkEnd> {
-    assert!(rt; has_link(bus, link));
-    bus.deliver(link, round)
-}
-
 pub fn repeat(rt: &impl Abort, bus: &mut Bus, link: LinkNo, round: u32) -> Result<(), LinkEnd> {
     assert!(rt; has_link(bus, link));
     bus.repeat_message(link, round)
@@ -187,4 +178,11 @@ pub fn part<'b>(rt: &impl Abort, bus: &'b Bus, node: NodeNo, round: u32) -> &'b 
         Some(part) => part,
         None => panic!(rt; "the round is not finished"),
     }
+}
+
+/// The lines of what has happened on a bus.
+pub fn journal(alloc: Global, bus: &Bus) -> Result<Vec<u8>, NoMemory> {
+    let mut lines = Vec::new(alloc);
+    add_journal(&mut lines, bus)?;
+    Ok(lines)
 }
