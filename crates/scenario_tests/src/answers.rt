@@ -7,31 +7,38 @@ use scenario_json::{Scenario, ScenarioFault, read_scenario};
 use std::alloc::Global;
 use std::process::Abort;
 
-/// A scenario of a design of the table.
+/// A design of the table, and the words of a command.
+pub type Asked<'a> = (Example, &'a str);
+
+/// A scenario of a design, for a command.
 pub fn scenario(
     rt: &impl Abort,
     alloc: Global,
-    example: Example,
-    words: &str,
+    asked: Asked<'_>,
     bytes: &[u8],
 ) -> Result<Scenario, ScenarioFault> {
-    let design = design(rt, alloc, example)?;
-    read_scenario(alloc, bytes, &design, command(alloc, words)?)
+    let design = design(rt, alloc, asked.0)?;
+    read_scenario(alloc, bytes, &design, command(alloc, asked.1)?)
 }
 
-/// `read`, or the line of the fault, without its line end.
-pub fn answer(
-    rt: &impl Abort,
-    alloc: Global,
-    example: Example,
-    words: &str,
-    bytes: &[u8],
-) -> Result<Vec<u8>, NoMemory> {
+// The line of a fault, without its line end.
+fn fault_line(alloc: Global, fault: &ScenarioFault) -> Result<Vec<u8>, NoMemory> {
     let mut line = Vec::new(alloc);
-    match scenario(rt, alloc, example, words, bytes) {
-        Ok(_) => line.extend_from_slice(b"read\n")?,
-        Err(fault) => add_scenario_fault(&mut line, &fault)?,
-    }
+    add_scenario_fault(&mut line, fault)?;
     let _end = line.pop();
     Ok(line)
+}
+
+/// Whether the answer is `read`, or this line of a fault.
+pub fn is_answer(
+    rt: &impl Abort,
+    alloc: Global,
+    asked: Asked<'_>,
+    bytes: &[u8],
+    expected: &str,
+) -> Result<bool, NoMemory> {
+    match scenario(rt, alloc, asked, bytes).err() {
+        Some(fault) => Ok(fault_line(alloc, &fault)?.as_slice() == expected.as_bytes()),
+        None => Ok(expected == "read"),
+    }
 }

@@ -1,25 +1,155 @@
 //! Designs that scenarios are read for. What their threads do is of no matter to a scenario.
-use pals_base::{
-    Adaptor, Behaviour, BehaviourParts, Gamma, Guard, Items, Kind, Named, NoMemory, NodeNo,
-    StateDecl, Text, Transition, VarDecl,
-};
-use pals_model::{Component, Design, DesignParts, Feed, Link, Tap};
+use bundle_designs::accept;
+use pals_base::{NoMemory, Text};
+use pals_model::Design;
 use std::alloc::Global;
 use std::process::Abort;
 
-const MILLI: u64 = 1_000_000;
+const PAIR: &str = "package Pair public
+thread Counter features
+ i: in data port Base_Types::Integer;
+ o: out data port Base_Types::Integer;
+properties Dispatch_Protocol => Periodic;
+end Counter;
+thread implementation Counter.impl annex behavior_specification {**
+variables x: Base_Types::Integer;
+states s: initial complete state;
+transitions s -[on dispatch]-> s;
+**};
+end Counter.impl;
+process P end P;
+process implementation P.impl
+subcomponents
+ a: thread Counter.impl;
+ b: thread Counter.impl;
+connections
+ c1: port a.o -> b.i {Timing => Delayed;};
+ c2: port b.o -> a.i {Timing => Delayed;};
+end P.impl;
+system Top end Top;
+system implementation Top.impl
+subcomponents p: process P.impl;
+properties Period => 20 ms; PALS_Profile::Skew => 1 ms;
+ PALS_Profile::Execution => 0 ms .. 3 ms;
+ PALS_Profile::Network => 1 ms .. 4 ms;
+end Top.impl;
+end Pair;
+%%%
+";
 
-// A skew of 1 ms, execution of at most 3 ms, and a network of 1 to 4 ms.
-const BOUNDS: Gamma = Gamma {
-    eps: MILLI,
-    alpha_min: 0,
-    alpha_max: 3 * MILLI,
-    mu_min: MILLI,
-    mu_max: 4 * MILLI,
-};
+const PLANE: &str = "package Plane public
+thread Main features
+ goal: in data port Base_Types::Integer;
+ l: in data port Base_Types::Integer;
+ r: in data port Base_Types::Integer;
+ t: in data port Base_Types::Integer;
+ cmd: out data port Base_Types::Integer;
+properties Dispatch_Protocol => Periodic;
+end Main;
+thread implementation Main.impl annex behavior_specification {**
+variables sum: Base_Types::Integer;
+states s: initial complete state;
+transitions s -[on dispatch]-> s;
+**};
+end Main.impl;
+thread Surface features
+ target: in data port Base_Types::Integer;
+ angle: out data port Base_Types::Integer;
+properties Dispatch_Protocol => Periodic;
+end Surface;
+thread implementation Surface.impl annex behavior_specification {**
+variables a: Base_Types::Integer;
+states s: initial complete state;
+transitions s -[on dispatch]-> s;
+**};
+end Surface.impl;
+process P features goal: in data port Base_Types::Integer; end P;
+process implementation P.impl
+subcomponents
+ m: thread Main.impl;
+ l: thread Surface.impl;
+ r: thread Surface.impl {Period => 10 ms;};
+ t: thread Surface.impl {Period => 5 ms;};
+connections
+ g: port goal -> m.goal;
+ c1: port m.cmd -> l.target {Timing => Delayed;};
+ c2: port m.cmd -> r.target {Timing => Delayed; PALS_Profile::Input_Adaptor => \"repeat\";};
+ c3: port m.cmd -> t.target {Timing => Delayed; PALS_Profile::Input_Adaptor => \"repeat\";};
+ c4: port l.angle -> m.l {Timing => Delayed;};
+ c5: port r.angle -> m.r {Timing => Delayed; PALS_Profile::Input_Adaptor => \"last\";};
+ c6: port t.angle -> m.t {Timing => Delayed; PALS_Profile::Input_Adaptor => \"average\";};
+end P.impl;
+system Top features goal: in data port Base_Types::Integer; end Top;
+system implementation Top.impl
+subcomponents p: process P.impl;
+connections g: port goal -> p.goal;
+properties Period => 20 ms; PALS_Profile::Skew => 1 ms;
+ PALS_Profile::Execution => 0 ms .. 3 ms;
+ PALS_Profile::Network => 1 ms .. 4 ms;
+end Top.impl;
+end Plane;
+%%%
+";
+
+const SWITCH: &str = "package Switch public
+thread Sender features
+ level: in data port Base_Types::Integer;
+ on: in data port Base_Types::Boolean;
+ flag: out data port Base_Types::Boolean;
+properties Dispatch_Protocol => Periodic; Period => 10 ms;
+end Sender;
+thread implementation Sender.impl annex behavior_specification {**
+variables y, z: Base_Types::Integer;
+states s: initial complete state;
+transitions s -[on dispatch]-> s;
+**};
+end Sender.impl;
+thread Reader features
+ flag: in data port Base_Types::Boolean;
+ shown: out data port Base_Types::Boolean;
+properties Dispatch_Protocol => Periodic; Period => 10 ms;
+end Reader;
+thread implementation Reader.impl annex behavior_specification {**
+states s: initial complete state;
+transitions s -[on dispatch]-> s;
+**};
+end Reader.impl;
+process Q features
+ level: in data port Base_Types::Integer;
+ on: in data port Base_Types::Boolean;
+ shown: out data port Base_Types::Boolean;
+end Q;
+process implementation Q.impl
+subcomponents
+ s: thread Sender.impl;
+ f: thread Reader.impl;
+connections
+ c1: port level -> s.level;
+ c2: port on -> s.on;
+ c3: port s.flag -> f.flag {Timing => Delayed;};
+ c4: port f.shown -> shown;
+end Q.impl;
+system Top features
+ level: in data port Base_Types::Integer;
+ on: in data port Base_Types::Boolean;
+ shown: out data port Base_Types::Boolean;
+end Top;
+system implementation Top.impl
+subcomponents q: process Q.impl;
+connections
+ c1: port level -> q.level {PALS_Profile::Input_Adaptor => \"repeat\";};
+ c2: port on -> q.on {PALS_Profile::Input_Adaptor => \"first\";};
+ c3: port q.shown -> shown;
+properties Period => 20 ms; PALS_Profile::Skew => 1 ms;
+ PALS_Profile::Execution => 0 ms .. 3 ms;
+ PALS_Profile::Network => 1 ms .. 4 ms;
+end Top.impl;
+end Switch;
+%%%
+";
 
 /// The designs of the table.
-#[derive(Clone, Copy, PartialEq, Eq, Debug)]
+#[derive(Clone, Copy)]
 pub enum Example {
     /// Two threads of rate 1 that read each other: `p.a` and `p.b`, each with the variable `x`.
     Pair,
@@ -30,204 +160,19 @@ pub enum Example {
     Switch,
 }
 
-type Port = (&'static str, Kind);
-
-fn ports(alloc: Global, names: &[Port]) -> Result<Items<Named>, NoMemory> {
-    let mut ports = Items::new(alloc);
-    for (name, kind) in names {
-        ports.push(Named {
-            name: Text::from_str(alloc, name)?,
-            kind: *kind,
-        })?;
+fn bundle(example: Example) -> &'static str {
+    match example {
+        Example::Pair => PAIR,
+        Example::Plane => PLANE,
+        Example::Switch => SWITCH,
     }
-    Ok(ports)
-}
-
-fn variables(alloc: Global, names: &[&str]) -> Result<Items<VarDecl>, NoMemory> {
-    let mut variables = Items::new(alloc);
-    for name in names {
-        variables.push(VarDecl {
-            name: Text::from_str(alloc, name)?,
-            kind: Kind::Integer,
-            first: 0,
-        })?;
-    }
-    Ok(variables)
-}
-
-// A thread of one state that does nothing.
-fn behaviour(
-    rt: &impl Abort,
-    alloc: Global,
-    ins: &[Port],
-    outs: &[Port],
-    names: &[&str],
-) -> Result<Behaviour, NoMemory> {
-    let state = StateDecl {
-        name: Text::from_str(alloc, "s")?,
-        complete: true,
-    };
-    let step = Transition {
-        source: 0,
-        target: 0,
-        guard: Guard::Dispatch,
-        acts: Vec::new(alloc),
-    };
-    let parts = BehaviourParts {
-        ins: ports(alloc, ins)?,
-        outs: ports(alloc, outs)?,
-        vars: variables(alloc, names)?,
-        states: Items::from_vec(vec![in alloc; state]?),
-        initial: 0,
-        transitions: Items::from_vec(vec![in alloc; step]?),
-    };
-    match Behaviour::try_new(alloc, parts)? {
-        Some(behaviour) => Ok(behaviour),
-        None => panic!(rt; "the parts break a rule of behaviours"),
-    }
-}
-
-fn component(
-    alloc: Global,
-    path: &str,
-    rate: u32,
-    behaviour: Behaviour,
-) -> Result<Component, NoMemory> {
-    let path = Text::from_str(alloc, path)?;
-    Ok(Component {
-        path,
-        rate,
-        behaviour,
-    })
-}
-
-fn link(source: u32, target: u32, in_port: u32, adaptor: Option<Adaptor>) -> Link {
-    Link {
-        source: NodeNo(source),
-        out_port: 0,
-        target: NodeNo(target),
-        in_port,
-        adaptor,
-    }
-}
-
-fn feed(alloc: Global, name: &str, in_port: u32) -> Result<Feed, NoMemory> {
-    let name = Text::from_str(alloc, name)?;
-    Ok(Feed {
-        name,
-        target: NodeNo(0),
-        in_port,
-        adaptor: None,
-    })
-}
-
-fn accepted(
-    rt: &impl Abort,
-    alloc: Global,
-    components: Items<Component>,
-    links: Vec<Link>,
-    feeds: Vec<Feed>,
-    taps: Vec<Tap>,
-) -> Design {
-    let parts = DesignParts {
-        period: 20 * MILLI,
-        gamma: BOUNDS,
-        components,
-        links: Items::from_vec(links),
-        feeds: Items::from_vec(feeds),
-        taps: Items::from_vec(taps),
-        ignored: Items::new(alloc),
-    };
-    match Design::try_new(parts) {
-        Some(design) => design,
-        None => panic!(rt; "the parts break a rule of designs"),
-    }
-}
-
-fn pair(rt: &impl Abort, alloc: Global) -> Result<Design, NoMemory> {
-    let mut components = Items::new(alloc);
-    for path in ["p.a", "p.b"] {
-        let ins = [("i", Kind::Integer)];
-        let outs = [("o", Kind::Integer)];
-        let counter = behaviour(rt, alloc, &ins, &outs, &["x"])?;
-        components.push(component(alloc, path, 1, counter)?)?;
-    }
-    let links = vec![in alloc; link(1, 0, 0, None), link(0, 1, 0, None)]?;
-    Ok(accepted(
-        rt,
-        alloc,
-        components,
-        links,
-        Vec::new(alloc),
-        Vec::new(alloc),
-    ))
-}
-
-fn plane(rt: &impl Abort, alloc: Global) -> Result<Design, NoMemory> {
-    let integer = Kind::Integer;
-    let ins = [
-        ("goal", integer),
-        ("l", integer),
-        ("r", integer),
-        ("t", integer),
-    ];
-    let main = behaviour(rt, alloc, &ins, &[("cmd", integer)], &["sum"])?;
-    let mut components = Items::new(alloc);
-    components.push(component(alloc, "p.m", 1, main)?)?;
-    for (path, rate) in [("p.l", 1), ("p.r", 2), ("p.t", 4)] {
-        let surface = behaviour(
-            rt,
-            alloc,
-            &[("target", integer)],
-            &[("angle", integer)],
-            &["a"],
-        )?;
-        components.push(component(alloc, path, rate, surface)?)?;
-    }
-    let links = vec![in alloc;
-        link(1, 0, 1, None),
-        link(2, 0, 2, Some(Adaptor::Last)),
-        link(3, 0, 3, Some(Adaptor::Average)),
-        link(0, 1, 0, None),
-        link(0, 2, 0, Some(Adaptor::Repeat)),
-        link(0, 3, 0, Some(Adaptor::Repeat)),
-    ]?;
-    let feeds = vec![in alloc; feed(alloc, "goal", 0)?]?;
-    Ok(accepted(rt, alloc, components, links, feeds, Vec::new(alloc)))
-}
-
-fn switch(rt: &impl Abort, alloc: Global) -> Result<Design, NoMemory> {
-    let ins = [("level", Kind::Integer), ("on", Kind::Boolean)];
-    let sender = behaviour(rt, alloc, &ins, &[("flag", Kind::Boolean)], &["y", "z"])?;
-    let reader = behaviour(
-        rt,
-        alloc,
-        &[("flag", Kind::Boolean)],
-        &[("shown", Kind::Boolean)],
-        &[],
-    )?;
-    let mut components = Items::new(alloc);
-    components.push(component(alloc, "q.s", 2, sender)?)?;
-    components.push(component(alloc, "q.f", 2, reader)?)?;
-    let links = vec![in alloc; link(0, 1, 0, None)]?;
-    let mut level = feed(alloc, "level", 0)?;
-    level.adaptor = Some(Adaptor::Repeat);
-    let mut on = feed(alloc, "on", 1)?;
-    on.adaptor = Some(Adaptor::First);
-    let feeds = vec![in alloc; level, on]?;
-    let tap = Tap {
-        name: Text::from_str(alloc, "shown")?,
-        source: NodeNo(1),
-        out_port: 0,
-    };
-    Ok(accepted(rt, alloc, components, links, feeds, vec![in alloc; tap]?))
 }
 
 /// A design of the table.
 pub fn design(rt: &impl Abort, alloc: Global, example: Example) -> Result<Design, NoMemory> {
-    match example {
-        Example::Pair => pair(rt, alloc),
-        Example::Plane => plane(rt, alloc),
-        Example::Switch => switch(rt, alloc),
+    let root = Text::from_str(alloc, "Top.impl")?;
+    match accept(alloc, bundle(example).as_bytes(), &root) {
+        Ok(accepted) => Ok(accepted.design),
+        Err(_refusal) => panic!(rt; "the bundle has no design"),
     }
 }

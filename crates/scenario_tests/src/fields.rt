@@ -1,30 +1,58 @@
 //! What scenarios that are read hold.
 use crate::answers::scenario;
 use crate::designs::Example;
-use pals_base::{LinkNo, NodeNo, Port};
+use pals_base::{LinkNo, NodeNo, Port, Text};
 use pals_clock::Clocks;
+use pals_model::{Delays, Env};
 use pals_runs::Event;
-use std::test::Fail;
+use scenario_json::Scenario;
 
 const DEFAULTS: &[u8] = b"{\"rounds\":2}";
 
-#[test]
-fn fields_that_are_missing(rt: HostRuntime) -> Result<(), Fail> {
-    let Ok(read) = scenario(&rt, rt.alloc(), Example::Plane, "sync", DEFAULTS) else {
-        panic!(rt; "refused");
-    };
-    assert_eq!(rt; read.rounds, 2);
-    assert_eq!(rt; read.env.lists.len(), 1);
-    assert_eq!(rt; read.env.lists.as_slice()[0].len(), 0);
-    assert!(rt; matches!(read.clocks, Clocks::Meet));
-    assert_eq!(rt; read.delays.lists.len(), 6);
-    for delays in read.delays.lists.iter() {
-        assert_eq!(rt; delays.as_slice(), [1_000_000].as_slice());
+// Whether the links have their least delays.
+fn are_least(delays: &Delays) -> bool {
+    for list in delays.lists.iter() {
+        if list.as_slice() != [1_000_000].as_slice() {
+            return false;
+        }
     }
-    assert!(rt; read.events.is_empty() && read.trace.is_empty() && read.properties.is_empty());
-    assert!(rt; read.replicas.is_empty() && read.faults.is_empty());
-    assert!(rt; read.plants.is_empty() && read.processors.is_empty());
-    Ok(())
+    delays.lists.len() == 6
+}
+
+// Whether there is one feed, and no value for it.
+fn is_silent(env: &Env) -> bool {
+    match env.lists.as_slice() {
+        [list] => list.is_empty(),
+        _ => false,
+    }
+}
+
+fn has_no_lists(read: &Scenario) -> bool {
+    read.events.is_empty()
+        && read.trace.is_empty()
+        && read.properties.is_empty()
+        && read.replicas.is_empty()
+        && read.faults.is_empty()
+        && read.plants.is_empty()
+        && read.processors.is_empty()
+}
+
+// Whether a scenario holds the rounds of the one above, and nothing else.
+fn has_defaults(read: &Scenario) -> bool {
+    read.rounds == 2
+        && is_silent(&read.env)
+        && matches!(read.clocks, Clocks::Meet)
+        && are_least(&read.delays)
+        && has_no_lists(read)
+}
+
+#[test]
+fn fields_that_are_missing(rt: HostRuntime) {
+    let asked = (Example::Plane, "sync");
+    match scenario(&rt, rt.alloc(), asked, DEFAULTS) {
+        Ok(read) => assert!(rt; has_defaults(&read)),
+        Err(_) => panic!(rt; "refused"),
+    }
 }
 
 const RUN: &[u8] = b"{\"rounds\":2,
@@ -33,31 +61,54 @@ const RUN: &[u8] = b"{\"rounds\":2,
 \"delays\":{\"q.f.flag\":[3,4]},
 \"trace\":[\"round 0\",\"\\u00e9\"]}";
 
+const ON: [Port; 3] = [Port::Present(1), Port::Absent, Port::Present(0)];
+
+fn are_inputs(env: &Env) -> bool {
+    let [level, on] = env.lists.as_slice() else {
+        return false;
+    };
+    level.as_slice() == [Port::Present(-5)].as_slice() && on.as_slice() == ON.as_slice()
+}
+
+fn are_clocks(clocks: &Clocks) -> bool {
+    let Clocks::Lists(clocks) = clocks else {
+        return false;
+    };
+    let [sender, reader] = clocks.as_slice() else {
+        return false;
+    };
+    sender.readings().is_empty() && reader.readings() == [1, 1, 7].as_slice()
+}
+
+fn are_delays(delays: &Delays) -> bool {
+    match delays.lists.as_slice() {
+        [delays] => delays.as_slice() == [3, 4].as_slice(),
+        _ => false,
+    }
+}
+
+fn is_trace(trace: &[Text]) -> bool {
+    match trace {
+        [_round, letter] => letter.as_bytes() == b"\xc3\xa9".as_slice(),
+        _ => false,
+    }
+}
+
+// Whether a scenario holds what is in the one above.
+fn is_run(read: &Scenario) -> bool {
+    are_inputs(&read.env)
+        && are_clocks(&read.clocks)
+        && are_delays(&read.delays)
+        && is_trace(read.trace.as_slice())
+}
+
 #[test]
-fn fields_of_runs(rt: HostRuntime) -> Result<(), Fail> {
-    let Ok(read) = scenario(&rt, rt.alloc(), Example::Switch, "audit", RUN) else {
-        panic!(rt; "refused");
-    };
-    let lists = read.env.lists.as_slice();
-    assert_eq!(rt; lists.len(), 2);
-    assert_eq!(rt; lists[0].as_slice(), [Port::Present(-5)].as_slice());
-    let on = [Port::Present(1), Port::Absent, Port::Present(0)];
-    assert_eq!(rt; lists[1].as_slice(), on.as_slice());
-    let Clocks::Lists(clocks) = &read.clocks else {
-        panic!(rt; "other clocks");
-    };
-    assert_eq!(rt; clocks.len(), 2);
-    assert_eq!(rt; clocks.as_slice()[0].readings().len(), 0);
-    assert_eq!(rt; clocks.as_slice()[1].readings(), [1, 1, 7].as_slice());
-    let [delays] = read.delays.lists.as_slice() else {
-        panic!(rt; "other delays");
-    };
-    assert_eq!(rt; delays.as_slice(), [3, 4].as_slice());
-    let [_round, letter] = read.trace.as_slice() else {
-        panic!(rt; "other lines");
-    };
-    assert_eq!(rt; letter.as_bytes(), b"\xc3\xa9".as_slice());
-    Ok(())
+fn fields_of_runs(rt: HostRuntime) {
+    let asked = (Example::Switch, "audit");
+    match scenario(&rt, rt.alloc(), asked, RUN) {
+        Ok(read) => assert!(rt; is_run(&read)),
+        Err(_) => panic!(rt; "refused"),
+    }
 }
 
 const EVENTS: &[u8] = b"{\"rounds\":2,\"events\":[
@@ -84,10 +135,10 @@ fn are_events(events: &[Event]) -> bool {
 }
 
 #[test]
-fn events_of_worlds(rt: HostRuntime) -> Result<(), Fail> {
-    let Ok(read) = scenario(&rt, rt.alloc(), Example::Pair, "sync", EVENTS) else {
-        panic!(rt; "refused");
-    };
-    assert!(rt; are_events(read.events.as_slice()));
-    Ok(())
+fn events_of_worlds(rt: HostRuntime) {
+    let asked = (Example::Pair, "sync");
+    match scenario(&rt, rt.alloc(), asked, EVENTS) {
+        Ok(read) => assert!(rt; are_events(read.events.as_slice())),
+        Err(_) => panic!(rt; "refused"),
+    }
 }

@@ -1,11 +1,11 @@
 //! The lines of journals, of refused events and of refused scenarios.
 use crate::designs::{Example, design};
 use pals_base::{LinkNo, NoMemory, NodeNo, Text};
+use pals_model::Design;
 use pals_runs::{Arrived, Cause, EventFault, JournalEntry, Stop, Which};
 use run_lines::{add_entry, add_event_fault, add_scenario_fault};
 use scenario_json::ScenarioFault;
 use std::alloc::Global;
-use std::test::Fail;
 
 const A: NodeNo = NodeNo(0);
 
@@ -127,20 +127,21 @@ arrive p.b.i 1 18000000 kept\n\
 stop missed p.b.i 0 18000000 in-transit\n\
 stop missed p.a.i 0 18000000 not-sent\n";
 
+fn journal(alloc: Global, design: &Design, entries: &[JournalEntry]) -> Result<Vec<u8>, NoMemory> {
+    let mut text = Vec::new(alloc);
+    for entry in entries {
+        add_entry(&mut text, design, entry)?;
+    }
+    Ok(text)
+}
+
 #[test]
-fn writes_journals(rt: HostRuntime) -> Result<(), Fail> {
-    let alloc = rt.alloc();
-    let design = design(&rt, alloc, Example::Pair)?;
-    let mut text = Vec::new(alloc);
-    for entry in &LOST_MESSAGE {
-        add_entry(&mut text, &design, entry)?;
-    }
-    assert_eq!(rt; text.as_slice(), LOST_MESSAGE_LINES);
-    let mut text = Vec::new(alloc);
-    for entry in &TIMED {
-        add_entry(&mut text, &design, entry)?;
-    }
-    assert_eq!(rt; text.as_slice(), TIMED_LINES);
+fn writes_journals(rt: HostRuntime) -> Result<(), NoMemory> {
+    let design = design(&rt, rt.alloc(), Example::Pair)?;
+    let lost = journal(rt.alloc(), &design, &LOST_MESSAGE)?;
+    assert!(rt; lost.as_slice() == LOST_MESSAGE_LINES);
+    let timed = journal(rt.alloc(), &design, &TIMED)?;
+    assert!(rt; timed.as_slice() == TIMED_LINES);
     Ok(())
 }
 
@@ -221,39 +222,44 @@ const REFUSED_EVENTS: [(u32, EventFault, &str); 13] = [
     (9, EventFault::Memory, "event 9 Memory\n"),
 ];
 
-#[test]
-fn writes_refused_events(rt: HostRuntime) -> Result<(), Fail> {
-    let alloc = rt.alloc();
-    let design = design(&rt, alloc, Example::Pair)?;
-    for (index, fault, line) in &REFUSED_EVENTS {
-        let mut text = Vec::new(alloc);
-        add_event_fault(&mut text, &design, *index, fault)?;
-        assert_eq!(rt; text.as_slice(), line.as_bytes());
-    }
-    Ok(())
-}
-
-fn fault_line(alloc: Global, fault: &ScenarioFault) -> Result<Vec<u8>, NoMemory> {
-    let mut text = Vec::from_slice(alloc, b"before\n")?;
-    add_scenario_fault(&mut text, fault)?;
+fn event_fault_line(
+    alloc: Global,
+    design: &Design,
+    index: u32,
+    fault: &EventFault,
+) -> Result<Vec<u8>, NoMemory> {
+    let mut text = Vec::new(alloc);
+    add_event_fault(&mut text, design, index, fault)?;
     Ok(text)
 }
 
 #[test]
-fn writes_refused_scenarios(rt: HostRuntime) -> Result<(), Fail> {
+fn writes_refused_events(rt: HostRuntime) -> Result<(), NoMemory> {
+    let design = design(&rt, rt.alloc(), Example::Pair)?;
+    for (index, fault, line) in &REFUSED_EVENTS {
+        let text = event_fault_line(rt.alloc(), &design, *index, fault)?;
+        assert!(rt; text.as_slice() == line.as_bytes(), "{line}");
+    }
+    Ok(())
+}
+
+// Whether the line of a fault is this one, behind what was there before.
+fn is_fault_line(alloc: Global, fault: &ScenarioFault, line: &str) -> Result<bool, NoMemory> {
+    let mut text = Vec::from_slice(alloc, b"before\n")?;
+    add_scenario_fault(&mut text, fault)?;
+    Ok(text.as_slice() == line.as_bytes())
+}
+
+#[test]
+fn writes_refused_scenarios(rt: HostRuntime) -> Result<(), NoMemory> {
     let alloc = rt.alloc();
-    let text = fault_line(alloc, &ScenarioFault::NotJson)?;
-    assert_eq!(rt; text.as_slice(), b"before\nscenario NotJson\n".as_slice());
+    let line = "before\nscenario NotJson\n";
+    assert!(rt; is_fault_line(alloc, &ScenarioFault::NotJson, line)?);
     let name = Text::from_str(alloc, "inputs/a goal/2")?;
-    let text = fault_line(alloc, &ScenarioFault::WrongKind { name })?;
-    assert_eq!(rt;
-        text.as_slice(),
-        b"before\nscenario WrongKind inputs/a goal/2\n".as_slice()
-    );
-    let text = fault_line(alloc, &ScenarioFault::TooBig { cells: u64::MAX })?;
-    assert_eq!(rt;
-        text.as_slice(),
-        b"before\nscenario TooBig 18446744073709551615\n".as_slice()
-    );
+    let line = "before\nscenario WrongKind inputs/a goal/2\n";
+    assert!(rt; is_fault_line(alloc, &ScenarioFault::WrongKind { name }, line)?);
+    let cells = u64::MAX;
+    let line = "before\nscenario TooBig 18446744073709551615\n";
+    assert!(rt; is_fault_line(alloc, &ScenarioFault::TooBig { cells }, line)?);
     Ok(())
 }

@@ -8,27 +8,31 @@ mod runs;
 mod votes;
 mod whole;
 
-use crate::answers::answer;
+use crate::answers::is_answer;
 use crate::designs::Example;
-use std::test::Fail;
+use pals_base::NoMemory;
 
 pub type Row = (Example, &'static str, &'static str, &'static str);
 
+const TABLES: [&[Row]; 7] = [
+    &whole::ROWS,
+    &inputs::ROWS,
+    &events::ROWS,
+    &runs::ROWS,
+    &properties::ROWS,
+    &votes::ROWS,
+    &pairs::ROWS,
+];
+
 #[test]
-fn refused_scenarios(rt: HostRuntime) -> Result<(), Fail> {
-    let tables: [&[Row]; 7] = [
-        &whole::ROWS,
-        &inputs::ROWS,
-        &events::ROWS,
-        &runs::ROWS,
-        &properties::ROWS,
-        &votes::ROWS,
-        &pairs::ROWS,
-    ];
-    for table in tables {
-        for (example, words, text, expected) in table {
-            let got = answer(&rt, rt.alloc(), *example, words, text.as_bytes())?;
-            assert_eq!(rt; got.as_slice(), expected.as_bytes(), "{words} {text}");
+fn refused_scenarios(rt: HostRuntime) -> Result<(), NoMemory> {
+    for table in &TABLES {
+        for (example, words, text, expected) in *table {
+            let asked = (*example, *words);
+            assert!(rt;
+                is_answer(&rt, rt.alloc(), asked, text.as_bytes(), expected)?,
+                "{words} {text}"
+            );
         }
     }
     Ok(())
