@@ -1,0 +1,11 @@
+pub mod Clear
+pub mod Expressions
+pub mod Actions
+pub mod Possible
+pub mod Annexes
+pub mod Declaring
+pub mod Covering
+pub mod Found
+pub mod Again
+pub mod Findings
+pub mod Faults
