@@ -1,4 +1,4 @@
--- What the source shows and the words decide the status of a call.
+-- What the source shows and the words decide the answer of a call.
 use Rattle.std.proofs.Common.{◌≡◌, ◌∙◌, inl, inr, ℕ, ◌+◌, ◌-◌, ◌^◌, ◌<◌, ◌≤◌, min, List, length, Option, Some, None, sym, ap, subst, arith}
 use Rattle.std.specs.Prelude.{IfSome}
 use Rattle.pals_base.specs.declared.limits.TheConstants.{BUNDLE_BYTES}
@@ -7,10 +7,11 @@ use Rattle.pals_runs.specs.declared.commands.Command.{Command}
 use Rattle.pals_top.specs.Outside.{Reading, HasRead}
 use Rattle.pals_top.specs.Answers.{IsCommandAnswer, IsAnswer}
 
--- a command and a bundle have one status
-abbrev pub StatusIsDecided : Type 0
-StatusIsDecided =
-    (command : Command) (bundle : List ℕ) (s t : ℕ) (a b : List ℕ) → IsCommandAnswer command bundle s a → IsCommandAnswer command bundle t b → s ≡ t
+-- a command and a bundle have one answer
+abbrev pub AnswerIsDecided : Type 0
+AnswerIsDecided =
+    (command : Command) (bundle : List ℕ) (s t : ℕ) (a b : List ℕ)
+    → IsCommandAnswer command bundle s a → IsCommandAnswer command bundle t b → (s ≡ t) × (a ≡ b)
 
 pub no_room : (n top : ℕ) → n < top → min (n + 1) top ≡ n → ⊥
 no_room n top few e = absurd (omega arith)
@@ -38,21 +39,21 @@ module _ (seen : Reading) (left : List ℕ) (told : seen.before.left ≡ Some le
   read_or_long : (bytes : List ℕ) → HasRead seen bytes → GivesTooMany seen.before seen.after BUNDLE_BYTES → ⊥
   read_or_long bytes x y = too_long_by (length bytes) (length left) BUNDLE_BYTES (ap length (all_read bytes x)) x.within (too_long y)
 
-  module _ (decided : StatusIsDecided) where
-    same_status : (command : Option Command) (s t : ℕ) (a b : List ℕ) → IsAnswer command seen s a → IsAnswer command seen t b → s ≡ t
-    same_status None s t a b x y = x.0 ∙ sym y.0
-    same_status (Some command) s t a b (inl x) (inl y) =
+  module _ (decided : AnswerIsDecided) where
+    same_answer : (command : Option Command) (s t : ℕ) (a b : List ℕ) → IsAnswer command seen s a → IsAnswer command seen t b → (s ≡ t) × (a ≡ b)
+    same_answer None s t a b x y = (x.0 ∙ sym y.0, x.1 ∙ sym y.1)
+    same_answer (Some command) s t a b (inl x) (inl y) =
         let same = all_read x.bundle x.read ∙ sym (all_read y.bundle y.read) in
         decided command y.bundle s t a b (subst (λ (w : List ℕ). IsCommandAnswer command w s a) same x.answer) y.answer
-    same_status (Some command) s t a b (inl x) (inr (inl y)) = absurd (read_or_failed x.bundle x.read y.1)
-    same_status (Some command) s t a b (inl x) (inr (inr y)) = absurd (read_or_long x.bundle x.read y.1)
-    same_status (Some command) s t a b (inr (inl x)) (inl y) = absurd (read_or_failed y.bundle y.read x.1)
-    same_status (Some command) s t a b (inr (inl x)) (inr (inl y)) = x.0 ∙ sym y.0
-    same_status (Some command) s t a b (inr (inl x)) (inr (inr y)) = absurd (long_or_failed y.1 x.1)
-    same_status (Some command) s t a b (inr (inr x)) (inl y) = absurd (read_or_long y.bundle y.read x.1)
-    same_status (Some command) s t a b (inr (inr x)) (inr (inl y)) = absurd (long_or_failed x.1 y.1)
-    same_status (Some command) s t a b (inr (inr x)) (inr (inr y)) = x.0 ∙ sym y.0
+    same_answer (Some command) s t a b (inl x) (inr (inl y)) = absurd (read_or_failed x.bundle x.read y.1)
+    same_answer (Some command) s t a b (inl x) (inr (inr y)) = absurd (read_or_long x.bundle x.read y.1)
+    same_answer (Some command) s t a b (inr (inl x)) (inl y) = absurd (read_or_failed y.bundle y.read x.1)
+    same_answer (Some command) s t a b (inr (inl x)) (inr (inl y)) = (x.0 ∙ sym y.0, x.2 ∙ sym y.2)
+    same_answer (Some command) s t a b (inr (inl x)) (inr (inr y)) = absurd (long_or_failed y.1 x.1)
+    same_answer (Some command) s t a b (inr (inr x)) (inl y) = absurd (read_or_long y.bundle y.read x.1)
+    same_answer (Some command) s t a b (inr (inr x)) (inr (inl y)) = absurd (long_or_failed x.1 y.1)
+    same_answer (Some command) s t a b (inr (inr x)) (inr (inr y)) = (x.0 ∙ sym y.0, x.2 ∙ sym y.2)
 
-pub one_status : StatusIsDecided → (command : Option Command) (seen : Reading) (left : List ℕ) → seen.before.left ≡ Some left
-    → seen.before.faults < 2 ^ 64 - 1 → (s t : ℕ) (a b : List ℕ) → IsAnswer command seen s a → IsAnswer command seen t b → s ≡ t
-one_status decided command seen left told few s t a b x y = same_status seen left told few decided command s t a b x y
+pub one_answer : AnswerIsDecided → (command : Option Command) (seen : Reading) (left : List ℕ) → seen.before.left ≡ Some left
+    → seen.before.faults < 2 ^ 64 - 1 → (s t : ℕ) (a b : List ℕ) → IsAnswer command seen s a → IsAnswer command seen t b → (s ≡ t) × (a ≡ b)
+one_answer decided command seen left told few s t a b x y = same_answer seen left told few decided command s t a b x y

@@ -1,5 +1,5 @@
--- A command and a bundle have one status, and one text at each status but that of a refused design.
-use Rattle.std.proofs.Common.{◌≡◌, ◌≢◌, ◌∙◌, ◌⊎◌, inl, inr, ℕ, true, List, sym, ap, subst}
+-- A command and a bundle have one status, and one text.
+use Rattle.std.proofs.Common.{◌≡◌, ◌∙◌, inl, inr, ℕ, true, List, sym, ap, subst}
 use Rattle.pals_model.specs.declared.design.DesignParts.{DesignParts}
 use Rattle.pals_model.specs.RoundTexts.{report}
 use Rattle.pals_runs.specs.declared.commands.Command.{Command}
@@ -16,20 +16,18 @@ use Rattle.pals_top.specs.Check.{IsChecked, IsCheckAnswer}
 use Rattle.pals_top.specs.Sync.{IsReported, IsSyncAnswer}
 use Rattle.pals_top.specs.Loose.{IsLooseAnswer}
 use Rattle.pals_top.specs.Answers.{IsCommandAnswer}
-use Rattle.answer_laws.specs.Agreement.{NameOneFaultOf, TellTheSame}
 use Rattle.answer_laws.proofs.Laws.{OneDesign, OneFault}
-use Rattle.answer_laws.proofs.Designs.{one_tree, read_or_refused, one_refused_text, one_accepted, accepted_or_refused, package_or_text, packages_told}
+use Rattle.answer_laws.proofs.Designs.{one_tree, read_or_refused, one_refused_text, one_accepted, accepted_or_refused, package_or_text, one_refused_package}
 use Rattle.answer_laws.proofs.Meanings.{one_report}
 use Rattle.answer_laws.proofs.Scenarios.{one_meaning, one_scenario_fault, meant_or_refused}
 use Rattle.answer_laws.proofs.Loose.{IsAnswered, answered_design, one_answered}
 
--- two answers agree, or tell this
-abbrev pub Agree : Type 0 → ℕ → List ℕ → ℕ → List ℕ → Type 0
-Agree told s a t b = (s ≡ t) × (s ≢ 4 → a ≡ b) × ((a ≡ b) ⊎ told)
+-- two answers are of one status, and have one text
+abbrev pub Agree : ℕ → List ℕ → ℕ → List ℕ → Type 0
+Agree s a t b = (s ≡ t) × (a ≡ b)
 
--- both are of one status, and have one text
-alike : {told : Type 0} → (n s t : ℕ) (a b : List ℕ) → s ≡ n → t ≡ n → a ≡ b → Agree told s a t b
-alike n s t a b e f same = (e ∙ sym f, λ other. same, inl same)
+alike : (n s t : ℕ) (a b : List ℕ) → s ≡ n → t ≡ n → a ≡ b → Agree s a t b
+alike n s t a b e f same = (e ∙ sym f, same)
 
 -- ---- print
 printed : (bundle a b : List ℕ) → IsPrinted bundle a → IsPrinted bundle b → a ≡ b
@@ -37,7 +35,7 @@ printed bundle a b x y =
     let tree = one_tree bundle x.design y.design x.scenario y.scenario x.tree y.tree x.parsed y.parsed in
     x.text_is ∙ (ap (λ (t : PackageTree ℕ). canon t) tree ∙ sym y.text_is)
 
-print_agrees : (bundle : List ℕ) (s t : ℕ) (a b : List ℕ) → IsPrintAnswer bundle s a → IsPrintAnswer bundle t b → Agree ⊥ s a t b
+print_agrees : (bundle : List ℕ) (s t : ℕ) (a b : List ℕ) → IsPrintAnswer bundle s a → IsPrintAnswer bundle t b → Agree s a t b
 print_agrees bundle s t a b (inl x) (inl y) = alike 0 s t a b x.0 y.0 (printed bundle a b x.1 y.1)
 print_agrees bundle s t a b (inl x) (inr y) =
     absurd (read_or_refused bundle x.1.design x.1.scenario x.1.tree b x.1.parsed y.1)
@@ -47,12 +45,11 @@ print_agrees bundle s t a b (inr x) (inr y) = alike 3 s t a b x.0 y.0 (one_refus
 
 module _ (one_design : OneDesign) (one_fault : OneFault) (one_end : OneEnd) where
   -- ---- refusals
-  refusals_agree : (root bundle : List ℕ) (s t : ℕ) (a b : List ℕ) → IsBundleRefused root bundle s a → IsBundleRefused root bundle t b
-      → Agree (NameOneFaultOf root bundle a b) s a t b
+  refusals_agree : (root bundle : List ℕ) (s t : ℕ) (a b : List ℕ) → IsBundleRefused root bundle s a → IsBundleRefused root bundle t b → Agree s a t b
   refusals_agree root bundle s t a b (inl x) (inl y) = alike 3 s t a b x.0 y.0 (one_refused_text bundle a b x.1 y.1)
   refusals_agree root bundle s t a b (inl x) (inr y) = absurd (package_or_text root bundle b a y.1 x.1)
   refusals_agree root bundle s t a b (inr x) (inl y) = absurd (package_or_text root bundle a b x.1 y.1)
-  refusals_agree root bundle s t a b (inr x) (inr y) = (x.0 ∙ sym y.0, λ other. absurd (other x.0), packages_told one_fault root bundle a b x.1 y.1)
+  refusals_agree root bundle s t a b (inr x) (inr y) = alike 4 s t a b x.0 y.0 (one_refused_package one_fault root bundle a b x.1 y.1)
 
   -- ---- check
   checked : (root bundle a b : List ℕ) → IsChecked root bundle a → IsChecked root bundle b → a ≡ b
@@ -60,8 +57,7 @@ module _ (one_design : OneDesign) (one_fault : OneFault) (one_end : OneEnd) wher
       let design = (one_accepted one_design root bundle x.design y.design x.scenario y.scenario x.accepted y.accepted).0 in
       one_report y.design a b (subst (λ (d : DesignParts). IsCheckReport d a) design x.report) y.report
 
-  check_agrees : (root bundle : List ℕ) (s t : ℕ) (a b : List ℕ) → IsCheckAnswer root bundle s a → IsCheckAnswer root bundle t b
-      → Agree (NameOneFaultOf root bundle a b) s a t b
+  check_agrees : (root bundle : List ℕ) (s t : ℕ) (a b : List ℕ) → IsCheckAnswer root bundle s a → IsCheckAnswer root bundle t b → Agree s a t b
   check_agrees root bundle s t a b (inl x) (inl y) = alike 0 s t a b x.0 y.0 (checked root bundle a b x.1 y.1)
   check_agrees root bundle s t a b (inl x) (inr y) = absurd (accepted_or_refused root bundle x.1.design x.1.scenario t b x.1.accepted y)
   check_agrees root bundle s t a b (inr x) (inl y) = absurd (accepted_or_refused root bundle y.1.design y.1.scenario s a y.1.accepted x)
@@ -77,8 +73,7 @@ module _ (one_design : OneDesign) (one_fault : OneFault) (one_end : OneEnd) wher
     reported_or_refused : (a b : List ℕ) → IsReported root bundle a → HasScenarioFault root bundle (Sync root) b → ⊥
     reported_or_refused a b x y = meant_or_refused one_design root bundle (Sync root) x.design x.scenario b x.means y
 
-    sync_agrees : (s t : ℕ) (a b : List ℕ) → IsSyncAnswer root bundle s a → IsSyncAnswer root bundle t b
-        → Agree (NameOneFaultOf root bundle a b) s a t b
+    sync_agrees : (s t : ℕ) (a b : List ℕ) → IsSyncAnswer root bundle s a → IsSyncAnswer root bundle t b → Agree s a t b
     sync_agrees s t a b (inl x) (inl y) = alike 0 s t a b x.0 y.0 (reported a b x.1 y.1)
     sync_agrees s t a b (inl x) (inr (inl y)) = absurd (accepted_or_refused root bundle x.1.design x.1.means.bytes t b x.1.means.accepted y)
     sync_agrees s t a b (inl x) (inr (inr y)) = absurd (reported_or_refused a b x.1 y.1)
@@ -94,22 +89,17 @@ module _ (one_design : OneDesign) (one_fault : OneFault) (one_end : OneEnd) wher
     answered_or_refused : (s t : ℕ) (a b : List ℕ) → IsAnswered root bundle s a → IsBundleRefused root bundle t b → ⊥
     answered_or_refused s t a b x y = let d = answered_design root bundle s a x in accepted_or_refused root bundle d.0 d.1 t b d.2 y
 
-    loose_agrees : (s t : ℕ) (a b : List ℕ) → IsLooseAnswer root bundle s a → IsLooseAnswer root bundle t b
-        → Agree (NameOneFaultOf root bundle a b) s a t b
+    loose_agrees : (s t : ℕ) (a b : List ℕ) → IsLooseAnswer root bundle s a → IsLooseAnswer root bundle t b → Agree s a t b
     loose_agrees s t a b (inl x) (inl y) = refusals_agree root bundle s t a b x y
     loose_agrees s t a b (inl x) (inr y) = absurd (answered_or_refused t s b a y x)
     loose_agrees s t a b (inr x) (inl y) = absurd (answered_or_refused s t a b x y)
     loose_agrees s t a b (inr x) (inr y) =
-        let same = one_answered one_design root bundle one_end s t a b x y in (same.0, λ other. same.1, inl same.1)
+        one_answered one_design root bundle one_end s t a b x y
 
   -- ---- each command; no other has an answer
-  one_text : (a b : List ℕ) → (a ≡ b) ⊎ ⊥ → a ≡ b
-  one_text a b (inl same) = same
-  one_text a b (inr none) = absurd none
-
   pub answers_agree : (command : Command) (bundle : List ℕ) (s t : ℕ) (a b : List ℕ) → IsCommandAnswer command bundle s a
-      → IsCommandAnswer command bundle t b → (s ≡ t) × (s ≢ 4 → a ≡ b) × TellTheSame command bundle a b
-  answers_agree Print bundle s t a b x y = let h = print_agrees bundle s t a b x y in (h.0, h.1, one_text a b h.2)
+      → IsCommandAnswer command bundle t b → Agree s a t b
+  answers_agree Print bundle s t a b x y = print_agrees bundle s t a b x y
   answers_agree (Check root) bundle s t a b x y = check_agrees root bundle s t a b x y
   answers_agree (Sync root) bundle s t a b x y = sync_agrees root bundle s t a b x y
   answers_agree (World root true) bundle s t a b x y = loose_agrees root bundle s t a b x y

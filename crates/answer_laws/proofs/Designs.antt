@@ -9,7 +9,9 @@ use Rattle.aadl_parse.proofs.Verdicts.{only_tree, one_text_fault, tree_or_fault}
 use Rattle.aadl_instance.specs.Flat.{Parts}
 use Rattle.annex_resolve.specs.declared.violation.Violation.{Violation}
 use Rattle.model_violations.specs.Violations.{shown_by, AreViolations}
+use Rattle.aadl_names.specs.declared.fault.FlatFault.{FlatFault}
 use Rattle.text_report.specs.TextFaults.{text_fault_line}
+use Rattle.text_report.specs.FlatFaults.{flat_fault_line}
 use Rattle.text_report.specs.Violations.{violation_lines}
 use Rattle.design_laws.specs.Designs as laws
 use Rattle.design_laws.proofs.Verdicts.{one_instance, one_list, no_list}
@@ -17,7 +19,6 @@ use Rattle.bundle_designs.specs.Parsed.{IsParsed}
 use Rattle.bundle_designs.specs.RefusedTexts.{IsUndivided, IsUnread, IsTextRefused}
 use Rattle.bundle_designs.specs.Accepted.{IsFaulty, HasViolations, IsRefusedIn, IsAccepted, IsPackageRefused}
 use Rattle.pals_top.specs.Refusals.{IsBundleRefused}
-use Rattle.answer_laws.specs.Agreement.{NameOneFault, NameOneFaultOf}
 use Rattle.answer_laws.proofs.Splits.{one_split, divided}
 use Rattle.answer_laws.proofs.Laws.{OneDesign, OneFault}
 
@@ -99,39 +100,22 @@ fault_or_list text tree root a b x y = y.flat.sound x.faulty.line x.fault x.faul
 
 -- ---- two refusals of one package
 module _ (one_fault : OneFault) where
-  pub one_fault_text : (text : List ℕ) (tree : PackageTree ℕ) (root a b : List ℕ) → IsFaulty text tree root a → IsFaulty text tree root b
-      → NameOneFault text tree root a b
-  one_fault_text text tree root a b x y =
-      let same = one_fault tree root x.fault y.fault x.faulty y.faulty in
-      record {
-        one = x.fault;
-        other = y.fault;
-        one_is = x.faulty;
-        other_is = y.faulty;
-        place = same.0;
-        kind = same.1;
-        first_is = x.text_is;
-        second_is = y.text_is;
-      }
+  pub one_fault_text : (text : List ℕ) (tree : PackageTree ℕ) (root a b : List ℕ) → IsTreeOf text tree → IsFaulty text tree root a
+      → IsFaulty text tree root b → a ≡ b
+  one_fault_text text tree root a b read x y =
+      let same = one_fault text tree root x.fault y.fault read x.faulty y.faulty in
+      x.text_is ∙ (ap (λ (f : FlatFault). flat_fault_line text f ++ line_end) same ∙ sym y.text_is)
 
-  same_refusal : (text : List ℕ) (tree : PackageTree ℕ) (root a b : List ℕ) → IsRefusedIn text tree root a → IsRefusedIn text tree root b
-      → (a ≡ b) ⊎ NameOneFault text tree root a b
-  same_refusal text tree root a b (inl x) (inl y) = inr (one_fault_text text tree root a b x y)
-  same_refusal text tree root a b (inl x) (inr y) = absurd (fault_or_list text tree root a b x y)
-  same_refusal text tree root a b (inr x) (inl y) = absurd (fault_or_list text tree root b a y x)
-  same_refusal text tree root a b (inr x) (inr y) = inl (one_list_text text tree root a b x y)
+  same_refusal : (text : List ℕ) (tree : PackageTree ℕ) (root a b : List ℕ) → IsTreeOf text tree → IsRefusedIn text tree root a
+      → IsRefusedIn text tree root b → a ≡ b
+  same_refusal text tree root a b read (inl x) (inl y) = one_fault_text text tree root a b read x y
+  same_refusal text tree root a b read (inl x) (inr y) = absurd (fault_or_list text tree root a b x y)
+  same_refusal text tree root a b read (inr x) (inl y) = absurd (fault_or_list text tree root b a y x)
+  same_refusal text tree root a b read (inr x) (inr y) = one_list_text text tree root a b x y
 
-  -- of a bundle's package
-  told_of : (root bundle a b : List ℕ) → (y : IsPackageRefused root bundle b) → (a ≡ b) ⊎ NameOneFault y.text y.tree root a b
-      → (a ≡ b) ⊎ NameOneFaultOf root bundle a b
-  told_of root bundle a b y (inl same) = inl same
-  told_of root bundle a b y (inr told) =
-      inr (record { text = y.text; scenario = y.scenario; tree = y.tree; parsed = y.parsed; named = told })
-
-  pub packages_told : (root bundle a b : List ℕ) → IsPackageRefused root bundle a → IsPackageRefused root bundle b
-      → (a ≡ b) ⊎ NameOneFaultOf root bundle a b
-  packages_told root bundle a b x y =
+  pub one_refused_package : (root bundle a b : List ℕ) → IsPackageRefused root bundle a → IsPackageRefused root bundle b → a ≡ b
+  one_refused_package root bundle a b x y =
       let text = one_text bundle x.text y.text x.scenario y.scenario x.tree y.tree x.parsed y.parsed in
       let tree = one_tree bundle x.text y.text x.scenario y.scenario x.tree y.tree x.parsed y.parsed in
       let moved = subst (λ (u : PackageTree ℕ). IsRefusedIn y.text u root a) tree (subst (λ (w : List ℕ). IsRefusedIn w x.tree root a) text x.refused) in
-      told_of root bundle a b y (same_refusal y.text y.tree root a b moved y.refused)
+      same_refusal y.text y.tree root a b y.parsed.read moved y.refused

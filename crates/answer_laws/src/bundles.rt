@@ -3,6 +3,7 @@ ghost use Rattle.std.specs.Prelude.{◌≡◌, ◌⊎◌, ℕ, List, Result};
 ghost use Rattle.pals_model.specs.declared.design.DesignParts.{DesignParts};
 ghost use Rattle.pals_runs.specs.declared.commands.Command.{Command};
 ghost use Rattle.aadl_tree.specs.Declarations.{PackageTree};
+ghost use Rattle.aadl_tree.specs.Given.{IsTreeOf};
 ghost use Rattle.scenario_values.specs.declared.fault.ScenarioFault.{ScenarioFault};
 ghost use Rattle.scenario_json.specs.declared.scenario.Scenario.{Scenario};
 ghost use Rattle.scenario_json.specs.Scenarios.{Means};
@@ -10,10 +11,9 @@ ghost use Rattle.check_report.specs.CheckReports.{IsCheckReport};
 ghost use Rattle.bundle_designs.specs.Bundles.{IsSplit, HasNoDivider};
 ghost use Rattle.bundle_designs.specs.Accepted.{IsFaulty, HasViolations, IsAccepted};
 ghost use Rattle.pals_top.specs.Refusals.{IsBundleRefused};
-ghost use Rattle.answer_laws.specs.Agreement.{NameOneFault};
 
-use aadl_instance::laws::one_first_fault;
 use design_laws::laws::one_design;
+use fault_laws::laws::one_fault;
 
 /// A bundle is divided by one of its lines, in one way, or has no such line.
 pub fn one_split()
@@ -37,17 +37,17 @@ pub fn accepted_is_not_refused()
         → IsAccepted root bundle design scenario → IsBundleRefused root bundle status text → ⊥ }
 {}
 
-/// Of a package that is refused, either a fault is named or all that is wrong with its instance. There
-/// is one text of all that is wrong, and the faults that may be named are of one kind and stand at one place.
+/// Of a package that is refused, either its first fault is named or all that is wrong with its instance,
+/// and there is one text that does so.
 pub fn one_refusal()
     ensures violations { (text : List ℕ) (tree : PackageTree ℕ) (root a b : List ℕ)
         → HasViolations text tree root a → HasViolations text tree root b → a ≡ b }
     ensures either { (text : List ℕ) (tree : PackageTree ℕ) (root a b : List ℕ)
         → IsFaulty text tree root a → HasViolations text tree root b → ⊥ }
-    ensures fault { (text : List ℕ) (tree : PackageTree ℕ) (root a b : List ℕ)
-        → IsFaulty text tree root a → IsFaulty text tree root b → NameOneFault text tree root a b }
+    ensures fault { (text : List ℕ) (tree : PackageTree ℕ) (root a b : List ℕ) → IsTreeOf text tree
+        → IsFaulty text tree root a → IsFaulty text tree root b → a ≡ b }
 {
-    one_first_fault();
+    one_fault();
 }
 
 /// Bytes mean one scenario, or have one first fault, for a design and a command.

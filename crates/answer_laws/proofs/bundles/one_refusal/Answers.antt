@@ -8,4 +8,4 @@ pub returns-clause-either : goal.returns-clause-either
 returns-clause-either c = fault_or_list
 
 pub returns-clause-fault : goal.returns-clause-fault
-returns-clause-fault c = one_fault_text c.one_first_fault.ensures
+returns-clause-fault c = one_fault_text c.one_fault.ensures

@@ -1,0 +1,5 @@
+use Rattle.answer_laws.proofs.Commands.{answers_agree}
+use Rattle.answer_laws.proofs.answers.answer_is_decided.Goals as goal
+
+pub returns : goal.returns
+returns c command bundle s t a b x y = answers_agree c.one_design.ensures c.one_fault.ensures c.one_end.ensures command bundle s t a b x y

@@ -1,6 +1,0 @@
-use Rattle.answer_laws.proofs.Commands.{answers_agree}
-use Rattle.answer_laws.proofs.answers.status_is_decided.Goals as goal
-
-pub returns : goal.returns
-returns c command bundle s t a b x y =
-    (answers_agree c.one_design.ensures c.one_first_fault.ensures c.one_end.ensures command bundle s t a b x y).0
