@@ -4,6 +4,7 @@ ghost use Rattle.pals_base.specs.declared.limits.TheConstants.{ROUNDS};
 
 use crate::designs::{TURN, TWO_COUNTERS, design_of};
 use pals_base::{Nanos, NodeNo, Port};
+use pals_model::Design;
 use pals_node::{FinishEnd, Finished, Job, Node, NodePlan, SendEnd, StartEnd, StepEnd};
 use pals_runs::Phase;
 use std::alloc::Global;
@@ -11,6 +12,15 @@ use std::process::Abort;
 use std::sync::Arc;
 use std::test::Fail;
 use step_compiler::compile;
+
+// The plan of a node of a design.
+fn plan_of(rt: &impl Abort, alloc: Global, design: &Design, node: u32) -> Result<NodePlan, Fail> {
+    let Some(component) = design.components().get(node as usize) else {
+        panic!(rt; "the design has no such node");
+    };
+    let code = compile(alloc, &component.behaviour)?;
+    Ok(NodePlan::new(alloc, design, NodeNo(node), code)?)
+}
 
 // A node of the design of a text, before its first round, of a run of so many rounds.
 fn opening_node(
@@ -25,11 +35,7 @@ fn opening_node(
     ensures { IfOk result (λ node. node.rounds ≡ rounds) }
 {
     let design = design_of(rt, alloc, text)?;
-    let Some(component) = design.components().get(node as usize) else {
-        panic!(rt; "the design has no such node");
-    };
-    let code = compile(alloc, &component.behaviour)?;
-    let plan = NodePlan::new(alloc, &design, NodeNo(node), code)?;
+    let plan = plan_of(rt, alloc, &design, node)?;
     Ok(Node::new(alloc, Arc::new(alloc, plan)?, rounds)?)
 }
 
@@ -146,11 +152,18 @@ const MISSED_START: [Row; 4] = [
     Row::Stands(1, Phase::Waiting, Some(18_000_000)),
 ];
 
+// A fresh node, of the run of a node, does what rows say.
+fn assert_fresh_rows(rt: &impl Abort, alloc: Global, node: &Node, rows: &[Row]) -> Result<(), Fail>
+    requires { 1 ≤ node.now.rounds }
+{
+    let mut fresh = node.fresh(alloc)?;
+    assert_rows(rt, &mut fresh, rows)
+}
+
 #[test]
 fn counter_misses_a_message(rt: HostRuntime) -> Result<(), Fail> {
-    let alloc = rt.alloc();
-    let mut node = opening_node(&rt, alloc, TWO_COUNTERS, 1, 2)?.fresh(alloc)?;
-    assert_rows(&rt, &mut node, &MISSED_START)
+    let node = opening_node(&rt, rt.alloc(), TWO_COUNTERS, 1, 2)?;
+    assert_fresh_rows(&rt, rt.alloc(), &node, &MISSED_START)
 }
 
 const SURFACE: [Row; 10] = [

@@ -1,0 +1,13 @@
+//! Nodes and the bus: worked rows, and each call that takes memory once where there is memory.
+#![tactic(auto)]
+
+#[cfg(test)]
+mod buses;
+#[cfg(test)]
+mod calls;
+#[cfg(test)]
+mod designs;
+#[cfg(test)]
+mod nodes;
+#[cfg(test)]
+mod work;
