@@ -1,0 +1,10 @@
+pub mod Elements
+pub mod Parts
+pub mod Readings
+pub mod Taps
+pub mod Rounds
+pub mod Counting
+pub mod Back
+pub mod Counter
+pub mod Counters
+pub mod Exchanging

@@ -1,0 +1,60 @@
+-- The components, links and feeds of a design, by their other numbers.
+use Rattle.std.proofs.Common.{◌≡◌, ◌∙◌, ℕ, ◌<◌, Bool, true, false, nat_eq, map, length, Some, Contains, slice_get, refl, sym, ap}
+use Rattle.std.proofs.lemmas.Bool.{eq-eqb, eqb-true, ne_eqb, true≢false}
+use Rattle.std.proofs.lemmas.Option.{slice_get_within}
+use Rattle.pals_model.specs.declared.design.Component.{Component}
+use Rattle.pals_model.specs.declared.design.Link.{Link}
+use Rattle.pals_model.specs.declared.design.Feed.{Feed}
+use Rattle.pals_model.specs.declared.design.DesignParts.{DesignParts}
+use Rattle.pals_model.specs.Inputs.{rate_of, rate_in}
+use Rattle.renumbering_laws.specs.Renumbered.{renumbered_link, renumbered_feed, IsRenumbered}
+use Rattle.renumbering_laws.proofs.Elements.{contains_at, at_contains, image_at, from_image}
+
+module _ (to : ℕ → ℕ) (a b : DesignParts) (r : IsRenumbered to a b) where
+  -- ---- components
+  pub component_there : (node : ℕ) (c : Component) → slice_get a.components node ≡ Some c → slice_get b.components (to node) ≡ Some c
+  component_there node c is = r.component node (slice_get_within a.components node c is) ∙ is
+
+  pub rate_there : (node : ℕ) → node < length a.components → rate_of b (to node) ≡ rate_of a node
+  rate_there node within = ap rate_in (r.component node within)
+
+  number_by : (m n : ℕ) → m < length a.components → n < length a.components → (same : Bool) → nat_eq m n ≡ same → nat_eq (to m) (to n) ≡ same
+  number_by m n first second true is = eq-eqb (to m) (to n) (ap to (eqb-true m n is))
+  number_by m n first second false is =
+      ne_eqb (to m) (to n) (λ same. true≢false (sym (eq-eqb m n (r.one_each m n first second same)) ∙ is))
+
+  -- two numbers are the same where the other ones are
+  pub same_number : (m n : ℕ) → m < length a.components → n < length a.components → nat_eq (to m) (to n) ≡ nat_eq m n
+  same_number m n first second = number_by m n first second (nat_eq m n) refl
+
+  -- ---- links
+  pub link_there : (l : ℕ) (link : Link) → slice_get a.links l ≡ Some link → (m : ℕ) × (slice_get b.links m ≡ Some (renumbered_link to link))
+  link_there l link is =
+      let other = renumbered_link to link in
+      let image = contains_at (map (renumbered_link to) a.links) l other (image_at (renumbered_link to) a.links l link is) in
+      let among : Contains b.links other = (r.links other).1 image in
+      (among.0, at_contains b.links other among)
+
+  pub link_back : (m : ℕ) (other : Link) → slice_get b.links m ≡ Some other
+      → (l : ℕ) × (link : Link) × (slice_get a.links l ≡ Some link) × (renumbered_link to link ≡ other)
+  link_back m other is =
+      let links = map (renumbered_link to) a.links in
+      let among : Contains links other = (r.links other).0 (contains_at b.links m other is) in
+      let from = from_image (renumbered_link to) a.links among.0 other (at_contains links other among) in
+      (among.0, from.0, from.1, from.2)
+
+  -- ---- feeds
+  pub feed_there : (f : ℕ) (feed : Feed) → slice_get a.feeds f ≡ Some feed → (g : ℕ) × (slice_get b.feeds g ≡ Some (renumbered_feed to feed))
+  feed_there f feed is =
+      let other = renumbered_feed to feed in
+      let image = contains_at (map (renumbered_feed to) a.feeds) f other (image_at (renumbered_feed to) a.feeds f feed is) in
+      let among : Contains b.feeds other = (r.feeds other).1 image in
+      (among.0, at_contains b.feeds other among)
+
+  pub feed_back : (g : ℕ) (other : Feed) → slice_get b.feeds g ≡ Some other
+      → (f : ℕ) × (feed : Feed) × (slice_get a.feeds f ≡ Some feed) × (renumbered_feed to feed ≡ other)
+  feed_back g other is =
+      let feeds = map (renumbered_feed to) a.feeds in
+      let among : Contains feeds other = (r.feeds other).0 (contains_at b.feeds g other is) in
+      let from = from_image (renumbered_feed to) a.feeds among.0 other (at_contains feeds other among) in
+      (among.0, from.0, from.1, from.2)
