@@ -1,4 +1,4 @@
-//! A bus, and its calls. Each stops the test where the design has no such node or link.
+//! A bus, and its calls. Each gives nothing where the design has no such node or link.
 ghost use Rattle.std.specs.Prelude.{◌≡◌, ◌<◌, ◌≤◌, IsTrue, IfOk, length};
 ghost use Rattle.pals_base.specs.declared.limits.TheConstants.{ROUNDS};
 ghost use Rattle.pals_model.specs.Delays.{AreDelays};
@@ -7,7 +7,7 @@ use crate::designs::design_of;
 use design_codes::compile_all;
 use pals_base::limits::READING;
 use pals_base::{Items, LinkNo, Nanos, NoMemory, NodeNo};
-use pals_bus::{Bus, BusFinishEnd, BusSendEnd, DueEnd, LinkEnd, Meet};
+use pals_bus::{Bus, DueEnd, Meet};
 use pals_model::{Delays, Design, Env};
 use pals_node::{Done, Finished, Job};
 use pals_runs::Phase;
@@ -59,92 +59,87 @@ fn has_link(bus: &Bus, link: LinkNo) -> bool
     (link.0 as usize) < bus.design().links().len()
 }
 
-/// The job of a node's next round.
-pub fn start(rt: &impl Abort, bus: &mut Bus, node: NodeNo, reading: Nanos) -> Job {
-    assert!(rt; has_node(bus, node));
-    match bus.start(node, Some(reading)) {
-        Ok(job) => job,
-        Err(_end) => panic!(rt; "the node does not start"),
+/// The job of a node's next round, if it starts.
+pub fn start(bus: &mut Bus, node: NodeNo, reading: Nanos) -> Option<Job> {
+    if !has_node(bus, node) {
+        return None;
     }
+    bus.start(node, Some(reading)).ok()
 }
 
-/// The job of a node's next step.
-pub fn step(rt: &impl Abort, bus: &mut Bus, node: NodeNo, reading: Nanos) -> Job {
-    assert!(rt; has_node(bus, node));
-    match bus.step(node, Some(reading)) {
-        Ok(job) => job,
-        Err(_end) => panic!(rt; "the node does not step"),
+/// The job of a node's next step, if it makes one.
+pub fn step(bus: &mut Bus, node: NodeNo, reading: Nanos) -> Option<Job> {
+    if !has_node(bus, node) {
+        return None;
     }
+    bus.step(node, Some(reading)).ok()
 }
 
-pub fn finish(
-    rt: &impl Abort,
-    bus: &mut Bus,
-    node: NodeNo,
-    done: Done,
-) -> Result<Finished, BusFinishEnd> {
-    assert!(rt; has_node(bus, node));
-    bus.finish(node, done)
+/// How a step finishes with what was handed in, if it does.
+pub fn finish(bus: &mut Bus, node: NodeNo, done: Done) -> Option<Finished> {
+    if !has_node(bus, node) {
+        return None;
+    }
+    bus.finish(node, done).ok()
 }
 
-pub fn finish_here(rt: &impl Abort, bus: &mut Bus, node: NodeNo) -> Result<(), BusFinishEnd> {
-    assert!(rt; has_node(bus, node));
-    bus.finish_here(node)
+/// Whether a step finishes here.
+pub fn finish_here(bus: &mut Bus, node: NodeNo) -> bool {
+    has_node(bus, node) && bus.finish_here(node).is_ok()
 }
 
-pub fn send(
-    rt: &impl Abort,
-    bus: &mut Bus,
-    node: NodeNo,
-    reading: Nanos,
-) -> Result<(), BusSendEnd> {
-    assert!(rt; has_node(bus, node));
-    assert!(rt; reading <= READING);
-    bus.send(node, Some(reading))
+/// Whether a node sends its round.
+pub fn send(bus: &mut Bus, node: NodeNo, reading: Nanos) -> bool {
+    has_node(bus, node) && reading <= READING && bus.send(node, Some(reading)).is_ok()
 }
 
-pub fn repeat(rt: &impl Abort, bus: &mut Bus, link: LinkNo, round: u32) -> Result<(), LinkEnd> {
-    assert!(rt; has_link(bus, link));
-    bus.repeat_message(link, round)
+/// Whether one more copy of a link's message of a round is in flight now.
+pub fn repeat(bus: &mut Bus, link: LinkNo, round: u32) -> bool {
+    has_link(bus, link) && bus.repeat_message(link, round).is_ok()
 }
 
-pub fn take_due(
-    rt: &impl Abort,
-    bus: &mut Bus,
-    node: NodeNo,
-    reading: Nanos,
-) -> Result<(), DueEnd> {
-    assert!(rt; has_node(bus, node));
-    bus.take_due(node, reading)
+/// How all that is due to a node arrives.
+pub fn take_due(bus: &mut Bus, node: NodeNo, reading: Nanos) -> Option<Result<(), DueEnd>> {
+    if !has_node(bus, node) {
+        return None;
+    }
+    Some(bus.take_due(node, reading))
 }
 
-pub fn meet(rt: &impl Abort, bus: &Bus, node: NodeNo) -> Meet {
-    assert!(rt; has_node(bus, node));
-    assert!(rt; bus.phase(node) != Phase::Done);
-    bus.meet(node)
+/// Whether a node may go on where the nodes meet, if it is not done.
+pub fn meet(bus: &Bus, node: NodeNo) -> Option<Meet> {
+    if !has_node(bus, node) || bus.phase(node) == Phase::Done {
+        return None;
+    }
+    Some(bus.meet(node))
 }
 
 /// What a node does.
-pub fn phase(rt: &impl Abort, bus: &Bus, node: NodeNo) -> Phase {
-    assert!(rt; has_node(bus, node));
-    bus.phase(node)
+pub fn phase(bus: &Bus, node: NodeNo) -> Option<Phase> {
+    if !has_node(bus, node) {
+        return None;
+    }
+    Some(bus.phase(node))
 }
 
 /// How many rounds a node has started.
-pub fn count(rt: &impl Abort, bus: &Bus, node: NodeNo) -> u32 {
-    assert!(rt; has_node(bus, node));
-    bus.count(node)
+pub fn count(bus: &Bus, node: NodeNo) -> Option<u32> {
+    if !has_node(bus, node) {
+        return None;
+    }
+    Some(bus.count(node))
 }
 
 /// Whether a copy of a link's message of a round is in flight.
-pub fn is_in_flight(rt: &impl Abort, bus: &Bus, link: LinkNo, round: u32) -> bool {
-    assert!(rt; has_link(bus, link));
-    bus.in_flight(link, round).is_some()
+pub fn is_in_flight(bus: &Bus, link: LinkNo, round: u32) -> bool {
+    has_link(bus, link) && bus.in_flight(link, round).is_some()
 }
 
 /// Whether the variables of a node have these values after a round.
-pub fn leaves(rt: &impl Abort, bus: &Bus, node: NodeNo, round: u32, vars: &[i64]) -> bool {
-    assert!(rt; has_node(bus, node));
+pub fn leaves(bus: &Bus, node: NodeNo, round: u32, vars: &[i64]) -> bool {
+    if !has_node(bus, node) {
+        return false;
+    }
     match bus.part(node, round) {
         Some(part) => part.frame.vars.as_slice() == vars,
         None => false,

@@ -22,7 +22,16 @@ fn plan_of(rt: &impl Abort, alloc: Global, design: &Design, node: u32) -> Result
     Ok(NodePlan::new(alloc, design, NodeNo(node), code)?)
 }
 
-// A node of the design of a text, before its first round, of a run of so many rounds.
+// A node of a plan, before its first round, of a run of so many rounds.
+fn node_of(alloc: Global, plan: NodePlan, rounds: u32) -> Result<Node, Fail>
+    requires some { 1 ≤ rounds }
+    requires most { rounds ≤ ROUNDS }
+    ensures { IfOk result (λ node. node.rounds ≡ rounds) }
+{
+    Ok(Node::new(alloc, Arc::new(alloc, plan)?, rounds)?)
+}
+
+// The same of the design of a text.
 fn opening_node(
     rt: &impl Abort,
     alloc: Global,
@@ -36,7 +45,7 @@ fn opening_node(
 {
     let design = design_of(rt, alloc, text)?;
     let plan = plan_of(rt, alloc, &design, node)?;
-    Ok(Node::new(alloc, Arc::new(alloc, plan)?, rounds)?)
+    node_of(alloc, plan, rounds)
 }
 
 // A call at a reading, and what it gives.

@@ -1,11 +1,10 @@
 //! Work of a node that is handed in rounds later.
 use crate::calls::{bus_of, finish, finish_here, leaves, send, start, take_due, tells};
 use crate::designs::TWO_COUNTERS;
-use pals_base::{Nanos, NodeNo};
+use pals_base::{Nanos, NoMemory, NodeNo};
 use pals_bus::Bus;
-use pals_node::{Done, Finished};
+use pals_node::Finished;
 use std::alloc::Global;
-use std::process::Abort;
 use std::test::Fail;
 
 // The two counters.
@@ -13,41 +12,38 @@ const A: NodeNo = NodeNo(0);
 
 const B: NodeNo = NodeNo(1);
 
-// The work of a node's next round, which it has not handed in.
-fn work(rt: &impl Abort, bus: &mut Bus, node: NodeNo, at: Nanos) -> Done {
-    start(rt, bus, node, at).run()
+// Whether a node starts a round, whose work is not handed in.
+fn begins(bus: &mut Bus, node: NodeNo, at: Nanos) -> bool {
+    start(bus, node, at).is_some()
 }
 
-// A node starts a round, whose work is not handed in.
-fn begin(rt: &impl Abort, bus: &mut Bus, node: NodeNo, at: Nanos) {
-    let job = start(rt, bus, node, at);
-    assert_eq!(rt; job.step(), 0);
+// Whether both counters make the rest of their first round, once the first has started, and its
+// message comes.
+fn make_rest(bus: &mut Bus) -> bool {
+    finish_here(bus, A)
+        && send(bus, A, 10_000_000)
+        && begins(bus, B, 9_000_000)
+        && finish_here(bus, B)
+        && send(bus, B, 10_000_000)
+        && take_due(bus, A, 18_000_000) == Some(Ok(()))
 }
 
-// The rest of the first round of both counters, once the first has started; its message comes.
-fn make_rest(rt: &impl Abort, bus: &mut Bus) {
-    assert!(rt; finish_here(rt, bus, A).is_ok());
-    assert!(rt; send(rt, bus, A, 10_000_000).is_ok());
-    begin(rt, bus, B, 9_000_000);
-    assert!(rt; finish_here(rt, bus, B).is_ok());
-    assert!(rt; send(rt, bus, B, 10_000_000).is_ok());
-    assert!(rt; take_due(rt, bus, A, 18_000_000).is_ok());
-}
-
-// The second round of the first counter, for which the work of its first is handed in.
-fn finish_with_earlier_work(rt: &impl Abort, bus: &mut Bus) {
-    let earlier = work(rt, bus, A, 9_000_000);
-    make_rest(rt, bus);
-    begin(rt, bus, A, 18_000_000);
-    assert_eq!(rt; finish(rt, bus, A, earlier), Ok(Finished::Redone));
+// How the second round of the first counter finishes, for which the work of its first is handed in.
+fn finish_with_earlier_work(bus: &mut Bus) -> Option<Finished> {
+    let earlier = start(bus, A, 9_000_000)?.run();
+    if !make_rest(bus) || !begins(bus, A, 18_000_000) {
+        return None;
+    }
+    finish(bus, A, earlier)
 }
 
 // The same with its own work.
-fn finish_with_own_work(rt: &impl Abort, bus: &mut Bus) {
-    begin(rt, bus, A, 9_000_000);
-    make_rest(rt, bus);
-    let own = work(rt, bus, A, 18_000_000);
-    assert_eq!(rt; finish(rt, bus, A, own), Ok(Finished::Used));
+fn finish_with_own_work(bus: &mut Bus) -> Option<Finished> {
+    if !begins(bus, A, 9_000_000) || !make_rest(bus) {
+        return None;
+    }
+    let own = start(bus, A, 18_000_000)?.run();
+    finish(bus, A, own)
 }
 
 // What both tell, and leave.
@@ -64,22 +60,32 @@ finish p.a 1\n";
 const LEFT: [i64; 1] = [3];
 
 // Whether a bus stands as it does when the first counter has finished its second round.
-fn assert_finished(rt: &impl Abort, alloc: Global, bus: &Bus) -> Result<(), Fail> {
-    assert!(rt; leaves(rt, bus, A, 1, &LEFT));
-    assert!(rt; tells(alloc, bus, TOLD)?);
-    Ok(())
+fn is_finished(alloc: Global, bus: &Bus) -> Result<bool, NoMemory> {
+    Ok(leaves(bus, A, 1, &LEFT) && tells(alloc, bus, TOLD)?)
+}
+
+// Whether the work of an earlier round is done again, and leaves what the round's own work does.
+fn redoes(alloc: Global, bus: &mut Bus) -> Result<bool, NoMemory> {
+    let how = finish_with_earlier_work(bus);
+    Ok(how == Some(Finished::Redone) && is_finished(alloc, bus)?)
+}
+
+// Whether the round's own work is used.
+fn uses(alloc: Global, bus: &mut Bus) -> Result<bool, NoMemory> {
+    let how = finish_with_own_work(bus);
+    Ok(how == Some(Finished::Used) && is_finished(alloc, bus)?)
 }
 
 #[test]
 fn work_of_an_earlier_round_is_redone(rt: HostRuntime) -> Result<(), Fail> {
     let mut bus = bus_of(&rt, rt.alloc(), TWO_COUNTERS, 2)?;
-    finish_with_earlier_work(&rt, &mut bus);
-    assert_finished(&rt, rt.alloc(), &bus)
+    assert!(rt; redoes(rt.alloc(), &mut bus)?);
+    Ok(())
 }
 
 #[test]
 fn own_work_is_used(rt: HostRuntime) -> Result<(), Fail> {
     let mut bus = bus_of(&rt, rt.alloc(), TWO_COUNTERS, 2)?;
-    finish_with_own_work(&rt, &mut bus);
-    assert_finished(&rt, rt.alloc(), &bus)
+    assert!(rt; uses(rt.alloc(), &mut bus)?);
+    Ok(())
 }
