@@ -1,5 +1,5 @@
 -- A renumbering can be undone.
-use Rattle.std.proofs.Common.{◌≡◌, ◌≢◌, ◌∙◌, inl, inr, ℕ, zero, suc, ◌<◌, Bool, nat_eq, List, map, length}
+use Rattle.std.proofs.Common.{◌≡◌, ◌≢◌, ◌∙◌, inl, inr, ℕ, zero, suc, ◌<◌, Bool, nat_eq, List, length}
 use Rattle.std.proofs.Common.{get_or, Some, slice_get, Contains, sym, ap, ap₂, subst, arith}
 use Rattle.std.proofs.lemmas.Bool.{eqb-true, eq-eqb, true≢false}
 use Rattle.std.proofs.lemmas.List.Elements.{All-contains, Contains-get_or}
@@ -16,7 +16,8 @@ use Rattle.pals_model.proofs.ShapeLaws.{component_at}
 use Rattle.renumbering_laws.specs.Renumbered.{renumbered_link, renumbered_feed, values_of, IsRenumbered, AreSameInputs}
 use Rattle.renumbering_laws.proofs.Counting.{Search, search_below, too_many}
 use Rattle.renumbering_laws.proofs.Elements.{contains_at, at_contains, image_at, from_image}
-use Rattle.renumbering_laws.proofs.Parts.{link_there, link_back, feed_there, feed_back}
+use Rattle.renumbering_laws.proofs.Images.{images_back}
+use Rattle.renumbering_laws.proofs.Parts.{feed_back}
 
 -- ---- numbers
 abbrev found_in : (test : ℕ → Bool) (n : ℕ) → Search test n → ℕ
@@ -78,36 +79,6 @@ module _ (to : ℕ → ℕ) (a b : DesignParts) (r : IsRenumbered to a b) where
         let rules = at_element (IsFeed a) a.feeds f feed sound.feeds.each is in
         ap (λ target. let other : Feed = record feed { target = record { 0 = target } } in other) (back_to feed.target.0 rules.target.node_is)
 
-    link_returns : (link : Link) → Contains a.links link → Contains (map (renumbered_link back) b.links) link
-    link_returns link among =
-        let is = at_contains a.links link among in
-        let there = link_there to a b r among.0 link is in
-        let links = map (renumbered_link back) b.links in
-        let image = image_at (renumbered_link back) b.links there.0 (renumbered_link to link) there.1 in
-        subst (Contains links) (link_again among.0 link is) (contains_at links there.0 (renumbered_link back (renumbered_link to link)) image)
-
-    link_came : (link : Link) → Contains (map (renumbered_link back) b.links) link → Contains a.links link
-    link_came link among =
-        let from = from_image (renumbered_link back) b.links among.0 link (at_contains (map (renumbered_link back) b.links) link among) in
-        let first = link_back to a b r among.0 from.0 from.1 in
-        let same = sym (link_again first.0 first.1 first.2) ∙ ap (renumbered_link back) first.3 ∙ from.2 in
-        subst (Contains a.links) same (contains_at a.links first.0 first.1 first.2)
-
-    feed_returns : (feed : Feed) → Contains a.feeds feed → Contains (map (renumbered_feed back) b.feeds) feed
-    feed_returns feed among =
-        let is = at_contains a.feeds feed among in
-        let there = feed_there to a b r among.0 feed is in
-        let feeds = map (renumbered_feed back) b.feeds in
-        let image = image_at (renumbered_feed back) b.feeds there.0 (renumbered_feed to feed) there.1 in
-        subst (Contains feeds) (feed_again among.0 feed is) (contains_at feeds there.0 (renumbered_feed back (renumbered_feed to feed)) image)
-
-    feed_came : (feed : Feed) → Contains (map (renumbered_feed back) b.feeds) feed → Contains a.feeds feed
-    feed_came feed among =
-        let from = from_image (renumbered_feed back) b.feeds among.0 feed (at_contains (map (renumbered_feed back) b.feeds) feed among) in
-        let first = feed_back to a b r among.0 from.0 from.1 in
-        let same = sym (feed_again first.0 first.1 first.2) ∙ ap (renumbered_feed back) first.3 ∙ from.2 in
-        subst (Contains a.feeds) same (contains_at a.feeds first.0 first.1 first.2)
-
     -- ---- the whole
     within_a : (n : ℕ) → n < length b.components → n < length a.components
     within_a n within = omega (arith, within, r.count)
@@ -119,8 +90,8 @@ module _ (to : ℕ → ℕ) (a b : DesignParts) (r : IsRenumbered to a b) where
       count = sym r.count;
       component = λ n within. (let is = back_is n (within_a n within) in sym (r.component (back n) is.1) ∙ ap (slice_get b.components) is.0);
       one_each = λ m n first second same. sym (back_is m (within_a m first)).0 ∙ ap to same ∙ (back_is n (within_a n second)).0;
-      links = λ link. (link_returns link, link_came link);
-      feeds = λ feed. (feed_returns feed, feed_came feed);
+      links = images_back (renumbered_link to) a.links b.links r.links (renumbered_link back) link_again;
+      feeds = images_back (renumbered_feed to) a.feeds b.feeds r.feeds (renumbered_feed back) feed_again;
     }
 
     pub undone : (from : ℕ → ℕ) × IsRenumbered from b a × ((n : ℕ) → n < length a.components → from (to n) ≡ n)

@@ -1,4 +1,5 @@
 pub mod Elements
+pub mod Images
 pub mod Parts
 pub mod Readings
 pub mod Taps

@@ -1,5 +1,5 @@
 -- The components, links and feeds of a design, by their other numbers.
-use Rattle.std.proofs.Common.{◌≡◌, ◌∙◌, ℕ, ◌<◌, Bool, true, false, nat_eq, map, length, Some, Contains, slice_get, refl, sym, ap}
+use Rattle.std.proofs.Common.{◌≡◌, ◌∙◌, ℕ, ◌<◌, Bool, true, false, nat_eq, length, Some, slice_get, refl, sym, ap}
 use Rattle.std.proofs.lemmas.Bool.{eq-eqb, eqb-true, ne_eqb, true≢false}
 use Rattle.std.proofs.lemmas.Option.{slice_get_within}
 use Rattle.pals_model.specs.declared.design.Component.{Component}
@@ -8,7 +8,7 @@ use Rattle.pals_model.specs.declared.design.Feed.{Feed}
 use Rattle.pals_model.specs.declared.design.DesignParts.{DesignParts}
 use Rattle.pals_model.specs.Inputs.{rate_of, rate_in}
 use Rattle.renumbering_laws.specs.Renumbered.{renumbered_link, renumbered_feed, IsRenumbered}
-use Rattle.renumbering_laws.proofs.Elements.{contains_at, at_contains, image_at, from_image}
+use Rattle.renumbering_laws.proofs.Images.{there, comes_from}
 
 module _ (to : ℕ → ℕ) (a b : DesignParts) (r : IsRenumbered to a b) where
   -- ---- components
@@ -29,32 +29,12 @@ module _ (to : ℕ → ℕ) (a b : DesignParts) (r : IsRenumbered to a b) where
 
   -- ---- links
   pub link_there : (l : ℕ) (link : Link) → slice_get a.links l ≡ Some link → (m : ℕ) × (slice_get b.links m ≡ Some (renumbered_link to link))
-  link_there l link is =
-      let other = renumbered_link to link in
-      let image = contains_at (map (renumbered_link to) a.links) l other (image_at (renumbered_link to) a.links l link is) in
-      let among : Contains b.links other = (r.links other).1 image in
-      (among.0, at_contains b.links other among)
-
-  pub link_back : (m : ℕ) (other : Link) → slice_get b.links m ≡ Some other
-      → (l : ℕ) × (link : Link) × (slice_get a.links l ≡ Some link) × (renumbered_link to link ≡ other)
-  link_back m other is =
-      let links = map (renumbered_link to) a.links in
-      let among : Contains links other = (r.links other).0 (contains_at b.links m other is) in
-      let from = from_image (renumbered_link to) a.links among.0 other (at_contains links other among) in
-      (among.0, from.0, from.1, from.2)
+  link_there l link is = there (renumbered_link to) a.links b.links r.links l link is
 
   -- ---- feeds
   pub feed_there : (f : ℕ) (feed : Feed) → slice_get a.feeds f ≡ Some feed → (g : ℕ) × (slice_get b.feeds g ≡ Some (renumbered_feed to feed))
-  feed_there f feed is =
-      let other = renumbered_feed to feed in
-      let image = contains_at (map (renumbered_feed to) a.feeds) f other (image_at (renumbered_feed to) a.feeds f feed is) in
-      let among : Contains b.feeds other = (r.feeds other).1 image in
-      (among.0, at_contains b.feeds other among)
+  feed_there f feed is = there (renumbered_feed to) a.feeds b.feeds r.feeds f feed is
 
   pub feed_back : (g : ℕ) (other : Feed) → slice_get b.feeds g ≡ Some other
       → (f : ℕ) × (feed : Feed) × (slice_get a.feeds f ≡ Some feed) × (renumbered_feed to feed ≡ other)
-  feed_back g other is =
-      let feeds = map (renumbered_feed to) a.feeds in
-      let among : Contains feeds other = (r.feeds other).0 (contains_at b.feeds g other is) in
-      let from = from_image (renumbered_feed to) a.feeds among.0 other (at_contains feeds other among) in
-      (among.0, from.0, from.1, from.2)
+  feed_back g other is = comes_from (renumbered_feed to) a.feeds b.feeds r.feeds g other is

@@ -1,9 +1,9 @@
 -- Each in port brings what it brings in the design with the other numbers.
-use Rattle.std.proofs.Common.{◌≡◌, ◌⊎◌, ◌∙◌, inl, inr, ℕ, ◌<◌, ◌&&◌, true, false, nat_eq, List, [], ◌∷◌, length, get_or, Some, All, slice_get}
+use Rattle.std.proofs.Common.{◌≡◌, ◌⊎◌, ◌∙◌, inl, inr, ℕ, ◌<◌, ◌&&◌, true, false, nat_eq, List, [], ◌∷◌, length, Some, All, slice_get}
 use Rattle.std.proofs.Common.{slice_index_or, sym, ap, ap₂, subst}
 use Rattle.std.proofs.lemmas.Bool.{eqb-true, and_parts}
 use Rattle.std.proofs.lemmas.List.Elements.{All-contains}
-use Rattle.std.proofs.lemmas.Option.{slice_get-get_or, get_or_from_slice_get}
+use Rattle.std.proofs.lemmas.Option.{get_or_from_slice_get}
 use Rattle.pals_base.specs.declared.values.Port.{Port}
 use Rattle.pals_base.specs.declared.values.Port.TheVariants.{Absent}
 use Rattle.pals_base.specs.Adaptors.{adapt}
@@ -18,7 +18,8 @@ use Rattle.pals_model.proofs.SourceLaws.{link_is_source, feed_is_source, nothing
 use Rattle.pals_model.proofs.RootInputLaws.{root_inputs_are_feeds}
 use Rattle.renumbering_laws.specs.Renumbered.{renumbered_link, renumbered_feed, IsRenumbered, values_of, AreSameInputs}
 use Rattle.renumbering_laws.proofs.Elements.{Passes, some_or_none, contains_at, image_at, column_at}
-use Rattle.renumbering_laws.proofs.Parts.{rate_there, same_number, link_there, link_back, feed_there, feed_back}
+use Rattle.renumbering_laws.proofs.Images.{none_there}
+use Rattle.renumbering_laws.proofs.Parts.{rate_there, same_number, link_there, feed_there}
 
 -- ---- root in ports
 feed_name : (design : DesignParts) (f : ℕ) (feed : Feed) → slice_get design.feeds f ≡ Some feed → slice_get (feed_names design) f ≡ Some feed.name
@@ -48,23 +49,19 @@ module _ (to : ℕ → ℕ) (a b : DesignParts) (sound_a : IsDesign a) (sound_b 
   -- ---- in ports that nothing goes to
   no_link_there : (node port : ℕ) → node < length a.components → All (λ link. link_goes_to node port link ≡ false) a.links
       → All (λ link. link_goes_to (to node) port link ≡ false) b.links
-  no_link_there node port within none k d inside =
-      let back = link_back to a b r k (get_or b.links k d) (slice_get-get_or b.links k d inside) in
-      let link : Link = back.1 in
-      let sound = at_element (IsLink a) a.links back.0 link sound_a.links.each back.2 in
-      ap (link_goes_to (to node) port) (sym back.3)
-      ∙ ap (λ same. same && nat_eq link.in_port port) (same_number to a b r link.target.0 node sound.target.node_is within)
-      ∙ at_element (λ x. link_goes_to node port x ≡ false) a.links back.0 link none back.2
+  no_link_there node port within =
+      none_there (renumbered_link to) a.links b.links r.links (link_goes_to node port) (link_goes_to (to node) port)
+      (λ l link is.
+      let sound = at_element (IsLink a) a.links l link sound_a.links.each is in
+      ap (λ same. same && nat_eq link.in_port port) (same_number to a b r link.target.0 node sound.target.node_is within))
 
   no_feed_there : (node port : ℕ) → node < length a.components → All (λ feed. feed_goes_to node port feed ≡ false) a.feeds
       → All (λ feed. feed_goes_to (to node) port feed ≡ false) b.feeds
-  no_feed_there node port within none k d inside =
-      let back = feed_back to a b r k (get_or b.feeds k d) (slice_get-get_or b.feeds k d inside) in
-      let feed : Feed = back.1 in
-      let sound = at_element (IsFeed a) a.feeds back.0 feed sound_a.feeds.each back.2 in
-      ap (feed_goes_to (to node) port) (sym back.3)
-      ∙ ap (λ same. same && nat_eq feed.in_port port) (same_number to a b r feed.target.0 node sound.target.node_is within)
-      ∙ at_element (λ x. feed_goes_to node port x ≡ false) a.feeds back.0 feed none back.2
+  no_feed_there node port within =
+      none_there (renumbered_feed to) a.feeds b.feeds r.feeds (feed_goes_to node port) (feed_goes_to (to node) port)
+      (λ f feed is.
+      let sound = at_element (IsFeed a) a.feeds f feed sound_a.feeds.each is in
+      ap (λ same. same && nat_eq feed.in_port port) (same_number to a b r feed.target.0 node sound.target.node_is within))
 
   -- ---- what an in port brings in a round
   module _ (env_a env_b : Env) (inputs : AreSameInputs a b env_a env_b) (round : ℕ) (messages_a messages_b : List (List Port))
