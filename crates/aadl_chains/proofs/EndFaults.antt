@@ -14,12 +14,12 @@ use Rattle.aadl_names.specs.declared.site.Site.{Site}
 use Rattle.aadl_names.specs.Found.{found}
 use Rattle.aadl_names.proofs.Finds.{found_append}
 use Rattle.aadl_uses.specs.Uses.{IsInUse, FirstIn}
-use Rattle.aadl_wires.specs.declared.connections.Wire.{Wire}
-use Rattle.aadl_wires.specs.Firsts.{IsSecond}
-use Rattle.aadl_wires.specs.Wiring.{wire_of, wires_of, wires_at}
-use Rattle.containment.proofs.Searches.{contains_none, contains_at, at_contains}
-use Rattle.port_flow.specs.Outside.{LeadsFrom}
-use Rattle.port_flow.proofs.Ordered.{one_of_two}
+use Rattle.aadl_chains.specs.declared.connections.Wire.{Wire}
+use Rattle.aadl_chains.specs.Firsts.{IsSecond}
+use Rattle.aadl_chains.specs.Wiring.{wire_of, wires_of, wires_at}
+use Rattle.aadl_uses.proofs.Searches.{contains_none, contains_at, at_contains}
+use Rattle.aadl_chains.specs.Outside.{LeadsFrom}
+use Rattle.aadl_chains.proofs.Ordered.{one_of_two}
 use Rattle.aadl_chains.specs.Chains.{IsDeadEnd, IsEndFault}
 use Rattle.aadl_chains.specs.Sound.{AreDeclared}
 use Rattle.aadl_chains.specs.OnChains.{IsOnWay}

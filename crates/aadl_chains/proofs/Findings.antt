@@ -6,8 +6,8 @@ use Rattle.aadl_names.specs.Findings.{FirstOf}
 use Rattle.aadl_names.specs.Found.{found}
 use Rattle.aadl_names.proofs.Finds.{found_append}
 use Rattle.aadl_uses.specs.Uses.{FirstIn}
-use Rattle.containment.proofs.Searches.{contains_none}
-use Rattle.first_findings.proofs.Covers.{found_is_first}
+use Rattle.aadl_uses.proofs.Searches.{contains_none}
+use Rattle.aadl_names.proofs.Covers.{found_is_first}
 use Rattle.aadl_chains.specs.Findings.{FindsAll}
 
 pub finds_nothing : (P : FlatFault → Type 0) (old : Option FlatFault) → ((fault : FlatFault) → P fault → ⊥) → FindsAll P old old

@@ -7,11 +7,11 @@ use Rattle.aadl_tree.specs.Declarations.{PackageTree}
 use Rattle.aadl_names.specs.declared.site.Site.{Site}
 use Rattle.aadl_names.specs.declared.site.Site.TheVariants.{Own, Inner}
 use Rattle.aadl_uses.specs.Uses.{below, standing}
-use Rattle.aadl_wires.specs.declared.connections.Wire.{Wire}
-use Rattle.aadl_wires.specs.Wiring.{wires_at}
-use Rattle.containment.proofs.Searches.{contains_none, contains_at, at_contains}
-use Rattle.port_flow.specs.Inside.{is_thread_at, is_in_at, Reaches, of_thread, of_inner}
-use Rattle.port_flow.specs.Outside.{LeadsOut, of_root, of_own, of_beside, LeadsFrom}
+use Rattle.aadl_chains.specs.declared.connections.Wire.{Wire}
+use Rattle.aadl_chains.specs.Wiring.{wires_at}
+use Rattle.aadl_uses.proofs.Searches.{contains_none, contains_at, at_contains}
+use Rattle.aadl_chains.specs.Inside.{is_thread_at, is_in_at, Reaches, of_thread, of_inner}
+use Rattle.aadl_chains.specs.Outside.{LeadsOut, of_root, of_own, of_beside, LeadsFrom}
 use Rattle.aadl_chains.specs.Chains.{Port, Place, port_at, Goes, Leads, is_in, IsStart, IsEnd}
 use Rattle.aadl_chains.specs.Sound.{MayLeave, MayEnter, NotBothOwn, AreDeclared}
 use Rattle.aadl_chains.specs.OnChains.{IsOnWay}

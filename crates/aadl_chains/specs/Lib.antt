@@ -1,4 +1,17 @@
+pub mod Sites
+pub mod Firsts
+pub mod Wiring
+pub mod Ports
+pub mod Inside
+pub mod Outside
 pub mod Chains
 pub mod Sound
 pub mod OnChains
 pub mod Findings
+pub mod Walked
+pub mod Walks
+pub mod Links
+pub mod Numbers
+pub mod Takes
+pub mod Routes
+pub mod Climbing

@@ -3,9 +3,9 @@ use Rattle.std.specs.Prelude.{◌≡◌, ℕ, Some}
 use Rattle.aadl_tree.specs.declared.declarations.Direction.TheVariants as directions
 use Rattle.aadl_tree.specs.Declarations.{PackageTree}
 use Rattle.aadl_names.specs.declared.site.Site.{Site}
-use Rattle.aadl_wires.specs.declared.connections.Wire.{Wire}
-use Rattle.port_flow.specs.Inside.{IsInside}
-use Rattle.port_flow.specs.Outside.{LeadsFrom, IsOutside}
+use Rattle.aadl_chains.specs.declared.connections.Wire.{Wire}
+use Rattle.aadl_chains.specs.Inside.{IsInside}
+use Rattle.aadl_chains.specs.Outside.{LeadsFrom, IsOutside}
 use Rattle.aadl_chains.specs.declared.ways.Ways.{Ways}
 
 pub record IsOnWay (tree : PackageTree ℕ) (root n : ℕ) (wire : Wire) : Type 0 where

@@ -4,9 +4,9 @@ use Rattle.aadl_tree.specs.Declarations.{PackageTree}
 use Rattle.aadl_names.specs.declared.site.Site.{Site}
 use Rattle.aadl_names.specs.declared.site.Site.TheVariants.{Own, Inner}
 use Rattle.aadl_uses.specs.Uses.{below}
-use Rattle.aadl_wires.specs.declared.connections.Wire.{Wire}
-use Rattle.aadl_wires.specs.Wiring.{wires_at}
-use Rattle.port_flow.specs.Inside.{is_thread_at, is_in_at}
+use Rattle.aadl_chains.specs.declared.connections.Wire.{Wire}
+use Rattle.aadl_chains.specs.Wiring.{wires_at}
+use Rattle.aadl_chains.specs.Inside.{is_thread_at, is_in_at}
 
 -- connections go out of own in ports and out ports of subcomponents
 abbrev pub MayLeave : PackageTree ℕ → ℕ → Site → Type 0

@@ -5,17 +5,17 @@ ghost use Rattle.aadl_tree.specs.Views.{connection_view};
 ghost use Rattle.aadl_tree.specs.Maps.{kept_place};
 ghost use Rattle.aadl_names.specs.Found.{found};
 ghost use Rattle.aadl_uses.specs.Uses.{containment, IsInUse, FirstIn};
-ghost use Rattle.aadl_wires.specs.Wiring.{wires_at};
-ghost use Rattle.containment.specs.Orders.{IsOrder};
+ghost use Rattle.aadl_chains.specs.Wiring.{wires_at};
+ghost use Rattle.aadl_uses.specs.Orders.{IsOrder};
 ghost use Rattle.aadl_chains.specs.Chains.{IsEndFault};
 ghost use Rattle.aadl_chains.specs.Sound.{AreDeclared};
 ghost use Rattle.aadl_chains.specs.OnChains.{AreWays};
 ghost use Rattle.aadl_chains.specs.Findings.{FindsAll, IsFoundIn, IsFoundAt, dead_end, second};
 
 use crate::ways::Ways;
+use crate::{Wire, Wires};
 use aadl_names::{Finder, FlatFault};
 use aadl_tree::Connection;
-use aadl_wires::{Wire, Wires};
 use indexmap::IndexSet;
 use std::alloc::{AllocError, Global};
 

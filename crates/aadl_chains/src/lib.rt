@@ -1,8 +1,25 @@
-//! Chains of connections between threads, and between threads and the root: which connections are on none.
+//! The connections of a package with the ports that they join, and the chains that they make between threads, and between
+//! threads and the root: which connections are on none, where each chain comes from, and whether there are too many links.
 #![tactic(auto)]
 
+pub mod back;
+pub mod connections;
 pub mod ends;
+pub mod inside;
+pub mod links;
+pub mod outside;
+pub mod ports;
+pub mod takes;
 pub mod ways;
+pub mod wires;
+mod wiring;
 
+pub use back::{Begin, Route, trace_back, trace_tap};
+pub use connections::{Connections, Wire};
 pub use ends::first_end_fault;
+pub use inside::Inside;
+pub use links::has_too_many_links;
+pub use outside::{Outside, Side};
+pub use ports::{PortAt, Ports};
 pub use ways::Ways;
+pub use wires::Wires;

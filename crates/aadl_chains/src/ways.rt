@@ -2,14 +2,13 @@
 ghost use Rattle.std.specs.Prelude.{◌≡◌, ◌↔◌, ◌&&◌, ℕ, Some, IfOk, IsTrue, Contains};
 ghost use Rattle.aadl_tree.specs.PackageViews.{placed};
 ghost use Rattle.aadl_uses.specs.Uses.{containment, IsInUse};
-ghost use Rattle.containment.specs.Orders.{IsOrder};
+ghost use Rattle.aadl_uses.specs.Orders.{IsOrder};
 ghost use Rattle.aadl_chains.specs.OnChains.{IsOnWay, AreWays};
 
+use crate::{Inside, Outside, Side, Wire, Wires};
 use aadl_names::Site;
 use aadl_tree::Direction;
-use aadl_wires::{Wire, Wires};
 use indexmap::IndexSet;
-use port_flow::{Inside, Outside, Side};
 use std::alloc::{AllocError, Global};
 
 /// The ports that connections join to threads below, and to threads or the root outside.

@@ -3,13 +3,13 @@ use Rattle.std.proofs.Common.{◌≡◌, ◌⊎◌, inl, inr, ℕ, ◌+◌, true
 use Rattle.std.proofs.lemmas.Bool.{true≢false}
 use Rattle.aadl_tree.specs.Declarations.{PackageTree}
 use Rattle.aadl_uses.specs.Threads.{IsThreadAt, PathBefore}
-use Rattle.port_flow.specs.Inside.{is_thread_at}
+use Rattle.aadl_chains.specs.Inside.{is_thread_at}
 use Rattle.aadl_chains.specs.Chains.{Port, is_in, IsEnd}
-use Rattle.chain_walks.specs.Links.{Ends, IsLink, IsFeed, IsTap}
-use Rattle.chain_walks.specs.declared.back.Begin.{Begin}
-use Rattle.chain_walks.specs.declared.back.Begin.TheVariants as begins
-use Rattle.chain_walks.specs.declared.back.Route.{Route}
-use Rattle.chain_walks.specs.Routes.{begin_port, route_ends, IsOfKind, IsRoute, IsTapRoute, Traces, TracesTap}
+use Rattle.aadl_chains.specs.Links.{Ends, IsLink, IsFeed, IsTap}
+use Rattle.aadl_chains.specs.declared.back.Begin.{Begin}
+use Rattle.aadl_chains.specs.declared.back.Begin.TheVariants as begins
+use Rattle.aadl_chains.specs.declared.back.Route.{Route}
+use Rattle.aadl_chains.specs.Routes.{begin_port, route_ends, IsOfKind, IsRoute, IsTapRoute, Traces, TracesTap}
 use Rattle.aadl_instance.specs.declared.parts.Chain.{Chain}
 use Rattle.aadl_instance.specs.declared.build.Incoming.{Incoming}
 use Rattle.aadl_instance.specs.Instances.{chain_in}

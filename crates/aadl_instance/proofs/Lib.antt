@@ -1,3 +1,8 @@
+pub mod Counted
+pub mod Used
+pub mod Weighed
+pub mod Lines
+pub mod Roots
 pub mod First
 pub mod Lists
 pub mod Ports

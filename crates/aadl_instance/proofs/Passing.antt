@@ -5,16 +5,16 @@ use Rattle.std.proofs.lemmas.Bool.{true≢false, cases_order}
 use Rattle.std.proofs.lemmas.Bool.Decides.{nat_tests}
 use Rattle.std.proofs.lemmas.List.{map-append}
 use Rattle.std.proofs.lemmas.Option.{same_Some, slice_get_within, get_or_from_slice_get}
-use Rattle.containment.specs.Counts.{path_before}
-use Rattle.containment.proofs.Searches.{at_contains}
+use Rattle.aadl_uses.specs.Counts.{path_before}
+use Rattle.aadl_uses.proofs.Searches.{at_contains}
 use Rattle.aadl_tree.specs.Declarations.{PackageTree}
 use Rattle.aadl_names.specs.Resolving.{ports_at, implementation_at}
 use Rattle.aadl_uses.specs.Uses.{standing, component_at}
 use Rattle.aadl_uses.specs.Threads.{Lists, IsThreadAt, PathBefore}
-use Rattle.port_flow.specs.Inside.{is_thread_at}
+use Rattle.aadl_chains.specs.Inside.{is_thread_at}
 use Rattle.aadl_chains.specs.Chains.{Port, is_in, IsEnd}
 use Rattle.aadl_chains.proofs.OnChains.{thread_from}
-use Rattle.chain_walks.specs.Links.{Ends, IsLink, IsFeed, IsTap, same_path, TargetBefore, PortBefore}
+use Rattle.aadl_chains.specs.Links.{Ends, IsLink, IsFeed, IsTap, same_path, TargetBefore, PortBefore}
 use Rattle.aadl_instance.specs.declared.parts.Chain.{Chain}
 use Rattle.aadl_instance.specs.declared.build.Incoming.{Incoming}
 use Rattle.aadl_instance.specs.Instances.{chain_in}

@@ -10,15 +10,15 @@ use Rattle.aadl_names.specs.declared.fault.FlatFault.TheVariants.{TooMany}
 use Rattle.aadl_names.specs.Resolving.{root_number}
 use Rattle.aadl_uses.specs.Uses.{standing}
 use Rattle.aadl_uses.specs.Threads.{Lists, IsThreadAt, PathBefore}
-use Rattle.instance_threads.specs.declared.places.ThreadAt.{ThreadAt}
-use Rattle.instance_threads.specs.Places.{thread_at}
+use Rattle.aadl_uses.specs.declared.places.ThreadAt.{ThreadAt}
+use Rattle.aadl_uses.specs.Places.{thread_at}
 use Rattle.aadl_chains.proofs.Declared.{declared}
-use Rattle.chain_walks.specs.Links.{IsLink, IsFeed, IsTap, TargetBefore, PortBefore}
-use Rattle.chain_walks.proofs.Counted.{one_each}
-use Rattle.flat_faults.specs.declared.package.Checked.{Checked}
-use Rattle.flat_faults.specs.Silence.{IsChecked}
-use Rattle.flat_faults.proofs.Lines.{root_silent}
-use Rattle.flat_faults.proofs.Roots.{root_no_thread}
+use Rattle.aadl_chains.specs.Links.{IsLink, IsFeed, IsTap, TargetBefore, PortBefore}
+use Rattle.aadl_chains.proofs.Counted.{one_each}
+use Rattle.aadl_instance.specs.declared.package.Checked.{Checked}
+use Rattle.aadl_instance.specs.Silence.{IsChecked}
+use Rattle.aadl_instance.proofs.Lines.{root_silent}
+use Rattle.aadl_instance.proofs.Roots.{root_no_thread}
 use Rattle.aadl_instance.specs.declared.parts.Chain.{Chain}
 use Rattle.aadl_instance.specs.Instances.{IsInstance}
 use Rattle.aadl_instance.specs.Passed.{paths_of, IsSettled, AreShown}

@@ -4,8 +4,8 @@ use Rattle.aadl_tree.specs.Declarations.{PackageTree}
 use Rattle.aadl_names.specs.declared.fault.FlatFault.{FlatFault}
 use Rattle.aadl_names.specs.Resolving.{root_number}
 use Rattle.aadl_uses.specs.Threads.{Lists, IsThreadAt, PathBefore}
-use Rattle.chain_walks.specs.Links.{Ends, IsLink, IsFeed, IsTap, TargetBefore, PortBefore}
-pub use Rattle.flat_faults.specs.Faults.{IsOver, Found, IsFault}
+use Rattle.aadl_chains.specs.Links.{Ends, IsLink, IsFeed, IsTap, TargetBefore, PortBefore}
+pub use Rattle.aadl_instance.specs.Faults.{IsOver, Found, IsFault}
 
 -- what the flattened design has: the root's number, its threads by their paths, and its chains
 pub record Parts : Type 0 where

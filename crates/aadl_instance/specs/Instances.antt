@@ -7,14 +7,14 @@ use Rattle.aadl_tree.specs.declared.declarations.Direction.TheVariants as direct
 use Rattle.aadl_tree.specs.Declarations.{Feature, PackageTree}
 use Rattle.aadl_names.specs.Resolving.{first_number, ports_at}
 use Rattle.aadl_names.specs.PackageFaults.{goes_in}
-use Rattle.instance_threads.specs.declared.places.ThreadAt.{ThreadAt}
-use Rattle.instance_threads.specs.Places.{thread_at}
+use Rattle.aadl_uses.specs.declared.places.ThreadAt.{ThreadAt}
+use Rattle.aadl_uses.specs.Places.{thread_at}
 use Rattle.aadl_instance.specs.declared.parts.Chain.{Chain}
 use Rattle.aadl_instance.specs.declared.parts.ChainEnd.{ChainEnd}
 use Rattle.aadl_instance.specs.declared.parts.ChainEnd.TheVariants.{Thread, Root}
 use Rattle.aadl_uses.specs.Uses.{component_at}
 use Rattle.aadl_chains.specs.Chains.{Port, port_of}
-use Rattle.chain_walks.specs.Links.{same_path, Ends}
+use Rattle.aadl_chains.specs.Links.{same_path, Ends}
 use Rattle.aadl_instance.specs.Flat.{Parts, IsFlat}
 
 abbrev pub same_direction : Direction → Direction → Bool

@@ -1,3 +1,8 @@
+pub mod Parts
+pub mod Paths
+pub mod Limits
+pub mod Faults
+pub mod Silence
 pub mod Flat
 pub mod Instances
 pub mod Passed

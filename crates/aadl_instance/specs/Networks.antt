@@ -2,7 +2,7 @@
 use Rattle.std.specs.Prelude.{◌≡◌, ℕ, List, Some, slice_get}
 use Rattle.aadl_tree.specs.Declarations.{PackageTree}
 use Rattle.aadl_tree.specs.PackageViews.{placed}
-use Rattle.chain_walks.specs.Links.{Ends}
+use Rattle.aadl_chains.specs.Links.{Ends}
 use Rattle.aadl_instance.specs.declared.parts.Chain.{Chain}
 use Rattle.aadl_instance.specs.declared.build.Incoming.{Incoming}
 use Rattle.aadl_instance.specs.declared.ends.Network.{Network}

@@ -1,16 +1,16 @@
 //! The links, feeds and taps of a package that has no fault.
 ghost use Rattle.std.specs.Prelude.{◌≡◌, ◌+◌, ℕ, Some, true, [], reverse, IfOk, OnOk};
 ghost use Rattle.aadl_uses.specs.Uses as uses;
-ghost use Rattle.port_flow.specs.Inside.{is_in_at};
-ghost use Rattle.chain_walks.specs.Links.{IsLink, IsFeed, IsTap, TargetBefore, PortBefore};
+ghost use Rattle.aadl_chains.specs.Inside.{is_in_at};
+ghost use Rattle.aadl_chains.specs.Links.{IsLink, IsFeed, IsTap, TargetBefore, PortBefore};
 ghost use Rattle.aadl_instance.specs.Passed as shown;
 ghost use Rattle.aadl_instance.specs.Networks.{tree_of, paths_in, IsReady, IsNumbered, Shows, ShowsInto, ShowsTaps};
 ghost use Rattle.aadl_instance.specs.Passed.{HasPort, IsBegin};
 
 use crate::ends::{Network, begin_end, root_end, thread_end};
 use crate::parts::{Chain, ChainEnd, ConnAt};
-use chain_walks::{Begin, Route, trace_back, trace_tap};
-use instance_threads::standing;
+use aadl_chains::{Begin, Route, trace_back, trace_tap};
+use aadl_uses::standing;
 use pals_base::Items;
 use std::alloc::{AllocError, Global};
 

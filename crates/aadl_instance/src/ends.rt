@@ -4,19 +4,18 @@ ghost use Rattle.pals_base.specs.declared.limits.TheConstants.{PORTS};
 ghost use Rattle.aadl_tree.specs.Maps.{kept_place};
 ghost use Rattle.aadl_tree.specs.Views.{feature_view};
 ghost use Rattle.aadl_uses.specs.Threads.{IsThreadAt};
-ghost use Rattle.chain_walks.specs.Routes.{begin_port};
+ghost use Rattle.aadl_chains.specs.Routes.{begin_port};
 ghost use Rattle.aadl_instance.specs.Instances as spec;
 ghost use Rattle.aadl_instance.specs.Instances.{end_in, number_among};
 ghost use Rattle.aadl_instance.specs.Networks.{tree_of, paths_in, IsReady};
 ghost use Rattle.aadl_instance.specs.Passed.{paths_of, HasPort, IsBegin};
 
 use crate::parts::ChainEnd;
+use aadl_chains::wires::goes_in;
+use aadl_chains::{Begin, Wires};
 use aadl_tree::{Direction, Feature};
-use aadl_wires::Wires;
-use aadl_wires::wires::goes_in;
-use chain_walks::Begin;
+use aadl_uses::standing;
 use indexmap::IndexSet;
-use instance_threads::standing;
 use pals_base::{NodeNo, Text};
 use std::alloc::{AllocError, Global};
 

@@ -3,17 +3,17 @@ ghost use Rattle.std.specs.Prelude.{◌≡◌, ◌⊎◌, ℕ, List, Some, IfErr
 ghost use Rattle.aadl_tree.specs.PackageViews.{placed};
 ghost use Rattle.aadl_names.specs.declared.fault.FlatFault.TheVariants.{Memory};
 ghost use Rattle.aadl_names.specs.Resolving.{root_number};
-ghost use Rattle.flat_faults.specs.Faults.{IsFault};
-ghost use Rattle.flat_faults.specs.Silence.{IsChecked};
+ghost use Rattle.aadl_instance.specs.Faults.{IsFault};
+ghost use Rattle.aadl_instance.specs.Silence.{IsChecked};
 ghost use Rattle.aadl_instance.specs.Instances.{IsInstance};
 
 use crate::build::{incoming_of, taps_of};
 use crate::ends::Network;
 use crate::instance::Instance;
+use crate::{Checked, check_package};
 use aadl_names::FlatFault;
 use aadl_tree::PackageTree;
-use flat_faults::{Checked, check_package};
-use instance_threads::{thread_paths, threads_at};
+use aadl_uses::{thread_paths, threads_at};
 use pals_base::{NoMemory, Text};
 use std::alloc::Global;
 

@@ -4,7 +4,7 @@ ghost use Rattle.aadl_instance.specs.Instances.{IsInstance};
 
 use crate::parts::Chain;
 use aadl_tree::PackageTree;
-use instance_threads::ThreadAt;
+use aadl_uses::ThreadAt;
 use pals_base::Items;
 
 /// The instance of a package below one root. Its type keeps that the package has no fault, and that

@@ -3,7 +3,7 @@ ghost use Rattle.std.specs.Prelude.{◌≡◌, ℕ, List};
 ghost use Rattle.aadl_tree.specs.Declarations.{PackageTree};
 ghost use Rattle.aadl_names.specs.declared.fault.FlatFault.{FlatFault};
 ghost use Rattle.aadl_names.specs.Findings.{place_of, number_of};
-ghost use Rattle.flat_faults.specs.Faults.{IsFault};
+ghost use Rattle.aadl_instance.specs.Faults.{IsFault};
 ghost use Rattle.aadl_instance.specs.Flat.{IsFlat, Parts};
 
 /// A package has a flattened design or a first fault, and not both.

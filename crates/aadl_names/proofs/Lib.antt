@@ -4,3 +4,8 @@ pub mod Firsts
 pub mod Words
 pub mod Spots
 pub mod Adds
+pub mod Elements
+pub mod Covers
+pub mod Besides
+pub mod FirstFaults
+pub mod Rising

@@ -1,13 +1,15 @@
-//! The names of a package: what its references and the ends of its connections name, and the first
-//! name that is wrong so far.
+//! The names of a package: what its references and the ends of its connections name, and the first name that is wrong so
+//! far. Laws: places rise along a tree, and the first of what is looked at is the first of all that is wrong.
 #![tactic(auto)]
 
 pub mod earliest;
 pub mod entry;
 pub mod fault;
 pub mod finder;
+pub mod finding_laws;
 pub mod holder;
 pub mod names;
+pub mod place_laws;
 pub mod role;
 pub mod site;
 pub mod sites;

@@ -17,9 +17,9 @@ use Rattle.aadl_uses.specs.Uses.{standing, component_at, targets_in, containment
 use Rattle.aadl_uses.specs.Threads.{Lists, MoreThan, IsThreadAt, PathBefore, is_thread_in, is_thread_declaration, thread_marks, AreCounted}
 use Rattle.aadl_uses.proofs.Containing.{standing-same, and_then_same}
 use Rattle.aadl_uses.proofs.Cycles.{kept_as_is, regrouped}
-use Rattle.containment.specs.Graphs.{Graph, below_in, reached_by}
-use Rattle.containment.specs.Orders.{IsOrder}
-use Rattle.containment.specs.Counts.{stands_at, IsMarkedAt, path_before, Among, Ordered, AreListed, Counted}
+use Rattle.aadl_uses.specs.Graphs.{Graph, below_in, reached_by}
+use Rattle.aadl_uses.specs.Orders.{IsOrder}
+use Rattle.aadl_uses.specs.Counts.{stands_at, IsMarkedAt, path_before, Among, Ordered, AreListed, Counted}
 
 -- ---- paths from outside and from inside
 stands_end : (g : Graph) (n s : ℕ) (p : List ℕ) → stands_at g n (p ++ s ∷ []) ≡ option_and_then (λ k. below_in g k s) (stands_at g n p)

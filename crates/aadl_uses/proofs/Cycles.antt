@@ -14,7 +14,7 @@ use Rattle.aadl_names.specs.Resolving.{referred}
 use Rattle.aadl_uses.specs.Uses.{sub_at, ClosesCycle, IsRecursive, FirstIn, containment}
 use Rattle.aadl_uses.specs.Recursion.{is_sooner, IsBefore, AreBefore, IsFound, IsSooner, IsFirstOf}
 use Rattle.aadl_uses.proofs.Containing.{below-same, standing-same}
-use Rattle.containment.specs.Graphs.{Graph, below_in, reached_by, LeadsBack}
+use Rattle.aadl_uses.specs.Graphs.{Graph, below_in, reached_by, LeadsBack}
 
 pub kept_as_is : {X : Type 0} (o : Option X) → o ≡ option_and_then (λ x. Some x) o
 kept_as_is None = refl

@@ -1,3 +1,12 @@
+pub mod Searches
+pub mod Suspected
+pub mod Sequences
+pub mod Fronts
+pub mod Counting
+pub mod Heavy
+pub mod Listed
 pub mod Containing
 pub mod Cycles
 pub mod Counted
+pub mod Threads
+pub mod Ways

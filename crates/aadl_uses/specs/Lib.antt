@@ -1,3 +1,10 @@
+pub mod Graphs
+pub mod Suspects
+pub mod Orders
+pub mod Counts
+pub mod Paths
+pub mod Weights
 pub mod Uses
 pub mod Threads
 pub mod Recursion
+pub mod Places

@@ -4,7 +4,7 @@ use Rattle.aadl_tree.specs.Declarations.{Subcomponent, PackageTree}
 use Rattle.aadl_names.specs.declared.fault.FlatFault.{FlatFault}
 use Rattle.aadl_names.specs.Findings.{place_of}
 use Rattle.aadl_uses.specs.Uses.{sub_at, containment, IsRecursive}
-use Rattle.containment.specs.Graphs.{LeadsBack}
+use Rattle.aadl_uses.specs.Graphs.{LeadsBack}
 
 -- a place stands before a fault's, if there is one
 abbrev pub is_sooner : ℕ → Option FlatFault → Bool

@@ -3,7 +3,7 @@ use Rattle.std.specs.Prelude.{◌≡◌, ℕ, ◌<◌, Bool, true, false, List, 
 use Rattle.aadl_tree.specs.Declarations.{Implementation, Declaration, PackageTree}
 use Rattle.aadl_names.specs.Resolving.{implementation_in, is_thread}
 use Rattle.aadl_uses.specs.Uses.{component_at}
-use Rattle.containment.specs.Counts.{path_before}
+use Rattle.aadl_uses.specs.Counts.{path_before}
 
 -- a list of all that have P, each once, in an order
 pub record Lists {X : Type 0} (P : X → Type 0) (Before : X → X → Type 0) (xs : List X) : Type 0 where

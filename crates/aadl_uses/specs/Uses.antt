@@ -6,7 +6,7 @@ use Rattle.aadl_names.specs.declared.fault.FlatFault.{FlatFault}
 use Rattle.aadl_names.specs.declared.fault.FlatFault.TheVariants.{Recursive}
 use Rattle.aadl_names.specs.Findings.{IsFirst}
 use Rattle.aadl_names.specs.Resolving.{implementation_in, implementation_at, subcomponents_of, referred}
-use Rattle.containment.specs.Graphs.{Graph}
+use Rattle.aadl_uses.specs.Graphs.{Graph}
 
 abbrev pub sub_at : PackageTree ℕ → ℕ → ℕ → Option (Subcomponent ℕ)
 sub_at tree n s = slice_get (subcomponents_of (implementation_at tree n)) s

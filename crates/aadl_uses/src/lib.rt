@@ -1,8 +1,28 @@
-//! Which implementation of a package contains which, what is in use, and whether one contains itself.
+//! Which implementation of a package contains which, what is in use, whether one contains itself, and the threads below a
+//! root: where each stands, and by which path it is known.
 #![tactic(auto)]
 
+pub mod below;
+pub mod count;
+pub mod graph;
+mod heaviest;
+mod levels;
+mod paths;
+mod places;
 pub mod recursion;
+pub mod sequence;
+pub mod suspect;
+mod threads_below;
 pub mod uses;
 
+pub use below::reached;
+pub use count::counts_below;
+pub use graph::Containment;
+pub use heaviest::{Weights, heaviest_below};
+pub use paths::{Paths, paths_below};
+pub use places::{SubAt, ThreadAt, standing, thread_at, threads_at};
 pub use recursion::first_recursive;
+pub use sequence::order;
+pub use suspect::{leads_back, suspects};
+pub use threads_below::thread_paths;
 pub use uses::Uses;

@@ -5,8 +5,8 @@ ghost use Rattle.aadl_uses.specs.Uses.{FirstIn, IsRecursive};
 ghost use Rattle.aadl_uses.specs.Recursion.{is_sooner, IsFirstOf, IsSooner};
 
 use crate::uses::Uses;
+use crate::{leads_back, suspects};
 use aadl_names::FlatFault;
-use containment::{leads_back, suspects};
 use pals_base::Text;
 use std::alloc::{AllocError, Global};
 

@@ -10,12 +10,12 @@ ghost use Rattle.aadl_names.specs.Resolving.{implementation_at, referred};
 ghost use Rattle.aadl_uses.specs.Uses as spec;
 ghost use Rattle.aadl_uses.specs.Uses.{targets_in, sub_at, below, IsInUse, IsRecursive};
 ghost use Rattle.aadl_uses.specs.Threads.{is_thread_in, is_thread_declaration, thread_marks, IsThreadAt, PathBefore, MoreThan, AreCounted};
-ghost use Rattle.containment.specs.Orders.{IsOrder};
+ghost use Rattle.aadl_uses.specs.Orders.{IsOrder};
 ghost use Rattle.pals_base.specs.declared.limits.TheConstants.{COMPONENTS};
 
+use crate::{Containment, counts_below, order, reached};
 use aadl_names::Names;
 use aadl_tree::{Category, Declaration, Implementation, PackageTree, Subcomponent};
-use containment::{Containment, counts_below, order, reached};
 use indexmap::IndexSet;
 use pals_base::limits::COMPONENTS;
 use std::alloc::{AllocError, Global};

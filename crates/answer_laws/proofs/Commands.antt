@@ -6,8 +6,8 @@ use Rattle.pals_runs.specs.declared.commands.Command.{Command}
 use Rattle.pals_runs.specs.declared.commands.Command.TheVariants.{Print, Check, Sync, World}
 use Rattle.aadl_tree.specs.Declarations.{PackageTree}
 use Rattle.aadl_tree.specs.Canon.{canon}
-use Rattle.check_report.specs.CheckReports.{IsCheckReport}
-use Rattle.world_laws.specs.Ends.{OneEnd}
+use Rattle.pals_report.specs.CheckReports.{IsCheckReport}
+use Rattle.loose_world.specs.Ends.{OneEnd}
 use Rattle.pals_top.specs.Refusals.{IsBundleRefused}
 use Rattle.pals_top.specs.Scenarios.{HasScenarioFault}
 use Rattle.bundle_designs.specs.Printed.{IsPrinted}

@@ -10,10 +10,10 @@ use Rattle.aadl_instance.specs.Flat.{Parts}
 use Rattle.annex_resolve.specs.declared.violation.Violation.{Violation}
 use Rattle.model_violations.specs.Violations.{shown_by, AreViolations}
 use Rattle.aadl_names.specs.declared.fault.FlatFault.{FlatFault}
-use Rattle.text_report.specs.TextFaults.{text_fault_line}
-use Rattle.text_report.specs.FlatFaults.{flat_fault_line}
-use Rattle.text_report.specs.Violations.{violation_lines}
-use Rattle.design_laws.specs.Designs as laws
+use Rattle.pals_report.specs.TextFaults.{text_fault_line}
+use Rattle.pals_report.specs.FlatFaults.{flat_fault_line}
+use Rattle.pals_report.specs.Violations.{violation_lines}
+use Rattle.design_laws.specs.PackageDesigns as laws
 use Rattle.design_laws.proofs.Verdicts.{one_instance, one_list, no_list}
 use Rattle.bundle_designs.specs.Parsed.{IsParsed}
 use Rattle.bundle_designs.specs.RefusedTexts.{IsUndivided, IsUnread, IsTextRefused}

@@ -4,8 +4,8 @@ use Rattle.pals_model.specs.declared.design.DesignParts.{DesignParts}
 use Rattle.aadl_tree.specs.Declarations.{PackageTree}
 use Rattle.aadl_tree.specs.Given.{IsTreeOf}
 use Rattle.aadl_names.specs.declared.fault.FlatFault.{FlatFault}
-use Rattle.flat_faults.specs.Faults.{IsFault}
-use Rattle.design_laws.specs.Designs.{IsDesignIn}
+use Rattle.aadl_instance.specs.Faults.{IsFault}
+use Rattle.design_laws.specs.PackageDesigns.{IsDesignIn}
 
 -- a package has one design at most below a root
 abbrev pub OneDesign : Type 0

@@ -7,8 +7,8 @@ use Rattle.pals_model.specs.RoundTexts.{line_end}
 use Rattle.step_code.specs.Capped.{capped}
 use Rattle.design_codes.specs.Causes.{length_of, AreShort, IsFirstTooLong}
 use Rattle.scenario_json.specs.declared.scenario.Scenario.{Scenario}
-use Rattle.loose_events.specs.Laws.{loosely}
-use Rattle.world_laws.specs.Ends.{OneEnd}
+use Rattle.loose_world.specs.EventLaws.{loosely}
+use Rattle.loose_world.specs.Ends.{OneEnd}
 use Rattle.bundle_designs.specs.Accepted.{IsAccepted}
 use Rattle.pals_top.specs.Loose.{IsWorldOf, IsScenarioRefusedIn, IsCodeTooLong, code_fault_line}
 use Rattle.answer_laws.specs.Meanings.{HasLongCode}

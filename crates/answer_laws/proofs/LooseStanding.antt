@@ -5,8 +5,8 @@ use Rattle.pals_model.specs.declared.design.DesignParts.{DesignParts}
 use Rattle.scenario_json.specs.declared.scenario.Scenario.{Scenario}
 use Rattle.loose_world.specs.declared.LooseEnd.{LooseEnd}
 use Rattle.loose_world.specs.declared.LooseEnd.TheVariants as end
-use Rattle.loose_events.specs.Laws.{loosely}
-use Rattle.world_laws.specs.Ends.{OneEnd}
+use Rattle.loose_world.specs.EventLaws.{loosely}
+use Rattle.loose_world.specs.Ends.{OneEnd}
 use Rattle.pals_top.specs.Code.{status_at}
 use Rattle.pals_top.specs.Loose.{run_of, IsScenarioRefusedIn, IsWorldOf, IsLooseAnswer}
 use Rattle.answer_laws.specs.Meanings.{HasTree, MeansDesign, MeansScenario, HasLongCode, LacksLooseScenario, EventsEnd, WorldEnds, HasWorld, HasStop, HasRefusedEvent}

@@ -10,7 +10,7 @@ use Rattle.pals_runs.specs.declared.commands.Command.{Command}
 use Rattle.scenario_values.specs.declared.fault.ScenarioFault.{ScenarioFault}
 use Rattle.scenario_json.specs.declared.scenario.Scenario.{Scenario}
 use Rattle.scenario_json.specs.Scenarios.{scen, IsValue, Means}
-use Rattle.check_report.specs.CheckReports.{rates, IsShortest, check_lines, IsCheckReport}
+use Rattle.pals_report.specs.CheckReports.{rates, IsShortest, check_lines, IsCheckReport}
 
 -- ---- scenarios
 one_value : (bytes : List ℕ) (d e : Data) → IsValue bytes d → IsValue bytes e → d ≡ e

@@ -10,11 +10,11 @@ use Rattle.scenario_json.specs.declared.scenario.Scenario.{Scenario}
 use Rattle.bus_machine.specs.States.{Run, BusState, opening}
 use Rattle.bus_machine.specs.Traces.{finished_by_all}
 use Rattle.bus_machine.specs.WorldTexts.{worldtext}
-use Rattle.run_lines.specs.EventFaults.{event_fault_line}
+use Rattle.pals_report.specs.EventFaults.{event_fault_line}
 use Rattle.loose_world.specs.declared.LooseEnd.{LooseEnd}
 use Rattle.loose_world.specs.declared.LooseEnd.TheVariants as end
-use Rattle.world_laws.specs.Steps.{StepsTo}
-use Rattle.world_laws.specs.Ends.{IsOneLeft, AreOneEnd, OneEnd}
+use Rattle.loose_world.specs.Steps.{StepsTo}
+use Rattle.loose_world.specs.Ends.{IsOneLeft, AreOneEnd, OneEnd}
 use Rattle.pals_top.specs.Code.{status_at}
 use Rattle.pals_top.specs.Loose.{run_of, IsWorldAnswer}
 use Rattle.answer_laws.specs.Meanings.{EventsEnd}

@@ -13,8 +13,8 @@ use Rattle.bus_machine.specs.States.{Run, BusState, opening}
 use Rattle.design_codes.specs.Causes.{length_of, AreShort}
 use Rattle.loose_world.specs.declared.LooseEnd.{LooseEnd}
 use Rattle.loose_world.specs.declared.LooseEnd.TheVariants as end
-use Rattle.world_laws.specs.Steps.{AllStep, StepsToStop, StepsToFault}
-use Rattle.loose_events.specs.Laws.{loosely}
+use Rattle.loose_world.specs.Steps.{AllStep, StepsToStop, StepsToFault}
+use Rattle.loose_world.specs.EventLaws.{loosely}
 use Rattle.bundle_designs.specs.Parsed.{IsParsed}
 use Rattle.bundle_designs.specs.Accepted.{IsAccepted}
 use Rattle.pals_top.specs.Scenarios.{HasScenario}

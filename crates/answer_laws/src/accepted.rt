@@ -10,7 +10,7 @@ ghost use Rattle.bundle_designs.specs.Parsed.{IsParsed};
 ghost use Rattle.bundle_designs.specs.Accepted.{IsAccepted};
 ghost use Rattle.answer_laws.specs.Meanings.{MeansDesign};
 
-use design_laws::laws::designs_of_texts_keep_their_rules;
+use design_laws::packages::designs_of_texts_keep_their_rules;
 
 /// The design that a bundle means keeps the rules of designs, so its period is at least the least one
 /// that the bound allows. A bundle means a design where its design text has a tree, the package has an

@@ -4,9 +4,9 @@ ghost use Rattle.pals_runs.specs.declared.commands.Command.{Command};
 ghost use Rattle.pals_top.specs.Answers.{IsCommandAnswer, IsAnswer};
 ghost use Rattle.pals_top.specs.Outside.{Reading};
 
-use design_laws::laws::one_design;
+use design_laws::packages::one_design;
 use fault_laws::laws::one_fault;
-use world_laws::laws::one_end;
+use loose_world::world_laws::one_end;
 
 /// The cases of an answer exclude each other, and each has one text: so each status comes exactly where
 /// its case does, and the bundle decides what a command answers to it, byte for byte.

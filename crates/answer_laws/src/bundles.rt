@@ -7,12 +7,12 @@ ghost use Rattle.aadl_tree.specs.Given.{IsTreeOf};
 ghost use Rattle.scenario_values.specs.declared.fault.ScenarioFault.{ScenarioFault};
 ghost use Rattle.scenario_json.specs.declared.scenario.Scenario.{Scenario};
 ghost use Rattle.scenario_json.specs.Scenarios.{Means};
-ghost use Rattle.check_report.specs.CheckReports.{IsCheckReport};
+ghost use Rattle.pals_report.specs.CheckReports.{IsCheckReport};
 ghost use Rattle.bundle_designs.specs.Bundles.{IsSplit, HasNoDivider};
 ghost use Rattle.bundle_designs.specs.Accepted.{IsFaulty, HasViolations, IsAccepted};
 ghost use Rattle.pals_top.specs.Refusals.{IsBundleRefused};
 
-use design_laws::laws::one_design;
+use design_laws::packages::one_design;
 use fault_laws::laws::one_fault;
 
 /// A bundle is divided by one of its lines, in one way, or has no such line.

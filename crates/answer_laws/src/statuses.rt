@@ -9,8 +9,8 @@ ghost use Rattle.pals_top.specs.Loose.{IsLooseAnswer};
 ghost use Rattle.answer_laws.specs.Meanings.{HasTree, MeansDesign, MeansScenario};
 ghost use Rattle.answer_laws.specs.Meanings.{HasLongCode, LacksLooseScenario, HasRefusedEvent, HasStop, HasWorld};
 
-use design_laws::laws::one_design;
-use world_laws::laws::one_end;
+use design_laws::packages::one_design;
+use loose_world::world_laws::one_end;
 
 /// `print` answers 0 exactly where the bundle has a design text of the grammar, and 3 exactly where it has none.
 pub fn statuses_of_print()

@@ -4,14 +4,14 @@ use Rattle.aadl_tree.specs.Declarations.{PackageTree}
 use Rattle.aadl_names.specs.declared.fault.FlatFault.{FlatFault}
 use Rattle.aadl_names.specs.declared.fault.FlatFault.TheVariants as flat
 use Rattle.aadl_instance.specs.Flat.{Parts, IsFlat}
-use Rattle.flat_faults.specs.Faults.{IsFault}
+use Rattle.aadl_instance.specs.Faults.{IsFault}
 use Rattle.annex_resolve.specs.declared.violation.Violation.{Violation}
 use Rattle.model_violations.specs.Violations.{shown_by, AreViolations}
-use Rattle.design_laws.specs.Designs.{IsDesignIn}
+use Rattle.design_laws.specs.PackageDesigns.{IsDesignIn}
 use Rattle.pals_model.specs.declared.design.DesignParts.{DesignParts}
 use Rattle.pals_model.specs.RoundTexts.{line_end, text_of as lines_text}
-use Rattle.text_report.specs.FlatFaults.{flat_fault_line}
-use Rattle.text_report.specs.Violations.{violation_lines}
+use Rattle.pals_report.specs.FlatFaults.{flat_fault_line}
+use Rattle.pals_report.specs.Violations.{violation_lines}
 use Rattle.bundle_designs.specs.Parsed.{IsParsed}
 
 -- ---- packages

@@ -4,7 +4,7 @@ use Rattle.aadl_parse.specs.declared.fault.TextFault.{TextFault}
 use Rattle.aadl_parse.specs.declared.fault.TextFault.TheVariants.{Memory}
 use Rattle.aadl_parse.specs.Texts.{IsFaultOfText}
 use Rattle.pals_model.specs.RoundTexts.{line_end}
-use Rattle.text_report.specs.TextFaults.{text_fault_line, no_divider_line}
+use Rattle.pals_report.specs.TextFaults.{text_fault_line, no_divider_line}
 use Rattle.bundle_designs.specs.Bundles.{IsSplit, HasNoDivider}
 
 -- No line divides the bundle, and the text says so.

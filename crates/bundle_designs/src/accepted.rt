@@ -1,7 +1,7 @@
 //! From a bundle to the design that it means.
 ghost use Rattle.std.specs.Prelude.{IfOk, IfErr};
 ghost use Rattle.aadl_tree.specs.PackageViews.{placed};
-ghost use Rattle.design_laws.specs.Designs.{IsDesignIn};
+ghost use Rattle.design_laws.specs.PackageDesigns.{IsDesignIn};
 ghost use Rattle.bundle_designs.specs.Accepted.{IsAccepted};
 ghost use Rattle.bundle_designs.specs.Refusals.{IsPackageRefusal, IsRefusal};
 

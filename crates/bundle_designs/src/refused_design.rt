@@ -2,14 +2,14 @@
 ghost use Rattle.std.specs.Prelude.{◌≡◌, ◌≢◌, ◌++◌, IfOk, OnOk};
 ghost use Rattle.aadl_names.specs.declared.fault.FlatFault.{FlatFault};
 ghost use Rattle.pals_model.specs.RoundTexts.{line_end, text_of as lines_text};
-ghost use Rattle.text_report.specs.FlatFaults.{flat_fault_line};
-ghost use Rattle.text_report.specs.Violations.{violation_lines};
+ghost use Rattle.pals_report.specs.FlatFaults.{flat_fault_line};
+ghost use Rattle.pals_report.specs.Violations.{violation_lines};
 
 use aadl_instance::FlatFault;
 use annex_resolve::Violation;
 use pals_base::NoMemory;
+use pals_report::{add_flat_fault, add_violations};
 use std::alloc::{AllocError, Global};
-use text_report::{add_flat_fault, add_violations};
 
 /// The text of a package with this fault. Want of memory is no fault of a package, and goes on.
 pub fn refused_package(alloc: Global, text: &[u8], fault: &FlatFault) -> Result<Vec<u8>, NoMemory>

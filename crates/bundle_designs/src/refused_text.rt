@@ -2,12 +2,12 @@
 ghost use Rattle.std.specs.Prelude.{◌≡◌, ◌≢◌, ◌++◌, IfOk, OnOk};
 ghost use Rattle.aadl_parse.specs.declared.fault.TextFault.{TextFault};
 ghost use Rattle.pals_model.specs.RoundTexts.{line_end};
-ghost use Rattle.text_report.specs.TextFaults.{text_fault_line, no_divider_line};
+ghost use Rattle.pals_report.specs.TextFaults.{text_fault_line, no_divider_line};
 
 use aadl_parse::TextFault;
 use pals_base::NoMemory;
+use pals_report::{add_no_divider, add_text_fault};
 use std::alloc::{AllocError, Global};
-use text_report::{add_no_divider, add_text_fault};
 
 /// The text of a bundle that no line divides.
 pub fn undivided(alloc: Global, bundle: &[u8]) -> Result<Vec<u8>, NoMemory>

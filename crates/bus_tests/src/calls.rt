@@ -5,6 +5,7 @@ ghost use Rattle.pals_model.specs.Delays.{AreDelays};
 
 use crate::designs::design_of;
 use design_codes::compile_all;
+use loose_world::add_journal;
 use pals_base::limits::READING;
 use pals_base::{Items, LinkNo, Nanos, NoMemory, NodeNo};
 use pals_bus::{Bus, DueEnd, Meet};
@@ -15,7 +16,6 @@ use std::alloc::Global;
 use std::process::Abort;
 use std::sync::Arc;
 use std::test::Fail;
-use world_report::add_journal;
 
 const MILLI: Nanos = 1_000_000;
 

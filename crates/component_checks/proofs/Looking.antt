@@ -14,7 +14,7 @@ use Rattle.aadl_tree.specs.ValueViews.{value_view, association_view}
 use Rattle.aadl_names.specs.declared.holder.Property.{Property}
 use Rattle.aadl_names.specs.Properties.{counts, is_named, name_of, association_named}
 use Rattle.aadl_tree.specs.Declarations.{PackageTree}
-use Rattle.instance_threads.specs.declared.places.SubAt.{SubAt}
+use Rattle.aadl_uses.specs.declared.places.SubAt.{SubAt}
 use Rattle.annex_resolve.proofs.Reading.{take_next}
 use Rattle.component_checks.specs.Lists.{first_in, lists_at, lists_along, root_lists}
 

@@ -1,3 +1,5 @@
+pub mod Numbers
+pub mod Rates
 pub mod Lists
 pub mod Times
 pub mod Threads

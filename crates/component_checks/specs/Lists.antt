@@ -6,7 +6,7 @@ use Rattle.aadl_tree.specs.Declarations.{Subcomponent, TypeDeclaration, Implemen
 use Rattle.aadl_names.specs.declared.holder.Property.{Property}
 use Rattle.aadl_names.specs.Properties.{name_of, association_named}
 use Rattle.aadl_names.specs.Resolving.{implementation_at, subcomponents_of, type_of, target_of}
-use Rattle.instance_threads.specs.declared.places.SubAt.{SubAt}
+use Rattle.aadl_uses.specs.declared.places.SubAt.{SubAt}
 
 abbrev pub type_lists : Option (TypeDeclaration ℕ) → List (Associations ℕ)
 type_lists None = []

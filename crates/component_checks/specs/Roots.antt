@@ -10,8 +10,8 @@ use Rattle.aadl_names.specs.Resolving.{implementation_at}
 use Rattle.aadl_names.specs.Properties.{association_at, has_some}
 use Rattle.annex_resolve.specs.declared.violation.Violation.{Violation}
 use Rattle.annex_resolve.specs.Scopes.{found_if}
-use Rattle.rate_checks.specs.Numbers.{within_hour, range_within, skew_of, range_of, gamma_by}
-use Rattle.rate_checks.specs.Rates.{bound_findings}
+use Rattle.component_checks.specs.Numbers.{within_hour, range_within, skew_of, range_of, gamma_by}
+use Rattle.component_checks.specs.Rates.{bound_findings}
 use Rattle.component_checks.specs.declared.rules.TheConstants.{NO_PERIOD, GAMMA_MISSING, GAMMA_ORDER}
 use Rattle.component_checks.specs.Lists.{root_lists, first_in}
 use Rattle.component_checks.specs.Times.{time_at, range_at, shown}

@@ -1,11 +1,19 @@
-//! What is wrong with the components of an instance: their dispatch and periods, the root's period and
-//! bounds, times above an hour, and the types of ports and variables.
+//! What is wrong with the components of an instance: their dispatch and periods, the root's period and bounds, times above
+//! an hour, the types of ports and variables, and the numbers of rates, adaptors and the bound. A number that is missing or
+//! refused is none, and nothing is found on it.
 #![tactic(auto)]
 
+pub mod adaptors;
 pub mod lists;
+pub mod numbers;
+pub mod rates;
 pub mod roots;
 pub mod rules;
 pub mod texts;
 pub mod threads;
 pub mod times;
 pub mod types;
+
+pub use adaptors::{Carrier, adaptor_named};
+pub use numbers::{gamma_by, range_of, rate_of, skew_of};
+pub use rates::{add_bound_findings, add_period_findings};

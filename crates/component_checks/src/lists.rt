@@ -14,7 +14,7 @@ use aadl_names::{Names, Property};
 use aadl_tree::{
     Association, Declaration, Implementation, PackageTree, Subcomponent, TypeDeclaration,
 };
-use instance_threads::SubAt;
+use aadl_uses::SubAt;
 use pals_base::NoMemory;
 use std::alloc::Global;
 

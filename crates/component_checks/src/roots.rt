@@ -10,11 +10,11 @@ use crate::lists::{implementation_at, root_property};
 use crate::rules::{GAMMA_MISSING, GAMMA_ORDER, NO_PERIOD};
 use crate::threads::{add_named, root_period};
 use crate::times::{range_within, shown, time_within};
+use crate::{add_bound_findings, gamma_by};
 use aadl_names::{Names, Property};
 use aadl_tree::{Association, PackageTree};
 use annex_resolve::Violation;
 use pals_base::{Gamma, Items, Nanos, NoMemory};
-use rate_checks::{add_bound_findings, gamma_by};
 use std::alloc::Global;
 
 // The skew of the root.
@@ -23,7 +23,7 @@ fn root_skew(names: &Names<'_>, alloc: Global, root: usize) -> Result<Option<Nan
     ensures { IfOk result (λ skew. skew ≡ spec.root_skew (placed names.now.tree.now) root) }
 {
     match root_property(names, alloc, root, Property::Skew)? {
-        Some(found) => Ok(rate_checks::skew_of(time_within(&found.value))),
+        Some(found) => Ok(crate::skew_of(time_within(&found.value))),
         None => Ok(None),
     }
 }
@@ -39,7 +39,7 @@ fn root_range(
     ensures { IfOk result (λ range. range ≡ spec.root_range (placed names.now.tree.now) root property) }
 {
     match root_property(names, alloc, root, property)? {
-        Some(found) => Ok(rate_checks::range_of(range_within(&found.value))),
+        Some(found) => Ok(crate::range_of(range_within(&found.value))),
         None => Ok(None),
     }
 }

@@ -11,13 +11,13 @@ ghost use Rattle.component_checks.specs.Threads as spec;
 use crate::lists::{component_property, innermost, property_along, root_property};
 use crate::rules::NOT_PERIODIC;
 use crate::times::time_within;
+use crate::{add_period_findings, rate_of};
 use aadl_names::spelling::spelled_reference;
 use aadl_names::{Names, Property};
 use aadl_tree::{PackageTree, Value};
+use aadl_uses::{SubAt, ThreadAt};
 use annex_resolve::Violation;
-use instance_threads::{SubAt, ThreadAt};
 use pals_base::{Items, Nanos, NoMemory, Text, TryClone};
-use rate_checks::{add_period_findings, rate_of};
 use std::alloc::Global;
 
 /// The period of the root in nanoseconds; none where it is missing or above an hour.

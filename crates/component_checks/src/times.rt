@@ -6,7 +6,7 @@ ghost use Rattle.aadl_tree.specs.Maps.{kept_place};
 ghost use Rattle.aadl_tree.specs.NameViews.{identifier_view};
 ghost use Rattle.aadl_tree.specs.ValueViews.{figure_view, quantity_view, value_view, association_view, associations_view};
 ghost use Rattle.aadl_names.specs.Properties as properties;
-ghost use Rattle.rate_checks.specs.Numbers.{within_hour, range_within};
+ghost use Rattle.component_checks.specs.Numbers.{within_hour, range_within};
 ghost use Rattle.component_checks.specs.Times as spec;
 
 use crate::rules::NUMBER_TOO_BIG;
@@ -14,9 +14,9 @@ use aadl_names::spelling::spelled_name;
 use aadl_names::{Holder, Property};
 use aadl_tree::{Association, Figure, Identifier, Quantity, Sign, Value};
 use annex_resolve::Violation;
+use name_faults::shapes::unit_of;
 use pals_base::limits::HOUR;
 use pals_base::{Items, Nanos, NoMemory, Text};
-use property_shapes::shapes::unit_of;
 use std::alloc::Global;
 
 // A whole number.

@@ -7,7 +7,7 @@ use Rattle.pals_model.specs.declared.design.DesignParts.{DesignParts}
 use Rattle.step_code.specs.declared.instr.CodeParts.{CodeParts}
 use Rattle.step_code.specs.Means.{Means}
 use Rattle.bus_machine.specs.Plans.{component_at}
-use Rattle.bus_fields.specs.Values.{code_at, no_code}
+use Rattle.pals_bus.specs.Values.{code_at, no_code}
 use Rattle.design_codes.specs.Causes.{length_of}
 
 -- each means what its component does, and is no longer than may be

@@ -2,7 +2,7 @@
 #![tactic(auto)]
 
 ghost use Rattle.std.specs.Prelude.{IfOk, IfErr};
-ghost use Rattle.bus_fields.specs.Values.{AreCodes};
+ghost use Rattle.pals_bus.specs.Values.{AreCodes};
 ghost use Rattle.design_codes.specs.Causes.{AreShort, IsCause};
 
 use pals_base::{Items, NoMemory, NodeNo};

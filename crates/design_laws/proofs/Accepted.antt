@@ -11,21 +11,21 @@ use Rattle.pals_model.specs.Rules as model
 use Rattle.aadl_tree.specs.Declarations.{Implementation, implementation, PackageTree}
 use Rattle.aadl_tree.specs.Given.{IsGiven}
 use Rattle.aadl_names.specs.PackageFaults.{package_faults}
-use Rattle.instance_threads.specs.declared.places.ThreadAt.{ThreadAt}
-use Rattle.rate_checks.specs.Rates.{bound_findings}
-use Rattle.rate_sound.proofs.Counting.{leaves_time}
+use Rattle.aadl_uses.specs.declared.places.ThreadAt.{ThreadAt}
+use Rattle.component_checks.specs.Rates.{bound_findings}
+use Rattle.design_laws.proofs.Counting.{leaves_time}
 use Rattle.component_checks.specs.Threads.{root_period, thread_rate, raised, greatest_rate}
 use Rattle.component_checks.specs.Roots.{root_gamma, at_root, place_of, missing_findings, order_findings}
 use Rattle.aadl_names.specs.declared.holder.Property.TheVariants.{Period}
 use Rattle.aadl_instance.specs.Flat.{Parts, IsFlat}
-use Rattle.names_sound.specs.Named.{NamesDiffer, AreNamed}
-use Rattle.names_sound.proofs.Differing.{right_none}
+use Rattle.design_laws.specs.Named.{NamesDiffer, AreNamed}
+use Rattle.design_laws.proofs.Differing.{right_none}
 use Rattle.model_violations.specs.Violations.{Shown, shown_by, rates_of, AreViolations}
-use Rattle.model_sound.specs.Accepted.{IsShown, NothingFound, HasDesign}
-use Rattle.model_sound.specs.Designs.{put_first, all_of, component_by, thread_behaviour, component_in, IsDesignOf}
-use Rattle.model_sound.proofs.Clean.{all_parts}
-use Rattle.model_sound.proofs.Nothing.{nothing_found}
-use Rattle.design_laws.specs.Designs.{IsDesignIn}
+use Rattle.design_laws.specs.Accepted.{IsShown, NothingFound, HasDesign}
+use Rattle.design_laws.specs.Designs.{put_first, all_of, component_by, thread_behaviour, component_in, IsDesignOf}
+use Rattle.design_laws.proofs.Clean.{all_parts}
+use Rattle.design_laws.proofs.Nothing.{nothing_found}
+use Rattle.design_laws.specs.PackageDesigns.{IsDesignIn}
 use Rattle.design_laws.proofs.Words.{has_words}
 
 -- ---- the names of a package that some text has

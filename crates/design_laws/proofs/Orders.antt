@@ -2,9 +2,9 @@
 use Rattle.std.proofs.Common.{◌≡◌, ◌⊎◌, inl, inr, ℕ, ◌<◌, nat_eq, nat_lt, Bool, true, false, ◌&&◌, ◌||◌, List, [], ◌∷◌, reverse, subst, arith}
 use Rattle.std.proofs.lemmas.Bool.{false≢true}
 use Rattle.std.proofs.lemmas.Bool.Decides.{nat_tests}
-use Rattle.containment.specs.Counts.{path_before}
+use Rattle.aadl_uses.specs.Counts.{path_before}
 use Rattle.aadl_uses.specs.Threads.{PathBefore}
-use Rattle.chain_walks.specs.Links.{Ends, same_path, TargetBefore, PortBefore}
+use Rattle.aadl_chains.specs.Links.{Ends, same_path, TargetBefore, PortBefore}
 
 either_by : (a b c : Bool) → (a || (b && c)) ≡ true → (a ≡ true) ⊎ ((b ≡ true) × (c ≡ true))
 either_by true b c e = inl e

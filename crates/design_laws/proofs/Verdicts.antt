@@ -6,14 +6,14 @@ use Rattle.std.proofs.lemmas.Option.{same_Some}
 use Rattle.pals_model.specs.declared.design.DesignParts.{DesignParts}
 use Rattle.aadl_tree.specs.Declarations.{PackageTree}
 use Rattle.aadl_uses.specs.Threads.{Lists, IsThreadAt, PathBefore}
-use Rattle.chain_walks.specs.Links.{IsLink, IsFeed, IsTap, TargetBefore, PortBefore}
+use Rattle.aadl_chains.specs.Links.{IsLink, IsFeed, IsTap, TargetBefore, PortBefore}
 use Rattle.aadl_instance.specs.Flat.{Parts, IsFlat}
 use Rattle.annex_resolve.specs.declared.violation.Violation.{Violation}
 use Rattle.model_violations.specs.Use.{IsUse}
 use Rattle.model_violations.specs.Violations.{Shown, shown_by, findings, goes_before, AreViolations}
 use Rattle.model_violations.proofs.Sorting.{goes_before_orders}
-use Rattle.model_sound.specs.Designs.{IsDesignOf}
-use Rattle.design_laws.specs.Designs.{IsDesignIn}
+use Rattle.design_laws.specs.Designs.{IsDesignOf}
+use Rattle.design_laws.specs.PackageDesigns.{IsDesignIn}
 use Rattle.design_laws.proofs.Listed.{one_listing}
 use Rattle.design_laws.proofs.Orders.{paths_one_way, targets_one_way, ports_one_way}
 use Rattle.design_laws.proofs.Sorted.{one_order}

@@ -28,9 +28,9 @@ use Rattle.aadl_tree.specs.Declarations.{ending_parts, implementation_name_parts
 use Rattle.aadl_tree.specs.Declarations.{package_parts}
 use Rattle.aadl_tree.specs.Given.{IsTreeOf}
 use Rattle.aadl_names.specs.Behaviours.{behaviours, identifiers, listed_in, variables_of, states_of}
-use Rattle.names_sound.specs.Named.{IsNamed, HasWords}
-use Rattle.names_sound.proofs.Placed.{all_append}
-use Rattle.names_sound.proofs.Wording.{same_words}
+use Rattle.design_laws.specs.Named.{IsNamed, HasWords}
+use Rattle.design_laws.proofs.Placed.{all_append}
+use Rattle.design_laws.proofs.Wording.{same_words}
 
 -- ---- terminals that are words
 abbrev IsWordKind : Kind → Type 0

@@ -1,5 +1,12 @@
-//! Why a package has one answer: one instance below a root, one list of what is wrong with it, and one design, which keeps
-//! the rules of designs.
+//! Why an instance in which nothing is found has one design, which keeps the rules of designs. Laws alone: of the names of
+//! a package, of annexes and behaviours, of rates, threads and chains, of designs, and of a whole package.
 #![tactic(auto)]
 
-pub mod laws;
+pub mod annexes;
+pub mod behaviours;
+pub mod chains;
+pub mod designs;
+pub mod names;
+pub mod packages;
+pub mod rates;
+pub mod threads;

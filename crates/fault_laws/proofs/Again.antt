@@ -17,7 +17,7 @@ use Rattle.aadl_names.specs.Resolving.{is_thread, type_in, type_numbered, type_n
 use Rattle.aadl_names.specs.Spaces.{port_entries, variable_entries, state_entries, twice_in_behaviour, twice_in_first, member_entries}
 use Rattle.aadl_names.specs.Spaces.{twice_in, type_entry, implementation_entry, twice_names}
 use Rattle.aadl_names.specs.PackageFaults.{behaviour_faults, unknown_reference, unknown_end}
-use Rattle.first_findings.proofs.Elements.{is_here, none_here, among_all, from_all, got}
+use Rattle.aadl_names.proofs.Elements.{is_here, none_here, among_all, from_all, got}
 use Rattle.fault_laws.proofs.Covering.{Covered, covered_none, covered_append, covered_if, covered_each, Named, named_append, named_map}
 use Rattle.fault_laws.proofs.Covering.{named_filter_map, covered_twice}
 use Rattle.fault_laws.proofs.Found.{behaviour_has}

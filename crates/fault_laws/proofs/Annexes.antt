@@ -21,7 +21,7 @@ use Rattle.aadl_names.specs.Spelling.{spelled_name}
 use Rattle.aadl_names.specs.Behaviours.{listed_in, states_of}
 use Rattle.aadl_names.specs.AnnexNames.{Known}
 use Rattle.aadl_names.specs.PackageFaults.{is_among, known_in, state_uses, guard_uses, effect_uses, transition_uses, behaviour_faults}
-use Rattle.first_findings.proofs.Elements.{is_here}
+use Rattle.aadl_names.proofs.Elements.{is_here}
 use Rattle.fault_laws.proofs.Clear.{Clear, clear_none, clear_one, clear_front, clear_back, clear_tail, clear_append, clear_flat, clear_unless}
 use Rattle.fault_laws.proofs.Clear.{clear_four, clear_turned}
 use Rattle.fault_laws.proofs.Expressions.{expression_clear}

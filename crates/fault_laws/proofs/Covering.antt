@@ -11,7 +11,7 @@ use Rattle.aadl_names.specs.declared.fault.FlatFault.TheVariants.{Twice, WrongKi
 use Rattle.aadl_names.specs.declared.entry.Entry.{Entry}
 use Rattle.aadl_names.specs.Findings.{number_of, wrong_if}
 use Rattle.aadl_names.specs.Twice.{again, twice}
-use Rattle.first_findings.proofs.Elements.{is_here, only_here, none_here, first_or, among_all, from_all}
+use Rattle.aadl_names.proofs.Elements.{is_here, only_here, none_here, first_or, among_all, from_all}
 
 -- ---- lists
 pub from_map : {X Y : Type 0} (h : X → Y) (xs : List X) (y : Y) → Contains (map h xs) y → (x : X) × Contains xs x × (h x ≡ y)

@@ -11,7 +11,7 @@ use Rattle.aadl_names.specs.declared.role.Role.{Role}
 use Rattle.aadl_names.specs.declared.role.Usage.{Usage}
 use Rattle.aadl_names.specs.AnnexNames.{Known, allows, use_as, uses, reading, primary_uses, factor_uses, term_uses, factors_uses, sum_uses}
 use Rattle.aadl_names.specs.AnnexNames.{terms_uses, relation_uses, expression_uses, relations_uses}
-use Rattle.first_findings.proofs.Elements.{is_here}
+use Rattle.aadl_names.proofs.Elements.{is_here}
 use Rattle.fault_laws.proofs.Clear.{Clear, clear_none, clear_one, clear_front, clear_back, clear_tail, clear_append, clear_unless}
 
 by_role : (usage : Usage) (x : Identifier ℕ) (o : Option Role) → Clear (identifier_parts x) (use_as usage x o)

@@ -11,10 +11,10 @@ use Rattle.aadl_names.specs.Findings.{place_of, number_of, IsFirstByLine}
 use Rattle.aadl_names.specs.Resolving.{implementation_in, subcomponents_of, connections_of}
 use Rattle.aadl_uses.specs.Uses.{IsRecursive}
 use Rattle.aadl_chains.specs.Chains.{IsEndFault}
-use Rattle.flat_faults.specs.Faults.{IsOver, FoundIn, Found, IsFault}
+use Rattle.aadl_instance.specs.Faults.{IsOver, FoundIn, Found, IsFault}
 use Rattle.aadl_instance.proofs.First.{one_by_line}
-use Rattle.first_findings.proofs.Elements.{got}
-use Rattle.names_sound.proofs.Placed.{Rise}
+use Rattle.aadl_names.proofs.Elements.{got}
+use Rattle.design_laws.proofs.Placed.{Rise}
 use Rattle.fault_laws.proofs.Possible.{possible}
 use Rattle.fault_laws.proofs.Declaring.{possible_clear}
 use Rattle.fault_laws.proofs.Again.{again_of, in_package, subcomponent_has, connection_has}

@@ -6,8 +6,8 @@ use Rattle.aadl_names.specs.declared.fault.FlatFault.{FlatFault}
 use Rattle.aadl_names.specs.declared.fault.FlatFault.TheVariants.{NoRoot, Unknown, Twice, WrongKind, Recursive, DeadEnd, TwoSources, TooMany, Memory}
 use Rattle.aadl_names.specs.Findings.{place_of, number_of}
 use Rattle.aadl_names.specs.PackageFaults.{package_faults}
-use Rattle.aadl_places.proofs.Rising.{places_rise}
-use Rattle.names_sound.proofs.Placed.{Rise}
+use Rattle.aadl_names.proofs.Rising.{places_rise}
+use Rattle.design_laws.proofs.Placed.{Rise}
 use Rattle.fault_laws.proofs.Covering.{IsWrongKind, Covered, covered_append}
 use Rattle.fault_laws.proofs.Possible.{possible}
 use Rattle.fault_laws.proofs.Found.{wrong_covered}

@@ -21,7 +21,7 @@ use Rattle.aadl_names.specs.Resolving.{target_of, is_thread}
 use Rattle.aadl_names.specs.Properties.{listed, association_name, association_at, counts, counted, misshapen, association_entry, shape_fault}
 use Rattle.aadl_names.specs.Properties.{property_entries, list_faults}
 use Rattle.aadl_names.specs.PackageFaults as p
-use Rattle.first_findings.proofs.Elements.{is_here, among_all}
+use Rattle.aadl_names.proofs.Elements.{is_here, among_all}
 use Rattle.fault_laws.proofs.Covering.{from_filter, from_filter_map, Covered, covered_among, covered_none, covered_itself, covered_kind, covered_wrong}
 use Rattle.fault_laws.proofs.Covering.{covered_kinds, covered_append, covered_front, covered_back, covered_if, covered_each}
 use Rattle.fault_laws.proofs.Covering.{covered_flat, named_map, covered_twice}

@@ -5,7 +5,7 @@ ghost use Rattle.aadl_tree.specs.Given.{IsTreeOf};
 ghost use Rattle.aadl_names.specs.declared.fault.FlatFault.{FlatFault};
 ghost use Rattle.aadl_names.specs.Findings.{place_of, number_of};
 ghost use Rattle.aadl_names.specs.PackageFaults.{package_faults};
-ghost use Rattle.flat_faults.specs.Faults.{IsFault};
+ghost use Rattle.aadl_instance.specs.Faults.{IsFault};
 
 /// The package of a text has one first fault at most below a root, so an answer that names it is one
 /// text.

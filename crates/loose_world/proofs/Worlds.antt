@@ -5,7 +5,7 @@ use Rattle.std.proofs.lemmas.List.{take_more}
 use Rattle.std.proofs.lemmas.List.Concat.{flat_map-append}
 use Rattle.pals_model.specs.RoundTexts.{line_end, text_of}
 use Rattle.pals_runs.specs.declared.events.Event.{Event}
-use Rattle.bus_fields.specs.Values.{BusValue, Happens}
+use Rattle.pals_bus.specs.Values.{BusValue, Happens}
 use Rattle.pals_bus.specs.Loose.{GoesOn, HappensLoose}
 use Rattle.loose_world.specs.Worlds.{AllHappen, IsCutShort, told_by}
 

@@ -8,9 +8,9 @@ use Rattle.pals_runs.specs.declared.events.EventFault.{EventFault}
 use Rattle.pals_runs.specs.declared.events.EventFault.TheVariants as fault
 use Rattle.pals_runs.specs.declared.journal.Stop.{Stop}
 use Rattle.bus_machine.specs.Machine.{BusEvent}
-use Rattle.bus_fields.specs.Values.{BusValue}
+use Rattle.pals_bus.specs.Values.{BusValue}
 use Rattle.pals_bus.specs.Loose.{loose_event, IsNamedIn, node_of, message_of, HappensLoose, GoesOn, IsRefused}
-use Rattle.world_report.specs.Sent.{sent_lines}
+use Rattle.loose_world.specs.Sent.{sent_lines}
 use Rattle.loose_world.specs.declared.LooseEnd.{LooseEnd}
 use Rattle.loose_world.specs.declared.LooseEnd.TheVariants as end
 

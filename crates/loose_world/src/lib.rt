@@ -1,83 +1,16 @@
-//! A loose world: a list of events without time, in which messages may be lost, repeated and
-//! reordered, up to the first that gives a stop or is not allowed.
+//! A loose world: a list of events without time, in which messages may be lost, repeated and reordered, up to the first
+//! that gives a stop or is not allowed; and what is written of the bus that it leaves. Laws: a list of loose events ends in
+//! one way, and what it leaves on a bus is the text of its world.
 #![tactic(auto)]
 
-ghost use Rattle.std.specs.Prelude.{◌≡◌, ◌≤◌, ◌++◌, length, All, IfOk, OnOk, OnErr, None};
-ghost use Rattle.pals_base.specs.declared.limits.TheConstants.{LIST_ITEMS};
-ghost use Rattle.pals_model.specs.RoundTexts.{text_of};
-ghost use Rattle.pals_bus.specs.Loose.{IsNamedIn};
-ghost use Rattle.world_report.specs.Sent.{AreOutLinks};
-ghost use Rattle.loose_world.specs.Worlds.{IsLooseIn, Tells, IsCutShort, told_by};
+pub mod event_laws;
+mod events;
+mod journal;
+mod messages;
+mod rounds;
+pub mod world_laws;
 
-use pals_base::NoMemory;
-use pals_bus::{Bus, LooseFault, apply_loose};
-use pals_runs::{Event, EventFault, Stop};
-use std::alloc::AllocError;
-use world_report::OutLinks;
-
-/// How a loose world ended.
-#[derive(Clone, Copy, PartialEq, Eq, Debug)]
-pub enum LooseEnd {
-    /// Each event happened, and no stop stands.
-    All,
-    /// An event gave this stop. Those after it are not looked at.
-    Stopped(Stop),
-    /// The event of this index, from 0, is not allowed: a `WrongPhase` or a `NoSuchMessage`.
-    Refused { index: u32, fault: EventFault },
-}
-
-/// Does the events in order, up to the first that gives a stop or is not allowed, and adds a line for
-/// each message that they send. Where there is not enough memory, the bus stands after a first part of
-/// them, which all happened without a stop, and the text has lines of these events alone.
-pub fn run_loose(
-    bus: &mut Bus,
-    events: &[Event],
-    links: &OutLinks,
-    sent: &mut Vec<u8>,
-) -> Result<LooseEnd, NoMemory>
-    requires going { bus.old.state.stop ≡ None }
-    requires events { All (IsLooseIn bus.old.run.design) events.now }
-    requires few { length events.now ≤ LIST_ITEMS }
-    requires links { AreOutLinks bus.old.run.design links.now }
-    ensures ok { IfOk result (λ end. Tells bus.old events.now end bus.new sent.old.items sent.new.items) }
-    ensures err { OnErr result (IsCutShort bus.old events.now bus.new sent.old.items sent.new.items) }
-{
-    for index in 0..events.len() {
-        match apply_loose(bus, &events[index]) {
-            Ok(()) => {}
-            Err(LooseFault::Stopped(stop)) => return Ok(LooseEnd::Stopped(stop)),
-            Err(LooseFault::WrongPhase { node }) => {
-                let index = index as u32;
-                let fault = EventFault::WrongPhase { node };
-                return Ok(LooseEnd::Refused { index, fault });
-            }
-            Err(LooseFault::NoSuchMessage { link, round }) => {
-                let index = index as u32;
-                let fault = EventFault::NoSuchMessage { link, round };
-                return Ok(LooseEnd::Refused { index, fault });
-            }
-            Err(LooseFault::Timed) => unreachable!(),
-            Err(LooseFault::Memory) => return Err(AllocError),
-        }
-        tell_messages(links, sent, bus, &events[index])?;
-    }
-    Ok(LooseEnd::All)
-}
-
-// Adds a line for each message that an event has sent. Where memory is wanting, nothing is added.
-fn tell_messages(
-    links: &OutLinks,
-    sent: &mut Vec<u8>,
-    bus: &Bus,
-    event: &Event,
-) -> Result<(), NoMemory>
-    requires links { AreOutLinks bus.now.run.design links.now }
-    requires named { IsNamedIn bus.now.run.design event.now }
-    ensures ok { OnOk result (sent.new.items ≡ sent.old.items ++ text_of (told_by bus.now event.now)) }
-    ensures err { OnErr result (sent.new.items ≡ sent.old.items) }
-{
-    match *event {
-        Event::Send(node) => links.add_messages(sent, bus, node),
-        _ => Ok(()),
-    }
-}
+pub use events::{LooseEnd, run_loose};
+pub use journal::add_journal;
+pub use messages::OutLinks;
+pub use rounds::{add_finished, add_finished_by_all};

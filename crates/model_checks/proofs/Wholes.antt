@@ -2,7 +2,7 @@
 use Rattle.std.proofs.Common.{◌≡◌, ◌∙◌, ℕ, ◌+◌, ◌<◌, List, [], ◌∷◌, ◌++◌, length, map, take, drop, get_or, Option, Some, None, refl, sym, ap}
 use Rattle.std.proofs.lemmas.List.{map-append, take-append-drop}
 use Rattle.annex_resolve.proofs.Listing.{map_next}
-use Rattle.model_sound.specs.Designs.{put_first, all_of}
+use Rattle.design_laws.specs.Designs.{put_first, all_of}
 
 -- ---- one more part
 more_by : {X : Type 0} (y : X) (x : Option X) (o p : Option (List X)) (ys : List X) → ((zs : List X) → o ≡ Some zs → p ≡ Some (zs ++ y ∷ [])) → put_first x o ≡ Some ys

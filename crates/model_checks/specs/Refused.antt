@@ -5,7 +5,7 @@ use Rattle.pals_model.specs.declared.design.DesignParts.{DesignParts}
 use Rattle.aadl_tree.specs.Declarations.{PackageTree}
 use Rattle.model_checks.specs.declared.verdict.CheckFault.{CheckFault}
 use Rattle.model_checks.specs.declared.verdict.CheckFault.TheVariants.{Violations, Memory}
-use Rattle.model_sound.specs.Designs.{IsDesignOf}
+use Rattle.design_laws.specs.Designs.{IsDesignOf}
 use Rattle.model_violations.specs.Violations.{Shown, AreViolations}
 
 -- all that is wrong with it, and something is; nothing is said of want of memory

@@ -2,7 +2,7 @@
 ghost use Rattle.std.specs.Prelude.{◌≡◌, IfOk, All, MatchOption, map};
 ghost use Rattle.aadl_tree.specs.PackageViews.{placed};
 ghost use Rattle.model_violations.specs.Violations.{shown};
-ghost use Rattle.model_sound.specs.Designs as spec;
+ghost use Rattle.design_laws.specs.Designs as spec;
 ghost use Rattle.model_checks.specs.Limits.{IsWithinLimits};
 ghost use Rattle.model_checks.specs.Refused.{HasNoDesign};
 
@@ -10,13 +10,12 @@ use aadl_instance::{Chain, ChainEnd, Instance, ThreadAt};
 use aadl_names::Names;
 use component_checks::roots::root_gamma;
 use component_checks::threads::{root_period, thread_rate};
-use ignored_names::ignored_names;
-use link_checks::carriers::{adaptor_of, connection_of};
-use link_checks::ports::component_of;
+use model_violations::carriers::{adaptor_of, connection_of};
+use model_violations::ports::component_of;
+use model_violations::{ignored_names, resolve_implementation};
 use pals_base::{Adaptor, Behaviour, Items, NoMemory, TryClone};
 use pals_model::{Component, DesignParts, Feed, Link, Tap};
 use std::alloc::Global;
-use thread_checks::resolve_implementation;
 
 // The behaviour of a thread, if it has one.
 fn behaviour(

@@ -2,17 +2,17 @@
 ghost use Rattle.std.specs.Prelude.{◌≡◌, [], IfOk, IfErr};
 ghost use Rattle.aadl_tree.specs.PackageViews.{placed};
 ghost use Rattle.model_violations.specs.Violations.{shown, AreViolations};
-ghost use Rattle.model_sound.specs.Designs.{IsDesignOf};
+ghost use Rattle.design_laws.specs.Designs.{IsDesignOf};
 ghost use Rattle.model_checks.specs.Refused.{IsRefused};
 
 use crate::design::design_parts;
 use aadl_instance::Instance;
 use aadl_names::Names;
 use annex_resolve::Violation;
-use design_sound::laws::{designs_are_there, designs_keep_their_rules};
-use model_sound::laws::{behaviours_keep_their_rules, no_violations_are_no_findings};
+use design_laws::designs::{designs_are_there, designs_keep_their_rules};
+use design_laws::names::texts_name;
+use design_laws::threads::{behaviours_keep_their_rules, no_violations_are_no_findings};
 use model_violations::list::violations_by;
-use names_sound::laws::texts_name;
 use pals_base::{Items, NoMemory};
 use pals_model::Design;
 use std::alloc::{AllocError, Global};

@@ -3,7 +3,7 @@ use Rattle.std.proofs.Common.{◌≡◌, ◌∙◌, ℕ, ◌+◌, ◌<◌, nat_e
 use Rattle.std.proofs.lemmas.List.Folds.{list_any-append}
 use Rattle.annex_resolve.proofs.Listing.{map_next}
 use Rattle.aadl_instance.specs.declared.parts.Chain.{Chain}
-use Rattle.link_checks.specs.Carriers.{carries}
+use Rattle.model_violations.specs.Carriers.{carries}
 use Rattle.model_violations.specs.Violations.{place_of}
 use Rattle.model_violations.proofs.Numbers.{or_nothing}
 

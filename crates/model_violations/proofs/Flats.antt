@@ -12,18 +12,18 @@ use Rattle.aadl_tree.specs.Declarations.{Implementation, PackageTree}
 use Rattle.aadl_names.specs.declared.fault.FlatFault.TheVariants.{TooMany}
 use Rattle.aadl_names.specs.Behaviours as names
 use Rattle.aadl_names.specs.Resolving.{is_root, is_thread, first_number, implementation_at, ports_of}
-use Rattle.first_findings.specs.Beside.{first_behaviour}
-use Rattle.thread_limits.specs.Parts.{count_in, variable_count}
+use Rattle.aadl_names.specs.Beside.{first_behaviour}
+use Rattle.aadl_instance.specs.Parts.{count_in, variable_count}
 use Rattle.aadl_uses.specs.Uses.{standing, component_at, IsInUse}
 use Rattle.aadl_uses.specs.Threads.{IsThreadOf}
-use Rattle.instance_threads.specs.declared.places.ThreadAt.{ThreadAt}
+use Rattle.aadl_uses.specs.declared.places.ThreadAt.{ThreadAt}
 use Rattle.aadl_instance.specs.declared.parts.Chain.{Chain}
 use Rattle.aadl_instance.specs.Flat.{Parts, IsFlat}
 use Rattle.aadl_instance.specs.Instances.{IsInstance}
 use Rattle.annex_resolve.specs.Behaviours.{listed_in}
 use Rattle.annex_resolve.specs.Types.{kind_named}
-use Rattle.thread_checks.specs.Values.{first_of, variable_of, variables_in, variables_of}
-use Rattle.thread_checks.specs.Threads.{IsSmall, first_annex}
+use Rattle.model_violations.specs.Values.{first_of, variable_of, variables_in, variables_of}
+use Rattle.model_violations.specs.Threads.{IsSmall, first_annex}
 use Rattle.model_violations.specs.Use.{IsUse}
 use Rattle.model_violations.specs.Declarations.{AreSmall}
 

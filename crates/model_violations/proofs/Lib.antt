@@ -1,6 +1,11 @@
+pub mod Kept
+pub mod Settings
+pub mod Spelled
 pub mod Numbers
 pub mod Flats
 pub mod Rates
 pub mod Carrying
 pub mod Sorting
 pub mod Found
+pub mod Mapped
+pub mod Filtered

@@ -6,8 +6,8 @@ use Rattle.std.proofs.lemmas.Bool.Decides.{nat_tests}
 use Rattle.std.proofs.lemmas.Option.{slice_get-map}
 use Rattle.pals_base.specs.declared.limits.TheConstants.{RATE}
 use Rattle.aadl_tree.specs.Declarations.{PackageTree}
-use Rattle.instance_threads.specs.declared.places.ThreadAt.{ThreadAt}
-use Rattle.rate_checks.specs.Numbers.{divides, is_rate, rate_of}
+use Rattle.aadl_uses.specs.declared.places.ThreadAt.{ThreadAt}
+use Rattle.component_checks.specs.Numbers.{divides, is_rate, rate_of}
 use Rattle.component_checks.specs.Threads.{thread_rate, raised, greatest_rate, root_period, own_period}
 
 passed_by : (b : Bool) (n k : ℕ) → cond b (Some n) None ≡ Some k → (b ≡ true) × (n ≡ k)

@@ -7,9 +7,9 @@ use Rattle.aadl_names.specs.Resolving.{is_thread, implementation_at}
 use Rattle.annex_resolve.specs.declared.violation.Violation.{Violation}
 use Rattle.component_checks.specs.Times.{list_big}
 use Rattle.component_checks.specs.Types.{port_findings}
-use Rattle.link_checks.specs.Connections.{connections_findings}
-use Rattle.thread_checks.specs.Threads as threads
-use Rattle.ignored_names.specs.Ignored.{is_root_type}
+use Rattle.model_violations.specs.Connections.{connections_findings}
+use Rattle.model_violations.specs.Threads as threads
+use Rattle.model_violations.specs.Ignored.{is_root_type}
 
 -- ---- a type: its ports, and times above an hour
 abbrev pub type_findings : Bool → TypeDeclaration ℕ → List Violation

@@ -4,7 +4,7 @@ use Rattle.std.specs.List.{list_any, enumerate_from}
 use Rattle.aadl_tree.specs.Declarations.{Declaration, type, implementation, PackageTree}
 use Rattle.aadl_names.specs.Resolving.{type_number}
 use Rattle.aadl_uses.specs.Uses.{IsInUse}
-use Rattle.ignored_names.specs.Ignored.{is_number}
+use Rattle.model_violations.specs.Ignored.{is_number}
 
 -- whether a number is among some
 abbrev pub has : List ℕ → ℕ → Bool

@@ -2,17 +2,17 @@
 use Rattle.std.specs.Prelude.{◌≡◌, ℕ, nat_eq, nat_lt, Bool, ◌&&◌, ◌||◌, List, ◌++◌, map, flat_map, Option}
 use Rattle.std.specs.List.Sorted.{IsSortedBy, IsStableBy}
 use Rattle.aadl_tree.specs.Declarations.{PackageTree}
-use Rattle.instance_threads.specs.declared.places.ThreadAt.{ThreadAt}
+use Rattle.aadl_uses.specs.declared.places.ThreadAt.{ThreadAt}
 use Rattle.aadl_instance.specs.declared.parts.Chain.{Chain}
 use Rattle.aadl_instance.specs.declared.instance.Instance.{Instance}
 use Rattle.aadl_instance.specs.Flat.{Parts}
 use Rattle.aadl_instance.specs.Instances.{chain_at}
-use Rattle.instance_threads.specs.Places.{thread_at}
+use Rattle.aadl_uses.specs.Places.{thread_at}
 use Rattle.annex_resolve.specs.declared.violation.Violation.{Violation}
 use Rattle.component_checks.specs.Threads.{thread_rate, greatest_rate, thread_findings}
 use Rattle.component_checks.specs.Roots.{root_findings}
-use Rattle.link_checks.specs.Carriers.{carries}
-use Rattle.link_checks.specs.Chains.{link_findings, feed_findings, tap_findings}
+use Rattle.model_violations.specs.Carriers.{carries}
+use Rattle.model_violations.specs.Chains.{link_findings, feed_findings, tap_findings}
 use Rattle.model_violations.specs.Use.{IsUse, type_used}
 use Rattle.model_violations.specs.Declarations.{declarations_findings}
 

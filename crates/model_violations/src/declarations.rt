@@ -5,25 +5,25 @@ ghost use Rattle.aadl_tree.specs.PackageViews.{placed};
 ghost use Rattle.aadl_tree.specs.Declarations.{implementation};
 ghost use Rattle.aadl_tree.specs.Views.{declaration_view, implementation_view, subcomponent_view, type_view};
 ghost use Rattle.aadl_names.specs.Resolving.{is_thread};
-ghost use Rattle.thread_checks.specs.Threads.{IsSmall};
-ghost use Rattle.ignored_names.specs.Ignored.{is_root_type};
-ghost use Rattle.link_checks.specs.Carriers.{carries};
+ghost use Rattle.model_violations.specs.Threads.{IsSmall};
+ghost use Rattle.model_violations.specs.Ignored.{is_root_type};
+ghost use Rattle.model_violations.specs.Carriers.{carries};
 ghost use Rattle.model_violations.specs.Use.{has};
 ghost use Rattle.model_violations.specs.Declarations as spec;
 
+use crate::carriers::Carriers;
+use crate::connections::add_connections_findings;
+use crate::ignored::root_type;
+use crate::ignored_declarations::is_number;
+use crate::resolve_implementation;
 use aadl_names::{Holder, Names};
 use aadl_tree::{Category, Declaration, Implementation, Subcomponent, TypeDeclaration};
 use annex_resolve::Violation;
 use component_checks::times::add_list_big;
 use component_checks::types::add_port_findings;
-use ignored_names::declarations::is_number;
-use ignored_names::ignored::root_type;
 use indexmap::IndexSet;
-use link_checks::carriers::Carriers;
-use link_checks::connections::add_connections_findings;
 use pals_base::{Items, NoMemory};
 use std::alloc::Global;
-use thread_checks::resolve_implementation;
 
 // Whether a type is the root's.
 fn is_root_type(

@@ -2,10 +2,12 @@
 ghost use Rattle.std.specs.Prelude.{◌≡◌, ◌<◌, ◌++◌, ◌||◌, ℕ, IfOk, OnOk, Some, map, flat_map, slice_get};
 ghost use Rattle.aadl_tree.specs.PackageViews.{placed};
 ghost use Rattle.component_checks.specs.Threads as threads_spec;
-ghost use Rattle.link_checks.specs.Carriers.{carries};
-ghost use Rattle.link_checks.specs.Chains.{link_findings, feed_findings, tap_findings};
+ghost use Rattle.model_violations.specs.Carriers.{carries};
+ghost use Rattle.model_violations.specs.Chains.{link_findings, feed_findings, tap_findings};
 ghost use Rattle.model_violations.specs.Violations as spec;
 
+use crate::carriers::Carriers;
+use crate::chains::{add_feed_findings, add_link_findings, add_tap_findings};
 use crate::declarations::add_declarations_findings;
 use crate::order::in_order;
 use crate::usage::{types_used, used_below};
@@ -14,8 +16,6 @@ use aadl_names::Names;
 use annex_resolve::Violation;
 use component_checks::roots::add_root_findings;
 use component_checks::threads::{add_thread_findings, greatest_rate, thread_rate};
-use link_checks::carriers::Carriers;
-use link_checks::chains::{add_feed_findings, add_link_findings, add_tap_findings};
 use pals_base::{Items, NoMemory};
 use std::alloc::Global;
 

@@ -3,7 +3,7 @@ ghost use Rattle.std.specs.Prelude.{◌≡◌, ◌<◌, ◌||◌, ℕ, IfOk, OnO
 ghost use Rattle.aadl_tree.specs.Maps.{kept_place};
 ghost use Rattle.aadl_tree.specs.PackageViews.{placed};
 ghost use Rattle.aadl_tree.specs.Views.{declaration_view};
-ghost use Rattle.ignored_names.specs.Ignored.{is_number};
+ghost use Rattle.model_violations.specs.Ignored.{is_number};
 ghost use Rattle.model_violations.specs.Use.{has, IsUse, own_type, type_used, uses_type};
 
 use aadl_names::Names;

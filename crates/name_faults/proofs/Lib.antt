@@ -1,3 +1,10 @@
+pub mod Times
+pub mod PropertyEntries
+pub mod Views
+pub mod NameTables
+pub mod PortEntries
+pub mod PortLists
+pub mod FirstBehaviours
 pub mod Annexes
-pub mod Uses
+pub mod NameUses
 pub mod Numbered

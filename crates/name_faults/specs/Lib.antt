@@ -1,1 +1,4 @@
+pub mod Scopes
+pub mod Marks
+pub mod PortNames
 pub mod Expected

@@ -10,15 +10,15 @@ ghost use Rattle.aadl_names.specs.Tables.{value_of};
 ghost use Rattle.aadl_names.specs.Behaviours.{behaviours};
 ghost use Rattle.aadl_names.specs.Resolving.{ports_of, type_numbered};
 ghost use Rattle.aadl_names.specs.PackageFaults as spec;
-ghost use Rattle.behaviour_names.specs.Scopes.{known_by};
+ghost use Rattle.name_faults.specs.Scopes.{known_by};
 ghost use Rattle.name_faults.specs.Expected.{annex_uses, still_expected};
 
+use crate::categories::is_thread;
+use crate::parts::transitions_in;
+use crate::{Scope, check_transitions, state_names, variable_roles};
 use aadl_names::sites::type_number;
 use aadl_names::{Finder, Names, Role, Table};
 use aadl_tree::{Annex, AnnexContent, AnnexTree, Declaration, Implementation};
-use behaviour_names::parts::transitions_in;
-use behaviour_names::{Scope, check_transitions, state_names, variable_roles};
-use name_spaces::categories::is_thread;
 use std::alloc::{AllocError, Global};
 
 // Whether what a type declares goes before what an implementation declares.

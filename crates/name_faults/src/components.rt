@@ -10,6 +10,7 @@ ghost use Rattle.aadl_tree.specs.Maps.{kept_place};
 ghost use Rattle.aadl_names.specs.Found.{found};
 ghost use Rattle.aadl_names.specs.PackageFaults as spec;
 
+use crate::check_properties;
 use aadl_names::sites::site;
 use aadl_names::spelling::{spelled_end, spelled_reference};
 use aadl_names::{Finder, Holder, Names, Site};
@@ -17,7 +18,6 @@ use aadl_tree::{
     Category, Connection, ConnectionEnd, Declaration, Direction, Feature, Implementation,
     Reference, Subcomponent,
 };
-use property_shapes::check_properties;
 use std::alloc::AllocError;
 
 /// Where the first word of a reference stands.

@@ -11,16 +11,16 @@ ghost use Rattle.aadl_names.specs.Findings.{wrong_if};
 ghost use Rattle.aadl_names.specs.Spelling.{same_name, spelled_name};
 ghost use Rattle.aadl_names.specs.Resolving.{implementation_in};
 ghost use Rattle.aadl_names.specs.PackageFaults as spec;
-ghost use Rattle.name_spaces.specs.PortNames.{AreAllNamesOf};
+ghost use Rattle.name_faults.specs.PortNames.{AreAllNamesOf};
 
 use crate::behaviours::check_behaviours;
 use crate::implementations::check_outside_behaviours;
 use crate::types::check_type;
+use crate::{AllPortNames, names_at};
 use aadl_names::sites::type_number;
 use aadl_names::spelling::spelled_name;
 use aadl_names::{Finder, Names};
 use aadl_tree::{Declaration, Implementation};
-use name_spaces::{AllPortNames, names_at};
 use std::alloc::{AllocError, Global};
 
 // The number of the type of the implementation of a number.

@@ -10,13 +10,13 @@ ghost use Rattle.aadl_names.specs.Found.{found};
 ghost use Rattle.aadl_names.specs.Resolving.{type_of};
 ghost use Rattle.aadl_names.specs.PackageFaults as spec;
 
+use crate::check_properties;
 use crate::components::{check_connections, check_subcomponents, same_category};
 use crate::types::check_variables;
 use aadl_names::sites::type_number;
 use aadl_names::spelling::spelled_implementation;
 use aadl_names::{Finder, Holder, Names};
 use aadl_tree::{Declaration, Implementation};
-use property_shapes::check_properties;
 use std::alloc::{AllocError, Global};
 
 // Whether an implementation has a type, which is of its own category.

@@ -5,8 +5,8 @@ ghost use Rattle.aadl_names.specs.Findings.{FirstOf};
 ghost use Rattle.aadl_names.specs.PackageFaults.{package_faults};
 
 use crate::declarations::check_declarations;
+use crate::{all_port_names, check_spaces};
 use aadl_names::{Finder, FlatFault, Names};
-use name_spaces::{all_port_names, check_spaces};
 use std::alloc::{AllocError, Global};
 
 /// The first of all that is wrong with the names of a package, where the root's implementation has a

@@ -8,11 +8,11 @@ ghost use Rattle.aadl_names.specs.Found.{found};
 ghost use Rattle.aadl_names.specs.Behaviours.{variables_in};
 ghost use Rattle.aadl_names.specs.PackageFaults as spec;
 
+use crate::check_properties;
 use crate::components::check_ports;
 use aadl_names::names::same_word;
 use aadl_names::{Finder, Holder};
 use aadl_tree::{Annex, AnnexContent, TypeDeclaration, VariableDeclaration};
-use property_shapes::check_properties;
 use std::alloc::AllocError;
 
 // The declarations of variables in an annex.

@@ -2,7 +2,7 @@
 ghost use Rattle.std.specs.Prelude.{IfOk};
 ghost use Rattle.aadl_tree.specs.PackageViews.{placed};
 ghost use Rattle.aadl_uses.specs.Uses.{containment};
-ghost use Rattle.containment.specs.Orders.{IsOrder};
+ghost use Rattle.aadl_uses.specs.Orders.{IsOrder};
 
 use aadl_names::Names;
 use aadl_parse::parse;

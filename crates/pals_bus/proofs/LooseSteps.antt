@@ -15,20 +15,20 @@ use Rattle.pals_runs.specs.declared.events.Event.{Event}
 use Rattle.pals_runs.specs.declared.events.Event.TheVariants as event
 use Rattle.bus_machine.specs.LinkEvents.{is_in_flight}
 use Rattle.bus_machine.specs.States.{flight_at}
-use Rattle.bus_fields.specs.declared.answers.BusStartEnd.{BusStartEnd}
-use Rattle.bus_fields.specs.declared.answers.BusStartEnd.TheVariants as bus_start
-use Rattle.bus_fields.specs.declared.answers.BusStepEnd.{BusStepEnd}
-use Rattle.bus_fields.specs.declared.answers.BusStepEnd.TheVariants as bus_step
-use Rattle.bus_fields.specs.declared.answers.BusFinishEnd.{BusFinishEnd}
-use Rattle.bus_fields.specs.declared.answers.BusFinishEnd.TheVariants as bus_finish
-use Rattle.bus_fields.specs.declared.answers.BusSendEnd.{BusSendEnd}
-use Rattle.bus_fields.specs.declared.answers.BusSendEnd.TheVariants as bus_send
-use Rattle.bus_fields.specs.declared.answers.LinkEnd.{LinkEnd}
-use Rattle.bus_fields.specs.declared.answers.LinkEnd.TheVariants as link_end
-use Rattle.bus_fields.specs.Values.{BusValue, Happens}
+use Rattle.pals_bus.specs.declared.refusals.BusStartEnd.{BusStartEnd}
+use Rattle.pals_bus.specs.declared.refusals.BusStartEnd.TheVariants as bus_start
+use Rattle.pals_bus.specs.declared.refusals.BusStepEnd.{BusStepEnd}
+use Rattle.pals_bus.specs.declared.refusals.BusStepEnd.TheVariants as bus_step
+use Rattle.pals_bus.specs.declared.refusals.BusFinishEnd.{BusFinishEnd}
+use Rattle.pals_bus.specs.declared.refusals.BusFinishEnd.TheVariants as bus_finish
+use Rattle.pals_bus.specs.declared.refusals.BusSendEnd.{BusSendEnd}
+use Rattle.pals_bus.specs.declared.refusals.BusSendEnd.TheVariants as bus_send
+use Rattle.pals_bus.specs.declared.refusals.LinkEnd.{LinkEnd}
+use Rattle.pals_bus.specs.declared.refusals.LinkEnd.TheVariants as link_end
+use Rattle.pals_bus.specs.Values.{BusValue, Happens}
 use Rattle.pals_bus.specs.Loose.{IsRefused, LooseEnds, start_fault, step_fault, finish_fault, send_fault, link_fault, loose_event, message_of}
-use Rattle.bus_fields.specs.Answers.{StartsRound, BusStartEnds, BusStepEnds, BusFinishEnds, BusSendEnds, LinkEnds}
-use Rattle.bus_fields.proofs.AfterEvents.{start_after}
+use Rattle.pals_bus.specs.Answers.{StartsRound, BusStartEnds, BusStepEnds, BusFinishEnds, BusSendEnds, LinkEnds}
+use Rattle.pals_bus.proofs.AfterEvents.{start_after}
 
 -- ---- no stop after an event
 pub start_goes : (old new : BusValue) (node : NodeNo) (reading : Option ℕ) (job : JobValue) → StartsRound old node reading new job → new.state.stop ≡ None

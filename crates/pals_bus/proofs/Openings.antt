@@ -26,14 +26,14 @@ use Rattle.bus_machine.specs.States.{Run, BusState, opening, no_node}
 use Rattle.bus_machine.specs.Replay.{Replays, opens}
 use Rattle.bus_machine.specs.declared.plan.Plan.{Plan}
 use Rattle.pals_node.specs.Values.{NodeValue, Program, program_of, opening_value}
-use Rattle.bus_fields.specs.declared.fields.Fields.{Fields}
-use Rattle.bus_fields.specs.Values.{code_at, no_code, opening_bus}
-use Rattle.bus_fields.specs.Keeping.{AreNodes, HasRooms, Keeps, copies_in, owed, run_of, state_of, value_of}
-use Rattle.bus_fields.specs.Queues.{AreQueues}
-use Rattle.bus_fields.specs.Absent.{no_flight, no_queue, no_node_value}
+use Rattle.pals_bus.specs.declared.fields.Fields.{Fields}
+use Rattle.pals_bus.specs.Values.{code_at, no_code, opening_bus}
+use Rattle.pals_bus.specs.Keeping.{AreNodes, HasRooms, Keeps, copies_in, owed, run_of, state_of, value_of}
+use Rattle.pals_bus.specs.Queues.{AreQueues}
+use Rattle.pals_bus.specs.Absent.{no_flight, no_queue, no_node_value}
 use Rattle.pals_bus.specs.Openings.{AreOpening}
-use Rattle.bus_fields.proofs.NodeChanges.{states, codes}
-use Rattle.bus_fields.proofs.QueueSends.{queues_open}
+use Rattle.pals_bus.proofs.NodeChanges.{states, codes}
+use Rattle.pals_bus.proofs.QueueSends.{queues_open}
 
 upwards_at : (from n k : ℕ) → k < n → slice_index_or (upwards from n) k 0 ≡ from + k
 upwards_at from zero k lt = absurd (omega (arith, lt))

@@ -5,10 +5,10 @@ use Rattle.std.specs.Arc.{arc_value}
 use Rattle.std.proofs.lemmas.Bool.{cases_lt}
 use Rattle.bus_machine.specs.Targets.{target, action_of}
 use Rattle.pals_node.specs.Values.{NodeValue}
-use Rattle.bus_fields.specs.declared.fields.Fields.{Fields}
-use Rattle.bus_fields.specs.Keeping.{Keeps, value_of}
-use Rattle.bus_fields.specs.Values.{BusValue}
-use Rattle.bus_fields.proofs.NodeChanges.{node_here}
+use Rattle.pals_bus.specs.declared.fields.Fields.{Fields}
+use Rattle.pals_bus.specs.Keeping.{Keeps, value_of}
+use Rattle.pals_bus.specs.Values.{BusValue}
+use Rattle.pals_bus.proofs.NodeChanges.{node_here}
 use Rattle.pals_bus.specs.Meeting.{target_in}
 
 pub target_is : (f : Fields) (node : ℕ) (n : NodeValue) (o : Option ℕ) → Keeps f → node < length f.nodes → n ≡ slice_index_or f.nodes node n → o ≡ option_map (target n.program.plan) (action_of n.program.plan n.state) → target_in (value_of f) node ≡ o

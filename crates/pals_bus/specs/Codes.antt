@@ -18,7 +18,7 @@ use Rattle.pals_runs.specs.declared.journal.JournalEntry.{JournalEntry}
 use Rattle.bus_machine.specs.Nodes.{NodeState}
 use Rattle.bus_machine.specs.States.{Run, BusState}
 use Rattle.pals_node.specs.Codes.{state_code}
-use Rattle.bus_fields.specs.Values.{BusValue}
+use Rattle.pals_bus.specs.Values.{BusValue}
 
 abbrev pub run_code : Coded Run
 run_code =

@@ -1,3 +1,10 @@
+pub mod Values
+pub mod Absent
+pub mod Keeping
+pub mod Answers
+pub mod Queues
+pub mod Due
+pub mod Sending
 pub mod Codes
 pub mod Meeting
 pub mod Loose

@@ -7,19 +7,19 @@ use Rattle.pals_runs.specs.declared.events.Event.{Event}
 use Rattle.pals_runs.specs.declared.events.Event.TheVariants as event
 use Rattle.pals_runs.specs.declared.journal.Stop.{Stop}
 use Rattle.bus_machine.specs.Machine.{BusEvent, Start, Step, Finish, Send, Arrive, Drop, Repeat, is_allowed}
-use Rattle.bus_fields.specs.declared.answers.BusStartEnd.{BusStartEnd}
-use Rattle.bus_fields.specs.declared.answers.BusStartEnd.TheVariants as bus_start
-use Rattle.bus_fields.specs.declared.answers.BusStepEnd.{BusStepEnd}
-use Rattle.bus_fields.specs.declared.answers.BusStepEnd.TheVariants as bus_step
-use Rattle.bus_fields.specs.declared.answers.BusFinishEnd.{BusFinishEnd}
-use Rattle.bus_fields.specs.declared.answers.BusFinishEnd.TheVariants as bus_finish
-use Rattle.bus_fields.specs.declared.answers.BusSendEnd.{BusSendEnd}
-use Rattle.bus_fields.specs.declared.answers.BusSendEnd.TheVariants as bus_send
-use Rattle.bus_fields.specs.declared.answers.LinkEnd.{LinkEnd}
-use Rattle.bus_fields.specs.declared.answers.LinkEnd.TheVariants as link_end
+use Rattle.pals_bus.specs.declared.refusals.BusStartEnd.{BusStartEnd}
+use Rattle.pals_bus.specs.declared.refusals.BusStartEnd.TheVariants as bus_start
+use Rattle.pals_bus.specs.declared.refusals.BusStepEnd.{BusStepEnd}
+use Rattle.pals_bus.specs.declared.refusals.BusStepEnd.TheVariants as bus_step
+use Rattle.pals_bus.specs.declared.refusals.BusFinishEnd.{BusFinishEnd}
+use Rattle.pals_bus.specs.declared.refusals.BusFinishEnd.TheVariants as bus_finish
+use Rattle.pals_bus.specs.declared.refusals.BusSendEnd.{BusSendEnd}
+use Rattle.pals_bus.specs.declared.refusals.BusSendEnd.TheVariants as bus_send
+use Rattle.pals_bus.specs.declared.refusals.LinkEnd.{LinkEnd}
+use Rattle.pals_bus.specs.declared.refusals.LinkEnd.TheVariants as link_end
 use Rattle.pals_bus.specs.declared.answers.LooseFault.{LooseFault}
 use Rattle.pals_bus.specs.declared.answers.LooseFault.TheVariants as fault
-use Rattle.bus_fields.specs.Values.{BusValue, Happens}
+use Rattle.pals_bus.specs.Values.{BusValue, Happens}
 
 -- what it is to the bus: no event has a reading, and none is a passing of time
 abbrev pub loose_event : Event → Option BusEvent

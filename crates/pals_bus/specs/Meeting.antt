@@ -5,7 +5,7 @@ use Rattle.bus_machine.specs.States.{node_at}
 use Rattle.bus_machine.specs.Targets.{target, action_of}
 use Rattle.pals_bus.specs.declared.answers.Meet.{Meet}
 use Rattle.pals_bus.specs.declared.answers.Meet.TheVariants as meet
-use Rattle.bus_fields.specs.Values.{BusValue}
+use Rattle.pals_bus.specs.Values.{BusValue}
 
 -- the reading that a node waits for, or works at; none where it is done
 abbrev pub target_in : BusValue → ℕ → Option ℕ

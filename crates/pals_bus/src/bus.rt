@@ -7,10 +7,10 @@ ghost use Rattle.bus_machine.specs.Agreement.{Agrees};
 ghost use Rattle.bus_machine.specs.Replay.{Replays};
 ghost use Rattle.bus_machine.specs.States.{node_at, flight_at};
 ghost use Rattle.pals_model.specs.Flights.{oldest};
-ghost use Rattle.bus_fields.specs.Values.{opening_bus, AreCodes};
+ghost use Rattle.pals_bus.specs.Values.{opening_bus, AreCodes};
 
+use crate::Fields;
 use crate::opening::{empty_flights, empty_queues, fresh_nodes, opening_nodes, room_for_values};
-use bus_fields::Fields;
 use pals_base::{Items, LinkNo, NoMemory, NodeNo, Same, TryClone};
 use pals_model::{Delays, Design, Env, FlightCopy, Part};
 use pals_runs::{JournalEntry, Phase, Stop};
@@ -28,7 +28,7 @@ pub struct Bus {
 }
 
 impl Model for Bus {
-    ghost use Rattle.bus_fields.specs.Values.{BusValue};
+    ghost use Rattle.pals_bus.specs.Values.{BusValue};
 
     ghost Value = { BusValue };
 
@@ -36,7 +36,7 @@ impl Model for Bus {
 
     ghost coded = { bus_code };
 
-    ghost use Rattle.bus_fields.specs.Keeping.{Keeps, value_of};
+    ghost use Rattle.pals_bus.specs.Keeping.{Keeps, value_of};
 
     ghost view = { λ b. value_of b.fields };
 

@@ -1,9 +1,9 @@
 //! All messages that are due to a node.
 ghost use Rattle.std.specs.Prelude.{◌≡◌, ◌<◌, length, IfErr, OnOk};
-ghost use Rattle.bus_fields.specs.Due.{TakesAllDue, DueEnds};
+ghost use Rattle.pals_bus.specs.Due.{TakesAllDue, DueEnds};
 
+use crate::DueEnd;
 use crate::bus::Bus;
-use bus_fields::DueEnd;
 use pals_base::{Nanos, NodeNo};
 
 impl Bus {

@@ -3,7 +3,7 @@ ghost use Rattle.std.specs.Prelude.{◌≡◌};
 ghost use Rattle.pals_bus.specs.Loose.{start_fault, step_fault, finish_fault, send_fault, link_fault};
 
 use crate::answers::LooseFault;
-use bus_fields::{BusFinishEnd, BusSendEnd, BusStartEnd, BusStepEnd, LinkEnd};
+use crate::{BusFinishEnd, BusSendEnd, BusStartEnd, BusStepEnd, LinkEnd};
 use pals_base::{LinkNo, NodeNo};
 
 /// Of a start.

@@ -1,11 +1,11 @@
 //! The events of the messages in flight.
 ghost use Rattle.std.specs.Prelude.{◌≡◌, ◌<◌, length, IfOk, IfErr, OnOk, OnErr, None};
 ghost use Rattle.bus_machine.specs.Machine.{Arrive, Drop, Repeat, arrival};
-ghost use Rattle.bus_fields.specs.Values.{Happens};
-ghost use Rattle.bus_fields.specs.Answers.{LinkEnds};
+ghost use Rattle.pals_bus.specs.Values.{Happens};
+ghost use Rattle.pals_bus.specs.Answers.{LinkEnds};
 
+use crate::LinkEnd;
 use crate::bus::Bus;
-use bus_fields::LinkEnd;
 use pals_base::LinkNo;
 use pals_runs::Arrived;
 

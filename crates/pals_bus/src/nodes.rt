@@ -2,11 +2,11 @@
 ghost use Rattle.std.specs.Prelude.{◌≡◌, ◌<◌, ◌≤◌, length, IfOk, IfErr, OnOk, OnErr, IfSome};
 ghost use Rattle.pals_base.specs.declared.limits.TheConstants.{READING};
 ghost use Rattle.bus_machine.specs.Machine.{Finish};
-ghost use Rattle.bus_fields.specs.Values.{Happens};
-ghost use Rattle.bus_fields.specs.Answers.{StartsRound, BusStartEnds, StepsOn, BusStepEnds, FinishesStep, BusFinishEnds, SendsRound, BusSendEnds};
+ghost use Rattle.pals_bus.specs.Values.{Happens};
+ghost use Rattle.pals_bus.specs.Answers.{StartsRound, BusStartEnds, StepsOn, BusStepEnds, FinishesStep, BusFinishEnds, SendsRound, BusSendEnds};
 
 use crate::bus::Bus;
-use bus_fields::{BusFinishEnd, BusSendEnd, BusStartEnd, BusStepEnd};
+use crate::{BusFinishEnd, BusSendEnd, BusStartEnd, BusStepEnd};
 use pals_base::{Nanos, NodeNo};
 use pals_node::{Done, Finished, Job};
 

@@ -3,9 +3,9 @@ ghost use Rattle.std.specs.Prelude.{◌≡◌, ℕ, ◌<◌, ◌≤◌, length, 
 ghost use Rattle.pals_base.specs.declared.limits.TheConstants.{ROUNDS};
 ghost use Rattle.pals_model.specs.Rules.{IsDesign};
 ghost use Rattle.pals_node.specs.Values.{opening_value};
-ghost use Rattle.bus_fields.specs.Values.{AreCodes};
-ghost use Rattle.bus_fields.specs.Absent.{no_flight, no_node_value};
-ghost use Rattle.bus_fields.specs.Absent.{no_queue};
+ghost use Rattle.pals_bus.specs.Values.{AreCodes};
+ghost use Rattle.pals_bus.specs.Absent.{no_flight, no_node_value};
+ghost use Rattle.pals_bus.specs.Absent.{no_queue};
 ghost use Rattle.pals_bus.specs.Openings.{AreOpening};
 
 use link_buffers::{DueQueue, Flight};

@@ -1,2 +1,12 @@
+pub mod Appended
+pub mod Positions
+pub mod CheckReports
+pub mod FlatFaults
+pub mod Violations
+pub mod TextFaults
 pub mod Places
 pub mod Rows
+pub mod EventFaults
+pub mod ScenarioFaults
+pub mod SentLines
+pub mod Words

@@ -1,17 +1,42 @@
-//! What the program writes. The text of rounds: a line for the round, a line for each component that
-//! is shown with its state and its variables, and a line for each root out port of theirs with its
-//! tuple.
+//! What the program writes, behind what a buffer holds: the rounds of a run, an accepted design, what is wrong with a text,
+//! and the lines of runs and scenarios.
 #![tactic(auto)]
 
+mod codes;
 mod component;
+mod cursor;
+mod design_report;
+mod entries;
+mod event_faults;
+mod lines;
+mod names;
+mod package_faults;
 mod parts;
+mod periods;
 mod places;
 mod report;
 mod row;
+mod scenario_faults;
+mod sent;
 mod tap;
+mod text_faults;
 mod value;
+mod violations;
+mod whole;
+mod words;
 
+pub use codes::add_code_fault;
+pub use cursor::Cursor;
+pub use design_report::add_check;
+pub use entries::add_entry;
+pub use event_faults::add_event_fault;
+pub use package_faults::add_flat_fault;
 pub use parts::RoundParts;
 pub use places::TapPlaces;
 pub use report::{add_part, add_round, add_row, add_tap};
+pub use scenario_faults::add_scenario_fault;
+pub use sent::add_sent;
+pub use text_faults::{add_no_divider, add_text_fault};
 pub use value::add_tuple;
+pub use violations::add_violations;
+pub use whole::whole_or_none;

@@ -12,9 +12,9 @@ use crate::parts::RoundParts;
 use crate::places::TapPlaces;
 use crate::row::{add_lines, add_round_line};
 use crate::tap::{add_line_at_place, place_of_tap};
+use crate::whole_or_none;
 use pals_base::NoMemory;
 use pals_model::{Component, Design, Part};
-use text_buffer::whole_or_none;
 
 /// Adds the line of a round. Where memory is wanting, nothing is added.
 pub fn add_round(out: &mut Vec<u8>, round: u32) -> Result<(), NoMemory>

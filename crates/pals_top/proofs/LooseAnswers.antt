@@ -7,9 +7,9 @@ use Rattle.scenario_values.specs.declared.fault.ScenarioFault.{ScenarioFault}
 use Rattle.scenario_values.specs.declared.fault.ScenarioFault.TheVariants.{Memory}
 use Rattle.scenario_json.specs.declared.scenario.Scenario.{Scenario}
 use Rattle.scenario_json.specs.Scenarios.{Means}
-use Rattle.run_lines.specs.ScenarioFaults.{scenario_fault_line}
+use Rattle.pals_report.specs.ScenarioFaults.{scenario_fault_line}
 use Rattle.design_codes.specs.Causes.{AreShort, IsFirstTooLong}
-use Rattle.loose_events.specs.Laws.{loosely}
+use Rattle.loose_world.specs.EventLaws.{loosely}
 use Rattle.pals_top.specs.declared.answer.Answer.{Answer}
 use Rattle.bundle_designs.specs.Accepted.{IsAccepted}
 use Rattle.pals_top.specs.Loose.{code_fault_line, IsWorldAnswer, IsLooseAnswer}

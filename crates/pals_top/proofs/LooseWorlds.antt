@@ -11,17 +11,17 @@ use Rattle.pals_runs.specs.Journal.{entry_line}
 use Rattle.bus_machine.specs.Laws.{IsRunOf}
 use Rattle.bus_machine.specs.States.{Run}
 use Rattle.bus_machine.specs.Traces.{finished_by_all}
-use Rattle.bus_fields.specs.Values.{BusValue, Happens, opening_bus}
+use Rattle.pals_bus.specs.Values.{BusValue, Happens, opening_bus}
 use Rattle.pals_bus.specs.Loose.{HappensLoose}
 use Rattle.scenario_json.specs.declared.scenario.Scenario.{Scenario}
 use Rattle.scenario_json.specs.Facts.{IsScenarioOf}
 use Rattle.loose_world.specs.declared.LooseEnd.{LooseEnd}
 use Rattle.loose_world.specs.declared.LooseEnd.TheVariants as end
 use Rattle.loose_world.specs.Worlds.{AllHappen, StopsAt, IsRefusedAt, Tells}
-use Rattle.world_report.specs.Finished.{finished_lines, common_lines}
-use Rattle.world_laws.specs.Laws.{TextIsTold, StopIsTold}
-use Rattle.world_laws.specs.Steps.{EventsAreSteps}
-use Rattle.run_lines.specs.EventFaults.{event_fault_line}
+use Rattle.loose_world.specs.Finished.{finished_lines, common_lines}
+use Rattle.loose_world.specs.WorldLaws.{TextIsTold, StopIsTold}
+use Rattle.loose_world.specs.Steps.{EventsAreSteps}
+use Rattle.pals_report.specs.EventFaults.{event_fault_line}
 use Rattle.pals_top.specs.declared.answer.Answer.{Answer}
 use Rattle.pals_top.specs.Code.{status_at, text_at}
 use Rattle.pals_top.specs.Loose.{run_of, IsWorldAnswer}

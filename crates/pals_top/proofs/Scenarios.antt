@@ -6,7 +6,7 @@ use Rattle.pals_runs.specs.declared.commands.Command.TheVariants.{Sync}
 use Rattle.scenario_values.specs.declared.fault.ScenarioFault.{ScenarioFault}
 use Rattle.scenario_values.specs.declared.fault.ScenarioFault.TheVariants.{Memory}
 use Rattle.scenario_json.specs.Scenarios.{Means}
-use Rattle.run_lines.specs.ScenarioFaults.{scenario_fault_line}
+use Rattle.pals_report.specs.ScenarioFaults.{scenario_fault_line}
 use Rattle.pals_top.specs.declared.answer.Answer.{Answer}
 use Rattle.bundle_designs.specs.Accepted.{IsAccepted}
 use Rattle.pals_top.specs.declared.status.TheConstants.{SCENARIO_REFUSED}

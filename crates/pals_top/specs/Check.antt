@@ -1,7 +1,7 @@
 -- What `check` answers to a bundle.
 use Rattle.std.specs.Prelude.{◌≡◌, ℕ, List, ◌⊎◌}
 use Rattle.pals_model.specs.declared.design.DesignParts.{DesignParts}
-use Rattle.check_report.specs.CheckReports.{IsCheckReport}
+use Rattle.pals_report.specs.CheckReports.{IsCheckReport}
 use Rattle.bundle_designs.specs.Accepted.{IsAccepted}
 use Rattle.pals_top.specs.declared.status.TheConstants.{DONE}
 use Rattle.pals_top.specs.Refusals.{IsBundleRefused}

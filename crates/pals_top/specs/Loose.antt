@@ -13,9 +13,9 @@ use Rattle.bus_machine.specs.States.{Run, BusState, opening}
 use Rattle.bus_machine.specs.Traces.{finished_by_all}
 use Rattle.bus_machine.specs.WorldTexts.{worldtext}
 use Rattle.design_codes.specs.Causes.{AreShort, IsFirstTooLong}
-use Rattle.world_laws.specs.Steps.{AllStep, StepsToStop, StepsToFault}
-use Rattle.loose_events.specs.Laws.{loosely}
-use Rattle.run_lines.specs.EventFaults.{event_fault_line}
+use Rattle.loose_world.specs.Steps.{AllStep, StepsToStop, StepsToFault}
+use Rattle.loose_world.specs.EventLaws.{loosely}
+use Rattle.pals_report.specs.EventFaults.{event_fault_line}
 use Rattle.bundle_designs.specs.Accepted.{IsAccepted}
 use Rattle.pals_top.specs.declared.status.TheConstants.{DONE, SCENARIO_REFUSED, STOPPED, CODE_TOO_LONG}
 use Rattle.pals_top.specs.Refusals.{IsBundleRefused}

@@ -5,8 +5,8 @@ ghost use Rattle.pals_top.specs.Statuses.{status_of, text_of};
 
 use crate::answer::Answer;
 use bundle_designs::accept;
-use check_report::add_check;
 use pals_base::{NoMemory, Text};
+use pals_report::add_check;
 use std::alloc::Global;
 
 /// The answer of `check` to a bundle. What stands behind the divider is not looked at.

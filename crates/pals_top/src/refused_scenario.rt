@@ -1,14 +1,14 @@
 //! Answers to bundles whose scenario is refused.
 ghost use Rattle.std.specs.Prelude.{◌≡◌, ◌≢◌, ◌++◌, IfOk};
 ghost use Rattle.pals_model.specs.RoundTexts.{line_end};
-ghost use Rattle.run_lines.specs.ScenarioFaults.{scenario_fault_line};
+ghost use Rattle.pals_report.specs.ScenarioFaults.{scenario_fault_line};
 ghost use Rattle.scenario_values.specs.declared.fault.ScenarioFault.{ScenarioFault};
 ghost use Rattle.pals_top.specs.declared.status.TheConstants.{SCENARIO_REFUSED};
 ghost use Rattle.pals_top.specs.Statuses.{status_of, text_of};
 
 use crate::answer::Answer;
 use pals_base::NoMemory;
-use run_lines::add_scenario_fault;
+use pals_report::add_scenario_fault;
 use scenario_json::ScenarioFault;
 use std::alloc::{AllocError, Global};
 

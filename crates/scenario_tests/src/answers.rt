@@ -2,7 +2,7 @@
 use crate::commands::command;
 use crate::designs::{Example, design};
 use pals_base::NoMemory;
-use run_lines::add_scenario_fault;
+use pals_report::add_scenario_fault;
 use scenario_json::{Scenario, ScenarioFault, read_scenario};
 use std::alloc::Global;
 use std::process::Abort;

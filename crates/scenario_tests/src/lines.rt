@@ -2,8 +2,8 @@
 use crate::designs::{Example, design};
 use pals_base::{LinkNo, NoMemory, NodeNo, Text};
 use pals_model::Design;
+use pals_report::{add_entry, add_event_fault, add_scenario_fault};
 use pals_runs::{Arrived, Cause, EventFault, JournalEntry, Stop, Which};
-use run_lines::{add_entry, add_event_fault, add_scenario_fault};
 use scenario_json::ScenarioFault;
 use std::alloc::Global;
 

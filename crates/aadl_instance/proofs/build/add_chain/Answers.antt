@@ -4,7 +4,7 @@ use Rattle.aadl_names.specs.Resolving.{ports_at}
 use Rattle.aadl_names.proofs.Finds.{on_ok}
 use Rattle.aadl_uses.specs.Uses.{component_at}
 use Rattle.aadl_chains.proofs.OnChains.{port, is_in-at}
-use Rattle.chain_walks.specs.Routes.{Traces}
+use Rattle.aadl_chains.specs.Routes.{Traces}
 use Rattle.aadl_instance.specs.Passed.{paths_of, chain_by}
 use Rattle.aadl_instance.proofs.Ports.{in_within}
 use Rattle.aadl_instance.proofs.Passing.{thread_listed}

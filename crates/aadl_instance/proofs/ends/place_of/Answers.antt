@@ -2,7 +2,7 @@ use Rattle.std.proofs.Common.{◌≡◌, ◌∙◌, sym, ap, reverse, below_more
 use Rattle.std.proofs.lemmas.List.{length-map}
 use Rattle.std.proofs.lemmas.Slice.Eq.{slice_eq-Decides}
 use Rattle.std.proofs.lemmas.Bool.{false≢true}
-use Rattle.containment.proofs.Searches.{at_contains}
+use Rattle.aadl_uses.proofs.Searches.{at_contains}
 use Rattle.aadl_instance.specs.Passed.{paths_of}
 use Rattle.aadl_instance.proofs.Shown.{path_at, other_path}
 use Rattle.aadl_instance.proofs.ends.place_of.Goals as goal

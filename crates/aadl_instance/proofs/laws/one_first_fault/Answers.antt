@@ -1,4 +1,4 @@
-use Rattle.flat_faults.specs.Faults.{Found}
+use Rattle.aadl_instance.specs.Faults.{Found}
 use Rattle.aadl_instance.proofs.First.{one_by_line}
 use Rattle.aadl_instance.proofs.laws.one_first_fault.Goals as goal
 

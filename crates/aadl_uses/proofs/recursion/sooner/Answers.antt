@@ -3,7 +3,7 @@ use Rattle.aadl_tree.specs.PackageViews.{placed}
 use Rattle.aadl_tree.specs.Maps.{kept_place}
 use Rattle.aadl_tree.specs.Views.{subcomponent_view}
 use Rattle.aadl_names.specs.declared.fault.FlatFault.TheVariants.{Recursive}
-use Rattle.containment.specs.Graphs.{Graph, IsWithin, LeadsBack}
+use Rattle.aadl_uses.specs.Graphs.{Graph, IsWithin, LeadsBack}
 use Rattle.aadl_uses.specs.Recursion.{IsSooner}
 use Rattle.aadl_uses.proofs.Containing.{within}
 use Rattle.aadl_uses.proofs.Cycles.{sooner_new}

@@ -2,7 +2,7 @@ use Rattle.std.proofs.Common.{ap, ◌∙◌}
 use Rattle.std.specs.Prelude.{slice_index_or}
 use Rattle.std.specs.Option.{option_or}
 use Rattle.aadl_tree.specs.PackageViews.{placed}
-use Rattle.instance_threads.specs.declared.places.SubAt.{SubAt}
+use Rattle.aadl_uses.specs.declared.places.SubAt.{SubAt}
 use Rattle.component_checks.specs.Lists.{first_in, lists_at}
 use Rattle.component_checks.proofs.Looking.{along_turn}
 use Rattle.component_checks.proofs.lists.property_along.Goals as goal

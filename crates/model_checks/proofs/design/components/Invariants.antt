@@ -1,6 +1,6 @@
 use Rattle.std.proofs.Common.{◌≡◌, map, take, Some}
 use Rattle.aadl_tree.specs.PackageViews.{placed}
-use Rattle.model_sound.specs.Designs.{all_of, component_in}
+use Rattle.design_laws.specs.Designs.{all_of, component_in}
 use Rattle.model_checks.proofs.design.components.Given as goal
 
 abbrev pub invariant-loop-thread : goal.invariant-loop-thread

@@ -1,6 +1,6 @@
 use Rattle.std.proofs.Common.{◌∙◌, sym}
 use Rattle.aadl_tree.specs.PackageViews.{placed}
-use Rattle.model_sound.specs.Designs.{link_in}
+use Rattle.design_laws.specs.Designs.{link_in}
 use Rattle.model_checks.proofs.Wholes.{one_more, one_missing}
 use Rattle.model_checks.proofs.design.links.Goals as goal
 

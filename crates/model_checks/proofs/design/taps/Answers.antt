@@ -1,5 +1,5 @@
 use Rattle.std.proofs.Common.{◌∙◌, sym}
-use Rattle.model_sound.specs.Designs.{tap_in}
+use Rattle.design_laws.specs.Designs.{tap_in}
 use Rattle.model_checks.proofs.Wholes.{one_more, one_missing}
 use Rattle.model_checks.proofs.design.taps.Goals as goal
 

@@ -1,8 +1,8 @@
 use Rattle.std.proofs.lemmas.Option.{MatchOption-at_none, MatchOption-at_some}
 use Rattle.aadl_tree.specs.PackageViews.{placed}
 use Rattle.model_violations.specs.Violations.{shown}
-use Rattle.model_sound.specs.Accepted.{NothingFound}
-use Rattle.model_sound.specs.Designs.{IsDesignOf}
+use Rattle.design_laws.specs.Accepted.{NothingFound}
+use Rattle.design_laws.specs.Designs.{IsDesignOf}
 use Rattle.model_checks.specs.Refused.{HasNoDesign}
 use Rattle.model_checks.proofs.verdict.accepted.Goals as goal
 

@@ -4,7 +4,7 @@ use Rattle.std.proofs.lemmas.Option.{slice_get-map, slice_get_read}
 use Rattle.aadl_tree.specs.Maps.{kept_place}
 use Rattle.aadl_tree.specs.PackageViews.{placed}
 use Rattle.aadl_tree.specs.Views.{declaration_view}
-use Rattle.link_checks.specs.Carriers.{carries}
+use Rattle.model_violations.specs.Carriers.{carries}
 use Rattle.component_checks.proofs.Numbered.{one_more}
 use Rattle.model_violations.specs.Use.{has}
 use Rattle.model_violations.specs.Declarations.{declaration_findings}

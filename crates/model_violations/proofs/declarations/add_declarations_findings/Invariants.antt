@@ -4,7 +4,7 @@ use Rattle.std.specs.List.{enumerate_from}
 use Rattle.aadl_tree.specs.PackageViews.{placed}
 use Rattle.aadl_tree.specs.Views.{declaration_view}
 use Rattle.aadl_tree.specs.Maps.{kept_place}
-use Rattle.link_checks.specs.Carriers.{carries}
+use Rattle.model_violations.specs.Carriers.{carries}
 use Rattle.model_violations.specs.Use.{has}
 use Rattle.model_violations.specs.Declarations.{declaration_findings}
 use Rattle.model_violations.proofs.declarations.add_declarations_findings.Given as goal

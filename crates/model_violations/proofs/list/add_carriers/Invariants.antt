@@ -1,5 +1,5 @@
 use Rattle.std.proofs.Common.{◌≡◌, ℕ, ◌||◌, map, take}
-use Rattle.link_checks.specs.Carriers.{carries}
+use Rattle.model_violations.specs.Carriers.{carries}
 use Rattle.model_violations.specs.Violations.{place_of}
 use Rattle.model_violations.proofs.list.add_carriers.Given as goal
 

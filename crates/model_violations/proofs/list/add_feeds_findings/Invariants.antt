@@ -1,7 +1,7 @@
 use Rattle.std.proofs.Common.{◌≡◌, ◌++◌, take}
 use Rattle.std.specs.Prelude.{flat_map}
 use Rattle.aadl_tree.specs.PackageViews.{placed}
-use Rattle.link_checks.specs.Chains.{feed_findings}
+use Rattle.model_violations.specs.Chains.{feed_findings}
 use Rattle.model_violations.proofs.list.add_feeds_findings.Given as goal
 
 abbrev pub invariant-loop-feed : goal.invariant-loop-feed

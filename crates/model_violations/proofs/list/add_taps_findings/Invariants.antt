@@ -1,7 +1,7 @@
 use Rattle.std.proofs.Common.{◌≡◌, ◌++◌, take}
 use Rattle.std.specs.Prelude.{flat_map}
 use Rattle.aadl_tree.specs.PackageViews.{placed}
-use Rattle.link_checks.specs.Chains.{tap_findings}
+use Rattle.model_violations.specs.Chains.{tap_findings}
 use Rattle.model_violations.proofs.list.add_taps_findings.Given as goal
 
 abbrev pub invariant-loop-tap : goal.invariant-loop-tap

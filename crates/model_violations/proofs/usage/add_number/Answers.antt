@@ -1,6 +1,6 @@
 use Rattle.std.proofs.Common.{◌∙◌, sym, ap}
 use Rattle.std.specs.Prelude.{◌||◌}
-use Rattle.ignored_names.specs.Ignored.{is_number}
+use Rattle.model_violations.specs.Ignored.{is_number}
 use Rattle.model_violations.specs.Use.{has}
 use Rattle.model_violations.proofs.Numbers.{or_nothing, has_inserted}
 use Rattle.model_violations.proofs.usage.add_number.Goals as goal

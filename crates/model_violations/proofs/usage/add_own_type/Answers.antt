@@ -3,7 +3,7 @@ use Rattle.std.specs.Prelude.{◌||◌}
 use Rattle.aadl_tree.specs.Maps.{kept_place}
 use Rattle.aadl_tree.specs.PackageViews.{placed}
 use Rattle.aadl_tree.specs.Views.{declaration_view}
-use Rattle.ignored_names.specs.Ignored.{is_number}
+use Rattle.model_violations.specs.Ignored.{is_number}
 use Rattle.model_violations.specs.Use.{has, own_type}
 use Rattle.model_violations.proofs.Numbers.{or_untested, or_tested}
 use Rattle.model_violations.proofs.usage.add_own_type.Goals as goal

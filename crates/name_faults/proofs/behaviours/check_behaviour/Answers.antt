@@ -6,7 +6,7 @@ use Rattle.aadl_names.specs.Found.{found}
 use Rattle.aadl_names.specs.Resolving.{type_numbered}
 use Rattle.aadl_names.specs.PackageFaults.{comes_first, behaviour_faults}
 use Rattle.aadl_names.proofs.Finds.{closed}
-use Rattle.name_faults.proofs.Uses.{for_all, same_uses, same_order}
+use Rattle.name_faults.proofs.NameUses.{for_all, same_uses, same_order}
 use Rattle.name_faults.proofs.behaviours.check_behaviour.Goals as goal
 
 pub returns : goal.returns

@@ -1,7 +1,7 @@
 use Rattle.aadl_tree.specs.PackageViews.{placed}
 use Rattle.aadl_tree.specs.Views.{implementation_view}
 use Rattle.aadl_tree.specs.Maps.{kept_place}
-use Rattle.name_spaces.proofs.PortLists.{roles_there}
+use Rattle.name_faults.proofs.PortLists.{roles_there}
 use Rattle.name_faults.proofs.declarations.check_implementation.Goals as goal
 
 pub check_behaviours-requires : goal.check_behaviours-requires

@@ -3,8 +3,8 @@ use Rattle.aadl_tree.specs.PackageViews.{placed}
 use Rattle.aadl_names.specs.Found.{found}
 use Rattle.aadl_names.specs.PackageFaults.{wrong_names}
 use Rattle.aadl_names.proofs.Finds.{found_append}
-use Rattle.first_findings.specs.Beside.{beside_names}
-use Rattle.first_findings.proofs.FirstFaults.{first_fault}
+use Rattle.aadl_names.specs.Beside.{beside_names}
+use Rattle.aadl_names.proofs.FirstFaults.{first_fault}
 use Rattle.name_faults.proofs.package.first_name_fault.Goals as goal
 
 pub returns : goal.returns

@@ -1,6 +1,6 @@
 use Rattle.std.proofs.Common.{◌≡◌, map, take}
 use Rattle.pals_node.specs.Values.{NodeValue}
-use Rattle.bus_fields.specs.Absent.{no_queue}
+use Rattle.pals_bus.specs.Absent.{no_queue}
 use Rattle.pals_bus.proofs.opening.empty_queues.Given as goal
 
 -- so many queues are empty

@@ -4,7 +4,7 @@ use Rattle.pals_model.specs.RoundTexts.{tap_lines, taps_before}
 use Rattle.pals_report.specs.Rows.{taps_from}
 use Rattle.pals_report.proofs.Counts.{length-tap_places, place_at}
 use Rattle.pals_report.proofs.RowLines.{lines_turn, at_place}
-use Rattle.text_buffer.proofs.Begins.{begins_more}
+use Rattle.pals_report.proofs.Begins.{begins_more}
 use Rattle.pals_report.proofs.row.add_tap_lines.Goals as goal
 
 pub place-requires : goal.place-requires

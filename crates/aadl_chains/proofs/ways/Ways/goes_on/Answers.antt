@@ -1,7 +1,7 @@
 use Rattle.std.proofs.Common.{◌↔◌, IsTrue, subst, sym}
 use Rattle.aadl_tree.specs.PackageViews.{placed}
-use Rattle.port_flow.specs.declared.outside.Side.{Side}
-use Rattle.port_flow.specs.Outside.{LeadsFrom}
+use Rattle.aadl_chains.specs.declared.outside.Side.{Side}
+use Rattle.aadl_chains.specs.Outside.{LeadsFrom}
 use Rattle.aadl_chains.specs.OnChains.{IsOnWay}
 use Rattle.aadl_chains.proofs.EndFaults.{ways_tell, no_target}
 use Rattle.aadl_chains.proofs.ways.Ways.goes_on.Goals as goal

@@ -1,8 +1,8 @@
 use Rattle.std.proofs.Common.{◌≡◌, subst}
 use Rattle.bus_machine.specs.Agreement.{Agrees}
-use Rattle.bus_fields.specs.Keeping.{value_of}
-use Rattle.bus_fields.specs.Values.{BusValue}
-use Rattle.bus_fields.proofs.Views.{agrees}
+use Rattle.pals_bus.specs.Keeping.{value_of}
+use Rattle.pals_bus.specs.Values.{BusValue}
+use Rattle.pals_bus.proofs.Views.{agrees}
 use Rattle.pals_bus.proofs.bus.Bus.agreement.Goals as goal
 
 pub returns-clause-agrees : goal.returns-clause-agrees

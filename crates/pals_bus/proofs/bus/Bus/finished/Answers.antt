@@ -1,9 +1,9 @@
 use Rattle.std.proofs.Common.{◌≡◌, ◌∙◌, ◌<◌, length, ap, subst, arith}
 use Rattle.std.specs.Arc.{arc_value}
 use Rattle.bus_machine.specs.Nodes.{NodeState}
-use Rattle.bus_fields.specs.Keeping.{value_of}
-use Rattle.bus_fields.specs.Values.{BusValue}
-use Rattle.bus_fields.proofs.Views.{parts_few, state_is}
+use Rattle.pals_bus.specs.Keeping.{value_of}
+use Rattle.pals_bus.specs.Values.{BusValue}
+use Rattle.pals_bus.proofs.Views.{parts_few, state_is}
 use Rattle.pals_bus.proofs.bus.Bus.finished.Goals as goal
 
 pub overflow_cast-result : goal.overflow_cast-result

@@ -2,12 +2,12 @@ use Rattle.std.proofs.Common.{◌≡◌, ◌∙◌, None, false, map, refl, sym,
 use Rattle.pals_model.specs.declared.design.DesignParts.{DesignParts}
 use Rattle.pals_model.specs.declared.design.Link.{Link}
 use Rattle.pals_node.specs.Values.{NodeValue, opening_value}
-use Rattle.bus_fields.specs.declared.fields.Fields.{Fields}
-use Rattle.bus_fields.specs.Absent.{no_flight, no_queue}
-use Rattle.bus_fields.specs.Keeping.{value_of}
-use Rattle.bus_fields.specs.Values.{BusValue, opening_bus}
+use Rattle.pals_bus.specs.declared.fields.Fields.{Fields}
+use Rattle.pals_bus.specs.Absent.{no_flight, no_queue}
+use Rattle.pals_bus.specs.Keeping.{value_of}
+use Rattle.pals_bus.specs.Values.{BusValue, opening_bus}
 use Rattle.pals_bus.proofs.Openings.{IsAnew, anew_opens, anew_shows, opening_keeps}
-use Rattle.bus_fields.proofs.NodeChanges.{codes}
+use Rattle.pals_bus.proofs.NodeChanges.{codes}
 use Rattle.pals_bus.proofs.bus.Bus.fresh.Goals as goal
 
 pub invariant_of-result : goal.invariant_of-result

@@ -1,6 +1,6 @@
 use Rattle.std.proofs.Common.{◌≡◌, ◌∙◌, ◌<◌, length, Some, sym, subst, arith}
-use Rattle.bus_fields.specs.Keeping.{value_of}
-use Rattle.bus_fields.specs.Values.{BusValue}
+use Rattle.pals_bus.specs.Keeping.{value_of}
+use Rattle.pals_bus.specs.Values.{BusValue}
 use Rattle.pals_bus.specs.Meeting.{target_in, IsBefore}
 use Rattle.pals_bus.proofs.Targets.{target_is, least_more, least_here, none_here, within_run}
 use Rattle.pals_bus.proofs.bus.Bus.meet.Goals.{in-Some-target+else-least-own, in_default-target}

@@ -1,5 +1,5 @@
 use Rattle.std.proofs.Common.{◌≡◌, ℕ, ◌<◌, ◌≤◌, Some}
-use Rattle.bus_fields.specs.Keeping.{value_of}
+use Rattle.pals_bus.specs.Keeping.{value_of}
 use Rattle.pals_bus.specs.Meeting.{target_in}
 use Rattle.pals_bus.proofs.bus.Bus.meet.Given as goal
 

@@ -3,8 +3,8 @@ use Rattle.pals_model.specs.declared.design.DesignParts.{DesignParts}
 use Rattle.pals_model.specs.declared.design.Link.{Link}
 use Rattle.pals_model.specs.Rules.{IsDesign}
 use Rattle.pals_node.specs.Values.{NodeValue}
-use Rattle.bus_fields.specs.declared.fields.Fields.{Fields}
-use Rattle.bus_fields.specs.Absent.{no_flight, no_queue}
+use Rattle.pals_bus.specs.declared.fields.Fields.{Fields}
+use Rattle.pals_bus.specs.Absent.{no_flight, no_queue}
 use Rattle.pals_bus.specs.Openings.{AreOpening}
 use Rattle.pals_bus.proofs.Openings.{IsOpening, opening_keeps, opening_shows}
 use Rattle.pals_bus.proofs.bus.Bus.new.Goals as goal

@@ -1,0 +1,6 @@
+use Rattle.aadl_tree.specs.PackageViews.{placed}
+use Rattle.aadl_chains.proofs.Ordered.{FrontInside}
+use Rattle.aadl_chains.proofs.inside.ports_of.Given as goal
+
+abbrev pub invariant-loop-at : goal.invariant-loop-at
+invariant-loop-at l = FrontInside (placed l.wires.uses.tree.now) l.direction l.order.keys l.at l.ports

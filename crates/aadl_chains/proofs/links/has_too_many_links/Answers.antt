@@ -1,0 +1,21 @@
+use Rattle.std.proofs.Common.{ℕ, ◌+◌, ◌∙◌, ap, arith, slice_index, subst, sym, List}
+use Rattle.std.proofs.lemmas.List.{length-map}
+use Rattle.pals_base.specs.declared.limits.TheConstants.{LINKS}
+use Rattle.aadl_tree.specs.PackageViews.{placed}
+use Rattle.aadl_uses.specs.Uses.{targets_in}
+use Rattle.aadl_uses.proofs.Counted.{tells}
+use Rattle.aadl_chains.specs.Numbers.{IsNumber}
+use Rattle.aadl_chains.specs.Takes.{EndsLink}
+use Rattle.aadl_chains.proofs.Counted.{more_links, one_each}
+use Rattle.aadl_chains.proofs.links.has_too_many_links.Goals as goal
+
+pub returns : goal.returns
+returns c =
+    let tree = placed c.args.wires.now.uses.tree.now in
+    let size = length-map tree.declarations (targets_in tree) in
+    let least = c.requires.root in
+    let counted = c.in_ok-counts.ensures c.args.root (omega (arith, size, least)) in
+    tells LINKS c.count_at.result
+    (more_links tree c.args.root c.requires.declared (one_each tree c.args.root c.requires.ends) c.requires.no_thread LINKS c.count_at.result
+    (subst (IsNumber (LINKS + 1) (EndsLink tree c.args.root))
+    (sym (c.count_at.ensures ∙ ap (λ (xs : List ℕ). slice_index xs c.args.root) c.as_slice.ensures.value)) counted))

@@ -1,0 +1,8 @@
+use Rattle.aadl_tree.specs.PackageViews.{placed}
+use Rattle.aadl_chains.specs.Numbers.{IsNumber}
+use Rattle.aadl_chains.specs.Takes.{FromThread, AmongFirst}
+use Rattle.aadl_chains.proofs.links.links_carried.Given as goal
+
+-- by the connections so far
+abbrev pub invariant-loop-at : goal.invariant-loop-at
+invariant-loop-at l = IsNumber l.limit (AmongFirst (FromThread (placed l.wires.uses.tree.now) l.number) l.at) l.count

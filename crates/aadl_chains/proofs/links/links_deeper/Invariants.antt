@@ -1,0 +1,8 @@
+use Rattle.aadl_tree.specs.PackageViews.{placed}
+use Rattle.aadl_chains.specs.Numbers.{IsNumber}
+use Rattle.aadl_chains.specs.Takes.{Deeper, AmongFirst}
+use Rattle.aadl_chains.proofs.links.links_deeper.Given as goal
+
+-- below the subcomponents so far
+abbrev pub invariant-loop-target : goal.invariant-loop-target
+invariant-loop-target l = IsNumber l.limit (AmongFirst (Deeper (placed l.wires.uses.tree.now) l.number) l.target-index) l.count

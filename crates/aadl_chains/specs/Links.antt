@@ -1,0 +1,70 @@
+-- Links, feeds and taps: the chains between threads, from the root to threads, and from threads to the root.
+use Rattle.std.specs.Prelude.{◌≡◌, ◌⊎◌, ℕ, Bool, true, false, ◌&&◌, ◌||◌, nat_eq, nat_lt, List, [], ◌∷◌, reverse, Contains}
+use Rattle.std.specs.Prelude.{Option, Some, None, slice_get}
+use Rattle.aadl_tree.specs.Declarations.{Connection, Implementation, PackageTree}
+use Rattle.aadl_names.specs.declared.site.Site.{Site}
+use Rattle.aadl_names.specs.declared.site.Site.TheVariants.{Own, Inner}
+use Rattle.aadl_names.specs.Resolving.{implementation_at, site}
+use Rattle.aadl_uses.specs.Uses.{standing}
+use Rattle.aadl_uses.specs.Threads.{IsThreadAt}
+use Rattle.aadl_uses.specs.Counts.{path_before}
+use Rattle.aadl_chains.specs.Chains.{Port, Place, IsChain}
+
+-- a chain without its inner connections: the carrier is a connection of a declaration
+pub record Ends : Type 0 where
+  pub from : Port
+  pub to : Port
+  pub declaration : ℕ
+  pub connection : ℕ
+
+abbrev pub not_own : Option Site → Bool
+not_own None = false
+not_own (Some (Own p)) = false
+not_own (Some (Inner s p)) = true
+
+abbrev pub is_crossing : PackageTree ℕ → Implementation ℕ → Connection ℕ → Bool
+is_crossing tree x c = not_own (site tree x c.source) && not_own (site tree x c.target)
+
+-- the connection of a chain that carries it: the one between two subcomponents, or the one in the root's implementation
+pub record Carries (tree : PackageTree ℕ) (root : ℕ) (crossing : Bool) (chain : List Place) (ends : Ends) : Type 0 where
+  pub place : Place
+  pub component : Implementation ℕ
+  pub link : Connection ℕ
+  pub among : Contains chain place
+  pub stands : standing tree root place.path ≡ Some ends.declaration
+  pub number : place.connection ≡ ends.connection
+  pub is_component : implementation_at tree ends.declaration ≡ Some component
+  pub is_link : slice_get component.connections ends.connection ≡ Some link
+  pub kind : ((crossing ≡ true) × (is_crossing tree component link ≡ true)) ⊎ ((crossing ≡ false) × (place.path ≡ []))
+
+abbrev pub IsLink : PackageTree ℕ → ℕ → Ends → Type 0
+IsLink tree root ends =
+    (chain : List Place) × IsChain tree root chain ends.from ends.to × IsThreadAt tree root ends.from.path × IsThreadAt tree root ends.to.path
+    × Carries tree root true chain ends
+
+abbrev pub IsFeed : PackageTree ℕ → ℕ → Ends → Type 0
+IsFeed tree root ends =
+    (chain : List Place) × IsChain tree root chain ends.from ends.to × (ends.from.path ≡ []) × IsThreadAt tree root ends.to.path
+    × Carries tree root false chain ends
+
+abbrev pub IsTap : PackageTree ℕ → ℕ → Ends → Type 0
+IsTap tree root ends =
+    (chain : List Place) × IsChain tree root chain ends.from ends.to × IsThreadAt tree root ends.from.path × (ends.to.path ≡ [])
+    × Carries tree root false chain ends
+
+-- they end at different ports
+abbrev pub OtherTarget : Ends → Ends → Type 0
+OtherTarget a b = a.to ≡ b.to → ⊥
+
+-- in order of their targets: by component, then by the port's declaration
+abbrev pub same_path : List ℕ → List ℕ → Bool
+same_path [] [] = true
+same_path [] (y ∷ ys) = false
+same_path (x ∷ xs) [] = false
+same_path (x ∷ xs) (y ∷ ys) = nat_eq x y && same_path xs ys
+
+abbrev pub TargetBefore : Ends → Ends → Type 0
+TargetBefore a b = (path_before (reverse a.to.path) (reverse b.to.path) || (same_path a.to.path b.to.path && nat_lt a.to.port b.to.port)) ≡ true
+
+abbrev pub PortBefore : Ends → Ends → Type 0
+PortBefore a b = nat_lt a.to.port b.to.port ≡ true

@@ -1,0 +1,9 @@
+use Rattle.std.proofs.Common.{◌≡◌, min, take}
+use Rattle.aadl_tree.specs.Maps.{kept_place}
+use Rattle.aadl_tree.specs.Views.{state_view}
+use Rattle.aadl_names.specs.Behaviours.{identifiers}
+use Rattle.aadl_instance.proofs.Counted.{words}
+use Rattle.aadl_instance.proofs.counts.states_up_to.Given as goal
+
+abbrev pub invariant-loop-declared : goal.invariant-loop-declared
+invariant-loop-declared l = l.count ≡ min l.limit (words (λ v. identifiers v.names) (state_view kept_place) (take l.declared-index l.declared-items))

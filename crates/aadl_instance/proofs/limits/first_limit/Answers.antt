@@ -1,0 +1,23 @@
+use Rattle.std.proofs.Common.{arith}
+use Rattle.aadl_tree.specs.PackageViews.{placed}
+use Rattle.aadl_chains.proofs.OnChains.{opposed}
+use Rattle.aadl_instance.specs.Limits.{IsPassed}
+use Rattle.aadl_instance.proofs.Lines.{limit_lines, limit_line, last_line, passed_next, passed_earlier}
+use Rattle.aadl_instance.proofs.limits.first_limit.Goals as goal
+
+pub loop-limit-init : goal.loop-limit-init
+loop-limit-init c = λ other lt p. let least = limit_lines other in omega (arith, least, lt)
+
+pub loop-limit-preserved : goal.loop-limit-preserved
+loop-limit-preserved c =
+    passed_next (IsPassed (placed c.args.wires.now.uses.tree.now) c.args.root) _ c.loop-limit.limit-index
+    (limit_line c.loop-limit.limit-index _ c.loop-limit-test.true) c.loop-limit.invariant
+    (λ p. opposed c.in_ok-is_passed.field-0 (c.in_ok-is_passed.ensures.1 p) c.if-branch.false)
+
+pub returns : goal.returns
+returns c = λ limit p. let most = last_line limit in c.loop-limit.invariant limit (omega arith) p
+
+pub returns-then-branch : goal.returns-then-branch
+returns-then-branch c =
+    passed_earlier (IsPassed (placed c.args.wires.now.uses.tree.now) c.args.root) _ c.loop-limit.limit-index
+    (limit_line c.loop-limit.limit-index _ c.loop-limit-test.true) c.loop-limit.invariant (c.in_ok-is_passed.ensures.0 c.if-branch.true)

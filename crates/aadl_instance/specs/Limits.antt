@@ -1,0 +1,43 @@
+-- What a design may have so much of.
+use Rattle.std.specs.Prelude.{ℕ, ◌<◌, List, length, codes, Option, Some, None}
+use Rattle.pals_base.specs.declared.limits.TheConstants.{COMPONENTS, LINKS, PORTS, VARIABLES, STATES, PATH_BYTES}
+use Rattle.aadl_tree.specs.Declarations.{PackageTree}
+use Rattle.aadl_names.specs.Resolving.{ports_of}
+use Rattle.aadl_uses.specs.Threads.{MoreThan, IsThreadAt, PathBefore}
+use Rattle.aadl_uses.specs.Places.{ThreadWith, spelled_path}
+use Rattle.aadl_instance.specs.Parts.{variable_count, state_count}
+use Rattle.aadl_chains.specs.Links.{IsLink, OtherTarget}
+use Rattle.aadl_instance.specs.declared.limits.Limit.{Limit}
+use Rattle.aadl_instance.specs.declared.limits.Limit.TheVariants.{Components, Links, Ports, Variables, States, Path}
+
+abbrev pub name_of : Limit → List ℕ
+name_of Components = codes "components"
+name_of Links = codes "links"
+name_of Ports = codes "ports"
+name_of Variables = codes "variables"
+name_of States = codes "states"
+name_of Path = codes "path"
+
+-- the line of the faults at which it is looked for
+abbrev pub line_of : Limit → ℕ
+line_of Components = 5
+line_of Links = 6
+line_of Ports = 7
+line_of Variables = 8
+line_of States = 9
+line_of Path = 10
+
+-- there is more than that
+abbrev pub IsPassed : PackageTree ℕ → ℕ → Limit → Type 0
+IsPassed tree root Components = MoreThan COMPONENTS (IsThreadAt tree root) PathBefore
+IsPassed tree root Links = MoreThan LINKS (IsLink tree root) OtherTarget
+IsPassed tree root Ports = ThreadWith tree root (λ x path. PORTS < length (ports_of tree x))
+IsPassed tree root Variables = ThreadWith tree root (λ x path. VARIABLES < variable_count x)
+IsPassed tree root States = ThreadWith tree root (λ x path. STATES < state_count x)
+IsPassed tree root Path = ThreadWith tree root (λ x path. PATH_BYTES < length (spelled_path tree root path))
+
+-- the first limit that is passed, or none where none is
+abbrev pub IsFirstPassed : PackageTree ℕ → ℕ → Option Limit → Type 0
+IsFirstPassed tree root None = (limit : Limit) → IsPassed tree root limit → ⊥
+IsFirstPassed tree root (Some limit) =
+    IsPassed tree root limit × ((other : Limit) → line_of other < line_of limit → IsPassed tree root other → ⊥)

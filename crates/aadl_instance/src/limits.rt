@@ -1,0 +1,106 @@
+//! What there is too much of.
+ghost use Rattle.std.specs.Prelude.{◌≡◌, ◌↔◌, ◌<◌, ℕ, false, length, Contains, IfOk, IsTrue};
+ghost use Rattle.aadl_tree.specs.PackageViews.{placed};
+ghost use Rattle.aadl_names.specs.declared.fault.FlatFault.{FlatFault};
+ghost use Rattle.aadl_uses.specs.Uses.{containment, IsInUse};
+ghost use Rattle.aadl_chains.specs.Chains.{IsEndFault};
+ghost use Rattle.aadl_chains.specs.Sound.{AreDeclared};
+ghost use Rattle.aadl_uses.specs.Orders.{IsOrder};
+ghost use Rattle.aadl_chains.specs.Inside.{is_thread_at};
+ghost use Rattle.aadl_instance.specs.Limits as spec;
+ghost use Rattle.aadl_instance.specs.Limits.{IsPassed, IsFirstPassed};
+
+use crate::{Part, has_too_long_path, has_too_many};
+use aadl_chains::{Wires, has_too_many_links};
+use indexmap::IndexSet;
+use std::alloc::{AllocError, Global};
+
+/// What a design may have so much of.
+#[derive(Clone, Copy, Debug, PartialEq, Eq)]
+pub enum Limit {
+    Components,
+    Links,
+    Ports,
+    Variables,
+    States,
+    Path,
+}
+
+impl Limit {
+    /// Its name in a fault.
+    pub fn name(self) -> &'static str
+        ensures { result.now ≡ spec.name_of self }
+    {
+        match self {
+            Limit::Components => "components",
+            Limit::Links => "links",
+            Limit::Ports => "ports",
+            Limit::Variables => "variables",
+            Limit::States => "states",
+            Limit::Path => "path",
+        }
+    }
+}
+
+/// All of them, in the order in which they are looked for.
+const LIMITS: [Limit; 6] = [
+    Limit::Components,
+    Limit::Links,
+    Limit::Ports,
+    Limit::Variables,
+    Limit::States,
+    Limit::Path,
+];
+
+/// The first limit that a design passes, if it passes one. The package has no fault of names, no implementation
+/// contains itself, and each connection in use is on a chain, and the only one into a port.
+pub fn first_limit(
+    alloc: Global,
+    wires: &Wires<'_>,
+    order: &IndexSet<usize>,
+    used: &IndexSet<usize>,
+    root: usize,
+) -> Result<Option<Limit>, AllocError>
+    requires order { IsOrder (containment (placed wires.now.uses.tree.now)) order.now.keys }
+    requires used { (n : ℕ) → Contains used.now.keys n ↔ IsInUse (placed wires.now.uses.tree.now) root n }
+    requires declared { AreDeclared (placed wires.now.uses.tree.now) }
+    requires ends { (fault : FlatFault) → ¬ IsEndFault (placed wires.now.uses.tree.now) root fault }
+    requires root { root < length (placed wires.now.uses.tree.now).declarations }
+    requires no_thread { is_thread_at (placed wires.now.uses.tree.now) root ≡ false }
+    ensures { IfOk result (IsFirstPassed (placed wires.now.uses.tree.now) root) }
+{
+    let limits = LIMITS;
+    for limit in &limits {
+        if is_passed(alloc, wires, order, used, root, *limit)? {
+            return Ok(Some(*limit));
+        }
+    }
+    Ok(None)
+}
+
+// Whether a design passes a limit.
+fn is_passed(
+    alloc: Global,
+    wires: &Wires<'_>,
+    order: &IndexSet<usize>,
+    used: &IndexSet<usize>,
+    root: usize,
+    limit: Limit,
+) -> Result<bool, AllocError>
+    requires order { IsOrder (containment (placed wires.now.uses.tree.now)) order.now.keys }
+    requires used { (n : ℕ) → Contains used.now.keys n ↔ IsInUse (placed wires.now.uses.tree.now) root n }
+    requires declared { AreDeclared (placed wires.now.uses.tree.now) }
+    requires ends { (fault : FlatFault) → ¬ IsEndFault (placed wires.now.uses.tree.now) root fault }
+    requires root { root < length (placed wires.now.uses.tree.now).declarations }
+    requires no_thread { is_thread_at (placed wires.now.uses.tree.now) root ≡ false }
+    ensures { IfOk result (λ passed. IsTrue passed ↔ IsPassed (placed wires.now.uses.tree.now) root limit) }
+{
+    match limit {
+        Limit::Components => wires.uses.has_too_many_threads(alloc, order, root),
+        Limit::Links => has_too_many_links(alloc, wires, order, root),
+        Limit::Ports => Ok(has_too_many(wires, used, Part::Ports)),
+        Limit::Variables => Ok(has_too_many(wires, used, Part::Variables)),
+        Limit::States => Ok(has_too_many(wires, used, Part::States)),
+        Limit::Path => has_too_long_path(alloc, &wires.uses, order, root),
+    }
+}

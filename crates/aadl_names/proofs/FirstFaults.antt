@@ -1,0 +1,56 @@
+-- The first of all that is wrong with names is the first of what is looked at.
+use Rattle.std.proofs.Common.{◌≡◌, ℕ, Bool, true, false, List, [], ◌∷◌, ◌++◌, Option, None, sym, subst, if◌then◌else◌}
+use Rattle.std.specs.List.{filter_map, flat_map}
+use Rattle.aadl_tree.specs.Annexes.{AnnexTree}
+use Rattle.aadl_tree.specs.Declarations.{Implementation, Declaration, type, implementation, PackageTree}
+use Rattle.aadl_names.specs.declared.fault.FlatFault.{FlatFault}
+use Rattle.aadl_names.specs.Findings.{FirstOf}
+use Rattle.aadl_names.specs.Found.{found}
+use Rattle.aadl_names.specs.Twice.{twice}
+use Rattle.aadl_names.specs.Resolving.{is_thread, ports_of}
+use Rattle.aadl_names.specs.Behaviours.{behaviours}
+use Rattle.aadl_names.specs.Spaces.{port_entries, variable_entries, state_entries, member_entries, type_entry, implementation_entry, twice_in_behaviour}
+use Rattle.aadl_names.specs.Spaces.{twice_in_first, twice_in, twice_names}
+use Rattle.aadl_names.specs.PackageFaults.{wrong_names, package_faults}
+use Rattle.aadl_names.specs.Beside.{beside, beside_in_behaviour, beside_in_first, beside_in, beside_names}
+use Rattle.aadl_names.proofs.Covers.{Covers, covers_itself, covers_append, covers_all, first_of_more, found_is_first}
+use Rattle.aadl_names.proofs.Besides.{beside_covers}
+
+behaviour_covers : (tree : PackageTree ℕ) (x : Implementation ℕ) (annex : AnnexTree ℕ)
+    → Covers (beside_in_behaviour tree x annex) (twice_in_behaviour tree x annex)
+behaviour_covers tree x annex =
+    covers_append (beside (port_entries (ports_of tree x)) (variable_entries annex)) (twice (port_entries (ports_of tree x) ++ variable_entries annex))
+    (twice (state_entries annex)) (twice (state_entries annex)) (beside_covers (port_entries (ports_of tree x)) (variable_entries annex))
+    (covers_itself (twice (state_entries annex)))
+
+first_covers : (tree : PackageTree ℕ) (x : Implementation ℕ) (bs : List (ℕ × AnnexTree ℕ)) → Covers (beside_in_first tree x bs) (twice_in_first tree x bs)
+first_covers tree x [] = covers_itself []
+first_covers tree x (b ∷ bs) = by (is_thread x.category)
+  where
+    by : (c : Bool) → Covers (if c then beside_in_behaviour tree x b.1 else []) (if c then twice_in_behaviour tree x b.1 else [])
+    by true = behaviour_covers tree x b.1
+    by false = covers_itself []
+
+in_covers : (tree : PackageTree ℕ) (d : Declaration ℕ) → Covers (beside_in tree d) (twice_in tree d)
+in_covers tree (type x) = covers_itself []
+in_covers tree (implementation x) =
+    covers_append (beside (port_entries (ports_of tree x)) (member_entries x)) (twice (port_entries (ports_of tree x) ++ member_entries x))
+    (beside_in_first tree x (behaviours x.annexes)) (twice_in_first tree x (behaviours x.annexes))
+    (beside_covers (port_entries (ports_of tree x)) (member_entries x)) (first_covers tree x (behaviours x.annexes))
+
+names_cover : (tree : PackageTree ℕ) → Covers (beside_names tree) (twice_names tree)
+unfolding beside_names twice_names
+names_cover tree =
+    let types = twice (filter_map type_entry tree.declarations) in
+    let implementations = twice (filter_map implementation_entry tree.declarations) in
+    covers_append (types ++ implementations) (types ++ implementations) (flat_map (beside_in tree) tree.declarations)
+    (flat_map (twice_in tree) tree.declarations)
+    (covers_itself (types ++ implementations)) (covers_all (beside_in tree) (twice_in tree) (in_covers tree) tree.declarations)
+
+pub first_fault : (tree : PackageTree ℕ) (root : ℕ) (first : Option FlatFault) → first ≡ found None (wrong_names tree root ++ beside_names tree)
+    → FirstOf (package_faults tree root) first
+first_fault tree root first is =
+    subst (FirstOf (package_faults tree root)) (sym is)
+    (first_of_more (wrong_names tree root ++ beside_names tree) (package_faults tree root)
+    (covers_append (wrong_names tree root) (wrong_names tree root) (beside_names tree) _ (covers_itself (wrong_names tree root)) (names_cover tree))
+    (found None (wrong_names tree root ++ beside_names tree)) (found_is_first (wrong_names tree root ++ beside_names tree)))

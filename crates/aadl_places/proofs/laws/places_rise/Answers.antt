@@ -1,5 +1,0 @@
-use Rattle.aadl_places.proofs.Rising.{places_rise}
-use Rattle.aadl_places.proofs.laws.places_rise.Goals as goal
-
-pub returns : goal.returns
-returns c = λ text tree given p q stands. places_rise text tree given p q stands

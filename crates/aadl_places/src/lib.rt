@@ -1,4 +1,0 @@
-//! Places rise along a tree.
-#![tactic(auto)]
-
-pub mod laws;

@@ -1,0 +1,5 @@
+use Rattle.aadl_uses.proofs.Searches.{Searched}
+use Rattle.aadl_uses.proofs.below.reached.Given as goal
+
+abbrev pub invariant-loop-at : goal.invariant-loop-at
+invariant-loop-at l = Searched l.graph l.from l.at l.found.keys

@@ -1,0 +1,8 @@
+use Rattle.std.proofs.Common.{map}
+use Rattle.aadl_uses.specs.Counts.{AreListed, path_before}
+use Rattle.aadl_uses.proofs.Counting.{Begun}
+use Rattle.aadl_uses.proofs.paths.paths_of.Given as goal
+
+-- the paths that begin with the subcomponents so far
+abbrev pub invariant-loop-sub : goal.invariant-loop-sub
+invariant-loop-sub l = AreListed (Begun l.graph l.marks l.number l.sub) path_before (map (λ path. path.items) l.row.items)

@@ -1,0 +1,5 @@
+use Rattle.aadl_uses.specs.Orders.{ArePlaced}
+use Rattle.aadl_uses.proofs.sequence.place_guessed.Given as goal
+
+abbrev pub invariant-loop-number : goal.invariant-loop-number
+invariant-loop-number l = ArePlaced l.graph 0 l.fn.order.keys l.order.keys

@@ -1,0 +1,30 @@
+//! All threads below a root.
+ghost use Rattle.std.specs.Prelude.{◌≡◌, ◌<◌, ◌↔◌, ℕ, Contains, IfOk, length, map, reverse};
+ghost use Rattle.aadl_tree.specs.PackageViews.{placed};
+ghost use Rattle.aadl_uses.specs.Uses.{IsInUse, containment};
+ghost use Rattle.aadl_uses.specs.Threads.{Lists, IsThreadAt, PathBefore};
+ghost use Rattle.aadl_uses.specs.Orders.{IsOrder};
+ghost use Rattle.aadl_uses.specs.Paths.{paths_from};
+
+use crate::{Paths, Uses, paths_below};
+use indexmap::IndexSet;
+use pals_base::NoMemory;
+use std::alloc::Global;
+
+/// The paths from each declaration in use to the threads below it. Those from the root lead to all
+/// threads of its instance, in depth-first order of declaration.
+pub fn thread_paths(
+    alloc: Global,
+    uses: &Uses<'_>,
+    order: &IndexSet<usize>,
+    used: &IndexSet<usize>,
+    root: usize,
+) -> Result<Paths, NoMemory>
+    requires order { IsOrder (containment (placed uses.now.tree.now)) order.now.keys }
+    requires used { (n : ℕ) → Contains used.now.keys n ↔ IsInUse (placed uses.now.tree.now) root n }
+    requires root { root < length (placed uses.now.tree.now).declarations }
+    ensures { IfOk result (λ paths. Lists (IsThreadAt (placed uses.now.tree.now) root) PathBefore (map reverse (paths_from paths root))) }
+{
+    let marks = uses.thread_marks(alloc)?;
+    paths_below(alloc, uses.containment(), marks.as_slice(), order, used)
+}

@@ -1,6 +1,0 @@
-pub mod Tests
-pub mod Scopes
-pub mod Expressing
-pub mod Acting
-pub mod Going
-pub mod Beginning

@@ -1,6 +1,0 @@
-use Rattle.bus_fields.proofs.DueTurns.{Arriving}
-use Rattle.bus_fields.proofs.fields.Fields.arrive_all.Given as goal
-
--- the first messages have arrived
-abbrev pub invariant-loop-message : goal.invariant-loop-message
-invariant-loop-message l = Arriving l.fn.self l.self l.fn.node.0 l.reading l.message-index l.due

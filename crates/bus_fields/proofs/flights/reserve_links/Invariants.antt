@@ -1,6 +1,0 @@
-use Rattle.bus_fields.proofs.Sendings.{IsReserved}
-use Rattle.bus_fields.proofs.flights.reserve_links.Given as goal
-
--- the first links have room
-abbrev pub invariant-loop-number : goal.invariant-loop-number
-invariant-loop-number l = IsReserved l.node.0 l.number l.links l.fn.flights l.flights

@@ -1,6 +1,0 @@
-use Rattle.bus_fields.proofs.QueueRooms.{IsQueuesReserved}
-use Rattle.bus_fields.proofs.flights.reserve_queues.Given as goal
-
--- the queues that the first links go to have room
-abbrev pub invariant-loop-link : goal.invariant-loop-link
-invariant-loop-link l = IsQueuesReserved l.node.0 l.link-index l.links l.fn.queues l.queues

@@ -1,5 +1,0 @@
-use Rattle.chain_sound.proofs.Chaining.{kinds_along}
-use Rattle.chain_sound.proofs.laws.chains_have_one_type.Goals as goal
-
-pub returns : goal.returns
-returns c = λ tree name parts used flat is_use none chain from to leads. kinds_along flat used is_use none chain from to leads

@@ -1,5 +1,0 @@
-use Rattle.chain_sound.proofs.Sourcing.{one_start}
-use Rattle.chain_sound.proofs.laws.ports_have_one_start.Goals as goal
-
-pub returns : goal.returns
-returns c = λ tree name parts flat first second from other to a b l m. one_start flat first second from other to a b l m

@@ -1,4 +1,0 @@
-//! What is known of the links, feeds and taps of an instance in which nothing is found.
-#![tactic(auto)]
-
-pub mod laws;

@@ -1,8 +1,0 @@
-use Rattle.aadl_tree.specs.PackageViews.{placed}
-use Rattle.chain_walks.specs.Numbers.{IsNumber}
-use Rattle.chain_walks.specs.Takes.{Deeper, AmongFirst}
-use Rattle.chain_walks.proofs.links.links_deeper.Given as goal
-
--- below the subcomponents so far
-abbrev pub invariant-loop-target : goal.invariant-loop-target
-invariant-loop-target l = IsNumber l.limit (AmongFirst (Deeper (placed l.wires.uses.tree.now) l.number) l.target-index) l.count

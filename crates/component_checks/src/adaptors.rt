@@ -1,0 +1,187 @@
+//! What is wrong with adaptors.
+ghost use Rattle.std.specs.Prelude.{◌≡◌, ◌<◌, ◌++◌, OnOk, drop};
+ghost use Rattle.annex_resolve.specs.Scopes.{found_if};
+ghost use Rattle.component_checks.specs.Rates.{is_digit, is_first_digit, place_number, adaptor_named, kind_suits, is_right};
+
+use crate::rates::and_number;
+use crate::rules::{ADAPTOR_OUT_OF_RANGE, NO_ADAPTOR, RATES_DONT_DIVIDE, STRAY_ADAPTOR};
+use annex_resolve::Violation;
+use pals_base::adaptors::{divides_or_divided, is_allowed, suits_kind};
+use pals_base::{Adaptor, Items, Kind, NoMemory, Text, TryClone};
+use std::alloc::Global;
+
+fn is_digit(byte: u8) -> bool
+    ensures { result ≡ is_digit byte }
+{
+    b'0' <= byte && byte <= b'9'
+}
+
+fn is_first_digit(byte: u8) -> bool
+    ensures { result ≡ is_first_digit byte }
+{
+    b'1' <= byte && byte <= b'9'
+}
+
+// A number of one or two digits, the first not 0.
+fn place_number(digits: &[u8]) -> Option<u32>
+    ensures { result ≡ place_number digits.now }
+{
+    match digits {
+        [unit] if is_first_digit(*unit) => Some(u32::from(*unit - b'0')),
+        [ten, unit] if is_first_digit(*ten) && is_digit(*unit) => {
+            Some(10 * u32::from(*ten - b'0') + u32::from(*unit - b'0'))
+        }
+        _ => None,
+    }
+}
+
+// Whether a text is `at` and a number behind it, of which these are the digits.
+fn place_of(text: &[u8]) -> Option<u32>
+    ensures { result ≡ place_number (drop 3 text.now) }
+{
+    if text.len() < 3 {
+        return place_number(&[]);
+    }
+    place_number(&text[3..])
+}
+
+/// The adaptor of a text: its name, with small letters, or `at n` with one space and n from 1 to 99.
+pub fn adaptor_named(text: &[u8]) -> Option<Adaptor>
+    ensures { result ≡ adaptor_named text.now }
+{
+    if text == b"repeat".as_slice() {
+        Some(Adaptor::Repeat)
+    } else if text == b"first".as_slice() {
+        Some(Adaptor::First)
+    } else if text == b"last".as_slice() {
+        Some(Adaptor::Last)
+    } else if text == b"latest".as_slice() {
+        Some(Adaptor::Latest)
+    } else if text == b"max".as_slice() {
+        Some(Adaptor::Max)
+    } else if text == b"min".as_slice() {
+        Some(Adaptor::Min)
+    } else if text == b"average".as_slice() {
+        Some(Adaptor::Average)
+    } else if text.starts_with(b"at ") {
+        place_of(text).map(Adaptor::At)
+    } else {
+        None
+    }
+}
+
+// Whether an adaptor's text is that of one which is allowed between these rates and for this type. A
+// bad type takes every adaptor.
+fn is_right(adaptor: Option<Adaptor>, kind: Option<Kind>, source: u32, target: u32) -> bool
+    requires source { 0 < source }
+    requires target { 0 < target }
+    ensures { result ≡ is_right adaptor kind source target }
+{
+    match adaptor {
+        None => false,
+        Some(_) => is_allowed(adaptor, source, target) && suits(adaptor, kind),
+    }
+}
+
+// Whether an adaptor is allowed for a type.
+fn suits(adaptor: Option<Adaptor>, kind: Option<Kind>) -> bool
+    ensures { result ≡ kind_suits adaptor kind }
+{
+    match kind {
+        None => true,
+        Some(kind) => suits_kind(adaptor, kind),
+    }
+}
+
+// Adds a finding with a name alone, where something is wrong.
+fn add_named(
+    alloc: Global,
+    found: &mut Items<Violation>,
+    wrong: bool,
+    at: usize,
+    number: u32,
+    name: &Text,
+) -> Result<(), NoMemory>
+    ensures { OnOk result (found.new ≡ found.old ++ found_if wrong at number name.now) }
+{
+    if wrong {
+        found.push(Violation {
+            at,
+            number,
+            details: name.try_clone(alloc)?,
+        })?;
+    }
+    Ok(())
+}
+
+/// A link or a feed: the place of its carrier, its name, its adaptor and the type of its target.
+#[derive(Drop)]
+pub struct Carrier {
+    pub at: usize,
+    pub name: Text,
+    /// None is given, or a text, of which the adaptor may be none.
+    pub adaptor: Option<Option<Adaptor>>,
+    pub kind: Option<Kind>,
+}
+
+impl Carrier {
+    ghost use Rattle.component_checks.specs.Rates.{adaptor_findings, pair_findings};
+
+    // Where the rates differ and one divides the other.
+    fn add_adaptor_findings(
+        &self,
+        alloc: Global,
+        found: &mut Items<Violation>,
+        source: u32,
+        target: u32,
+    ) -> Result<(), NoMemory>
+        requires source { 0 < source }
+        requires target { 0 < target }
+        ensures { OnOk result (found.new ≡ found.old
+            ++ adaptor_findings self.now.at self.now.name self.now.adaptor self.now.kind source target) }
+    {
+        match self.adaptor {
+            None => add_named(alloc, found, true, self.at, NO_ADAPTOR, &self.name),
+            Some(adaptor) => {
+                let right = is_right(adaptor, self.kind, source, target);
+                add_named(
+                    alloc,
+                    found,
+                    !right,
+                    self.at,
+                    ADAPTOR_OUT_OF_RANGE,
+                    &self.name,
+                )
+            }
+        }
+    }
+
+    /// Adds what is wrong with the adaptor between two rates.
+    pub fn add_pair_findings(
+        &self,
+        alloc: Global,
+        found: &mut Items<Violation>,
+        source: u32,
+        target: u32,
+    ) -> Result<(), NoMemory>
+        requires source { 0 < source }
+        requires target { 0 < target }
+        ensures { OnOk result (found.new ≡ found.old
+            ++ pair_findings self.now.at self.now.name self.now.adaptor self.now.kind source target) }
+    {
+        if source == target {
+            let stray = self.adaptor.is_some();
+            return add_named(alloc, found, stray, self.at, STRAY_ADAPTOR, &self.name);
+        }
+        if divides_or_divided(source, target) {
+            return self.add_adaptor_findings(alloc, found, source, target);
+        }
+        let details = and_number(alloc, self.name.as_str(), u64::from(source))?;
+        let details = and_number(alloc, details.as_str(), u64::from(target))?;
+        found.push(Violation {
+            at: self.at,
+            number: RATES_DONT_DIVIDE,
+            details,
+        })
+    }
+}

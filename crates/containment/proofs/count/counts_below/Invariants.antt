@@ -1,6 +1,0 @@
-use Rattle.containment.specs.Counts.{Counted}
-use Rattle.containment.proofs.Fronts.{FrontOf}
-use Rattle.containment.proofs.count.counts_below.Given as goal
-
-abbrev pub invariant-loop-at : goal.invariant-loop-at
-invariant-loop-at l = FrontOf (Counted l.limit l.graph l.marks) 0 l.graph l.order.keys l.at l.counts.items

@@ -1,8 +1,0 @@
-use Rattle.std.proofs.Common.{◌≡◌, ◌<◌, ℕ, false}
-use Rattle.std.specs.List.{list_any}
-use Rattle.containment.specs.Graphs.{targets_in}
-use Rattle.containment.specs.Suspects.{is_above, level_in}
-use Rattle.containment.proofs.suspect.rises.Given as goal
-
-abbrev pub invariant-loop-number : goal.invariant-loop-number
-invariant-loop-number l = (n : ℕ) → n < l.number → list_any (is_above l.levels (level_in l.levels n)) (targets_in l.graph n) ≡ false

@@ -1,7 +1,0 @@
-use Rattle.std.proofs.Common.{◌≡◌, ◌<◌, ℕ, true, Contains}
-use Rattle.containment.specs.Graphs.{below_in}
-use Rattle.containment.specs.Suspects.{is_suspect}
-use Rattle.containment.proofs.suspect.suspects.Given as goal
-
-abbrev pub invariant-loop-number : goal.invariant-loop-number
-invariant-loop-number l = (n s : ℕ) → n < l.number → is_suspect l.levels.items l.any n (below_in l.graph n s) ≡ true → Contains l.found.items (n, s)

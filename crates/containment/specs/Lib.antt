@@ -1,4 +1,0 @@
-pub mod Graphs
-pub mod Suspects
-pub mod Orders
-pub mod Counts

@@ -1,7 +1,0 @@
-use Rattle.std.proofs.Common.{[]}
-use Rattle.containment.proofs.Fronts.{FrontOf}
-use Rattle.containment_paths.proofs.Listed.{IsListedIn}
-use Rattle.containment_paths.proofs.paths.paths_below.Given as goal
-
-abbrev pub invariant-loop-at : goal.invariant-loop-at
-invariant-loop-at l = FrontOf (IsListedIn l.graph l.marks l.used.keys) [] l.graph l.order.keys l.at l.paths

@@ -1,8 +1,0 @@
-use Rattle.std.proofs.Common.{map}
-use Rattle.containment.specs.Counts.{AreListed, path_before}
-use Rattle.containment.proofs.Counting.{Begun}
-use Rattle.containment_paths.proofs.paths.paths_of.Given as goal
-
--- the paths that begin with the subcomponents so far
-abbrev pub invariant-loop-sub : goal.invariant-loop-sub
-invariant-loop-sub l = AreListed (Begun l.graph l.marks l.number l.sub) path_before (map (λ path. path.items) l.row.items)

@@ -1,0 +1,14 @@
+-- The names of the package that a text has.
+use Rattle.std.proofs.Props.{props}
+use Rattle.std.proofs.Math.Logic.{∥∥₁_elim}
+use Rattle.aadl_tree.specs.declared.package.PackageTree as source
+use Rattle.aadl_tree.specs.PackageViews.{placed}
+use Rattle.design_laws.specs.Named.{AreNamed}
+use Rattle.design_laws.proofs.Apart.{differ_given}
+use Rattle.design_laws.proofs.Wording.{have_words}
+
+pub named : (tree : source.PackageTree) → AreNamed (placed tree)
+named tree = record {
+  words = have_words tree;
+  differ = λ root n x none is. ∥∥₁_elim tree.given (hlevel props) (λ given. differ_given (placed tree) root n x given none is);
+}

@@ -1,0 +1,70 @@
+//! What a package means below the root of a name is one, and keeps the rules of designs. Each law is the contract of a
+//! function that does nothing.
+ghost use Rattle.std.specs.Prelude.{◌≡◌, ◌≤◌, ℕ, List, []};
+ghost use Rattle.pals_base.specs.Bound.{least_period};
+ghost use Rattle.pals_model.specs.declared.design.DesignParts.{DesignParts};
+ghost use Rattle.pals_model.specs.Rules.{IsDesign, greatest_rate};
+ghost use Rattle.aadl_tree.specs.declared.package.PackageTree as source;
+ghost use Rattle.aadl_tree.specs.Declarations.{PackageTree};
+ghost use Rattle.aadl_tree.specs.Given.{IsGiven};
+ghost use Rattle.aadl_tree.specs.PackageViews.{placed};
+ghost use Rattle.aadl_names.specs.declared.fault.FlatFault.{FlatFault};
+ghost use Rattle.aadl_instance.specs.Faults.{IsFault};
+ghost use Rattle.aadl_instance.specs.Flat.{Parts, IsFlat};
+ghost use Rattle.annex_resolve.specs.declared.violation.Violation.{Violation};
+ghost use Rattle.model_violations.specs.Violations.{Shown, shown_by, AreViolations};
+ghost use Rattle.design_laws.specs.PackageDesigns.{IsDesignIn};
+
+use crate::designs::{accepted_instances_have_designs, designs_are_one};
+use crate::names::{names_differ, texts_name};
+
+/// A package has one instance at most.
+pub fn one_instance()
+    ensures { (tree : PackageTree ℕ) (root : List ℕ) (a b : Parts) → IsFlat tree root a → IsFlat tree root b → a ≡ b }
+{}
+
+/// Of an instance there is one list at most of all that is wrong with it.
+pub fn one_list()
+    ensures { (tree : PackageTree ℕ) (s : Shown) (a b : List Violation) → AreViolations tree s a → AreViolations tree s b → a ≡ b }
+{}
+
+/// A package has one design at most.
+pub fn one_design()
+    ensures { (tree : PackageTree ℕ) (root : List ℕ) (a b : DesignParts) → IsDesignIn tree root a → IsDesignIn tree root b → a ≡ b }
+{
+    designs_are_one();
+}
+
+/// A package that has a design has no fault, and nothing is wrong with its instance.
+pub fn accepted_or_refused()
+    ensures no_fault { (tree : PackageTree ℕ) (root : List ℕ) (design : DesignParts) (fault : FlatFault)
+        → IsDesignIn tree root design → IsFault tree root fault → ⊥ }
+    ensures nothing_wrong { (tree : PackageTree ℕ) (root : List ℕ) (design : DesignParts) (parts : Parts) (list : List Violation)
+        → IsDesignIn tree root design → IsFlat tree root parts → AreViolations tree (shown_by tree parts) list → list ≡ [] }
+{}
+
+/// The design of a package that is read from a text keeps the rules of designs, and such a package
+/// has a design where it has an instance of which the list of all that is wrong is empty. The design's
+/// period is at least the least one that the bound allows for the greatest rate of its components.
+pub fn designs_keep_their_rules()
+    ensures rules { (tree : source.PackageTree) (root : List ℕ) (design : DesignParts) → IsDesignIn (placed tree) root design → IsDesign design }
+    ensures there { (tree : source.PackageTree) (root : List ℕ) (parts : Parts) → IsFlat (placed tree) root parts
+        → AreViolations (placed tree) (shown_by (placed tree) parts) [] → (design : DesignParts) × IsDesignIn (placed tree) root design }
+    ensures bound { (tree : PackageTree ℕ) (root : List ℕ) (design : DesignParts) → IsDesignIn tree root design
+        → least_period design.gamma (greatest_rate design.components) ≤ design.period }
+{
+    texts_name();
+    accepted_instances_have_designs();
+    crate::designs::designs_keep_their_rules();
+}
+
+/// The same of a tree that the grammar gives for some text.
+pub fn designs_of_texts_keep_their_rules()
+    ensures rules { (tree : PackageTree ℕ) (root : List ℕ) (design : DesignParts) → IsGiven tree → IsDesignIn tree root design → IsDesign design }
+    ensures there { (tree : PackageTree ℕ) (root : List ℕ) (parts : Parts) → IsGiven tree → IsFlat tree root parts
+        → AreViolations tree (shown_by tree parts) [] → (design : DesignParts) × IsDesignIn tree root design }
+{
+    names_differ();
+    accepted_instances_have_designs();
+    crate::designs::designs_keep_their_rules();
+}

@@ -1,5 +1,0 @@
-use Rattle.design_sound.proofs.Accepting.{one_design}
-use Rattle.design_sound.proofs.laws.designs_are_one.Goals as goal
-
-pub returns : goal.returns
-returns c = λ tree s a b x y. one_design tree s a b x y

@@ -1,5 +1,0 @@
-use Rattle.design_sound.proofs.Merely.{there_is}
-use Rattle.design_sound.proofs.laws.designs_are_there.Goals as goal
-
-pub returns : goal.returns
-returns c = λ tree s named shown nothing never. there_is c.no_findings_make_a_thread_behave.ensures tree s named shown nothing never

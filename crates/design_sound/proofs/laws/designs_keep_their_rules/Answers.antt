@@ -1,5 +1,0 @@
-use Rattle.design_sound.proofs.Merely.{keeps}
-use Rattle.design_sound.proofs.laws.designs_keep_their_rules.Goals as goal
-
-pub returns : goal.returns
-returns c = λ tree s named shown nothing design is. keeps c.no_findings_make_a_thread_behave.ensures tree s named shown nothing design is

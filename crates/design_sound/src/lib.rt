@@ -1,4 +1,0 @@
-//! Why an instance in which nothing is found has a design.
-#![tactic(auto)]
-
-pub mod laws;

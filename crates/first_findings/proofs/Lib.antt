@@ -1,4 +1,0 @@
-pub mod Elements
-pub mod Covers
-pub mod Besides
-pub mod FirstFaults

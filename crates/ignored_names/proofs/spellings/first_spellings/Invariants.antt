@@ -1,7 +1,0 @@
-use Rattle.std.proofs.Common.{◌≡◌, [], drop}
-use Rattle.ignored_names.specs.Ignored.{all_behind, KnowsAll}
-use Rattle.ignored_names.proofs.spellings.first_spellings.Given as goal
-
--- what is left is still to be added, and the table has the names that were added
-abbrev pub invariant-loop-name : goal.invariant-loop-name
-invariant-loop-name l = record { left : all_behind [] l.names ≡ all_behind l.first (drop l.name-index l.names); known : KnowsAll l.numbers l.first }

@@ -1,4 +1,0 @@
-pub mod Ports
-pub mod Carriers
-pub mod Chains
-pub mod Connections

@@ -1,5 +1,0 @@
-use Rattle.loose_events.proofs.Fields.{means_keep}
-use Rattle.loose_events.proofs.laws.events_are_loose.Goals as goal
-
-pub returns : goal.returns
-returns c bytes root design scenario means = means_keep bytes root design scenario means

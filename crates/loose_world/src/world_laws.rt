@@ -1,0 +1,69 @@
+//! Laws of loose worlds. The functions do nothing: their contracts are the laws.
+ghost use Rattle.loose_world.specs.WorldLaws.{StepCounts, EventsAgree, RoundsAreFinished, RoundsAreSent, FinishedRows};
+ghost use Rattle.loose_world.specs.WorldLaws.{CommonRows, RoundsWithoutNodes, SendsAreInFlight, LinesAreTold, TextIsTold, StopIsTold};
+ghost use Rattle.loose_world.specs.Journals.{JournalReplays};
+ghost use Rattle.loose_world.specs.Reports.{WorldIsReported, WorldTextIsReported};
+ghost use Rattle.loose_world.specs.Steps.{EventsAreSteps};
+ghost use Rattle.loose_world.specs.Ends.{OneEnd};
+
+/// A finish adds one to the steps that its node has finished, a send one to the rounds that its node
+/// has sent, and every other event leaves both.
+pub fn step_counts()
+    ensures { StepCounts }
+{}
+
+/// What events leave agrees with the composition. A node has finished as many rounds as its finishes
+/// make up, and has sent as many as it has sends.
+pub fn events_are_counted()
+    ensures agree { EventsAgree }
+    ensures finished { RoundsAreFinished }
+    ensures sent { RoundsAreSent }
+{}
+
+/// The rows of the rounds that some node has finished are those of the world; those of the rounds that
+/// every node has finished are a report of the composition. Without nodes these are all of the run.
+pub fn rows_are_told()
+    ensures world { FinishedRows }
+    ensures common { CommonRows }
+    ensures none { RoundsWithoutNodes }
+{}
+
+/// Behind a send each link from its node has a copy in flight, of the round and with the message that
+/// the world tells; so the lines that are told are those of the world.
+pub fn messages_are_told()
+    ensures in_flight { SendsAreInFlight }
+    ensures lines { LinesAreTold }
+{}
+
+/// Where all events happen, the rows and the lines of messages are the text of the world; where one
+/// gives a stop, the rows of the rounds that every node has finished are a report.
+pub fn texts_are_told()
+    ensures all { TextIsTold }
+    ensures stopped { StopIsTold }
+{}
+
+/// Where all components have finished the same rounds, the rows of a world are those of the report that
+/// `sync` writes of these rounds.
+pub fn worlds_are_reported()
+    ensures rows { WorldIsReported }
+    ensures text { WorldTextIsReported }
+{}
+
+/// However a list of loose events ends, the journal replays to where the bus stands, up to and including
+/// the event that gives a stop, and the bus agrees with the composition.
+pub fn journals_are_replayed()
+    ensures { JournalReplays }
+{}
+
+/// What happens on the bus of a run, whatever codes its nodes have, is steps of the bus machine from the
+/// run's opening on, and the journal has their entries.
+pub fn events_are_steps()
+    ensures { EventsAreSteps }
+{}
+
+/// A list of loose events ends in one way: with one stop, or with one event that is not allowed and its
+/// fault, or with neither. Where all events are steps, or one gives a stop, they lead to one state, and
+/// leave one journal.
+pub fn one_end()
+    ensures { OneEnd }
+{}

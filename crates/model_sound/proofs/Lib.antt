@@ -1,9 +1,0 @@
-pub mod Clean
-pub mod Ruling
-pub mod Timing
-pub mod Rating
-pub mod Pathing
-pub mod Matching
-pub mod Composing
-pub mod Nothing
-pub mod Showing

@@ -1,5 +1,0 @@
-use Rattle.model_sound.proofs.Nothing.{nothing_found}
-use Rattle.model_sound.proofs.laws.no_violations_are_no_findings.Goals as goal
-
-pub returns : goal.returns
-returns c = λ tree s none. nothing_found tree s none

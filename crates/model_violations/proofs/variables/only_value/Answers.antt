@@ -1,0 +1,10 @@
+use Rattle.std.proofs.Common.{map, ap, arith}
+use Rattle.std.proofs.lemmas.List.{length-map}
+use Rattle.aadl_tree.specs.ValueViews.{value_view}
+use Rattle.aadl_tree.specs.Maps.{kept_place}
+use Rattle.component_checks.proofs.Singles.{no_only_text}
+use Rattle.model_violations.specs.Values.{value_in}
+use Rattle.model_violations.proofs.variables.only_value.Goals as goal
+
+pub returns-in_default-2 : goal.returns-in_default-2
+returns-in_default-2 c = ap value_in (no_only_text (map (value_view kept_place) c.args.values.now) (rw length-map (omega arith)))

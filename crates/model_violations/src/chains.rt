@@ -1,0 +1,159 @@
+//! What is wrong with links, feeds and taps.
+ghost use Rattle.std.specs.Prelude.{◌≡◌, ◌<◌, ◌++◌, ℕ, OnOk, Some, slice_get};
+ghost use Rattle.aadl_tree.specs.Maps.{kept_place};
+ghost use Rattle.aadl_tree.specs.PackageViews.{placed};
+ghost use Rattle.aadl_tree.specs.Views.{connection_view};
+ghost use Rattle.model_violations.specs.Chains as spec;
+
+use crate::carriers::{adaptor_of, connection_of, is_delayed};
+use crate::ports::{end_kind, end_name, end_rate};
+use crate::rules::NOT_DELAYED;
+use aadl_instance::{Chain, ThreadAt};
+use aadl_names::Names;
+use aadl_tree::Connection;
+use annex_resolve::Violation;
+use component_checks::Carrier;
+use component_checks::rules::STRAY_ADAPTOR;
+use component_checks::threads::add_named;
+use pals_base::{Items, NoMemory};
+use std::alloc::Global;
+
+// Adds what is wrong with a carrier between two rates; without one of them nothing is found.
+fn add_rated(
+    alloc: Global,
+    carrier: &Carrier,
+    source: Option<u32>,
+    target: Option<u32>,
+    found: &mut Items<Violation>,
+) -> Result<(), NoMemory>
+    requires source { (k : ℕ) → source ≡ Some k → 0 < k }
+    requires target { (k : ℕ) → target ≡ Some k → 0 < k }
+    ensures { OnOk result (found.new ≡ found.old
+        ++ spec.rated carrier.now.at carrier.now.name carrier.now.adaptor carrier.now.kind source target) }
+{
+    match source {
+        None => Ok(()),
+        Some(source) => match target {
+            None => Ok(()),
+            Some(target) => carrier.add_pair_findings(alloc, found, source, target),
+        },
+    }
+}
+
+// Adds what is wrong with the adaptor of a link or a feed that a connection carries.
+fn add_adaptor_findings(
+    names: &Names<'_>,
+    alloc: Global,
+    threads: &[ThreadAt],
+    rates: &[Option<u32>],
+    chain: &Chain,
+    connection: &Connection,
+    found: &mut Items<Violation>,
+) -> Result<(), NoMemory>
+    requires { (n k : ℕ) → slice_get rates.now n ≡ Some (Some k) → 0 < k }
+    ensures { OnOk result (found.new ≡ found.old
+        ++ spec.adaptor_findings (placed names.now.tree.now) threads.now rates.now chain.now (connection_view kept_place connection.now)) }
+{
+    let carrier = Carrier {
+        at: connection.name.at,
+        name: end_name(names, alloc, threads, &chain.to)?,
+        adaptor: adaptor_of(alloc, connection)?,
+        kind: end_kind(names, alloc, threads, &chain.to)?,
+    };
+    let source = end_rate(rates, &chain.from);
+    let target = end_rate(rates, &chain.to);
+    add_rated(alloc, &carrier, source, target, found)
+}
+
+// Adds the finding that a link's carrier is not delayed.
+fn add_timing_findings(
+    names: &Names<'_>,
+    alloc: Global,
+    threads: &[ThreadAt],
+    chain: &Chain,
+    connection: &Connection,
+    found: &mut Items<Violation>,
+) -> Result<(), NoMemory>
+    ensures { OnOk result (found.new ≡ found.old
+        ++ spec.timing_findings (placed names.now.tree.now) threads.now chain.now (connection_view kept_place connection.now)) }
+{
+    let delayed = is_delayed(alloc, connection)?;
+    let name = end_name(names, alloc, threads, &chain.to)?;
+    add_named(
+        alloc,
+        found,
+        !delayed,
+        connection.name.at,
+        NOT_DELAYED,
+        name.as_str(),
+    )
+}
+
+/// Adds what is wrong with a link, over the threads and their rates: its carrier is not delayed, the
+/// rates don't divide, an adaptor is missing, stray or not allowed.
+pub fn add_link_findings(
+    names: &Names<'_>,
+    alloc: Global,
+    threads: &[ThreadAt],
+    rates: &[Option<u32>],
+    link: &Chain,
+    found: &mut Items<Violation>,
+) -> Result<(), NoMemory>
+    requires { (n k : ℕ) → slice_get rates.now n ≡ Some (Some k) → 0 < k }
+    ensures { OnOk result (found.new ≡ found.old
+        ++ spec.link_findings (placed names.now.tree.now) threads.now rates.now link.now) }
+{
+    let Some(connection) = connection_of(names.tree, link.carrier) else {
+        return Ok(());
+    };
+    add_timing_findings(names, alloc, threads, link, connection, found)?;
+    add_adaptor_findings(names, alloc, threads, rates, link, connection, found)
+}
+
+/// Adds what is wrong with a feed: the adaptor between the root's rate, which is 1, and the thread's.
+pub fn add_feed_findings(
+    names: &Names<'_>,
+    alloc: Global,
+    threads: &[ThreadAt],
+    rates: &[Option<u32>],
+    feed: &Chain,
+    found: &mut Items<Violation>,
+) -> Result<(), NoMemory>
+    requires { (n k : ℕ) → slice_get rates.now n ≡ Some (Some k) → 0 < k }
+    ensures { OnOk result (found.new ≡ found.old
+        ++ spec.feed_findings (placed names.now.tree.now) threads.now rates.now feed.now) }
+{
+    match connection_of(names.tree, feed.carrier) {
+        Some(connection) => {
+            add_adaptor_findings(names, alloc, threads, rates, feed, connection, found)
+        }
+        None => Ok(()),
+    }
+}
+
+/// Adds the finding that a tap has an adaptor.
+#[tactic(auto, using(crate::proofs::Mapped::has_mapped))]
+pub fn add_tap_findings(
+    names: &Names<'_>,
+    alloc: Global,
+    threads: &[ThreadAt],
+    tap: &Chain,
+    found: &mut Items<Violation>,
+) -> Result<(), NoMemory>
+    ensures { OnOk result (found.new ≡ found.old
+        ++ spec.tap_findings (placed names.now.tree.now) threads.now tap.now) }
+{
+    let Some(connection) = connection_of(names.tree, tap.carrier) else {
+        return Ok(());
+    };
+    let stray = adaptor_of(alloc, connection)?.is_some();
+    let name = end_name(names, alloc, threads, &tap.to)?;
+    add_named(
+        alloc,
+        found,
+        stray,
+        connection.name.at,
+        STRAY_ADAPTOR,
+        name.as_str(),
+    )
+}

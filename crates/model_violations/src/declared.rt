@@ -1,0 +1,69 @@
+//! What a thread declares.
+ghost use Rattle.std.specs.Prelude.{◌≡◌, ◌∷◌, ◌++◌, [], IfOk, OnOk, if◌then◌else◌, map};
+ghost use Rattle.aadl_tree.specs.Maps.{kept_place};
+ghost use Rattle.aadl_tree.specs.Views.{feature_view};
+ghost use Rattle.model_violations.specs.Values as spec;
+
+use aadl_tree::Feature;
+use component_checks::types::{is_in, kind_in};
+use pals_base::{Items, Kind, NoMemory, Text};
+use std::alloc::Global;
+
+/// A port or a variable: its name, its type (none where it is neither Integer nor Boolean), and its
+/// first value, which is 0 for a port.
+#[derive(Drop)]
+pub struct Declared {
+    pub name: Text,
+    pub kind: Option<Kind>,
+    pub first: i64,
+}
+
+// A port.
+fn port_of(alloc: Global, port: &Feature) -> Result<Declared, NoMemory>
+    ensures { IfOk result (λ declared. declared ≡ spec.port_of (feature_view kept_place port.now)) }
+{
+    Ok(Declared {
+        name: Text::from_str(alloc, port.name.spelling.as_str())?,
+        kind: kind_in(&port.data_type),
+        first: 0,
+    })
+}
+
+// Adds a port, if it is wanted.
+fn add_port(
+    alloc: Global,
+    wanted: bool,
+    port: &Feature,
+    ports: &mut Items<Declared>,
+) -> Result<(), NoMemory>
+    ensures { OnOk result (ports.new ≡ ports.old ++ (if wanted then spec.port_of (feature_view kept_place port.now) ∷ [] else [])) }
+{
+    if wanted {
+        ports.push(port_of(alloc, port)?)?;
+        Ok(())
+    } else {
+        Ok(())
+    }
+}
+
+/// The in ports, in order.
+pub fn ins_in(alloc: Global, ports: &[Feature]) -> Result<Items<Declared>, NoMemory>
+    ensures { IfOk result (λ ins. ins ≡ spec.ins_in (map (feature_view kept_place) ports.now)) }
+{
+    let mut ins = Items::new(alloc);
+    for port in ports {
+        add_port(alloc, is_in(port), port, &mut ins)?;
+    }
+    Ok(ins)
+}
+
+/// The out ports, in order.
+pub fn outs_in(alloc: Global, ports: &[Feature]) -> Result<Items<Declared>, NoMemory>
+    ensures { IfOk result (λ outs. outs ≡ spec.outs_in (map (feature_view kept_place) ports.now)) }
+{
+    let mut outs = Items::new(alloc);
+    for port in ports {
+        add_port(alloc, !is_in(port), port, &mut outs)?;
+    }
+    Ok(outs)
+}

@@ -1,0 +1,108 @@
+//! The properties of a list that mean nothing where they stand.
+ghost use Rattle.std.specs.Prelude.{◌≡◌, ◌++◌, OnOk, map, flat_map};
+ghost use Rattle.std.specs.List.{list_any};
+ghost use Rattle.aadl_tree.specs.Maps.{kept_place};
+ghost use Rattle.aadl_tree.specs.ValueViews.{association_view, associations_view};
+ghost use Rattle.aadl_tree.specs.Views.{annex_view, variable_view};
+ghost use Rattle.aadl_names.specs.Properties.{association_name, name_of, recognised};
+ghost use Rattle.aadl_names.specs.Spelling.{same_name};
+ghost use Rattle.model_violations.specs.Ignored as spec;
+
+use aadl_names::Holder;
+use aadl_names::spelling::spelled_name;
+use aadl_tree::{Annex, AnnexContent, Association, VariableDeclaration};
+use pals_base::{Items, NoMemory, Text};
+use std::alloc::Global;
+
+// Whether a property of this name is recognised at a kind of place.
+fn is_recognised(holder: Holder, name: &str) -> bool
+    ensures { result ≡ list_any (λ p. same_name name.now (name_of p)) (recognised holder) }
+{
+    holder
+        .recognised()
+        .iter()
+        .any(|property| name.eq_ignore_ascii_case(property.name()))
+}
+
+// Whether an association of this name means nothing at a kind of place.
+#[tactic(auto, using(component_checks::proofs::Looking::view_out_association))]
+fn is_ignored(holder: Holder, association: &Association, name: &str) -> bool
+    requires { name.now ≡ association_name (association_view kept_place association.now) }
+    ensures { result ≡ spec.is_ignored holder (association_view kept_place association.now) }
+{
+    !(association.applies_to.is_empty() && is_recognised(holder, name))
+}
+
+// Adds the name of an association that means nothing at a kind of place.
+#[tactic(auto, using(component_checks::proofs::Looking::view_out_association))]
+fn add_association(
+    alloc: Global,
+    holder: Holder,
+    association: &Association,
+    found: &mut Items<Text>,
+) -> Result<(), NoMemory>
+    ensures { OnOk result (found.new ≡ found.old ++ spec.association_ignored holder (association_view kept_place association.now)) }
+{
+    let name = spelled_name(alloc, &association.name)?;
+    if is_ignored(holder, association, name.as_str()) {
+        found.push(name)?;
+    }
+    Ok(())
+}
+
+/// Adds the names in a list of properties at a kind of place that mean nothing there.
+pub fn add_list(
+    alloc: Global,
+    holder: Holder,
+    list: &[Association],
+    found: &mut Items<Text>,
+) -> Result<(), NoMemory>
+    ensures { OnOk result (found.new ≡ found.old ++ spec.ignored_in holder (associations_view kept_place list.now)) }
+{
+    for association in list {
+        add_association(alloc, holder, association, found)?;
+    }
+    Ok(())
+}
+
+// Adds those of variables.
+fn add_variables(
+    alloc: Global,
+    variables: &[VariableDeclaration],
+    found: &mut Items<Text>,
+) -> Result<(), NoMemory>
+    ensures { OnOk result (found.new ≡ found.old ++ flat_map spec.variable_ignored (map (variable_view kept_place) variables.now)) }
+{
+    for variable in variables {
+        let list = variable.properties.as_slice();
+        add_list(alloc, Holder::Variable, list, found)?;
+    }
+    Ok(())
+}
+
+// Adds those of the variables in an annex.
+fn add_annex(alloc: Global, annex: &Annex, found: &mut Items<Text>) -> Result<(), NoMemory>
+    ensures { OnOk result (found.new ≡ found.old ++ spec.annex_ignored (annex_view kept_place annex.now)) }
+{
+    match &annex.content {
+        AnnexContent::Behaviour(tree) => match &tree.variables {
+            Some(variables) => add_variables(alloc, variables.as_slice(), found),
+            None => Ok(()),
+        },
+        AnnexContent::Unread(_) => Ok(()),
+    }
+}
+
+/// Adds those of the variables in annexes.
+pub fn add_annexes(
+    alloc: Global,
+    annexes: &[Annex],
+    found: &mut Items<Text>,
+) -> Result<(), NoMemory>
+    ensures { OnOk result (found.new ≡ found.old ++ flat_map spec.annex_ignored (map (annex_view kept_place) annexes.now)) }
+{
+    for annex in annexes {
+        add_annex(alloc, annex, found)?;
+    }
+    Ok(())
+}

@@ -1,0 +1,10 @@
+use Rattle.std.proofs.Common.{◌≡◌, ◌++◌, map, drop}
+use Rattle.aadl_tree.specs.Views.{feature_view}
+use Rattle.aadl_tree.specs.Maps.{kept_place}
+use Rattle.aadl_names.specs.Spaces.{port_entries}
+use Rattle.name_faults.proofs.entries.port_entries.Given as goal
+
+-- what is left is still to be added
+abbrev pub invariant-loop-port : goal.invariant-loop-port
+invariant-loop-port l =
+    port_entries (map (feature_view kept_place) l.ports) ≡ l.entries ++ port_entries (map (feature_view kept_place) (drop l.port-index l.ports))

@@ -1,0 +1,13 @@
+use Rattle.std.proofs.Common.{◌≡◌, drop}
+use Rattle.std.specs.List.{flat_map}
+use Rattle.aadl_tree.specs.ValueViews.{associations_view}
+use Rattle.aadl_tree.specs.Maps.{kept_place}
+use Rattle.aadl_names.specs.Found.{found}
+use Rattle.aadl_names.specs.Properties.{listed, shape_fault}
+use Rattle.name_faults.proofs.properties.check_shapes.Given as goal
+
+-- what is left is still to be looked at
+abbrev pub invariant-loop-association : goal.invariant-loop-association
+invariant-loop-association l =
+    found l.initial.finder (flat_map (shape_fault l.holder) (listed (associations_view kept_place l.list)))
+    ≡ found l.finder (flat_map (shape_fault l.holder) (listed (associations_view kept_place (drop l.association-index l.list))))

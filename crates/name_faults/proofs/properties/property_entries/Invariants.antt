@@ -1,0 +1,10 @@
+use Rattle.std.proofs.Common.{◌≡◌, ◌++◌, drop}
+use Rattle.aadl_tree.specs.ValueViews.{associations_view}
+use Rattle.aadl_tree.specs.Maps.{kept_place}
+use Rattle.aadl_names.specs.Properties.{property_entries}
+use Rattle.name_faults.proofs.properties.property_entries.Given as goal
+
+-- what is left is still to be added
+abbrev pub invariant-loop-association : goal.invariant-loop-association
+invariant-loop-association l =
+    property_entries (associations_view kept_place l.list) ≡ l.entries ++ property_entries (associations_view kept_place (drop l.association-index l.list))

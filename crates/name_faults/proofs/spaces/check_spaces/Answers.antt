@@ -1,0 +1,35 @@
+use Rattle.std.proofs.Common.{◌≡◌, ◌++◌, List, Option, map, refl, sym, ap, ◌∙◌}
+use Rattle.std.specs.List.{flat_map, filter_map}
+use Rattle.aadl_tree.specs.PackageViews.{placed}
+use Rattle.aadl_tree.specs.Views.{declaration_view}
+use Rattle.aadl_tree.specs.Maps.{kept_place}
+use Rattle.aadl_names.specs.declared.fault.FlatFault.{FlatFault}
+use Rattle.aadl_names.specs.Found.{found}
+use Rattle.aadl_names.specs.Twice.{twice}
+use Rattle.aadl_names.specs.Spaces.{type_entry, implementation_entry}
+use Rattle.aadl_names.specs.Beside.{beside_in, beside_names}
+use Rattle.aadl_names.proofs.Finds.{next_found, last_found, found_append}
+use Rattle.name_faults.proofs.spaces.check_spaces.Goals as goal
+
+-- three lists of findings one behind the other
+three_found : (first one two last : (Option FlatFault)) (a b c : List FlatFault) → one ≡ found first a → two ≡ found one b → last ≡ found two c
+    → last ≡ found first (a ++ b ++ c)
+three_found first one two last a b c x y z =
+    z ∙ (ap (λ o. found o c) (y ∙ ap (λ o. found o b) x) ∙ sym (found_append first (a ++ b) c ∙ ap (λ o. found o c) (found_append first a b)))
+
+pub loop-declaration-preserved : goal.loop-declaration-preserved
+loop-declaration-preserved c =
+    next_found (λ xs. flat_map (beside_in (placed c.args.names.now.tree.now)) (map (declaration_view kept_place) xs))
+    (λ x. beside_in (placed c.args.names.now.tree.now) (declaration_view kept_place x)) (λ x xs. refl) _ _ _ _ _ _
+    c.loop-declaration-test.true c.declaration-item.is c.loop-declaration.invariant c.in_ok-check_in.ensures
+
+pub returns : goal.returns
+unfolding beside_names
+returns c =
+    let tree = placed c.args.names.now.tree.now in
+    three_found c.args.finder.now _ _ _ (twice (filter_map type_entry tree.declarations)) (twice (filter_map implementation_entry tree.declarations))
+    (flat_map (beside_in tree) tree.declarations)
+    (c.in_ok-check_twice.ensures ∙ ap (λ es. found c.args.finder.now (twice es)) (c.as_slice.ensures.value ∙ c.in_ok-types.ensures))
+    (c.in_ok-check_twice-2.ensures ∙ ap (λ es. found c.check_twice.new.finder (twice es)) (c.as_slice-2.ensures.value ∙ c.in_ok-implementations.ensures))
+    (last_found (λ xs. flat_map (beside_in tree) (map (declaration_view kept_place) xs)) _ _ _ _ c.loop-declaration-test.false refl c.loop-declaration.invariant
+    ∙ ap (λ ds. found c.check_twice-2.new.finder (flat_map (beside_in tree) (map (declaration_view kept_place) ds))) c.deref-declaration-items.ensures.value)

@@ -1,0 +1,14 @@
+use Rattle.std.proofs.Common.{◌≡◌, map, drop}
+use Rattle.std.specs.List.{flat_map}
+use Rattle.aadl_tree.specs.PackageViews.{placed}
+use Rattle.aadl_tree.specs.Views.{declaration_view}
+use Rattle.aadl_tree.specs.Maps.{kept_place}
+use Rattle.aadl_names.specs.Found.{found}
+use Rattle.aadl_names.specs.Beside.{beside_in}
+use Rattle.name_faults.proofs.spaces.check_spaces.Given as goal
+
+-- what is left is still to be looked at
+abbrev pub invariant-loop-declaration : goal.invariant-loop-declaration
+invariant-loop-declaration l =
+    found l.initial.finder (flat_map (beside_in (placed l.names.tree.now)) (map (declaration_view kept_place) l.declaration-items))
+    ≡ found l.finder (flat_map (beside_in (placed l.names.tree.now)) (map (declaration_view kept_place) (drop l.declaration-index l.declaration-items)))

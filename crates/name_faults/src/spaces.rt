@@ -1,0 +1,143 @@
+//! What is declared twice in a package.
+#![tactic(auto, using(aadl_names::proofs::Finds::found_append))]
+
+ghost use Rattle.std.specs.Prelude.{◌≡◌, OnOk, map, option_map};
+ghost use Rattle.aadl_tree.specs.PackageViews.{placed};
+ghost use Rattle.aadl_tree.specs.Views.{annex_tree_view, annex_view, implementation_view, declaration_view};
+ghost use Rattle.aadl_tree.specs.Maps.{kept_place};
+ghost use Rattle.aadl_names.specs.Found.{found};
+ghost use Rattle.aadl_names.specs.Behaviours.{behaviours};
+ghost use Rattle.aadl_names.specs.Beside as spec;
+ghost use Rattle.aadl_names.specs.Beside.{first_behaviour};
+ghost use Rattle.name_faults.specs.PortNames.{AreAllNamesOf};
+
+use crate::beside::check_beside;
+use crate::categories::is_thread;
+use crate::entries::{
+    implementation_entries, member_entries, state_entries, type_entries, variable_entries,
+};
+use crate::port_names::AllPortNames;
+use crate::ports::{names_at, ports_at};
+use aadl_names::sites::type_number;
+use aadl_names::twice::check_twice;
+use aadl_names::{Finder, Names};
+use aadl_tree::{Annex, AnnexContent, AnnexTree, Declaration, Implementation};
+use std::alloc::AllocError;
+
+// Finds two of one name among the ports and variables of a behaviour, and among its states.
+fn check_in_behaviour(
+    finder: &mut Finder,
+    names: &Names<'_>,
+    all: &AllPortNames,
+    x: &Implementation,
+    behaviour: &AnnexTree,
+) -> Result<(), AllocError>
+    requires { AreAllNamesOf (placed names.now.tree.now) all.now }
+    ensures { OnOk result (finder.new ≡ found finder.old
+        (spec.beside_in_behaviour (placed names.now.tree.now) (implementation_view kept_place x.now) (annex_tree_view kept_place behaviour.now))) }
+{
+    let alloc = finder.alloc();
+    let of_type = type_number(names, alloc, x)?;
+    let variables = variable_entries(alloc, behaviour)?;
+    check_beside(
+        finder,
+        ports_at(names, of_type),
+        names_at(all, of_type),
+        variables.as_slice(),
+    )?;
+    let states = state_entries(alloc, behaviour)?;
+    check_twice(finder, states.as_slice())
+}
+
+/// The first behaviour among annexes.
+pub fn first_behaviour(annexes: &[Annex]) -> Option<&AnnexTree>
+    ensures { option_map (λ b. annex_tree_view kept_place b.now) result ≡ first_behaviour (behaviours (map (annex_view kept_place) annexes.now)) }
+{
+    for annex in annexes {
+        match &annex.content {
+            AnnexContent::Unread(_) => {}
+            AnnexContent::Behaviour(behaviour) => return Some(behaviour),
+        }
+    }
+    None
+}
+
+// The same in the first behaviour of a thread's implementation.
+fn check_in_first(
+    finder: &mut Finder,
+    names: &Names<'_>,
+    all: &AllPortNames,
+    x: &Implementation,
+) -> Result<(), AllocError>
+    requires { AreAllNamesOf (placed names.now.tree.now) all.now }
+    ensures { OnOk result (finder.new ≡ found finder.old
+        (spec.beside_in_first (placed names.now.tree.now) (implementation_view kept_place x.now) (behaviours (implementation_view kept_place x.now).annexes))) }
+{
+    let Some(behaviour) = first_behaviour(x.annexes.as_slice()) else {
+        return Ok(());
+    };
+    if is_thread(x.category) {
+        check_in_behaviour(finder, names, all, x, behaviour)
+    } else {
+        Ok(())
+    }
+}
+
+// Finds two of one name in an implementation.
+fn check_in_implementation(
+    finder: &mut Finder,
+    names: &Names<'_>,
+    all: &AllPortNames,
+    x: &Implementation,
+) -> Result<(), AllocError>
+    requires { AreAllNamesOf (placed names.now.tree.now) all.now }
+    ensures { OnOk result (finder.new ≡ found finder.old
+        (spec.beside_in_implementation (placed names.now.tree.now) (implementation_view kept_place x.now))) }
+{
+    let alloc = finder.alloc();
+    let of_type = type_number(names, alloc, x)?;
+    let members = member_entries(alloc, x)?;
+    check_beside(
+        finder,
+        ports_at(names, of_type),
+        names_at(all, of_type),
+        members.as_slice(),
+    )?;
+    check_in_first(finder, names, all, x)
+}
+
+fn check_in(
+    finder: &mut Finder,
+    names: &Names<'_>,
+    all: &AllPortNames,
+    declaration: &Declaration,
+) -> Result<(), AllocError>
+    requires { AreAllNamesOf (placed names.now.tree.now) all.now }
+    ensures { OnOk result (finder.new ≡ found finder.old (spec.beside_in (placed names.now.tree.now) (declaration_view kept_place declaration.now))) }
+{
+    match declaration {
+        Declaration::Type(_) => Ok(()),
+        Declaration::Implementation(x) => check_in_implementation(finder, names, all, x),
+    }
+}
+
+/// Finds two types or two implementations of one name, and two of one name in an implementation.
+#[tactic(auto, unfolding(aadl_names::specs::Beside::beside_names))]
+pub fn check_spaces(
+    finder: &mut Finder,
+    names: &Names<'_>,
+    all: &AllPortNames,
+) -> Result<(), AllocError>
+    requires { AreAllNamesOf (placed names.now.tree.now) all.now }
+    ensures { OnOk result (finder.new ≡ found finder.old (spec.beside_names (placed names.now.tree.now))) }
+{
+    let alloc = finder.alloc();
+    let types = type_entries(alloc, names.tree)?;
+    check_twice(finder, types.as_slice())?;
+    let implementations = implementation_entries(alloc, names.tree)?;
+    check_twice(finder, implementations.as_slice())?;
+    for declaration in &names.tree.declarations {
+        check_in(finder, names, all, declaration)?;
+    }
+    Ok(())
+}

@@ -1,0 +1,90 @@
+//! How transitions use names.
+#![tactic(auto, using(aadl_names::proofs::Finds::found_append))]
+
+ghost use Rattle.std.specs.Prelude.{◌≡◌, OnOk, map, flat_map, option_map};
+ghost use Rattle.aadl_tree.specs.NameViews.{identifier_view};
+ghost use Rattle.aadl_tree.specs.ActionViews.{block_view};
+ghost use Rattle.aadl_tree.specs.Views.{guard_view, transition_view};
+ghost use Rattle.aadl_tree.specs.Maps.{kept_place};
+ghost use Rattle.aadl_names.specs.Found.{found};
+ghost use Rattle.aadl_names.specs.PackageFaults as spec;
+ghost use Rattle.name_faults.specs.Scopes.{known_by, is_state_by};
+
+use crate::scope::Scope;
+use crate::uses::{check_block, check_expression};
+use aadl_names::{Finder, Table};
+use aadl_tree::{Block, Guard, Identifier, Transition};
+use std::alloc::AllocError;
+
+// Finds that a name is no state's.
+fn check_state(finder: &mut Finder, states: &Table<()>, name: &Identifier) -> Result<(), AllocError>
+    ensures { OnOk result (finder.new ≡ found finder.old (spec.state_uses (is_state_by states.now) (identifier_view kept_place name.now))) }
+{
+    let word = name.spelling.as_str();
+    match states.value(finder.alloc(), word)? {
+        Some(_) => Ok(()),
+        None => finder.unknown(word, name.at),
+    }
+}
+
+// Finds how a guard uses names wrongly.
+fn check_guard(
+    finder: &mut Finder,
+    scope: &Scope<'_>,
+    guard: &Option<Guard>,
+) -> Result<(), AllocError>
+    ensures { OnOk result (finder.new ≡ found finder.old (spec.guard_uses (known_by scope.now) (option_map (guard_view kept_place) guard.now))) }
+{
+    match guard {
+        Some(Guard::When(expression)) => check_expression(finder, scope, expression),
+        Some(Guard::Dispatch) => Ok(()),
+        Some(Guard::Otherwise) => Ok(()),
+        None => Ok(()),
+    }
+}
+
+// Finds how what a transition does uses names wrongly.
+fn check_effect(
+    finder: &mut Finder,
+    scope: &Scope<'_>,
+    effect: &Option<Block>,
+) -> Result<(), AllocError>
+    ensures { OnOk result (finder.new ≡ found finder.old (spec.effect_uses (known_by scope.now) (option_map (block_view kept_place) effect.now))) }
+{
+    match effect {
+        Some(block) => check_block(finder, scope, block),
+        None => Ok(()),
+    }
+}
+
+// Finds how a transition uses names wrongly.
+fn check_transition(
+    finder: &mut Finder,
+    states: &Table<()>,
+    scope: &Scope<'_>,
+    x: &Transition,
+) -> Result<(), AllocError>
+    ensures { OnOk result (finder.new ≡ found finder.old
+        (spec.transition_uses (is_state_by states.now) (known_by scope.now) (transition_view kept_place x.now))) }
+{
+    check_state(finder, states, &x.source)?;
+    check_state(finder, states, &x.target)?;
+    check_guard(finder, scope, &x.guard)?;
+    check_effect(finder, scope, &x.effect)
+}
+
+/// Finds how transitions use names wrongly.
+pub fn check_transitions(
+    finder: &mut Finder,
+    states: &Table<()>,
+    scope: &Scope<'_>,
+    transitions: &[Transition],
+) -> Result<(), AllocError>
+    ensures { OnOk result (finder.new ≡ found finder.old
+        (flat_map (spec.transition_uses (is_state_by states.now) (known_by scope.now)) (map (transition_view kept_place) transitions.now))) }
+{
+    for transition in transitions {
+        check_transition(finder, states, scope, transition)?;
+    }
+    Ok(())
+}

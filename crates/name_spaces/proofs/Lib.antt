@@ -1,3 +1,0 @@
-pub mod PortEntries
-pub mod PortLists
-pub mod FirstBehaviours

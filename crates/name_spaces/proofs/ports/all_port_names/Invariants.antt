@@ -1,9 +1,0 @@
-use Rattle.std.proofs.Common.{map, take}
-use Rattle.aadl_tree.specs.Views.{declaration_view}
-use Rattle.aadl_tree.specs.Maps.{kept_place}
-use Rattle.name_spaces.proofs.PortLists.{AreNamed}
-use Rattle.name_spaces.proofs.ports.all_port_names.Given as goal
-
--- the ports of the declarations so far have these names
-abbrev pub invariant-loop-declaration : goal.invariant-loop-declaration
-invariant-loop-declaration l = AreNamed (map (declaration_view kept_place) (take l.declaration-index l.declaration-items)) l.of_declarations

@@ -1,7 +1,0 @@
-use Rattle.aadl_tree.specs.PackageViews.{placed}
-use Rattle.name_spaces.proofs.PortLists.{names_there}
-use Rattle.name_spaces.proofs.spaces.check_in_behaviour.Goals as goal
-
-pub check_beside-requires : goal.check_beside-requires
-check_beside-requires c = names_there (placed c.args.names.now.tree.now) c.args.all.now c.requires c.in_ok-of_type.of_type _ _ c.ports_at.ensures
-    c.names_at.ensures

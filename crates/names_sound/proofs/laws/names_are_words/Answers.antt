@@ -1,5 +1,0 @@
-use Rattle.names_sound.proofs.Wording.{have_words}
-use Rattle.names_sound.proofs.laws.names_are_words.Goals as goal
-
-pub returns : goal.returns
-returns c = λ tree. have_words tree

@@ -1,5 +1,0 @@
-use Rattle.names_sound.proofs.Apart.{differ_given}
-use Rattle.names_sound.proofs.laws.names_differ.Goals as goal
-
-pub returns : goal.returns
-returns c = λ tree root n x given none is. differ_given tree root n x given none is

@@ -1,0 +1,62 @@
+-- A call of one node among those of a bus.
+use Rattle.std.proofs.Common.{◌≡◌, ◌∙◌, ℕ, ◌<◌, List, [], ◌∷◌, ◌++◌, length, refl, sym, ap, subst, arith}
+use Rattle.std.specs.Prelude.{slice_set, slice_index_or, vec_capacity}
+use Rattle.std.specs.Arc.{arc_value}
+use Rattle.std.proofs.lemmas.List.{set-get_or, length-set}
+use Rattle.std.proofs.lemmas.Grind.{get_or-set_at}
+use Rattle.pals_runs.specs.declared.journal.JournalEntry.{JournalEntry}
+use Rattle.bus_machine.specs.Nodes.{NodeState}
+use Rattle.pals_node.specs.Values.{NodeValue, with_state}
+use Rattle.pals_bus.specs.declared.fields.Fields.{Fields}
+use Rattle.pals_bus.specs.Values.{node_value}
+use Rattle.pals_bus.specs.Keeping.{Keeps, node_in, value_of}
+use Rattle.pals_bus.specs.Absent.{no_node_value}
+use Rattle.pals_bus.proofs.NodeChanges.{nodes-set, node_here, node_shown, same_node}
+
+-- the node after it
+pub turn_is : (f : Fields) (node : ℕ) (m : NodeValue) → node < length f.nodes → node_in (record f { nodes = slice_set f.nodes node m }) node ≡ m
+turn_is f node m within = get_or-set_at f.nodes node node m no_node_value refl within
+
+-- the others stay
+pub turn_others : (f : Fields) (node : ℕ) (m : NodeValue) → node < length f.nodes
+    → ◌≡◌ {A = Fields} (record f { nodes = slice_set f.nodes node m }) (record f { nodes = slice_set f.nodes node (node_in (record f { nodes = slice_set f.nodes node m }) node) })
+turn_others f node m within = ap (λ (k : NodeValue). let g : Fields = record f { nodes = slice_set f.nodes node k } in g) (sym (turn_is f node m within))
+
+-- a refused one changes nothing
+pub turn_refused : (f : Fields) (node : ℕ) (n m : NodeValue) → n ≡ slice_index_or f.nodes node n → m ≡ n → ◌≡◌ {A = Fields} (record f { nodes = slice_set f.nodes node m }) f
+turn_refused f node n m is same =
+    ap (λ (ns : List NodeValue). let g : Fields = record f { nodes = ns } in g) (ap (slice_set f.nodes node) (same ∙ is) ∙ set-get_or f.nodes node n)
+
+-- what contracts see of the node after it
+pub turn_shown : (f g : Fields) (node : ℕ) (m : NodeValue) (s : NodeState) → Keeps f → node < length f.nodes → m ≡ with_state (node_value (value_of f) node) s
+    → g ≡ record f { nodes = slice_set f.nodes node m; journal = g.journal } → node_value (value_of g) node ≡ m
+turn_shown f g node m s keeps within is same =
+    let h : Fields = record f { nodes = slice_set f.nodes node m; journal = g.journal } in
+    let size = length-set f.nodes node m in
+    let within_h : node < length h.nodes = omega (arith, size, within) in
+    ap (λ (k : Fields). node_value (value_of k) node) same
+    ∙ sym (node_shown h node (nodes-set (arc_value f.design) f.rounds f.nodes node m keeps.nodes within (same_node f node m s keeps within is)) within_h)
+    ∙ get_or-set_at f.nodes node node m no_node_value refl within
+
+-- a call of a node, and its entry
+pub record Turned (f t g : Fields) (node : ℕ) (x : JournalEntry) : Type 0 where
+  pub others : t ≡ record f { nodes = slice_set f.nodes node (node_in t node) }
+  pub same : g ≡ record t { journal = g.journal }
+  pub told : g.journal.items ≡ t.journal.items ++ x ∷ []
+  pub capacity : vec_capacity g.journal ≡ vec_capacity t.journal
+
+pub turned_same : (f t g : Fields) (node : ℕ) (x : JournalEntry) → Turned f t g node x → g ≡ record f { nodes = slice_set f.nodes node (node_in t node); journal = g.journal }
+turned_same f t g node x turned = turned.same ∙ ap (λ (k : Fields). let u : Fields = record k { journal = g.journal } in u) turned.others
+
+pub turned_told : (f t g : Fields) (node : ℕ) (x : JournalEntry) → Turned f t g node x → g.journal.items ≡ f.journal.items ++ x ∷ []
+turned_told f t g node x turned = turned.told ∙ ap (λ (k : Fields). k.journal.items ++ x ∷ []) turned.others
+
+pub turned_capacity : (f t g : Fields) (node : ℕ) (x : JournalEntry) → Turned f t g node x → vec_capacity g.journal ≡ vec_capacity f.journal
+turned_capacity f t g node x turned = turned.capacity ∙ ap (λ (k : Fields). vec_capacity k.journal) turned.others
+
+-- what a call says of the node, as contracts see it
+pub turn_told : (f : Fields) (node : ℕ) (n m : NodeValue) (P : NodeValue → NodeValue → Type 0) → Keeps f → node < length f.nodes → n ≡ slice_index_or f.nodes node n → P n m → P (node_value (value_of f) node) (node_in (record f { nodes = slice_set f.nodes node m }) node)
+turn_told f node n m P keeps within is holds = subst (P (node_value (value_of f) node)) (sym (turn_is f node m within)) (subst (λ (k : NodeValue). P k m) (node_here f node n keeps within is) holds)
+
+pub turn_cause : (f : Fields) (node : ℕ) (n : NodeValue) (P : NodeValue → Type 0) → Keeps f → node < length f.nodes → n ≡ slice_index_or f.nodes node n → P n → P (node_value (value_of f) node)
+turn_cause f node n P keeps within is holds = subst P (node_here f node n keeps within is) holds

@@ -1,0 +1,158 @@
+-- A bus while the messages of a round are sent.
+use Rattle.std.proofs.Common.{◌≡◌, ◌∙◌, ℕ, suc, ◌+◌, ◌<◌, ◌≤◌, Bool, true, false, cond, List, [], ◌∷◌, length, drop, Option, refl, sym, ap, subst, arith, drop-cons, length-drop}
+use Rattle.std.specs.Prelude.{filter, slice_set, slice_index_or, not, nat_eq}
+use Rattle.std.specs.Arc.{arc_value}
+use Rattle.std.proofs.lemmas.Bool.{eqb-true, false≢true}
+use Rattle.std.proofs.lemmas.Option.{slice_get-get_or}
+use Rattle.pals_base.specs.declared.values.Port.{Port}
+use Rattle.pals_base.specs.declared.values.LinkNo.{LinkNo}
+use Rattle.pals_model.specs.declared.design.Link.{Link}
+use Rattle.pals_model.specs.declared.flight.FlightCopy.{FlightCopy}
+use Rattle.pals_model.specs.Delays.{delay_of}
+use Rattle.pals_model.specs.Rules.{IsDesign}
+use Rattle.link_buffers.specs.Flights.{FlightState}
+use Rattle.link_buffers.specs.Queues.{QueueState}
+use Rattle.bus_machine.specs.LinkEvents.{sent_copy}
+use Rattle.bus_machine.specs.States.{no_link}
+use Rattle.pals_bus.specs.declared.fields.Fields.{Fields}
+use Rattle.pals_bus.specs.Sending.{is_from, place_of, HasRoomFor, with_copy, AreSent}
+use Rattle.pals_bus.specs.Queues.{AreQueuesAmid, with_due}
+use Rattle.pals_bus.specs.Absent.{no_flight, no_queue}
+use Rattle.pals_bus.proofs.QueueRooms.{eqb-refl, amid_other, amid_room}
+use Rattle.pals_bus.proofs.QueueSends.{amid_one}
+use Rattle.pals_bus.proofs.Sendings.{place_next, place_within, sent_none, sent_other, sent_one}
+use Rattle.pals_bus.proofs.Taken.{target_within}
+
+-- the first links have their messages, and the others are left
+pub record Sending (first now : Fields) (node round : ℕ) (reading : Option ℕ) (messages left : List (List Port)) (number : ℕ) : Type 0 where
+  pub sent : AreSent node (arc_value first.design).links first.delays round reading messages number first.flights now.flights
+  pub left_are : left ≡ drop (place_of node (arc_value first.design).links number) messages
+  pub queues : AreQueuesAmid node number (arc_value first.design).links first.nodes now.flights now.queues
+  pub others : now ≡ record first { flights = now.flights; queues = now.queues }
+
+-- what a send begins with
+pub record CanSend (f : Fields) (node : ℕ) (messages : List (List Port)) : Type 0 where
+  pub design : IsDesign (arc_value f.design)
+  pub flights : length f.flights ≡ length (arc_value f.design).links
+  pub nodes : length f.nodes ≡ length (arc_value f.design).components
+  pub count : length messages ≡ length (filter (is_from node) (arc_value f.design).links)
+
+pub sending_none : (f : Fields) (node round : ℕ) (reading : Option ℕ) (messages : List (List Port)) → AreQueuesAmid node 0 (arc_value f.design).links f.nodes f.flights f.queues → Sending f f node round reading messages messages 0
+sending_none f node round reading messages queues = record {
+  sent = sent_none node (arc_value f.design).links f.delays round reading messages f.flights;
+  left_are = refl;
+  queues = queues;
+  others = refl;
+}
+
+-- the next link is not the node's
+pub sending_other : (first now : Fields) (node round : ℕ) (reading : Option ℕ) (messages left : List (List Port)) (number : ℕ) → Sending first now node round reading messages left number → number < length (arc_value first.design).links
+    → is_from node (slice_index_or (arc_value first.design).links number no_link) ≡ false → Sending first now node round reading messages left (number + 1)
+sending_other first now node round reading messages left number so_far within other =
+    let links = (arc_value first.design).links in
+    let next = place_next node number links within in
+    let none : cond {A = ℕ} (is_from node (slice_index_or links number no_link)) 1 0 ≡ 0 = ap (λ b. cond {A = ℕ} b 1 0) other in
+    let place : place_of node links number ≡ place_of node links (number + 1) = omega (arith, next, none) in
+    record {
+      sent = sent_other node number links first.delays round reading messages first.flights now.flights so_far.sent other;
+      left_are = so_far.left_are ∙ ap (λ (k : ℕ). drop k messages) place;
+      queues = amid_other node number links first.nodes now.flights now.queues so_far.queues within (λ same. false≢true (sym other ∙ eqb-refl (slice_index_or links number no_link).source.0 node same));
+      others = so_far.others;
+    }
+
+same_head : {X : Type 0} (x y : X) (xs ys : List X) → ◌≡◌ {A = List X} (x ∷ xs) (y ∷ ys) → (x ≡ y) × (xs ≡ ys)
+same_head x y xs ys is = (cc, cc)
+
+-- the next link is the node's, and its message goes into flight
+pub sending_one : (first now : Fields) (node round : ℕ) (reading : Option ℕ) (messages left rest : List (List Port)) (link : LinkNo) (tuple : List Port) (flight : FlightState) (queue : QueueState) → CanSend first node messages
+    → Sending first now node round reading messages left link.0 → link.0 < length (arc_value first.design).links → is_from node (slice_index_or (arc_value first.design).links link.0 no_link) ≡ true → left ≡ tuple ∷ rest
+    → flight ≡ with_copy (slice_index_or now.flights link.0 no_flight) (sent_copy round reading (delay_of first.delays link.0 round) tuple)
+    → queue ≡ with_due (slice_index_or now.queues (slice_index_or (arc_value first.design).links link.0 no_link).target.0 no_queue) (sent_copy round reading (delay_of first.delays link.0 round) tuple).due link round
+    → Sending first (record now { flights = slice_set now.flights link.0 flight; queues = slice_set now.queues (slice_index_or (arc_value first.design).links link.0 no_link).target.0 queue }) node round reading messages rest (link.0 + 1)
+sending_one first now node round reading messages left rest link tuple flight queue can so_far within from next flight_is queue_is =
+    let links = (arc_value first.design).links in
+    let here = slice_index_or links link.0 no_link in
+    let at = place_of node links link.0 in
+    let count = can.count in
+    let placed = place_within node link.0 links within from in
+    let inside : at < length messages = omega (arith, count, placed) in
+    let tail : drop at messages ≡ slice_index_or messages at [] ∷ drop (suc at) messages = drop-cons messages at [] inside in
+    let both = same_head tuple (slice_index_or messages at []) rest (drop (suc at) messages) (sym next ∙ so_far.left_are ∙ tail) in
+    let step = place_next node link.0 links within in
+    let one : cond {A = ℕ} (is_from node here) 1 0 ≡ 1 = ap (λ b. cond {A = ℕ} b 1 0) from in
+    let place : suc at ≡ place_of node links (link.0 + 1) = omega (arith, step, one) in
+    let copy = sent_copy round reading (delay_of first.delays link.0 round) tuple in
+    let same = so_far.sent.count in
+    let many = can.flights in
+    let flies : link.0 < length now.flights = omega (arith, same, many, within) in
+    let queues_count = so_far.queues.count in
+    let nodes = can.nodes in
+    let there = target_within (arc_value first.design) link.0 can.design within in
+    let target : here.target.0 < length now.queues = omega (arith, queues_count, nodes, there) in
+    record {
+      sent = sent_one node link.0 links first.delays round reading messages first.flights now.flights flight so_far.sent flies from (flight_is ∙ ap (λ (t : List Port). with_copy (slice_index_or now.flights link.0 no_flight) (sent_copy round reading (delay_of first.delays link.0 round) t)) both.0);
+      left_are = both.1 ∙ ap (λ (k : ℕ). drop k messages) place;
+      queues = amid_one node links first.nodes now.flights now.queues link copy flight queue so_far.queues within flies (eqb-true here.source.0 node from) target (ap (λ (f : FlightState). f.copies) flight_is) queue_is;
+      others = ap (λ (k : Fields). let u : Fields = record k { flights = slice_set now.flights link.0 flight; queues = slice_set now.queues here.target.0 queue } in u) so_far.others;
+    }
+
+-- ---- the loop
+pub sending_more : (first now next : Fields) (node round : ℕ) (reading : Option ℕ) (messages left rest : List (List Port)) (link : LinkNo) (tuple : List Port) (copy : FlightCopy) → CanSend first node messages → Sending first now node round reading messages left link.0
+    → link.0 < length (arc_value first.design).links → is_from node (slice_index_or (arc_value first.design).links link.0 no_link) ≡ true → left ≡ tuple ∷ rest → copy ≡ sent_copy round reading (delay_of first.delays link.0 round) tuple
+    → next.flights ≡ slice_set now.flights link.0 (with_copy (slice_index_or now.flights link.0 no_flight) copy)
+    → next.queues ≡ slice_set now.queues (slice_index_or (arc_value first.design).links link.0 no_link).target.0 (with_due (slice_index_or now.queues (slice_index_or (arc_value first.design).links link.0 no_link).target.0 no_queue) copy.due link copy.round)
+    → next ≡ record now { flights = next.flights; queues = next.queues } → Sending first next node round reading messages rest (link.0 + 1)
+sending_more first now next node round reading messages left rest link tuple copy can so_far within from head is flights queues others =
+    let t = (slice_index_or (arc_value first.design).links link.0 no_link).target.0 in
+    let flight = with_copy (slice_index_or now.flights link.0 no_flight) copy in
+    let queue = with_due (slice_index_or now.queues t no_queue) copy.due link copy.round in
+    let h : Fields = record now { flights = slice_set now.flights link.0 flight; queues = slice_set now.queues t queue } in
+    let same : next ≡ h =
+    others
+    ∙ ap (λ (fs : List FlightState). let u : Fields = record now { flights = fs; queues = next.queues } in u) flights
+    ∙ ap (λ (qs : List QueueState). let u : Fields = record now { flights = slice_set now.flights link.0 flight; queues = qs } in u) queues in
+    let all : Sending first h node round reading messages rest (link.0 + 1) =
+    sending_one first now node round reading messages left rest link tuple flight queue can so_far within from head (ap (with_copy (slice_index_or now.flights link.0 no_flight)) is)
+    (ap (λ (k : FlightCopy). with_due (slice_index_or now.queues t no_queue) k.due link k.round) is) in
+    subst (λ (k : Fields). Sending first k node round reading messages rest (link.0 + 1)) (sym same) all
+
+-- the link has room for its message
+pub sending_room : (first now : Fields) (node round : ℕ) (reading : Option ℕ) (messages left : List (List Port)) (number : ℕ) → Sending first now node round reading messages left number
+    → HasRoomFor node (length (arc_value first.design).links) (arc_value first.design).links first.flights → number < length (arc_value first.design).links → is_from node (slice_index_or (arc_value first.design).links number no_link) ≡ true
+    → 1 ≤ (slice_index_or now.flights number no_flight).spare
+sending_room first now node round reading messages left number so_far room within from =
+    let link = slice_index_or (arc_value first.design).links number no_link in
+    let here = room number link within (slice_get-get_or (arc_value first.design).links number no_link within) (eqb-true link.source.0 node from) in
+    let same : (slice_index_or now.flights number no_flight).spare ≡ (slice_index_or first.flights number no_flight).spare = ap (λ (f : FlightState). f.spare) (so_far.sent.others number (omega arith)) in
+    omega (arith, here, same)
+
+pub sending_queue_room : (first now : Fields) (node round : ℕ) (reading : Option ℕ) (messages left : List (List Port)) (number : ℕ) → Sending first now node round reading messages left number → number < length (arc_value first.design).links
+    → is_from node (slice_index_or (arc_value first.design).links number no_link) ≡ true → 1 ≤ (slice_index_or now.queues (slice_index_or (arc_value first.design).links number no_link).target.0 no_queue).spare
+sending_queue_room first now node round reading messages left number so_far within from =
+    amid_room node number (arc_value first.design).links first.nodes now.flights now.queues so_far.queues within (eqb-true (slice_index_or (arc_value first.design).links number no_link).source.0 node from)
+
+-- a message is left for the link
+pub message_left : (first now : Fields) (node round : ℕ) (reading : Option ℕ) (messages left : List (List Port)) (number : ℕ) → CanSend first node messages → Sending first now node round reading messages left number → number < length (arc_value first.design).links
+    → is_from node (slice_index_or (arc_value first.design).links number no_link) ≡ true → 1 ≤ length left
+message_left first now node round reading messages left number can so_far within from =
+    let links = (arc_value first.design).links in
+    let count = can.count in
+    let placed = place_within node number links within from in
+    let size = ap length so_far.left_are in
+    let all = length-drop (place_of node links number) messages in
+    omega (arith, count, placed, size, all)
+
+-- ---- whether a link is from the node, as the code asks
+other_source : (b r : Bool) → r ≡ not b → r ≡ true → b ≡ false
+other_source true r is told = absurd (false≢true (sym is ∙ told))
+other_source false r is told = refl
+
+own_source : (b r : Bool) → r ≡ not b → r ≡ false → b ≡ true
+own_source true r is told = refl
+own_source false r is told = absurd (false≢true (sym told ∙ is))
+
+pub is_other : (links ls : List Link) (number node : ℕ) (r : Bool) → ls ≡ links → r ≡ not (nat_eq (slice_index_or ls number no_link).source.0 node) → r ≡ true → is_from node (slice_index_or links number no_link) ≡ false
+is_other links ls number node r same is told = ap (λ (k : List Link). nat_eq (slice_index_or k number no_link).source.0 node) (sym same) ∙ other_source (nat_eq (slice_index_or ls number no_link).source.0 node) r is told
+
+pub is_own : (links ls : List Link) (number node : ℕ) (r : Bool) → ls ≡ links → r ≡ not (nat_eq (slice_index_or ls number no_link).source.0 node) → r ≡ false → is_from node (slice_index_or links number no_link) ≡ true
+is_own links ls number node r same is told = ap (λ (k : List Link). nat_eq (slice_index_or k number no_link).source.0 node) (sym same) ∙ own_source (nat_eq (slice_index_or ls number no_link).source.0 node) r is told

@@ -1,0 +1,6 @@
+use Rattle.pals_bus.proofs.QueueRooms.{IsQueuesReserved}
+use Rattle.pals_bus.proofs.flights.reserve_queues.Given as goal
+
+-- the queues that the first links go to have room
+abbrev pub invariant-loop-link : goal.invariant-loop-link
+invariant-loop-link l = IsQueuesReserved l.node.0 l.link-index l.links l.fn.queues l.queues

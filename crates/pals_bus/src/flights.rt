@@ -1,0 +1,168 @@
+//! Messages that a send puts into flight and that leave it, the queues of those that become due, and
+//! room for them.
+ghost use Rattle.std.specs.Prelude.{◌≡◌, ◌+◌, ◌<◌, ◌≤◌, length, filter, All, OnOk, IfSome, option_map, slice_index_or, slice_set};
+ghost use Rattle.std.specs.Arc.{arc_value};
+ghost use Rattle.pals_base.specs.declared.limits.TheConstants.{HOUR, READING};
+ghost use Rattle.pals_model.specs.Delays.{AreDelays};
+ghost use Rattle.pals_model.specs.Flights.{oldest, without_oldest};
+ghost use Rattle.pals_model.specs.Rules.{IsDesign};
+ghost use Rattle.pals_bus.specs.Keeping.{Keeps, copies_in};
+ghost use Rattle.bus_machine.specs.States.{link_at};
+ghost use Rattle.pals_bus.specs.Absent.{no_flight, no_queue};
+ghost use Rattle.pals_bus.specs.Queues.{AreQueues, AreQueuesAmid, HasQueueRoomFor, NoLessQueueRoom, entries_in, with_due, without_due};
+ghost use Rattle.pals_bus.specs.Sending.{is_from, HasRoomFor, NoLessRoom, with_copy, AreSent};
+
+use crate::fields::Fields;
+use link_buffers::{DueEntry, DueQueue, Flight};
+use pals_base::limits::PORTS;
+use pals_base::{Items, LinkNo, Nanos, NoMemory, NodeNo, Tuple};
+use pals_model::{FlightCopy, Link};
+
+/// Makes room on each link from a node for one more message.
+pub fn reserve_links(
+    flights: &mut Items<Flight>,
+    links: &[Link],
+    node: NodeNo,
+) -> Result<(), NoMemory>
+    requires { length flights.old ≡ length links.now }
+    ensures copies { copies_in flights.new ≡ copies_in flights.old }
+    ensures count { length flights.new ≡ length flights.old }
+    ensures room { OnOk result (HasRoomFor node.0 (length links.now) links.now flights.new) }
+    ensures others { NoLessRoom flights.old flights.new }
+{
+    for number in 0..links.len() {
+        if links[number].source == node {
+            flights[number].reserve(1)?;
+        }
+    }
+    Ok(())
+}
+
+/// Makes room in the queue of each node that reads from this one, for a message on each of its in
+/// ports.
+pub fn reserve_queues(
+    queues: &mut Items<DueQueue>,
+    links: &[Link],
+    node: NodeNo,
+) -> Result<(), NoMemory>
+    requires { All (λ link. link.target.0 < length queues.old) links.now }
+    ensures entries { entries_in queues.new ≡ entries_in queues.old }
+    ensures room { OnOk result (HasQueueRoomFor node.0 links.now queues.new) }
+    ensures others { NoLessQueueRoom queues.old queues.new }
+{
+    for link in links {
+        if link.source == node {
+            queues[link.target.0 as usize].reserve(PORTS as u32)?;
+        }
+    }
+    Ok(())
+}
+
+impl Fields {
+    /// Puts the messages of a node's round into flight, one on each link from it, in order. They
+    /// become due after the link's delay, where the round is sent at a reading. It takes no memory.
+    pub fn send_messages(
+        &mut self,
+        node: NodeNo,
+        round: u32,
+        reading: Option<Nanos>,
+        messages: Items<Tuple>,
+    )
+        requires design { IsDesign (arc_value self.old.design) }
+        requires count { length self.old.flights ≡ length (arc_value self.old.design).links }
+        requires nodes { length self.old.nodes ≡ length (arc_value self.old.design).components }
+        requires delays { AreDelays (length (arc_value self.old.design).links) self.old.delays }
+        requires reading { IfSome reading (λ at. at ≤ READING) }
+        requires room { HasRoomFor node.0 (length (arc_value self.old.design).links) (arc_value self.old.design).links self.old.flights }
+        requires queues { AreQueuesAmid node.0 0 (arc_value self.old.design).links self.old.nodes self.old.flights self.old.queues }
+        requires messages { length messages ≡ length (filter (is_from node.0) (arc_value self.old.design).links) }
+        ensures sent { AreSent node.0 (arc_value self.old.design).links self.old.delays round reading messages (length (arc_value self.old.design).links) self.old.flights self.new.flights }
+        ensures queues { AreQueues (arc_value self.old.design).links self.old.nodes self.new.flights self.new.queues }
+        ensures others { self.new ≡ record self.old { flights = self.new.flights; queues = self.new.queues } }
+    {
+        let mut messages = messages.into_vec().into_iter();
+        for number in 0..self.design.links().len() {
+            if self.design.links()[number].source != node {
+                continue;
+            }
+            match messages.next() {
+                None => unreachable!(),
+                Some(tuple) => {
+                    let link = LinkNo(number as u32);
+                    let due = due_at(reading, self.delays.delay(link, round));
+                    self.add_message(link, FlightCopy { round, due, tuple });
+                }
+            }
+        }
+    }
+
+    /// Takes the oldest copy of a link's message of a round out of its flight, and out of the queue of
+    /// its target; nothing where there is none. It takes no memory.
+    pub fn take_message(&mut self, link: LinkNo, round: u32) -> Option<Tuple>
+        requires keeps { Keeps self.old }
+        requires link { link.0 < length (arc_value self.old.design).links }
+        ensures taken { result ≡ option_map (λ copy. copy.tuple) (oldest round (slice_index_or self.old.flights link.0 no_flight).copies) }
+        ensures copies { copies_in self.new.flights ≡ slice_set (copies_in self.old.flights) link.0 (without_oldest round (slice_index_or self.old.flights link.0 no_flight).copies) }
+        ensures queues { AreQueues (arc_value self.old.design).links self.old.nodes self.new.flights self.new.queues }
+        ensures room { NoLessRoom self.old.flights self.new.flights }
+        ensures others { self.new ≡ record self.old { flights = self.new.flights; queues = self.new.queues } }
+    {
+        let at = link.0 as usize;
+        let due = self.flights[at].flight_oldest(round)?.due;
+        let target = self.design.links()[at].target;
+        remove_due(&mut self.queues[target.0 as usize], due, link, round);
+        self.flights[at].flight_take(round)
+    }
+}
+
+impl Fields {
+    /// Puts one more copy of a link's message into flight, and into the queue of its target. It takes
+    /// no memory.
+    pub fn add_message(&mut self, link: LinkNo, copy: FlightCopy)
+        requires link { link.0 < length self.old.flights }
+        requires number { link.0 < length (arc_value self.old.design).links }
+        requires target { (link_at (arc_value self.old.design) link.0).target.0 < length self.old.queues }
+        requires room { 1 ≤ (slice_index_or self.old.flights link.0 no_flight).spare }
+        requires queue { 1 ≤ (slice_index_or self.old.queues (link_at (arc_value self.old.design) link.0).target.0 no_queue).spare }
+        ensures flights { self.new.flights ≡ slice_set self.old.flights link.0 (with_copy (slice_index_or self.old.flights link.0 no_flight) copy) }
+        ensures queues { self.new.queues ≡ slice_set self.old.queues (link_at (arc_value self.old.design) link.0).target.0 (with_due (slice_index_or self.old.queues (link_at (arc_value self.old.design) link.0).target.0 no_queue) copy.due link copy.round) }
+        ensures others { self.new ≡ record self.old { flights = self.new.flights; queues = self.new.queues } }
+    {
+        let target = self.design.links()[link.0 as usize].target;
+        let FlightCopy { round, due, tuple } = copy;
+        self.flights[link.0 as usize].flight_add(round, due, tuple);
+        add_due(&mut self.queues[target.0 as usize], due, link, round);
+    }
+}
+
+/// Adds a message to the queue of its target, where it has a due reading. It takes no memory.
+pub fn add_due(queue: &mut DueQueue, due: Option<Nanos>, link: LinkNo, round: u32)
+    requires { 1 ≤ queue.old.spare }
+    ensures { queue.new ≡ with_due queue.old due link round }
+{
+    if let Some(due) = due {
+        queue.add(DueEntry { due, link, round });
+    }
+}
+
+// Takes a message out of the queue of its target, where it has a due reading.
+fn remove_due(queue: &mut DueQueue, due: Option<Nanos>, link: LinkNo, round: u32)
+    ensures entries { queue.new.entries ≡ without_due queue.old.entries due link round }
+    ensures spare { queue.old.spare ≤ queue.new.spare }
+{
+    if let Some(due) = due {
+        queue.remove(DueEntry { due, link, round });
+    }
+}
+
+// When a message is due that is sent at a reading, if it is.
+fn due_at(reading: Option<Nanos>, delay: Nanos) -> Option<Nanos>
+    requires reading { IfSome reading (λ at. at ≤ READING) }
+    requires delay { delay ≤ HOUR }
+    ensures { result ≡ option_map (λ sent. sent + delay) reading }
+{
+    match reading {
+        None => None,
+        Some(sent) => Some(sent + delay),
+    }
+}

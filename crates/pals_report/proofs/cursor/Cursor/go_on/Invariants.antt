@@ -1,0 +1,10 @@
+use Rattle.std.proofs.Common.{◌≡◌}
+use Rattle.pals_report.specs.Positions.{line_of, column_of}
+use Rattle.pals_report.proofs.cursor.Cursor.go_on.Given as goal
+
+-- the line and the column of the place that is reached
+abbrev pub invariant-loop-place : goal.invariant-loop-place
+invariant-loop-place l = record {
+  line_is : l.line ≡ line_of l.self.text.now l.place;
+  column_is : l.column ≡ column_of l.self.text.now l.place;
+}

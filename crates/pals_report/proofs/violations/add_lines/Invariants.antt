@@ -1,0 +1,11 @@
+use Rattle.std.proofs.Common.{◌≡◌, ◌++◌, map, take}
+use Rattle.pals_model.specs.RoundTexts.{text_of}
+use Rattle.pals_report.specs.Violations.{violation_line}
+use Rattle.pals_report.proofs.violations.add_lines.Given as goal
+
+-- the lines so far, of places in one text
+abbrev pub invariant-loop-violation : goal.invariant-loop-violation
+invariant-loop-violation l = record {
+  text : l.cursor.text.now ≡ l.fn.text;
+  lines : l.out.items ≡ l.fn.out.items ++ text_of (map (violation_line l.fn.text) (take l.violation-index l.found));
+}

@@ -1,0 +1,26 @@
+-- The line that says why a package has no instance.
+use Rattle.std.specs.Prelude.{ℕ, codes, decimal, List, ◌++◌}
+use Rattle.aadl_names.specs.declared.fault.FlatFault.{FlatFault}
+use Rattle.aadl_names.specs.declared.fault.FlatFault.TheVariants.{NoRoot, Unknown, Twice, WrongKind, Recursive, DeadEnd, TwoSources, TooMany, Memory}
+use Rattle.aadl_names.specs.Findings.{number_of}
+use Rattle.pals_report.specs.Positions.{position_text}
+
+-- each word behind a space
+abbrev pub and_word : List ℕ → List ℕ
+and_word word = codes " " ++ word
+
+-- what is wrong, with the name or what there is too much of, and with the place, each where it has one
+abbrev pub flat_words : List ℕ → FlatFault → List ℕ
+flat_words text NoRoot = codes "NoRoot"
+flat_words text (Unknown name at) = codes "Unknown" ++ and_word name ++ and_word (position_text text at)
+flat_words text (Twice name at) = codes "Twice" ++ and_word name ++ and_word (position_text text at)
+flat_words text (WrongKind at) = codes "WrongKind" ++ and_word (position_text text at)
+flat_words text (Recursive name at) = codes "Recursive" ++ and_word name ++ and_word (position_text text at)
+flat_words text (DeadEnd name at) = codes "DeadEnd" ++ and_word name ++ and_word (position_text text at)
+flat_words text (TwoSources name at) = codes "TwoSources" ++ and_word name ++ and_word (position_text text at)
+flat_words text (TooMany what) = codes "TooMany" ++ and_word what
+flat_words text Memory = codes "Memory"
+
+-- `flat NUMBER NAME` and what belongs to it
+abbrev pub flat_fault_line : List ℕ → FlatFault → List ℕ
+flat_fault_line text fault = codes "flat " ++ decimal (number_of fault) ++ and_word (flat_words text fault)

@@ -1,0 +1,160 @@
+//! The line of an event that a world refuses.
+ghost use Rattle.std.specs.Prelude.{◌≡◌, [], ◌∷◌, ◌++◌, decimal, OnOk, OnErr, codes};
+ghost use Rattle.pals_model.specs.RoundTexts.{line_end};
+ghost use Rattle.pals_runs.specs.Journal.{node_word, link_word, spaced};
+ghost use Rattle.pals_report.specs.EventFaults.{which_words, event_fault_line};
+
+use crate::words::{Word, add_line, link_word, node_word};
+use pals_base::{LinkNo, Nanos, NoMemory, NodeNo};
+use pals_model::{Design, DesignParts};
+use pals_runs::{EventFault, Which};
+
+// A fault, and nothing that it is about.
+fn add_bare(out: &mut Vec<u8>, index: u32, fault: &[u8]) -> Result<(), NoMemory>
+    ensures ok { OnOk result (out.new.items
+        ≡ out.old.items ++ spaced (codes "event" ∷ decimal index ∷ fault.now ∷ []) ++ line_end) }
+    ensures err { OnErr result (out.new.items ≡ out.old.items) }
+{
+    let event = Word::Bytes(b"event");
+    let index = Word::Number(u64::from(index));
+    add_line(out, &[event, index, Word::Bytes(fault)])
+}
+
+// A fault with a node and a reading.
+fn add_reading<'a>(
+    out: &mut Vec<u8>,
+    design: &'a DesignParts,
+    index: u32,
+    fault: &'a [u8],
+    node: NodeNo,
+    reading: Nanos,
+) -> Result<(), NoMemory>
+    ensures ok { OnOk result (out.new.items ≡ out.old.items
+        ++ spaced (codes "event" ∷ decimal index ∷ fault.now ∷ node_word design.now node.0 ∷ decimal reading ∷ [])
+        ++ line_end) }
+    ensures err { OnErr result (out.new.items ≡ out.old.items) }
+{
+    let event = Word::Bytes(b"event");
+    let index = Word::Number(u64::from(index));
+    let node = node_word(design, node);
+    add_line(
+        out,
+        &[
+            event,
+            index,
+            Word::Bytes(fault),
+            node,
+            Word::Number(reading),
+        ],
+    )
+}
+
+// A fault with a link's message of a round.
+fn add_message(
+    out: &mut Vec<u8>,
+    design: &DesignParts,
+    index: u32,
+    link: LinkNo,
+    round: u32,
+) -> Result<(), NoMemory>
+    ensures ok { OnOk result (out.new.items ≡ out.old.items
+        ++ spaced (codes "event" ∷ decimal index ∷ codes "NoSuchMessage" ∷ link_word design.now link.0 ∷ decimal round ∷ [])
+        ++ line_end) }
+    ensures err { OnErr result (out.new.items ≡ out.old.items) }
+{
+    let event = Word::Bytes(b"event");
+    let index = Word::Number(u64::from(index));
+    let fault = Word::Bytes(b"NoSuchMessage");
+    let link = link_word(design, link);
+    add_line(
+        out,
+        &[event, index, fault, link, Word::Number(u64::from(round))],
+    )
+}
+
+// A fault with a node or a message, and a time.
+fn add_time<'a>(
+    out: &mut Vec<u8>,
+    design: &'a DesignParts,
+    index: u32,
+    fault: &'a [u8],
+    which: Which,
+    time: Nanos,
+) -> Result<(), NoMemory>
+    ensures ok { OnOk result (out.new.items ≡ out.old.items
+        ++ spaced (codes "event" ∷ decimal index ∷ fault.now ∷ which_words design.now which ++ decimal time ∷ [])
+        ++ line_end) }
+    ensures err { OnErr result (out.new.items ≡ out.old.items) }
+{
+    let event = Word::Bytes(b"event");
+    let index = Word::Number(u64::from(index));
+    let fault = Word::Bytes(fault);
+    let time = Word::Number(time);
+    match which {
+        Which::Node(node) => {
+            let node = node_word(design, node);
+            add_line(out, &[event, index, fault, node, time])
+        }
+        Which::Message(link, round) => {
+            let link = link_word(design, link);
+            let round = Word::Number(u64::from(round));
+            add_line(out, &[event, index, fault, link, round, time])
+        }
+    }
+}
+
+/// Adds the line of a refused event, with its index among the events: `event`, the index, the fault,
+/// and what the fault is about. Where memory is wanting, nothing is added.
+pub fn add_event_fault(
+    out: &mut Vec<u8>,
+    design: &Design,
+    index: u32,
+    fault: &EventFault,
+) -> Result<(), NoMemory>
+    ensures ok { OnOk result
+        (out.new.items ≡ out.old.items ++ event_fault_line design.now index fault.now ++ line_end) }
+    ensures err { OnErr result (out.new.items ≡ out.old.items) }
+{
+    let design = design.parts();
+    let event = Word::Bytes(b"event");
+    let place = Word::Number(u64::from(index));
+    match *fault {
+        EventFault::BadName => add_bare(out, index, b"BadName"),
+        EventFault::LossOrRepeat => add_bare(out, index, b"LossOrRepeat"),
+        EventFault::TimeBack { time } => {
+            let fault = Word::Bytes(b"TimeBack");
+            add_line(out, &[event, place, fault, Word::Number(time)])
+        }
+        EventFault::ClockBack { node, reading } => {
+            add_reading(out, design, index, b"ClockBack", node, reading)
+        }
+        EventFault::ClockApart { node, reading } => {
+            add_reading(out, design, index, b"ClockApart", node, reading)
+        }
+        EventFault::PastDeadline { which, last } => {
+            add_time(out, design, index, b"PastDeadline", which, last)
+        }
+        EventFault::WrongPhase { node } => {
+            let fault = Word::Bytes(b"WrongPhase");
+            add_line(out, &[event, place, fault, node_word(design, node)])
+        }
+        EventFault::NoSuchMessage { link, round } => add_message(out, design, index, link, round),
+        EventFault::NotDue {
+            node,
+            alarm,
+            reading,
+        } => {
+            let fault = Word::Bytes(b"NotDue");
+            let node = node_word(design, node);
+            let alarm = Word::Number(alarm);
+            add_line(
+                out,
+                &[event, place, fault, node, alarm, Word::Number(reading)],
+            )
+        }
+        EventFault::TooSoon { which, earliest } => {
+            add_time(out, design, index, b"TooSoon", which, earliest)
+        }
+        EventFault::Memory => add_bare(out, index, b"Memory"),
+    }
+}

@@ -1,0 +1,83 @@
+//! Why a package has no instance, as a line of text.
+ghost use Rattle.std.specs.Prelude.{◌≡◌, ◌++◌, OnOk, OnErr};
+ghost use Rattle.pals_model.specs.RoundTexts.{line_end};
+ghost use Rattle.pals_report.specs.Appended.{BeginsWith};
+ghost use Rattle.pals_report.specs.FlatFaults.{and_word, flat_words, flat_fault_line};
+ghost use Rattle.pals_report.specs.Positions.{position_text};
+
+use crate::{Cursor, whole_or_none};
+use aadl_names::FlatFault;
+use itoa::Buffer;
+use pals_base::{NoMemory, Text};
+
+/// Adds the line of a package's fault: its number, its name, and the name and place in the text that
+/// belong to it. Where memory is wanting, nothing is added.
+pub fn add_flat_fault(out: &mut Vec<u8>, text: &[u8], fault: &FlatFault) -> Result<(), NoMemory>
+    ensures ok { OnOk result
+        (out.new.items ≡ out.old.items ++ flat_fault_line text.now fault.now ++ line_end) }
+    ensures err { OnErr result (out.new.items ≡ out.old.items) }
+{
+    let start = out.len();
+    let written = add_line(out, text, fault);
+    whole_or_none(out, start, written)
+}
+
+fn add_line(out: &mut Vec<u8>, text: &[u8], fault: &FlatFault) -> Result<(), NoMemory>
+    ensures ok { OnOk result
+        (out.new.items ≡ out.old.items ++ flat_fault_line text.now fault.now ++ line_end) }
+    ensures err { OnErr result (BeginsWith out.new.items out.old.items) }
+{
+    out.extend_from_slice(b"flat ")?;
+    out.extend_from_slice(Buffer::new().format(fault.number()).as_bytes())?;
+    out.extend_from_slice(b" ")?;
+    add_words(out, text, fault)?;
+    out.extend_from_slice(b"\n")
+}
+
+fn add_words(out: &mut Vec<u8>, text: &[u8], fault: &FlatFault) -> Result<(), NoMemory>
+    ensures ok { OnOk result (out.new.items ≡ out.old.items ++ flat_words text.now fault.now) }
+    ensures err { OnErr result (BeginsWith out.new.items out.old.items) }
+{
+    match fault {
+        FlatFault::NoRoot => out.extend_from_slice(b"NoRoot"),
+        FlatFault::Unknown { name, at } => add_named(out, b"Unknown", name, text, *at),
+        FlatFault::Twice { name, at } => add_named(out, b"Twice", name, text, *at),
+        FlatFault::WrongKind { at } => add_placed(out, b"WrongKind", text, *at),
+        FlatFault::Recursive { name, at } => add_named(out, b"Recursive", name, text, *at),
+        FlatFault::DeadEnd { name, at } => add_named(out, b"DeadEnd", name, text, *at),
+        FlatFault::TwoSources { name, at } => add_named(out, b"TwoSources", name, text, *at),
+        FlatFault::TooMany { what } => {
+            out.extend_from_slice(b"TooMany ")?;
+            out.extend_from_slice(what.as_bytes())
+        }
+        FlatFault::Memory => out.extend_from_slice(b"Memory"),
+    }
+}
+
+// What is wrong, the name of which it is said, and its place.
+fn add_named(
+    out: &mut Vec<u8>,
+    word: &[u8],
+    name: &Text,
+    text: &[u8],
+    at: usize,
+) -> Result<(), NoMemory>
+    ensures ok { OnOk result
+        (out.new.items ≡ out.old.items ++ word.now ++ and_word name.now ++ and_word (position_text text.now at)) }
+    ensures err { OnErr result (BeginsWith out.new.items out.old.items) }
+{
+    out.extend_from_slice(word)?;
+    out.extend_from_slice(b" ")?;
+    add_placed(out, name.as_bytes(), text, at)
+}
+
+// A word, and a place behind it.
+fn add_placed(out: &mut Vec<u8>, word: &[u8], text: &[u8], at: usize) -> Result<(), NoMemory>
+    ensures ok { OnOk result
+        (out.new.items ≡ out.old.items ++ word.now ++ and_word (position_text text.now at)) }
+    ensures err { OnErr result (BeginsWith out.new.items out.old.items) }
+{
+    out.extend_from_slice(word)?;
+    out.extend_from_slice(b" ")?;
+    Cursor::new(text).add_position(out, at)
+}

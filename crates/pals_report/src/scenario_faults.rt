@@ -1,0 +1,44 @@
+//! The line of a refused scenario.
+ghost use Rattle.std.specs.Prelude.{◌≡◌, [], ◌∷◌, ◌++◌, codes, OnOk, OnErr};
+ghost use Rattle.pals_model.specs.RoundTexts.{line_end};
+ghost use Rattle.pals_runs.specs.Journal.{spaced};
+ghost use Rattle.pals_report.specs.ScenarioFaults.{scenario_fault_line};
+
+use crate::words::{Word, add_line};
+use pals_base::{NoMemory, Text};
+use scenario_values::ScenarioFault;
+
+// A fault and the name of the place where it stands.
+fn add_named<'a>(out: &mut Vec<u8>, fault: &'a [u8], place: &'a Text) -> Result<(), NoMemory>
+    ensures ok { OnOk result (out.new.items
+        ≡ out.old.items ++ spaced (codes "scenario" ∷ fault.now ∷ place.now ∷ []) ++ line_end) }
+    ensures err { OnErr result (out.new.items ≡ out.old.items) }
+{
+    let scenario = Word::Bytes(b"scenario");
+    add_line(
+        out,
+        &[scenario, Word::Bytes(fault), Word::Bytes(place.as_bytes())],
+    )
+}
+
+/// Adds the line of a scenario's fault: `scenario`, the fault, and where it stands. Where memory is
+/// wanting, nothing is added.
+pub fn add_scenario_fault(out: &mut Vec<u8>, fault: &ScenarioFault) -> Result<(), NoMemory>
+    ensures ok { OnOk result
+        (out.new.items ≡ out.old.items ++ scenario_fault_line fault.now ++ line_end) }
+    ensures err { OnErr result (out.new.items ≡ out.old.items) }
+{
+    let scenario = Word::Bytes(b"scenario");
+    match fault {
+        ScenarioFault::NotJson => add_line(out, &[scenario, Word::Bytes(b"NotJson")]),
+        ScenarioFault::Field { name } => add_named(out, b"Field", name),
+        ScenarioFault::WrongKind { name } => add_named(out, b"WrongKind", name),
+        ScenarioFault::Unknown { name } => add_named(out, b"Unknown", name),
+        ScenarioFault::OutOfRange { name } => add_named(out, b"OutOfRange", name),
+        ScenarioFault::TooBig { cells } => add_line(
+            out,
+            &[scenario, Word::Bytes(b"TooBig"), Word::Number(*cells)],
+        ),
+        ScenarioFault::Memory => add_line(out, &[scenario, Word::Bytes(b"Memory")]),
+    }
+}

@@ -1,0 +1,96 @@
+//! Why the design text of a bundle is refused, as a line of text.
+ghost use Rattle.std.specs.Prelude.{◌≡◌, ◌++◌, string_bytes, OnOk, OnErr};
+ghost use Rattle.pals_model.specs.RoundTexts.{line_end};
+ghost use Rattle.pals_report.specs.Appended.{BeginsWith};
+ghost use Rattle.pals_report.specs.TextFaults.{lexical_name, lexical_place, fault_name, fault_place, text_line, text_fault_line, no_divider_line};
+
+use crate::{Cursor, whole_or_none};
+use aadl_lex::LexFault;
+use aadl_parse::TextFault;
+use pals_base::NoMemory;
+
+/// Adds the line of a fault of a design text: its place as `LINE:COLUMN`, and its name. Where memory
+/// is wanting, nothing is added.
+pub fn add_text_fault(out: &mut Vec<u8>, text: &[u8], fault: &TextFault) -> Result<(), NoMemory>
+    ensures ok { OnOk result
+        (out.new.items ≡ out.old.items ++ text_fault_line text.now fault.now ++ line_end) }
+    ensures err { OnErr result (out.new.items ≡ out.old.items) }
+{
+    let start = out.len();
+    let written = add_text_line(out, text, fault_place(fault), fault_name(fault));
+    whole_or_none(out, start, written)
+}
+
+/// Adds the line of a bundle that no line divides, at the bundle's end. Where memory is wanting,
+/// nothing is added.
+pub fn add_no_divider(out: &mut Vec<u8>, bundle: &[u8]) -> Result<(), NoMemory>
+    ensures ok { OnOk result
+        (out.new.items ≡ out.old.items ++ no_divider_line bundle.now ++ line_end) }
+    ensures err { OnErr result (out.new.items ≡ out.old.items) }
+{
+    let start = out.len();
+    let written = add_text_line(out, bundle, bundle.len(), b"NoDivider");
+    whole_or_none(out, start, written)
+}
+
+// The line of what is wrong at a place of a text.
+fn add_text_line(out: &mut Vec<u8>, text: &[u8], at: usize, name: &[u8]) -> Result<(), NoMemory>
+    ensures ok { OnOk result
+        (out.new.items ≡ out.old.items ++ text_line text.now at name.now ++ line_end) }
+    ensures err { OnErr result (BeginsWith out.new.items out.old.items) }
+{
+    out.extend_from_slice(b"text ")?;
+    Cursor::new(text).add_position(out, at)?;
+    out.extend_from_slice(b" ")?;
+    out.extend_from_slice(name)?;
+    out.extend_from_slice(b"\n")
+}
+
+fn fault_name(fault: &TextFault) -> &'static [u8]
+    ensures { result.now ≡ fault_name fault.now }
+{
+    match fault {
+        TextFault::Lex(fault) => lexical_name(fault),
+        TextFault::Syntax { .. } => b"Syntax",
+        TextFault::TooDeep { .. } => b"TooDeep",
+        TextFault::Memory => b"Memory",
+    }
+}
+
+fn lexical_name(fault: &LexFault) -> &'static [u8]
+    ensures { result.now ≡ lexical_name fault.now }
+{
+    match fault {
+        LexFault::NotUtf8 { .. } => b"NotUtf8",
+        LexFault::BadByte { .. } => b"BadByte",
+        LexFault::OpenString { .. } => b"OpenString",
+        LexFault::OpenAnnex { .. } => b"OpenAnnex",
+        LexFault::BigNumber { .. } => b"BigNumber",
+        LexFault::LongName { .. } => b"LongName",
+        LexFault::Memory => b"Memory",
+    }
+}
+
+fn fault_place(fault: &TextFault) -> usize
+    ensures { result ≡ fault_place fault.now }
+{
+    match fault {
+        TextFault::Lex(fault) => lexical_place(fault),
+        TextFault::Syntax { at } | TextFault::TooDeep { at } => *at,
+        TextFault::Memory => 0,
+    }
+}
+
+fn lexical_place(fault: &LexFault) -> usize
+    ensures { result ≡ lexical_place fault.now }
+{
+    match fault {
+        LexFault::NotUtf8 { at }
+        | LexFault::BadByte { at }
+        | LexFault::OpenString { at }
+        | LexFault::OpenAnnex { at }
+        | LexFault::BigNumber { at }
+        | LexFault::LongName { at } => *at,
+        LexFault::Memory => 0,
+    }
+}

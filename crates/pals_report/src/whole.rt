@@ -1,0 +1,20 @@
+//! Texts that are written whole or not at all.
+ghost use Rattle.std.specs.Prelude.{◌≡◌, take, OnOk, OnErr};
+
+use pals_base::NoMemory;
+
+/// Takes back what a refused call has written from `start` on.
+pub fn whole_or_none(
+    out: &mut Vec<u8>,
+    start: usize,
+    written: Result<(), NoMemory>,
+) -> Result<(), NoMemory>
+    ensures same { result ≡ written }
+    ensures ok { OnOk written (out.new.items ≡ out.old.items) }
+    ensures err { OnErr written (out.new.items ≡ take start out.old.items) }
+{
+    if written.is_err() {
+        out.truncate(start);
+    }
+    written
+}

@@ -1,0 +1,121 @@
+//! Lines, word by word.
+ghost use Rattle.std.specs.Prelude.{◌≡◌, ◌++◌, map, Some, OnOk, OnErr};
+ghost use Rattle.pals_model.specs.LinkNames.{in_port_name};
+ghost use Rattle.pals_model.specs.RoundTexts.{line_end};
+ghost use Rattle.pals_runs.specs.Journal.{node_word, link_word, reading_word, spaced};
+ghost use Rattle.pals_report.specs.Words.{word_text};
+ghost use Rattle.pals_report.specs.Appended.{BeginsWith};
+
+use crate::{add_tuple, whole_or_none};
+use itoa::Buffer;
+use pals_base::{Kind, LinkNo, Nanos, NoMemory, NodeNo, Port};
+use pals_model::{Component, DesignParts};
+
+/// A word of a line: bytes, a number, the name of an in port, which is a path, a `.` and a name, or a
+/// tuple of values of one type.
+#[derive(Clone, Copy)]
+pub enum Word<'a> {
+    Bytes(&'a [u8]),
+    Number(u64),
+    Port(&'a [u8], &'a [u8]),
+    Tuple(Kind, &'a [Port]),
+}
+
+// Adds a word.
+fn add_word(out: &mut Vec<u8>, word: Word<'_>) -> Result<(), NoMemory>
+    ensures ok { OnOk result (out.new.items ≡ out.old.items ++ word_text word.entry) }
+    ensures err { OnErr result (BeginsWith out.new.items out.old.items) }
+{
+    match word {
+        Word::Bytes(bytes) => out.extend_from_slice(bytes),
+        Word::Number(number) => out.extend_from_slice(Buffer::new().format(number).as_bytes()),
+        Word::Port(path, name) => {
+            out.extend_from_slice(path)?;
+            out.extend_from_slice(b".")?;
+            out.extend_from_slice(name)
+        }
+        Word::Tuple(kind, tuple) => add_tuple(out, kind, tuple),
+    }
+}
+
+// Adds words, with one space between each two.
+fn add_words(out: &mut Vec<u8>, words: &[Word<'_>]) -> Result<(), NoMemory>
+    ensures ok { OnOk result
+        (out.new.items ≡ out.old.items ++ spaced (map word_text words.now)) }
+    ensures err { OnErr result (BeginsWith out.new.items out.old.items) }
+{
+    let [first, rest @ ..] = words else {
+        return Ok(());
+    };
+    add_word(out, *first)?;
+    for word in rest {
+        out.extend_from_slice(b" ")?;
+        add_word(out, *word)?;
+    }
+    Ok(())
+}
+
+// Adds words and the end of their line.
+fn add_whole_line(out: &mut Vec<u8>, words: &[Word<'_>]) -> Result<(), NoMemory>
+    ensures ok { OnOk result
+        (out.new.items ≡ out.old.items ++ spaced (map word_text words.now) ++ line_end) }
+    ensures err { OnErr result (BeginsWith out.new.items out.old.items) }
+{
+    add_words(out, words)?;
+    out.extend_from_slice(b"\n")
+}
+
+/// Adds a line of words. Where memory is wanting, nothing is added.
+pub(crate) fn add_line(out: &mut Vec<u8>, words: &[Word<'_>]) -> Result<(), NoMemory>
+    ensures ok { OnOk result
+        (out.new.items ≡ out.old.items ++ spaced (map word_text words.now) ++ line_end) }
+    ensures err { OnErr result (out.new.items ≡ out.old.items) }
+{
+    let start = out.len();
+    let written = add_whole_line(out, words);
+    whole_or_none(out, start, written)
+}
+
+/// The path of a component, empty where there is none.
+pub(crate) fn node_word(design: &DesignParts, node: NodeNo) -> Word<'_>
+    ensures { word_text result ≡ node_word design.now node.0 }
+{
+    match design.component(node) {
+        Some(component) => Word::Bytes(component.path.as_bytes()),
+        None => Word::Bytes(b""),
+    }
+}
+
+// The name of an in port of a component.
+fn port_word(component: &Component, port: u32) -> Word<'_>
+    ensures { word_text result ≡ in_port_name (Some component.now) port }
+{
+    let path = component.path.as_bytes();
+    match component.behaviour.ins().get(port as usize) {
+        Some(port) => Word::Port(path, port.name.as_bytes()),
+        None => Word::Port(path, b""),
+    }
+}
+
+/// The name of a link: that of the in port that it goes to.
+pub(crate) fn link_word(design: &DesignParts, link: LinkNo) -> Word<'_>
+    ensures { word_text result ≡ link_word design.now link.0 }
+{
+    let Some(link) = design.links.get(link.0 as usize) else {
+        return Word::Bytes(b"");
+    };
+    match design.component(link.target) {
+        Some(component) => port_word(component, link.in_port),
+        None => Word::Bytes(b""),
+    }
+}
+
+/// A reading, or `_` where there is none.
+pub(crate) fn reading_word(reading: Option<Nanos>) -> Word<'static>
+    ensures { word_text result ≡ reading_word reading }
+{
+    match reading {
+        Some(reading) => Word::Number(reading),
+        None => Word::Bytes(b"_"),
+    }
+}

@@ -1,5 +1,0 @@
-pub mod Sets
-pub mod Joining
-pub mod Ordered
-pub mod Leading
-pub mod Falling

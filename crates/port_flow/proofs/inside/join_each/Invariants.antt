@@ -1,6 +1,0 @@
-use Rattle.aadl_tree.specs.PackageViews.{placed}
-use Rattle.port_flow.proofs.Joining.{FrontJoined}
-use Rattle.port_flow.proofs.inside.join_each.Given as goal
-
-abbrev pub invariant-loop-wire : goal.invariant-loop-wire
-invariant-loop-wire l = FrontJoined (placed l.wires.uses.tree.now) l.direction l.number l.wire-index l.initial.ports l.ports

@@ -1,6 +1,0 @@
-use Rattle.aadl_tree.specs.PackageViews.{placed}
-use Rattle.port_flow.proofs.Ordered.{FrontInside}
-use Rattle.port_flow.proofs.inside.ports_of.Given as goal
-
-abbrev pub invariant-loop-at : goal.invariant-loop-at
-invariant-loop-at l = FrontInside (placed l.wires.uses.tree.now) l.direction l.order.keys l.at l.ports

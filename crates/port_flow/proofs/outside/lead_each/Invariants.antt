@@ -1,6 +1,0 @@
-use Rattle.aadl_tree.specs.PackageViews.{placed}
-use Rattle.port_flow.proofs.Leading.{FrontLed}
-use Rattle.port_flow.proofs.outside.lead_each.Given as goal
-
-abbrev pub invariant-loop-wire : goal.invariant-loop-wire
-invariant-loop-wire l = FrontLed (placed l.wires.uses.tree.now) l.side.root l.side.direction l.number l.wire-index l.initial.ports l.ports

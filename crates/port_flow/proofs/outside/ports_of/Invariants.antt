@@ -1,6 +1,0 @@
-use Rattle.aadl_tree.specs.PackageViews.{placed}
-use Rattle.port_flow.proofs.Falling.{BackLed}
-use Rattle.port_flow.proofs.outside.ports_of.Given as goal
-
-abbrev pub invariant-loop-at : goal.invariant-loop-at
-invariant-loop-at l = BackLed (placed l.wires.uses.tree.now) l.side.root l.side.direction l.order.keys l.at l.ports

@@ -1,5 +1,0 @@
-use Rattle.rate_sound.proofs.Counting.{gamma_counts}
-use Rattle.rate_sound.proofs.laws.bounds_that_count.Goals as goal
-
-pub returns : goal.returns
-returns c = λ skew execution network g is. gamma_counts skew execution network g is

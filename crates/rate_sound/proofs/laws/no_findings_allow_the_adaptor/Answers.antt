@@ -1,5 +1,0 @@
-use Rattle.rate_sound.proofs.Allowing.{fits}
-use Rattle.rate_sound.proofs.laws.no_findings_allow_the_adaptor.Goals as goal
-
-pub returns : goal.returns
-returns c = λ at name text kind p q none. let f = fits at name text kind p q none in (f.divides, f.allowed, f.suits)

@@ -1,4 +1,0 @@
-pub mod EventFaults
-pub mod ScenarioFaults
-pub mod SentLines
-pub mod Words

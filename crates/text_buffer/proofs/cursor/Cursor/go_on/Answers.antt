@@ -1,6 +1,0 @@
-use Rattle.std.proofs.Common.{arith}
-use Rattle.text_buffer.proofs.Columns.{behind_within}
-use Rattle.text_buffer.proofs.cursor.Cursor.go_on.Goals as goal
-
-pub overflow_add-column : goal.overflow_add-column
-overflow_add-column c = omega (arith, behind_within c.args.self.now.text.now c.loop-place.place)

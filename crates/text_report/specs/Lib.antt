@@ -1,3 +1,0 @@
-pub mod FlatFaults
-pub mod Violations
-pub mod TextFaults

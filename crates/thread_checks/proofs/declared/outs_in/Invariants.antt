@@ -1,8 +1,0 @@
-use Rattle.std.proofs.Common.{◌≡◌, map, take}
-use Rattle.aadl_tree.specs.Views.{feature_view}
-use Rattle.aadl_tree.specs.Maps.{kept_place}
-use Rattle.thread_checks.specs.Values.{outs_in}
-use Rattle.thread_checks.proofs.declared.outs_in.Given as goal
-
-abbrev pub invariant-loop-port : goal.invariant-loop-port
-invariant-loop-port l = l.outs ≡ outs_in (map (feature_view kept_place) (take l.port-index l.ports))

@@ -1,9 +1,0 @@
-use Rattle.std.proofs.Common.{◌≡◌, ◌∙◌, ◌∷◌, [], ◌++◌, sym, ap}
-use Rattle.thread_checks.specs.Values.{variable_entry}
-use Rattle.component_checks.proofs.Numbered.{entries_next}
-use Rattle.thread_checks.proofs.values.add_vars.Goals as goal
-
-pub loop-at-preserved : goal.loop-at-preserved
-loop-at-preserved c =
-    entries_next variable_entry c.args.variables.now c.loop-at.at c.index-variables-at.result _ c.loop-at.entries _ c.loop-at-test.true c.index-variables-at.is c.loop-at.invariant
-    (c.in_ok-push.ensures.ok ∙ ap (λ e. c.loop-at.entries ++ e ∷ []) c.in_ok-entry_of.ensures)

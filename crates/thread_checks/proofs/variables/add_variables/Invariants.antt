@@ -1,8 +1,0 @@
-use Rattle.std.proofs.Common.{◌≡◌, ◌++◌, ◌∷◌, map, take}
-use Rattle.aadl_tree.specs.NameViews.{identifier_view}
-use Rattle.aadl_tree.specs.Maps.{kept_place}
-use Rattle.thread_checks.specs.Values.{variable_of}
-use Rattle.thread_checks.proofs.variables.add_variables.Given as goal
-
-abbrev pub invariant-loop-name : goal.invariant-loop-name
-invariant-loop-name l = l.variables ≡ l.fn.variables ++ variable_of l.kind l.first (identifier_view kept_place l.declaration.names.first) ∷ map (variable_of l.kind l.first) (map (identifier_view kept_place) (take l.name-index l.name-items))

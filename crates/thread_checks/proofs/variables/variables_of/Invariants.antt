@@ -1,9 +1,0 @@
-use Rattle.std.proofs.Common.{◌≡◌, map, take}
-use Rattle.std.specs.Prelude.{flat_map}
-use Rattle.aadl_tree.specs.Views.{variable_view}
-use Rattle.aadl_tree.specs.Maps.{kept_place}
-use Rattle.thread_checks.specs.Values.{variables_in}
-use Rattle.thread_checks.proofs.variables.variables_of.Given as goal
-
-abbrev pub invariant-loop-declaration : goal.invariant-loop-declaration
-invariant-loop-declaration l = l.variables ≡ flat_map variables_in (map (variable_view kept_place) (take l.declaration-index l.declaration-items))

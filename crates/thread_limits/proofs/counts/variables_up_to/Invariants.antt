@@ -1,9 +1,0 @@
-use Rattle.std.proofs.Common.{◌≡◌, min, take}
-use Rattle.aadl_tree.specs.Maps.{kept_place}
-use Rattle.aadl_tree.specs.Views.{variable_view}
-use Rattle.aadl_names.specs.Behaviours.{identifiers}
-use Rattle.thread_limits.proofs.Counted.{words}
-use Rattle.thread_limits.proofs.counts.variables_up_to.Given as goal
-
-abbrev pub invariant-loop-declared : goal.invariant-loop-declared
-invariant-loop-declared l = l.count ≡ min l.limit (words (λ v. identifiers v.names) (variable_view kept_place) (take l.declared-index l.declared-items))

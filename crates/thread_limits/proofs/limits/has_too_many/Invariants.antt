@@ -1,9 +1,0 @@
-use Rattle.std.proofs.Common.{ℕ, ◌<◌}
-use Rattle.aadl_tree.specs.Declarations.{Implementation}
-use Rattle.aadl_tree.specs.PackageViews.{placed}
-use Rattle.thread_limits.specs.Parts.{most, count_of, IsUsedThread}
-use Rattle.thread_limits.proofs.limits.has_too_many.Given as goal
-
--- none of the first ones
-abbrev pub invariant-loop-number : goal.invariant-loop-number
-invariant-loop-number l = (n : ℕ) (x : Implementation ℕ) → n < l.number-counter → IsUsedThread (placed l.wires.uses.tree.now) l.used.keys n x → most l.part < count_of (placed l.wires.uses.tree.now) x l.part → ⊥

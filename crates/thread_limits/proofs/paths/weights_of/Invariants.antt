@@ -1,8 +1,0 @@
-use Rattle.std.proofs.Common.{◌≡◌, map, take}
-use Rattle.aadl_tree.specs.Maps.{kept_place}
-use Rattle.aadl_tree.specs.Views.{subcomponent_view}
-use Rattle.thread_limits.specs.Paths.{weight_of}
-use Rattle.thread_limits.proofs.paths.weights_of.Given as goal
-
-abbrev pub invariant-loop-sub : goal.invariant-loop-sub
-invariant-loop-sub l = l.row.items ≡ map weight_of (map (subcomponent_view kept_place) (take l.sub-index l.subs))

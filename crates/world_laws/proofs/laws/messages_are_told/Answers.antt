@@ -1,5 +1,0 @@
-use Rattle.world_laws.proofs.Sends.{sends_are_in_flight, lines_are_told}
-use Rattle.world_laws.proofs.laws.messages_are_told.Goals as goal
-
-pub returns : goal.returns
-returns c = record { in_flight = sends_are_in_flight; lines = lines_are_told }

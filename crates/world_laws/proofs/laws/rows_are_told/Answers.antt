@@ -1,5 +1,0 @@
-use Rattle.world_laws.proofs.Rows.{finished_rows, common_rows, rounds_without_nodes}
-use Rattle.world_laws.proofs.laws.rows_are_told.Goals as goal
-
-pub returns : goal.returns
-returns c = record { world = finished_rows; common = common_rows; none = rounds_without_nodes }

@@ -1,5 +1,0 @@
-use Rattle.world_laws.proofs.Texts.{text_is_told, stop_is_told}
-use Rattle.world_laws.proofs.laws.texts_are_told.Goals as goal
-
-pub returns : goal.returns
-returns c = record { all = text_is_told; stopped = stop_is_told }

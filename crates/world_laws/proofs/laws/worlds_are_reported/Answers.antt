@@ -1,5 +1,0 @@
-use Rattle.world_laws.proofs.Reports.{world_is_reported, world_text_is_reported}
-use Rattle.world_laws.proofs.laws.worlds_are_reported.Goals as goal
-
-pub returns : goal.returns
-returns c = record { rows = world_is_reported; text = world_text_is_reported }

@@ -1,6 +1,0 @@
-use Rattle.world_report.proofs.Links.{AreFirstLinks}
-use Rattle.world_report.proofs.messages.OutLinks.new.Given as goal
-
--- the links of the first nodes are there
-abbrev pub invariant-loop-node : goal.invariant-loop-node
-invariant-loop-node l = AreFirstLinks l.design l.node l.nodes
