@@ -11,8 +11,8 @@ use Rattle.bus_machine.specs.States.{Run, BusState, opening}
 use Rattle.bus_machine.specs.Traces.{finished_by_all}
 use Rattle.bus_machine.specs.WorldTexts.{worldtext}
 use Rattle.pals_report.specs.EventFaults.{event_fault_line}
-use Rattle.loose_world.specs.declared.LooseEnd.{LooseEnd}
-use Rattle.loose_world.specs.declared.LooseEnd.TheVariants as end
+use Rattle.loose_world.specs.declared.events.LooseEnd.{LooseEnd}
+use Rattle.loose_world.specs.declared.events.LooseEnd.TheVariants as end
 use Rattle.loose_world.specs.Steps.{StepsTo}
 use Rattle.loose_world.specs.Ends.{IsOneLeft, AreOneEnd, OneEnd}
 use Rattle.pals_top.specs.Code.{status_at}

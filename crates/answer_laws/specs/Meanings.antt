@@ -11,8 +11,8 @@ use Rattle.aadl_tree.specs.Declarations.{PackageTree}
 use Rattle.scenario_json.specs.declared.scenario.Scenario.{Scenario}
 use Rattle.bus_machine.specs.States.{Run, BusState, opening}
 use Rattle.design_codes.specs.Causes.{length_of, AreShort}
-use Rattle.loose_world.specs.declared.LooseEnd.{LooseEnd}
-use Rattle.loose_world.specs.declared.LooseEnd.TheVariants as end
+use Rattle.loose_world.specs.declared.events.LooseEnd.{LooseEnd}
+use Rattle.loose_world.specs.declared.events.LooseEnd.TheVariants as end
 use Rattle.loose_world.specs.Steps.{AllStep, StepsToStop, StepsToFault}
 use Rattle.loose_world.specs.EventLaws.{loosely}
 use Rattle.bundle_designs.specs.Parsed.{IsParsed}

@@ -11,8 +11,8 @@ use Rattle.bus_machine.specs.States.{Run, BusState, opening}
 use Rattle.bus_machine.specs.Machine.{BusEvent, is_allowed, after, IsStep}
 use Rattle.bus_machine.specs.Replay.{entries}
 use Rattle.pals_bus.specs.Loose.{loose_event}
-use Rattle.loose_world.specs.declared.LooseEnd.{LooseEnd}
-use Rattle.loose_world.specs.declared.LooseEnd.TheVariants as end
+use Rattle.loose_world.specs.declared.events.LooseEnd.{LooseEnd}
+use Rattle.loose_world.specs.declared.events.LooseEnd.TheVariants as end
 use Rattle.loose_world.specs.Worlds.{IsFaultOf}
 use Rattle.loose_world.specs.Steps.{AllStep, ComesTo, StepsToStop, StepsToFault, StepsTo}
 use Rattle.loose_world.specs.Ends.{AreOneEnd}

@@ -10,8 +10,8 @@ use Rattle.bus_machine.specs.Replay.{Replays, opens, goes_on, entries}
 use Rattle.bus_machine.proofs.Arrivals.{opening_agrees, step_keeps_agreement}
 use Rattle.pals_bus.specs.Values.{BusValue, opening_bus, Happens}
 use Rattle.pals_bus.specs.Loose.{HappensLoose}
-use Rattle.loose_world.specs.declared.LooseEnd.{LooseEnd}
-use Rattle.loose_world.specs.declared.LooseEnd.TheVariants as end
+use Rattle.loose_world.specs.declared.events.LooseEnd.{LooseEnd}
+use Rattle.loose_world.specs.declared.events.LooseEnd.TheVariants as end
 use Rattle.loose_world.specs.Worlds.{AllHappen, RunsLoosely}
 use Rattle.loose_world.specs.Journals.{IsReplayed}
 

@@ -15,7 +15,7 @@ use Rattle.bus_machine.specs.WorldTexts.{sent_lines, world_rows, worldtext}
 use Rattle.bus_machine.proofs.Arrivals.{step_keeps_agreement}
 use Rattle.pals_bus.specs.Values.{BusValue, opening_bus, Happens}
 use Rattle.loose_world.specs.Finished.{finished_lines, common_lines}
-use Rattle.loose_world.specs.declared.LooseEnd.TheVariants.{All, Stopped}
+use Rattle.loose_world.specs.declared.events.LooseEnd.TheVariants.{All, Stopped}
 use Rattle.loose_world.specs.Worlds.{StopsAt, Tells}
 use Rattle.loose_world.specs.Histories.{IsLeftBy}
 use Rattle.loose_world.proofs.Histories.{events_agree}

@@ -7,7 +7,7 @@ use Rattle.bus_machine.specs.Agreement.{Agrees}
 use Rattle.bus_machine.specs.Laws.{IsRunOf}
 use Rattle.bus_machine.specs.Replay.{Replays}
 use Rattle.pals_bus.specs.Values.{BusValue, opening_bus}
-use Rattle.loose_world.specs.declared.LooseEnd.{LooseEnd}
+use Rattle.loose_world.specs.declared.events.LooseEnd.{LooseEnd}
 use Rattle.loose_world.specs.Worlds.{RunsLoosely}
 
 -- a bus is of this run; the journal leads from the run's opening to where the bus stands; and the bus agrees with the composition

@@ -10,8 +10,8 @@ use Rattle.bus_machine.specs.Machine.{BusEvent, is_allowed, IsStep}
 use Rattle.bus_machine.specs.Replay.{entries}
 use Rattle.pals_bus.specs.Values.{BusValue, opening_bus}
 use Rattle.pals_bus.specs.Loose.{loose_event}
-use Rattle.loose_world.specs.declared.LooseEnd.{LooseEnd}
-use Rattle.loose_world.specs.declared.LooseEnd.TheVariants as end
+use Rattle.loose_world.specs.declared.events.LooseEnd.{LooseEnd}
+use Rattle.loose_world.specs.declared.events.LooseEnd.TheVariants as end
 use Rattle.loose_world.specs.Worlds.{IsFaultOf, RunsLoosely}
 
 -- each event is a step that gives no stop, and these are the entries that they leave in the journal

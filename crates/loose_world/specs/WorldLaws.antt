@@ -16,7 +16,7 @@ use Rattle.bus_machine.specs.WorldTexts.{finished_by, sends_of, sent_lines, worl
 use Rattle.pals_bus.specs.Values.{BusValue, opening_bus}
 use Rattle.pals_bus.specs.Loose.{GoesOn}
 use Rattle.loose_world.specs.Finished.{finished_lines, common_lines}
-use Rattle.loose_world.specs.declared.LooseEnd.TheVariants.{All, Stopped}
+use Rattle.loose_world.specs.declared.events.LooseEnd.TheVariants.{All, Stopped}
 use Rattle.loose_world.specs.Worlds.{Tells}
 use Rattle.loose_world.specs.Counts.{IsCounted}
 use Rattle.loose_world.specs.Histories.{IsLeftBy}

@@ -11,8 +11,8 @@ use Rattle.bus_machine.specs.Machine.{BusEvent}
 use Rattle.pals_bus.specs.Values.{BusValue}
 use Rattle.pals_bus.specs.Loose.{loose_event, IsNamedIn, node_of, message_of, HappensLoose, GoesOn, IsRefused}
 use Rattle.loose_world.specs.Sent.{sent_lines}
-use Rattle.loose_world.specs.declared.LooseEnd.{LooseEnd}
-use Rattle.loose_world.specs.declared.LooseEnd.TheVariants as end
+use Rattle.loose_world.specs.declared.events.LooseEnd.{LooseEnd}
+use Rattle.loose_world.specs.declared.events.LooseEnd.TheVariants as end
 
 -- an event of a loose world of a design: no passing of time, and of a node or a link that is there
 pub record IsLooseIn (design : DesignParts) (e : Event) : Type 0 where

@@ -15,8 +15,8 @@ use Rattle.pals_bus.specs.Values.{BusValue, Happens, opening_bus}
 use Rattle.pals_bus.specs.Loose.{HappensLoose}
 use Rattle.scenario_json.specs.declared.scenario.Scenario.{Scenario}
 use Rattle.scenario_json.specs.Facts.{IsScenarioOf}
-use Rattle.loose_world.specs.declared.LooseEnd.{LooseEnd}
-use Rattle.loose_world.specs.declared.LooseEnd.TheVariants as end
+use Rattle.loose_world.specs.declared.events.LooseEnd.{LooseEnd}
+use Rattle.loose_world.specs.declared.events.LooseEnd.TheVariants as end
 use Rattle.loose_world.specs.Worlds.{AllHappen, StopsAt, IsRefusedAt, Tells}
 use Rattle.loose_world.specs.Finished.{finished_lines, common_lines}
 use Rattle.loose_world.specs.WorldLaws.{TextIsTold, StopIsTold}

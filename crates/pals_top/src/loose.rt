@@ -2,7 +2,7 @@
 ghost use Rattle.std.specs.Prelude.{◌≡◌, ◌≤◌, ℕ, List, [], ◌++◌, false, map, length, None, IfOk};
 ghost use Rattle.pals_base.specs.declared.limits.TheConstants.{ROUNDS};
 ghost use Rattle.pals_model.specs.Delays.{AreDelays};
-ghost use Rattle.loose_world.specs.declared.LooseEnd.{LooseEnd};
+ghost use Rattle.loose_world.specs.declared.events.LooseEnd.{LooseEnd};
 ghost use Rattle.loose_world.specs.Worlds.{Tells};
 ghost use Rattle.loose_world.specs.Sent.{AreOutLinks};
 ghost use Rattle.pals_model.specs.Rules.{IsDesign};

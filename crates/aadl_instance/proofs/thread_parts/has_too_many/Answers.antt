@@ -3,7 +3,7 @@ use Rattle.std.proofs.lemmas.Bool.{true≢false}
 use Rattle.aadl_tree.specs.PackageViews.{placed}
 use Rattle.aadl_uses.proofs.Sequences.{of_any}
 use Rattle.aadl_instance.proofs.Used.{used_or_below, some_over, none_over}
-use Rattle.aadl_instance.proofs.limits.has_too_many.Goals as goal
+use Rattle.aadl_instance.proofs.thread_parts.has_too_many.Goals as goal
 
 pub returns-then-has_over-clause-used : goal.returns-then-has_over-clause-used
 returns-then-has_over-clause-used c = (

@@ -3,7 +3,7 @@ use Rattle.std.proofs.lemmas.List.{length-map}
 use Rattle.aadl_tree.specs.PackageViews.{placed}
 use Rattle.aadl_uses.specs.Uses.{targets_in}
 use Rattle.aadl_uses.proofs.Threads.{closed_by, ok_threads}
-use Rattle.aadl_uses.proofs.below.thread_paths.Goals as goal
+use Rattle.aadl_uses.proofs.threads_below.thread_paths.Goals as goal
 
 pub paths_below-requires-clause-closed : goal.paths_below-requires-clause-closed
 paths_below-requires-clause-closed c = closed_by (placed c.args.uses.now.tree.now) c.args.root c.containment.result.now c.args.used.now.keys c.containment.ensures c.requires.used

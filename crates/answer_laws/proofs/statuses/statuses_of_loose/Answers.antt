@@ -1,5 +1,5 @@
 use Rattle.std.proofs.Common.{inl, inr, refl}
-use Rattle.loose_world.specs.declared.LooseEnd.TheVariants as end
+use Rattle.loose_world.specs.declared.events.LooseEnd.TheVariants as end
 use Rattle.answer_laws.proofs.LooseStanding.{exactly, at_scenario}
 use Rattle.answer_laws.proofs.statuses.statuses_of_loose.Goals as goal
 

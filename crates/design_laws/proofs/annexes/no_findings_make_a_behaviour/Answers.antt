@@ -8,7 +8,7 @@ use Rattle.annex_resolve.specs.Behaviours.{declared, states_of, transitions_of, 
 use Rattle.design_laws.proofs.Tests.{nothing_left, is_right}
 use Rattle.design_laws.proofs.Going.{edges_sound, all_have_ways, no_cycles}
 use Rattle.design_laws.proofs.Beginning.{may_begin_there}
-use Rattle.design_laws.proofs.laws.no_findings_make_a_behaviour.Goals as goal
+use Rattle.design_laws.proofs.annexes.no_findings_make_a_behaviour.Goals as goal
 
 pub returns : goal.returns
 returns c = λ values scope at annex ready none.

@@ -1,5 +1,5 @@
 use Rattle.design_laws.proofs.Readying.{behaves}
-use Rattle.design_laws.proofs.laws.no_findings_make_a_thread_behave.Goals as goal
+use Rattle.design_laws.proofs.behaviours.no_findings_make_a_thread_behave.Goals as goal
 
 pub returns : goal.returns
 returns c = λ tree root n x words differ clean is thread ports none. behaves tree root n x words differ clean is thread ports

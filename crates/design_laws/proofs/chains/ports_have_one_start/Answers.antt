@@ -1,5 +1,5 @@
 use Rattle.design_laws.proofs.Sourcing.{one_start}
-use Rattle.design_laws.proofs.laws.ports_have_one_start.Goals as goal
+use Rattle.design_laws.proofs.chains.ports_have_one_start.Goals as goal
 
 pub returns : goal.returns
 returns c = λ tree name parts flat first second from other to a b l m. one_start flat first second from other to a b l m

@@ -1,5 +1,5 @@
 use Rattle.design_laws.proofs.Merely.{keeps}
-use Rattle.design_laws.proofs.laws.designs_keep_their_rules.Goals as goal
+use Rattle.design_laws.proofs.designs.designs_keep_their_rules.Goals as goal
 
 pub returns : goal.returns
 returns c = λ tree s named shown nothing design is. keeps c.no_findings_make_a_thread_behave.ensures tree s named shown nothing design is

@@ -1,5 +1,5 @@
 use Rattle.design_laws.proofs.Apart.{differ_given}
-use Rattle.design_laws.proofs.laws.names_differ.Goals as goal
+use Rattle.design_laws.proofs.names.names_differ.Goals as goal
 
 pub returns : goal.returns
 returns c = λ tree root n x given none is. differ_given tree root n x given none is

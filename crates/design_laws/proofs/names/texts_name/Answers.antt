@@ -1,5 +1,5 @@
 use Rattle.design_laws.proofs.Texts.{named}
-use Rattle.design_laws.proofs.laws.texts_name.Goals as goal
+use Rattle.design_laws.proofs.names.texts_name.Goals as goal
 
 pub returns : goal.returns
 returns c = λ tree. named tree

@@ -1,5 +1,5 @@
 use Rattle.design_laws.proofs.Verdicts.{no_list}
-use Rattle.design_laws.proofs.laws.accepted_or_refused.Goals as goal
+use Rattle.design_laws.proofs.packages.accepted_or_refused.Goals as goal
 
 pub returns-clause-no_fault : goal.returns-clause-no_fault
 returns-clause-no_fault c tree root design fault d f = d.flat.sound f.line fault f.here.found

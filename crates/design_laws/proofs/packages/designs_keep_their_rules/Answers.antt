@@ -1,6 +1,6 @@
 use Rattle.aadl_tree.specs.PackageViews.{placed}
 use Rattle.design_laws.proofs.Accepted.{keeps_rules, is_there, within_bound}
-use Rattle.design_laws.proofs.laws.designs_keep_their_rules.Goals as goal
+use Rattle.design_laws.proofs.packages.designs_keep_their_rules.Goals as goal
 
 pub returns-clause-rules : goal.returns-clause-rules
 returns-clause-rules c tree root design =

@@ -1,5 +1,5 @@
 use Rattle.design_laws.proofs.Accepted.{given_names, keeps_rules, is_there}
-use Rattle.design_laws.proofs.laws.designs_of_texts_keep_their_rules.Goals as goal
+use Rattle.design_laws.proofs.packages.designs_of_texts_keep_their_rules.Goals as goal
 
 pub returns-clause-rules : goal.returns-clause-rules
 returns-clause-rules c tree root design given =

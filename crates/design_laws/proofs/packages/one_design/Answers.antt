@@ -1,5 +1,5 @@
 use Rattle.design_laws.proofs.Verdicts.{one_design}
-use Rattle.design_laws.proofs.laws.one_design.Goals as goal
+use Rattle.design_laws.proofs.packages.one_design.Goals as goal
 
 pub returns : goal.returns
 returns c = one_design c.designs_are_one.ensures

@@ -1,5 +1,5 @@
 use Rattle.design_laws.proofs.Verdicts.{one_instance}
-use Rattle.design_laws.proofs.laws.one_instance.Goals as goal
+use Rattle.design_laws.proofs.packages.one_instance.Goals as goal
 
 pub returns : goal.returns
 returns c = one_instance

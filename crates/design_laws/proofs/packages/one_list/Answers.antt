@@ -1,5 +1,5 @@
 use Rattle.design_laws.proofs.Verdicts.{one_list}
-use Rattle.design_laws.proofs.laws.one_list.Goals as goal
+use Rattle.design_laws.proofs.packages.one_list.Goals as goal
 
 pub returns : goal.returns
 returns c = one_list

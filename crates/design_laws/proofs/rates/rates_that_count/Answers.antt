@@ -1,5 +1,5 @@
 use Rattle.design_laws.proofs.Counting.{rate_counts}
-use Rattle.design_laws.proofs.laws.rates_that_count.Goals as goal
+use Rattle.design_laws.proofs.rates.rates_that_count.Goals as goal
 
 pub returns : goal.returns
 returns c = λ t p k is. let r = rate_counts t p k is in (r.low, r.high, r.divides)

@@ -5,7 +5,7 @@ use Rattle.pals_runs.specs.declared.events.Event.{Event}
 use Rattle.pals_bus.specs.Loose.{GoesOn}
 use Rattle.loose_world.specs.Worlds.{told_by}
 use Rattle.loose_world.proofs.Worlds.{done_more, cut_behind, on_err}
-use Rattle.loose_world.proofs.run_loose.Goals as goal
+use Rattle.loose_world.proofs.events.run_loose.Goals as goal
 
 pub loop-index-preserved : goal.loop-index-preserved
 loop-index-preserved c =

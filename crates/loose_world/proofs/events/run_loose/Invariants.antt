@@ -1,5 +1,5 @@
 use Rattle.loose_world.proofs.Worlds.{AreDone}
-use Rattle.loose_world.proofs.run_loose.Given as goal
+use Rattle.loose_world.proofs.events.run_loose.Given as goal
 
 -- the first events have happened, without a stop
 abbrev pub invariant-loop-index : goal.invariant-loop-index

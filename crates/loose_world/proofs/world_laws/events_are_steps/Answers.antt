@@ -1,5 +1,5 @@
 use Rattle.loose_world.proofs.StepsOf.{events_are_steps}
-use Rattle.loose_world.proofs.laws.events_are_steps.Goals as goal
+use Rattle.loose_world.proofs.world_laws.events_are_steps.Goals as goal
 
 pub returns : goal.returns
 returns c = events_are_steps

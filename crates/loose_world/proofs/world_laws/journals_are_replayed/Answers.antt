@@ -1,5 +1,5 @@
 use Rattle.loose_world.proofs.Journals.{journal_replays}
-use Rattle.loose_world.proofs.laws.journals_are_replayed.Goals as goal
+use Rattle.loose_world.proofs.world_laws.journals_are_replayed.Goals as goal
 
 pub returns : goal.returns
 returns c = journal_replays

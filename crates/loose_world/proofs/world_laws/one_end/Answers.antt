@@ -1,5 +1,5 @@
 use Rattle.loose_world.proofs.Ends.{one_end}
-use Rattle.loose_world.proofs.laws.one_end.Goals as goal
+use Rattle.loose_world.proofs.world_laws.one_end.Goals as goal
 
 pub returns : goal.returns
 returns c = one_end

@@ -1,5 +1,5 @@
 use Rattle.loose_world.proofs.StepCounts.{step_counts}
-use Rattle.loose_world.proofs.laws.step_counts.Goals as goal
+use Rattle.loose_world.proofs.world_laws.step_counts.Goals as goal
 
 pub returns : goal.returns
 returns c = step_counts

@@ -1,5 +1,5 @@
 use Rattle.loose_world.proofs.Reports.{world_is_reported, world_text_is_reported}
-use Rattle.loose_world.proofs.laws.worlds_are_reported.Goals as goal
+use Rattle.loose_world.proofs.world_laws.worlds_are_reported.Goals as goal
 
 pub returns : goal.returns
 returns c = record { rows = world_is_reported; text = world_text_is_reported }

@@ -3,7 +3,7 @@ use Rattle.std.specs.Prelude.{flat_map}
 use Rattle.aadl_tree.specs.Views.{connection_view}
 use Rattle.aadl_tree.specs.Maps.{kept_place}
 use Rattle.model_violations.specs.Ignored.{connection_ignored}
-use Rattle.model_violations.proofs.declarations.add_connections.Given as goal
+use Rattle.model_violations.proofs.ignored_declarations.add_connections.Given as goal
 
 abbrev pub invariant-loop-connection : goal.invariant-loop-connection
 invariant-loop-connection l = l.found ≡ l.fn.found ++ flat_map connection_ignored (map (connection_view kept_place) (take l.connection-index l.connections))

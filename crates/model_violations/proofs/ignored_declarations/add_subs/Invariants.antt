@@ -3,7 +3,7 @@ use Rattle.std.specs.Prelude.{flat_map}
 use Rattle.aadl_tree.specs.Views.{subcomponent_view}
 use Rattle.aadl_tree.specs.Maps.{kept_place}
 use Rattle.model_violations.specs.Ignored.{sub_ignored}
-use Rattle.model_violations.proofs.declarations.add_subs.Given as goal
+use Rattle.model_violations.proofs.ignored_declarations.add_subs.Given as goal
 
 abbrev pub invariant-loop-sub : goal.invariant-loop-sub
 invariant-loop-sub l = l.found ≡ l.fn.found ++ flat_map sub_ignored (map (subcomponent_view kept_place) (take l.sub-index l.subs))

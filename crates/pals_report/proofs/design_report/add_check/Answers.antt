@@ -7,7 +7,7 @@ use Rattle.bound_checker.specs.Multiple.{IsLeastMultiple, HasNoMultiple}
 use Rattle.pals_report.proofs.Begins.{joined_on_ok}
 use Rattle.pals_report.specs.CheckReports.{rate_of, check_lines, IsShortest}
 use Rattle.pals_report.proofs.Listed.{on_ok_also}
-use Rattle.pals_report.proofs.report.add_check.Goals as goal
+use Rattle.pals_report.proofs.design_report.add_check.Goals as goal
 
 pub least_multiple-shortest-requires-clause-rates : goal.least_multiple-shortest-requires-clause-rates
 least_multiple-shortest-requires-clause-rates c =
