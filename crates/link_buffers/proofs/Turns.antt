@@ -1,5 +1,5 @@
 -- A list that turns, item by item.
-use Rattle.std.proofs.Common.{◌≡◌, ℕ, suc, ◌+◌, ◌-◌, ◌<◌, ◌≤◌, List, [], ◌∷◌, ◌++◌, length, get_or, take, drop, slice_get, remove, Some, None, refl, sym, ap, ◌∙◌, arith, append_assoc, length-append, length-take, add-one}
+use Rattle.std.proofs.Common.{◌≡◌, ℕ, zero, suc, ◌+◌, ◌-◌, ◌<◌, ◌≤◌, List, [], ◌∷◌, ◌++◌, length, get_or, take, drop, slice_get, remove, Some, None, refl, sym, ap, ◌∙◌, arith, append_assoc, length-append, length-take, length-drop, add-one}
 use Rattle.std.proofs.Math.Seq.{drop-cons, take-suc, take-append_seam, drop-append_seam}
 use Rattle.std.proofs.lemmas.List.{take_all, drop_all, take-append-drop}
 use Rattle.std.proofs.lemmas.Option.{slice_get-get_or, slice_get_within, get_or_from_slice_get}
@@ -69,3 +69,41 @@ module _ {X : Type 0} where
   pub nothing_to_turn : (xs : List X) → slice_get xs (length xs - 1) ≡ None → take (length xs - 1) xs ≡ turned (length xs - 1) xs
   nothing_to_turn [] last = refl
   nothing_to_turn (x ∷ xs) last = let some = slice_get-get_or (x ∷ xs) (length (x ∷ xs) - 1) x (omega arith) in absurd (cc)
+
+  -- ---- the last item of a turned list, and the others round it again
+  last_of : (xs : List X) (y : X) (n : ℕ) → n ≡ length xs → slice_get (xs ++ y ∷ []) n ≡ Some y
+  last_of [] y n same = rw same refl
+  last_of (x ∷ xs) y zero same = absurd (omega arith)
+  last_of (x ∷ xs) y (suc n) same = last_of xs y n (omega arith)
+
+  -- the items behind a place, and then those ahead of it
+  abbrev pub around : ℕ → List X → List X
+  around n xs = drop (suc n) xs ++ take n xs
+
+  pub length-around : (xs : List X) (n : ℕ) → n < length xs → length (around n xs) ≡ length xs - 1
+  length-around xs n within = omega (arith, length-append (drop (suc n) xs) (take n xs), length-drop (suc n) xs, length-take n xs)
+
+  turned_parts : (xs : List X) (n : ℕ) (d : X) → n < length xs → turned (suc n) xs ≡ around n xs ++ get_or xs n d ∷ []
+  turned_parts xs n d within = ap (λ ts. drop (suc n) xs ++ ts) (take-suc xs n d within) ∙ sym (append_assoc (drop (suc n) xs) (take n xs) (get_or xs n d ∷ []))
+
+  pub turned_last : (xs : List X) (n : ℕ) → n < length xs → slice_get (turned (suc n) xs) (length (turned (suc n) xs) - 1) ≡ slice_get xs n
+  turned_last [] n within = absurd (omega arith)
+  turned_last (x ∷ xs) n within =
+      let ys = x ∷ xs in
+      let y = get_or ys n x in
+      rw (turned_parts ys n x within) (last_of (around n ys) y (length (around n ys ++ y ∷ []) - 1) (omega (arith, length-append (around n ys) (y ∷ []))) ∙ sym (slice_get-get_or ys n x within))
+
+  pub turned_init : (xs : List X) (n : ℕ) → n < length xs → take (length (turned (suc n) xs) - 1) (turned (suc n) xs) ≡ around n xs
+  turned_init [] n within = absurd (omega arith)
+  turned_init (x ∷ xs) n within =
+      let ys = x ∷ xs in
+      let y = get_or ys n x in
+      let ahead : length (around n ys ++ y ∷ []) - 1 ≡ length (around n ys) = omega (arith, length-append (around n ys) (y ∷ [])) in
+      rw (turned_parts ys n x within, ahead) (take-append_seam (around n ys) (y ∷ []))
+
+  -- those ahead of the place come to the front again
+  pub turned_on : (xs : List X) (n m : ℕ) → n < length xs → m + suc n ≡ length xs → turned m (around n xs) ≡ remove xs n
+  turned_on xs n m within same =
+      let rest = drop (suc n) xs in
+      let ahead : m ≡ length rest = omega (arith, length-drop (suc n) xs) in
+      rw (ahead, drop-append_seam rest (take n xs), take-append_seam rest (take n xs)) refl

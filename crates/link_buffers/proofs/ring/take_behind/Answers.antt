@@ -1,7 +1,7 @@
 use Rattle.std.proofs.Common.{◌≡◌, ◌-◌, length, drop, remove, slice_get, ap, ◌∙◌, arith, length-drop}
 use Rattle.circular_buffer.specs.Buffer.{buffer}
 use Rattle.link_buffers.proofs.Turns.{turned, length-turned, turn_more, turn_less, turned_front, turned_back}
-use Rattle.link_buffers.proofs.ring.take_at.Goals as goal
+use Rattle.link_buffers.proofs.ring.take_behind.Goals as goal
 
 pub loop-turn-preserved : goal.loop-turn-preserved
 loop-turn-preserved c =
@@ -26,13 +26,13 @@ loop-back-preserved c =
 pub returns-clause-copy : goal.returns-clause-copy
 returns-clause-copy c =
     let xs = c.args.ring.now.items in
-    let all : c.loop-turn._turn ≡ c.args.place = omega arith in
+    let all : c.loop-turn._turn ≡ c.args.ahead = omega arith in
     rw c.loop-turn.invariant at c.pop_front-copy.ensures.value ∙ (turned_front xs c.loop-turn._turn (omega arith) ∙ ap (slice_get xs) all)
 
 pub returns-clause-others : goal.returns-clause-others
 returns-clause-others c =
     let xs = c.args.ring.now.items in
-    let all : c.loop-turn._turn ≡ c.args.place = omega arith in
+    let all : c.loop-turn._turn ≡ c.args.ahead = omega arith in
     let popped : c.pop_front-copy.new.self ≡ buffer (drop 1 (turned c.loop-turn._turn xs)) c.args.ring.now.capacity = rw c.loop-turn.invariant at c.pop_front-copy.ensures.items in
     rw popped at c.loop-back.invariant
     ∙ ap (λ zs. buffer zs c.args.ring.now.capacity) (turned_back xs c.loop-turn._turn c.loop-back._back (omega arith) (omega arith) ∙ ap (remove xs) all)

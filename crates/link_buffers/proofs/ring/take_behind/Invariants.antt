@@ -1,7 +1,7 @@
 use Rattle.std.proofs.Common.{◌≡◌, ◌-◌, length}
 use Rattle.circular_buffer.specs.Buffer.{buffer}
 use Rattle.link_buffers.proofs.Turns.{turned}
-use Rattle.link_buffers.proofs.ring.take_at.Given as goal
+use Rattle.link_buffers.proofs.ring.take_behind.Given as goal
 
 -- so many copies have gone to the back
 abbrev pub invariant-loop-turn : goal.invariant-loop-turn
