@@ -1,9 +1,9 @@
 //! The messages that are under way on one link.
 ghost use Rattle.std.specs.Prelude.{◌≡◌, ◌+◌, ◌-◌, ◌≤◌, [], ◌∷◌, ◌++◌, max, IfNone, IfOk, OnOk, OnErr, option_copied, option_map, is_some, if◌then◌else◌};
 ghost use Rattle.pals_model.specs.Flights.{oldest, without_oldest};
-ghost use Rattle.link_buffers.specs.Flights.{flight_of, is_due, due_rounds, least};
+ghost use Rattle.link_buffers.specs.Flights.{flight_of, due_rounds, least};
 
-use crate::ring::{Ring, place_of_oldest, take_at};
+use crate::ring::{Ring, Standing, least_due, place_of_oldest, standing_at, take_at, top_with};
 use pals_base::{Nanos, NoMemory, Tuple};
 use pals_model::FlightCopy;
 use std::alloc::Global;
@@ -19,12 +19,13 @@ pub struct Flight {
 impl Model for Flight {
     ghost use Rattle.std.specs.Prelude.{◌-◌, ◌≤◌, length};
     ghost use Rattle.link_buffers.specs.Flights.{FlightState};
+    ghost use Rattle.link_buffers.specs.Rings.{copies_of, AreTopped};
 
     ghost Value = { FlightState };
 
-    ghost view = { λ flight. record { copies = flight.ring.items; spare = flight.ring.capacity - length flight.ring.items } };
+    ghost view = { λ flight. record { copies = copies_of flight.ring.items; spare = flight.ring.capacity - length flight.ring.items } };
 
-    ghost invariant = { λ flight. length flight.ring.items ≤ flight.ring.capacity };
+    ghost invariant = { λ flight. (length flight.ring.items ≤ flight.ring.capacity) × AreTopped flight.ring.items };
 }
 
 impl Flight {
@@ -57,7 +58,9 @@ impl Flight {
         requires { 1 ≤ self.old.spare }
         ensures { self.new ≡ flight_of (self.old.copies ++ record { round = round; due = due; tuple = tuple } ∷ []) (self.old.spare - 1) }
     {
-        self.ring.push_back(FlightCopy { round, due, tuple });
+        let top = top_with(&self.ring, round);
+        let copy = FlightCopy { round, due, tuple };
+        self.ring.push_back(Standing { copy, top });
     }
 
     /// Takes out the oldest copy of a round, or nothing where there is none. The others keep their
@@ -69,7 +72,7 @@ impl Flight {
         ensures same { IfNone result (self.new ≡ self.old) }
     {
         let place = place_of_oldest(&self.ring, round)?;
-        take_at(&mut self.ring, place).map(|copy| copy.tuple)
+        take_at(&mut self.ring, place).map(|standing| standing.copy.tuple)
     }
 
     /// The oldest copy of a round, which stays.
@@ -77,27 +80,13 @@ impl Flight {
         ensures { option_copied result ≡ oldest round self.now.copies }
     {
         let place = place_of_oldest(&self.ring, round)?;
-        self.ring.get(place)
+        Some(&standing_at(&self.ring, place).copy)
     }
 
     /// The least round of which a copy is due at a reading, in nanoseconds, or none.
     pub fn flight_due(&self, reading: Nanos) -> Option<u32>
         ensures { result ≡ least (due_rounds reading self.now.copies) }
     {
-        self.ring
-            .iter()
-            .filter(|copy| is_due(copy, reading))
-            .map(|copy| copy.round)
-            .min()
-    }
-}
-
-// Whether a copy's due reading is at most this one.
-fn is_due(copy: &FlightCopy, reading: Nanos) -> bool
-    ensures { result ≡ is_due reading copy.now }
-{
-    match copy.due {
-        None => false,
-        Some(due) => due <= reading,
+        least_due(&self.ring, reading)
     }
 }

@@ -1,26 +1,85 @@
 //! Copies in a ring, one of which may be taken out of the middle.
-ghost use Rattle.std.specs.Prelude.{◌≡◌, ◌+◌, ◌-◌, ◌<◌, ◌≤◌, ◌++◌, length, take, drop, remove, slice_get};
+ghost use Rattle.std.specs.Prelude.{◌≡◌, ◌+◌, ◌-◌, ◌<◌, ◌≤◌, ◌++◌, length, take, drop, remove, slice_get, slice_index_or, map, filter, All};
+ghost use Rattle.link_buffers.specs.Flights.{is_due, least};
 ghost use Rattle.std.specs.List.{position};
 ghost use Rattle.pals_model.specs.Flights.{is_of};
 ghost use Rattle.circular_buffer.specs.Buffer.{buffer};
+ghost use Rattle.link_buffers.specs.Rings.{copies_of, AreTopped, AreBelow};
 
 use circular_buffer::HeapCircularBuffer;
+use pals_base::Nanos;
 use pals_model::FlightCopy;
 
-/// Copies in order of adding, in a ring.
-pub type Ring = HeapCircularBuffer<FlightCopy>;
+/// A copy in a ring. No copy up to it is of a round above its top.
+#[derive(Drop)]
+pub struct Standing {
+    pub copy: FlightCopy,
+    pub top: u32,
+}
 
-/// The place of the oldest copy of a round.
+/// Copies in order of adding, in a ring.
+pub type Ring = HeapCircularBuffer<Standing>;
+
+/// The place of the oldest copy of a round. The search passes only copies that were added after the
+/// first of that round or of a later one.
 pub fn place_of_oldest(ring: &Ring, round: u32) -> Option<usize>
-    ensures { result ≡ position (is_of round) ring.now.items }
+    requires { AreTopped ring.now.items }
+    ensures { result ≡ position (is_of round) (copies_of ring.now.items) }
 {
-    ring.iter().position(|copy| copy.round == round)
+    for place in place_behind_earlier(ring, round)..ring.len() {
+        if standing_at(ring, place).copy.round == round {
+            return Some(place);
+        }
+    }
+    None
+}
+
+// A place ahead of which each copy is of an earlier round, found by halving.
+fn place_behind_earlier(ring: &Ring, round: u32) -> usize
+    requires { AreTopped ring.now.items }
+    ensures within { result ≤ length ring.now.items }
+    ensures below { AreBelow round result ring.now.items }
+{
+    let mut low = 0;
+    let mut high = ring.len();
+    while low < high {
+        let middle = low + (high - low) / 2;
+        if standing_at(ring, middle).top < round {
+            low = middle + 1;
+        } else {
+            high = middle;
+        }
+    }
+    low
+}
+
+/// What stands at a place.
+pub fn standing_at(ring: &Ring, place: usize) -> &Standing
+    requires { place < length ring.now.items }
+    ensures { (d : Standing) → slice_index_or ring.now.items place d ≡ result.now }
+{
+    match ring.get(place) {
+        Some(standing) => standing,
+        None => unreachable!(),
+    }
+}
+
+/// A top for one more copy of this round.
+pub fn top_with(ring: &Ring, round: u32) -> u32
+    requires { AreTopped ring.now.items }
+    ensures own { round ≤ result }
+    ensures ahead { All (λ s. s.copy.round ≤ result) ring.now.items }
+{
+    match ring.back() {
+        None => round,
+        Some(last) => round.max(last.top),
+    }
 }
 
 /// Takes out the copy at a place. The others keep their order. The ring turns from its nearer end
 /// until that copy stands there, and then back, so a take from the middle of a ring of n copies moves
 /// half of them twice, and n such takes move about n * n / 2 copies.
-pub fn take_at(ring: &mut Ring, place: usize) -> Option<FlightCopy>
+pub fn take_at(ring: &mut Ring, place: usize) -> Option<Standing>
     requires room { length ring.old.items ≤ ring.old.capacity }
     requires within { place < length ring.old.items }
     ensures copy { result ≡ slice_get ring.old.items place }
@@ -35,7 +94,7 @@ pub fn take_at(ring: &mut Ring, place: usize) -> Option<FlightCopy>
 }
 
 // Takes out the copy that stands behind so many others.
-fn take_behind(ring: &mut Ring, ahead: usize) -> Option<FlightCopy>
+fn take_behind(ring: &mut Ring, ahead: usize) -> Option<Standing>
     requires room { length ring.old.items ≤ ring.old.capacity }
     requires within { ahead < length ring.old.items }
     ensures copy { result ≡ slice_get ring.old.items ahead }
@@ -52,7 +111,7 @@ fn take_behind(ring: &mut Ring, ahead: usize) -> Option<FlightCopy>
 }
 
 // Takes out the copy that stands ahead of so many others.
-fn take_ahead_of(ring: &mut Ring, behind: usize) -> Option<FlightCopy>
+fn take_ahead_of(ring: &mut Ring, behind: usize) -> Option<Standing>
     requires room { length ring.old.items ≤ ring.old.capacity }
     requires within { behind < length ring.old.items }
     ensures copy { let place = length ring.old.items - (behind + 1) in result ≡ slice_get ring.old.items place }
@@ -85,5 +144,25 @@ fn turn_back(ring: &mut Ring)
 {
     if let Some(copy) = ring.pop_back() {
         ring.push_front(copy);
+    }
+}
+
+/// The least round of which a copy is due at a reading, in nanoseconds, or none.
+pub fn least_due(ring: &Ring, reading: Nanos) -> Option<u32>
+    ensures { result ≡ least (map (λ s. s.copy.round) (filter (λ s. is_due reading s.copy) ring.now.items)) }
+{
+    ring.iter()
+        .filter(|standing| is_due(&standing.copy, reading))
+        .map(|standing| standing.copy.round)
+        .min()
+}
+
+// Whether a copy's due reading is at most this one.
+fn is_due(copy: &FlightCopy, reading: Nanos) -> bool
+    ensures { result ≡ is_due reading copy.now }
+{
+    match copy.due {
+        None => false,
+        Some(due) => due <= reading,
     }
 }
