@@ -1,5 +1,5 @@
 pub mod Firsts
-pub mod Turns
+pub mod Moves
 pub mod Rings
 pub mod Splits
 pub mod Order

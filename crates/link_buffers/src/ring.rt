@@ -1,5 +1,5 @@
 //! Copies in a ring, one of which may be taken out of the middle.
-ghost use Rattle.std.specs.Prelude.{◌≡◌, ◌+◌, ◌-◌, ◌<◌, ◌≤◌, ◌++◌, length, take, drop, remove, slice_get, slice_index_or, map, filter, All};
+ghost use Rattle.std.specs.Prelude.{◌≡◌, ◌-◌, ◌<◌, ◌≤◌, Some, length, remove, slice_get, slice_index_or, slice_set, map, filter, All};
 ghost use Rattle.link_buffers.specs.Flights.{is_due, least};
 ghost use Rattle.std.specs.List.{position};
 ghost use Rattle.pals_model.specs.Flights.{is_of};
@@ -9,6 +9,7 @@ ghost use Rattle.link_buffers.specs.Rings.{copies_of, AreTopped, AreBelow};
 use circular_buffer::HeapCircularBuffer;
 use pals_base::Nanos;
 use pals_model::FlightCopy;
+use std::mem;
 
 /// A copy in a ring. No copy up to it is of a round above its top.
 #[derive(Drop)]
@@ -76,74 +77,61 @@ pub fn top_with(ring: &Ring, round: u32) -> u32
     }
 }
 
-/// Takes out the copy at a place. The others keep their order. The ring turns from its nearer end
-/// until that copy stands there, and then back, so a take from the middle of a ring of n copies moves
-/// half of them twice, and n such takes move about n * n / 2 copies.
+/// Takes out the copy at a place. The others keep their order. Only those between that place and the
+/// nearer end move, each by one place.
 pub fn take_at(ring: &mut Ring, place: usize) -> Option<Standing>
-    requires room { length ring.old.items ≤ ring.old.capacity }
-    requires within { place < length ring.old.items }
+    requires { place < length ring.old.items }
     ensures copy { result ≡ slice_get ring.old.items place }
     ensures others { ring.new ≡ buffer (remove ring.old.items place) ring.old.capacity }
 {
     let behind = ring.len() - 1 - place;
     if place <= behind {
-        take_behind(ring, place)
+        take_by_front(ring, place)
     } else {
-        take_ahead_of(ring, behind)
+        take_by_back(ring, behind)
     }
 }
 
-// Takes out the copy that stands behind so many others.
-fn take_behind(ring: &mut Ring, ahead: usize) -> Option<Standing>
-    requires room { length ring.old.items ≤ ring.old.capacity }
-    requires within { ahead < length ring.old.items }
+// Takes out the copy that stands behind so many others, which move on by one place.
+fn take_by_front(ring: &mut Ring, ahead: usize) -> Option<Standing>
+    requires { ahead < length ring.old.items }
     ensures copy { result ≡ slice_get ring.old.items ahead }
     ensures others { ring.new ≡ buffer (remove ring.old.items ahead) ring.old.capacity }
 {
-    for _turn in 0..ahead {
-        turn_on(ring);
+    let Some(mut held) = ring.pop_front() else {
+        unreachable!();
+    };
+    for place in 0..ahead {
+        exchange(ring, place, &mut held);
     }
-    let copy = ring.pop_front();
-    for _back in 0..ahead {
-        turn_back(ring);
-    }
-    copy
+    Some(held)
 }
 
-// Takes out the copy that stands ahead of so many others.
-fn take_ahead_of(ring: &mut Ring, behind: usize) -> Option<Standing>
-    requires room { length ring.old.items ≤ ring.old.capacity }
-    requires within { behind < length ring.old.items }
-    ensures copy { let place = length ring.old.items - (behind + 1) in result ≡ slice_get ring.old.items place }
-    ensures others { let place = length ring.old.items - (behind + 1) in ring.new ≡ buffer (remove ring.old.items place) ring.old.capacity }
+// Takes out the copy that stands ahead of so many others, which move up by one place.
+fn take_by_back(ring: &mut Ring, behind: usize) -> Option<Standing>
+    requires { behind < length ring.old.items }
+    ensures copy { let place = length ring.old.items - 1 - behind in result ≡ slice_get ring.old.items place }
+    ensures others { let place = length ring.old.items - 1 - behind in ring.new ≡ buffer (remove ring.old.items place) ring.old.capacity }
 {
-    for _turn in 0..behind {
-        turn_back(ring);
+    let Some(mut held) = ring.pop_back() else {
+        unreachable!();
+    };
+    let last = ring.len();
+    for moved in 0..behind {
+        exchange(ring, last - 1 - moved, &mut held);
     }
-    let copy = ring.pop_back();
-    for _back in 0..behind {
-        turn_on(ring);
-    }
-    copy
+    Some(held)
 }
 
-// Moves the front copy to the back.
-fn turn_on(ring: &mut Ring)
-    requires { length ring.old.items ≤ ring.old.capacity }
-    ensures { ring.new ≡ buffer (drop 1 ring.old.items ++ take 1 ring.old.items) ring.old.capacity }
+// Exchanges the copy at a place for another.
+fn exchange(ring: &mut Ring, place: usize, held: &mut Standing)
+    requires { place < length ring.old.items }
+    ensures ring { ring.new ≡ buffer (slice_set ring.old.items place held.old) ring.old.capacity }
+    ensures held { slice_get ring.old.items place ≡ Some held.new }
 {
-    if let Some(copy) = ring.pop_front() {
-        ring.push_back(copy);
-    }
-}
-
-// Moves the back copy to the front.
-fn turn_back(ring: &mut Ring)
-    requires { length ring.old.items ≤ ring.old.capacity }
-    ensures { let ahead = length ring.old.items - 1 in ring.new ≡ buffer (drop ahead ring.old.items ++ take ahead ring.old.items) ring.old.capacity }
-{
-    if let Some(copy) = ring.pop_back() {
-        ring.push_front(copy);
+    match ring.get_mut(place) {
+        Some(standing) => mem::swap(standing, held),
+        None => unreachable!(),
     }
 }
 

@@ -18,8 +18,8 @@ returns-in_err-place-clause-taken c =
     let nothing : c.from_residual.result ≡ None = grind (arith, common_steps) in
     rw (← c.self.view_is) (nothing ∙ ap (option_map (λ (copy : FlightCopy). copy.tuple)) (sym (find_none (is_of c.args.round) copies at)))
 
-pub take_at-requires-clause-within : goal.take_at-requires-clause-within
-take_at-requires-clause-within c =
+pub take_at-requires : goal.take_at-requires
+take_at-requires c =
     let xs = c.self.inside.ring.items in
     let at : position (is_of c.args.round) (copies_of xs) ≡ Some c.in_ok-place.place = grind (arith, common_steps) in
     oldest_within xs c.args.round c.in_ok-place.place at
