@@ -36,21 +36,45 @@ fn full_slot_keeps_its_message(rt: HostRuntime) -> Result<(), Fail> {
     Ok(())
 }
 
+// Three copies, of the rounds 0, 1 and 0.
+fn three_copies(alloc: Global) -> Result<Flight, NoMemory> {
+    let first = message(alloc, 10)?;
+    let second = message(alloc, 11)?;
+    let third = message(alloc, 12)?;
+    let mut flight = Flight::new(alloc)?;
+    flight.reserve(3)?;
+    flight.flight_add(0, Some(5), first);
+    flight.flight_add(1, Some(3), second);
+    flight.flight_add(0, Some(9), third);
+    Ok(flight)
+}
+
+fn dues(flight: &Flight) -> [Option<u32>; 3] {
+    [
+        flight.flight_due(2),
+        flight.flight_due(4),
+        flight.flight_due(5),
+    ]
+}
+
+// The values of the copies of these rounds, as they are taken out.
+fn taken(flight: &mut Flight, rounds: [u32; 4]) -> [Option<i64>; 4] {
+    let mut values = [None; 4];
+    for at in 0..4 {
+        values[at] = value(flight.flight_take(rounds[at]));
+    }
+    values
+}
+
 #[test]
 fn flight_of_three_copies(rt: HostRuntime) -> Result<(), Fail> {
-    let mut flight = Flight::new(rt.alloc())?;
-    flight.reserve(3)?;
-    flight.flight_add(0, Some(5), message(rt.alloc(), 10)?);
-    flight.flight_add(1, Some(3), message(rt.alloc(), 11)?);
-    flight.flight_add(0, Some(9), message(rt.alloc(), 12)?);
-    assert_eq!(rt; flight.flight_due(2), None);
-    assert_eq!(rt; flight.flight_due(4), Some(1));
-    assert_eq!(rt; flight.flight_due(5), Some(0));
-    assert_eq!(rt; value(flight.flight_take(1)), Some(11));
+    let mut flight = three_copies(rt.alloc())?;
+    assert_eq!(rt; dues(&flight), [None, Some(1), Some(0)]);
+    assert_eq!(rt;
+        taken(&mut flight, [1, 0, 0, 0]),
+        [Some(11), Some(10), Some(12), None]
+    );
     assert!(rt; flight.flight_oldest(1).is_none());
-    assert_eq!(rt; value(flight.flight_take(0)), Some(10));
-    assert_eq!(rt; value(flight.flight_take(0)), Some(12));
-    assert_eq!(rt; value(flight.flight_take(0)), None);
     Ok(())
 }
 
