@@ -2,7 +2,9 @@
 //! with the synchronous composition; and how a journal tells it. Definitions and their laws alone.
 #![tactic(auto)]
 
+pub mod action;
 pub mod laws;
 pub mod plan;
 
+pub use action::{Action, Next};
 pub use plan::{Input, Plan};

@@ -91,10 +91,11 @@ fn assert_run(
     rt: &impl Abort,
     alloc: Global,
     design: &str,
+    meeting: bool,
     rows: &[Row],
     told: &str,
 ) -> Result<(), Fail> {
-    let mut bus = bus_of(rt, alloc, design, 2)?;
+    let mut bus = bus_of(rt, alloc, design, 2, meeting)?;
     assert_rows(rt, &mut bus, rows);
     assert!(rt; tells(alloc, &bus, told)?);
     Ok(())
@@ -115,7 +116,7 @@ finish p.t 0\n";
 
 #[test]
 fn surface_steps_on_the_bus(rt: HostRuntime) -> Result<(), Fail> {
-    assert_run(&rt, rt.alloc(), TURN, &SURFACE, SURFACE_TOLD)
+    assert_run(&rt, rt.alloc(), TURN, false, &SURFACE, SURFACE_TOLD)
 }
 
 const DUE: [Row; 7] = [
@@ -140,7 +141,7 @@ arrive p.b.i 0 11000000 ignored\n";
 
 #[test]
 fn due_messages_arrive(rt: HostRuntime) -> Result<(), Fail> {
-    assert_run(&rt, rt.alloc(), TWO_COUNTERS, &DUE, DUE_TOLD)
+    assert_run(&rt, rt.alloc(), TWO_COUNTERS, false, &DUE, DUE_TOLD)
 }
 
 const NOT_DUE: [Row; 7] = [
@@ -167,7 +168,7 @@ arrive p.b.i 0 19999999 kept\n";
 
 #[test]
 fn messages_that_are_not_due_stay(rt: HostRuntime) -> Result<(), Fail> {
-    assert_run(&rt, rt.alloc(), TWO_COUNTERS, &NOT_DUE, NOT_DUE_TOLD)
+    assert_run(&rt, rt.alloc(), TWO_COUNTERS, false, &NOT_DUE, NOT_DUE_TOLD)
 }
 
 const STOPPED_EARLY: Stop = Stop::Early {
@@ -181,7 +182,7 @@ const EARLY: [Row; 5] = [
     Row::Repeat(TO_B, 0),
     Row::TakeDue(B, 11_000_000, Err(DueEnd::Stopped(STOPPED_EARLY))),
     Row::Flies(TO_B, 0, true),
-    Row::Meet(B, Meet::Ended),
+    Row::TakeDue(B, 11_000_000, Err(DueEnd::Stopped(STOPPED_EARLY))),
 ];
 
 const EARLY_TOLD: &str = "start p.a 0 9000000\n\
@@ -193,7 +194,7 @@ stop early p.b.i 0 11000000\n";
 
 #[test]
 fn early_message_stops_those_behind_it(rt: HostRuntime) -> Result<(), Fail> {
-    assert_run(&rt, rt.alloc(), TWO_COUNTERS, &EARLY, EARLY_TOLD)
+    assert_run(&rt, rt.alloc(), TWO_COUNTERS, false, &EARLY, EARLY_TOLD)
 }
 
 const MEETING: [Row; 6] = [
@@ -210,7 +211,7 @@ finish p.a 0\n";
 
 #[test]
 fn nodes_meet(rt: HostRuntime) -> Result<(), Fail> {
-    assert_run(&rt, rt.alloc(), TWO_COUNTERS, &MEETING, MEETING_TOLD)
+    assert_run(&rt, rt.alloc(), TWO_COUNTERS, true, &MEETING, MEETING_TOLD)
 }
 
 // Whether a fresh bus is of the run of the bus, before its first event.
@@ -222,7 +223,7 @@ fn is_fresh(alloc: Global, bus: &Bus) -> Result<bool, NoMemory> {
 
 // Whether a bus that makes one round is of the run of the bus.
 fn is_of_one_round(rt: &impl Abort, alloc: Global, bus: &Bus) -> Result<bool, Fail> {
-    let shorter = bus_of(rt, alloc, TWO_COUNTERS, 1)?;
+    let shorter = bus_of(rt, alloc, TWO_COUNTERS, 1, true)?;
     Ok(bus.same_run(&shorter))
 }
 
@@ -234,7 +235,7 @@ fn tells_its_run(rt: &impl Abort, alloc: Global, bus: &Bus) -> Result<bool, Fail
 #[test]
 fn fresh_bus_is_of_the_same_run(rt: HostRuntime) -> Result<(), Fail> {
     let alloc = rt.alloc();
-    let mut bus = bus_of(&rt, alloc, TWO_COUNTERS, 2)?;
+    let mut bus = bus_of(&rt, alloc, TWO_COUNTERS, 2, true)?;
     assert_rows(&rt, &mut bus, &MEETING);
     assert!(rt; tells_its_run(&rt, alloc, &bus)?);
     Ok(())

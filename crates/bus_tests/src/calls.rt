@@ -1,7 +1,8 @@
 //! A bus, and its calls. Each gives nothing where the design has no such node or link.
-ghost use Rattle.std.specs.Prelude.{◌≡◌, ◌<◌, ◌≤◌, IsTrue, IfOk, length};
+ghost use Rattle.std.specs.Prelude.{◌≡◌, ◌<◌, ◌≤◌, IsTrue, IfOk, length, true, Some};
 ghost use Rattle.pals_base.specs.declared.limits.TheConstants.{ROUNDS};
 ghost use Rattle.pals_model.specs.Delays.{AreDelays};
+ghost use Rattle.pals_bus.specs.Meeting.{GoesAt};
 
 use crate::designs::design_of;
 use design_codes::compile_all;
@@ -30,9 +31,15 @@ fn delays(alloc: Global, design: &Design) -> Result<Delays, NoMemory>
     Ok(Delays { lists })
 }
 
-/// A bus of the design of a text before its first event, whose nodes meet, in which each message takes
-/// 1 ms, and the root has no values.
-pub fn bus_of(rt: &impl Abort, alloc: Global, text: &str, rounds: u32) -> Result<Bus, Fail>
+/// A bus of the design of a text before its first event, in which each message takes 1 ms, and the
+/// root has no values; its nodes may meet.
+pub fn bus_of(
+    rt: &impl Abort,
+    alloc: Global,
+    text: &str,
+    rounds: u32,
+    meeting: bool,
+) -> Result<Bus, Fail>
     requires some { 1 ≤ rounds }
     requires most { rounds ≤ ROUNDS }
 {
@@ -42,7 +49,7 @@ pub fn bus_of(rt: &impl Abort, alloc: Global, text: &str, rounds: u32) -> Result
     let env = Env {
         lists: Items::new(alloc),
     };
-    Ok(Bus::new(alloc, design, codes, env, rounds, delays, true)?)
+    Ok(Bus::new(alloc, design, codes, env, rounds, delays, meeting)?)
 }
 
 // Whether a bus has this node.
@@ -59,9 +66,27 @@ fn has_link(bus: &Bus, link: LinkNo) -> bool
     (link.0 as usize) < bus.design().links().len()
 }
 
+// Whether a node of a bus may go on at a reading: where the nodes meet, only at the one that they go
+// on at.
+fn goes_at(bus: &Bus, node: NodeNo, reading: Nanos) -> bool
+    requires { node.0 < length bus.now.run.design.components }
+    ensures { IsTrue result → bus.now.meeting ≡ true → GoesAt bus.now node.0 (Some reading) }
+{
+    if !bus.meeting() {
+        return true;
+    }
+    if bus.next(node).is_none() {
+        return false;
+    }
+    match bus.meet(node) {
+        Meet::Go { reading: at } => at == reading,
+        Meet::Wait { .. } | Meet::Ended => false,
+    }
+}
+
 /// The job of a node's next round, if it starts.
 pub fn start(bus: &mut Bus, node: NodeNo, reading: Nanos) -> Option<Job> {
-    if !has_node(bus, node) {
+    if !has_node(bus, node) || !goes_at(bus, node, reading) {
         return None;
     }
     bus.start(node, Some(reading)).ok()
@@ -69,7 +94,7 @@ pub fn start(bus: &mut Bus, node: NodeNo, reading: Nanos) -> Option<Job> {
 
 /// The job of a node's next step, if it makes one.
 pub fn step(bus: &mut Bus, node: NodeNo, reading: Nanos) -> Option<Job> {
-    if !has_node(bus, node) {
+    if !has_node(bus, node) || !goes_at(bus, node, reading) {
         return None;
     }
     bus.step(node, Some(reading)).ok()
@@ -90,7 +115,10 @@ pub fn finish_here(bus: &mut Bus, node: NodeNo) -> bool {
 
 /// Whether a node sends its round.
 pub fn send(bus: &mut Bus, node: NodeNo, reading: Nanos) -> bool {
-    has_node(bus, node) && reading <= READING && bus.send(node, Some(reading)).is_ok()
+    has_node(bus, node)
+        && reading <= READING
+        && goes_at(bus, node, reading)
+        && bus.send(node, Some(reading)).is_ok()
 }
 
 /// Whether one more copy of a link's message of a round is in flight now.
@@ -106,9 +134,9 @@ pub fn take_due(bus: &mut Bus, node: NodeNo, reading: Nanos) -> Option<Result<()
     Some(bus.take_due(node, reading))
 }
 
-/// Whether a node may go on where the nodes meet, if it is not done.
+/// Whether a node may go on where the nodes meet, if it has a next action.
 pub fn meet(bus: &Bus, node: NodeNo) -> Option<Meet> {
-    if !has_node(bus, node) || bus.phase(node) == Phase::Done {
+    if !has_node(bus, node) || !bus.meeting() || bus.next(node).is_none() {
         return None;
     }
     Some(bus.meet(node))

@@ -78,14 +78,14 @@ fn uses(alloc: Global, bus: &mut Bus) -> Result<bool, NoMemory> {
 
 #[test]
 fn work_of_an_earlier_round_is_redone(rt: HostRuntime) -> Result<(), Fail> {
-    let mut bus = bus_of(&rt, rt.alloc(), TWO_COUNTERS, 2)?;
+    let mut bus = bus_of(&rt, rt.alloc(), TWO_COUNTERS, 2, false)?;
     assert!(rt; redoes(rt.alloc(), &mut bus)?);
     Ok(())
 }
 
 #[test]
 fn own_work_is_used(rt: HostRuntime) -> Result<(), Fail> {
-    let mut bus = bus_of(&rt, rt.alloc(), TWO_COUNTERS, 2)?;
+    let mut bus = bus_of(&rt, rt.alloc(), TWO_COUNTERS, 2, false)?;
     assert!(rt; uses(rt.alloc(), &mut bus)?);
     Ok(())
 }

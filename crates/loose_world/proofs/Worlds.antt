@@ -28,12 +28,16 @@ pub record AreDone (s : BusValue) (events : List Event) (first : ℕ) (t : BusVa
   pub told : new ≡ old ++ text_of lines
   pub going : t.state.stop ≡ None
   pub run : t.run ≡ s.run
+  pub meeting : t.meeting ≡ s.meeting
 
 pub done_none : (s : BusValue) (events : List Event) (text : List ℕ) → s.state.stop ≡ None → AreDone s events 0 s text text
-done_none s events text going = record { lines = []; happen = (refl, refl); told = sym (append-nil text); going = going; run = refl }
+done_none s events text going = record { lines = []; happen = (refl, refl); told = sym (append-nil text); going = going; run = refl; meeting = refl }
 
 run_loose : (old : BusValue) (e : Event) (new : BusValue) → HappensLoose old e new → new.run ≡ old.run
 run_loose old e new happens = let same : Happens old happens.0 new = happens.2 in ap (λ (b : BusValue). b.run) same.others
+
+meeting_loose : (old : BusValue) (e : Event) (new : BusValue) → HappensLoose old e new → new.meeting ≡ old.meeting
+meeting_loose old e new happens = let same : Happens old happens.0 new = happens.2 in ap (λ (b : BusValue). b.meeting) same.others
 
 text_more : (lines more : List (List ℕ)) → text_of (lines ++ more) ≡ text_of lines ++ text_of more
 text_more lines more = flat_map-append (λ (line : List ℕ). line ++ line_end) lines more
@@ -53,6 +57,7 @@ done_more s events first t u old mid new d within done goes told =
           ∙ ap (λ (xs : List ℕ). old ++ xs) (sym (text_more done.lines (told_by u e)));
       going = goes.going;
       run = run_loose t e u goes.happens ∙ done.run;
+      meeting = meeting_loose t e u goes.happens ∙ done.meeting;
     }
 
 -- ---- where memory is wanting

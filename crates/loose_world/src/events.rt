@@ -1,5 +1,5 @@
 //! A list of loose events.
-ghost use Rattle.std.specs.Prelude.{◌≡◌, ◌≤◌, ◌++◌, length, All, IfOk, OnOk, OnErr, None};
+ghost use Rattle.std.specs.Prelude.{◌≡◌, ◌≤◌, ◌++◌, length, All, IfOk, OnOk, OnErr, None, false};
 ghost use Rattle.pals_base.specs.declared.limits.TheConstants.{LIST_ITEMS};
 ghost use Rattle.pals_model.specs.RoundTexts.{text_of};
 ghost use Rattle.pals_bus.specs.Loose.{IsNamedIn};
@@ -33,6 +33,7 @@ pub fn run_loose(
     sent: &mut Vec<u8>,
 ) -> Result<LooseEnd, NoMemory>
     requires going { bus.old.state.stop ≡ None }
+    requires loose { bus.old.meeting ≡ false }
     requires events { All (IsLooseIn bus.old.run.design) events.now }
     requires few { length events.now ≤ LIST_ITEMS }
     requires links { AreOutLinks bus.old.run.design links.now }

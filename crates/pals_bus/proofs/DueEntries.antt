@@ -1,12 +1,13 @@
 -- The entries of messages that are due, and their copies in flight.
-use Rattle.std.proofs.Common.{◌≡◌, ◌≢◌, ◌∙◌, inl, inr, ◌⊎◌, ℕ, zero, suc, ◌+◌, ◌*◌, ◌^◌, ◌<◌, ◌≤◌, nat_eq, nat_lt, nat_le, Bool, true, false, cond, List, [], ◌∷◌, length, find, Option, Some, None, is_some, All, refl, sym, ap, arith}
+use Rattle.std.proofs.Common.{◌≡◌, ◌≢◌, ◌↔◌, ◌∙◌, inl, inr, ◌⊎◌, ℕ, zero, suc, ◌+◌, ◌*◌, ◌^◌, ◌<◌, ◌≤◌, nat_eq, nat_lt, nat_le, Bool, true, false, cond, List, [], ◌∷◌, length, find, Option, Some, None, is_some, All, refl, sym, ap, arith}
 use Rattle.std.specs.Prelude.{count_by, filter, slice_index_or, slice_get, ◌&&◌, ◌||◌, if◌then◌else◌}
 use Rattle.std.specs.Option.{option_map_or}
 use Rattle.std.specs.List.Sorted.{IsNonDecreasingBy}
 use Rattle.std.proofs.lemmas.Bool.{cases_eq, cases_lt, eqb-true, and_parts, false≢true}
 use Rattle.std.proofs.lemmas.List.{get_or_past}
 use Rattle.std.proofs.lemmas.List.Sorted.{sum_by-IsPermutation}
-use Rattle.std.proofs.lemmas.List.Sums.{sum_by-cons, count_by-le-length}
+use Rattle.std.proofs.lemmas.Grind.{common_steps}
+use Rattle.std.proofs.lemmas.List.Sums.{sum_by-cons, count_by-le-length, length-filter}
 use Rattle.std.proofs.lemmas.Option.{slice_get-get_or, get_or_from_slice_get}
 use Rattle.pals_model.specs.declared.design.Link.{Link}
 use Rattle.pals_model.specs.declared.flight.FlightCopy.{FlightCopy}
@@ -21,7 +22,7 @@ use Rattle.pals_bus.specs.Values.{BusValue}
 use Rattle.pals_bus.specs.Keeping.{Keeps, value_of}
 use Rattle.pals_bus.specs.Absent.{no_queue}
 use Rattle.pals_bus.specs.Queues.{AreDueEntries, comes_first, is_copy_of}
-use Rattle.pals_bus.specs.Due.{IsDueTo, AreLeft, flying}
+use Rattle.pals_bus.specs.Due.{IsDueTo, HasDue, AreLeft, flying}
 use Rattle.pals_bus.proofs.Rooms.{flight_is}
 use Rattle.pals_bus.proofs.QueueRooms.{both, either, eqb-refl, one_or_none}
 use Rattle.pals_bus.proofs.QueueMessages.{count_none}
@@ -73,16 +74,20 @@ due_counts : (q : DueEntry → Bool) (e : DueEntry) (xs : List DueEntry) (b : Bo
 due_counts q e xs true is = kept_counts q e xs is
 due_counts q e xs false is = dropped_counts q e xs is
 
+-- as many entries of a queue are due as copies are in flight
+pub counts_at_first : (f : Fields) (node reading : ℕ) (queue : QueueState) → Keeps f → queue ≡ slice_index_or f.queues node no_queue → (e : DueEntry)
+    → count_by (is_entry e) (filter (is_due_at reading) queue.entries) ≡ (if is_due_at reading e then flying (value_of f) node e else 0)
+counts_at_first f node reading queue keeps is e =
+    due_counts (is_due_at reading) e queue.entries (is_due_at reading e) refl
+    ∙ ap (λ (n : ℕ). if is_due_at reading e then n else 0)
+    (ap (λ (q : QueueState). count_by (is_entry e) q.entries) is
+    ∙ keeps.queues.entries node e
+    ∙ ap (λ (copies : List FlightCopy). if nat_eq (link_at (value_of f).run.design e.link.0).target.0 node then count_by (is_copy_of e) copies else 0) (sym (flight_is f.flights e.link.0)))
+
 -- all messages that are due stand in the queue
 pub left_at_first : (f : Fields) (node reading : ℕ) (queue : QueueState) (due : List DueEntry) → Keeps f → queue ≡ slice_index_or f.queues node no_queue → AreDueEntries queue reading due → AreLeft (value_of f) node reading due
 left_at_first f node reading queue due keeps is are = record {
-  counts = λ e.
-      sum_by-IsPermutation (λ x. cond (is_entry e x) 1 0) (filter (is_due_at reading) queue.entries) due are.are
-      ∙ due_counts (is_due_at reading) e queue.entries (is_due_at reading e) refl
-      ∙ ap (λ (n : ℕ). if is_due_at reading e then n else 0)
-      (ap (λ (q : QueueState). count_by (is_entry e) q.entries) is
-      ∙ keeps.queues.entries node e
-      ∙ ap (λ (copies : List FlightCopy). if nat_eq (link_at (value_of f).run.design e.link.0).target.0 node then count_by (is_copy_of e) copies else 0) (sym (flight_is f.flights e.link.0)));
+  counts = λ e. sum_by-IsPermutation (λ x. cond (is_entry e x) 1 0) (filter (is_due_at reading) queue.entries) due are.are ∙ counts_at_first f node reading queue keeps is e;
   order = are.order;
 }
 
@@ -258,3 +263,35 @@ due_place (x ∷ xs) reading count place is below none =
     let least = count_by-le-length (is_due_at reading) (x ∷ xs) in
     let there : slice_get (x ∷ xs) place ≡ Some (slice_index_or (x ∷ xs) place x) = slice_get-get_or (x ∷ xs) place x (omega (arith, is, below, least)) in
     absurd (cc)
+
+-- ---- whether any message is due
+entry_refl : (e : DueEntry) → is_entry e e ≡ true
+entry_refl e = grind (arith, common_steps)
+
+some_there : (b : BusValue) (node reading : ℕ) (entries : List DueEntry) → length b.state.flights ≡ length b.run.design.links
+    → ((e : DueEntry) → count_by (is_entry e) entries ≡ (if is_due_at reading e then flying b node e else 0)) → 1 ≤ length entries → HasDue b node reading
+some_there b node reading [] many counts some = absurd (omega (arith, some))
+some_there b node reading (e ∷ entries) many counts some =
+    let one = count_some (is_entry e) (e ∷ entries) 0 e refl (entry_refl e) in
+    let here = counts e in
+    let parts = if_some (is_due_at reading e) (flying b node e) (omega (arith, one, here)) in
+    record { link = e.link.0; round = e.round; is_due = due_of_entry b node reading e many parts.0 parts.1 }
+
+there_some : (b : BusValue) (node reading : ℕ) (entries : List DueEntry) → ((e : DueEntry) → count_by (is_entry e) entries ≡ (if is_due_at reading e then flying b node e else 0)) → HasDue b node reading → 1 ≤ length entries
+there_some b node reading [] counts due =
+    let found = entry_of_due b node reading due.link due.round due.is_due in
+    let entry : IsEntryOf b node reading due.link due.round found.0 = found.1 in
+    let some = entry.some in
+    let none : 0 ≡ flying b node found.0 = counts found.0 ∙ ap (λ (t : Bool). if t then flying b node found.0 else 0) entry.due in
+    absurd (omega (arith, some, none))
+there_some b node reading (e ∷ entries) counts due = omega arith
+
+-- some entry of the queue is due just if some message is
+pub due_by_queue : (f : Fields) (node reading : ℕ) (queue : QueueState) → Keeps f → queue ≡ slice_index_or f.queues node no_queue → length (value_of f).state.flights ≡ length (value_of f).run.design.links
+    → (count : ℕ) → count ≡ count_by (is_due_at reading) queue.entries → (0 < count) ↔ HasDue (value_of f) node reading
+due_by_queue f node reading queue keeps is many count counted =
+    let entries = filter (is_due_at reading) queue.entries in
+    let size = length-filter (is_due_at reading) queue.entries in (
+      λ some. some_there (value_of f) node reading entries many (counts_at_first f node reading queue keeps is) (omega (arith, size, counted, some)),
+      λ due. let some = there_some (value_of f) node reading entries (counts_at_first f node reading queue keeps is) due in omega (arith, size, counted, some),
+    )

@@ -29,7 +29,7 @@ pub record Arriving (first now : Fields) (node reading at : ℕ) (due : List Due
   pub left : AreLeft (value_of now) node reading (drop at due)
   pub room : length now.journal.items + sum_by owed now.nodes + (length due - at) + 4 ≤ vec_capacity now.journal
 
-flights_many : (f : Fields) → Keeps f → length (state_of f).flights ≡ length (arc_value f.design).links
+pub flights_many : (f : Fields) → Keeps f → length (state_of f).flights ≡ length (arc_value f.design).links
 flights_many f keeps = length-map f.flights (λ (k : FlightState). k.copies) ∙ keeps.flight_count
 
 pub next_left : (due : List DueEntry) (at : ℕ) (message : DueEntry) → at < length due → message ≡ slice_index_or due at message → drop at due ≡ message ∷ drop (at + 1) due

@@ -4,23 +4,25 @@ use Rattle.std.specs.Prelude.{sum_by, slice_set, slice_index_or, is_some, not, i
 use Rattle.std.specs.Arc.{arc_value}
 use Rattle.std.proofs.Math.Seq.{map-set_same}
 use Rattle.std.proofs.lemmas.Bool.{cases_eq, and_parts, false≢true}
-use Rattle.std.proofs.lemmas.List.{map-set, length-set, get_or-map, get_or-set_other, get_or_default}
+use Rattle.std.proofs.lemmas.List.{length-map, map-set, length-set, get_or-map, get_or-set_other, get_or_default}
 use Rattle.std.proofs.lemmas.List.Elements.{All-from_get_or}
 use Rattle.std.proofs.lemmas.List.Sums.{sum_by-set, sum_by-le}
 use Rattle.std.proofs.lemmas.Grind.{get_or-set_at}
 use Rattle.pals_base.specs.Steps.{with_places}
 use Rattle.step_code.specs.declared.instr.CodeParts.{CodeParts}
+use Rattle.step_code.specs.Means.{Means}
 use Rattle.pals_model.specs.declared.design.DesignParts.{DesignParts}
 use Rattle.pals_runs.specs.declared.journal.Phase.{Phase}
 use Rattle.pals_runs.specs.declared.journal.Phase.TheVariants.{Waiting, Running, Between, Holding, Done}
 use Rattle.bus_machine.specs.declared.plan.Plan.{Plan}
 use Rattle.bus_machine.specs.Nodes.{NodeState, at_rest}
 use Rattle.bus_machine.specs.NodeEvents.{running_step, finished, fired, after_send, after_round, part_left, may_send, sent_from}
+use Rattle.bus_machine.specs.Plans.{component_at}
 use Rattle.bus_machine.specs.States.{no_node}
 use Rattle.bus_machine.proofs.Nodes.{finish_keeps}
 use Rattle.pals_node.specs.Values.{Program, NodeValue, with_state}
 use Rattle.pals_bus.specs.declared.fields.Fields.{Fields}
-use Rattle.pals_bus.specs.Values.{no_code, code_at, node_value}
+use Rattle.pals_bus.specs.Values.{AreCodes, no_code, code_at, node_value}
 use Rattle.pals_bus.specs.Keeping.{IsNodeOf, AreNodes, Keeps, owed, value_of}
 use Rattle.pals_bus.specs.Absent.{no_node_value}
 
@@ -46,6 +48,17 @@ node_is f node keeps within = node_shown f node keeps.nodes within
 pub node_here : (f : Fields) (node : ℕ) (n : NodeValue) → Keeps f → node < length f.nodes → n ≡ slice_index_or f.nodes node n → n ≡ node_value (value_of f) node
 node_here f node n keeps within is = is ∙ get_or_default f.nodes node n no_node_value within ∙ node_is f node keeps within
 
+-- the codes of its nodes mean what the components do
+pub codes_mean : (design : DesignParts) (rounds : ℕ) (nodes : List NodeValue) → AreNodes design rounds nodes → AreCodes design (codes nodes)
+codes_mean design rounds nodes are =
+    let many = length-map nodes (λ (n : NodeValue). n.program.code) in
+    record {
+      count = many ∙ are.count;
+      mean = λ node lt.
+          let within : node < length nodes = omega (arith, many, lt) in
+          subst (λ (c : CodeParts). Means c (component_at design node).behaviour) (sym (get_or-map (λ (n : NodeValue). n.program.code) nodes node no_node_value no_code within)) (are.each node within).means;
+    }
+
 -- ---- one node changes
 pub states-set : (nodes : List NodeValue) (at : ℕ) (m : NodeValue) → states (slice_set nodes at m) ≡ slice_set (states nodes) at m.state
 states-set nodes at m = map-set (λ (n : NodeValue). n.state) nodes at m
@@ -64,7 +77,7 @@ nodes-set design rounds nodes at m are within same = record {
   each = λ node lt. elim (cases_eq node at) [
     | inl e ↦
         subst (λ n. IsNodeOf design rounds node n) (sym (get_or-set_at nodes at node m no_node_value e within))
-        (subst (λ k. IsNodeOf design rounds k m) (sym e) (let old = are.each at within in record { plan = ap (λ (p : Program). p.plan) same.program ∙ old.plan; rounds_are = same.rounds ∙ old.rounds_are }))
+        (subst (λ k. IsNodeOf design rounds k m) (sym e) (let old = are.each at within in record { plan = ap (λ (p : Program). p.plan) same.program ∙ old.plan; rounds_are = same.rounds ∙ old.rounds_are; means = subst (λ (p : Program). Means p.code (component_at design at).behaviour) (sym same.program) old.means }))
     | inr other ↦
         subst (λ n. IsNodeOf design rounds node n) (sym (get_or-set_other nodes at node m no_node_value other))
         (are.each node (let size = length-set nodes at m in omega (arith, size, lt)))

@@ -18,21 +18,22 @@ use Rattle.pals_model.specs.Rules.{IsDesign}
 use Rattle.pals_runs.specs.declared.journal.JournalEntry.{JournalEntry}
 use Rattle.pals_runs.specs.declared.journal.Stop.{Stop}
 use Rattle.step_code.specs.declared.instr.CodeParts.{CodeParts}
+use Rattle.step_code.specs.Means.{Means}
 use Rattle.link_buffers.specs.Flights.{FlightState}
 use Rattle.link_buffers.specs.Queues.{QueueState}
-use Rattle.bus_machine.specs.Plans.{plan_of}
+use Rattle.bus_machine.specs.Plans.{component_at, plan_of}
 use Rattle.bus_machine.specs.Nodes.{NodeState, opening_node}
 use Rattle.bus_machine.specs.States.{Run, BusState, opening, no_node}
 use Rattle.bus_machine.specs.Replay.{Replays, opens}
 use Rattle.bus_machine.specs.declared.plan.Plan.{Plan}
 use Rattle.pals_node.specs.Values.{NodeValue, Program, program_of, opening_value}
 use Rattle.pals_bus.specs.declared.fields.Fields.{Fields}
-use Rattle.pals_bus.specs.Values.{code_at, no_code, opening_bus}
+use Rattle.pals_bus.specs.Values.{AreCodes, code_at, no_code, opening_bus}
 use Rattle.pals_bus.specs.Keeping.{AreNodes, HasRooms, Keeps, copies_in, owed, run_of, state_of, value_of}
 use Rattle.pals_bus.specs.Queues.{AreQueues}
 use Rattle.pals_bus.specs.Absent.{no_flight, no_queue, no_node_value}
 use Rattle.pals_bus.specs.Openings.{AreOpening}
-use Rattle.pals_bus.proofs.NodeChanges.{states, codes}
+use Rattle.pals_bus.proofs.NodeChanges.{states, codes, codes_mean}
 use Rattle.pals_bus.proofs.QueueSends.{queues_open}
 
 upwards_at : (from n k : ℕ) → k < n → slice_index_or (upwards from n) k 0 ≡ from + k
@@ -78,10 +79,14 @@ pub copies_open : (links : List Link) → copies_in (map (λ (_ : Link). no_flig
 copies_open [] = refl
 copies_open (link ∷ links) = ap (λ cs. no_copies ∷ cs) (copies_open links)
 
-pub nodes_open : (design : DesignParts) (all : List CodeParts) (rounds : ℕ) (nodes : List NodeValue) → AreOpening design all rounds nodes → length all ≡ length design.components → AreNodes design rounds nodes
-nodes_open design all rounds nodes are count = record {
-  count = are.count ∙ count;
-  each = λ node lt. record { plan = ap (λ (n : NodeValue). n.program.plan) (are.each node lt); rounds_are = ap (λ (n : NodeValue). n.rounds) (are.each node lt) };
+pub nodes_open : (design : DesignParts) (all : List CodeParts) (rounds : ℕ) (nodes : List NodeValue) → AreOpening design all rounds nodes → AreCodes design all → AreNodes design rounds nodes
+nodes_open design all rounds nodes are of_design = record {
+  count = are.count ∙ of_design.count;
+  each = λ node lt. record {
+    plan = ap (λ (n : NodeValue). n.program.plan) (are.each node lt);
+    rounds_are = ap (λ (n : NodeValue). n.rounds) (are.each node lt);
+    means = subst (λ (n : NodeValue). Means n.program.code (component_at design node).behaviour) (sym (are.each node lt)) (of_design.mean node (let count = are.count in omega (arith, count, lt)));
+  };
 }
 
 sent_open : (design : DesignParts) (all : List CodeParts) (rounds : ℕ) (nodes : List NodeValue) → AreOpening design all rounds nodes → (k : ℕ) → (slice_index_or nodes k no_node_value).state.sent ≡ true
@@ -131,7 +136,7 @@ pub record IsOpening (f : Fields) (all : List CodeParts) : Type 0 where
   pub rounds : (1 ≤ f.rounds) × (f.rounds ≤ ROUNDS)
   pub delays : AreDelays (length (arc_value f.design).links) f.delays
   pub values : length f.values.items ≡ length f.env.lists
-  pub count : length all ≡ length (arc_value f.design).components
+  pub codes_are : AreCodes (arc_value f.design) all
   pub nodes : AreOpening (arc_value f.design) all f.rounds f.nodes
   pub flights : f.flights ≡ map (λ (_ : Link). no_flight) (arc_value f.design).links
   pub queues : f.queues ≡ map (λ (_ : NodeValue). no_queue) f.nodes
@@ -142,7 +147,7 @@ pub record IsOpening (f : Fields) (all : List CodeParts) : Type 0 where
 state_open : (f : Fields) (all : List CodeParts) → IsOpening f all → state_of f ≡ opening (run_of f)
 state_open f all is =
     let flights : copies_in f.flights ≡ map (λ (_ : Link). no_copies) (arc_value f.design).links = ap copies_in is.flights ∙ copies_open (arc_value f.design).links in
-    ap (λ (ns : List NodeState). record (state_of f) { nodes = ns }) (states_open (arc_value f.design) all f.rounds f.nodes is.nodes is.count)
+    ap (λ (ns : List NodeState). record (state_of f) { nodes = ns }) (states_open (arc_value f.design) all f.rounds f.nodes is.nodes is.codes_are.count)
     ∙ ap₂ (λ (cs : List (List FlightCopy)) (o : Option Stop). record (opening (run_of f)) { flights = cs; stop = o }) flights is.stop
 
 pub opening_keeps : (f : Fields) (all : List CodeParts) → IsOpening f all → Keeps f
@@ -155,7 +160,7 @@ opening_keeps f all is =
       rounds = is.rounds;
       delays = is.delays;
       values = is.values;
-      nodes = nodes_open (arc_value f.design) all f.rounds f.nodes is.nodes is.count;
+      nodes = nodes_open (arc_value f.design) all f.rounds f.nodes is.nodes is.codes_are;
       flight_count = ap length is.flights ∙ length-map links (λ (_ : Link). no_flight);
       rooms = rooms_open (arc_value f.design) all f.rounds f.nodes links f.flights is.nodes;
       replays = subst (λ (s : BusState). Replays (run_of f) f.journal.items s) (sym (state_open f all is)) (subst (λ (j : List JournalEntry). Replays (run_of f) j (opening (run_of f))) (sym is.journal) opens);
@@ -215,7 +220,7 @@ anew_opens f g keeps is =
       rounds = subst (λ (n : ℕ). (1 ≤ n) × (n ≤ ROUNDS)) rounds_are keeps.rounds;
       delays = subst (λ (d : DesignParts). AreDelays (length d.links) g.delays) back (subst (AreDelays (length (arc_value f.design).links)) (sym is.delays) keeps.delays);
       values = is.values ∙ ap (λ (e : Env). length e.lists) (sym is.env);
-      count = length-map f.nodes (λ (n : NodeValue). n.program.code) ∙ keeps.nodes.count ∙ ap (λ (d : DesignParts). length d.components) back;
+      codes_are = subst (λ (d : DesignParts). AreCodes d (codes f.nodes)) back (codes_mean (arc_value f.design) f.rounds f.nodes keeps.nodes);
       nodes =
           subst (λ (d : DesignParts). AreOpening d (codes f.nodes) g.rounds g.nodes) back
           (subst (λ (n : ℕ). AreOpening (arc_value f.design) (codes f.nodes) n g.nodes) rounds_are (nodes_anew (arc_value f.design) f.rounds f.nodes g.nodes keeps.nodes is.nodes));

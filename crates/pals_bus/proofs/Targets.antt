@@ -1,15 +1,16 @@
 -- The reading that a node of a bus waits for.
-use Rattle.std.proofs.Common.{◌≡◌, ◌∙◌, inl, inr, ℕ, ◌+◌, ◌<◌, ◌≤◌, length, Option, Some, None, sym, ap, arith}
+use Rattle.std.proofs.Common.{◌≡◌, ◌∙◌, inl, inr, ℕ, ◌+◌, ◌<◌, ◌≤◌, length, Option, Some, None, false, is_some, refl, sym, ap, arith}
 use Rattle.std.specs.Prelude.{option_map, slice_index_or}
 use Rattle.std.specs.Arc.{arc_value}
-use Rattle.std.proofs.lemmas.Bool.{cases_lt}
+use Rattle.std.proofs.lemmas.Bool.{cases_lt, false≢true}
+use Rattle.pals_runs.specs.declared.journal.Stop.{Stop}
 use Rattle.bus_machine.specs.Targets.{target, action_of}
 use Rattle.pals_node.specs.Values.{NodeValue}
 use Rattle.pals_bus.specs.declared.fields.Fields.{Fields}
 use Rattle.pals_bus.specs.Keeping.{Keeps, value_of}
 use Rattle.pals_bus.specs.Values.{BusValue}
 use Rattle.pals_bus.proofs.NodeChanges.{node_here}
-use Rattle.pals_bus.specs.Meeting.{target_in}
+use Rattle.pals_bus.specs.Meeting.{target_in, HasEnded}
 
 pub target_is : (f : Fields) (node : ℕ) (n : NodeValue) (o : Option ℕ) → Keeps f → node < length f.nodes → n ≡ slice_index_or f.nodes node n → o ≡ option_map (target n.program.plan) (action_of n.program.plan n.state) → target_in (value_of f) node ≡ o
 target_is f node n o keeps within is told = sym (told ∙ ap (λ (m : NodeValue). option_map (target m.program.plan) (action_of m.program.plan m.state)) (node_here f node n keeps within is))
@@ -35,3 +36,12 @@ least_more b own other o before is here k least lt told = elim (cases_lt k other
       let same : other ≡ k = omega (arith, lt, more) in
       here least (sym is ∙ ap (target_in b) same ∙ told)
 ]
+
+-- ---- the run goes on
+none_by : (o : Option Stop) → is_some o ≡ false → o ≡ None
+none_by None is = refl
+none_by (Some why) is = absurd (false≢true (sym is))
+
+pub still_going : (b : BusValue) → b.closed ≡ false → is_some b.state.stop ≡ false → HasEnded b → ⊥
+still_going b not_closed none (inl stopped) = stopped (none_by b.state.stop none)
+still_going b not_closed none (inr closed) = false≢true (sym not_closed ∙ closed)

@@ -24,6 +24,12 @@ pub record IsDueTo (b : BusValue) (node reading link round : ℕ) : Type 0 where
   pub of_round : copy.round ≡ round
   pub due : is_due reading copy ≡ true
 
+-- some message is
+pub record HasDue (b : BusValue) (node reading : ℕ) : Type 0 where
+  pub link : ℕ
+  pub round : ℕ
+  pub is_due : IsDueTo b node reading link round
+
 -- the first of them: in link order, and then in order of rounds
 pub record IsNextDue (b : BusValue) (node reading link round : ℕ) : Type 0 where
   pub is_due : IsDueTo b node reading link round

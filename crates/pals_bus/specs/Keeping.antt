@@ -8,7 +8,8 @@ use Rattle.pals_model.specs.declared.flight.FlightCopy.{FlightCopy}
 use Rattle.pals_model.specs.Delays.{AreDelays}
 use Rattle.pals_model.specs.Rules.{IsDesign}
 use Rattle.link_buffers.specs.Flights.{FlightState}
-use Rattle.bus_machine.specs.Plans.{plan_of}
+use Rattle.step_code.specs.Means.{Means}
+use Rattle.bus_machine.specs.Plans.{component_at, plan_of}
 use Rattle.bus_machine.specs.NodeEvents.{running_step}
 use Rattle.bus_machine.specs.States.{Run, BusState}
 use Rattle.bus_machine.specs.Replay.{Replays}
@@ -47,10 +48,11 @@ value_of f = record {
 abbrev pub node_in : Fields → ℕ → NodeValue
 node_in f node = slice_index_or f.nodes node no_node_value
 
--- a node is the design's, of as many rounds
+-- a node is the design's, of as many rounds, and its code means what its component does
 pub record IsNodeOf (design : DesignParts) (rounds node : ℕ) (n : NodeValue) : Type 0 where
   pub plan : n.program.plan ≡ plan_of design node
   pub rounds_are : n.rounds ≡ rounds
+  pub means : Means n.program.code (component_at design node).behaviour
 
 pub record AreNodes (design : DesignParts) (rounds : ℕ) (nodes : List NodeValue) : Type 0 where
   pub count : length nodes ≡ length design.components

@@ -28,7 +28,15 @@ pub record IsBefore (b : BusValue) (other node : ℕ) : Type 0 where
   pub least_is : target_in b other ≡ Some least
   pub less : least < own
 
+-- it may go on at this reading: no stop stands, the run is not closed, and no other node has a lesser target
+pub record GoesAt (b : BusValue) (node : ℕ) (reading : Option ℕ) : Type 0 where
+  pub going : HasEnded b → ⊥
+  pub own : ℕ
+  pub own_is : target_in b node ≡ Some own
+  pub reading_is : reading ≡ Some own
+  pub least : IsLeast b own
+
 abbrev pub Meets : BusValue → ℕ → Meet → Type 0
-Meets b node (meet.Go reading) = (target_in b node ≡ Some reading) × IsLeast b reading
+Meets b node (meet.Go reading) = GoesAt b node (Some reading)
 Meets b node (meet.Wait other) = IsBefore b other.0 node
 Meets b node meet.Ended = HasEnded b

@@ -5,12 +5,15 @@ ghost use Rattle.pals_base.specs.declared.limits.TheConstants.{ROUNDS};
 ghost use Rattle.pals_model.specs.Delays.{AreDelays};
 ghost use Rattle.bus_machine.specs.Agreement.{Agrees};
 ghost use Rattle.bus_machine.specs.Replay.{Replays};
+ghost use Rattle.bus_machine.specs.Plans.{plan_of};
 ghost use Rattle.bus_machine.specs.States.{node_at, flight_at};
+ghost use Rattle.bus_machine.specs.Targets.{next_of};
 ghost use Rattle.pals_model.specs.Flights.{oldest};
 ghost use Rattle.pals_bus.specs.Values.{opening_bus, AreCodes};
 
 use crate::Fields;
 use crate::opening::{empty_flights, empty_queues, fresh_nodes, opening_nodes, room_for_values};
+use bus_machine::Next;
 use pals_base::{Items, LinkNo, NoMemory, NodeNo, Same, TryClone};
 use pals_model::{Delays, Design, Env, FlightCopy, Part};
 use pals_runs::{JournalEntry, Phase, Stop};
@@ -84,12 +87,15 @@ impl Bus {
         })
     }
 
-    /// What every bus keeps: it agrees with the composition, and its journal replays to it.
+    /// What every bus keeps: it agrees with the composition, its journal replays to it, and the codes
+    /// of its nodes mean what their components do.
     pub fn agreement(&self)
         ensures replays { Replays self.now.run self.now.journal self.now.state }
         ensures agrees { Agrees self.now.run self.now.state }
         ensures rounds { (1 ≤ self.now.run.rounds) × (self.now.run.rounds ≤ ROUNDS) }
         ensures nodes { length self.now.state.nodes ≡ length self.now.run.design.components }
+        ensures delays { AreDelays (length self.now.run.design.links) self.now.run.delays }
+        ensures codes { AreCodes self.now.run.design self.now.codes }
     {
         let _closed = self.fields.closed;
     }
@@ -106,6 +112,13 @@ impl Bus {
         ensures { result ≡ self.now.run.rounds }
     {
         self.fields.rounds
+    }
+
+    /// Whether its nodes meet.
+    pub fn meeting(&self) -> bool
+        ensures { result ≡ self.now.meeting }
+    {
+        self.fields.meeting
     }
 
     /// What happened so far.
@@ -158,6 +171,15 @@ impl Bus {
         ensures { result ≡ (node_at self.now.state node.0).sent }
     {
         self.fields.nodes[node.0 as usize].sent()
+    }
+
+    /// What a node does next, and from which reading on: a start, a step or a send. None where the
+    /// job of a step is out, or all its rounds are done.
+    pub fn next(&self, node: NodeNo) -> Option<Next>
+        requires { node.0 < length self.now.run.design.components }
+        ensures { result ≡ next_of (plan_of self.now.run.design node.0) (node_at self.now.state node.0) }
+    {
+        self.fields.nodes[node.0 as usize].next()
     }
 
     /// How many rounds a node has finished.

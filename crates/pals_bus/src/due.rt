@@ -1,6 +1,6 @@
 //! All messages that are due to a node.
-ghost use Rattle.std.specs.Prelude.{◌≡◌, ◌<◌, length, IfErr, OnOk};
-ghost use Rattle.pals_bus.specs.Due.{TakesAllDue, DueEnds};
+ghost use Rattle.std.specs.Prelude.{◌≡◌, ◌<◌, ◌↔◌, length, IsTrue, IfErr, OnOk};
+ghost use Rattle.pals_bus.specs.Due.{TakesAllDue, DueEnds, HasDue};
 
 use crate::DueEnd;
 use crate::bus::Bus;
@@ -16,5 +16,13 @@ impl Bus {
         ensures end { IfErr result (λ end. DueEnds self.old node.0 reading self.new end) }
     {
         self.fields.take_due(node, reading)
+    }
+
+    /// Whether some message to a node is due at a reading of its clock. It takes no memory.
+    pub fn has_due(&self, node: NodeNo, reading: Nanos) -> bool
+        requires { node.0 < length self.now.run.design.components }
+        ensures { IsTrue result ↔ HasDue self.now node.0 reading }
+    {
+        self.fields.queues[node.0 as usize].due_count(reading) > 0
     }
 }

@@ -1,5 +1,5 @@
 //! The events of a loose world, which has no time: messages may be lost, repeated and reordered.
-ghost use Rattle.std.specs.Prelude.{◌≡◌, ◌<◌, length, OnOk, IfErr};
+ghost use Rattle.std.specs.Prelude.{◌≡◌, ◌<◌, length, false, OnOk, IfErr};
 ghost use Rattle.pals_runs.specs.declared.events.Event.TheVariants as event;
 ghost use Rattle.pals_bus.specs.Loose.{IsNamedIn, GoesOn, LooseEnds};
 
@@ -9,11 +9,12 @@ use crate::faults::{finish_fault, link_fault, send_fault, start_fault, step_faul
 use pals_base::{LinkNo, NodeNo};
 use pals_runs::Event;
 
-/// Does an event of a loose world. The job of a start or a step is let go, and a finish runs it.
+/// Does an event of a loose world, in which the nodes do not meet. The job of a start or a step is let go, and a finish runs it.
 /// An error is an event that is refused, and leaves the bus as it was, or a stop: one that stood
 /// before, or the one that the event gives.
 pub fn apply_loose(bus: &mut Bus, event: &Event) -> Result<(), LooseFault>
     requires names { IsNamedIn bus.old.run.design event.now }
+    requires loose { bus.old.meeting ≡ false }
     ensures ok { OnOk result (GoesOn bus.old event.now bus.new) }
     ensures end { IfErr result (λ end. LooseEnds bus.old event.now bus.new end) }
 {
@@ -34,7 +35,8 @@ pub fn apply_loose(bus: &mut Bus, event: &Event) -> Result<(), LooseFault>
 
 // A node starts its next round.
 fn start_loose(bus: &mut Bus, node: NodeNo) -> Result<(), LooseFault>
-    requires { node.0 < length bus.old.run.design.components }
+    requires node { node.0 < length bus.old.run.design.components }
+    requires loose { bus.old.meeting ≡ false }
     ensures ok { OnOk result (GoesOn bus.old (event.Start node) bus.new) }
     ensures end { IfErr result (λ end. LooseEnds bus.old (event.Start node) bus.new end) }
 {
@@ -46,7 +48,8 @@ fn start_loose(bus: &mut Bus, node: NodeNo) -> Result<(), LooseFault>
 
 // A node starts the next step of its round.
 fn step_loose(bus: &mut Bus, node: NodeNo) -> Result<(), LooseFault>
-    requires { node.0 < length bus.old.run.design.components }
+    requires node { node.0 < length bus.old.run.design.components }
+    requires loose { bus.old.meeting ≡ false }
     ensures ok { OnOk result (GoesOn bus.old (event.Step node) bus.new) }
     ensures end { IfErr result (λ end. LooseEnds bus.old (event.Step node) bus.new end) }
 {
@@ -70,7 +73,8 @@ fn finish_loose(bus: &mut Bus, node: NodeNo) -> Result<(), LooseFault>
 
 // A node sends its round.
 fn send_loose(bus: &mut Bus, node: NodeNo) -> Result<(), LooseFault>
-    requires { node.0 < length bus.old.run.design.components }
+    requires node { node.0 < length bus.old.run.design.components }
+    requires loose { bus.old.meeting ≡ false }
     ensures ok { OnOk result (GoesOn bus.old (event.Send node) bus.new) }
     ensures end { IfErr result (λ end. LooseEnds bus.old (event.Send node) bus.new end) }
 {
@@ -86,7 +90,7 @@ fn arrive_loose(bus: &mut Bus, link: LinkNo, round: u32) -> Result<(), LooseFaul
     ensures ok { OnOk result (GoesOn bus.old (event.Arrive link round) bus.new) }
     ensures end { IfErr result (λ end. LooseEnds bus.old (event.Arrive link round) bus.new end) }
 {
-    if let Err(end) = bus.deliver(link, round) {
+    if let Err(end) = bus.deliver(link, round, None) {
         return Err(link_fault(end, link, round));
     }
     if let Some(stop) = bus.stop() {

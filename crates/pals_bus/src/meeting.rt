@@ -1,17 +1,21 @@
 //! Nodes that meet.
-ghost use Rattle.std.specs.Prelude.{◌≡◌, ◌≢◌, ◌<◌, ◌↔◌, None, length};
-ghost use Rattle.pals_bus.specs.Meeting.{target_in, HasEnded, Meets};
+ghost use Rattle.std.specs.Prelude.{◌≡◌, ◌≢◌, ◌<◌, ◌↔◌, None, length, true};
+ghost use Rattle.bus_machine.specs.Plans.{plan_of};
+ghost use Rattle.bus_machine.specs.States.{node_at};
+ghost use Rattle.bus_machine.specs.Targets.{next_of};
+ghost use Rattle.pals_bus.specs.Meeting.{HasEnded, Meets};
 
 use crate::answers::Meet;
 use crate::bus::Bus;
 use pals_base::NodeNo;
 
 impl Bus {
-    /// Whether a node that is not done may go on: it may where no other node that is not done has a
-    /// lesser target. It takes no memory.
+    /// Whether a node whose nodes meet, and whose next action is to come, may go on: it may where no
+    /// other node that is not done has a lesser target. It takes no memory.
     pub fn meet(&self, node: NodeNo) -> Meet
         requires node { node.0 < length self.now.run.design.components }
-        requires undone { target_in self.now node.0 ≢ None }
+        requires meeting { self.now.meeting ≡ true }
+        requires rests { next_of (plan_of self.now.run.design node.0) (node_at self.now.state node.0) ≢ None }
         ensures answer { Meets self.now node.0 result }
         ensures ended { (result ≡ Meet.Ended) ↔ HasEnded self.now }
     {

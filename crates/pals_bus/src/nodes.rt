@@ -1,7 +1,8 @@
 //! The events of the nodes.
-ghost use Rattle.std.specs.Prelude.{◌≡◌, ◌<◌, ◌≤◌, length, IfOk, IfErr, OnOk, OnErr, IfSome};
+ghost use Rattle.std.specs.Prelude.{◌≡◌, ◌<◌, ◌≤◌, length, IfOk, IfErr, OnOk, OnErr, IfSome, true};
 ghost use Rattle.pals_base.specs.declared.limits.TheConstants.{READING};
 ghost use Rattle.bus_machine.specs.Machine.{Finish};
+ghost use Rattle.pals_bus.specs.Meeting.{GoesAt};
 ghost use Rattle.pals_bus.specs.Values.{Happens};
 ghost use Rattle.pals_bus.specs.Answers.{StartsRound, BusStartEnds, StepsOn, BusStepEnds, FinishesStep, BusFinishEnds, SendsRound, BusSendEnds};
 
@@ -13,9 +14,10 @@ use pals_node::{Done, Finished, Job};
 impl Bus {
     /// A node starts its next round, and the job of its first step goes out. Where a message of the
     /// round before is not there, the run stops. It reserves all memory that the end of the step and
-    /// the send of the round need.
+    /// the send of the round need. Where the nodes meet, this one may go on at the reading.
     pub fn start(&mut self, node: NodeNo, reading: Option<Nanos>) -> Result<Job, BusStartEnd>
-        requires { node.0 < length self.old.run.design.components }
+        requires node { node.0 < length self.old.run.design.components }
+        requires meets { self.old.meeting ≡ true → GoesAt self.old node.0 reading }
         ensures ok { IfOk result (λ job. StartsRound self.old node reading self.new job) }
         ensures end { IfErr result (λ end. BusStartEnds self.old node reading self.new end) }
     {
@@ -23,9 +25,10 @@ impl Bus {
     }
 
     /// A node starts the next step of its round, and the job goes out. It reserves the memory that
-    /// the end of the step needs.
+    /// the end of the step needs. Where the nodes meet, this one may go on at the reading.
     pub fn step(&mut self, node: NodeNo, reading: Option<Nanos>) -> Result<Job, BusStepEnd>
-        requires { node.0 < length self.old.run.design.components }
+        requires node { node.0 < length self.old.run.design.components }
+        requires meets { self.old.meeting ≡ true → GoesAt self.old node.0 reading }
         ensures ok { IfOk result (λ job. StepsOn self.old node reading self.new job) }
         ensures same { OnErr result (self.new ≡ self.old) }
         ensures cause { IfErr result (BusStepEnds self.old node reading) }
@@ -55,9 +58,11 @@ impl Bus {
     }
 
     /// A node sends its round: one message goes into flight on each link from it. It takes no memory.
+    /// Where the nodes meet, this one may go on at the reading.
     pub fn send(&mut self, node: NodeNo, reading: Option<Nanos>) -> Result<(), BusSendEnd>
         requires node { node.0 < length self.old.run.design.components }
         requires reading { IfSome reading (λ at. at ≤ READING) }
+        requires meets { self.old.meeting ≡ true → GoesAt self.old node.0 reading }
         ensures ok { OnOk result (SendsRound self.old node reading self.new) }
         ensures same { OnErr result (self.new ≡ self.old) }
         ensures cause { IfErr result (BusSendEnds self.old node reading) }

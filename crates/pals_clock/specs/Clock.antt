@@ -1,11 +1,16 @@
 -- What a clock that is a list of readings stands at.
-use Rattle.std.specs.Prelude.{ℕ, List, fold}
+use Rattle.std.specs.Prelude.{ℕ, ◌≤◌, List, All, fold}
+use Rattle.pals_base.specs.declared.limits.TheConstants.{READING}
 use Rattle.pals_base.specs.Picks.{reached}
 
 -- all readings of the list, and those that are left: the last pick, if there is one, and the later ones
 pub record ClockState : Type 0 where
   pub readings : List ℕ
   pub left : List ℕ
+
+-- no reading is above the greatest
+abbrev pub AreReadings : List ℕ → Type 0
+AreReadings readings = All (λ reading. reading ≤ READING) readings
 
 -- a clock without a pick, of which all readings are left
 abbrev pub unpicked : List ℕ → ClockState

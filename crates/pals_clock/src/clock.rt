@@ -2,7 +2,8 @@
 ghost use Rattle.std.specs.Prelude.{◌≡◌, ◌-◌, ◌<◌, ◌≤◌, ◌↔◌, length, drop, All, IsTrue, IsErr, IfOk, OnOk, OnErr, MatchOption, slice_get, slice_index};
 ghost use Rattle.std.specs.List.Sorted.{IsNonDecreasing};
 ghost use Rattle.pals_base.specs.Picks.{reached};
-ghost use Rattle.pals_clock.specs.Clock.{unpicked, standing_at};
+ghost use Rattle.pals_base.specs.declared.limits.TheConstants.{READING};
+ghost use Rattle.pals_clock.specs.Clock.{AreReadings, unpicked, standing_at};
 
 use pals_base::{Items, Nanos, NoMemory};
 use std::alloc::Global;
@@ -20,7 +21,7 @@ pub enum Clocks {
     Lists(Items<ListClock>),
 }
 
-/// A clock that is a list of readings, which don't fall. Contracts see the whole list and what is
+/// A clock that is a list of readings, which don't fall and are at most `READING`. Contracts see the whole list and what is
 /// left of it: the last pick, if there is one, and the later readings.
 #[derive(Drop)]
 pub struct ListClock {
@@ -31,19 +32,20 @@ pub struct ListClock {
 impl Model for ListClock {
     ghost use Rattle.std.specs.Prelude.{◌≤◌, length, drop};
     ghost use Rattle.std.specs.List.Sorted.{IsNonDecreasing};
-    ghost use Rattle.pals_clock.specs.Clock.{ClockState};
+    ghost use Rattle.pals_clock.specs.Clock.{AreReadings, ClockState};
 
     ghost Value = { ClockState };
 
     ghost view = { λ c. record { readings = c.readings; left = drop c.behind c.readings } };
 
-    ghost invariant = { λ c. (c.behind ≤ length c.readings) × IsNonDecreasing c.readings };
+    ghost invariant = { λ c. (c.behind ≤ length c.readings) × IsNonDecreasing c.readings × AreReadings c.readings };
 }
 
 impl ListClock {
     /// A clock of these readings, in nanoseconds, without a pick. It takes no memory.
     pub fn new(readings: Items<Nanos>) -> ListClock
-        requires { IsNonDecreasing readings }
+        requires order { IsNonDecreasing readings }
+        requires range { AreReadings readings }
         ensures { result ≡ unpicked readings }
     {
         ListClock {
@@ -52,11 +54,12 @@ impl ListClock {
         }
     }
 
-    /// All readings of the clock's list, in nanoseconds. They don't fall, and what is left is an end
+    /// All readings of the clock's list, in nanoseconds. They don't fall, none is above `READING`, and what is left is an end
     /// of them.
     pub fn readings(&self) -> &[Nanos]
         ensures value { result.now ≡ self.now.readings }
         ensures order { IsNonDecreasing self.now.readings }
+        ensures range { AreReadings self.now.readings }
         ensures left { drop (length self.now.readings - length self.now.left) self.now.readings ≡ self.now.left }
     {
         self.readings.as_slice()
@@ -68,6 +71,7 @@ impl ListClock {
     /// target and every greater one from then on.
     pub fn wait_for(&mut self, target: Nanos) -> Result<Nanos, ClockEnd>
         ensures pick { IfOk result (λ reading. slice_get self.new.left 0 ≡ Some reading) }
+        ensures range { IfOk result (λ reading. reading ≤ READING) }
         ensures stands { OnOk result (self.new ≡ standing_at self.old (reached self.old.left target)) }
         ensures ended { IsErr result ↔ All (λ reading. reading < target) self.old.left }
         ensures same { OnErr result (self.new ≡ self.old) }

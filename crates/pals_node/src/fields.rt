@@ -1,12 +1,15 @@
 //! The fields of a node, and what each event does with them.
-ghost use Rattle.std.specs.Prelude.{◌≡◌, ◌<◌, ◌≤◌, ◌++◌, ◌∷◌, IfOk, OnOk, OnErr, length, vec_len, vec_capacity, if◌then◌else◌, Some, None, slice_index_or, nat_eq, true, [], All};
+ghost use Rattle.std.specs.Prelude.{◌≡◌, ◌+◌, ◌<◌, ◌≤◌, ◌++◌, ◌∷◌, IfOk, OnOk, OnErr, length, map, replicate, vec_len, vec_capacity, if◌then◌else◌, Some, None, slice_index_or, nat_eq, true, false, [], All};
 ghost use Rattle.std.specs.Arc.{arc_value};
 ghost use Rattle.pals_base.specs.declared.limits.TheConstants.{ROUNDS};
+ghost use Rattle.pals_base.specs.declared.values.Port.TheVariants.{Absent};
+ghost use Rattle.pals_base.specs.Fire.{HasShape};
 ghost use Rattle.pals_runs.specs.declared.journal.Phase.TheVariants.{Running};
 ghost use Rattle.bus_machine.specs.NodeEvents.{started, stepped, finished, sent_from, messages_from, may_send, part_left};
-ghost use Rattle.pals_node.specs.Values.{job_at, opening_value, with_state};
-ghost use Rattle.bus_machine.specs.Nodes.{at_rest};
-ghost use Rattle.pals_node.specs.Keeping.{Keeps, PhaseKeeps, HasRound, HasPartRoom, IsPartRoom, AreTuples, IsStepMade, value_of, state_of, ended_at};
+ghost use Rattle.pals_node.specs.Values.{job_at, job_value, opening_value, with_state};
+ghost use Rattle.pals_node.specs.Rounds.{empty_part, IsBegun};
+ghost use Rattle.bus_machine.specs.Nodes.{at_rest, vectors_of};
+ghost use Rattle.pals_node.specs.Keeping.{Keeps, IsProgram, PhaseKeeps, HasRound, HasPartRoom, IsPartRoom, AreTuples, IsStepMade, value_of, state_of, ended_at};
 
 use crate::buffers::{absent_tuples, write_places, write_ports};
 use crate::inputs::{empty_slots, round_vectors};
@@ -95,18 +98,31 @@ impl Fields {
         ensures job { IfOk result (λ job. job ≡ job_at (value_of self.new) 0) }
         ensures same { OnErr result (value_of self.new ≡ value_of self.old) }
     {
-        let alloc = self.alloc;
-        let plan = &self.plan.plan;
-        let slots = empty_slots(alloc, plan.inputs.as_slice())?;
-        let vectors = round_vectors(alloc, plan, env, self.slots.as_slice())?;
-        let outs = absent_tuples(alloc, plan.behaviour.outs().len(), plan.rate)?;
-        let messages = absent_tuples(alloc, plan.out_links.len(), plan.rate)?;
-        let part = Part {
-            frame: Frame::initial(alloc, &plan.behaviour)?,
-            outs: absent_tuples(alloc, plan.taps.len(), plan.rate)?,
-        };
-        let job = Job::new(alloc, &self.plan, self.count, 0, &self.frame, &vectors[0])?;
         self.parts.reserve(1)?;
+        let (room, job) = begun(
+            self.alloc,
+            &self.plan,
+            self.count,
+            env,
+            self.slots.as_slice(),
+            &self.frame,
+        )?;
+        self.begin(room);
+        Ok(job)
+    }
+
+    // Begins a round with what its start reserved. It takes no memory.
+    fn begin(&mut self, room: RoundRoom)
+        requires count { self.old.count < ROUNDS }
+        ensures { self.new ≡ record self.old { count = self.old.count + 1; phase = Running 0; slots = room.slots; vectors = room.vectors; outs = room.outs; sent = false; next_part = Some room.part; messages = Some room.messages } }
+    {
+        let RoundRoom {
+            slots,
+            vectors,
+            outs,
+            messages,
+            part,
+        } = room;
         self.count += 1;
         self.phase = Phase::Running(0);
         self.slots = slots;
@@ -115,7 +131,6 @@ impl Fields {
         self.sent = false;
         self.next_part = Some(part);
         self.messages = Some(messages);
-        Ok(job)
     }
 
     /// Runs the step that is out here. It takes no memory.
@@ -199,6 +214,86 @@ impl Fields {
             }
         }
     }
+}
+
+// What the start of a round reserves.
+#[derive(Drop)]
+struct RoundRoom {
+    slots: Items<Slot>,
+    vectors: Items<Tuple>,
+    outs: Items<Tuple>,
+    messages: Items<Tuple>,
+    part: Part,
+}
+
+// Room for a round, with these vectors.
+fn round_room(alloc: Global, plan: &Plan, vectors: Items<Tuple>) -> Result<RoundRoom, NoMemory>
+    ensures slots { IfOk result (λ room. room.slots ≡ map (λ _. None) plan.now.inputs) }
+    ensures vectors { IfOk result (λ room. room.vectors ≡ vectors) }
+    ensures outs { IfOk result (λ room. room.outs ≡ replicate (length plan.now.behaviour.outs) (replicate plan.now.rate Absent)) }
+    ensures messages { IfOk result (λ room. room.messages ≡ replicate (length plan.now.out_links) (replicate plan.now.rate Absent)) }
+    ensures part { IfOk result (λ room. room.part ≡ empty_part plan.now) }
+{
+    let slots = empty_slots(alloc, plan.inputs.as_slice())?;
+    let outs = absent_tuples(alloc, plan.behaviour.outs().len(), plan.rate)?;
+    let messages = absent_tuples(alloc, plan.out_links.len(), plan.rate)?;
+    let part = part_room(alloc, plan)?;
+    Ok(RoundRoom {
+        slots,
+        vectors,
+        outs,
+        messages,
+        part,
+    })
+}
+
+// What a start reserves, and the job of the first step.
+fn begun(
+    alloc: Global,
+    plan: &Arc<NodePlan>,
+    round: u32,
+    env: &[Port],
+    slots: &[Slot],
+    frame: &Frame,
+) -> Result<(RoundRoom, Job), NoMemory>
+    requires program { IsProgram (arc_value plan.now) }
+    requires slots { length slots.now ≡ length (arc_value plan.now).plan.inputs }
+    requires frame { HasShape (arc_value plan.now).plan.behaviour frame.now }
+    ensures room { IfOk result (λ made. IsBegun (arc_value plan.now).plan env.now slots.now made.0) }
+    ensures job { IfOk result (λ made. made.1 ≡ job_value (arc_value plan.now) round 0 frame.now (slice_index_or (vectors_of (arc_value plan.now).plan env.now slots.now) 0 [])) }
+{
+    let (vectors, job) = first_job(alloc, plan, round, env, slots, frame)?;
+    let room = round_room(alloc, &plan.plan, vectors)?;
+    Ok((room, job))
+}
+
+// The room for the part of a round.
+fn part_room(alloc: Global, plan: &Plan) -> Result<Part, NoMemory>
+    ensures { IfOk result (λ part. part ≡ empty_part plan.now) }
+{
+    let frame = Frame::initial(alloc, &plan.behaviour)?;
+    let outs = absent_tuples(alloc, plan.taps.len(), plan.rate)?;
+    Ok(Part { frame, outs })
+}
+
+// The vectors of a round, and the job of its first step.
+fn first_job(
+    alloc: Global,
+    plan: &Arc<NodePlan>,
+    round: u32,
+    env: &[Port],
+    slots: &[Slot],
+    frame: &Frame,
+) -> Result<(Items<Tuple>, Job), NoMemory>
+    requires program { IsProgram (arc_value plan.now) }
+    requires slots { length slots.now ≡ length (arc_value plan.now).plan.inputs }
+    requires frame { HasShape (arc_value plan.now).plan.behaviour frame.now }
+    ensures vectors { IfOk result (λ found. found.0 ≡ vectors_of (arc_value plan.now).plan env.now slots.now) }
+    ensures job { IfOk result (λ found. found.1 ≡ job_value (arc_value plan.now) round 0 frame.now (slice_index_or (vectors_of (arc_value plan.now).plan env.now slots.now) 0 [])) }
+{
+    let vectors = round_vectors(alloc, &plan.plan, env, slots)?;
+    let job = Job::new(alloc, plan, round, 0, frame, &vectors[0])?;
+    Ok((vectors, job))
 }
 
 // The phase between two rounds.

@@ -5,7 +5,7 @@ ghost use Rattle.std.specs.Arc.{arc_value};
 ghost use Rattle.pals_base.specs.declared.limits.TheConstants.{ROUNDS, PORTS};
 ghost use Rattle.bus_machine.specs.Nodes.{finished_steps};
 ghost use Rattle.bus_machine.specs.NodeEvents.{arrived, received, lacks};
-ghost use Rattle.bus_machine.specs.Targets.{target, action_of};
+ghost use Rattle.bus_machine.specs.Targets.{target, action_of, next_of};
 ghost use Rattle.pals_node.specs.Values.{opening_value, with_state};
 ghost use Rattle.pals_node.specs.Answers.{is_early, Starts, StartEnds, Steps, StepEnds, FinishesWith, FinishesHere, NoneRuns, Sends, SendEnds};
 
@@ -13,8 +13,8 @@ use crate::answers::{FinishEnd, Finished, SendEnd, StartEnd, StepEnd};
 use crate::fields::Fields;
 use crate::job::{Done, Job};
 use crate::plan::NodePlan;
-use crate::targets::next_target;
-use bus_machine::{Input, Plan};
+use crate::targets::{next_in_round, next_send, next_start};
+use bus_machine::{Input, Next, Plan};
 use link_buffers::Slot;
 use output_backoff::release_at;
 use pals_base::{Items, Nanos, NoMemory, Port, Tuple};
@@ -207,15 +207,28 @@ impl Node {
         self.fields.sent
     }
 
-    /// From which reading on it may do what it does, or what it does next: a start, a step or a
-    /// send. None where it is done.
+    /// What it does next, and from which reading on: a start, a step or a send. None where the job
+    /// of a step is out, or all its rounds are done.
+    pub fn next(&self) -> Option<Next>
+        ensures { result ≡ next_of self.now.program.plan self.now.state }
+    {
+        let f = &self.fields;
+        let plan = &f.plan.plan;
+        match f.phase {
+            Phase::Waiting => Some(next_start(plan, f.count)),
+            Phase::Between(steps) => Some(next_in_round(plan, f.count - 1, steps, f.sent)),
+            Phase::Holding => Some(next_send(plan, f.count - 1)),
+            Phase::Running(_) | Phase::Done => None,
+        }
+    }
+
+    /// From which reading on it may do what it does, or what it does next. None where it is done.
     pub fn target(&self) -> Option<Nanos>
         ensures { result ≡ option_map (target self.now.program.plan) (action_of self.now.program.plan self.now.state) }
     {
         let f = &self.fields;
         let plan = &f.plan.plan;
         match f.phase {
-            Phase::Waiting => Some(alarm(plan.period, f.count)),
             Phase::Running(0) => Some(alarm(plan.period, f.count - 1)),
             Phase::Running(step) => Some(step_alarm(
                 plan.period,
@@ -223,9 +236,10 @@ impl Node {
                 f.count - 1,
                 step,
             )),
-            Phase::Between(steps) => Some(next_target(plan, f.count - 1, steps, f.sent)),
-            Phase::Holding => Some(release_at(plan.period, plan.release_offset, f.count - 1)),
-            Phase::Done => None,
+            _ => match self.next() {
+                Some(next) => Some(next.target),
+                None => None,
+            },
         }
     }
 

@@ -1,26 +1,53 @@
 //! What comes next in a round, and the reading that it waits for.
-ghost use Rattle.std.specs.Prelude.{◌≡◌, ◌<◌};
-ghost use Rattle.pals_base.specs.declared.limits.TheConstants.{ROUNDS};
+ghost use Rattle.std.specs.Prelude.{◌≡◌, ◌<◌, ◌≤◌, ◌-◌, IfSome};
+ghost use Rattle.std.specs.Option.{option_map};
+ghost use Rattle.pals_base.specs.declared.limits.TheConstants.{READING, ROUNDS};
 ghost use Rattle.bus_machine.specs.Targets.{target, next_action, send_is_next};
 ghost use Rattle.pals_node.specs.Keeping.{IsPlan};
 
-use bus_machine::Plan;
+use bus_machine::{Action, Next, Plan};
 use output_backoff::release_at;
 use pals_base::Nanos;
-use round_timer::step_alarm;
+use round_timer::{alarm, step_alarm};
 
-/// From which reading on a node, within a round of which so many steps are finished, does what
-/// comes next: the send, or the next step.
-pub fn next_target(plan: &Plan, round: u32, steps: u32, sent: bool) -> Nanos
+/// The start of a round.
+pub fn next_start(plan: &Plan, round: u32) -> Next
+    requires plan { IsPlan plan.now }
+    requires round { round < ROUNDS }
+    ensures { result ≡ record { action = Action.Start round; target = target plan.now (Action.Start round) } }
+{
+    Next {
+        action: Action::Start { round },
+        target: alarm(plan.period, round),
+    }
+}
+
+/// The send of a round.
+pub fn next_send(plan: &Plan, round: u32) -> Next
+    requires plan { IsPlan plan.now }
+    requires round { round < ROUNDS }
+    ensures { result ≡ record { action = Action.Send round; target = target plan.now (Action.Send round) } }
+{
+    Next {
+        action: Action::Send { round },
+        target: release_at(plan.period, plan.release_offset, round),
+    }
+}
+
+/// What comes next within a round of which so many steps are finished: the send, or the next step.
+pub fn next_in_round(plan: &Plan, round: u32, steps: u32, sent: bool) -> Next
     requires plan { IsPlan plan.now }
     requires round { round < ROUNDS }
     requires steps { steps < plan.now.rate }
-    ensures { result ≡ target plan.now (next_action plan.now (record { round = round; steps = steps; sent = sent })) }
+    ensures { result ≡ (let a = next_action plan.now (record { round = round; steps = steps; sent = sent }) in record { action = a; target = target plan.now a }) }
 {
     if send_is_next(plan, round, steps, sent) {
-        return release_at(plan.period, plan.release_offset, round);
+        return next_send(plan, round);
     }
-    step_alarm(plan.period, plan.step_period, round, steps)
+    Next {
+        action: Action::Step { round, step: steps },
+        target: step_alarm(plan.period, plan.step_period, round, steps),
+    }
 }
 
 // Whether the send comes before the next step.

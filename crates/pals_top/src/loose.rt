@@ -154,6 +154,7 @@ fn answer_events(
     links: &OutLinks,
 ) -> Result<Answer, NoMemory>
     requires going { bus.old.state.stop ≡ None }
+    requires loose { bus.old.meeting ≡ false }
     requires events { AreLooseEvents bus.old.run.design events.now }
     requires links { AreOutLinks bus.old.run.design links.now }
     ensures { IfOk result (λ answer. (end : LooseEnd) × (sent : List ℕ)

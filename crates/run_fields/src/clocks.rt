@@ -2,7 +2,7 @@
 ghost use Rattle.std.specs.Prelude.{◌≡◌, [], IfOk, codes, length, replicate};
 ghost use Rattle.std.specs.List.Sorted.{IsNonDecreasing};
 ghost use Rattle.serde_json.specs.View.{view};
-ghost use Rattle.pals_clock.specs.Clock.{unpicked};
+ghost use Rattle.pals_clock.specs.Clock.{AreReadings, unpicked};
 ghost use Rattle.scenario_values.specs.Outcomes.{Answers, Makes};
 ghost use Rattle.scenario_values.specs.Places.{inside};
 ghost use Rattle.run_fields.specs.Clocks.{reading_list, with_clock, clock_lists, is_meet, clocks_in};
@@ -22,6 +22,7 @@ use std::alloc::Global;
 fn reading_list(alloc: Global, name: &str, value: &Value) -> Result<Items<Nanos>, ScenarioFault>
     ensures value { Answers (reading_list (inside (codes "clocks") name.now) (view value.now)) result }
     ensures order { IfOk result IsNonDecreasing }
+    ensures range { IfOk result AreReadings }
 {
     let items = short_list(alloc, Place::Name("clocks", name), LIST_ITEMS, value)?;
     let mut readings = Items::new(alloc);

@@ -1,7 +1,7 @@
 use Rattle.std.proofs.Common.{◌≤◌, sym, arith}
 use Rattle.std.proofs.lemmas.Grind.{common_steps}
 use Rattle.run_fields.specs.Clocks.{last_of}
-use Rattle.run_fields.proofs.Readings.{last_push, order_push}
+use Rattle.run_fields.proofs.Readings.{last_push, order_push, range_push}
 use Rattle.run_fields.proofs.clocks.reading_list.Goals as goal
 
 pub loop-at-preserved : goal.loop-at-preserved
@@ -13,5 +13,6 @@ loop-at-preserved c =
       grind (arith, common_steps),
       sym (last_push readings reading),
       order_push readings reading c.loop-at.invariant.2 above,
+      range_push readings reading c.loop-at.invariant.3 c.in_ok-reading.ensures.range.1,
       grind (arith, common_steps),
     )

@@ -1,8 +1,8 @@
-use Rattle.std.proofs.Common.{◌≡◌, ◌∙◌, ◌<◌, length, Some, sym, subst, arith}
+use Rattle.std.proofs.Common.{◌≡◌, ◌∙◌, ◌<◌, length, Some, false, is_some, refl, sym, subst, arith, rules, tests}
 use Rattle.pals_bus.specs.Keeping.{value_of}
 use Rattle.pals_bus.specs.Values.{BusValue}
-use Rattle.pals_bus.specs.Meeting.{target_in, IsBefore}
-use Rattle.pals_bus.proofs.Targets.{target_is, least_more, least_here, none_here, within_run}
+use Rattle.pals_bus.specs.Meeting.{GoesAt, IsBefore}
+use Rattle.pals_bus.proofs.Targets.{target_is, least_more, least_here, none_here, still_going, within_run}
 use Rattle.pals_bus.proofs.bus.Bus.meet.Goals.{in-Some-target+else-least-own, in_default-target}
 use Rattle.pals_bus.proofs.bus.Bus.meet.Goals as goal
 
@@ -47,9 +47,14 @@ returns-clause-answer c =
     let past = c.loop-other-test.false in
     let many = c.len-other-end.ensures in
     let count = c.self.invariant.nodes.count in
-    let own = target_is f node c.index.result.now c.target.result c.self.invariant there c.index.ensures c.target.ensures ∙ c.in-Some.is in (
-      subst (λ (b : BusValue). target_in b node ≡ Some c.in-Some.own) shows own,
-      λ other least lt is.
-          let within : other < length (value_of f).run.design.components = subst (λ (b : BusValue). other < length b.run.design.components) (sym shows) lt in
-          c.loop-other.invariant other least (omega (arith, past, many, count, within)) (subst (λ (b : BusValue). target_in b other ≡ Some least) (sym shows) is),
-    )
+    let own = target_is f node c.index.result.now c.target.result c.self.invariant there c.index.ensures c.target.ensures ∙ c.in-Some.is in
+    let not_closed : f.closed ≡ false = search (rules, tests) in
+    let no_stop : is_some f.stop ≡ false = search (rules, tests) in
+    let goes : GoesAt (value_of f) node (Some c.in-Some.own) = record {
+      going = still_going (value_of f) not_closed no_stop;
+      own = c.in-Some.own;
+      own_is = own;
+      reading_is = refl;
+      least = λ other least lt is. c.loop-other.invariant other least (omega (arith, past, many, count, lt)) is;
+    } in
+    subst (λ (b : BusValue). GoesAt b node (Some c.in-Some.own)) shows goes
