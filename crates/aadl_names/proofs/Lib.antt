@@ -2,6 +2,7 @@ pub mod Finds
 pub mod Lookups
 pub mod Firsts
 pub mod Words
+pub mod Stored
 pub mod Spots
 pub mod Adds
 pub mod Elements

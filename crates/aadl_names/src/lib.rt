@@ -9,6 +9,7 @@ pub mod finder;
 pub mod finding_laws;
 pub mod holder;
 pub mod names;
+pub mod numbered;
 pub mod place_laws;
 pub mod role;
 pub mod site;

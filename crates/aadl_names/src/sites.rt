@@ -9,8 +9,9 @@ ghost use Rattle.aadl_names.specs.PackageFaults.{sited};
 ghost use Rattle.aadl_names.specs.Resolving as spec;
 
 use crate::names::Names;
+use crate::numbered::{target_of, type_numbered};
 use crate::site::Site;
-use aadl_tree::{ConnectionEnd, Declaration, Direction, Identifier, Implementation, Subcomponent};
+use aadl_tree::{ConnectionEnd, Direction, Identifier, Implementation, Subcomponent};
 use std::alloc::{AllocError, Global};
 
 /// The number of an implementation's type.
@@ -33,12 +34,8 @@ pub fn type_number_of_sub(
     ensures { IfOk result (λ number. number ≡ option_and_then (spec.type_number (placed names.now.tree.now))
         (spec.target_of (placed names.now.tree.now) (subcomponent_view kept_place sub.now))) }
 {
-    let Some(number) = names.referred(alloc, &sub.classifier)? else {
-        return Ok(None);
-    };
-    match names.tree.declarations.get(number) {
-        Some(Declaration::Implementation(x)) => type_number(names, alloc, x),
-        Some(Declaration::Type(_)) => Ok(None),
+    match target_of(names, alloc, sub)? {
+        Some(x) => type_number(names, alloc, x),
         None => Ok(None),
     }
 }
@@ -55,9 +52,8 @@ pub fn port_number(
     let Some(number) = of_type else {
         return Ok(None);
     };
-    match names.tree.declarations.get(number) {
-        Some(Declaration::Type(_)) => names.member(alloc, number, name),
-        Some(Declaration::Implementation(_)) => Ok(None),
+    match type_numbered(names.tree, of_type) {
+        Some(_) => names.member(alloc, number, name),
         None => Ok(None),
     }
 }
@@ -66,14 +62,8 @@ pub fn port_number(
 pub fn port_direction(names: &Names<'_>, of_type: Option<usize>, port: usize) -> Option<Direction>
     ensures { result ≡ spec.direction_in (spec.features_of (spec.type_numbered (placed names.now.tree.now) of_type)) port }
 {
-    match names.tree.declarations.get(of_type?) {
-        Some(Declaration::Type(x)) => match x.features.get(port) {
-            Some(feature) => Some(feature.direction),
-            None => None,
-        },
-        Some(Declaration::Implementation(_)) => None,
-        None => None,
-    }
+    let feature = type_numbered(names.tree, of_type)?.features.get(port)?;
+    Some(feature.direction)
 }
 
 // An own port.

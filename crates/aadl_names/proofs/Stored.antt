@@ -1,0 +1,70 @@
+-- What a number stands for among a package's declarations, where they are stored.
+use denote.Ref.{Bor}
+use Rattle.std.proofs.Common.{◌≡◌, ◌∙◌, ℕ, List, Option, Some, None, refl, sym, ap, map}
+use Rattle.std.specs.Prelude.{slice_get, option_map, option_copied}
+use Rattle.std.specs.Option.{option_and_then}
+use Rattle.std.specs.Slice.{IsItemAt}
+use Rattle.std.proofs.lemmas.Option.{none-some, slice_get-map, slice_get_read, slice_get_past}
+use Rattle.aadl_tree.specs.declared.package.PackageTree as source_package
+use Rattle.aadl_tree.specs.declared.declarations.Declaration as source_declaration
+use Rattle.aadl_tree.specs.declared.declarations.Direction.{Direction}
+use Rattle.aadl_tree.specs.Declarations.{Feature, Subcomponent, TypeDeclaration, Implementation, Declaration, type, implementation, PackageTree}
+use Rattle.aadl_tree.specs.Views.{declaration_view}
+use Rattle.aadl_tree.specs.Maps.{kept_place}
+use Rattle.aadl_tree.specs.PackageViews.{placed}
+use Rattle.aadl_names.specs.declared.site.Site.TheVariants.{Inner}
+use Rattle.aadl_names.specs.Members.{member_of}
+use Rattle.aadl_names.specs.Resolving.{type_in, type_number, type_numbered, target_of, features_of, port_named, ports_at, inner_ports, inner_site, direction_in, with_direction}
+
+-- the declaration of a number
+pub declaration_there : (tree : source_package.PackageTree) (n : ℕ) (ds : List source_declaration.Declaration) (d : Option source_declaration.Declaration)
+    → ds ≡ tree.declarations.items → slice_get ds n ≡ d
+    → slice_get (placed tree).declarations n ≡ option_map (declaration_view kept_place) d
+declaration_there tree n ds d stored is =
+    slice_get-map (declaration_view kept_place) tree.declarations.items n
+    ∙ ap (option_map (declaration_view kept_place)) (ap (λ l. slice_get l n) (sym stored) ∙ is)
+
+-- what `get` lends
+lent : {A : Type 0} (xs : List A) (i : ℕ) (r : Option (Bor A)) → IsItemAt xs i r → option_copied r ≡ slice_get xs i
+lent xs i None h = sym (slice_get_past xs i h.3)
+lent xs i (Some x) h = sym (slice_get_read xs _ i x.now refl h.3.0 h.1)
+
+pub view_lent : {A B : Type 0} (view : A → B) (items stored : List A) (i : ℕ) (r : Option (Bor A)) → stored ≡ items → IsItemAt stored i r
+    → option_map view (option_copied r) ≡ slice_get (map view items) i
+view_lent view items stored i r same h =
+    ap (option_map view) (lent stored i r h ∙ ap (λ l. slice_get l i) same) ∙ sym (slice_get-map view items i)
+
+-- ---- the ports of a type
+typed : (d : Option (Declaration ℕ)) (x : TypeDeclaration ℕ) (name : List ℕ) → Some x ≡ type_in d → member_of d name ≡ port_named (features_of (type_in d)) name
+typed None x name e = absurd (none-some x (sym e))
+typed (Some (type t)) x name e = refl
+typed (Some (implementation t)) x name e = absurd (none-some x (sym e))
+
+pub members_there : (tree : PackageTree ℕ) (of_type : Option ℕ) (n : ℕ) (x : TypeDeclaration ℕ) (name : List ℕ) → of_type ≡ Some n → Some x ≡ type_in (slice_get tree.declarations n)
+    → member_of (slice_get tree.declarations n) name ≡ port_named (features_of (type_numbered tree of_type)) name
+members_there tree of_type n x name some is =
+    typed (slice_get tree.declarations n) x name is ∙ ap (λ o. port_named (features_of (type_numbered tree o)) name) (sym some)
+
+-- ---- a port of a subcomponent
+pub ports_there : (tree : PackageTree ℕ) (x : Implementation ℕ) (s : ℕ) (sub : Subcomponent ℕ) (of_type : Option ℕ) → Some sub ≡ slice_get x.subcomponents s
+    → of_type ≡ option_and_then (type_number tree) (target_of tree sub) → features_of (type_numbered tree of_type) ≡ inner_ports tree x s
+ports_there tree x s sub of_type there is =
+    ap (λ o. features_of (type_numbered tree o)) is
+    ∙ ap (λ o. ports_at tree (option_and_then (target_of tree) o)) there
+
+pub site_there : (tree : PackageTree ℕ) (x : Implementation ℕ) (s p : ℕ) (name : List ℕ) (ports : List (Feature ℕ)) (d : Option Direction)
+    → ports ≡ inner_ports tree x s → Some p ≡ port_named ports name → d ≡ direction_in ports p
+    → Some (Inner s p, d) ≡ option_map (with_direction tree x) (inner_site tree x name s)
+site_there tree x s p name ports d same found goes =
+    ap (λ e. Some (Inner s p, e)) (goes ∙ ap (λ l. direction_in l p) same)
+    ∙ ap (λ o. option_map (with_direction tree x) (option_map (Inner s) o)) (found ∙ ap (λ l. port_named l name) same)
+
+pub no_site_there : (tree : PackageTree ℕ) (x : Implementation ℕ) (s : ℕ) (name : List ℕ) (ports : List (Feature ℕ)) → ports ≡ inner_ports tree x s
+    → None ≡ port_named ports name → None ≡ option_map (with_direction tree x) (inner_site tree x name s)
+no_site_there tree x s name ports same found =
+    ap (λ o. option_map (with_direction tree x) (option_map (Inner s) o)) (found ∙ ap (λ l. port_named l name) same)
+
+pub no_sub_there : (tree : PackageTree ℕ) (x : Implementation ℕ) (s : ℕ) (name : List ℕ) → None ≡ slice_get x.subcomponents s
+    → None ≡ option_map (with_direction tree x) (inner_site tree x name s)
+no_sub_there tree x s name there =
+    ap (λ o. option_map (with_direction tree x) (option_map (Inner s) (port_named (ports_at tree (option_and_then (target_of tree) o)) name))) there

@@ -1,0 +1,78 @@
+//! The declarations of a package by their numbers.
+ghost use Rattle.std.specs.Prelude.{◌≡◌, IfOk, slice_get, option_map, option_copied};
+ghost use Rattle.aadl_tree.specs.PackageViews.{placed};
+ghost use Rattle.aadl_tree.specs.Views.{implementation_view, subcomponent_view, type_view};
+ghost use Rattle.aadl_tree.specs.Maps.{kept_place};
+ghost use Rattle.aadl_names.specs.Resolving as spec;
+
+use crate::names::Names;
+use aadl_tree::{Declaration, Implementation, PackageTree, Subcomponent, TypeDeclaration};
+use std::alloc::{AllocError, Global};
+
+/// The implementation of a number.
+pub fn implementation_at<'t>(tree: &'t PackageTree, number: usize) -> Option<&'t Implementation>
+    ensures { option_map (implementation_view kept_place) (option_copied result) ≡ spec.implementation_at (placed tree.now) number }
+{
+    match tree.declarations.get(number) {
+        Some(Declaration::Implementation(x)) => Some(x),
+        Some(Declaration::Type(_)) => None,
+        None => None,
+    }
+}
+
+/// A subcomponent of the implementation of a number.
+pub fn subcomponent_at<'t>(
+    tree: &'t PackageTree,
+    number: usize,
+    sub: usize,
+) -> Option<&'t Subcomponent>
+    ensures { option_map (subcomponent_view kept_place) (option_copied result)
+        ≡ slice_get (spec.subcomponents_of (spec.implementation_at (placed tree.now) number)) sub }
+{
+    match implementation_at(tree, number) {
+        Some(x) => x.subcomponents.get(sub),
+        None => None,
+    }
+}
+
+/// The type of a number, if there is one.
+pub fn type_numbered<'t>(
+    tree: &'t PackageTree,
+    number: Option<usize>,
+) -> Option<&'t TypeDeclaration>
+    ensures { option_map (type_view kept_place) (option_copied result) ≡ spec.type_numbered (placed tree.now) number }
+{
+    match tree.declarations.get(number?) {
+        Some(Declaration::Type(x)) => Some(x),
+        Some(Declaration::Implementation(_)) => None,
+        None => None,
+    }
+}
+
+/// The type of an implementation.
+pub fn type_of<'t>(
+    names: &Names<'t>,
+    alloc: Global,
+    x: &Implementation,
+) -> Result<Option<&'t TypeDeclaration>, AllocError>
+    ensures { IfOk result (λ found. option_map (type_view kept_place) (option_copied found)
+        ≡ spec.type_of (placed names.now.tree.now) (implementation_view kept_place x.now)) }
+{
+    let number = names.type_number(alloc, &x.name.component_type)?;
+    Ok(type_numbered(names.tree, number))
+}
+
+/// The implementation that a subcomponent names.
+pub fn target_of<'t>(
+    names: &Names<'t>,
+    alloc: Global,
+    sub: &Subcomponent,
+) -> Result<Option<&'t Implementation>, AllocError>
+    ensures { IfOk result (λ found. option_map (implementation_view kept_place) (option_copied found)
+        ≡ spec.target_of (placed names.now.tree.now) (subcomponent_view kept_place sub.now)) }
+{
+    match names.referred(alloc, &sub.classifier)? {
+        Some(number) => Ok(implementation_at(names.tree, number)),
+        None => Ok(None),
+    }
+}
