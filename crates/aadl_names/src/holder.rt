@@ -5,7 +5,7 @@ ghost use Rattle.aadl_names.specs.Properties as spec;
 use aadl_tree::Category;
 
 /// A property that means something.
-#[derive(Clone, Copy, Debug, PartialEq, Eq)]
+#[derive(Clone, Copy)]
 pub enum Property {
     Period,
     Dispatch,
@@ -36,7 +36,7 @@ impl Property {
 }
 
 /// A kind of place at which properties stand.
-#[derive(Clone, Copy, Debug, PartialEq, Eq)]
+#[derive(Clone, Copy)]
 pub enum Holder {
     Port,
     Variable,

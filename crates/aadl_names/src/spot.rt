@@ -1,7 +1,7 @@
 //! Where a declaration stands.
 
 /// A declaration, by its number among others and its place.
-#[derive(Clone, Copy, Debug, PartialEq, Eq)]
+#[derive(Clone, Copy)]
 pub struct Spot {
     /// Its number among the declarations.
     pub number: usize,
