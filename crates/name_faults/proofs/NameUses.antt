@@ -1,9 +1,7 @@
 -- What names stand for in a behaviour.
-use Rattle.std.proofs.Common.{◌≡◌, ℕ, Bool, List, Option, ap, ◌∙◌}
+use Rattle.std.proofs.Common.{◌≡◌, ℕ, Bool, List, ap, ◌∙◌}
 use Rattle.std.specs.List.{flat_map}
 use Rattle.aadl_tree.specs.Annexes.{Transition}
-use Rattle.aadl_names.specs.declared.fault.FlatFault.{FlatFault}
-use Rattle.aadl_names.specs.declared.role.Role.{Role}
 use Rattle.aadl_names.specs.AnnexNames.{Known}
 use Rattle.aadl_names.specs.PackageFaults.{in_order, transition_uses}
 

@@ -16,21 +16,18 @@ ghost use Rattle.name_faults.specs.Expected.{annex_uses, still_expected};
 use crate::categories::is_thread;
 use crate::parts::transitions_in;
 use crate::{Scope, check_transitions, state_names, variable_roles};
+use aadl_names::numbered::type_numbered;
 use aadl_names::sites::type_number;
 use aadl_names::{Finder, Names, Role, Table};
-use aadl_tree::{Annex, AnnexContent, AnnexTree, Declaration, Implementation};
+use aadl_tree::{Annex, AnnexContent, AnnexTree, Implementation};
 use std::alloc::{AllocError, Global};
 
 // Whether what a type declares goes before what an implementation declares.
 fn comes_first(names: &Names<'_>, of_type: Option<usize>, x: &Implementation) -> bool
     ensures { result ≡ spec.comes_first (type_numbered (placed names.now.tree.now) of_type) (implementation_view kept_place x.now) }
 {
-    let Some(number) = of_type else {
-        return true;
-    };
-    match names.tree.declarations.get(number) {
-        Some(Declaration::Type(declaration)) => declaration.at < x.at,
-        Some(Declaration::Implementation(_)) => true,
+    match type_numbered(names.tree, of_type) {
+        Some(declaration) => declaration.at < x.at,
         None => true,
     }
 }

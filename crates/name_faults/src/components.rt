@@ -11,12 +11,13 @@ ghost use Rattle.aadl_names.specs.Found.{found};
 ghost use Rattle.aadl_names.specs.PackageFaults as spec;
 
 use crate::check_properties;
+use aadl_names::numbered::target_of;
 use aadl_names::sites::site;
 use aadl_names::spelling::{spelled_end, spelled_reference};
 use aadl_names::{Finder, Holder, Names, Site};
 use aadl_tree::{
-    Category, Connection, ConnectionEnd, Declaration, Direction, Feature, Implementation,
-    Reference, Subcomponent,
+    Category, Connection, ConnectionEnd, Direction, Feature, Implementation, Reference,
+    Subcomponent,
 };
 use std::alloc::AllocError;
 
@@ -76,17 +77,11 @@ fn check_target(
         finder.wrong_if(true, at);
         return Ok(());
     };
-    let Some(number) = names.referred(finder.alloc(), &sub.classifier)? else {
+    let Some(target) = target_of(names, finder.alloc(), sub)? else {
         return unknown_target(finder, &sub.classifier);
     };
-    match names.tree.declarations.get(number) {
-        Some(Declaration::Implementation(target)) => {
-            finder.wrong_if(!same_category(target.category, sub.category), at);
-            Ok(())
-        }
-        Some(Declaration::Type(_)) => unknown_target(finder, &sub.classifier),
-        None => unknown_target(finder, &sub.classifier),
-    }
+    finder.wrong_if(!same_category(target.category, sub.category), at);
+    Ok(())
 }
 
 fn unknown_target(finder: &mut Finder, reference: &Reference) -> Result<(), AllocError>

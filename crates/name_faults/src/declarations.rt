@@ -17,6 +17,7 @@ use crate::behaviours::check_behaviours;
 use crate::implementations::check_outside_behaviours;
 use crate::types::check_type;
 use crate::{AllPortNames, names_at};
+use aadl_names::numbered::implementation_at;
 use aadl_names::sites::type_number;
 use aadl_names::spelling::spelled_name;
 use aadl_names::{Finder, Names};
@@ -28,9 +29,8 @@ fn root_type(names: &Names<'_>, alloc: Global, root: usize) -> Result<Option<usi
     ensures { IfOk result (λ number. number ≡ spec.root_type (placed names.now.tree.now)
         (implementation_in (slice_get (placed names.now.tree.now).declarations root))) }
 {
-    match names.tree.declarations.get(root) {
-        Some(Declaration::Implementation(x)) => type_number(names, alloc, x),
-        Some(Declaration::Type(_)) => Ok(None),
+    match implementation_at(names.tree, root) {
+        Some(x) => type_number(names, alloc, x),
         None => Ok(None),
     }
 }

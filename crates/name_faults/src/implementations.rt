@@ -13,24 +13,18 @@ ghost use Rattle.aadl_names.specs.PackageFaults as spec;
 use crate::check_properties;
 use crate::components::{check_connections, check_subcomponents, same_category};
 use crate::types::check_variables;
-use aadl_names::sites::type_number;
+use aadl_names::numbered::type_of;
 use aadl_names::spelling::spelled_implementation;
 use aadl_names::{Finder, Holder, Names};
-use aadl_tree::{Declaration, Implementation};
+use aadl_tree::Implementation;
 use std::alloc::{AllocError, Global};
 
 // Whether an implementation has a type, which is of its own category.
 fn has_type(names: &Names<'_>, alloc: Global, x: &Implementation) -> Result<bool, AllocError>
     ensures { IfOk result (λ has. has ≡ spec.has_type x.now.category (type_of (placed names.now.tree.now) (implementation_view kept_place x.now))) }
 {
-    let Some(number) = type_number(names, alloc, x)? else {
-        return Ok(false);
-    };
-    match names.tree.declarations.get(number) {
-        Some(Declaration::Type(declaration)) => {
-            Ok(same_category(declaration.category, x.category))
-        }
-        Some(Declaration::Implementation(_)) => Ok(false),
+    match type_of(names, alloc, x)? {
+        Some(declaration) => Ok(same_category(declaration.category, x.category)),
         None => Ok(false),
     }
 }

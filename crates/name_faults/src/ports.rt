@@ -16,6 +16,7 @@ ghost use Rattle.name_faults.specs.PortNames.{AreNamesOf, AreAllNamesOf, names_a
 use crate::entries::port_entries;
 use crate::port_names::{AllPortNames, PortNames};
 use aadl_names::earliest::earliest_of;
+use aadl_names::numbered::type_numbered;
 use aadl_names::twice::check_twice;
 use aadl_names::{Entry, Finder, FlatFault, Names, Role, Table};
 use aadl_tree::{Declaration, Direction, Feature, PackageTree};
@@ -114,11 +115,8 @@ pub fn names_at(all: &AllPortNames, of_type: Option<usize>) -> &PortNames
 pub fn ports_at<'t>(names: &Names<'t>, of_type: Option<usize>) -> &'t [Feature]
     ensures { map (feature_view kept_place) result.now ≡ features_of (type_numbered (placed names.now.tree.now) of_type) }
 {
-    let Some(number) = of_type else {
-        return &[];
-    };
-    match names.tree.declarations.get(number) {
-        Some(declaration) => ports_in(declaration),
+    match type_numbered(names.tree, of_type) {
+        Some(x) => x.features.as_slice(),
         None => &[],
     }
 }

@@ -1,4 +1,4 @@
-use Rattle.std.proofs.Common.{◌≡◌, ap, ◌∙◌}
+use Rattle.std.proofs.Common.{ap, ◌∙◌}
 use Rattle.aadl_tree.specs.PackageViews.{placed}
 use Rattle.aadl_tree.specs.Views.{implementation_view}
 use Rattle.aadl_tree.specs.Maps.{kept_place}

@@ -1,4 +1,4 @@
-use Rattle.std.proofs.Common.{◌≡◌, None, sym, ap, ◌∙◌}
+use Rattle.std.proofs.Common.{None, sym, ap, ◌∙◌}
 use Rattle.aadl_tree.specs.PackageViews.{placed}
 use Rattle.aadl_names.specs.Found.{found}
 use Rattle.aadl_names.specs.PackageFaults.{wrong_names}
