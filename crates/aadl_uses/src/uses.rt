@@ -15,6 +15,7 @@ ghost use Rattle.pals_base.specs.declared.limits.TheConstants.{COMPONENTS};
 
 use crate::{Containment, counts_below, order, reached};
 use aadl_names::Names;
+use aadl_names::numbered::{implementation_at, subcomponent_at};
 use aadl_tree::{Category, Declaration, Implementation, PackageTree, Subcomponent};
 use indexmap::IndexSet;
 use pals_base::limits::COMPONENTS;
@@ -138,21 +139,14 @@ impl<'t> Uses<'t> {
     pub fn implementation(&self, number: usize) -> Option<&'t Implementation>
         ensures { option_map (implementation_view kept_place) (option_copied result) ≡ implementation_at (placed self.now.tree.now) number }
     {
-        match self.tree.declarations.get(number) {
-            Some(Declaration::Implementation(x)) => Some(x),
-            Some(Declaration::Type(_)) => None,
-            None => None,
-        }
+        implementation_at(self.tree, number)
     }
 
     /// A subcomponent of a declaration.
     pub fn subcomponent(&self, number: usize, sub: usize) -> Option<&'t Subcomponent>
         ensures { option_map (subcomponent_view kept_place) (option_copied result) ≡ sub_at (placed self.now.tree.now) number sub }
     {
-        match self.implementation(number) {
-            Some(x) => x.subcomponents.get(sub),
-            None => None,
-        }
+        subcomponent_at(self.tree, number, sub)
     }
 }
 
