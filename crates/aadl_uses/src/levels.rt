@@ -4,7 +4,7 @@ use crate::graph::Containment;
 use std::alloc::{AllocError, Global};
 
 // What is known of a declaration.
-#[derive(Clone, Copy, PartialEq, Eq, Debug)]
+#[derive(Clone, Copy)]
 enum Mark {
     New,
     // It has this place among the open ones.

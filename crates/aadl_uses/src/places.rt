@@ -18,7 +18,7 @@ pub struct ThreadAt {
 }
 
 /// A subcomponent: the number of the declaration in which it stands, and its own number there.
-#[derive(Clone, Copy, Debug, PartialEq, Eq)]
+#[derive(Clone, Copy)]
 pub struct SubAt {
     pub declaration: usize,
     pub sub: usize,
