@@ -1,8 +1,7 @@
 -- The count of marked declarations is that of threads, and tells whether there are more than a limit.
 use Rattle.std.proofs.Common.{◌≡◌, ◌⊎◌, inl, inr, ◌↔◌, ℕ, zero, suc, ◌<◌, ◌≤◌, ◌+◌, Bool, true, false, ◌&&◌, ◌||◌, nat_eq, nat_lt, min, List, [], ◌∷◌}
-use Rattle.std.proofs.Common.{◌++◌, map, reverse, Option, Some, None, length, get_or, slice_get, All, AllPairs, Contains, refl, sym, ap, subst, ◌∙◌, arith}
+use Rattle.std.proofs.Common.{◌++◌, map, reverse, Option, Some, None, length, get_or, slice_get, AllPairs, Contains, refl, sym, ap, subst, ◌∙◌, arith}
 use Rattle.std.proofs.Common.{Result, Ok, Err, IfOk}
-use Rattle.std.specs.List.{AllByRecursion}
 use Rattle.std.specs.Option.{option_and_then}
 use Rattle.std.proofs.lemmas.Bool.{cases_order, true≢false}
 use Rattle.std.proofs.lemmas.Bool.Decides.{nat_tests}
@@ -10,10 +9,10 @@ use Rattle.std.proofs.lemmas.List.{length-map, reverse-append, reverse-reverse}
 use Rattle.std.proofs.lemmas.List.Elements.{All-from_recursion, All-map, All-weaker, Contains-append_cases, Contains-append_left, Contains-append_right}
 use Rattle.std.proofs.lemmas.List.Elements.{Contains-push, Contains-push_cases}
 use Rattle.std.proofs.lemmas.List.Kept.{AllPairs-cons}
-use Rattle.std.proofs.lemmas.Option.{same_Some, none-some, option_and_then_some}
+use Rattle.std.proofs.lemmas.Option.{option_and_then_some}
 use Rattle.aadl_tree.specs.Declarations.{Implementation, Declaration, PackageTree}
 use Rattle.aadl_names.specs.Resolving.{implementation_in, implementation_at, is_thread}
-use Rattle.aadl_uses.specs.Uses.{standing, component_at, targets_in, containment}
+use Rattle.aadl_uses.specs.Uses.{standing, targets_in, containment}
 use Rattle.aadl_uses.specs.Threads.{Lists, MoreThan, IsThreadAt, PathBefore, is_thread_in, is_thread_declaration, thread_marks, AreCounted}
 use Rattle.aadl_uses.proofs.Containing.{standing-same, and_then_same}
 use Rattle.aadl_uses.proofs.Cycles.{kept_as_is, regrouped}

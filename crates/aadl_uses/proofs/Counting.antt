@@ -1,16 +1,13 @@
 -- What stands below a declaration stands below its first subcomponents, or below the next one.
-use Rattle.std.proofs.Common.{◌≡◌, ◌≢◌, ℕ, ◌+◌, ◌<◌, ◌≤◌, Bool, true, false, ◌&&◌, ◌||◌, nat_eq, nat_lt, min, List, [], ◌∷◌, ◌++◌, length, map, Option, Some, None, get_or, set, slice_get, refl, sym, ap, ◌∙◌, subst, arith, inl, inr, ◌⊎◌, get_or-set_other, get_or-set_same}
-use Rattle.aadl_uses.proofs.Searches.{contains_at, at_contains}
+use Rattle.std.proofs.Common.{◌≡◌, ℕ, ◌+◌, ◌<◌, ◌≤◌, Bool, true, false, ◌&&◌, ◌||◌, nat_eq, nat_lt, min, List, [], ◌∷◌, ◌++◌, length, map, Option, Some, None, get_or, slice_get, refl, sym, ap, ◌∙◌, subst, arith, inl, inr, ◌⊎◌}
 use Rattle.std.specs.List.{AllByRecursion}
 use Rattle.std.specs.Option.{option_and_then}
-use Rattle.std.proofs.lemmas.List.{length-append, length-map, length-set}
+use Rattle.std.proofs.lemmas.List.{length-append, length-map}
 use Rattle.std.proofs.lemmas.Bool.{cases_order, true≢false}
 use Rattle.std.proofs.lemmas.Bool.Decides.{nat_tests}
 use Rattle.std.proofs.lemmas.Option.{slice_get_within, slice_get-get_or, option_and_then_some, none-some, same_Some}
-use Rattle.aadl_uses.specs.Graphs.{Graph, targets_in, below_in, IsWithin}
-use Rattle.aadl_uses.specs.Orders.{IsSequence, IsOrder}
+use Rattle.aadl_uses.specs.Graphs.{Graph, targets_in, below_in}
 use Rattle.aadl_uses.specs.Counts.{stands_at, IsMarkedAt, path_before, Among, Ordered, AreListed, Counted, own_count, own_paths, count_of}
-use Rattle.aadl_uses.proofs.Suspected.{one_of_two}
 
 -- ---- lists
 all_append : {X : Type 0} (P : X → Type 0) (xs ys : List X) → AllByRecursion P xs → AllByRecursion P ys → AllByRecursion P (xs ++ ys)

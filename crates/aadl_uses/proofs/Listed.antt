@@ -1,15 +1,8 @@
 -- Lists of paths that grow, and that they are all that lead to what is marked.
-use Rattle.std.proofs.Common.{◌≡◌, ℕ, ◌+◌, ◌<◌, ◌≤◌, Bool, List, [], ◌∷◌, ◌++◌, length, map, take, Option, Some, None, get_or, set, slice_get, Contains, refl, sym, ap, ◌∙◌, subst, arith, inl, inr, ◌⊎◌, append_assoc, get_or-set_other, get_or-set_same}
-use Rattle.std.proofs.lemmas.Bool.{cases_order}
-use Rattle.std.proofs.lemmas.List.{take_more, take_all, map-append, length-set}
-use Rattle.std.proofs.lemmas.Option.{none-some, same_Some}
-use Rattle.aadl_uses.specs.Graphs.{Graph, targets_in, below_in}
-use Rattle.aadl_uses.specs.Orders.{IsSequence, IsOrder}
+use Rattle.std.proofs.Common.{◌≡◌, ℕ, ◌+◌, ◌<◌, ◌≤◌, Bool, List, [], ◌∷◌, ◌++◌, length, map, take, get_or, Contains, refl, sym, ap, ◌∙◌, append_assoc}
+use Rattle.std.proofs.lemmas.List.{take_more, take_all, map-append}
+use Rattle.aadl_uses.specs.Graphs.{Graph}
 use Rattle.aadl_uses.specs.Counts.{IsMarkedAt, path_before, AreListed}
-use Rattle.aadl_uses.proofs.Searches.{contains_at, at_contains}
-use Rattle.aadl_uses.proofs.Suspected.{one_of_two}
-use Rattle.aadl_uses.proofs.Counting.{Begun, own_listed, listed_more, listed_same, all_listed, below_is}
-use Rattle.aadl_uses.specs.Paths.{paths_from, IsClosed, AreKnown}
 
 -- ---- paths behind others
 -- one more

@@ -1,10 +1,9 @@
 -- The paths to threads.
-use Rattle.std.proofs.Common.{◌≡◌, ◌↔◌, ℕ, zero, suc, ◌+◌, ◌<◌, Bool, min, List, [], ◌∷◌, ◌++◌, length, map, take, reverse, Option, Some, None, slice_get, slice_index, slice_index_or, get_or, Contains, Result, Ok, Err, IfOk, refl, sym, ap, ◌∙◌, subst, arith, add-one}
+use Rattle.std.proofs.Common.{◌≡◌, ◌↔◌, ℕ, ◌<◌, Bool, List, ◌∷◌, length, map, reverse, Some, Contains, Result, Ok, Err, IfOk, sym, ap, ◌∙◌, subst}
 use Rattle.std.specs.Option.{option_and_then}
-use Rattle.aadl_tree.specs.Declarations.{Declaration, PackageTree}
-use Rattle.aadl_names.specs.Resolving.{implementation_in, implementation_at}
-use Rattle.aadl_uses.specs.Uses.{below, standing, IsInUse, containment}
-use Rattle.aadl_uses.specs.Threads.{Lists, IsThreadAt, PathBefore, is_thread_in, is_thread_declaration, thread_marks}
+use Rattle.aadl_tree.specs.Declarations.{PackageTree}
+use Rattle.aadl_uses.specs.Uses.{below, IsInUse, containment}
+use Rattle.aadl_uses.specs.Threads.{Lists, IsThreadAt, PathBefore, thread_marks}
 use Rattle.aadl_uses.proofs.Containing.{below-same}
 use Rattle.aadl_uses.proofs.Counted.{threads_listed}
 use Rattle.aadl_uses.specs.Graphs.{Graph, below_in}

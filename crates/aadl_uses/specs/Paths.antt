@@ -1,5 +1,5 @@
 -- The paths from declarations to the marked ones below them.
-use Rattle.std.specs.Prelude.{◌≡◌, ℕ, Bool, List, [], Option, Some, Contains, slice_index_or}
+use Rattle.std.specs.Prelude.{◌≡◌, ℕ, Bool, List, [], Some, Contains, slice_index_or}
 use Rattle.aadl_uses.specs.Graphs.{Graph, below_in}
 use Rattle.aadl_uses.specs.Counts.{AreListed, IsMarkedAt, path_before}
 

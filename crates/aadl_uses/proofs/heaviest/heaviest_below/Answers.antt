@@ -1,4 +1,4 @@
-use Rattle.std.proofs.Common.{◌+◌, ◌∙◌, None, arith, subst, sym}
+use Rattle.std.proofs.Common.{◌+◌, None, arith, subst, sym}
 use Rattle.aadl_uses.proofs.Searches.{contains_at}
 use Rattle.aadl_uses.proofs.Fronts.{FrontOf, front_past, front_more, front_all}
 use Rattle.aadl_uses.specs.Weights.{IsHeaviest}

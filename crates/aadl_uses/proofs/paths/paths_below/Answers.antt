@@ -1,4 +1,4 @@
-use Rattle.std.proofs.Common.{◌+◌, ◌∙◌, [], Some, Contains, arith, map, subst, sym}
+use Rattle.std.proofs.Common.{◌+◌, ◌∙◌, [], Contains, arith, map, subst, sym}
 use Rattle.std.proofs.lemmas.Option.{same_Some}
 use Rattle.aadl_uses.proofs.Fronts.{FrontOf, no_front, front_known, front_same, front_past, front_more, front_all}
 use Rattle.aadl_uses.proofs.Searches.{contains_at}

@@ -1,4 +1,4 @@
-use Rattle.std.proofs.Common.{◌≡◌, ◌+◌, ◌++◌, ◌∷◌, ◌∙◌, None, Some, ap, arith, get_or, length, map, subst, sym}
+use Rattle.std.proofs.Common.{◌+◌, ◌++◌, ◌∙◌, ap, arith, length, map, subst, sym}
 use Rattle.aadl_uses.specs.Counts.{AreListed, path_before}
 use Rattle.aadl_uses.proofs.Counting.{Begun, listed_more, listed_same, all_listed, below_is}
 use Rattle.aadl_uses.specs.Paths.{paths_from}
