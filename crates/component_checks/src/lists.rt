@@ -4,74 +4,24 @@ ghost use Rattle.std.specs.Option.{option_or};
 ghost use Rattle.aadl_tree.specs.Maps.{kept_place};
 ghost use Rattle.aadl_tree.specs.PackageViews.{placed};
 ghost use Rattle.aadl_tree.specs.ValueViews.{association_view, associations_view};
-ghost use Rattle.aadl_tree.specs.Views.{implementation_view, subcomponent_view, type_view};
+ghost use Rattle.aadl_tree.specs.Views.{implementation_view, subcomponent_view};
 ghost use Rattle.aadl_names.specs.Properties.{name_of, counts, is_named, association_named};
-ghost use Rattle.aadl_names.specs.Resolving as resolving;
 ghost use Rattle.component_checks.specs.Lists as spec;
 
+use aadl_names::numbered::subcomponent_at;
+pub use aadl_names::numbered::{implementation_at, target_of, type_of};
 use aadl_names::spelling::spelled_name;
 use aadl_names::{Names, Property};
-use aadl_tree::{
-    Association, Declaration, Implementation, PackageTree, Subcomponent, TypeDeclaration,
-};
+use aadl_tree::{Association, Implementation, PackageTree, Subcomponent};
 use aadl_uses::SubAt;
 use pals_base::NoMemory;
 use std::alloc::Global;
-
-/// The implementation of a number among a package's declarations.
-pub fn implementation_at<'t>(tree: &'t PackageTree, number: usize) -> Option<&'t Implementation>
-    ensures { option_map (implementation_view kept_place) (option_copied result) ≡ resolving.implementation_at (placed tree.now) number }
-{
-    match tree.declarations.get(number) {
-        Some(Declaration::Implementation(x)) => Some(x),
-        Some(Declaration::Type(_)) => None,
-        None => None,
-    }
-}
-
-/// The type of an implementation.
-pub fn type_of<'t>(
-    names: &Names<'t>,
-    alloc: Global,
-    x: &Implementation,
-) -> Result<Option<&'t TypeDeclaration>, NoMemory>
-    ensures { IfOk result (λ found. option_map (type_view kept_place) (option_copied found)
-        ≡ resolving.type_of (placed names.now.tree.now) (implementation_view kept_place x.now)) }
-{
-    let tree = names.tree;
-    let Some(number) = names.type_number(alloc, &x.name.component_type)? else {
-        return Ok(None);
-    };
-    match tree.declarations.get(number) {
-        Some(Declaration::Type(x)) => Ok(Some(x)),
-        Some(Declaration::Implementation(_)) => Ok(None),
-        None => Ok(None),
-    }
-}
-
-/// The implementation that a subcomponent names.
-pub fn target_of<'t>(
-    names: &Names<'t>,
-    alloc: Global,
-    sub: &Subcomponent,
-) -> Result<Option<&'t Implementation>, NoMemory>
-    ensures { IfOk result (λ found. option_map (implementation_view kept_place) (option_copied found)
-        ≡ resolving.target_of (placed names.now.tree.now) (subcomponent_view kept_place sub.now)) }
-{
-    match names.referred(alloc, &sub.classifier)? {
-        Some(number) => Ok(implementation_at(names.tree, number)),
-        None => Ok(None),
-    }
-}
 
 /// The subcomponent of two numbers: its declaration's, and its own there.
 pub fn sub_of<'t>(tree: &'t PackageTree, sub: SubAt) -> Option<&'t Subcomponent>
     ensures { option_map (subcomponent_view kept_place) (option_copied result) ≡ spec.sub_of (placed tree.now) sub }
 {
-    match implementation_at(tree, sub.declaration) {
-        Some(x) => x.subcomponents.get(sub.sub),
-        None => None,
-    }
+    subcomponent_at(tree, sub.declaration, sub.sub)
 }
 
 // Whether an association gives a property to what it stands at.
