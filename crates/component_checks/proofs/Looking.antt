@@ -1,5 +1,5 @@
 -- Associations of a name, and properties in several lists.
-use Rattle.std.proofs.Common.{◌≡◌, ◌∙◌, ℕ, Bool, true, false, cond, ◌&&◌, not, ◌++◌, List, [], ◌∷◌, ◌+◌, ◌<◌, length, take, get_or, reverse, append_assoc, Option, Some, None, refl, sym, ap, map, rules, find, filter}
+use Rattle.std.proofs.Common.{◌≡◌, ◌∙◌, ℕ, Bool, true, false, cond, ◌&&◌, ◌++◌, List, [], ◌∷◌, ◌+◌, ◌<◌, length, take, get_or, reverse, append_assoc, Option, Some, None, refl, sym, ap, map, rules, find}
 use Rattle.std.specs.Prelude.{flat_map}
 use Rattle.std.specs.Option.{option_or}
 use Rattle.std.proofs.lemmas.Bool.{false≢true}

@@ -1,5 +1,5 @@
 -- A list of two and more is not one text.
-use Rattle.std.proofs.Common.{◌≡◌, ℕ, ◌≤◌, List, [], ◌∷◌, length, Option, Some, None, refl, ap, arith}
+use Rattle.std.proofs.Common.{◌≡◌, ℕ, ◌≤◌, List, [], ◌∷◌, length, None, refl, arith}
 use Rattle.aadl_tree.specs.Values.{Value, list}
 use Rattle.aadl_tree.specs.ValueViews.{values_of}
 use Rattle.aadl_names.specs.Properties.{only_text}

@@ -1,5 +1,5 @@
 -- What is wrong with the root: its period and the bounds, each missing, reversed or 0, and the period below the bound.
-use Rattle.std.specs.Prelude.{ℕ, Bool, false, not, nat_eq, nat_lt, List, [], ◌++◌, codes, Option, Some, None}
+use Rattle.std.specs.Prelude.{ℕ, Bool, false, not, nat_eq, nat_lt, List, [], ◌++◌, Option, Some, None}
 use Rattle.std.specs.Option.{option_and_then}
 use Rattle.pals_base.specs.declared.values.Gamma.{Gamma}
 use Rattle.aadl_tree.specs.Values.{Association}
