@@ -5,9 +5,12 @@ pub mod ValueViews
 pub mod ActionViews
 pub mod Lengths
 pub mod Primaries
+pub mod Factors
+pub mod ValueKinds
 pub mod ActionKinds
 pub mod Symbols
 pub mod SmallPackage
 pub mod Numbers
 pub mod Finds
+pub mod Beginnings
 pub mod Ties

@@ -1,10 +1,10 @@
 -- What an operand is, by what it stands for.
-use Rattle.std.proofs.Common.{◌≡◌, ◌∙◌, ℕ, ℤ, Bool, ap, sym}
+use Rattle.std.proofs.Common.{◌≡◌, ◌∙◌, ℕ, ℤ, Bool, Box, Global, ap, sym}
 use Rattle.aadl_tree.specs.declared.names.Identifier.{Identifier}
 use Rattle.aadl_tree.specs.declared.expressions.Factor.{Factor}
 use Rattle.aadl_tree.specs.declared.expressions.Factor.TheOpen.{Primary-F}
 use Rattle.aadl_tree.specs.declared.expressions.Factor.TheViews.{out-Primary, roll-Primary, roll-out-Primary}
-use Rattle.aadl_tree.specs.declared.expressions.Primary.{Primary, Whole, Truth, Named}
+use Rattle.aadl_tree.specs.declared.expressions.Primary.{Primary, Whole, Truth, Named, Group}
 use Rattle.aadl_tree.specs.declared.expressions.Primary.TheVariants.{rolls-Whole, rolls-Truth, rolls-Named, rolls-Group}
 use Rattle.aadl_tree.specs.declared.expressions.Expression.{Expression}
 use Rattle.aadl_tree.specs.declared.expressions.Relation.{Relation}
@@ -12,7 +12,7 @@ use Rattle.aadl_tree.specs.declared.expressions.Sum.{Sum}
 use Rattle.aadl_tree.specs.declared.expressions.Term.{Term}
 use Rattle.aadl_tree.specs.Names as plain
 use Rattle.aadl_tree.specs.Expressions as plain_expressions
-use Rattle.aadl_tree.specs.Expressions.{number, truth, named}
+use Rattle.aadl_tree.specs.Expressions.{number, truth, named, group}
 use Rattle.aadl_tree.specs.ExpressionViews.{primary_view}
 use Rattle.aadl_tree.specs.Maps.{no_place}
 use Rattle.aadl_tree.proofs.ExpressionViews.{view-Whole, view-Truth, view-Named, view-Group}
@@ -58,3 +58,15 @@ named_layer x (Primary-F.Group at y) name fresh is e = let f = ap view (is ∙ r
 
 pub only_named : (x : Primary) (name : plain.Identifier (Unit {0})) (fresh : Bool) → view x ≡ named name fresh → IsNamed x
 only_named x name fresh e = named_layer x (out-Primary x) name fresh (sym (roll-out-Primary x)) e
+
+abbrev IsGroup : Primary → Type 0
+IsGroup x = (at : ℕ) × (e : Box Expression Global) × (x ≡ Group at e)
+
+group_layer : (x : Primary) (layer : Layer) (inner : plain_expressions.Expression (Unit {0})) → x ≡ roll-Primary layer → view x ≡ group tt inner → IsGroup x
+group_layer x (Primary-F.Whole at m) inner is e = let f = ap view (is ∙ rolls-Whole at m) ∙ view-Whole no_place at m in absurd cc
+group_layer x (Primary-F.Truth at b) inner is e = let f = ap view (is ∙ rolls-Truth at b) ∙ view-Truth no_place at b in absurd cc
+group_layer x (Primary-F.Named y fresh) inner is e = let f = ap view (is ∙ rolls-Named y fresh) ∙ view-Named no_place y fresh in absurd cc
+group_layer x (Primary-F.Group at y) inner is e = (at, y, is ∙ rolls-Group at y)
+
+pub only_group : (x : Primary) (inner : plain_expressions.Expression (Unit {0})) → view x ≡ group tt inner → IsGroup x
+only_group x inner e = group_layer x (out-Primary x) inner (sym (roll-out-Primary x)) e

@@ -1,4 +1,5 @@
 pub mod Marks
+pub mod Beginnings
 pub mod Kinds
 pub mod Parts
 pub mod Names

@@ -70,7 +70,7 @@ pub struct Block {
 }
 
 /// An end of a loop's range: `[ "-" ] whole`.
-#[derive(Clone, Copy, Debug, PartialEq, Eq)]
+#[derive(Clone, Copy, PartialEq, Eq)]
 pub struct Bound {
     pub negative: bool,
     pub value: i64,

@@ -3,14 +3,14 @@
 use crate::names::Identifier;
 
 /// `+` or `-`.
-#[derive(Clone, Copy, Debug, PartialEq, Eq)]
+#[derive(Clone, Copy, PartialEq, Eq)]
 pub enum Sign {
     Plus,
     Minus,
 }
 
 /// An operator between relations.
-#[derive(Clone, Copy, Debug, PartialEq, Eq)]
+#[derive(Clone, Copy, PartialEq, Eq)]
 pub enum LogicOperator {
     And,
     Or,
@@ -20,7 +20,7 @@ pub enum LogicOperator {
 }
 
 /// An operator between sums.
-#[derive(Clone, Copy, Debug, PartialEq, Eq)]
+#[derive(Clone, Copy, PartialEq, Eq)]
 pub enum RelationOperator {
     Equal,
     NotEqual,
@@ -31,7 +31,7 @@ pub enum RelationOperator {
 }
 
 /// An operator between factors.
-#[derive(Clone, Copy, Debug, PartialEq, Eq)]
+#[derive(Clone, Copy, PartialEq, Eq)]
 pub enum MultiplyOperator {
     Times,
     Divide,
@@ -56,7 +56,7 @@ pub struct Relation {
 }
 
 /// The sign before a sum's first term.
-#[derive(Clone, Copy, Debug, PartialEq, Eq)]
+#[derive(Clone, Copy)]
 pub struct LeadingSign {
     /// Where it stands.
     pub at: usize,

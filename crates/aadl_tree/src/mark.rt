@@ -1,7 +1,7 @@
 //! Keywords and symbols.
 
 /// A keyword or a symbol of the grammar. Their numbers are in the order of this list.
-#[derive(Clone, Copy, Debug)]
+#[derive(Clone, Copy)]
 pub enum Mark {
     /// `package`
     Package,

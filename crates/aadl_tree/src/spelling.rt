@@ -1,7 +1,10 @@
 //! How keywords and symbols are written, and where a word is a keyword.
-ghost use Rattle.std.specs.Prelude.{◌≡◌, ◌↔◌, IsTrue};
+ghost use Rattle.std.specs.Prelude.{◌≡◌, ◌↔◌, IsTrue, true, false};
+ghost use Rattle.std.specs.List.{find};
+ghost use Rattle.std.specs.Str.{bytes_eq, str_eq_ignore_ascii_case};
 ghost use Rattle.aadl_tree.specs.Marks as spec;
-ghost use Rattle.aadl_tree.specs.Marks.{mark_text, keywords_inside, keywords_outside, symbols};
+ghost use Rattle.aadl_tree.specs.Marks.{mark_text};
+ghost use Rattle.aadl_tree.specs.Beginnings.{keywords_from, symbols_from};
 
 use crate::mark::Mark;
 
@@ -100,144 +103,138 @@ impl Mark {
         self as u8 == other as u8
     }
 
-    #[tactic(auto, using(crate::proofs::Finds::find_step))]
     /// The keyword that a word is inside a behaviour annex or outside, whatever the case of its
     /// letters.
     pub fn keyword(inside: bool, word: &[u8]) -> Option<Mark>
         ensures { result ≡ spec.keyword_of inside word.now }
     {
-        let keywords_inside = keywords_inside();
-        let keywords_outside = keywords_outside();
-        let marks: &[Mark] = if inside {
-            &keywords_inside
-        } else {
-            &keywords_outside
-        };
-        for mark in marks {
-            if word.eq_ignore_ascii_case(mark.text()) {
-                return Some(*mark);
-            }
+        if word.is_empty() {
+            return None;
         }
-        None
+        let letter = word[0].to_ascii_lowercase();
+        let marks = if inside {
+            keywords_inside(letter)
+        } else {
+            keywords_outside(letter)
+        };
+        spelled_as(marks, word)
     }
 
-    #[tactic(auto, using(crate::proofs::Finds::find_step))]
     /// The symbol that the bytes are.
     pub fn symbol(bytes: &[u8]) -> Option<Mark>
         ensures { result ≡ spec.symbol_of bytes.now }
     {
-        let all = symbols();
-        let marks: &[Mark] = &all;
-        for mark in marks {
-            if bytes == mark.text() {
-                return Some(*mark);
-            }
+        if bytes.is_empty() {
+            return None;
         }
-        None
+        written_as(symbols_from(bytes[0]), bytes)
     }
 }
 
-fn keywords_inside() -> [Mark; 31]
-    ensures { result ≡ keywords_inside }
+/// The first of the keywords that a word is, whatever the case of its letters.
+#[tactic(auto, using(crate::proofs::Finds::find_step))]
+fn spelled_as(marks: &[Mark], word: &[u8]) -> Option<Mark>
+    ensures { result ≡ find (λ m. str_eq_ignore_ascii_case word.now (mark_text m)) marks.now }
 {
-    [
-        Mark::Variables,
-        Mark::States,
-        Mark::Transitions,
-        Mark::Constant,
-        Mark::Applies,
-        Mark::To,
-        Mark::Reference,
-        Mark::Classifier,
-        Mark::Initial,
-        Mark::Complete,
-        Mark::State,
-        Mark::On,
-        Mark::Dispatch,
-        Mark::Otherwise,
-        Mark::If,
-        Mark::Elsif,
-        Mark::Else,
-        Mark::End,
-        Mark::For,
-        Mark::In,
-        Mark::And,
-        Mark::Or,
-        Mark::Xor,
-        Mark::Then,
-        Mark::Mod,
-        Mark::Rem,
-        Mark::Abs,
-        Mark::Not,
-        Mark::True,
-        Mark::False,
-        Mark::Fresh,
-    ]
+    for mark in marks {
+        if word.eq_ignore_ascii_case(mark.text()) {
+            return Some(*mark);
+        }
+    }
+    None
 }
 
-fn keywords_outside() -> [Mark; 23]
-    ensures { result ≡ keywords_outside }
+/// The first of the symbols that the bytes are.
+#[tactic(auto, using(crate::proofs::Finds::find_step))]
+fn written_as(marks: &[Mark], bytes: &[u8]) -> Option<Mark>
+    ensures { result ≡ find (λ m. bytes_eq bytes.now (mark_text m)) marks.now }
 {
-    [
-        Mark::Package,
-        Mark::Public,
-        Mark::With,
-        Mark::End,
-        Mark::System,
-        Mark::Process,
-        Mark::Thread,
-        Mark::Features,
-        Mark::Properties,
-        Mark::Implementation,
-        Mark::Subcomponents,
-        Mark::Connections,
-        Mark::Nothing,
-        Mark::In,
-        Mark::Out,
-        Mark::Data,
-        Mark::Port,
-        Mark::Annex,
-        Mark::Constant,
-        Mark::Applies,
-        Mark::To,
-        Mark::Reference,
-        Mark::Classifier,
-    ]
+    for mark in marks {
+        if bytes == mark.text() {
+            return Some(*mark);
+        }
+    }
+    None
 }
 
-fn symbols() -> [Mark; 30]
-    ensures { result ≡ symbols }
+/// The keywords outside of behaviour annexes that begin with a small letter.
+#[tactic(auto, unfolding(crate::specs::Beginnings::keywords_from))]
+fn keywords_outside(letter: u8) -> &'static [Mark]
+    ensures { result.now ≡ keywords_from false letter }
 {
-    [
-        Mark::Semicolon,
-        Mark::Colon,
-        Mark::Comma,
-        Mark::Dot,
-        Mark::Range,
-        Mark::Scope,
-        Mark::Becomes,
-        Mark::Appends,
-        Mark::Arrow,
-        Mark::GuardOpen,
-        Mark::GuardClose,
-        Mark::BraceOpen,
-        Mark::BraceClose,
-        Mark::ParenOpen,
-        Mark::ParenClose,
-        Mark::BracketOpen,
-        Mark::BracketClose,
-        Mark::Plus,
-        Mark::Minus,
-        Mark::Star,
-        Mark::Slash,
-        Mark::Equal,
-        Mark::NotEqual,
-        Mark::Less,
-        Mark::LessOrEqual,
-        Mark::Greater,
-        Mark::GreaterOrEqual,
-        Mark::Assign,
-        Mark::Bang,
-        Mark::Tick,
-    ]
+    match letter {
+        b'a' => &[Mark::Annex, Mark::Applies],
+        b'c' => &[Mark::Connections, Mark::Constant, Mark::Classifier],
+        b'd' => &[Mark::Data],
+        b'e' => &[Mark::End],
+        b'f' => &[Mark::Features],
+        b'i' => &[Mark::Implementation, Mark::In],
+        b'n' => &[Mark::Nothing],
+        b'o' => &[Mark::Out],
+        b'p' => &[
+            Mark::Package,
+            Mark::Public,
+            Mark::Process,
+            Mark::Properties,
+            Mark::Port,
+        ],
+        b'r' => &[Mark::Reference],
+        b's' => &[Mark::System, Mark::Subcomponents],
+        b't' => &[Mark::Thread, Mark::To],
+        b'w' => &[Mark::With],
+        _ => &[],
+    }
+}
+
+/// The keywords inside behaviour annexes that begin with a small letter.
+#[tactic(auto, unfolding(crate::specs::Beginnings::keywords_from))]
+fn keywords_inside(letter: u8) -> &'static [Mark]
+    ensures { result.now ≡ keywords_from true letter }
+{
+    match letter {
+        b'a' => &[Mark::Applies, Mark::And, Mark::Abs],
+        b'c' => &[Mark::Constant, Mark::Classifier, Mark::Complete],
+        b'd' => &[Mark::Dispatch],
+        b'e' => &[Mark::Elsif, Mark::Else, Mark::End],
+        b'f' => &[Mark::For, Mark::False, Mark::Fresh],
+        b'i' => &[Mark::Initial, Mark::If, Mark::In],
+        b'm' => &[Mark::Mod],
+        b'n' => &[Mark::Not],
+        b'o' => &[Mark::On, Mark::Otherwise, Mark::Or],
+        b'r' => &[Mark::Reference, Mark::Rem],
+        b's' => &[Mark::States, Mark::State],
+        b't' => &[Mark::Transitions, Mark::To, Mark::Then, Mark::True],
+        b'v' => &[Mark::Variables],
+        b'x' => &[Mark::Xor],
+        _ => &[],
+    }
+}
+
+/// The symbols that begin with a byte.
+#[tactic(auto, unfolding(crate::specs::Beginnings::symbols_from))]
+fn symbols_from(byte: u8) -> &'static [Mark]
+    ensures { result.now ≡ symbols_from byte }
+{
+    match byte {
+        b';' => &[Mark::Semicolon],
+        b':' => &[Mark::Colon, Mark::Scope, Mark::Assign],
+        b',' => &[Mark::Comma],
+        b'.' => &[Mark::Dot, Mark::Range],
+        b'=' => &[Mark::Becomes, Mark::Equal],
+        b'+' => &[Mark::Appends, Mark::Plus],
+        b'-' => &[Mark::Arrow, Mark::GuardOpen, Mark::Minus],
+        b']' => &[Mark::GuardClose, Mark::BracketClose],
+        b'{' => &[Mark::BraceOpen],
+        b'}' => &[Mark::BraceClose],
+        b'(' => &[Mark::ParenOpen],
+        b')' => &[Mark::ParenClose],
+        b'[' => &[Mark::BracketOpen],
+        b'*' => &[Mark::Star],
+        b'/' => &[Mark::Slash],
+        b'!' => &[Mark::NotEqual, Mark::Bang],
+        b'<' => &[Mark::Less, Mark::LessOrEqual],
+        b'>' => &[Mark::Greater, Mark::GreaterOrEqual],
+        b'\'' => &[Mark::Tick],
+        _ => &[],
+    }
 }

@@ -1,5 +1,4 @@
 use Rattle.std.proofs.Common.{◌≡◌, true, arith, ap, sym, ◌∙◌, rules}
-use Rattle.std.proofs.lemmas.Grind.{common_steps}
 use Rattle.aadl_tree.specs.ActionViews.{action_view}
 use Rattle.aadl_tree.specs.Maps.{no_place}
 use Rattle.aadl_tree.proofs.ActionKinds.{only_assign, only_send, only_choose, only_loop}
@@ -9,34 +8,34 @@ use Rattle.aadl_tree.proofs.meaning.actions.+same_action.Goals as goal
 use Rattle.aadl_tree.proofs.meaning.actions.+same_action.Goals.{same_choice-then-same_expression, same_choice-else-same_expression, same_choice-then-same_actions, same_choice-else-same_actions}
 
 pub same_mores-returns-then-left-right : goal.same_mores-returns-then-left-right
-same_mores-returns-then-left-right t c = (grind (arith, common_steps), λ same. let e = mores-length _ _ same in absurd (grind (arith, common_steps)))
+same_mores-returns-then-left-right t c = (λ yes. absurd cc, λ same. let e = mores-length _ _ same in absurd (omega arith))
 
 pub same_elsifs-returns-then-left-right : goal.same_elsifs-returns-then-left-right
-same_elsifs-returns-then-left-right t c = (grind (arith, common_steps), λ same. let e = elsifs-length _ _ same in absurd (grind (arith, common_steps)))
+same_elsifs-returns-then-left-right t c = (λ yes. absurd cc, λ same. let e = elsifs-length _ _ same in absurd (omega arith))
 
 pub same_action-returns-in_default : goal.same_action-returns-in_default
 same_action-returns-in_default t c =
     let here = c.in_default in
     let left = ap (action_view no_place) here.is-0 ∙ view-Assign no_place here.field-0-0 here.field-1-0 in
-    (λ no. absurd (grind (arith, common_steps)), λ same. let found = only_assign c.args.right.now _ _ (sym same ∙ left) in absurd (here.not-Assign-1 found.0 found.1 found.2))
+    (λ yes. absurd cc, λ same. let found = only_assign c.args.right.now _ _ (sym same ∙ left) in absurd (here.not-Assign-1 found.0 found.1 found.2))
 
 pub same_action-returns-in_default-2 : goal.same_action-returns-in_default-2
 same_action-returns-in_default-2 t c =
     let here = c.in_default in
     let left = ap (action_view no_place) here.is-0 ∙ view-Send no_place here.field-0-0 here.field-1-0 in
-    (λ no. absurd (grind (arith, common_steps)), λ same. let found = only_send c.args.right.now _ _ (sym same ∙ left) in absurd (here.not-Send-1 found.0 found.1 found.2))
+    (λ yes. absurd cc, λ same. let found = only_send c.args.right.now _ _ (sym same ∙ left) in absurd (here.not-Send-1 found.0 found.1 found.2))
 
 pub same_action-returns-in_default-3 : goal.same_action-returns-in_default-3
 same_action-returns-in_default-3 t c =
     let here = c.in_default in
     let left = ap (action_view no_place) here.is-0 ∙ view-If no_place here.field-0-0 ∙ view-out-choice no_place here.field-0-0.value in
-    (λ no. absurd (grind (arith, common_steps)), λ same. let found = only_choose c.args.right.now _ _ _ _ (sym same ∙ left) in absurd (here.not-If-1 found.0 found.1))
+    (λ yes. absurd cc, λ same. let found = only_choose c.args.right.now _ _ _ _ (sym same ∙ left) in absurd (here.not-If-1 found.0 found.1))
 
 pub same_action-returns-in_default-4 : goal.same_action-returns-in_default-4
 same_action-returns-in_default-4 t c =
     let here = c.in_default in
     let left = ap (action_view no_place) here.is-0 ∙ view-For no_place here.field-0-0 ∙ view-out-loop no_place here.field-0-0.value in
-    (λ no. absurd (grind (arith, common_steps)), λ same. let found = only_loop c.args.right.now _ _ _ _ _ _ (sym same ∙ left) in absurd (here.not-For-1 found.0 found.1))
+    (λ yes. absurd cc, λ same. let found = only_loop c.args.right.now _ _ _ _ _ _ (sym same ∙ left) in absurd (here.not-For-1 found.0 found.1))
 
 pub same_choice-returns-then-same_elsifs : goal.same_choice-returns-then-same_elsifs
 same_choice-returns-then-same_elsifs t c = search (rules, view-out-choice)

@@ -1,9 +1,0 @@
-use Rattle.std.proofs.Common.{◌≡◌, drop}
-use Rattle.std.specs.List.{find}
-use Rattle.std.specs.Str.{bytes_eq}
-use Rattle.aadl_tree.specs.Marks as spec
-use Rattle.aadl_tree.specs.Marks.{mark_text}
-use Rattle.aadl_tree.proofs.mark.Mark.symbol.Given as goal
-
-abbrev pub invariant-loop-mark : goal.invariant-loop-mark
-invariant-loop-mark l = spec.symbol_of l.bytes ≡ find (λ m. bytes_eq l.bytes (mark_text m)) (drop l.mark-index l.marks)
