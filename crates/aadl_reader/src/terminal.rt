@@ -12,7 +12,7 @@ use aadl_tree::Mark;
 use std::alloc::{AllocError, Global};
 
 /// What a terminal is. What it says otherwise stands in the text.
-#[derive(Clone, Copy, Debug)]
+#[derive(Clone, Copy)]
 pub enum TerminalKind {
     /// A word that is no keyword.
     Word,
@@ -31,7 +31,7 @@ pub enum TerminalKind {
 }
 
 /// A terminal: the bytes of the text from `start` up to `end`.
-#[derive(Clone, Copy, Debug)]
+#[derive(Clone, Copy)]
 pub struct Terminal {
     pub kind: TerminalKind,
     pub start: usize,
@@ -80,7 +80,7 @@ pub fn resolve(
     ensures spots { IfOk result (λ found. spots_of text.now found.items ≡ spots_from inside text.now tokens.now) }
     ensures words { IfOk result (λ found. AreWords text.now found.items) }
 {
-    let mut found = Vec::new(alloc);
+    let mut found = Vec::with_capacity(alloc, tokens.len())?;
     let mut within = inside;
     for token in tokens {
         let kind = terminal_kind(within, text, *token);

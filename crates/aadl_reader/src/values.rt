@@ -260,6 +260,7 @@ pub fn associations(reader: &Reader<'_>, at: usize, room: usize) -> Parsed<Vec<A
         found.push(next)?;
         rest = behind;
     }
+    found.shrink_to_fit();
     Ok((found, rest))
 }
 

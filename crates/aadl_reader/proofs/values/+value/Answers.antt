@@ -3,8 +3,8 @@ use Rattle.aadl_reader.specs.Reading.{here}
 use Rattle.aadl_reader.proofs.Rows.{takes_row, deep_row, omits_unless, begins_as, enters_as, before_closer, misses_at, along, exits, no_reads, too_deep, flag_runs, only_takes}
 use Rattle.aadl_reader.proofs.Written.{nothing, then, marked, respelled, shorter, flagged}
 use Rattle.aadl_tree.specs.Parts.{plain}
-use Rattle.aadl_tree.specs.Values.{value_parts, values_parts, association_parts}
-use Rattle.aadl_tree.specs.ValueViews.{values_view}
+use Rattle.aadl_tree.specs.Values.{value_parts, values_parts, association_parts, associations_parts}
+use Rattle.aadl_tree.specs.ValueViews.{values_view, associations_view}
 use Rattle.aadl_tree.specs.Maps.{kept_place}
 use Rattle.aadl_tree.proofs.ValueViews.{view-List, view-Record, view-Reference, view-Classifier, view-association}
 use Rattle.aadl_machine.specs.Table.{rows}
@@ -259,7 +259,7 @@ unfolding move depth
 associations-returns t c = record {
   runs = λ outer below h. c.loop-found.invariant.runs outer below (omega arith)
       ∙ omits_unless outer c.args.reader.now.end s.associations (below) (here c.args.reader.now c.loop-found.rest) refl (rw c.loop-found-test.false at c.is_word.ensures, tt);
-  reads = c.loop-found.invariant.reads;
+  reads = respelled (sym (ap (λ l. associations_parts (associations_view kept_place l)) c.shrink_to_fit.ensures.items)) c.loop-found.invariant.reads;
 }
 
 pub associations-loop-found-smaller : goal.associations-loop-found-smaller
