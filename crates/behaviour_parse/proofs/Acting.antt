@@ -64,10 +64,10 @@ bound_refuses false outer end below ss mid h (l, e) m =
     ap (fate outer end (s.bound ∷ below)) (sym e) ∙ refuses_unless outer end s.bound below mid refl (m, (subst (λ (x : List Spot). Misses (the k.Minus) x) (sym e) l, tt))
 
 -- the parentheses of a loop and its body
-pub loop_reads : (x : Head) {body : List (Part ℕ)} {ss mid rest : List Spot} → Reads (head_parts x) ss mid → Reads body mid rest
+pub loop_reads : (x : Head) (body : List (Part ℕ)) {ss rest : List Spot} → Reads (head_parts x ++ body) ss rest
     → Reads (plain k.ParenOpen ∷ (identifier_parts (identifier_view kept_place x.variable) ++ (plain k.Colon ∷ (reference_parts (reference_view kept_place x.data_type) ++ (plain k.In
     ∷ (a.bound_parts x.low ++ (plain k.Range ∷ (a.bound_parts x.high ++ (plain k.ParenClose ∷ body))))))))) ss rest
-loop_reads x {body} p b = respelled (same (identifier_parts (identifier_view kept_place x.variable)) (reference_parts (reference_view kept_place x.data_type)) (a.bound_parts x.low) (a.bound_parts x.high) body) (then p b) where
+loop_reads x body b = respelled (same (identifier_parts (identifier_view kept_place x.variable)) (reference_parts (reference_view kept_place x.data_type)) (a.bound_parts x.low) (a.bound_parts x.high) body) b where
   same : (i r l h b : List (Part ℕ)) → (plain k.ParenOpen ∷ (i ++ (plain k.Colon ∷ (r ++ (plain k.In ∷ (l ++ (plain k.Range ∷ (h ++ plain k.ParenClose ∷ [])))))))) ++ b
       ≡ plain k.ParenOpen ∷ (i ++ (plain k.Colon ∷ (r ++ (plain k.In ∷ (l ++ (plain k.Range ∷ (h ++ (plain k.ParenClose ∷ b))))))))
   same i r l h b = simp append_assoc

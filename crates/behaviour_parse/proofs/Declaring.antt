@@ -1,5 +1,5 @@
 -- Declarations have a terminal at least.
-use Rattle.std.proofs.Common.{◌≡◌, ℕ, ◌<◌, List, [], ◌∷◌, ◌++◌, length, append_assoc, Option, Some, None}
+use Rattle.std.proofs.Common.{◌≡◌, ◌∙◌, ap, sym, ℕ, ◌<◌, List, [], ◌∷◌, ◌++◌, length, append_assoc, Option, Some, None}
 use Rattle.std.specs.Prelude.{option_map}
 use Rattle.aadl_tree.specs.declared.mark.Mark.TheVariants as k
 use Rattle.aadl_tree.specs.declared.annex.VariableDeclaration.{VariableDeclaration}
@@ -27,8 +27,10 @@ plain_begun (Some y) t a = begun a
 pub transition_begun : (t : Transition) {ss rest : List Spot} → Reads (x.transition_parts (transition_view kept_place t)) ss rest → length rest < length ss
 transition_begun t a = plain_begun (transition_view kept_place t).label (transition_view kept_place t) a
 
--- a guard in its brackets, and where it leads
-pub arrived : (ps : List (Part ℕ)) {qs : List (Part ℕ)} {ss mid rest : List Spot} → Reads (plain k.GuardOpen ∷ (ps ++ plain k.GuardClose ∷ [])) ss mid → Reads qs mid rest → Reads (plain k.GuardOpen ∷ (ps ++ (plain k.GuardClose ∷ qs))) ss rest
-arrived ps {qs} a b = respelled (same ps qs) (then a b) where
-  same : (p q : List (Part ℕ)) → (plain k.GuardOpen ∷ (p ++ plain k.GuardClose ∷ [])) ++ q ≡ plain k.GuardOpen ∷ (p ++ (plain k.GuardClose ∷ q))
-  same p q = simp append_assoc
+-- where a transition starts, with its label, its guard in brackets, and where it leads
+pub departed : (first second label source guard arrival : List (Part ℕ)) → label ++ source ≡ first ++ second
+    → first ++ ((second ++ (plain k.GuardOpen ∷ (guard ++ plain k.GuardClose ∷ []))) ++ arrival) ≡ label ++ (source ++ (plain k.GuardOpen ∷ (guard ++ (plain k.GuardClose ∷ arrival))))
+departed first second label source guard arrival e =
+    grouped first second guard arrival ∙ ap (λ l. l ++ (plain k.GuardOpen ∷ (guard ++ (plain k.GuardClose ∷ arrival)))) (sym e) ∙ append_assoc label source (plain k.GuardOpen ∷ (guard ++ (plain k.GuardClose ∷ arrival))) where
+      grouped : (f s g a : List (Part ℕ)) → f ++ ((s ++ (plain k.GuardOpen ∷ (g ++ plain k.GuardClose ∷ []))) ++ a) ≡ (f ++ s) ++ (plain k.GuardOpen ∷ (g ++ (plain k.GuardClose ∷ a)))
+      grouped f s g a = simp append_assoc

@@ -1,15 +1,15 @@
 //! Actions.
-ghost use Rattle.std.specs.Prelude.{ℕ, [], ◌∷◌, ◌++◌, MatchBool, option_map};
+ghost use Rattle.std.specs.Prelude.{ℕ, ◌≡◌, [], ◌∷◌, ◌++◌, MatchBool, option_map};
 ghost use Rattle.aadl_tree.specs.declared.mark.Mark.TheVariants as k;
 ghost use Rattle.aadl_tree.specs.Parts.{plain, parts_if, may, last_semicolon};
 ghost use Rattle.aadl_tree.specs.Names.{identifier_parts, reference_parts};
-ghost use Rattle.aadl_tree.specs.Actions.{action_parts, actions_parts, elsifs_parts, otherwise_parts, block_parts, test_parts, bound_parts};
+ghost use Rattle.aadl_tree.specs.Actions.{loop, action_parts, actions_parts, elsifs_parts, otherwise_parts, block_parts, test_parts, bound_parts};
 ghost use Rattle.aadl_tree.specs.NameViews.{identifier_view, reference_view};
 ghost use Rattle.aadl_tree.specs.ExpressionViews.{expression_view};
-ghost use Rattle.aadl_tree.specs.ActionViews.{action_view, actions_view, elsifs_view, otherwise_of, block_view};
+ghost use Rattle.aadl_tree.specs.ActionViews.{action_view, actions_view, elsifs_view, otherwise_of, block_view, loop_view};
 ghost use Rattle.aadl_tree.specs.Maps.{kept_place};
 ghost use Rattle.aadl_machine.specs.Symbols as s;
-ghost use Rattle.aadl_machine.specs.Table.{rows};
+ghost use Rattle.aadl_machine.specs.Table.{rows, on};
 ghost use Rattle.aadl_reader.specs.Reading.{here, MissAll, Begins, Parses, AnyRoom, Room};
 ghost use Rattle.behaviour_parse.specs.Choosing.{head_parts, choice_parts};
 
@@ -99,40 +99,36 @@ fn begins_action(reader: &Reader<'_>, at: usize) -> bool
     }
 }
 
-/// `id ":=" expression | id "!" "(" expression ")" | if | for`
-#[cycle(action)]
-fn action(reader: &Reader<'_>, at: usize, room: usize) -> Parsed<Action>
+/// A loop of its head and its body.
+fn turns(head: Head, at: usize, body: Block) -> Loop
+    ensures { loop_view kept_place result
+        ≡ loop at (identifier_view kept_place head.variable) (reference_view kept_place head.data_type) head.low head.high (block_view kept_place body) }
+{
+    let Head {
+        variable,
+        data_type,
+        low,
+        high,
+    } = head;
+    Loop {
+        at,
+        variable,
+        data_type,
+        low,
+        high,
+        body,
+    }
+}
+
+/// `id ":=" expression | id "!" "(" expression ")"`
+fn plain_action(reader: &Reader<'_>, at: usize, room: usize) -> Parsed<Action>
+    requires { MissAll (on k.If [] ∷ on k.For [] ∷ []) (here reader.now at) }
     ensures { Parses reader.now (Room room) (s.action ∷ []) (λ x. action_parts (action_view kept_place x)) at result }
 {
-    let place = reader.place(at);
-    if let Some(next) = reader.take(at, Mark::If) {
-        let inner = reader.deeper(at, room)?;
-        let (choice, end) = choice(reader, next, inner)?;
-        let boxed = Box::new(reader.alloc, choice)?;
-        return Ok((Action::If(boxed), end));
-    }
-    if let Some(next) = reader.take(at, Mark::For) {
-        let (head, next) = loop_head(reader, next, room)?;
-        let (body, end) = block(reader, next, room)?;
-        let Head {
-            variable,
-            data_type,
-            low,
-            high,
-        } = head;
-        let turns = Loop {
-            at: place,
-            variable,
-            data_type,
-            low,
-            high,
-            body,
-        };
-        let boxed = Box::new(reader.alloc, turns)?;
-        return Ok((Action::For(boxed), end));
-    }
     let Some((target, next)) = reader.word(at)? else {
-        return Err(ParseFault::Syntax { at: place });
+        return Err(ParseFault::Syntax {
+            at: reader.place(at),
+        });
     };
     if let Some(next) = reader.take(next, Mark::Assign) {
         let (value, end) = expression(reader, next, room)?;
@@ -149,6 +145,36 @@ fn action(reader: &Reader<'_>, at: usize, room: usize) -> Parsed<Action>
         value,
     };
     Ok((send, end))
+}
+
+/// `id ":=" expression | id "!" "(" expression ")" | if | for`
+#[cycle(action)]
+fn action(reader: &Reader<'_>, at: usize, room: usize) -> Parsed<Action>
+    ensures { Parses reader.now (Room room) (s.action ∷ []) (λ x. action_parts (action_view kept_place x)) at result }
+{
+    if let Some(next) = reader.take(at, Mark::If) {
+        let inner = reader.deeper(at, room)?;
+        let (choice, end) = choice(reader, next, inner)?;
+        let boxed = Box::new(reader.alloc, choice)?;
+        return Ok((Action::If(boxed), end));
+    }
+    if let Some(next) = reader.take(at, Mark::For) {
+        let ((head, body), end) = repetition(reader, next, room)?;
+        let boxed = Box::new(reader.alloc, turns(head, reader.place(at), body))?;
+        return Ok((Action::For(boxed), end));
+    }
+    plain_action(reader, at, room)
+}
+
+/// A loop behind its `for`.
+#[cycle(action)]
+fn repetition(reader: &Reader<'_>, at: usize, room: usize) -> Parsed<(Head, Block)>
+    ensures { Parses reader.now (Room room) (s.loop_head ∷ s.block ∷ [])
+        (λ x. head_parts x.0 ++ block_parts (block_view kept_place x.1)) at result }
+{
+    let (head, next) = loop_head(reader, at, room)?;
+    let (body, end) = block(reader, next, room)?;
+    Ok(((head, body), end))
 }
 
 /// `"(" expression ")" actions { elsif } [ "else" actions ] "end" "if"`

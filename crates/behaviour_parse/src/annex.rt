@@ -1,10 +1,10 @@
 //! What a behaviour annex declares.
-ghost use Rattle.std.specs.Prelude.{ℕ, [], ◌∷◌, ◌++◌, flat_map, map, option_map};
+ghost use Rattle.std.specs.Prelude.{ℕ, ◌≡◌, [], ◌∷◌, ◌++◌, flat_map, map, option_map};
 ghost use Rattle.aadl_tree.specs.declared.mark.Mark.TheVariants as k;
-ghost use Rattle.aadl_tree.specs.Parts.{plain, parts_if};
+ghost use Rattle.aadl_tree.specs.Parts.{plain, behind, parts_if};
 ghost use Rattle.aadl_tree.specs.Names.{identifier_parts};
 ghost use Rattle.aadl_tree.specs.Actions.{block_parts};
-ghost use Rattle.aadl_tree.specs.Annexes.{variable_parts, state_parts, guard_parts, transition_parts, declared_parts, annex_tree_parts};
+ghost use Rattle.aadl_tree.specs.Annexes.{variable_parts, state_parts, guard_parts, label_parts, transition_parts, declared_parts, annex_tree_parts};
 ghost use Rattle.aadl_tree.specs.NameViews.{identifier_view};
 ghost use Rattle.aadl_tree.specs.ActionViews.{block_view};
 ghost use Rattle.aadl_tree.specs.Views.{variable_view, state_view, guard_view, transition_view, annex_tree_view};
@@ -174,28 +174,46 @@ fn arrival(reader: &Reader<'_>, at: usize, room: usize) -> Parsed<(Identifier, O
     Ok(((target, effect), end))
 }
 
+/// `[ ":" id ] "-[" [ guard ] "]->"`
+fn departure(
+    reader: &Reader<'_>,
+    at: usize,
+    room: usize,
+) -> Parsed<(Option<Identifier>, Option<Guard>)>
+    ensures { Parses reader.now (Room room) (s.after_word ∷ [])
+        (λ x. parts_if (behind k.Colon identifier_parts) (option_map (identifier_view kept_place) x.0)
+        ++ (plain k.GuardOpen ∷ (parts_if guard_parts (option_map (guard_view kept_place) x.1) ++ plain k.GuardClose ∷ []))) at result }
+{
+    let Some(colon) = reader.take(at, Mark::Colon) else {
+        let (guard, end) = guarded(reader, at, room)?;
+        return Ok(((None, guard), end));
+    };
+    let (source, next) = identifier(reader, colon)?;
+    let (guard, end) = guarded(reader, next, room)?;
+    Ok(((Some(source), guard), end))
+}
+
+/// The label and the source of a transition: one word, or two with `:` between them.
+fn labelled(first: Identifier, second: Option<Identifier>) -> (Option<Identifier>, Identifier)
+    ensures { parts_if label_parts (option_map (identifier_view kept_place) result.0) ++ identifier_parts (identifier_view kept_place result.1)
+        ≡ identifier_parts (identifier_view kept_place first) ++ parts_if (behind k.Colon identifier_parts) (option_map (identifier_view kept_place) second) }
+{
+    match second {
+        Some(source) => (Some(first), source),
+        None => (None, first),
+    }
+}
+
 /// `[ id ":" ] id "-[" [ guard ] "]->" id [ block ] ";"`
 fn transition(reader: &Reader<'_>, at: usize, room: usize) -> Parsed<Transition>
     ensures { Parses reader.now (Room room) (s.transition ∷ []) (λ x. transition_parts (transition_view kept_place x)) at result }
 {
     let (first, next) = identifier(reader, at)?;
-    let Some(colon) = reader.take(next, Mark::Colon) else {
-        let (guard, next) = guarded(reader, next, room)?;
-        let ((target, effect), end) = arrival(reader, next, room)?;
-        let transition = Transition {
-            label: None,
-            source: first,
-            guard,
-            target,
-            effect,
-        };
-        return Ok((transition, end));
-    };
-    let (source, next) = identifier(reader, colon)?;
-    let (guard, next) = guarded(reader, next, room)?;
+    let ((second, guard), next) = departure(reader, next, room)?;
     let ((target, effect), end) = arrival(reader, next, room)?;
+    let (label, source) = labelled(first, second);
     let transition = Transition {
-        label: Some(first),
+        label,
         source,
         guard,
         target,

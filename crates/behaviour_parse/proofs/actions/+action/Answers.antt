@@ -5,7 +5,7 @@ use Rattle.aadl_reader.proofs.Written.{nothing, then, marked, named, respelled, 
 use Rattle.std.specs.Prelude.{Some, None}
 use Rattle.std.proofs.lemmas.List.{append-nil}
 use Rattle.aadl_tree.specs.Actions.{action_parts, actions_parts, mores_parts, block_parts}
-use Rattle.aadl_tree.specs.ActionViews.{action_view, mores_view, choice_view, loop_view}
+use Rattle.aadl_tree.specs.ActionViews.{action_view, mores_view, block_view, choice_view, loop_view}
 use Rattle.aadl_tree.specs.Maps.{kept_place}
 use Rattle.aadl_tree.proofs.ActionViews.{view-Assign, view-Send, view-If, view-For, view-actions, view-block, view-loop}
 use Rattle.aadl_machine.specs.Table.{rows}
@@ -40,76 +40,45 @@ action-returns-in-Some t c = record {
 pub action-returns-in_err-head : goal.action-returns-in_err-head
 unfolding move depth
 action-returns-in_err-head t c = record {
-  runs = λ outer below h. exits _ _ _ _ _ _ _ c.from_residual-in_err-head.ensures.1 (along _ _ _ (takes_row outer c.args.reader.now.end s.action (below) c.in-Some-take.ensures refl (omega arith)) (c.in_err-head.ensures.runs outer (s.block ∷ below) (omega arith)));
+  runs = λ outer below h. exits _ _ _ _ _ _ _ c.from_residual-in_err-head.ensures.1 (along _ _ _ (takes_row outer c.args.reader.now.end s.action (below) c.in-Some-take.ensures refl (omega arith)) (c.in_err-head.ensures.runs outer below (omega arith)));
   reads = no_reads _ _ _ c.from_residual-in_err-head.ensures.1;
-}
-
-pub action-returns-in_err-body : goal.action-returns-in_err-body
-unfolding move depth
-action-returns-in_err-body t c = record {
-  runs = λ outer below h. exits _ _ _ _ _ _ _ c.from_residual-in_err-body.ensures.1 (along _ _ _ (takes_row outer c.args.reader.now.end s.action (below) c.in-Some-take.ensures refl (omega arith)
-      ∙ c.in_ok-head.ensures.runs outer (s.block ∷ below) (omega arith)) (c.in_err-body.ensures.runs outer (below) (omega arith)));
-  reads = no_reads _ _ _ c.from_residual-in_err-body.ensures.1;
 }
 
 pub action-returns-in-Some-take : goal.action-returns-in-Some-take
 unfolding move depth
 action-returns-in-Some-take t c = record {
   runs = λ outer below h. takes_row outer c.args.reader.now.end s.action (below) c.in-Some-take.ensures refl (omega arith)
-      ∙ c.in_ok-head.ensures.runs outer (s.block ∷ below) (omega arith)
-      ∙ c.in_ok-body.ensures.runs outer (below) (omega arith);
-  reads = respelled (ap action_parts (sym (view-loop kept_place c.place-place.result c.in_ok-head.head.variable c.in_ok-head.head.data_type c.in_ok-head.head.low c.in_ok-head.head.high c.in_ok-body.body) ∙ ap (loop_view kept_place) (sym c.in_ok-boxed-2.ensures.ok) ∙ sym (view-For kept_place c.in_ok-boxed-2.boxed))) (placed_at c.place-place.result c.args.reader.now.end c.in-Some-take.ensures c.place-place.ensures (loop_reads c.in_ok-head.head c.in_ok-head.ensures.reads c.in_ok-body.ensures.reads));
-}
-
-pub action-returns-in_default-2 : goal.action-returns-in_default-2
-unfolding move depth
-action-returns-in_default-2 t c = record {
-  runs = λ outer below h. refuses_unless outer c.args.reader.now.end s.action (below) (here c.args.reader.now c.args.at) refl (rw c.in_default-2.is at c.in_ok-target.ensures.ok, (c.in_default.ensures, (c.in_default-take.ensures, tt)))
-      ∙ ap syntax_at (sym c.place-place.ensures);
-  reads = tt;
-}
-
-pub action-returns-in_err-value : goal.action-returns-in_err-value
-unfolding move depth
-action-returns-in_err-value t c = record {
-  runs = λ outer below h. exits _ _ _ _ _ _ _ c.from_residual-in_err-value.ensures.1 (along _ _ _ (takes_row outer c.args.reader.now.end s.action (below) (a_word_at (rw c.in-Some-2.is at c.in_ok-target.ensures.ok)) refl (omega arith)
-      ∙ takes_row outer c.args.reader.now.end s.after_target (below) c.in-Some-take-2.ensures refl (omega arith)) (c.in_err-value.ensures.runs outer (below) (omega arith)));
-  reads = no_reads _ _ _ c.from_residual-in_err-value.ensures.1;
-}
-
-pub action-returns-in-Some-take-2 : goal.action-returns-in-Some-take-2
-unfolding move depth
-action-returns-in-Some-take-2 t c = record {
-  runs = λ outer below h. takes_row outer c.args.reader.now.end s.action (below) (a_word_at (rw c.in-Some-2.is at c.in_ok-target.ensures.ok)) refl (omega arith)
-      ∙ takes_row outer c.args.reader.now.end s.after_target (below) c.in-Some-take-2.ensures refl (omega arith)
-      ∙ c.in_ok-value.ensures.runs outer (below) (omega arith);
-  reads = respelled (ap action_parts (sym (view-Assign kept_place c.in-Some-2.target c.in_ok-value.value))) (then (named (rw c.in-Some-2.is at c.in_ok-target.ensures.ok)) (marked c.in-Some-take-2.ensures c.in_ok-value.ensures.reads));
-}
-
-pub action-returns-in_default-take-3 : goal.action-returns-in_default-take-3
-unfolding move depth
-action-returns-in_default-take-3 t c = record {
-  runs = λ outer below h. takes_row outer c.args.reader.now.end s.action (below) (a_word_at (rw c.in-Some-2.is at c.in_ok-target.ensures.ok)) refl (omega arith)
-      ∙ refuses_unless outer c.args.reader.now.end s.after_target (below) (here c.args.reader.now c.in-Some-2.next) refl (c.in_default-take-2.ensures, (c.in_default-take-3.ensures, tt))
-      ∙ ap syntax_at (sym c.place.ensures);
-  reads = tt;
-}
-
-pub action-returns-in_err-value-2 : goal.action-returns-in_err-value-2
-unfolding move depth
-action-returns-in_err-value-2 t c = record {
-  runs = λ outer below h. exits _ _ _ _ _ _ _ c.from_residual-in_err-value-2.ensures.1 (along _ _ _ (takes_row outer c.args.reader.now.end s.action (below) (a_word_at (rw c.in-Some-2.is at c.in_ok-target.ensures.ok)) refl (omega arith)
-      ∙ takes_row outer c.args.reader.now.end s.after_target (below) c.in-Some-take-3.ensures refl (omega arith)) (c.in_err-value-2.ensures.runs outer (below) (omega arith)));
-  reads = no_reads _ _ _ c.from_residual-in_err-value-2.ensures.1;
+      ∙ c.in_ok-head.ensures.runs outer below (omega arith);
+  reads = respelled (ap action_parts (sym c.turns.ensures ∙ ap (loop_view kept_place) (sym c.in_ok-boxed-2.ensures.ok) ∙ sym (view-For kept_place c.in_ok-boxed-2.boxed))) (placed_at c.place.result c.args.reader.now.end c.in-Some-take.ensures c.place.ensures (loop_reads c.in_ok-head.head (block_parts (block_view kept_place c.in_ok-head.body)) c.in_ok-head.ensures.reads));
 }
 
 pub action-returns : goal.action-returns
 unfolding move depth
-action-returns t c = record {
-  runs = λ outer below h. takes_row outer c.args.reader.now.end s.action (below) (a_word_at (rw c.in-Some-2.is at c.in_ok-target.ensures.ok)) refl (omega arith)
-      ∙ takes_row outer c.args.reader.now.end s.after_target (below) c.in-Some-take-3.ensures refl (omega arith)
-      ∙ c.in_ok-value-2.ensures.runs outer (below) (omega arith);
-  reads = respelled (ap action_parts (sym (view-Send kept_place c.in-Some-2.target c.in_ok-value-2.value))) (then (named (rw c.in-Some-2.is at c.in_ok-target.ensures.ok)) (marked c.in-Some-take-3.ensures c.in_ok-value-2.ensures.reads));
+action-returns t c = c.plain_action.ensures
+
+pub action-plain_action-requires : goal.action-plain_action-requires
+action-plain_action-requires t c = (c.in_default.ensures, (c.in_default-take.ensures, tt))
+
+pub repetition-returns-in_err-head : goal.repetition-returns-in_err-head
+unfolding move depth
+repetition-returns-in_err-head t c = record {
+  runs = λ outer below h. exits _ _ _ _ _ _ _ c.from_residual.ensures.1 (c.in_err-head.ensures.runs outer (s.block ∷ below) (omega arith));
+  reads = no_reads _ _ _ c.from_residual.ensures.1;
+}
+
+pub repetition-returns-in_err-body : goal.repetition-returns-in_err-body
+unfolding move depth
+repetition-returns-in_err-body t c = record {
+  runs = λ outer below h. exits _ _ _ _ _ _ _ c.from_residual-in_err-body.ensures.1 (along _ _ _ (c.in_ok-head.ensures.runs outer (s.block ∷ below) (omega arith)) (c.in_err-body.ensures.runs outer below (omega arith)));
+  reads = no_reads _ _ _ c.from_residual-in_err-body.ensures.1;
+}
+
+pub repetition-returns : goal.repetition-returns
+unfolding move depth
+repetition-returns t c = record {
+  runs = λ outer below h. c.in_ok-head.ensures.runs outer (s.block ∷ below) (omega arith)
+      ∙ c.in_ok-body.ensures.runs outer below (omega arith);
+  reads = then c.in_ok-head.ensures.reads c.in_ok-body.ensures.reads;
 }
 
 pub choice-returns-in_err-test : goal.choice-returns-in_err-test

@@ -11,20 +11,23 @@ use Rattle.behaviour_parse.proofs.actions.+action.Given as goal
 abbrev pub decreases-block : goal.decreases-block
 decreases-block l = 8 * l.room + 0
 
+abbrev pub decreases-repetition : goal.decreases-repetition
+decreases-repetition l = 8 * l.room + 1
+
 abbrev pub decreases-action : goal.decreases-action
-decreases-action l = 8 * l.room + 1
+decreases-action l = 8 * l.room + 2
 
 abbrev pub decreases-actions : goal.decreases-actions
-decreases-actions l = 8 * l.room + 2
+decreases-actions l = 8 * l.room + 3
 
 abbrev pub decreases-elsifs : goal.decreases-elsifs
-decreases-elsifs l = 8 * l.room + 3
+decreases-elsifs l = 8 * l.room + 4
 
 abbrev pub decreases-otherwise : goal.decreases-otherwise
-decreases-otherwise l = 8 * l.room + 3
+decreases-otherwise l = 8 * l.room + 4
 
 abbrev pub decreases-choice : goal.decreases-choice
-decreases-choice l = 8 * l.room + 4
+decreases-choice l = 8 * l.room + 5
 
 abbrev pub invariant-elsifs-loop-behind : goal.invariant-elsifs-loop-behind
 invariant-elsifs-loop-behind l = record {

@@ -1,14 +1,17 @@
-use Rattle.std.proofs.Common.{◌∙◌, ◌∷◌, [], refl, arith}
-use Rattle.aadl_reader.specs.Reading.{here}
-use Rattle.aadl_reader.proofs.Rows.{takes_row, begins_as, begins_past, along, exits, no_reads}
-use Rattle.aadl_reader.proofs.Written.{nothing, then, marked}
+use Rattle.std.proofs.Common.{◌∙◌, ◌∷◌, ◌++◌, [], refl, arith}
 use Rattle.std.specs.Prelude.{option_map}
-use Rattle.aadl_tree.specs.Parts.{parts_if}
-use Rattle.aadl_tree.specs.Annexes.{guard_parts}
+use Rattle.aadl_tree.specs.Parts.{plain, behind, parts_if}
+use Rattle.aadl_tree.specs.Names.{identifier_parts}
+use Rattle.aadl_tree.specs.Actions.{block_parts}
+use Rattle.aadl_tree.specs.Annexes.{guard_parts, label_parts}
+use Rattle.aadl_tree.specs.NameViews.{identifier_view}
+use Rattle.aadl_tree.specs.ActionViews.{block_view}
 use Rattle.aadl_tree.specs.Views.{guard_view}
 use Rattle.aadl_tree.specs.Maps.{kept_place}
-use Rattle.aadl_machine.specs.Table.{on}
-use Rattle.behaviour_parse.proofs.Declaring.{arrived}
+use Rattle.aadl_reader.specs.Reading.{here}
+use Rattle.aadl_reader.proofs.Rows.{takes_row, begins_as, along, exits, no_reads}
+use Rattle.aadl_reader.proofs.Written.{then, respelled}
+use Rattle.behaviour_parse.proofs.Declaring.{departed}
 use Rattle.aadl_tree.specs.declared.mark.Mark.TheVariants as k
 use Rattle.aadl_machine.specs.Symbols as s
 use Rattle.aadl_machine.specs.Machine.{move, depth, syntax_at, deep_at}
@@ -21,13 +24,12 @@ returns-in_err-first c = record {
   reads = no_reads _ _ _ c.from_residual.ensures.1;
 }
 
-pub returns-in_err-guard : goal.returns-in_err-guard
+pub returns-in_err-second : goal.returns-in_err-second
 unfolding move depth
-returns-in_err-guard c = record {
-  runs = λ outer below h. exits _ _ _ _ _ _ _ c.from_residual-in_err-guard.ensures.1 (along _ _ _ (begins_as outer c.args.reader.now.end s.transition s.identifier (s.after_word ∷ s.identifier ∷ s.effect ∷ s.only k.Semicolon ∷ []) (below) (here c.args.reader.now c.args.at) refl refl refl
-      ∙ c.in_ok-first.ensures.runs outer (s.after_word ∷ s.identifier ∷ s.effect ∷ s.only k.Semicolon ∷ below) (omega arith)
-      ∙ begins_past outer c.args.reader.now.end s.after_word s.guarded (on k.Colon (s.identifier ∷ s.guarded ∷ []) ∷ []) ([]) (s.identifier ∷ s.effect ∷ s.only k.Semicolon ∷ below) (here c.args.reader.now c.in_ok-first.next) refl refl refl (c.in_default.ensures, tt)) (c.in_err-guard.ensures.runs outer (s.identifier ∷ s.effect ∷ s.only k.Semicolon ∷ below) (omega arith)));
-  reads = no_reads _ _ _ c.from_residual-in_err-guard.ensures.1;
+returns-in_err-second c = record {
+  runs = λ outer below h. exits _ _ _ _ _ _ _ c.from_residual-in_err-second.ensures.1 (along _ _ _ (begins_as outer c.args.reader.now.end s.transition s.identifier (s.after_word ∷ s.identifier ∷ s.effect ∷ s.only k.Semicolon ∷ []) (below) (here c.args.reader.now c.args.at) refl refl refl
+      ∙ c.in_ok-first.ensures.runs outer (s.after_word ∷ s.identifier ∷ s.effect ∷ s.only k.Semicolon ∷ below) (omega arith)) (c.in_err-second.ensures.runs outer (s.identifier ∷ s.effect ∷ s.only k.Semicolon ∷ below) (omega arith)));
+  reads = no_reads _ _ _ c.from_residual-in_err-second.ensures.1;
 }
 
 pub returns-in_err-target : goal.returns-in_err-target
@@ -35,50 +37,8 @@ unfolding move depth
 returns-in_err-target c = record {
   runs = λ outer below h. exits _ _ _ _ _ _ _ c.from_residual-in_err-target.ensures.1 (along _ _ _ (begins_as outer c.args.reader.now.end s.transition s.identifier (s.after_word ∷ s.identifier ∷ s.effect ∷ s.only k.Semicolon ∷ []) (below) (here c.args.reader.now c.args.at) refl refl refl
       ∙ c.in_ok-first.ensures.runs outer (s.after_word ∷ s.identifier ∷ s.effect ∷ s.only k.Semicolon ∷ below) (omega arith)
-      ∙ begins_past outer c.args.reader.now.end s.after_word s.guarded (on k.Colon (s.identifier ∷ s.guarded ∷ []) ∷ []) ([]) (s.identifier ∷ s.effect ∷ s.only k.Semicolon ∷ below) (here c.args.reader.now c.in_ok-first.next) refl refl refl (c.in_default.ensures, tt)
-      ∙ c.in_ok-guard.ensures.runs outer (s.identifier ∷ s.effect ∷ s.only k.Semicolon ∷ below) (omega arith)) (c.in_err-target.ensures.runs outer (below) (omega arith)));
+      ∙ c.in_ok-second.ensures.runs outer (s.identifier ∷ s.effect ∷ s.only k.Semicolon ∷ below) (omega arith)) (c.in_err-target.ensures.runs outer (below) (omega arith)));
   reads = no_reads _ _ _ c.from_residual-in_err-target.ensures.1;
-}
-
-pub returns-in_default : goal.returns-in_default
-unfolding move depth
-returns-in_default c = record {
-  runs = λ outer below h. begins_as outer c.args.reader.now.end s.transition s.identifier (s.after_word ∷ s.identifier ∷ s.effect ∷ s.only k.Semicolon ∷ []) (below) (here c.args.reader.now c.args.at) refl refl refl
-      ∙ c.in_ok-first.ensures.runs outer (s.after_word ∷ s.identifier ∷ s.effect ∷ s.only k.Semicolon ∷ below) (omega arith)
-      ∙ begins_past outer c.args.reader.now.end s.after_word s.guarded (on k.Colon (s.identifier ∷ s.guarded ∷ []) ∷ []) ([]) (s.identifier ∷ s.effect ∷ s.only k.Semicolon ∷ below) (here c.args.reader.now c.in_ok-first.next) refl refl refl (c.in_default.ensures, tt)
-      ∙ c.in_ok-guard.ensures.runs outer (s.identifier ∷ s.effect ∷ s.only k.Semicolon ∷ below) (omega arith)
-      ∙ c.in_ok-target.ensures.runs outer (below) (omega arith);
-  reads = then c.in_ok-first.ensures.reads (arrived (parts_if guard_parts (option_map (guard_view kept_place) c.in_ok-guard.guard)) c.in_ok-guard.ensures.reads c.in_ok-target.ensures.reads);
-}
-
-pub returns-in_err-source : goal.returns-in_err-source
-unfolding move depth
-returns-in_err-source c = record {
-  runs = λ outer below h. exits _ _ _ _ _ _ _ c.from_residual-in_err-source.ensures.1 (along _ _ _ (begins_as outer c.args.reader.now.end s.transition s.identifier (s.after_word ∷ s.identifier ∷ s.effect ∷ s.only k.Semicolon ∷ []) (below) (here c.args.reader.now c.args.at) refl refl refl
-      ∙ c.in_ok-first.ensures.runs outer (s.after_word ∷ s.identifier ∷ s.effect ∷ s.only k.Semicolon ∷ below) (omega arith)
-      ∙ takes_row outer c.args.reader.now.end s.after_word (s.identifier ∷ s.effect ∷ s.only k.Semicolon ∷ below) c.in-Some.ensures refl (omega arith)) (c.in_err-source.ensures.runs outer (s.guarded ∷ s.identifier ∷ s.effect ∷ s.only k.Semicolon ∷ below) (omega arith)));
-  reads = no_reads _ _ _ c.from_residual-in_err-source.ensures.1;
-}
-
-pub returns-in_err-guard-2 : goal.returns-in_err-guard-2
-unfolding move depth
-returns-in_err-guard-2 c = record {
-  runs = λ outer below h. exits _ _ _ _ _ _ _ c.from_residual-in_err-guard-2.ensures.1 (along _ _ _ (begins_as outer c.args.reader.now.end s.transition s.identifier (s.after_word ∷ s.identifier ∷ s.effect ∷ s.only k.Semicolon ∷ []) (below) (here c.args.reader.now c.args.at) refl refl refl
-      ∙ c.in_ok-first.ensures.runs outer (s.after_word ∷ s.identifier ∷ s.effect ∷ s.only k.Semicolon ∷ below) (omega arith)
-      ∙ takes_row outer c.args.reader.now.end s.after_word (s.identifier ∷ s.effect ∷ s.only k.Semicolon ∷ below) c.in-Some.ensures refl (omega arith)
-      ∙ c.in_ok-source.ensures.runs outer (s.guarded ∷ s.identifier ∷ s.effect ∷ s.only k.Semicolon ∷ below) (omega arith)) (c.in_err-guard-2.ensures.runs outer (s.identifier ∷ s.effect ∷ s.only k.Semicolon ∷ below) (omega arith)));
-  reads = no_reads _ _ _ c.from_residual-in_err-guard-2.ensures.1;
-}
-
-pub returns-in_err-target-2 : goal.returns-in_err-target-2
-unfolding move depth
-returns-in_err-target-2 c = record {
-  runs = λ outer below h. exits _ _ _ _ _ _ _ c.from_residual-in_err-target-2.ensures.1 (along _ _ _ (begins_as outer c.args.reader.now.end s.transition s.identifier (s.after_word ∷ s.identifier ∷ s.effect ∷ s.only k.Semicolon ∷ []) (below) (here c.args.reader.now c.args.at) refl refl refl
-      ∙ c.in_ok-first.ensures.runs outer (s.after_word ∷ s.identifier ∷ s.effect ∷ s.only k.Semicolon ∷ below) (omega arith)
-      ∙ takes_row outer c.args.reader.now.end s.after_word (s.identifier ∷ s.effect ∷ s.only k.Semicolon ∷ below) c.in-Some.ensures refl (omega arith)
-      ∙ c.in_ok-source.ensures.runs outer (s.guarded ∷ s.identifier ∷ s.effect ∷ s.only k.Semicolon ∷ below) (omega arith)
-      ∙ c.in_ok-guard-2.ensures.runs outer (s.identifier ∷ s.effect ∷ s.only k.Semicolon ∷ below) (omega arith)) (c.in_err-target-2.ensures.runs outer (below) (omega arith)));
-  reads = no_reads _ _ _ c.from_residual-in_err-target-2.ensures.1;
 }
 
 pub returns : goal.returns
@@ -86,9 +46,10 @@ unfolding move depth
 returns c = record {
   runs = λ outer below h. begins_as outer c.args.reader.now.end s.transition s.identifier (s.after_word ∷ s.identifier ∷ s.effect ∷ s.only k.Semicolon ∷ []) (below) (here c.args.reader.now c.args.at) refl refl refl
       ∙ c.in_ok-first.ensures.runs outer (s.after_word ∷ s.identifier ∷ s.effect ∷ s.only k.Semicolon ∷ below) (omega arith)
-      ∙ takes_row outer c.args.reader.now.end s.after_word (s.identifier ∷ s.effect ∷ s.only k.Semicolon ∷ below) c.in-Some.ensures refl (omega arith)
-      ∙ c.in_ok-source.ensures.runs outer (s.guarded ∷ s.identifier ∷ s.effect ∷ s.only k.Semicolon ∷ below) (omega arith)
-      ∙ c.in_ok-guard-2.ensures.runs outer (s.identifier ∷ s.effect ∷ s.only k.Semicolon ∷ below) (omega arith)
-      ∙ c.in_ok-target-2.ensures.runs outer (below) (omega arith);
-  reads = then (then c.in_ok-first.ensures.reads (marked c.in-Some.ensures nothing)) (then c.in_ok-source.ensures.reads (arrived (parts_if guard_parts (option_map (guard_view kept_place) c.in_ok-guard-2.guard)) c.in_ok-guard-2.ensures.reads c.in_ok-target-2.ensures.reads));
+      ∙ c.in_ok-second.ensures.runs outer (s.identifier ∷ s.effect ∷ s.only k.Semicolon ∷ below) (omega arith)
+      ∙ c.in_ok-target.ensures.runs outer (below) (omega arith);
+  reads = respelled (departed (identifier_parts (identifier_view kept_place c.in_ok-first.first)) (parts_if (behind k.Colon identifier_parts) (option_map (identifier_view kept_place) c.in_ok-second.second))
+      (parts_if label_parts (option_map (identifier_view kept_place) c.labelled-label.result.0)) (identifier_parts (identifier_view kept_place c.labelled-label.result.1))
+      (parts_if guard_parts (option_map (guard_view kept_place) c.in_ok-second.guard))
+      (identifier_parts (identifier_view kept_place c.in_ok-target.target) ++ (parts_if block_parts (option_map (block_view kept_place) c.in_ok-target.effect) ++ plain k.Semicolon ∷ [])) c.labelled-label.ensures) (then c.in_ok-first.ensures.reads (then c.in_ok-second.ensures.reads c.in_ok-target.ensures.reads));
 }
