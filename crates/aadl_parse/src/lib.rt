@@ -33,6 +33,7 @@ pub fn parse(alloc: Global, text: &[u8]) -> Result<PackageTree, TextFault>
         Err(fault) => return Err(TextFault::Lex(fault)),
     };
     let terminals = resolve(alloc, false, text, tokens.as_slice())?;
+    drop(tokens);
     let reader = Reader {
         alloc,
         text,
