@@ -1,85 +1,72 @@
-//! Texts that the tests share, and how a fault's place is told.
-
+//! Texts with their tokens, trees and canonical texts.
+use crate::faults::{lex_fault, text_fault};
+use aadl_lex::{Token, lex};
 use aadl_parse::{TextFault, parse};
+use aadl_print::print;
+use aadl_round_trip::is_read_back;
+use aadl_tree::{PackageTree, same};
 use std::alloc::{AllocError, Global};
 
-/// A design of two threads that count.
-pub const COUNTERS: &str = "package Two
-public
-with Base_Types;
-with PALS_Profile;
-thread Counter
-features
- i: in data port Base_Types::Integer;
- o: out data port Base_Types::Integer;
-properties
- Dispatch_Protocol => Periodic;
-end Counter;
-thread implementation Counter.impl
-annex behavior_specification {**
-variables
- x: Base_Types::Integer;
-states
- s: initial complete state;
-transitions
- s -[on dispatch]-> s {x := x + i + 1; o!(x)};
-**};
-end Counter.impl;
-process Pair
-end Pair;
-process implementation Pair.impl
-subcomponents
- a: thread Counter.impl;
- b: thread Counter.impl;
-connections
- c1: port a.o -> b.i {Timing => Delayed;};
- c2: port b.o -> a.i {Timing => Delayed;};
-end Pair.impl;
-system Top
-end Top;
-system implementation Top.impl
-subcomponents
- p: process Pair.impl;
-properties
- Period => 9 ms;
- PALS_Profile::Skew => 1 ms;
- PALS_Profile::Execution => 0 ms .. 3 ms;
- PALS_Profile::Network => 1 ms .. 4 ms;
-end Top.impl;
-end Two;
-";
-
-/// What stands before the declarations of a package, and behind them.
-pub const PACKAGE: (&str, &str) = ("package P public ", " end P;");
-
-/// What stands before the actions of a transition, and behind them.
-pub const ACTIONS: (&str, &str) = (
-    "package P public thread T annex behavior_specification {** transitions s -[]-> s {",
-    "}; **}; end T; end P;",
-);
-
-/// The text with this between its two halves.
-pub fn filled(alloc: Global, halves: (&str, &str), middle: &str) -> Result<String, AllocError> {
-    let (before, behind) = halves;
-    format!(in alloc; "{before}{middle}{behind}")
-}
-
-/// Why the text has no tree, if it has none.
-pub fn fault_of(alloc: Global, text: &str) -> Option<TextFault> {
-    parse(alloc, text.as_bytes()).err()
-}
-
-/// The line and the column of a byte, both from 1.
-pub fn place(text: &str, at: usize) -> (usize, usize) {
-    let mut line = 1usize;
-    let mut column = 1usize;
-    for byte in text.bytes().take(at) {
-        if byte == b'\n' {
-            line = line.wrapping_add(1);
-            column = 1;
-        } else {
-            column = column.wrapping_add(1);
-        }
+// The classes of the tokens with their bytes.
+fn spelled(alloc: Global, text: &[u8], tokens: &[Token]) -> Result<Vec<u8>, AllocError> {
+    let mut all = String::new(alloc);
+    for token in tokens {
+        let kind = token.kind;
+        let bytes = text.get(token.start..token.end).unwrap_or(b"?");
+        let bytes = std::str::from_utf8(bytes).unwrap_or("?");
+        write!(all, "{kind:?}<{bytes}>")?;
     }
-    (line, column)
+    all.push_str("\n")?;
+    Ok(all.into_bytes())
+}
+
+/// The tokens of a text, or its first lexical fault.
+pub fn tokens(alloc: Global, text: &[u8]) -> Result<Vec<u8>, AllocError> {
+    match lex(alloc, text) {
+        Ok(tokens) => spelled(alloc, text, tokens.as_slice()),
+        Err(fault) => lex_fault(alloc, text, fault),
+    }
+}
+
+/// Whether a text has a tree, or its fault.
+pub fn read(alloc: Global, text: &[u8]) -> Result<Vec<u8>, AllocError> {
+    match parse(alloc, text) {
+        Ok(_tree) => b"tree\n".to_vec(alloc),
+        Err(fault) => text_fault(alloc, text, fault),
+    }
+}
+
+// The canonical text of a tree, where it is read back as that tree.
+fn canonical(alloc: Global, tree: &PackageTree) -> Result<Vec<u8>, AllocError> {
+    if is_read_back(alloc, tree)? {
+        print(alloc, tree)
+    } else {
+        Ok(Vec::new(alloc))
+    }
+}
+
+/// The canonical text of a text, or its fault.
+pub fn printed(alloc: Global, text: &[u8]) -> Result<Vec<u8>, AllocError> {
+    match parse(alloc, text) {
+        Ok(tree) => canonical(alloc, &tree),
+        Err(fault) => text_fault(alloc, text, fault),
+    }
+}
+
+fn have_same_tree(alloc: Global, left: &str, right: &str) -> Result<bool, TextFault> {
+    let left = parse(alloc, left.as_bytes())?;
+    let right = parse(alloc, right.as_bytes())?;
+    Ok(same(&left, &right))
+}
+
+/// Whether two texts, with a line `%%%` between them, have the same tree.
+pub fn compared(alloc: Global, text: &[u8]) -> Result<Vec<u8>, AllocError> {
+    let texts = std::str::from_utf8(text).unwrap_or("");
+    let (left, right) = texts.split_once("%%%\n").unwrap_or((texts, ""));
+    let found = match have_same_tree(alloc, left, right) {
+        Ok(true) => "same\n",
+        Ok(false) => "other\n",
+        Err(_fault) => "no tree\n",
+    };
+    found.as_bytes().to_vec(alloc)
 }

@@ -1,0 +1,36 @@
+//! A behaviour that is read by itself.
+use aadl_lex::lex;
+use aadl_tree::{Action, AnnexTree};
+use behaviour_parse::{ParseFault, parse_annex};
+use std::alloc::{AllocError, Global};
+
+fn annex(alloc: Global, text: &[u8]) -> Result<AnnexTree, ParseFault> {
+    let Ok(tokens) = lex(alloc, text) else {
+        return Err(ParseFault::Memory);
+    };
+    parse_annex(alloc, text, tokens.as_slice())
+}
+
+// Where the sides of the assignment stand with which the first transition begins.
+fn assignment(annex: &AnnexTree) -> Option<(usize, usize)> {
+    let transition = annex.transitions.as_ref()?.first()?;
+    let actions = transition.effect.as_ref()?.actions.as_ref()?;
+    match &actions.first {
+        Action::Assign { target, value } => Some((target.at, value.at())),
+        _ => None,
+    }
+}
+
+fn shown(alloc: Global, annex: &AnnexTree) -> Result<Vec<u8>, AllocError> {
+    let variables = annex.variables.is_some();
+    let (target, value) = assignment(annex).unwrap_or((0, 0));
+    Ok(format!(in alloc; "variables {variables}\nassignment {target} {value}\n")?.into_bytes())
+}
+
+/// Whether a behaviour has variables, and where its first assignment stands.
+pub fn behaviour(alloc: Global, text: &[u8]) -> Result<Vec<u8>, AllocError> {
+    match annex(alloc, text) {
+        Ok(annex) => shown(alloc, &annex),
+        Err(_fault) => b"no tree\n".to_vec(alloc),
+    }
+}

@@ -1,0 +1,38 @@
+//! Texts through the crates that lex, read and print them.
+#![tactic(auto)]
+
+mod behaviours;
+mod faults;
+mod texts;
+
+use behaviours::behaviour;
+use case_files::{Answers, asked, check, text_of};
+use faults::messages;
+use std::alloc::{AllocError, Global};
+use std::io;
+use texts::{compared, printed, read, tokens};
+
+// What an answer tells of a text.
+fn told(alloc: Global, asked: &str, text: &[u8]) -> Result<Vec<u8>, AllocError> {
+    match asked {
+        "tokens" => tokens(alloc, text),
+        "tree" => read(alloc, text),
+        "print" => printed(alloc, text),
+        "same" => compared(alloc, text),
+        "behaviour" => behaviour(alloc, text),
+        _ => messages(alloc),
+    }
+}
+
+struct Texts;
+
+impl Answers for Texts {
+    fn answer(&self, rt: &HostRuntime, case: &str) -> io::Result<Vec<u8>> {
+        let text = text_of(rt, case)?;
+        Ok(told(rt.alloc(), asked(case), text.as_slice())?)
+    }
+}
+
+fn main(rt: HostRuntime) -> io::Result<()> {
+    check(&rt, &Texts, &["lexing", "reading", "printing", "sameness"])
+}
