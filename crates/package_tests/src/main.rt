@@ -1,0 +1,45 @@
+//! Packages: the first name that is wrong in one, what stands in what, and which implementation contains
+//! itself.
+#![tactic(auto)]
+
+mod containment;
+mod faults;
+mod threads;
+
+use aadl_parse::parse;
+use aadl_tree::PackageTree;
+use case_files::{Answers, asked, check, text_of};
+use std::alloc::{AllocError, Global};
+use std::io;
+
+// What an answer tells of a package.
+fn told(alloc: Global, asked: &str, text: &str, tree: &PackageTree) -> Result<String, AllocError> {
+    match asked {
+        "names" => faults::first_fault(alloc, text, tree),
+        "cycles" => containment::first_cycle(alloc, text, tree),
+        "in use" => containment::in_use(alloc, tree),
+        _ => threads::counted(alloc, tree),
+    }
+}
+
+// The same of a text.
+fn found(alloc: Global, asked: &str, text: &str) -> Result<String, AllocError> {
+    match parse(alloc, text.as_bytes()) {
+        Ok(tree) => told(alloc, asked, text, &tree),
+        Err(_fault) => String::from_str(alloc, "no tree\n"),
+    }
+}
+
+struct Packages;
+
+impl Answers for Packages {
+    fn answer(&self, rt: &HostRuntime, case: &str) -> io::Result<Vec<u8>> {
+        let text = text_of(rt, case)?;
+        let text = std::str::from_utf8(text.as_slice()).unwrap_or("");
+        Ok(found(rt.alloc(), asked(case), text)?.into_bytes())
+    }
+}
+
+fn main(rt: HostRuntime) -> io::Result<()> {
+    check(&rt, &Packages, &["names", "behaviours", "containment"])
+}
