@@ -5,8 +5,6 @@ use aadl_tree::{AnnexContent, AnnexTree, Declaration, PackageTree};
 use annex_resolve::{Entry, Meaning, Scope, Values, resolve_annex};
 use pals_base::{Behaviour, BehaviourParts, Items, Kind, Named, NoMemory, Text, VarDecl};
 use std::alloc::Global;
-use std::process::Abort;
-use std::test::Fail;
 
 fn port(alloc: Global, name: &str) -> Result<Items<Named>, NoMemory> {
     let name = Text::from_str(alloc, name)?;
@@ -68,44 +66,33 @@ fn annex(package: &PackageTree) -> Option<&AnnexTree> {
     None
 }
 
-// The parts of an annex, in which nothing is wrong.
-fn parts(rt: &impl Abort, alloc: Global, tree: &AnnexTree) -> Result<BehaviourParts, NoMemory> {
+// The parts of an annex, where nothing is wrong in it.
+fn parts(alloc: Global, tree: &AnnexTree) -> Result<Option<BehaviourParts>, NoMemory> {
     let scope = scope(alloc)?;
     let mut found = Items::new(alloc);
     let parts = resolve_annex(alloc, values(alloc)?, &scope, 0, tree, &mut found)?;
-    assert!(rt; found.is_empty());
-    Ok(parts)
-}
-
-// The behaviour of a package's first annex.
-fn first_behaviour(
-    rt: &impl Abort,
-    alloc: Global,
-    package: &PackageTree,
-) -> Result<Behaviour, NoMemory> {
-    let Some(tree) = annex(package) else {
-        panic!(rt; "there is no behaviour");
-    };
-    match Behaviour::try_new(alloc, parts(rt, alloc, tree)?)? {
-        Some(behaviour) => Ok(behaviour),
-        None => panic!(rt; "the parts break a rule of behaviours"),
+    if found.is_empty() {
+        Ok(Some(parts))
+    } else {
+        Ok(None)
     }
 }
 
-/// The behaviour with these states and transitions, in which nothing is wrong.
-pub fn behaviour(rt: &impl Abort, alloc: Global, text: &str) -> Result<Behaviour, Fail> {
-    let text = format!(in alloc;
-        "package P public thread implementation T.i
-annex behavior_specification {{** {text} **}};
-end T.i; end P;"
-    )?;
-    let package = parse(alloc, text.as_bytes())?;
-    Ok(first_behaviour(rt, alloc, &package)?)
+// The behaviour of an annex, where nothing is wrong in it.
+fn of_annex(alloc: Global, tree: &AnnexTree) -> Result<Option<Behaviour>, NoMemory> {
+    match parts(alloc, tree)? {
+        Some(parts) => Behaviour::try_new(alloc, parts),
+        None => Ok(None),
+    }
 }
 
-/// The text of a behaviour of one state with these actions.
-pub fn one_state(alloc: Global, actions: &str) -> Result<String, NoMemory> {
-    format!(in alloc;
-        "states s: initial complete state; transitions s -[on dispatch]-> s {{{actions}}};"
-    )
+/// The first behaviour of a package, where nothing is wrong in it.
+pub fn behaviour(alloc: Global, text: &[u8]) -> Result<Option<Behaviour>, NoMemory> {
+    let Ok(package) = parse(alloc, text) else {
+        return Ok(None);
+    };
+    match annex(&package) {
+        Some(tree) => of_annex(alloc, tree),
+        None => Ok(None),
+    }
 }

@@ -2,9 +2,12 @@
 ghost use Rattle.std.specs.Prelude.{◌≡◌, IsTrue, slice_get};
 ghost use Rattle.step_code.specs.Exec.{FitsCode, has_entry};
 
+use crate::running::wrong_steps;
+use crate::verifying::wrong_codes;
+use case_files::{Answers, asked};
 use pals_base::{Frame, Items, NoMemory, Port, Trap};
 use std::alloc::Global;
-use std::process::Abort;
+use std::io;
 use step_code::{Code, CodeFault, CodeParts, Instr, verify};
 use step_vm::{Room, run};
 
@@ -63,19 +66,32 @@ fn fits(code: &Code, frame: &Frame) -> bool
         && parts.outs == 1
 }
 
-/// Takes a step of the code from the frame, and gives what is sent.
+/// Takes a step of the code from the frame, and gives what is sent; nothing where the frame does not fit the code.
 pub fn step(
-    rt: &impl Abort,
     alloc: Global,
     code: &Code,
     frame: &mut Frame,
     input: Port,
-) -> Result<Port, NoMemory> {
+) -> Result<Option<Port>, NoMemory> {
     if !fits(code, frame) {
-        panic!(rt; "the frame does not fit the code");
+        return Ok(None);
     }
     let mut room = Room::for_code(alloc, code)?;
     let mut outs = [Port::Present(77)];
     run(code, &mut room, frame, &[input], &mut outs);
-    Ok(outs[0])
+    Ok(Some(outs[0]))
+}
+
+/// Tables of codes.
+pub struct Codes;
+
+impl Answers for Codes {
+    // The rows that are not as wanted.
+    fn answer(&self, rt: &HostRuntime, case: &str) -> io::Result<Vec<u8>> {
+        let wrong = match asked(case) {
+            "verifier" => wrong_codes(rt.alloc())?,
+            _ => wrong_steps(rt.alloc())?,
+        };
+        Ok(wrong.into_bytes())
+    }
 }

@@ -1,75 +1,64 @@
 //! What behaviours compile to.
-use crate::behaviours::{behaviour, one_state};
-use crate::running;
-use crate::texts::{COUNTER, SUM_OF_THREE, SURFACE};
+use crate::behaviours::behaviour;
+use crate::steps::compared;
+use case_files::{Answers, asked, text_of};
 use pals_base::{Behaviour, NoMemory};
 use std::alloc::Global;
-use std::process::Abort;
-use std::test::Fail;
-use step_code::{Instr, most};
-use step_compiler::{CompileFault, compile};
+use std::io;
+use step_code::{Code, most};
+use step_compiler::compile;
 
-// The length and the weight of a behaviour's code.
-type Size = Result<(usize, u64), CompileFault>;
-
-fn size(alloc: Global, behaviour: &Behaviour) -> Size {
-    let code = compile(alloc, behaviour)?;
-    Ok((code.parts().instrs.len(), most(&code)))
+// The instructions of a code, each in a line.
+fn listed(alloc: Global, code: &Code) -> Result<String, NoMemory> {
+    let mut lines = String::new(alloc);
+    for instr in code.parts().instrs.as_slice() {
+        writeln!(lines, "{instr:?}")?;
+    }
+    Ok(lines)
 }
 
-fn is_compiled_to(
+fn size(alloc: Global, code: &Code) -> Result<String, NoMemory> {
+    let length = code.parts().instrs.len();
+    let weight = most(code);
+    format!(in alloc; "length {length}, weight {weight}\n")
+}
+
+// What is asked of the code of a behaviour.
+fn told(
     alloc: Global,
+    asked: &str,
     behaviour: &Behaviour,
-    instrs: &[Instr],
-) -> Result<bool, CompileFault> {
-    let code = compile(alloc, behaviour)?;
-    Ok(code.parts().instrs.as_slice() == instrs)
-}
-
-fn assert_size(rt: &impl Abort, alloc: Global, text: &str, wanted: Size) -> Result<(), Fail> {
-    let behaviour = behaviour(rt, alloc, text)?;
-    if size(alloc, &behaviour) != wanted {
-        panic!(rt; "{text}");
+    code: &Code,
+) -> Result<String, NoMemory> {
+    match asked {
+        "code" => listed(alloc, code),
+        "size" => size(alloc, code),
+        "steps from 2" => compared(alloc, behaviour, code, 2),
+        _ => compared(alloc, behaviour, code, 0),
     }
-    Ok(())
 }
 
-#[test]
-fn worked_code(rt: HostRuntime) -> Result<(), Fail> {
-    let counter = behaviour(&rt, rt.alloc(), COUNTER)?;
-    assert!(rt; is_compiled_to(rt.alloc(), &counter, &running::COUNTER)?);
-    Ok(())
-}
-
-const SIZES: [(&str, usize, u64); 3] = [(COUNTER, 9, 9), (SURFACE, 26, 16), (SUM_OF_THREE, 9, 9)];
-
-#[test]
-fn worked_sizes(rt: HostRuntime) -> Result<(), Fail> {
-    for (text, length, weight) in &SIZES {
-        assert_size(&rt, rt.alloc(), text, Ok((*length, *weight)))?;
+fn compiled(alloc: Global, asked: &str, behaviour: &Behaviour) -> Result<String, NoMemory> {
+    match compile(alloc, behaviour) {
+        Ok(code) => told(alloc, asked, behaviour, &code),
+        Err(fault) => format!(in alloc; "{fault:?}\n"),
     }
-    Ok(())
 }
 
-// So many actions that add 1 to a variable, each of four instructions.
-fn additions(alloc: Global, count: usize) -> Result<String, NoMemory> {
-    let mut actions = String::new(alloc);
-    for _ in 0..count {
-        actions.push_str("x := x + 1; ")?;
+// What is asked of the first behaviour in a text.
+fn found(alloc: Global, asked: &str, text: &[u8]) -> Result<String, NoMemory> {
+    match behaviour(alloc, text)? {
+        Some(behaviour) => compiled(alloc, asked, &behaviour),
+        None => String::from_str(alloc, "no behaviour\n"),
     }
-    one_state(alloc, actions.as_str())
 }
 
-const GREATEST: [(usize, Size); 2] = [
-    (1_023, Ok((4_093, 4_093))),
-    (1_024, Err(CompileFault::CodeTooLong { length: 4_097 })),
-];
+/// The code of behaviours.
+pub struct Behaviours;
 
-#[test]
-fn greatest_code(rt: HostRuntime) -> Result<(), Fail> {
-    for (count, wanted) in &GREATEST {
-        let text = additions(rt.alloc(), *count)?;
-        assert_size(&rt, rt.alloc(), text.as_str(), *wanted)?;
+impl Answers for Behaviours {
+    fn answer(&self, rt: &HostRuntime, case: &str) -> io::Result<Vec<u8>> {
+        let text = text_of(rt, case)?;
+        Ok(found(rt.alloc(), asked(case), text.as_slice())?.into_bytes())
     }
-    Ok(())
 }

@@ -1,17 +1,9 @@
 //! The steps of code beside those of the behaviour.
-use crate::behaviours::{behaviour, one_state};
 use crate::codes::{frame, step};
-use crate::texts::{
-    AND_THEN, CHAIN, COUNTER, NESTED_LOOPS, NEVER_TAKEN, OR_ELSE, SENT_TWICE, SURFACE,
-    TRAPPING_GUARD,
-};
 use behaviour_sem::fire;
 use pals_base::{Behaviour, Frame, NoMemory, Port};
 use std::alloc::Global;
-use std::process::Abort;
-use std::test::Fail;
 use step_code::Code;
-use step_compiler::compile;
 
 const NUMBERS: [i64; 7] = [i64::MIN, i64::MIN + 1, -1, 0, 1, 10, i64::MAX];
 
@@ -35,7 +27,6 @@ fn are_same(left: &Frame, right: &Frame) -> bool {
 
 // Whether a step of the code from a frame leaves what the behaviour's step leaves.
 fn steps_agree(
-    rt: &impl Abort,
     alloc: Global,
     behaviour: &Behaviour,
     code: &Code,
@@ -43,89 +34,38 @@ fn steps_agree(
     input: Port,
 ) -> Result<bool, NoMemory> {
     let (after, outs) = fire(alloc, behaviour, before, &[input])?;
-    let sent = step(rt, alloc, code, before, input)?;
-    Ok(are_same(before, &after) && outs.as_slice() == [sent].as_slice())
+    let sent = step(alloc, code, before, input)?;
+    Ok(are_same(before, &after) && outs.len() == 1 && outs.get(0).copied() == sent)
 }
 
-// From a state, at each number in `x`, the same one held, and each input.
-fn assert_all_steps(
-    rt: &impl Abort,
-    alloc: Global,
+// Adds the steps that differ from a state with a number in `x`, the same one held, at each input.
+fn add_differences(
+    wrong: &mut String,
     behaviour: &Behaviour,
     code: &Code,
     state: u32,
+    number: i64,
 ) -> Result<(), NoMemory> {
-    for number in &NUMBERS {
-        for input in &INPUTS {
-            let mut before = frame(alloc, state, &[*number, 1], *number, None)?;
-            if !steps_agree(rt, alloc, behaviour, code, &mut before, *input)? {
-                panic!(rt; "state {state}, x and held {number}, input {input:?}");
-            }
+    let alloc = *wrong.allocator();
+    for input in &INPUTS {
+        let mut before = frame(alloc, state, &[number, 1], number, None)?;
+        if !steps_agree(alloc, behaviour, code, &mut before, *input)? {
+            writeln!(wrong, "x and held {number}, input {input:?}")?;
         }
     }
     Ok(())
 }
 
-fn assert_steps(rt: &impl Abort, alloc: Global, text: &str, state: u32) -> Result<(), Fail> {
-    let behaviour = behaviour(rt, alloc, text)?;
-    let code = compile(alloc, &behaviour)?;
-    assert_all_steps(rt, alloc, &behaviour, &code, state)?;
-    Ok(())
-}
-
-const STEPPED: [(&str, u32); 10] = [
-    (COUNTER, 0),
-    (SURFACE, 0),
-    (NESTED_LOOPS, 0),
-    (CHAIN, 0),
-    (CHAIN, 2),
-    (TRAPPING_GUARD, 0),
-    (NEVER_TAKEN, 0),
-    (SENT_TWICE, 0),
-    (AND_THEN, 0),
-    (OR_ELSE, 0),
-];
-
-#[test]
-fn code_steps_as_behaviours_do(rt: HostRuntime) -> Result<(), Fail> {
-    for (text, state) in &STEPPED {
-        assert_steps(&rt, rt.alloc(), text, *state)?;
+/// The steps that differ from a state, each in a line.
+pub fn compared(
+    alloc: Global,
+    behaviour: &Behaviour,
+    code: &Code,
+    state: u32,
+) -> Result<String, NoMemory> {
+    let mut wrong = String::new(alloc);
+    for number in &NUMBERS {
+        add_differences(&mut wrong, behaviour, code, state, *number)?;
     }
-    Ok(())
-}
-
-const ENDS: [(i64, i64); 7] = [
-    (i64::MAX - 1, i64::MAX),
-    (i64::MAX, i64::MAX),
-    (-i64::MAX, 1 - i64::MAX),
-    (-i64::MAX, -i64::MAX),
-    (i64::MAX, -i64::MAX),
-    (1, 0),
-    (0, 0),
-];
-
-#[test]
-fn loops_at_both_ends(rt: HostRuntime) -> Result<(), Fail> {
-    let alloc = rt.alloc();
-    for (low, high) in &ENDS {
-        let actions = format!(in alloc;
-            "for (j: Base_Types::Integer in {low} .. {high}) {{x := j; y := y + 1}}; o!(y)"
-        )?;
-        let text = one_state(alloc, actions.as_str())?;
-        assert_steps(&rt, alloc, text.as_str(), 0)?;
-    }
-    Ok(())
-}
-
-const OPERATORS: [&str; 6] = ["+", "-", "*", "/", "mod", "rem"];
-
-#[test]
-fn operators(rt: HostRuntime) -> Result<(), Fail> {
-    let alloc = rt.alloc();
-    for operator in &OPERATORS {
-        let actions = format!(in alloc; "x := x {operator} i; o!(x)")?;
-        let text = one_state(alloc, actions.as_str())?;
-        assert_steps(&rt, alloc, text.as_str(), 0)?;
-    }
-    Ok(())
+    Ok(wrong)
 }

@@ -2,17 +2,17 @@
 //! of their code beside their own.
 #![tactic(auto)]
 
-#[cfg(test)]
 mod behaviours;
-#[cfg(test)]
 mod codes;
-#[cfg(test)]
 mod compiling;
-#[cfg(test)]
 mod running;
-#[cfg(test)]
 mod steps;
-#[cfg(test)]
-mod texts;
-#[cfg(test)]
 mod verifying;
+
+use case_files::check;
+use std::io;
+
+fn main(rt: HostRuntime) -> io::Result<()> {
+    check(&rt, &compiling::Behaviours, &["sizes", "steps"])?;
+    check(&rt, &codes::Codes, &["codes"])
+}
