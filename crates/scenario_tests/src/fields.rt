@@ -1,13 +1,9 @@
 //! What scenarios that are read hold.
-use crate::answers::scenario;
-use crate::designs::Example;
 use pals_base::{LinkNo, NodeNo, Port, Text};
 use pals_clock::Clocks;
 use pals_model::{Delays, Env};
 use pals_runs::Event;
 use scenario_json::Scenario;
-
-const DEFAULTS: &[u8] = b"{\"rounds\":2}";
 
 // Whether the links have their least delays.
 fn are_least(delays: &Delays) -> bool {
@@ -37,7 +33,7 @@ fn has_no_lists(read: &Scenario) -> bool {
         && read.processors.is_empty()
 }
 
-// Whether a scenario holds the rounds of the one above, and nothing else.
+// Whether a scenario holds two rounds, and nothing else.
 fn has_defaults(read: &Scenario) -> bool {
     read.rounds == 2
         && is_silent(&read.env)
@@ -45,21 +41,6 @@ fn has_defaults(read: &Scenario) -> bool {
         && are_least(&read.delays)
         && has_no_lists(read)
 }
-
-#[test]
-fn fields_that_are_missing(rt: HostRuntime) {
-    let asked = (Example::Plane, "sync");
-    match scenario(&rt, rt.alloc(), asked, DEFAULTS) {
-        Ok(read) => assert!(rt; has_defaults(&read)),
-        Err(_) => panic!(rt; "refused"),
-    }
-}
-
-const RUN: &[u8] = b"{\"rounds\":2,
-\"inputs\":{\"on\":[true,null,false],\"level\":[-5]},
-\"clocks\":{\"q.f\":[1,1,7]},
-\"delays\":{\"q.f.flag\":[3,4]},
-\"trace\":[\"round 0\",\"\\u00e9\"]}";
 
 const ON: [Port; 3] = [Port::Present(1), Port::Absent, Port::Present(0)];
 
@@ -94,7 +75,7 @@ fn is_trace(trace: &[Text]) -> bool {
     }
 }
 
-// Whether a scenario holds what is in the one above.
+// Whether a scenario holds what the one of the run does.
 fn is_run(read: &Scenario) -> bool {
     are_inputs(&read.env)
         && are_clocks(&read.clocks)
@@ -102,20 +83,7 @@ fn is_run(read: &Scenario) -> bool {
         && is_trace(read.trace.as_slice())
 }
 
-#[test]
-fn fields_of_runs(rt: HostRuntime) {
-    let asked = (Example::Switch, "audit");
-    match scenario(&rt, rt.alloc(), asked, RUN) {
-        Ok(read) => assert!(rt; is_run(&read)),
-        Err(_) => panic!(rt; "refused"),
-    }
-}
-
-const EVENTS: &[u8] = b"{\"rounds\":2,\"events\":[
-[\"pass\",5,[6,7]],[\"start\",\"p.b\"],[\"step\",\"p.a\"],[\"finish\",\"p.a\"],[\"send\",\"p.b\"],
-[\"arrive\",\"p.a.i\",1],[\"drop\",\"p.b.i\",2],[\"repeat\",\"p.b.i\",3]]}";
-
-// Whether these are the events of the scenario above.
+// Whether these are one event of each form.
 fn are_events(events: &[Event]) -> bool {
     let [pass, start, step, finish, send, arrive, drop, repeat] = events else {
         return false;
@@ -134,11 +102,12 @@ fn are_events(events: &[Event]) -> bool {
         && matches!(repeat, Event::Repeat(LinkNo(1), 3))
 }
 
-#[test]
-fn events_of_worlds(rt: HostRuntime) {
-    let asked = (Example::Pair, "sync");
-    match scenario(&rt, rt.alloc(), asked, EVENTS) {
-        Ok(read) => assert!(rt; are_events(read.events.as_slice())),
-        Err(_) => panic!(rt; "refused"),
+/// Whether a scenario holds what this word says.
+pub fn holds(read: &Scenario, what: &str) -> bool {
+    match what {
+        "defaults" => has_defaults(read),
+        "run" => is_run(read),
+        "events" => are_events(read.events.as_slice()),
+        _ => true,
     }
 }

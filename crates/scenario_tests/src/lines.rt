@@ -1,11 +1,13 @@
 //! The lines of journals, of refused events and of refused scenarios.
-use crate::designs::{Example, design};
+use crate::designs::design;
+use case_files::{Answers, asked};
 use pals_base::{LinkNo, NoMemory, NodeNo, Text};
 use pals_model::Design;
 use pals_report::{add_entry, add_event_fault, add_scenario_fault};
 use pals_runs::{Arrived, Cause, EventFault, JournalEntry, Stop, Which};
 use scenario_json::ScenarioFault;
 use std::alloc::Global;
+use std::io;
 
 const A: NodeNo = NodeNo(0);
 
@@ -71,18 +73,6 @@ const LOST_MESSAGE: [JournalEntry; 11] = [
     }),
 ];
 
-const LOST_MESSAGE_LINES: &[u8] = b"start p.a 0 _\n\
-finish p.a 0\n\
-send p.a 0 _\n\
-repeat p.a.i 0\n\
-arrive p.a.i 0 _ kept\n\
-arrive p.a.i 0 _ ignored\n\
-drop p.b.i 0\n\
-start p.a 1 _\n\
-stop missed p.b.i 0 _ lost\n\
-arrive p.b.i 0 _ early\n\
-stop early p.b.i 0 _\n";
-
 const TIMED: [JournalEntry; 6] = [
     JournalEntry::Start {
         node: B,
@@ -120,13 +110,6 @@ const TIMED: [JournalEntry; 6] = [
     }),
 ];
 
-const TIMED_LINES: &[u8] = b"start p.b 0 9000000\n\
-step p.b 100000 63 576460752303423488\n\
-send p.a 7 0\n\
-arrive p.b.i 1 18000000 kept\n\
-stop missed p.b.i 0 18000000 in-transit\n\
-stop missed p.a.i 0 18000000 not-sent\n";
-
 fn journal(alloc: Global, design: &Design, entries: &[JournalEntry]) -> Result<Vec<u8>, NoMemory> {
     let mut text = Vec::new(alloc);
     for entry in entries {
@@ -135,27 +118,16 @@ fn journal(alloc: Global, design: &Design, entries: &[JournalEntry]) -> Result<V
     Ok(text)
 }
 
-#[test]
-fn writes_journals(rt: HostRuntime) -> Result<(), NoMemory> {
-    let design = design(&rt, rt.alloc(), Example::Pair)?;
-    let lost = journal(rt.alloc(), &design, &LOST_MESSAGE)?;
-    assert!(rt; lost.as_slice() == LOST_MESSAGE_LINES);
-    let timed = journal(rt.alloc(), &design, &TIMED)?;
-    assert!(rt; timed.as_slice() == TIMED_LINES);
-    Ok(())
-}
-
-const REFUSED_EVENTS: [(u32, EventFault, &str); 13] = [
-    (0, EventFault::BadName, "event 0 BadName\n"),
-    (12, EventFault::LossOrRepeat, "event 12 LossOrRepeat\n"),
-    (1, EventFault::TimeBack { time: 8 }, "event 1 TimeBack 8\n"),
+const REFUSED_EVENTS: [(u32, EventFault); 13] = [
+    (0, EventFault::BadName),
+    (12, EventFault::LossOrRepeat),
+    (1, EventFault::TimeBack { time: 8 }),
     (
         1,
         EventFault::ClockBack {
             node: B,
             reading: 7,
         },
-        "event 1 ClockBack p.b 7\n",
     ),
     (
         0,
@@ -163,7 +135,6 @@ const REFUSED_EVENTS: [(u32, EventFault, &str); 13] = [
             node: A,
             reading: 0,
         },
-        "event 0 ClockApart p.a 0\n",
     ),
     (
         0,
@@ -171,7 +142,6 @@ const REFUSED_EVENTS: [(u32, EventFault, &str); 13] = [
             which: Which::Node(A),
             last: 9_999_999,
         },
-        "event 0 PastDeadline p.a 9999999\n",
     ),
     (
         4_294_967_295,
@@ -179,20 +149,14 @@ const REFUSED_EVENTS: [(u32, EventFault, &str); 13] = [
             which: Which::Message(TO_B, 3),
             last: 5,
         },
-        "event 4294967295 PastDeadline p.b.i 3 5\n",
     ),
-    (
-        0,
-        EventFault::WrongPhase { node: B },
-        "event 0 WrongPhase p.b\n",
-    ),
+    (0, EventFault::WrongPhase { node: B }),
     (
         0,
         EventFault::NoSuchMessage {
             link: TO_B,
             round: 0,
         },
-        "event 0 NoSuchMessage p.b.i 0\n",
     ),
     (
         3,
@@ -201,7 +165,6 @@ const REFUSED_EVENTS: [(u32, EventFault, &str); 13] = [
             alarm: 10_000_000,
             reading: 9_000_000,
         },
-        "event 3 NotDue p.a 10000000 9000000\n",
     ),
     (
         7,
@@ -209,7 +172,6 @@ const REFUSED_EVENTS: [(u32, EventFault, &str); 13] = [
             which: Which::Message(TO_B, 0),
             earliest: 10_000_001,
         },
-        "event 7 TooSoon p.b.i 0 10000001\n",
     ),
     (
         8,
@@ -217,49 +179,44 @@ const REFUSED_EVENTS: [(u32, EventFault, &str); 13] = [
             which: Which::Node(B),
             earliest: 1,
         },
-        "event 8 TooSoon p.b 1\n",
     ),
-    (9, EventFault::Memory, "event 9 Memory\n"),
+    (9, EventFault::Memory),
 ];
 
-fn event_fault_line(
-    alloc: Global,
-    design: &Design,
-    index: u32,
-    fault: &EventFault,
-) -> Result<Vec<u8>, NoMemory> {
+fn refused_events(alloc: Global, design: &Design) -> Result<Vec<u8>, NoMemory> {
     let mut text = Vec::new(alloc);
-    add_event_fault(&mut text, design, index, fault)?;
+    for (index, fault) in &REFUSED_EVENTS {
+        add_event_fault(&mut text, design, *index, fault)?;
+    }
     Ok(text)
 }
 
-#[test]
-fn writes_refused_events(rt: HostRuntime) -> Result<(), NoMemory> {
-    let design = design(&rt, rt.alloc(), Example::Pair)?;
-    for (index, fault, line) in &REFUSED_EVENTS {
-        let text = event_fault_line(rt.alloc(), &design, *index, fault)?;
-        assert!(rt; text.as_slice() == line.as_bytes(), "{line}");
-    }
-    Ok(())
-}
-
-// Whether the line of a fault is this one, behind what was there before.
-fn is_fault_line(alloc: Global, fault: &ScenarioFault, line: &str) -> Result<bool, NoMemory> {
+// The faults of three scenarios, behind what was there before.
+fn refused_scenarios(alloc: Global) -> Result<Vec<u8>, NoMemory> {
     let mut text = Vec::from_slice(alloc, b"before\n")?;
-    add_scenario_fault(&mut text, fault)?;
-    Ok(text.as_slice() == line.as_bytes())
+    let name = Text::from_str(alloc, "inputs/a goal/2")?;
+    add_scenario_fault(&mut text, &ScenarioFault::NotJson)?;
+    add_scenario_fault(&mut text, &ScenarioFault::WrongKind { name })?;
+    add_scenario_fault(&mut text, &ScenarioFault::TooBig { cells: u64::MAX })?;
+    Ok(text)
 }
 
-#[test]
-fn writes_refused_scenarios(rt: HostRuntime) -> Result<(), NoMemory> {
-    let alloc = rt.alloc();
-    let line = "before\nscenario NotJson\n";
-    assert!(rt; is_fault_line(alloc, &ScenarioFault::NotJson, line)?);
-    let name = Text::from_str(alloc, "inputs/a goal/2")?;
-    let line = "before\nscenario WrongKind inputs/a goal/2\n";
-    assert!(rt; is_fault_line(alloc, &ScenarioFault::WrongKind { name }, line)?);
-    let cells = u64::MAX;
-    let line = "before\nscenario TooBig 18446744073709551615\n";
-    assert!(rt; is_fault_line(alloc, &ScenarioFault::TooBig { cells }, line)?);
-    Ok(())
+// The lines that a case asks for.
+fn lines(alloc: Global, design: &Design, asked: &str) -> Result<Vec<u8>, NoMemory> {
+    match asked {
+        "journal of a lost message" => journal(alloc, design, &LOST_MESSAGE),
+        "journal with readings" => journal(alloc, design, &TIMED),
+        "refused events" => refused_events(alloc, design),
+        _ => refused_scenarios(alloc),
+    }
+}
+
+/// Lines, where a design has the names of their nodes and links.
+pub struct Lines;
+
+impl Answers for Lines {
+    fn answer(&self, rt: &HostRuntime, case: &str) -> io::Result<Vec<u8>> {
+        let design = design(rt, "pair")?;
+        Ok(lines(rt.alloc(), &design, asked(case))?)
+    }
 }

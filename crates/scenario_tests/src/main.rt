@@ -1,0 +1,29 @@
+//! Scenarios with their answers, what scenarios that are read hold, and the lines of journals, refused events and
+//! refused scenarios.
+#![tactic(auto)]
+
+mod commands;
+mod designs;
+mod fields;
+mod lines;
+mod tables;
+
+use case_files::check;
+use std::io;
+
+const TABLES: [&str; 9] = [
+    "whole",
+    "inputs",
+    "events",
+    "runs",
+    "properties",
+    "votes",
+    "pairs",
+    "sizes",
+    "fields",
+];
+
+fn main(rt: HostRuntime) -> io::Result<()> {
+    check(&rt, &tables::Scenarios, &TABLES)?;
+    check(&rt, &lines::Lines, &["lines"])
+}
