@@ -5,10 +5,10 @@ use behaviour_parse::{ParseFault, parse_annex};
 use std::alloc::{AllocError, Global};
 
 fn annex(alloc: Global, text: &[u8]) -> Result<AnnexTree, ParseFault> {
-    let Ok(tokens) = lex(alloc, text) else {
-        return Err(ParseFault::Memory);
-    };
-    parse_annex(alloc, text, tokens.as_slice())
+    match lex(alloc, text) {
+        Ok(tokens) => parse_annex(alloc, text, tokens.as_slice()),
+        Err(_fault) => Err(ParseFault::Memory),
+    }
 }
 
 // Where the sides of the assignment stand with which the first transition begins.

@@ -1,28 +1,50 @@
 //! Whether a design has more threads than a design may have.
+ghost use Rattle.std.specs.Prelude.{IfOk, IfSome};
+ghost use Rattle.aadl_tree.specs.PackageViews.{placed};
+ghost use Rattle.aadl_uses.specs.Uses.{containment};
+ghost use Rattle.aadl_uses.specs.Orders.{IsOrder};
+
 use crate::containment::uses;
 use aadl_tree::PackageTree;
 use aadl_uses::{Uses, first_recursive};
+use indexmap::IndexSet;
 use std::alloc::{AllocError, Global};
 
-// Whether the last declaration has more threads below it than a design may have; nothing where a system contains
-// itself.
-fn has_too_many(alloc: Global, uses: &Uses<'_>) -> Result<Option<bool>, AllocError> {
-    let root = uses.len().saturating_sub(1);
-    let fault = first_recursive(alloc, uses)?;
-    if fault.is_some() || uses.len() <= root {
-        return Ok(None);
+// The declarations, each behind those that it contains; nothing where one contains itself.
+fn order_of(alloc: Global, uses: &Uses<'_>) -> Result<Option<IndexSet<usize>>, AllocError>
+    ensures { IfOk result (λ found. IfSome found (λ order. IsOrder (containment (placed uses.now.tree.now)) order.keys)) }
+{
+    match first_recursive(alloc, uses)? {
+        None => Ok(Some(uses.order(alloc)?)),
+        Some(_fault) => Ok(None),
     }
-    let order = uses.order(alloc)?;
-    Ok(Some(uses.has_too_many_threads(alloc, &order, root)?))
+}
+
+// Whether the last declaration has more threads below it than a design may have.
+fn has_too_many(alloc: Global, uses: &Uses<'_>, order: &IndexSet<usize>) -> Result<bool, AllocError>
+    requires { IsOrder (containment (placed uses.now.tree.now)) order.now.keys }
+{
+    let root = uses.len().saturating_sub(1);
+    if root < uses.len() {
+        uses.has_too_many_threads(alloc, order, root)
+    } else {
+        Ok(false)
+    }
+}
+
+fn count(alloc: Global, uses: &Uses<'_>) -> Result<&'static str, AllocError> {
+    let Some(order) = order_of(alloc, uses)? else {
+        return Ok("endless\n");
+    };
+    Ok(if has_too_many(alloc, uses, &order)? {
+        "too many\n"
+    } else {
+        "few enough\n"
+    })
 }
 
 /// Whether the last declaration has more threads below it than a design may have.
 pub fn counted(alloc: Global, tree: &PackageTree) -> Result<String, AllocError> {
     let uses = uses(alloc, tree)?;
-    let found = match has_too_many(alloc, &uses)? {
-        Some(true) => "too many\n",
-        Some(false) => "few enough\n",
-        None => "endless\n",
-    };
-    String::from_str(alloc, found)
+    String::from_str(alloc, count(alloc, &uses)?)
 }
