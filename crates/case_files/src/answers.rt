@@ -28,21 +28,35 @@ fn check_cases<P: Answers>(
     cases: &str,
 ) -> io::Result<()> {
     for (index, case) in cases.split("\n\n").enumerate() {
-        let number = index.saturating_add(1);
-        print!(rt; "{name} {number}: ")?;
-        let answer = program.answer(rt, case)?;
-        report(rt, case, answer.as_slice())?;
+        check_case(rt, program, name, index.saturating_add(1), case)?;
     }
     Ok(())
 }
 
+fn check_case<P: Answers>(
+    rt: &HostRuntime,
+    program: &P,
+    name: &str,
+    number: usize,
+    case: &str,
+) -> io::Result<()> {
+    let answer = program.answer(rt, case)?;
+    report(rt, name, number, case, answer.as_slice())
+}
+
 // Writes whether the answer to a case is right, and an answer that is wrong.
-fn report(rt: &HostRuntime, case: &str, answer: &[u8]) -> io::Result<()> {
+fn report(
+    rt: &HostRuntime,
+    name: &str,
+    number: usize,
+    case: &str,
+    answer: &[u8],
+) -> io::Result<()> {
     if is_answer(case, answer) {
-        return println!(rt; "right");
+        return println!(rt; "{name} {number}: right");
     }
     let text = std::str::from_utf8(answer).unwrap_or("no text");
-    println!(rt; "wrong\n{text}")
+    println!(rt; "{name} {number}: wrong\n{text}")
 }
 
 // Whether the lines that a case has for its answer are this text.
