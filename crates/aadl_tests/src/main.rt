@@ -24,9 +24,9 @@ fn told(alloc: Global, asked: &str, text: &[u8]) -> Result<Vec<u8>, AllocError> 
     }
 }
 
-struct Texts;
+struct Language;
 
-impl Answers for Texts {
+impl Answers for Language {
     fn answer(&self, rt: &HostRuntime, case: &str) -> io::Result<Vec<u8>> {
         let text = text_of(rt, case)?;
         Ok(told(rt.alloc(), asked(case), text.as_slice())?)
@@ -34,5 +34,9 @@ impl Answers for Texts {
 }
 
 fn main(rt: HostRuntime) -> io::Result<()> {
-    check(&rt, &Texts, &["lexing", "reading", "printing", "sameness"])
+    check(
+        &rt,
+        &Language,
+        &["lexing", "reading", "printing", "sameness"],
+    )
 }

@@ -202,7 +202,7 @@ fn refused_scenarios(alloc: Global) -> Result<Vec<u8>, NoMemory> {
 }
 
 // The lines that a case asks for.
-fn lines(alloc: Global, design: &Design, asked: &str) -> Result<Vec<u8>, NoMemory> {
+fn written(alloc: Global, design: &Design, asked: &str) -> Result<Vec<u8>, NoMemory> {
     match asked {
         "journal of a lost message" => journal(alloc, design, &LOST_MESSAGE),
         "journal with readings" => journal(alloc, design, &TIMED),
@@ -217,6 +217,6 @@ pub struct Lines;
 impl Answers for Lines {
     fn answer(&self, rt: &HostRuntime, case: &str) -> io::Result<Vec<u8>> {
         let design = design(rt, "pair")?;
-        Ok(lines(rt.alloc(), &design, asked(case))?)
+        Ok(written(rt.alloc(), &design, asked(case))?)
     }
 }
