@@ -41,14 +41,10 @@ impl<'t> Names<'t> {
     pub fn of(alloc: Global, tree: &'t PackageTree) -> Result<Names<'t>, AllocError>
         ensures { IfOk result (λ names. names.tree.now ≡ tree.now) }
     {
-        let mut types = Table::new(alloc);
-        let mut implementations = Table::new(alloc);
-        let mut members = Items::new(alloc);
-        for (number, declaration) in tree.declarations.iter().enumerate() {
-            add_type(&mut types, alloc, declaration, number)?;
-            add_implementation(&mut implementations, alloc, declaration, number)?;
-            members.push(member_numbers(alloc, declaration)?)?;
-        }
+        let declarations = tree.declarations.as_slice();
+        let types = types_of(alloc, declarations)?;
+        let implementations = implementations_of(alloc, declarations)?;
+        let members = members_of(alloc, declarations)?;
         Ok(Names {
             tree,
             types,
@@ -178,6 +174,46 @@ fn add_implementation(
             implementations.add(alloc, name.as_str(), number)
         }
     }
+}
+
+// The numbers of the types by their names.
+fn types_of(alloc: Global, declarations: &[Declaration]) -> Result<Table<usize>, AllocError>
+    ensures { IfOk result (λ table. (name : List ℕ) → value_of table name ≡ first_number (is_type name) (map (declaration_view kept_place) declarations.now)) }
+{
+    let mut table = Table::new(alloc);
+    for (number, declaration) in declarations.iter().enumerate() {
+        add_type(&mut table, alloc, declaration, number)?;
+    }
+    Ok(table)
+}
+
+// The numbers of the implementations by their names.
+fn implementations_of(
+    alloc: Global,
+    declarations: &[Declaration],
+) -> Result<Table<usize>, AllocError>
+    ensures { IfOk result (λ table. (name : List ℕ) → value_of table name ≡ first_number (is_implementation name) (map (declaration_view kept_place) declarations.now)) }
+{
+    let mut table = Table::new(alloc);
+    for (number, declaration) in declarations.iter().enumerate() {
+        add_implementation(&mut table, alloc, declaration, number)?;
+    }
+    Ok(table)
+}
+
+// The numbers of what each declaration has.
+fn members_of(
+    alloc: Global,
+    declarations: &[Declaration],
+) -> Result<Items<Table<usize>>, AllocError>
+    ensures { IfOk result (λ members. (number : ℕ) (name : List ℕ) → value_of (slice_index_or members number []) name
+        ≡ member_of (slice_get (map (declaration_view kept_place) declarations.now) number) name) }
+{
+    let mut members = Items::new(alloc);
+    for declaration in declarations {
+        members.push(member_numbers(alloc, declaration)?)?;
+    }
+    Ok(members)
 }
 
 // The numbers of ports by their names.
