@@ -13,8 +13,8 @@ use Rattle.aadl_tree.specs.declared.actions.Action.TheOpen.{Choice-F}
 use Rattle.aadl_tree.specs.declared.actions.Action.TheViews.{out-roll-Choice}
 use Rattle.aadl_tree.specs.declared.limits.TheConstants.{GREATEST_NESTING}
 use Rattle.aadl_tree.specs.Grammar.{place}
-use Rattle.aadl_tree.specs.Kinds.{Kind, whole, mark, Spot}
-use Rattle.aadl_tree.specs.Parts.{Part, plain, token, may, last_semicolon}
+use Rattle.aadl_tree.specs.Kinds.{Kind, whole, Spot}
+use Rattle.aadl_tree.specs.Parts.{Part, plain, may, last_semicolon}
 use Rattle.aadl_tree.specs.Names.{identifier_parts, reference_parts}
 use Rattle.aadl_tree.specs.Actions as a
 use Rattle.aadl_tree.specs.NameViews.{identifier_view, reference_view}
@@ -27,7 +27,7 @@ use Rattle.aadl_machine.specs.Symbols.{a_whole, the, Symbol}
 use Rattle.aadl_machine.specs.Machine.{Stack, takes, move, depth, syntax_at, fate}
 use Rattle.aadl_reader.specs.Reading.{At, AtMark, Begins, IsMarked, Misses, Reads}
 use Rattle.aadl_reader.proofs.Rows.{enters_as, takes_row, refuses_unless}
-use Rattle.aadl_reader.proofs.Written.{nothing, then, marked, respelled, regroup}
+use Rattle.aadl_reader.proofs.Written.{then, marked, respelled, regroup}
 use Rattle.behaviour_parse.specs.declared.actions.Head.{Head}
 use Rattle.behaviour_parse.specs.Choosing.{head_parts, choice_parts}
 

@@ -1,6 +1,5 @@
 -- Declarations have a terminal at least.
 use Rattle.std.proofs.Common.{◌≡◌, ◌∙◌, ap, sym, ℕ, ◌<◌, List, [], ◌∷◌, ◌++◌, length, append_assoc, Option, Some, None}
-use Rattle.std.specs.Prelude.{option_map}
 use Rattle.aadl_tree.specs.declared.mark.Mark.TheVariants as k
 use Rattle.aadl_tree.specs.declared.annex.VariableDeclaration.{VariableDeclaration}
 use Rattle.aadl_tree.specs.declared.annex.StateDeclaration.{StateDeclaration}
@@ -12,7 +11,7 @@ use Rattle.aadl_tree.specs.Annexes as x
 use Rattle.aadl_tree.specs.Views.{variable_view, state_view, transition_view}
 use Rattle.aadl_tree.specs.Maps.{kept_place}
 use Rattle.aadl_reader.specs.Reading.{Reads}
-use Rattle.aadl_reader.proofs.Written.{then, respelled, begun}
+use Rattle.aadl_reader.proofs.Written.{begun}
 
 pub variable_begun : (t : VariableDeclaration) {ss rest : List Spot} → Reads (x.variable_parts (variable_view kept_place t)) ss rest → length rest < length ss
 variable_begun t a = begun a

@@ -23,7 +23,7 @@ use Rattle.aadl_tree.specs.declared.limits.TheConstants.{GREATEST_NESTING}
 use Rattle.aadl_machine.specs.Symbols as s
 use Rattle.aadl_machine.specs.Table.{on}
 use Rattle.aadl_machine.specs.Machine.{Stack, takes, move, depth, fate}
-use Rattle.aadl_reader.specs.Reading.{AtMark, Reads}
+use Rattle.aadl_reader.specs.Reading.{Reads}
 use Rattle.aadl_reader.proofs.Rows.{takes_row, begins_past}
 use Rattle.aadl_reader.proofs.Written.{marked, respelled, regroup, shorter}
 use Rattle.behaviour_parse.specs.Joining.{Joins}

@@ -1,5 +1,5 @@
 -- What the machine's fate of a behaviour says of its tokens.
-use Rattle.std.proofs.Common.{◌≡◌, sym, ℕ, ◌-◌, ◌<◌, ◌∙◌, ap, subst, refl, List, [], ◌∷◌, length, get_or, drop, arith, zero, suc, ◌++◌}
+use Rattle.std.proofs.Common.{◌≡◌, sym, ℕ, ◌-◌, ◌<◌, ◌∙◌, ap, subst, refl, List, [], ◌∷◌, length, get_or, drop, arith, zero, suc}
 use Rattle.aadl_lex.specs.declared.token.Token.{Token}
 use Rattle.aadl_tree.proofs.Parts.{written_spells}
 use Rattle.aadl_tree.specs.Kinds.{Spot, spots_from, kinds_of}
@@ -9,7 +9,7 @@ use Rattle.aadl_tree.specs.Parts.{Written}
 use Rattle.aadl_tree.specs.Annexes.{AnnexTree, annex_tree_parts}
 use Rattle.aadl_tree.specs.Grammar.{IsBehaviour, place}
 use Rattle.aadl_tree.specs.Given.{end_of, IsBehaviourOf}
-use Rattle.aadl_machine.specs.Machine.{finished, fate, annex_body, syntax_at}
+use Rattle.aadl_machine.specs.Machine.{fate, annex_body, syntax_at}
 use Rattle.aadl_machine.proofs.Fates.Answers.{answers_text, answers_fault, answers_depth}
 use Rattle.aadl_machine.proofs.Placed.All.{one_placed_behaviour}
 use Rattle.aadl_machine.proofs.Fates.Starts.{behaviours}

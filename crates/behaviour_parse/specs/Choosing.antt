@@ -1,5 +1,5 @@
 -- Parts of actions that have no tree of their own.
-use Rattle.std.specs.Prelude.{ℕ, List, [], ◌∷◌, ◌++◌, map, option_map}
+use Rattle.std.specs.Prelude.{ℕ, List, [], ◌∷◌, ◌++◌, option_map}
 use Rattle.aadl_tree.specs.declared.mark.Mark.TheVariants as k
 use Rattle.aadl_tree.specs.declared.actions.Choice.{Choice, out-Choice}
 use Rattle.aadl_tree.specs.Parts.{Part, plain}

@@ -1,5 +1,5 @@
 use Rattle.std.proofs.Common.{true}
-use Rattle.aadl_tree.specs.Kinds.{spots_from, kinds_of}
+use Rattle.aadl_tree.specs.Kinds.{spots_from}
 use Rattle.aadl_tree.specs.Grammar.{IsBehaviour}
 use Rattle.aadl_tree.specs.Given.{end_of}
 use Rattle.aadl_machine.proofs.Fates.Exclusive.{fails_once, fails_not_deep, deep_once}

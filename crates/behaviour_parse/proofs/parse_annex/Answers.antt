@@ -1,4 +1,4 @@
-use Rattle.std.proofs.Common.{◌≡◌, ◌∙◌, sym, ap, subst, refl, arith, [], length}
+use Rattle.std.proofs.Common.{◌∙◌, ap, refl, arith, [], length}
 use Rattle.aadl_lex.proofs.Spelled.{words_among}
 use Rattle.aadl_machine.specs.Machine.{depth}
 use Rattle.aadl_reader.specs.Terminals.{spots_of}

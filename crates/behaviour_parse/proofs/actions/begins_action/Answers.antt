@@ -1,9 +1,7 @@
 use Rattle.std.proofs.Common.{refl}
 use Rattle.aadl_reader.proofs.Lists.{starts_at}
 use Rattle.behaviour_parse.proofs.Acting.{begins_by}
-use Rattle.aadl_tree.specs.declared.mark.Mark.TheVariants as k
-use Rattle.aadl_machine.specs.Symbols as s
-use Rattle.aadl_machine.specs.Machine.{move, depth, syntax_at, deep_at}
+use Rattle.aadl_machine.specs.Machine.{move, depth}
 use Rattle.behaviour_parse.proofs.actions.begins_action.Goals as goal
 
 pub returns-then-is_word : goal.returns-then-is_word

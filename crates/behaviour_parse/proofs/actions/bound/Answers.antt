@@ -8,8 +8,7 @@ use Rattle.aadl_tree.specs.Parts.{token}
 use Rattle.aadl_tree.specs.Kinds.{whole}
 use Rattle.behaviour_parse.proofs.Acting.{bound_runs, bound_refuses}
 use Rattle.aadl_tree.specs.declared.mark.Mark.TheVariants as k
-use Rattle.aadl_machine.specs.Symbols as s
-use Rattle.aadl_machine.specs.Machine.{move, depth, syntax_at, deep_at}
+use Rattle.aadl_machine.specs.Machine.{move, depth, syntax_at}
 use Rattle.behaviour_parse.proofs.actions.bound.Goals as goal
 
 pub returns-in-Some : goal.returns-in-Some

@@ -3,7 +3,7 @@ use Rattle.aadl_reader.proofs.Rows.{along, exits, no_reads}
 use Rattle.aadl_reader.proofs.Written.{nothing, then, marked}
 use Rattle.aadl_tree.specs.declared.mark.Mark.TheVariants as k
 use Rattle.aadl_machine.specs.Symbols as s
-use Rattle.aadl_machine.specs.Machine.{move, depth, syntax_at, deep_at}
+use Rattle.aadl_machine.specs.Machine.{move, depth}
 use Rattle.behaviour_parse.proofs.annex.arrival.Goals as goal
 
 pub returns-in_err-target : goal.returns-in_err-target

@@ -5,7 +5,7 @@ use Rattle.aadl_reader.proofs.Written.{nothing, then, marked}
 use Rattle.aadl_machine.specs.Table.{on, rows}
 use Rattle.aadl_tree.specs.declared.mark.Mark.TheVariants as k
 use Rattle.aadl_machine.specs.Symbols as s
-use Rattle.aadl_machine.specs.Machine.{move, depth, syntax_at, deep_at}
+use Rattle.aadl_machine.specs.Machine.{move, depth}
 use Rattle.behaviour_parse.proofs.annex.guard.Goals as goal
 
 pub returns-in-Some : goal.returns-in-Some

@@ -7,9 +7,8 @@ use Rattle.aadl_tree.specs.Views.{transition_view}
 use Rattle.aadl_tree.specs.Maps.{kept_place}
 use Rattle.aadl_reader.proofs.Lists.{starts_at}
 use Rattle.behaviour_parse.proofs.Declaring.{transition_begun}
-use Rattle.aadl_tree.specs.declared.mark.Mark.TheVariants as k
 use Rattle.aadl_machine.specs.Symbols as s
-use Rattle.aadl_machine.specs.Machine.{move, depth, syntax_at, deep_at}
+use Rattle.aadl_machine.specs.Machine.{move, depth}
 use Rattle.behaviour_parse.proofs.annex.transition_list.Goals as goal
 
 pub returns-in_err-next : goal.returns-in_err-next

@@ -4,7 +4,7 @@ use Rattle.aadl_reader.proofs.Rows.{begins_as, along, exits, no_reads}
 use Rattle.aadl_reader.proofs.Written.{nothing, then, marked}
 use Rattle.aadl_tree.specs.declared.mark.Mark.TheVariants as k
 use Rattle.aadl_machine.specs.Symbols as s
-use Rattle.aadl_machine.specs.Machine.{move, depth, syntax_at, deep_at}
+use Rattle.aadl_machine.specs.Machine.{move, depth}
 use Rattle.behaviour_parse.proofs.annex.variable.Goals as goal
 
 pub returns-in_err-names : goal.returns-in_err-names

@@ -1,6 +1,6 @@
 use mir.Syntax.{w64}
 use mir.Val.{to_z, of_z, SFits}
-use Rattle.std.proofs.Common.{◌≡◌, ◌+◌, ◌∙◌, ◌∷◌, [], ◌++◌, ap, sym, refl, arith, true, false}
+use Rattle.std.proofs.Common.{◌≡◌, ◌∙◌, ◌∷◌, [], ◌++◌, ap, sym, refl, arith, true, false}
 use Rattle.aadl_reader.specs.Reading.{here}
 use Rattle.aadl_reader.proofs.Rows.{takes_row, deep_row, omits_unless, refuses_unless, begins_as, begins_past, along, exits, no_reads, too_deep, a_word_at}
 use Rattle.aadl_reader.proofs.Written.{nothing, then, marked, named, respelled, shorter, placed_at}
@@ -16,7 +16,7 @@ use Rattle.std.proofs.Common.{rules, to_z-of_z, Some, None}
 use Rattle.std.proofs.lemmas.List.{append-nil}
 use Rattle.aadl_tree.specs.declared.mark.Mark.TheVariants as k
 use Rattle.aadl_machine.specs.Symbols as s
-use Rattle.aadl_machine.specs.Machine.{move, depth, syntax_at, deep_at}
+use Rattle.aadl_machine.specs.Machine.{move, depth, syntax_at}
 use Rattle.behaviour_parse.proofs.expressions.+expression.Goals as goal
 
 pub primary-returns-in_err-deeper : goal.primary-returns-in_err-deeper
