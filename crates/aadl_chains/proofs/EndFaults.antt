@@ -146,7 +146,7 @@ module _ (tree : PackageTree ℕ) (root n k : ℕ) (link : Connection ℕ) (wire
 
 -- ---- at all of them
 module _ (tree : PackageTree ℕ) (root n : ℕ) where
-  -- what is found at the first so many connections
+  -- what is found at the first i connections
   abbrev pub FoundBelow : ℕ → FlatFault → Type 0
   FoundBelow i fault = (k : ℕ) × (k < i) × IsFoundAt tree root n k fault
 

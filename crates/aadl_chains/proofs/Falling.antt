@@ -36,7 +36,7 @@ one_place (x ∷ xs) (suc i) zero n d e f = absurd (true≢false (sym (eq-eqb x 
 one_place (x ∷ xs) (suc i) (suc j) n d e f = ap suc (one_place xs i j n d.1 e f)
 
 module _ (tree : PackageTree ℕ) (root : ℕ) (d : Direction) (keys : List ℕ) where
-  -- the ports that the last so many declarations of an order lead
+  -- the ports that the last `at` declarations of an order lead
   pub record BackLed (at : ℕ) (ports : List PortAt) : Type 0 where
     pub sound : AreLeading tree root d ports
     pub complete : (k n : ℕ) (wire : Wire) (s port m : ℕ) (site : Site) → length keys ≤ k + at → slice_get keys k ≡ Some n → IsInUse tree root n

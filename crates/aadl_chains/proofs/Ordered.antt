@@ -26,7 +26,7 @@ one_of_two (suc k) (suc i) lt = next (one_of_two k i (omega arith))
     next (inr h) = inr (ap suc h)
 
 module _ (tree : PackageTree ℕ) (d : Direction) where
-  -- the ports of the first so many declarations of an order
+  -- the ports of the first `at` declarations of an order
   pub record FrontInside (keys : List ℕ) (at : ℕ) (ports : List PortAt) : Type 0 where
     pub sound : AreReaching tree d ports
     pub complete : (k n : ℕ) → k < at → slice_get keys k ≡ Some n → HasAll tree d ports n

@@ -279,7 +279,7 @@ module _ (tree : PackageTree ℕ) (n : ℕ) where
             let k = known_into tree n sound n (Inner h.0 r.1) r.2 (Own q) r.4 in
             opposed (is_thread_at tree n) thread k.no_thread
 
--- ---- the first so many
+-- ---- the first i
 module _ (limit : ℕ) (P : ℕ → Port → Type 0) (apart : (k j : ℕ) (x : Port) → P k x → P j x → k ≡ j) where
   pub none_first : IsNumber limit (AmongFirst P 0) 0
   none_first = no_number limit (AmongFirst P 0) (λ x h. let lt = h.1 in absurd (omega arith))

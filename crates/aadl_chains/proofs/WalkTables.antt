@@ -89,7 +89,7 @@ none_taken tree limit n k wire table never = record {
 }
 
 -- ---- the connections of one implementation
--- what the first so many of them add
+-- what the first i of them add
 pub record FrontTaken (tree : PackageTree ℕ) (limit n i : ℕ) (old new : List (PortAt × ℕ)) : Type 0 where
   pub others : (m q : ℕ) → (m ≡ n → ⊥) → taken new (port_at m q) ≡ taken old (port_at m q)
   pub sum : IsNew tree n old → AreTakenBelow tree limit old n → (q : ℕ) → IsNumber limit (AmongFirst (FromOwn tree n q) i) (taken new (port_at n q))

@@ -13,7 +13,7 @@ pub record AreAll {X : Type 0} (P : X → Type 0) (xs : List X) : Type 0 where
   pub distinct : Distinct xs
   pub complete : (x : X) → P x → Among xs x
 
--- so many have P; the limit where there are more
+-- how many have P; the limit where there are more
 pub record IsNumber {X : Type 0} (limit : ℕ) (P : X → Type 0) (number : ℕ) : Type 0 where
   pub all : List X
   pub are : AreAll P all

@@ -53,7 +53,7 @@ abbrev pub IsFromThread : PackageTree ℕ → ℕ → ℕ → Type 0
 IsFromThread tree n k =
     (wire : Wire) × (t q : ℕ) × (slice_get (wires_at tree n) k ≡ Some wire) × (wire.source ≡ Some (Inner t q)) × ReachesIn tree directions.Out n t q
 
--- one of the first so many has P
+-- one of the first i has P
 abbrev pub AmongFirst : (ℕ → Port → Type 0) → ℕ → Port → Type 0
 AmongFirst P i port = (k : ℕ) × (k < i) × P k port
 

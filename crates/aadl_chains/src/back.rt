@@ -47,8 +47,8 @@ pub struct Entry {
     pub source: Site,
 }
 
-/// A connection between two subcomponents of the component at the end of the first so many steps of a path, and the
-/// port from which it comes.
+/// A connection between two subcomponents of the component at the end of the first `depth` steps of
+/// a path, and the port from which it comes.
 #[derive(Clone, Copy, Debug, PartialEq, Eq)]
 pub struct Crossed {
     pub depth: usize,
@@ -186,7 +186,8 @@ fn climb(wires: &Wires<'_>, root: usize, path: &[usize], port: usize) -> Climbed
     Climbed::Root(last, here)
 }
 
-// The connection into a port of the component behind the first so many steps of a path and one more.
+// The connection into a port of the component behind the first `depth` steps of a path and one
+// more.
 fn entry_at(
     wires: &Wires<'_>,
     root: usize,
@@ -246,7 +247,7 @@ fn trace_over(
     Ok(route_from(begin, crossed.declaration, crossed.connection))
 }
 
-// The first so many steps of a path, and one more.
+// The first `depth` steps of a path, and one more.
 fn way_to(alloc: Global, path: &[usize], depth: usize, sub: usize) -> Result<Vec<usize>, AllocError>
     ensures { IfOk result (λ way. way.items ≡ take depth path.now ++ sub ∷ []) }
 {

@@ -22,7 +22,8 @@ pub struct Inside {
 }
 
 impl Inside {
-    /// Those ports of a package. The order has each declaration behind those that it contains.
+    /// The ports of a package that are joined to threads below. The order has each declaration
+    /// behind those that it contains.
     pub fn of(
         alloc: Global,
         wires: &Wires<'_>,

@@ -69,7 +69,7 @@ fn link_counts(
     Ok(counts)
 }
 
-// As many zeros as that.
+// A list of `len` zeros.
 fn zeros(alloc: Global, len: usize) -> Result<Vec<usize>, AllocError>
     ensures { IfOk result (λ counts. length counts.items ≡ len) }
 {

@@ -32,8 +32,9 @@ pub struct Outside {
 }
 
 impl Outside {
-    /// Those ports of a package. The order has each declaration behind those that it contains, those in use are
-    /// below the root, and the ports inside are of the opposite direction.
+    /// The ports of a package that are joined to threads or the root's ports outside. The order has
+    /// each declaration behind those that it contains, those in use are below the root, and the
+    /// ports inside are of the opposite direction.
     pub fn of(
         alloc: Global,
         wires: &Wires<'_>,

@@ -30,7 +30,7 @@ impl Ports {
     ghost use Rattle.std.specs.Prelude.{◌≡◌, [], OnOk};
     ghost use Rattle.aadl_chains.specs.Ports.{has, with_port};
 
-    /// No ports. It takes no memory.
+    /// An empty set. It takes no memory.
     pub fn new(alloc: Global) -> Ports
         ensures { result ≡ [] }
     {

@@ -24,7 +24,7 @@ abbrev pub total : List (List ℕ) → ℕ
 total [] = 0
 total (x ∷ xs) = length x + 1 + total xs
 
--- as many dots as names, but for one
+-- one dot fewer than there are names
 dotted_total : (x : List ℕ) (xs : List (List ℕ)) → length (dotted_names (x ∷ xs)) + 1 ≡ total (x ∷ xs)
 dotted_total x [] = omega arith
 dotted_total x (y ∷ xs) =

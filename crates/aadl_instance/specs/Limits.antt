@@ -1,4 +1,4 @@
--- What a design may have so much of.
+-- The limits of a design, and the first one that it passes.
 use Rattle.std.specs.Prelude.{ℕ, ◌<◌, List, length, codes, Option, Some, None}
 use Rattle.pals_base.specs.declared.limits.TheConstants.{COMPONENTS, LINKS, PORTS, VARIABLES, STATES, PATH_BYTES}
 use Rattle.aadl_tree.specs.Declarations.{PackageTree}

@@ -1,4 +1,4 @@
--- What a thread has at most so many of.
+-- What a thread may have only a limited number of.
 use Rattle.std.specs.Prelude.{◌≡◌, ℕ, ◌<◌, true, List, length, Option, Some, None, Contains}
 use Rattle.std.specs.Option.{option_map_or}
 use Rattle.pals_base.specs.declared.limits.TheConstants.{PORTS, VARIABLES, STATES}

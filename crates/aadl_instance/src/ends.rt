@@ -45,7 +45,7 @@ pub fn begin_end(
     }
 }
 
-/// A port of the root, which has so many.
+/// A port of the root, by its number. The root has a port of this number.
 pub fn root_end(alloc: Global, network: &Network<'_>, port: usize) -> Result<ChainEnd, AllocError>
     requires { HasPort (tree_of network.now) network.now.root (record { path = []; port = port }) }
     ensures { IfOk result (λ end. end ≡ end_in (tree_of network.now) network.now.root (paths_in network.now)

@@ -1,4 +1,4 @@
-//! What an instance is.
+//! The instance of a package.
 ghost use Rattle.aadl_tree.specs.PackageViews.{placed};
 ghost use Rattle.aadl_instance.specs.Instances.{IsInstance};
 
@@ -15,7 +15,7 @@ pub struct Instance<'t> {
     pub tree: &'t PackageTree,
     /// The number of the root's implementation among the package's declarations.
     pub root: usize,
-    /// In depth-first order of declaration.
+    /// The threads, in depth-first order of declaration.
     pub threads: Items<ThreadAt>,
     /// The chains between threads, in order of target thread, then of the in port's declaration.
     pub links: Items<Chain>,

@@ -1,4 +1,4 @@
-//! What there is too much of.
+//! The limits of a design, and the first one that it passes.
 ghost use Rattle.std.specs.Prelude.{◌≡◌, ◌↔◌, ◌<◌, ℕ, false, length, Contains, IfOk, IsTrue};
 ghost use Rattle.aadl_tree.specs.PackageViews.{placed};
 ghost use Rattle.aadl_names.specs.declared.fault.FlatFault.{FlatFault};
@@ -15,7 +15,7 @@ use aadl_chains::{Wires, has_too_many_links};
 use indexmap::IndexSet;
 use std::alloc::{AllocError, Global};
 
-/// What a design may have so much of.
+/// What a design may have only a limited amount of.
 #[derive(Clone, Copy, Debug, PartialEq, Eq)]
 pub enum Limit {
     Components,
@@ -42,7 +42,7 @@ impl Limit {
     }
 }
 
-/// All of them, in the order in which they are looked for.
+/// All limits, in the order in which they are looked for.
 const LIMITS: [Limit; 6] = [
     Limit::Components,
     Limit::Links,

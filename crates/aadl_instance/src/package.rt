@@ -29,7 +29,7 @@ pub struct Checked<'t> {
     pub wires: Wires<'t>,
     /// Its declarations, each behind those that it contains.
     pub order: IndexSet<usize>,
-    /// Those in use.
+    /// The declarations in use.
     pub used: IndexSet<usize>,
     /// The number of the root's implementation.
     pub root: usize,

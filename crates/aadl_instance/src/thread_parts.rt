@@ -11,7 +11,7 @@ use aadl_chains::Wires;
 use indexmap::IndexSet;
 use pals_base::limits::{PORTS, STATES, VARIABLES};
 
-/// What a thread has at most so many of.
+/// What a thread may have only a limited number of.
 #[derive(Clone, Copy, Debug, PartialEq, Eq)]
 pub enum Part {
     /// In ports and out ports together.

@@ -21,7 +21,7 @@ abbrev fine : List Mark → Class → Bool
 fine keywords (the m) = fine_mark keywords m
 fine keywords _ = true
 
--- what a row wants passes, but for the inside of an annex
+-- what a row wants passes, except the inside of an annex
 abbrev row_stays : (Symbol → Bool) → Row → Bool
 row_stays side r = list_all side r.wanted || is_the k.AnnexOpen r.first
 

@@ -1,4 +1,5 @@
-//! The keywords are the words that the grammar needs, outside of behaviour annexes and inside.
+//! The law of keywords: they are the words that the grammar needs, outside of behaviour annexes and
+//! inside.
 #![tactic(auto)]
 
 ghost use Rattle.std.specs.Prelude.{◌≡◌, ◌↔◌, true, Contains};

@@ -48,7 +48,7 @@ none_take (c ∷ s) (suc i) n e =
     let p = none_parts (starts_with nat_eq (c ∷ s) (codes "**}")) n (close_from (n + 1) s) e in
     none_by (starts_with nat_eq (c ∷ take i s) (codes "**}")) n (close_from (n + 1) (take i s)) (starts_take c s i p.0) (none_take s i (n + 1) p.1)
 
--- the first `**}` is behind so many bytes
+-- the first `**}` is behind n bytes
 pub data Closes : List ℕ → ℕ → Type 0 where
   here : (s : List ℕ) → Closes (42 ∷ 42 ∷ 125 ∷ s) 0
   later : (c : ℕ) (s : List ℕ) (n : ℕ) → starts_with nat_eq (c ∷ s) (codes "**}") ≡ false → Closes s n → Closes (c ∷ s) (suc n)

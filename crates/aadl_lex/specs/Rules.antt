@@ -79,7 +79,7 @@ string_first at s =
     let inner = run is_in_string (drop 1 s) in
     if slice_index s (inner + 1) == 34 then Taken Quoted (inner + 2) else Refused (OpenString at)
 
--- the first place of `**}` in bytes, of which the first has the number n
+-- the first place of `**}` in bytes, the first of which has the number n
 abbrev pub close_from : ℕ → List ℕ → Option ℕ
 close_from n [] = None
 close_from n (c ∷ cs) = if starts_with nat_eq (c ∷ cs) (codes "**}") then Some n else close_from (n + 1) cs
@@ -122,7 +122,7 @@ symbol_len s =
 abbrev pub symbol_first : ℕ → List ℕ → First
 symbol_first at s = if symbol_len s == 0 then Refused (BadByte at) else Taken Symbol (symbol_len s)
 
--- What stands at the front of the bytes s, of which the first is the text's byte `at`.
+-- What stands at the front of the bytes s, the first of which is the text's byte `at`.
 unfoldable pub first : Reading → ℕ → List ℕ → First
 first reading at s =
     if is_blank (slice_index s 0) then Skipped 1

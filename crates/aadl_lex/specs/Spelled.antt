@@ -41,7 +41,7 @@ symbols = symbols_of_three ++ symbols_of_two ++ map (λ c. c ∷ []) symbols_of_
 abbrev pub IsSymbol : List ℕ → Type 0
 IsSymbol b = IsTrue (list_any (bytes_eq b) symbols)
 
--- `{**`, and bytes of which the first `**}` is at their end
+-- `{**`, and bytes whose first `**}` is at their end
 pub record IsUnread (b : List ℕ) : Type 0 where
   pub inner : List ℕ
   pub spelled : b ≡ codes "{**" ++ inner ++ codes "**}"
@@ -53,7 +53,7 @@ behind reading AnnexOpen b = Inside
 behind reading AnnexClose b = Outside
 behind reading kind b = after reading kind b
 
--- The bytes are those of such a token, where the text is read so. In a body that is read no token has a `**}` in it.
+-- The bytes are those of a token of this kind, read in this way. In a body that is read no token has a `**}` in it.
 abbrev pub IsSpelled : Reading → TokenKind → List ℕ → Type 0
 IsSpelled reading Word b = IsTrue (is_word b)
 IsSpelled reading (Whole number) b = IsWhole number b

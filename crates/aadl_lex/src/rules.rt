@@ -37,11 +37,11 @@ impl Reading {
 /// What stands at the front of a text.
 #[derive(Clone, Copy, Debug, PartialEq, Eq)]
 pub enum First {
-    /// So many bytes of a blank or a comment.
+    /// A blank or a comment, by its number of bytes.
     Skipped(usize),
-    /// A token of this kind and of so many bytes.
+    /// A token, by its kind and its number of bytes.
     Taken(TokenKind, usize),
-    /// `{**`, a body of so many bytes to be read as tokens, and `**}`.
+    /// `{**`, a body to be read as tokens, and `**}`, by the number of bytes of the body.
     Body(usize),
     /// No token.
     Refused(LexFault),

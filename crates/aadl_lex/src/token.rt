@@ -1,4 +1,4 @@
-//! What a token is.
+//! Tokens, and their classes.
 
 /// The most bytes of a word.
 pub const NAME_BYTES: usize = 64;

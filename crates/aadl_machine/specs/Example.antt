@@ -11,7 +11,7 @@ numbered n (kind ∷ ks) = record { kind = kind; at = n } ∷ numbered (n + 1) k
 abbrev pub without_value : List Kind
 without_value = word (codes "x") ∷ mark k.Assign ∷ mark k.Semicolon ∷ []
 
--- so many `(` before a word, and so many `)` behind it
+-- n `(` before a word, and n `)` behind it
 abbrev pub nested : ℕ → List Kind
 nested n = replicate n (mark k.ParenOpen) ++ word (codes "x") ∷ replicate n (mark k.ParenClose)
 

@@ -36,7 +36,9 @@ pub fn fate_of_package()
     ensures deep { (end : ℕ) (spots : List Spot) (at : ℕ) → (fate 0 end whole_package spots ≡ deep_at at) ↔ DeepAt IsPackage 0 spots at }
 {}
 
-/// The same of the body of a behaviour annex by itself, whose opener is open around it.
+/// The machine finishes on just the bodies of behaviour annexes that are not nested too deep, each
+/// by itself, with its opener open around it. It stops with a fault just where no text goes on, and
+/// for depth just at the opener that makes the nesting too deep.
 pub fn fate_of_behaviour()
     ensures finished { (end : ℕ) (spots : List Spot) → (fate 1 end annex_body spots ≡ finished) ↔ (IsBehaviour (kinds_of spots) × IsShallow 1 (kinds_of spots)) }
     ensures syntax { (end : ℕ) (spots : List Spot) (at : ℕ) → (fate 1 end annex_body spots ≡ syntax_at at) ↔ FailsAt IsBehaviour 1 end spots at }

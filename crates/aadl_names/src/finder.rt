@@ -27,7 +27,7 @@ impl Finder {
     ghost use Rattle.aadl_names.specs.Found.{found, comes_first, as_list};
     ghost use Rattle.aadl_names.specs.Findings as spec;
 
-    /// Nothing is found yet. It takes no memory.
+    /// A finder that has found nothing yet. It takes no memory.
     pub fn new(alloc: Global) -> Finder
         ensures { result ≡ None }
     {

@@ -1,4 +1,5 @@
-//! What is looked at lacks some of what is wrong with the names of a package, and never the first of it.
+//! The law of findings: what is looked at lacks some of what is wrong with the names of a package,
+//! and never the first of it.
 
 ghost use Rattle.std.specs.Prelude.{ℕ, ◌++◌, None};
 ghost use Rattle.aadl_tree.specs.Declarations.{PackageTree};

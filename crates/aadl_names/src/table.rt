@@ -24,7 +24,7 @@ impl<V: Copy> Table<V> {
     ghost use Rattle.aadl_names.specs.Spelling.{same_name};
     ghost use Rattle.aadl_names.specs.Tables.{value_of};
 
-    /// No names. It takes no memory.
+    /// An empty table. It takes no memory.
     pub fn new(alloc: Global) -> Table<V>
         ensures { (name : List ℕ) → value_of result name ≡ None }
     {

@@ -15,7 +15,7 @@ pub record IsOnlyTreeOf (text : List ℕ) (tree : PackageTree ℕ) : Type 0 wher
   pub given : IsTreeOf text tree
   pub only : (other : PackageTree ℕ) → IsTreeOf text other → other ≡ tree
 
--- The text has no tree, and this is why. Want of memory says no more than that the text is UTF-8.
+-- The text has no tree, and this is why. If there was not enough memory, no more is said than that the text is UTF-8.
 abbrev pub IsFaultOfText : List ℕ → TextFault → Type 0
 IsFaultOfText text (Lex fault) = (fault ≢ lexical.Memory) × IsFaultOf text fault
 IsFaultOfText text (Syntax at) = StopsAt text at

@@ -19,7 +19,7 @@ pub under_some : {P : Type 0} (word : Mark) (ps : List (Part P)) → (ps ≡ [] 
 under_some word [] some = absurd (some refl)
 under_some word (p ∷ ps) some = refl
 
--- Things of which each has a part have one together.
+-- Things, each of which has a part, have one together.
 pub some_parts : {A T P : Type 0} (parts : T → List (Part P)) (tree : A → T) → ((x : T) → parts x ≡ [] → ⊥) → (xs : List A) → false ≡ (length xs == 0) → flat_map parts (map tree xs) ≡ [] → ⊥
 some_parts parts tree some [] h e = absurd cc
 some_parts parts tree some (x ∷ xs) h e = some (tree x) (front_none (parts (tree x)) (flat_map parts (map tree xs)) e)

@@ -24,7 +24,7 @@ use items::{Print, print_all};
 use printer::Printer;
 use std::alloc::{AllocError, Global};
 
-/// The canonical text of a tree. It fails only where memory runs out.
+/// The canonical text of a tree. It fails only if there is not enough memory.
 pub fn print(alloc: Global, tree: &PackageTree) -> Result<Vec<u8>, AllocError>
     ensures { IfOk result (λ text. text.items ≡ canon (meaning tree.now)) }
 {

@@ -28,7 +28,7 @@ impl Printer {
     ghost use Rattle.aadl_tree.specs.Canon.{line_end};
     ghost use Rattle.aadl_print.specs.Printed.{blank, put};
 
-    /// Nothing is written. It takes no memory.
+    /// A printer that has written nothing. It takes no memory.
     pub fn new(alloc: Global) -> Printer
         ensures { result ≡ blank }
     {

@@ -29,7 +29,7 @@ told {kind} {ps} {ss} {mid} {rest} l a = record { written = (spot kind l.at, mid
 pub placed : {kind : Kind} {ps : List (Part ℕ)} {ss mid rest : List Spot} (at : ℕ) (l : At kind ss mid) → at ≡ l.at → Reads ps mid rest → Reads (token kind (at ∷ []) ∷ ps) ss rest
 placed {kind} {ps} {ss} {mid} {rest} at l e a = record { written = (spot kind l.at, mid, l.whole, refl, (e, tt), a.written) }
 
--- the same, where the place is that of the first terminal
+-- the parts behind a terminal that keeps its place, where that place is the one of the first terminal
 pub placed_at : {kind : Kind} {ps : List (Part ℕ)} {ss mid rest : List Spot} (at end : ℕ) (l : At kind ss mid) → at ≡ place end ss → Reads ps mid rest → Reads (token kind (at ∷ []) ∷ ps) ss rest
 placed_at at end l e a = placed at l (e ∙ ap (place end) l.whole) a
 

@@ -63,7 +63,7 @@ pub record Begins (x : Symbol) (ss : List Spot) : Type 0 where
   pub first : At kind ss rest
   pub moves : move x kind ≡ takes wanted
 
--- the fault that the machine meets; want of memory says nothing
+-- the fault that the machine meets; nothing is said if there is not enough memory
 abbrev pub FailsAs : Fate → ParseFault → Type 0
 FailsAs was Memory = Unit {0}
 FailsAs was (Syntax at) = was ≡ syntax_at at

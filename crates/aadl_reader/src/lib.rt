@@ -1,4 +1,5 @@
-//! What the parsers of packages and of behaviours both read with: terminals, names, and properties.
+//! The readers that the parsers of packages and of behaviours share: terminals, names, and
+//! properties.
 //!
 //! A [`Reader`] holds the terminals of a text. Each function of the parsers reads one part of the
 //! grammar from a place on, and gives its tree with the place behind it, or the fault that the

@@ -1,4 +1,4 @@
-//! Terminals: tokens of which it is known whether they are keywords.
+//! Terminals: tokens, and whether each is a keyword.
 ghost use Rattle.std.specs.Prelude.{◌≡◌, IfOk, All};
 ghost use Rattle.aadl_lex.specs.Spelled.{IsWordAt};
 ghost use Rattle.aadl_lex.specs.Tokens.{bytes_of};

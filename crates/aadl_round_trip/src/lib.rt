@@ -1,4 +1,4 @@
-//! What the printer writes for a tree is read as that tree again.
+//! The round trip of a tree: what the printer writes for it is read as that tree again.
 #![tactic(auto)]
 
 ghost use Rattle.std.specs.Prelude.{IsTrue, IfOk};

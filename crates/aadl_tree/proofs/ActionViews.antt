@@ -56,7 +56,7 @@ choice_along : {P : Type 0} (place : ℕ → P) (x : Choice)
     ≡ choose (expression_view place (out-Choice x).test) (actions_view place (out-Choice x).actions) (elsifs_of (map (elsif_view place) (out-Choice x).elsifs.items)) (otherwise_of (option_map (actions_view place) (out-Choice x).otherwise))
 choice_along place x = search (rules, the_lemmas)
 
--- the same over a struct's fields
+-- the views of structs, by their fields
 pub view-out-choice : {P : Type 0} (place : ℕ → P) (x : Choice)
     → choice_view place x ≡ choose (expression_view place (out-Choice x).test) (actions_view place (out-Choice x).actions) (elsifs_view place (out-Choice x).elsifs.items) (otherwise_of (option_map (actions_view place) (out-Choice x).otherwise))
 view-out-choice place x =

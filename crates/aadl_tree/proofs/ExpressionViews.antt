@@ -55,7 +55,7 @@ pub view-expression : {P : Type 0} (place : ℕ → P) (first : Relation) (rest 
     → expression_view place (roll-Expression (record { first = first; rest = rest })) ≡ expression (relation_view place first) (relations_view place rest.items)
 view-expression place first rest = search (rules, the_lemmas)
 
--- the same over a struct's fields
+-- the views of structs, by their fields
 pub view-out-sum : {P : Type 0} (place : ℕ → P) (x : Sum) → sum_view place x ≡ total (option_map (leading_view place) (out-Sum x).sign) (term_view place (out-Sum x).first) (terms_view place (out-Sum x).rest.items)
 view-out-sum place x = search (rules, the_lemmas)
 

@@ -24,7 +24,8 @@ pub record Begins (IsText : List Kind → Type 0) (ks : List Kind) : Type 0 wher
   pub more : List Kind
   pub text : IsText (ks ++ more)
 
--- How many openers are open behind a terminal, where so many are before it. The flag says that `end` stands just before, whose `if` closes.
+-- How many openers are open behind a terminal, where n are open before it. The flag says that `end` stands just before, whose
+-- `if` closes.
 abbrev pub opened : ℕ → Bool → Kind → ℕ
 opened n true (mark k.If) = n - 1
 opened n false (mark k.If) = n + 1
@@ -48,11 +49,11 @@ abbrev pub nesting_from : ℕ → Bool → List Kind → ℕ
 nesting_from n ended [] = n
 nesting_from n ended (kind ∷ ks) = nesting_from (opened n ended kind) (is_end kind) ks
 
--- how many openers are open behind the terminals, where so many are before them
+-- how many openers are open behind the terminals, where `outer` are open before them
 abbrev pub nesting : ℕ → List Kind → ℕ
 nesting outer ks = nesting_from outer false ks
 
--- nowhere in the terminals are more openers open than may be
+-- nowhere in the terminals are more openers open than may be open
 abbrev pub IsShallow : ℕ → List Kind → Type 0
 IsShallow outer ks = (front back : List Kind) → ks ≡ front ++ back → nesting outer front ≤ GREATEST_NESTING
 

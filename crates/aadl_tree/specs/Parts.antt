@@ -47,7 +47,7 @@ abbrev pub parts_if : {P A : Type 0} → (A → List (Part P)) → Option A → 
 parts_if parts None = []
 parts_if parts (Some x) = parts x
 
--- the same behind a keyword or a symbol
+-- the parts of something behind a keyword or a symbol
 abbrev pub behind : {P A : Type 0} → Mark → (A → List (Part P)) → A → List (Part P)
 behind m parts x = plain m ∷ parts x
 

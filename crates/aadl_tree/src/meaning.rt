@@ -16,7 +16,7 @@ pub use expressions::same_expression;
 pub use items::{Same, same_items, same_option};
 pub use values::{same_associations, same_value};
 
-/// Whether two trees are the same but for their places. Names are compared as they are spelled.
+/// Whether two trees are the same except for their places. Names are compared as they are spelled.
 pub fn same(a: &PackageTree, b: &PackageTree) -> bool
     ensures { IsTrue result ↔ (meaning a.now ≡ meaning b.now) }
 {

@@ -8,7 +8,7 @@ use Rattle.aadl_uses.specs.Orders.{IsSequence, IsOrder}
 use Rattle.aadl_uses.proofs.Searches.{contains_at, at_contains}
 use Rattle.aadl_uses.proofs.Suspected.{one_of_two}
 
--- values in the places of declarations, of which those of the first so many of a sequence are known to be right
+-- values in the places of declarations; those of the first `at` declarations of a sequence are known to be right
 pub record FrontOf {X : Type 0} (Right : ℕ → X → Type 0) (d : X) (g : Graph) (keys : List ℕ) (at : ℕ) (values : List X) : Type 0 where
   pub size : length values ≡ length g
   pub known : (k n : ℕ) → k < at → slice_get keys k ≡ Some n → Right n (get_or values n d)

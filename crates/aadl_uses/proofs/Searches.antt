@@ -86,7 +86,7 @@ module _ (ts : List (Option ℕ)) (old mid : List ℕ) (so_far : AreAdded ts old
       all_by n (inr h) = subst (Contains (insert_key nat_eq mid k)) (same_Some k n h) (Contains-insert_key nat_eq eqb-true mid k)
 
 -- ---- the whole search
--- from a declaration, with what the first so many of those that were found name
+-- from a declaration, with what the first `at` of those that were found name
 pub record Searched (g : Graph) (from at : ℕ) (keys : List ℕ) : Type 0 where
   pub start : Contains keys from
   pub sound : (n : ℕ) → Contains keys n → IsReached g from n

@@ -61,7 +61,7 @@ in_more n m xs h = by (Contains-append_cases (n ∷ []) xs m h)
     by (inl k) = one (Contains-push_cases [] n m k)
     by (inr k) = inr k
 
--- the first so many numbers are all in a list, or one of them is not
+-- the first k numbers are all in a list, or one of them is not
 some_missing : (xs : List ℕ) (k : ℕ) → ((q : ℕ) → q < k → Contains xs q) ⊎ ((q : ℕ) × (q < k) × (list_any (nat_eq q) xs ≡ false))
 some_missing xs zero = inl (λ q lt. absurd (omega arith))
 some_missing xs (suc k) = by (some_missing xs k)

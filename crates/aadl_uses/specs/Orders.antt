@@ -33,7 +33,7 @@ pub record IsPlaced (g : Graph) (number : ℕ) (old new : List ℕ) : Type 0 whe
   pub sequence : IsSequence g old → IsSequence g new
   pub tried : number < length g → Contains new number ⊎ Misses g number old
 
--- a longer sequence, with each of the first so many declarations that misses nothing
+-- a longer sequence, with each of the first `at` declarations that misses nothing
 pub record ArePlaced (g : Graph) (at : ℕ) (old new : List ℕ) : Type 0 where
   pub more : List ℕ
   pub grown : new ≡ old ++ more

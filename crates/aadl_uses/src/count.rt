@@ -31,7 +31,7 @@ pub fn counts_below(
     Ok(counts)
 }
 
-// As many zeros as that.
+// A list of `len` zeros.
 fn zeros(alloc: Global, len: usize) -> Result<Vec<usize>, AllocError>
     ensures { IfOk result (λ counts. length counts.items ≡ len) }
 {

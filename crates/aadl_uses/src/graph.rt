@@ -3,8 +3,8 @@
 use std::alloc::{AllocError, Global};
 use std::marker::Model;
 
-/// Of each declaration, by its number, what its subcomponents name: the number of a declaration, or
-/// none. Contracts see the lists of these.
+/// For each declaration, by its number, what its subcomponents name: the number of a declaration,
+/// or none. Contracts see the lists of these.
 #[derive(Drop)]
 pub struct Containment {
     rows: Vec<Vec<Option<usize>>>,
@@ -23,7 +23,7 @@ impl Containment {
     ghost use Rattle.std.specs.Prelude.{◌≡◌, ◌++◌, ◌∷◌, [], length, OnOk, OnErr};
     ghost use Rattle.aadl_uses.specs.Graphs as spec;
 
-    /// No declarations. It takes no memory.
+    /// The containment of no declarations. It takes no memory.
     pub fn new(alloc: Global) -> Containment
         ensures { result ≡ [] }
     {

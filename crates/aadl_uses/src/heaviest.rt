@@ -10,8 +10,8 @@ use indexmap::IndexSet;
 use std::alloc::{AllocError, Global};
 use std::marker::Model;
 
-/// Of each declaration, by its number, the weights of its subcomponents, in order. Contracts see the
-/// lists of these.
+/// For each declaration, by its number, the weights of its subcomponents, in order. Contracts see
+/// the lists of these.
 #[derive(Drop)]
 pub struct Weights {
     rows: Vec<Vec<usize>>,
@@ -26,7 +26,7 @@ impl Model for Weights {
 }
 
 impl Weights {
-    /// No declarations. It takes no memory.
+    /// The weights of no declarations. It takes no memory.
     pub fn new(alloc: Global) -> Weights
         ensures { result ≡ [] }
     {
@@ -94,7 +94,7 @@ fn put(found: &mut Vec<Option<usize>>, number: usize, heaviest: Option<usize>)
     found[number] = heaviest;
 }
 
-// That of a declaration, by those of what it contains.
+// How heavy the heaviest path from a declaration is, by those of what it contains.
 fn heaviest_of(
     graph: &Containment,
     marks: &[bool],

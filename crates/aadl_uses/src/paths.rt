@@ -10,8 +10,8 @@ use indexmap::IndexSet;
 use std::alloc::{AllocError, Global};
 use std::marker::Model;
 
-/// Of each declaration, by its number, paths of subcomponents that lead down from it, each with the
-/// number of the outermost first. Contracts see the lists of these.
+/// For each declaration, by its number, paths of subcomponents that lead down from it, each with
+/// the number of the outermost first. Contracts see the lists of these.
 #[derive(Drop)]
 pub struct Paths {
     rows: Vec<Vec<Vec<usize>>>,
@@ -26,7 +26,7 @@ impl Model for Paths {
 }
 
 impl Paths {
-    // None, of so many declarations.
+    // No paths from any of `len` declarations.
     fn none(alloc: Global, len: usize) -> Result<Paths, AllocError>
         ensures { IfOk result (λ paths. length paths ≡ len) }
     {
@@ -37,7 +37,7 @@ impl Paths {
         Ok(Paths { rows })
     }
 
-    // Puts those of a declaration in the place of others.
+    // Puts the paths of a declaration in the place of others.
     fn put(&mut self, number: usize, row: Vec<Vec<usize>>)
         requires { number < length self.old }
         ensures { self.new ≡ slice_set self.old number (map (λ path. path.items) row.items) }
@@ -45,7 +45,7 @@ impl Paths {
         self.rows[number] = row;
     }
 
-    /// Those from a declaration.
+    /// The paths from a declaration.
     pub fn from(&self, number: usize) -> &[Vec<usize>]
         ensures { map (λ path. path.items) result.now ≡ spec.paths_from self.now number }
     {

@@ -13,7 +13,7 @@ use std::alloc::Global;
 pub struct ThreadAt {
     /// The names of the subcomponents on the way to it, with a `.` between each two.
     pub path: Text,
-    /// The same subcomponents, the outermost first; the last one is the thread's own.
+    /// The subcomponents on the way to it, the outermost first; the last one is the thread's own.
     pub subs: Items<SubAt>,
 }
 

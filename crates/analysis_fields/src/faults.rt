@@ -301,7 +301,7 @@ fn next_fault(
     Ok(fault)
 }
 
-/// The faults of replicas, of which no two stand at one place. The time that it takes is in line
+/// The faults of replicas, no two of which stand at one place. The time that it takes is in line
 /// with the values.
 #[tactic(auto, unfolding(crate::specs::Replicas::faults_in))]
 pub fn read_faults(

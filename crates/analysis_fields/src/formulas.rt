@@ -141,7 +141,7 @@ fn parts_of(value: &Value) -> &[Value]
     }
 }
 
-// Whether there are no more than this many levels of formulas.
+// Whether there are no more than `levels` levels of formulas.
 fn is_shallow(levels: u32, value: &Value) -> bool
     ensures { result ≡ is_shallow levels (view value.now) }
 {
@@ -173,7 +173,7 @@ fn forms_in(levels: u32, value: &Value) -> usize
     forms
 }
 
-/// Whether a property has no more formulas and levels than may be.
+/// Whether a property has no more formulas and levels than it may have.
 #[tactic(auto, unfolding(crate::specs::Properties::is_small))]
 pub fn is_small(value: &Value) -> bool
     ensures { result ≡ is_small (view value.now) }
@@ -337,7 +337,7 @@ fn two_parts(
     of_two(alloc, role, left, right)
 }
 
-/// The formula of a value, of no more than this many levels.
+/// The formula of a value, of no more than `levels` levels.
 #[tactic(auto, unfolding(crate::specs::Properties::formula_in))]
 #[cycle(formula)]
 pub fn formula_in(

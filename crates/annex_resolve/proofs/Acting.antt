@@ -118,7 +118,7 @@ pub all_actions : (scope : Scope) (around : ℕ) (y : Actions ℕ) (first : Acti
 unfolding actions_of actions_findings
 all_actions scope around y first xs acts b a view reads = rw view reads
 
--- ---- actions that may be there
+-- ---- actions, if there are any
 pub no_actions : (scope : Scope) (around : ℕ) (o : Option source_actions.Actions) (acts : List Act) (b : List Violation) → o ≡ None → acts ≡ []
     → let x = listed_block (option_map (actions_view kept_place) o) in ReadsActions (block_of scope x) (block_findings scope around x) acts b b
 unfolding block_of block_findings

@@ -37,7 +37,7 @@ abbrev pub given_types : Scope → (Option Entry → Bool) → Identifier ℕ �
 given_types scope may x e =
     found_if (not (may (entry_named scope x.spelling))) x.at BAD_TYPE [] ++ whole_types scope (kind_of (entry_named scope x.spelling)) e
 
--- within loops that make so many turns
+-- what is wrong with actions, within loops that make `around` turns
 unfoldable mutual
   pub action_findings : Scope → ℕ → Action ℕ → List Violation
   action_findings scope around (assign x e) = given_types scope may_set x e

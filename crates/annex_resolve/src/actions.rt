@@ -86,7 +86,7 @@ fn is_integer(kind: Option<Kind>) -> bool
     matches!(kind, Some(Kind::Integer))
 }
 
-/// Resolves a block, within loops that make so many turns, and adds what is wrong with it.
+/// Resolves a block, within loops that make `around` turns, and adds what is wrong with it.
 #[cycle(action)]
 pub fn resolve_block(
     alloc: Global,
@@ -102,7 +102,8 @@ pub fn resolve_block(
     resolve_some(alloc, scope, around, &block.actions, found)
 }
 
-// Actions that may be there.
+// Resolves actions, if there are any, within loops that make `around` turns, and adds what is wrong
+// with them.
 #[cycle(action)]
 fn resolve_some(
     alloc: Global,

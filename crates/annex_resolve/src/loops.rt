@@ -10,7 +10,8 @@ use pals_base::NoMemory;
 use pals_base::limits::{NESTED_TURNS, TURNS};
 use std::alloc::AllocError;
 
-/// The number of a loop's end. One that no text spells and that does not fit 64 bits is wanting.
+/// The number of a loop's end. For one that no text spells and that does not fit 64 bits, the error
+/// is that there is not enough memory.
 pub fn signed(bound: Bound) -> Result<i64, NoMemory>
     ensures { IfOk result (λ number. number ≡ signed bound) }
 {

@@ -57,7 +57,7 @@ answered (Sync root) bundle s a x = reported root bundle s a x
 answered (World root true) bundle s a x = loosely root bundle s a x
 answered _ bundle s a x = absurd x
 
--- ---- those of a call
+-- ---- the statuses of a call
 module _ (command : Command) (seen : Reading) (few : seen.before.faults < 2 ^ 64 - 1) (status : ℕ) (text : List ℕ) where
   has_failed : IsAnswer (Some command) seen status text → status ≡ 9 → seen.after.faults ≡ seen.before.faults → ⊥
   has_failed (inl x) e same = (answered command x.bundle status text x.answer).0 e

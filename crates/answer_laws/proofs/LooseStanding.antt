@@ -22,7 +22,7 @@ module _ (root bundle : List ℕ) where
   abbrev pub EndsAt : ℕ → Type 0
   EndsAt s = (how : LooseEnd) × (s ≡ status_at how) × WorldEnds root bundle how
 
-  -- a design of which no code is too long: these, or 5 where there is no scenario
+  -- a design without a code that is too long: these, or 5 where there is no scenario
   abbrev pub WithCodes : ℕ → Type 0
   WithCodes s = ((s ≡ 5) × LacksLooseScenario root bundle) ⊎ EndsAt s
 
@@ -38,7 +38,7 @@ module _ (root bundle : List ℕ) where
   abbrev pub Stands : ℕ → Type 0
   Stands s = ((s ≡ 3) × (HasTree bundle → ⊥)) ⊎ WithTree s
 
-  -- the same, by the number of the status
+  -- what a status says, by its number
   abbrev pub Has : ℕ → Type 0
   Has s =
       MatchBool (nat_eq s 0) (HasWorld root bundle)

@@ -36,7 +36,7 @@ abbrev pub MeansScenario : List ℕ → List ℕ → Command → Type 0
 MeansScenario root bundle command = (design : DesignParts) × (scenario : Scenario) × HasScenario root bundle command design scenario
 
 -- ---- what `world --loose` needs further
--- It has such a design, of which the step code of a component would be too long.
+-- It has such a design, with a component whose step code would be too long.
 pub record HasLongCode (root bundle : List ℕ) : Type 0 where
   pub design : DesignParts
   pub scenario : List ℕ
@@ -45,7 +45,7 @@ pub record HasLongCode (root bundle : List ℕ) : Type 0 where
   pub within : node < length design.components
   pub long : INSTRUCTIONS < length_of design node
 
--- It has such a design, of which no step code would be too long, and no scenario for a loose world.
+-- It has such a design, with no component whose step code would be too long, and no scenario for a loose world.
 abbrev pub LacksLooseScenario : List ℕ → List ℕ → Type 0
 LacksLooseScenario root bundle = MeansDesign root bundle × (HasLongCode root bundle → ⊥) × (MeansScenario root bundle (loosely root) → ⊥)
 

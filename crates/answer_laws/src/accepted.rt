@@ -1,4 +1,4 @@
-//! What the design that a bundle means is worth. The law is the contract of a function that does
+//! What holds of the design that a bundle means. The law is the contract of a function that does
 //! nothing.
 ghost use Rattle.std.specs.Prelude.{ℕ, List, []};
 ghost use Rattle.pals_model.specs.declared.design.DesignParts.{DesignParts};

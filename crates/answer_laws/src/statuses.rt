@@ -46,10 +46,10 @@ pub fn statuses_of_sync()
     one_design();
 }
 
-/// `world --loose` answers 3 and 4 as `check` does, and 13 exactly where the bundle means a design of
-/// which a step code is too long. Of a design without one it answers 5 exactly where the bundle has no
-/// scenario for it or an event is not allowed, 6 exactly where an event gives a stop, and 0 exactly where
-/// all events happen and none gives a stop.
+/// `world --loose` answers 3 and 4 as `check` does, and 13 exactly where the bundle means a design
+/// with a step code that is too long. Of a design without one it answers 5 exactly where the bundle
+/// has no scenario for it or an event is not allowed, 6 exactly where an event gives a stop, and 0
+/// exactly where all events happen and none gives a stop.
 pub fn statuses_of_loose()
     ensures done { (root bundle : List ℕ) (status : ℕ) (text : List ℕ) → IsLooseAnswer root bundle status text
         → (status ≡ 0) ↔ HasWorld root bundle }

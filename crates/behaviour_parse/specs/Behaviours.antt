@@ -11,7 +11,7 @@ pub record IsOnlyBehaviourOf (text : List ℕ) (tokens : List Token) (tree : Ann
   pub given : IsBehaviourOf text tokens tree
   pub only : (other : AnnexTree ℕ) → IsBehaviourOf text tokens other → other ≡ tree
 
--- The tokens are no behaviour, and this is where. Want of memory says nothing.
+-- The tokens are no behaviour, and this is where. Nothing is said if there was not enough memory.
 abbrev pub IsFaultOfBehaviour : List ℕ → List Token → ParseFault → Type 0
 IsFaultOfBehaviour text tokens (Syntax at) = BehaviourStopsAt text tokens at
 IsFaultOfBehaviour text tokens (TooDeep at) = BehaviourNestsAt text tokens at

@@ -27,7 +27,7 @@ act-If branches otherwise frame fresh outs = ap (λ a. act a frame fresh outs) (
 pub act-For : (low high : ℤ) (body : Vec Act Global) (frame : Frame) (fresh : List Bool) (outs : List Port) → act (action_of (variants.For low high body)) frame fresh outs ≡ act (For low high (actions_along body.items)) frame fresh outs
 act-For low high body frame fresh outs = ap (λ a. act a frame fresh outs) (action_of-For low high body)
 
--- a turn of a loop round which there were this many variables, after other turns
+-- a turn of a loop round which there were `depth` variables, after other turns
 abbrev pub turn_after : ℕ → Actions → List ℤ → List Bool → ℤ → Effect → Result Effect Trap
 turn_after depth body held fresh number so_far = without_loop depth (acts body (frame_of (so_far.vars ++ number ∷ []) held) fresh so_far.outs)
 

@@ -15,7 +15,7 @@ use Rattle.behaviour_sem.specs.Senses.{fresh}
 abbrev pub Standing : Type 0
 Standing = Place × List Port
 
--- the same as a frame that no trap halted, and its outputs
+-- where a step stands, as a frame that no trap halted, and its outputs
 abbrev pub fired : Standing → Inputs → Fired
 fired at inputs = record { frame = record { state = at.0.state; vars = at.0.vars.items; held = inputs.held.now; halt = None }; outs = at.1 }
 

@@ -4,7 +4,7 @@ use Rattle.pals_base.specs.declared.values.Trap.{Trap}
 use Rattle.behaviour_sem.specs.declared.stop.Stop.{Stop}
 use Rattle.behaviour_sem.specs.declared.stop.Stop.TheVariants as stop
 
--- it reaches what is meant, or stops by the trap that is meant; want of memory may stop every part
+-- it reaches what is meant, or stops by the trap that is meant; every part may stop if there is not enough memory
 abbrev pub Left : {A : Type 0} → Result (Unit {0}) Stop → A → Result A Trap → Type 0
 Left (Ok u) reached meant = meant ≡ Ok reached
 Left (Err (stop.Trapped trap)) reached meant = meant ≡ Err trap

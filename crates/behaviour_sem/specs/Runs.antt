@@ -26,7 +26,7 @@ effect_of values = effect values.0.items values.1
 abbrev pub Runs : Result (Unit {0}) Stop → (Frame → List Bool → List Port → Result Effect Trap) → Inputs → Values → Values → Type 0
 Runs result meant inputs before after = Left result (effect_of after) (meant (seen before.0.items inputs) (fresh inputs) before.1)
 
--- the same of the first branch whose guard is true, if there is one
+-- a run with this answer of the first branch whose guard is true, if there is one, goes from these values to those as is meant
 abbrev pub RunsFirst : Result Bool Stop → Branches → Inputs → Values → Values → Type 0
 RunsFirst result branches inputs before after =
     (otherwise : Result Effect Trap) → Chose result (effect_of after) (effect_of before) otherwise (act_first branches (seen before.0.items inputs) (fresh inputs) before.1 otherwise)

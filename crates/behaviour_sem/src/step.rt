@@ -12,7 +12,7 @@ use std::alloc::{AllocError, Global};
 use std::mem::replace;
 
 /// One step, in memory of its own: the frame after it, and what its out ports have. `fire_into`
-/// says what a step does. The one error is want of memory.
+/// says what a step does. The only error is that there is not enough memory.
 pub fn fire(
     alloc: Global,
     behaviour: &Behaviour,
@@ -35,12 +35,12 @@ pub fn fire(
 }
 
 /// One step, from one frame into another of the same shape: holds each present input, and then
-/// follows the dispatch transition of the frame's state and from each state that is not complete its
-/// first transition whose guard is true. What `to` and `outs` had before is gone. A trap leaves the
-/// state and the variables as they were, halts the frame, and leaves all outputs absent; a halted
-/// frame stays. Only the number of a loop can take memory, and only where the variables of `to` had
-/// no place for it in an earlier step; where it is wanting, `to` keeps its shape, so that the call
-/// can be made again.
+/// follows the dispatch transition of the frame's state and from each state that is not complete
+/// its first transition whose guard is true. What `to` and `outs` had before is gone. A trap leaves
+/// the state and the variables as they were, halts the frame, and leaves all outputs absent; a
+/// halted frame stays. Only the number of a loop can take memory, and only where the variables of
+/// `to` had no place for it in an earlier step; if there is not enough of it, `to` keeps its shape,
+/// so that the call can be made again.
 pub fn fire_into(
     alloc: Global,
     behaviour: &Behaviour,

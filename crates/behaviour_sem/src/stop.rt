@@ -7,7 +7,7 @@ use std::alloc::{AllocError, AllocFailed};
 pub enum Stop {
     /// A trap of the behaviour itself.
     Trapped(Trap),
-    /// Memory was wanting for the number of a loop.
+    /// There was not enough memory for the number of a loop.
     NoMemory,
 }
 

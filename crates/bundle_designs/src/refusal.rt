@@ -1,14 +1,14 @@
 //! Why a bundle has no design.
 use std::alloc::AllocError;
 
-/// Why a bundle has no design: the text that says so, or that memory was wanting.
+/// Why a bundle has no design: the text that says so, or that there was not enough memory.
 #[derive(Drop)]
 pub enum Refusal {
     /// The bundle has no design text of the grammar: no line divides it, or its text has a fault.
     Text(Vec<u8>),
     /// The package has no design below the root: it has a fault, or something is wrong with its instance.
     Design(Vec<u8>),
-    /// There is no memory.
+    /// There was not enough memory.
     Memory,
 }
 

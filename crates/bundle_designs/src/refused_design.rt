@@ -11,7 +11,8 @@ use pals_base::NoMemory;
 use pals_report::{add_flat_fault, add_violations};
 use std::alloc::{AllocError, Global};
 
-/// The text of a package with this fault. Want of memory is no fault of a package, and goes on.
+/// The text of a package with this fault. That there is not enough memory is no fault of a package,
+/// and is passed on.
 pub fn refused_package(alloc: Global, text: &[u8], fault: &FlatFault) -> Result<Vec<u8>, NoMemory>
     ensures text { IfOk result (λ line. line.items ≡ flat_fault_line text.now fault.now ++ line_end) }
     ensures named { OnOk result (fault.now ≢ FlatFault.Memory) }

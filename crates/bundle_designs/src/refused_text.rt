@@ -18,7 +18,8 @@ pub fn undivided(alloc: Global, bundle: &[u8]) -> Result<Vec<u8>, NoMemory>
     Ok(text)
 }
 
-/// The text of a design text with this fault. Want of memory is no fault of a text, and goes on.
+/// The text of a design text with this fault. That there is not enough memory is no fault of a
+/// text, and is passed on.
 pub fn refused_text(alloc: Global, design: &[u8], fault: TextFault) -> Result<Vec<u8>, NoMemory>
     ensures text { IfOk result (λ text. text.items ≡ text_fault_line design.now fault ++ line_end) }
     ensures named { OnOk result (fault ≢ TextFault.Memory) }

@@ -224,7 +224,7 @@ sends_from run node c n Done is_c most agree = (record { finished = agree.0.fini
 pub sends : (run : Run) (node : ℕ) (c : Component) (n : NodeState) → slice_get run.design.components node ≡ Some c → NodeAgrees run node c n → NodeAgrees run node c (sent_from run.rounds n)
 sends run node c n is_c agree = record { phase = sends_from run node c n n.phase is_c agree.rounds agree.phase; parts = agree.parts; rounds = agree.rounds; slots = agree.slots }
 
--- where a send is allowed, so many steps of a round are finished
+-- where a send is allowed, `steps` steps of a round are finished
 pub record MaySend (run : Run) (node : ℕ) (c : Component) (n : NodeState) : Type 0 where
   pub steps : ℕ
   pub enough : sent_steps run.design.gamma run.design.period c.rate ≤ steps

@@ -15,7 +15,7 @@ target plan (action.Start round) = alarm plan.period round
 target plan (action.Step round step) = alarm plan.period round + step * plan.step_period
 target plan (action.Send round) = alarm plan.period round + plan.release_offset
 
--- how far a node has come in a round: so many steps are finished, and it is sent or not
+-- how far a node has come in a round: how many steps are finished, and whether it is sent
 pub record Progress : Type 0 where
   pub round : ℕ
   pub steps : ℕ
@@ -38,7 +38,7 @@ progress_after p (action.Start round) = record { round = round; steps = 1; sent 
 progress_after p (action.Step round step) = record p { steps = step + 1 }
 progress_after p (action.Send round) = record p { sent = true }
 
--- so many actions from one on
+-- n actions, from `action` on
 abbrev pub actions_from : Plan → ℕ → Progress → Action → List Action
 actions_from plan zero p action = []
 actions_from plan (suc n) p action = action ∷ actions_from plan n (progress_after p action) (next_action plan (progress_after p action))

@@ -4,13 +4,13 @@ ghost use Rattle.bus_machine.specs.WorldRows.{EventsAreRefused, ArrivesTooSoon, 
 ghost use Rattle.bus_machine.specs.TraceRows.{TracesAreJudged, NodesHaveTargets};
 ghost use Rattle.bus_machine.specs.Rows.{counters, early_arrival, early_lines, lost_message, lost_lines, Tells};
 
-/// Two counters, of which the second has not started when the first one's message arrives: the run
+/// Two counters, the second of which has not started when the first one's message arrives: the run
 /// stops early.
 pub fn early_arrival()
     ensures { Tells (counters 1) early_arrival early_lines }
 {}
 
-/// Two counters, of which one gets its message twice, and the other loses it: the run stops at the
+/// Two counters, one of which gets its message twice, and the other loses it: the run stops at the
 /// round that misses it.
 pub fn lost_message()
     ensures { Tells (counters 2) lost_message lost_lines }

@@ -1,4 +1,4 @@
-//! What one node needs to know of its design.
+//! The plan of a node: what it needs to know of its design.
 use pals_base::{Adaptor, Behaviour, Items, Nanos, NodeNo};
 
 /// What an in port brings to the steps of a round.
@@ -11,17 +11,17 @@ pub enum Input {
         root: usize,
         adaptor: Option<Adaptor>,
     },
-    /// The message of a source that makes so many steps in a round.
+    /// The message of a source that makes `rate` steps in a round.
     Link {
         rate: u32,
         adaptor: Option<Adaptor>,
     },
 }
 
-/// What a node needs to know: its number, what its component does and how often in a round, what
-/// each in port brings, the out port of each link from it and of each tap of it, the period of the
-/// round and of its steps, how many of its steps are sent, and how long after its alarm. All times
-/// are nanoseconds.
+/// The plan of a node, which is what it needs to know: its number, what its component does and how
+/// often in a round, what each in port brings, the out port of each link from it and of each tap of
+/// it, the period of the round and of its steps, how many of its steps are sent, and how long after
+/// its alarm. All times are nanoseconds.
 #[derive(Drop)]
 pub struct Plan {
     pub node: NodeNo,

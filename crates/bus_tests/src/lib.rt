@@ -1,4 +1,5 @@
-//! Nodes and the bus: worked rows, and each call that takes memory once where there is memory.
+//! Tests of nodes and the bus: worked rows, and each call that takes memory, once where there is
+//! enough.
 #![tactic(auto)]
 
 #[cfg(test)]

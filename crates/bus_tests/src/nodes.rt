@@ -22,7 +22,7 @@ fn plan_of(rt: &impl Abort, alloc: Global, design: &Design, node: u32) -> Result
     Ok(NodePlan::new(alloc, design, NodeNo(node), code)?)
 }
 
-// A node of a plan, before its first round, of a run of so many rounds.
+// A node of a plan, before its first round, of a run of `rounds` rounds.
 fn node_of(alloc: Global, plan: NodePlan, rounds: u32) -> Result<Node, Fail>
     requires some { 1 ≤ rounds }
     requires most { rounds ≤ ROUNDS }
@@ -31,7 +31,7 @@ fn node_of(alloc: Global, plan: NodePlan, rounds: u32) -> Result<Node, Fail>
     Ok(Node::new(alloc, Arc::new(alloc, plan)?, rounds)?)
 }
 
-// The same of the design of a text.
+// A node of the design of a text, before its first round, of a run of `rounds` rounds.
 fn opening_node(
     rt: &impl Abort,
     alloc: Global,

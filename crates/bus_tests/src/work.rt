@@ -37,7 +37,7 @@ fn finish_with_earlier_work(bus: &mut Bus) -> Option<Finished> {
     finish(bus, A, earlier)
 }
 
-// The same with its own work.
+// How the second round of the first counter finishes, for which its own work is handed in.
 fn finish_with_own_work(bus: &mut Bus) -> Option<Finished> {
     if !begins(bus, A, 9_000_000) || !make_rest(bus) {
         return None;

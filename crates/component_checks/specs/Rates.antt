@@ -65,7 +65,7 @@ abbrev pub is_right : Option Adaptor → Option Kind → ℕ → ℕ → Bool
 is_right None kind p q = false
 is_right (Some a) kind p q = is_allowed (Some a) p q && kind_suits (Some a) kind
 
--- ---- the rates at both ends of a link or a feed, its name and its adaptor: none is given, or a text, of which the adaptor may be none
+-- ---- the rates at both ends of a link or a feed, its name and its adaptor: none is given, or a text, which may name no adaptor
 abbrev pub adaptor_findings : ℕ → List ℕ → Option (Option Adaptor) → Option Kind → ℕ → ℕ → List Violation
 adaptor_findings at name None kind p q = finding at NO_ADAPTOR name ∷ []
 adaptor_findings at name (Some adaptor) kind p q = found_if (not (is_right adaptor kind p q)) at ADAPTOR_OUT_OF_RANGE name

@@ -119,7 +119,7 @@ fn add_named(
 pub struct Carrier {
     pub at: usize,
     pub name: Text,
-    /// None is given, or a text, of which the adaptor may be none.
+    /// None is given, or a text, which may name no adaptor.
     pub adaptor: Option<Option<Adaptor>>,
     pub kind: Option<Kind>,
 }

@@ -108,7 +108,7 @@ fn property_at<'t>(
     }
 }
 
-// The same, or the one of a place further out.
+// A property of the subcomponent of two numbers, or the one of a place further out.
 fn nearer_property<'t>(
     names: &Names<'t>,
     alloc: Global,

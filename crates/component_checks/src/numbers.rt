@@ -12,7 +12,7 @@ fn within_hour(time: Nanos) -> Option<Nanos>
     if time <= HOUR { Some(time) } else { None }
 }
 
-// A range of which neither end is above an hour.
+// A range, if neither of its ends is above an hour.
 fn range_within(range: (Nanos, Nanos)) -> Option<(Nanos, Nanos)>
     ensures { result ≡ range_within range }
 {

@@ -12,7 +12,7 @@ pub const GAMMA_ORDER: u32 = 17;
 pub const NUMBER_TOO_BIG: u32 = 20;
 /// A component's period is 0 or does not divide that of the root.
 pub const NOT_DIVISOR: u32 = 4;
-/// A component makes more steps in a round than may be.
+/// A component makes more steps in a round than it may make.
 pub const RATE_TOO_HIGH: u32 = 5;
 /// Neither of two linked rates divides the other.
 pub const RATES_DONT_DIVIDE: u32 = 6;

@@ -39,7 +39,7 @@ fn unit_in(unit: &Option<Identifier>) -> Option<u64>
     }
 }
 
-// So many units.
+// The length of `number` units, each of `unit` nanoseconds.
 #[tactic(auto, using(crate::proofs::Hours::product_fits))]
 fn product(number: u64, unit: u64) -> u128
     ensures { result ≡ number * unit }
@@ -213,7 +213,8 @@ fn add_association_big(
     Ok(())
 }
 
-// The same, where the association does not apply elsewhere.
+// Adds what is above an hour in an association at a kind of place, where the association does not
+// apply elsewhere.
 #[tactic(auto, using(crate::proofs::Looking::view_out_association))]
 fn add_counted_big(
     alloc: Global,

@@ -10,7 +10,7 @@ use Rattle.bus_machine.specs.Plans.{component_at}
 use Rattle.pals_bus.specs.Values.{code_at, no_code}
 use Rattle.design_codes.specs.Causes.{length_of}
 
--- each means what its component does, and is no longer than may be
+-- each means what its component does, and is no longer than a code may be
 pub record AreFirst (design : DesignParts) (codes : List CodeParts) : Type 0 where
   pub mean : (k : ℕ) → k < length codes → Means (code_at codes k) (component_at design k).behaviour
   pub short : (k : ℕ) → k < length codes → length_of design k ≤ INSTRUCTIONS

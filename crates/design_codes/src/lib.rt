@@ -14,8 +14,8 @@ use step_compiler::{CompileFault, compile};
 /// Why a design has no codes.
 #[derive(Clone, Copy, PartialEq, Eq, Debug)]
 pub enum CodesEnd {
-    /// The code of this component would have so many instructions, which is more than may be. It is
-    /// the first such component.
+    /// The code of the component `node` would have `length` instructions, which is more than a code
+    /// may have. It is the first such component.
     TooLong { node: NodeNo, length: u64 },
     /// There was not enough memory.
     Memory,
@@ -42,7 +42,7 @@ pub fn compile_all(alloc: Global, design: &Design) -> Result<Items<Code>, CodesE
     for component in design.components() {
         match compile(alloc, &component.behaviour) {
             Ok(code) => {
-                // Each code keeps that it is no longer than may be.
+                // Each code keeps that it is no longer than a code may be.
                 let _verified = code.parts();
                 codes.push(code)?;
             }

@@ -50,7 +50,7 @@ have_rules law tree s named i nothing =
     let found = all_parts tree (shown_by tree i.parts) there.used there.none in
     of_shown (λ (x : Shown). All (HasRules tree) x.threads) tree s i (ruling.have_rules i.flat there.used there.is_use found.declarations named law)
 
--- the same, where it is known no more than that a package without a fault has the instance
+-- all threads of an instance keep the rules, where no more is known than that a package without a fault has the instance
 pub all_rules : ThreadLaw → (tree : PackageTree ℕ) (s : Shown) → AreNamed tree → ∥ IsShown tree s ∥₁ → NothingFound tree s
     → All (HasRules tree) s.threads
 unfolding IsAcyclic

@@ -1,4 +1,4 @@
--- A package has one instance, of which there is one list of what is wrong, and one design.
+-- A package has one instance, with one list of what is wrong with it, and one design.
 use Rattle.std.proofs.Common.{◌≡◌, ◌∙◌, ℕ, Bool, true, false, List, [], sym, ap, subst}
 use Rattle.std.specs.List.{filter}
 use Rattle.std.specs.List.Sorted.{ties}

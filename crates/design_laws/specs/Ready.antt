@@ -30,7 +30,7 @@ FitsMeaning b loops (OutPort n) kind = FitsPort (slice_get b.outs n) kind
 FitsMeaning b loops (Variable n) kind = FitsVariable (slice_get b.vars n) kind
 FitsMeaning b loops (LoopVariable n) kind = (length b.vars ≤ n) × (n < length b.vars + loops) × (kind ≡ Some Integer)
 
--- so each name of a scope, within so many loops; the next loop's variable has the number behind all others
+-- so each name of a scope, within `loops` loops; the next loop's variable has the number behind all others
 pub record FitsScope (b : BehaviourParts) (loops : ℕ) (scope : Scope) : Type 0 where
   pub entries : (name : List ℕ) (e : Entry) → entry_named scope name ≡ Some e → FitsMeaning b loops e.meaning e.kind
   pub next : scope.next ≡ length b.vars + loops

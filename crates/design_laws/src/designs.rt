@@ -23,7 +23,8 @@ pub fn designs_are_one()
     ensures { (tree : PackageTree ℕ) (s : Shown) (a b : DesignParts) → IsDesignOf tree s a → IsDesignOf tree s b → a ≡ b }
 {}
 
-/// It is not so that such an instance has no design.
+/// It is not so that an instance of a package whose names are words and differ, in which nothing is
+/// found, has no design.
 pub fn designs_are_there()
     ensures { (tree : PackageTree ℕ) (s : Shown) → AreNamed tree → ∥ IsShown tree s ∥₁ → NothingFound tree s
         → ((design : DesignParts) → IsDesignOf tree s design → ⊥) → ⊥ }
@@ -31,7 +32,8 @@ pub fn designs_are_there()
     no_findings_make_a_thread_behave();
 }
 
-/// The design of such an instance keeps the rules of designs.
+/// The design of an instance of a package whose names are words and differ, in which nothing is
+/// found, keeps the rules of designs.
 pub fn designs_keep_their_rules()
     ensures { (tree : PackageTree ℕ) (s : Shown) → AreNamed tree → ∥ IsShown tree s ∥₁ → NothingFound tree s
         → (design : DesignParts) → IsDesignOf tree s design → IsDesign design }

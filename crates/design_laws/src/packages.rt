@@ -23,7 +23,7 @@ pub fn one_instance()
     ensures { (tree : PackageTree ℕ) (root : List ℕ) (a b : Parts) → IsFlat tree root a → IsFlat tree root b → a ≡ b }
 {}
 
-/// Of an instance there is one list at most of all that is wrong with it.
+/// An instance has one list at most of all that is wrong with it.
 pub fn one_list()
     ensures { (tree : PackageTree ℕ) (s : Shown) (a b : List Violation) → AreViolations tree s a → AreViolations tree s b → a ≡ b }
 {}
@@ -44,7 +44,7 @@ pub fn accepted_or_refused()
 {}
 
 /// The design of a package that is read from a text keeps the rules of designs, and such a package
-/// has a design where it has an instance of which the list of all that is wrong is empty. The design's
+/// has a design where it has an instance whose list of all that is wrong is empty. The design's
 /// period is at least the least one that the bound allows for the greatest rate of its components.
 pub fn designs_keep_their_rules()
     ensures rules { (tree : source.PackageTree) (root : List ℕ) (design : DesignParts) → IsDesignIn (placed tree) root design → IsDesign design }
@@ -58,7 +58,8 @@ pub fn designs_keep_their_rules()
     crate::designs::designs_keep_their_rules();
 }
 
-/// The same of a tree that the grammar gives for some text.
+/// The design of a tree that the grammar gives for some text keeps the rules of designs, and such a
+/// tree has a design where it has an instance whose list of all that is wrong is empty.
 pub fn designs_of_texts_keep_their_rules()
     ensures rules { (tree : PackageTree ℕ) (root : List ℕ) (design : DesignParts) → IsGiven tree → IsDesignIn tree root design → IsDesign design }
     ensures there { (tree : PackageTree ℕ) (root : List ℕ) (parts : Parts) → IsGiven tree → IsFlat tree root parts

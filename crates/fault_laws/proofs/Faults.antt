@@ -20,7 +20,7 @@ use Rattle.fault_laws.proofs.Declaring.{possible_clear}
 use Rattle.fault_laws.proofs.Again.{again_of, in_package, subcomponent_has, connection_has}
 use Rattle.fault_laws.proofs.Findings.{one_finding}
 
--- ---- limits: the line says what there is too much of
+-- ---- limits: the line says what is above its limit
 what_at : ℕ → List ℕ
 what_at line =
     cond (nat_eq line 5) (codes "components") (cond (nat_eq line 6) (codes "links") (cond (nat_eq line 7) (codes "ports")

@@ -85,7 +85,8 @@ fn average(group: &[Port]) -> Port
     quotient(sum, count)
 }
 
-// A sum of so many 64-bit numbers divided by their count, towards zero: absent where there are none.
+// A sum of `count` 64-bit numbers divided by their count, towards zero: absent where there are
+// none.
 fn quotient(sum: i128, count: usize) -> Port
     requires low { neg_ℤ (pos (2 ^ 63 * count)) ≤ℤ sum }
     requires high { sum ≤ℤ pos ((2 ^ 63 - 1) * count) }

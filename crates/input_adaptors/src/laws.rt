@@ -8,8 +8,8 @@ ghost use Rattle.pals_base.specs.Adaptors.{adapt, groups, joined};
 ghost use Rattle.pals_base.specs.Allowed.{is_allowed, divides_or_divided};
 ghost use Rattle.input_adaptors.specs.Places.{group_at, TakesPlace, MakesNumber, IsAboveSome, IsBelowSome, IsLeast, IsGreatest, IsLatest};
 
-/// Between rates of which one divides the other, and where it is allowed, an adaptor takes a whole
-/// tuple of the source to a whole tuple of the target.
+/// Between two rates, one of which divides the other, and where it is allowed, an adaptor takes a
+/// whole tuple of the source to a whole tuple of the target.
 pub fn allowed_adaptors_meet_the_rate()
     ensures { (adaptor : Option Adaptor) (p q : ℕ) (tuple : List Port) → 0 < p →
         IsTrue (divides_or_divided p q) → IsTrue (is_allowed adaptor p q) →

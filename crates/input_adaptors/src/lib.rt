@@ -17,7 +17,8 @@ use std::alloc::Global;
 
 /// What a target that makes `q` steps a round reads of the tuple of a source that makes `p` steps.
 /// Without an adaptor it is the tuple. Else, where `p < q`, each value goes over to `q / p` places,
-/// and where not, each group of `p / q` places gives one. Only want of memory is refused.
+/// and where not, each group of `p / q` places gives one. The only error is that there is not
+/// enough memory.
 pub fn adapt(
     alloc: Global,
     adaptor: Option<Adaptor>,

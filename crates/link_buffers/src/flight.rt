@@ -38,8 +38,8 @@ impl Flight {
         })
     }
 
-    /// Makes room for at least so many further copies. The copies stay as they are. Where memory is
-    /// wanting, nothing changes.
+    /// Makes room for at least `places` further copies. The copies stay as they are. If there is
+    /// not enough memory, nothing changes.
     pub fn reserve(&mut self, places: u32) -> Result<(), NoMemory>
         ensures copies { self.new.copies ≡ self.old.copies }
         ensures room { OnOk result (max places self.old.spare ≤ self.new.spare) }
@@ -83,7 +83,7 @@ impl Flight {
         Some(&standing_at(&self.ring, place).copy)
     }
 
-    /// The least round of which a copy is due at a reading, in nanoseconds, or none.
+    /// The least round with a copy that is due at a reading, in nanoseconds, or none.
     pub fn flight_due(&self, reading: Nanos) -> Option<u32>
         ensures { result ≡ least (due_rounds reading self.now.copies) }
     {

@@ -1,5 +1,5 @@
-//! Where messages wait on their way: the slot of an in port, the flight of a link, and a node's
-//! queue of the messages that become due.
+//! The buffers in which messages wait on their way: the slot of an in port, the flight of a link,
+//! and a node's queue of the messages that become due.
 #![tactic(auto)]
 
 pub mod flight;

@@ -56,8 +56,8 @@ impl DueQueue {
         })
     }
 
-    /// Makes room for at least so many further entries. The entries stay as they are. Where memory
-    /// is wanting, nothing changes.
+    /// Makes room for at least `places` further entries. The entries stay as they are. If there is
+    /// not enough memory, nothing changes.
     pub fn reserve(&mut self, places: u32) -> Result<(), NoMemory>
         ensures entries { self.new.entries ≡ self.old.entries }
         ensures room { OnOk result (max places self.old.spare ≤ self.new.spare) }

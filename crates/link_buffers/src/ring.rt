@@ -95,7 +95,7 @@ pub fn take_at(ring: &mut Ring, place: usize) -> Option<Standing>
     }
 }
 
-// Takes out the copy that stands behind so many others, which move on by one place.
+// Takes out the copy that stands behind `ahead` others, which move on by one place.
 fn take_by_front(ring: &mut Ring, ahead: usize) -> Option<Standing>
     requires { ahead < length ring.old.items }
     ensures copy { result ≡ slice_get ring.old.items ahead }
@@ -110,7 +110,7 @@ fn take_by_front(ring: &mut Ring, ahead: usize) -> Option<Standing>
     Some(held)
 }
 
-// Takes out the copy that stands ahead of so many others, which move up by one place.
+// Takes out the copy that stands ahead of `behind` others, which move up by one place.
 fn take_by_back(ring: &mut Ring, behind: usize) -> Option<Standing>
     requires { behind < length ring.old.items }
     ensures copy { let place = length ring.old.items - 1 - behind in result ≡ slice_get ring.old.items place }
@@ -138,7 +138,7 @@ fn exchange(ring: &mut Ring, place: usize, held: &mut Standing)
     }
 }
 
-/// The least round of which a copy is due at a reading, in nanoseconds, or none.
+/// The least round with a copy that is due at a reading, in nanoseconds, or none.
 pub fn least_due(ring: &Ring, reading: Nanos) -> Option<u32>
     ensures { result ≡ least (map (λ s. s.copy.round) (filter (λ s. is_due reading s.copy) ring.now.items)) }
 {

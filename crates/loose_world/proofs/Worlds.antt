@@ -60,7 +60,7 @@ done_more s events first t u old mid new d within done goes told =
       meeting = meeting_loose t e u goes.happens ∙ done.meeting;
     }
 
--- ---- where memory is wanting
+-- ---- if there is not enough memory
 -- what a refused call leaves
 pub on_err : {T E P : Type 0} (r : Result T E) → P → OnErr r P
 on_err (Ok x) here = tt

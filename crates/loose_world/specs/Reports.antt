@@ -7,7 +7,7 @@ use Rattle.pals_model.specs.Rules.{IsDesign}
 use Rattle.pals_runs.specs.declared.events.Event.{Event}
 use Rattle.bus_machine.specs.WorldTexts.{finished_by, sent_lines, world_rows, worldtext}
 
--- there are components, and the events finish this many rounds of each
+-- there are components, and the events finish `rounds` rounds of each
 pub record AllHaveFinished (design : DesignParts) (events : List Event) (rounds : ℕ) : Type 0 where
   pub some : 0 < length design.components
   pub each : (node : ℕ) → node < length design.components → finished_by design events node ≡ rounds

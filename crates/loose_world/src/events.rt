@@ -23,9 +23,9 @@ pub enum LooseEnd {
     Refused { index: u32, fault: EventFault },
 }
 
-/// Does the events in order, up to the first that gives a stop or is not allowed, and adds a line for
-/// each message that they send. Where there is not enough memory, the bus stands after a first part of
-/// them, which all happened without a stop, and the text has lines of these events alone.
+/// Does the events in order, up to the first that gives a stop or is not allowed, and adds a line
+/// for each message that they send. If there is not enough memory, the bus stands after a first
+/// part of them, which all happened without a stop, and the text has lines of these events alone.
 pub fn run_loose(
     bus: &mut Bus,
     events: &[Event],
@@ -62,7 +62,8 @@ pub fn run_loose(
     Ok(LooseEnd::All)
 }
 
-// Adds a line for each message that an event has sent. Where memory is wanting, nothing is added.
+// Adds a line for each message that an event has sent. If there is not enough memory, nothing is
+// added.
 fn tell_messages(
     links: &OutLinks,
     sent: &mut Vec<u8>,

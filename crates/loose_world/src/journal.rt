@@ -8,7 +8,7 @@ use pals_base::NoMemory;
 use pals_bus::Bus;
 use pals_report::{add_entry, whole_or_none};
 
-/// Adds a line for each entry of the journal. Where memory is wanting, nothing is added.
+/// Adds a line for each entry of the journal. If there is not enough memory, nothing is added.
 pub fn add_journal(out: &mut Vec<u8>, bus: &Bus) -> Result<(), NoMemory>
     ensures ok { OnOk result
         (out.new.items ≡ out.old.items ++ text_of (map (entry_line bus.now.run.design) bus.now.journal)) }

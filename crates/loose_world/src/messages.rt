@@ -28,7 +28,7 @@ impl Model for OutLinks {
 }
 
 impl OutLinks {
-    /// Those of a design.
+    /// The links from each node of a design.
     pub fn new(alloc: Global, design: &Design) -> Result<OutLinks, NoMemory>
         ensures { IfOk result (λ links. AreOutLinks design.now links) }
     {
@@ -39,8 +39,8 @@ impl OutLinks {
         Ok(OutLinks { nodes })
     }
 
-    /// Adds a line for each message that a node has just sent, in order of the links. Where memory is
-    /// wanting, nothing is added.
+    /// Adds a line for each message that a node has just sent, in order of the links. If there is
+    /// not enough memory, nothing is added.
     pub fn add_messages(&self, out: &mut Vec<u8>, bus: &Bus, node: NodeNo) -> Result<(), NoMemory>
         requires links { AreOutLinks bus.now.run.design self.now }
         requires node { node.0 < length bus.now.run.design.components }
@@ -67,8 +67,8 @@ impl OutLinks {
     }
 }
 
-// Adds the line of the message of a round that is in flight on a link, if there is one. Where memory
-// is wanting, nothing is added.
+// Adds the line of the message of a round that is in flight on a link, if there is one. If there is
+// not enough memory, nothing is added.
 fn add_message(out: &mut Vec<u8>, bus: &Bus, link: LinkNo, round: u32) -> Result<(), NoMemory>
     requires { link.0 < length bus.now.run.design.links }
     ensures ok { OnOk result (out.new.items ≡ out.old.items ++ text_of (message_lines bus.now round link.0)) }

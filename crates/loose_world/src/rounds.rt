@@ -32,8 +32,8 @@ impl RoundParts for FinishedParts<'_> {
     }
 }
 
-// Adds the rows of the first rounds, each with those components that have finished it. Where memory is
-// wanting, nothing is added.
+// Adds the rows of the first rounds, each with those components that have finished it. If there is
+// not enough memory, nothing is added.
 fn add_rows(alloc: Global, out: &mut Vec<u8>, bus: &Bus, rounds: u32) -> Result<(), NoMemory>
     ensures ok { OnOk result (out.new.items ≡ out.old.items ++ text_of (lines_before bus.now rounds)) }
     ensures err { OnErr result (out.new.items ≡ out.old.items) }
@@ -57,7 +57,7 @@ fn add_each_row(alloc: Global, out: &mut Vec<u8>, bus: &Bus, rounds: u32) -> Res
 }
 
 /// Adds the rows of all rounds that some node has finished, each with those components that have.
-/// Where memory is wanting, nothing is added.
+/// If there is not enough memory, nothing is added.
 pub fn add_finished(alloc: Global, out: &mut Vec<u8>, bus: &Bus) -> Result<(), NoMemory>
     ensures ok { OnOk result (out.new.items ≡ out.old.items ++ text_of (finished_lines bus.now)) }
     ensures err { OnErr result (out.new.items ≡ out.old.items) }
@@ -66,7 +66,7 @@ pub fn add_finished(alloc: Global, out: &mut Vec<u8>, bus: &Bus) -> Result<(), N
 }
 
 /// Adds the rows of all rounds that every node has finished: in a run without nodes, of all of its
-/// rounds. Where memory is wanting, nothing is added.
+/// rounds. If there is not enough memory, nothing is added.
 pub fn add_finished_by_all(alloc: Global, out: &mut Vec<u8>, bus: &Bus) -> Result<(), NoMemory>
     ensures ok { OnOk result (out.new.items ≡ out.old.items ++ text_of (common_lines bus.now)) }
     ensures err { OnErr result (out.new.items ≡ out.old.items) }

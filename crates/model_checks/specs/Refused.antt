@@ -8,7 +8,7 @@ use Rattle.model_checks.specs.declared.verdict.CheckFault.TheVariants.{Violation
 use Rattle.design_laws.specs.Designs.{IsDesignOf}
 use Rattle.model_violations.specs.Violations.{Shown, AreViolations}
 
--- all that is wrong with it, and something is; nothing is said of want of memory
+-- all that is wrong with it, and something is; nothing is said if there is not enough memory
 abbrev pub IsRefused : PackageTree ℕ → Shown → CheckFault → Type 0
 IsRefused tree s (Violations list) = AreViolations tree s list × (list ≢ [])
 IsRefused tree s Memory = ⊤

@@ -22,7 +22,7 @@ use std::alloc::{AllocError, Global};
 pub enum CheckFault {
     /// All that is wrong with it, in order of place, then of number.
     Violations(Items<Violation>),
-    /// There is no memory.
+    /// There was not enough memory.
     Memory,
 }
 

@@ -50,7 +50,7 @@ fn adaptor_in(value: &Value) -> Option<Option<Adaptor>>
     }
 }
 
-/// The adaptor of a connection: none is given, or a text, of which the adaptor may be none.
+/// The adaptor of a connection: none is given, or a text, which may name no adaptor.
 pub fn adaptor_of(
     alloc: Global,
     connection: &Connection,
@@ -83,7 +83,7 @@ impl Carriers {
     ghost use Rattle.std.specs.Prelude.{◌≡◌, ◌&&◌, ◌||◌, ℕ, nat_eq, [], OnOk};
     ghost use Rattle.model_violations.specs.Carriers.{carries};
 
-    /// No connections. It takes no memory.
+    /// An empty set. It takes no memory.
     pub fn new(alloc: Global) -> Carriers
         ensures { result ≡ [] }
     {

@@ -46,7 +46,7 @@ fn add_connections(
     Ok(())
 }
 
-// Adds those of a type.
+// Adds the names in a type.
 fn add_type(
     alloc: Global,
     of_root: bool,
@@ -61,7 +61,7 @@ fn add_type(
     add_annexes(alloc, x.annexes.as_slice(), found)
 }
 
-// Adds those of an implementation.
+// Adds the names in an implementation.
 fn add_implementation(
     alloc: Global,
     of_root: bool,

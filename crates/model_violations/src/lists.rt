@@ -65,7 +65,7 @@ pub fn add_list(
     Ok(())
 }
 
-// Adds those of variables.
+// Adds the names at variables.
 fn add_variables(
     alloc: Global,
     variables: &[VariableDeclaration],
@@ -80,7 +80,7 @@ fn add_variables(
     Ok(())
 }
 
-// Adds those of the variables in an annex.
+// Adds the names at the variables in an annex.
 fn add_annex(alloc: Global, annex: &Annex, found: &mut Items<Text>) -> Result<(), NoMemory>
     ensures { OnOk result (found.new ≡ found.old ++ spec.annex_ignored (annex_view kept_place annex.now)) }
 {
@@ -93,7 +93,7 @@ fn add_annex(alloc: Global, annex: &Annex, found: &mut Items<Text>) -> Result<()
     }
 }
 
-/// Adds those of the variables in annexes.
+/// Adds the names of properties that mean nothing at the variables in annexes.
 pub fn add_annexes(
     alloc: Global,
     annexes: &[Annex],

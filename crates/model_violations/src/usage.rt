@@ -76,7 +76,7 @@ fn add_own_type(
     }
 }
 
-/// The numbers of the types of which an implementation is in use.
+/// The numbers of the types with an implementation that is in use.
 pub fn types_used(
     names: &Names<'_>,
     alloc: Global,

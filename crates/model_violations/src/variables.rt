@@ -38,7 +38,7 @@ fn number_of(digits: &[u8]) -> Option<i64>
     Some(value as i64)
 }
 
-// The same number, or 0 where it is above the greatest.
+// The number that the digits say, or 0 where it is above the greatest.
 fn whole_of(digits: &[u8]) -> i64
     ensures { result ≡ spec.whole_of digits.now }
 {

@@ -1,4 +1,4 @@
-//! What is wrong with the names in declarations, but for what is declared twice.
+//! What is wrong with the names in declarations, except what is declared twice.
 #![tactic(auto, using(aadl_names::proofs::Finds::found_append))]
 
 ghost use Rattle.std.specs.Prelude.{◌≡◌, not, Some, OnOk, IfOk, slice_get};

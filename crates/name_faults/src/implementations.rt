@@ -1,4 +1,4 @@
-//! What is wrong with the names in implementations, but for what their behaviours do with names.
+//! What is wrong with the names in implementations, except what their behaviours do with names.
 #![tactic(auto, using(aadl_names::proofs::Finds::found_append))]
 
 ghost use Rattle.std.specs.Prelude.{◌≡◌, Some, IfOk, OnOk, slice_get};
@@ -49,7 +49,7 @@ fn check_heading(
     Ok(())
 }
 
-/// Finds what is wrong with the names in the implementation of a number, but for what its behaviour
+/// Finds what is wrong with the names in the implementation of a number, except what its behaviour
 /// does with names.
 pub fn check_outside_behaviours(
     finder: &mut Finder,

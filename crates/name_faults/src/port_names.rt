@@ -17,8 +17,8 @@ pub struct PortNames {
 /// What the ports of all types are called.
 #[derive(Drop)]
 pub struct AllPortNames {
-    /// Of each declaration, by its number.
+    /// The names of the ports of each declaration, by its number.
     pub of_declarations: Items<PortNames>,
-    /// Of no ports.
+    /// The names of no ports.
     pub none: PortNames,
 }

@@ -80,7 +80,7 @@ fn add_property(
     Ok(())
 }
 
-// The properties of a list, but for those that apply elsewhere.
+// The properties of a list, except those that apply elsewhere.
 fn property_entries(alloc: Global, list: &[Association]) -> Result<Items<Entry>, AllocError>
     ensures { IfOk result (λ entries. entries ≡ property_entries (associations_view kept_place list.now)) }
 {

@@ -62,7 +62,8 @@ pub fn first_behaviour(annexes: &[Annex]) -> Option<&AnnexTree>
     None
 }
 
-// The same in the first behaviour of a thread's implementation.
+// Finds two of one name among the ports and variables of the first behaviour of a thread's
+// implementation, and among its states.
 fn check_in_first(
     finder: &mut Finder,
     names: &Names<'_>,

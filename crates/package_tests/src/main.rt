@@ -22,7 +22,7 @@ fn told(alloc: Global, asked: &str, text: &str, tree: &PackageTree) -> Result<St
     }
 }
 
-// The same of a text.
+// What an answer tells of the package of a text, or that the text has no tree.
 fn found(alloc: Global, asked: &str, text: &str) -> Result<String, AllocError> {
     match parse(alloc, text.as_bytes()) {
         Ok(tree) => told(alloc, asked, text, &tree),

@@ -10,7 +10,7 @@ use Rattle.pals_base.specs.Tree.{Action, Assign, Emit, If, For, Actions, Nothing
 use Rattle.pals_base.specs.Expressions.{on_value, eval, is_true}
 use Rattle.pals_base.specs.Actions.{Effect, act, acts, act_first, for_each, numbers, with_vars, without_loop}
 
--- so many variables and so many outputs
+-- an effect has v variables and o outputs
 abbrev pub HasLengths : ℕ → ℕ → Effect → Type 0
 HasLengths v o e = (length e.vars ≡ v) × (length e.outs ≡ o)
 

@@ -12,7 +12,7 @@ pub record Effect : Type 0 where
   pub vars : List ℤ
   pub outs : List Port
 
--- so many numbers from one on
+-- n numbers, from `low` on
 abbrev pub counted_from : ℤ → ℕ → List ℤ
 counted_from low zero = []
 counted_from low (suc n) = low ∷ counted_from (low +ℤ pos 1) n

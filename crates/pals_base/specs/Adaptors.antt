@@ -7,7 +7,7 @@ use Rattle.pals_base.specs.declared.values.Adaptor.{Adaptor}
 use Rattle.pals_base.specs.declared.values.Adaptor.TheVariants.{Repeat, First, Last, At, Latest, Max, Min, Average}
 
 -- ---- groups
--- a list cut into so many groups of m
+-- a list cut into `count` groups of m
 abbrev pub groups : ℕ → ℕ → List Port → List (List Port)
 groups zero m list = []
 groups (suc count) m list = take m list ∷ groups count m (drop m list)

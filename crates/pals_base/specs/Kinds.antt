@@ -40,7 +40,7 @@ abbrev pub declared_or : Option VarDecl → Bool → Kinds
 declared_or (Some v) is_loop = only v.kind
 declared_or None is_loop = may_be is_loop false
 
--- a variable in sight within so many loops
+-- the types of a variable in sight within `loops` loops
 abbrev pub variable_kinds : BehaviourParts → ℕ → ℕ → Kinds
 variable_kinds b loops x = declared_or (slice_get b.vars x) (nat_lt x (length b.vars + loops))
 
@@ -72,7 +72,7 @@ joined AndThen a b = may_be false (truths_at a b)
 joined OrElse a b = may_be false (truths_at a b)
 
 abbrev mutual
-  -- the types that an expression may have within so many loops; none where it is not well typed
+  -- the types that an expression may have within `loops` loops; none where it is not well typed
   pub kinds_of : Expression → BehaviourParts → ℕ → Kinds
   kinds_of (Literal n) b loops = literal_kinds n
   kinds_of (Variable x) b loops = variable_kinds b loops x
@@ -106,7 +106,7 @@ abbrev pub is_short : ℕ → ℕ → Bool
 is_short count around = nat_le count TURNS && nat_le (around * count) NESTED_TURNS
 
 abbrev mutual
-  -- whether an action is well typed and its loops are short, within so many loops that make so many turns
+  -- whether an action is well typed and its loops are short, within `loops` loops that make `around` turns
   pub is_sound : Action → BehaviourParts → ℕ → ℕ → Bool
   is_sound (Assign x e) b loops around = suits_variable (slice_get b.vars x) (kinds_of e b loops)
   is_sound (Emit p e) b loops around = suits_port (slice_get b.outs p) (kinds_of e b loops)

@@ -23,7 +23,7 @@ abbrev mutual
   operands_of end_of-Operand = NoMore
   operands_of (more_of-Operand op e rest) = Then op (tree_of e) (operands_of rest)
 
--- the same over the list of the operands
+-- the operands of a tree, from a list
 abbrev pub operands_along : List Operand → Operands
 operands_along [] = NoMore
 operands_along (o ∷ os) = Then o.op (tree_of o.right) (operands_along os)
@@ -43,7 +43,7 @@ abbrev mutual
   branches_of end_of-Branch = NoBranch
   branches_of (more_of-Branch guard shape acts rest) = Where (tree_of guard) (actions_of acts) (branches_of rest)
 
--- the same over lists
+-- actions and branches, from lists
 abbrev pub actions_along : List Act → Actions
 actions_along [] = Nothing
 actions_along (a ∷ as') = Do (action_of a) (actions_along as')

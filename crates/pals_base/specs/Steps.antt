@@ -6,7 +6,7 @@ use Rattle.pals_base.specs.declared.values.Port.TheVariants.{Absent}
 use Rattle.pals_base.specs.declared.behaviour.BehaviourParts.{BehaviourParts}
 use Rattle.pals_base.specs.Fire.{fire}
 
--- so many numbers from one on
+-- n numbers, from `from` on
 abbrev pub upwards : ℕ → ℕ → List ℕ
 upwards from zero = []
 upwards from (suc n) = from ∷ upwards (suc from) n

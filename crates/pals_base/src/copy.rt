@@ -12,7 +12,7 @@ use crate::items::Items;
 use crate::values::NoMemory;
 use std::alloc::Global;
 
-/// A type whose values can be copied where there is memory.
+/// A type whose values can be copied if there is enough memory.
 pub trait TryClone {
     /// Another value with the same contents, in memory of its own.
     fn try_clone(&self, alloc: Global) -> Result<Self, NoMemory>

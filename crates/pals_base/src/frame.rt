@@ -46,7 +46,7 @@ fn first_values(alloc: Global, vars: &[VarDecl]) -> Result<Items<i64>, NoMemory>
     Ok(values)
 }
 
-// So many zeros.
+// A list of `count` zeros.
 fn zeros(alloc: Global, count: usize) -> Result<Items<i64>, NoMemory>
     ensures { IfOk result (λ values. values ≡ replicate count (pos 0)) }
 {

@@ -75,7 +75,7 @@ impl Kinds {
 }
 
 impl BehaviourParts {
-    // Those of a variable in sight within so many loops.
+    // The types of a variable in sight within `loops` loops.
     fn variable_kinds(&self, loops: usize, variable: u32) -> Kinds
         ensures { result ≡ variable_kinds self.now loops variable }
     {
@@ -90,7 +90,7 @@ impl BehaviourParts {
 }
 
 impl Expr {
-    /// The types that the expression may have in a behaviour of these parts, within so many loops.
+    /// The types that the expression may have in a behaviour of these parts, within `loops` loops.
     /// It recurs as deep as the tree is.
     #[cycle(kinds_of_expr)]
     pub fn kinds(&self, parts: &BehaviourParts, loops: usize) -> Kinds

@@ -1,5 +1,5 @@
-//! What every other crate speaks of: values of ports, arithmetic with traps, behaviours, and what
-//! they mean. The definitions that contracts cite stand in `specs/`.
+//! What all other crates share: values of ports, arithmetic with traps, behaviours, and what they
+//! mean. The definitions that contracts cite stand in `specs/`.
 #![tactic(auto)]
 
 pub mod adaptors;

@@ -2,7 +2,7 @@
 use crate::items::Items;
 use std::alloc::AllocError;
 
-/// Want of memory, the one refusal that no contract ties to a cause.
+/// There is not enough memory: the one refusal that no contract ties to a cause.
 pub type NoMemory = AllocError;
 
 /// Time and readings of clocks, in nanoseconds.

@@ -170,7 +170,7 @@ sent_queues : (f t s g : Fields) (node : NodeNo) (reading : Option ℕ) (round :
 sent_queues f t s g node reading round messages is =
     subst (λ (k : Fields). AreQueues (arc_value k.design).links k.nodes s.flights s.queues) is.others is.queues
 
--- the same, with the flights and queues as they are in the end
+-- what a send leaves, with the flights and queues as they are in the end
 sent_last : (f t s g : Fields) (node : NodeNo) (reading : Option ℕ) (round : ℕ) (messages : List (List Port)) → IsSent f t s g node reading round messages
     → g ≡ record f { nodes = slice_set f.nodes node.0 (node_in t node.0); flights = g.flights; queues = g.queues; journal = g.journal }
 sent_last f t s g node reading round messages is =

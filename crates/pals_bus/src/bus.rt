@@ -47,7 +47,7 @@ impl Model for Bus {
 }
 
 impl Bus {
-    /// A run before its first event: of a design with the codes of its components, for so many
+    /// A run before its first event: of a design with the codes of its components, for `rounds`
     /// rounds, with these values of the root in ports and these delays of the links.
     pub fn new(
         alloc: Global,
@@ -209,7 +209,7 @@ impl Bus {
         self.fields.flights[link.0 as usize].flight_oldest(round)
     }
 
-    /// The same run before its first event, not closed.
+    /// The run of this bus before its first event, not closed.
     pub fn fresh(&self, alloc: Global) -> Result<Bus, NoMemory>
         ensures { IfOk result (λ bus. bus ≡ opening_bus self.now.run self.now.codes self.now.meeting) }
     {

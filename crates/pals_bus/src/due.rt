@@ -8,7 +8,7 @@ use pals_base::{Nanos, NodeNo};
 
 impl Bus {
     /// All messages to a node that are due at a reading of its clock arrive, in link order and then
-    /// in order of rounds, up to the first that comes too early, which stops the run. Where there is
+    /// in order of rounds, up to the first that comes too early, which stops the run. If there is
     /// not enough memory, none has arrived.
     pub fn take_due(&mut self, node: NodeNo, reading: Nanos) -> Result<(), DueEnd>
         requires { node.0 < length self.old.run.design.components }

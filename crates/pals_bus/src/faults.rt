@@ -6,7 +6,7 @@ use crate::answers::LooseFault;
 use crate::{BusFinishEnd, BusSendEnd, BusStartEnd, BusStepEnd, LinkEnd};
 use pals_base::{LinkNo, NodeNo};
 
-/// Of a start.
+/// The fault of a start from which no job comes.
 pub fn start_fault(end: BusStartEnd, node: NodeNo) -> LooseFault
     ensures { result ≡ start_fault end node }
 {
@@ -19,7 +19,7 @@ pub fn start_fault(end: BusStartEnd, node: NodeNo) -> LooseFault
     }
 }
 
-/// Of a step.
+/// The fault of a step from which no job comes.
 pub fn step_fault(end: BusStepEnd, node: NodeNo) -> LooseFault
     ensures { result ≡ step_fault end node }
 {
@@ -30,7 +30,7 @@ pub fn step_fault(end: BusStepEnd, node: NodeNo) -> LooseFault
     }
 }
 
-/// Of a finish.
+/// The fault of a finish by which nothing is finished.
 pub fn finish_fault(end: BusFinishEnd, node: NodeNo) -> LooseFault
     ensures { result ≡ finish_fault end node }
 {
@@ -40,7 +40,7 @@ pub fn finish_fault(end: BusFinishEnd, node: NodeNo) -> LooseFault
     }
 }
 
-/// Of a send.
+/// The fault of a send by which nothing is sent.
 pub fn send_fault(end: BusSendEnd, node: NodeNo) -> LooseFault
     ensures { result ≡ send_fault end node }
 {
@@ -50,7 +50,7 @@ pub fn send_fault(end: BusSendEnd, node: NodeNo) -> LooseFault
     }
 }
 
-/// Of an event of a message.
+/// The fault of an event of a message that does not happen.
 pub fn link_fault(end: LinkEnd, link: LinkNo, round: u32) -> LooseFault
     ensures { result ≡ link_fault end link round }
 {

@@ -52,8 +52,8 @@ impl Fields {
         self.journal.reserve(most)
     }
 
-    /// Makes room in the journal for so many arrivals and a stop, and for the entries that the nodes
-    /// owe.
+    /// Makes room in the journal for `count` arrivals and a stop, and for the entries that the
+    /// nodes owe.
     #[tactic(auto, using(crate::proofs::NodeChanges::all_owed))]
     pub fn reserve_arrivals(&mut self, count: usize) -> Result<(), NoMemory>
         requires keeps { Keeps self.old }

@@ -12,7 +12,7 @@ pub record ClockState : Type 0 where
 abbrev pub AreReadings : List ℕ → Type 0
 AreReadings readings = All (λ reading. reading ≤ READING) readings
 
--- a clock without a pick, of which all readings are left
+-- a clock without a pick, whose readings are all left
 abbrev pub unpicked : List ℕ → ClockState
 unpicked list = record { readings = list; left = list }
 

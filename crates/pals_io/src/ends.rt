@@ -17,7 +17,7 @@ pub enum ReadEnd {
     ReadFault,
     /// There are more bytes than the caller allows.
     TooLong,
-    /// There is no memory left.
+    /// There was not enough memory.
     Memory,
 }
 

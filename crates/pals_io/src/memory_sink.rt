@@ -36,7 +36,8 @@ impl MemSink {
     ///
     /// # Errors
     ///
-    /// [`AllocError`] where the room cannot be had. It is taken here, and writing takes no memory.
+    /// [`AllocError`] if there is not enough memory for the room. It is taken here, and writing
+    /// takes no memory.
     pub fn new(
         alloc: Global,
         room: usize,

@@ -1,4 +1,4 @@
-//! What gives bytes and what takes them.
+//! Sources, which give bytes, and sinks, which take them.
 ghost use Rattle.std.specs.Prelude.{◌≡◌, ◌<◌, ◌≤◌, length, take, IfOk, OnErr};
 ghost use Rattle.pals_io.specs.Stream.{SourceView, SinkView, Gives, after_read_fault, after_taking, after_write_fault};
 

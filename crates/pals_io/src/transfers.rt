@@ -14,8 +14,8 @@ const PIECE: usize = 65_536;
 /// # Errors
 ///
 /// [`ReadEnd::ReadFault`] where a call failed, the last one, and [`ReadEnd::TooLong`] where the
-/// source gave `most + 1` bytes. [`ReadEnd::Memory`] where no memory is left: no call failed then,
-/// and the source gave no more than `most` bytes. What was read until then is lost.
+/// source gave `most + 1` bytes. [`ReadEnd::Memory`] if there is not enough memory: no call failed
+/// then, and the source gave no more than `most` bytes. What was read until then is lost.
 pub fn read_all<S: Source>(alloc: Global, source: &mut S, most: usize) -> Result<Vec<u8>, ReadEnd>
     ensures all { IfOk result (λ v. GivesAll (S.shown source.old) (S.shown source.new) v.items) }
     ensures within { IfOk result (λ v. vec_len v ≤ most) }
@@ -40,7 +40,7 @@ pub fn read_all<S: Source>(alloc: Global, source: &mut S, most: usize) -> Result
     }
 }
 
-// That many bytes, to be written over.
+// `count` bytes, to be written over.
 fn zeros(alloc: Global, count: usize) -> Result<Vec<u8>, AllocError>
     ensures { IfOk result (λ v. vec_len v ≡ count) }
 {

@@ -95,7 +95,7 @@ same_default [] i d e within = absurd (omega arith)
 same_default (x ∷ xs) zero d e within = refl
 same_default (x ∷ xs) (suc i) d e within = same_default xs i d e (omega arith)
 
--- the same, as a loop comes to it
+-- a step of the links, as a loop comes to it
 pub links_turn : (design : DesignParts) (links : List Link) (table after : List (List PortSource)) (at : ℕ) (d : Link) → links ≡ design.links → 0 < at → at ≤ length links
     → table ≡ table_of design.components (linked_from design at)
     → after ≡ with_source table (slice_index_or links (at - 1) d).target.0 (slice_index_or links (at - 1) d).in_port (source.Link (at - 1))
@@ -145,7 +145,7 @@ feeds_step design at root feed within is place =
     (λ n p. one_feed design (feed_goes_to n p feed) at (position_from (feed_goes_to n p) (at + 1) (drop (at + 1) design.feeds))
     ∙ ap (λ fs. from_feed design (position_from (feed_goes_to n p) at fs)) (sym split)) 0 design.components
 
--- the same, as a loop comes to it
+-- a step of the feeds, as a loop comes to it
 pub feeds_turn : (design : DesignParts) (feeds : List Feed) (table after : List (List PortSource)) (at root : ℕ) (feed : Feed) → feeds ≡ design.feeds → 0 < at → at ≤ length feeds
     → feed ≡ slice_index_or feeds (at - 1) feed → root ≡ place_of feed.name (root_inputs design)
     → table ≡ table_of design.components (fed_from design at)

@@ -57,7 +57,7 @@ after_steps design all = record { frames = map (λ (s : Stepped). s.frame) all; 
 abbrev pub next : DesignParts → List Port → Configuration → Configuration
 next design values before = after_steps design (all_steps design values before)
 
--- the configuration after so many rounds
+-- the configuration after a number of rounds
 unfoldable pub comp : DesignParts → Env → ℕ → Configuration
 comp design env zero = opening design
 comp design env (suc round) = next design (values_at env round) (comp design env round)
@@ -70,7 +70,7 @@ steps_of_round design env round = all_steps design (values_at env round) (comp d
 abbrev pub no_frame : Frame
 no_frame = record { state = 0; vars = []; held = []; halt = None }
 
--- a component's frame after so many rounds
+-- a component's frame after `rounds` rounds
 unfoldable pub state : DesignParts → Env → ℕ → ℕ → Frame
 state design env node rounds = slice_index_or (comp design env rounds).frames node no_frame
 

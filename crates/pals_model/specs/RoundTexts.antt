@@ -26,7 +26,7 @@ use Rattle.pals_model.specs.Composition.{part}
 abbrev pub line_end : List ℕ
 line_end = 10 ∷ []
 
--- the text of lines, of which none has a line end inside
+-- the text of lines, none of which has a line end inside
 abbrev pub text_of : List (List ℕ) → List ℕ
 text_of lines = flat_map (λ line. line ++ line_end) lines
 

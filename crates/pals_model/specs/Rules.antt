@@ -46,7 +46,7 @@ pub record IsTarget (design : DesignParts) (node port : ℕ) : Type 0 where
   pub node_is : node < length design.components
   pub port_is : port < ins_in (slice_get design.components node)
 
--- the place of an in port among all, by its component and then by its number, of which a thread has at most 64
+-- the place of an in port among all, by its component and then by its number; a thread has at most 64 of them
 abbrev pub port_place : ℕ → ℕ → ℕ
 port_place node port = PORTS * node + port
 

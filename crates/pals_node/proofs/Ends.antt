@@ -72,7 +72,7 @@ makes f step frame outs keeps runs left =
     }
 
 -- ---- what stays
--- all that a node keeps but for its phase
+-- all that a node keeps, except its phase
 pub record KeepsRest (f : Fields) : Type 0 where
   pub program : IsProgram (arc_value f.plan)
   pub rounds : f.rounds ≤ ROUNDS

@@ -48,7 +48,7 @@ pub record IsJob (code : CodeParts) (frame : Frame) (inputs : List Port) (result
   pub room_is : IsRoomOf code room
 
 -- ---- nodes
--- so many tuples, of so many places each
+-- `count` tuples, of `places` places each
 pub record AreTuples (count places : ℕ) (tuples : List (List Port)) : Type 0 where
   pub count_is : length tuples ≡ count
   pub places_are : All (λ tuple. length tuple ≡ places) tuples

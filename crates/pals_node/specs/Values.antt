@@ -31,7 +31,7 @@ job_value program round step frame inputs =
 abbrev pub IsResult : JobValue → Fired → Type 0
 IsResult job result = exec job.code job.work.frame job.work.inputs ≡ Leaves result
 
--- a node, of a run of so many rounds
+-- a node, of a run of `rounds` rounds
 pub record NodeValue : Type 0 where
   pub program : Program
   pub rounds : ℕ

@@ -7,7 +7,7 @@ use pals_base::tuples::{absent, place};
 use pals_base::{Items, NoMemory, Port, Tuple};
 use std::alloc::Global;
 
-/// So many absent tuples, of so many places each.
+/// `count` absent tuples, of `places` places each.
 pub fn absent_tuples(alloc: Global, count: usize, places: u32) -> Result<Items<Tuple>, NoMemory>
     ensures { IfOk result (λ tuples. tuples ≡ replicate count (replicate places Absent)) }
 {

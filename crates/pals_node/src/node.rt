@@ -49,7 +49,7 @@ impl Model for Node {
 }
 
 impl Node {
-    /// A node before its first round, of a run of so many rounds.
+    /// A node before its first round, of a run of `rounds` rounds.
     pub fn new(alloc: Global, plan: Arc<NodePlan>, rounds: u32) -> Result<Node, NoMemory>
         requires some { 1 ≤ rounds }
         requires most { rounds ≤ ROUNDS }
@@ -325,7 +325,7 @@ fn finished_steps(rate: u32, phase: Phase) -> Option<u32>
     }
 }
 
-// Whether so many finished steps of a round may be sent.
+// Whether a round may be sent, by the number of its finished steps, if it has one.
 fn may_send(plan: &Plan, sent: bool, finished: Option<u32>) -> bool
     ensures { result ≡ (not sent && option_map_or (nat_le plan.now.sent_steps) finished false) }
 {

@@ -1,4 +1,4 @@
-//! What a node is told: the plan of its component, and the code of its steps.
+//! What a node is given: the plan of its component, and the code of its steps.
 ghost use Rattle.std.specs.Prelude.{◌≡◌, ◌<◌, IfOk, length, map};
 ghost use Rattle.step_code.specs.Means.{Means};
 ghost use Rattle.bus_machine.specs.Plans.{component_at, input_of, plan_of};

@@ -34,7 +34,7 @@ pub fn next_send(plan: &Plan, round: u32) -> Next
     }
 }
 
-/// What comes next within a round of which so many steps are finished: the send, or the next step.
+/// What comes next within a round after `steps` finished steps: the send, or the next step.
 pub fn next_in_round(plan: &Plan, round: u32, steps: u32, sent: bool) -> Next
     requires plan { IsPlan plan.now }
     requires round { round < ROUNDS }

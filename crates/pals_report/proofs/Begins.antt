@@ -15,7 +15,7 @@ pub begins_more : (text middle start more : List ℕ) → BeginsWith middle star
 begins_more text middle start more h e =
     begins_before text start (drop (length start) middle) middle h (e ∙ ap (λ t. middle ++ t) (sym (front_rest text middle more e)))
 
--- the same of a refused call
+-- a text that begins with more than a start begins with the start too, where a call is refused
 pub begins_on_err : {T E : Type 0} (r : Result T E) (text start more middle : List ℕ) → middle ≡ start ++ more → BeginsWith text middle → OnErr r (BeginsWith text start)
 begins_on_err (Ok x) text start more middle e h = tt
 begins_on_err (Err x) text start more middle e h = begins_before text start more middle e h

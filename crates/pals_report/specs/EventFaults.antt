@@ -12,7 +12,7 @@ abbrev pub which_words : DesignParts → Which → List (List ℕ)
 which_words design (Node node) = node_word design node.0 ∷ []
 which_words design (Message link round) = link_word design link.0 ∷ decimal round ∷ []
 
--- want of memory is no fault of an event
+-- that there is not enough memory is no fault of an event
 abbrev pub event_fault_words : DesignParts → EventFault → List (List ℕ)
 event_fault_words design BadName = codes "BadName" ∷ []
 event_fault_words design LossOrRepeat = codes "LossOrRepeat" ∷ []

@@ -9,7 +9,7 @@ use Rattle.pals_report.specs.Positions.{position_text}
 abbrev pub and_word : List ℕ → List ℕ
 and_word word = codes " " ++ word
 
--- what is wrong, with the name or what there is too much of, and with the place, each where it has one
+-- what is wrong, with the name or what is above its limit, and with the place, each where it has one
 abbrev pub flat_words : List ℕ → FlatFault → List ℕ
 flat_words text NoRoot = codes "NoRoot"
 flat_words text (Unknown name at) = codes "Unknown" ++ and_word name ++ and_word (position_text text at)

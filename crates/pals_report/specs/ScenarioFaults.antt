@@ -4,7 +4,7 @@ use Rattle.pals_runs.specs.Journal.{spaced}
 use Rattle.scenario_values.specs.declared.fault.ScenarioFault.{ScenarioFault}
 use Rattle.scenario_values.specs.declared.fault.ScenarioFault.TheVariants.{NotJson, Field, WrongKind, Unknown, OutOfRange, TooBig, Memory}
 
--- want of memory is no fault of a scenario
+-- that there is not enough memory is no fault of a scenario
 abbrev pub scenario_fault_words : ScenarioFault → List (List ℕ)
 scenario_fault_words NotJson = codes "scenario" ∷ codes "NotJson" ∷ []
 scenario_fault_words (Field name) = codes "scenario" ∷ codes "Field" ∷ name ∷ []

@@ -6,7 +6,7 @@ use Rattle.aadl_parse.specs.declared.fault.TextFault.{TextFault}
 use Rattle.aadl_parse.specs.declared.fault.TextFault.TheVariants.{Lex, Memory, Syntax, TooDeep}
 use Rattle.pals_report.specs.Positions.{position_text}
 
--- ---- the name of a fault and its place; want of memory, which is no fault of a text, stands at 0
+-- ---- the name of a fault and its place; that there is not enough memory is no fault of a text, and stands at 0
 abbrev pub lexical_name : LexFault → List ℕ
 lexical_name (lexical.NotUtf8 at) = codes "NotUtf8"
 lexical_name (lexical.BadByte at) = codes "BadByte"

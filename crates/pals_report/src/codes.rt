@@ -7,8 +7,8 @@ use crate::words::{Word, add_line, node_word};
 use pals_base::{NoMemory, NodeNo};
 use pals_model::Design;
 
-/// Adds the line of a component whose code would have so many instructions. Where memory is wanting,
-/// nothing is added.
+/// Adds the line of a component whose code would have `length` instructions. If there is not enough
+/// memory, nothing is added.
 pub fn add_code_fault(
     out: &mut Vec<u8>,
     design: &Design,

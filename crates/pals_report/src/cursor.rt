@@ -20,7 +20,7 @@ pub struct Cursor<'t> {
 }
 
 impl<'t> Cursor<'t> {
-    /// At the text's first byte.
+    /// A cursor at the text's first byte.
     pub fn new(text: &'t [u8]) -> Cursor<'t>
         ensures text { result.text.now ≡ text.now }
         ensures at { result.at ≡ 0 }

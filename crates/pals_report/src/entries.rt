@@ -102,7 +102,7 @@ fn add_loss<'a>(
     )
 }
 
-/// Adds the line of an entry of a journal. Where memory is wanting, nothing is added.
+/// Adds the line of an entry of a journal. If there is not enough memory, nothing is added.
 pub fn add_entry(out: &mut Vec<u8>, design: &Design, entry: &JournalEntry) -> Result<(), NoMemory>
     ensures ok { OnOk result
         (out.new.items ≡ out.old.items ++ entry_line design.now entry.now ++ line_end) }

@@ -103,8 +103,8 @@ fn add_time<'a>(
     }
 }
 
-/// Adds the line of a refused event, with its index among the events: `event`, the index, the fault,
-/// and what the fault is about. Where memory is wanting, nothing is added.
+/// Adds the line of a refused event, with its index among the events: `event`, the index, the
+/// fault, and what the fault is about. If there is not enough memory, nothing is added.
 pub fn add_event_fault(
     out: &mut Vec<u8>,
     design: &Design,

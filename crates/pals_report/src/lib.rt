@@ -1,5 +1,5 @@
-//! What the program writes, behind what a buffer holds: the rounds of a run, an accepted design, what is wrong with a text,
-//! and the lines of runs and scenarios.
+//! The texts that the program writes, added at the end of a buffer: the rounds of a run, an
+//! accepted design, what is wrong with a text, and the lines of runs and scenarios.
 #![tactic(auto)]
 
 mod codes;

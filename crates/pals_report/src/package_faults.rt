@@ -10,8 +10,8 @@ use aadl_names::FlatFault;
 use itoa::Buffer;
 use pals_base::{NoMemory, Text};
 
-/// Adds the line of a package's fault: its number, its name, and the name and place in the text that
-/// belong to it. Where memory is wanting, nothing is added.
+/// Adds the line of a package's fault: its number, its name, and the name and place in the text
+/// that belong to it. If there is not enough memory, nothing is added.
 pub fn add_flat_fault(out: &mut Vec<u8>, text: &[u8], fault: &FlatFault) -> Result<(), NoMemory>
     ensures ok { OnOk result
         (out.new.items ≡ out.old.items ++ flat_fault_line text.now fault.now ++ line_end) }
@@ -54,7 +54,7 @@ fn add_words(out: &mut Vec<u8>, text: &[u8], fault: &FlatFault) -> Result<(), No
     }
 }
 
-// What is wrong, the name of which it is said, and its place.
+// What is wrong, the name that it is said of, and its place.
 fn add_named(
     out: &mut Vec<u8>,
     word: &[u8],

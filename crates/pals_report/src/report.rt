@@ -1,4 +1,4 @@
-//! Rounds of a run, written as text behind what a buffer holds. Each call writes all of its text or
+//! Rounds of a run, written as text at the end of a buffer. Each call writes all of its text or
 //! none of it.
 ghost use Rattle.std.specs.Prelude.{◌≡◌, ◌<◌, ◌++◌, Some, length, slice_get, OnOk, OnErr};
 ghost use Rattle.pals_model.specs.declared.design.Tap.{Tap};
@@ -16,7 +16,7 @@ use crate::whole_or_none;
 use pals_base::NoMemory;
 use pals_model::{Component, Design, Part};
 
-/// Adds the line of a round. Where memory is wanting, nothing is added.
+/// Adds the line of a round. If there is not enough memory, nothing is added.
 pub fn add_round(out: &mut Vec<u8>, round: u32) -> Result<(), NoMemory>
     ensures ok { OnOk result (out.new.items ≡ out.old.items ++ round_line round ++ line_end) }
     ensures err { OnErr result (out.new.items ≡ out.old.items) }
@@ -26,8 +26,8 @@ pub fn add_round(out: &mut Vec<u8>, round: u32) -> Result<(), NoMemory>
     whole_or_none(out, start, written)
 }
 
-/// Adds the line of a component after a round, from what it left. It is shown by its path. Where
-/// memory is wanting, nothing is added.
+/// Adds the line of a component after a round, from what it left. It is shown by its path. If there
+/// is not enough memory, nothing is added.
 pub fn add_part(out: &mut Vec<u8>, component: &Component, part: &Part) -> Result<(), NoMemory>
     ensures ok { OnOk result
         (out.new.items ≡ out.old.items ++ text_of (part_lines component.now (Some part.now))) }
@@ -39,7 +39,8 @@ pub fn add_part(out: &mut Vec<u8>, component: &Component, part: &Part) -> Result
 }
 
 /// Adds the line of a root out port after a round, by its number among the taps and from what its
-/// source left. It takes time in line with the taps. Where memory is wanting, nothing is added.
+/// source left. It takes time in line with the taps. If there is not enough memory, nothing is
+/// added.
 pub fn add_tap(out: &mut Vec<u8>, design: &Design, tap: u32, part: &Part) -> Result<(), NoMemory>
     requires { tap < length design.now.taps }
     ensures ok { (shown : Tap) → slice_get design.now.taps tap ≡ Some shown
@@ -55,8 +56,8 @@ pub fn add_tap(out: &mut Vec<u8>, design: &Design, tap: u32, part: &Part) -> Res
     whole_or_none(out, start, written)
 }
 
-/// Adds the row of a round, from the parts of those components that are shown. Where memory is
-/// wanting, nothing is added.
+/// Adds the row of a round, from the parts of those components that are shown. If there is not
+/// enough memory, nothing is added.
 pub fn add_row<P: RoundParts>(
     out: &mut Vec<u8>,
     design: &Design,

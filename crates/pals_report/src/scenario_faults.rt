@@ -21,8 +21,8 @@ fn add_named<'a>(out: &mut Vec<u8>, fault: &'a [u8], place: &'a Text) -> Result<
     )
 }
 
-/// Adds the line of a scenario's fault: `scenario`, the fault, and where it stands. Where memory is
-/// wanting, nothing is added.
+/// Adds the line of a scenario's fault: `scenario`, the fault, and where it stands. If there is not
+/// enough memory, nothing is added.
 pub fn add_scenario_fault(out: &mut Vec<u8>, fault: &ScenarioFault) -> Result<(), NoMemory>
     ensures ok { OnOk result
         (out.new.items ≡ out.old.items ++ scenario_fault_line fault.now ++ line_end) }

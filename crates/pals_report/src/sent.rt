@@ -7,8 +7,8 @@ use crate::words::{Word, add_line, link_word};
 use pals_base::{LinkNo, NoMemory, Port};
 use pals_model::Design;
 
-/// Adds the line of a message that was sent on a link in a round, in the link's own type. Where memory
-/// is wanting, nothing is added.
+/// Adds the line of a message that was sent on a link in a round, in the link's own type. If there
+/// is not enough memory, nothing is added.
 pub fn add_sent<'a>(
     out: &mut Vec<u8>,
     design: &'a Design,

@@ -9,8 +9,8 @@ use aadl_lex::LexFault;
 use aadl_parse::TextFault;
 use pals_base::NoMemory;
 
-/// Adds the line of a fault of a design text: its place as `LINE:COLUMN`, and its name. Where memory
-/// is wanting, nothing is added.
+/// Adds the line of a fault of a design text: its place as `LINE:COLUMN`, and its name. If there is
+/// not enough memory, nothing is added.
 pub fn add_text_fault(out: &mut Vec<u8>, text: &[u8], fault: &TextFault) -> Result<(), NoMemory>
     ensures ok { OnOk result
         (out.new.items ≡ out.old.items ++ text_fault_line text.now fault.now ++ line_end) }
@@ -21,8 +21,8 @@ pub fn add_text_fault(out: &mut Vec<u8>, text: &[u8], fault: &TextFault) -> Resu
     whole_or_none(out, start, written)
 }
 
-/// Adds the line of a bundle that no line divides, at the bundle's end. Where memory is wanting,
-/// nothing is added.
+/// Adds the line of a bundle that no line divides, at the bundle's end. If there is not enough
+/// memory, nothing is added.
 pub fn add_no_divider(out: &mut Vec<u8>, bundle: &[u8]) -> Result<(), NoMemory>
     ensures ok { OnOk result
         (out.new.items ≡ out.old.items ++ no_divider_line bundle.now ++ line_end) }

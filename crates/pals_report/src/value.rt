@@ -55,8 +55,8 @@ fn add_places(out: &mut Vec<u8>, kind: Kind, tuple: &[Port]) -> Result<(), NoMem
     Ok(())
 }
 
-/// Adds a tuple of values of one type, in parentheses. Where memory is wanting, a part of it may be
-/// there.
+/// Adds a tuple of values of one type, in parentheses. If there is not enough memory, a part of it
+/// may be there.
 pub fn add_tuple(out: &mut Vec<u8>, kind: Kind, tuple: &[Port]) -> Result<(), NoMemory>
     ensures ok { OnOk result (out.new.items ≡ out.old.items ++ tuple_text kind tuple.now) }
     ensures err { OnErr result (BeginsWith out.new.items out.old.items) }

@@ -10,9 +10,9 @@ use annex_resolve::Violation;
 use itoa::Buffer;
 use pals_base::NoMemory;
 
-/// Adds a line for each finding: its place, its rule's number and name, and the details. Findings in
-/// the order of their places take one pass through the text. Where memory is wanting, nothing is
-/// added.
+/// Adds a line for each finding: its place, its rule's number and name, and the details. Findings
+/// in the order of their places take one pass through the text. If there is not enough memory,
+/// nothing is added.
 pub fn add_violations(out: &mut Vec<u8>, text: &[u8], found: &[Violation]) -> Result<(), NoMemory>
     ensures ok { OnOk result
         (out.new.items ≡ out.old.items ++ text_of (violation_lines text.now found.now)) }

@@ -65,7 +65,7 @@ fn add_whole_line(out: &mut Vec<u8>, words: &[Word<'_>]) -> Result<(), NoMemory>
     out.extend_from_slice(b"\n")
 }
 
-/// Adds a line of words. Where memory is wanting, nothing is added.
+/// Adds a line of words. If there is not enough memory, nothing is added.
 pub(crate) fn add_line(out: &mut Vec<u8>, words: &[Word<'_>]) -> Result<(), NoMemory>
     ensures ok { OnOk result
         (out.new.items ≡ out.old.items ++ spaced (map word_text words.now) ++ line_end) }

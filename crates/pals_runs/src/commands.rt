@@ -16,7 +16,7 @@ pub enum Command {
     Run { root: Text, trace: bool },
     /// The verdict on the trace of a run.
     Audit { root: Text },
-    /// A run of a ring of this many nodes, for this many rounds: the program's `self`.
+    /// A run of a ring of `nodes` nodes, for `rounds` rounds: the program's `self`.
     Ring { nodes: u32, rounds: u32 },
     /// The verdicts of monitors, round by round.
     Watch { root: Text },

@@ -2,9 +2,9 @@
 //! that ended the run, if one did.
 use pals_base::{LinkNo, Nanos, NodeNo};
 
-/// What a node is doing: it waits for its next round; the job of this step is out; this many steps
-/// of the round are finished and the next is to start; all steps are finished and the round is not
-/// sent; or all rounds are done.
+/// What a node is doing: it waits for its next round; the job of this step is out; a number of
+/// steps of the round are finished and the next is to start; all steps are finished and the round
+/// is not sent; or all rounds are done.
 #[derive(Clone, Copy, PartialEq, Eq, Debug)]
 pub enum Phase {
     Waiting,

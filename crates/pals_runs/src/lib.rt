@@ -1,5 +1,5 @@
-//! What scenarios, runs and audits speak of: the commands of the program, events of worlds and why
-//! one is refused, the journal of a run with its stops, the verdict on a trace, and what monitors,
+//! What scenarios, runs and audits share: the commands of the program, events of worlds and why one
+//! is refused, the journal of a run with its stops, the verdict on a trace, and what monitors,
 //! votes and plants are given. The text of a journal line is defined in `specs/Journal.antt`.
 #![tactic(auto)]
 

@@ -72,7 +72,7 @@ none_by false false a b plain = ap (λ p. cond (is_plain a && (p && true)) (root
 pub form_none : (a b : List ℕ) → is_plain b ≡ false → form (a ∷ b ∷ []) ≡ None
 form_none a b plain = none_by (is_flag a) (is_flag b) a b plain
 
--- ---- three words, of which none is a flag
+-- ---- three words, none of which is a flag
 unflagged : (x y z : Bool) (a b c : List ℕ) → x ≡ false → y ≡ false → z ≡ false → three x y z a b c ≡ None
 unflagged false false false a b c ex ey ez = idle (list_all is_plain (a ∷ b ∷ c ∷ [])) None refl
 unflagged true y z a b c ex ey ez = absurd (true≢false ex)

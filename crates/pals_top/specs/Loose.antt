@@ -71,7 +71,7 @@ pub record IsScenarioRefusedIn (root bundle : List ℕ) (status : ℕ) (text : L
   pub faulty : HasScenarioFault root bundle (loosely root) text
   pub short : AreShort faulty.design
 
--- the line of a component whose code would have so many instructions
+-- the line of a component whose code would have `size` instructions
 abbrev pub code_fault_line : DesignParts → ℕ → ℕ → List ℕ
 code_fault_line design node size = spaced (codes "code" ∷ node_word design node ∷ decimal size ∷ [])
 

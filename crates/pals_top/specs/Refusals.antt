@@ -13,7 +13,7 @@ abbrev pub IsBundleRefused : List ℕ → List ℕ → ℕ → List ℕ → Type
 IsBundleRefused root bundle status text =
     ((status ≡ TEXT_REFUSED) × IsTextRefused bundle text) ⊎ ((status ≡ DESIGN_REFUSED) × IsPackageRefused root bundle text)
 
--- it says why a bundle has no design; no answer says that memory was wanting
+-- it says why a bundle has no design; no answer says that there was not enough memory
 abbrev pub SaysWhy : Refusal → Answer → Type 0
 SaysWhy (Text text) answer = Says TEXT_REFUSED text.items answer
 SaysWhy (Design text) answer = Says DESIGN_REFUSED text.items answer

@@ -52,7 +52,7 @@ HasForm (Sync root) = Unit {0}
 HasForm (World root true) = Unit {0}
 HasForm _ = ⊥
 
--- Why words give no command: they are no form, or they are one and memory was wanting.
+-- Why words give no command: they are no form, or they are one and there was not enough memory.
 abbrev pub IsWordsEnd : Option Command → WordsEnd → Type 0
 IsWordsEnd command Usage = command ≡ None
 IsWordsEnd command Memory = IsSome command

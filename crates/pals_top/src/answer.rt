@@ -37,7 +37,7 @@ pub enum Answer {
 }
 
 impl Answer {
-    /// The answer to a bundle that has no design. There is none where memory was wanting.
+    /// The answer to a bundle that has no design. There is none if there was not enough memory.
     pub fn refused(refusal: Refusal) -> Result<Answer, NoMemory>
         ensures answer { IfOk result (SaysWhy refusal) }
         ensures no_memory { OnErr result (refusal ≡ Refusal.Memory) }

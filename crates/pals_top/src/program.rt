@@ -23,11 +23,11 @@ use std::alloc::{AllocError, Global};
 /// Does what the words say with the bytes of the source, writes the answer's text to the sink and
 /// returns its status.
 ///
-/// 0: what the command asks for was written. 2: the words are no form. 3: the bundle's design text is
-/// refused. 4: the design is refused. 5: the scenario is refused, or an event of it. 6: a missed or an
-/// early input stopped the nodes. 9: the source failed. 10: the sink failed. 11: memory was wanting, and
-/// nothing was written. 12: there were more bytes than a bundle may have. 13: the step code of a component
-/// is too long.
+/// 0: what the command asks for was written. 2: the words are no form. 3: the bundle's design text
+/// is refused. 4: the design is refused. 5: the scenario is refused, or an event of it. 6: a missed
+/// or an early input stopped the nodes. 9: the source failed. 10: the sink failed. 11: there was
+/// not enough memory, and nothing was written. 12: there were more bytes than a bundle may have.
+/// 13: the step code of a component is too long.
 pub fn pals<S: Source, K: Sink>(alloc: Global, words: &[Text], source: &mut S, sink: &mut K) -> u8
     // The answer's whole text was written.
     ensures answered { result ≢ WRITE_FAULT → result ≢ NO_MEMORY → (text : List ℕ)
@@ -39,7 +39,7 @@ pub fn pals<S: Source, K: Sink>(alloc: Global, words: &[Text], source: &mut S, s
         × IsAnswer (form words.now) (reading (S.shown source.old) (S.shown source.new)) status text
         × TakesPart (K.shown sink.old) (K.shown sink.new) text }
 
-    // Memory was wanting, no call failed, and nothing was written.
+    // There was not enough memory, no call failed, and nothing was written.
     ensures no_memory { result ≡ NO_MEMORY → IsSome (form words.now)
         × GivesWithin (S.shown source.old) (S.shown source.new) BUNDLE_BYTES
         × (sink.new ≡ sink.old) }

@@ -12,7 +12,8 @@ use pals_report::add_scenario_fault;
 use scenario_json::ScenarioFault;
 use std::alloc::{AllocError, Global};
 
-/// The answer to a scenario with this fault. Want of memory is no fault of a scenario, and goes on.
+/// The answer to a scenario with this fault. That there is not enough memory is no fault of a
+/// scenario, and is passed on.
 pub fn refused_scenario(alloc: Global, fault: &ScenarioFault) -> Result<Answer, NoMemory>
     ensures status { IfOk result (λ answer. status_of answer ≡ SCENARIO_REFUSED) }
     ensures text { IfOk result (λ answer. text_of answer ≡ scenario_fault_line fault.now ++ line_end) }

@@ -10,7 +10,7 @@ use std::alloc::{AllocError, Global};
 /// Why words are no command.
 #[derive(Clone, Copy, Debug, PartialEq, Eq)]
 pub enum WordsEnd {
-    /// They are no form.
+    /// The words are no form.
     Usage,
     /// There was not enough memory.
     Memory,

@@ -1,5 +1,5 @@
-//! Tests of the small crates: bytes, adaptors, buffers, the bound, alarms and clocks, by worked rows,
-//! and each call that takes memory once where there is memory.
+//! Tests of the small crates: bytes, adaptors, buffers, the bound, alarms and clocks, by worked
+//! rows, and each call that takes memory, once where there is enough.
 #![tactic(auto)]
 
 #[cfg(test)]

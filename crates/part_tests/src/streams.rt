@@ -114,7 +114,7 @@ fn writes_to_a_small_memory(rt: HostRuntime) -> Result<(), Fail> {
     Ok(())
 }
 
-// How many of that many sevens are read, at most 1000 a call.
+// How many of `count` sevens are read, at most 1000 a call.
 fn sevens_read(alloc: Global, count: usize, most: usize) -> Result<usize, ReadEnd> {
     let bytes = vec![in alloc; 7u8; count]?;
     let mut source = MemSource::new(bytes, 1000, Vec::new(alloc));

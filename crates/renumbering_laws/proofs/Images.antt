@@ -1,4 +1,4 @@
--- Two lists of which the one has the images of the other, in whatever order.
+-- Two lists, one of which has the images of the other, in whatever order.
 use Rattle.std.proofs.Common.{◌≡◌, ◌∙◌, ◌↔◌, ℕ, Bool, false, List, map, get_or, Some, All, Contains, slice_get, sym, ap, subst}
 use Rattle.std.proofs.lemmas.Option.{slice_get-get_or}
 use Rattle.pals_model.proofs.Lookups.{at_element}

@@ -13,7 +13,7 @@ exchange n = 1 - n
 abbrev pub exchanged_counters : DesignParts
 exchanged_counters = record two_counters { components = reverse two_counters.components }
 
--- ---- the same with root in ports x and y in place of the links
+-- ---- the two counters with root in ports x and y in place of the links
 abbrev pub fed : List ℕ → ℕ → Feed
 fed name node = record { name = name; target = record { 0 = node }; in_port = 0; adaptor = None }
 

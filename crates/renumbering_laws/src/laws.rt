@@ -18,8 +18,8 @@ pub fn states_are_renumbered()
         → (node rounds : ℕ) → node < length a.components → state b env_b (to node) rounds ≡ state a env_a node rounds }
 {}
 
-/// Nor do the numbers of the links: the link between the same ports carries the same message in each
-/// round.
+/// The numbers of the links do not matter either: the link between the same ports carries the same
+/// message in each round.
 pub fn messages_are_renumbered()
     ensures { (to : ℕ → ℕ) (a b : DesignParts) (env_a env_b : Env) → IsDesign a → IsDesign b → IsRenumbered to a b → AreSameInputs a b env_a env_b
         → (l m round : ℕ) (link : Link) → slice_get a.links l ≡ Some link → slice_get b.links m ≡ Some (renumbered_link to link)
@@ -34,8 +34,8 @@ pub fn parts_are_renumbered()
         → (node round : ℕ) → node < length a.components → part b env_b (to node) round ≡ part a env_a node round }
 {}
 
-/// Neither design comes first: the old numbers can be had again, and the inputs are the same the
-/// other way round.
+/// Neither design comes first: there are numbers that give the old ones back, and the inputs are
+/// the same the other way round.
 pub fn numbers_go_back()
     ensures numbers { (to : ℕ → ℕ) (a b : DesignParts) → IsDesign a → IsRenumbered to a b
         → (back : ℕ → ℕ) × IsRenumbered back b a × ((n : ℕ) → n < length a.components → back (to n) ≡ n) }
@@ -43,15 +43,15 @@ pub fn numbers_go_back()
         → AreSameInputs b a env_b env_a }
 {}
 
-/// There are such designs: the two counters, and the same with their numbers exchanged.
+/// There are such designs: the two counters, and the two counters with their numbers exchanged.
 pub fn counters_are_renumbered()
     ensures designs { IsDesign two_counters × IsDesign exchanged_counters }
     ensures renumbered { IsRenumbered exchange two_counters exchanged_counters }
     ensures inputs { AreSameInputs two_counters exchanged_counters no_env no_env }
 {}
 
-/// And such inputs: two counters that read root in ports, which come in the other order where the
-/// numbers are exchanged.
+/// There are such designs with inputs: two counters that read root in ports, which come in the
+/// other order where the numbers are exchanged.
 pub fn fed_counters_are_renumbered()
     ensures designs { IsDesign fed_counters × IsDesign exchanged_fed_counters }
     ensures renumbered { IsRenumbered exchange fed_counters exchanged_fed_counters }

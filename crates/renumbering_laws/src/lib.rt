@@ -1,4 +1,5 @@
-//! Two designs that differ only by the numbers of their components make the same rounds. Laws alone.
+//! Laws alone: two designs that differ only by the numbers of their components make the same
+//! rounds.
 #![tactic(auto)]
 
 pub mod laws;

@@ -1,4 +1,4 @@
-//! A journal tells where a run stands, and what stands behind a stop is nothing. Laws alone.
+//! Laws alone: a journal tells where a run stands, and nothing stands behind a stop.
 #![tactic(auto)]
 
 pub mod laws;

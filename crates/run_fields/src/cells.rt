@@ -57,7 +57,7 @@ fn of_taps(design: &DesignParts, taps: &[Tap]) -> u128
     sum
 }
 
-/// How many values a run of this many rounds leaves.
+/// How many values a run of `rounds` rounds leaves.
 pub fn cells_of(design: &Design, rounds: u64) -> u128
     requires { rounds < 2 ^ 20 }
     ensures { result ≡ cells_of design.now rounds }

@@ -55,7 +55,7 @@ fn add_clock(
     Ok(())
 }
 
-// A clock without readings for each of so many nodes.
+// A clock without readings for each of `count` nodes.
 fn empty_clocks(alloc: Global, count: usize) -> Result<Items<ListClock>, NoMemory>
     ensures { IfOk result (λ clocks. clocks ≡ replicate count (unpicked [])) }
 {

@@ -49,7 +49,7 @@ fn add_input(
     Ok(())
 }
 
-/// An empty list for each of so many root in ports.
+/// An empty list for each of `count` root in ports.
 pub fn no_inputs(alloc: Global, count: usize) -> Result<Items<Tuple>, NoMemory>
     ensures { IfOk result (λ lists. lists ≡ replicate count []) }
 {

@@ -207,7 +207,7 @@ fields_keep d design command s quick e =
     (field_keeps (AreInputsOf design) (codes "inputs") false (no_inputs design) (inputs_in design) (get (codes "inputs") d) i (no_inputs_keep design) (λ y read. inputs_keep design y i read) is_i)
     last)))
 
--- the same of a call's answer, over tables of the design's names
+-- a scenario that a call answers, over tables of the design's names, is one of the design
 pub answer_keeps : (d : Data) (names design : DesignParts) (command : Command) (answer : Result Scenario ScenarioFault) → names ≡ design → IsDesign design → Answers (fields_in d names command) answer → IfOk answer (IsScenarioOf design)
 answer_keeps d names design command (Ok s) same rules is =
     let network = rules.gamma.network in

@@ -61,7 +61,7 @@ needs_processors (Budget root) = true
 needs_processors command = false
 
 -- ---- the number of rounds
--- the cells, of which a fault names at most the greatest number of 64 bits
+-- the cells are not too many; a fault names their number, or the greatest number of 64 bits where that is less
 abbrev pub small_enough : {A : Type 0} → ℕ → Result A ScenarioFault → Result A ScenarioFault
 small_enough cells next = only_if (nat_le cells CELLS) (TooBig (min cells (2 ^ 64 - 1))) next
 
@@ -111,7 +111,7 @@ abbrev pub Means : List ℕ → DesignParts → Command → Result Scenario Scen
 Means bytes design command meant =
     ((d : Data) × IsValue bytes d × (scen d design command ≡ meant)) ⊎ (((d : Data) → IsValue bytes d → ⊥) × (meant ≡ Err NotJson))
 
--- an answer is what the bytes mean, unless memory was wanting
+-- an answer is what the bytes mean, unless there was not enough memory
 abbrev pub IsAnswer : List ℕ → DesignParts → Command → Result Scenario ScenarioFault → Type 0
 IsAnswer bytes design command answer =
     MatchResult answer (λ s. Means bytes design command (Ok s)) (λ fault. fault ≢ Memory → Means bytes design command (Err fault))

@@ -92,7 +92,7 @@ fn needs_processors(command: &Command) -> bool
     matches!(command, Command::Budget { .. })
 }
 
-// The number of rounds, of which the run must not leave too many values.
+// The number of rounds. A run of them must not leave too many values.
 #[tactic(auto, unfolding(crate::specs::Scenarios::rounds_in))]
 fn rounds_in(alloc: Global, design: &Design, value: &Value) -> Result<u32, ScenarioFault>
     ensures { Answers (rounds_in design.now (view value.now)) result }

@@ -23,14 +23,14 @@ abbrev pub through : {A S : Type 0} → (S → A → Result S ScenarioFault) →
 through step s [] = Ok s
 through step s (x ∷ xs) = step s x >>= λ t. through step t xs
 
--- a call's answer shows what is meant, unless memory was wanting
+-- a call's answer shows what is meant, unless there was not enough memory
 abbrev pub Shows : {A B : Type 0} → (A → B) → Result B ScenarioFault → Result A ScenarioFault → Type 0
 Shows seen meant answer = MatchResult answer (λ x. meant ≡ Ok (seen x)) (λ fault. fault ≢ Memory → meant ≡ Err fault)
 
--- a call's answer is what is meant, unless memory was wanting
+-- a call's answer is what is meant, unless there was not enough memory
 abbrev pub Answers : {A : Type 0} → Result A ScenarioFault → Result A ScenarioFault → Type 0
 Answers meant answer = Shows (λ x. x) meant answer
 
--- the same of a call that writes what it makes over what was there
+-- what a call writes over what was there is what is meant, or its fault is, unless there was not enough memory
 abbrev pub Makes : {A S : Type 0} → S → Result S ScenarioFault → Result A ScenarioFault → Type 0
 Makes new meant answer = MatchResult answer (λ _. meant ≡ Ok new) (λ fault. fault ≢ Memory → meant ≡ Err fault)

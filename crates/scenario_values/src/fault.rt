@@ -23,7 +23,7 @@ pub enum ScenarioFault {
     /// A number or a count is out of its range, or stands at a place where it may not.
     #[error("OutOfRange")]
     OutOfRange { name: Text },
-    /// The run would leave this many values, which is more than 1,000,000.
+    /// The run would leave `cells` values, which is more than 1,000,000.
     #[error("TooBig")]
     TooBig { cells: u64 },
     /// There was not enough memory.

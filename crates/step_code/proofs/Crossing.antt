@@ -209,7 +209,7 @@ all_same f g (l ∷ ls) same = ap (λ b. b && list_all f ls) (same l) ∙ ap (λ
 pub stays-swapped : (code : List Instr) (p q : ℕ) → stays code p q ≡ stays code q p
 stays-swapped code p q = all_same (agrees p q) (agrees q p) (loops_below code (length code)) (λ l. agrees_swapped_by (inside p l) (inside q l))
 
--- ---- the same from a list of innermost loops
+-- ---- whether a jump goes to no place, or into or out of a body, from a list of innermost loops
 there_not : (code : List Instr) (p q : ℕ) → q < length code → not (stays code p q) ≡ strays code p q
 there_not code p q there = sym (ap (λ b. not (b && stays code p q)) (lt_true q (length code) there))
 

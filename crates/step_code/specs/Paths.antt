@@ -22,7 +22,7 @@ may_go_on other = true
 abbrev pub next_of : ℕ → Instr → Option ℕ
 next_of place i = if may_go_on i then Some (place + 1) else None
 
--- the places to which an instruction leads, but for LoopNext's way back
+-- the places to which an instruction leads, except LoopNext's way back
 abbrev pub onward : ℕ → Option Instr → List ℕ
 onward place None = []
 onward place (Some i) = option_to_list (jump_of i) ++ option_to_list (next_of place i)

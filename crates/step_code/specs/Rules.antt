@@ -154,7 +154,7 @@ pub record IsFirst (c : CodeParts) (rule : Rule) (p : ℕ) : Type 0 where
   pub earlier_places : IsCleanBelow c p
   pub earlier_rules : (r : Rule) → rank r < rank rule → ¬ Finds c r p
 
--- the fault is the first one of these parts; memory may be wanting where they are not too long
+-- the fault is the first one of these parts, or there was not enough memory for parts that are not too long
 abbrev pub IsFaultOf : CodeParts → CodeFault → Type 0
 IsFaultOf c (fault.BadJump p) = IsFirst c BadJump p
 IsFaultOf c (fault.BackJump p) = IsFirst c BackJump p

@@ -37,7 +37,7 @@ abbrev pub on_result : Result ℤ Trap → (ℤ → Next) → Next
 on_result (Ok v) go = go v
 on_result (Err trap) go = Traps trap
 
--- an operator on the two topmost numbers, of which the right one lies on top
+-- an operator on the two topmost numbers, the right one of which lies on top
 abbrev pub on_two : Op → ℕ → List ℤ → List ℤ → List Port → Next
 on_two o place stack slots outs =
     on_top stack (λ b below. on_top below (λ a rest. on_result (applied o a b) (λ v. Goes (place + 1) (v ∷ rest) slots outs)))

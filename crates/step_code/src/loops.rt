@@ -97,8 +97,9 @@ pub fn innermost(alloc: Global, instrs: &[Instr]) -> Result<Vec<Option<Loop>>, N
     Ok(found)
 }
 
-// The same for one place, behind those for which it is found: the loop that starts just before it,
-// or else one round the place before, is the first candidate, and then those round that one.
+// The loop with the highest start in whose body the next place lies, behind those for which it is
+// found: the loop that starts just before it, or else one round the place before, is the first
+// candidate, and then those round that one.
 fn innermost_at(instrs: &[Instr], found: &[Option<Loop>]) -> Option<Loop>
     requires { AreInnermost instrs.now found.now }
     ensures { result ≡ innermost instrs.now (length found.now) }

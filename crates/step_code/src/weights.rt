@@ -66,7 +66,7 @@ fn best_weights(
     Ok(best)
 }
 
-// The same for one place, before those for which it is known.
+// The greatest weight of the paths from `place`, where `best` has those from the places behind it.
 fn best_at(parts: &CodeParts, weights: &[u64], best: &[u64], place: usize) -> u64
     requires verified { IsVerified parts.now }
     requires weights { AreWeights parts.now.instrs weights.now }
@@ -119,8 +119,8 @@ fn weights(
     Ok(weights)
 }
 
-// The same for one place, behind those for which it is known: the turns of the innermost loop,
-// times what its start weighs.
+// What the instruction at `place` weighs, where `weights` has what those before it weigh: the turns
+// of the innermost loop, times what its start weighs.
 fn weight_at(parts: &CodeParts, innermost: &[Option<Loop>], weights: &[u64], place: usize) -> u64
     requires verified { IsVerified parts.now }
     requires innermost { AreInnermost parts.now.instrs innermost.now }

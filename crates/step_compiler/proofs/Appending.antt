@@ -46,7 +46,7 @@ between old c1 c2 new g k n laid first len second third =
     ∙ append_assoc old (g ++ laid (length old + n)) (k ∷ [])
     ∙ ap (λ xs. old ++ xs) (append_assoc g (laid (length old + n)) (k ∷ []))
 
--- the same where an instruction stands behind the first part
+-- a part, an instruction, what is laid out behind them, and an item
 pub between_two : {A : Type 0} (old c1 c2 c3 new g : List A) (i k : A) (n : ℕ) (laid : ℕ → List A) → c1 ≡ old ++ g → length g ≡ n → c2 ≡ c1 ++ i ∷ [] → c3 ≡ c2 ++ laid (length c2) → new ≡ c3 ++ k ∷ []
     → new ≡ old ++ (g ++ i ∷ (laid (length old + n + 1) ++ k ∷ []))
 between_two old c1 c2 c3 new g i k n laid first len jump second third =

@@ -27,7 +27,7 @@ got_from f from (suc n) (suc s) within = got_from f (suc from) n s (omega arith)
 pub got : {A : Type 0} (f : ℕ → A) (n s : ℕ) → s < n → slice_get (map f (upwards 0 n)) s ≡ Some (f s)
 got f n s within = got_from f 0 n s within ∙ ap (λ k. Some (f k)) (zero-add s)
 
--- ---- the first one of which a test holds
+-- ---- the first one for which a test holds
 cond_find : (f : ℕ → Bool) (s : ℕ) (rest : List ℕ) (t : Bool) → f s ≡ t → find f (s ∷ rest) ≡ (if t then Some s else find f rest)
 cond_find f s rest t is = ap (λ x. if x then Some s else find f rest) is
 
@@ -37,7 +37,7 @@ found f s n within is = ap (find f) (upwards_next s n within) ∙ cond_find f s 
 pub skipped : (f : ℕ → Bool) (s n : ℕ) → s < n → f s ≡ false → find f (upwards (s + 1) (n - (s + 1))) ≡ find f (upwards s (n - s))
 skipped f s n within is = sym (ap (find f) (upwards_next s n within) ∙ cond_find f s (upwards (s + 1) (n - (s + 1))) false is)
 
--- ---- those of which it holds
+-- ---- those for which it holds
 filter_one : (f : ℕ → Bool) (n : ℕ) (t : Bool) → f n ≡ t → filter f (n ∷ []) ≡ (if t then n ∷ [] else [])
 filter_one f n t is = ap (λ x. if x then n ∷ [] else []) is
 

@@ -300,7 +300,7 @@ module _ (b : BehaviourParts) (c : CodeParts) (rules : IsBehaviour b) (instrs : 
       past_behind true e p = omega arith
       past_behind false e p = omega arith
 
-  -- the transitions of a state, of which the last has no guard unless it is complete
+  -- the transitions of a state, the last of which has no guard unless the state is complete
   block_fine : (complete : Bool) (es : List Edge) (s p : ℕ) → ((e : Edge) → Member es e → Member b.transitions e × (e.source ≡ s)) → s < length b.states → HasAt c.instrs p (block_code b starts complete es p) → IsCalm c.instrs p → p + length_edges es ≡ starts s + block_length b s
       → (complete ≡ false → LastOpen es) → AreFine c p (p + length_edges es)
   block_fine complete [] s p members within has calm at unguarded = none_fine c p (p + 0) (omega arith)
@@ -465,7 +465,7 @@ compiled_verified b rules short =
     let same = compiled_length b rules in
     all_clean b (compiled b) rules refl refl (record { declared = refl; slots = refl; outs = refl; ins = refl }) refl (omega arith)
 
--- of verified parts nothing is refused but for memory
+-- the only fault of verified parts is that there is not enough memory
 pub only_memory : (c : CodeParts) (f : CodeFault) → IsVerified c → IsFaultOf c f → f ≡ fault.Memory
 only_memory c (fault.BadJump p) v is = absurd (v.clean p BadJump is.here)
 only_memory c (fault.BackJump p) v is = absurd (v.clean p BackJump is.here)

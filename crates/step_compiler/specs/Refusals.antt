@@ -7,7 +7,7 @@ use Rattle.step_code.specs.Lengths.{code_length}
 use Rattle.step_compiler.specs.declared.fault.CompileFault.{CompileFault}
 use Rattle.step_compiler.specs.declared.fault.CompileFault.TheVariants as fault
 
--- its code is too long, or memory was wanting for one that is not
+-- its code is too long, or there was not enough memory for one that is not
 abbrev pub IsCauseFor : BehaviourParts → CompileFault → Type 0
 IsCauseFor b (fault.CodeTooLong n) = (n ≡ capped (code_length b)) × (INSTRUCTIONS < code_length b)
 IsCauseFor b fault.Memory = code_length b ≤ INSTRUCTIONS

@@ -11,9 +11,9 @@ use crate::places::{behind, deeper};
 use pals_base::{Act, Branch, Items, NoMemory};
 use step_code::Instr;
 
-/// Adds the instructions of actions, where so many variables are in sight, those of the loops round
-/// the place too. It recurs as deep as the tree is, and counts each part again at each level above
-/// it.
+/// Adds the instructions of actions, where `variables` variables are in sight, those of the loops
+/// round the place among them. It recurs as deep as the tree is, and counts each part again at each
+/// level above it.
 #[cycle(push_act)]
 pub fn push_acts(code: &mut Items<Instr>, acts: &[Act], variables: u32) -> Result<(), NoMemory>
     ensures { OnOk result (Adds code.old code.new (code_acts (actions_along acts.now) variables)) }

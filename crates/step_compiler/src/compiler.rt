@@ -34,7 +34,8 @@ pub fn compile(alloc: Global, behaviour: &Behaviour) -> Result<Code, CompileFaul
     }
 }
 
-// Of the parts of a behaviour's code the verifier refuses none: memory alone can be wanting.
+// The verifier does not refuse the parts of a behaviour's code: its only fault is that there is not
+// enough memory.
 fn refusal(fault: CodeFault) -> CompileFault
     requires { fault ≡ CodeFault.Memory }
     ensures { result ≡ CompileFault.Memory }

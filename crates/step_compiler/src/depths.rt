@@ -1,4 +1,5 @@
-//! How deep loops nest in actions. A depth past what a number can count is want of memory.
+//! How deep loops nest in actions. For a depth past what a number can count, the error is that
+//! there is not enough memory.
 ghost use Rattle.std.specs.Prelude.{◌≡◌, IfOk};
 ghost use Rattle.pals_base.specs.Seen.{action_of, actions_along, branches_along};
 ghost use Rattle.step_compiler.specs.Depths.{depth_act, depth_acts, depth_branches, depth_edges};

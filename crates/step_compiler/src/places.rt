@@ -1,5 +1,5 @@
-//! Places and numbers that fit the instructions. More than such a number can count is want of
-//! memory.
+//! Places and numbers that fit the instructions. For a number that does not fit, the error is that
+//! there is not enough memory.
 ghost use Rattle.std.specs.Prelude.{◌≡◌, ◌+◌, ℕ, IfOk, slice_index_or, slice_set, true};
 ghost use Rattle.step_code.specs.Capped.{capped};
 
@@ -17,7 +17,7 @@ pub fn count(things: usize) -> Result<u32, NoMemory>
     }
 }
 
-/// The place so many instructions behind another.
+/// The place `length` instructions behind another.
 pub fn behind(place: usize, length: u64) -> Result<u32, NoMemory>
     ensures { (n : ℕ) → length ≡ capped n → IfOk result (λ to. to ≡ place + n) }
 {

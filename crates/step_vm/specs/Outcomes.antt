@@ -32,7 +32,7 @@ abbrev pub GivesResult : Onward → List ℤ → Result ℤ Trap → ℕ → Lis
 GivesResult answer left result place stack =
     (slots : List ℤ) (outs : List Port) → Met answer left slots outs (on_result result (λ v. Goes (place + 1) (v ∷ stack) slots outs))
 
--- the same of an operator on the two topmost numbers
+-- an answer, and the stack that it leaves, is where an operator on the two topmost numbers leads
 abbrev pub GivesBoth : Onward → List ℤ → Op → ℕ → List ℤ → Type 0
 GivesBoth answer left op place stack = (slots : List ℤ) (outs : List Port) → Met answer left slots outs (on_two op place stack slots outs)
 

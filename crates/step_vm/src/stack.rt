@@ -25,7 +25,7 @@ impl Model for Stack {
 }
 
 impl Stack {
-    /// No operands, and so many cells.
+    /// A stack without operands, of `size` cells.
     pub fn with_size(alloc: Global, size: usize) -> Result<Stack, NoMemory>
         ensures { IfOk result (λ stack. stack ≡ stack_of [] size) }
     {

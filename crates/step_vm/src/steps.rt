@@ -34,7 +34,8 @@ pub fn run(code: &Code, room: &mut Room, frame: &mut Frame, inputs: &[Port], out
     take_step(code.parts(), room, frame, inputs, outs);
 }
 
-// The same of the parts of a code.
+// One step of the code of these parts at these inputs: the frame and the outputs become those that
+// it leaves.
 fn take_step(
     parts: &CodeParts,
     room: &mut Room,

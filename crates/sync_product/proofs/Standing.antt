@@ -45,7 +45,7 @@ counted-at f from (suc n) (suc k) within =
     counted-at f (suc from) n k (omega arith) ∙ ap (λ m. Some (f m)) place
 
 -- ---- the steps of the composition
--- those of one component
+-- the steps of one component
 steps-at : (design : DesignParts) (values : List Port) (messages : List (List Port)) (first : ℕ) (cs : List Component) (frames : List Frame) (k node : ℕ) (c : Component) → node ≡ first + k → slice_get cs k ≡ Some c → length frames ≡ length cs → slice_get (steps_from design values messages first cs frames) k ≡ Some (steps c.behaviour (slice_index_or frames k no_frame) (inputs_of design values messages node c))
 steps-at design values messages first [] frames k node c at is_c same = absurd (cc)
 steps-at design values messages first (d ∷ cs) [] k node c at is_c same = absurd (omega arith)

@@ -47,7 +47,7 @@ pub record IsStepped (round : RoundInputs) (frames : List Frame) (parts : List P
   pub part : slice_get parts node ≡ Some (own_part round frames node c)
   pub rows : slice_get (map (λ (s : Stage). s.rows) stages) node ≡ Some (own_rows round frames node c)
 
--- those of all components
+-- the parts and the rows of all components
 abbrev pub AreStepped : RoundInputs → List Frame → List Part → List Stage → Type 0
 AreStepped round frames parts stages = (node : ℕ) (c : Component) → slice_get round.design.now.components node ≡ Some c → IsStepped round frames parts stages node c
 

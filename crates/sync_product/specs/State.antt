@@ -57,7 +57,7 @@ advanced state values = record {
   parts = parts_of state.design (all_steps state.design values state.configuration);
 }
 
--- after so many rounds of an environment
+-- the state after a number of rounds of an environment
 abbrev pub state_after : DesignParts → Env → ℕ → ProductState
 state_after design env zero = begun design
 state_after design env (suc round) = advanced (state_after design env round) (values_at env round)

@@ -77,11 +77,12 @@ impl Product {
         })
     }
 
-    /// Goes one round further. The values are those of the root in ports in this round, in the order
-    /// of the design's feeds, each name where it comes first; a value that is missing at the end is
-    /// absent, and those past the last port mean nothing. A port for truth values takes any number: 0
-    /// is false, and each other number is true. Where memory is wanting, nothing changes. After the
-    /// first two rounds it takes memory only where a loop runs that did not run before.
+    /// Goes one round further. The values are those of the root in ports in this round, in the
+    /// order of the design's feeds, each name where it comes first; a value that is missing at the
+    /// end is absent, and those past the last port mean nothing. A port for truth values takes any
+    /// number: 0 is false, and each other number is true. If there is not enough memory, nothing
+    /// changes. After the first two rounds it takes memory only where a loop runs that did not run
+    /// before.
     pub fn advance(&mut self, values: &[Port]) -> Result<(), NoMemory>
         ensures ok { OnOk result (self.new ≡ advanced self.old values.now) }
         ensures err { OnErr result (self.new ≡ self.old) }

@@ -26,7 +26,7 @@ pub struct Stage {
 }
 
 impl Stage {
-    /// Room for a component of which so many steps are sent.
+    /// Room for a component that sends `sent` of its steps.
     pub fn new(alloc: Global, component: &Component, sent: usize) -> Result<Stage, NoMemory>
         ensures { IfOk result (λ stage. stage_size stage ≡ stage_size_of sent component.now) }
     {

@@ -1,4 +1,4 @@
--- A reference, by its first word: its names as a chain, of which the last is the type.
+-- A reference, by its first word: its names as a chain, the last of which is the type.
 use Rattle.std.proofs.Common.{◌≡◌, ℕ, ◌∙◌, sym, ap, ap₂, refl, List, [], ◌∷◌, ◌++◌, flat_map, append_assoc, Option}
 use Rattle.aadl_tree.specs.declared.mark.Mark.TheVariants as k
 use Rattle.aadl_tree.specs.Kinds.{Kind, word}

@@ -101,7 +101,7 @@ Opens y bs = (t : TreeOf y) (ks rest : List Kind) → Spells (parts y t) ks rest
 abbrev pub OpensOr : (y : Symbol) → Builders y (rows y) → TreeOf y → Type 0
 OpensOr y bs e = (t : TreeOf y) (ks rest : List Kind) → Spells (parts y t) ks rest → InRows y (rows y) bs t ks rest ⊎ ((t ≡ e) × (ks ≡ rest))
 
--- the same of a symbol that begins as another one does
+-- how a symbol that begins as another one does makes its tree, of that one's tree and the trees behind it
 abbrev pub Joins : Symbol → Symbol → List Symbol → Type 0
 Joins y z more = TreeOf z → Trees more → TreeOf y
 

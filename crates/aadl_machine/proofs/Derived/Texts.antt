@@ -26,7 +26,7 @@ abbrev by_first : List Row → (Stack → Option (List Kind)) → Stack → Opti
 by_first [] later below = None
 by_first (r ∷ rs) later below = with_first (kind_with r.first (sample r.first)) (later (r.wanted ++ below))
 
--- a text, by the first row of each symbol that cannot be left out, in so many steps at most
+-- a text, by the first row of each symbol that cannot be left out, in n steps at most
 abbrev text : ℕ → Stack → Option (List Kind)
 text zero wanted = None
 text (suc n) [] = Some []

@@ -71,7 +71,7 @@ walk_then (x ∷ ks) wanted last after kind e h =
     let got = walk_first wanted x ks last e in
     walk_more wanted got.0 x (ks ++ kind ∷ []) got.1 ∙ walk_then ks got.0 last after kind got.2 h
 
--- on the way no more openers are open than may be
+-- on the way no more openers are open than may be open
 abbrev pub Within : ℕ → Stack → List Kind → Type 0
 Within outer wanted ks = (front back : List Kind) (mid : Stack) → ks ≡ front ++ back → walk wanted front ≡ Some mid → outer + depth mid ≤ GREATEST_NESTING
 

@@ -1,4 +1,4 @@
--- Terminals that a tree keeps have a tree that is the same but for its places.
+-- Terminals that a tree keeps have a tree that is the same except for its places.
 use Rattle.std.proofs.Common.{◌≡◌, ℕ, ◌<◌, cond, ◌==◌, ◌∙◌, sym, ap, ap₂, refl, subst, List, [], ◌∷◌, map, arith, eq-eqb}
 use Rattle.std.proofs.lemmas.Bool.{eqb-true, false_from_ne_true}
 use Rattle.std.proofs.lemmas.List.{append-nil}

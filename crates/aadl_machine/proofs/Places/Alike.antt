@@ -1,4 +1,4 @@
--- Parts that are the same but for the places that trees keep.
+-- Parts that are the same except for the places that trees keep.
 use Rattle.std.proofs.Common.{◌≡◌, ◌∙◌, sym, ap, ap₂, cond, refl, List, [], ◌∷◌, ◌++◌, map, flat_map, Option, Some, None, option_map, inl, inr, Bool, true, false}
 use Rattle.aadl_tree.specs.declared.mark.Mark.{Mark}
 use Rattle.aadl_tree.specs.Kinds.{Kind}

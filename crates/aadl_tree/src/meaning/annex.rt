@@ -93,7 +93,7 @@ impl Same for Transition {
     }
 }
 
-// Whether two lists of declarations that may be wanting mean the same.
+// Whether two lists of declarations mean the same, where either may be missing.
 fn same_declared<T: Same>(left: &Option<Vec<T>>, right: &Option<Vec<T>>) -> bool
     ensures { IsTrue result
         ↔ (option_map (λ xs. map T.meaning xs.items) left.now

@@ -27,7 +27,7 @@ pub fn same_items<T: Same>(left: &[T], right: &[T]) -> bool
     true
 }
 
-/// Whether two things that may be wanting mean the same.
+/// Whether two things mean the same, where either may be missing.
 pub fn same_option<T: Same>(left: &Option<T>, right: &Option<T>) -> bool
     ensures { IsTrue result ↔ (option_map T.meaning left.now ≡ option_map T.meaning right.now) }
 {

@@ -64,9 +64,9 @@ fn deeper(loops: usize) -> Result<usize, NoMemory>
     loops.checked_add(1).ok_or(AllocError)
 }
 
-/// Whether actions are well typed in a behaviour of these parts and their loops short, within so
-/// many loops that make so many turns. They recur as deep as the tree is; a tree deeper than a
-/// number can count is want of memory.
+/// Whether actions are well typed in a behaviour of these parts and their loops are short, within
+/// `loops` loops that make `around` turns. It recurs as deep as the tree is; for a tree deeper than
+/// a number can count, the error is that there is not enough memory.
 #[cycle(sound_act)]
 pub fn are_sound(
     acts: &[Act],

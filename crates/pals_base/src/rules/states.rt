@@ -102,7 +102,7 @@ fn settles_next(parts: &BehaviourParts, marks: &[bool], state: usize) -> bool
         || leads_to_marked(parts.transitions.as_slice(), state, marks)
 }
 
-// The same for each state.
+// For each state, whether it is complete, or each way on leads to a marked one.
 #[tactic(auto, using(crate::proofs::Upwards::map_upwards_more))]
 fn settled_next(
     alloc: Global,

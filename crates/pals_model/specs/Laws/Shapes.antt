@@ -12,12 +12,12 @@ use Rattle.pals_model.specs.Composition.{comp, state, msg, part, taps_of}
 use Rattle.pals_model.specs.Rules.{IsDesign}
 use Rattle.pals_model.specs.Laws.{own_steps}
 
--- so many input vectors, each with a place for each in port
+-- an input vector for each step, each with a place for each in port
 pub record AreVectors (c : Component) (vectors : List (List Port)) : Type 0 where
   pub count : length vectors ≡ c.rate
   pub each : All (λ vector. length vector ≡ length c.behaviour.ins) vectors
 
--- so many tuples, each with a place for each step
+-- `count` tuples, each with a place for each of `rate` steps
 pub record AreTuples (count rate : ℕ) (tuples : List (List Port)) : Type 0 where
   pub count_is : length tuples ≡ count
   pub each : All (λ tuple. length tuple ≡ rate) tuples

@@ -15,7 +15,7 @@ use Rattle.pals_model.specs.Composition.{comp, state}
 use Rattle.pals_model.specs.Laws.{own_steps}
 use Rattle.pals_model.specs.Rules.{IsDesign}
 
--- in the midst of a round of so many steps, after those at these inputs: the frame, and the places that they filled
+-- in the midst of a round of `rate` steps, after those at these inputs: the frame, and the places that they filled
 abbrev pub under_way : BehaviourParts → Frame → ℕ → List (List Port) → Stepped
 under_way b frame rate vectors = record { frame = frame_after b frame vectors; tuples = so_far (length b.outs) rate (outputs b frame vectors) }
 

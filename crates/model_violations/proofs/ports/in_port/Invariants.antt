@@ -5,7 +5,7 @@ use Rattle.aadl_tree.specs.Maps.{kept_place}
 use Rattle.component_checks.specs.Types.{is_in}
 use Rattle.model_violations.proofs.ports.in_port.Given as goal
 
--- so many of what is left are still to be passed over
+-- `left` in ports of what is left are still to be passed over
 abbrev pub invariant-loop-port : goal.invariant-loop-port
 invariant-loop-port l =
     slice_get (filter is_in (map (feature_view kept_place) (drop l.port-index l.ports))) l.left

@@ -3,6 +3,6 @@ use Rattle.pals_model.specs.declared.design.Link.{Link}
 use Rattle.pals_bus.specs.Absent.{no_flight}
 use Rattle.pals_bus.proofs.opening.empty_flights.Given as goal
 
--- so many flights are empty
+-- the flight of each link so far is empty
 abbrev pub invariant-loop-link : goal.invariant-loop-link
 invariant-loop-link l = l.flights ≡ map (λ (_ : Link). no_flight) (take l._link-index l._link-items)

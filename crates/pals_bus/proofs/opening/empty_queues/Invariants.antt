@@ -3,6 +3,6 @@ use Rattle.pals_node.specs.Values.{NodeValue}
 use Rattle.pals_bus.specs.Absent.{no_queue}
 use Rattle.pals_bus.proofs.opening.empty_queues.Given as goal
 
--- so many queues are empty
+-- the queue of each node so far is empty
 abbrev pub invariant-loop-node : goal.invariant-loop-node
 invariant-loop-node l = l.queues ≡ map (λ (_ : NodeValue). no_queue) (take l._node-index l.nodes)

@@ -3,6 +3,6 @@ use Rattle.pals_base.specs.Settling.{settles}
 use Rattle.pals_base.specs.Steps.{upwards}
 use Rattle.pals_base.proofs.rules.states.settled_states.Given as goal
 
--- the marks after so many rounds
+-- the marks after `_round` rounds
 abbrev pub invariant-loop-round : goal.invariant-loop-round
 invariant-loop-round l = l.marks.items ≡ map (settles l._round l.parts) (upwards 0 (length l.parts.states))
