@@ -5,5 +5,4 @@ pub mod Nodes
 pub mod States
 pub mod Steps
 pub mod Arrivals
-pub mod WorldRows
-pub mod TraceRows
+pub mod TargetRows

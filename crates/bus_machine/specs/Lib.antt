@@ -11,13 +11,5 @@ pub mod Agreement
 pub mod Rows
 pub mod Laws
 pub mod Targets
+pub mod TargetRows
 pub mod WorldTexts
-pub mod Worlds
-pub mod Deadlines
-pub mod Faults
-pub mod WorldRows
-pub mod LineForms
-pub mod TraceLines
-pub mod TraceRules
-pub mod Traces
-pub mod TraceRows

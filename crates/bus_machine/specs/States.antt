@@ -1,5 +1,5 @@
 -- The state of a run: its nodes, its links and perhaps a stop.
-use Rattle.std.specs.Prelude.{ℕ, true, List, [], length, map, Option, None, slice_index_or, slice_set}
+use Rattle.std.specs.Prelude.{ℕ, true, List, [], length, map, Option, None, slice_index_or, slice_set, fold, min}
 use Rattle.pals_base.specs.Steps.{upwards}
 use Rattle.pals_model.specs.declared.design.Link.{Link}
 use Rattle.pals_model.specs.declared.design.DesignParts.{DesignParts}
@@ -54,3 +54,8 @@ with_node s node n = record s { nodes = slice_set s.nodes node n }
 
 abbrev pub with_flight : BusState → ℕ → List FlightCopy → BusState
 with_flight s link flight = record s { flights = slice_set s.flights link flight }
+
+-- ---- rounds
+-- how many rounds all nodes have finished: without nodes, all of the run
+abbrev pub finished_by_all : Run → BusState → ℕ
+finished_by_all run s = fold (λ least (n : NodeState). min least (length n.parts)) run.rounds s.nodes

@@ -1,7 +1,6 @@
 //! Laws of the machine. The functions do nothing: their contracts are the laws.
 ghost use Rattle.bus_machine.specs.Laws.{OpeningAgrees, StepKeepsAgreement, ReplayAgrees};
-ghost use Rattle.bus_machine.specs.WorldRows.{EventsAreRefused, ArrivesTooSoon, EarliestSender, LatestSender};
-ghost use Rattle.bus_machine.specs.TraceRows.{TracesAreJudged, NodesHaveTargets};
+ghost use Rattle.bus_machine.specs.TargetRows.{NodesHaveTargets};
 ghost use Rattle.bus_machine.specs.Rows.{counters, early_arrival, early_lines, lost_message, lost_lines, Tells};
 
 /// Two counters, the second of which has not started when the first one's message arrives: the run
@@ -22,23 +21,6 @@ pub fn runs_agree()
     ensures opening { OpeningAgrees }
     ensures step { StepKeepsAgreement }
     ensures replay { ReplayAgrees }
-{}
-
-/// Events that a world of two counters refuses, each with its cause.
-pub fn refused_events()
-    ensures table { EventsAreRefused }
-    ensures too_soon { ArrivesTooSoon }
-{}
-
-/// Two worlds of two counters at the ends of their bounds, and the texts that they leave.
-pub fn worlds_at_their_bounds()
-    ensures earliest { EarliestSender }
-    ensures latest { LatestSender }
-{}
-
-/// The verdict on the trace of one round of two counters, and on three that are wrong.
-pub fn judged_traces()
-    ensures { TracesAreJudged }
 {}
 
 /// The targets of a node of one step in a round, and of one of four.

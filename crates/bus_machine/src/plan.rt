@@ -2,7 +2,7 @@
 use pals_base::{Adaptor, Behaviour, Items, Nanos, NodeNo};
 
 /// What an in port brings to the steps of a round.
-#[derive(Clone, Copy, PartialEq, Eq, Debug)]
+#[derive(Clone, Copy)]
 pub enum Input {
     /// Nothing: no link and no feed goes to the port.
     Nothing,

@@ -14,7 +14,7 @@ pub enum Meet {
 }
 
 /// Why a loose world does not go on after an event.
-#[derive(Clone, Copy, PartialEq, Eq, Debug)]
+#[derive(Clone, Copy)]
 pub enum LooseFault {
     /// A stop stands: it stood before, or the event gives it.
     Stopped(Stop),

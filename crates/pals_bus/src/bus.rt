@@ -13,7 +13,7 @@ ghost use Rattle.pals_bus.specs.Values.{opening_bus, AreCodes};
 
 use crate::Fields;
 use crate::opening::{empty_flights, empty_queues, fresh_nodes, opening_nodes, room_for_values};
-use bus_machine::Next;
+use bus_machine::{Next, Plan};
 use pals_base::{Items, LinkNo, NoMemory, NodeNo, Same, TryClone};
 use pals_model::{Delays, Design, Env, FlightCopy, Part};
 use pals_runs::{JournalEntry, Phase, Stop};
@@ -147,6 +147,14 @@ impl Bus {
         ensures { self.new ≡ record self.old { closed = true } }
     {
         self.fields.closed = true;
+    }
+
+    /// What a node needs to know of the design: when it may do what, and what goes to it and from it.
+    pub fn plan(&self, node: NodeNo) -> &Plan
+        requires { node.0 < length self.now.run.design.components }
+        ensures { result.now ≡ plan_of self.now.run.design node.0 }
+    {
+        self.fields.nodes[node.0 as usize].plan()
     }
 
     /// How many rounds a node has started.

@@ -12,7 +12,7 @@ use std::alloc::Global;
 
 /// Where an in port reads from: a link by its number; a feed by its number, with the place of its
 /// root in port among all; or nothing.
-#[derive(Clone, Copy, Debug, PartialEq, Eq)]
+#[derive(Clone, Copy)]
 pub enum PortSource {
     Nothing,
     Feed(usize, usize),

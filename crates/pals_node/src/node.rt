@@ -69,6 +69,13 @@ impl Node {
         Node::new(alloc, plan, self.fields.rounds)
     }
 
+    /// What the node needs to know of its design.
+    pub fn plan(&self) -> &Plan
+        ensures { result.now ≡ self.now.program.plan }
+    {
+        &self.fields.plan.plan
+    }
+
     /// A message of a round comes to an in port. It takes no memory.
     pub fn arrive(&mut self, port: u32, round: u32, tuple: Tuple) -> Arrived
         requires { port < length self.old.state.slots }

@@ -2,3 +2,4 @@ pub mod Formula
 pub mod FormulaCode
 pub mod FormulaOf
 pub mod Journal
+pub mod FormulaNames

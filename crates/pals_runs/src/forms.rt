@@ -2,7 +2,7 @@
 use pals_base::NodeNo;
 
 /// How a variable is compared with a number.
-#[derive(Clone, Copy, PartialEq, Eq, Debug)]
+#[derive(Clone, Copy)]
 pub enum Compare {
     Eq,
     Ne,

@@ -2,7 +2,7 @@
 use crate::journal::Stop;
 
 /// The rule that the first wrong line of a trace breaks.
-#[derive(Clone, Copy, PartialEq, Eq, Debug)]
+#[derive(Clone, Copy)]
 pub enum TraceRule {
     /// A line of the report is not the composition's, or the report ends inside a row.
     Row,
@@ -28,7 +28,7 @@ pub enum TraceRule {
 
 /// The verdict: a sound trace with the number of its rows and its stop, or the index of the first
 /// wrong line, from 0, with the first rule that it breaks.
-#[derive(Clone, Copy, PartialEq, Eq, Debug)]
+#[derive(Clone, Copy)]
 pub enum Verdict {
     Sound { rounds: u32, stop: Option<Stop> },
     Wrong { index: u32, rule: TraceRule },

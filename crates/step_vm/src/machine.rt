@@ -11,7 +11,7 @@ use pals_base::{Op, Port, Trap};
 use step_code::Instr;
 
 /// Where an instruction leads: to a place, to the end of the step in a state, or to a trap.
-#[derive(Clone, Copy, PartialEq, Eq, Debug)]
+#[derive(Clone, Copy)]
 pub enum Onward {
     Goes(usize),
     Ends(u32),

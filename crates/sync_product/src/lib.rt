@@ -3,12 +3,12 @@
 
 pub mod laws;
 mod messages;
-mod opening;
-mod places;
+pub mod opening;
+pub mod places;
 mod product;
-mod reads;
+pub mod reads;
 mod round;
-mod stage;
-mod taps;
+pub mod stage;
+pub mod taps;
 
 pub use product::Product;

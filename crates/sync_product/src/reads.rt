@@ -36,8 +36,8 @@ pub fn write_inputs(
     }
 }
 
-// What an in port of a component of this rate has in a step.
-fn place_brought(round: RoundInputs, rate: u32, source: PortSource, step: usize) -> Port
+/// What an in port of a component of this rate has in a step.
+pub fn place_brought(round: RoundInputs, rate: u32, source: PortSource, step: usize) -> Port
     requires { step < rate }
     ensures { result ≡ slice_index_or (brought round.entry rate source) step Absent }
 {

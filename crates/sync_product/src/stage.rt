@@ -98,8 +98,8 @@ impl Stage {
         Ok(())
     }
 
-    // Makes one step from the inputs that stand ready, and keeps its outputs in the row of its number.
-    fn make_step(
+    /// Makes one step from the inputs that stand ready, and keeps its outputs in the row of its number.
+    pub fn make_step(
         &mut self,
         alloc: Global,
         behaviour: &Behaviour,
@@ -131,8 +131,8 @@ impl Stage {
     }
 }
 
-// Writes what the root out ports show of these rows.
-fn write_taps(outs: &mut Items<Tuple>, rows: &[Tuple], taps: &[u32])
+/// Writes what the root out ports show of these rows.
+pub fn write_taps(outs: &mut Items<Tuple>, rows: &[Tuple], taps: &[u32])
     requires { map (λ tuple. length tuple) outs.old ≡ map (λ _. length rows.now) taps.now }
     ensures after { outs.new ≡ map (λ port. column port rows.now) taps.now }
     ensures sizes { map (λ tuple. length tuple) outs.new ≡ map (λ tuple. length tuple) outs.old }

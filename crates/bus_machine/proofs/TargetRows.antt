@@ -1,0 +1,6 @@
+-- The rows of targets, computed.
+use Rattle.std.proofs.Common.{refl}
+use Rattle.bus_machine.specs.TargetRows.{NodesHaveTargets}
+
+pub nodes_have_targets : NodesHaveTargets
+nodes_have_targets = record { slow = refl; fast = refl }

@@ -1,5 +1,0 @@
-use Rattle.bus_machine.proofs.WorldRows.{events_are_refused, arrives_too_soon}
-use Rattle.bus_machine.proofs.laws.refused_events.Goals as goal
-
-pub returns : goal.returns
-returns c = record { table = events_are_refused; too_soon = arrives_too_soon }

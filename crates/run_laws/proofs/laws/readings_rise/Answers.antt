@@ -1,0 +1,10 @@
+use Rattle.pals_clock.specs.declared.clock.Clocks.TheVariants.{Meet}
+use Rattle.run_laws.proofs.Hours.{hour_in}
+use Rattle.run_laws.proofs.Rising.{readings_rise}
+use Rattle.run_laws.proofs.laws.readings_rise.Goals as goal
+
+pub returns : goal.returns
+returns c = record {
+  lines = readings_rise;
+  hour = λ run journal s rules runs node within other least is. hour_in run Meet journal s rules runs other node least within is;
+}

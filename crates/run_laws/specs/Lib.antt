@@ -1,0 +1,13 @@
+pub mod Shown
+pub mod Turns
+pub mod Runs
+pub mod Each
+pub mod Picked
+pub mod Timely
+pub mod Meetings
+pub mod Bounds
+pub mod Hours
+pub mod Timing
+pub mod Stopping
+pub mod Locked
+pub mod Rows

@@ -1,0 +1,77 @@
+-- With nodes that meet: what each line shows, and when a run stops.
+use Rattle.std.specs.Prelude.{◌≡◌, ℕ, ◌+◌, ◌*◌, ◌<◌, ◌≤◌, List, [], ◌∷◌, ◌++◌, length, Option, Some, None, IfSome}
+use Rattle.pals_base.specs.Bound.{alarm}
+use Rattle.pals_base.specs.declared.values.LinkNo.{LinkNo}
+use Rattle.pals_model.specs.Delays.{delay_of}
+use Rattle.pals_runs.specs.declared.journal.Phase.TheVariants.{Done}
+use Rattle.pals_runs.specs.declared.journal.Cause.TheVariants.{InTransit}
+use Rattle.pals_runs.specs.declared.journal.Stop.{Stop}
+use Rattle.pals_runs.specs.declared.journal.Stop.TheVariants as stop
+use Rattle.pals_runs.specs.declared.journal.JournalEntry.{JournalEntry}
+use Rattle.pals_runs.specs.declared.journal.JournalEntry.TheVariants as entry
+use Rattle.bus_machine.specs.Plans.{plan_of}
+use Rattle.bus_machine.specs.States.{Run, BusState, node_at, link_at}
+use Rattle.run_laws.specs.Shown.{starts}
+use Rattle.run_laws.specs.Each.{InMeetings, EachNode}
+
+-- ---- what lines show
+-- an arrival and a stop show the alarm of the round that their link's target starts next
+abbrev pub AtNext : Run → List JournalEntry → LinkNo → Option ℕ → Type 0
+AtNext run front link reading = reading ≡ Some (alarm run.design.period (length (starts (link_at run.design link.0).target.0 front)))
+
+abbrev pub StopShows : Run → List JournalEntry → Stop → Type 0
+StopShows run front (stop.Missed link round reading cause) = AtNext run front link reading
+StopShows run front (stop.Early link round reading) = AtNext run front link reading
+
+-- a start shows its round's alarm, a step its own, and a send its round's release
+abbrev pub ShowsTarget : Run → List JournalEntry → JournalEntry → Type 0
+ShowsTarget run front (entry.Arrive link round reading result) = AtNext run front link reading
+ShowsTarget run front (entry.Start node round reading) = reading ≡ Some (alarm run.design.period round)
+ShowsTarget run front (entry.Step node round step reading) =
+    reading ≡ Some (alarm run.design.period round + step * (plan_of run.design node.0).step_period)
+ShowsTarget run front (entry.Finish node round) = Unit {0}
+ShowsTarget run front (entry.Send node round reading) =
+    reading ≡ Some (alarm run.design.period round + (plan_of run.design node.0).release_offset)
+ShowsTarget run front (entry.Drop link round) = Unit {0}
+ShowsTarget run front (entry.Repeat link round) = Unit {0}
+ShowsTarget run front (entry.Stopped why) = StopShows run front why
+
+abbrev pub ShowTargets : Run → List JournalEntry → List JournalEntry → Type 0
+ShowTargets run front [] = Unit {0}
+ShowTargets run front (e ∷ es) = ShowsTarget run front e × ShowTargets run (front ++ e ∷ []) es
+
+abbrev pub MeetingsShowTargets : Type 0
+MeetingsShowTargets = InMeetings (λ run journal s. ShowTargets run [] journal)
+
+-- ---- when a run stops
+-- a round of a link that another round follows, and whose message becomes due after its target's next alarm
+pub record IsLate (run : Run) (number round : ℕ) : Type 0 where
+  pub within : number < length run.design.links
+  pub followed : round + 1 < run.rounds
+  pub late : let source = (link_at run.design number).source.0 in
+      run.design.period < (plan_of run.design source).release_offset + delay_of run.delays number round
+
+abbrev pub AllDone : Run → BusState → Type 0
+AllDone run s = EachNode run (λ node. (node_at s node).phase ≡ Done)
+
+-- where all nodes are done, no round of a link is late
+abbrev pub MeetingsEnd : Type 0
+MeetingsEnd = InMeetings (λ run journal s. AllDone run s → (number round : ℕ) → IsLate run number round → ⊥)
+
+-- a message that is missed is late, and in transit; one that comes early has no delay, and is sent at its alarm
+abbrev pub MeetingStop : Run → Stop → Type 0
+MeetingStop run (stop.Missed link round reading cause) = IsLate run link.0 round × (cause ≡ InTransit)
+MeetingStop run (stop.Early link round reading) =
+    (plan_of run.design (link_at run.design link.0).source.0).release_offset + delay_of run.delays link.0 round ≡ 0
+
+abbrev pub MeetingsStop : Type 0
+MeetingsStop = InMeetings (λ run journal s. IfSome s.stop (MeetingStop run))
+
+-- each delay is between the least and the greatest of the bounds
+abbrev pub DelaysFit : Run → Type 0
+DelaysFit run = (number round : ℕ) → number < length run.design.links
+    → (run.design.gamma.mu_min ≤ delay_of run.delays number round) × (delay_of run.delays number round ≤ run.design.gamma.mu_max)
+
+-- with such delays no stop ever stands
+abbrev pub NoMeetingStops : Type 0
+NoMeetingStops = InMeetings (λ run journal s. DelaysFit run → s.stop ≡ None)

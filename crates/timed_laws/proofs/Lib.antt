@@ -1,0 +1,17 @@
+pub mod Times
+pub mod Lists
+pub mod Nodes
+pub mod Links
+pub mod Changes
+pub mod Faults
+pub mod Starts
+pub mod StepsOn
+pub mod Finishes
+pub mod Passes
+pub mod Openings
+pub mod Arrivals
+pub mod Sends
+pub mod Worlds
+pub mod Once
+pub mod Numbers
+pub mod WorldRows

@@ -1,0 +1,7 @@
+pub mod Worlds
+pub mod Deadlines
+pub mod Faults
+pub mod WorldRows
+pub mod Kept
+pub mod Lists
+pub mod Laws

@@ -1,0 +1,5 @@
+pub mod LineForms
+pub mod TraceLines
+pub mod TraceRules
+pub mod Traces
+pub mod TraceRows
