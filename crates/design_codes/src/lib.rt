@@ -3,7 +3,9 @@
 
 ghost use Rattle.std.specs.Prelude.{IfOk, IfErr};
 ghost use Rattle.pals_bus.specs.Values.{AreCodes};
+ghost use Rattle.step_compiler.specs.LaidOut.{AreLaidOut};
 ghost use Rattle.design_codes.specs.Causes.{AreShort, IsCause};
+ghost use Rattle.design_codes.specs.Behaviours.{behaviours};
 
 use pals_base::{Items, NoMemory, NodeNo};
 use pals_model::Design;
@@ -12,7 +14,7 @@ use step_code::Code;
 use step_compiler::{CompileFault, compile};
 
 /// Why a design has no codes.
-#[derive(Clone, Copy, PartialEq, Eq, Debug)]
+#[derive(Clone, Copy, Debug)]
 pub enum CodesEnd {
     /// The code of the component `node` would have `length` instructions, which is more than a code
     /// may have. It is the first such component.
@@ -32,9 +34,11 @@ impl From<NoMemory> for CodesEnd {
     }
 }
 
-/// The code of each component, which means what the component does.
+/// The code of each component: it is laid out for the component's behaviour, and means what the
+/// component does.
 pub fn compile_all(alloc: Global, design: &Design) -> Result<Items<Code>, CodesEnd>
     ensures ok { IfOk result (AreCodes design.now) }
+    ensures layout { IfOk result (AreLaidOut (behaviours design.now)) }
     ensures short { IfOk result (λ _. AreShort design.now) }
     ensures fault { IfErr result (IsCause design.now) }
 {

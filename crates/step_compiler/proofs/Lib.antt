@@ -19,3 +19,6 @@ pub mod Levels
 pub mod Fine
 pub mod FineActions
 pub mod Verifying
+pub mod Placing
+pub mod BlockOrders
+pub mod LaidOutCodes

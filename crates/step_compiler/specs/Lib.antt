@@ -4,3 +4,5 @@ pub mod Order
 pub mod Blocks
 pub mod Adding
 pub mod Refusals
+pub mod LaidOut
+pub mod Laws

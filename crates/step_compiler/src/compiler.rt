@@ -3,6 +3,7 @@ ghost use Rattle.std.specs.Prelude.{◌≡◌, length, IfOk, IfErr};
 ghost use Rattle.step_code.specs.Lengths.{code_length};
 ghost use Rattle.step_code.specs.Means.{Means};
 ghost use Rattle.step_compiler.specs.Blocks.{compiled};
+ghost use Rattle.step_compiler.specs.LaidOut.{IsLaidOut};
 ghost use Rattle.step_compiler.specs.Refusals.{IsCauseFor};
 
 use crate::blocks::{entries, push_blocks, starts};
@@ -16,9 +17,11 @@ use pals_base::{Behaviour, Items, NoMemory};
 use std::alloc::Global;
 use step_code::{Code, CodeFault, CodeParts, verify};
 
-/// The code of a behaviour: each step of it leaves what the behaviour's step leaves. Code that is
-/// longer than a component's code may be is refused, and nothing else is.
+/// The code of a behaviour, the one that is laid out for it: each step of it leaves what the
+/// behaviour's step leaves. Code that is longer than a component's code may be is refused, and nothing
+/// else is.
 pub fn compile(alloc: Global, behaviour: &Behaviour) -> Result<Code, CompileFault>
+    ensures layout { IfOk result (IsLaidOut behaviour.now) }
     ensures means { IfOk result (λ code. Means code behaviour.now) }
     ensures length { IfOk result (λ code. length code.instrs ≡ code_length behaviour.now) }
     ensures fault { IfErr result (IsCauseFor behaviour.now) }

@@ -7,6 +7,7 @@ mod compiler;
 mod depths;
 mod expressions;
 mod fault;
+pub mod laws;
 mod lengths;
 mod order;
 mod places;

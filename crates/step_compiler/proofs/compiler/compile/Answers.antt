@@ -5,9 +5,16 @@ use Rattle.step_code.specs.declared.instr.CodeParts.{CodeParts}
 use Rattle.step_code.specs.Rules.{IsVerified}
 use Rattle.step_code.specs.Means.{Means}
 use Rattle.step_code.specs.Lengths.{length_edges, code_length}
+use Rattle.step_compiler.specs.LaidOut.{IsLaidOut}
+use Rattle.step_compiler.proofs.LaidOutCodes.{compiled_is_laid_out}
 use Rattle.step_compiler.proofs.Meaning.{compiled_means, compiled_length}
 use Rattle.step_compiler.proofs.Verifying.{compiled_verified, only_memory}
 use Rattle.step_compiler.proofs.compiler.compile.Goals as goal
+
+pub returns-in-Ok-clause-layout : goal.returns-in-Ok-clause-layout
+returns-in-Ok-clause-layout c =
+    let b = c.args.behaviour.now in
+    subst (IsLaidOut b) (sym (c.in-Ok.ensures.code ∙ c.in_ok-parts.ensures)) (compiled_is_laid_out b c.parts.ensures.rules)
 
 pub returns-in-Ok-clause-means : goal.returns-in-Ok-clause-means
 returns-in-Ok-clause-means c =

@@ -1,0 +1,13 @@
+pub mod Elements
+pub mod Orders
+pub mod Times
+pub mod Weights
+pub mod InTime
+pub mod BudgetLaws
+pub mod Repeating
+pub mod Sorting
+pub mod Members
+pub mod Lines
+pub mod Servable
+pub mod Promised
+pub mod Written

@@ -1,0 +1,43 @@
+-- The next element of a list, in the code's loops.
+use Rattle.std.proofs.Common.{◌≡◌, ℕ, ◌+◌, ◌<◌, List, [], ◌∷◌, ◌++◌, length, map, drop, refl, ap, ap₂, sym, ◌∙◌, append_assoc, add-one, drop-cons, arith}
+use Rattle.std.specs.Prelude.{slice_index_or}
+use Rattle.std.specs.List.{sum_by}
+use Rattle.std.proofs.lemmas.List.Sums.{sum_by-cons}
+use Rattle.round_budget.specs.Budgets as budgets
+use Rattle.round_budget.specs.Budgets.{begins, served_at, serve, line_from}
+use Rattle.round_budget.specs.declared.releases.Release.{Release}
+use Rattle.round_budget.specs.declared.serving.Line.{Line}
+use Rattle.round_budget.specs.Values.{release_value, line_value}
+
+pub map_push : {X Y : Type 0} (f : X → Y) (xs : List X) (x : X) → map f (xs ++ x ∷ []) ≡ map f xs ++ f x ∷ []
+map_push f [] x = refl
+map_push f (y ∷ ys) x = ap (λ zs. f y ∷ zs) (map_push f ys x)
+
+drop_next : (rs : List Release) (i : ℕ) (x d : Release) → i < length rs → x ≡ slice_index_or rs i d → drop i rs ≡ x ∷ drop (i + 1) rs
+drop_next rs i x d within is =
+    drop-cons rs i d within ∙ ap₂ (λ (z : Release) (k : ℕ). z ∷ drop k rs) (sym is) (sym (add-one i))
+
+-- one more line is served
+pub serve_next : (cost : budgets.Release → ℕ) (start free after i : ℕ) (rs : List Release) (x d : Release) (lines : List Line) (y : Line) (whole : List budgets.Line)
+    → i < length rs → x ≡ slice_index_or rs i d
+    → line_from start (served_at cost free (release_value x)) ≡ line_value y
+    → after ≡ begins free (release_value x) + cost (release_value x)
+    → map line_value lines ++ map (line_from start) (serve cost free (map release_value (drop i rs))) ≡ whole
+    → map line_value (lines ++ y ∷ []) ++ map (line_from start) (serve cost after (map release_value (drop (i + 1) rs))) ≡ whole
+serve_next cost start free after i rs x d lines y whole within is line then before =
+    let rest = map release_value (drop (i + 1) rs) in
+    let served = map (line_from start) (serve cost after rest) in
+    ap (λ l. l ++ served) (map_push line_value lines y)
+    ∙ append_assoc (map line_value lines) (line_value y ∷ []) served
+    ∙ ap₂ (λ (l : budgets.Line) (t : ℕ). map line_value lines ++ (l ∷ map (line_from start) (serve cost t rest))) (sym line) then
+    ∙ ap (λ (l : List Release). map line_value lines ++ map (line_from start) (serve cost free (map release_value l))) (sym (drop_next rs i x d within is))
+    ∙ before
+
+-- the sum with one more
+pub sum_next : {X : Type 0} (f : X → ℕ) (xs : List X) (x : X) → sum_by f (xs ++ x ∷ []) ≡ sum_by f xs + f x
+sum_next f [] x = (let a = sum_by-cons f x [] in omega (arith, a))
+sum_next f (y ∷ ys) x =
+    let later = sum_next f ys x in
+    let a = sum_by-cons f y (ys ++ x ∷ []) in
+    let b = sum_by-cons f y ys in
+    omega (arith, later, a, b)

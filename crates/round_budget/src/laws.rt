@@ -1,0 +1,51 @@
+//! Laws of round budgets. Each is the contract of a function that does nothing.
+ghost use Rattle.round_budget.specs.Laws.{EachIsServed, ServedOnce, ServedInOrder, NoneBeginsEarly, OneAtATime};
+ghost use Rattle.round_budget.specs.Laws.{ResponsesFit, MostResponsesFit, ExecResponsesFit, RoundsAreApart, TimetableRepeats};
+ghost use Rattle.round_budget.specs.Laws.{TextIsOne, VerdictIsOne};
+ghost use Rattle.round_budget.specs.Rows.{TurnIsCompiled, TurnFits, TurnIsOver, TurnHasSlots, TurnIsWritten, TurnIsWrittenOver};
+
+/// Each release is served once, in order of release and then of component.
+pub fn releases_are_served()
+    ensures each { EachIsServed }
+    ensures once { ServedOnce }
+    ensures order { ServedInOrder }
+{}
+
+/// No step begins before its release, and none before the one before it is done.
+pub fn steps_follow_one_another()
+    ensures begin { NoneBeginsEarly }
+    ensures apart { OneAtATime }
+{}
+
+/// Where one step of each member takes at most the longest execution, each step is done within the
+/// longest execution after its release: by any counts of instructions up to the weights of the codes, by
+/// the weights, and by what the codes make in the composition.
+pub fn responses_fit()
+    ensures any { ResponsesFit }
+    ensures most { MostResponsesFit }
+    ensures exec { ExecResponsesFit }
+{}
+
+/// And then no step of a round is left when the next one begins, so one round's timetable is every
+/// round's.
+pub fn rounds_are_apart()
+    ensures apart { RoundsAreApart }
+    ensures repeats { TimetableRepeats }
+{}
+
+/// Two lists of codes that are laid out for the same behaviours give one text, and one answer to
+/// whether a processor is over.
+pub fn text_is_one()
+    ensures text { TextIsOne }
+    ensures verdict { VerdictIsOne }
+{}
+
+/// The turn controller on one processor: the sums, the timetable where they fit, and what is written.
+pub fn turn_is_budgeted()
+    ensures compiled { TurnIsCompiled }
+    ensures fits { TurnFits }
+    ensures over { TurnIsOver }
+    ensures slots { TurnHasSlots }
+    ensures written { TurnIsWritten }
+    ensures written_over { TurnIsWrittenOver }
+{}

@@ -1,0 +1,14 @@
+//! The round budget of one processor: what one step of each of its components takes at most, whether
+//! that fits the longest execution, and the timetable of its rounds. Definitions and laws of round
+//! budgets, and of the text that is written of them, stand in `specs`.
+#![tactic(auto)]
+
+pub mod laws;
+mod releases;
+mod serving;
+mod sums;
+mod timetables;
+
+pub use serving::Line;
+pub use sums::{fits, total};
+pub use timetables::{BudgetEnd, timetable};
