@@ -1,0 +1,10 @@
+pub mod Times
+pub mod Histories
+pub mod Watching
+pub mod Violations
+pub mod Texts
+pub mod Rows
+pub mod Adding
+pub mod Writing
+pub mod Standing
+pub mod Several

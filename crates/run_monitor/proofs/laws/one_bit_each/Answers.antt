@@ -1,0 +1,5 @@
+use Rattle.run_monitor.proofs.Histories.{one_bit_each}
+use Rattle.run_monitor.proofs.laws.one_bit_each.Goals as goal
+
+pub returns : goal.returns
+returns c = one_bit_each

@@ -1,0 +1,7 @@
+use Rattle.run_monitor.specs.Bits.{row_of}
+use Rattle.run_monitor.proofs.Several.{GoneTo}
+use Rattle.run_monitor.proofs.monitors.advance_each.Given as goal
+
+-- the first monitors have gone on, and the others are as they were
+abbrev pub invariant-loop-at : goal.invariant-loop-at
+invariant-loop-at l = GoneTo l.fn.monitors.items l.monitors.items (row_of l.parts) l.at

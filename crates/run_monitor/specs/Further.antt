@@ -1,0 +1,27 @@
+-- What a monitor does with one bit a formula: what it said at the last round.
+use Rattle.std.specs.Prelude.{Bool, true, false, not, ◌&&◌, ◌||◌, is_some, List, [], ◌∷◌, length, Option, Some, None}
+use Rattle.pals_base.specs.declared.values.Frame.{Frame}
+use Rattle.pals_runs.specs.Formula.{Formula, Var, Halted, Not, And, Or, Previous, Once, Historically, Since}
+use Rattle.run_monitor.specs.Monitors.{frame_in, variable_in, compares, holds}
+
+-- a formula's bit, or this before the first round
+abbrev pub bit_of : Bool → Option (Formula → Bool) → Formula → Bool
+bit_of first None f = first
+bit_of first (Some bits) f = bits f
+
+-- what a formula says at one more round of these frames
+abbrev pub further : Option (Formula → Bool) → List Frame → Formula → Bool
+further bits row (Var node variable op number) = compares op (variable_in (frame_in row node) variable) number
+further bits row (Halted node) = is_some (frame_in row node).halt
+further bits row (Not f) = not (further bits row f)
+further bits row (And f g) = further bits row f && further bits row g
+further bits row (Or f g) = further bits row f || further bits row g
+further bits row (Previous f) = bit_of false bits f
+further bits row (Once f) = bit_of false bits (Once f) || further bits row f
+further bits row (Historically f) = bit_of true bits (Historically f) && further bits row f
+further bits row (Since f g) = (bit_of false bits (Since f g) && further bits row f) || further bits row g
+
+-- the bits after a history: what each formula says at its last round, and none before the first
+abbrev pub bits_after : List (List Frame) → Option (Formula → Bool)
+bits_after [] = None
+bits_after (row ∷ h) = Some (λ f. holds f (row ∷ h) (length h))

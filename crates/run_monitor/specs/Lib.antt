@@ -1,0 +1,12 @@
+pub mod Times
+pub mod Monitors
+pub mod Further
+pub mod Violations
+pub mod Texts
+pub mod Laws
+pub mod Found
+pub mod Rows
+pub mod Flat
+pub mod Bits
+pub mod States
+pub mod Lists

@@ -1,0 +1,49 @@
+//! Laws of monitors. Each law is the contract of a function that does nothing.
+ghost use Rattle.run_monitor.specs.Laws.{PreviousReads, OnceReads, HistoricallyReads, SinceReads, PastStays};
+ghost use Rattle.run_monitor.specs.Laws.{OneBitEach, HistoryHasRounds, HistoryGoesOn, SaidAtOnce, RowsGoOn};
+ghost use Rattle.run_monitor.specs.Found.{ViolatedIsFirst, OthersHold};
+ghost use Rattle.run_monitor.specs.Rows.{SmallIsWatched, UpIsWatched, QuietIsWatched, TwoText, OneText, AreViolated};
+
+/// What the words of time mean, said over all rounds up to the one that is asked of.
+pub fn words_read_as_written()
+    ensures previous { PreviousReads }
+    ensures once { OnceReads }
+    ensures historically { HistoricallyReads }
+    ensures since { SinceReads }
+{}
+
+/// What a formula says at a round stays, whatever comes after it.
+pub fn past_stays()
+    ensures { PastStays }
+{}
+
+/// One bit a formula, what it said at the last round, is enough to say what each says at one more.
+pub fn one_bit_each()
+    ensures { OneBitEach }
+{}
+
+/// The history of a design grows by a row each round, and what is said of a round is said at once: so the
+/// text grows by the lines of each round.
+pub fn histories_grow()
+    ensures rounds { HistoryHasRounds }
+    ensures goes_on { HistoryGoesOn }
+    ensures at_once { SaidAtOnce }
+    ensures rows { RowsGoOn }
+{}
+
+/// Where a formula is false at some round, the last line names the least such round, and the first
+/// formula that is false there; else all hold throughout, and it says so.
+pub fn last_lines_name_the_first()
+    ensures violated { ViolatedIsFirst }
+    ensures others { OthersHold }
+{}
+
+/// Three properties of the two counters over three rounds.
+pub fn counters_are_watched()
+    ensures small { SmallIsWatched }
+    ensures up { UpIsWatched }
+    ensures quiet { QuietIsWatched }
+    ensures two_text { TwoText }
+    ensures one_text { OneText }
+    ensures violated { AreViolated }
+{}

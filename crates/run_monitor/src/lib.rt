@@ -1,0 +1,14 @@
+//! Monitors of runs: a formula over all rounds since the first, answered after each round from one bit
+//! for each form in it. What formulas mean, and the text of watched properties, stand in `specs/`.
+#![tactic(auto)]
+
+mod bits;
+mod forms;
+pub mod laws;
+mod monitor;
+mod monitors;
+mod violation;
+
+pub use monitor::Monitor;
+pub use monitors::Monitors;
+pub use violation::Violation;

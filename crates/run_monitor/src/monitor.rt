@@ -1,0 +1,101 @@
+//! Monitors of one formula.
+ghost use Rattle.std.specs.Prelude.{◌≡◌, IfOk};
+ghost use Rattle.pals_runs.specs.FormulaOf.{formula_of};
+ghost use Rattle.run_monitor.specs.Bits.{row_of};
+ghost use Rattle.run_monitor.specs.States.{said, IsNew, Sees, SeesAll, Advances};
+
+use crate::bits::{advance_all, bit_at, see_frame, see_row};
+use crate::forms::{FlatForm, add};
+use pals_base::{Frame, Items, NoMemory, NodeNo};
+use pals_model::Part;
+use pals_runs::Form;
+use std::alloc::Global;
+use std::marker::Model;
+use std::mem::swap;
+
+/// A monitor of a formula: for each form in it, what it said at the last round.
+#[derive(Drop)]
+pub struct Monitor {
+    forms: Items<FlatForm>,
+    begun: bool,
+    kept: Items<bool>,
+    seen: Items<bool>,
+}
+
+impl Model for Monitor {
+    ghost use Rattle.run_monitor.specs.States.{MonitorState, state_code};
+
+    ghost Value = { MonitorState };
+
+    ghost coded = { state_code };
+
+    ghost use Rattle.run_monitor.specs.Flat.{forms_of};
+    ghost use Rattle.run_monitor.specs.States.{IsReady};
+
+    ghost view = { λ m. record { forms = forms_of m.forms; begun = m.begun; kept = m.kept; seen = m.seen } };
+
+    ghost invariant = { λ m. IsReady m.forms m.kept m.seen };
+}
+
+impl Monitor {
+    /// A monitor that has not advanced: it stands for no rounds.
+    pub fn new(alloc: Global, form: Form) -> Result<Monitor, NoMemory>
+        ensures { IfOk result (λ monitor. IsNew (formula_of form) monitor) }
+    {
+        Monitor::of(alloc, &form)
+    }
+
+    /// A monitor of a formula that is kept elsewhere. It recurs as deep as the formula is.
+    pub fn of(alloc: Global, form: &Form) -> Result<Monitor, NoMemory>
+        ensures { IfOk result (λ monitor. IsNew (formula_of form.now) monitor) }
+    {
+        let mut forms = Items::new(alloc);
+        add(&mut forms, form)?;
+        let kept = Items::from_vec(vec![in alloc; false; forms.len()]?);
+        let seen = Items::from_vec(vec![in alloc; false; forms.len()]?);
+        Ok(Monitor {
+            forms,
+            begun: false,
+            kept,
+            seen,
+        })
+    }
+
+    /// Sees the frame that a component has after the round that comes next. It takes no memory.
+    pub fn see(&mut self, node: NodeNo, frame: &Frame)
+        ensures { Sees self.old self.new node.0 frame.now }
+    {
+        see_frame(self.forms.as_slice(), node, frame, &mut self.seen);
+    }
+
+    /// Sees what all components leave in the round that comes next. It takes time in line with the
+    /// formula alone, and no memory.
+    pub fn see_all(&mut self, parts: &[Part])
+        ensures { SeesAll self.old self.new (row_of parts.now) }
+    {
+        see_row(self.forms.as_slice(), parts, &mut self.seen);
+    }
+
+    /// Goes one round further, whose frames it has seen, and answers what the formula says there. It
+    /// takes no memory.
+    pub fn advance(&mut self) -> bool
+        ensures { Advances self.old self.new result }
+    {
+        advance_all(
+            self.forms.as_slice(),
+            self.begun,
+            self.kept.as_slice(),
+            &mut self.seen,
+        );
+        swap(&mut self.kept, &mut self.seen);
+        self.begun = true;
+        self.said()
+    }
+
+    /// What the formula said at the last round, and false before the first.
+    pub fn said(&self) -> bool
+        ensures { result ≡ said self.now }
+    {
+        bit_at(self.kept.as_slice(), self.forms.len() - 1)
+    }
+}
