@@ -1,6 +1,8 @@
 pub mod Links
 pub mod ReportRows
+pub mod Turns
 pub mod Worlds
+pub mod Undergone
 pub mod Moves
 pub mod StepCounts
 pub mod Senders

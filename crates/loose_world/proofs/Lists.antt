@@ -1,11 +1,11 @@
--- The events of a scenario of a loose world: each is one of that world, and they are no more than a list may have.
-use Rattle.std.proofs.Common.{◌≡◌, cond, ℕ, ◌<◌, ◌≤◌, ◌+◌, Bool, true, false, List, [], ◌∷◌, ◌++◌, length, codes, decimal, Option, Some, None, Result, Ok, Err, All, inl, inr, refl, sym, ap, ◌∙◌, subst, arith, length-append, bytes_eq}
-use Rattle.std.specs.Prelude.{nat_le, nat_lt, position, option_and_then, replicate, find, not}
+-- The events of a scenario are no more than a list may have, and those of a loose world are events of that world.
+use Rattle.std.proofs.Common.{◌≡◌, cond, ℕ, ◌<◌, ◌≤◌, ◌+◌, Bool, true, false, List, [], ◌∷◌, ◌++◌, length, codes, decimal, Some, None, Ok, All, refl, ap, subst, arith, length-append, bytes_eq}
+use Rattle.std.specs.Prelude.{nat_le, nat_lt, position, option_and_then}
 use Rattle.std.proofs.lemmas.Bool.{leb-true, ltb-true}
 use Rattle.std.proofs.lemmas.List.Elements.{All-nil, All-push}
 use Rattle.std.specs.List.{position_or_len}
 use Rattle.serde_json.specs.Data.{Data}
-use Rattle.serde_json.specs.Find.{get, as_str}
+use Rattle.serde_json.specs.Find.{as_str}
 use Rattle.pals_base.specs.declared.limits.TheConstants.{ROUNDS, LIST_ITEMS}
 use Rattle.pals_base.specs.declared.values.NodeNo.{NodeNo}
 use Rattle.pals_base.specs.declared.values.LinkNo.{LinkNo}
@@ -14,19 +14,17 @@ use Rattle.pals_model.specs.declared.design.Component.{Component}
 use Rattle.pals_model.specs.declared.design.Link.{Link}
 use Rattle.pals_model.specs.LinkNames.{node_named, link_named, link_name}
 use Rattle.pals_runs.specs.declared.commands.Command.{Command}
-use Rattle.pals_runs.specs.declared.commands.Command.TheVariants.{World}
 use Rattle.pals_runs.specs.declared.events.Event.{Event}
 use Rattle.pals_runs.specs.declared.events.Event.TheVariants as event
-use Rattle.scenario_values.specs.declared.fault.ScenarioFault.{ScenarioFault}
 use Rattle.scenario_values.specs.declared.fault.ScenarioFault.TheVariants.{WrongKind, OutOfRange, Unknown}
 use Rattle.scenario_values.specs.Outcomes.{◌>>=◌, given, only_if, through}
 use Rattle.scenario_values.specs.Places.{inside}
 use Rattle.scenario_values.specs.Values.{elements, short_list, text, whole, is_whole}
-use Rattle.scenario_values.proofs.Passing.{ok_same, ok_bind, ok_given, ok_only_if, through_keeps}
+use Rattle.scenario_values.proofs.Passing.{ok_same, ok_bind, ok_given, ok_only_if}
 use Rattle.scenario_names.specs.Names.{node_at, link_at, node_no, link_no}
 use Rattle.run_fields.specs.declared.events.Word.{Word}
 use Rattle.run_fields.specs.declared.events.Word.TheVariants.{Pass, Start, Step, Finish, Send, Arrive, Drop, Repeat}
-use Rattle.run_fields.specs.Events.{word_of, is_usual, node_part, link_parts, pass_parts, event_of, usual_word, event_from, event_in, with_event, events_in}
+use Rattle.run_fields.specs.Events.{word_of, is_usual, node_part, link_parts, event_of, usual_word, event_from, event_in, with_event, events_in}
 use Rattle.loose_world.specs.Worlds.{IsLooseIn}
 use Rattle.loose_world.specs.EventLaws.{loosely, AreLooseEvents}
 
@@ -114,38 +112,47 @@ event_loose design root place d e is =
     parts_loose design root place parts.0 e parts.2
 
 -- ---- lists of events
--- events of a loose world, as many as were read
-record AreRead (design : DesignParts) (count : ℕ) (events : List Event) : Type 0 where
-  each : All (IsLooseIn design) events
-  as_many : length events ≡ count
+module _ (design : DesignParts) (command : Command) (P : Event → Type 0) (keeps : (place : List ℕ) (d : Data) (e : Event) → event_in design command place d ≡ Ok e → P e) where
+  -- such events, as many as were read
+  record AreRead (count : ℕ) (events : List Event) : Type 0 where
+    each : All P events
+    as_many : length events ≡ count
 
-one_more : (design : DesignParts) (root : List ℕ) (count : ℕ) (events : List Event) (d : Data) (more : List Event) → AreRead design count events → with_event design (loosely root) events d ≡ Ok more → AreRead design (count + 1) more
-one_more design root count events d more are e =
-    let place = inside (codes "events") (decimal (length events)) in
-    let next = ok_bind (event_in design (loosely root) place d) (λ v. Ok (events ++ v ∷ [])) more e in
-    let many = length-append events (next.0 ∷ []) in
-    let many_are = are.as_many in
-    subst (AreRead design (count + 1)) (ok_same (events ++ next.0 ∷ []) more next.2) (record {
-      each = All-push (IsLooseIn design) events next.0 are.each (event_loose design root place d next.0 next.1);
-      as_many = omega (arith, many, many_are);
-    })
+  one_more : (count : ℕ) (events : List Event) (d : Data) (more : List Event) → AreRead count events → with_event design command events d ≡ Ok more → AreRead (count + 1) more
+  one_more count events d more are e =
+      let place = inside (codes "events") (decimal (length events)) in
+      let next = ok_bind (event_in design command place d) (λ v. Ok (events ++ v ∷ [])) more e in
+      let many = length-append events (next.0 ∷ []) in
+      let many_are = are.as_many in
+      subst (AreRead (count + 1)) (ok_same (events ++ next.0 ∷ []) more next.2) (record {
+        each = All-push P events next.0 are.each (keeps place d next.0 next.1);
+        as_many = omega (arith, many, many_are);
+      })
 
-all_read : (design : DesignParts) (root : List ℕ) (count : ℕ) (events : List Event) (ds : List Data) (more : List Event) → AreRead design count events → through (with_event design (loosely root)) events ds ≡ Ok more
-    → AreRead design (count + length ds) more
-all_read design root count events [] more are e = subst (λ n. AreRead design n more) (omega arith) (subst (AreRead design count) (ok_same events more e) are)
-all_read design root count events (d ∷ ds) more are e =
-    let first = ok_bind (with_event design (loosely root) events d) (λ next. through (with_event design (loosely root)) next ds) more e in
-    subst (λ n. AreRead design n more) (omega arith) (all_read design root (count + 1) first.0 ds more (one_more design root count events d first.0 are first.1) first.2)
+  all_read : (count : ℕ) (events : List Event) (ds : List Data) (more : List Event) → AreRead count events → through (with_event design command) events ds ≡ Ok more
+      → AreRead (count + length ds) more
+  all_read count events [] more are e = subst (λ n. AreRead n more) (omega arith) (subst (AreRead count) (ok_same events more e) are)
+  all_read count events (d ∷ ds) more are e =
+      let first = ok_bind (with_event design command events d) (λ next. through (with_event design command) next ds) more e in
+      subst (λ n. AreRead n more) (omega arith) (all_read (count + 1) first.0 ds more (one_more count events d first.0 are first.1) first.2)
 
-pub events_keep : (design : DesignParts) (root : List ℕ) (d : Data) (events : List Event) → events_in design (loosely root) d ≡ Ok events → AreLooseEvents design events
-unfolding events_in short_list
-events_keep design root d events e =
-    let short = ok_bind (short_list (codes "events") LIST_ITEMS d) (λ ds. through (with_event design (loosely root)) [] ds) events e in
-    let items = ok_bind (elements (codes "events") d) (λ ds. only_if (nat_le (length ds) LIST_ITEMS) (OutOfRange (codes "events")) (Ok ds)) short.0 short.1 in
-    let passed = ok_only_if (nat_le (length items.0) LIST_ITEMS) (OutOfRange (codes "events")) (Ok items.0) short.0 items.2 in
-    let within = leb-true _ _ passed.0 in
-    let many = ap length (ok_same items.0 short.0 passed.1) in
-    let none : AreRead design 0 [] = record { each = All-nil (IsLooseIn design); as_many = refl } in
-    let read = all_read design root 0 [] short.0 events none short.2 in
-    let count = read.as_many in
-    record { each = read.each; few = omega (arith, within, many, count) }
+  events_keep : (d : Data) (events : List Event) → events_in design command d ≡ Ok events → All P events × (length events ≤ LIST_ITEMS)
+  unfolding events_in short_list
+  events_keep d events e =
+      let short = ok_bind (short_list (codes "events") LIST_ITEMS d) (λ ds. through (with_event design command) [] ds) events e in
+      let items = ok_bind (elements (codes "events") d) (λ ds. only_if (nat_le (length ds) LIST_ITEMS) (OutOfRange (codes "events")) (Ok ds)) short.0 short.1 in
+      let passed = ok_only_if (nat_le (length items.0) LIST_ITEMS) (OutOfRange (codes "events")) (Ok items.0) short.0 items.2 in
+      let within = leb-true _ _ passed.0 in
+      let many = ap length (ok_same items.0 short.0 passed.1) in
+      let none : AreRead 0 [] = record { each = All-nil P; as_many = refl } in
+      let read = all_read 0 [] short.0 events none short.2 in
+      let count = read.as_many in
+      (read.each, omega (arith, within, many, count))
+
+pub events_few : (design : DesignParts) (command : Command) (d : Data) (events : List Event) → events_in design command d ≡ Ok events → length events ≤ LIST_ITEMS
+events_few design command d events read = (events_keep design command (λ _. Unit {0}) (λ place d e is. tt) d events read).1
+
+pub events_loose : (design : DesignParts) (root : List ℕ) (d : Data) (events : List Event) → events_in design (loosely root) d ≡ Ok events → AreLooseEvents design events
+events_loose design root d events read =
+    let kept = events_keep design (loosely root) (IsLooseIn design) (event_loose design root) d events read in
+    record { each = kept.0; few = kept.1 }

@@ -8,8 +8,7 @@ use Rattle.pals_base.specs.Steps.{upwards}
 use Rattle.pals_base.proofs.Upwards.{upwards-more, map_upwards_more}
 use Rattle.pals_model.specs.RoundTexts.{line_end, row_lines, text_of}
 use Rattle.bus_machine.specs.Nodes.{NodeState}
-use Rattle.bus_machine.specs.States.{node_at, no_node}
-use Rattle.bus_machine.specs.Traces.{finished_by_all}
+use Rattle.bus_machine.specs.States.{node_at, no_node, finished_by_all}
 use Rattle.pals_bus.specs.Values.{BusValue}
 use Rattle.loose_world.specs.Finished.{part_of_round, lines_before}
 

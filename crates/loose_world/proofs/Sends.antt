@@ -26,21 +26,21 @@ use Rattle.bus_machine.specs.Machine.{Send, IsStep, flight_after_send, after_sen
 use Rattle.bus_machine.specs.Agreement.{IsCopy, Agrees}
 use Rattle.bus_machine.specs.Laws.{IsRunOf}
 use Rattle.bus_machine.specs.WorldTexts.{sender, sends_of, sent_line, sent_lines}
-use Rattle.bus_machine.proofs.Arrivals.{opening_agrees, step_keeps_agreement}
+use Rattle.bus_machine.proofs.Arrivals.{step_keeps_agreement}
 use Rattle.bus_machine.proofs.Lists.{numbered_at, oldest_is_one}
 use Rattle.bus_machine.proofs.Nodes.{MaySend}
 use Rattle.bus_machine.proofs.States.{node_set}
 use Rattle.pals_report.specs.SentLines.{sent_line as line}
-use Rattle.pals_bus.specs.Values.{BusValue}
-use Rattle.pals_bus.specs.Loose.{GoesOn}
+use Rattle.pals_bus.specs.Values.{BusValue, Happens, opening_bus}
 use Rattle.loose_world.specs.Sent.{message_lines, copy_lines}
 use Rattle.loose_world.specs.Sent.{sent_lines as shown_lines}
-use Rattle.loose_world.specs.Worlds.{AllHappen, told_by}
-use Rattle.loose_world.specs.Histories.{IsLeftBy}
+use Rattle.loose_world.specs.Worlds.{InTurn, told_by}
+use Rattle.loose_world.specs.Histories.{Undergoes, IsLeftBy, IsReplayed}
 use Rattle.loose_world.specs.Senders.{senders, HasSent}
-use Rattle.loose_world.proofs.Histories.{IsStepOf, step_of, sent_more, nothing_sent, events_agree, rounds_are_sent}
+use Rattle.loose_world.proofs.Histories.{sent_more, nothing_sent, rounds_are_sent}
 use Rattle.loose_world.proofs.Senders.{round_lines, event_lines, and_sender, one_event}
 use Rattle.loose_world.proofs.StepCounts.{sender_before, sender_is_there}
+use Rattle.loose_world.proofs.Undergone.{makes_send, stays_replayed, opens_replayed, events_replay}
 
 -- ---- the links from a node
 -- a link of the design from this node
@@ -140,23 +140,22 @@ has_sent run s t node reading round rules agree step sent =
       copies = λ link is. sent_on run s t node reading link round (All-contains (IsFrom run.design.links node.0) (links_from run.design node.0) link (links_are_from run.design node.0) is) step.state after_it this;
     }
 
-sent_of_run : (run : Run) (s t : BusValue) (node : NodeNo) (round : ℕ) → IsRunOf run → s.run ≡ run → Agrees run s.state
-    → GoesOn s (event.Send node) t → (node.0 < length run.design.components → sent_rounds (node_at s.state node.0) ≡ round)
-    → HasSent t node.0 round
-sent_of_run run s t node round rules is_run agree goes sent =
-    let one : IsStepOf run s (event.Send node) t = step_of run s t (event.Send node) is_run goes in
-    let what : Send node None ≡ one.what = let is = one.is_what in cc in
-    let step : IsStep run s.state (Send node None) t.state = subst (λ w. IsStep run s.state w t.state) (sym what) one.step in
-    let there = sender_is_there run s.state node agree step.allowed in
-    let has : HasSentOf run t.state node.0 round = has_sent run s.state t.state node None round rules agree step (sent there) in
-    let same : HasSentOf t.run t.state node.0 round = subst (λ r. HasSentOf r t.state node.0 round) (sym one.run_is) has in
+sent_of_run : (run : Run) (s t : BusValue) (node : NodeNo) (round : ℕ) → IsRunOf run → IsReplayed run s → Undergoes s (event.Send node) t
+    → (node.0 < length run.design.components → sent_rounds (node_at s.state node.0) ≡ round) → HasSent t node.0 round
+sent_of_run run s t node round rules before undergoes sent =
+    let send = makes_send s t node undergoes in
+    let happens : Happens s (Send node send.0) t = send.1 in
+    let step : IsStep run s.state (Send node send.0) t.state = subst (λ r. IsStep r s.state (Send node send.0) t.state) before.run_is happens.step in
+    let there = sender_is_there run s.state node before.agrees step.allowed in
+    let has : HasSentOf run t.state node.0 round = has_sent run s.state t.state node send.0 round rules before.agrees step (sent there) in
+    let behind : IsReplayed run t = stays_replayed run s t (event.Send node) rules before undergoes in
+    let same : HasSentOf t.run t.state node.0 round = subst (λ r. HasSentOf r t.state node.0 round) (sym behind.run_is) has in
     record { count = same.count; copies = same.copies }
 
 pub sends_are_in_flight : (run : Run) (before : List Event) (s : BusValue) (lines : List (List ℕ)) → IsRunOf run → IsLeftBy run before s lines
-    → (t : BusValue) (node : NodeNo) → GoesOn s (event.Send node) t → HasSent t node.0 (sends_of node.0 (senders before))
-sends_are_in_flight run before s lines rules left t node goes =
-    let agree = events_agree run before s lines rules left in
-    sent_of_run run s t node _ rules agree.0 agree.1 goes (rounds_are_sent run before s lines rules left node.0)
+    → (t : BusValue) (node : NodeNo) → Undergoes s (event.Send node) t → HasSent t node.0 (sends_of node.0 (senders before))
+sends_are_in_flight run before s lines rules left t node undergoes =
+    sent_of_run run s t node _ rules (events_replay run before s lines rules left) undergoes (rounds_are_sent run before s lines rules left node.0)
 
 -- ---- its lines
 one_line_each : (f : ℕ → List (List ℕ)) (g : ℕ → List ℕ) (links : List ℕ) → All (λ link. f link ≡ g link ∷ []) links → flat_map f links ≡ map g links
@@ -181,35 +180,34 @@ shown t node round sent =
 abbrev HaveSent : Run → BusState → List ℕ → Type 0
 HaveSent run s before = (node : ℕ) → node < length run.design.components → sent_rounds (node_at s node) ≡ sends_of node before
 
-told : (run : Run) (s t : BusValue) (e : Event) (before : List ℕ) → IsRunOf run → s.run ≡ run → Agrees run s.state
-    → HaveSent run s.state before → GoesOn s e t
-    → told_by t e ≡ event_lines run.design run.env before (sender e)
-told run s t (event.Pass time readings) before rules is_run agree sent goes = refl
-told run s t (event.Start node) before rules is_run agree sent goes = refl
-told run s t (event.Step node) before rules is_run agree sent goes = refl
-told run s t (event.Finish node) before rules is_run agree sent goes = refl
-told run s t (event.Send node) before rules is_run agree sent goes =
+told : (run : Run) (s t : BusValue) (e : Event) (before : List ℕ) → IsRunOf run → IsReplayed run s → HaveSent run s.state before
+    → Undergoes s e t → told_by t e ≡ event_lines run.design run.env before (sender e)
+told run s t (event.Pass time readings) before rules replayed sent undergoes = refl
+told run s t (event.Start node) before rules replayed sent undergoes = refl
+told run s t (event.Step node) before rules replayed sent undergoes = refl
+told run s t (event.Finish node) before rules replayed sent undergoes = refl
+told run s t (event.Send node) before rules replayed sent undergoes =
     let round = sends_of node.0 before in
-    let one : IsStepOf run s (event.Send node) t = step_of run s t (event.Send node) is_run goes in
-    shown t node.0 round (sent_of_run run s t node round rules is_run agree goes (sent node.0))
-    ∙ ap (λ (r : Run). round_lines r.design r.env node.0 round) one.run_is
-told run s t (event.Arrive link round) before rules is_run agree sent goes = refl
-told run s t (event.Drop link round) before rules is_run agree sent goes = refl
-told run s t (event.Repeat link round) before rules is_run agree sent goes = refl
+    let behind : IsReplayed run t = stays_replayed run s t (event.Send node) rules replayed undergoes in
+    shown t node.0 round (sent_of_run run s t node round rules replayed undergoes (sent node.0))
+    ∙ ap (λ (r : Run). round_lines r.design r.env node.0 round) behind.run_is
+told run s t (event.Arrive link round) before rules replayed sent undergoes = refl
+told run s t (event.Drop link round) before rules replayed sent undergoes = refl
+told run s t (event.Repeat link round) before rules replayed sent undergoes = refl
 
-all_told : (run : Run) (s t : BusValue) (events : List Event) (lines : List (List ℕ)) (before : List ℕ) → IsRunOf run → s.run ≡ run
-    → Agrees run s.state → HaveSent run s.state before → AllHappen s events t lines
-    → lines ≡ sent_lines run.design run.env events before
-all_told run s t [] lines before rules is_run agree sent happen = happen.1
-all_told run s t (e ∷ events) lines before rules is_run agree sent happen =
-    let next = happen.0 in
-    let one : IsStepOf run s e next = step_of run s next e is_run happen.2 in
-    let next_agrees = step_keeps_agreement run s.state next.state one.what rules agree one.step in
-    happen.4
-    ∙ ap₂ (λ xs ys. xs ++ ys) (told run s next e before rules is_run agree sent happen.2)
-    (all_told run next t events happen.1 (and_sender before (sender e)) rules one.run_is next_agrees (sent_more run s next e before rules is_run agree sent happen.2) happen.3)
+all_told : (run : Run) (s t : BusValue) (events : List Event) (lines : List (List ℕ)) (before : List ℕ) → IsRunOf run → IsReplayed run s
+    → HaveSent run s.state before → InTurn Undergoes s events t lines → lines ≡ sent_lines run.design run.env events before
+all_told run s t [] lines before rules replayed sent turns = turns.1
+all_told run s t (e ∷ events) lines before rules replayed sent turns =
+    let next : BusValue = turns.0 in
+    let behind = stays_replayed run s next e rules replayed turns.2 in
+    turns.4
+    ∙ ap₂ (λ xs ys. xs ++ ys) (told run s next e before rules replayed sent turns.2)
+    (all_told run next t events turns.1 (and_sender before (sender e)) rules behind (sent_more run s next e before rules replayed sent turns.2) turns.3)
     ∙ sym (one_event run.design run.env before events (sender e) (sent_lines run.design run.env events))
 
 pub lines_are_told : (run : Run) (events : List Event) (t : BusValue) (lines : List (List ℕ)) → IsRunOf run → IsLeftBy run events t lines
     → lines ≡ sent_lines run.design run.env events []
-lines_are_told run events t lines rules left = all_told run _ t events lines [] rules refl (opening_agrees run rules) (λ node within. nothing_sent run node) left.happen
+lines_are_told run events t lines rules left =
+    let opened = opening_bus run left.programs false in
+    all_told run opened t events lines [] rules (opens_replayed run left.programs rules) (λ node within. nothing_sent run node) left.undergone

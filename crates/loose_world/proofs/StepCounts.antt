@@ -12,6 +12,7 @@ use Rattle.pals_runs.specs.declared.journal.Phase.{Phase}
 use Rattle.pals_runs.specs.declared.journal.Phase.TheVariants.{Waiting, Running, Between, Holding, Done}
 use Rattle.pals_runs.specs.declared.journal.Arrived.{Arrived}
 use Rattle.pals_runs.specs.declared.journal.Arrived.TheVariants.{Kept, Ignored, Early}
+use Rattle.pals_runs.specs.declared.events.Event.TheVariants as event
 use Rattle.bus_machine.specs.declared.plan.Plan.{Plan}
 use Rattle.bus_machine.specs.Plans.{component_at, plan_of}
 use Rattle.bus_machine.specs.Nodes.{NodeState, at_rest}
@@ -26,6 +27,7 @@ use Rattle.bus_machine.specs.Laws.{IsRunOf}
 use Rattle.bus_machine.proofs.Nodes.{finish_keeps, MaySend, may_send_of}
 use Rattle.bus_machine.proofs.States.{is_component}
 use Rattle.loose_world.specs.Counts.{steps_in_hand, steps_finished, IsCounted}
+use Rattle.loose_world.specs.Histories.{event_of}
 use Rattle.loose_world.proofs.Moves.{grows_at, stays_at}
 
 -- ---- the two quantities
@@ -39,10 +41,10 @@ none_more : (a b : ℕ) → a ≡ b → a ≡ b + 0
 none_more a b same = omega arith
 
 -- an event that leaves both at a node leaves both at each
-stay : (run : Run) (s : BusState) (e : BusEvent) (node k : ℕ) (n : NodeState) → steps_of run node n ≡ steps_of run node (node_at s node)
+stay : (run : Run) (s : BusState) (node k : ℕ) (n : NodeState) → steps_of run node n ≡ steps_of run node (node_at s node)
     → sent_rounds n ≡ sent_rounds (node_at s node)
     → (steps_of run k (node_at (with_node s node n) k) ≡ steps_of run k (node_at s k)) × (sent_rounds (node_at (with_node s node n) k) ≡ sent_rounds (node_at s k))
-stay run s e node k n steps sends = (stays_at (steps_of run) s node k n steps, stays_at rounds_of s node k n sends)
+stay run s node k n steps sends = (stays_at (steps_of run) s node k n steps, stays_at rounds_of s node k n sends)
 
 -- ---- Start
 is_waiting_phase : (p : Phase) → is_waiting p ≡ true → p ≡ Waiting
@@ -57,7 +59,7 @@ start_sends true count is = omega arith
 start_sends false count is = absurd (false≢true is)
 
 counts_start : (run : Run) (s : BusState) (node : NodeNo) (reading m : Option ℕ) (k : ℕ) → Agrees run s
-    → is_waiting (node_at s node.0).phase ≡ true → IsCounted run s (Start node reading) (after_start run s node reading m) k
+    → is_waiting (node_at s node.0).phase ≡ true → IsCounted run s (event.Start node) (after_start run s node reading m) k
 counts_start run s node reading (Some link) k agree waits = record { steps = none_more _ _ refl; sends = none_more _ _ refl }
 counts_start run s node reading None k agree waits =
     let n = node_at s node.0 in
@@ -66,20 +68,20 @@ counts_start run s node reading None k agree waits =
     let phase : n.phase ≡ Waiting = is_waiting_phase n.phase waits in
     let rest = subst (PhaseAgrees run node.0 c n) phase (agree.nodes node.0 c is_c).phase in
     let m = started (plan_of run.design node.0) (values_at run.env n.count) n in
-    let both = stay run s (Start node reading) node.0 k m (ap (λ p. rate_of run.design node.0 * length n.parts + steps_in_hand p) (sym phase)) (start_sends n.sent n.count rest.0.sent) in
+    let both = stay run s node.0 k m (ap (λ p. rate_of run.design node.0 * length n.parts + steps_in_hand p) (sym phase)) (start_sends n.sent n.count rest.0.sent) in
     record { steps = none_more _ _ both.0; sends = none_more _ _ both.1 }
 
 -- ---- Step
-counts_step : (run : Run) (s : BusState) (node : NodeNo) (reading : Option ℕ) (p : Phase) (k : ℕ) → (node_at s node.0).phase ≡ p
-    → IsCounted run s (Step node reading) (on_step (next_step p) s (λ step. with_node s node.0 (stepped step (node_at s node.0)))) k
-counts_step run s node reading Waiting k is = record { steps = none_more _ _ refl; sends = none_more _ _ refl }
-counts_step run s node reading (Running step) k is = record { steps = none_more _ _ refl; sends = none_more _ _ refl }
-counts_step run s node reading (Between steps) k is =
+counts_step : (run : Run) (s : BusState) (node : NodeNo) (p : Phase) (k : ℕ) → (node_at s node.0).phase ≡ p
+    → IsCounted run s (event.Step node) (on_step (next_step p) s (λ step. with_node s node.0 (stepped step (node_at s node.0)))) k
+counts_step run s node Waiting k is = record { steps = none_more _ _ refl; sends = none_more _ _ refl }
+counts_step run s node (Running step) k is = record { steps = none_more _ _ refl; sends = none_more _ _ refl }
+counts_step run s node (Between steps) k is =
     let n = node_at s node.0 in
-    let both = stay run s (Step node reading) node.0 k (stepped steps n) (ap (λ p. rate_of run.design node.0 * length n.parts + steps_in_hand p) (sym is)) refl in
+    let both = stay run s node.0 k (stepped steps n) (ap (λ p. rate_of run.design node.0 * length n.parts + steps_in_hand p) (sym is)) refl in
     record { steps = none_more _ _ both.0; sends = none_more _ _ both.1 }
-counts_step run s node reading Holding k is = record { steps = none_more _ _ refl; sends = none_more _ _ refl }
-counts_step run s node reading Done k is = record { steps = none_more _ _ refl; sends = none_more _ _ refl }
+counts_step run s node Holding k is = record { steps = none_more _ _ refl; sends = none_more _ _ refl }
+counts_step run s node Done k is = record { steps = none_more _ _ refl; sends = none_more _ _ refl }
 
 -- ---- Finish
 no_hand : (sent : Bool) (b : Bool) → steps_in_hand (if sent then at_rest b else Holding) ≡ 0
@@ -110,7 +112,7 @@ finish_counts plan rounds step n within runs =
 
 counts_finish : (run : Run) (s : BusState) (node : NodeNo) (p : Phase) (k : ℕ) → Agrees run s → (node_at s node.0).phase ≡ p
     → is_some (running_step p) ≡ true
-    → IsCounted run s (Finish node) (on_step (running_step p) s (λ step. with_node s node.0 (finished (plan_of run.design node.0) run.rounds step (node_at s node.0)))) k
+    → IsCounted run s (event.Finish node) (on_step (running_step p) s (λ step. with_node s node.0 (finished (plan_of run.design node.0) run.rounds step (node_at s node.0)))) k
 counts_finish run s node Waiting k agree is may = absurd (false≢true may)
 counts_finish run s node (Running step) k agree is may =
     let n = node_at s node.0 in
@@ -161,7 +163,7 @@ sender_is_there run s node agree may =
     (is_component run s node.0 agree (λ gone. false≢true (sym (ap (may_send (plan_of run.design node.0)) gone) ∙ may)))
 
 counts_send : (run : Run) (s : BusState) (node : NodeNo) (reading : Option ℕ) (k : ℕ) → Agrees run s
-    → may_send (plan_of run.design node.0) (node_at s node.0) ≡ true → IsCounted run s (Send node reading) (after_send run s node reading) k
+    → may_send (plan_of run.design node.0) (node_at s node.0) ≡ true → IsCounted run s (event.Send node) (after_send run s node reading) k
 counts_send run s node reading k agree may =
     let n = node_at s node.0 in
     let m = sent_from run.rounds n in
@@ -183,24 +185,25 @@ arrival_keeps run node n port tuple Ignored = (refl, refl)
 arrival_keeps run node n port tuple Early = (refl, refl)
 
 counts_arrive : (run : Run) (s : BusState) (link : LinkNo) (round : ℕ) (reading : Option ℕ) (k : ℕ)
-    → IsCounted run s (Arrive link round reading) (after_arrive run s link round reading) k
+    → IsCounted run s (event.Arrive link round) (after_arrive run s link round reading) k
 counts_arrive run s link round reading k =
     let l = link_at run.design link.0 in
     let n = node_at s l.target.0 in
     let tuple = arriving round (flight_at s link.0) in
     let keeps = arrival_keeps run l.target.0 n l.in_port tuple (arrived n l.in_port round) in
-    let both = stay run s (Arrive link round reading) l.target.0 k (received n l.in_port round tuple) keeps.0 keeps.1 in
+    let both = stay run s l.target.0 k (received n l.in_port round tuple) keeps.0 keeps.1 in
     record { steps = none_more _ _ both.0; sends = none_more _ _ both.1 }
 
 -- ---- each event
-counts_after : (run : Run) (s : BusState) (e : BusEvent) (k : ℕ) → Agrees run s → is_allowed run s e ≡ true → IsCounted run s e (after run s e) k
+counts_after : (run : Run) (s : BusState) (e : BusEvent) (k : ℕ) → Agrees run s → is_allowed run s e ≡ true → IsCounted run s (event_of e) (after run s e) k
 counts_after run s (Start node reading) k agree may = counts_start run s node reading (missing_link run s node.0) k agree may
-counts_after run s (Step node reading) k agree may = counts_step run s node reading (node_at s node.0).phase k refl
+counts_after run s (Step node reading) k agree may = counts_step run s node (node_at s node.0).phase k refl
 counts_after run s (Finish node) k agree may = counts_finish run s node (node_at s node.0).phase k agree refl may
 counts_after run s (Send node reading) k agree may = counts_send run s node reading k agree may
 counts_after run s (Arrive link round reading) k agree may = counts_arrive run s link round reading k
 counts_after run s (Drop link round) k agree may = record { steps = none_more _ _ refl; sends = none_more _ _ refl }
 counts_after run s (Repeat link round) k agree may = record { steps = none_more _ _ refl; sends = none_more _ _ refl }
 
-pub step_counts : (run : Run) (s t : BusState) (e : BusEvent) (node : ℕ) → IsRunOf run → Agrees run s → IsStep run s e t → IsCounted run s e t node
-step_counts run s t e node rules agree step = subst (λ u. IsCounted run s e u node) (sym step.state) (counts_after run s e node agree step.allowed)
+pub step_counts : (run : Run) (s t : BusState) (e : BusEvent) (node : ℕ) → IsRunOf run → Agrees run s → IsStep run s e t
+    → IsCounted run s (event_of e) t node
+step_counts run s t e node rules agree step = subst (λ u. IsCounted run s (event_of e) u node) (sym step.state) (counts_after run s e node agree step.allowed)

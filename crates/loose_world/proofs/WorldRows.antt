@@ -16,15 +16,15 @@ use Rattle.pals_model.specs.Rules.{IsDesign, IsTap}
 use Rattle.pals_runs.specs.declared.events.Event.{Event}
 use Rattle.bus_machine.specs.Plans.{component_at, no_component}
 use Rattle.bus_machine.specs.Nodes.{NodeState}
-use Rattle.bus_machine.specs.States.{Run, BusState, node_at, no_node}
-use Rattle.bus_machine.specs.Traces.{finished_by_all}
+use Rattle.bus_machine.specs.States.{Run, BusState, node_at, no_node, finished_by_all}
 use Rattle.bus_machine.specs.Agreement.{Agrees}
 use Rattle.bus_machine.specs.Laws.{IsRunOf}
 use Rattle.bus_machine.specs.WorldTexts.{finished_by, part_shown, rounds_shown, world_rows}
 use Rattle.pals_bus.specs.Values.{BusValue}
 use Rattle.loose_world.specs.Finished.{part_of_round, finished, finished_lines, common_lines}
 use Rattle.loose_world.specs.Histories.{IsLeftBy}
-use Rattle.loose_world.proofs.Histories.{events_agree, rounds_are_finished}
+use Rattle.loose_world.proofs.Histories.{rounds_are_finished}
+use Rattle.loose_world.proofs.Undergone.{events_replay}
 
 -- ---- numbers from one on
 pub same_map : {X : Type 0} (f g : ℕ → X) (from n : ℕ) → ((k : ℕ) → k < from + n → f k ≡ g k) → map f (upwards from n) ≡ map g (upwards from n)
@@ -92,7 +92,7 @@ same_row design f g round rules same =
 
 -- ---- parts
 -- a node that agrees has the composition's part of each round that it has finished
-part_is : (run : Run) (t : BusValue) (node round : ℕ) → Agrees run t.state → node < length run.design.components
+pub part_is : (run : Run) (t : BusValue) (node round : ℕ) → Agrees run t.state → node < length run.design.components
     → round < length (node_at t.state node).parts
     → part_of_round t round node ≡ Some (part run.design run.env node round)
 part_is run t node round agree within below =
@@ -110,7 +110,7 @@ same_part : (run : Run) (events : List Event) (t : BusValue) (lines : List (List
     → IsLeftBy run events t lines → node < length run.design.components
     → part_of_round t round node ≡ part_shown run.design run.env events round node
 same_part run events t lines node round rules left within =
-    let agree = (events_agree run events t lines rules left).1 in
+    let agree = (events_replay run events t lines rules left).agrees in
     let count : length (node_at t.state node).parts ≡ finished_by run.design events node = rounds_are_finished run events t lines rules left node within in
     let shown : Bool → Option Part = λ b. if b then Some (part run.design run.env node round) else None in
     elim (cases_lt round (finished_by run.design events node)) [
@@ -122,7 +122,7 @@ same_part run events t lines node round rules left within =
 pub finished_rows : (run : Run) (events : List Event) (t : BusValue) (lines : List (List ℕ)) → IsRunOf run → IsLeftBy run events t lines
     → finished_lines t ≡ world_rows run.design run.env events
 finished_rows run events t lines rules left =
-    let is_run = (events_agree run events t lines rules left).0 in
+    let is_run = (events_replay run events t lines rules left).run_is in
     let counts : finished t ≡ map (finished_by run.design events) (upwards 0 (length run.design.components)) =
     ap (λ (r : Run). map (λ node. length (node_at t.state node).parts) (upwards 0 (length r.design.components))) is_run
     ∙ same_map (λ node. length (node_at t.state node).parts) (finished_by run.design events) 0 (length run.design.components) (λ k below. rounds_are_finished run events t lines rules left k (omega arith)) in

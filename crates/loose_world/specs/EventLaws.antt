@@ -1,4 +1,4 @@
--- What every scenario keeps that is read for a loose world.
+-- What the events of every scenario keep that was read.
 use Rattle.std.specs.Prelude.{◌≤◌, true, ℕ, List, length, All, Ok}
 use Rattle.pals_base.specs.declared.limits.TheConstants.{LIST_ITEMS}
 use Rattle.pals_model.specs.declared.design.DesignParts.{DesignParts}
@@ -22,3 +22,9 @@ abbrev pub EventsAreLoose : Type 0
 EventsAreLoose =
     (bytes root : List ℕ) (design : DesignParts) (scenario : Scenario) → Means bytes design (loosely root) (Ok scenario)
     → AreLooseEvents design scenario.events
+
+-- ---- of any command
+abbrev pub EventsAreFew : Type 0
+EventsAreFew =
+    (bytes : List ℕ) (command : Command) (design : DesignParts) (scenario : Scenario) → Means bytes design command (Ok scenario)
+    → length scenario.events ≤ LIST_ITEMS

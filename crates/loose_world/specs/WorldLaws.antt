@@ -1,4 +1,4 @@
--- What a list of loose events leaves: laws at every run of a design.
+-- What a list of events leaves, with its readings or without: laws at every run of a design.
 use Rattle.std.specs.Prelude.{◌≡◌, ℕ, ◌<◌, false, List, [], ◌++◌, length}
 use Rattle.step_code.specs.declared.instr.CodeParts.{CodeParts}
 use Rattle.pals_base.specs.declared.values.NodeNo.{NodeNo}
@@ -6,27 +6,26 @@ use Rattle.pals_model.specs.RoundTexts.{text_of, report}
 use Rattle.pals_runs.specs.declared.events.Event.{Event}
 use Rattle.pals_runs.specs.declared.events.Event.TheVariants as event
 use Rattle.pals_runs.specs.declared.journal.Stop.{Stop}
-use Rattle.bus_machine.specs.States.{Run, BusState, node_at}
+use Rattle.bus_machine.specs.States.{Run, BusState, node_at, finished_by_all}
 use Rattle.bus_machine.specs.Stops.{sent_rounds}
 use Rattle.bus_machine.specs.Machine.{BusEvent, IsStep}
 use Rattle.bus_machine.specs.Agreement.{Agrees}
 use Rattle.bus_machine.specs.Laws.{IsRunOf}
-use Rattle.bus_machine.specs.Traces.{finished_by_all}
 use Rattle.bus_machine.specs.WorldTexts.{finished_by, sends_of, sent_lines, world_rows, worldtext}
 use Rattle.pals_bus.specs.Values.{BusValue, opening_bus}
-use Rattle.pals_bus.specs.Loose.{GoesOn}
 use Rattle.loose_world.specs.Finished.{finished_lines, common_lines}
 use Rattle.loose_world.specs.declared.events.LooseEnd.TheVariants.{All, Stopped}
 use Rattle.loose_world.specs.Worlds.{Tells}
 use Rattle.loose_world.specs.Counts.{IsCounted}
-use Rattle.loose_world.specs.Histories.{IsLeftBy}
+use Rattle.loose_world.specs.Histories.{event_of, Undergoes, IsLeftBy, IsReplayed}
 use Rattle.loose_world.specs.Senders.{senders, HasSent}
 
 -- ---- counts
 -- each step of the machine counts at each node
 abbrev pub StepCounts : Type 0
 StepCounts =
-    (run : Run) (s t : BusState) (e : BusEvent) (node : ℕ) → IsRunOf run → Agrees run s → IsStep run s e t → IsCounted run s e t node
+    (run : Run) (s t : BusState) (e : BusEvent) (node : ℕ) → IsRunOf run → Agrees run s → IsStep run s e t
+    → IsCounted run s (event_of e) t node
 
 -- what holds where events left a bus
 abbrev pub AtEachEnd : (Run → List Event → BusValue → List (List ℕ) → Type 0) → Type 0
@@ -34,9 +33,9 @@ AtEachEnd P =
     (run : Run) (events : List Event) (t : BusValue) (lines : List (List ℕ)) → IsRunOf run → IsLeftBy run events t lines
     → P run events t lines
 
--- it is of the same run, and agrees with the composition
-abbrev pub EventsAgree : Type 0
-EventsAgree = AtEachEnd (λ run events t lines. (t.run ≡ run) × Agrees run t.state)
+-- it is of the same run, its journal replays to it, and it agrees with the composition
+abbrev pub EventsReplay : Type 0
+EventsReplay = AtEachEnd (λ run events t lines. IsReplayed run t)
 
 -- a node has finished as many rounds as its finishes make up
 abbrev pub RoundsAreFinished : Type 0
@@ -73,14 +72,18 @@ abbrev pub SendsAreInFlight : Type 0
 SendsAreInFlight =
     AtEachEnd
     (λ run before s lines.
-    (t : BusValue) (node : NodeNo) → GoesOn s (event.Send node) t → HasSent t node.0 (sends_of node.0 (senders before)))
+    (t : BusValue) (node : NodeNo) → Undergoes s (event.Send node) t → HasSent t node.0 (sends_of node.0 (senders before)))
 
 -- the lines that are told are those of the world
 abbrev pub LinesAreTold : Type 0
 LinesAreTold = AtEachEnd (λ run events t lines. lines ≡ sent_lines run.design run.env events [])
 
 -- ---- the texts
--- where all events happen, the rows and the lines that were told are the text of the world
+-- the rows and the lines that were told are the text of the world
+abbrev pub WorldIsTold : Type 0
+WorldIsTold = AtEachEnd (λ run events t lines. text_of (finished_lines t) ++ text_of lines ≡ worldtext run.design run.env events)
+
+-- so it is where all events of a loose world happen
 abbrev pub TextIsTold : Type 0
 TextIsTold =
     (run : Run) (programs : List CodeParts) (events : List Event) (t : BusValue) (sent : List ℕ)

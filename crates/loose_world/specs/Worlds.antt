@@ -31,10 +31,15 @@ told_by b (event.Arrive link round) = []
 told_by b (event.Drop link round) = []
 told_by b (event.Repeat link round) = []
 
+-- each event leads from one bus to the next by this relation, and these are the lines of what is sent
+abbrev pub InTurn : (BusValue → Event → BusValue → Type 0) → BusValue → List Event → BusValue → List (List ℕ) → Type 0
+InTurn R s [] t lines = (t ≡ s) × (lines ≡ [])
+InTurn R s (e ∷ events) t lines =
+    (next : BusValue) × (rest : List (List ℕ)) × R s e next × InTurn R next events t rest × (lines ≡ told_by next e ++ rest)
+
 -- each event happens, none gives a stop, and these are the lines of what is sent
 abbrev pub AllHappen : BusValue → List Event → BusValue → List (List ℕ) → Type 0
-AllHappen s [] t lines = (t ≡ s) × (lines ≡ [])
-AllHappen s (e ∷ events) t lines = (next : BusValue) × (rest : List (List ℕ)) × GoesOn s e next × AllHappen next events t rest × (lines ≡ told_by next e ++ rest)
+AllHappen s events t lines = InTurn GoesOn s events t lines
 
 -- an event gives this stop, and all before it happen without one
 pub record StopsAt (s : BusValue) (events : List Event) (why : Stop) (t : BusValue) (lines : List (List ℕ)) : Type 0 where

@@ -62,9 +62,9 @@ pub fn run_loose(
     Ok(LooseEnd::All)
 }
 
-// Adds a line for each message that an event has sent. If there is not enough memory, nothing is
-// added.
-fn tell_messages(
+/// Adds a line for each message that an event has sent, where the bus stands behind it. If there is not
+/// enough memory, nothing is added.
+pub fn tell_messages(
     links: &OutLinks,
     sent: &mut Vec<u8>,
     bus: &Bus,

@@ -1,6 +1,6 @@
 //! A loose world: a list of events without time, in which messages may be lost, repeated and reordered, up to the first
-//! that gives a stop or is not allowed; and what is written of the bus that it leaves. Laws: a list of loose events ends in
-//! one way, and what it leaves on a bus is the text of its world.
+//! that gives a stop or is not allowed; and what is written of a bus that events leave. Laws: a list of loose events ends in
+//! one way; and what events leave on a bus, whatever its clocks read, is the text of their world.
 #![tactic(auto)]
 
 pub mod event_laws;
@@ -10,7 +10,7 @@ mod messages;
 mod rounds;
 pub mod world_laws;
 
-pub use events::{LooseEnd, run_loose};
+pub use events::{LooseEnd, run_loose, tell_messages};
 pub use journal::add_journal;
 pub use messages::OutLinks;
 pub use rounds::{add_finished, add_finished_by_all};

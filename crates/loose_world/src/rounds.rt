@@ -1,7 +1,7 @@
 //! The rounds that the nodes of a bus have finished.
 ghost use Rattle.std.specs.Prelude.{◌≡◌, ◌++◌, OnOk, OnErr, fold, max};
 ghost use Rattle.pals_model.specs.RoundTexts.{text_of};
-ghost use Rattle.bus_machine.specs.Traces.{finished_by_all};
+ghost use Rattle.bus_machine.specs.States.{finished_by_all};
 ghost use Rattle.pals_report.specs.Appended.{BeginsWith};
 ghost use Rattle.loose_world.specs.Finished.{lines_before, finished, finished_lines, common_lines};
 

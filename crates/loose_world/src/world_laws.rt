@@ -1,6 +1,8 @@
-//! Laws of loose worlds. The functions do nothing: their contracts are the laws.
-ghost use Rattle.loose_world.specs.WorldLaws.{StepCounts, EventsAgree, RoundsAreFinished, RoundsAreSent, FinishedRows};
-ghost use Rattle.loose_world.specs.WorldLaws.{CommonRows, RoundsWithoutNodes, SendsAreInFlight, LinesAreTold, TextIsTold, StopIsTold};
+//! Laws of lists of events, with readings or without, and of loose worlds. The functions do nothing: their
+//! contracts are the laws.
+ghost use Rattle.loose_world.specs.WorldLaws.{StepCounts, EventsReplay, RoundsAreFinished, RoundsAreSent, FinishedRows};
+ghost use Rattle.loose_world.specs.WorldLaws.{CommonRows, RoundsWithoutNodes, SendsAreInFlight, LinesAreTold};
+ghost use Rattle.loose_world.specs.WorldLaws.{WorldIsTold, TextIsTold, StopIsTold};
 ghost use Rattle.loose_world.specs.Journals.{JournalReplays};
 ghost use Rattle.loose_world.specs.Reports.{WorldIsReported, WorldTextIsReported};
 ghost use Rattle.loose_world.specs.Steps.{EventsAreSteps};
@@ -12,10 +14,10 @@ pub fn step_counts()
     ensures { StepCounts }
 {}
 
-/// What events leave agrees with the composition. A node has finished as many rounds as its finishes
-/// make up, and has sent as many as it has sends.
+/// What events leave agrees with the composition, and its journal replays to it. A node has finished as
+/// many rounds as its finishes make up, and has sent as many as it has sends.
 pub fn events_are_counted()
-    ensures agree { EventsAgree }
+    ensures replay { EventsReplay }
     ensures finished { RoundsAreFinished }
     ensures sent { RoundsAreSent }
 {}
@@ -35,9 +37,11 @@ pub fn messages_are_told()
     ensures lines { LinesAreTold }
 {}
 
-/// Where all events happen, the rows and the lines of messages are the text of the world; where one
-/// gives a stop, the rows of the rounds that every node has finished are a report.
+/// The rows and the lines of messages that events leave are the text of the world, so also where all
+/// events of a loose world happen; where one gives a stop, the rows of the rounds that every node has
+/// finished are a report.
 pub fn texts_are_told()
+    ensures world { WorldIsTold }
     ensures all { TextIsTold }
     ensures stopped { StopIsTold }
 {}

@@ -1,0 +1,7 @@
+pub mod Openings
+pub mod Standings
+pub mod Rows
+pub mod Flights
+pub mod Moving
+pub mod Refusals
+pub mod Leads

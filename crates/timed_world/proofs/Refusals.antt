@@ -1,0 +1,68 @@
+-- What a bus answers to an event without a fault, if it refuses it.
+use Rattle.std.proofs.Common.{◌≡◌, ◌≢◌, inl, inr, ℕ, ◌≤◌, Option, Some, None, refl, ap, ◌∙◌, sym, subst}
+use Rattle.std.proofs.lemmas.Bool.{false≢true, le-ltb}
+use Rattle.std.proofs.lemmas.Option.{none-some}
+use Rattle.pals_base.specs.declared.limits.TheConstants.{READING}
+use Rattle.pals_base.specs.declared.values.NodeNo.{NodeNo}
+use Rattle.pals_runs.specs.declared.events.Event.TheVariants as event
+use Rattle.pals_runs.specs.declared.journal.Phase.{Phase}
+use Rattle.pals_runs.specs.declared.journal.Phase.TheVariants.{Done}
+use Rattle.bus_machine.specs.Plans.{plan_of}
+use Rattle.bus_machine.specs.Nodes.{finished_steps}
+use Rattle.bus_machine.specs.NodeEvents.{is_waiting}
+use Rattle.bus_machine.specs.States.{BusState, node_at}
+use Rattle.bus_machine.specs.Machine.{Start, after}
+use Rattle.pals_bus.specs.declared.refusals.BusStartEnd.{BusStartEnd}
+use Rattle.pals_bus.specs.declared.refusals.BusStartEnd.TheVariants as bus_start
+use Rattle.pals_bus.specs.Values.{BusValue}
+use Rattle.pals_bus.specs.Answers.{BusStartEnds}
+use Rattle.pals_bus.proofs.LooseSteps.{busy_waits_not}
+use Rattle.timed_laws.specs.Worlds.{reading_at}
+use Rattle.timed_laws.proofs.Faults.{starts_in_time, sends_in_time}
+use Rattle.timed_laws.proofs.Nodes.{may_is}
+use Rattle.timed_laws.proofs.Numbers.{times_are_readings}
+use Rattle.timed_laws.proofs.Worlds.{event_keeps_time}
+use Rattle.timed_world.specs.Values.{WorldValue, world_of, KeepsWorld}
+use Rattle.timed_world.proofs.Moving.{IsFine, Reads}
+
+-- no stop stands after a start
+start_goes : (old : WorldValue) (node : NodeNo) (new : BusState) → KeepsWorld old → IsFine old (event.Start node)
+    → new ≡ after old.bus.run old.bus.state (Start node (Some (reading_at (world_of old) node.0))) → new.stop ≡ None
+start_goes old node new keeps fine is =
+    ap (λ (s : BusState). s.stop) is ∙ (event_keeps_time old.bus.run (world_of old) (event.Start node) keeps.rules keeps.keeps fine).going
+
+-- a start is refused for memory alone, and then the bus is as before
+start_ends : (old : WorldValue) (node : NodeNo) (new : BusValue) (end : BusStartEnd) → KeepsWorld old → IsFine old (event.Start node)
+    → BusStartEnds old.bus node (Some (reading_at (world_of old) node.0)) new end → (end ≡ bus_start.Memory) × (new ≡ old.bus)
+start_ends old node new (bus_start.Stopped why) keeps fine cause = elim cause [
+  | inl stood ↦ absurd (none-some why (sym keeps.keeps.going ∙ stood.0))
+  | inr misses ↦ absurd (none-some why (sym (start_goes old node new.state keeps fine misses.happens.step.state) ∙ misses.stops))
+]
+start_ends old node new (bus_start.NotYet alarm) keeps fine cause =
+    let clock = reading_at (world_of old) node.0 in
+    let due : alarm ≤ clock = subst (λ a. a ≤ clock) (sym cause.cause.1) (starts_in_time old.bus.run (world_of old) node fine).due in
+    absurd (false≢true (sym (le-ltb clock alarm due) ∙ cause.cause.2))
+start_ends old node new bus_start.Busy keeps fine cause =
+    absurd (false≢true (sym (busy_waits_not (node_at old.bus.state node.0).phase cause.cause) ∙ (starts_in_time old.bus.run (world_of old) node fine).waits))
+start_ends old node new bus_start.Over keeps fine cause =
+    absurd (false≢true (sym (ap is_waiting cause.cause) ∙ (starts_in_time old.bus.run (world_of old) node fine).waits))
+start_ends old node new bus_start.Memory keeps fine cause = (refl, cause)
+
+pub start_only : (old : WorldValue) (node : NodeNo) (reading : ℕ) (new : BusValue) (end : BusStartEnd) → KeepsWorld old → IsFine old (event.Start node)
+    → Reads old node reading → BusStartEnds old.bus node (Some reading) new end → (end ≡ bus_start.Memory) × (new ≡ old.bus)
+start_only old node reading new end keeps fine reads cause =
+    start_ends old node new end keeps fine (subst (λ at. BusStartEnds old.bus node (Some at) new end) reads cause)
+
+-- ---- the reading of a send
+not_done : (p : Phase) (steps rate : ℕ) → finished_steps rate p ≡ Some steps → p ≢ Done
+not_done p steps rate is done = none-some steps (sym (ap (finished_steps rate) done) ∙ is)
+
+pub send_reads : (old : WorldValue) (node : NodeNo) (reading : ℕ) → KeepsWorld old → IsFine old (event.Send node) → Reads old node reading → reading ≤ READING
+send_reads old node reading keeps fine reads =
+    let w = world_of old in
+    let may = sends_in_time old.bus.run w node fine in
+    let plan = plan_of old.bus.run.design node.0 in
+    let n = node_at w.bus node.0 in
+    let m = may_is plan n may.may in
+    let clock = (times_are_readings old.bus.run w keeps.rules keeps.few keeps.keeps).clocks node.0 may.within (not_done n.phase m.steps plan.rate m.finished) in
+    subst (λ at. at ≤ READING) (sym reads) clock

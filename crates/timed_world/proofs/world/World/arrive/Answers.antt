@@ -1,0 +1,13 @@
+use Rattle.std.proofs.Common.{sym, subst}
+use Rattle.pals_runs.specs.declared.events.Event.TheVariants as event
+use Rattle.timed_world.specs.Values.{WorldValue}
+use Rattle.timed_world.proofs.Moving.{IsFine, arrived, moves_keep}
+use Rattle.timed_world.proofs.world.World.arrive.Goals as goal
+
+pub invariant_of-self-2 : goal.invariant_of-self-2
+invariant_of-self-2 c =
+    let f = c.self.inside in
+    let v : WorldValue = record { bus = f.bus; time = f.time; readings = f.readings; since = f.since; ready = f.ready; sent_at = f.sent_at } in
+    let e = event.Arrive c.args.link c.args.round in
+    let fine = subst (λ (x : WorldValue). IsFine x e) (sym c.self.view_is) c.requires.fine in
+    moves_keep v e _ c.self.invariant fine (arrived v c.args.link c.args.round c.deliver.new.self c.in_default.ensures.ok)

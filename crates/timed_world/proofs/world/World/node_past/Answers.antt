@@ -1,0 +1,17 @@
+use Rattle.std.proofs.Common.{◌≡◌, ap, ◌∙◌, sym, subst}
+use Rattle.pals_base.specs.declared.values.Gamma.{Gamma}
+use Rattle.pals_runs.specs.declared.events.Which.TheVariants as which
+use Rattle.pals_model.specs.declared.design.DesignParts.{DesignParts}
+use Rattle.timed_laws.specs.Faults.{past}
+use Rattle.timed_world.specs.Values.{WorldValue, world_of}
+use Rattle.timed_world.proofs.Standings.{last_is}
+use Rattle.timed_world.proofs.world.World.node_past.Goals as goal
+
+pub returns : goal.returns
+returns c =
+    let v = c.args.self.now in
+    let gamma : c.gamma-gamma.result ≡ v.bus.run.design.gamma =
+    c.gamma-gamma.ensures.value ∙ ap (λ (d : DesignParts). d.gamma) c.design.ensures ∙ ap (λ (x : WorldValue). x.bus.run.design.gamma) c.self.view_is in
+    c.past.ensures
+    ∙ ap (past c.args.time (which.Node c.args.node))
+    (c.last_time-last.ensures ∙ last_is v.bus.run (world_of v) c.args.node.0 c.plan.result.now c.standing.result c.gamma-gamma.result c.plan.ensures.value c.standing.ensures.value gamma)

@@ -1,0 +1,5 @@
+pub mod Standings
+pub mod Values
+pub mod Codes
+pub mod Passes
+pub mod Lists

@@ -1,0 +1,14 @@
+//! A timed world: a run of a design with the time and the readings of its clocks. It takes the events
+//! that its bounds allow, and says why it refuses another. No stop ever stands on its bus.
+#![tactic(auto)]
+
+mod events;
+mod faults;
+mod lists;
+mod opening;
+mod passes;
+mod standing;
+mod world;
+
+pub use lists::{WorldEnd, run_list};
+pub use world::World;

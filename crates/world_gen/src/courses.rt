@@ -1,0 +1,99 @@
+//! Courses: what is done over and over in a schedule, at equal distances in time. All times are
+//! nanoseconds.
+ghost use Rattle.std.specs.Prelude.{◌≡◌, ◌<◌, ◌≤◌, IfSome, option_map, IsTrue};
+ghost use Rattle.world_gen.specs.Schedules.{which};
+ghost use Rattle.world_gen.specs.Courses.{HasSteps, deed_event, IsCourse, time_of, next_of, course_events};
+
+use pals_base::{LinkNo, Nanos, NodeNo};
+use pals_runs::Event;
+
+/// What is done over and over.
+#[derive(Clone, Copy)]
+pub enum Deed {
+    /// A node begins a step. It makes `rate` of them in a round, and the first starts the round.
+    Begin { node: NodeNo, rate: u32 },
+    /// A node finishes a step.
+    Finish(NodeNo),
+    /// A node sends a round.
+    Send(NodeNo),
+    /// A link's message of a round arrives.
+    Arrive(LinkNo),
+}
+
+impl Deed {
+    /// The deed of a number as an event.
+    pub fn event(self, number: u32) -> Event
+        requires { HasSteps self }
+        ensures { result ≡ deed_event self number }
+    {
+        match self {
+            Deed::Begin { node, rate } => {
+                if number % rate == 0 {
+                    Event::Start(node)
+                } else {
+                    Event::Step(node)
+                }
+            }
+            Deed::Finish(node) => Event::Finish(node),
+            Deed::Send(node) => Event::Send(node),
+            Deed::Arrive(link) => Event::Arrive(link, number),
+        }
+    }
+}
+
+/// A deed that is done `count` times, numbered from 0: first at the time `first`, and each time
+/// `every` later than before.
+#[derive(Clone, Copy)]
+pub struct Course {
+    pub deed: Deed,
+    pub first: Nanos,
+    pub every: Nanos,
+    pub count: u32,
+}
+
+impl Course {
+    // The time of the deed of a number.
+    fn time(&self, number: u32) -> Nanos
+        requires course { IsCourse self.now }
+        requires within { number < self.now.count }
+        ensures { result ≡ time_of self.now number }
+    {
+        self.first + u64::from(number) * self.every
+    }
+
+    // The number of the next deed from a time on, or none.
+    fn next(&self, from: Nanos) -> Option<u32>
+        requires { IsCourse self.now }
+        ensures value { result ≡ next_of self.now from }
+        ensures within { IfSome result (λ number. number < self.now.count) }
+    {
+        let number = from.saturating_sub(self.first).div_ceil(self.every);
+        if number < u64::from(self.count) {
+            Some(number as u32)
+        } else {
+            None
+        }
+    }
+
+    /// The time of the next deed from a time on, or none.
+    pub fn next_time(&self, from: Nanos) -> Option<Nanos>
+        requires { IsCourse self.now }
+        ensures { result ≡ option_map (time_of self.now) (next_of self.now from) }
+    {
+        self.next(from).map(|number| self.time(number))
+    }
+
+    /// The number of the deed of a moment, or none.
+    pub fn number_at(&self, moment: Nanos) -> Option<u32>
+        requires { IsCourse self.now }
+        ensures value { result ≡ which (time_of self.now) self.now.count moment }
+        ensures within { IfSome result (λ number. number < self.now.count) }
+    {
+        let number = self.next(moment)?;
+        if self.time(number) == moment {
+            Some(number)
+        } else {
+            None
+        }
+    }
+}

@@ -1,0 +1,13 @@
+//! Generated work: rings of components, and schedules of designs, which are lists of timed events
+//! within the bounds that finish all rounds.
+#![tactic(auto)]
+
+mod courses;
+pub mod laws;
+mod ring_behaviours;
+mod rings;
+mod schedules;
+mod timetables;
+
+pub use rings::ring;
+pub use schedules::schedule;

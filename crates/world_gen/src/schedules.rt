@@ -1,0 +1,61 @@
+//! The schedule of a design: all clocks show the time, each step begins at its alarm and takes the
+//! least time, and each message goes out as soon as it may and takes the least time.
+ghost use Rattle.std.specs.Prelude.{◌≡◌, ◌≤◌, ◌++◌, All, IfOk, OnOk, replicate};
+ghost use Rattle.pals_base.specs.declared.limits.TheConstants.{ROUNDS};
+ghost use Rattle.pals_model.specs.declared.rounds.Env.{Env};
+ghost use Rattle.timed_laws.specs.Worlds.{world_run};
+ghost use Rattle.world_gen.specs.Schedules.{IsScheduleOf};
+ghost use Rattle.world_gen.specs.Laws.{IsWhole};
+ghost use Rattle.world_gen.specs.Courses.{IsCourse, moment_events};
+
+use crate::courses::Course;
+use crate::timetables::{add_events, next_moment, timetable};
+use pals_base::{Items, Nanos, NoMemory};
+use pals_model::Design;
+use pals_runs::Event;
+use std::alloc::Global;
+
+// The clocks of all nodes show a time.
+fn readings(alloc: Global, nodes: usize, time: Nanos) -> Result<Items<Nanos>, NoMemory>
+    ensures { IfOk result (λ readings. readings ≡ replicate nodes time) }
+{
+    Ok(Items::from_vec(vec![in alloc; time; nodes]?))
+}
+
+// Adds a Pass to a moment, and what the courses do at it.
+fn add_moment(
+    alloc: Global,
+    events: &mut Items<Event>,
+    nodes: usize,
+    courses: &[Course],
+    moment: Nanos,
+) -> Result<(), NoMemory>
+    requires { All IsCourse courses.now }
+    ensures { OnOk result (events.new ≡ events.old ++ moment_events nodes courses.now moment) }
+{
+    events.push(Event::Pass {
+        time: moment,
+        readings: readings(alloc, nodes, moment)?,
+    })?;
+    add_events(events, courses, moment)
+}
+
+/// The schedule of a design for a number of rounds. It is within the bounds, and leaves all nodes
+/// done.
+pub fn schedule(alloc: Global, design: &Design, rounds: u32) -> Result<Items<Event>, NoMemory>
+    requires some { 1 ≤ rounds }
+    requires most { rounds ≤ ROUNDS }
+    ensures exact { IfOk result (λ events. IsScheduleOf design.now rounds events) }
+    ensures whole { IfOk result (λ events. (env : Env) → IsWhole (world_run design.now env rounds) events) }
+{
+    let timetable = timetable(alloc, design, rounds)?;
+    let courses = timetable.as_slice();
+    let nodes = design.components().len();
+    let mut events = Items::new(alloc);
+    let mut from = 0;
+    while let Some(moment) = next_moment(courses, from) {
+        add_moment(alloc, &mut events, nodes, courses, moment)?;
+        from = moment + 1;
+    }
+    Ok(events)
+}

@@ -1,0 +1,186 @@
+//! The courses of a design, and what they do moment by moment. All times are nanoseconds.
+ghost use Rattle.std.specs.Prelude.{◌≡◌, ◌<◌, ◌≤◌, ◌++◌, length, All, IfOk, OnOk};
+ghost use Rattle.pals_base.specs.declared.limits.TheConstants.{ROUNDS};
+ghost use Rattle.timed_laws.specs.Deadlines.{lesser};
+ghost use Rattle.world_gen.specs.Schedules.{send_time};
+ghost use Rattle.world_gen.specs.Courses.{IsCourse, begin_course, finish_course, send_course, arrive_course, begin_courses, finish_courses, send_courses, arrive_courses, timetable, next_moment, events_of};
+
+use crate::courses::{Course, Deed};
+use pals_base::bound::step_period;
+use pals_base::{Items, LinkNo, Nanos, NoMemory, NodeNo};
+use pals_model::Design;
+use pals_runs::Event;
+use std::alloc::Global;
+
+// The steps of a node, as they begin.
+fn begin_course(design: &Design, rounds: u32, node: NodeNo) -> Course
+    requires few { rounds ≤ ROUNDS }
+    requires within { node.0 < length design.now.components }
+    ensures { result ≡ begin_course design.now rounds node.0 }
+{
+    let rate = design.parts().rate(node);
+    Course {
+        deed: Deed::Begin { node, rate },
+        first: design.period(),
+        every: step_period(design.period(), rate),
+        count: rounds * rate,
+    }
+}
+
+// The steps of a node, as they finish.
+fn finish_course(design: &Design, rounds: u32, node: NodeNo) -> Course
+    requires few { rounds ≤ ROUNDS }
+    requires within { node.0 < length design.now.components }
+    ensures { result ≡ finish_course design.now rounds node.0 }
+{
+    let rate = design.parts().rate(node);
+    Course {
+        deed: Deed::Finish(node),
+        first: design.period() + design.gamma().alpha_min,
+        every: step_period(design.period(), rate),
+        count: rounds * rate,
+    }
+}
+
+// When a node sends its first round: once the last step that is sent is finished, and not before
+// its release.
+fn first_send(design: &Design, node: NodeNo) -> Nanos
+    requires { node.0 < length design.now.components }
+    ensures { result ≡ send_time design.now node.0 0 }
+{
+    let period = design.period();
+    let gamma = design.gamma();
+    let rate = design.parts().rate(node);
+    let later_steps = u64::from(gamma.sent_steps(period, rate) - 1);
+    let finished = period + later_steps * step_period(period, rate) + gamma.alpha_min;
+    let released = period + gamma.release_offset(period, rate) as u64;
+    finished.max(released)
+}
+
+// The rounds that a node sends.
+fn send_course(design: &Design, rounds: u32, node: NodeNo) -> Course
+    requires { node.0 < length design.now.components }
+    ensures { result ≡ send_course design.now rounds node.0 }
+{
+    Course {
+        deed: Deed::Send(node),
+        first: first_send(design, node),
+        every: design.period(),
+        count: rounds,
+    }
+}
+
+// The messages of a link, as they arrive.
+fn arrive_course(design: &Design, rounds: u32, link: LinkNo) -> Course
+    requires { link.0 < length design.now.links }
+    ensures { result ≡ arrive_course design.now rounds link.0 }
+{
+    let source = design.links()[link.0 as usize].source;
+    Course {
+        deed: Deed::Arrive(link),
+        first: first_send(design, source) + design.gamma().mu_min,
+        every: design.period(),
+        count: rounds,
+    }
+}
+
+#[tactic(auto, using(crate::proofs::Numbered::add_numbered))]
+fn add_begins(courses: &mut Items<Course>, design: &Design, rounds: u32) -> Result<(), NoMemory>
+    requires { rounds ≤ ROUNDS }
+    ensures { OnOk result (courses.new ≡ courses.old ++ begin_courses design.now rounds) }
+{
+    for node in 0..design.components().len() {
+        courses.push(begin_course(design, rounds, NodeNo(node as u32)))?;
+    }
+    Ok(())
+}
+
+#[tactic(auto, using(crate::proofs::Numbered::add_numbered))]
+fn add_finishes(courses: &mut Items<Course>, design: &Design, rounds: u32) -> Result<(), NoMemory>
+    requires { rounds ≤ ROUNDS }
+    ensures { OnOk result (courses.new ≡ courses.old ++ finish_courses design.now rounds) }
+{
+    for node in 0..design.components().len() {
+        courses.push(finish_course(design, rounds, NodeNo(node as u32)))?;
+    }
+    Ok(())
+}
+
+#[tactic(auto, using(crate::proofs::Numbered::add_numbered))]
+fn add_sends(courses: &mut Items<Course>, design: &Design, rounds: u32) -> Result<(), NoMemory>
+    ensures { OnOk result (courses.new ≡ courses.old ++ send_courses design.now rounds) }
+{
+    for node in 0..design.components().len() {
+        courses.push(send_course(design, rounds, NodeNo(node as u32)))?;
+    }
+    Ok(())
+}
+
+#[tactic(auto, using(crate::proofs::Numbered::add_numbered))]
+fn add_arrivals(courses: &mut Items<Course>, design: &Design, rounds: u32) -> Result<(), NoMemory>
+    ensures { OnOk result (courses.new ≡ courses.old ++ arrive_courses design.now rounds) }
+{
+    for link in 0..design.links().len() {
+        courses.push(arrive_course(design, rounds, LinkNo(link as u32)))?;
+    }
+    Ok(())
+}
+
+/// The courses of a design for a number of rounds, in the order in which they go on at one moment.
+pub fn timetable(alloc: Global, design: &Design, rounds: u32) -> Result<Items<Course>, NoMemory>
+    requires { rounds ≤ ROUNDS }
+    ensures { IfOk result (λ courses. courses ≡ timetable design.now rounds) }
+{
+    let mut courses = Items::new(alloc);
+    let is_instant = design.gamma().alpha_min == 0;
+    if !is_instant {
+        add_finishes(&mut courses, design, rounds)?;
+    }
+    add_begins(&mut courses, design, rounds)?;
+    if is_instant {
+        add_finishes(&mut courses, design, rounds)?;
+    }
+    add_sends(&mut courses, design, rounds)?;
+    add_arrivals(&mut courses, design, rounds)?;
+    Ok(courses)
+}
+
+// Where there are two times, the lesser.
+fn lesser(a: Option<Nanos>, b: Option<Nanos>) -> Option<Nanos>
+    ensures { result ≡ lesser a b }
+{
+    match (a, b) {
+        (None, b) => b,
+        (Some(a), None) => Some(a),
+        (Some(a), Some(b)) => Some(a.min(b)),
+    }
+}
+
+/// The next moment, from a time on, at which one of the courses goes on, or none.
+pub fn next_moment(courses: &[Course], from: Nanos) -> Option<Nanos>
+    requires { All IsCourse courses.now }
+    ensures { result ≡ next_moment courses.now from }
+{
+    let mut moment = None;
+    for course in courses {
+        moment = lesser(moment, course.next_time(from));
+    }
+    moment
+}
+
+/// Adds what the courses do at a moment.
+pub fn add_events(
+    events: &mut Items<Event>,
+    courses: &[Course],
+    moment: Nanos,
+) -> Result<(), NoMemory>
+    requires { All IsCourse courses.now }
+    ensures { OnOk result (events.new ≡ events.old ++ events_of courses.now moment) }
+{
+    for course in courses {
+        if let Some(number) = course.number_at(moment) {
+            events.push(course.deed.event(number))?;
+        }
+    }
+    Ok(())
+}

@@ -1,0 +1,3 @@
+pub mod Within
+pub mod WorldTexts
+pub mod Rings

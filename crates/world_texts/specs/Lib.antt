@@ -1,0 +1,2 @@
+pub mod WorldTexts
+pub mod RingTexts

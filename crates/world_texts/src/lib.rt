@@ -1,0 +1,9 @@
+//! What is written of timed worlds: the rounds and the messages of a list of events within the bounds, or the first event
+//! that the bounds do not allow; and one line of a ring that has gone through its schedule.
+#![tactic(auto)]
+
+mod ring_text;
+mod world_text;
+
+pub use ring_text::tell_ring;
+pub use world_text::{Told, tell_world};
