@@ -3,18 +3,18 @@
 ghost use Rattle.std.specs.Prelude.{◌≡◌, ◌<◌, ◌++◌, Some, length, slice_get, OnOk, OnErr};
 ghost use Rattle.pals_model.specs.declared.design.Tap.{Tap};
 ghost use Rattle.pals_model.specs.declared.rounds.Env.{Env};
-ghost use Rattle.pals_model.specs.RoundTexts.{text_of, line_end, round_line, part_lines, tap_lines, row_lines, row};
+ghost use Rattle.pals_model.specs.RoundTexts.{text_of, line_end, round_line, component_line, part_lines, tap_line, tap_lines, row_lines, row};
 ghost use Rattle.pals_report.specs.Places.{tap_places};
 ghost use Rattle.pals_report.specs.Rows.{ArePartsOf};
 
-use crate::component::add_part_line;
+use crate::component::{add_component_line, add_part_line};
 use crate::parts::RoundParts;
 use crate::places::TapPlaces;
 use crate::row::{add_lines, add_round_line};
-use crate::tap::{add_line_at_place, place_of_tap};
+use crate::tap::{add_line_at_place, add_tap_line, place_of_tap};
 use crate::whole_or_none;
-use pals_base::NoMemory;
-use pals_model::{Component, Design, Part};
+use pals_base::{BehaviourParts, Frame, Kind, NoMemory, Port, Text};
+use pals_model::{Component, Design, Part, Tap};
 
 /// Adds the line of a round. If there is not enough memory, nothing is added.
 pub fn add_round(out: &mut Vec<u8>, round: u32) -> Result<(), NoMemory>
@@ -35,6 +35,35 @@ pub fn add_part(out: &mut Vec<u8>, component: &Component, part: &Part) -> Result
 {
     let start = out.len();
     let written = add_part_line(out, component, Some(part));
+    whole_or_none(out, start, written)
+}
+
+/// Adds the line of a component that is shown by this name, from its frame. If there is not enough
+/// memory, nothing is added.
+pub fn add_frame(
+    out: &mut Vec<u8>,
+    name: &Text,
+    behaviour: &BehaviourParts,
+    frame: &Frame,
+) -> Result<(), NoMemory>
+    ensures ok { OnOk result
+        (out.new.items ≡ out.old.items ++ component_line name.now behaviour.now frame.now ++ line_end) }
+    ensures err { OnErr result (out.new.items ≡ out.old.items) }
+{
+    let start = out.len();
+    let written = add_component_line(out, name, behaviour, frame);
+    whole_or_none(out, start, written)
+}
+
+/// Adds the line of a root out port of this type, which shows a tuple. If there is not enough
+/// memory, nothing is added.
+pub fn add_shown(out: &mut Vec<u8>, kind: Kind, tap: &Tap, tuple: &[Port]) -> Result<(), NoMemory>
+    ensures ok { OnOk result
+        (out.new.items ≡ out.old.items ++ tap_line kind tap.now tuple.now ++ line_end) }
+    ensures err { OnErr result (out.new.items ≡ out.old.items) }
+{
+    let start = out.len();
+    let written = add_tap_line(out, kind, tap, tuple);
     whole_or_none(out, start, written)
 }
 

@@ -11,13 +11,20 @@ use itoa::Buffer;
 use pals_base::{Kind, LinkNo, Nanos, NoMemory, NodeNo, Port};
 use pals_model::{Component, DesignParts};
 
-/// A word of a line: bytes, a number, the name of an in port, which is a path, a `.` and a name, or a
-/// tuple of values of one type.
+/// A word of a line.
 #[derive(Clone, Copy)]
 pub enum Word<'a> {
+    /// These bytes.
     Bytes(&'a [u8]),
+    /// A number in decimal.
     Number(u64),
+    /// A number of up to 128 bits in decimal.
+    Wide(u128),
+    /// A number in decimal, with `-` where it is negative.
+    Signed(i64),
+    /// The name of an in port: a path, `.` and a name.
     Port(&'a [u8], &'a [u8]),
+    /// A tuple of values of one type.
     Tuple(Kind, &'a [Port]),
 }
 
@@ -29,6 +36,8 @@ fn add_word(out: &mut Vec<u8>, word: Word<'_>) -> Result<(), NoMemory>
     match word {
         Word::Bytes(bytes) => out.extend_from_slice(bytes),
         Word::Number(number) => out.extend_from_slice(Buffer::new().format(number).as_bytes()),
+        Word::Wide(number) => out.extend_from_slice(Buffer::new().format(number).as_bytes()),
+        Word::Signed(number) => out.extend_from_slice(Buffer::new().format(number).as_bytes()),
         Word::Port(path, name) => {
             out.extend_from_slice(path)?;
             out.extend_from_slice(b".")?;
@@ -66,7 +75,7 @@ fn add_whole_line(out: &mut Vec<u8>, words: &[Word<'_>]) -> Result<(), NoMemory>
 }
 
 /// Adds a line of words. If there is not enough memory, nothing is added.
-pub(crate) fn add_line(out: &mut Vec<u8>, words: &[Word<'_>]) -> Result<(), NoMemory>
+pub fn add_line(out: &mut Vec<u8>, words: &[Word<'_>]) -> Result<(), NoMemory>
     ensures ok { OnOk result
         (out.new.items ≡ out.old.items ++ spaced (map word_text words.now) ++ line_end) }
     ensures err { OnErr result (out.new.items ≡ out.old.items) }
@@ -77,7 +86,7 @@ pub(crate) fn add_line(out: &mut Vec<u8>, words: &[Word<'_>]) -> Result<(), NoMe
 }
 
 /// The path of a component, empty where there is none.
-pub(crate) fn node_word(design: &DesignParts, node: NodeNo) -> Word<'_>
+pub fn node_word(design: &DesignParts, node: NodeNo) -> Word<'_>
     ensures { word_text result ≡ node_word design.now node.0 }
 {
     match design.component(node) {

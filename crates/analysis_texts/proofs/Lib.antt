@@ -1,0 +1,4 @@
+pub mod Rounds
+pub mod Blocks
+pub mod Mapped
+pub mod WatchedLines

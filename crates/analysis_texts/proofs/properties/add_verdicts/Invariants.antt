@@ -1,0 +1,16 @@
+use Rattle.std.proofs.Common.{◌≡◌, ◌++◌, List, map, take}
+use Rattle.pals_base.specs.declared.values.Frame.{Frame}
+use Rattle.pals_model.specs.RoundTexts.{text_of}
+use Rattle.analysis_fields.specs.PropertyValues.{PropertyValue}
+use Rattle.run_monitor.specs.Lists.{said_by}
+use Rattle.run_monitor.specs.Monitors.{holds}
+use Rattle.run_monitor.specs.Texts.{verdict_line}
+use Rattle.run_monitor.specs.Violations.{verdicts}
+use Rattle.analysis_texts.specs.Watched.{formulas}
+use Rattle.analysis_texts.proofs.properties.add_verdicts.Given as goal
+
+-- the lines so far, of any history over which the monitors said this
+abbrev pub invariant-loop-at : goal.invariant-loop-at
+invariant-loop-at l =
+    (h : List (List Frame)) → said_by l.monitors ≡ verdicts (formulas l.properties) h l.round
+    → l.text.items ≡ l.initial.text.items ++ text_of (map (λ (p : PropertyValue). verdict_line p.name (holds p.form h l.round)) (take l.at l.properties))

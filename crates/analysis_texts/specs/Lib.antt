@@ -1,0 +1,2 @@
+pub mod Budgeted
+pub mod Watched

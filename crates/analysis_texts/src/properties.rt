@@ -1,0 +1,159 @@
+//! The rounds of watched properties.
+ghost use Rattle.std.specs.Prelude.{◌≡◌, ◌∷◌, ◌++◌, [], ℕ, ◌+◌, ◌<◌, List, length, IfOk, IfSome, OnOk};
+ghost use Rattle.pals_base.specs.declared.values.Frame.{Frame};
+ghost use Rattle.pals_model.specs.declared.rounds.Env.{Env};
+ghost use Rattle.pals_model.specs.Composition.{comp};
+ghost use Rattle.pals_model.specs.Inputs.{values_at};
+ghost use Rattle.pals_model.specs.RoundTexts.{text_of, line_end};
+ghost use Rattle.run_monitor.specs.Violations.{history, verdicts, is_violated};
+ghost use Rattle.run_monitor.specs.Texts.{names_of, verdict_line, watched_lines, violation_text, last_line, watch_text};
+ghost use Rattle.pals_runs.specs.Formula.{Formula};
+ghost use Rattle.run_monitor.specs.Lists.{said_by, HasWatched, WatchesRound};
+ghost use Rattle.analysis_texts.specs.Watched.{named, formulas};
+
+use analysis_fields::Property;
+use pals_base::{NoMemory, Port};
+use pals_model::{Design, Env};
+use pals_report::{Word, add_line, add_round};
+use run_monitor::{Monitors, Violation};
+use std::alloc::Global;
+use std::sync::Arc;
+use sync_product::Product;
+
+/// What is written of watched properties, and whether one of them was false at some round.
+#[derive(Drop)]
+pub struct Watched {
+    pub text: Vec<u8>,
+    pub violated: bool,
+}
+
+/// Watches properties over the first rounds of the composition of a design.
+pub fn watch(
+    alloc: Global,
+    design: Design,
+    env: &Env,
+    rounds: u32,
+    properties: &[Property],
+) -> Result<Watched, NoMemory>
+    ensures text { IfOk result (λ w. w.text.items ≡ watch_text design env.now rounds (named properties.now)) }
+    ensures violated { IfOk result (λ w. w.violated ≡ is_violated design env.now rounds (formulas properties.now)) }
+{
+    let mut monitors = monitors(alloc, properties)?;
+    let mut product = Product::new(alloc, Arc::new(alloc, design)?)?;
+    watch_rounds(alloc, &mut product, &mut monitors, env, rounds, properties)
+}
+
+// Watches the first rounds of a product that has made none, by monitors that have seen none.
+fn watch_rounds(
+    alloc: Global,
+    product: &mut Product,
+    monitors: &mut Monitors,
+    env: &Env,
+    rounds: u32,
+    properties: &[Property],
+) -> Result<Watched, NoMemory>
+    requires opening { product.old.configuration ≡ comp product.old.design env.now 0 }
+    requires monitors { HasWatched monitors.old (formulas properties.now) [] }
+    ensures text { IfOk result (λ w. w.text.items ≡ watch_text product.old.design env.now rounds (named properties.now)) }
+    ensures violated { IfOk result (λ w. w.violated ≡ is_violated product.old.design env.now rounds (formulas properties.now)) }
+{
+    let mut values = vec![in alloc; Port::Absent; env.lists.len()]?;
+    let mut text = Vec::new(alloc);
+    for round in 0..rounds {
+        env.write_values(round, &mut values);
+        go_on(product, values.as_slice(), monitors, round)?;
+        add_verdicts(&mut text, round, properties, monitors)?;
+    }
+    let violation = monitors.violation();
+    add_end(&mut text, rounds, properties, violation)?;
+    let violated = violation.is_some();
+    Ok(Watched { text, violated })
+}
+
+// A monitor of each property.
+fn monitors(alloc: Global, properties: &[Property]) -> Result<Monitors, NoMemory>
+    ensures { IfOk result (λ monitors. HasWatched monitors (formulas properties.now) []) }
+{
+    let mut monitors = Monitors::new(alloc);
+    for property in properties {
+        monitors.push(alloc, &property.form)?;
+    }
+    Ok(monitors)
+}
+
+// Goes one round further, and lets the monitors see what it leaves.
+fn go_on(
+    product: &mut Product,
+    values: &[Port],
+    monitors: &mut Monitors,
+    round: u32,
+) -> Result<(), NoMemory>
+    ensures design { OnOk result (product.new.design ≡ product.old.design) }
+    ensures further { (env : Env) → values.now ≡ values_at env round → product.old.configuration ≡ comp product.old.design env round
+        → OnOk result (product.new.configuration ≡ comp product.old.design env (round + 1)) }
+    ensures watches { (env : Env) (fs : List Formula) → values.now ≡ values_at env round
+        → product.old.configuration ≡ comp product.old.design env round
+        → HasWatched monitors.old fs (history product.old.design env round)
+        → OnOk result (WatchesRound monitors.new product.old.design env fs round) }
+{
+    product.advance(values)?;
+    monitors.advance(round, product.parts());
+    Ok(())
+}
+
+// Adds the line of a round, and what each property said there.
+fn add_verdicts(
+    text: &mut Vec<u8>,
+    round: u32,
+    properties: &[Property],
+    monitors: &Monitors,
+) -> Result<(), NoMemory>
+    ensures { (h : List (List Frame)) → said_by monitors.now ≡ verdicts (formulas properties.now) h round
+        → OnOk result (text.new.items ≡ text.old.items ++ text_of (watched_lines (named properties.now) h round)) }
+{
+    add_round(text, round)?;
+    for (at, property) in properties.iter().enumerate() {
+        add_verdict(text, property, monitors.said(at))?;
+    }
+    Ok(())
+}
+
+// Adds what a property said.
+fn add_verdict(text: &mut Vec<u8>, property: &Property, said: bool) -> Result<(), NoMemory>
+    ensures { OnOk result (text.new.items ≡ text.old.items ++ verdict_line property.now.name said ++ line_end) }
+{
+    let verdict = if said {
+        Word::Bytes(b"true")
+    } else {
+        Word::Bytes(b"false")
+    };
+    add_line(text, &[Word::Bytes(property.name.as_bytes()), verdict])
+}
+
+// Adds the last line.
+fn add_end(
+    text: &mut Vec<u8>,
+    rounds: u32,
+    properties: &[Property],
+    violation: Option<Violation>,
+) -> Result<(), NoMemory>
+    requires { IfSome violation (λ v. v.property < length properties.now) }
+    ensures { OnOk result (text.new.items ≡ text.old.items ++ last_line rounds (violation_text (names_of (named properties.now)) violation) ++ line_end) }
+{
+    let watch = Word::Bytes(b"watch");
+    let of_rounds = Word::Bytes(b"rounds");
+    let first = Word::Bytes(b"first");
+    let count = Word::Number(u64::from(rounds));
+    match violation {
+        None => add_line(
+            text,
+            &[watch, of_rounds, count, first, Word::Bytes(b"none")],
+        ),
+        Some(violation) => {
+            let property = &properties[violation.property];
+            let name = Word::Bytes(property.name.as_bytes());
+            let round = Word::Number(u64::from(violation.round));
+            add_line(text, &[watch, of_rounds, count, first, name, round])
+        }
+    }
+}
