@@ -1,16 +1,21 @@
 -- No answer to a bundle has the status of a read that failed, or of too many bytes: so these come exactly where that is so.
-use Rattle.std.proofs.Common.{◌≡◌, ◌≢◌, ◌∙◌, ◌⊎◌, ◌↔◌, inl, inr, ℕ, ◌-◌, ◌^◌, ◌<◌, List, length, true, Some, sym, ap, arith}
+use Rattle.std.proofs.Common.{◌≡◌, ◌≢◌, ◌∙◌, ◌↔◌, inl, inr, ℕ, ◌-◌, ◌^◌, ◌<◌, List, length, true, false, Some, refl, sym, ap, arith}
 use Rattle.pals_base.specs.declared.limits.TheConstants.{BUNDLE_BYTES}
 use Rattle.pals_io.specs.Stream.{SourceView}
 use Rattle.pals_runs.specs.declared.commands.Command.{Command}
-use Rattle.pals_runs.specs.declared.commands.Command.TheVariants.{Print, Check, Sync, World}
+use Rattle.pals_runs.specs.declared.commands.Command.TheVariants.{Print, Check, Sync, World, Watch, Budget}
 use Rattle.pals_top.specs.Refusals.{IsBundleRefused}
 use Rattle.pals_top.specs.Print.{IsPrintAnswer}
 use Rattle.pals_top.specs.Check.{IsCheckAnswer}
-use Rattle.pals_top.specs.Sync.{IsSyncAnswer}
-use Rattle.pals_top.specs.Loose.{IsLooseAnswer}
+use Rattle.pals_top.specs.declared.analysis.Analysis.{Analysis}
+use Rattle.pals_top.specs.declared.analysis.Analysis.TheVariants as analysis
+use Rattle.pals_top.specs.declared.execution.Execution.{Execution}
+use Rattle.pals_top.specs.declared.execution.Execution.TheVariants as execution
+use Rattle.pals_top.specs.Analyses.{IsAnalysisAnswer}
+use Rattle.pals_top.specs.Executions.{IsExecutionAnswer}
 use Rattle.pals_top.specs.Outside.{Reading}
-use Rattle.pals_top.specs.Answers.{IsCommandAnswer, IsAnswer}
+use Rattle.pals_top.specs.Answers.{IsCommandAnswer, IsSourceAnswer}
+use Rattle.answer_laws.proofs.Made.{analysis_status, execution_status, apart}
 use Rattle.answer_laws.proofs.Calls.{no_room, too_long}
 use Rattle.answer_laws.proofs.Reading.{too_many, failed}
 
@@ -33,48 +38,49 @@ checked : (root bundle : List ℕ) (s : ℕ) (a : List ℕ) → IsCheckAnswer ro
 checked root bundle s a (inl x) = other 0 s x.0 (λ n. absurd (omega arith)) (λ n. absurd (omega arith))
 checked root bundle s a (inr x) = refused root bundle s a x
 
-reported : (root bundle : List ℕ) (s : ℕ) (a : List ℕ) → IsSyncAnswer root bundle s a → IsOther s
-reported root bundle s a (inl x) = other 0 s x.0 (λ n. absurd (omega arith)) (λ n. absurd (omega arith))
-reported root bundle s a (inr (inl x)) = refused root bundle s a x
-reported root bundle s a (inr (inr x)) = other 5 s x.0 (λ n. absurd (omega arith)) (λ n. absurd (omega arith))
+analysed : (what : Analysis) (root bundle : List ℕ) (s : ℕ) (a : List ℕ) → IsAnalysisAnswer what root bundle s a → IsOther s
+analysed what root bundle s a (inl x) = refused root bundle s a x
+analysed what root bundle s a (inr (inl x)) = other 5 s x.0 (λ n. absurd (omega arith)) (λ n. absurd (omega arith))
+analysed what root bundle s a (inr (inr x)) =
+    let small = analysis_status what x.design x.scenario s a x.makes in
+    (λ e. absurd (omega (arith, small, e)), λ e. absurd (omega (arith, small, e)))
 
--- a world, a stop, or an event that is not allowed
-in_world : {world stop event : Type 0} → (s : ℕ) → ((s ≡ 0) × world) ⊎ ((s ≡ 6) × stop) ⊎ ((s ≡ 5) × event) → IsOther s
-in_world s (inl x) = other 0 s x.0 (λ n. absurd (omega arith)) (λ n. absurd (omega arith))
-in_world s (inr (inl x)) = other 6 s x.0 (λ n. absurd (omega arith)) (λ n. absurd (omega arith))
-in_world s (inr (inr x)) = other 5 s x.0 (λ n. absurd (omega arith)) (λ n. absurd (omega arith))
-
-loosely : (root bundle : List ℕ) (s : ℕ) (a : List ℕ) → IsLooseAnswer root bundle s a → IsOther s
-loosely root bundle s a (inl x) = refused root bundle s a x
-loosely root bundle s a (inr (inl x)) = other 13 s x.status_is (λ n. absurd (omega arith)) (λ n. absurd (omega arith))
-loosely root bundle s a (inr (inr (inl x))) = other 5 s x.status_is (λ n. absurd (omega arith)) (λ n. absurd (omega arith))
-loosely root bundle s a (inr (inr (inr x))) = in_world s x.answer
+executed : (what : Execution) (root bundle : List ℕ) (s : ℕ) (a : List ℕ) → IsExecutionAnswer what root bundle s a → IsOther s
+executed what root bundle s a (inl x) = refused root bundle s a x
+executed what root bundle s a (inr (inl x)) = other 13 s x.status_is (λ n. absurd (omega arith)) (λ n. absurd (omega arith))
+executed what root bundle s a (inr (inr (inl x))) = other 5 s x.status_is (λ n. absurd (omega arith)) (λ n. absurd (omega arith))
+executed what root bundle s a (inr (inr (inr x))) =
+    let made = execution_status what x.design x.scenario s a x.makes in
+    (λ e. apart s 9 made e (inr (inr (inl refl))), λ e. apart s 12 made e (inr (inr (inr (inl refl)))))
 
 answered : (command : Command) (bundle : List ℕ) (s : ℕ) (a : List ℕ) → IsCommandAnswer command bundle s a → IsOther s
 answered Print bundle s a x = printed bundle s a x
 answered (Check root) bundle s a x = checked root bundle s a x
-answered (Sync root) bundle s a x = reported root bundle s a x
-answered (World root true) bundle s a x = loosely root bundle s a x
+answered (Sync root) bundle s a x = analysed analysis.Sync root bundle s a x
+answered (World root false) bundle s a x = executed execution.TimedWorld root bundle s a x
+answered (World root true) bundle s a x = executed execution.LooseWorld root bundle s a x
+answered (Watch root) bundle s a x = analysed analysis.Watch root bundle s a x
+answered (Budget root) bundle s a x = executed execution.Budget root bundle s a x
 answered _ bundle s a x = absurd x
 
 -- ---- the statuses of a call
 module _ (command : Command) (seen : Reading) (few : seen.before.faults < 2 ^ 64 - 1) (status : ℕ) (text : List ℕ) where
-  has_failed : IsAnswer (Some command) seen status text → status ≡ 9 → seen.after.faults ≡ seen.before.faults → ⊥
+  has_failed : IsSourceAnswer command seen status text → status ≡ 9 → seen.after.faults ≡ seen.before.faults → ⊥
   has_failed (inl x) e same = (answered command x.bundle status text x.answer).0 e
   has_failed (inr (inl x)) e same =
       no_room seen.before.faults (2 ^ 64 - 1) few (sym (ap (λ (v : SourceView). v.faults) x.1.view) ∙ same)
   has_failed (inr (inr x)) e same = let n : 12 ≡ 9 = sym x.0 ∙ e in absurd (omega (arith, n))
 
-  pub failed_exactly : IsAnswer (Some command) seen status text → (status ≡ 9) ↔ (seen.after.faults ≡ seen.before.faults → ⊥)
+  pub failed_exactly : IsSourceAnswer command seen status text → (status ≡ 9) ↔ (seen.after.faults ≡ seen.before.faults → ⊥)
   failed_exactly answer = (has_failed answer, λ differ. (failed command seen status text differ answer).0)
 
   module _ (left : List ℕ) (told : seen.before.left ≡ Some left) where
-    has_too_many : IsAnswer (Some command) seen status text → status ≡ 12
+    has_too_many : IsSourceAnswer command seen status text → status ≡ 12
         → (seen.after.faults ≡ seen.before.faults) × (BUNDLE_BYTES < length left)
     has_too_many (inl x) e = absurd ((answered command x.bundle status text x.answer).1 e)
     has_too_many (inr (inl x)) e = let n : 9 ≡ 12 = sym x.0 ∙ e in absurd (omega (arith, n))
     has_too_many (inr (inr x)) e = (ap (λ (v : SourceView). v.faults) x.1.view, too_long seen left told few x.1)
 
-    pub too_many_exactly : IsAnswer (Some command) seen status text
+    pub too_many_exactly : IsSourceAnswer command seen status text
         → (status ≡ 12) ↔ ((seen.after.faults ≡ seen.before.faults) × (BUNDLE_BYTES < length left))
     too_many_exactly answer = (has_too_many answer, λ h. (too_many command seen status text left told few h.0 h.1 answer).0)

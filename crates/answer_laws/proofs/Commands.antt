@@ -1,30 +1,30 @@
 -- A command and a bundle have one status, and one text.
-use Rattle.std.proofs.Common.{◌≡◌, ◌∙◌, inl, inr, ℕ, true, List, sym, ap, subst}
+use Rattle.std.proofs.Common.{◌≡◌, ◌∙◌, inl, inr, ℕ, true, false, List, sym, ap, subst}
 use Rattle.pals_model.specs.declared.design.DesignParts.{DesignParts}
-use Rattle.pals_model.specs.RoundTexts.{report}
 use Rattle.pals_runs.specs.declared.commands.Command.{Command}
-use Rattle.pals_runs.specs.declared.commands.Command.TheVariants.{Print, Check, Sync, World}
+use Rattle.pals_runs.specs.declared.commands.Command.TheVariants.{Print, Check, Sync, World, Watch, Budget}
 use Rattle.aadl_tree.specs.Declarations.{PackageTree}
 use Rattle.aadl_tree.specs.Canon.{canon}
 use Rattle.pals_report.specs.CheckReports.{IsCheckReport}
-use Rattle.loose_world.specs.Ends.{OneEnd}
+use Rattle.scenario_json.specs.declared.scenario.Scenario.{Scenario}
 use Rattle.pals_top.specs.Refusals.{IsBundleRefused}
 use Rattle.pals_top.specs.Scenarios.{HasScenarioFault}
 use Rattle.bundle_designs.specs.Printed.{IsPrinted}
 use Rattle.pals_top.specs.Print.{IsPrintAnswer}
 use Rattle.pals_top.specs.Check.{IsChecked, IsCheckAnswer}
-use Rattle.pals_top.specs.Sync.{IsReported, IsSyncAnswer}
-use Rattle.pals_top.specs.Loose.{IsLooseAnswer}
+use Rattle.pals_top.specs.declared.analysis.Analysis.{Analysis}
+use Rattle.pals_top.specs.declared.analysis.Analysis.TheVariants as analysis
+use Rattle.pals_top.specs.declared.execution.Execution.{Execution}
+use Rattle.pals_top.specs.declared.execution.Execution.TheVariants as execution
+use Rattle.pals_top.specs.Analyses.{command_of, Makes, IsAnalysed, IsAnalysisAnswer}
+use Rattle.pals_top.specs.Executions.{IsExecutionAnswer}
 use Rattle.pals_top.specs.Answers.{IsCommandAnswer}
-use Rattle.answer_laws.proofs.Laws.{OneDesign, OneFault}
+use Rattle.answer_laws.proofs.Laws.{OneDesign, OneFault, ExecutionLaws}
 use Rattle.answer_laws.proofs.Designs.{one_tree, read_or_refused, one_refused_text, one_accepted, accepted_or_refused, package_or_text, one_refused_package}
 use Rattle.answer_laws.proofs.Meanings.{one_report}
 use Rattle.answer_laws.proofs.Scenarios.{one_meaning, one_scenario_fault, meant_or_refused}
-use Rattle.answer_laws.proofs.Loose.{IsAnswered, answered_design, one_answered}
-
--- two answers are of one status, and have one text
-abbrev pub Agree : ℕ → List ℕ → ℕ → List ℕ → Type 0
-Agree s a t b = (s ≡ t) × (a ≡ b)
+use Rattle.answer_laws.proofs.Made.{Agree, one_analysis}
+use Rattle.answer_laws.proofs.Executions.{IsAnswered, answered_design, one_answered}
 
 alike : (n s t : ℕ) (a b : List ℕ) → s ≡ n → t ≡ n → a ≡ b → Agree s a t b
 alike n s t a b e f same = (e ∙ sym f, same)
@@ -43,7 +43,7 @@ print_agrees bundle s t a b (inr x) (inl y) =
     absurd (read_or_refused bundle y.1.design y.1.scenario y.1.tree a y.1.parsed x.1)
 print_agrees bundle s t a b (inr x) (inr y) = alike 3 s t a b x.0 y.0 (one_refused_text bundle a b x.1 y.1)
 
-module _ (one_design : OneDesign) (one_fault : OneFault) (one_end : OneEnd) where
+module _ (one_design : OneDesign) (one_fault : OneFault) (laws : ExecutionLaws) where
   -- ---- refusals
   refusals_agree : (root bundle : List ℕ) (s t : ℕ) (a b : List ℕ) → IsBundleRefused root bundle s a → IsBundleRefused root bundle t b → Agree s a t b
   refusals_agree root bundle s t a b (inl x) (inl y) = alike 3 s t a b x.0 y.0 (one_refused_text bundle a b x.1 y.1)
@@ -63,44 +63,48 @@ module _ (one_design : OneDesign) (one_fault : OneFault) (one_end : OneEnd) wher
   check_agrees root bundle s t a b (inr x) (inl y) = absurd (accepted_or_refused root bundle y.1.design y.1.scenario s a y.1.accepted x)
   check_agrees root bundle s t a b (inr x) (inr y) = refusals_agree root bundle s t a b x y
 
-  -- ---- sync
-  module _ (root bundle : List ℕ) where
-    reported : (a b : List ℕ) (x : IsReported root bundle a) (y : IsReported root bundle b) → a ≡ b
-    reported a b x y =
-        let same = one_meaning one_design root bundle (Sync root) x.design y.design x.scenario y.scenario x.means y.means in
-        x.text_is ∙ ((λ i. report (same.0 i) (same.1 i).env (same.1 i).rounds) ∙ sym y.text_is)
+  -- ---- analyses
+  module _ (what : Analysis) (root bundle : List ℕ) where
+    analysed : (s t : ℕ) (a b : List ℕ) → IsAnalysed what root bundle s a → IsAnalysed what root bundle t b → Agree s a t b
+    analysed s t a b x y =
+        let same = one_meaning one_design root bundle (command_of what root) x.design y.design x.scenario y.scenario x.means y.means in
+        let moved = subst (λ (sc : Scenario). Makes what y.design sc s a) same.1 (subst (λ (d : DesignParts). Makes what d x.scenario s a) same.0 x.makes) in
+        one_analysis what y.design y.scenario s t a b moved y.makes
 
-    reported_or_refused : (a b : List ℕ) → IsReported root bundle a → HasScenarioFault root bundle (Sync root) b → ⊥
-    reported_or_refused a b x y = meant_or_refused one_design root bundle (Sync root) x.design x.scenario b x.means y
+    analysed_or_refused : (s : ℕ) (a b : List ℕ) → IsAnalysed what root bundle s a → HasScenarioFault root bundle (command_of what root) b → ⊥
+    analysed_or_refused s a b x y = meant_or_refused one_design root bundle (command_of what root) x.design x.scenario b x.means y
 
-    sync_agrees : (s t : ℕ) (a b : List ℕ) → IsSyncAnswer root bundle s a → IsSyncAnswer root bundle t b → Agree s a t b
-    sync_agrees s t a b (inl x) (inl y) = alike 0 s t a b x.0 y.0 (reported a b x.1 y.1)
-    sync_agrees s t a b (inl x) (inr (inl y)) = absurd (accepted_or_refused root bundle x.1.design x.1.means.bytes t b x.1.means.accepted y)
-    sync_agrees s t a b (inl x) (inr (inr y)) = absurd (reported_or_refused a b x.1 y.1)
-    sync_agrees s t a b (inr (inl x)) (inl y) = absurd (accepted_or_refused root bundle y.1.design y.1.means.bytes s a y.1.means.accepted x)
-    sync_agrees s t a b (inr (inl x)) (inr (inl y)) = refusals_agree root bundle s t a b x y
-    sync_agrees s t a b (inr (inl x)) (inr (inr y)) = absurd (accepted_or_refused root bundle y.1.design y.1.bytes s a y.1.accepted x)
-    sync_agrees s t a b (inr (inr x)) (inl y) = absurd (reported_or_refused b a y.1 x.1)
-    sync_agrees s t a b (inr (inr x)) (inr (inl y)) = absurd (accepted_or_refused root bundle x.1.design x.1.bytes t b x.1.accepted y)
-    sync_agrees s t a b (inr (inr x)) (inr (inr y)) = alike 5 s t a b x.0 y.0 (one_scenario_fault one_design root bundle (Sync root) a b x.1 y.1)
+    analyses_agree : (s t : ℕ) (a b : List ℕ) → IsAnalysisAnswer what root bundle s a → IsAnalysisAnswer what root bundle t b → Agree s a t b
+    analyses_agree s t a b (inl x) (inl y) = refusals_agree root bundle s t a b x y
+    analyses_agree s t a b (inl x) (inr (inl y)) = absurd (accepted_or_refused root bundle y.1.design y.1.bytes s a y.1.accepted x)
+    analyses_agree s t a b (inl x) (inr (inr y)) = absurd (accepted_or_refused root bundle y.design y.means.bytes s a y.means.accepted x)
+    analyses_agree s t a b (inr (inl x)) (inl y) = absurd (accepted_or_refused root bundle x.1.design x.1.bytes t b x.1.accepted y)
+    analyses_agree s t a b (inr (inl x)) (inr (inl y)) =
+        alike 5 s t a b x.0 y.0 (one_scenario_fault one_design root bundle (command_of what root) a b x.1 y.1)
+    analyses_agree s t a b (inr (inl x)) (inr (inr y)) = absurd (analysed_or_refused t b a y x.1)
+    analyses_agree s t a b (inr (inr x)) (inl y) = absurd (accepted_or_refused root bundle x.design x.means.bytes t b x.means.accepted y)
+    analyses_agree s t a b (inr (inr x)) (inr (inl y)) = absurd (analysed_or_refused s a b x y.1)
+    analyses_agree s t a b (inr (inr x)) (inr (inr y)) = analysed s t a b x y
 
-  -- ---- world --loose
-  module _ (root bundle : List ℕ) where
-    answered_or_refused : (s t : ℕ) (a b : List ℕ) → IsAnswered root bundle s a → IsBundleRefused root bundle t b → ⊥
-    answered_or_refused s t a b x y = let d = answered_design root bundle s a x in accepted_or_refused root bundle d.0 d.1 t b d.2 y
+  -- ---- executions
+  module _ (what : Execution) (root bundle : List ℕ) where
+    answered_or_refused : (s t : ℕ) (a b : List ℕ) → IsAnswered what root bundle s a → IsBundleRefused root bundle t b → ⊥
+    answered_or_refused s t a b x y = let d = answered_design what root bundle s a x in accepted_or_refused root bundle d.0 d.1 t b d.2 y
 
-    loose_agrees : (s t : ℕ) (a b : List ℕ) → IsLooseAnswer root bundle s a → IsLooseAnswer root bundle t b → Agree s a t b
-    loose_agrees s t a b (inl x) (inl y) = refusals_agree root bundle s t a b x y
-    loose_agrees s t a b (inl x) (inr y) = absurd (answered_or_refused t s b a y x)
-    loose_agrees s t a b (inr x) (inl y) = absurd (answered_or_refused s t a b x y)
-    loose_agrees s t a b (inr x) (inr y) =
-        one_answered one_design root bundle one_end s t a b x y
+    executions_agree : (s t : ℕ) (a b : List ℕ) → IsExecutionAnswer what root bundle s a → IsExecutionAnswer what root bundle t b → Agree s a t b
+    executions_agree s t a b (inl x) (inl y) = refusals_agree root bundle s t a b x y
+    executions_agree s t a b (inl x) (inr y) = absurd (answered_or_refused t s b a y x)
+    executions_agree s t a b (inr x) (inl y) = absurd (answered_or_refused s t a b x y)
+    executions_agree s t a b (inr x) (inr y) = one_answered one_design what root bundle laws s t a b x y
 
   -- ---- each command; no other has an answer
   pub answers_agree : (command : Command) (bundle : List ℕ) (s t : ℕ) (a b : List ℕ) → IsCommandAnswer command bundle s a
       → IsCommandAnswer command bundle t b → Agree s a t b
   answers_agree Print bundle s t a b x y = print_agrees bundle s t a b x y
   answers_agree (Check root) bundle s t a b x y = check_agrees root bundle s t a b x y
-  answers_agree (Sync root) bundle s t a b x y = sync_agrees root bundle s t a b x y
-  answers_agree (World root true) bundle s t a b x y = loose_agrees root bundle s t a b x y
+  answers_agree (Sync root) bundle s t a b x y = analyses_agree analysis.Sync root bundle s t a b x y
+  answers_agree (World root false) bundle s t a b x y = executions_agree execution.TimedWorld root bundle s t a b x y
+  answers_agree (World root true) bundle s t a b x y = executions_agree execution.LooseWorld root bundle s t a b x y
+  answers_agree (Watch root) bundle s t a b x y = analyses_agree analysis.Watch root bundle s t a b x y
+  answers_agree (Budget root) bundle s t a b x y = executions_agree execution.Budget root bundle s t a b x y
   answers_agree _ bundle s t a b x y = absurd x

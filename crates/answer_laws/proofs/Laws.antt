@@ -6,6 +6,8 @@ use Rattle.aadl_tree.specs.Given.{IsTreeOf}
 use Rattle.aadl_names.specs.declared.fault.FlatFault.{FlatFault}
 use Rattle.aadl_instance.specs.Faults.{IsFault}
 use Rattle.design_laws.specs.PackageDesigns.{IsDesignIn}
+use Rattle.loose_world.specs.Ends.{OneEnd}
+use Rattle.round_budget.specs.Laws.{TextIsOne, VerdictIsOne}
 
 -- a package has one design at most below a root
 abbrev pub OneDesign : Type 0
@@ -16,3 +18,9 @@ abbrev pub OneFault : Type 0
 OneFault =
     (text : List ℕ) (tree : PackageTree ℕ) (root : List ℕ) (f g : FlatFault)
     → IsTreeOf text tree → IsFault tree root f → IsFault tree root g → f ≡ g
+
+-- what a command that needs step codes makes is one: a list of loose events has one end, and there is one text of round budgets
+pub record ExecutionLaws : Type 0 where
+  pub one_end : OneEnd
+  pub one_text : TextIsOne
+  pub one_verdict : VerdictIsOne

@@ -4,11 +4,13 @@ pub mod Laws
 pub mod Designs
 pub mod Scenarios
 pub mod Worlds
-pub mod Loose
+pub mod TimedWorlds
+pub mod Made
+pub mod Executions
 pub mod Commands
 pub mod Calls
 pub mod Ways
 pub mod Standing
-pub mod LooseStanding
+pub mod ExecutionStanding
 pub mod Reading
 pub mod BundleStatuses

@@ -7,34 +7,33 @@ use Rattle.pals_runs.specs.declared.events.Event.{Event}
 use Rattle.pals_runs.specs.declared.journal.JournalEntry.{JournalEntry}
 use Rattle.pals_runs.specs.Journal.{entry_line}
 use Rattle.scenario_json.specs.declared.scenario.Scenario.{Scenario}
-use Rattle.bus_machine.specs.States.{Run, BusState, opening}
-use Rattle.bus_machine.specs.Traces.{finished_by_all}
+use Rattle.bus_machine.specs.States.{Run, BusState, opening, finished_by_all}
 use Rattle.bus_machine.specs.WorldTexts.{worldtext}
 use Rattle.pals_report.specs.EventFaults.{event_fault_line}
 use Rattle.loose_world.specs.declared.events.LooseEnd.{LooseEnd}
 use Rattle.loose_world.specs.declared.events.LooseEnd.TheVariants as end
-use Rattle.loose_world.specs.Steps.{StepsTo}
+use Rattle.loose_world.specs.Steps.{AllStep, StepsToStop, StepsToFault, StepsTo}
 use Rattle.loose_world.specs.Ends.{IsOneLeft, AreOneEnd, OneEnd}
 use Rattle.pals_top.specs.Code.{status_at}
 use Rattle.pals_top.specs.Loose.{run_of, IsWorldAnswer}
-use Rattle.answer_laws.specs.Meanings.{EventsEnd}
 
 -- ---- the ends of a run
+-- its events end so, from its opening on: each is a step of the bus machine and none gives a stop; or one gives this stop; or
+-- the one of this index is not allowed, for this fault, and none before it gives a stop
+abbrev EventsEnd : Run → List Event → LooseEnd → Type 0
+EventsEnd run events end.All = (t : BusState) × (journal : List JournalEntry) × AllStep run (opening run) events t journal
+EventsEnd run events (end.Stopped why) = (t : BusState) × (journal : List JournalEntry) × StepsToStop run events why t journal
+EventsEnd run events (end.Refused index fault) = StepsToFault run events index fault
+
 -- the end, with what is left there
-abbrev pub Leaves : Run → List Event → LooseEnd → Type 0
+abbrev Leaves : Run → List Event → LooseEnd → Type 0
 Leaves run events how = (t : BusState) × (journal : List JournalEntry) × StepsTo run events how t journal
 
 -- where an event is not allowed, nothing is said of what is left
-abbrev pub leaves : (run : Run) (events : List Event) (how : LooseEnd) → EventsEnd run events how → Leaves run events how
+abbrev leaves : (run : Run) (events : List Event) (how : LooseEnd) → EventsEnd run events how → Leaves run events how
 leaves run events end.All x = x
 leaves run events (end.Stopped why) x = x
 leaves run events (end.Refused index fault) x = (opening run, [], x)
-
-pub one_how : OneEnd → (run : Run) (events : List Event) (how other : LooseEnd) → EventsEnd run events how → EventsEnd run events other → how ≡ other
-one_how one_end run events how other x y =
-    let one = leaves run events how x in
-    let two = leaves run events other y in
-    (one_end run events how other one.0 two.0 one.1 two.1 one.2 two.2).end
 
 -- ---- answers
 -- the text that tells how the events of a run end

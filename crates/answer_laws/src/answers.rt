@@ -7,6 +7,7 @@ ghost use Rattle.pals_top.specs.Outside.{Reading};
 use design_laws::packages::one_design;
 use fault_laws::laws::one_fault;
 use loose_world::world_laws::one_end;
+use round_budget::laws::text_is_one;
 
 /// The cases of an answer exclude each other, and each has one text: so each status comes exactly where
 /// its case does, and the bundle decides what a command answers to it, byte for byte.
@@ -17,6 +18,7 @@ pub fn answer_is_decided()
     one_design();
     one_fault();
     one_end();
+    text_is_one();
 }
 
 /// What the program's source shows decides the answer of a call, with the words: where the source

@@ -1,16 +1,21 @@
 //! What a bundle has decides the status of a command's answer. Each law is the contract of a function
 //! that does nothing.
-ghost use Rattle.std.specs.Prelude.{◌≡◌, ◌↔◌, ◌⊎◌, ℕ, List};
-ghost use Rattle.pals_runs.specs.declared.commands.Command.TheVariants.{Sync};
+ghost use Rattle.std.specs.Prelude.{◌≡◌, ◌↔◌, ◌⊎◌, ◌<◌, ℕ, List};
+ghost use Rattle.pals_model.specs.declared.design.DesignParts.{DesignParts};
+ghost use Rattle.scenario_json.specs.declared.scenario.Scenario.{Scenario};
 ghost use Rattle.pals_top.specs.Print.{IsPrintAnswer};
 ghost use Rattle.pals_top.specs.Check.{IsCheckAnswer};
-ghost use Rattle.pals_top.specs.Sync.{IsSyncAnswer};
-ghost use Rattle.pals_top.specs.Loose.{IsLooseAnswer};
+ghost use Rattle.pals_top.specs.declared.analysis.Analysis.{Analysis};
+ghost use Rattle.pals_top.specs.declared.execution.Execution.{Execution};
+ghost use Rattle.pals_top.specs.Analyses.{command_of, IsAnalysisAnswer};
+ghost use Rattle.pals_top.specs.Executions.{IsExecutionAnswer};
+ghost use Rattle.pals_top.specs.Worlds.{IsTimedAnswer};
 ghost use Rattle.answer_laws.specs.Meanings.{HasTree, MeansDesign, MeansScenario};
-ghost use Rattle.answer_laws.specs.Meanings.{HasLongCode, LacksLooseScenario, HasRefusedEvent, HasStop, HasWorld};
+ghost use Rattle.answer_laws.specs.Meanings.{HasLongCode, LacksScenario, GivesStatus};
 
 use design_laws::packages::one_design;
 use loose_world::world_laws::one_end;
+use round_budget::laws::text_is_one;
 
 /// `print` answers 0 exactly where the bundle has a design text of the grammar, and 3 exactly where it has none.
 pub fn statuses_of_print()
@@ -31,39 +36,48 @@ pub fn statuses_of_check()
         → (status ≡ 4) ↔ (HasTree bundle × (MeansDesign root bundle → ⊥)) }
 {}
 
-/// `sync` answers 0 exactly where the bundle means a design and a scenario for it, 3 and 4 as `check`
-/// does, and 5 exactly where the bundle means a design and no scenario.
-pub fn statuses_of_sync()
-    ensures done { (root bundle : List ℕ) (status : ℕ) (text : List ℕ) → IsSyncAnswer root bundle status text
-        → (status ≡ 0) ↔ MeansScenario root bundle (Sync root) }
-    ensures text { (root bundle : List ℕ) (status : ℕ) (text : List ℕ) → IsSyncAnswer root bundle status text
+/// A command that needs a design and a scenario answers 0 or 1 exactly where the bundle means both, 3
+/// and 4 as `check` does, and 5 exactly where the bundle means a design and no scenario.
+pub fn statuses_of_analyses()
+    ensures done { (what : Analysis) (root bundle : List ℕ) (status : ℕ) (text : List ℕ) → IsAnalysisAnswer what root bundle status text
+        → (status < 2) ↔ MeansScenario root bundle (command_of what root) }
+    ensures text { (what : Analysis) (root bundle : List ℕ) (status : ℕ) (text : List ℕ) → IsAnalysisAnswer what root bundle status text
         → (status ≡ 3) ↔ (HasTree bundle → ⊥) }
-    ensures design { (root bundle : List ℕ) (status : ℕ) (text : List ℕ) → IsSyncAnswer root bundle status text
+    ensures design { (what : Analysis) (root bundle : List ℕ) (status : ℕ) (text : List ℕ) → IsAnalysisAnswer what root bundle status text
         → (status ≡ 4) ↔ (HasTree bundle × (MeansDesign root bundle → ⊥)) }
-    ensures scenario { (root bundle : List ℕ) (status : ℕ) (text : List ℕ) → IsSyncAnswer root bundle status text
-        → (status ≡ 5) ↔ (MeansDesign root bundle × (MeansScenario root bundle (Sync root) → ⊥)) }
+    ensures scenario { (what : Analysis) (root bundle : List ℕ) (status : ℕ) (text : List ℕ) → IsAnalysisAnswer what root bundle status text
+        → (status ≡ 5) ↔ (MeansDesign root bundle × (MeansScenario root bundle (command_of what root) → ⊥)) }
 {
     one_design();
 }
 
-/// `world --loose` answers 3 and 4 as `check` does, and 13 exactly where the bundle means a design
-/// with a step code that is too long. Of a design without one it answers 5 exactly where the bundle
-/// has no scenario for it or an event is not allowed, 6 exactly where an event gives a stop, and 0
-/// exactly where all events happen and none gives a stop.
-pub fn statuses_of_loose()
-    ensures done { (root bundle : List ℕ) (status : ℕ) (text : List ℕ) → IsLooseAnswer root bundle status text
-        → (status ≡ 0) ↔ HasWorld root bundle }
-    ensures text { (root bundle : List ℕ) (status : ℕ) (text : List ℕ) → IsLooseAnswer root bundle status text
+/// A command that needs step codes answers 3 and 4 as `check` does, and 13 exactly where the bundle
+/// means a design with a step code that is too long. Of a design without one it answers 5 exactly
+/// where the bundle has no scenario for it, or what is made of the scenario has this status; and 0, 1
+/// or 6 exactly where what is made of the scenario has this status.
+pub fn statuses_of_executions()
+    ensures text { (what : Execution) (root bundle : List ℕ) (status : ℕ) (text : List ℕ) → IsExecutionAnswer what root bundle status text
         → (status ≡ 3) ↔ (HasTree bundle → ⊥) }
-    ensures design { (root bundle : List ℕ) (status : ℕ) (text : List ℕ) → IsLooseAnswer root bundle status text
+    ensures design { (what : Execution) (root bundle : List ℕ) (status : ℕ) (text : List ℕ) → IsExecutionAnswer what root bundle status text
         → (status ≡ 4) ↔ (HasTree bundle × (MeansDesign root bundle → ⊥)) }
-    ensures code { (root bundle : List ℕ) (status : ℕ) (text : List ℕ) → IsLooseAnswer root bundle status text
+    ensures code { (what : Execution) (root bundle : List ℕ) (status : ℕ) (text : List ℕ) → IsExecutionAnswer what root bundle status text
         → (status ≡ 13) ↔ HasLongCode root bundle }
-    ensures scenario { (root bundle : List ℕ) (status : ℕ) (text : List ℕ) → IsLooseAnswer root bundle status text
-        → (status ≡ 5) ↔ (LacksLooseScenario root bundle ⊎ HasRefusedEvent root bundle) }
-    ensures stop { (root bundle : List ℕ) (status : ℕ) (text : List ℕ) → IsLooseAnswer root bundle status text
-        → (status ≡ 6) ↔ HasStop root bundle }
+    ensures scenario { (what : Execution) (root bundle : List ℕ) (status : ℕ) (text : List ℕ) → IsExecutionAnswer what root bundle status text
+        → (status ≡ 5) ↔ (LacksScenario what root bundle ⊎ GivesStatus what root bundle 5) }
+    ensures done { (what : Execution) (root bundle : List ℕ) (status : ℕ) (text : List ℕ) → IsExecutionAnswer what root bundle status text
+        → (status ≡ 0) ↔ GivesStatus what root bundle 0 }
+    ensures not_so { (what : Execution) (root bundle : List ℕ) (status : ℕ) (text : List ℕ) → IsExecutionAnswer what root bundle status text
+        → (status ≡ 1) ↔ GivesStatus what root bundle 1 }
+    ensures stop { (what : Execution) (root bundle : List ℕ) (status : ℕ) (text : List ℕ) → IsExecutionAnswer what root bundle status text
+        → (status ≡ 6) ↔ GivesStatus what root bundle 6 }
 {
     one_design();
     one_end();
+    text_is_one();
 }
+
+/// Of each design and scenario `world` has an answer, by its definition alone: all events are within the
+/// bounds, or one of them is the first that is not.
+pub fn worlds_are_answered()
+    ensures { (design : DesignParts) (scenario : Scenario) → (status : ℕ) × (text : List ℕ) × IsTimedAnswer design scenario status text }
+{}

@@ -1,10 +1,10 @@
 -- What words are by their number, with flags or without.
-use Rattle.std.proofs.Common.{◌≡◌, ℕ, ◌+◌, ◌<◌, ◌≤◌, Bool, true, false, not, nat_eq, suc, ◌&&◌, ◌||◌, cond, List, [], ◌∷◌, length, codes, bytes_eq, get_or, Option, None, refl, sym, ap, ◌∙◌, arith}
+use Rattle.std.proofs.Common.{◌≡◌, ◌⊎◌, inl, inr, ℕ, ◌+◌, ◌<◌, ◌≤◌, Bool, true, false, not, nat_eq, suc, ◌&&◌, ◌||◌, cond, List, [], ◌∷◌, length, codes, bytes_eq, get_or, Option, None, refl, sym, ap, ◌∙◌, arith}
 use Rattle.std.specs.List.{list_all}
 use Rattle.std.proofs.lemmas.Bool.{eqb-true, true≢false}
 use Rattle.std.proofs.lemmas.Slice.Eq.{bytes_eq-Decides}
 use Rattle.pals_runs.specs.declared.commands.Command.{Command}
-use Rattle.pals_top.specs.Words.{is_plain, is_flag, flags, plain_words, rooted_form, form_by, form}
+use Rattle.pals_top.specs.Words.{is_plain, is_flag, flags, plain_words, rooted_form, plain_form, form_by, form}
 
 -- ---- flags
 either : (w x y : List ℕ) → (bytes_eq w x || bytes_eq w y) ≡ true → is_plain x ≡ false → is_plain y ≡ false → is_plain w ≡ false
@@ -73,14 +73,37 @@ pub form_none : (a b : List ℕ) → is_plain b ≡ false → form (a ∷ b ∷ 
 form_none a b plain = none_by (is_flag a) (is_flag b) a b plain
 
 -- ---- three words, none of which is a flag
-unflagged : (x y z : Bool) (a b c : List ℕ) → x ≡ false → y ≡ false → z ≡ false → three x y z a b c ≡ None
-unflagged false false false a b c ex ey ez = idle (list_all is_plain (a ∷ b ∷ c ∷ [])) None refl
+unflagged : (x y z : Bool) (a b c : List ℕ) → x ≡ false → y ≡ false → z ≡ false → three x y z a b c ≡ by_parts (a ∷ b ∷ c ∷ []) []
+unflagged false false false a b c ex ey ez = refl
 unflagged true y z a b c ex ey ez = absurd (true≢false ex)
 unflagged false true z a b c ex ey ez = absurd (true≢false ey)
 unflagged false false true a b c ex ey ez = absurd (true≢false ez)
 
-pub form_unflagged : (a b c : List ℕ) → is_flag a ≡ false → is_flag b ≡ false → is_flag c ≡ false → form (a ∷ b ∷ c ∷ []) ≡ None
-form_unflagged a b c ea eb ec = unflagged (is_flag a) (is_flag b) (is_flag c) a b c ea eb ec
+-- all of them plain, or not
+plain_by : (x y z : Bool) (command : Option Command) → x ≡ true → y ≡ true → z ≡ true → cond (x && (y && (z && true))) command None ≡ command
+plain_by true true true command ex ey ez = refl
+plain_by false y z command ex ey ez = absurd (true≢false (sym ex))
+plain_by true false z command ex ey ez = absurd (true≢false (sym ey))
+plain_by true true false command ex ey ez = absurd (true≢false (sym ez))
+
+unplain_by : (x y z : Bool) (command : Option Command) → (x ≡ false) ⊎ ((y ≡ false) ⊎ (z ≡ false)) → cond (x && (y && (z && true))) command None ≡ None
+unplain_by false y z command some = refl
+unplain_by true false z command some = refl
+unplain_by true true false command some = refl
+unplain_by true true true command (inl e) = absurd (true≢false e)
+unplain_by true true true command (inr (inl e)) = absurd (true≢false e)
+unplain_by true true true command (inr (inr e)) = absurd (true≢false e)
+
+module _ (a b c : List ℕ) (ea : is_flag a ≡ false) (eb : is_flag b ≡ false) (ec : is_flag c ≡ false) where
+  pub form_three : is_plain a ≡ true → is_plain b ≡ true → is_plain c ≡ true → form (a ∷ b ∷ c ∷ []) ≡ plain_form (a ∷ b ∷ c ∷ [])
+  form_three pa pb pc =
+      unflagged (is_flag a) (is_flag b) (is_flag c) a b c ea eb ec
+      ∙ plain_by (is_plain a) (is_plain b) (is_plain c) (plain_form (a ∷ b ∷ c ∷ [])) pa pb pc
+
+  pub form_unplain : (is_plain a ≡ false) ⊎ ((is_plain b ≡ false) ⊎ (is_plain c ≡ false)) → form (a ∷ b ∷ c ∷ []) ≡ None
+  form_unplain some =
+      unflagged (is_flag a) (is_flag b) (is_flag c) a b c ea eb ec
+      ∙ unplain_by (is_plain a) (is_plain b) (is_plain c) (plain_form (a ∷ b ∷ c ∷ [])) some
 
 -- ---- four words or more
 one_more : (x : Bool) (w : List ℕ) (plain chosen : List (List ℕ)) (n : ℕ) → length plain + length chosen ≡ n → length (kept (not x) w plain) + length (kept x w chosen) ≡ suc n
@@ -95,7 +118,8 @@ no_form : (plain chosen : List (List ℕ)) → 4 ≤ length plain + length chose
 no_form [] [] many = absurd (omega arith)
 no_form (a ∷ []) [] many = absurd (omega arith)
 no_form (a ∷ b ∷ []) [] many = absurd (omega arith)
-no_form (a ∷ b ∷ c ∷ plain) [] many = refl
+no_form (a ∷ b ∷ c ∷ []) [] many = absurd (omega arith)
+no_form (a ∷ b ∷ c ∷ d ∷ plain) [] many = refl
 no_form [] (f ∷ []) many = absurd (omega arith)
 no_form (a ∷ []) (f ∷ []) many = absurd (omega arith)
 no_form (a ∷ b ∷ []) (f ∷ []) many = absurd (omega arith)
@@ -124,3 +148,8 @@ three_items (x ∷ []) a b c least most e1 e2 e3 = absurd (omega arith)
 three_items (x ∷ y ∷ []) a b c least most e1 e2 e3 = absurd (omega arith)
 three_items (x ∷ y ∷ z ∷ []) a b c least most e1 e2 e3 = cc
 three_items (x ∷ y ∷ z ∷ w ∷ ws) a b c least most e1 e2 e3 = absurd (omega arith)
+
+-- what a test says of the item of a place, it says of the item that the list shows there
+pub is_same : {A : Type 0} (test : A → Bool) (k : ℕ) {xs ys : List A} {item : A} {b : Bool} → item ≡ get_or xs k item → xs ≡ ys → test item ≡ b
+    → test (get_or ys k item) ≡ b
+is_same test k {item = item} is same says = ap test (sym (is ∙ ap (λ zs. get_or zs k item) same)) ∙ says

@@ -1,6 +1,6 @@
+mod Analyses
+mod Executions
 mod Forms
-mod LooseAnswers
 mod LooseWorlds
-pub mod Rounds
 mod Refusals
 mod Scenarios

@@ -1,5 +1,5 @@
 -- What the program answers to a list of loose events.
-use Rattle.std.proofs.Common.{◌≡◌, ◌∙◌, inl, inr, ℕ, List, [], ◌∷◌, ◌++◌, map, take, false, Result, Ok, Err, IfOk, All, ap, subst}
+use Rattle.std.proofs.Common.{◌≡◌, ◌∙◌, inl, inr, ℕ, List, [], ◌∷◌, ◌++◌, map, take, false, Result, Ok, Err, IfOk, ap, subst}
 use Rattle.step_code.specs.declared.instr.CodeParts.{CodeParts}
 use Rattle.pals_model.specs.declared.design.DesignParts.{DesignParts}
 use Rattle.pals_model.specs.Rules.{IsDesign}
@@ -9,8 +9,7 @@ use Rattle.pals_runs.specs.declared.events.EventFault.{EventFault}
 use Rattle.pals_runs.specs.declared.journal.Stop.{Stop}
 use Rattle.pals_runs.specs.Journal.{entry_line}
 use Rattle.bus_machine.specs.Laws.{IsRunOf}
-use Rattle.bus_machine.specs.States.{Run}
-use Rattle.bus_machine.specs.Traces.{finished_by_all}
+use Rattle.bus_machine.specs.States.{Run, finished_by_all}
 use Rattle.pals_bus.specs.Values.{BusValue, Happens, opening_bus}
 use Rattle.pals_bus.specs.Loose.{HappensLoose}
 use Rattle.scenario_json.specs.declared.scenario.Scenario.{Scenario}

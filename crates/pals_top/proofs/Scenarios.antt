@@ -1,33 +1,39 @@
 -- What is answered to a scenario with a fault.
-use Rattle.std.proofs.Common.{◌≡◌, ◌≢◌, inr, ℕ, List, ◌++◌, Result, Ok, Err, IfOk, subst}
+use Rattle.std.proofs.Common.{◌≡◌, ◌≢◌, ℕ, List, ◌++◌, Result, Ok, Err, IfOk}
 use Rattle.pals_model.specs.declared.design.DesignParts.{DesignParts}
 use Rattle.pals_model.specs.RoundTexts.{line_end}
-use Rattle.pals_runs.specs.declared.commands.Command.TheVariants.{Sync}
+use Rattle.pals_runs.specs.declared.commands.Command.{Command}
 use Rattle.scenario_values.specs.declared.fault.ScenarioFault.{ScenarioFault}
 use Rattle.scenario_values.specs.declared.fault.ScenarioFault.TheVariants.{Memory}
 use Rattle.scenario_json.specs.Scenarios.{Means}
 use Rattle.pals_report.specs.ScenarioFaults.{scenario_fault_line}
-use Rattle.pals_top.specs.declared.answer.Answer.{Answer}
 use Rattle.bundle_designs.specs.Accepted.{IsAccepted}
+use Rattle.pals_top.specs.declared.answer.Answer.{Answer}
 use Rattle.pals_top.specs.declared.status.TheConstants.{SCENARIO_REFUSED}
+use Rattle.pals_top.specs.Scenarios.{HasScenarioFault}
 use Rattle.pals_top.specs.Statuses.{status_of, text_of}
-use Rattle.pals_top.specs.Sync.{IsSyncAnswer}
 
-pub scenario_refused : {E : Type 0} (root copy bundle : List ℕ) (design : DesignParts) (bytes : List ℕ) (fault : ScenarioFault) (answered : Result Answer E)
-    → copy ≡ root → IsAccepted root bundle design bytes → (fault ≢ Memory → Means bytes design (Sync copy) (Err fault))
-    → IfOk answered (λ a. status_of a ≡ SCENARIO_REFUSED) → IfOk answered (λ a. text_of a ≡ scenario_fault_line fault ++ line_end) → IfOk answered (λ a. fault ≢ Memory)
-    → IfOk answered (λ a. IsSyncAnswer root bundle (status_of a) (text_of a))
-scenario_refused root copy bundle design bytes fault (Ok a) same accepted means status text named =
-    inr (inr (
-      status,
-      record {
-        design = design;
-        bytes = bytes;
-        accepted = accepted;
-        fault = fault;
-        faulty = subst (λ r. Means bytes design (Sync r) (Err fault)) same (means named);
-        named = named;
-        text_is = text;
-      },
-    ))
-scenario_refused root copy bundle design bytes fault (Err e) same accepted means status text named = tt
+-- the answer says that the bundle's scenario has a fault, and its design is this one
+pub record SaysFault (root bundle : List ℕ) (design : DesignParts) (command : Command) (a : Answer) : Type 0 where
+  pub status_is : status_of a ≡ SCENARIO_REFUSED
+  pub faulty : HasScenarioFault root bundle command (text_of a)
+  pub design_is : faulty.design ≡ design
+
+module _ {E : Type 0} (root bundle : List ℕ) (design : DesignParts) (bytes : List ℕ) (command : Command) (fault : ScenarioFault) where
+  pub says_fault : (answered : Result Answer E) → IsAccepted root bundle design bytes → (fault ≢ Memory → Means bytes design command (Err fault))
+      → IfOk answered (λ a. status_of a ≡ SCENARIO_REFUSED) → IfOk answered (λ a. text_of a ≡ scenario_fault_line fault ++ line_end)
+      → IfOk answered (λ a. fault ≢ Memory) → IfOk answered (SaysFault root bundle design command)
+  says_fault (Ok a) accepted means status text named = record {
+    status_is = status;
+    faulty = record {
+      design = design;
+      bytes = bytes;
+      accepted = accepted;
+      fault = fault;
+      faulty = means named;
+      named = named;
+      text_is = text;
+    };
+    design_is = λ i. design;
+  }
+  says_fault (Err e) accepted means status text named = tt

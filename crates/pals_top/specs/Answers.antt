@@ -1,21 +1,27 @@
 -- What the program answers: a status and a text, to its words and to what its source had.
-use Rattle.std.specs.Prelude.{◌≡◌, ℕ, List, Option, Some, None, ◌⊎◌, true}
+use Rattle.std.specs.Prelude.{◌≡◌, ℕ, Bool, true, false, List, Option, Some, None, ◌⊎◌}
 use Rattle.pals_runs.specs.declared.commands.Command.{Command}
-use Rattle.pals_runs.specs.declared.commands.Command.TheVariants.{Print, Check, Sync, World}
+use Rattle.pals_runs.specs.declared.commands.Command.TheVariants.{Print, Check, Sync, World, Ring, Watch, Budget}
 use Rattle.pals_top.specs.declared.status.TheConstants.{USAGE}
 use Rattle.pals_top.specs.Outside.{Reading, HasRead, IsReadFault}
 use Rattle.pals_top.specs.Texts.{usage_line}
 use Rattle.pals_top.specs.Print.{IsPrintAnswer}
 use Rattle.pals_top.specs.Check.{IsCheckAnswer}
-use Rattle.pals_top.specs.Sync.{IsSyncAnswer}
-use Rattle.pals_top.specs.Loose.{IsLooseAnswer}
+use Rattle.pals_top.specs.Ring.{IsRingAnswer}
+use Rattle.pals_top.specs.declared.analysis.Analysis.TheVariants as analysis
+use Rattle.pals_top.specs.declared.execution.Execution.TheVariants as execution
+use Rattle.pals_top.specs.Analyses.{IsAnalysisAnswer}
+use Rattle.pals_top.specs.Executions.{IsExecutionAnswer}
 
--- The answer of a command to a bundle. No other command has a form.
+-- The answer of a command to a bundle. No other command reads one.
 abbrev pub IsCommandAnswer : Command → List ℕ → ℕ → List ℕ → Type 0
 IsCommandAnswer Print bundle status text = IsPrintAnswer bundle status text
 IsCommandAnswer (Check root) bundle status text = IsCheckAnswer root bundle status text
-IsCommandAnswer (Sync root) bundle status text = IsSyncAnswer root bundle status text
-IsCommandAnswer (World root true) bundle status text = IsLooseAnswer root bundle status text
+IsCommandAnswer (Sync root) bundle status text = IsAnalysisAnswer analysis.Sync root bundle status text
+IsCommandAnswer (Watch root) bundle status text = IsAnalysisAnswer analysis.Watch root bundle status text
+IsCommandAnswer (World root false) bundle status text = IsExecutionAnswer execution.TimedWorld root bundle status text
+IsCommandAnswer (World root true) bundle status text = IsExecutionAnswer execution.LooseWorld root bundle status text
+IsCommandAnswer (Budget root) bundle status text = IsExecutionAnswer execution.Budget root bundle status text
 IsCommandAnswer _ bundle status text = ⊥
 
 -- A command reads all bytes and answers them, or says why they were not read.
@@ -24,7 +30,19 @@ pub record IsBundleAnswer (command : Command) (seen : Reading) (status : ℕ) (t
   pub read : HasRead seen bundle
   pub answer : IsCommandAnswer command bundle status text
 
+-- a ring reads nothing; all other commands read a bundle
+abbrev pub reads_source : Command → Bool
+reads_source (Ring nodes rounds) = false
+reads_source command = true
+
+abbrev pub IsSourceAnswer : Command → Reading → ℕ → List ℕ → Type 0
+IsSourceAnswer command seen status text = IsBundleAnswer command seen status text ⊎ IsReadFault seen status text
+
+abbrev pub IsFormAnswer : Command → Reading → ℕ → List ℕ → Type 0
+IsFormAnswer (Ring nodes rounds) seen status text = IsRingAnswer nodes rounds status text × (seen.after ≡ seen.before)
+IsFormAnswer command seen status text = IsSourceAnswer command seen status text
+
 -- Words that are no form read nothing.
 abbrev pub IsAnswer : Option Command → Reading → ℕ → List ℕ → Type 0
 IsAnswer None seen status text = (status ≡ USAGE) × (text ≡ usage_line) × (seen.after ≡ seen.before)
-IsAnswer (Some command) seen status text = IsBundleAnswer command seen status text ⊎ IsReadFault seen status text
+IsAnswer (Some command) seen status text = IsFormAnswer command seen status text

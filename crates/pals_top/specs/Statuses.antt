@@ -1,12 +1,13 @@
 -- The status and the text of an answer.
 use Rattle.std.specs.Prelude.{◌≡◌, ℕ, List}
 use Rattle.pals_top.specs.declared.answer.Answer.{Answer}
-use Rattle.pals_top.specs.declared.answer.Answer.TheVariants.{Done, Usage, TextRefused, DesignRefused, ScenarioRefused, Stopped, CodeTooLong, ReadFault, TooLong}
-use Rattle.pals_top.specs.declared.status.TheConstants.{DONE, USAGE, TEXT_REFUSED, DESIGN_REFUSED, SCENARIO_REFUSED, STOPPED, CODE_TOO_LONG, READ_FAULT, TOO_LONG}
+use Rattle.pals_top.specs.declared.answer.Answer.TheVariants.{Done, NotSo, Usage, TextRefused, DesignRefused, ScenarioRefused, Stopped, CodeTooLong, ReadFault, TooLong}
+use Rattle.pals_top.specs.declared.status.TheConstants.{DONE, NOT_SO, USAGE, TEXT_REFUSED, DESIGN_REFUSED, SCENARIO_REFUSED, STOPPED, CODE_TOO_LONG, READ_FAULT, TOO_LONG}
 use Rattle.pals_top.specs.Texts.{usage_line, read_fault_line, too_long_line}
 
 abbrev pub status_of : Answer → ℕ
 status_of (Done text) = DONE
+status_of (NotSo text) = NOT_SO
 status_of Usage = USAGE
 status_of (TextRefused text) = TEXT_REFUSED
 status_of (DesignRefused text) = DESIGN_REFUSED
@@ -18,6 +19,7 @@ status_of TooLong = TOO_LONG
 
 abbrev pub text_of : Answer → List ℕ
 text_of (Done text) = text.items
+text_of (NotSo text) = text.items
 text_of Usage = usage_line
 text_of (TextRefused text) = text.items
 text_of (DesignRefused text) = text.items

@@ -1,8 +1,9 @@
 -- What the words of a command line are.
 use Rattle.std.specs.List.{list_all}
-use Rattle.std.specs.Prelude.{ℕ, nat_eq, Bool, true, not, if◌then◌else◌, ◌||◌, codes, bytes_eq, List, [], ◌∷◌, filter, Option, Some, None, Result, Ok, Err, ◌≡◌, IsSome}
+use Rattle.std.specs.Prelude.{ℕ, ◌+◌, ◌-◌, ◌*◌, nat_eq, nat_le, Bool, true, false, not, if◌then◌else◌, ◌&&◌, ◌||◌, codes, bytes_eq, List, [], ◌∷◌, length, filter, fold, Option, Some, None, Result, Ok, Err, ◌≡◌, ◌≤◌, IsSome}
 use Rattle.pals_runs.specs.declared.commands.Command.{Command}
-use Rattle.pals_runs.specs.declared.commands.Command.TheVariants.{Print, Check, Sync, World}
+use Rattle.pals_runs.specs.declared.commands.Command.TheVariants.{Print, Check, Sync, World, Ring, Watch, Budget}
+use Rattle.pals_top.specs.declared.words.TheConstants.{RING_NODES, RING_ROUNDS}
 use Rattle.pals_top.specs.declared.words.WordsEnd.{WordsEnd}
 use Rattle.pals_top.specs.declared.words.WordsEnd.TheVariants.{Usage, Memory}
 
@@ -21,14 +22,39 @@ flags words = filter is_flag words
 abbrev pub plain_words : List (List ℕ) → List (List ℕ)
 plain_words words = filter (λ word. not (is_flag word)) words
 
+-- ---- numbers
+-- one to six digits
+abbrev pub is_digit : ℕ → Bool
+is_digit c = nat_le 48 c && nat_le c 57
+
+abbrev pub is_number : List ℕ → Bool
+is_number word = nat_le 1 (length word) && nat_le (length word) 6 && list_all is_digit word
+
+abbrev pub value_of : List ℕ → ℕ
+value_of digits = fold (λ value c. value * 10 + (c - 48)) 0 digits
+
+-- the number that a word is, if that is from the one to the other
+abbrev pub number_in : ℕ → ℕ → List ℕ → Option ℕ
+number_in least most word = if is_number word && nat_le least (value_of word) && nat_le (value_of word) most then Some (value_of word) else None
+
 -- ---- a command by its plain words, without flags or with one
 -- the command of a word with a root
 abbrev pub rooted_form : List ℕ → List ℕ → Option Command
-rooted_form word root = if bytes_eq word (codes "check") then Some (Check root) else (if bytes_eq word (codes "sync") then Some (Sync root) else None)
+rooted_form word root =
+    if bytes_eq word (codes "check") then Some (Check root) else if bytes_eq word (codes "sync") then Some (Sync root)
+    else if bytes_eq word (codes "world") then Some (World root false) else if bytes_eq word (codes "watch") then Some (Watch root)
+    else if bytes_eq word (codes "budget") then Some (Budget root) else None
+
+-- that of a ring of this many nodes, for this many rounds
+abbrev pub ring_form : Option ℕ → Option ℕ → Option Command
+ring_form (Some nodes) (Some rounds) = Some (Ring nodes rounds)
+ring_form _ _ = None
 
 abbrev pub plain_form : List (List ℕ) → Option Command
 plain_form (word ∷ []) = if bytes_eq word (codes "print") then Some Print else None
 plain_form (word ∷ root ∷ []) = rooted_form word root
+plain_form (word ∷ nodes ∷ rounds ∷ []) =
+    if bytes_eq word (codes "self") then ring_form (number_in 2 RING_NODES nodes) (number_in 1 RING_ROUNDS rounds) else None
 plain_form _ = None
 
 abbrev pub loose_form : List (List ℕ) → Option Command
@@ -44,12 +70,15 @@ form_by plain _ = None
 abbrev pub form : List (List ℕ) → Option Command
 form words = if list_all is_plain (plain_words words) then form_by (plain_words words) (flags words) else None
 
--- the commands that have a form
+-- the commands that have a form, with what it keeps
 abbrev pub HasForm : Command → Type 0
 HasForm Print = Unit {0}
 HasForm (Check root) = Unit {0}
 HasForm (Sync root) = Unit {0}
-HasForm (World root true) = Unit {0}
+HasForm (World root loose) = Unit {0}
+HasForm (Ring nodes rounds) = (2 ≤ nodes) × (nodes ≤ RING_NODES) × (1 ≤ rounds) × (rounds ≤ RING_ROUNDS)
+HasForm (Watch root) = Unit {0}
+HasForm (Budget root) = Unit {0}
 HasForm _ = ⊥
 
 -- Why words give no command: they are no form, or they are one and there was not enough memory.

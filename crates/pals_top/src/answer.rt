@@ -1,12 +1,13 @@
 //! Answers: what is written, and with which status.
-ghost use Rattle.std.specs.Prelude.{◌≡◌, IfOk, OnErr};
+ghost use Rattle.std.specs.Prelude.{◌≡◌, if◌then◌else◌, IfOk, OnErr};
 ghost use Rattle.bundle_designs.specs.declared.refusal.Refusal.{Refusal};
 ghost use Rattle.pals_top.specs.Refusals.{SaysWhy};
-ghost use Rattle.pals_top.specs.Statuses.{status_of, text_of};
+ghost use Rattle.pals_top.specs.declared.status.TheConstants.{DONE, NOT_SO};
+ghost use Rattle.pals_top.specs.Statuses.{status_of, text_of, Says};
 
 use crate::status::{
-    CODE_TOO_LONG, DESIGN_REFUSED, DONE, READ_FAULT, SCENARIO_REFUSED, STOPPED, TEXT_REFUSED,
-    TOO_LONG, USAGE,
+    CODE_TOO_LONG, DESIGN_REFUSED, DONE, NOT_SO, READ_FAULT, SCENARIO_REFUSED, STOPPED,
+    TEXT_REFUSED, TOO_LONG, USAGE,
 };
 use bundle_designs::Refusal;
 use pals_base::NoMemory;
@@ -17,6 +18,8 @@ use std::alloc::AllocError;
 pub enum Answer {
     /// What the command asks for.
     Done(Vec<u8>),
+    /// What the command asks for, where something in it is not so.
+    NotSo(Vec<u8>),
     /// The words are no form.
     Usage,
     /// Why the bundle's design text is refused.
@@ -37,6 +40,17 @@ pub enum Answer {
 }
 
 impl Answer {
+    /// The text that a command writes, and whether all in it is so.
+    pub fn judged(text: Vec<u8>, is_so: bool) -> Answer
+        ensures { Says (if is_so then DONE else NOT_SO) text.items result }
+    {
+        if is_so {
+            Answer::Done(text)
+        } else {
+            Answer::NotSo(text)
+        }
+    }
+
     /// The answer to a bundle that has no design. There is none if there was not enough memory.
     pub fn refused(refusal: Refusal) -> Result<Answer, NoMemory>
         ensures answer { IfOk result (SaysWhy refusal) }
@@ -55,6 +69,7 @@ impl Answer {
     {
         match self {
             Answer::Done(_) => DONE,
+            Answer::NotSo(_) => NOT_SO,
             Answer::Usage => USAGE,
             Answer::TextRefused(_) => TEXT_REFUSED,
             Answer::DesignRefused(_) => DESIGN_REFUSED,
@@ -72,13 +87,14 @@ impl Answer {
     {
         match self {
             Answer::Done(text)
+            | Answer::NotSo(text)
             | Answer::TextRefused(text)
             | Answer::DesignRefused(text)
             | Answer::ScenarioRefused(text)
             | Answer::Stopped(text)
             | Answer::CodeTooLong(text) => text.as_slice(),
             Answer::Usage =>
-                b"usage: pals print / check ROOT / sync ROOT / world [--loose] ROOT / run [--trace] ROOT / audit ROOT / self N R\n",
+                b"usage: pals print / check ROOT / sync ROOT / world [--loose] ROOT / run [--trace] ROOT / audit ROOT / self N R / watch ROOT / vote ROOT / fuse ROOT / budget ROOT\n",
             Answer::ReadFault => b"read fault\n",
             Answer::TooLong => b"too long\n",
         }

@@ -1,15 +1,18 @@
 //! The whole program as one call: words and bytes in, a status and bytes out.
 #![tactic(auto)]
 
+pub mod analysis;
 mod answer;
+mod budget;
 mod check;
+pub mod execution;
 mod loose;
 mod print;
 mod program;
 mod refused_scenario;
 pub mod status;
-mod sync;
-mod words;
+pub mod words;
+mod world;
 
 pub use program::pals;
 pub use words::{WordsEnd, read_words};

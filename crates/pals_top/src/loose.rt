@@ -10,99 +10,29 @@ ghost use Rattle.pals_model.specs.RoundTexts.{line_end, text_of as lines_text};
 ghost use Rattle.pals_runs.specs.Journal.{entry_line};
 ghost use Rattle.pals_bus.specs.Values.{AreCodes, opening_bus};
 ghost use Rattle.scenario_json.specs.Facts.{IsScenarioOf};
-ghost use Rattle.design_codes.specs.Causes.{AreShort};
 ghost use Rattle.pals_report.specs.EventFaults.{event_fault_line};
 ghost use Rattle.loose_world.specs.Finished.{finished_lines, common_lines};
-ghost use Rattle.bundle_designs.specs.Accepted.{IsAccepted};
 ghost use Rattle.loose_world.specs.EventLaws.{AreLooseEvents};
-ghost use Rattle.pals_top.specs.declared.status.TheConstants.{CODE_TOO_LONG, DONE, SCENARIO_REFUSED, STOPPED};
-ghost use Rattle.pals_top.specs.Loose.{code_fault_line, IsWorldAnswer, IsLooseAnswer};
+ghost use Rattle.pals_top.specs.declared.status.TheConstants.{DONE, SCENARIO_REFUSED, STOPPED};
+ghost use Rattle.pals_top.specs.Loose.{IsWorldAnswer};
 ghost use Rattle.pals_top.specs.Code.{status_at, text_at};
 ghost use Rattle.pals_top.specs.Statuses.{status_of, text_of, Says};
 
 use crate::answer::Answer;
-use crate::refused_scenario::refused_scenario;
-use bundle_designs::{Accepted, accept};
-use design_codes::{CodesEnd, compile_all};
-use loose_world::event_laws::events_are_loose;
 use loose_world::world_laws::{events_are_steps, texts_are_told};
 use loose_world::{LooseEnd, OutLinks, add_finished, add_finished_by_all, add_journal, run_loose};
-use pals_base::{Items, NoMemory, NodeNo, Text, TryClone};
+use pals_base::{Items, NoMemory};
 use pals_bus::Bus;
 use pals_model::{Delays, Design, Env};
-use pals_report::{add_code_fault, add_event_fault};
-use pals_runs::{Command, Event, EventFault};
-use scenario_json::{Scenario, read_scenario};
-use std::alloc::{AllocError, Global};
+use pals_report::add_event_fault;
+use pals_runs::{Event, EventFault};
+use scenario_json::Scenario;
+use std::alloc::Global;
 use std::sync::Arc;
 use step_code::Code;
 
-/// The answer of `world --loose` to a bundle.
-pub fn answer_loose(alloc: Global, bundle: &[u8], root: &Text) -> Result<Answer, NoMemory>
-    ensures { IfOk result (λ answer. IsLooseAnswer root.now bundle.now (status_of answer) (text_of answer)) }
-{
-    match accept(alloc, bundle, root) {
-        Ok(accepted) => answer_accepted(alloc, accepted, root),
-        Err(refusal) => Answer::refused(refusal),
-    }
-}
-
-// The answer to a bundle whose design is accepted. The codes come before the scenario.
-fn answer_accepted(alloc: Global, accepted: Accepted<'_>, root: &Text) -> Result<Answer, NoMemory>
-    ensures { (bundle : List ℕ) → IsAccepted root.now bundle accepted.entry.design accepted.entry.scenario.now
-        → IfOk result (λ answer. IsLooseAnswer root.now bundle (status_of answer) (text_of answer)) }
-{
-    match compile_all(alloc, &accepted.design) {
-        Ok(codes) => answer_coded(alloc, accepted, root, codes),
-        Err(CodesEnd::TooLong { node, length }) => code_too_long(
-            alloc,
-            &accepted.design,
-            node,
-            length,
-        ),
-        Err(CodesEnd::Memory) => Err(AllocError),
-    }
-}
-
-// The answer to a bundle whose design is accepted and has its codes.
-fn answer_coded(
-    alloc: Global,
-    accepted: Accepted<'_>,
-    root: &Text,
-    codes: Items<Code>,
-) -> Result<Answer, NoMemory>
-    requires codes { AreCodes accepted.design codes }
-    requires short { AreShort accepted.design }
-    ensures { (bundle : List ℕ) → IsAccepted root.now bundle accepted.entry.design accepted.entry.scenario.now
-        → IfOk result (λ answer. IsLooseAnswer root.now bundle (status_of answer) (text_of answer)) }
-{
-    events_are_loose();
-    let command = Command::World {
-        root: root.try_clone(alloc)?,
-        loose: true,
-    };
-    match read_scenario(alloc, accepted.scenario, &accepted.design, command) {
-        Ok(scenario) => answer_scenario(alloc, accepted.design, codes, scenario),
-        Err(fault) => refused_scenario(alloc, &fault),
-    }
-}
-
-// The answer to a design with a component whose code is too long.
-fn code_too_long(
-    alloc: Global,
-    design: &Design,
-    node: NodeNo,
-    length: u64,
-) -> Result<Answer, NoMemory>
-    ensures { IfOk result (Says CODE_TOO_LONG (code_fault_line design.now node.0 length ++ line_end)) }
-{
-    let mut line = Vec::new(alloc);
-    add_code_fault(&mut line, design, node, length)?;
-    Ok(Answer::CodeTooLong(line))
-}
-
-// The answer to a scenario.
-fn answer_scenario(
+/// What the events of a scenario give, from the opening of its run on.
+pub fn answer_loose(
     alloc: Global,
     design: Design,
     codes: Items<Code>,
@@ -203,8 +133,8 @@ fn stopped(alloc: Global, bus: &Bus) -> Result<Answer, NoMemory>
     Ok(Answer::Stopped(text))
 }
 
-// The answer to an event that is not allowed.
-fn refused_event(
+/// The answer to an event that is not allowed.
+pub fn refused_event(
     alloc: Global,
     design: &Design,
     index: u32,

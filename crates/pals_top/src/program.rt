@@ -1,29 +1,31 @@
 //! The one call that does all the program does.
-ghost use Rattle.std.specs.Prelude.{◌≡◌, ◌≢◌, ℕ, List, IfOk, OnErr, IsSome};
+ghost use Rattle.std.specs.Prelude.{◌≡◌, ◌≢◌, ℕ, true, List, IfOk, OnErr, IsSome};
 ghost use Rattle.pals_io.specs.Stream.{GivesWithin, after_taking, TakesPart};
 ghost use Rattle.pals_runs.specs.declared.commands.Command.{Command};
 ghost use Rattle.pals_top.specs.Words.{form, HasForm};
 ghost use Rattle.pals_top.specs.Outside.{reading};
-ghost use Rattle.pals_top.specs.Answers.{IsAnswer, IsCommandAnswer};
+ghost use Rattle.pals_top.specs.Answers.{reads_source, IsAnswer, IsSourceAnswer, IsCommandAnswer};
 ghost use Rattle.pals_top.specs.Statuses.{status_of, text_of};
 
+use crate::analysis::{Analysis, answer_analysis};
 use crate::answer::Answer;
 use crate::check::answer_check;
-use crate::loose::answer_loose;
+use crate::execution::{Execution, answer_execution};
 use crate::print::answer_print;
 use crate::status::{NO_MEMORY, WRITE_FAULT};
-use crate::sync::answer_sync;
 use crate::words::{WordsEnd, read_words};
 use pals_base::limits::BUNDLE_BYTES;
 use pals_base::{NoMemory, Text};
 use pals_io::{ReadEnd, Sink, Source, WriteFault, read_all, write_all};
 use pals_runs::Command;
 use std::alloc::{AllocError, Global};
+use world_texts::tell_ring;
 
 /// Does what the words say with the bytes of the source, writes the answer's text to the sink and
 /// returns its status.
 ///
-/// 0: what the command asks for was written. 2: the words are no form. 3: the bundle's design text
+/// 0: what the command asks for was written. 1: it was written, and something in it is not so: a
+/// property is false at some round, or a processor has more to do than fits. 2: the words are no form. 3: the bundle's design text
 /// is refused. 4: the design is refused. 5: the scenario is refused, or an event of it. 6: a missed
 /// or an early input stopped the nodes. 9: the source failed. 10: the sink failed. 11: there was
 /// not enough memory, and nothing was written. 12: there were more bytes than a bundle may have.
@@ -63,8 +65,25 @@ fn answer_to<S: Source>(alloc: Global, words: &[Text], source: &mut S) -> Result
         Err(WordsEnd::Usage) => return Ok(Answer::Usage),
         Err(WordsEnd::Memory) => return Err(AllocError),
     };
+    if let Command::Ring { nodes, rounds } = command {
+        return Ok(Answer::Done(tell_ring(alloc, nodes, rounds)?));
+    }
+    answer_source(alloc, command, source)
+}
+
+// The command's answer to the bytes of a source.
+fn answer_source<S: Source>(
+    alloc: Global,
+    command: Command,
+    source: &mut S,
+) -> Result<Answer, NoMemory>
+    requires form { HasForm command }
+    requires reads { reads_source command ≡ true }
+    ensures ok { IfOk result (λ answer. IsSourceAnswer command (reading (S.shown source.old) (S.shown source.new)) (status_of answer) (text_of answer)) }
+    ensures err { OnErr result (GivesWithin (S.shown source.old) (S.shown source.new) BUNDLE_BYTES) }
+{
     match read_all(alloc, source, BUNDLE_BYTES) {
-        Ok(bundle) => answer_bundle(alloc, &command, bundle.as_slice()),
+        Ok(bundle) => answer_bundle(alloc, command, bundle.as_slice()),
         Err(ReadEnd::ReadFault) => Ok(Answer::ReadFault),
         Err(ReadEnd::TooLong) => Ok(Answer::TooLong),
         Err(ReadEnd::Memory) => Err(AllocError),
@@ -72,15 +91,23 @@ fn answer_to<S: Source>(alloc: Global, words: &[Text], source: &mut S) -> Result
 }
 
 // The command's answer to a bundle.
-fn answer_bundle(alloc: Global, command: &Command, bundle: &[u8]) -> Result<Answer, NoMemory>
-    requires { HasForm command.now }
-    ensures { IfOk result (λ answer. IsCommandAnswer command.now bundle.now (status_of answer) (text_of answer)) }
+fn answer_bundle(alloc: Global, command: Command, bundle: &[u8]) -> Result<Answer, NoMemory>
+    requires form { HasForm command }
+    requires reads { reads_source command ≡ true }
+    ensures { IfOk result (λ answer. IsCommandAnswer command bundle.now (status_of answer) (text_of answer)) }
 {
     match command {
         Command::Print => answer_print(alloc, bundle),
-        Command::Check { root } => answer_check(alloc, bundle, root),
-        Command::Sync { root } => answer_sync(alloc, bundle, root),
-        Command::World { root, loose: true } => answer_loose(alloc, bundle, root),
+        Command::Check { root } => answer_check(alloc, bundle, &root),
+        Command::Sync { root } => answer_analysis(alloc, bundle, root, Analysis::Sync),
+        Command::Watch { root } => answer_analysis(alloc, bundle, root, Analysis::Watch),
+        Command::World { root, loose: false } => {
+            answer_execution(alloc, bundle, root, Execution::TimedWorld)
+        }
+        Command::World { root, loose: true } => {
+            answer_execution(alloc, bundle, root, Execution::LooseWorld)
+        }
+        Command::Budget { root } => answer_execution(alloc, bundle, root, Execution::Budget),
         _ => unreachable!(),
     }
 }

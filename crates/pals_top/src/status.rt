@@ -1,7 +1,11 @@
-//! The statuses that the program ends with. There is no other; 1, 7 and 8 are kept for later commands.
+//! The statuses that the program ends with. There is no other; 7 and 8 are kept for later commands.
 
 /// What the command asks for was written.
 pub const DONE: u8 = 0;
+
+/// What the command asks for was written, and something in it is not so: a property is false at some
+/// round, or a processor has more to do than fits.
+pub const NOT_SO: u8 = 1;
 
 /// The words are no form.
 pub const USAGE: u8 = 2;

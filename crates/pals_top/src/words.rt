@@ -1,14 +1,25 @@
 //! The words of the command line.
-ghost use Rattle.std.specs.Prelude.{◌≡◌, [], ◌∷◌};
-ghost use Rattle.pals_top.specs.Words.{form, plain_form, rooted_form, is_flag, is_plain, IsRead};
+ghost use Rattle.std.specs.Prelude.{◌≡◌, [], ◌∷◌, true};
+ghost use Rattle.std.specs.List.{list_all};
+ghost use Rattle.pals_top.specs.Words.{form, plain_form, rooted_form, is_flag, is_plain, is_digit, is_number, value_of, number_in, IsRead};
 ghost use Rattle.pals_top.specs.Code.{flagged_form};
 
+use pals_base::limits::COMPONENTS;
 use pals_base::{Text, TryClone};
 use pals_runs::Command;
 use std::alloc::{AllocError, Global};
 
+/// How many nodes a ring may have.
+pub const RING_NODES: u32 = COMPONENTS as u32;
+
+/// How many rounds a ring may run.
+pub const RING_ROUNDS: u32 = 500;
+
+// How many digits a number may have.
+const DIGITS: usize = 6;
+
 /// Why words are no command.
-#[derive(Clone, Copy, Debug, PartialEq, Eq)]
+#[derive(Clone, Copy)]
 pub enum WordsEnd {
     /// The words are no form.
     Usage,
@@ -37,6 +48,9 @@ pub fn read_words(alloc: Global, words: &[Text]) -> Result<Command, WordsEnd>
         [first, second, third] if is_flag(first) => flagged(alloc, first, second, third),
         [first, second, third] if is_flag(second) => flagged(alloc, second, first, third),
         [first, second, third] if is_flag(third) => flagged(alloc, third, first, second),
+        [word, nodes, rounds] if is_plain(word) && is_plain(nodes) && is_plain(rounds) => {
+            ring(word, nodes, rounds)
+        }
         _ => Err(WordsEnd::Usage),
     }
 }
@@ -62,8 +76,80 @@ fn rooted(alloc: Global, word: &Text, root: &Text) -> Result<Command, WordsEnd>
         "sync" => Ok(Command::Sync {
             root: root.try_clone(alloc)?,
         }),
+        "world" => Ok(Command::World {
+            root: root.try_clone(alloc)?,
+            loose: false,
+        }),
+        "watch" => Ok(Command::Watch {
+            root: root.try_clone(alloc)?,
+        }),
+        "budget" => Ok(Command::Budget {
+            root: root.try_clone(alloc)?,
+        }),
         _ => Err(WordsEnd::Usage),
     }
+}
+
+// The command of three words without a flag.
+fn ring(word: &Text, nodes: &Text, rounds: &Text) -> Result<Command, WordsEnd>
+    ensures { IsRead (plain_form (word.now ∷ nodes.now ∷ rounds.now ∷ [])) result }
+{
+    if word.as_str() != "self" {
+        return Err(WordsEnd::Usage);
+    }
+    let nodes = number_in(2, RING_NODES, nodes);
+    let rounds = number_in(1, RING_ROUNDS, rounds);
+    match (nodes, rounds) {
+        (Some(nodes), Some(rounds)) => Ok(Command::Ring { nodes, rounds }),
+        _ => Err(WordsEnd::Usage),
+    }
+}
+
+// The number that a word is, if that is from the one to the other.
+fn number_in(least: u32, most: u32, word: &Text) -> Option<u32>
+    ensures { result ≡ number_in least most word.now }
+{
+    let word = word.as_bytes();
+    if !is_number(word) {
+        return None;
+    }
+    let value = value_of(word);
+    if least <= value && value <= most {
+        Some(value)
+    } else {
+        None
+    }
+}
+
+// Whether a word is one to six digits.
+fn is_number(word: &[u8]) -> bool
+    ensures { result ≡ is_number word.now }
+{
+    1 <= word.len() && word.len() <= DIGITS && are_digits(word)
+}
+
+fn are_digits(word: &[u8]) -> bool
+    ensures { result ≡ list_all is_digit word.now }
+{
+    word.iter().all(|byte| is_digit(*byte))
+}
+
+fn is_digit(byte: u8) -> bool
+    ensures { result ≡ is_digit byte }
+{
+    b'0' <= byte && byte <= b'9'
+}
+
+// The number that digits are.
+fn value_of(digits: &[u8]) -> u32
+    requires { is_number digits.now ≡ true }
+    ensures { result ≡ value_of digits.now }
+{
+    let mut value = 0;
+    for digit in digits {
+        value = value * 10 + u32::from(*digit - b'0');
+    }
+    value
 }
 
 // The command of a word with a root and a flag.

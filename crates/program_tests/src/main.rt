@@ -1,20 +1,25 @@
 //! What the whole program answers to words and bytes, over sources and sinks in memory that fail where they are told.
 #![tactic(auto)]
 
+mod rings;
+
 use case_files::{Answers, asked, check, text_of, word};
 use pals_base::{NoMemory, Text};
 use pals_io::{MemSink, MemSource};
 use pals_top::pals;
+use rings::check_ring;
 use std::alloc::Global;
 use std::io;
 
-const FILES: [&str; 6] = [
+const FILES: [&str; 8] = [
     "commands",
     "checks",
     "refused_texts",
     "rounds",
     "print",
     "worlds",
+    "analyses",
+    "timed",
 ];
 
 struct Program;
@@ -62,5 +67,7 @@ fn sink(alloc: Global, case: &str) -> Result<MemSink, NoMemory> {
 }
 
 fn main(rt: HostRuntime) -> io::Result<()> {
-    check(&rt, &Program, &FILES)
+    check(&rt, &Program, &FILES)?;
+    check_ring(&rt, 3)?;
+    check_ring(&rt, 256)
 }

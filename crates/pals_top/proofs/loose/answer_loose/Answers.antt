@@ -1,8 +1,7 @@
-use Rattle.std.proofs.Common.{inl}
-use Rattle.std.proofs.lemmas.Result.{IfOk-weaker}
-use Rattle.pals_top.proofs.Refusals.{bundle_refused}
+use Rattle.pals_top.proofs.LooseWorlds.{left_says}
 use Rattle.pals_top.proofs.loose.answer_loose.Goals as goal
 
-pub returns-in-Err : goal.returns-in-Err
-returns-in-Err c =
-    IfOk-weaker c.refused.result _ _ (λ a says. inl (bundle_refused c.args.root.now c.args.bundle.now c.in-Err.refusal a c.in-Err.ensures.refused says)) c.refused.ensures.answer
+pub returns : goal.returns
+returns c =
+    left_says c.args.design c.args.scenario c.args.codes c.in_ok-bus.bus c.answer_events.new.bus c.as_slice.result.now c.answer_events.result c.keeps_rules.ensures c.requires.kept
+    c.texts_are_told.ensures.all c.texts_are_told.ensures.stopped c.events_are_steps.ensures c.in_ok-bus.ensures c.as_slice.ensures.value c.answer_events.ensures

@@ -1,0 +1,77 @@
+-- What each command makes of a design and its scenario is one, and of which statuses it is.
+use Rattle.std.proofs.Common.{◌≡◌, ◌∙◌, ◌⊎◌, inl, inr, ℕ, ◌<◌, ◌≤◌, Bool, true, false, List, sym, ap, arith}
+use Rattle.std.specs.Prelude.{if◌then◌else◌}
+use Rattle.pals_model.specs.declared.design.DesignParts.{DesignParts}
+use Rattle.scenario_json.specs.declared.scenario.Scenario.{Scenario}
+use Rattle.pals_top.specs.declared.analysis.Analysis.{Analysis}
+use Rattle.pals_top.specs.declared.analysis.Analysis.TheVariants.{Sync, Watch}
+use Rattle.pals_top.specs.declared.execution.Execution.{Execution}
+use Rattle.pals_top.specs.declared.execution.Execution.TheVariants.{TimedWorld, LooseWorld, Budget}
+use Rattle.pals_top.specs.Analyses.{Makes as analyses}
+use Rattle.pals_top.specs.Executions.{Makes as executes}
+use Rattle.design_codes.specs.Behaviours.{behaviours}
+use Rattle.pals_top.specs.Budget.{processors_of}
+use Rattle.answer_laws.proofs.Laws.{ExecutionLaws}
+use Rattle.pals_top.specs.Worlds.{world_of}
+use Rattle.answer_laws.proofs.TimedWorlds.{one_timed}
+use Rattle.answer_laws.proofs.Worlds.{end_of, one_world}
+
+-- two answers are of one status, and have one text
+abbrev pub Agree : ℕ → List ℕ → ℕ → List ℕ → Type 0
+Agree s a t b = (s ≡ t) × (a ≡ b)
+
+-- both are told by equations
+by_equations : (s t n : ℕ) (a b text : List ℕ) → (s ≡ n) × (a ≡ text) → (t ≡ n) × (b ≡ text) → Agree s a t b
+by_equations s t n a b text x y = (x.0 ∙ sym y.0, x.1 ∙ sym y.1)
+
+-- whether all is so, or something is not
+judged_is_small : (s : ℕ) (b : Bool) → s ≡ (if b then 1 else 0) → s < 2
+judged_is_small s true e = omega (arith, e)
+judged_is_small s false e = omega (arith, e)
+
+-- ---- analyses
+pub one_analysis : (what : Analysis) (design : DesignParts) (scenario : Scenario) (s t : ℕ) (a b : List ℕ) → analyses what design scenario s a
+    → analyses what design scenario t b → Agree s a t b
+one_analysis Sync design scenario s t a b x y = by_equations s t _ a b _ x y
+one_analysis Watch design scenario s t a b x y = by_equations s t _ a b _ (x.status_is, x.text_is) (y.status_is, y.text_is)
+
+pub analysis_status : (what : Analysis) (design : DesignParts) (scenario : Scenario) (s : ℕ) (a : List ℕ) → analyses what design scenario s a → s < 2
+analysis_status Sync design scenario s a x = let e : s ≡ 0 = x.0 in omega arith
+analysis_status Watch design scenario s a x = judged_is_small s _ x.status_is
+
+-- ---- executions
+pub one_execution : ExecutionLaws → (what : Execution) (design : DesignParts) (scenario : Scenario) (s t : ℕ) (a b : List ℕ)
+    → executes what design scenario s a → executes what design scenario t b → Agree s a t b
+one_execution laws TimedWorld design scenario s t a b x y = one_timed (world_of design scenario) scenario.events s t a b x y
+one_execution laws LooseWorld design scenario s t a b x y =
+    one_world laws.one_end design scenario s t a b (end_of design scenario s a x) (end_of design scenario t b y)
+one_execution laws Budget design scenario s t a b x y = (
+  x.status_is
+      ∙ (ap (λ (over : Bool). if over then 1 else 0) (laws.one_verdict design (behaviours design) x.programs y.programs (processors_of scenario) x.laid_out y.laid_out)
+      ∙ sym y.status_is),
+  x.text_is ∙ (laws.one_text design (behaviours design) x.programs y.programs (processors_of scenario) x.laid_out y.laid_out ∙ sym y.text_is),
+)
+
+-- none of them is the status of a refused text or design, of a code that is too long, or of a source that was not read
+abbrev pub IsMade : ℕ → Type 0
+IsMade s = (s < 3) ⊎ ((5 ≤ s) × (s < 9))
+
+pub execution_status : (what : Execution) (design : DesignParts) (scenario : Scenario) (s : ℕ) (a : List ℕ) → executes what design scenario s a → IsMade s
+execution_status TimedWorld design scenario s a (inl x) = let e : s ≡ 0 = x.0 in inl (omega arith)
+execution_status TimedWorld design scenario s a (inr x) = let e : s ≡ 5 = x.0 in inr (omega arith, omega arith)
+execution_status LooseWorld design scenario s a (inl x) = let e : s ≡ 0 = x.0 in inl (omega arith)
+execution_status LooseWorld design scenario s a (inr (inl x)) = let e : s ≡ 6 = x.0 in inr (omega arith, omega arith)
+execution_status LooseWorld design scenario s a (inr (inr x)) = let e : s ≡ 5 = x.0 in inr (omega arith, omega arith)
+execution_status Budget design scenario s a x = let small = judged_is_small s _ x.status_is in inl (omega (arith, small))
+
+pub apart : (s n : ℕ) → IsMade s → s ≡ n → ((n ≡ 3) ⊎ ((n ≡ 4) ⊎ ((n ≡ 9) ⊎ ((n ≡ 12) ⊎ (n ≡ 13))))) → ⊥
+apart s n (inl small) e (inl is) = absurd (omega (arith, small, e, is))
+apart s n (inl small) e (inr (inl is)) = absurd (omega (arith, small, e, is))
+apart s n (inl small) e (inr (inr (inl is))) = absurd (omega (arith, small, e, is))
+apart s n (inl small) e (inr (inr (inr (inl is)))) = absurd (omega (arith, small, e, is))
+apart s n (inl small) e (inr (inr (inr (inr is)))) = absurd (omega (arith, small, e, is))
+apart s n (inr large) e (inl is) = let least = large.0 in let most = large.1 in absurd (omega (arith, least, most, e, is))
+apart s n (inr large) e (inr (inl is)) = let least = large.0 in let most = large.1 in absurd (omega (arith, least, most, e, is))
+apart s n (inr large) e (inr (inr (inl is))) = let least = large.0 in let most = large.1 in absurd (omega (arith, least, most, e, is))
+apart s n (inr large) e (inr (inr (inr (inl is)))) = let least = large.0 in let most = large.1 in absurd (omega (arith, least, most, e, is))
+apart s n (inr large) e (inr (inr (inr (inr is)))) = let least = large.0 in let most = large.1 in absurd (omega (arith, least, most, e, is))

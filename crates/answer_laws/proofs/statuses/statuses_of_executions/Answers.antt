@@ -1,0 +1,25 @@
+use Rattle.std.proofs.Common.{inl, inr, refl}
+use Rattle.answer_laws.proofs.ExecutionStanding.{exactly, at_scenario}
+use Rattle.answer_laws.proofs.statuses.statuses_of_executions.Goals as goal
+
+pub returns-clause-text : goal.returns-clause-text
+returns-clause-text c what root bundle s a x = exactly c.one_design.ensures (record { one_end = c.one_end.ensures; one_text = c.text_is_one.ensures.text; one_verdict = c.text_is_one.ensures.verdict }) what root bundle s 3 a x (λ h. inl (refl, h))
+
+pub returns-clause-design : goal.returns-clause-design
+returns-clause-design c what root bundle s a x = exactly c.one_design.ensures (record { one_end = c.one_end.ensures; one_text = c.text_is_one.ensures.text; one_verdict = c.text_is_one.ensures.verdict }) what root bundle s 4 a x (λ h. inr (inl (refl, h)))
+
+pub returns-clause-code : goal.returns-clause-code
+returns-clause-code c what root bundle s a x = exactly c.one_design.ensures (record { one_end = c.one_end.ensures; one_text = c.text_is_one.ensures.text; one_verdict = c.text_is_one.ensures.verdict }) what root bundle s 13 a x (λ h. inr (inr (inl (refl, h))))
+
+pub returns-clause-done : goal.returns-clause-done
+returns-clause-done c what root bundle s a x = exactly c.one_design.ensures (record { one_end = c.one_end.ensures; one_text = c.text_is_one.ensures.text; one_verdict = c.text_is_one.ensures.verdict }) what root bundle s 0 a x (λ h. inr (inr (inr (inr h))))
+
+pub returns-clause-not_so : goal.returns-clause-not_so
+returns-clause-not_so c what root bundle s a x = exactly c.one_design.ensures (record { one_end = c.one_end.ensures; one_text = c.text_is_one.ensures.text; one_verdict = c.text_is_one.ensures.verdict }) what root bundle s 1 a x (λ h. inr (inr (inr (inr h))))
+
+pub returns-clause-stop : goal.returns-clause-stop
+returns-clause-stop c what root bundle s a x = exactly c.one_design.ensures (record { one_end = c.one_end.ensures; one_text = c.text_is_one.ensures.text; one_verdict = c.text_is_one.ensures.verdict }) what root bundle s 6 a x (λ h. inr (inr (inr (inr h))))
+
+pub returns-clause-scenario : goal.returns-clause-scenario
+returns-clause-scenario c what root bundle s a x =
+    exactly c.one_design.ensures (record { one_end = c.one_end.ensures; one_text = c.text_is_one.ensures.text; one_verdict = c.text_is_one.ensures.verdict }) what root bundle s 5 a x (at_scenario c.one_design.ensures (record { one_end = c.one_end.ensures; one_text = c.text_is_one.ensures.text; one_verdict = c.text_is_one.ensures.verdict }) what root bundle)

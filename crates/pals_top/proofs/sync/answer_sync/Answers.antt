@@ -1,8 +1,0 @@
-use Rattle.std.proofs.Common.{inl, inr}
-use Rattle.std.proofs.lemmas.Result.{IfOk-weaker}
-use Rattle.pals_top.proofs.Refusals.{bundle_refused}
-use Rattle.pals_top.proofs.sync.answer_sync.Goals as goal
-
-pub returns-in-Err : goal.returns-in-Err
-returns-in-Err c =
-    IfOk-weaker c.refused.result _ _ (λ a says. inr (inl (bundle_refused c.args.root.now c.args.bundle.now c.in-Err.refusal a c.in-Err.ensures.refused says))) c.refused.ensures.answer

@@ -1,0 +1,32 @@
+//! The command `budget`: whether processors have time for the steps of their components.
+ghost use Rattle.std.specs.Prelude.{IfOk};
+ghost use Rattle.pals_bus.specs.Values.{AreCodes};
+ghost use Rattle.step_compiler.specs.LaidOut.{AreLaidOut};
+ghost use Rattle.scenario_json.specs.Facts.{IsScenarioOf};
+ghost use Rattle.design_codes.specs.Behaviours.{behaviours};
+ghost use Rattle.pals_top.specs.Budget.{IsBudgeted};
+ghost use Rattle.pals_top.specs.Statuses.{status_of, text_of};
+
+use crate::answer::Answer;
+use analysis_texts::budget;
+use pals_base::NoMemory;
+use pals_model::Design;
+use scenario_json::Scenario;
+use std::alloc::Global;
+use step_code::Code;
+
+/// The round budgets of a scenario's processors.
+pub fn answer_budget(
+    alloc: Global,
+    design: &Design,
+    codes: &[Code],
+    scenario: &Scenario,
+) -> Result<Answer, NoMemory>
+    requires codes { AreCodes design.now codes.now }
+    requires layout { AreLaidOut (behaviours design.now) codes.now }
+    requires kept { IsScenarioOf design.now scenario.now }
+    ensures { IfOk result (λ answer. IsBudgeted design.now scenario.now (status_of answer) (text_of answer)) }
+{
+    let budgets = budget(alloc, design, codes, scenario.processors.as_slice())?;
+    Ok(Answer::judged(budgets.text, !budgets.over))
+}

@@ -1,0 +1,147 @@
+//! The commands that need a design, its step codes and a scenario.
+ghost use Rattle.std.specs.Prelude.{◌≡◌, ◌++◌, ℕ, List, IfOk};
+ghost use Rattle.pals_model.specs.RoundTexts.{line_end};
+ghost use Rattle.pals_bus.specs.Values.{AreCodes};
+ghost use Rattle.scenario_json.specs.Facts.{IsScenarioOf};
+ghost use Rattle.step_compiler.specs.LaidOut.{AreLaidOut};
+ghost use Rattle.design_codes.specs.Causes.{AreShort};
+ghost use Rattle.design_codes.specs.Behaviours.{behaviours};
+ghost use Rattle.bundle_designs.specs.Accepted.{IsAccepted};
+ghost use Rattle.pals_top.specs.declared.status.TheConstants.{CODE_TOO_LONG};
+ghost use Rattle.pals_top.specs.Executions.{command_of, code_fault_line, HasEvents, Makes, IsExecutionAnswer};
+ghost use Rattle.pals_top.specs.Statuses.{status_of, text_of, Says};
+
+use crate::answer::Answer;
+use crate::budget::answer_budget;
+use crate::loose::answer_loose;
+use crate::refused_scenario::refused_scenario;
+use crate::world::answer_world;
+use bundle_designs::{Accepted, accept};
+use design_codes::{CodesEnd, compile_all};
+use loose_world::event_laws::{events_are_few, events_are_loose};
+use pals_base::{Items, NoMemory, NodeNo, Text};
+use pals_model::Design;
+use pals_report::add_code_fault;
+use pals_runs::Command;
+use scenario_json::{Scenario, read_scenario};
+use std::alloc::{AllocError, Global};
+use step_code::Code;
+
+/// What is made of a design, its step codes and its scenario.
+#[derive(Clone, Copy)]
+pub enum Execution {
+    /// What a list of events within the bounds leaves.
+    TimedWorld,
+    /// What a list of events without time leaves.
+    LooseWorld,
+    /// The round budgets of processors.
+    Budget,
+}
+
+impl Execution {
+    // The command that asks for it, below a root.
+    fn command(self, root: Text) -> Command
+        ensures { result ≡ command_of self root }
+    {
+        match self {
+            Execution::TimedWorld => Command::World { root, loose: false },
+            Execution::LooseWorld => Command::World { root, loose: true },
+            Execution::Budget => Command::Budget { root },
+        }
+    }
+}
+
+/// The answer to a bundle: what is made of the design and the scenario that it means.
+pub fn answer_execution(
+    alloc: Global,
+    bundle: &[u8],
+    root: Text,
+    what: Execution,
+) -> Result<Answer, NoMemory>
+    ensures { IfOk result (λ answer. IsExecutionAnswer what root bundle.now (status_of answer) (text_of answer)) }
+{
+    match accept(alloc, bundle, &root) {
+        Ok(accepted) => answer_accepted(alloc, accepted, root, what),
+        Err(refusal) => Answer::refused(refusal),
+    }
+}
+
+// The answer to a bundle whose design is accepted. The codes come before the scenario.
+fn answer_accepted(
+    alloc: Global,
+    accepted: Accepted<'_>,
+    root: Text,
+    what: Execution,
+) -> Result<Answer, NoMemory>
+    ensures { (bundle : List ℕ) → IsAccepted root bundle accepted.entry.design accepted.entry.scenario.now
+        → IfOk result (λ answer. IsExecutionAnswer what root bundle (status_of answer) (text_of answer)) }
+{
+    match compile_all(alloc, &accepted.design) {
+        Ok(codes) => answer_coded(alloc, accepted, root, what, codes),
+        Err(CodesEnd::TooLong { node, length }) => code_too_long(
+            alloc,
+            &accepted.design,
+            node,
+            length,
+        ),
+        Err(CodesEnd::Memory) => Err(AllocError),
+    }
+}
+
+// The answer to a bundle whose design is accepted and has its codes.
+fn answer_coded(
+    alloc: Global,
+    accepted: Accepted<'_>,
+    root: Text,
+    what: Execution,
+    codes: Items<Code>,
+) -> Result<Answer, NoMemory>
+    requires codes { AreCodes accepted.design codes }
+    requires layout { AreLaidOut (behaviours accepted.design) codes }
+    requires short { AreShort accepted.design }
+    ensures { (bundle : List ℕ) → IsAccepted root bundle accepted.entry.design accepted.entry.scenario.now
+        → IfOk result (λ answer. IsExecutionAnswer what root bundle (status_of answer) (text_of answer)) }
+{
+    events_are_loose();
+    events_are_few();
+    let command = what.command(root);
+    match read_scenario(alloc, accepted.scenario, &accepted.design, command) {
+        Ok(scenario) => execute(alloc, accepted.design, codes, scenario, what),
+        Err(fault) => refused_scenario(alloc, &fault),
+    }
+}
+
+// The answer to a design with a component whose code is too long.
+fn code_too_long(
+    alloc: Global,
+    design: &Design,
+    node: NodeNo,
+    length: u64,
+) -> Result<Answer, NoMemory>
+    ensures { IfOk result (Says CODE_TOO_LONG (code_fault_line design.now node.0 length ++ line_end)) }
+{
+    let mut line = Vec::new(alloc);
+    add_code_fault(&mut line, design, node, length)?;
+    Ok(Answer::CodeTooLong(line))
+}
+
+// What is made of a design, its codes and its scenario.
+fn execute(
+    alloc: Global,
+    design: Design,
+    codes: Items<Code>,
+    scenario: Scenario,
+    what: Execution,
+) -> Result<Answer, NoMemory>
+    requires codes { AreCodes design codes }
+    requires layout { AreLaidOut (behaviours design) codes }
+    requires kept { IsScenarioOf design scenario }
+    requires events { HasEvents what design scenario }
+    ensures { IfOk result (λ answer. Makes what design scenario (status_of answer) (text_of answer)) }
+{
+    match what {
+        Execution::TimedWorld => answer_world(alloc, design, codes, scenario),
+        Execution::LooseWorld => answer_loose(alloc, design, codes, scenario),
+        Execution::Budget => answer_budget(alloc, &design, codes.as_slice(), &scenario),
+    }
+}
