@@ -1,38 +1,46 @@
-//! The examples, each answered by the program as `sync` answers, one behind the other.
+//! The examples, each answered by the program as its own command answers, one behind the other.
 #![tactic(auto)]
 
 use pals_base::{NoMemory, Text};
 use pals_io::{ReadSource, WriteSink};
 use pals_top::pals;
-use pals_top::status::NO_MEMORY;
+use pals_top::status::{DONE, NO_MEMORY, NOT_SO, SCENARIO_REFUSED};
 use std::alloc::Global;
 use std::fs;
 use std::process::ExitCode;
 
-// Each example's file, and the root of its design.
-const EXAMPLES: [(&str, &str); 4] = [
-    ("two_counters.pals", "Top.impl"),
-    ("turn_controller.pals", "Top.impl"),
-    ("cruise_control.pals", "Car.impl"),
-    ("pacemaker.pals", "Pacemaker.impl"),
+// Each example's file, the command that answers it, the root of its design, and the status.
+const EXAMPLES: [(&str, &str, &str, u8); 8] = [
+    ("two_counters.pals", "sync", "Top.impl", DONE),
+    ("turn_controller.pals", "sync", "Top.impl", DONE),
+    ("cruise_control.pals", "sync", "Car.impl", DONE),
+    ("pacemaker.pals", "sync", "Pacemaker.impl", DONE),
+    ("pacemaker_watch.pals", "watch", "Pacemaker.impl", NOT_SO),
+    ("turn_budget.pals", "budget", "Top.impl", DONE),
+    ("turn_world.pals", "world", "Top.impl", DONE),
+    (
+        "turn_world_late.pals",
+        "world",
+        "Top.impl",
+        SCENARIO_REFUSED,
+    ),
 ];
 
-// The status where an example's file cannot be opened.
-const NO_FILE: u8 = 1;
+// The status where an example's file cannot be opened. The program has no such status.
+const NO_FILE: u8 = 100;
 
 fn main(rt: HostRuntime) -> ExitCode {
-    for (file, root) in EXAMPLES {
-        let status = answer(&rt, file, root);
-        if status != 0 {
-            return ExitCode::from(status);
+    for (file, command, root, status) in EXAMPLES {
+        if answer(&rt, file, command, root) != status {
+            return ExitCode::FAILURE;
         }
     }
     ExitCode::SUCCESS
 }
 
 // Writes the answer to an example, and returns its status.
-fn answer(rt: &HostRuntime, file: &str, root: &str) -> u8 {
-    let Ok(words) = sync(rt.alloc(), root) else {
+fn answer(rt: &HostRuntime, file: &str, command: &str, root: &str) -> u8 {
+    let Ok(words) = words_of(rt.alloc(), command, root) else {
         return NO_MEMORY;
     };
     let Ok(bundle) = fs::open(rt, file) else {
@@ -43,10 +51,10 @@ fn answer(rt: &HostRuntime, file: &str, root: &str) -> u8 {
     pals(rt.alloc(), words.as_slice(), &mut source, &mut sink)
 }
 
-// The words `sync` and a root.
-fn sync(alloc: Global, root: &str) -> Result<Vec<Text>, NoMemory> {
+// A command and a root as words.
+fn words_of(alloc: Global, command: &str, root: &str) -> Result<Vec<Text>, NoMemory> {
     let mut words = Vec::new(alloc);
-    words.push(Text::from_str(alloc, "sync")?)?;
+    words.push(Text::from_str(alloc, command)?)?;
     words.push(Text::from_str(alloc, root)?)?;
     Ok(words)
 }
