@@ -36,7 +36,7 @@ fn is_right(rt: &HostRuntime, nodes: u32) -> io::Result<bool>
     words.push(Text::from_str(alloc, "check")?)?;
     words.push(Text::from_str(alloc, "Top.impl")?)?;
     let mut source = MemSource::new(ring_text(rt, nodes)?, 4096, Vec::new(alloc));
-    let mut sink = MemSink::new(alloc, 4096, 64, Vec::new(alloc))?;
+    let mut sink = MemSink::new(alloc, report.len(), 4096, Vec::new(alloc))?;
     let status = pals(alloc, words.as_slice(), &mut source, &mut sink);
     Ok(status == DONE && sink.taken() == report.as_slice())
 }
