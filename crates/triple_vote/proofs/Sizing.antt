@@ -1,0 +1,54 @@
+-- How long tuples are.
+use Rattle.std.proofs.Common.{◌≡◌, ◌∙◌, ℕ, ◌<◌, inl, inr, List, length, map, slice_get, slice_set, slice_index_or, Some, sym, ap, arith}
+use Rattle.std.proofs.lemmas.List.{length-map}
+use Rattle.std.proofs.lemmas.Option.{slice_get_cases}
+use Rattle.pals_base.specs.declared.values.Port.{Port}
+use Rattle.pals_base.specs.Bound.{sent_steps}
+use Rattle.pals_base.specs.Steps.{column, cut}
+use Rattle.pals_model.specs.declared.design.Component.{Component}
+use Rattle.pals_model.specs.declared.design.DesignParts.{DesignParts}
+use Rattle.pals_model.specs.Inputs.{rate_of, rate_in}
+use Rattle.sync_product.specs.declared.stage.Stage.{Stage}
+use Rattle.sync_product.specs.Sizes.{StageSize, stage_size, stage_size_of, stage_sizes}
+use Rattle.sync_product.proofs.Columns.{length-cut, length-column}
+use Rattle.sync_product.proofs.Filling.{same_sizes}
+use Rattle.sync_product.proofs.Sizing.{count_of_rows}
+use Rattle.sync_product.proofs.Tables.{sized_at, mapped-at, count_of_sized}
+use Rattle.triple_vote.specs.Layers.{lengths}
+
+-- ---- stages
+module _ (design : DesignParts) (stages : List Stage) (fit : map stage_size stages ≡ stage_sizes design) where
+  abbrev size_of : Component → StageSize
+  size_of c = stage_size_of (sent_steps design.gamma design.period c.rate) c
+
+  pub stage_within : (source : ℕ) → source < length design.components → source < length stages
+  stage_within source within =
+      omega (arith, count_of_sized stage_size stages (stage_sizes design) fit, length-map design.components size_of, within)
+
+  -- a stage has a row for each step
+  pub stage_rows : (source : ℕ) (stage : Stage) → source < length design.components → stage ≡ slice_index_or stages source stage → length stage.rows ≡ rate_of design source
+  stage_rows source stage within is =
+      elim (slice_get_cases design.components source).1 [
+        | inl found ↦
+            let c : Component = found.0 in
+            let room = sized_at stage_size stages (stage_sizes design) source stage (size_of c) fit (mapped-at size_of design.components source c found.2) is in
+            count_of_rows stage.rows c.rate (length c.behaviour.outs) (ap (λ (s : StageSize). s.rows) room) ∙ sym (ap rate_in found.2)
+        | inr past ↦ absurd (omega (arith, past.0, within))
+      ]
+
+-- ---- tuples, one for each link or root out port
+module _ {L : Type 0} (size : L → ℕ) (items : List L) (tuples : List (List Port)) (fit : lengths tuples ≡ map size items) where
+  pub tuple_within : (at : ℕ) → at < length items → at < length tuples
+  tuple_within at within = omega (arith, length-map tuples (λ (t : List Port). length t), ap length fit, length-map items size, within)
+
+  pub tuple_size : (at : ℕ) (item : L) (tuple : List Port) → slice_get items at ≡ Some item → tuple ≡ slice_index_or tuples at tuple → length tuple ≡ size item
+  tuple_size at item tuple is tuple_is =
+      sized_at (λ (t : List Port). length t) tuples (map size items) at tuple (size item) fit (mapped-at size items at item is) tuple_is
+
+  pub sizes_stay : (at : ℕ) (old new : List Port) → at < length items → old ≡ slice_index_or tuples at old → length new ≡ length old
+      → lengths (slice_set tuples at new) ≡ map size items
+  sizes_stay at old new within is same =
+      same_sizes (λ (t : List Port). length t) tuples at old new (tuple_within at within) is same ∙ fit
+
+pub length-written : (count port : ℕ) (rows : List (List Port)) → length (cut count (column port rows)) ≡ length rows
+length-written count port rows = length-cut count (column port rows) ∙ length-column rows port

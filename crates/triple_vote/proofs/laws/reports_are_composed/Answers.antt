@@ -1,0 +1,5 @@
+use Rattle.triple_vote.proofs.Texts.{report_is_thrice, thrice_without_replicas}
+use Rattle.triple_vote.proofs.laws.reports_are_composed.Goals as goal
+
+pub returns : goal.returns
+returns c = record { thrice = report_is_thrice; alone = thrice_without_replicas }

@@ -1,0 +1,5 @@
+use Rattle.triple_vote.proofs.States.{stands_at_votes, shows_votes}
+use Rattle.triple_vote.proofs.laws.states_stand_at_votes.Goals as goal
+
+pub returns : goal.returns
+returns c = record { stands = stands_at_votes; shown = shows_votes }

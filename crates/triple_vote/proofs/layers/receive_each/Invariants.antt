@@ -1,0 +1,10 @@
+use Rattle.triple_vote.specs.Triples.{AreHeard}
+use Rattle.triple_vote.proofs.Layering.{ReceivedTo}
+use Rattle.triple_vote.proofs.layers.receive_each.Given as goal
+
+-- the replicas of the first layers have received
+abbrev pub invariant-loop-at : goal.invariant-loop-at
+invariant-loop-at l = record {
+  received : ReceivedTo l.design l.replicated l.faults l.layers l.heard.items l.at;
+  heard : AreHeard l.design l.heard.items;
+}

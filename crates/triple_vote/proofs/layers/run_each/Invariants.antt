@@ -1,0 +1,14 @@
+use Rattle.std.proofs.Common.{◌≡◌, map}
+use Rattle.sync_product.specs.Sizes.{stage_size}
+use Rattle.triple_vote.specs.Triples.{AreThree, StayPut}
+use Rattle.triple_vote.proofs.Layering.{MadeTo}
+use Rattle.triple_vote.proofs.layers.run_each.Given as goal
+
+-- the first layers have made the round, and all stand where they stood
+abbrev pub invariant-loop-at : goal.invariant-loop-at
+invariant-loop-at l = record {
+  made : MadeTo l.design l.values l.heard l.layers.items l.at;
+  stay : StayPut l.fn.layers.items l.layers.items;
+  rooms : AreThree l.design l.layers.items;
+  stages : map stage_size l.stages.items ≡ map stage_size l.fn.stages.items;
+}

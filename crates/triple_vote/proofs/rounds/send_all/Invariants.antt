@@ -1,0 +1,14 @@
+use Rattle.std.proofs.Common.{◌≡◌}
+use Rattle.pals_model.specs.declared.design.Link.{Link}
+use Rattle.sync_product.specs.Sizes.{message_sizes}
+use Rattle.sync_product.specs.Rounds.{sent_by}
+use Rattle.triple_vote.specs.Layers.{lengths, is_there}
+use Rattle.triple_vote.proofs.Filling.{Filled}
+use Rattle.triple_vote.proofs.rounds.send_all.Given as goal
+
+-- the first messages are written
+abbrev pub invariant-loop-number : goal.invariant-loop-number
+invariant-loop-number l = record {
+  sizes : lengths l.sent ≡ message_sizes l.design;
+  done : Filled l.design.links (λ (link : Link). is_there l.there link.source.0) (λ number (link : Link). sent_by l.stages link) l.sent l.number;
+}

@@ -1,0 +1,105 @@
+//! The three layers of replicas.
+ghost use Rattle.std.specs.Prelude.{◌≡◌, All, IfOk, OnOk, length, map, replicate};
+ghost use Rattle.pals_model.specs.Inputs.{all_sources};
+ghost use Rattle.pals_model.specs.Composition.{opening};
+ghost use Rattle.sync_product.specs.Sizes.{stage_size, stage_sizes};
+ghost use Rattle.triple_vote.specs.Laws.{IsFault};
+ghost use Rattle.triple_vote.specs.Triples.{AreThree, AreOpened, AreMade, StayPut, AreHeard, AllReceived, AreTurned};
+
+use crate::layer::Layer;
+use crate::receiving::receive_all;
+use pals_base::{Items, NoMemory, Port, Tuple};
+use pals_model::{Design, PortSource};
+use pals_runs::VoteFault;
+use std::alloc::Global;
+use sync_product::opening::opening_messages;
+use sync_product::reads::RoundInputs;
+use sync_product::stage::Stage;
+
+/// Three layers before the first round: one replica of each component, and two more of those that are
+/// marked.
+pub fn opening_layers(
+    alloc: Global,
+    design: &Design,
+    replicated: &[bool],
+) -> Result<Vec<Layer>, NoMemory>
+    requires { length replicated.now ≡ length design.now.components }
+    ensures { IfOk result (λ layers. AreOpened design.now replicated.now layers.items) }
+{
+    let all = vec![in alloc; true; design.components().len()]?;
+    let first = Layer::new(alloc, design, Items::from_vec(all))?;
+    let marked = Items::from_slice(alloc, replicated)?;
+    let second = Layer::new(alloc, design, marked)?;
+    let marked = Items::from_slice(alloc, replicated)?;
+    let third = Layer::new(alloc, design, marked)?;
+    Ok(vec![in alloc; first, second, third]?)
+}
+
+/// An absent message on each link, for three replicas.
+pub fn opening_heard(alloc: Global, design: &Design) -> Result<Vec<Items<Tuple>>, NoMemory>
+    ensures { IfOk result (λ heard. heard.items ≡ replicate 3 (opening design.now).messages) }
+{
+    let first = opening_messages(alloc, design)?;
+    let second = opening_messages(alloc, design)?;
+    let third = opening_messages(alloc, design)?;
+    Ok(vec![in alloc; first, second, third]?)
+}
+
+/// Makes a round in each layer. At Ok each has made it from what its replicas received; where they stand
+/// stays in every case.
+pub fn run_each(
+    alloc: Global,
+    design: &Design,
+    values: &[Port],
+    heard: &[Items<Tuple>],
+    sources: &[Items<PortSource>],
+    stages: &mut Vec<Stage>,
+    layers: &mut Vec<Layer>,
+) -> Result<(), NoMemory>
+    requires heard { length heard.now ≡ 3 }
+    requires sources { sources.now ≡ all_sources design.now }
+    requires stages { map stage_size stages.old.items ≡ stage_sizes design.now }
+    requires layers { AreThree design.now layers.old.items }
+    ensures made { OnOk result (AreMade design.now values.now heard.now layers.new.items) }
+    ensures stay { StayPut layers.old.items layers.new.items }
+    ensures layers { AreThree design.now layers.new.items }
+    ensures stages { map stage_size stages.new.items ≡ map stage_size stages.old.items }
+{
+    for at in 0..layers.len() {
+        let round = RoundInputs {
+            design,
+            values,
+            messages: heard[at].as_slice(),
+        };
+        layers[at].run(alloc, round, sources, stages)?;
+    }
+    Ok(())
+}
+
+/// Writes what the replicas of each layer receive.
+pub fn receive_each(
+    design: &Design,
+    replicated: &[bool],
+    faults: &[VoteFault],
+    layers: &[Layer],
+    heard: &mut Vec<Items<Tuple>>,
+)
+    requires layers { AreThree design.now layers.now }
+    requires faults { All (IsFault design.now) faults.now }
+    requires heard { AreHeard design.now heard.old.items }
+    ensures received { AllReceived design.now replicated.now faults.now layers.now heard.new.items }
+    ensures heard { AreHeard design.now heard.new.items }
+{
+    for at in 0..heard.len() {
+        receive_all(design, replicated, faults, layers, at, &mut heard[at]);
+    }
+}
+
+/// Goes over to the frames that the round made.
+pub fn turn_each(layers: &mut Vec<Layer>)
+    ensures { AreTurned layers.old.items layers.new.items }
+{
+    for at in 0..layers.len() {
+        layers[at].turn();
+    }
+}

@@ -1,0 +1,15 @@
+//! Components that run three times, whose messages each reader votes on: with at most one replica at
+//! fault, all that is received, and each replica's state, is that of the composition without replicas.
+#![tactic(auto)]
+
+pub mod laws;
+mod layer;
+mod layers;
+mod opening;
+mod product;
+mod receiving;
+mod rounds;
+mod showing;
+pub mod votes;
+
+pub use product::VoteProduct;

@@ -1,0 +1,45 @@
+//! Votes.
+ghost use Rattle.std.specs.Prelude.{◌≡◌, length, if◌then◌else◌};
+ghost use Rattle.triple_vote.specs.Votes.{same_port, vote, votes};
+
+use pals_base::tuples::place;
+use pals_base::{Port, Tuple};
+
+// Whether two ports have the same.
+fn same_port(x: Port, y: Port) -> bool
+    ensures { result ≡ same_port x y }
+{
+    match x {
+        Port::Absent => matches!(y, Port::Absent),
+        Port::Present(v) => match y {
+            Port::Absent => false,
+            Port::Present(w) => v == w,
+        },
+    }
+}
+
+/// What two of three agree on, and absent where no two do.
+pub fn vote(x: Port, y: Port, z: Port) -> Port
+    ensures { result ≡ vote x y z }
+{
+    if same_port(x, y) || same_port(x, z) {
+        x
+    } else if same_port(y, z) {
+        y
+    } else {
+        Port::Absent
+    }
+}
+
+/// Writes the vote of each place of three tuples. It takes no memory.
+pub fn vote_into(to: &mut Tuple, x: &[Port], y: &[Port], z: &[Port])
+    requires to { length to.old ≡ length x.now }
+    requires y { length y.now ≡ length x.now }
+    requires z { length z.now ≡ length x.now }
+    ensures { to.new ≡ votes x.now y.now z.now }
+{
+    for at in 0..x.len() {
+        let value = vote(place(x, at), place(y, at), place(z, at));
+        to.set(at, value);
+    }
+}
