@@ -1,0 +1,5 @@
+use Rattle.plant_fuse.proofs.Following.{states_follow}
+use Rattle.plant_fuse.proofs.laws.products_follow.Goals as goal
+
+pub returns : goal.returns
+returns c = states_follow

@@ -1,0 +1,7 @@
+use Rattle.plant_fuse.proofs.Onward.{rounds_go_on}
+use Rattle.plant_fuse.proofs.Once.{round_is_one}
+use Rattle.plant_fuse.proofs.Chains.{rounds_follow}
+use Rattle.plant_fuse.proofs.laws.rounds_go_on.Goals as goal
+
+pub returns : goal.returns
+returns c = record { onward = rounds_go_on; one = round_is_one; follow = rounds_follow }

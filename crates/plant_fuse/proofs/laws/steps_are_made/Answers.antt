@@ -1,0 +1,5 @@
+use Rattle.plant_fuse.proofs.Steps.{steps_are_made}
+use Rattle.plant_fuse.proofs.laws.steps_are_made.Goals as goal
+
+pub returns : goal.returns
+returns c = steps_are_made

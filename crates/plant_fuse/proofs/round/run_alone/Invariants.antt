@@ -1,0 +1,14 @@
+use Rattle.std.proofs.Common.{◌≡◌, ◌<◌, ℕ, map, slice_get, Some, None}
+use Rattle.pals_model.specs.declared.design.Component.{Component}
+use Rattle.sync_product.specs.Rounds.{IsStepped, frames_of}
+use Rattle.sync_product.specs.Sizes.{part_size, stage_size}
+use Rattle.plant_fuse.specs.Partners.{partner_of}
+use Rattle.plant_fuse.proofs.round.run_alone.Given as goal
+
+-- the first components that stand in no pair have made their steps, and the sizes stay
+abbrev pub invariant-loop-node : goal.invariant-loop-node
+invariant-loop-node l = record {
+  run : (k : ℕ) (c : Component) → k < l.node → partner_of l.tables.pairs k ≡ None → slice_get l.round.design.now.components k ≡ Some c → IsStepped l.round (frames_of l.parts) l.next l.stages.items k c;
+  parts : map part_size l.next ≡ map part_size l.fn.next;
+  stages : map stage_size l.stages.items ≡ map stage_size l.fn.stages.items;
+}

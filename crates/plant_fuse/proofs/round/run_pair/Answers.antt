@@ -1,0 +1,126 @@
+use Rattle.std.proofs.Common.{◌≡◌, ◌≢◌, ◌∙◌, ℕ, ◌<◌, List, Some, slice_get, slice_index_or, length, map, set, refl, sym, ap, arith}
+use Rattle.std.specs.Option.{option_map}
+use Rattle.std.proofs.lemmas.List.{length-set}
+use Rattle.std.proofs.lemmas.Option.{slice_get-map}
+use Rattle.pals_model.specs.declared.design.DesignParts.{DesignParts}
+use Rattle.pals_model.specs.declared.rounds.Part.{Part}
+use Rattle.pals_runs.specs.declared.pairs.Pair.{Pair}
+use Rattle.sync_product.specs.declared.stage.Stage.{Stage}
+use Rattle.sync_product.specs.Rounds.{frames_of}
+use Rattle.sync_product.specs.Sizes.{part_size, part_sizes, stage_size, stage_sizes}
+use Rattle.plant_fuse.specs.Fused.{IsPair}
+use Rattle.plant_fuse.specs.Runs.{IsRun, StayBeside}
+use Rattle.plant_fuse.specs.Sides.{AreSidesRun}
+use Rattle.plant_fuse.specs.declared.sides.Side.{Side}
+use Rattle.plant_fuse.specs.TakenFrom.{TakenFrom}
+use Rattle.plant_fuse.proofs.Counts.{count_of_parts, count_of_stages}
+use Rattle.plant_fuse.proofs.Outcomes.{on_ok, on_ok_map}
+use Rattle.plant_fuse.proofs.PairRuns.{pair_is_run}
+use Rattle.plant_fuse.proofs.Sized.{given_fits}
+use Rattle.plant_fuse.proofs.TakenOut.{kept_get, kept_length, back_first, back_second, back_other, seen_back}
+use Rattle.plant_fuse.proofs.round.run_pair.Goals as goal
+
+pub take_part-part-requires : goal.take_part-part-requires
+take_part-part-requires c = let within = c.requires.pair.plant in omega (arith, within, count_of_parts c.args.round.design.now c.args.next.now c.requires.next)
+
+pub index_mut-requires-2 : goal.index_mut-requires-2
+index_mut-requires-2 c =
+    let within = c.requires.pair.controller in
+    omega (arith, within, count_of_parts c.args.round.design.now c.args.next.now c.requires.next, kept_length c.args.next.now c.take_part-part.new.parts c.args.pair.now.plant.0 c.take_part-part.result c.take_part-part.ensures)
+
+pub run_sides-run-requires-clause-plant : goal.run_sides-run-requires-clause-plant
+run_sides-run-requires-clause-plant c =
+    given_fits c.args.round.design.now c.args.parts.now c.args.next.now c.args.stages.now.items c.args.pair.now.plant.0 c.given.result c.take_stage-stage.result c.take_part-part.result
+    c.given.ensures c.requires.parts c.requires.next c.requires.stages c.take_stage-stage.ensures.was c.take_part-part.ensures.was
+
+-- the controller's stage and part are those that stand in the lists
+module _ {X : Type 0} (old new : List X) (pair : Pair) (x y : X) (taken : TakenFrom old new pair.plant.0 x) (two : pair.plant.0 ≢ pair.controller.0) (within : pair.controller.0 < length old) (is : y ≡ slice_index_or new pair.controller.0 y) where
+  stands : slice_get old pair.controller.0 ≡ Some y
+  stands = kept_get old new pair.plant.0 pair.controller.0 x y taken (λ same. two (sym same)) within is
+
+pub run_sides-run-requires-clause-controller : goal.run_sides-run-requires-clause-controller
+run_sides-run-requires-clause-controller c =
+    let design = c.args.round.design.now in
+    let pair = c.args.pair.now in
+    let next = c.args.next.now in
+    let stages = c.args.stages.now.items in
+    let is_pair = c.requires.pair in
+    let inside = is_pair.controller in
+    let in_next : pair.controller.0 < length next = omega (arith, inside, count_of_parts design next c.requires.next) in
+    let in_stages : pair.controller.0 < length stages = omega (arith, inside, count_of_stages design stages c.requires.stages) in
+    given_fits design c.args.parts.now next stages pair.controller.0 c.given-2.result c.index_mut.result.now c.index_mut-2.result.now
+    c.given-2.ensures c.requires.parts c.requires.next c.requires.stages
+    (stands stages c.take_stage-stage.new.stages.items pair c.take_stage-stage.result c.index_mut.result.now c.take_stage-stage.ensures is_pair.two in_stages c.index_mut.ensures.value)
+    (stands next c.take_part-part.new.parts pair c.take_part-part.result c.index_mut-2.result.now c.take_part-part.ensures is_pair.two in_next c.index_mut-2.ensures.value)
+
+pub set-requires : goal.set-requires
+set-requires c =
+    let within = c.requires.pair.plant in
+    omega (
+      arith,
+      within,
+      count_of_parts c.args.round.design.now c.args.next.now c.requires.next,
+      kept_length c.args.next.now c.take_part-part.new.parts c.args.pair.now.plant.0 c.take_part-part.result c.take_part-part.ensures,
+      length-set c.take_part-part.new.parts c.args.pair.now.controller.0 c.run_sides-run.new.controller_part,
+    )
+
+pub returns : goal.returns
+returns c =
+    let round = c.args.round in
+    let design = round.design.now in
+    let pair = c.args.pair.now in
+    let plant = pair.plant.0 in
+    let controller = pair.controller.0 in
+    let parts = c.args.parts.now in
+    let is_pair = c.requires.pair in
+    -- the parts
+    let next = c.args.next.now in
+    let mid = c.take_part-part.new.parts in
+    let next' = c.set.new.self in
+    let plant_part = c.run_sides-run.new.plant_part in
+    let controller_part = c.run_sides-run.new.controller_part in
+    let count = count_of_parts design next c.requires.next in
+    let plant_in : plant < length next = (let inside = is_pair.plant in omega (arith, inside, count)) in
+    let controller_in : controller < length next = (let inside = is_pair.controller in omega (arith, inside, count)) in
+    let taken = c.take_part-part.ensures in
+    let put = c.set.ensures in
+    let second = stands next mid pair c.take_part-part.result c.index_mut-2.result.now taken is_pair.two controller_in c.index_mut-2.ensures.value in
+    -- the stages
+    let stages = c.args.stages.now.items in
+    let mid_s = c.take_stage-stage.new.stages.items in
+    let stages' = c.put_stage.new.stages.items in
+    let plant_stage = c.run_sides-run.new.plant_stage in
+    let controller_stage = c.run_sides-run.new.controller_stage in
+    let count_s = count_of_stages design stages c.requires.stages in
+    let plant_in_s : plant < length stages = (let inside = is_pair.plant in omega (arith, inside, count_s)) in
+    let controller_in_s : controller < length stages = (let inside = is_pair.controller in omega (arith, inside, count_s)) in
+    let taken_s = c.take_stage-stage.ensures in
+    let put_s = c.put_stage.ensures in
+    let second_s = stands stages mid_s pair c.take_stage-stage.result c.index_mut.result.now taken_s is_pair.two controller_in_s c.index_mut.ensures.value in
+    let first_side : Side = record { partner = controller; given = c.given.result } in
+    let second_side : Side = record { partner = plant; given = c.given-2.result } in
+    record {
+      run =
+          on_ok_map c.run_sides-run.result (AreSidesRun round first_side second_side plant_stage controller_stage plant_part controller_part) (IsRun round (frames_of parts) next' stages' pair)
+          (pair_is_run round parts next' stages' pair first_side second_side plant_stage controller_stage plant_part controller_part c.given.ensures c.given-2.ensures refl refl
+          (back_first next mid next' plant controller c.take_part-part.result plant_part controller_part taken put is_pair.two plant_in controller_in)
+          (back_second next mid next' plant controller c.take_part-part.result plant_part controller_part taken put is_pair.two plant_in controller_in)
+          (back_first stages mid_s stages' plant controller c.take_stage-stage.result plant_stage controller_stage taken_s put_s is_pair.two plant_in_s controller_in_s)
+          (back_second stages mid_s stages' plant controller c.take_stage-stage.result plant_stage controller_stage taken_s put_s is_pair.two plant_in_s controller_in_s))
+          c.run_sides-run.ensures.run;
+      others =
+          on_ok c.run_sides-run.result (StayBeside plant controller next next' stages stages')
+          (record {
+            parts_stay = back_other next mid next' plant controller c.take_part-part.result plant_part controller_part taken put is_pair.two plant_in controller_in;
+            rows_stay = λ k not_plant not_controller.
+                slice_get-map (λ (s : Stage). s.rows) stages' k
+                ∙ ap (option_map (λ (s : Stage). s.rows)) (back_other stages mid_s stages' plant controller c.take_stage-stage.result plant_stage controller_stage taken_s put_s is_pair.two plant_in_s controller_in_s k not_plant not_controller)
+                ∙ sym (slice_get-map (λ (s : Stage). s.rows) stages k);
+          });
+      parts =
+          seen_back next mid next' plant controller c.take_part-part.result plant_part controller_part taken put is_pair.two plant_in controller_in part_size c.index_mut-2.result.now second
+          c.run_sides-run.ensures.plant_part c.run_sides-run.ensures.controller_part;
+      stages =
+          seen_back stages mid_s stages' plant controller c.take_stage-stage.result plant_stage controller_stage taken_s put_s is_pair.two plant_in_s controller_in_s stage_size c.index_mut.result.now second_s
+          c.run_sides-run.ensures.plant_stage c.run_sides-run.ensures.controller_stage;
+    }

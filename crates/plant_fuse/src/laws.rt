@@ -1,0 +1,51 @@
+//! Laws of fused composition. Each is the contract of a function that does nothing.
+ghost use Rattle.plant_fuse.specs.Laws.{SolutionExists, SolutionIsOne, SolutionGoesOn, StepsAreMade, RoundsGoOn, RoundIsOne, RoundsFollow, StatesFollow, WithoutPairs, ReportExists, ReportIsOne, ReportWithoutPairs};
+ghost use Rattle.plant_fuse.specs.Rows.{CountersArePairs, CountersFuse, FusedCountersCount};
+
+/// The equations of a design with pairs have exactly one solution for each number of
+/// rounds, and that of one round more begins with it.
+pub fn one_solution()
+    ensures exists { SolutionExists }
+    ensures one { SolutionIsOne }
+    ensures onward { SolutionGoesOn }
+{}
+
+/// Each round of a solution comes from what stood before it, and there is one way in which it can: so
+/// what is made round by round is the solution.
+pub fn rounds_go_on()
+    ensures onward { RoundsGoOn }
+    ensures one { RoundIsOne }
+    ensures follow { RoundsFollow }
+{}
+
+/// The steps of a solution can be made one after the other.
+pub fn steps_are_made()
+    ensures { StepsAreMade }
+{}
+
+/// Products that go on round by round stand where the solution does, and show what the components leave
+/// in each round.
+pub fn products_follow()
+    ensures { StatesFollow }
+{}
+
+/// Without pairs what stands after these rounds is what the composition has.
+pub fn without_pairs()
+    ensures { WithoutPairs }
+{}
+
+/// The fused composition of any number of rounds has exactly one report. Without pairs it is that of the
+/// composition.
+pub fn one_report()
+    ensures exists { ReportExists }
+    ensures one { ReportIsOne }
+    ensures without_pairs { ReportWithoutPairs }
+{}
+
+/// The two counters, the first as the plant of the second: they are a pair, and they count on from each
+/// other within a round.
+pub fn counters_are_fused()
+    ensures pairs { CountersArePairs }
+    ensures solution { CountersFuse }
+    ensures counted { FusedCountersCount }
+{}

@@ -1,0 +1,16 @@
+//! The fused composition of a design, round by round: a plant and its controller make the steps of a
+//! round hand in hand. Its definition and its laws stand in `specs`.
+#![tactic(auto)]
+
+mod ends;
+pub mod laws;
+mod messages;
+mod pairs;
+mod product;
+mod rooms;
+mod round;
+mod sides;
+mod tables;
+
+pub use ends::FuseEnd;
+pub use product::FuseProduct;

@@ -1,0 +1,161 @@
+//! The steps of all components in a round.
+ghost use Rattle.std.specs.Prelude.{◌≡◌, ◌<◌, None, OnOk, length, map};
+ghost use Rattle.sync_product.specs.Sizes.{part_size, part_sizes, stage_size, stage_sizes};
+ghost use Rattle.sync_product.specs.Rounds.{frames_of};
+ghost use Rattle.plant_fuse.specs.Fused.{IsPair, ArePairs};
+ghost use Rattle.plant_fuse.specs.Tables.{AreTables};
+ghost use Rattle.plant_fuse.specs.Runs.{IsGiven, IsRunAlone, AreAlone, IsRun, AreRun, StayBeside};
+
+use crate::rooms::{put_stage, take_part, take_stage};
+use crate::sides::{Given, Side, run_sides};
+use crate::tables::Tables;
+use pals_base::{Items, NoMemory};
+use pals_model::{Design, Part};
+use pals_runs::Pair;
+use std::alloc::Global;
+use sync_product::reads::RoundInputs;
+use sync_product::stage::Stage;
+
+/// Makes the steps of all components, from their frames in the parts of the round before: those that
+/// stand in no pair by themselves, and a plant and its controller hand in hand. At Ok the new parts and
+/// the rows of the stages are those of the steps; the sizes stay in every case.
+pub fn run_all(
+    alloc: Global,
+    round: RoundInputs,
+    tables: &Tables,
+    parts: &[Part],
+    stages: &mut Vec<Stage>,
+    next: &mut Items<Part>,
+) -> Result<(), NoMemory>
+    requires tables { AreTables round.design.now tables.now.pairs tables.now }
+    requires pairs { ArePairs round.design.now tables.now.pairs }
+    requires parts { map part_size parts.now ≡ part_sizes round.design.now }
+    requires stages { map stage_size stages.old.items ≡ stage_sizes round.design.now }
+    requires next { map part_size next.old ≡ part_sizes round.design.now }
+    ensures run { OnOk result (AreRun round.entry tables.now.pairs (frames_of parts.now) next.new stages.new.items) }
+    ensures parts { map part_size next.new ≡ map part_size next.old }
+    ensures stages { map stage_size stages.new.items ≡ map stage_size stages.old.items }
+{
+    run_alone(alloc, round, tables, parts, stages, next)?;
+    for pair in tables.pairs.as_slice() {
+        run_pair(alloc, round, tables, pair, parts, stages, next)?;
+    }
+    Ok(())
+}
+
+// Makes the steps of the components that stand in no pair.
+fn run_alone(
+    alloc: Global,
+    round: RoundInputs,
+    tables: &Tables,
+    parts: &[Part],
+    stages: &mut Vec<Stage>,
+    next: &mut Items<Part>,
+) -> Result<(), NoMemory>
+    requires tables { AreTables round.design.now tables.now.pairs tables.now }
+    requires parts { map part_size parts.now ≡ part_sizes round.design.now }
+    requires stages { map stage_size stages.old.items ≡ stage_sizes round.design.now }
+    requires next { map part_size next.old ≡ part_sizes round.design.now }
+    ensures run { OnOk result (AreAlone round.entry tables.now.pairs (frames_of parts.now) next.new stages.new.items) }
+    ensures parts { map part_size next.new ≡ map part_size next.old }
+    ensures stages { map stage_size stages.new.items ≡ map stage_size stages.old.items }
+{
+    for node in 0..round.design.components().len() {
+        if tables.partners[node].is_some() {
+            continue;
+        }
+        run_one(alloc, round, tables, node, parts, stages, next)?;
+    }
+    Ok(())
+}
+
+// Makes the steps of a component by itself.
+fn run_one(
+    alloc: Global,
+    round: RoundInputs,
+    tables: &Tables,
+    node: usize,
+    parts: &[Part],
+    stages: &mut Vec<Stage>,
+    next: &mut Items<Part>,
+) -> Result<(), NoMemory>
+    requires tables { AreTables round.design.now tables.now.pairs tables.now }
+    requires node { node < length round.design.now.components }
+    requires parts { map part_size parts.now ≡ part_sizes round.design.now }
+    requires stages { map stage_size stages.old.items ≡ stage_sizes round.design.now }
+    requires next { map part_size next.old ≡ part_sizes round.design.now }
+    ensures run { OnOk result (IsRunAlone round.entry (frames_of parts.now) node next.old next.new stages.old.items stages.new.items) }
+    ensures parts { map part_size next.new ≡ map part_size next.old }
+    ensures stages { map stage_size stages.new.items ≡ map stage_size stages.old.items }
+{
+    let given = given(round.design, tables, parts, node);
+    let part = &mut next[node];
+    let stage = &mut stages[node];
+    let (component, sources) = (given.component, given.sources);
+    stage.run(
+        alloc, component, sources, given.taps, round, given.from, part,
+    )?;
+    Ok(())
+}
+
+// Makes the steps of a plant and its controller.
+fn run_pair(
+    alloc: Global,
+    round: RoundInputs,
+    tables: &Tables,
+    pair: &Pair,
+    parts: &[Part],
+    stages: &mut Vec<Stage>,
+    next: &mut Items<Part>,
+) -> Result<(), NoMemory>
+    requires tables { AreTables round.design.now tables.now.pairs tables.now }
+    requires pair { IsPair round.design.now pair.now }
+    requires parts { map part_size parts.now ≡ part_sizes round.design.now }
+    requires stages { map stage_size stages.old.items ≡ stage_sizes round.design.now }
+    requires next { map part_size next.old ≡ part_sizes round.design.now }
+    ensures run { OnOk result (IsRun round.entry (frames_of parts.now) next.new stages.new.items pair.now) }
+    ensures others { OnOk result (StayBeside pair.now.plant.0 pair.now.controller.0 next.old next.new stages.old.items stages.new.items) }
+    ensures parts { map part_size next.new ≡ map part_size next.old }
+    ensures stages { map stage_size stages.new.items ≡ map stage_size stages.old.items }
+{
+    let (plant, controller) = (pair.plant.0 as usize, pair.controller.0 as usize);
+    let first = Side {
+        partner: pair.controller.0,
+        given: given(round.design, tables, parts, plant),
+    };
+    let second = Side {
+        partner: pair.plant.0,
+        given: given(round.design, tables, parts, controller),
+    };
+    // What the plant has is taken out meanwhile, so that both sides can be changed.
+    let mut stage = take_stage(alloc, stages, plant);
+    let mut part = take_part(alloc, next, plant);
+    let run = run_sides(
+        alloc,
+        round,
+        first,
+        second,
+        &mut stage,
+        &mut stages[controller],
+        &mut part,
+        &mut next[controller],
+    );
+    put_stage(stages, plant, stage);
+    next.set(plant, part);
+    run
+}
+
+// What is given to the steps of a component.
+fn given<'a>(design: &'a Design, tables: &'a Tables, parts: &'a [Part], node: usize) -> Given<'a>
+    requires tables { AreTables design.now tables.now.pairs tables.now }
+    requires parts { map part_size parts.now ≡ part_sizes design.now }
+    requires node { node < length design.now.components }
+    ensures { IsGiven design.now parts.now node result }
+{
+    Given {
+        component: &design.components()[node],
+        sources: tables.sources[node].as_slice(),
+        from: &parts[node].frame,
+        taps: tables.taps[node].as_slice(),
+    }
+}

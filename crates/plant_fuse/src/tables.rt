@@ -1,0 +1,70 @@
+//! What is found once for a design and its pairs, so that the time that a round takes is in line with
+//! the design alone.
+ghost use Rattle.std.specs.Prelude.{◌≡◌, IfOk};
+ghost use Rattle.plant_fuse.specs.Partners.{partner_of, all_partners};
+
+use pals_base::{Items, NoMemory, NodeNo};
+use pals_model::sources::all_sources;
+use pals_model::{Design, PortSource};
+use pals_runs::Pair;
+use std::alloc::Global;
+use sync_product::taps::all_taps;
+
+/// The pairs; for each component the other one of its pair, if it stands in one; where its in ports
+/// read from; and which of its out ports root out ports show.
+#[derive(Drop)]
+pub struct Tables {
+    pub pairs: Items<Pair>,
+    pub partners: Items<Option<NodeNo>>,
+    pub sources: Items<Items<PortSource>>,
+    pub taps: Items<Items<u32>>,
+}
+
+impl Tables {
+    ghost use Rattle.plant_fuse.specs.Tables.{AreTables};
+
+    /// The tables of a design and its pairs.
+    pub fn new(alloc: Global, design: &Design, pairs: Items<Pair>) -> Result<Tables, NoMemory>
+        ensures { IfOk result (AreTables design.now pairs) }
+    {
+        let partners = all_partners(alloc, design, pairs.as_slice())?;
+        let sources = all_sources(alloc, design)?;
+        let taps = all_taps(alloc, design)?;
+        Ok(Tables {
+            pairs,
+            partners,
+            sources,
+            taps,
+        })
+    }
+}
+
+// The other one of the pair of each component.
+fn all_partners(
+    alloc: Global,
+    design: &Design,
+    pairs: &[Pair],
+) -> Result<Items<Option<NodeNo>>, NoMemory>
+    ensures { IfOk result (λ partners. partners ≡ all_partners design.now pairs.now) }
+{
+    let mut partners = Items::new(alloc);
+    for node in 0..design.components().len() {
+        partners.push(partner(pairs, node))?;
+    }
+    Ok(partners)
+}
+
+// The other one of the first pair in which a component stands.
+fn partner(pairs: &[Pair], node: usize) -> Option<NodeNo>
+    ensures { result ≡ partner_of pairs.now node }
+{
+    for pair in pairs {
+        if pair.plant.0 as usize == node {
+            return Some(pair.controller);
+        }
+        if pair.controller.0 as usize == node {
+            return Some(pair.plant);
+        }
+    }
+    None
+}
