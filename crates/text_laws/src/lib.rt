@@ -1,0 +1,4 @@
+//! Why each text has a tree of the grammar, or a first fault.
+#![tactic(auto)]
+
+pub mod laws;
