@@ -15,5 +15,3 @@ pub mod Journals
 pub mod Faults
 pub mod Ends
 pub mod StepsOf
-mod Fields
-mod Lists

@@ -9,4 +9,3 @@ pub mod Reports
 pub mod WorldLaws
 pub mod Steps
 pub mod Ends
-pub mod EventLaws

@@ -3,7 +3,6 @@
 //! one way; and what events leave on a bus, whatever its clocks read, is the text of their world.
 #![tactic(auto)]
 
-pub mod event_laws;
 mod events;
 mod journal;
 mod messages;

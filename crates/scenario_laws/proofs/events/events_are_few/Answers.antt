@@ -1,5 +1,5 @@
-use Rattle.loose_world.proofs.Fields.{events_are_few}
-use Rattle.loose_world.proofs.event_laws.events_are_few.Goals as goal
+use Rattle.scenario_laws.proofs.Laws.{events_are_few}
+use Rattle.scenario_laws.proofs.events.events_are_few.Goals as goal
 
 pub returns : goal.returns
 returns c bytes command design scenario means = events_are_few bytes command design scenario means

@@ -1,52 +1,31 @@
 -- The events of a scenario are no more than a list may have, and those of a loose world are events of that world.
-use Rattle.std.proofs.Common.{◌≡◌, cond, ℕ, ◌<◌, ◌≤◌, ◌+◌, Bool, true, false, List, [], ◌∷◌, ◌++◌, length, codes, decimal, Some, None, Ok, All, refl, ap, subst, arith, length-append, bytes_eq}
-use Rattle.std.specs.Prelude.{nat_le, nat_lt, position, option_and_then}
-use Rattle.std.proofs.lemmas.Bool.{leb-true, ltb-true}
+use Rattle.std.proofs.Common.{◌≡◌, ℕ, ◌<◌, ◌≤◌, ◌+◌, true, List, [], ◌∷◌, ◌++◌, length, codes, decimal, Ok, All, refl, ap, subst, arith, length-append}
+use Rattle.std.specs.Prelude.{nat_le, option_and_then}
+use Rattle.std.proofs.lemmas.Bool.{leb-true}
 use Rattle.std.proofs.lemmas.List.Elements.{All-nil, All-push}
-use Rattle.std.specs.List.{position_or_len}
 use Rattle.serde_json.specs.Data.{Data}
 use Rattle.serde_json.specs.Find.{as_str}
 use Rattle.pals_base.specs.declared.limits.TheConstants.{ROUNDS, LIST_ITEMS}
 use Rattle.pals_base.specs.declared.values.NodeNo.{NodeNo}
 use Rattle.pals_base.specs.declared.values.LinkNo.{LinkNo}
 use Rattle.pals_model.specs.declared.design.DesignParts.{DesignParts}
-use Rattle.pals_model.specs.declared.design.Component.{Component}
-use Rattle.pals_model.specs.declared.design.Link.{Link}
-use Rattle.pals_model.specs.LinkNames.{node_named, link_named, link_name}
 use Rattle.pals_runs.specs.declared.commands.Command.{Command}
 use Rattle.pals_runs.specs.declared.events.Event.{Event}
 use Rattle.pals_runs.specs.declared.events.Event.TheVariants as event
-use Rattle.scenario_values.specs.declared.fault.ScenarioFault.TheVariants.{WrongKind, OutOfRange, Unknown}
+use Rattle.scenario_values.specs.declared.fault.ScenarioFault.TheVariants.{WrongKind, OutOfRange}
 use Rattle.scenario_values.specs.Outcomes.{◌>>=◌, given, only_if, through}
 use Rattle.scenario_values.specs.Places.{inside}
 use Rattle.scenario_values.specs.Values.{elements, short_list, text, whole, is_whole}
-use Rattle.scenario_values.proofs.Passing.{ok_same, ok_bind, ok_given, ok_only_if}
+use Rattle.scenario_values.proofs.Passing.{ok_same, ok_bind, ok_only_if}
 use Rattle.scenario_names.specs.Names.{node_at, link_at, node_no, link_no}
 use Rattle.run_fields.specs.declared.events.Word.{Word}
 use Rattle.run_fields.specs.declared.events.Word.TheVariants.{Pass, Start, Step, Finish, Send, Arrive, Drop, Repeat}
 use Rattle.run_fields.specs.Events.{word_of, is_usual, node_part, link_parts, event_of, usual_word, event_from, event_in, with_event, events_in}
 use Rattle.loose_world.specs.Worlds.{IsLooseIn}
-use Rattle.loose_world.specs.EventLaws.{loosely, AreLooseEvents}
+use Rattle.scenario_laws.specs.Events.{loosely, AreLooseEvents}
+use Rattle.scenario_laws.proofs.Names.{node_below, link_below}
 
 -- ---- nodes and links
-chosen : (test : Bool) (n i most : ℕ) → (test ≡ true → n < most) → cond test (Some n) None ≡ Some i → i < most
-chosen true n i most below e = let same : n ≡ i = cc in subst (λ k. k < most) same (below refl)
-chosen false n i most below e = absurd (cc)
-
-position_below : {A : Type 0} (p : A → Bool) (xs : List A) (i : ℕ) → position p xs ≡ Some i → i < length xs
-position_below p xs i e =
-    chosen (nat_lt (position_or_len p xs) (length xs)) (position_or_len p xs) i (length xs) (λ test. ltb-true _ _ test) e
-
-node_below : (place : List ℕ) (design : DesignParts) (path : List ℕ) (node : ℕ) → node_at place design path ≡ Ok node → node < length design.components
-unfolding node_at
-node_below place design path node e =
-    position_below (λ (c : Component). bytes_eq path c.path) design.components node (ok_given (Unknown place) (node_named design path) node e)
-
-link_below : (place : List ℕ) (design : DesignParts) (name : List ℕ) (link : ℕ) → link_at place design name ≡ Ok link → link < length design.links
-unfolding link_at
-link_below place design name link e =
-    position_below (λ (l : Link). bytes_eq name (link_name design l)) design.links link (ok_given (Unknown place) (link_named design name) link e)
-
 node_part_below : (design : DesignParts) (place : List ℕ) (ds : List Data) (node : NodeNo) → node_part design place ds ≡ Ok node → node.0 < length design.components
 unfolding node_part
 node_part_below design place [] node e = absurd (cc)

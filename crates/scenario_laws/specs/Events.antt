@@ -1,4 +1,4 @@
--- What the events of every scenario keep that was read.
+-- What the events of a scenario keep that was read.
 use Rattle.std.specs.Prelude.{◌≤◌, true, ℕ, List, length, All, Ok}
 use Rattle.pals_base.specs.declared.limits.TheConstants.{LIST_ITEMS}
 use Rattle.pals_model.specs.declared.design.DesignParts.{DesignParts}

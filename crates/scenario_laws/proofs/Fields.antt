@@ -1,10 +1,8 @@
--- The field `events` of a scenario that was read.
-use Rattle.std.proofs.Common.{◌≡◌, inl, inr, ℕ, ◌≤◌, Bool, true, false, List, [], ◌∷◌, length, codes, Option, Some, None, Result, Ok, Err, replicate, refl, sym, subst, arith}
+-- The fields of a scenario that was read, one after another.
+use Rattle.std.proofs.Common.{◌≡◌, inl, inr, ℕ, Bool, true, false, List, [], ◌∷◌, length, codes, Option, Some, None, Result, Ok, Err, replicate, refl, subst}
 use Rattle.std.specs.Prelude.{find, not}
-use Rattle.std.proofs.lemmas.Bool.{false≢true}
 use Rattle.serde_json.specs.Data.{Data}
 use Rattle.serde_json.specs.Find.{get}
-use Rattle.pals_base.specs.declared.limits.TheConstants.{LIST_ITEMS}
 use Rattle.pals_base.specs.declared.values.NodeNo.{NodeNo}
 use Rattle.pals_base.specs.declared.values.Port.{Port}
 use Rattle.pals_clock.specs.declared.clock.Clocks.{Clocks}
@@ -32,8 +30,6 @@ use Rattle.analysis_fields.specs.Plants.{plants_in}
 use Rattle.analysis_fields.specs.Processors.{processors_in}
 use Rattle.scenario_json.specs.declared.scenario.Scenario.{Scenario}
 use Rattle.scenario_json.specs.Scenarios.{field, only_known, is_field, needs_events, needs_trace, needs_properties, needs_processors, rounds_in, fields_in, scen, Means}
-use Rattle.loose_world.specs.EventLaws.{loosely, AreLooseEvents}
-use Rattle.loose_world.proofs.Lists.{events_few, events_loose}
 
 -- what a reader keeps that goes on with other fields
 goes_on : {A : Type 0} (m : Result A ScenarioFault) (go : A → Result Scenario ScenarioFault) (s : Scenario) (P : Type 0) → ((a : A) → go a ≡ Ok s → P) → (m >>= go) ≡ Ok s → P
@@ -44,7 +40,7 @@ read_from : {A : Type 0} (m : Result A ScenarioFault) (go : A → Result Scenari
 read_from (Ok a) go s P next e = next a refl e
 read_from (Err fault) go s P next e = absurd (cc)
 
-field_keeps : {A : Type 0} (name : List ℕ) (needed : Bool) (otherwise : A) (read : Data → Result A ScenarioFault) (found : Option Data) (P : A → Type 0) → (needed ≡ false → P otherwise) → ((d : Data) (a : A) → read d ≡ Ok a → P a) → (a : A)
+pub field_keeps : {A : Type 0} (name : List ℕ) (needed : Bool) (otherwise : A) (read : Data → Result A ScenarioFault) (found : Option Data) (P : A → Type 0) → (needed ≡ false → P otherwise) → ((d : Data) (a : A) → read d ≡ Ok a → P a) → (a : A)
     → field name needed otherwise read found ≡ Ok a → P a
 field_keeps name true otherwise read None P free keeps a e = absurd (cc)
 field_keeps name false otherwise read None P free keeps a e = subst P (ok_same otherwise a e) (free refl)
@@ -77,13 +73,13 @@ module _ (d : Data) (design : DesignParts) (command : Command) where
   abbrev from_processors : ℕ → List (List Port) → List Event → Clocks → List (List ℕ) → List (List ℕ) → List PropertyValue → List NodeNo → List RoundFault → List Pair → Result Scenario ScenarioFault
   from_processors n i v c l t p r f pl = processors_read >>= λ pr. Ok (made n i v c l t p r f pl pr)
 
-  abbrev plants_read : Result (List Pair) ScenarioFault
+  abbrev pub plants_read : Result (List Pair) ScenarioFault
   plants_read = field (codes "plants") false [] (plants_in design) (get (codes "plants") d)
 
   abbrev from_plants : ℕ → List (List Port) → List Event → Clocks → List (List ℕ) → List (List ℕ) → List PropertyValue → List NodeNo → List RoundFault → Result Scenario ScenarioFault
   from_plants n i v c l t p r f = plants_read >>= λ pl. from_processors n i v c l t p r f pl
 
-  abbrev faults_read : List NodeNo → Result (List RoundFault) ScenarioFault
+  abbrev pub faults_read : List NodeNo → Result (List RoundFault) ScenarioFault
   faults_read r = field (codes "faults") false [] (faults_in design r) (get (codes "faults") d)
 
   abbrev from_faults : ℕ → List (List Port) → List Event → Clocks → List (List ℕ) → List (List ℕ) → List PropertyValue → List NodeNo → Result Scenario ScenarioFault
@@ -119,7 +115,7 @@ module _ (d : Data) (design : DesignParts) (command : Command) where
   abbrev from_clocks : ℕ → List (List Port) → List Event → Result Scenario ScenarioFault
   from_clocks n i v = clocks_read >>= λ c. from_delays n i v c
 
-  abbrev events_read : Result (List Event) ScenarioFault
+  abbrev pub events_read : Result (List Event) ScenarioFault
   events_read = field (codes "events") (needs_events command) [] (events_in design command) (get (codes "events") d)
 
   abbrev from_events : ℕ → List (List Port) → Result Scenario ScenarioFault
@@ -134,11 +130,16 @@ module _ (d : Data) (design : DesignParts) (command : Command) where
   abbrev from_rounds : Result Scenario ScenarioFault
   from_rounds = rounds_in design d >>= λ n. from_inputs n
 
-  -- what holds of the events that are read holds of the scenario's
-  fields_keep : (P : List Event → Type 0) → ((v : List Event) → events_read ≡ Ok v → P v) → (s : Scenario) → fields_in d design command ≡ Ok s → P s.events
+  -- what was read of these fields is the scenario's
+  pub record AreRead (s : Scenario) : Type 0 where
+    pub events : events_read ≡ Ok s.events
+    pub faults : faults_read s.replicas ≡ Ok s.faults
+    pub plants : plants_read ≡ Ok s.plants
+
+  fields_are_read : (s : Scenario) → fields_in d design command ≡ Ok s → AreRead s
   unfolding fields_in
-  fields_keep P keeps s e =
-      let Q : Type 0 = P s.events in
+  fields_are_read s e =
+      let Q : Type 0 = AreRead s in
       goes_on (rounds_in design d) (λ n. from_inputs n) s Q (λ n e0.
       goes_on inputs_read (λ i. from_events n i) s Q (λ i e1.
       read_from events_read (λ v. from_clocks n i v) s Q (λ v is_events e2.
@@ -147,17 +148,17 @@ module _ (d : Data) (design : DesignParts) (command : Command) where
       goes_on trace_read (λ t. from_properties n i v c l t) s Q (λ t e5.
       goes_on properties_read (λ p. from_replicas n i v c l t p) s Q (λ p e6.
       goes_on replicas_read (λ r. from_faults n i v c l t p r) s Q (λ r e7.
-      goes_on (faults_read r) (λ f. from_plants n i v c l t p r f) s Q (λ f e8.
-      goes_on plants_read (λ pl. from_processors n i v c l t p r f pl) s Q (λ pl e9.
+      read_from (faults_read r) (λ f. from_plants n i v c l t p r f) s Q (λ f is_faults e8.
+      read_from plants_read (λ pl. from_processors n i v c l t p r f pl) s Q (λ pl is_plants e9.
       goes_on processors_read (λ pr. Ok (made n i v c l t p r f pl pr)) s Q (λ pr e10.
-      subst (λ (x : Scenario). P x.events) (ok_same (made n i v c l t p r f pl pr) s e10) (keeps v is_events)
+      subst AreRead (ok_same (made n i v c l t p r f pl pr) s e10) (record { events = is_events; faults = is_faults; plants = is_plants })
       ) e9) e8) e7) e6) e5) e4) e3) e2) e1) e0) e
 
-  scenario_keeps : (P : List Event → Type 0) → ((v : List Event) → events_read ≡ Ok v → P v) → (s : Scenario) → scen d design command ≡ Ok s → P s.events
+  scenario_is_read : (s : Scenario) → scen d design command ≡ Ok s → AreRead s
   unfolding scen
-  scenario_keeps P keeps s e =
+  scenario_is_read s e =
       let es = ok_bind (entries (codes "scenario") d) (λ es. only_known (find (λ x. not (is_field x.0)) es) (fields_in d design command)) s e in
-      fields_keep P keeps s (known (find (λ x. not (is_field x.0)) es.0) (fields_in d design command) s es.2)
+      fields_are_read s (known (find (λ x. not (is_field x.0)) es.0) (fields_in d design command) s es.2)
 
 -- ---- what the bytes of a scenario mean
 abbrev read_well : Scenario → Result Scenario ScenarioFault
@@ -166,22 +167,7 @@ read_well s = Ok s
 wrong : {P : Type 0} (s : Scenario) → read_well s ≡ Err NotJson → P
 wrong s e = absurd (cc)
 
-means_keep : (bytes : List ℕ) (design : DesignParts) (command : Command) (P : List Event → Type 0)
-    → ((d : Data) (v : List Event) → events_read d design command ≡ Ok v → P v) → (s : Scenario) → Means bytes design command (Ok s) → P s.events
-means_keep bytes design command P keeps s (inl value) = scenario_keeps value.0 design command P (keeps value.0) s value.2
-means_keep bytes design command P keeps s (inr none) = wrong s none.1
-
--- ---- the laws
-pub events_are_few : (bytes : List ℕ) (command : Command) (design : DesignParts) (s : Scenario) → Means bytes design command (Ok s)
-    → length s.events ≤ LIST_ITEMS
-events_are_few bytes command design s means =
-    means_keep bytes design command (λ v. length v ≤ LIST_ITEMS)
-    (λ d v read. field_keeps (codes "events") (needs_events command) [] (events_in design command) (get (codes "events") d) (λ v. length v ≤ LIST_ITEMS)
-    (λ free. omega arith) (events_few design command) v read) s means
-
-pub events_are_loose : (bytes root : List ℕ) (design : DesignParts) (s : Scenario) → Means bytes design (loosely root) (Ok s)
-    → AreLooseEvents design s.events
-events_are_loose bytes root design s means =
-    means_keep bytes design (loosely root) (AreLooseEvents design)
-    (λ d v read. field_keeps (codes "events") true [] (events_in design (loosely root)) (get (codes "events") d) (AreLooseEvents design)
-    (λ free. absurd (false≢true (sym free))) (events_loose design root) v read) s means
+pub means_read : (bytes : List ℕ) (design : DesignParts) (command : Command) (s : Scenario) → Means bytes design command (Ok s)
+    → (d : Data) × AreRead d design command s
+means_read bytes design command s (inl value) = (value.0, scenario_is_read value.0 design command s value.2)
+means_read bytes design command s (inr none) = wrong s none.1

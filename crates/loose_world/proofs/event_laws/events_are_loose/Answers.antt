@@ -1,5 +1,0 @@
-use Rattle.loose_world.proofs.Fields.{events_are_loose}
-use Rattle.loose_world.proofs.event_laws.events_are_loose.Goals as goal
-
-pub returns : goal.returns
-returns c bytes root design scenario means = events_are_loose bytes root design scenario means

@@ -1,0 +1,48 @@
+-- What the fields of a scenario keep that was read.
+use Rattle.std.proofs.Common.{ℕ, ◌≤◌, true, false, List, [], length, codes, Ok, All, sym, arith}
+use Rattle.std.proofs.lemmas.List.Elements.{All-nil}
+use Rattle.std.proofs.lemmas.Bool.{false≢true}
+use Rattle.serde_json.specs.Find.{get}
+use Rattle.pals_base.specs.declared.limits.TheConstants.{LIST_ITEMS}
+use Rattle.pals_model.specs.declared.design.DesignParts.{DesignParts}
+use Rattle.pals_runs.specs.declared.commands.Command.{Command}
+use Rattle.run_fields.specs.Events.{events_in}
+use Rattle.analysis_fields.specs.AnalysisFacts.{IsFaultOf}
+use Rattle.analysis_fields.specs.Replicas.{faults_in}
+use Rattle.analysis_fields.specs.Plants.{plants_in}
+use Rattle.analysis_fields.proofs.FaultFacts.{faults_keep}
+use Rattle.scenario_json.specs.declared.scenario.Scenario.{Scenario}
+use Rattle.scenario_json.specs.Scenarios.{needs_events, Means}
+use Rattle.plant_fuse.specs.Fused.{ArePairs}
+use Rattle.scenario_laws.specs.Events.{loosely, AreLooseEvents}
+use Rattle.scenario_laws.proofs.Fields.{field_keeps, means_read}
+use Rattle.scenario_laws.proofs.EventLists.{events_few, events_loose}
+use Rattle.scenario_laws.proofs.PairLists.{no_pairs, pairs_fit}
+
+pub events_are_few : (bytes : List ℕ) (command : Command) (design : DesignParts) (s : Scenario) → Means bytes design command (Ok s)
+    → length s.events ≤ LIST_ITEMS
+events_are_few bytes command design s means =
+    let read = means_read bytes design command s means in
+    field_keeps (codes "events") (needs_events command) [] (events_in design command) (get (codes "events") read.0) (λ v. length v ≤ LIST_ITEMS)
+    (λ free. omega arith) (events_few design command) s.events read.1.events
+
+pub events_are_loose : (bytes root : List ℕ) (design : DesignParts) (s : Scenario) → Means bytes design (loosely root) (Ok s)
+    → AreLooseEvents design s.events
+events_are_loose bytes root design s means =
+    let read = means_read bytes design (loosely root) s means in
+    field_keeps (codes "events") true [] (events_in design (loosely root)) (get (codes "events") read.0) (AreLooseEvents design)
+    (λ free. absurd (false≢true (sym free))) (events_loose design root) s.events read.1.events
+
+pub faults_are_of_replicas : (bytes : List ℕ) (command : Command) (design : DesignParts) (s : Scenario) → Means bytes design command (Ok s)
+    → All (IsFaultOf design s.replicas) s.faults
+faults_are_of_replicas bytes command design s means =
+    let read = means_read bytes design command s means in
+    field_keeps (codes "faults") false [] (faults_in design s.replicas) (get (codes "faults") read.0) (λ fs. All (IsFaultOf design s.replicas) fs)
+    (λ free. All-nil (IsFaultOf design s.replicas)) (faults_keep design s.replicas) s.faults read.1.faults
+
+pub pairs_can_be_fused : (bytes : List ℕ) (command : Command) (design : DesignParts) (s : Scenario) → Means bytes design command (Ok s)
+    → ArePairs design s.plants
+pairs_can_be_fused bytes command design s means =
+    let read = means_read bytes design command s means in
+    field_keeps (codes "plants") false [] (plants_in design) (get (codes "plants") read.0) (ArePairs design)
+    (λ free. no_pairs design) (pairs_fit design) s.plants read.1.plants

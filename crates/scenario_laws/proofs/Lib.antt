@@ -1,0 +1,10 @@
+mod Fields
+mod Names
+mod EventLists
+mod PairLists
+mod Laws
+mod Named
+mod Values
+mod RunFields
+mod AnalysisFields
+mod Scenarios
