@@ -1,8 +1,10 @@
 -- Blocks of lines, one for each item of a list.
-use Rattle.std.proofs.Common.{◌≡◌, ℕ, ◌+◌, ◌<◌, ◌≤◌, List, [], ◌∷◌, ◌++◌, length, take, get_or, sym, ap, ◌∙◌, append_assoc}
+use Rattle.std.proofs.Common.{◌≡◌, ℕ, ◌+◌, ◌<◌, ◌≤◌, List, [], ◌∷◌, ◌++◌, length, take, get_or, map, sym, ap, ◌∙◌, append_assoc}
 use Rattle.std.specs.List.{flat_map}
 use Rattle.std.proofs.lemmas.List.{append-nil, take_all, take_more}
 use Rattle.std.proofs.lemmas.Grind.{flat_map-append}
+use Rattle.pals_base.specs.Steps.{upwards}
+use Rattle.pals_base.proofs.Upwards.{map_upwards_more}
 use Rattle.pals_model.specs.RoundTexts.{line_end, text_of}
 
 pub text_of-append : (xs ys : List (List ℕ)) → text_of (xs ++ ys) ≡ text_of xs ++ text_of ys
@@ -24,6 +26,15 @@ blocks_turn f xs i x old out new within is before added =
 -- those of all items
 pub blocks_all : {X : Type 0} (f : X → List (List ℕ)) (xs : List X) (i : ℕ) → length xs ≤ i → text_of (flat_map f (take i xs)) ≡ text_of (flat_map f xs)
 blocks_all f xs i behind = ap (λ ys. text_of (flat_map f ys)) (take_all i xs behind)
+
+-- ---- lines that are counted
+pub counted_turn : (f : ℕ → List ℕ) (at : ℕ) (old out new : List ℕ) → out ≡ old ++ text_of (map f (upwards 0 at)) → new ≡ out ++ f at ++ line_end
+    → new ≡ old ++ text_of (map f (upwards 0 (at + 1)))
+counted_turn f at old out new before added =
+    let so_far = text_of (map f (upwards 0 at)) in
+    added ∙ ap (λ t. t ++ f at ++ line_end) before ∙ append_assoc (old ++ so_far) (f at) line_end ∙ append_assoc old so_far (f at ++ line_end)
+    ∙ ap (λ t. old ++ (so_far ++ t)) (sym (append-nil (f at ++ line_end)))
+    ∙ ap (λ t. old ++ t) (sym (ap text_of (map_upwards_more f at) ∙ text_of-append (map f (upwards 0 at)) (f at ∷ [])))
 
 -- ---- a line behind others
 pub line_behind : (old line new : List ℕ) → new ≡ old ++ line ++ line_end → new ≡ old ++ text_of (line ∷ [])

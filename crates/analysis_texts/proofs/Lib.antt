@@ -2,3 +2,7 @@ pub mod Rounds
 pub mod Blocks
 pub mod Mapped
 pub mod WatchedLines
+pub mod Filing
+pub mod VotedRows
+pub mod VotedFaults
+pub mod FusedRows

@@ -14,7 +14,7 @@ use Rattle.pals_model.specs.declared.rounds.Env.{Env}
 use Rattle.pals_model.specs.declared.rounds.Part.{Part}
 use Rattle.pals_model.specs.Composition.{comp, next, no_frame, part, all_steps, part_of}
 use Rattle.pals_model.specs.Inputs.{values_at}
-use Rattle.pals_model.specs.RoundTexts.{line_end, text_of, composed_lines, report_lines, row, report}
+use Rattle.pals_model.specs.RoundTexts.{line_end, text_of, composed_lines, row, report}
 use Rattle.pals_model.proofs.CompositionLaws.{one_frame_each}
 use Rattle.pals_report.specs.Rows.{ArePartsOf}
 use Rattle.run_monitor.specs.Bits.{row_of}
@@ -88,14 +88,17 @@ on_ok (Ok x) P holds = holds
 on_ok (Err e) P holds = tt
 
 -- ---- the report
--- one more row
+-- one more row behind those of the rounds before it
+pub rows_more : (lines : ℕ → List (List ℕ)) (round : ℕ) (text : List ℕ) → text ≡ text_of (flat_map lines (upwards 0 round))
+    → text ++ text_of (lines round) ≡ text_of (flat_map lines (upwards 0 (round + 1)))
+rows_more lines round text is =
+    ap (λ t. t ++ text_of (lines round)) is
+    ∙ sym (ap (λ n. text_of (flat_map lines (upwards 0 n))) (add-one round)
+    ∙ ap (λ rounds. text_of (flat_map lines rounds)) (upwards-more 0 round)
+    ∙ ap text_of (flat_map-append lines (upwards 0 round) ((0 + round) ∷ []))
+    ∙ flat_map-append (λ line. line ++ line_end) (flat_map lines (upwards 0 round)) (flat_map lines ((0 + round) ∷ []))
+    ∙ ap (λ more. text_of (flat_map lines (upwards 0 round)) ++ text_of more) (append-nil (lines (0 + round)) ∙ ap lines (zero-add round)))
+
 pub report_more : (design : DesignParts) (env : Env) (round : ℕ) (text : List ℕ) → text ≡ report design env round
     → text ++ row design env round ≡ report design env (round + 1)
-report_more design env round text is =
-    ap (λ t. t ++ row design env round) is
-    ∙ sym (ap (λ n. report design env n) (add-one round)
-    ∙ ap (λ rounds. text_of (flat_map (composed_lines design env) rounds)) (upwards-more 0 round)
-    ∙ ap text_of (flat_map-append (composed_lines design env) (upwards 0 round) ((0 + round) ∷ []))
-    ∙ flat_map-append (λ line. line ++ line_end) (report_lines design env round) (flat_map (composed_lines design env) ((0 + round) ∷ []))
-    ∙ ap (λ lines. report design env round ++ text_of lines)
-    (append-nil (composed_lines design env (0 + round)) ∙ ap (composed_lines design env) (zero-add round)))
+report_more design env round text is = rows_more (composed_lines design env) round text is

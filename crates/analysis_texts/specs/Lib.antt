@@ -1,2 +1,3 @@
 pub mod Budgeted
+pub mod Voted
 pub mod Watched

@@ -1,0 +1,11 @@
+use Rattle.std.proofs.Common.{◌≡◌, ◌++◌, drop}
+use Rattle.pals_model.specs.RoundTexts.{text_of}
+use Rattle.triple_vote.specs.Replicas.{frame_at}
+use Rattle.analysis_texts.specs.Voted.{all_lines}
+use Rattle.analysis_texts.proofs.replicas.add_components.Given as goal
+
+-- the lines so far, and those of the components that are left
+abbrev pub invariant-loop-node : goal.invariant-loop-node
+invariant-loop-node l =
+    l.text.items ++ text_of (all_lines l.product.replicated (frame_at l.product.voted) l.node (drop l.node l.product.design.components))
+    ≡ l.initial.text.items ++ text_of (all_lines l.product.replicated (frame_at l.product.voted) 0 l.product.design.components)

@@ -1,0 +1,27 @@
+use Rattle.std.proofs.Common.{◌≡◌, ◌∙◌, List, length, map, sym, ap, ap₂}
+use Rattle.std.specs.Arc.{arc_value}
+use Rattle.std.proofs.lemmas.Result.{IfOk-weaker}
+use Rattle.pals_base.specs.Steps.{upwards}
+use Rattle.pals_model.specs.declared.design.Component.{Component}
+use Rattle.pals_model.specs.declared.design.DesignParts.{DesignParts}
+use Rattle.analysis_fields.specs.Replicas.{is_among}
+use Rattle.triple_vote.specs.States.{VotedState, vbegun}
+use Rattle.analysis_texts.specs.Voted.{replicated_in}
+use Rattle.analysis_texts.proofs.Filing.{length-table}
+use Rattle.analysis_texts.proofs.replicas.product_of.Goals as goal
+
+pub new-requires-2 : goal.new-requires-2
+new-requires-2 c =
+    ap length c.in_ok-replicated.ensures ∙ length-table (is_among c.args.replicas.now) (length c.components.result.now) ∙ ap length c.components.ensures.value
+    ∙ ap (λ (d : DesignParts). length d.components) (sym c.in_ok-new.ensures.ok)
+
+pub returns : goal.returns
+returns c =
+    let design = c.args.design in
+    let replicas = c.args.replicas.now in
+    let held = arc_value c.in_ok-new.field-0 in
+    let marks = c.in_ok-replicated.replicated.items in
+    let marked : marks ≡ replicated_in design replicas
+    = c.in_ok-replicated.ensures ∙ ap (λ (cs : List Component). map (is_among replicas) (upwards 0 (length cs))) c.components.ensures.value in
+    IfOk-weaker c.new-2.result (λ (product : VotedState). product ≡ vbegun held marks) (λ (product : VotedState). product ≡ vbegun design (replicated_in design replicas))
+    (λ product is. is ∙ ap₂ vbegun c.in_ok-new.ensures.ok marked) c.new-2.ensures

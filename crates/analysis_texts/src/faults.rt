@@ -1,0 +1,47 @@
+//! The faults of replicas, round by round.
+ghost use Rattle.std.specs.Prelude.{◌≡◌, [], map, IfOk, OnOk};
+ghost use Rattle.pals_base.specs.Steps.{upwards};
+ghost use Rattle.analysis_texts.specs.Voted.{faults_of, filed};
+
+use analysis_fields::RoundFault;
+use pals_base::{Items, NoMemory};
+use pals_runs::VoteFault;
+use std::alloc::Global;
+
+/// The faults of each of the first rounds, in order.
+pub fn by_round(
+    alloc: Global,
+    faults: Items<RoundFault>,
+    rounds: u32,
+) -> Result<Vec<Items<VoteFault>>, NoMemory>
+    ensures { IfOk result (λ table. table.items ≡ map (faults_of faults) (upwards 0 rounds)) }
+{
+    let mut table = no_faults(alloc, rounds)?;
+    for fault in faults.into_vec() {
+        file(&mut table, fault)?;
+    }
+    Ok(table)
+}
+
+// An empty list for each round.
+fn no_faults(alloc: Global, rounds: u32) -> Result<Vec<Items<VoteFault>>, NoMemory>
+    ensures { IfOk result (λ table. table.items ≡ map (faults_of []) (upwards 0 rounds)) }
+{
+    let mut table = Vec::new(alloc);
+    for _round in 0..rounds {
+        table.push(Items::new(alloc))?;
+    }
+    Ok(table)
+}
+
+// Puts a fault behind those of its round, if there is such a round.
+fn file(table: &mut Vec<Items<VoteFault>>, fault: RoundFault) -> Result<(), NoMemory>
+    ensures { OnOk result (table.new.items ≡ filed table.old.items fault) }
+{
+    let RoundFault { round, fault } = fault;
+    let at = round as usize;
+    if at < table.len() {
+        table[at].push(fault)?;
+    }
+    Ok(())
+}

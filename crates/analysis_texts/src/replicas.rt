@@ -1,0 +1,167 @@
+//! The rounds of a design in which some components have replicas.
+ghost use Rattle.std.specs.Prelude.{◌≡◌, ◌++◌, ◌<◌, ◌^◌, ℕ, List, All, length, map, IfOk, OnOk};
+ghost use Rattle.pals_base.specs.Steps.{upwards};
+ghost use Rattle.pals_base.specs.declared.values.Port.{Port};
+ghost use Rattle.pals_model.specs.declared.design.Tap.{Tap};
+ghost use Rattle.pals_model.specs.RoundTexts.{text_of};
+ghost use Rattle.pals_runs.specs.declared.pairs.VoteFault.{VoteFault};
+ghost use Rattle.analysis_fields.specs.AnalysisFacts.{IsFaultOf};
+ghost use Rattle.triple_vote.specs.Laws.{IsFault};
+ghost use Rattle.triple_vote.specs.Replicas.{is_replicated, frame_at, vopening};
+ghost use Rattle.triple_vote.specs.States.{vbegun};
+ghost use Rattle.triple_vote.specs.Texts.{replica_lines, shown_line, vrow_lines, vreport};
+ghost use Rattle.analysis_texts.specs.Voted.{replicated_in, faults_of, names_of, all_names, all_lines};
+
+use crate::faults::by_round;
+use crate::names::{replica_names, replicated};
+use analysis_fields::RoundFault;
+use pals_base::{Items, NoMemory, NodeNo, Port, Text, Tuple};
+use pals_model::{Component, Design, DesignParts, Env};
+use pals_report::{add_frame, add_round, add_shown};
+use pals_runs::VoteFault;
+use std::alloc::Global;
+use std::sync::Arc;
+use triple_vote::VoteProduct;
+
+/// The report of the composition of a design in which some components have three replicas each, whose
+/// messages are voted on: the rows of the first rounds, with these faults of replicas. The time of a round
+/// is in line with its lines, and with its faults times the messages of replicas, since each message looks
+/// for its fault.
+pub fn vote(
+    alloc: Global,
+    design: Design,
+    env: &Env,
+    rounds: u32,
+    replicas: &[NodeNo],
+    faults: Items<RoundFault>,
+) -> Result<Vec<u8>, NoMemory>
+    requires { All (IsFaultOf design replicas.now) faults }
+    ensures { IfOk result (λ text. text.items
+        ≡ vreport design env.now (replicated_in design replicas.now) (faults_of faults) rounds) }
+{
+    let mut product = product_of(alloc, design, replicas)?;
+    voted(alloc, &mut product, env, rounds, replicas, faults)
+}
+
+// A product of a design, before the first round, with three replicas of each of some components.
+fn product_of(alloc: Global, design: Design, replicas: &[NodeNo]) -> Result<VoteProduct, NoMemory>
+    ensures { IfOk result (λ product. product ≡ vbegun design (replicated_in design replicas.now)) }
+{
+    let replicated = replicated(alloc, design.components().len(), replicas)?;
+    VoteProduct::new(alloc, Arc::new(alloc, design)?, replicated)
+}
+
+// The rows of the first rounds of such a product.
+fn voted(
+    alloc: Global,
+    product: &mut VoteProduct,
+    env: &Env,
+    rounds: u32,
+    replicas: &[NodeNo],
+    faults: Items<RoundFault>,
+) -> Result<Vec<u8>, NoMemory>
+    requires product { product.old ≡ vbegun product.old.design (replicated_in product.old.design replicas.now) }
+    requires faults { All (IsFaultOf product.old.design replicas.now) faults }
+    ensures { IfOk result (λ text. text.items
+        ≡ vreport product.old.design env.now (replicated_in product.old.design replicas.now) (faults_of faults) rounds) }
+{
+    let names = replica_names(alloc, product.design(), replicas)?;
+    let faults = by_round(alloc, faults, rounds)?;
+    rows(alloc, product, names.as_slice(), env, faults.as_slice())
+}
+
+// The rows of the first rounds of a product that has made none, one for each list of faults.
+fn rows(
+    alloc: Global,
+    product: &mut VoteProduct,
+    names: &[Items<Text>],
+    env: &Env,
+    faults: &[Items<VoteFault>],
+) -> Result<Vec<u8>, NoMemory>
+    requires opening { product.old.voted ≡ vopening product.old.design product.old.replicated }
+    requires names { names.now ≡ all_names product.old.design.components product.old.replicated }
+    requires count { length faults.now < 2 ^ 32 }
+    requires faults { All (λ fs. All (IsFault product.old.design) fs) faults.now }
+    ensures { (all : ℕ → List VoteFault) → faults.now ≡ map all (upwards 0 (length faults.now))
+        → IfOk result (λ text. text.items
+        ≡ vreport product.old.design env.now product.old.replicated all (length faults.now)) }
+{
+    let mut values = vec![in alloc; Port::Absent; env.lists.len()]?;
+    let mut text = Vec::new(alloc);
+    for (round, faults) in faults.iter().enumerate() {
+        let number = round as u32;
+        env.write_values(number, &mut values);
+        product.advance(values.as_slice(), faults.as_slice())?;
+        add_row(&mut text, product, names, number)?;
+    }
+    Ok(text)
+}
+
+// Adds the row of the round that a product has made last.
+fn add_row(
+    text: &mut Vec<u8>,
+    product: &VoteProduct,
+    names: &[Items<Text>],
+    round: u32,
+) -> Result<(), NoMemory>
+    requires names { names.now ≡ all_names product.now.design.components product.now.replicated }
+    requires shown { length product.now.shown ≡ length product.now.design.taps }
+    ensures { (shown : Tap → List Port) → product.now.shown ≡ map shown product.now.design.taps
+        → OnOk result (text.new.items ≡ text.old.items
+        ++ text_of (vrow_lines product.now.design product.now.replicated (frame_at product.now.voted) shown round)) }
+{
+    add_round(text, round)?;
+    add_components(text, product, names)?;
+    add_taps(text, product.design().parts(), product.shown())
+}
+
+// Adds the lines of the replicas of each component.
+fn add_components(
+    text: &mut Vec<u8>,
+    product: &VoteProduct,
+    names: &[Items<Text>],
+) -> Result<(), NoMemory>
+    requires { names.now ≡ all_names product.now.design.components product.now.replicated }
+    ensures { OnOk result (text.new.items ≡ text.old.items
+        ++ text_of (all_lines product.now.replicated (frame_at product.now.voted) 0 product.now.design.components)) }
+{
+    let components = product.design().components();
+    for (node, component) in components.iter().enumerate() {
+        let names = names[node].as_slice();
+        add_replicas(text, product, NodeNo(node as u32), component, names)?;
+    }
+    Ok(())
+}
+
+// Adds a line for each replica of a component.
+fn add_replicas(
+    text: &mut Vec<u8>,
+    product: &VoteProduct,
+    node: NodeNo,
+    component: &Component,
+    names: &[Text],
+) -> Result<(), NoMemory>
+    requires node { node.0 < length product.now.design.components }
+    requires names { names.now ≡ names_of component.now.path (is_replicated product.now.replicated node.0) }
+    ensures { OnOk result (text.new.items ≡ text.old.items
+        ++ text_of (replica_lines product.now.replicated (frame_at product.now.voted) node.0 component.now)) }
+{
+    for (at, name) in names.iter().enumerate() {
+        let frame = product.frame(node, at as u32 + 1);
+        add_frame(text, name, component.behaviour.parts(), frame)?;
+    }
+    Ok(())
+}
+
+// Adds a line for each root out port.
+fn add_taps(text: &mut Vec<u8>, design: &DesignParts, shown: &[Tuple]) -> Result<(), NoMemory>
+    requires { length shown.now ≡ length design.now.taps }
+    ensures { (all : Tap → List Port) → shown.now ≡ map all design.now.taps
+        → OnOk result (text.new.items ≡ text.old.items ++ text_of (map (shown_line design.now all) design.now.taps)) }
+{
+    for (number, tap) in design.taps.as_slice().iter().enumerate() {
+        let kind = design.out_kind(tap.source, tap.out_port);
+        add_shown(text, kind, tap, shown[number].as_slice())?;
+    }
+    Ok(())
+}
