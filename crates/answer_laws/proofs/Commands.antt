@@ -2,7 +2,7 @@
 use Rattle.std.proofs.Common.{◌≡◌, ◌∙◌, inl, inr, ℕ, true, false, List, sym, ap, subst}
 use Rattle.pals_model.specs.declared.design.DesignParts.{DesignParts}
 use Rattle.pals_runs.specs.declared.commands.Command.{Command}
-use Rattle.pals_runs.specs.declared.commands.Command.TheVariants.{Print, Check, Sync, World, Watch, Budget}
+use Rattle.pals_runs.specs.declared.commands.Command.TheVariants.{Print, Check, Sync, World, Watch, Vote, Fuse, Budget}
 use Rattle.aadl_tree.specs.Declarations.{PackageTree}
 use Rattle.aadl_tree.specs.Canon.{canon}
 use Rattle.pals_report.specs.CheckReports.{IsCheckReport}
@@ -19,7 +19,7 @@ use Rattle.pals_top.specs.declared.execution.Execution.TheVariants as execution
 use Rattle.pals_top.specs.Analyses.{command_of, Makes, IsAnalysed, IsAnalysisAnswer}
 use Rattle.pals_top.specs.Executions.{IsExecutionAnswer}
 use Rattle.pals_top.specs.Answers.{IsCommandAnswer}
-use Rattle.answer_laws.proofs.Laws.{OneDesign, OneFault, ExecutionLaws}
+use Rattle.answer_laws.proofs.Laws.{OneDesign, OneFault, AnalysisLaws, ExecutionLaws}
 use Rattle.answer_laws.proofs.Designs.{one_tree, read_or_refused, one_refused_text, one_accepted, accepted_or_refused, package_or_text, one_refused_package}
 use Rattle.answer_laws.proofs.Meanings.{one_report}
 use Rattle.answer_laws.proofs.Scenarios.{one_meaning, one_scenario_fault, meant_or_refused}
@@ -43,7 +43,7 @@ print_agrees bundle s t a b (inr x) (inl y) =
     absurd (read_or_refused bundle y.1.design y.1.scenario y.1.tree a y.1.parsed x.1)
 print_agrees bundle s t a b (inr x) (inr y) = alike 3 s t a b x.0 y.0 (one_refused_text bundle a b x.1 y.1)
 
-module _ (one_design : OneDesign) (one_fault : OneFault) (laws : ExecutionLaws) where
+module _ (one_design : OneDesign) (one_fault : OneFault) (made : AnalysisLaws) (laws : ExecutionLaws) where
   -- ---- refusals
   refusals_agree : (root bundle : List ℕ) (s t : ℕ) (a b : List ℕ) → IsBundleRefused root bundle s a → IsBundleRefused root bundle t b → Agree s a t b
   refusals_agree root bundle s t a b (inl x) (inl y) = alike 3 s t a b x.0 y.0 (one_refused_text bundle a b x.1 y.1)
@@ -69,7 +69,9 @@ module _ (one_design : OneDesign) (one_fault : OneFault) (laws : ExecutionLaws) 
     analysed s t a b x y =
         let same = one_meaning one_design root bundle (command_of what root) x.design y.design x.scenario y.scenario x.means y.means in
         let moved = subst (λ (sc : Scenario). Makes what y.design sc s a) same.1 (subst (λ (d : DesignParts). Makes what d x.scenario s a) same.0 x.makes) in
-        one_analysis what y.design y.scenario s t a b moved y.makes
+        let rules = made.rules root bundle y.design y.means.bytes y.means.accepted in
+        let pairs = made.pairs y.means.bytes (command_of what root) y.design y.scenario y.means.means in
+        one_analysis made.one_report what y.design y.scenario rules pairs s t a b moved y.makes
 
     analysed_or_refused : (s : ℕ) (a b : List ℕ) → IsAnalysed what root bundle s a → HasScenarioFault root bundle (command_of what root) b → ⊥
     analysed_or_refused s a b x y = meant_or_refused one_design root bundle (command_of what root) x.design x.scenario b x.means y
@@ -106,5 +108,7 @@ module _ (one_design : OneDesign) (one_fault : OneFault) (laws : ExecutionLaws) 
   answers_agree (World root false) bundle s t a b x y = executions_agree execution.TimedWorld root bundle s t a b x y
   answers_agree (World root true) bundle s t a b x y = executions_agree execution.LooseWorld root bundle s t a b x y
   answers_agree (Watch root) bundle s t a b x y = analyses_agree analysis.Watch root bundle s t a b x y
+  answers_agree (Vote root) bundle s t a b x y = analyses_agree analysis.Vote root bundle s t a b x y
+  answers_agree (Fuse root) bundle s t a b x y = analyses_agree analysis.Fuse root bundle s t a b x y
   answers_agree (Budget root) bundle s t a b x y = executions_agree execution.Budget root bundle s t a b x y
   answers_agree _ bundle s t a b x y = absurd x

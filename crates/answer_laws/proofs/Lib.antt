@@ -8,9 +8,20 @@ pub mod TimedWorlds
 pub mod Made
 pub mod Executions
 pub mod Commands
+pub mod Analysed
 pub mod Calls
 pub mod Ways
 pub mod Standing
 pub mod ExecutionStanding
 pub mod Reading
 pub mod BundleStatuses
+mod ExistingLaws
+mod ExistingTexts
+mod ExistingDesigns
+mod ExistingReports
+mod ExistingEnds
+mod ExistingWorlds
+mod ExistingCodes
+mod ExistingLayouts
+mod ExistingMade
+mod ExistingAnswers

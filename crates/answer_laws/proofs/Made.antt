@@ -2,9 +2,12 @@
 use Rattle.std.proofs.Common.{◌≡◌, ◌∙◌, ◌⊎◌, inl, inr, ℕ, ◌<◌, ◌≤◌, Bool, true, false, List, sym, ap, arith}
 use Rattle.std.specs.Prelude.{if◌then◌else◌}
 use Rattle.pals_model.specs.declared.design.DesignParts.{DesignParts}
+use Rattle.pals_model.specs.Rules.{IsDesign}
+use Rattle.plant_fuse.specs.Fused.{ArePairs}
+use Rattle.plant_fuse.specs.Laws.{ReportIsOne}
 use Rattle.scenario_json.specs.declared.scenario.Scenario.{Scenario}
 use Rattle.pals_top.specs.declared.analysis.Analysis.{Analysis}
-use Rattle.pals_top.specs.declared.analysis.Analysis.TheVariants.{Sync, Watch}
+use Rattle.pals_top.specs.declared.analysis.Analysis.TheVariants.{Sync, Watch, Vote, Fuse}
 use Rattle.pals_top.specs.declared.execution.Execution.{Execution}
 use Rattle.pals_top.specs.declared.execution.Execution.TheVariants.{TimedWorld, LooseWorld, Budget}
 use Rattle.pals_top.specs.Analyses.{Makes as analyses}
@@ -30,14 +33,19 @@ judged_is_small s true e = omega (arith, e)
 judged_is_small s false e = omega (arith, e)
 
 -- ---- analyses
-pub one_analysis : (what : Analysis) (design : DesignParts) (scenario : Scenario) (s t : ℕ) (a b : List ℕ) → analyses what design scenario s a
-    → analyses what design scenario t b → Agree s a t b
-one_analysis Sync design scenario s t a b x y = by_equations s t _ a b _ x y
-one_analysis Watch design scenario s t a b x y = by_equations s t _ a b _ (x.status_is, x.text_is) (y.status_is, y.text_is)
+pub one_analysis : ReportIsOne → (what : Analysis) (design : DesignParts) (scenario : Scenario) → IsDesign design → ArePairs design scenario.plants
+    → (s t : ℕ) (a b : List ℕ) → analyses what design scenario s a → analyses what design scenario t b → Agree s a t b
+one_analysis one Sync design scenario rules pairs s t a b x y = by_equations s t _ a b _ x y
+one_analysis one Watch design scenario rules pairs s t a b x y = by_equations s t _ a b _ (x.status_is, x.text_is) (y.status_is, y.text_is)
+one_analysis one Vote design scenario rules pairs s t a b x y = by_equations s t _ a b _ (x.status_is, x.text_is) (y.status_is, y.text_is)
+one_analysis one Fuse design scenario rules pairs s t a b x y =
+    (x.status_is ∙ sym y.status_is, one design scenario.plants scenario.env scenario.rounds a b rules pairs x.report y.report)
 
 pub analysis_status : (what : Analysis) (design : DesignParts) (scenario : Scenario) (s : ℕ) (a : List ℕ) → analyses what design scenario s a → s < 2
 analysis_status Sync design scenario s a x = let e : s ≡ 0 = x.0 in omega arith
 analysis_status Watch design scenario s a x = judged_is_small s _ x.status_is
+analysis_status Vote design scenario s a x = let e : s ≡ 0 = x.status_is in omega arith
+analysis_status Fuse design scenario s a x = let e : s ≡ 0 = x.status_is in omega arith
 
 -- ---- executions
 pub one_execution : ExecutionLaws → (what : Execution) (design : DesignParts) (scenario : Scenario) (s t : ℕ) (a b : List ℕ)

@@ -1,1 +1,3 @@
+pub mod Analyses
 pub mod Meanings
+pub mod Exists

@@ -4,10 +4,13 @@ ghost use Rattle.pals_runs.specs.declared.commands.Command.{Command};
 ghost use Rattle.pals_top.specs.Answers.{IsCommandAnswer, IsAnswer};
 ghost use Rattle.pals_top.specs.Outside.{Reading};
 
+use crate::accepted::accepted_designs_keep_their_rules;
 use design_laws::packages::one_design;
 use fault_laws::laws::one_fault;
 use loose_world::world_laws::one_end;
+use plant_fuse::laws::one_report;
 use round_budget::laws::text_is_one;
+use scenario_laws::plants::pairs_can_be_fused;
 
 /// The cases of an answer exclude each other, and each has one text: so each status comes exactly where
 /// its case does, and the bundle decides what a command answers to it, byte for byte.
@@ -17,6 +20,9 @@ pub fn answer_is_decided()
 {
     one_design();
     one_fault();
+    accepted_designs_keep_their_rules();
+    pairs_can_be_fused();
+    one_report();
     one_end();
     text_is_one();
 }

@@ -2,7 +2,9 @@
 #![tactic(auto)]
 
 pub mod accepted;
+pub mod analyses;
 pub mod answers;
 pub mod bundles;
+pub mod existence;
 pub mod sources;
 pub mod statuses;

@@ -1,15 +1,12 @@
 //! What a bundle has decides the status of a command's answer. Each law is the contract of a function
 //! that does nothing.
 ghost use Rattle.std.specs.Prelude.{◌≡◌, ◌↔◌, ◌⊎◌, ◌<◌, ℕ, List};
-ghost use Rattle.pals_model.specs.declared.design.DesignParts.{DesignParts};
-ghost use Rattle.scenario_json.specs.declared.scenario.Scenario.{Scenario};
 ghost use Rattle.pals_top.specs.Print.{IsPrintAnswer};
 ghost use Rattle.pals_top.specs.Check.{IsCheckAnswer};
 ghost use Rattle.pals_top.specs.declared.analysis.Analysis.{Analysis};
 ghost use Rattle.pals_top.specs.declared.execution.Execution.{Execution};
 ghost use Rattle.pals_top.specs.Analyses.{command_of, IsAnalysisAnswer};
 ghost use Rattle.pals_top.specs.Executions.{IsExecutionAnswer};
-ghost use Rattle.pals_top.specs.Worlds.{IsTimedAnswer};
 ghost use Rattle.answer_laws.specs.Meanings.{HasTree, MeansDesign, MeansScenario};
 ghost use Rattle.answer_laws.specs.Meanings.{HasLongCode, LacksScenario, GivesStatus};
 
@@ -75,9 +72,3 @@ pub fn statuses_of_executions()
     one_end();
     text_is_one();
 }
-
-/// Of each design and scenario `world` has an answer, by its definition alone: all events are within the
-/// bounds, or one of them is the first that is not.
-pub fn worlds_are_answered()
-    ensures { (design : DesignParts) (scenario : Scenario) → (status : ℕ) × (text : List ℕ) × IsTimedAnswer design scenario status text }
-{}

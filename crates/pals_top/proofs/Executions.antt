@@ -8,7 +8,7 @@ use Rattle.pals_runs.specs.declared.commands.Command.{Command}
 use Rattle.scenario_json.specs.declared.scenario.Scenario.{Scenario}
 use Rattle.scenario_json.specs.Scenarios.{Means}
 use Rattle.design_codes.specs.Causes.{AreShort, IsFirstTooLong}
-use Rattle.loose_world.specs.EventLaws.{EventsAreLoose, EventsAreFew, loosely}
+use Rattle.scenario_laws.specs.Events.{EventsAreLoose, EventsAreFew, loosely}
 use Rattle.bundle_designs.specs.Accepted.{IsAccepted}
 use Rattle.pals_top.specs.declared.answer.Answer.{Answer}
 use Rattle.pals_top.specs.declared.execution.Execution.{Execution}

@@ -1,7 +1,7 @@
 -- What the program answers: a status and a text, to its words and to what its source had.
 use Rattle.std.specs.Prelude.{◌≡◌, ℕ, Bool, true, false, List, Option, Some, None, ◌⊎◌}
 use Rattle.pals_runs.specs.declared.commands.Command.{Command}
-use Rattle.pals_runs.specs.declared.commands.Command.TheVariants.{Print, Check, Sync, World, Ring, Watch, Budget}
+use Rattle.pals_runs.specs.declared.commands.Command.TheVariants.{Print, Check, Sync, World, Ring, Watch, Vote, Fuse, Budget}
 use Rattle.pals_top.specs.declared.status.TheConstants.{USAGE}
 use Rattle.pals_top.specs.Outside.{Reading, HasRead, IsReadFault}
 use Rattle.pals_top.specs.Texts.{usage_line}
@@ -19,6 +19,8 @@ IsCommandAnswer Print bundle status text = IsPrintAnswer bundle status text
 IsCommandAnswer (Check root) bundle status text = IsCheckAnswer root bundle status text
 IsCommandAnswer (Sync root) bundle status text = IsAnalysisAnswer analysis.Sync root bundle status text
 IsCommandAnswer (Watch root) bundle status text = IsAnalysisAnswer analysis.Watch root bundle status text
+IsCommandAnswer (Vote root) bundle status text = IsAnalysisAnswer analysis.Vote root bundle status text
+IsCommandAnswer (Fuse root) bundle status text = IsAnalysisAnswer analysis.Fuse root bundle status text
 IsCommandAnswer (World root false) bundle status text = IsExecutionAnswer execution.TimedWorld root bundle status text
 IsCommandAnswer (World root true) bundle status text = IsExecutionAnswer execution.LooseWorld root bundle status text
 IsCommandAnswer (Budget root) bundle status text = IsExecutionAnswer execution.Budget root bundle status text

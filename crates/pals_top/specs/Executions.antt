@@ -9,7 +9,7 @@ use Rattle.pals_runs.specs.declared.commands.Command.TheVariants as command
 use Rattle.pals_runs.specs.Journal.{node_word, spaced}
 use Rattle.scenario_json.specs.declared.scenario.Scenario.{Scenario}
 use Rattle.design_codes.specs.Causes.{AreShort, IsFirstTooLong}
-use Rattle.loose_world.specs.EventLaws.{AreLooseEvents}
+use Rattle.scenario_laws.specs.Events.{AreLooseEvents}
 use Rattle.bundle_designs.specs.Accepted.{IsAccepted}
 use Rattle.pals_top.specs.declared.execution.Execution.{Execution}
 use Rattle.pals_top.specs.declared.execution.Execution.TheVariants.{TimedWorld, LooseWorld, Budget}

@@ -13,5 +13,7 @@ pub mod Scenarios
 pub mod Statuses
 pub mod Texts
 pub mod Watch
+pub mod Vote
+pub mod Fuse
 pub mod Words
 pub mod Worlds

@@ -2,7 +2,7 @@
 use Rattle.std.specs.List.{list_all}
 use Rattle.std.specs.Prelude.{ℕ, ◌+◌, ◌-◌, ◌*◌, nat_eq, nat_le, Bool, true, false, not, if◌then◌else◌, ◌&&◌, ◌||◌, codes, bytes_eq, List, [], ◌∷◌, length, filter, fold, Option, Some, None, Result, Ok, Err, ◌≡◌, ◌≤◌, IsSome}
 use Rattle.pals_runs.specs.declared.commands.Command.{Command}
-use Rattle.pals_runs.specs.declared.commands.Command.TheVariants.{Print, Check, Sync, World, Ring, Watch, Budget}
+use Rattle.pals_runs.specs.declared.commands.Command.TheVariants.{Print, Check, Sync, World, Ring, Watch, Vote, Fuse, Budget}
 use Rattle.pals_top.specs.declared.words.TheConstants.{RING_NODES, RING_ROUNDS}
 use Rattle.pals_top.specs.declared.words.WordsEnd.{WordsEnd}
 use Rattle.pals_top.specs.declared.words.WordsEnd.TheVariants.{Usage, Memory}
@@ -43,6 +43,7 @@ abbrev pub rooted_form : List ℕ → List ℕ → Option Command
 rooted_form word root =
     if bytes_eq word (codes "check") then Some (Check root) else if bytes_eq word (codes "sync") then Some (Sync root)
     else if bytes_eq word (codes "world") then Some (World root false) else if bytes_eq word (codes "watch") then Some (Watch root)
+    else if bytes_eq word (codes "vote") then Some (Vote root) else if bytes_eq word (codes "fuse") then Some (Fuse root)
     else if bytes_eq word (codes "budget") then Some (Budget root) else None
 
 -- that of a ring of this many nodes, for this many rounds
@@ -78,6 +79,8 @@ HasForm (Sync root) = Unit {0}
 HasForm (World root loose) = Unit {0}
 HasForm (Ring nodes rounds) = (2 ≤ nodes) × (nodes ≤ RING_NODES) × (1 ≤ rounds) × (rounds ≤ RING_ROUNDS)
 HasForm (Watch root) = Unit {0}
+HasForm (Vote root) = Unit {0}
+HasForm (Fuse root) = Unit {0}
 HasForm (Budget root) = Unit {0}
 HasForm _ = ⊥
 

@@ -18,12 +18,12 @@ use crate::refused_scenario::refused_scenario;
 use crate::world::answer_world;
 use bundle_designs::{Accepted, accept};
 use design_codes::{CodesEnd, compile_all};
-use loose_world::event_laws::{events_are_few, events_are_loose};
 use pals_base::{Items, NoMemory, NodeNo, Text};
 use pals_model::Design;
 use pals_report::add_code_fault;
 use pals_runs::Command;
 use scenario_json::{Scenario, read_scenario};
+use scenario_laws::events::{events_are_few, events_are_loose};
 use std::alloc::{AllocError, Global};
 use step_code::Code;
 

@@ -12,7 +12,7 @@ ghost use Rattle.pals_bus.specs.Values.{AreCodes, opening_bus};
 ghost use Rattle.scenario_json.specs.Facts.{IsScenarioOf};
 ghost use Rattle.pals_report.specs.EventFaults.{event_fault_line};
 ghost use Rattle.loose_world.specs.Finished.{finished_lines, common_lines};
-ghost use Rattle.loose_world.specs.EventLaws.{AreLooseEvents};
+ghost use Rattle.scenario_laws.specs.Events.{AreLooseEvents};
 ghost use Rattle.pals_top.specs.declared.status.TheConstants.{DONE, SCENARIO_REFUSED, STOPPED};
 ghost use Rattle.pals_top.specs.Loose.{IsWorldAnswer};
 ghost use Rattle.pals_top.specs.Code.{status_at, text_at};

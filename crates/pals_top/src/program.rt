@@ -101,6 +101,8 @@ fn answer_bundle(alloc: Global, command: Command, bundle: &[u8]) -> Result<Answe
         Command::Check { root } => answer_check(alloc, bundle, &root),
         Command::Sync { root } => answer_analysis(alloc, bundle, root, Analysis::Sync),
         Command::Watch { root } => answer_analysis(alloc, bundle, root, Analysis::Watch),
+        Command::Vote { root } => answer_analysis(alloc, bundle, root, Analysis::Vote),
+        Command::Fuse { root } => answer_analysis(alloc, bundle, root, Analysis::Fuse),
         Command::World { root, loose: false } => {
             answer_execution(alloc, bundle, root, Execution::TimedWorld)
         }

@@ -83,6 +83,12 @@ fn rooted(alloc: Global, word: &Text, root: &Text) -> Result<Command, WordsEnd>
         "watch" => Ok(Command::Watch {
             root: root.try_clone(alloc)?,
         }),
+        "vote" => Ok(Command::Vote {
+            root: root.try_clone(alloc)?,
+        }),
+        "fuse" => Ok(Command::Fuse {
+            root: root.try_clone(alloc)?,
+        }),
         "budget" => Ok(Command::Budget {
             root: root.try_clone(alloc)?,
         }),

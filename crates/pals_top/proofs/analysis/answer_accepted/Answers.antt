@@ -7,6 +7,11 @@ use Rattle.pals_top.proofs.Analyses.{refused, analysed}
 use Rattle.pals_top.proofs.Scenarios.{says_fault}
 use Rattle.pals_top.proofs.analysis.answer_accepted.Goals as goal
 
+pub analyse-requires-clause-pairs : goal.analyse-requires-clause-pairs
+analyse-requires-clause-pairs c =
+    c.pairs_can_be_fused.ensures c.args.accepted.scenario.now (command_of c.args.what c.args.root) c.args.accepted.design c.in-Ok.scenario
+    (subst (λ (k : Command). Means c.args.accepted.scenario.now c.args.accepted.design k (Ok c.in-Ok.scenario)) c.command-command.ensures c.in-Ok.ensures.answer)
+
 pub returns-in-Ok : goal.returns-in-Ok
 returns-in-Ok c bundle accepted =
     let bytes = c.args.accepted.scenario.now in

@@ -1,0 +1,41 @@
+-- The laws of lower crates by which each bundle has an answer.
+use Rattle.std.specs.Prelude.{◌⊎◌, ◌≢◌, ℕ, List, []}
+use Rattle.aadl_tree.specs.Declarations.{PackageTree}
+use Rattle.aadl_tree.specs.Given.{IsGiven}
+use Rattle.aadl_names.specs.declared.fault.FlatFault.{FlatFault}
+use Rattle.aadl_names.specs.declared.fault.FlatFault.TheVariants.{Memory}
+use Rattle.aadl_instance.specs.Faults.{IsFault}
+use Rattle.aadl_instance.specs.Flat.{Parts, IsFlat}
+use Rattle.model_violations.specs.Violations.{shown_by, AreViolations}
+use Rattle.pals_model.specs.declared.design.DesignParts.{DesignParts}
+use Rattle.pals_model.specs.Rules.{IsDesign}
+use Rattle.design_laws.specs.PackageDesigns.{IsDesignIn}
+use Rattle.pals_runs.specs.declared.commands.Command.{Command}
+use Rattle.step_compiler.specs.Laws.{HasLayout}
+use Rattle.scenario_laws.specs.Events.{EventsAreLoose, EventsAreFew}
+use Rattle.text_laws.specs.Texts.{HasTree, HasLexFault, Stops, NestsTooDeep}
+use Rattle.package_laws.specs.Packages.{HasFirstFault, HasInstance, HasList}
+use Rattle.scenario_laws.specs.Meanings.{HasScenario, HasFault}
+use Rattle.scenario_laws.specs.Plants.{PairsCanBeFused}
+use Rattle.plant_fuse.specs.Laws.{ReportExists}
+
+pub record ExistenceLaws : Type 0 where
+  -- a text has a tree or a first fault
+  pub tree_or_fault : (text : List ℕ) → HasTree text ⊎ HasLexFault text ⊎ Stops text ⊎ NestsTooDeep text
+  -- a package has an instance, with a list of all that is wrong with it, or a first fault
+  pub instance_or_fault : (tree : PackageTree ℕ) (root : List ℕ) → HasFirstFault tree root ⊎ HasInstance tree root
+  pub named : (tree : PackageTree ℕ) (root : List ℕ) (fault : FlatFault) → IsFault tree root fault → fault ≢ Memory
+  pub list : (tree : PackageTree ℕ) (root : List ℕ) (parts : Parts) → IsFlat tree root parts → HasList tree parts
+  -- where nothing is wrong there is a design, which keeps the rules of designs
+  pub there : (tree : PackageTree ℕ) (root : List ℕ) (parts : Parts) → IsGiven tree → IsFlat tree root parts
+      → AreViolations tree (shown_by tree parts) [] → (design : DesignParts) × IsDesignIn tree root design
+  pub rules : (tree : PackageTree ℕ) (root : List ℕ) (design : DesignParts) → IsGiven tree → IsDesignIn tree root design → IsDesign design
+  -- bytes mean a scenario or have a first fault
+  pub scenario_or_fault : (bytes : List ℕ) (design : DesignParts) (command : Command) → HasScenario bytes design command ⊎ HasFault bytes design command
+  pub loose : EventsAreLoose
+  pub few : EventsAreFew
+  -- pairs that are read can be fused, and there is a report of what they are fused to
+  pub pairs : PairsCanBeFused
+  pub fused : ReportExists
+  -- a behaviour has a code
+  pub layout : HasLayout

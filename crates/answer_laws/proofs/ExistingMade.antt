@@ -1,0 +1,67 @@
+-- Each command makes a status and a text of a design and its scenario: one lemma for each command.
+use Rattle.std.proofs.Common.{ℕ, List, refl}
+use Rattle.pals_model.specs.declared.design.DesignParts.{DesignParts}
+use Rattle.pals_model.specs.Rules.{IsDesign}
+use Rattle.scenario_json.specs.declared.scenario.Scenario.{Scenario}
+use Rattle.scenario_laws.specs.Events.{AreLooseEvents}
+use Rattle.plant_fuse.specs.Fused.{ArePairs}
+use Rattle.plant_fuse.specs.Laws.{ReportExists}
+use Rattle.pals_top.specs.declared.analysis.Analysis.{Analysis}
+use Rattle.pals_top.specs.declared.analysis.Analysis.TheVariants.{Sync, Watch, Vote, Fuse}
+use Rattle.pals_top.specs.declared.execution.Execution.{Execution}
+use Rattle.pals_top.specs.declared.execution.Execution.TheVariants.{TimedWorld, LooseWorld, Budget}
+use Rattle.pals_top.specs.Analyses.{Makes as analyses}
+use Rattle.pals_top.specs.Executions.{Makes as executes, HasEvents}
+use Rattle.pals_top.specs.Worlds.{world_of}
+use Rattle.answer_laws.proofs.ExistingLaws.{ExistenceLaws}
+use Rattle.answer_laws.proofs.ExistingLayouts.{has_codes}
+use Rattle.answer_laws.proofs.ExistingWorlds.{world_answer}
+use Rattle.answer_laws.proofs.TimedWorlds.{answered}
+
+-- ---- analyses
+abbrev pub IsMadeByAnalysis : Analysis → DesignParts → Scenario → Type 0
+IsMadeByAnalysis what design scenario = (status : ℕ) × (text : List ℕ) × analyses what design scenario status text
+
+by_sync : (design : DesignParts) (scenario : Scenario) → IsMadeByAnalysis Sync design scenario
+by_sync design scenario = (_, _, (refl, refl))
+
+by_watch : (design : DesignParts) (scenario : Scenario) → IsMadeByAnalysis Watch design scenario
+by_watch design scenario = (_, _, record { status_is = refl; text_is = refl })
+
+by_vote : (design : DesignParts) (scenario : Scenario) → IsMadeByAnalysis Vote design scenario
+by_vote design scenario = (_, _, record { status_is = refl; text_is = refl })
+
+module _ (fused : ReportExists) where
+  by_fuse : (design : DesignParts) (scenario : Scenario) → IsDesign design → ArePairs design scenario.plants → IsMadeByAnalysis Fuse design scenario
+  by_fuse design scenario rules pairs =
+      let there = fused design scenario.plants scenario.env scenario.rounds rules pairs in
+      (_, there.0, record { status_is = refl; report = there.1 })
+
+  pub by_analysis : (what : Analysis) (design : DesignParts) (scenario : Scenario) → IsDesign design → ArePairs design scenario.plants
+      → IsMadeByAnalysis what design scenario
+  by_analysis Sync design scenario rules pairs = by_sync design scenario
+  by_analysis Watch design scenario rules pairs = by_watch design scenario
+  by_analysis Vote design scenario rules pairs = by_vote design scenario
+  by_analysis Fuse design scenario rules pairs = by_fuse design scenario rules pairs
+
+-- ---- executions
+abbrev pub IsMadeByExecution : Execution → DesignParts → Scenario → Type 0
+IsMadeByExecution what design scenario = (status : ℕ) × (text : List ℕ) × executes what design scenario status text
+
+by_timed_world : (design : DesignParts) (scenario : Scenario) → IsMadeByExecution TimedWorld design scenario
+by_timed_world design scenario = answered (world_of design scenario) scenario.events
+
+by_loose_world : (design : DesignParts) (scenario : Scenario) → AreLooseEvents design scenario.events → IsMadeByExecution LooseWorld design scenario
+by_loose_world design scenario loose = world_answer design scenario loose.each
+
+module _ (laws : ExistenceLaws) where
+  by_budget : (design : DesignParts) (scenario : Scenario) → IsDesign design → IsMadeByExecution Budget design scenario
+  by_budget design scenario rules =
+      let codes = has_codes laws.layout design rules in
+      (_, _, record { programs = codes.0; laid_out = codes.1; status_is = refl; text_is = refl })
+
+  pub by_execution : (what : Execution) (design : DesignParts) (scenario : Scenario) → IsDesign design → HasEvents what design scenario
+      → IsMadeByExecution what design scenario
+  by_execution TimedWorld design scenario rules events = by_timed_world design scenario
+  by_execution LooseWorld design scenario rules events = by_loose_world design scenario events
+  by_execution Budget design scenario rules events = by_budget design scenario rules

@@ -1,0 +1,39 @@
+//! Each bundle has one answer. Each law is the contract of a function that does nothing.
+ghost use Rattle.answer_laws.specs.Exists.{EachBundleHasAnAnswer, EachBundleHasOneAnswer};
+
+use crate::answers::answer_is_decided;
+use design_laws::packages::designs_of_texts_keep_their_rules;
+use package_laws::laws::{each_instance_has_its_list, first_faults_are_named, instance_or_fault};
+use plant_fuse::laws::one_report;
+use scenario_laws::events::{events_are_few, events_are_loose};
+use scenario_laws::meanings::scenario_or_fault;
+use scenario_laws::plants::pairs_can_be_fused;
+use step_compiler::laws::layout_is_one;
+use text_laws::laws::tree_or_fault;
+
+/// Each command that has a form has an answer to each bundle, whatever the root: there are a status and
+/// a text that the theorem on a call of the program allows. No answer to a bundle says that there was
+/// not enough memory, or that a call of the source or the sink failed.
+pub fn each_bundle_has_an_answer()
+    ensures { EachBundleHasAnAnswer }
+{
+    tree_or_fault();
+    instance_or_fault();
+    first_faults_are_named();
+    each_instance_has_its_list();
+    designs_of_texts_keep_their_rules();
+    scenario_or_fault();
+    events_are_loose();
+    events_are_few();
+    pairs_can_be_fused();
+    one_report();
+    layout_is_one();
+}
+
+/// Each command that has a form has exactly one answer to each bundle: one status and one text.
+pub fn exactly_one_answer()
+    ensures { EachBundleHasOneAnswer }
+{
+    each_bundle_has_an_answer();
+    answer_is_decided();
+}

@@ -1,0 +1,12 @@
+-- What `vote` makes of a design and a scenario.
+use Rattle.std.specs.Prelude.{◌≡◌, ℕ, List}
+use Rattle.pals_model.specs.declared.design.DesignParts.{DesignParts}
+use Rattle.scenario_json.specs.declared.scenario.Scenario.{Scenario}
+use Rattle.triple_vote.specs.Texts.{vreport}
+use Rattle.analysis_texts.specs.Voted.{replicated_in, faults_of}
+use Rattle.pals_top.specs.declared.status.TheConstants.{DONE}
+
+-- the rows of the composition in which some components have three replicas, some of them at fault, and each reader votes
+pub record IsVoted (design : DesignParts) (scenario : Scenario) (status : ℕ) (text : List ℕ) : Type 0 where
+  pub status_is : status ≡ DONE
+  pub text_is : text ≡ vreport design scenario.env (replicated_in design scenario.replicas) (faults_of scenario.faults) scenario.rounds
