@@ -10,12 +10,14 @@ use std::fs;
 use std::process::ExitCode;
 
 // Each example's file, the command that answers it, the root of its design, and the status.
-const EXAMPLES: [(&str, &str, &str, u8); 8] = [
+const EXAMPLES: [(&str, &str, &str, u8); 10] = [
     ("two_counters.pals", "sync", "Top.impl", DONE),
     ("turn_controller.pals", "sync", "Top.impl", DONE),
     ("cruise_control.pals", "sync", "Car.impl", DONE),
     ("pacemaker.pals", "sync", "Pacemaker.impl", DONE),
     ("pacemaker_watch.pals", "watch", "Pacemaker.impl", NOT_SO),
+    ("triple_sensor.pals", "vote", "Plane.impl", DONE),
+    ("heated_room.pals", "fuse", "Home.impl", DONE),
     ("turn_budget.pals", "budget", "Top.impl", DONE),
     ("turn_world.pals", "world", "Top.impl", DONE),
     (
