@@ -1,0 +1,31 @@
+"""The sections of docs/checks.md, which say what to do about each refusal of a design."""
+
+import os
+import re
+
+TOP = os.path.dirname(os.path.dirname(os.path.dirname(os.path.abspath(__file__))))
+CHECKS = "docs/checks.md"
+
+
+def advice():
+    """What to do, by part (faults or findings) and number; empty where the page does not stand there."""
+    found, part, number, taking = {}, "", 0, False
+    for line in lines_of(os.path.join(TOP, CHECKS)):
+        if line.startswith("## "):
+            part, number = line[3:].split()[0].lower(), 0
+        match = re.match(r"### (\d+) ", line)
+        number = int(match.group(1)) if match else number
+        taking = line.startswith("**Do:**") or (taking and bool(line.strip()))
+        if taking and number:
+            text = line.replace("**Do:**", "").strip()
+            found[part, number] = (found.get((part, number), "") + " " + text).strip()
+    return found
+
+
+def lines_of(path):
+    """The lines of a page, or none."""
+    try:
+        with open(path, encoding="utf-8") as file:
+            return file.read().split("\n")
+    except OSError:
+        return []

@@ -1,0 +1,89 @@
+"""Reports read back: rows of rounds, messages that were sent, watched properties, and timetables."""
+
+import re
+from collections import namedtuple
+
+from .answers import STOP
+from .bundles import Refused
+from .journal import parsed
+
+# A round with its number, its components (path, state, values by name), and its outputs (name, places).
+Row = namedtuple("Row", "number components outs")
+Component = namedtuple("Component", "path state values")
+Sent = namedtuple("Sent", "link round places")
+Slot = namedtuple("Slot", "processor path step begin done")
+
+PLACES = r"\(((?:-?\d+|true|false|_)(?:,(?:-?\d+|true|false|_))*)\)"
+ROUND = re.compile(r"round (\d+)")
+COMPONENT = re.compile(r"([^\s=]+\.[^\s=]+) ([\w()-]+)((?: \w+=(?:-?\d+|true|false))*)")
+OUT = re.compile(rf"out (\w+) {PLACES}")
+SENT = re.compile(rf"sent (\S+) (\d+) {PLACES}")
+VERDICT = re.compile(r"(\w+) (true|false)")
+LAST_VERDICT = re.compile(r"watch rounds \d+ first (?:\w+ \d+|none)")
+PROCESSOR = re.compile(r"processor (\w+) sum \d+ of \d+ (?:fits|over)")
+SLOT = re.compile(r"slot (\S+) (\d+) (\d+) (\d+)")
+
+
+class Report:
+    """What an answer has: rows, messages, verdicts by round, and slots."""
+
+    def __init__(self, text):
+        self.rows, self.sent, self.verdicts, self.slots = [], [], [], []
+        self.processor = ""
+        takers = [
+            (ROUND, self.take_round),
+            (OUT, self.take_out),
+            (SENT, self.take_sent),
+            (VERDICT, self.take_verdict),
+            (PROCESSOR, self.take_processor),
+            (SLOT, self.take_slot),
+            (COMPONENT, self.take_component),
+        ]
+        for line in filter(None, text.split("\n")):
+            found = next(((take, match) for shape, take in takers for match in [shape.fullmatch(line)] if match), None)
+            if found:
+                found[0](*found[1].groups())
+            elif not (parsed(line) or STOP.fullmatch(line) or LAST_VERDICT.fullmatch(line)):
+                raise Refused(f"this line is of no report: {line[:60]}")
+
+    def take_round(self, number):
+        """The first line of a round."""
+        self.rows.append(Row(int(number), [], []))
+        self.verdicts.append({})
+
+    def row(self):
+        """The round that is read."""
+        if not self.rows:
+            raise Refused("a line of a round stands before the first round")
+        return self.rows[-1]
+
+    def take_component(self, path, state, values):
+        """A component's line."""
+        named = dict(word.split("=", 1) for word in values.split())
+        self.row().components.append(Component(path, state, named))
+
+    def take_out(self, name, places):
+        """A root out port's line."""
+        self.row().outs.append((name, places.split(",")))
+
+    def take_verdict(self, name, verdict):
+        """A property's line."""
+        self.row()
+        self.verdicts[-1][name] = verdict
+
+    def take_sent(self, link, number, places):
+        """A message's line."""
+        self.sent.append(Sent(link, int(number), places.split(",")))
+
+    def take_processor(self, name):
+        """A processor's line."""
+        self.processor = name
+
+    def take_slot(self, path, step, begin, done):
+        """A line of a timetable."""
+        self.slots.append(Slot(self.processor, path, int(step), int(begin), int(done)))
+
+    @property
+    def watched(self):
+        """Whether it is a report of watched properties."""
+        return any(self.verdicts)
