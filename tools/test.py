@@ -162,7 +162,7 @@ def check_examples():
     lines = page("examples/two_counters.pals").split("\n")
     for _, block in blocks("docs/checks.md") + blocks("docs/misleading.md"):
         given, _, answer = block.partition("\n\n")
-        rows = [re.fullmatch(r"\s*(\d+)(?:  (.*))?", line) for line in given.split("\n")]
+        rows = [re.fullmatch(r"\s*(\d+)(?: (.*))?", line) for line in given.split("\n")]
         if answer and all(rows) and "..." not in given:
             yield changed(lines, {int(row.group(1)): row.group(2) or "" for row in rows}).encode(), answer
 
