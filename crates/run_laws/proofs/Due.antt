@@ -1,5 +1,5 @@
 -- Where a message that is due to a node arrives, the run goes on; and what a clock that is asked does.
-use Rattle.std.proofs.Common.{◌≡◌, ℕ, ◌<◌, ◌≤◌, true, List, length, Some, refl, sym, ap, ◌∙◌, subst, arith}
+use Rattle.std.proofs.Common.{◌-◌, inl, inr, Bool, cond, ◌≡◌, ℕ, ◌<◌, ◌≤◌, true, List, length, Some, refl, sym, ap, ◌∙◌, subst, arith}
 use Rattle.std.proofs.lemmas.Option.{slice_get_within}
 use Rattle.pals_base.specs.declared.values.NodeNo.{NodeNo}
 use Rattle.pals_base.specs.declared.values.LinkNo.{LinkNo}
@@ -18,15 +18,18 @@ use Rattle.bus_machine.specs.Nodes.{NodeState}
 use Rattle.bus_machine.specs.NodeEvents.{is_waiting, with_message, received, arrived}
 use Rattle.bus_machine.specs.LinkEvents.{arriving}
 use Rattle.bus_machine.specs.States.{Run, BusState, node_at, flight_at, link_at}
+use Rattle.bus_machine.specs.Stops.{sent_rounds}
 use Rattle.bus_machine.specs.Machine.{BusEvent, Arrive}
 use Rattle.bus_machine.specs.Targets.{next_in, target}
 use Rattle.bus_machine.specs.Laws.{IsRunOf}
+use Rattle.pals_clock.specs.Clock.{ClockState}
 use Rattle.pals_clock.specs.declared.clock.Clocks.{Clocks}
 use Rattle.pals_clock.specs.declared.clock.Clocks.TheVariants.{Meet, Lists}
-use Rattle.run_laws.specs.Runs.{Shows, Does, Takes, target_of, Runs, goes_on}
+use Rattle.run_laws.specs.Runs.{Shows, Does, Takes, IsAwaited, HasEnded, target_of, Runs}
 use Rattle.run_laws.specs.Timing.{view}
 use Rattle.run_laws.specs.Locked.{ListPicks, ListEnds, IsToStart, IsDueAt, DueArrives}
 use Rattle.run_laws.proofs.Clauses.{link_is}
+use Rattle.run_laws.proofs.Ended.{stays_ended}
 use Rattle.run_laws.proofs.Counting.{is_waiting_phase}
 use Rattle.run_laws.proofs.Following.{follows_in}
 use Rattle.run_laws.proofs.Hours.{event_aims}
@@ -60,8 +63,8 @@ due_takes run clocks journal s node reading link round rules runs waits due =
       due = due.due;
     }
 
-message_keeps : {X : Type 0} (f : ℕ → Phase → X) (n : NodeState) (port : ℕ) (tuple : List Port) (a : Arrived)
-    → f (with_message n port tuple a).count (with_message n port tuple a).phase ≡ f n.count n.phase
+message_keeps : {X : Type 0} (f : ℕ → Phase → Bool → X) (n : NodeState) (port : ℕ) (tuple : List Port) (a : Arrived)
+    → f (with_message n port tuple a).count (with_message n port tuple a).phase (with_message n port tuple a).sent ≡ f n.count n.phase n.sent
 message_keeps f n port tuple Kept = refl
 message_keeps f n port tuple Ignored = refl
 message_keeps f n port tuple Early = refl
@@ -74,6 +77,15 @@ shows_still run Meet s t node at goal now same rises shows =
     (shows.0 ∙ sym same, (λ other least within is. let old = rises other least within is in let most = shows.1 other old.0 within old.1 in let up = old.2 in omega arith))
 shows_still run (Lists clocks) s t node at goal now same rises shows = (shows.0, (let most = shows.1 in omega arith))
 
+-- a node still has what it waits for where no source has sent less, and no list that had ended goes on
+waits_still : (run : Run) (clocks : Clocks) (s t : BusState) (node : ℕ) → ((lists : List ClockState) (k : ℕ) → clocks ≡ Lists lists → HasEnded run lists s k → HasEnded run lists t k)
+    → (node_at t node).count ≡ (node_at s node).count → ((k : ℕ) → sent_rounds (node_at t k) ≡ sent_rounds (node_at s k)) → IsAwaited run clocks s node → IsAwaited run clocks t node
+waits_still run Meet s t node ended count sent awaited = awaited
+waits_still run (Lists lists) s t node ended count sent awaited = λ number link is to. elim (awaited number link is to) [
+  | inl enough ↦ inl (let there = sent link.source.0 in omega arith)
+  | inr over ↦ inr (ended lists link.source.0 refl over)
+]
+
 pub due_arrives : DueArrives
 due_arrives run clocks journal s rules runs t node reading link round waits due step =
     let e : BusEvent = Arrive link round (Some reading) in
@@ -84,14 +96,14 @@ due_arrives run clocks journal s rules runs t node reading link round waits due 
     let m = received n l.in_port round tuple in
     let how = arrived n l.in_port round in
     let count : (node_at t node.0).count ≡ (node_at s node.0).count =
-    ap (λ u. (node_at u node.0).count) step.state ∙ keeps_at (λ (k : NodeState). k.count) s l.target.0 node.0 m (message_keeps (λ x p. x) n l.in_port tuple how) in
+    ap (λ u. (node_at u node.0).count) step.state ∙ keeps_at (λ (k : NodeState). k.count) s l.target.0 node.0 m (message_keeps (λ x p b. x) n l.in_port tuple how) in
     let phase : (node_at t node.0).phase ≡ (node_at s node.0).phase =
-    ap (λ u. (node_at u node.0).phase) step.state ∙ keeps_at (λ (k : NodeState). k.phase) s l.target.0 node.0 m (message_keeps (λ x p. p) n l.in_port tuple how) in
+    ap (λ u. (node_at u node.0).phase) step.state ∙ keeps_at (λ (k : NodeState). k.phase) s l.target.0 node.0 m (message_keeps (λ x p b. p) n l.in_port tuple how) in
     let plan = plan_of run.design node.0 in
     let still : is_waiting (node_at t node.0).phase ≡ true = ap is_waiting phase ∙ waits.waits in
     let is_waiting' : (node_at t node.0).phase ≡ Waiting = is_waiting_phase (node_at t node.0).phase still in
     let d = waits.does in (
-      goes_on e runs takes step,
+      takes,
       record {
         does = record {
           within = d.within;
@@ -104,4 +116,6 @@ due_arrives run clocks journal s rules runs t node reading link round waits due 
         };
         waits = still;
       },
+      waits_still run clocks s t node.0 (λ lists k are ended. stays_ended run lists s t e k ended (subst (λ (z : Clocks). Takes run z s link round (Some reading)) are takes) step) count
+          (λ k. ap (λ u. sent_rounds (node_at u k)) step.state ∙ keeps_at sent_rounds s l.target.0 k m (message_keeps (λ x p b. cond b x (x - 1)) n l.in_port tuple how)),
     )

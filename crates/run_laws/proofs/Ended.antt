@@ -73,3 +73,9 @@ pub stays_ended : (run : Run) (clocks : List ClockState) (s t : BusState) (e : B
 stays_ended run clocks s t e k ended keeps step =
     let same : node_at t k ≡ node_at s k = ap (λ u. node_at u k) step.state ∙ event_stays run clocks s e k ended keeps in
     (ended.0, ap (upcoming (plan_of run.design k)) same ∙ ended.1, ended.2)
+
+-- and waits for the same action
+pub waits_for : (run : Run) (clocks : List ClockState) (s t : BusState) (e : BusEvent) (k : ℕ) (ended : HasEnded run clocks s k) (keeps : KeepsTo run (Lists clocks) s e) (step : IsStep run s e t)
+    → (stays_ended run clocks s t e k ended keeps step).0 ≡ ended.0
+unfolding stays_ended
+waits_for run clocks s t e k ended keeps step = refl

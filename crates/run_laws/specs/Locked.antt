@@ -1,5 +1,5 @@
 -- What a locked step of a thread needs beside the contracts of its calls.
-use Rattle.std.specs.Prelude.{◌≡◌, ℕ, ◌<◌, true, List, ◌++◌, length, All, Some, slice_get, slice_set}
+use Rattle.std.specs.Prelude.{◌≡◌, ℕ, ◌<◌, true, List, length, All, Some, slice_get, slice_set}
 use Rattle.pals_base.specs.declared.values.NodeNo.{NodeNo}
 use Rattle.pals_base.specs.declared.values.LinkNo.{LinkNo}
 use Rattle.pals_clock.specs.Clock.{ClockState, standing_at}
@@ -11,13 +11,13 @@ use Rattle.bus_machine.specs.Agreement.{Agrees}
 use Rattle.bus_machine.specs.NodeEvents.{is_waiting}
 use Rattle.bus_machine.specs.States.{Run, BusState, node_at, flight_at}
 use Rattle.bus_machine.specs.Machine.{BusEvent, Arrive, IsStep}
-use Rattle.bus_machine.specs.Replay.{Replays, entries}
+use Rattle.bus_machine.specs.Replay.{Replays}
 use Rattle.bus_machine.specs.Targets.{target}
 use Rattle.trace_laws.specs.TraceRules.{is_due}
 use Rattle.run_laws.specs.Turns.{upcoming}
 use Rattle.pals_clock.specs.declared.clock.Clocks.{Clocks}
 use Rattle.pals_clock.specs.declared.clock.Clocks.TheVariants.{Lists}
-use Rattle.run_laws.specs.Runs.{clock_at, Does, HasEnded, Picks, KeepsTo, Runs, left_for, next_start}
+use Rattle.run_laws.specs.Runs.{clock_at, Does, HasEnded, IsAwaited, Picks, KeepsTo, left_for, next_start}
 use Rattle.run_laws.specs.Each.{InRuns}
 
 -- the journal of a run replays to its state, and the state agrees with the composition
@@ -63,10 +63,12 @@ pub record IsDueAt (run : Run) (s : BusState) (node : ℕ) (link : LinkNo) (roun
   pub of_round : copy.round ≡ round
   pub due : is_due (Some reading) copy ≡ true
 
--- where a message that is due to a node arrives, the run goes on, and the node is still to start at that reading
+-- where a message that is due to a node arrives, the event keeps to the clocks, the node is still to start at that reading, and what
+-- it waited for has come
 abbrev pub DueArrives : Type 0
 DueArrives = InRuns (λ run clocks journal s.
     (t : BusState) (node : NodeNo) (reading : ℕ) (link : LinkNo) (round : ℕ) →
     IsToStart run clocks s node reading → IsDueAt run s node.0 link round reading
     → IsStep run s (Arrive link round (Some reading)) t
-    → Runs run clocks (journal ++ entries run s (Arrive link round (Some reading))) t × IsToStart run clocks t node reading)
+    → KeepsTo run clocks s (Arrive link round (Some reading)) × IsToStart run clocks t node reading
+    × (IsAwaited run clocks s node.0 → IsAwaited run clocks t node.0))

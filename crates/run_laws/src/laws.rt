@@ -82,8 +82,8 @@ pub fn runs_replay()
 {}
 
 /// A clock that answers picks for its node's next action. One that has no reading for it has ended, and
-/// stays so, whatever the nodes do. Where a message arrives that is due to a node that is to start, the
-/// run goes on, and the node is still to start at that reading.
+/// stays so, whatever the nodes do. Where a message arrives that is due to a node that is to start, that
+/// keeps to the clocks, and the node is still to start at that reading.
 pub fn locked_steps()
     ensures picks { ListPicks }
     ensures ends { ListEnds }

@@ -1,0 +1,11 @@
+mod Steps
+mod Ranges
+mod Taking
+mod Calls
+mod Looks
+mod Waiting
+mod Acting
+mod Openings
+mod Endings
+mod Outcomes
+mod Sending

@@ -1,0 +1,6 @@
+use Rattle.node_threads.proofs.Openings.{AreUnpicked}
+use Rattle.node_threads.proofs.clocks.unpicked_lists.Given as goal
+
+-- the lists so far are fresh
+abbrev pub invariant-loop-list : goal.invariant-loop-list
+invariant-loop-list l = AreUnpicked l.lists l.list-index l.fresh

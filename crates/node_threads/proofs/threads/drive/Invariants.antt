@@ -1,0 +1,6 @@
+use Rattle.node_threads.specs.Courses.{Stays}
+use Rattle.node_threads.proofs.threads.drive.Given as goal
+
+-- the run and its lists stay
+abbrev pub invariant-loop : goal.invariant-loop
+invariant-loop g l = Stays l.fn.course l.course

@@ -1,0 +1,104 @@
+//! The clocks of a run's nodes: what they show, and lists of which nothing is picked.
+ghost use Rattle.std.specs.Prelude.{◌≡◌, ◌+◌, List, length, map, All, IsTrue, IfOk, OnErr, true};
+ghost use Rattle.std.specs.List.Sorted.{IsNonDecreasing};
+ghost use Rattle.pals_clock.specs.Clock.{ClockState, unpicked};
+ghost use Rattle.pals_clock.specs.declared.clock.Clocks.TheVariants.{Lists};
+ghost use Rattle.node_threads.specs.Courses.{Stays, IsOpen, IsNext, IsReady, Looks, EndsAt, fresh_of};
+
+use crate::course::Course;
+use crate::ends::Look;
+use bus_machine::Next;
+use pals_base::{Items, Nanos, NoMemory, NodeNo};
+use pals_bus::Meet;
+use pals_clock::{ClockEnd, Clocks, ListClock};
+use std::alloc::Global;
+
+impl Course {
+    /// What a node's clock shows for what the node does next.
+    pub fn look(&mut self, node: NodeNo, next: Next) -> Look
+        requires is_open { IsOpen self.old node.0 }
+        requires next { IsNext self.old node.0 next }
+        ensures stays { Stays self.old self.new }
+        ensures answer { Looks self.new node next result }
+    {
+        if self.bus.meeting() {
+            return self.meet(node, next);
+        }
+        match self.pick(node, next) {
+            Ok(reading) => Look::At(reading),
+            Err(ClockEnd) => Look::Ended,
+        }
+    }
+
+    // Where the nodes meet.
+    fn meet(&self, node: NodeNo, next: Next) -> Look
+        requires meeting { self.now.bus.meeting ≡ true }
+        requires is_open { IsOpen self.now node.0 }
+        requires next { IsNext self.now node.0 next }
+        ensures { Looks self.now node next result }
+    {
+        let _next = next;
+        match self.bus.meet(node) {
+            Meet::Go { reading } => Look::At(reading),
+            Meet::Wait { node: _ } | Meet::Ended => Look::Wait,
+        }
+    }
+
+    // With list clocks.
+    fn pick(&mut self, node: NodeNo, next: Next) -> Result<Nanos, ClockEnd>
+        requires lists { (lists : List ClockState) × (self.old.clocks ≡ Lists lists) }
+        requires is_open { IsOpen self.old node.0 }
+        requires next { IsNext self.old node.0 next }
+        ensures stays { Stays self.old self.new }
+        ensures is_open { IsOpen self.new node.0 }
+        ensures ok { IfOk result (IsReady self.new node next.action) }
+        ensures err { OnErr result (EndsAt self.new.bus self.new.clocks node.0 next.target) }
+    {
+        self.lists[node.0 as usize].wait_for(next.target)
+    }
+}
+
+/// The lists of clocks that are handed in, of which nothing is picked; none where the nodes meet.
+pub fn fresh_lists(alloc: Global, clocks: &Clocks) -> Result<Items<ListClock>, NoMemory>
+    ensures lists { IfOk result (λ lists. lists ≡ fresh_of clocks.now) }
+    ensures order { IfOk result (All (λ clock. IsNonDecreasing clock.readings)) }
+{
+    match clocks {
+        Clocks::Meet => Ok(Items::new(alloc)),
+        Clocks::Lists(lists) => unpicked_lists(alloc, lists.as_slice()),
+    }
+}
+
+fn unpicked_lists(alloc: Global, lists: &[ListClock]) -> Result<Items<ListClock>, NoMemory>
+    ensures lists { IfOk result (λ fresh. fresh ≡ fresh_of (Lists lists.now)) }
+    ensures order { IfOk result (All (λ clock. IsNonDecreasing clock.readings)) }
+{
+    let mut fresh = Items::new(alloc);
+    for list in lists {
+        fresh.push(unpicked_list(alloc, list)?)?;
+    }
+    Ok(fresh)
+}
+
+fn unpicked_list(alloc: Global, list: &ListClock) -> Result<ListClock, NoMemory>
+    ensures list { IfOk result (λ fresh. fresh ≡ unpicked list.now.readings) }
+    ensures order { IsNonDecreasing list.now.readings }
+{
+    let readings = Items::from_slice(alloc, list.readings())?;
+    Ok(ListClock::new(readings))
+}
+
+/// Whether two lists of clocks have equal readings, wherever they stand.
+pub fn same_lists(left: &[ListClock], right: &[ListClock]) -> bool
+    ensures { IsTrue result → map (λ c. c.readings) left.now ≡ map (λ c. c.readings) right.now }
+{
+    if left.len() != right.len() {
+        return false;
+    }
+    for place in 0..left.len() {
+        if !left[place].same_list(&right[place]) {
+            return false;
+        }
+    }
+    true
+}

@@ -1,0 +1,210 @@
+//! The course of a run: the bus, the lists of its nodes' clocks, and what is noted of each node.
+ghost use Rattle.std.specs.Prelude.{◌≡◌, ◌<◌, ◌≤◌, length, false, None, IsTrue, IfOk};
+ghost use Rattle.pals_base.specs.declared.limits.TheConstants.{COMPONENTS};
+ghost use Rattle.bus_machine.specs.Laws.{IsRunOf};
+ghost use Rattle.pals_bus.specs.Values.{opening_bus};
+ghost use Rattle.run_laws.specs.Runs.{Begin, Runs};
+ghost use Rattle.node_threads.specs.Courses.{clocks_of, IsCourse, Stays, IsOpen};
+ghost use Rattle.node_threads.specs.Ends.{AllEnded, EndsFit, end_in, phase_end, closed_end};
+
+use crate::clocks::same_lists;
+use crate::ends::{NodeEnd, Note};
+use bus_machine::Plan;
+use pals_base::{Items, Nanos, NoMemory, NodeNo};
+use pals_bus::Bus;
+use pals_clock::ListClock;
+use pals_model::Design;
+use pals_runs::Phase;
+use std::alloc::Global;
+use std::marker::Model;
+
+/// What the nodes share under the lock. Contracts see the bus, the clocks of its nodes and what is noted
+/// of each node. What it keeps is the history of a run whose nodes keep to their clocks, so all that
+/// such runs keep holds whenever the lock is free.
+#[derive(Drop)]
+pub struct Course {
+    pub(crate) bus: Bus,
+    // One list for each node, or none where the nodes meet.
+    pub(crate) lists: Items<ListClock>,
+    pub(crate) notes: Items<Note>,
+}
+
+impl Model for Course {
+    ghost use Rattle.node_threads.specs.Courses.{CourseValue, course_of, IsCourse};
+
+    ghost Value = { CourseValue };
+
+    ghost use Rattle.node_threads.specs.Codes.{course_code};
+
+    ghost coded = { course_code };
+
+    ghost view = { λ c. course_of c.bus c.lists c.notes };
+
+    ghost invariant = { λ c. IsCourse (course_of c.bus c.lists c.notes) };
+}
+
+impl Course {
+    /// A run before its first event, with lists of which nothing is picked, or with none where the
+    /// nodes meet.
+    pub fn new(alloc: Global, bus: Bus, lists: Items<ListClock>) -> Result<Course, NoMemory>
+        requires opening { bus ≡ opening_bus bus.run bus.codes bus.meeting }
+        requires clocks { Begin bus.run (clocks_of bus.meeting lists) }
+        ensures { IfOk result (λ c. (c.bus ≡ bus) × (c.clocks ≡ clocks_of bus.meeting lists)) }
+    {
+        bus.agreement();
+        let notes = vec![in alloc; Note::Open; bus.design().components().len()]?;
+        Ok(Course {
+            bus,
+            lists,
+            notes: Items::from_vec(notes),
+        })
+    }
+
+    /// What every course keeps: it is a run whose nodes keep to their clocks, and what is noted of them
+    /// is so.
+    pub fn agreement(&self)
+        ensures { IsCourse self.now }
+    {
+        let _closed = self.bus.closed();
+    }
+
+    /// How many nodes it has.
+    pub fn count(&self) -> u32
+        ensures count { result ≡ length self.now.bus.run.design.components }
+        ensures few { result ≤ COMPONENTS }
+    {
+        self.bus.design().components().len() as u32
+    }
+
+    /// Whether it is of the same run as another one, with the same lists.
+    pub fn is_same(&self, other: &Course) -> bool
+        ensures { IsTrue result → Stays other.now self.now }
+    {
+        self.bus.same_run(&other.bus) && same_lists(self.lists.as_slice(), other.lists.as_slice())
+    }
+
+    /// Whether the part of each node has ended.
+    pub fn is_over(&self) -> bool
+        ensures { IsTrue result → AllEnded self.now }
+    {
+        for node in 0..self.count() {
+            if self.end_of(NodeNo(node)).is_none() {
+                return false;
+            }
+        }
+        true
+    }
+
+    /// How the part of each node ended.
+    pub fn ends(&self, alloc: Global) -> Result<Items<NodeEnd>, NoMemory>
+        requires { AllEnded self.now }
+        ensures { IfOk result (λ ends. EndsFit self.now.bus self.now.clocks ends) }
+    {
+        self.agreement();
+        let mut ends = Items::new(alloc);
+        for node in 0..self.count() {
+            let Some(end) = self.end_of(NodeNo(node)) else {
+                unreachable!();
+            };
+            ends.push(end)?;
+        }
+        Ok(ends)
+    }
+
+    /// The bus, whose journal and state are those of a run.
+    pub fn into_bus(self) -> Bus
+        ensures bus { result ≡ self.bus }
+        ensures rules { IsRunOf self.bus.run }
+        ensures runs { Runs self.bus.run self.clocks self.bus.journal self.bus.state }
+    {
+        self.bus
+    }
+
+    // How the part of a node ended, or none where it has not.
+    fn end_of(&self, node: NodeNo) -> Option<NodeEnd>
+        requires { node.0 < length self.now.bus.run.design.components }
+        ensures { result ≡ end_in self.now node.0 }
+    {
+        match self.notes[node.0 as usize] {
+            Note::ClockEnded { target } => Some(NodeEnd::ClockEnded { target }),
+            Note::Memory => Some(NodeEnd::Memory),
+            Note::Open => end_by(
+                self.bus.phase(node),
+                self.bus.stop().is_some(),
+                self.bus.closed(),
+            ),
+        }
+    }
+
+    /// Whether a node may go on: its part has not ended, no stop stands, and the run is not closed.
+    pub fn is_open(&self, node: NodeNo) -> bool
+        ensures { IsTrue result → IsOpen self.now node.0 }
+    {
+        node.0 < self.count()
+            && matches!(&self.notes[node.0 as usize], Note::Open)
+            && !self.is_stopped()
+            && !matches!(&self.bus.phase(node), Phase::Done)
+    }
+
+    /// Whether a stop stands, or the run is closed.
+    pub fn is_stopped(&self) -> bool
+        ensures { result ≡ false → (self.now.bus.state.stop ≡ None) × (self.now.bus.closed ≡ false) }
+    {
+        self.bus.closed() || self.bus.stop().is_some()
+    }
+
+    // ---- What wake-ups look at. Nothing is claimed of it.
+
+    /// Whether the nodes meet.
+    pub fn meeting(&self) -> bool {
+        self.bus.meeting()
+    }
+
+    /// The design of the run.
+    pub fn design(&self) -> &Design {
+        self.bus.design()
+    }
+
+    /// From which reading on a node does what it does, or what it does next. None where it is done.
+    pub fn target(&self, node: NodeNo) -> Option<Nanos> {
+        if node.0 >= self.count() {
+            return None;
+        }
+        if let Some(next) = self.bus.next(node) {
+            return Some(next.target);
+        }
+        match self.bus.phase(node) {
+            Phase::Running(step) => {
+                Some(step_target(self.bus.plan(node), self.bus.count(node), step))
+            }
+            Phase::Waiting | Phase::Between(_) | Phase::Holding | Phase::Done => None,
+        }
+    }
+}
+
+// The alarm of a step of the last of `count` rounds.
+fn step_target(plan: &Plan, count: u32, step: u32) -> Nanos {
+    let alarm = u64::from(count).saturating_mul(plan.period);
+    alarm.saturating_add(u64::from(step).saturating_mul(plan.step_period))
+}
+
+// The end that the bus shows for a node of which nothing is noted.
+fn end_by(phase: Phase, stopped: bool, closed: bool) -> Option<NodeEnd>
+    ensures { result ≡ phase_end phase stopped closed }
+{
+    match phase {
+        Phase::Done => Some(NodeEnd::Finished),
+        Phase::Waiting | Phase::Running(_) | Phase::Between(_) | Phase::Holding => {
+            if stopped {
+                return Some(NodeEnd::Stopped);
+            }
+            closed_end(closed)
+        }
+    }
+}
+
+fn closed_end(closed: bool) -> Option<NodeEnd>
+    ensures { result ≡ closed_end closed }
+{
+    if closed { Some(NodeEnd::Closed) } else { None }
+}

@@ -1,0 +1,199 @@
+//! What a node does while it has the lock. Each call is an event of the bus machine, or notes how the part
+//! of a node ended.
+ghost use Rattle.std.specs.Prelude.{◌≡◌, ◌<◌, ◌≤◌, ℕ, length, OnOk, Some};
+ghost use Rattle.pals_base.specs.declared.limits.TheConstants.{READING};
+ghost use Rattle.bus_machine.specs.Machine.{Start, Step, Send};
+ghost use Rattle.node_threads.specs.Courses.{Stays, IsOpen, IsNext, IsReady, EndsAt, IsToStartIn, IsAwaitedIn, Allows};
+
+use crate::course::Course;
+use crate::ends::{Look, Note, Turn};
+use bus_machine::{Action, Next};
+use pals_base::{Nanos, NodeNo};
+use pals_bus::{BusFinishEnd, BusSendEnd, BusStartEnd, BusStepEnd, DueEnd};
+use pals_node::{Done, Finished, Job};
+
+impl Course {
+    /// A node goes on, where its part has not ended: up to a job, to a wait, or to its end.
+    pub fn begin(&mut self, node: NodeNo) -> Turn
+        ensures { Stays self.old self.new }
+    {
+        if !self.is_open(node) {
+            return Turn::Over;
+        }
+        match self.bus.next(node) {
+            None => self.recover(node),
+            Some(next) => self.go(node, next),
+        }
+    }
+
+    /// A node's job is handed in.
+    pub fn end(&mut self, node: NodeNo, done: Done)
+        ensures { Stays self.old self.new }
+    {
+        if node.0 < self.count() {
+            let _ = self.finish(node, done);
+        }
+    }
+
+    // The step of a node is finished whose job is out.
+    fn finish(&mut self, node: NodeNo, done: Done) -> Result<Finished, BusFinishEnd>
+        requires { node.0 < length self.old.bus.run.design.components }
+        ensures { Stays self.old self.new }
+    {
+        self.bus.finish(node, done)
+    }
+
+    // The job of a node whose thread came back without it is run here.
+    fn recover(&mut self, node: NodeNo) -> Turn
+        requires { node.0 < length self.old.bus.run.design.components }
+        ensures { Stays self.old self.new }
+    {
+        let _ = self.finish_here(node);
+        Turn::Again
+    }
+
+    fn finish_here(&mut self, node: NodeNo) -> Result<(), BusFinishEnd>
+        requires { node.0 < length self.old.bus.run.design.components }
+        ensures { Stays self.old self.new }
+    {
+        self.bus.finish_here(node)
+    }
+
+    // A node does what comes next, if its clock lets it.
+    fn go(&mut self, node: NodeNo, next: Next) -> Turn
+        requires is_open { IsOpen self.old node.0 }
+        requires next { IsNext self.old node.0 next }
+        ensures { Stays self.old self.new }
+    {
+        match self.look(node, next) {
+            Look::At(reading) => self.act(node, next.action, reading),
+            Look::Wait => Turn::Wait,
+            Look::Ended => self.note_end(node, next.target),
+        }
+    }
+
+    // It is noted that the clock of a node has ended.
+    fn note_end(&mut self, node: NodeNo, target: Nanos) -> Turn
+        requires is_open { IsOpen self.old node.0 }
+        requires ended { EndsAt self.old.bus self.old.clocks node.0 target }
+        ensures { Stays self.old self.new }
+    {
+        self.notes.set(node.0 as usize, Note::ClockEnded { target });
+        Turn::Over
+    }
+
+    // A node does its next action at a reading that its clock shows.
+    fn act(&mut self, node: NodeNo, action: Action, reading: Nanos) -> Turn
+        requires { IsReady self.old node action reading }
+        ensures { Stays self.old self.new }
+    {
+        self.agreement();
+        match action {
+            Action::Start { .. } => self.start(node, reading),
+            Action::Step { .. } => self.step(node, reading),
+            Action::Send { .. } => self.send(node, reading),
+        }
+    }
+
+    // A node takes what is due to it, and starts its next round.
+    fn start(&mut self, node: NodeNo, reading: Nanos) -> Turn
+        requires is_open { IsOpen self.old node.0 }
+        requires waits { IsToStartIn self.old node reading }
+        ensures { Stays self.old self.new }
+    {
+        if !self.is_awaited(node) {
+            return Turn::Wait;
+        }
+        match self.take(node, reading) {
+            Ok(()) => self.launch(node, reading),
+            Err(DueEnd::Stopped(_)) => Turn::Over,
+            Err(DueEnd::Memory) => self.out_of_memory(node),
+        }
+    }
+
+    // All messages that are due to a node arrive.
+    fn take(&mut self, node: NodeNo, reading: Nanos) -> Result<(), DueEnd>
+        requires is_open { IsOpen self.old node.0 }
+        requires waits { IsToStartIn self.old node reading }
+        requires awaited { IsAwaitedIn self.old node.0 }
+        ensures stays { Stays self.old self.new }
+        ensures is_open { OnOk result (IsOpen self.new node.0) }
+        ensures begins { OnOk result (Allows self.new (Start node (Some reading))) }
+    {
+        self.bus.take_due(node, reading)
+    }
+
+    // A node starts its next round.
+    fn launch(&mut self, node: NodeNo, reading: Nanos) -> Turn
+        requires is_open { IsOpen self.old node.0 }
+        requires begins { Allows self.old (Start node (Some reading)) }
+        ensures { Stays self.old self.new }
+    {
+        match self.start_round(node, reading) {
+            Ok(job) => Turn::Work(job),
+            Err(BusStartEnd::Memory) => self.out_of_memory(node),
+            Err(BusStartEnd::Stopped(_)) => Turn::Over,
+            Err(_) => Turn::Again,
+        }
+    }
+
+    fn start_round(&mut self, node: NodeNo, reading: Nanos) -> Result<Job, BusStartEnd>
+        requires is_open { IsOpen self.old node.0 }
+        requires begins { Allows self.old (Start node (Some reading)) }
+        ensures { Stays self.old self.new }
+    {
+        self.bus.start(node, Some(reading))
+    }
+
+    // A node starts the next step of its round.
+    fn step(&mut self, node: NodeNo, reading: Nanos) -> Turn
+        requires is_open { IsOpen self.old node.0 }
+        requires steps { Allows self.old (Step node (Some reading)) }
+        ensures { Stays self.old self.new }
+    {
+        match self.start_step(node, reading) {
+            Ok(job) => Turn::Work(job),
+            Err(BusStepEnd::Memory) => self.out_of_memory(node),
+            Err(BusStepEnd::Stopped(_)) => Turn::Over,
+            Err(_) => Turn::Again,
+        }
+    }
+
+    fn start_step(&mut self, node: NodeNo, reading: Nanos) -> Result<Job, BusStepEnd>
+        requires is_open { IsOpen self.old node.0 }
+        requires steps { Allows self.old (Step node (Some reading)) }
+        ensures { Stays self.old self.new }
+    {
+        self.bus.step(node, Some(reading))
+    }
+
+    // A node sends its round.
+    fn send(&mut self, node: NodeNo, reading: Nanos) -> Turn
+        requires is_open { IsOpen self.old node.0 }
+        requires sends { Allows self.old (Send node (Some reading)) }
+        requires range { reading ≤ READING }
+        ensures { Stays self.old self.new }
+    {
+        let _ = self.send_round(node, reading);
+        Turn::Again
+    }
+
+    fn send_round(&mut self, node: NodeNo, reading: Nanos) -> Result<(), BusSendEnd>
+        requires is_open { IsOpen self.old node.0 }
+        requires sends { Allows self.old (Send node (Some reading)) }
+        requires range { reading ≤ READING }
+        ensures { Stays self.old self.new }
+    {
+        self.bus.send(node, Some(reading))
+    }
+
+    // A node finds no memory, and the run is closed.
+    fn out_of_memory(&mut self, node: NodeNo) -> Turn
+        requires { node.0 < length self.old.bus.run.design.components }
+        ensures { Stays self.old self.new }
+    {
+        self.bus.close();
+        self.notes.set(node.0 as usize, Note::Memory);
+        Turn::Over
+    }
+}
