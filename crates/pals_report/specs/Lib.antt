@@ -7,6 +7,7 @@ pub mod TextFaults
 pub mod Places
 pub mod Rows
 pub mod EventFaults
+pub mod Runs
 pub mod ScenarioFaults
 pub mod SentLines
 pub mod Words

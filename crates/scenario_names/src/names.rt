@@ -190,8 +190,8 @@ impl<'a> Names<'a> {
         }
     }
 
-    // The link of a name, if there is one.
-    fn find_link(&self, name: &str) -> Option<LinkNo>
+    /// The link of a name, if there is one.
+    pub fn find_link(&self, name: &str) -> Option<LinkNo>
         ensures value { option_map (λ link. link.0) result ≡ link_named self.now name.now }
         ensures within { IfSome result (λ link. link.0 < length self.now.links) }
     {
