@@ -70,11 +70,7 @@ fn add_sound(
 }
 
 /// Adds the line of a verdict on a trace. If there is not enough memory, nothing is added.
-pub fn add_verdict(
-    out: &mut Vec<u8>,
-    design: &Design,
-    verdict: &Verdict,
-) -> Result<(), NoMemory>
+pub fn add_verdict(out: &mut Vec<u8>, design: &Design, verdict: &Verdict) -> Result<(), NoMemory>
     ensures ok { OnOk result (out.new.items ≡ out.old.items ++ verdict_line design.now verdict.now ++ line_end) }
     ensures err { OnErr result (out.new.items ≡ out.old.items) }
 {
