@@ -1,1 +1,11 @@
+pub mod Words
+pub mod Numbers
+pub mod Names
+pub mod Forms
+pub mod Entries
+pub mod Told
+pub mod Texts
+pub mod ReportRows
+pub mod ReportForms
+pub mod ReportEnds
 pub mod TraceRows

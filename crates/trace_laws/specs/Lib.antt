@@ -1,5 +1,7 @@
+pub mod EntryLines
 pub mod LineForms
 pub mod TraceLines
 pub mod TraceRules
 pub mod Traces
+pub mod Reports
 pub mod TraceRows

@@ -51,7 +51,7 @@ cause_in word =
     else if is word (codes "lost") then Some Lost
     else None
 
--- ---- what follows a first word
+-- ---- parts of a line
 -- a name and a round, and then what is left
 abbrev pub named : List (List ℕ) → (List ℕ → ℕ → List (List ℕ) → Option Form) → Option Form
 named [] go = None
@@ -75,28 +75,59 @@ abbrev pub with_cause : List (List ℕ) → (Cause → Form) → Option Form
 with_cause [] go = None
 with_cause (word ∷ rest) go = option_and_then (λ cause. at_end (go cause) rest) (cause_in word)
 
-abbrev pub step_line : List ℕ → ℕ → List (List ℕ) → Option Form
-step_line name round [] = None
-step_line name round (step ∷ rest) = option_and_then (λ i. read rest (λ reading left. at_end (StepLine name round i reading) left)) (round_in step)
+abbrev pub with_step : List ℕ → ℕ → List (List ℕ) → Option Form
+with_step name round [] = None
+with_step name round (step ∷ rest) =
+    option_and_then (λ i. read rest (λ reading left. at_end (StepLine name round i reading) left)) (round_in step)
+
+-- ---- what follows the first word of each line
+abbrev pub arrive_line : List (List ℕ) → Option Form
+arrive_line words =
+    named words (λ name round more. read more (λ reading left. with_result left (λ result. ArriveLine name round reading result)))
+
+abbrev pub start_line : List (List ℕ) → Option Form
+start_line words = named words (λ name round more. read more (λ reading left. at_end (StartLine name round reading) left))
+
+abbrev pub step_line : List (List ℕ) → Option Form
+step_line words = named words with_step
+
+abbrev pub finish_line : List (List ℕ) → Option Form
+finish_line words = named words (λ name round left. at_end (FinishLine name round) left)
+
+abbrev pub send_line : List (List ℕ) → Option Form
+send_line words = named words (λ name round more. read more (λ reading left. at_end (SendLine name round reading) left))
+
+abbrev pub drop_line : List (List ℕ) → Option Form
+drop_line words = named words (λ name round left. at_end (DropLine name round) left)
+
+abbrev pub repeat_line : List (List ℕ) → Option Form
+repeat_line words = named words (λ name round left. at_end (RepeatLine name round) left)
+
+abbrev pub early_line : List (List ℕ) → Option Form
+early_line words = named words (λ name round more. read more (λ reading left. at_end (EarlyLine name round reading) left))
+
+abbrev pub missed_line : List (List ℕ) → Option Form
+missed_line words =
+    named words (λ name round more. read more (λ reading left. with_cause left (λ cause. MissedLine name round reading cause)))
 
 abbrev pub stop_line : List (List ℕ) → Option Form
 stop_line [] = None
 stop_line (why ∷ rest) =
-    if is why (codes "early") then named rest (λ name round more. read more (λ reading left. at_end (EarlyLine name round reading) left))
-    else if is why (codes "missed") then named rest (λ name round more. read more (λ reading left. with_cause left (λ cause. MissedLine name round reading cause)))
+    if is why (codes "early") then early_line rest
+    else if is why (codes "missed") then missed_line rest
     else None
 
 -- ---- lines
 abbrev pub form_of_words : List (List ℕ) → Option Form
 form_of_words [] = None
 form_of_words (first ∷ rest) =
-    if is first (codes "arrive") then named rest (λ name round more. read more (λ reading left. with_result left (λ result. ArriveLine name round reading result)))
-    else if is first (codes "start") then named rest (λ name round more. read more (λ reading left. at_end (StartLine name round reading) left))
-    else if is first (codes "step") then named rest step_line
-    else if is first (codes "finish") then named rest (λ name round left. at_end (FinishLine name round) left)
-    else if is first (codes "send") then named rest (λ name round more. read more (λ reading left. at_end (SendLine name round reading) left))
-    else if is first (codes "drop") then named rest (λ name round left. at_end (DropLine name round) left)
-    else if is first (codes "repeat") then named rest (λ name round left. at_end (RepeatLine name round) left)
+    if is first (codes "arrive") then arrive_line rest
+    else if is first (codes "start") then start_line rest
+    else if is first (codes "step") then step_line rest
+    else if is first (codes "finish") then finish_line rest
+    else if is first (codes "send") then send_line rest
+    else if is first (codes "drop") then drop_line rest
+    else if is first (codes "repeat") then repeat_line rest
     else if is first (codes "stop") then stop_line rest
     else None
 
