@@ -46,7 +46,7 @@ list_ends run clocks s node action next below = (action, next, reached_none _ _ 
 
 -- ---- messages that are due
 -- a message that is due to a node that is to start is one that a run takes
-due_takes : (run : Run) (clocks : Clocks) (journal : List JournalEntry) (s : BusState) (node : NodeNo) (reading : ℕ) (link : LinkNo) (round : ℕ) → IsRunOf run → Runs run clocks journal s
+pub due_takes : (run : Run) (clocks : Clocks) (journal : List JournalEntry) (s : BusState) (node : NodeNo) (reading : ℕ) (link : LinkNo) (round : ℕ) → IsRunOf run → Runs run clocks journal s
     → IsToStart run clocks s node reading → IsDueAt run s node.0 link round reading → Takes run clocks s link round (Some reading)
 due_takes run clocks journal s node reading link round rules runs waits due =
     let l = due.the_link in
@@ -63,7 +63,7 @@ due_takes run clocks journal s node reading link round rules runs waits due =
       due = due.due;
     }
 
-message_keeps : {X : Type 0} (f : ℕ → Phase → Bool → X) (n : NodeState) (port : ℕ) (tuple : List Port) (a : Arrived)
+pub message_keeps : {X : Type 0} (f : ℕ → Phase → Bool → X) (n : NodeState) (port : ℕ) (tuple : List Port) (a : Arrived)
     → f (with_message n port tuple a).count (with_message n port tuple a).phase (with_message n port tuple a).sent ≡ f n.count n.phase n.sent
 message_keeps f n port tuple Kept = refl
 message_keeps f n port tuple Ignored = refl

@@ -17,6 +17,7 @@ pub mod Clauses
 pub mod Places
 pub mod Choosing
 pub mod ListClauses
+pub mod Kept
 pub mod Lines
 pub mod Oldest
 pub mod Ended
@@ -24,3 +25,13 @@ pub mod Rows
 pub mod MeetingLines
 pub mod Rising
 pub mod Due
+pub mod Judged
+pub mod Audits
+pub mod Ranges
+pub mod Sound
+pub mod Searching
+pub mod Sums
+pub mod Work
+pub mod Going
+pub mod Ending
+pub mod InTime

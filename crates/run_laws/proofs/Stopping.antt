@@ -80,7 +80,7 @@ below_by plan n steps round true more times le short lt below = within_round pla
 below_by plan n steps round false true times le short lt below = within_round plan (round_of n) round (steps * plan.step_period) le short
 below_by plan n steps round false false times le short lt below = absurd (let over = ltb-false steps plan.rate lt in omega arith)
 
-sent_true : (n : NodeState) → n.sent ≡ true → sent_rounds n ≡ n.count
+pub sent_true : (n : NodeState) → n.sent ≡ true → sent_rounds n ≡ n.count
 sent_true n is = ap (λ b. if b then n.count else round_of n) is
 
 at_least : (sent : Bool) (count round : ℕ) → (if sent then count else (count - 1)) ≤ round → count - 1 ≤ round
@@ -297,7 +297,7 @@ told_fits run clocks journal told s (Some (stop.Early link round reading)) nothi
     let same : sends k (journal ++ told) ≡ sends k journal = flat_map-append (send_in k) journal told ∙ ap (λ xs. sends k journal ++ xs) (nothing k) ∙ append-nil (sends k journal) in
     (fits.0, fits.1, (fits.2.0, ap (λ xs. due_of (delay_of run.delays link.0) xs round) same ∙ fits.2.1, fits.2.2))
 
-ended_still : (run : Run) (before later : List ClockState) (s : BusState) (j k : ℕ) → length before ≡ length run.design.components → Picks run before s j later → HasEnded run before s k → HasEnded run later s k
+pub ended_still : (run : Run) (before later : List ClockState) (s : BusState) (j k : ℕ) → length before ≡ length run.design.components → Picks run before s j later → HasEnded run before s k → HasEnded run later s k
 ended_still run before later s j k many picks ended =
     let within = picks.within in
     let t = target (plan_of run.design j) picks.action in

@@ -53,7 +53,7 @@ copies_more round [] copy = omega arith
 copies_more round (c ∷ cs) copy = let rest = copies_more round cs copy in omega arith
 
 -- without the oldest, one fewer
-without_by : (round : ℕ) (c : FlightCopy) (cs : List FlightCopy) (b : Bool) → is_of round c ≡ b → without_oldest round (c ∷ cs) ≡ cond b cs (c ∷ without_oldest round cs)
+pub without_by : (round : ℕ) (c : FlightCopy) (cs : List FlightCopy) (b : Bool) → is_of round c ≡ b → without_oldest round (c ∷ cs) ≡ cond b cs (c ∷ without_oldest round cs)
 without_by round c cs true is =
     let at : position_or_len (is_of round) (c ∷ cs) ≡ 0 = ap (λ b. cond (not b) (1 + position_or_len (is_of round) cs) 0) is in
     ap (λ n. take n (c ∷ cs) ++ drop (n + 1) (c ∷ cs)) at

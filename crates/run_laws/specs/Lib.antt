@@ -11,3 +11,7 @@ pub mod Timing
 pub mod Stopping
 pub mod Locked
 pub mod Rows
+pub mod Clauses
+pub mod Sound
+pub mod Ending
+pub mod InTime

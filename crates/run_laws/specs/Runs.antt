@@ -1,5 +1,5 @@
 -- Runs whose nodes keep to their clocks: each does its next action, at a reading that its clock shows, in any order of the nodes.
-use Rattle.std.specs.Prelude.{◌≡◌, ◌⊎◌, ℕ, ◌<◌, ◌≤◌, true, false, List, [], ◌++◌, length, All, Option, Some, option_map, slice_get, slice_index_or, slice_set}
+use Rattle.std.specs.Prelude.{◌≡◌, ◌⊎◌, ℕ, ◌<◌, ◌≤◌, true, false, List, [], ◌++◌, length, map, All, Option, Some, None, option_map, slice_get, slice_index_or, slice_set}
 use Rattle.std.specs.List.Sorted.{IsNonDecreasing}
 use Rattle.pals_base.specs.declared.values.NodeNo.{NodeNo}
 use Rattle.pals_base.specs.declared.values.LinkNo.{LinkNo}
@@ -29,6 +29,11 @@ no_clock = record { readings = []; left = [] }
 
 abbrev pub clock_at : List ClockState → ℕ → ClockState
 clock_at clocks node = slice_index_or clocks node no_clock
+
+-- the readings of all lists; none where nodes meet
+abbrev pub lists_in : Clocks → Option (List (List ℕ))
+lists_in Meet = None
+lists_in (Lists lists) = Some (map (λ (clock : ClockState). clock.readings) lists)
 
 -- what is left of a node's list at the target of an action
 abbrev pub left_for : Run → List ClockState → ℕ → Action → List ℕ

@@ -1,10 +1,14 @@
 //! What each run keeps. Each law is the contract of a function that does nothing.
 ghost use Rattle.run_laws.specs.Bounds.{StopsAreBounded};
+ghost use Rattle.run_laws.specs.Clauses.{ClausesAreKept};
+ghost use Rattle.run_laws.specs.Ending.{EachGoesOn, EachRunEnds, EndsAreNamed, JournalsEnd};
 ghost use Rattle.run_laws.specs.Hours.{HourIsLeast, ReadingsRise};
+ghost use Rattle.run_laws.specs.InTime.{BoundsAreInTime, EndsAreOne, NoneStops, PickedAreDone};
 ghost use Rattle.run_laws.specs.Locked.{DueArrives, EndsStay, ListEnds, ListPicks, RunsReplay};
 ghost use Rattle.run_laws.specs.Meetings.{MeetingsEnd, MeetingsShowTargets, MeetingsStop, NoMeetingStops};
 ghost use Rattle.run_laws.specs.Picked.{LinesArePicks, NodesPick, ReadingsArePicks};
 ghost use Rattle.run_laws.specs.Rows.{SomeListEnds, SomeMeetingEnds};
+ghost use Rattle.run_laws.specs.Sound.{RunsAreSound, TracesAreTexts};
 ghost use Rattle.run_laws.specs.Stopping.{AllTimesFit, StopsFit};
 ghost use Rattle.run_laws.specs.Timely.{DoneArePicked, EndedPicksEnd, EndsAreTimely, ListsStop};
 ghost use Rattle.run_laws.specs.Timing.{LinksAreTimed, RoundsAreShown};
@@ -81,6 +85,19 @@ pub fn runs_replay()
     ensures { RunsReplay }
 {}
 
+/// Each run keeps all clauses: what its lines show, when it stops, which rounds are in time where it
+/// ends, and that its journal replays.
+pub fn clauses_are_kept()
+    ensures { ClausesAreKept }
+{}
+
+/// The trace of a run, the report of the rounds that all nodes have finished and then the journal, is
+/// sound where a stop stands or all nodes are done. Its text, each line with a line end, has its lines.
+pub fn runs_are_sound()
+    ensures trace { RunsAreSound }
+    ensures text { TracesAreTexts }
+{}
+
 /// A clock that answers picks for its node's next action. One that has no reading for it has ended, and
 /// stays so, whatever the nodes do. Where a message arrives that is due to a node that is to start, that
 /// keeps to the clocks, and the node is still to start at that reading.
@@ -89,6 +106,28 @@ pub fn locked_steps()
     ensures ends { ListEnds }
     ensures stay { EndsStay }
     ensures due { DueArrives }
+{}
+
+/// With any clocks each design has a run that comes to its end: it stops, or all nodes are done, or, with
+/// list clocks, each node is done or has come to its list's end. Wherever a run has come, it can go on to
+/// such an end; and no journal grows without end. Where lists end it, the first node that is not done has
+/// come to its list's end.
+pub fn each_run_ends()
+    ensures ends { EachRunEnds }
+    ensures goes_on { EachGoesOn }
+    ensures journals { JournalsEnd }
+    ensures named { EndsAreNamed }
+{}
+
+/// In a run in time no stop stands, whatever the order in which the nodes act. Where nodes meet, delays
+/// within the bounds are in time. The readings of the lists alone decide how runs end that come to their
+/// ends: all nodes are done, as they are where the picks of each node reach its last target, or the same
+/// node ends first, at the same target.
+pub fn runs_in_time()
+    ensures stop { NoneStops }
+    ensures bounds { BoundsAreInTime }
+    ensures end { EndsAreOne }
+    ensures done { PickedAreDone }
 {}
 
 /// There are such runs. Two counters that meet are done; and where the list of the first one ends
