@@ -7,5 +7,7 @@ mod Waiting
 mod Acting
 mod Openings
 mod Endings
-mod Outcomes
+pub mod Outcomes
 mod Sending
+mod Seats
+mod Aims

@@ -6,10 +6,10 @@ use Rattle.pals_clock.specs.declared.clock.Clocks.{Clocks}
 use Rattle.pals_clock.specs.declared.clock.Clocks.TheVariants.{Meet, Lists}
 use Rattle.bus_machine.specs.Laws.{IsRunOf}
 use Rattle.pals_bus.specs.Values.{BusValue, opening_bus}
-use Rattle.run_laws.specs.Runs.{Runs}
+use Rattle.run_laws.specs.Runs.{lists_in, Runs}
 use Rattle.node_threads.specs.declared.ends.NodeEnd.{NodeEnd}
 use Rattle.node_threads.specs.declared.ends.Note.{Note}
-use Rattle.node_threads.specs.Courses.{CourseValue, AreClocksOf, clocks_of, course_of, IsOf, Stays, lists_in}
+use Rattle.node_threads.specs.Courses.{CourseValue, AreClocksOf, clocks_of, course_of, IsOf, Stays}
 use Rattle.node_threads.specs.declared.threads.RunEnd.{RunEnd}
 use Rattle.node_threads.specs.Ends.{EndsFit, IsOutcome}
 use Rattle.node_threads.proofs.Openings.{Begins}
@@ -38,10 +38,10 @@ outcome_by old c new ends stays is rules runs fit =
     subst (λ (b : BusValue). IsOutcome old.bus old.clocks b ends) (sym is)
     (record { run = stays.run; rules = rules; later = c.clocks; lists = stays.lists; runs = runs; ends_fit = fit })
 
--- the course that is kept is of the run that goes in, and what comes of it is what comes of that run
-outcome_of : (b f : BusValue) (clocks : Clocks) (kept c : CourseValue) (new : BusValue) (ends : List NodeEnd) → f ≡ opening_bus b.run b.codes b.meeting → IsOf f clocks kept → Stays kept c → IsOutcome c.bus c.clocks new ends → IsOutcome b clocks new ends
-outcome_of b f clocks kept c new ends fresh is stays out = record {
-  run = out.run ∙ stays.run ∙ is.0 ∙ ap (λ (v : BusValue). v.run) fresh;
+-- a course is of the run of a bus and of its lists, and what comes of it is what comes of them
+outcome_of : (b : BusValue) (clocks : Clocks) (kept c : CourseValue) (new : BusValue) (ends : List NodeEnd) → IsOf b clocks kept → Stays kept c → IsOutcome c.bus c.clocks new ends → IsOutcome b clocks new ends
+outcome_of b clocks kept c new ends is stays out = record {
+  run = out.run ∙ stays.run ∙ is.0;
   rules = out.rules;
   later = out.later;
   lists = out.lists ∙ stays.lists ∙ is.1;
@@ -49,10 +49,10 @@ outcome_of b f clocks kept c new ends fresh is stays out = record {
   ends_fit = out.ends_fit;
 }
 
-pub run_outcome : {E : Type 0} (b f : BusValue) (clocks : Clocks) (kept c : CourseValue) (result : Result RunEnd E) → f ≡ opening_bus b.run b.codes b.meeting → IsOf f clocks kept → Stays kept c
+pub run_outcome : {E : Type 0} (b : BusValue) (clocks : Clocks) (kept c : CourseValue) (result : Result RunEnd E) → IsOf b clocks kept → Stays kept c
     → IfOk result (λ (end : RunEnd). IsOutcome c.bus c.clocks end.bus end.ends) → IfOk result (λ (end : RunEnd). IsOutcome b clocks end.bus end.ends)
-run_outcome b f clocks kept c (Ok end) fresh is stays out = outcome_of b f clocks kept c end.bus end.ends fresh is stays out
-run_outcome b f clocks kept c (Err e) fresh is stays out = tt
+run_outcome b clocks kept c (Ok end) is stays out = outcome_of b clocks kept c end.bus end.ends is stays out
+run_outcome b clocks kept c (Err e) is stays out = tt
 
 -- ---- the run that is kept
 pub fresh_opens : (b f : BusValue) → f ≡ opening_bus b.run b.codes b.meeting → f ≡ opening_bus f.run f.codes f.meeting
@@ -69,3 +69,8 @@ fresh_clocks b f clocks is are = subst (λ (v : BusValue). AreClocksOf v clocks)
 pub opens_of : {E : Type 0} (b : BusValue) (clocks : Clocks) (lists : List ClockState) (result : Result CourseValue E) → Begins b clocks lists → IfOk result (λ (c : CourseValue). (c.bus ≡ b) × (c.clocks ≡ clocks_of b.meeting lists)) → IfOk result (IsOf b clocks)
 opens_of b clocks lists (Ok c) begins ok = (ap (λ (v : BusValue). v.run) ok.0, ap lists_in ok.1 ∙ begins.same)
 opens_of b clocks lists (Err e) begins ok = tt
+
+-- the course of the run of a bus before its first event is of that bus
+pub anew_of : {E : Type 0} (b f : BusValue) (clocks : Clocks) (result : Result CourseValue E) → f ≡ opening_bus b.run b.codes b.meeting → IfOk result (IsOf f clocks) → IfOk result (IsOf b clocks)
+anew_of b f clocks (Ok c) is ok = (ok.0 ∙ ap (λ (v : BusValue). v.run) is, ok.1)
+anew_of b f clocks (Err e) is ok = tt

@@ -47,6 +47,9 @@ use Rattle.pals_bus.specs.contracts.fields.Fields.{the_field as bus_fields}
 use Rattle.pals_bus.specs.contracts.bus.Bus.{the_field as bus}
 use Rattle.node_threads.specs.contracts.course.Course.{the_field as course}
 use Rattle.node_threads.specs.contracts.locked.Locked.{the_field as locked}
+use Rattle.node_threads.specs.contracts.sleepers.Seat.{the_field as seat}
+use Rattle.node_threads.specs.contracts.sleepers.Sleepers.{the_field as sleepers}
+use Rattle.node_threads.specs.contracts.wakes.Wakes.{the_field as wakes}
 use Rattle.node_threads.specs.contracts.bells.Bells.{the_field as bells}
 use Rattle.node_threads.specs.contracts.ends.Note.{the_field as note}
 
@@ -179,11 +182,20 @@ bus_send = search (sendable, bus_fields_send) depth 20
 note_send : IsSend note.row
 note_send = search sendable depth 20
 
+wakes_send : IsSend wakes.row
+wakes_send = search sendable depth 20
+
 course_send : IsSend course.row
 course_send = search (sendable, bus_send, items_send, clock_send, note_send) depth 20
 
+seat_send : IsSend seat.row
+seat_send = search sendable depth 20
+
+sleepers_send : IsSend sleepers.row
+sleepers_send = search (sendable, items_send, seat_send, wakes_send) depth 20
+
 pub locked_send : IsSend locked.row
-locked_send = search (sendable, course_send, Vec-send) depth 20
+locked_send = search (sendable, course_send, sleepers_send) depth 20
 
 pub bells_sync : IsSync bells.row
 bells_sync = search (sendable, crosses) depth 20

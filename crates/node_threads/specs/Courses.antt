@@ -1,11 +1,12 @@
 -- What the nodes share under the lock: a bus with the clocks of its nodes, which are a run, and what is noted of each node.
-use Rattle.std.specs.Prelude.{◌≡◌, ◌⊎◌, ℕ, ◌<◌, ◌≤◌, Bool, true, false, List, [], length, map, Option, Some, None, slice_index_or}
+use Rattle.std.specs.Prelude.{◌≡◌, ◌⊎◌, ℕ, ◌<◌, ◌≤◌, Bool, true, false, List, [], length, map, Some, None, slice_index_or}
 use Rattle.pals_base.specs.declared.limits.TheConstants.{READING, ROUNDS}
 use Rattle.pals_base.specs.declared.values.NodeNo.{NodeNo}
 use Rattle.pals_clock.specs.Clock.{ClockState, unpicked}
 use Rattle.pals_clock.specs.declared.clock.Clocks.{Clocks}
 use Rattle.pals_clock.specs.declared.clock.Clocks.TheVariants.{Meet, Lists}
 use Rattle.pals_model.specs.declared.design.Link.{Link}
+use Rattle.pals_runs.specs.declared.journal.Phase.TheVariants.{Waiting, Done}
 use Rattle.bus_machine.specs.declared.action.Action.{Action}
 use Rattle.bus_machine.specs.declared.action.Next.{Next}
 use Rattle.bus_machine.specs.Laws.{IsRunOf}
@@ -16,7 +17,7 @@ use Rattle.bus_machine.specs.Machine.{BusEvent}
 use Rattle.bus_machine.specs.Targets.{next_of, target}
 use Rattle.pals_bus.specs.Values.{BusValue}
 use Rattle.run_laws.specs.Locked.{IsToStart}
-use Rattle.run_laws.specs.Runs.{HasEnded, Does, IsAwaited, KeepsTo, Runs}
+use Rattle.run_laws.specs.Runs.{lists_in, HasEnded, Does, IsAwaited, KeepsTo, Runs}
 use Rattle.node_threads.specs.declared.ends.Note.{Note}
 use Rattle.node_threads.specs.declared.ends.Note.TheVariants as note
 use Rattle.node_threads.specs.declared.ends.Look.{Look}
@@ -63,11 +64,6 @@ pub record IsCourse (c : CourseValue) : Type 0 where
   pub closed : c.bus.closed ≡ true → (node : ℕ) × (note_at c.notes node ≡ note.Memory)
 
 -- ---- steps
--- the readings of all lists
-abbrev pub lists_in : Clocks → Option (List (List ℕ))
-lists_in Meet = None
-lists_in (Lists lists) = Some (map (λ (clock : ClockState). clock.readings) lists)
-
 -- of the run of a bus, with these lists
 abbrev pub IsOf : BusValue → Clocks → CourseValue → Type 0
 IsOf bus clocks c = (c.bus.run ≡ bus.run) × (lists_in c.clocks ≡ lists_in clocks)
@@ -84,9 +80,18 @@ pub record IsOpen (c : CourseValue) (node : ℕ) : Type 0 where
   pub going : c.bus.state.stop ≡ None
   pub unclosed : c.bus.closed ≡ false
 
+-- a node has done all its rounds
+abbrev pub IsDone : CourseValue → ℕ → Type 0
+IsDone c node = (node_at c.bus.state node).phase ≡ Done
+
 -- what a node does next, and from when on
 abbrev pub IsNext : CourseValue → ℕ → Next → Type 0
 IsNext c node next = next_of (plan_of c.bus.run.design node) (node_at c.bus.state node) ≡ Some next
+
+-- a node is to start its next round
+pub record IsWaiting (c : CourseValue) (node : ℕ) : Type 0 where
+  pub within : node < length c.bus.run.design.components
+  pub phase : (node_at c.bus.state node).phase ≡ Waiting
 
 -- a node's next action, at a reading that its clock shows
 pub record IsReady (c : CourseValue) (node : NodeNo) (action : Action) (reading : ℕ) : Type 0 where

@@ -6,12 +6,12 @@ use Rattle.pals_runs.specs.declared.journal.Phase.TheVariants.{Waiting, Running,
 use Rattle.bus_machine.specs.Laws.{IsRunOf}
 use Rattle.bus_machine.specs.States.{node_at}
 use Rattle.pals_bus.specs.Values.{BusValue}
-use Rattle.run_laws.specs.Runs.{Runs}
+use Rattle.run_laws.specs.Runs.{lists_in, Runs}
 use Rattle.node_threads.specs.declared.ends.NodeEnd.{NodeEnd}
 use Rattle.node_threads.specs.declared.ends.NodeEnd.TheVariants as end
 use Rattle.node_threads.specs.declared.ends.Note.{Note}
 use Rattle.node_threads.specs.declared.ends.Note.TheVariants as note
-use Rattle.node_threads.specs.Courses.{CourseValue, EndsAt, note_at, lists_in}
+use Rattle.node_threads.specs.Courses.{CourseValue, EndsAt, note_at}
 
 -- ---- the ends of a run
 -- what the end of a node's part says of the bus and of the clocks

@@ -1,4 +1,7 @@
-//! What waiting threads sleep on: one `Condvar` a node, and one for the calling thread.
+//! What waiting threads sleep on: one `Condvar` a node, and one for the calling thread. To ring and to
+//! sleep is seen by other threads alone, and under the lock: nothing is claimed of it.
+ghost use Rattle.std.specs.Prelude.{◌≡◌, IfOk, vec_len};
+
 use crate::locked::Locked;
 use crate::wakes::Wakes;
 use pals_base::{NoMemory, NodeNo};
@@ -12,7 +15,10 @@ pub struct Bells {
 }
 
 impl Bells {
-    pub fn new(alloc: Global, count: u32) -> Result<Bells, NoMemory> {
+    /// The bells of a run of `count` nodes.
+    pub fn new(alloc: Global, count: u32) -> Result<Bells, NoMemory>
+        ensures { IfOk result (λ bells. vec_len bells.nodes ≡ count) }
+    {
         let mut nodes = Vec::new(alloc);
         for _node in 0..count {
             nodes.push(Condvar::new())?;
@@ -41,11 +47,9 @@ impl Bells {
 
     /// Wakes those that are to be woken, once the lock is free.
     pub fn ring(&self, wakes: &Wakes) {
-        if wakes.has_some() {
-            for (number, bell) in self.nodes.iter().enumerate() {
-                if wakes.has_node(number) {
-                    bell.notify_one();
-                }
+        for (number, bell) in self.nodes.iter().enumerate() {
+            if wakes.has_node(number) {
+                bell.notify_one();
             }
         }
         if wakes.has_caller() {

@@ -1,20 +1,22 @@
 //! The course of a run: the bus, the lists of its nodes' clocks, and what is noted of each node.
-ghost use Rattle.std.specs.Prelude.{◌≡◌, ◌<◌, ◌≤◌, length, false, None, IsTrue, IfOk};
+ghost use Rattle.std.specs.Prelude.{◌≡◌, ◌≢◌, ◌<◌, ◌≤◌, ℕ, length, false, Some, None, IsTrue, IfOk};
 ghost use Rattle.pals_base.specs.declared.limits.TheConstants.{COMPONENTS};
 ghost use Rattle.bus_machine.specs.Laws.{IsRunOf};
+ghost use Rattle.bus_machine.specs.States.{node_at};
+ghost use Rattle.pals_bus.specs.Meeting.{HasEnded};
 ghost use Rattle.pals_bus.specs.Values.{opening_bus};
-ghost use Rattle.run_laws.specs.Runs.{Begin, Runs};
-ghost use Rattle.node_threads.specs.Courses.{clocks_of, IsCourse, Stays, IsOpen};
+ghost use Rattle.run_laws.specs.Runs.{target_of, Begin, Runs};
+ghost use Rattle.node_threads.specs.Courses.{clocks_of, IsCourse, Stays, IsOpen, IsDone};
 ghost use Rattle.node_threads.specs.Ends.{AllEnded, EndsFit, end_in, phase_end, closed_end};
 
 use crate::clocks::same_lists;
 use crate::ends::{NodeEnd, Note};
-use bus_machine::Plan;
 use pals_base::{Items, Nanos, NoMemory, NodeNo};
 use pals_bus::Bus;
 use pals_clock::ListClock;
 use pals_model::Design;
 use pals_runs::Phase;
+use round_timer::step_alarm;
 use std::alloc::Global;
 use std::marker::Model;
 
@@ -138,7 +140,8 @@ impl Course {
 
     /// Whether a node may go on: its part has not ended, no stop stands, and the run is not closed.
     pub fn is_open(&self, node: NodeNo) -> bool
-        ensures { IsTrue result → IsOpen self.now node.0 }
+        ensures goes { IsTrue result → IsOpen self.now node.0 }
+        ensures over { result ≡ false → IsOpen self.now node.0 → IsDone self.now node.0 }
     {
         node.0 < self.count()
             && matches!(&self.notes[node.0 as usize], Note::Open)
@@ -148,44 +151,68 @@ impl Course {
 
     /// Whether a stop stands, or the run is closed.
     pub fn is_stopped(&self) -> bool
-        ensures { result ≡ false → (self.now.bus.state.stop ≡ None) × (self.now.bus.closed ≡ false) }
+        ensures ended { IsTrue result → HasEnded self.now.bus }
+        ensures goes { result ≡ false → (self.now.bus.state.stop ≡ None) × (self.now.bus.closed ≡ false) }
     {
         self.bus.closed() || self.bus.stop().is_some()
     }
 
-    // ---- What wake-ups look at. Nothing is claimed of it.
-
     /// Whether the nodes meet.
-    pub fn meeting(&self) -> bool {
+    pub fn meeting(&self) -> bool
+        ensures { result ≡ self.now.bus.meeting }
+    {
         self.bus.meeting()
     }
 
     /// The design of the run.
-    pub fn design(&self) -> &Design {
+    pub fn design(&self) -> &Design
+        ensures { result.now ≡ self.now.bus.run.design }
+    {
         self.bus.design()
     }
 
     /// From which reading on a node does what it does, or what it does next. None where it is done.
-    pub fn target(&self, node: NodeNo) -> Option<Nanos> {
+    pub fn target(&self, node: NodeNo) -> Option<Nanos>
+        ensures { node.0 < length self.now.bus.run.design.components → result ≡ target_of self.now.bus.run self.now.bus.state node.0 }
+    {
         if node.0 >= self.count() {
             return None;
         }
-        if let Some(next) = self.bus.next(node) {
-            return Some(next.target);
-        }
         match self.bus.phase(node) {
-            Phase::Running(step) => {
-                Some(step_target(self.bus.plan(node), self.bus.count(node), step))
+            Phase::Running(step) => Some(self.alarm(node, step)),
+            Phase::Waiting | Phase::Between(_) | Phase::Holding | Phase::Done => {
+                self.next_target(node)
             }
-            Phase::Waiting | Phase::Between(_) | Phase::Holding | Phase::Done => None,
         }
     }
-}
 
-// The alarm of a step of the last of `count` rounds.
-fn step_target(plan: &Plan, count: u32, step: u32) -> Nanos {
-    let alarm = u64::from(count).saturating_mul(plan.period);
-    alarm.saturating_add(u64::from(step).saturating_mul(plan.step_period))
+    // From which reading on a node does what it does next.
+    fn next_target(&self, node: NodeNo) -> Option<Nanos>
+        requires node { node.0 < length self.now.bus.run.design.components }
+        requires rests { (step : ℕ) → (node_at self.now.bus.state node.0).phase ≢ Phase.Running step }
+        ensures { result ≡ target_of self.now.bus.run self.now.bus.state node.0 }
+    {
+        match self.bus.next(node) {
+            Some(next) => Some(next.target),
+            None => None,
+        }
+    }
+
+    // The alarm of the step whose job is out.
+    fn alarm(&self, node: NodeNo, step: u32) -> Nanos
+        requires node { node.0 < length self.now.bus.run.design.components }
+        requires runs { (node_at self.now.bus.state node.0).phase ≡ Phase.Running step }
+        ensures { target_of self.now.bus.run self.now.bus.state node.0 ≡ Some result }
+    {
+        self.agreement();
+        let plan = self.bus.plan(node);
+        step_alarm(
+            plan.period,
+            plan.step_period,
+            self.bus.count(node) - 1,
+            step,
+        )
+    }
 }
 
 // The end that the bus shows for a node of which nothing is noted.

@@ -7,6 +7,7 @@ mod course;
 mod ends;
 mod locked;
 mod outside;
+mod sleepers;
 mod threads;
 mod turns;
 mod waits;

@@ -1,7 +1,9 @@
 //! What is handed in: which nodes may have a thread, and who is told of each job.
-ghost use Rattle.std.specs.Prelude.{◌≡◌, true};
+ghost use Rattle.std.specs.Prelude.{◌≡◌, ◌==◌, true, not};
+ghost use Rattle.std.specs.List.{list_any};
 
 use pals_base::{Items, NodeNo};
+use std::marker::Model;
 
 /// Tells whether a node may have a thread.
 pub trait Starter {
@@ -35,15 +37,30 @@ pub struct FakeStarter {
     refused: Items<NodeNo>,
 }
 
+impl Model for FakeStarter {
+    ghost use Rattle.std.specs.Prelude.{List};
+    ghost use Rattle.pals_base.specs.declared.values.NodeNo.{NodeNo};
+
+    ghost Value = { List NodeNo };
+
+    ghost view = { λ starter. starter.refused };
+}
+
 impl FakeStarter {
-    pub fn new(refused: Items<NodeNo>) -> FakeStarter {
+    /// Refuses these nodes, and no others.
+    pub fn new(refused: Items<NodeNo>) -> FakeStarter
+        ensures { result ≡ refused }
+    {
         FakeStarter { refused }
     }
 }
 
 impl Starter for FakeStarter {
-    fn admits(&mut self, node: NodeNo) -> bool {
-        !self.refused.iter().any(|refused| refused.0 == node.0)
+    fn admits(&mut self, node: NodeNo) -> bool
+        ensures same { self.new ≡ self.old }
+        ensures answer { result ≡ not (list_any (λ refused. refused.0 == node.0) self.old) }
+    {
+        !self.refused.as_slice().contains(&node)
     }
 }
 

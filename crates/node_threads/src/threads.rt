@@ -1,5 +1,5 @@
 //! The nodes in threads.
-ghost use Rattle.std.specs.Prelude.{◌≡◌, IfOk};
+ghost use Rattle.std.specs.Prelude.{◌≡◌, length, vec_len, IfOk};
 ghost use Rattle.pals_bus.specs.Values.{opening_bus};
 ghost use Rattle.node_threads.specs.Courses.{AreClocksOf, IsOf, Stays};
 ghost use Rattle.node_threads.specs.Ends.{EndsFit, IsOutcome};
@@ -10,11 +10,13 @@ use crate::course::Course;
 use crate::ends::{NodeEnd, Turn};
 use crate::locked::Locked;
 use crate::outside::{Gate, Starter};
+use crate::sleepers::Sleepers;
 use pals_base::{Items, NoMemory, NodeNo};
 use pals_bus::Bus;
 use pals_clock::Clocks;
 use pals_node::{Done, Job};
 use std::alloc::Global;
+use std::mem::swap;
 use std::sync::{Mutex, Wait};
 use std::thread;
 use std::thread::Threads;
@@ -42,10 +44,43 @@ pub fn run_threads<R: Threads + Wait + Sync, W: Starter, G: Gate + Sync>(
     requires clocks { AreClocksOf bus clocks }
     ensures { IfOk result (λ end. IsOutcome bus clocks end.bus end.ends) }
 {
-    let kept = opened(alloc, bus.fresh(alloc)?, &clocks)?;
-    let course = opened(alloc, bus, &clocks)?;
+    let (course, kept) = both_opened(alloc, bus, clocks)?;
+    run_beside(rt, alloc, course, kept, starter, gate)
+}
+
+// A run in threads, and what comes of it for the run that is kept beside it.
+fn run_beside<R: Threads + Wait + Sync, W: Starter, G: Gate + Sync>(
+    rt: &R,
+    alloc: Global,
+    course: Course,
+    kept: Course,
+    starter: &mut W,
+    gate: &G,
+) -> Result<RunEnd, NoMemory>
+    ensures { IfOk result (λ end. IsOutcome kept.bus kept.clocks end.bus end.ends) }
+{
     let out = in_threads(rt, alloc, course, starter, gate)?;
     driven(rt, alloc, kept_or_anew(out, kept), gate)
+}
+
+// The course of a bus before its first event, twice: one for the threads, and one that is kept.
+fn both_opened(alloc: Global, bus: Bus, clocks: Clocks) -> Result<(Course, Course), NoMemory>
+    requires opening { bus ≡ opening_bus bus.run bus.codes bus.meeting }
+    requires clocks { AreClocksOf bus clocks }
+    ensures { IfOk result (λ both. IsOf bus clocks both.0 × IsOf bus clocks both.1) }
+{
+    let kept = opened_anew(alloc, &bus, &clocks)?;
+    let course = opened(alloc, bus, &clocks)?;
+    Ok((course, kept))
+}
+
+// The course of the run of a bus before its first event.
+fn opened_anew(alloc: Global, bus: &Bus, clocks: &Clocks) -> Result<Course, NoMemory>
+    requires { AreClocksOf bus.now clocks.now }
+    ensures { IfOk result (IsOf bus.now clocks.now) }
+{
+    let fresh = bus.fresh(alloc)?;
+    opened(alloc, fresh, clocks)
 }
 
 // The course of a bus before its first event.
@@ -58,7 +93,10 @@ fn opened(alloc: Global, bus: Bus, clocks: &Clocks) -> Result<Course, NoMemory>
     Course::new(alloc, bus, lists)
 }
 
-// What comes out of the lock once all threads have ended. Only its type tells of it.
+// ---- What threads do to a course under its lock. Only the type of the course tells what comes out, so
+// what lies between has no clause.
+
+// What comes out of the lock once all threads have ended.
 fn in_threads<R: Threads + Wait + Sync, W: Starter, G: Gate + Sync>(
     rt: &R,
     alloc: Global,
@@ -67,10 +105,27 @@ fn in_threads<R: Threads + Wait + Sync, W: Starter, G: Gate + Sync>(
     gate: &G,
 ) -> Result<Course, NoMemory> {
     let count = course.count();
-    let bells = Bells::new(alloc, count)?;
-    let lock = Mutex::new(Locked::new(alloc, course)?);
+    let (lock, bells) = shared(alloc, course)?;
     work_all(rt, &lock, &bells, count, starter, gate);
     Ok(lock.into_inner().into_course())
+}
+
+// A course under a lock, and the bells of its nodes.
+fn shared(alloc: Global, course: Course) -> Result<(Mutex<Locked>, Bells), NoMemory>
+    ensures { IfOk result (λ both. vec_len both.1.nodes ≡ length course.bus.run.design.components) }
+{
+    let (bells, sleepers) = bells_and_sleepers(alloc, course.count())?;
+    let lock = Mutex::new(Locked::new(course, sleepers));
+    Ok((lock, bells))
+}
+
+// The bells of `count` nodes, all of which are awake.
+fn bells_and_sleepers(alloc: Global, count: u32) -> Result<(Bells, Sleepers), NoMemory>
+    ensures { IfOk result (λ both. vec_len both.0.nodes ≡ count) }
+{
+    let bells = Bells::new(alloc, count)?;
+    let sleepers = Sleepers::new(alloc, count)?;
+    Ok((bells, sleepers))
 }
 
 // The parts of all nodes, up to their ends.
@@ -97,26 +152,30 @@ fn work_all<R: Threads + Wait + Sync, W: Starter, G: Gate + Sync>(
     });
 }
 
-// What came out of the lock where it is of the kept run, and else that run at its opening.
-fn kept_or_anew(out: Course, kept: Course) -> Course
-    ensures { Stays kept result }
-{
-    if out.is_same(&kept) { out } else { kept }
-}
-
 // The part of a node, in a thread of its own.
 fn work<R: Wait, G: Gate>(rt: &R, lock: &Mutex<Locked>, bells: &Bells, gate: &G, node: NodeNo) {
     let mut done = None;
     for _ in rt.forever() {
-        let (turn, wakes) = lock.lock(rt).turn(node, done.take());
-        bells.ring(&wakes);
-        match turn {
+        match take_turn(rt, lock, bells, node, done.take()) {
             Turn::Over => return,
             Turn::Again => {}
             Turn::Wait => bells.sleep(rt, lock, node),
             Turn::Work(job) => done = Some(done_by(gate, node, job)),
         }
     }
+}
+
+// The turn of a node that has a thread.
+fn take_turn<R: Wait>(
+    rt: &R,
+    lock: &Mutex<Locked>,
+    bells: &Bells,
+    node: NodeNo,
+    done: Option<Done>,
+) -> Turn {
+    let (turn, wakes) = lock.lock(rt).turn(node, done);
+    bells.ring(&wakes);
+    turn
 }
 
 // The parts of the nodes that have no thread, in turns, in the thread that calls it.
@@ -129,19 +188,49 @@ fn work_in_turns<R: Wait, G: Gate>(
 ) {
     for _ in rt.forever() {
         for number in 0..count {
-            let node = NodeNo(number);
-            let (turn, wakes) = lock.lock(rt).turn_of_caller(node);
-            bells.ring(&wakes);
-            if let Turn::Work(job) = turn {
-                let done = done_by(gate, node, job);
-                let wakes = lock.lock(rt).finish_of_caller(node, done);
-                bells.ring(&wakes);
-            }
+            work_one_turn(rt, lock, bells, NodeNo(number), gate);
         }
         if bells.sleep_caller(rt, lock) {
             return;
         }
     }
+}
+
+// The turn of a node, where the calling thread has it, with the job that it asks for.
+fn work_one_turn<R: Wait, G: Gate>(
+    rt: &R,
+    lock: &Mutex<Locked>,
+    bells: &Bells,
+    node: NodeNo,
+    gate: &G,
+) {
+    let (turn, wakes) = lock.lock(rt).turn_of_caller(node);
+    bells.ring(&wakes);
+    if let Turn::Work(job) = turn {
+        let done = done_by(gate, node, job);
+        let wakes = lock.lock(rt).finish_of_caller(node, done);
+        bells.ring(&wakes);
+    }
+}
+
+// ---- What comes of it.
+
+// What came out of the lock where it is of the kept run, and else that run at its opening.
+fn kept_or_anew(mut out: Course, mut kept: Course) -> Course
+    ensures { Stays kept result }
+{
+    restore(&mut out, &mut kept);
+    out
+}
+
+// Puts back the kept run where another one came out.
+fn restore(out: &mut Course, kept: &mut Course)
+    ensures { Stays kept.old out.new }
+{
+    if out.is_same(kept) {
+        return;
+    }
+    swap(out, kept);
 }
 
 // What comes of a course once the parts of all its nodes have ended.
@@ -201,7 +290,9 @@ fn go_on<G: Gate>(course: &mut Course, gate: &G, node: NodeNo)
 }
 
 // Does a job outside the lock.
-fn done_by<G: Gate>(gate: &G, node: NodeNo, job: Job) -> Done {
+fn done_by<G: Gate>(gate: &G, node: NodeNo, job: Job) -> Done
+    ensures { result ≡ job }
+{
     let round = job.round();
     gate.enter(node, round);
     let done = job.run();

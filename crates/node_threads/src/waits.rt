@@ -1,10 +1,10 @@
 //! What a node with a list waits for before a start.
-ghost use Rattle.std.specs.Prelude.{◌≡◌, ◌⊎◌, ◌<◌, ◌≤◌, length, IsTrue, List, slice_index_or};
+ghost use Rattle.std.specs.Prelude.{◌≡◌, ◌⊎◌, ◌<◌, ◌≤◌, length, false, IsTrue, List, slice_index_or};
 ghost use Rattle.pals_clock.specs.Clock.{ClockState};
 ghost use Rattle.pals_clock.specs.declared.clock.Clocks.TheVariants.{Lists};
 ghost use Rattle.bus_machine.specs.States.{link_at, node_at};
 ghost use Rattle.bus_machine.specs.Stops.{sent_rounds};
-ghost use Rattle.node_threads.specs.Courses.{HasSent, IsAwaitedIn, IsSentOn};
+ghost use Rattle.node_threads.specs.Courses.{HasSent, IsWaiting, IsAwaitedIn, IsSentOn};
 
 use crate::course::Course;
 use crate::ends::Note;
@@ -13,8 +13,11 @@ use pals_model::Link;
 use pals_runs::Phase;
 
 impl Course {
-    /// Whether a node with a list has to wait for a message. Nothing is claimed of it.
-    pub fn lacks(&self, node: NodeNo) -> bool {
+    /// Whether a node with a list, which is to start a round, has to wait for a source.
+    pub fn lacks(&self, node: NodeNo) -> bool
+        ensures starts { IsTrue result → (node_at self.now.bus.state node.0).phase ≡ Phase.Waiting }
+        ensures awaited { result ≡ false → IsWaiting self.now node.0 → IsAwaitedIn self.now node.0 }
+    {
         node.0 < self.count()
             && matches!(&self.bus.phase(node), Phase::Waiting)
             && !self.is_awaited(node)

@@ -1,48 +1,49 @@
 //! Which threads a locked step wakes.
+ghost use Rattle.std.specs.Prelude.{◌≡◌, false, slice_index_or};
+ghost use Rattle.node_threads.specs.Sleepers.{no_wakes, with_rung};
+
+use pals_base::limits::COMPONENTS;
+
 /// The nodes whose threads are to be woken, and whether the calling thread is. It is made under the
 /// lock, and used once the lock is free.
 #[derive(Clone, Copy)]
 pub struct Wakes {
-    // A bit for each of 256 nodes.
-    nodes: [u64; 4],
-    some: bool,
+    // Of each node.
+    nodes: [bool; COMPONENTS],
     caller: bool,
 }
 
 impl Wakes {
-    pub fn none() -> Wakes {
+    /// Nobody.
+    pub fn none() -> Wakes
+        ensures { result ≡ no_wakes }
+    {
         Wakes {
-            nodes: [0; 4],
-            some: false,
+            nodes: [false; COMPONENTS],
             caller: false,
         }
     }
 
-    /// One more node, with a thread of its own.
-    pub fn add_node(&mut self, number: usize) {
-        let word = number / 64;
-        if word < 4 {
-            self.nodes[word] |= 1u64 << (number % 64);
-            self.some = true;
+    /// The thread that has a node too: the calling thread, or its own.
+    pub fn add(&mut self, number: usize, of_caller: bool)
+        ensures { self.new ≡ with_rung self.old number of_caller }
+    {
+        if of_caller {
+            self.caller = true;
+        } else if number < COMPONENTS {
+            self.nodes[number] = true;
         }
     }
 
-    /// The calling thread too.
-    pub fn add_caller(&mut self) {
-        self.caller = true;
+    pub fn has_node(&self, number: usize) -> bool
+        ensures { result ≡ slice_index_or self.now.nodes number false }
+    {
+        number < COMPONENTS && self.nodes[number]
     }
 
-    pub fn has_node(&self, number: usize) -> bool {
-        let word = number / 64;
-        word < 4 && self.nodes[word] & (1u64 << (number % 64)) != 0
-    }
-
-    /// Whether some node is among them.
-    pub fn has_some(&self) -> bool {
-        self.some
-    }
-
-    pub fn has_caller(&self) -> bool {
+    pub fn has_caller(&self) -> bool
+        ensures { result ≡ self.now.caller }
+    {
         self.caller
     }
 }

@@ -1,0 +1,23 @@
+-- Seats, and what holds of nodes so far.
+use Rattle.std.proofs.Common.{◌≡◌, inl, inr, ℕ, zero, suc, ◌+◌, ◌<◌, Bool, true, false, List, [], ◌∷◌, length, slice_get, None, refl, sym, ap, ◌∙◌, subst, arith}
+use Rattle.std.specs.Prelude.{slice_set, slice_index_or}
+use Rattle.std.proofs.lemmas.Bool.{cases_eq, cases_lt}
+use Rattle.std.proofs.lemmas.Grind.{get_or-set_at}
+use Rattle.std.proofs.lemmas.List.{length-set, get_or-set_other, get_or_past, set_past}
+use Rattle.node_threads.specs.declared.wakes.Wakes.{Wakes}
+use Rattle.node_threads.specs.declared.sleepers.Seat.{Seat}
+use Rattle.node_threads.specs.declared.sleepers.Sleepers.{Sleepers}
+use Rattle.node_threads.specs.Sleepers.{seat_at, free_seat, with_seat, is_rung, with_rung, IsRoused, Rouses}
+
+-- past the last seat
+pub none_seat : (seats : List Seat) (node : ℕ) → None ≡ slice_get seats node → seat_at seats node ≡ free_seat
+none_seat [] node is = refl
+none_seat (s ∷ ss) zero is = absurd (cc)
+none_seat (s ∷ ss) (suc k) is = none_seat ss k is
+
+-- what holds of the nodes so far, and of one more
+pub one_more : (P : ℕ → Type 0) (n : ℕ) → ((k : ℕ) → k < n → P k) → P n → (k : ℕ) → k < n + 1 → P k
+one_more P n before here k below = elim (cases_eq k n) [
+  | inl same ↦ subst P (sym same) here
+  | inr other ↦ before k (omega arith)
+]

@@ -1,0 +1,259 @@
+//! Who sleeps until the course of a run goes on.
+ghost use Rattle.std.specs.Prelude.{◌≡◌, ◌<◌, ◌≤◌, ℕ, length, replicate, IsTrue, IfOk, IfSome, true, false};
+ghost use Rattle.run_laws.specs.Runs.{IsLeast};
+ghost use Rattle.node_threads.specs.Courses.{IsOpen, IsDone};
+ghost use Rattle.node_threads.specs.Sleepers.{no_wakes, free_seat, seat_at, with_seat, IsAbove, Waits, Rouses};
+
+use crate::course::Course;
+use crate::wakes::Wakes;
+use pals_base::limits::READING;
+use pals_base::{Items, Nanos, NoMemory, NodeNo};
+use std::alloc::Global;
+
+/// Whether the calling thread has a node, and whether the thread that has it sleeps.
+#[derive(Clone, Copy)]
+pub struct Seat {
+    of_caller: bool,
+    sleeps: bool,
+}
+
+/// Who sleeps, and who is to be woken once the lock is free.
+#[derive(Drop)]
+pub struct Sleepers {
+    seats: Items<Seat>,
+    // Where the nodes meet, the least target when it was last looked for, in nanoseconds.
+    hour: Nanos,
+    wakes: Wakes,
+}
+
+impl Sleepers {
+    /// Nobody sleeps, and each of `count` nodes has a thread of its own.
+    pub fn new(alloc: Global, count: u32) -> Result<Sleepers, NoMemory>
+        ensures { IfOk result (λ s. s ≡ record { seats = replicate count free_seat; hour = 0; wakes = no_wakes }) }
+    {
+        let seat = Seat {
+            of_caller: false,
+            sleeps: false,
+        };
+        let seats = vec![in alloc; seat; count as usize]?;
+        Ok(Sleepers {
+            seats: Items::from_vec(seats),
+            hour: 0,
+            wakes: Wakes::none(),
+        })
+    }
+
+    /// The calling thread has a node.
+    pub fn give_to_caller(&mut self, node: NodeNo)
+        ensures { self.new ≡ with_seat self.old node.0 (record { of_caller = true; sleeps = (seat_at self.old.seats node.0).sleeps }) }
+    {
+        let sleeps = self.seat(node).sleeps;
+        self.put(
+            node,
+            Seat {
+                of_caller: true,
+                sleeps,
+            },
+        );
+    }
+
+    /// Whether the calling thread has a node.
+    pub fn is_of_caller(&self, node: NodeNo) -> bool
+        ensures { result ≡ (seat_at self.now.seats node.0).of_caller }
+    {
+        self.seat(node).of_caller
+    }
+
+    /// Whether the thread of a node sleeps on, which is noted.
+    pub fn sleeps(&mut self, course: &Course, node: NodeNo) -> bool
+        ensures noted { self.new ≡ with_seat self.old node.0 (record { of_caller = (seat_at self.old.seats node.0).of_caller; sleeps = result }) }
+        ensures waits { IsTrue result → Waits course.now self.old.hour node.0 }
+    {
+        let sleeps = self.must_wait(course, node);
+        let of_caller = self.seat(node).of_caller;
+        self.put(node, Seat { of_caller, sleeps });
+        sleeps
+    }
+
+    /// Whether no node of the calling thread may go on any more.
+    pub fn caller_is_over(&self, course: &Course) -> bool
+        ensures { IsTrue result → (node : ℕ) → IsOpen course.now node → (seat_at self.now.seats node).of_caller ≡ true → IsDone course.now node }
+    {
+        for number in 0..course.count() {
+            if !self.is_over(course, NodeNo(number)) {
+                return false;
+            }
+        }
+        true
+    }
+
+    // Whether a node is not the calling thread's, or may not go on any more.
+    fn is_over(&self, course: &Course, node: NodeNo) -> bool
+        ensures { IsTrue result → IsOpen course.now node.0 → (seat_at self.now.seats node.0).of_caller ≡ true → IsDone course.now node.0 }
+    {
+        !self.is_of_caller(node) || !course.is_open(node)
+    }
+
+    /// Those that are to be woken; after it nobody is.
+    pub fn take_wakes(&mut self) -> Wakes
+        ensures taken { result ≡ self.old.wakes }
+        ensures none { self.new ≡ record self.old { wakes = no_wakes } }
+    {
+        let wakes = self.wakes;
+        self.wakes = Wakes::none();
+        wakes
+    }
+
+    fn seat(&self, node: NodeNo) -> Seat
+        ensures { result ≡ seat_at self.now.seats node.0 }
+    {
+        match self.seats.get(node.0 as usize) {
+            Some(seat) => *seat,
+            None => Seat {
+                of_caller: false,
+                sleeps: false,
+            },
+        }
+    }
+
+    fn put(&mut self, node: NodeNo, seat: Seat)
+        ensures { self.new ≡ with_seat self.old node.0 seat }
+    {
+        if (node.0 as usize) < self.seats.len() {
+            self.seats.set(node.0 as usize, seat);
+        }
+    }
+
+    // Whether a node has to wait for others.
+    fn must_wait(&self, course: &Course, node: NodeNo) -> bool
+        ensures { IsTrue result → Waits course.now self.now.hour node.0 }
+    {
+        if !course.is_open(node) {
+            return false;
+        }
+        if course.meeting() {
+            return !self.is_at_hour(course, node);
+        }
+        course.lacks(node)
+    }
+
+    // Wakes the thread that has a node, where it sleeps.
+    fn wake(&mut self, node: NodeNo)
+        ensures awake { (seat_at self.new.seats node.0).sleeps ≡ false }
+        ensures rouses { Rouses self.old self.new }
+    {
+        let seat = self.seat(node);
+        if !seat.sleeps {
+            return;
+        }
+        self.wakes.add(node.0 as usize, seat.of_caller);
+        self.put(
+            node,
+            Seat {
+                of_caller: seat.of_caller,
+                sleeps: false,
+            },
+        );
+    }
+
+    /// The part of a node has ended. At a stop or a close all are woken, and else its targets.
+    pub fn wake_behind(&mut self, course: &Course, node: NodeNo)
+        ensures { Rouses self.old self.new }
+    {
+        if !course.is_stopped() {
+            return self.wake_targets(course, node);
+        }
+        for number in 0..course.count() {
+            self.wake(NodeNo(number));
+        }
+    }
+
+    /// With list clocks: wakes those that waited for a node alone.
+    pub fn wake_targets(&mut self, course: &Course, node: NodeNo)
+        ensures { Rouses self.old self.new }
+    {
+        if course.meeting() {
+            return;
+        }
+        for link in course.design().links() {
+            if link.source.0 == node.0 {
+                self.wake_ready(course, link.target);
+            }
+        }
+    }
+
+    // Wakes the thread that has a node, where it sleeps and the node need not wait.
+    fn wake_ready(&mut self, course: &Course, node: NodeNo)
+        ensures { Rouses self.old self.new }
+    {
+        if self.seat(node).sleeps && !self.must_wait(course, node) {
+            self.wake(node);
+        }
+    }
+
+    /// Where the nodes meet: if a node was the last one at the hour, the hour moves, and those are woken
+    /// whose target it reaches.
+    pub fn move_hour(&mut self, course: &Course, node: NodeNo)
+        ensures { Rouses self.old self.new }
+    {
+        if !course.meeting() || self.is_at_hour(course, node) || self.some_at_hour(course) {
+            return;
+        }
+        self.hour = least_target(course);
+        for number in 0..course.count() {
+            self.wake_at_hour(course, NodeNo(number));
+        }
+    }
+
+    // Wakes the thread that has a node, where the hour has reached its target.
+    fn wake_at_hour(&mut self, course: &Course, node: NodeNo)
+        ensures { Rouses self.old self.new }
+    {
+        if self.is_at_hour(course, node) {
+            self.wake(node);
+        }
+    }
+
+    // Whether the hour has reached the target of a node that is not done.
+    fn is_at_hour(&self, course: &Course, node: NodeNo) -> bool
+        ensures { result ≡ false → node.0 < length course.now.bus.run.design.components → IsAbove course.now.bus.run course.now.bus.state self.now.hour node.0 }
+    {
+        match course.target(node) {
+            None => false,
+            Some(target) => target <= self.hour,
+        }
+    }
+
+    fn some_at_hour(&self, course: &Course) -> bool
+        ensures { result ≡ false → (k : ℕ) → k < length course.now.bus.run.design.components → IsAbove course.now.bus.run course.now.bus.state self.now.hour k }
+    {
+        for number in 0..course.count() {
+            if self.is_at_hour(course, NodeNo(number)) {
+                return true;
+            }
+        }
+        false
+    }
+}
+
+// The least target of the nodes that are not done.
+fn least_target(course: &Course) -> Nanos
+    ensures { IsLeast course.now.bus.run course.now.bus.state result }
+{
+    let mut least = READING;
+    for number in 0..course.count() {
+        least = lesser(least, course.target(NodeNo(number)));
+    }
+    least
+}
+
+// The lesser of a target and of another, if there is one.
+fn lesser(target: Nanos, other: Option<Nanos>) -> Nanos
+    ensures one { result ≤ target }
+    ensures other { IfSome other (λ least. result ≤ least) }
+{
+    match other {
+        Some(least) if least < target => least,
+        Some(_) | None => target,
+    }
+}

@@ -1,0 +1,14 @@
+//! Tests of runs in threads: what comes out does not depend on who runs when, which starts are
+//! refused, or how long the lists of clocks are.
+#![tactic(auto)]
+
+#[cfg(test)]
+mod buses;
+#[cfg(test)]
+mod clocks;
+#[cfg(test)]
+mod designs;
+#[cfg(test)]
+mod gates;
+#[cfg(test)]
+mod runs;

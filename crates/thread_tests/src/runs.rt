@@ -1,0 +1,68 @@
+//! Nodes that meet.
+use crate::buses::{bus_of, tells};
+use crate::designs::TURN;
+use crate::gates::{Meets, Yields};
+use node_threads::NoGate;
+use pals_base::NodeNo;
+use pals_clock::Clocks;
+use std::test::Fail;
+
+const TURNED: &str = "round 0\n\
+p.m s sum=0\n\
+p.l s a=0\n\
+p.r s a=0\n\
+p.t s a=0\n\
+round 1\n\
+p.m s sum=0\n\
+p.l s a=1\n\
+p.r s a=2\n\
+p.t s a=4\n\
+round 2\n\
+p.m s sum=5\n\
+p.l s a=2\n\
+p.r s a=4\n\
+p.t s a=8\n\
+finished\nfinished\nfinished\nfinished\n";
+
+// The first jobs of all four nodes run at once, so no thread has two of them.
+#[test]
+fn jobs_meet(rt: HostRuntime) -> Result<(), Fail> {
+    let alloc = rt.alloc();
+    let bus = bus_of(&rt, alloc, TURN, true)?;
+    let gate = Meets::new();
+    assert!(rt; tells(&rt, alloc, &bus, Clocks::Meet, &[], &gate, TURNED)?);
+    assert!(rt; gate.all_met());
+    Ok(())
+}
+
+const REFUSED: [&[NodeNo]; 5] = [
+    &[NodeNo(0)],
+    &[NodeNo(1)],
+    &[NodeNo(2)],
+    &[NodeNo(3)],
+    &[NodeNo(0), NodeNo(1), NodeNo(2), NodeNo(3)],
+];
+
+#[test]
+fn refused_starts_do_not_show(rt: HostRuntime) -> Result<(), Fail> {
+    let alloc = rt.alloc();
+    let bus = bus_of(&rt, alloc, TURN, true)?;
+    for refused in &REFUSED {
+        assert!(rt; tells(&rt, alloc, &bus, Clocks::Meet, refused, &NoGate, TURNED)?);
+    }
+    Ok(())
+}
+
+#[test]
+fn schedules_do_not_show(rt: HostRuntime) -> Result<(), Fail> {
+    let alloc = rt.alloc();
+    let bus = bus_of(&rt, alloc, TURN, true)?;
+    for seed in 0..1_000 {
+        let gate = Yields::new(seed);
+        assert!(rt;
+            tells(&rt, alloc, &bus, Clocks::Meet, &[], &gate, TURNED)?,
+            "seed {seed}"
+        );
+    }
+    Ok(())
+}
