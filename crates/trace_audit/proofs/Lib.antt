@@ -1,0 +1,12 @@
+pub mod Breaking
+pub mod Telling
+pub mod Numbers
+pub mod Deciding
+pub mod Nodes
+pub mod Starting
+pub mod Keeping
+pub mod Cutting
+pub mod Placing
+pub mod Reporting
+pub mod Making
+pub mod Judging

@@ -1,0 +1,22 @@
+use Rattle.std.proofs.Common.{◌≡◌, ◌/◌, sym, ap, ◌∙◌, subst}
+use Rattle.std.specs.Prelude.{IfOk}
+use Rattle.std.specs.Arc.{arc_value}
+use Rattle.pals_model.specs.declared.design.DesignParts.{DesignParts}
+use Rattle.pals_runs.specs.declared.verdicts.Verdict.{Verdict}
+use Rattle.bus_machine.specs.States.{Run}
+use Rattle.trace_laws.specs.Traces.{opening_audit, row_size}
+use Rattle.trace_audit.proofs.Judging.{judged_whole}
+use Rattle.trace_audit.proofs.traces.audit_whole.Goals as goal
+
+pub audit_behind-requires-clause-design : goal.audit_behind-requires-clause-design
+audit_behind-requires-clause-design c = c.deref.ensures ∙ sym (ap (λ (r : Run). r.design) c.in_ok-replay.ensures.run)
+
+pub returns : goal.returns
+returns c =
+    let run : Run = record { design = arc_value c.args.design; env = c.args.env; rounds = c.args.rounds; delays = c.args.delays } in
+    let replay = c.in_ok-replay.replay in
+    let size = c.args.size in
+    subst (λ (v : Verdict). IfOk c.audit_behind.result (λ w. w ≡ v))
+    (judged_whole run replay.bus.run c.args.trace.now size _ _ c.requires.report.0 c.requires.report.1 c.in_ok-replay.ensures.run
+    (c.in_ok-replay.ensures.value ∙ ap opening_audit c.in_ok-replay.ensures.run) (ap (λ (d : DesignParts). size / row_size d) c.deref.ensures))
+    c.audit_behind.ensures

@@ -1,0 +1,133 @@
+//! A run that is done again, line by line.
+ghost use Rattle.std.specs.Prelude.{◌≡◌, ◌<◌, length, option_map, Option, Some, None, Ok, false, true, IfOk, IfSome};
+ghost use Rattle.bus_machine.specs.States.{opening};
+ghost use Rattle.trace_laws.specs.EntryLines.{IsEntryIn};
+ghost use Rattle.trace_laws.specs.TraceLines.{has_reading, timed};
+ghost use Rattle.trace_laws.specs.Traces.{opening_audit, line_broken};
+ghost use Rattle.trace_audit.specs.Clocks.{timed_of};
+ghost use Rattle.trace_audit.specs.Owing.{owed_by};
+ghost use Rattle.trace_audit.specs.Replays.{IsReplay, Follows, IsClockOf, audit_in};
+
+use crate::clocks::{ClockReading, clock_of, has_reading, note};
+use crate::entries::redo;
+use crate::rules::is_line_of;
+use pals_base::{Nanos, NoMemory};
+use pals_bus::Bus;
+use pals_runs::{Arrived, JournalEntry, Stop, TraceRule};
+use std::alloc::Global;
+
+/// A bus that does again what a journal tells, the last reading of each node, and the stop that the
+/// next line has to tell, if it has to.
+#[derive(Drop)]
+pub struct Replay {
+    pub bus: Bus,
+    pub readings: Vec<Nanos>,
+    pub owed: Option<JournalEntry>,
+}
+
+impl Replay {
+    /// A run before its first event.
+    pub fn new(alloc: Global, bus: Bus) -> Result<Replay, NoMemory>
+        requires loose { bus.meeting ≡ false }
+        requires opening { bus.state ≡ opening bus.run }
+        ensures kept { IfOk result IsReplay }
+        ensures run { IfOk result (λ replay. replay.bus.run ≡ bus.run) }
+        ensures value { IfOk result (λ replay. audit_in replay ≡ opening_audit bus.run) }
+    {
+        let readings = vec![in alloc; 0_u64; bus.design().components().len()]?;
+        Ok(Replay {
+            bus,
+            readings,
+            owed: None,
+        })
+    }
+
+    /// Does what a line tells, and gives the first rule that the line breaks, or none. Where one is
+    /// broken, nothing is said of what is left.
+    pub fn audit_line(&mut self, told: Option<JournalEntry>) -> Result<Option<TraceRule>, NoMemory>
+        requires kept { IsReplay self.old }
+        requires entry { IfSome told (IsEntryIn self.old.bus.run.design) }
+        ensures rule { IfOk result (λ rule. rule ≡ line_broken self.old.bus.run (audit_in self.old) told) }
+        ensures next { result ≡ Ok None → IfSome told (λ entry. Follows self.old entry self.new) }
+    {
+        let Some(entry) = told else {
+            return Ok(Some(TraceRule::Text));
+        };
+        let clock = clock_of(self.bus.design(), &entry);
+        if !has_reading(clock) {
+            return Ok(Some(TraceRule::Text));
+        }
+        match self.owed {
+            Some(owed) => Ok(self.take_stop(&entry, clock, &owed)),
+            None => self.take_entry(&entry, clock),
+        }
+    }
+
+    // The line behind an early arrival.
+    fn take_stop(
+        &mut self,
+        entry: &JournalEntry,
+        clock: Option<ClockReading>,
+        owed: &JournalEntry,
+    ) -> Option<TraceRule>
+        requires kept { IsReplay self.old }
+        requires entry { IsEntryIn self.old.bus.run.design entry.now }
+        requires clock { IsClockOf self.old entry.now clock }
+        requires owed { self.old.owed ≡ Some owed.now }
+        ensures rule { result ≡ line_broken self.old.bus.run (audit_in self.old) (Some entry.now) }
+        ensures next { result ≡ None → Follows self.old entry.now self.new }
+    {
+        if !is_line_of(self.bus.design(), entry, owed) {
+            return Some(TraceRule::Stop);
+        }
+        note(&mut self.readings, clock);
+        self.owed = None;
+        None
+    }
+
+    // Another line.
+    fn take_entry(
+        &mut self,
+        entry: &JournalEntry,
+        clock: Option<ClockReading>,
+    ) -> Result<Option<TraceRule>, NoMemory>
+        requires kept { IsReplay self.old }
+        requires entry { IsEntryIn self.old.bus.run.design entry.now }
+        requires clock { IsClockOf self.old entry.now clock }
+        requires owed { self.old.owed ≡ None }
+        ensures rule { IfOk result (λ rule. rule ≡ line_broken self.old.bus.run (audit_in self.old) (Some entry.now)) }
+        ensures next { result ≡ Ok None → Follows self.old entry.now self.new }
+    {
+        if self.bus.stop().is_some() {
+            return Ok(Some(TraceRule::Order));
+        }
+        if let Some(rule) = redo(&mut self.bus, self.readings.as_slice(), entry)? {
+            return Ok(Some(rule));
+        }
+        note(&mut self.readings, clock);
+        self.owed = owed_by(entry);
+        Ok(None)
+    }
+}
+
+// The stop that the line behind an entry has to tell, if it has to.
+fn owed_by(entry: &JournalEntry) -> Option<JournalEntry>
+    ensures { result ≡ owed_by entry.now }
+{
+    match *entry {
+        JournalEntry::Arrive {
+            link,
+            round,
+            reading,
+            result: Arrived::Early,
+        } => {
+            let stop = Stop::Early {
+                link,
+                round,
+                reading,
+            };
+            Some(JournalEntry::Stopped(stop))
+        }
+        _ => None,
+    }
+}
