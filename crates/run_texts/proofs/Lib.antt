@@ -1,0 +1,4 @@
+pub mod Done
+pub mod Courses
+pub mod Firsts
+pub mod Outcomes
