@@ -97,7 +97,7 @@ module _ (d : Data) (design : DesignParts) (command : Command) where
   abbrev from_properties : ℕ → List (List Port) → List Event → Clocks → List (List ℕ) → List (List ℕ) → Result Scenario ScenarioFault
   from_properties n i v c l t = properties_read >>= λ p. from_replicas n i v c l t p
 
-  abbrev trace_read : Result (List (List ℕ)) ScenarioFault
+  abbrev pub trace_read : Result (List (List ℕ)) ScenarioFault
   trace_read = field (codes "trace") (needs_trace command) [] trace_in (get (codes "trace") d)
 
   abbrev from_trace : ℕ → List (List Port) → List Event → Clocks → List (List ℕ) → Result Scenario ScenarioFault
@@ -133,6 +133,7 @@ module _ (d : Data) (design : DesignParts) (command : Command) where
   -- what was read of these fields is the scenario's
   pub record AreRead (s : Scenario) : Type 0 where
     pub events : events_read ≡ Ok s.events
+    pub trace : trace_read ≡ Ok s.trace
     pub faults : faults_read s.replicas ≡ Ok s.faults
     pub plants : plants_read ≡ Ok s.plants
 
@@ -145,20 +146,20 @@ module _ (d : Data) (design : DesignParts) (command : Command) where
       read_from events_read (λ v. from_clocks n i v) s Q (λ v is_events e2.
       goes_on clocks_read (λ c. from_delays n i v c) s Q (λ c e3.
       goes_on delays_read (λ l. from_trace n i v c l) s Q (λ l e4.
-      goes_on trace_read (λ t. from_properties n i v c l t) s Q (λ t e5.
+      read_from trace_read (λ t. from_properties n i v c l t) s Q (λ t is_trace e5.
       goes_on properties_read (λ p. from_replicas n i v c l t p) s Q (λ p e6.
       goes_on replicas_read (λ r. from_faults n i v c l t p r) s Q (λ r e7.
       read_from (faults_read r) (λ f. from_plants n i v c l t p r f) s Q (λ f is_faults e8.
       read_from plants_read (λ pl. from_processors n i v c l t p r f pl) s Q (λ pl is_plants e9.
       goes_on processors_read (λ pr. Ok (made n i v c l t p r f pl pr)) s Q (λ pr e10.
-      subst AreRead (ok_same (made n i v c l t p r f pl pr) s e10) (record { events = is_events; faults = is_faults; plants = is_plants })
+      subst AreRead (ok_same (made n i v c l t p r f pl pr) s e10) (record { events = is_events; trace = is_trace; faults = is_faults; plants = is_plants })
       ) e9) e8) e7) e6) e5) e4) e3) e2) e1) e0) e
 
-  scenario_is_read : (s : Scenario) → scen d design command ≡ Ok s → AreRead s
+  pub fields_of_scenario : (s : Scenario) → scen d design command ≡ Ok s → fields_in d design command ≡ Ok s
   unfolding scen
-  scenario_is_read s e =
+  fields_of_scenario s e =
       let es = ok_bind (entries (codes "scenario") d) (λ es. only_known (find (λ x. not (is_field x.0)) es) (fields_in d design command)) s e in
-      fields_are_read s (known (find (λ x. not (is_field x.0)) es.0) (fields_in d design command) s es.2)
+      known (find (λ x. not (is_field x.0)) es.0) (fields_in d design command) s es.2
 
 -- ---- what the bytes of a scenario mean
 abbrev read_well : Scenario → Result Scenario ScenarioFault
@@ -167,7 +168,12 @@ read_well s = Ok s
 wrong : {P : Type 0} (s : Scenario) → read_well s ≡ Err NotJson → P
 wrong s e = absurd (cc)
 
+pub means_fields : (bytes : List ℕ) (design : DesignParts) (command : Command) (s : Scenario) → Means bytes design command (Ok s)
+    → (d : Data) × (fields_in d design command ≡ Ok s)
+means_fields bytes design command s (inl value) = (value.0, fields_of_scenario value.0 design command s value.2)
+means_fields bytes design command s (inr none) = wrong s none.1
+
 pub means_read : (bytes : List ℕ) (design : DesignParts) (command : Command) (s : Scenario) → Means bytes design command (Ok s)
     → (d : Data) × AreRead d design command s
-means_read bytes design command s (inl value) = (value.0, scenario_is_read value.0 design command s value.2)
-means_read bytes design command s (inr none) = wrong s none.1
+means_read bytes design command s means =
+    let fields = means_fields bytes design command s means in (fields.0, fields_are_read fields.0 design command s fields.1)

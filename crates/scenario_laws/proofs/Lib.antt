@@ -1,6 +1,7 @@
 mod Fields
 mod Names
 mod EventLists
+mod TraceLists
 mod PairLists
 mod Laws
 mod Named

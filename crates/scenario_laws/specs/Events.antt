@@ -1,4 +1,4 @@
--- What the events of a scenario keep that was read.
+-- What the events and the trace of a scenario keep that was read.
 use Rattle.std.specs.Prelude.{◌≤◌, true, ℕ, List, length, All, Ok}
 use Rattle.pals_base.specs.declared.limits.TheConstants.{LIST_ITEMS}
 use Rattle.pals_model.specs.declared.design.DesignParts.{DesignParts}
@@ -28,3 +28,8 @@ abbrev pub EventsAreFew : Type 0
 EventsAreFew =
     (bytes : List ℕ) (command : Command) (design : DesignParts) (scenario : Scenario) → Means bytes design command (Ok scenario)
     → length scenario.events ≤ LIST_ITEMS
+
+abbrev pub TracesAreFew : Type 0
+TracesAreFew =
+    (bytes : List ℕ) (command : Command) (design : DesignParts) (scenario : Scenario) → Means bytes design command (Ok scenario)
+    → length scenario.trace ≤ LIST_ITEMS

@@ -1,4 +1,5 @@
 pub mod Events
+pub mod Facts
 pub mod Faults
 pub mod Meanings
 pub mod Plants

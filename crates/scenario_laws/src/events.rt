@@ -1,5 +1,5 @@
-//! Laws of the events of scenarios. The functions do nothing: their contracts are the laws.
-ghost use Rattle.scenario_laws.specs.Events.{EventsAreLoose, EventsAreFew};
+//! Laws of the events and the traces of scenarios. The functions do nothing: their contracts are the laws.
+ghost use Rattle.scenario_laws.specs.Events.{EventsAreLoose, EventsAreFew, TracesAreFew};
 
 /// Each event of a scenario of a loose world names a node or a link of the design and is no passing of
 /// time, and there are no more of them than a list may have.
@@ -10,4 +10,9 @@ pub fn events_are_loose()
 /// The events of a scenario are no more than a list may have, whatever the command.
 pub fn events_are_few()
     ensures { EventsAreFew }
+{}
+
+/// The lines of the trace of a scenario are no more than a list may have, whatever the command.
+pub fn traces_are_few()
+    ensures { TracesAreFew }
 {}

@@ -3,6 +3,7 @@
 #![tactic(auto)]
 
 pub mod events;
+pub mod facts;
 pub mod faults;
 pub mod meanings;
 pub mod plants;

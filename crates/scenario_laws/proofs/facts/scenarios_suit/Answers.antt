@@ -1,0 +1,5 @@
+use Rattle.scenario_laws.proofs.Laws.{scenarios_suit}
+use Rattle.scenario_laws.proofs.facts.scenarios_suit.Goals as goal
+
+pub returns : goal.returns
+returns c = scenarios_suit
