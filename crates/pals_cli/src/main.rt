@@ -2,6 +2,7 @@
 //! standard output, and its status at the end. It writes nothing else.
 #![tactic(auto)]
 
+use node_threads::{NoGate, ThreadStarter};
 use pals_base::{NoMemory, Text};
 use pals_io::{ReadSource, WriteSink};
 use pals_top::pals;
@@ -18,7 +19,15 @@ fn main(rt: HostRuntime) -> ExitCode {
     };
     let mut source = ReadSource::new(rt.stdin());
     let mut sink = WriteSink::new(rt.stdout());
-    let status = pals(rt.alloc(), words.as_slice(), &mut source, &mut sink);
+    let status = pals(
+        &rt,
+        rt.alloc(),
+        words.as_slice(),
+        &mut source,
+        &mut sink,
+        &mut ThreadStarter,
+        &NoGate,
+    );
     ExitCode::from(status)
 }
 

@@ -8,11 +8,11 @@ use Rattle.pals_runs.specs.declared.commands.Command.{Command}
 use Rattle.scenario_json.specs.declared.scenario.Scenario.{Scenario}
 use Rattle.scenario_json.specs.Scenarios.{Means}
 use Rattle.design_codes.specs.Causes.{AreShort, IsFirstTooLong}
-use Rattle.scenario_laws.specs.Events.{EventsAreLoose, EventsAreFew, loosely}
+use Rattle.scenario_laws.specs.Events.{EventsAreLoose, EventsAreFew, TracesAreFew, loosely}
 use Rattle.bundle_designs.specs.Accepted.{IsAccepted}
 use Rattle.pals_top.specs.declared.answer.Answer.{Answer}
 use Rattle.pals_top.specs.declared.execution.Execution.{Execution}
-use Rattle.pals_top.specs.declared.execution.Execution.TheVariants.{TimedWorld, LooseWorld, Budget}
+use Rattle.pals_top.specs.declared.execution.Execution.TheVariants.{TimedWorld, LooseWorld, Run, Audit, Budget}
 use Rattle.pals_top.specs.declared.status.TheConstants.{CODE_TOO_LONG}
 use Rattle.pals_top.specs.Executions.{command_of, code_fault_line, HasEvents, Makes, IsExecutionAnswer}
 use Rattle.pals_top.specs.Statuses.{status_of, text_of, Says}
@@ -20,17 +20,21 @@ use Rattle.pals_top.proofs.Scenarios.{SaysFault}
 
 -- what a scenario was read for, it keeps
 keeps_events : (what : Execution) (root : List ℕ) (design : DesignParts) (bytes : List ℕ) (scenario : Scenario) (command : Command)
-    → command ≡ command_of what root → EventsAreLoose → Means bytes design command (Ok scenario) → length scenario.events ≤ LIST_ITEMS → HasEvents what design scenario
-keeps_events TimedWorld root design bytes scenario command is loose means few = few
-keeps_events LooseWorld root design bytes scenario command is loose means few =
+    → command ≡ command_of what root → EventsAreLoose → Means bytes design command (Ok scenario) → length scenario.events ≤ LIST_ITEMS
+    → length scenario.trace ≤ LIST_ITEMS → HasEvents what design scenario
+keeps_events TimedWorld root design bytes scenario command is loose means few lines = few
+keeps_events LooseWorld root design bytes scenario command is loose means few lines =
     let same : command ≡ loosely root = is in
     loose bytes root design scenario (subst (λ (k : Command). Means bytes design k (Ok scenario)) same means)
-keeps_events Budget root design bytes scenario command is loose means few = tt
+keeps_events (Run trace) root design bytes scenario command is loose means few lines = tt
+keeps_events Audit root design bytes scenario command is loose means few lines = lines
+keeps_events Budget root design bytes scenario command is loose means few lines = tt
 
-pub has_events : (what : Execution) (root : List ℕ) (design : DesignParts) (bytes : List ℕ) (scenario : Scenario) → EventsAreLoose → EventsAreFew
+pub has_events : (what : Execution) (root : List ℕ) (design : DesignParts) (bytes : List ℕ) (scenario : Scenario) → EventsAreLoose → EventsAreFew → TracesAreFew
     → Means bytes design (command_of what root) (Ok scenario) → HasEvents what design scenario
-has_events what root design bytes scenario loose few means =
+has_events what root design bytes scenario loose few lines means =
     keeps_events what root design bytes scenario (command_of what root) refl loose means (few bytes (command_of what root) design scenario means)
+    (lines bytes (command_of what root) design scenario means)
 
 abbrev IsAnswered : Execution → List ℕ → List ℕ → Answer → Type 0
 IsAnswered what root bundle a = IsExecutionAnswer what root bundle (status_of a) (text_of a)

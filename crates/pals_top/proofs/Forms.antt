@@ -50,7 +50,7 @@ idle false command e = refl
 rooted_by : (x y : Bool) (a b : List ℕ) → is_flag a ≡ x → is_flag b ≡ y → is_plain b ≡ true → two x y a b ≡ rooted_form a b
 rooted_by x true a b ex ey plain = absurd (true≢false (sym plain ∙ flag_begins b ey))
 rooted_by true false a b ex ey plain =
-    idle (list_all is_plain (b ∷ [])) (form_by (b ∷ []) (a ∷ [])) (idle (bytes_eq a (codes "--loose")) None refl) ∙ sym (flag_alone a b (flag_begins a ex))
+    idle (list_all is_plain (b ∷ [])) (form_by (b ∷ []) (a ∷ [])) refl ∙ sym (flag_alone a b (flag_begins a ex))
 rooted_by false false a b ex ey plain = both (is_plain a) (is_plain b) (rooted_form a b) plain (λ e. flag_alone a b e) where
   both : (first second : Bool) (command : Option Command) → second ≡ true → (first ≡ false → command ≡ None) → cond (first && (second && true)) command None ≡ command
   both true true command e none = refl
@@ -62,7 +62,7 @@ form_rooted a b plain = rooted_by (is_flag a) (is_flag b) a b refl refl plain
 
 none_by : (x y : Bool) (a b : List ℕ) → is_plain b ≡ false → two x y a b ≡ None
 none_by true true a b plain = refl
-none_by false true a b plain = idle (list_all is_plain (a ∷ [])) (form_by (a ∷ []) (b ∷ [])) (idle (bytes_eq b (codes "--loose")) None refl)
+none_by false true a b plain = idle (list_all is_plain (a ∷ [])) (form_by (a ∷ []) (b ∷ [])) refl
 none_by true false a b plain = ap (λ p. cond (p && true) (form_by (b ∷ []) (a ∷ [])) None) plain
 none_by false false a b plain = ap (λ p. cond (is_plain a && (p && true)) (rooted_form a b) None) plain ∙ nothing (is_plain a) (rooted_form a b) where
   nothing : (p : Bool) (command : Option Command) → cond (p && (false && true)) command None ≡ None
@@ -123,7 +123,7 @@ no_form (a ∷ b ∷ c ∷ d ∷ plain) [] many = refl
 no_form [] (f ∷ []) many = absurd (omega arith)
 no_form (a ∷ []) (f ∷ []) many = absurd (omega arith)
 no_form (a ∷ b ∷ []) (f ∷ []) many = absurd (omega arith)
-no_form (a ∷ b ∷ c ∷ plain) (f ∷ []) many = idle (bytes_eq f (codes "--loose")) None refl
+no_form (a ∷ b ∷ c ∷ plain) (f ∷ []) many = refl
 no_form plain (f ∷ g ∷ chosen) many = refl
 
 pub form_long : (words : List (List ℕ)) → 4 ≤ length words → form words ≡ None

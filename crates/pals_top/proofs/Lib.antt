@@ -4,3 +4,4 @@ mod Forms
 mod LooseWorlds
 mod Refusals
 mod Scenarios
+pub mod Audits

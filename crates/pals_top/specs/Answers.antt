@@ -1,7 +1,7 @@
 -- What the program answers: a status and a text, to its words and to what its source had.
 use Rattle.std.specs.Prelude.{◌≡◌, ℕ, Bool, true, false, List, Option, Some, None, ◌⊎◌}
 use Rattle.pals_runs.specs.declared.commands.Command.{Command}
-use Rattle.pals_runs.specs.declared.commands.Command.TheVariants.{Print, Check, Sync, World, Ring, Watch, Vote, Fuse, Budget}
+use Rattle.pals_runs.specs.declared.commands.Command.TheVariants.{Print, Check, Sync, World, Run, Audit, Ring, Watch, Vote, Fuse, Budget}
 use Rattle.pals_top.specs.declared.status.TheConstants.{USAGE}
 use Rattle.pals_top.specs.Outside.{Reading, HasRead, IsReadFault}
 use Rattle.pals_top.specs.Texts.{usage_line}
@@ -23,8 +23,10 @@ IsCommandAnswer (Vote root) bundle status text = IsAnalysisAnswer analysis.Vote 
 IsCommandAnswer (Fuse root) bundle status text = IsAnalysisAnswer analysis.Fuse root bundle status text
 IsCommandAnswer (World root false) bundle status text = IsExecutionAnswer execution.TimedWorld root bundle status text
 IsCommandAnswer (World root true) bundle status text = IsExecutionAnswer execution.LooseWorld root bundle status text
+IsCommandAnswer (Run root trace) bundle status text = IsExecutionAnswer (execution.Run trace) root bundle status text
+IsCommandAnswer (Audit root) bundle status text = IsExecutionAnswer execution.Audit root bundle status text
 IsCommandAnswer (Budget root) bundle status text = IsExecutionAnswer execution.Budget root bundle status text
-IsCommandAnswer _ bundle status text = ⊥
+IsCommandAnswer (Ring nodes rounds) bundle status text = ⊥
 
 -- A command reads all bytes and answers them, or says why they were not read.
 pub record IsBundleAnswer (command : Command) (seen : Reading) (status : ℕ) (text : List ℕ) : Type 0 where

@@ -12,31 +12,38 @@ use Rattle.design_codes.specs.Causes.{AreShort, IsFirstTooLong}
 use Rattle.scenario_laws.specs.Events.{AreLooseEvents}
 use Rattle.bundle_designs.specs.Accepted.{IsAccepted}
 use Rattle.pals_top.specs.declared.execution.Execution.{Execution}
-use Rattle.pals_top.specs.declared.execution.Execution.TheVariants.{TimedWorld, LooseWorld, Budget}
+use Rattle.pals_top.specs.declared.execution.Execution.TheVariants.{TimedWorld, LooseWorld, Run, Audit, Budget}
 use Rattle.pals_top.specs.declared.status.TheConstants.{CODE_TOO_LONG, SCENARIO_REFUSED}
 use Rattle.pals_top.specs.Refusals.{IsBundleRefused}
 use Rattle.pals_top.specs.Scenarios.{HasScenario, HasScenarioFault}
 use Rattle.pals_top.specs.Loose.{IsWorldAnswer}
 use Rattle.pals_top.specs.Worlds.{IsTimedAnswer}
+use Rattle.pals_top.specs.Run.{IsRunAnswer}
+use Rattle.pals_top.specs.Audit.{IsAudited}
 use Rattle.pals_top.specs.Budget.{IsBudgeted}
 
 -- the command that asks for it, below a root
 abbrev pub command_of : Execution → List ℕ → Command
 command_of TimedWorld root = command.World root false
 command_of LooseWorld root = command.World root true
+command_of (Run trace) root = command.Run root trace
+command_of Audit root = command.Audit root
 command_of Budget root = command.Budget root
 
 -- What each makes of a design and its scenario.
 abbrev pub Makes : Execution → DesignParts → Scenario → ℕ → List ℕ → Type 0
 Makes TimedWorld design scenario status text = IsTimedAnswer design scenario status text
 Makes LooseWorld design scenario status text = IsWorldAnswer design scenario status text
+Makes (Run trace) design scenario status text = IsRunAnswer design scenario trace status text
+Makes Audit design scenario status text = IsAudited design scenario status text
 Makes Budget design scenario status text = IsBudgeted design scenario status text
 
 -- what the scenario of each keeps beside
 abbrev pub HasEvents : Execution → DesignParts → Scenario → Type 0
 HasEvents TimedWorld design scenario = length scenario.events ≤ LIST_ITEMS
 HasEvents LooseWorld design scenario = AreLooseEvents design scenario.events
-HasEvents Budget design scenario = Unit {0}
+HasEvents Audit design scenario = length scenario.trace ≤ LIST_ITEMS
+HasEvents what design scenario = Unit {0}
 
 -- The bundle means a design and a scenario, no code is too long, and this is what is made of them.
 pub record IsExecuted (what : Execution) (root bundle : List ℕ) (status : ℕ) (text : List ℕ) : Type 0 where

@@ -17,3 +17,5 @@ pub mod Vote
 pub mod Fuse
 pub mod Words
 pub mod Worlds
+pub mod Run
+pub mod Audit

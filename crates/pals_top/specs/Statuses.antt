@@ -1,8 +1,8 @@
 -- The status and the text of an answer.
 use Rattle.std.specs.Prelude.{◌≡◌, ℕ, List}
 use Rattle.pals_top.specs.declared.answer.Answer.{Answer}
-use Rattle.pals_top.specs.declared.answer.Answer.TheVariants.{Done, NotSo, Usage, TextRefused, DesignRefused, ScenarioRefused, Stopped, CodeTooLong, ReadFault, TooLong}
-use Rattle.pals_top.specs.declared.status.TheConstants.{DONE, NOT_SO, USAGE, TEXT_REFUSED, DESIGN_REFUSED, SCENARIO_REFUSED, STOPPED, CODE_TOO_LONG, READ_FAULT, TOO_LONG}
+use Rattle.pals_top.specs.declared.answer.Answer.TheVariants.{Done, NotSo, Usage, TextRefused, DesignRefused, ScenarioRefused, Stopped, ClockEnded, CodeTooLong, ReadFault, TooLong}
+use Rattle.pals_top.specs.declared.status.TheConstants.{DONE, NOT_SO, USAGE, TEXT_REFUSED, DESIGN_REFUSED, SCENARIO_REFUSED, STOPPED, CLOCK_ENDED, CODE_TOO_LONG, READ_FAULT, TOO_LONG}
 use Rattle.pals_top.specs.Texts.{usage_line, read_fault_line, too_long_line}
 
 abbrev pub status_of : Answer → ℕ
@@ -13,6 +13,7 @@ status_of (TextRefused text) = TEXT_REFUSED
 status_of (DesignRefused text) = DESIGN_REFUSED
 status_of (ScenarioRefused text) = SCENARIO_REFUSED
 status_of (Stopped text) = STOPPED
+status_of (ClockEnded text) = CLOCK_ENDED
 status_of (CodeTooLong text) = CODE_TOO_LONG
 status_of ReadFault = READ_FAULT
 status_of TooLong = TOO_LONG
@@ -25,6 +26,7 @@ text_of (TextRefused text) = text.items
 text_of (DesignRefused text) = text.items
 text_of (ScenarioRefused text) = text.items
 text_of (Stopped text) = text.items
+text_of (ClockEnded text) = text.items
 text_of (CodeTooLong text) = text.items
 text_of ReadFault = read_fault_line
 text_of TooLong = too_long_line

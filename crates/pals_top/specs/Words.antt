@@ -2,7 +2,7 @@
 use Rattle.std.specs.List.{list_all}
 use Rattle.std.specs.Prelude.{ℕ, ◌+◌, ◌-◌, ◌*◌, nat_eq, nat_le, Bool, true, false, not, if◌then◌else◌, ◌&&◌, ◌||◌, codes, bytes_eq, List, [], ◌∷◌, length, filter, fold, Option, Some, None, Result, Ok, Err, ◌≡◌, ◌≤◌, IsSome}
 use Rattle.pals_runs.specs.declared.commands.Command.{Command}
-use Rattle.pals_runs.specs.declared.commands.Command.TheVariants.{Print, Check, Sync, World, Ring, Watch, Vote, Fuse, Budget}
+use Rattle.pals_runs.specs.declared.commands.Command.TheVariants.{Print, Check, Sync, World, Run, Audit, Ring, Watch, Vote, Fuse, Budget}
 use Rattle.pals_top.specs.declared.words.TheConstants.{RING_NODES, RING_ROUNDS}
 use Rattle.pals_top.specs.declared.words.WordsEnd.{WordsEnd}
 use Rattle.pals_top.specs.declared.words.WordsEnd.TheVariants.{Usage, Memory}
@@ -42,7 +42,8 @@ number_in least most word = if is_number word && nat_le least (value_of word) &&
 abbrev pub rooted_form : List ℕ → List ℕ → Option Command
 rooted_form word root =
     if bytes_eq word (codes "check") then Some (Check root) else if bytes_eq word (codes "sync") then Some (Sync root)
-    else if bytes_eq word (codes "world") then Some (World root false) else if bytes_eq word (codes "watch") then Some (Watch root)
+    else if bytes_eq word (codes "world") then Some (World root false) else if bytes_eq word (codes "run") then Some (Run root false)
+    else if bytes_eq word (codes "audit") then Some (Audit root) else if bytes_eq word (codes "watch") then Some (Watch root)
     else if bytes_eq word (codes "vote") then Some (Vote root) else if bytes_eq word (codes "fuse") then Some (Fuse root)
     else if bytes_eq word (codes "budget") then Some (Budget root) else None
 
@@ -58,31 +59,31 @@ plain_form (word ∷ nodes ∷ rounds ∷ []) =
     if bytes_eq word (codes "self") then ring_form (number_in 2 RING_NODES nodes) (number_in 1 RING_ROUNDS rounds) else None
 plain_form _ = None
 
-abbrev pub loose_form : List (List ℕ) → Option Command
-loose_form (word ∷ root ∷ []) = if bytes_eq word (codes "world") then Some (World root true) else None
-loose_form _ = None
+-- the flags ask for a world without time, and for the journal of a run
+abbrev pub loose_form : List ℕ → List ℕ → Option Command
+loose_form word root = if bytes_eq word (codes "world") then Some (World root true) else None
+
+abbrev pub trace_form : List ℕ → List ℕ → Option Command
+trace_form word root = if bytes_eq word (codes "run") then Some (Run root true) else None
+
+abbrev pub flag_form : List ℕ → List (List ℕ) → Option Command
+flag_form flag (word ∷ root ∷ []) =
+    if bytes_eq flag (codes "--loose") then loose_form word root else if bytes_eq flag (codes "--trace") then trace_form word root else None
+flag_form flag _ = None
 
 abbrev pub form_by : List (List ℕ) → List (List ℕ) → Option Command
 form_by plain [] = plain_form plain
-form_by plain (flag ∷ []) = if bytes_eq flag (codes "--loose") then loose_form plain else None
+form_by plain (flag ∷ []) = flag_form flag plain
 form_by plain _ = None
 
 -- The command that the words are. No plain word begins with `-`.
 abbrev pub form : List (List ℕ) → Option Command
 form words = if list_all is_plain (plain_words words) then form_by (plain_words words) (flags words) else None
 
--- the commands that have a form, with what it keeps
+-- what the form of a command keeps: the numbers of a ring are within their limits
 abbrev pub HasForm : Command → Type 0
-HasForm Print = Unit {0}
-HasForm (Check root) = Unit {0}
-HasForm (Sync root) = Unit {0}
-HasForm (World root loose) = Unit {0}
 HasForm (Ring nodes rounds) = (2 ≤ nodes) × (nodes ≤ RING_NODES) × (1 ≤ rounds) × (rounds ≤ RING_ROUNDS)
-HasForm (Watch root) = Unit {0}
-HasForm (Vote root) = Unit {0}
-HasForm (Fuse root) = Unit {0}
-HasForm (Budget root) = Unit {0}
-HasForm _ = ⊥
+HasForm command = Unit {0}
 
 -- Why words give no command: they are no form, or they are one and there was not enough memory.
 abbrev pub IsWordsEnd : Option Command → WordsEnd → Type 0

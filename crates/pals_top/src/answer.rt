@@ -6,8 +6,8 @@ ghost use Rattle.pals_top.specs.declared.status.TheConstants.{DONE, NOT_SO};
 ghost use Rattle.pals_top.specs.Statuses.{status_of, text_of, Says};
 
 use crate::status::{
-    CODE_TOO_LONG, DESIGN_REFUSED, DONE, NOT_SO, READ_FAULT, SCENARIO_REFUSED, STOPPED,
-    TEXT_REFUSED, TOO_LONG, USAGE,
+    CLOCK_ENDED, CODE_TOO_LONG, DESIGN_REFUSED, DONE, NOT_SO, READ_FAULT, SCENARIO_REFUSED,
+    STOPPED, TEXT_REFUSED, TOO_LONG, USAGE,
 };
 use bundle_designs::Refusal;
 use pals_base::NoMemory;
@@ -31,6 +31,8 @@ pub enum Answer {
     /// A run that a missed or an early input stopped: the rounds that all nodes finished, and the
     /// journal, which ends with the stop.
     Stopped(Vec<u8>),
+    /// Which node's clock ended first in component order, and at which target.
+    ClockEnded(Vec<u8>),
     /// Which component's step code is too long.
     CodeTooLong(Vec<u8>),
     /// The source failed.
@@ -75,6 +77,7 @@ impl Answer {
             Answer::DesignRefused(_) => DESIGN_REFUSED,
             Answer::ScenarioRefused(_) => SCENARIO_REFUSED,
             Answer::Stopped(_) => STOPPED,
+            Answer::ClockEnded(_) => CLOCK_ENDED,
             Answer::ReadFault => READ_FAULT,
             Answer::TooLong => TOO_LONG,
             Answer::CodeTooLong(_) => CODE_TOO_LONG,
@@ -92,6 +95,7 @@ impl Answer {
             | Answer::DesignRefused(text)
             | Answer::ScenarioRefused(text)
             | Answer::Stopped(text)
+            | Answer::ClockEnded(text)
             | Answer::CodeTooLong(text) => text.as_slice(),
             Answer::Usage =>
                 b"usage: pals print / check ROOT / sync ROOT / world [--loose] ROOT / run [--trace] ROOT / audit ROOT / self N R / watch ROOT / vote ROOT / fuse ROOT / budget ROOT\n",

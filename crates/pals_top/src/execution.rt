@@ -12,19 +12,24 @@ ghost use Rattle.pals_top.specs.Executions.{command_of, code_fault_line, HasEven
 ghost use Rattle.pals_top.specs.Statuses.{status_of, text_of, Says};
 
 use crate::answer::Answer;
+use crate::audit::answer_audit;
 use crate::budget::answer_budget;
 use crate::loose::answer_loose;
 use crate::refused_scenario::refused_scenario;
+use crate::run::answer_run;
 use crate::world::answer_world;
 use bundle_designs::{Accepted, accept};
 use design_codes::{CodesEnd, compile_all};
+use node_threads::{Gate, Starter};
 use pals_base::{Items, NoMemory, NodeNo, Text};
 use pals_model::Design;
 use pals_report::add_code_fault;
 use pals_runs::Command;
 use scenario_json::{Scenario, read_scenario};
-use scenario_laws::events::{events_are_few, events_are_loose};
+use scenario_laws::events::{events_are_few, events_are_loose, traces_are_few};
 use std::alloc::{AllocError, Global};
+use std::sync::Wait;
+use std::thread::Threads;
 use step_code::Code;
 
 /// What is made of a design, its step codes and its scenario.
@@ -34,6 +39,10 @@ pub enum Execution {
     TimedWorld,
     /// What a list of events without time leaves.
     LooseWorld,
+    /// What a run of the nodes in threads leaves, with its journal where a trace is wanted.
+    Run { trace: bool },
+    /// The verdict on a trace.
+    Audit,
     /// The round budgets of processors.
     Budget,
 }
@@ -46,38 +55,46 @@ impl Execution {
         match self {
             Execution::TimedWorld => Command::World { root, loose: false },
             Execution::LooseWorld => Command::World { root, loose: true },
+            Execution::Run { trace } => Command::Run { root, trace },
+            Execution::Audit => Command::Audit { root },
             Execution::Budget => Command::Budget { root },
         }
     }
 }
 
 /// The answer to a bundle: what is made of the design and the scenario that it means.
-pub fn answer_execution(
+pub fn answer_execution<R: Threads + Wait + Sync, W: Starter, G: Gate + Sync>(
+    rt: &R,
     alloc: Global,
     bundle: &[u8],
     root: Text,
     what: Execution,
+    starter: &mut W,
+    gate: &G,
 ) -> Result<Answer, NoMemory>
     ensures { IfOk result (λ answer. IsExecutionAnswer what root bundle.now (status_of answer) (text_of answer)) }
 {
     match accept(alloc, bundle, &root) {
-        Ok(accepted) => answer_accepted(alloc, accepted, root, what),
+        Ok(accepted) => answer_accepted(rt, alloc, accepted, root, what, starter, gate),
         Err(refusal) => Answer::refused(refusal),
     }
 }
 
 // The answer to a bundle whose design is accepted. The codes come before the scenario.
-fn answer_accepted(
+fn answer_accepted<R: Threads + Wait + Sync, W: Starter, G: Gate + Sync>(
+    rt: &R,
     alloc: Global,
     accepted: Accepted<'_>,
     root: Text,
     what: Execution,
+    starter: &mut W,
+    gate: &G,
 ) -> Result<Answer, NoMemory>
     ensures { (bundle : List ℕ) → IsAccepted root bundle accepted.entry.design accepted.entry.scenario.now
         → IfOk result (λ answer. IsExecutionAnswer what root bundle (status_of answer) (text_of answer)) }
 {
     match compile_all(alloc, &accepted.design) {
-        Ok(codes) => answer_coded(alloc, accepted, root, what, codes),
+        Ok(codes) => answer_coded(rt, alloc, accepted, root, what, codes, starter, gate),
         Err(CodesEnd::TooLong { node, length }) => code_too_long(
             alloc,
             &accepted.design,
@@ -89,12 +106,15 @@ fn answer_accepted(
 }
 
 // The answer to a bundle whose design is accepted and has its codes.
-fn answer_coded(
+fn answer_coded<R: Threads + Wait + Sync, W: Starter, G: Gate + Sync>(
+    rt: &R,
     alloc: Global,
     accepted: Accepted<'_>,
     root: Text,
     what: Execution,
     codes: Items<Code>,
+    starter: &mut W,
+    gate: &G,
 ) -> Result<Answer, NoMemory>
     requires codes { AreCodes accepted.design codes }
     requires layout { AreLaidOut (behaviours accepted.design) codes }
@@ -104,9 +124,19 @@ fn answer_coded(
 {
     events_are_loose();
     events_are_few();
+    traces_are_few();
     let command = what.command(root);
     match read_scenario(alloc, accepted.scenario, &accepted.design, command) {
-        Ok(scenario) => execute(alloc, accepted.design, codes, scenario, what),
+        Ok(scenario) => execute(
+            rt,
+            alloc,
+            accepted.design,
+            codes,
+            scenario,
+            what,
+            starter,
+            gate,
+        ),
         Err(fault) => refused_scenario(alloc, &fault),
     }
 }
@@ -126,12 +156,15 @@ fn code_too_long(
 }
 
 // What is made of a design, its codes and its scenario.
-fn execute(
+fn execute<R: Threads + Wait + Sync, W: Starter, G: Gate + Sync>(
+    rt: &R,
     alloc: Global,
     design: Design,
     codes: Items<Code>,
     scenario: Scenario,
     what: Execution,
+    starter: &mut W,
+    gate: &G,
 ) -> Result<Answer, NoMemory>
     requires codes { AreCodes design codes }
     requires layout { AreLaidOut (behaviours design) codes }
@@ -142,6 +175,10 @@ fn execute(
     match what {
         Execution::TimedWorld => answer_world(alloc, design, codes, scenario),
         Execution::LooseWorld => answer_loose(alloc, design, codes, scenario),
+        Execution::Run { trace } => answer_run(
+            rt, alloc, design, codes, scenario, trace, starter, gate,
+        ),
+        Execution::Audit => answer_audit(alloc, design, codes, scenario),
         Execution::Budget => answer_budget(alloc, &design, codes.as_slice(), &scenario),
     }
 }

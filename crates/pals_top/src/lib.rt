@@ -3,6 +3,7 @@
 
 pub mod analysis;
 mod answer;
+mod audit;
 mod budget;
 mod check;
 pub mod execution;
@@ -10,6 +11,7 @@ mod loose;
 mod print;
 mod program;
 mod refused_scenario;
+mod run;
 pub mod status;
 pub mod words;
 mod world;

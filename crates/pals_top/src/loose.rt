@@ -54,26 +54,27 @@ pub fn answer_loose(
         delays,
         ..
     } = scenario;
-    let mut bus = opened(alloc, design, codes, env, rounds, delays)?;
+    let mut bus = opened(alloc, design, codes, env, rounds, delays, false)?;
     answer_events(alloc, &mut bus, events.as_slice(), &links)
 }
 
-// The bus before the first event.
-fn opened(
+/// The bus of a run before its first event.
+pub fn opened(
     alloc: Global,
     design: Design,
     codes: Items<Code>,
     env: Env,
     rounds: u32,
     delays: Delays,
+    meeting: bool,
 ) -> Result<Bus, NoMemory>
     requires codes { AreCodes design codes }
     requires rounds { (1 ≤ rounds) × (rounds ≤ ROUNDS) }
     requires delays { AreDelays (length design.links) delays }
-    ensures { IfOk result (λ bus. bus ≡ opening_bus (record { design = design; env = env; rounds = rounds; delays = delays }) codes false) }
+    ensures { IfOk result (λ bus. bus ≡ opening_bus (record { design = design; env = env; rounds = rounds; delays = delays }) codes meeting) }
 {
     let design = Arc::new(alloc, design)?;
-    Bus::new(alloc, design, codes, env, rounds, delays, false)
+    Bus::new(alloc, design, codes, env, rounds, delays, meeting)
 }
 
 // What the events leave.

@@ -1,10 +1,10 @@
-//! The statuses that the program ends with. There is no other; 7 and 8 are kept for later commands.
+//! The statuses that the program ends with. There is no other, and never 8.
 
 /// What the command asks for was written.
 pub const DONE: u8 = 0;
 
-/// What the command asks for was written, and something in it is not so: a property is false at some
-/// round, or a processor has more to do than fits.
+/// What the command asks for was written, and something in it is not so: a trace is wrong, a property is
+/// false at some round, or a processor has more to do than fits.
 pub const NOT_SO: u8 = 1;
 
 /// The words are no form.
@@ -21,6 +21,9 @@ pub const SCENARIO_REFUSED: u8 = 5;
 
 /// A missed or an early input stopped the nodes.
 pub const STOPPED: u8 = 6;
+
+/// The clock of a node ended before its last step: its list holds no reading for its next target.
+pub const CLOCK_ENDED: u8 = 7;
 
 /// A read of the source failed.
 pub const READ_FAULT: u8 = 9;

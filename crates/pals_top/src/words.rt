@@ -80,6 +80,13 @@ fn rooted(alloc: Global, word: &Text, root: &Text) -> Result<Command, WordsEnd>
             root: root.try_clone(alloc)?,
             loose: false,
         }),
+        "run" => Ok(Command::Run {
+            root: root.try_clone(alloc)?,
+            trace: false,
+        }),
+        "audit" => Ok(Command::Audit {
+            root: root.try_clone(alloc)?,
+        }),
         "watch" => Ok(Command::Watch {
             root: root.try_clone(alloc)?,
         }),
@@ -169,6 +176,10 @@ fn flagged(alloc: Global, flag: &Text, word: &Text, root: &Text) -> Result<Comma
         ("--loose", "world") => Ok(Command::World {
             root: root.try_clone(alloc)?,
             loose: true,
+        }),
+        ("--trace", "run") => Ok(Command::Run {
+            root: root.try_clone(alloc)?,
+            trace: true,
         }),
         _ => Err(WordsEnd::Usage),
     }

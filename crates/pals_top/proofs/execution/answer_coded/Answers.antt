@@ -8,21 +8,21 @@ use Rattle.pals_top.proofs.Scenarios.{says_fault}
 use Rattle.pals_top.proofs.execution.answer_coded.Goals as goal
 
 pub execute-requires-clause-events : goal.execute-requires-clause-events
-execute-requires-clause-events c =
+execute-requires-clause-events g c κs live =
     let bytes = c.args.accepted.scenario.now in
     let design = c.args.accepted.design in
-    has_events c.args.what c.args.root design bytes c.in-Ok.scenario c.events_are_loose.ensures c.events_are_few.ensures
+    has_events c.args.what c.args.root design bytes c.in-Ok.scenario c.events_are_loose.ensures c.events_are_few.ensures c.traces_are_few.ensures
     (subst (λ (k : Command). Means bytes design k (Ok c.in-Ok.scenario)) c.command-command.ensures c.in-Ok.ensures.answer)
 
 pub returns-in-Ok : goal.returns-in-Ok
-returns-in-Ok c bundle accepted =
+returns-in-Ok g c bundle accepted =
     let bytes = c.args.accepted.scenario.now in
     let design = c.args.accepted.design in
     executed c.args.what c.args.root bundle design bytes c.in-Ok.scenario c.execute.result accepted c.requires.short
     (subst (λ (k : Command). Means bytes design k (Ok c.in-Ok.scenario)) c.command-command.ensures c.in-Ok.ensures.answer) c.execute.ensures
 
 pub returns-in-Err : goal.returns-in-Err
-returns-in-Err c bundle accepted =
+returns-in-Err g c bundle accepted =
     let bytes = c.args.accepted.scenario.now in
     let design = c.args.accepted.design in
     let means : c.in-Err.fault ≢ Memory → Means bytes design (command_of c.args.what c.args.root) (Err c.in-Err.fault) =

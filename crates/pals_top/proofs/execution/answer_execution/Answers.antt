@@ -4,5 +4,5 @@ use Rattle.pals_top.proofs.Refusals.{bundle_refused}
 use Rattle.pals_top.proofs.execution.answer_execution.Goals as goal
 
 pub returns-in-Err : goal.returns-in-Err
-returns-in-Err c =
+returns-in-Err g c =
     IfOk-weaker c.refused.result _ _ (λ a says. inl (bundle_refused c.args.root c.args.bundle.now c.in-Err.refusal a c.in-Err.ensures.refused says)) c.refused.ensures.answer

@@ -1,0 +1,22 @@
+-- What `audit` makes of a design and a scenario.
+use Rattle.std.specs.Prelude.{◌≡◌, ℕ, Bool, true, false, List, ◌++◌, if◌then◌else◌}
+use Rattle.pals_model.specs.declared.design.DesignParts.{DesignParts}
+use Rattle.pals_model.specs.RoundTexts.{line_end}
+use Rattle.pals_report.specs.Runs.{verdict_line}
+use Rattle.pals_runs.specs.declared.verdicts.Verdict.{Verdict}
+use Rattle.pals_runs.specs.declared.verdicts.Verdict.TheVariants.{Sound, Wrong}
+use Rattle.scenario_json.specs.declared.scenario.Scenario.{Scenario}
+use Rattle.trace_laws.specs.Traces.{verdict}
+use Rattle.pals_top.specs.declared.status.TheConstants.{DONE, NOT_SO}
+use Rattle.pals_top.specs.Loose.{run_of}
+
+abbrev pub is_sound : Verdict → Bool
+is_sound (Sound rounds stop) = true
+is_sound (Wrong index rule) = false
+
+-- the verdict on the scenario's trace; not so where it is wrong
+abbrev pub SaysVerdict : DesignParts → Verdict → ℕ → List ℕ → Type 0
+SaysVerdict design v status text = (status ≡ (if is_sound v then DONE else NOT_SO)) × (text ≡ verdict_line design v ++ line_end)
+
+abbrev pub IsAudited : DesignParts → Scenario → ℕ → List ℕ → Type 0
+IsAudited design scenario status text = SaysVerdict design (verdict (run_of design scenario) scenario.trace) status text

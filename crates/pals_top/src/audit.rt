@@ -1,0 +1,58 @@
+//! The command `audit`: the verdict on a trace.
+ghost use Rattle.std.specs.Prelude.{◌≡◌, ◌≤◌, length, IfOk};
+ghost use Rattle.pals_base.specs.declared.limits.TheConstants.{LIST_ITEMS};
+ghost use Rattle.pals_bus.specs.Values.{AreCodes};
+ghost use Rattle.scenario_json.specs.Facts.{IsScenarioOf};
+ghost use Rattle.pals_top.specs.Audit.{IsAudited, SaysVerdict, is_sound};
+ghost use Rattle.pals_top.specs.Statuses.{status_of, text_of};
+
+use crate::answer::Answer;
+use pals_base::{Items, NoMemory};
+use pals_model::Design;
+use pals_report::add_verdict;
+use pals_runs::Verdict;
+use scenario_json::Scenario;
+use std::alloc::Global;
+use std::sync::Arc;
+use step_code::Code;
+use trace_audit::audit;
+
+/// The verdict on the trace of a scenario.
+pub fn answer_audit(
+    alloc: Global,
+    design: Design,
+    codes: Items<Code>,
+    scenario: Scenario,
+) -> Result<Answer, NoMemory>
+    requires codes { AreCodes design codes }
+    requires kept { IsScenarioOf design scenario }
+    requires few { length scenario.trace ≤ LIST_ITEMS }
+    ensures { IfOk result (λ answer. IsAudited design scenario (status_of answer) (text_of answer)) }
+{
+    let Scenario {
+        rounds,
+        env,
+        delays,
+        trace,
+        ..
+    } = scenario;
+    let design = Arc::new(alloc, design)?;
+    let named = Arc::try_clone(&design)?;
+    let verdict = audit(alloc, design, codes, env, rounds, delays, trace.as_slice())?;
+    judged(alloc, &named, &verdict)
+}
+
+// The line of a verdict.
+fn judged(alloc: Global, design: &Design, verdict: &Verdict) -> Result<Answer, NoMemory>
+    ensures { IfOk result (λ answer. SaysVerdict design.now verdict.now (status_of answer) (text_of answer)) }
+{
+    let mut line = Vec::new(alloc);
+    add_verdict(&mut line, design, verdict)?;
+    Ok(Answer::judged(line, is_sound(verdict)))
+}
+
+fn is_sound(verdict: &Verdict) -> bool
+    ensures { result ≡ is_sound verdict.now }
+{
+    matches!(verdict, Verdict::Sound { .. })
+}
