@@ -3,7 +3,7 @@ use Rattle.std.proofs.Common.{◌≡◌, ◌≢◌, ◌∙◌, ◌↔◌, inl, i
 use Rattle.pals_base.specs.declared.limits.TheConstants.{BUNDLE_BYTES}
 use Rattle.pals_io.specs.Stream.{SourceView}
 use Rattle.pals_runs.specs.declared.commands.Command.{Command}
-use Rattle.pals_runs.specs.declared.commands.Command.TheVariants.{Print, Check, Sync, World, Watch, Vote, Fuse, Budget}
+use Rattle.pals_runs.specs.declared.commands.Command.TheVariants.{Print, Check, Sync, World, Run, Audit, Watch, Vote, Fuse, Budget}
 use Rattle.pals_top.specs.Refusals.{IsBundleRefused}
 use Rattle.pals_top.specs.Print.{IsPrintAnswer}
 use Rattle.pals_top.specs.Check.{IsCheckAnswer}
@@ -62,6 +62,8 @@ answered (World root true) bundle s a x = executed execution.LooseWorld root bun
 answered (Watch root) bundle s a x = analysed analysis.Watch root bundle s a x
 answered (Vote root) bundle s a x = analysed analysis.Vote root bundle s a x
 answered (Fuse root) bundle s a x = analysed analysis.Fuse root bundle s a x
+answered (Run root trace) bundle s a x = executed (execution.Run trace) root bundle s a x
+answered (Audit root) bundle s a x = executed execution.Audit root bundle s a x
 answered (Budget root) bundle s a x = executed execution.Budget root bundle s a x
 answered _ bundle s a x = absurd x
 

@@ -1,5 +1,5 @@
--- What the source shows and the words decide the answer of a call.
-use Rattle.std.proofs.Common.{◌≡◌, ◌∙◌, inl, inr, ℕ, ◌+◌, ◌-◌, ◌^◌, ◌<◌, ◌≤◌, min, List, length, true, Option, Some, None, sym, ap, subst, arith}
+-- What the source shows and the words decide the answer of a call that is no run.
+use Rattle.std.proofs.Common.{◌≡◌, ◌∙◌, inl, inr, ℕ, ◌+◌, ◌-◌, ◌^◌, ◌<◌, ◌≤◌, min, List, length, true, false, Option, Some, None, sym, ap, subst, arith}
 use Rattle.std.specs.Prelude.{IfSome}
 use Rattle.std.proofs.lemmas.Bool.{true≢false}
 use Rattle.pals_base.specs.declared.limits.TheConstants.{BUNDLE_BYTES}
@@ -8,11 +8,12 @@ use Rattle.pals_runs.specs.declared.commands.Command.{Command}
 use Rattle.pals_runs.specs.declared.commands.Command.TheVariants.{Ring}
 use Rattle.pals_top.specs.Outside.{Reading, HasRead}
 use Rattle.pals_top.specs.Answers.{reads_source, IsCommandAnswer, IsSourceAnswer, IsAnswer}
+use Rattle.answer_laws.specs.Runs.{is_run}
 
--- a command and a bundle have one answer
+-- a command that is no run and a bundle have one answer
 abbrev pub AnswerIsDecided : Type 0
 AnswerIsDecided =
-    (command : Command) (bundle : List ℕ) (s t : ℕ) (a b : List ℕ)
+    (command : Command) (bundle : List ℕ) (s t : ℕ) (a b : List ℕ) → is_run command ≡ false
     → IsCommandAnswer command bundle s a → IsCommandAnswer command bundle t b → (s ≡ t) × (a ≡ b)
 
 pub no_room : (n top : ℕ) → n < top → min (n + 1) top ≡ n → ⊥
@@ -42,23 +43,23 @@ module _ (seen : Reading) (left : List ℕ) (told : seen.before.left ≡ Some le
   read_or_long bytes x y = too_long_by (length bytes) (length left) BUNDLE_BYTES (ap length (all_read bytes x)) x.within (too_long y)
 
   module _ (decided : AnswerIsDecided) where
-    same_source : (command : Command) (s t : ℕ) (a b : List ℕ) → IsSourceAnswer command seen s a → IsSourceAnswer command seen t b → (s ≡ t) × (a ≡ b)
-    same_source command s t a b (inl x) (inl y) =
+    same_source : (command : Command) → is_run command ≡ false → (s t : ℕ) (a b : List ℕ) → IsSourceAnswer command seen s a → IsSourceAnswer command seen t b → (s ≡ t) × (a ≡ b)
+    same_source command not_run s t a b (inl x) (inl y) =
         let same = all_read x.bundle x.read ∙ sym (all_read y.bundle y.read) in
-        decided command y.bundle s t a b (subst (λ (w : List ℕ). IsCommandAnswer command w s a) same x.answer) y.answer
-    same_source command s t a b (inl x) (inr (inl y)) = absurd (read_or_failed x.bundle x.read y.1)
-    same_source command s t a b (inl x) (inr (inr y)) = absurd (read_or_long x.bundle x.read y.1)
-    same_source command s t a b (inr (inl x)) (inl y) = absurd (read_or_failed y.bundle y.read x.1)
-    same_source command s t a b (inr (inl x)) (inr (inl y)) = (x.0 ∙ sym y.0, x.2 ∙ sym y.2)
-    same_source command s t a b (inr (inl x)) (inr (inr y)) = absurd (long_or_failed y.1 x.1)
-    same_source command s t a b (inr (inr x)) (inl y) = absurd (read_or_long y.bundle y.read x.1)
-    same_source command s t a b (inr (inr x)) (inr (inl y)) = absurd (long_or_failed x.1 y.1)
-    same_source command s t a b (inr (inr x)) (inr (inr y)) = (x.0 ∙ sym y.0, x.2 ∙ sym y.2)
+        decided command y.bundle s t a b not_run (subst (λ (w : List ℕ). IsCommandAnswer command w s a) same x.answer) y.answer
+    same_source command not_run s t a b (inl x) (inr (inl y)) = absurd (read_or_failed x.bundle x.read y.1)
+    same_source command not_run s t a b (inl x) (inr (inr y)) = absurd (read_or_long x.bundle x.read y.1)
+    same_source command not_run s t a b (inr (inl x)) (inl y) = absurd (read_or_failed y.bundle y.read x.1)
+    same_source command not_run s t a b (inr (inl x)) (inr (inl y)) = (x.0 ∙ sym y.0, x.2 ∙ sym y.2)
+    same_source command not_run s t a b (inr (inl x)) (inr (inr y)) = absurd (long_or_failed y.1 x.1)
+    same_source command not_run s t a b (inr (inr x)) (inl y) = absurd (read_or_long y.bundle y.read x.1)
+    same_source command not_run s t a b (inr (inr x)) (inr (inl y)) = absurd (long_or_failed x.1 y.1)
+    same_source command not_run s t a b (inr (inr x)) (inr (inr y)) = (x.0 ∙ sym y.0, x.2 ∙ sym y.2)
 
-    same_answer : (command : Option Command) (s t : ℕ) (a b : List ℕ) → IsAnswer command seen s a → IsAnswer command seen t b → (s ≡ t) × (a ≡ b)
-    same_answer None s t a b x y = (x.0 ∙ sym y.0, x.1 ∙ sym y.1)
-    same_answer (Some (Ring nodes rounds)) s t a b x y = (x.0.0 ∙ sym y.0.0, x.0.1 ∙ sym y.0.1)
-    same_answer (Some command) s t a b x y = same_source command s t a b x y
+    same_answer : (command : Option Command) → IfSome command (λ c. is_run c ≡ false) → (s t : ℕ) (a b : List ℕ) → IsAnswer command seen s a → IsAnswer command seen t b → (s ≡ t) × (a ≡ b)
+    same_answer None not_run s t a b x y = (x.0 ∙ sym y.0, x.1 ∙ sym y.1)
+    same_answer (Some (Ring nodes rounds)) not_run s t a b x y = (x.0.0 ∙ sym y.0.0, x.0.1 ∙ sym y.0.1)
+    same_answer (Some command) not_run s t a b x y = same_source command not_run s t a b x y
 
 -- the answer of a command that reads its source
 pub source_answer : (command : Command) (seen : Reading) (s : ℕ) (a : List ℕ) → reads_source command ≡ true → IsAnswer (Some command) seen s a
@@ -66,6 +67,6 @@ pub source_answer : (command : Command) (seen : Reading) (s : ℕ) (a : List ℕ
 source_answer (Ring nodes rounds) seen s a reads x = absurd (true≢false (sym reads))
 source_answer command seen s a reads x = x
 
-pub one_answer : AnswerIsDecided → (command : Option Command) (seen : Reading) (left : List ℕ) → seen.before.left ≡ Some left
+pub one_answer : AnswerIsDecided → (command : Option Command) (seen : Reading) (left : List ℕ) → IfSome command (λ c. is_run c ≡ false) → seen.before.left ≡ Some left
     → seen.before.faults < 2 ^ 64 - 1 → (s t : ℕ) (a b : List ℕ) → IsAnswer command seen s a → IsAnswer command seen t b → (s ≡ t) × (a ≡ b)
-one_answer decided command seen left told few s t a b x y = same_answer seen left told few decided command s t a b x y
+one_answer decided command seen left not_run told few s t a b x y = same_answer seen left told few decided command not_run s t a b x y

@@ -1,8 +1,9 @@
--- A command and a bundle have one status, and one text.
+-- A command that is no run and a bundle have one status, and one text.
 use Rattle.std.proofs.Common.{◌≡◌, ◌∙◌, inl, inr, ℕ, true, false, List, sym, ap, subst}
+use Rattle.std.proofs.lemmas.Bool.{true≢false}
 use Rattle.pals_model.specs.declared.design.DesignParts.{DesignParts}
 use Rattle.pals_runs.specs.declared.commands.Command.{Command}
-use Rattle.pals_runs.specs.declared.commands.Command.TheVariants.{Print, Check, Sync, World, Watch, Vote, Fuse, Budget}
+use Rattle.pals_runs.specs.declared.commands.Command.TheVariants.{Print, Check, Sync, World, Run, Audit, Watch, Vote, Fuse, Budget}
 use Rattle.aadl_tree.specs.Declarations.{PackageTree}
 use Rattle.aadl_tree.specs.Canon.{canon}
 use Rattle.pals_report.specs.CheckReports.{IsCheckReport}
@@ -17,8 +18,9 @@ use Rattle.pals_top.specs.declared.analysis.Analysis.TheVariants as analysis
 use Rattle.pals_top.specs.declared.execution.Execution.{Execution}
 use Rattle.pals_top.specs.declared.execution.Execution.TheVariants as execution
 use Rattle.pals_top.specs.Analyses.{command_of, Makes, IsAnalysed, IsAnalysisAnswer}
-use Rattle.pals_top.specs.Executions.{IsExecutionAnswer}
+use Rattle.pals_top.specs.Executions.{command_of as execution_command, IsExecutionAnswer}
 use Rattle.pals_top.specs.Answers.{IsCommandAnswer}
+use Rattle.answer_laws.specs.Runs.{is_run}
 use Rattle.answer_laws.proofs.Laws.{OneDesign, OneFault, AnalysisLaws, ExecutionLaws}
 use Rattle.answer_laws.proofs.Designs.{one_tree, read_or_refused, one_refused_text, one_accepted, accepted_or_refused, package_or_text, one_refused_package}
 use Rattle.answer_laws.proofs.Meanings.{one_report}
@@ -93,22 +95,24 @@ module _ (one_design : OneDesign) (one_fault : OneFault) (made : AnalysisLaws) (
     answered_or_refused : (s t : ℕ) (a b : List ℕ) → IsAnswered what root bundle s a → IsBundleRefused root bundle t b → ⊥
     answered_or_refused s t a b x y = let d = answered_design what root bundle s a x in accepted_or_refused root bundle d.0 d.1 t b d.2 y
 
-    executions_agree : (s t : ℕ) (a b : List ℕ) → IsExecutionAnswer what root bundle s a → IsExecutionAnswer what root bundle t b → Agree s a t b
-    executions_agree s t a b (inl x) (inl y) = refusals_agree root bundle s t a b x y
-    executions_agree s t a b (inl x) (inr y) = absurd (answered_or_refused t s b a y x)
-    executions_agree s t a b (inr x) (inl y) = absurd (answered_or_refused s t a b x y)
-    executions_agree s t a b (inr x) (inr y) = one_answered one_design what root bundle laws s t a b x y
+    executions_agree : is_run (execution_command what root) ≡ false → (s t : ℕ) (a b : List ℕ) → IsExecutionAnswer what root bundle s a → IsExecutionAnswer what root bundle t b → Agree s a t b
+    executions_agree not_run s t a b (inl x) (inl y) = refusals_agree root bundle s t a b x y
+    executions_agree not_run s t a b (inl x) (inr y) = absurd (answered_or_refused t s b a y x)
+    executions_agree not_run s t a b (inr x) (inl y) = absurd (answered_or_refused s t a b x y)
+    executions_agree not_run s t a b (inr x) (inr y) = one_answered one_design what root bundle laws not_run s t a b x y
 
-  -- ---- each command; no other has an answer
-  pub answers_agree : (command : Command) (bundle : List ℕ) (s t : ℕ) (a b : List ℕ) → IsCommandAnswer command bundle s a
+  -- ---- each command that is no run; no other has an answer
+  pub answers_agree : (command : Command) (bundle : List ℕ) (s t : ℕ) (a b : List ℕ) → is_run command ≡ false → IsCommandAnswer command bundle s a
       → IsCommandAnswer command bundle t b → Agree s a t b
-  answers_agree Print bundle s t a b x y = print_agrees bundle s t a b x y
-  answers_agree (Check root) bundle s t a b x y = check_agrees root bundle s t a b x y
-  answers_agree (Sync root) bundle s t a b x y = analyses_agree analysis.Sync root bundle s t a b x y
-  answers_agree (World root false) bundle s t a b x y = executions_agree execution.TimedWorld root bundle s t a b x y
-  answers_agree (World root true) bundle s t a b x y = executions_agree execution.LooseWorld root bundle s t a b x y
-  answers_agree (Watch root) bundle s t a b x y = analyses_agree analysis.Watch root bundle s t a b x y
-  answers_agree (Vote root) bundle s t a b x y = analyses_agree analysis.Vote root bundle s t a b x y
-  answers_agree (Fuse root) bundle s t a b x y = analyses_agree analysis.Fuse root bundle s t a b x y
-  answers_agree (Budget root) bundle s t a b x y = executions_agree execution.Budget root bundle s t a b x y
-  answers_agree _ bundle s t a b x y = absurd x
+  answers_agree Print bundle s t a b not_run x y = print_agrees bundle s t a b x y
+  answers_agree (Check root) bundle s t a b not_run x y = check_agrees root bundle s t a b x y
+  answers_agree (Sync root) bundle s t a b not_run x y = analyses_agree analysis.Sync root bundle s t a b x y
+  answers_agree (World root false) bundle s t a b not_run x y = executions_agree execution.TimedWorld root bundle not_run s t a b x y
+  answers_agree (World root true) bundle s t a b not_run x y = executions_agree execution.LooseWorld root bundle not_run s t a b x y
+  answers_agree (Watch root) bundle s t a b not_run x y = analyses_agree analysis.Watch root bundle s t a b x y
+  answers_agree (Vote root) bundle s t a b not_run x y = analyses_agree analysis.Vote root bundle s t a b x y
+  answers_agree (Fuse root) bundle s t a b not_run x y = analyses_agree analysis.Fuse root bundle s t a b x y
+  answers_agree (Run root trace) bundle s t a b not_run x y = absurd (true≢false not_run)
+  answers_agree (Audit root) bundle s t a b not_run x y = executions_agree execution.Audit root bundle not_run s t a b x y
+  answers_agree (Budget root) bundle s t a b not_run x y = executions_agree execution.Budget root bundle not_run s t a b x y
+  answers_agree _ bundle s t a b not_run x y = absurd x

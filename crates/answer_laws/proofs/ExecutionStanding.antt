@@ -3,12 +3,14 @@ use Rattle.std.proofs.Common.{◌≡◌, ◌∙◌, ◌⊎◌, ◌↔◌, inl, i
 use Rattle.std.specs.Prelude.{MatchBool}
 use Rattle.std.proofs.lemmas.Bool.{eqb-true}
 use Rattle.pals_top.specs.declared.execution.Execution.{Execution}
+use Rattle.pals_top.specs.declared.execution.Execution.TheVariants.{TimedWorld, LooseWorld, Run, Audit, Budget}
 use Rattle.pals_top.specs.Executions.{command_of, IsScenarioRefusedIn, IsExecuted, IsExecutionAnswer}
 use Rattle.answer_laws.specs.Meanings.{HasTree, MeansDesign, MeansScenario, HasLongCode, LacksScenario, GivesStatus}
+use Rattle.answer_laws.specs.Runs.{is_run}
 use Rattle.answer_laws.proofs.Laws.{OneDesign, ExecutionLaws}
 use Rattle.answer_laws.proofs.Standing.{no_tree, no_design, refused_tree, has_tree}
 use Rattle.answer_laws.proofs.Scenarios.{meant_or_refused}
-use Rattle.answer_laws.proofs.Made.{IsMade, execution_status, apart}
+use Rattle.answer_laws.proofs.Made.{IsMade, execution_status, no_refused_run, apart}
 use Rattle.answer_laws.proofs.Executions.{long_code, long_or_short, executions_agree}
 
 -- what a status says, by its number
@@ -37,6 +39,10 @@ module _ (what : Execution) (root bundle : List ℕ) where
   -- anything: these, or 3 where there is no such text
   abbrev pub Stands : ℕ → Type 0
   Stands s = ((s ≡ 3) × (HasTree bundle → ⊥)) ⊎ WithTree s
+
+  -- where a command makes an answer of this status, it makes none of another
+  abbrev pub IsAlone : ℕ → Type 0
+  IsAlone n = (s : ℕ) → GivesStatus what root bundle s → GivesStatus what root bundle n → s ≡ n
 
   -- ---- a status that is made says what is made
   made_by : (text design code scenario : Bool) (s : ℕ) → nat_eq s 3 ≡ text → nat_eq s 4 ≡ design → nat_eq s 13 ≡ code → nat_eq s 5 ≡ scenario → IsMade s
@@ -70,7 +76,7 @@ module _ (what : Execution) (root bundle : List ℕ) where
   tree_of s (inl x) = x.1.0
   tree_of s (inr x) = has_tree root bundle (design_of s x)
 
-module _ (one_design : OneDesign) (laws : ExecutionLaws) (what : Execution) (root bundle : List ℕ) where
+module _ (one_design : OneDesign) (what : Execution) (root bundle : List ℕ) where
   codes_of : (s : ℕ) → WithCodes what root bundle s → HasLongCode root bundle → ⊥
   codes_of s (inl x) long = x.1.1 long
   codes_of s (inr x) long = long_or_short one_design root bundle x.design x.means.bytes long x.means.accepted x.short
@@ -97,44 +103,58 @@ module _ (one_design : OneDesign) (laws : ExecutionLaws) (what : Execution) (roo
     makes = x.makes;
   }))))
 
-  -- ---- a bundle stands at one status
+  -- ---- a bundle stands at one status, if what has a scenario is made of one there
   executed : (s : ℕ) (x : GivesStatus what root bundle s) → IsExecuted what root bundle s x.text
   executed s x = record { design = x.design; scenario = x.scenario; means = x.means; short = x.short; makes = x.makes }
 
-  same_end : (s t : ℕ) → GivesStatus what root bundle s → GivesStatus what root bundle t → s ≡ t
-  same_end s t x y = (executions_agree one_design what root bundle laws s t x.text y.text (executed s x) (executed t y)).0
+  same_scenario : (s n : ℕ) → IsAlone what root bundle n → WithCodes what root bundle s → WithCodes what root bundle n → s ≡ n
+  same_scenario s n alone (inl x) (inl y) = x.0 ∙ sym y.0
+  same_scenario s n alone (inl x) (inr y) = absurd (x.1.2 (scenario_of what root bundle n y))
+  same_scenario s n alone (inr x) (inl y) = absurd (y.1.2 (scenario_of what root bundle s x))
+  same_scenario s n alone (inr x) (inr y) = alone s x y
 
-  same_scenario : (s t : ℕ) → WithCodes what root bundle s → WithCodes what root bundle t → s ≡ t
-  same_scenario s t (inl x) (inl y) = x.0 ∙ sym y.0
-  same_scenario s t (inl x) (inr y) = absurd (x.1.2 (scenario_of what root bundle t y))
-  same_scenario s t (inr x) (inl y) = absurd (y.1.2 (scenario_of what root bundle s x))
-  same_scenario s t (inr x) (inr y) = same_end s t x y
+  same_code : (s n : ℕ) → IsAlone what root bundle n → WithDesign what root bundle s → WithDesign what root bundle n → s ≡ n
+  same_code s n alone (inl x) (inl y) = x.0 ∙ sym y.0
+  same_code s n alone (inl x) (inr y) = absurd (codes_of n y x.1)
+  same_code s n alone (inr x) (inl y) = absurd (codes_of s x y.1)
+  same_code s n alone (inr x) (inr y) = same_scenario s n alone x y
 
-  same_code : (s t : ℕ) → WithDesign what root bundle s → WithDesign what root bundle t → s ≡ t
-  same_code s t (inl x) (inl y) = x.0 ∙ sym y.0
-  same_code s t (inl x) (inr y) = absurd (codes_of t y x.1)
-  same_code s t (inr x) (inl y) = absurd (codes_of s x y.1)
-  same_code s t (inr x) (inr y) = same_scenario s t x y
+  same_design : (s n : ℕ) → IsAlone what root bundle n → WithTree what root bundle s → WithTree what root bundle n → s ≡ n
+  same_design s n alone (inl x) (inl y) = x.0 ∙ sym y.0
+  same_design s n alone (inl x) (inr y) = absurd (x.1.1 (design_of what root bundle n y))
+  same_design s n alone (inr x) (inl y) = absurd (y.1.1 (design_of what root bundle s x))
+  same_design s n alone (inr x) (inr y) = same_code s n alone x y
 
-  same_design : (s t : ℕ) → WithTree what root bundle s → WithTree what root bundle t → s ≡ t
-  same_design s t (inl x) (inl y) = x.0 ∙ sym y.0
-  same_design s t (inl x) (inr y) = absurd (x.1.1 (design_of what root bundle t y))
-  same_design s t (inr x) (inl y) = absurd (y.1.1 (design_of what root bundle s x))
-  same_design s t (inr x) (inr y) = same_code s t x y
+  same_status : (s n : ℕ) → IsAlone what root bundle n → Stands what root bundle s → Stands what root bundle n → s ≡ n
+  same_status s n alone (inl x) (inl y) = x.0 ∙ sym y.0
+  same_status s n alone (inl x) (inr y) = absurd (x.1 (tree_of what root bundle n y))
+  same_status s n alone (inr x) (inl y) = absurd (y.1 (tree_of what root bundle s x))
+  same_status s n alone (inr x) (inr y) = same_design s n alone x y
 
-  pub same_status : (s t : ℕ) → Stands what root bundle s → Stands what root bundle t → s ≡ t
-  same_status s t (inl x) (inl y) = x.0 ∙ sym y.0
-  same_status s t (inl x) (inr y) = absurd (x.1 (tree_of what root bundle t y))
-  same_status s t (inr x) (inl y) = absurd (y.1 (tree_of what root bundle s x))
-  same_status s t (inr x) (inr y) = same_design s t x y
-
-  -- an answer is of a status just if the bundle has what stands there
-  pub exactly : (s n : ℕ) (a : List ℕ) → IsExecutionAnswer what root bundle s a → (Has what root bundle n → Stands what root bundle n)
-      → (s ≡ n) ↔ Has what root bundle n
-  exactly s n a x into =
-      (λ e. subst (λ m. Has what root bundle m) e (has what root bundle s (stands s a x)), λ h. same_status s n (stands s a x) (into h))
+  -- an answer is of such a status just if the bundle has what stands there
+  pub exactly : (s n : ℕ) (a : List ℕ) → IsAlone what root bundle n → IsExecutionAnswer what root bundle s a
+      → (Has what root bundle n → Stands what root bundle n) → (s ≡ n) ↔ Has what root bundle n
+  exactly s n a alone x into =
+      (λ e. subst (λ m. Has what root bundle m) e (has what root bundle s (stands s a x)), λ h. same_status s n alone (stands s a x) (into h))
 
   -- ---- 5: there is no scenario, or of it comes an answer of this status
   pub at_scenario : LacksScenario what root bundle ⊎ GivesStatus what root bundle 5 → Stands what root bundle 5
   at_scenario (inl x) = inr (inr (inr (inl (refl, x))))
   at_scenario (inr x) = inr (inr (inr (inr x)))
+
+  -- ---- statuses that are alone
+  -- none is made
+  pub never_made : (n : ℕ) → ((n ≡ 3) ⊎ ((n ≡ 4) ⊎ ((n ≡ 9) ⊎ ((n ≡ 12) ⊎ (n ≡ 13))))) → IsAlone what root bundle n
+  never_made n which = λ s x y. absurd (apart n n (execution_status what y.design y.scenario n y.text y.makes) refl which)
+
+  -- a command that is no run makes one
+  pub one_made : ExecutionLaws → is_run (command_of what root) ≡ false → (n : ℕ) → IsAlone what root bundle n
+  one_made laws not_run n = λ s x y. (executions_agree one_design what root bundle laws not_run s n x.text y.text (executed s x) (executed n y)).0
+
+-- a run makes none of status 5
+pub alone_at_scenario : OneDesign → ExecutionLaws → (what : Execution) (root bundle : List ℕ) → IsAlone what root bundle 5
+alone_at_scenario one_design laws (Run trace) root bundle = λ s x y. absurd (no_refused_run y.design y.scenario trace y.text y.makes)
+alone_at_scenario one_design laws TimedWorld root bundle = one_made one_design TimedWorld root bundle laws refl 5
+alone_at_scenario one_design laws LooseWorld root bundle = one_made one_design LooseWorld root bundle laws refl 5
+alone_at_scenario one_design laws Audit root bundle = one_made one_design Audit root bundle laws refl 5
+alone_at_scenario one_design laws Budget root bundle = one_made one_design Budget root bundle laws refl 5

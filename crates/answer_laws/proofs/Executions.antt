@@ -1,5 +1,5 @@
--- An answer to a bundle of a command that needs step codes is one.
-use Rattle.std.proofs.Common.{◌≡◌, ◌∙◌, ◌⊎◌, inl, inr, ℕ, ◌<◌, List, length, ◌++◌, sym, ap, subst, arith}
+-- An answer to a bundle of a command that needs step codes is one, if it is no run.
+use Rattle.std.proofs.Common.{◌≡◌, ◌∙◌, ◌⊎◌, inl, inr, ℕ, ◌<◌, false, List, length, ◌++◌, sym, ap, subst, arith}
 use Rattle.std.proofs.lemmas.Bool.{cases_lt}
 use Rattle.pals_base.specs.declared.limits.TheConstants.{INSTRUCTIONS}
 use Rattle.pals_model.specs.declared.design.DesignParts.{DesignParts}
@@ -11,6 +11,7 @@ use Rattle.bundle_designs.specs.Accepted.{IsAccepted}
 use Rattle.pals_top.specs.declared.execution.Execution.{Execution}
 use Rattle.pals_top.specs.Executions.{command_of, Makes, IsExecuted, IsScenarioRefusedIn, IsCodeTooLong, code_fault_line}
 use Rattle.answer_laws.specs.Meanings.{HasLongCode}
+use Rattle.answer_laws.specs.Runs.{is_run}
 use Rattle.answer_laws.proofs.Laws.{OneDesign, ExecutionLaws}
 use Rattle.answer_laws.proofs.Designs.{one_accepted}
 use Rattle.answer_laws.proofs.Scenarios.{one_meaning, one_scenario_fault, meant_or_refused}
@@ -56,7 +57,7 @@ module _ (one_design : OneDesign) (root bundle : List ℕ) where
       let least = short x.node within in
       absurd (omega arith)
 
-  one_code_fault : (s t : ℕ) (a b : List ℕ) → IsCodeTooLong root bundle s a → IsCodeTooLong root bundle t b → a ≡ b
+  pub one_code_fault : (s t : ℕ) (a b : List ℕ) → IsCodeTooLong root bundle s a → IsCodeTooLong root bundle t b → a ≡ b
   one_code_fault s t a b x y =
       let design = (one_accepted one_design root bundle x.design y.design x.scenario y.scenario x.accepted y.accepted).0 in
       let first = subst (λ d. IsFirstTooLong d x.node.0 x.size) design x.too_long in
@@ -66,11 +67,11 @@ module _ (one_design : OneDesign) (root bundle : List ℕ) where
 
 module _ (one_design : OneDesign) (what : Execution) (root bundle : List ℕ) where
   -- ---- what is made
-  pub executions_agree : ExecutionLaws → (s t : ℕ) (a b : List ℕ) → IsExecuted what root bundle s a → IsExecuted what root bundle t b → Agree s a t b
-  executions_agree laws s t a b x y =
+  pub executions_agree : ExecutionLaws → is_run (command_of what root) ≡ false → (s t : ℕ) (a b : List ℕ) → IsExecuted what root bundle s a → IsExecuted what root bundle t b → Agree s a t b
+  executions_agree laws not_run s t a b x y =
       let same = one_meaning one_design root bundle (command_of what root) x.design y.design x.scenario y.scenario x.means y.means in
       let moved = subst (λ (sc : Scenario). Makes what y.design sc s a) same.1 (subst (λ (d : DesignParts). Makes what d x.scenario s a) same.0 x.makes) in
-      one_execution laws what y.design y.scenario s t a b moved y.makes
+      one_execution laws what root not_run y.design y.scenario s t a b moved y.makes
 
   -- ---- two of them
   long_or_refused : (s t : ℕ) (a b : List ℕ) → IsCodeTooLong root bundle s a → IsScenarioRefusedIn root bundle (command_of what root) t b → ⊥
@@ -82,14 +83,14 @@ module _ (one_design : OneDesign) (what : Execution) (root bundle : List ℕ) wh
   refused_or_made : (s t : ℕ) (a b : List ℕ) → IsScenarioRefusedIn root bundle (command_of what root) s a → IsExecuted what root bundle t b → ⊥
   refused_or_made s t a b x y = meant_or_refused one_design root bundle (command_of what root) y.design y.scenario a y.means x.faulty
 
-  pub one_answered : ExecutionLaws → (s t : ℕ) (a b : List ℕ) → IsAnswered what root bundle s a → IsAnswered what root bundle t b → Agree s a t b
-  one_answered laws s t a b (inl x) (inl y) = (x.status_is ∙ sym y.status_is, one_code_fault one_design root bundle s t a b x y)
-  one_answered laws s t a b (inl x) (inr (inl y)) = absurd (long_or_refused s t a b x y)
-  one_answered laws s t a b (inl x) (inr (inr y)) = absurd (long_or_made s t a b x y)
-  one_answered laws s t a b (inr (inl x)) (inl y) = absurd (long_or_refused t s b a y x)
-  one_answered laws s t a b (inr (inl x)) (inr (inl y)) =
+  pub one_answered : ExecutionLaws → is_run (command_of what root) ≡ false → (s t : ℕ) (a b : List ℕ) → IsAnswered what root bundle s a → IsAnswered what root bundle t b → Agree s a t b
+  one_answered laws not_run s t a b (inl x) (inl y) = (x.status_is ∙ sym y.status_is, one_code_fault one_design root bundle s t a b x y)
+  one_answered laws not_run s t a b (inl x) (inr (inl y)) = absurd (long_or_refused s t a b x y)
+  one_answered laws not_run s t a b (inl x) (inr (inr y)) = absurd (long_or_made s t a b x y)
+  one_answered laws not_run s t a b (inr (inl x)) (inl y) = absurd (long_or_refused t s b a y x)
+  one_answered laws not_run s t a b (inr (inl x)) (inr (inl y)) =
       (x.status_is ∙ sym y.status_is, one_scenario_fault one_design root bundle (command_of what root) a b x.faulty y.faulty)
-  one_answered laws s t a b (inr (inl x)) (inr (inr y)) = absurd (refused_or_made s t a b x y)
-  one_answered laws s t a b (inr (inr x)) (inl y) = absurd (long_or_made t s b a y x)
-  one_answered laws s t a b (inr (inr x)) (inr (inl y)) = absurd (refused_or_made t s b a y x)
-  one_answered laws s t a b (inr (inr x)) (inr (inr y)) = executions_agree laws s t a b x y
+  one_answered laws not_run s t a b (inr (inl x)) (inr (inr y)) = absurd (refused_or_made s t a b x y)
+  one_answered laws not_run s t a b (inr (inr x)) (inl y) = absurd (long_or_made t s b a y x)
+  one_answered laws not_run s t a b (inr (inr x)) (inr (inl y)) = absurd (refused_or_made t s b a y x)
+  one_answered laws not_run s t a b (inr (inr x)) (inr (inr y)) = executions_agree laws not_run s t a b x y

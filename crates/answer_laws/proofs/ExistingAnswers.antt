@@ -3,7 +3,7 @@ use Rattle.std.proofs.Common.{◌≡◌, ◌⊎◌, inl, inr, ℕ, true, false, 
 use Rattle.aadl_tree.specs.Canon.{canon}
 use Rattle.pals_model.specs.RoundTexts.{line_end}
 use Rattle.pals_runs.specs.declared.commands.Command.{Command}
-use Rattle.pals_runs.specs.declared.commands.Command.TheVariants.{Print, Check, Sync, World, Ring, Watch, Vote, Fuse, Budget}
+use Rattle.pals_runs.specs.declared.commands.Command.TheVariants.{Print, Check, Sync, World, Run, Audit, Ring, Watch, Vote, Fuse, Budget}
 use Rattle.scenario_json.specs.declared.scenario.Scenario.{Scenario}
 use Rattle.scenario_json.specs.Scenarios.{Means}
 use Rattle.pals_report.specs.ScenarioFaults.{scenario_fault_line}
@@ -20,6 +20,7 @@ use Rattle.pals_top.specs.Analyses.{command_of as analysis_command, IsAnalysisAn
 use Rattle.pals_top.specs.Executions.{command_of as execution_command, code_fault_line, HasEvents, IsExecutionAnswer}
 use Rattle.scenario_laws.specs.Meanings.{HasScenario, HasFault}
 use Rattle.answer_laws.specs.Meanings.{HasTree}
+use Rattle.answer_laws.specs.Runs.{is_run}
 use Rattle.answer_laws.specs.Exists.{IsAnswerTo, HasAnswer, HasOneAnswer}
 use Rattle.answer_laws.proofs.ExistingLaws.{ExistenceLaws}
 use Rattle.answer_laws.proofs.ExistingTexts.{IsRefused, tree_or_refused}
@@ -97,6 +98,8 @@ module _ (laws : ExistenceLaws) (root bundle : List ℕ) where
       → HasEvents what d.design scenario
   events_of execution.TimedWorld d scenario means = laws.few d.bytes (World root false) d.design scenario means
   events_of execution.LooseWorld d scenario means = laws.loose d.bytes root d.design scenario means
+  events_of (execution.Run trace) d scenario means = tt
+  events_of execution.Audit d scenario means = laws.lines d.bytes (Audit root) d.design scenario means
   events_of execution.Budget d scenario means = tt
 
   module _ (what : Execution) where
@@ -105,7 +108,8 @@ module _ (laws : ExistenceLaws) (root bundle : List ℕ) where
         → HasExecutionAnswer what root bundle
     unfolding faulty
     by_events d short (inl (scenario, means)) =
-        let made = by_execution laws what d.design scenario d.rules (events_of what d scenario means) in (
+        let suits = laws.suit d.bytes (execution_command what root) d.design scenario d.rules means in
+        let made = by_execution laws what d.design scenario d.rules suits (events_of what d scenario means) in (
           made.0,
           made.1,
           inr (inr (inr (record {
@@ -158,16 +162,17 @@ module _ (laws : ExistenceLaws) where
   has_answer (Fuse root) bundle form = analysed laws analysis.Fuse root bundle
   has_answer (World root false) bundle form = executed laws root bundle execution.TimedWorld
   has_answer (World root true) bundle form = executed laws root bundle execution.LooseWorld
+  has_answer (Run root trace) bundle form = executed laws root bundle (execution.Run trace)
+  has_answer (Audit root) bundle form = executed laws root bundle execution.Audit
   has_answer (Budget root) bundle form = executed laws root bundle execution.Budget
   has_answer (Ring nodes rounds) bundle form = ringed nodes rounds bundle
-  has_answer _ bundle form = absurd form
 
--- ---- and no other
-agrees : AnswerIsDecided → (command : Command) (bundle : List ℕ) (s t : ℕ) (a b : List ℕ) → IsAnswerTo command bundle s a → IsAnswerTo command bundle t b
+-- ---- and no other, if it is no run
+agrees : AnswerIsDecided → (command : Command) (bundle : List ℕ) → is_run command ≡ false → (s t : ℕ) (a b : List ℕ) → IsAnswerTo command bundle s a → IsAnswerTo command bundle t b
     → (s ≡ t) × (a ≡ b)
-agrees decided (Ring nodes rounds) bundle s t a b x y = (x.0 ∙ sym y.0, x.1 ∙ sym y.1)
-agrees decided command bundle s t a b x y = decided command bundle s t a b x y
+agrees decided (Ring nodes rounds) bundle not_run s t a b x y = (x.0 ∙ sym y.0, x.1 ∙ sym y.1)
+agrees decided command bundle not_run s t a b x y = decided command bundle s t a b not_run x y
 
-pub one_answer : AnswerIsDecided → (command : Command) (bundle : List ℕ) → HasAnswer command bundle → HasOneAnswer command bundle
-one_answer decided command bundle (status, text, is) =
-    record { status = status; text = text; is = is; only = λ s t x. agrees decided command bundle s status t text x is }
+pub one_answer : AnswerIsDecided → (command : Command) (bundle : List ℕ) → is_run command ≡ false → HasAnswer command bundle → HasOneAnswer command bundle
+one_answer decided command bundle not_run (status, text, is) =
+    record { status = status; text = text; is = is; only = λ s t x. agrees decided command bundle not_run s status t text x is }

@@ -12,11 +12,13 @@ use Rattle.pals_model.specs.Rules.{IsDesign}
 use Rattle.design_laws.specs.PackageDesigns.{IsDesignIn}
 use Rattle.pals_runs.specs.declared.commands.Command.{Command}
 use Rattle.step_compiler.specs.Laws.{HasLayout}
-use Rattle.scenario_laws.specs.Events.{EventsAreLoose, EventsAreFew}
+use Rattle.scenario_laws.specs.Events.{EventsAreLoose, EventsAreFew, TracesAreFew}
 use Rattle.text_laws.specs.Texts.{HasTree, HasLexFault, Stops, NestsTooDeep}
 use Rattle.package_laws.specs.Packages.{HasFirstFault, HasInstance, HasList}
 use Rattle.scenario_laws.specs.Meanings.{HasScenario, HasFault}
 use Rattle.scenario_laws.specs.Plants.{PairsCanBeFused}
+use Rattle.scenario_laws.specs.Facts.{ScenariosSuit}
+use Rattle.run_laws.specs.Ending.{EachRunEnds, EndsAreNamed}
 use Rattle.plant_fuse.specs.Laws.{ReportExists}
 
 pub record ExistenceLaws : Type 0 where
@@ -34,8 +36,13 @@ pub record ExistenceLaws : Type 0 where
   pub scenario_or_fault : (bytes : List ℕ) (design : DesignParts) (command : Command) → HasScenario bytes design command ⊎ HasFault bytes design command
   pub loose : EventsAreLoose
   pub few : EventsAreFew
+  pub lines : TracesAreFew
   -- pairs that are read can be fused, and there is a report of what they are fused to
   pub pairs : PairsCanBeFused
   pub fused : ReportExists
   -- a behaviour has a code
   pub layout : HasLayout
+  -- a scenario suits its design, and a run of it comes to an end
+  pub suit : ScenariosSuit
+  pub ends : EachRunEnds
+  pub ends_named : EndsAreNamed

@@ -3,18 +3,20 @@ use Rattle.std.proofs.Common.{ℕ, List, refl}
 use Rattle.pals_model.specs.declared.design.DesignParts.{DesignParts}
 use Rattle.pals_model.specs.Rules.{IsDesign}
 use Rattle.scenario_json.specs.declared.scenario.Scenario.{Scenario}
+use Rattle.scenario_json.specs.Facts.{IsScenarioOf}
 use Rattle.scenario_laws.specs.Events.{AreLooseEvents}
 use Rattle.plant_fuse.specs.Fused.{ArePairs}
 use Rattle.plant_fuse.specs.Laws.{ReportExists}
 use Rattle.pals_top.specs.declared.analysis.Analysis.{Analysis}
 use Rattle.pals_top.specs.declared.analysis.Analysis.TheVariants.{Sync, Watch, Vote, Fuse}
 use Rattle.pals_top.specs.declared.execution.Execution.{Execution}
-use Rattle.pals_top.specs.declared.execution.Execution.TheVariants.{TimedWorld, LooseWorld, Budget}
+use Rattle.pals_top.specs.declared.execution.Execution.TheVariants.{TimedWorld, LooseWorld, Run, Audit, Budget}
 use Rattle.pals_top.specs.Analyses.{Makes as analyses}
 use Rattle.pals_top.specs.Executions.{Makes as executes, HasEvents}
 use Rattle.pals_top.specs.Worlds.{world_of}
 use Rattle.answer_laws.proofs.ExistingLaws.{ExistenceLaws}
 use Rattle.answer_laws.proofs.ExistingLayouts.{has_codes}
+use Rattle.answer_laws.proofs.ExistingRuns.{run_answer}
 use Rattle.answer_laws.proofs.ExistingWorlds.{world_answer}
 use Rattle.answer_laws.proofs.TimedWorlds.{answered}
 
@@ -54,14 +56,19 @@ by_timed_world design scenario = answered (world_of design scenario) scenario.ev
 by_loose_world : (design : DesignParts) (scenario : Scenario) → AreLooseEvents design scenario.events → IsMadeByExecution LooseWorld design scenario
 by_loose_world design scenario loose = world_answer design scenario loose.each
 
+by_audit : (design : DesignParts) (scenario : Scenario) → IsMadeByExecution Audit design scenario
+by_audit design scenario = (_, _, (refl, refl))
+
 module _ (laws : ExistenceLaws) where
   by_budget : (design : DesignParts) (scenario : Scenario) → IsDesign design → IsMadeByExecution Budget design scenario
   by_budget design scenario rules =
       let codes = has_codes laws.layout design rules in
       (_, _, record { programs = codes.0; laid_out = codes.1; status_is = refl; text_is = refl })
 
-  pub by_execution : (what : Execution) (design : DesignParts) (scenario : Scenario) → IsDesign design → HasEvents what design scenario
+  pub by_execution : (what : Execution) (design : DesignParts) (scenario : Scenario) → IsDesign design → IsScenarioOf design scenario → HasEvents what design scenario
       → IsMadeByExecution what design scenario
-  by_execution TimedWorld design scenario rules events = by_timed_world design scenario
-  by_execution LooseWorld design scenario rules events = by_loose_world design scenario events
-  by_execution Budget design scenario rules events = by_budget design scenario rules
+  by_execution TimedWorld design scenario rules suits events = by_timed_world design scenario
+  by_execution LooseWorld design scenario rules suits events = by_loose_world design scenario events
+  by_execution (Run trace) design scenario rules suits events = run_answer laws.ends laws.ends_named design scenario trace rules suits
+  by_execution Audit design scenario rules suits events = by_audit design scenario
+  by_execution Budget design scenario rules suits events = by_budget design scenario rules

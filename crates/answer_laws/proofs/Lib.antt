@@ -15,6 +15,8 @@ pub mod Standing
 pub mod ExecutionStanding
 pub mod Reading
 pub mod BundleStatuses
+pub mod RunEnds
+pub mod RunAnswers
 mod ExistingLaws
 mod ExistingTexts
 mod ExistingDesigns
@@ -23,5 +25,6 @@ mod ExistingEnds
 mod ExistingWorlds
 mod ExistingCodes
 mod ExistingLayouts
+mod ExistingRuns
 mod ExistingMade
 mod ExistingAnswers

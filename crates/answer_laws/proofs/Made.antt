@@ -1,6 +1,7 @@
--- What each command makes of a design and its scenario is one, and of which statuses it is.
+-- What each command but `run` makes of a design and its scenario is one, and of which statuses it is.
 use Rattle.std.proofs.Common.{◌≡◌, ◌∙◌, ◌⊎◌, inl, inr, ℕ, ◌<◌, ◌≤◌, Bool, true, false, List, sym, ap, arith}
 use Rattle.std.specs.Prelude.{if◌then◌else◌}
+use Rattle.std.proofs.lemmas.Bool.{true≢false}
 use Rattle.pals_model.specs.declared.design.DesignParts.{DesignParts}
 use Rattle.pals_model.specs.Rules.{IsDesign}
 use Rattle.plant_fuse.specs.Fused.{ArePairs}
@@ -9,11 +10,12 @@ use Rattle.scenario_json.specs.declared.scenario.Scenario.{Scenario}
 use Rattle.pals_top.specs.declared.analysis.Analysis.{Analysis}
 use Rattle.pals_top.specs.declared.analysis.Analysis.TheVariants.{Sync, Watch, Vote, Fuse}
 use Rattle.pals_top.specs.declared.execution.Execution.{Execution}
-use Rattle.pals_top.specs.declared.execution.Execution.TheVariants.{TimedWorld, LooseWorld, Budget}
+use Rattle.pals_top.specs.declared.execution.Execution.TheVariants.{TimedWorld, LooseWorld, Run, Audit, Budget}
 use Rattle.pals_top.specs.Analyses.{Makes as analyses}
-use Rattle.pals_top.specs.Executions.{Makes as executes}
+use Rattle.pals_top.specs.Executions.{command_of, Makes as executes}
 use Rattle.design_codes.specs.Behaviours.{behaviours}
 use Rattle.pals_top.specs.Budget.{processors_of}
+use Rattle.answer_laws.specs.Runs.{is_run}
 use Rattle.answer_laws.proofs.Laws.{ExecutionLaws}
 use Rattle.pals_top.specs.Worlds.{world_of}
 use Rattle.answer_laws.proofs.TimedWorlds.{one_timed}
@@ -32,6 +34,10 @@ judged_is_small : (s : ℕ) (b : Bool) → s ≡ (if b then 1 else 0) → s < 2
 judged_is_small s true e = omega (arith, e)
 judged_is_small s false e = omega (arith, e)
 
+verdict_is_small : (s : ℕ) (b : Bool) → s ≡ (if b then 0 else 1) → s < 2
+verdict_is_small s true e = omega (arith, e)
+verdict_is_small s false e = omega (arith, e)
+
 -- ---- analyses
 pub one_analysis : ReportIsOne → (what : Analysis) (design : DesignParts) (scenario : Scenario) → IsDesign design → ArePairs design scenario.plants
     → (s t : ℕ) (a b : List ℕ) → analyses what design scenario s a → analyses what design scenario t b → Agree s a t b
@@ -48,12 +54,14 @@ analysis_status Vote design scenario s a x = let e : s ≡ 0 = x.status_is in om
 analysis_status Fuse design scenario s a x = let e : s ≡ 0 = x.status_is in omega arith
 
 -- ---- executions
-pub one_execution : ExecutionLaws → (what : Execution) (design : DesignParts) (scenario : Scenario) (s t : ℕ) (a b : List ℕ)
-    → executes what design scenario s a → executes what design scenario t b → Agree s a t b
-one_execution laws TimedWorld design scenario s t a b x y = one_timed (world_of design scenario) scenario.events s t a b x y
-one_execution laws LooseWorld design scenario s t a b x y =
+pub one_execution : ExecutionLaws → (what : Execution) (root : List ℕ) → is_run (command_of what root) ≡ false → (design : DesignParts) (scenario : Scenario)
+    (s t : ℕ) (a b : List ℕ) → executes what design scenario s a → executes what design scenario t b → Agree s a t b
+one_execution laws TimedWorld root not_run design scenario s t a b x y = one_timed (world_of design scenario) scenario.events s t a b x y
+one_execution laws LooseWorld root not_run design scenario s t a b x y =
     one_world laws.one_end design scenario s t a b (end_of design scenario s a x) (end_of design scenario t b y)
-one_execution laws Budget design scenario s t a b x y = (
+one_execution laws (Run trace) root not_run design scenario s t a b x y = absurd (true≢false not_run)
+one_execution laws Audit root not_run design scenario s t a b x y = by_equations s t _ a b _ x y
+one_execution laws Budget root not_run design scenario s t a b x y = (
   x.status_is
       ∙ (ap (λ (over : Bool). if over then 1 else 0) (laws.one_verdict design (behaviours design) x.programs y.programs (processors_of scenario) x.laid_out y.laid_out)
       ∙ sym y.status_is),
@@ -70,7 +78,17 @@ execution_status TimedWorld design scenario s a (inr x) = let e : s ≡ 5 = x.0 
 execution_status LooseWorld design scenario s a (inl x) = let e : s ≡ 0 = x.0 in inl (omega arith)
 execution_status LooseWorld design scenario s a (inr (inl x)) = let e : s ≡ 6 = x.0 in inr (omega arith, omega arith)
 execution_status LooseWorld design scenario s a (inr (inr x)) = let e : s ≡ 5 = x.0 in inr (omega arith, omega arith)
+execution_status (Run trace) design scenario s a (inl x) = let e : s ≡ 0 = x.0 in inl (omega arith)
+execution_status (Run trace) design scenario s a (inr (inl x)) = let e : s ≡ 6 = x.0 in inr (omega arith, omega arith)
+execution_status (Run trace) design scenario s a (inr (inr x)) = let e : s ≡ 7 = x.0 in inr (omega arith, omega arith)
+execution_status Audit design scenario s a x = let small = verdict_is_small s _ x.0 in inl (omega (arith, small))
 execution_status Budget design scenario s a x = let small = judged_is_small s _ x.status_is in inl (omega (arith, small))
+
+-- a run refuses no scenario
+pub no_refused_run : (design : DesignParts) (scenario : Scenario) (trace : Bool) (a : List ℕ) → executes (Run trace) design scenario 5 a → ⊥
+no_refused_run design scenario trace a (inl x) = let e : 5 ≡ 0 = x.0 in absurd (omega (arith, e))
+no_refused_run design scenario trace a (inr (inl x)) = let e : 5 ≡ 6 = x.0 in absurd (omega (arith, e))
+no_refused_run design scenario trace a (inr (inr x)) = let e : 5 ≡ 7 = x.0 in absurd (omega (arith, e))
 
 pub apart : (s n : ℕ) → IsMade s → s ≡ n → ((n ≡ 3) ⊎ ((n ≡ 4) ⊎ ((n ≡ 9) ⊎ ((n ≡ 12) ⊎ (n ≡ 13))))) → ⊥
 apart s n (inl small) e (inl is) = absurd (omega (arith, small, e, is))

@@ -1,10 +1,11 @@
--- That each bundle has an answer of each command, and one alone.
-use Rattle.std.specs.Prelude.{◌≡◌, ℕ, List}
+-- That each bundle has an answer of each command, and one alone of each that is no run.
+use Rattle.std.specs.Prelude.{◌≡◌, ℕ, false, List}
 use Rattle.pals_runs.specs.declared.commands.Command.{Command}
 use Rattle.pals_runs.specs.declared.commands.Command.TheVariants.{Ring}
 use Rattle.pals_top.specs.Words.{HasForm}
 use Rattle.pals_top.specs.Ring.{IsRingAnswer}
 use Rattle.pals_top.specs.Answers.{IsCommandAnswer}
+use Rattle.answer_laws.specs.Runs.{is_run}
 
 -- The answer of a command to a bundle. A ring needs none, so its answer is the same to each.
 abbrev pub IsAnswerTo : Command → List ℕ → ℕ → List ℕ → Type 0
@@ -26,6 +27,6 @@ pub record HasOneAnswer (command : Command) (bundle : List ℕ) : Type 0 where
 abbrev pub EachBundleHasAnAnswer : Type 0
 EachBundleHasAnAnswer = (command : Command) (bundle : List ℕ) → HasForm command → HasAnswer command bundle
 
--- and just one
+-- and just one, if it is no run
 abbrev pub EachBundleHasOneAnswer : Type 0
-EachBundleHasOneAnswer = (command : Command) (bundle : List ℕ) → HasForm command → HasOneAnswer command bundle
+EachBundleHasOneAnswer = (command : Command) (bundle : List ℕ) → is_run command ≡ false → HasForm command → HasOneAnswer command bundle

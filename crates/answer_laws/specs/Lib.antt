@@ -1,3 +1,4 @@
 pub mod Analyses
 pub mod Meanings
+pub mod Runs
 pub mod Exists

@@ -1,11 +1,13 @@
-//! Each bundle has one answer. Each law is the contract of a function that does nothing.
+//! Each bundle has an answer of each command, and one of each that is no run. Each law is the contract of a function that does nothing.
 ghost use Rattle.answer_laws.specs.Exists.{EachBundleHasAnAnswer, EachBundleHasOneAnswer};
 
 use crate::answers::answer_is_decided;
 use design_laws::packages::designs_of_texts_keep_their_rules;
 use package_laws::laws::{each_instance_has_its_list, first_faults_are_named, instance_or_fault};
 use plant_fuse::laws::one_report;
-use scenario_laws::events::{events_are_few, events_are_loose};
+use run_laws::laws::each_run_ends;
+use scenario_laws::events::{events_are_few, events_are_loose, traces_are_few};
+use scenario_laws::facts::scenarios_suit;
 use scenario_laws::meanings::scenario_or_fault;
 use scenario_laws::plants::pairs_can_be_fused;
 use step_compiler::laws::layout_is_one;
@@ -25,12 +27,16 @@ pub fn each_bundle_has_an_answer()
     scenario_or_fault();
     events_are_loose();
     events_are_few();
+    traces_are_few();
     pairs_can_be_fused();
     one_report();
     layout_is_one();
+    scenarios_suit();
+    each_run_ends();
 }
 
-/// Each command that has a form has exactly one answer to each bundle: one status and one text.
+/// Each command that has a form and is no run has exactly one answer to each bundle: one status and one
+/// text.
 pub fn exactly_one_answer()
     ensures { EachBundleHasOneAnswer }
 {

@@ -1,4 +1,5 @@
-//! Why a bundle has one answer: what it means is one, and the cases of an answer exclude each other.
+//! Why a bundle has one answer: what it means is one, and the cases of an answer exclude each other. And what holds of the several
+//! answers of a run.
 #![tactic(auto)]
 
 pub mod accepted;
@@ -6,5 +7,6 @@ pub mod analyses;
 pub mod answers;
 pub mod bundles;
 pub mod existence;
+pub mod runs;
 pub mod sources;
 pub mod statuses;

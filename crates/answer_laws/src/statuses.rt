@@ -1,14 +1,15 @@
 //! What a bundle has decides the status of a command's answer. Each law is the contract of a function
 //! that does nothing.
-ghost use Rattle.std.specs.Prelude.{◌≡◌, ◌↔◌, ◌⊎◌, ◌<◌, ℕ, List};
+ghost use Rattle.std.specs.Prelude.{◌≡◌, ◌↔◌, ◌⊎◌, ◌<◌, ℕ, false, List};
 ghost use Rattle.pals_top.specs.Print.{IsPrintAnswer};
 ghost use Rattle.pals_top.specs.Check.{IsCheckAnswer};
 ghost use Rattle.pals_top.specs.declared.analysis.Analysis.{Analysis};
 ghost use Rattle.pals_top.specs.declared.execution.Execution.{Execution};
 ghost use Rattle.pals_top.specs.Analyses.{command_of, IsAnalysisAnswer};
-ghost use Rattle.pals_top.specs.Executions.{IsExecutionAnswer};
+ghost use Rattle.pals_top.specs.Executions.{command_of as execution_command, IsExecutionAnswer};
 ghost use Rattle.answer_laws.specs.Meanings.{HasTree, MeansDesign, MeansScenario};
 ghost use Rattle.answer_laws.specs.Meanings.{HasLongCode, LacksScenario, GivesStatus};
+ghost use Rattle.answer_laws.specs.Runs.{is_run};
 
 use design_laws::packages::one_design;
 use loose_world::world_laws::one_end;
@@ -50,8 +51,8 @@ pub fn statuses_of_analyses()
 
 /// A command that needs step codes answers 3 and 4 as `check` does, and 13 exactly where the bundle
 /// means a design with a step code that is too long. Of a design without one it answers 5 exactly
-/// where the bundle has no scenario for it, or what is made of the scenario has this status; and 0, 1
-/// or 6 exactly where what is made of the scenario has this status.
+/// where the bundle has no scenario for it, or what is made of the scenario has this status; and a
+/// command that is no run answers 0, 1 or 6 exactly where what is made of the scenario has this status.
 pub fn statuses_of_executions()
     ensures text { (what : Execution) (root bundle : List ℕ) (status : ℕ) (text : List ℕ) → IsExecutionAnswer what root bundle status text
         → (status ≡ 3) ↔ (HasTree bundle → ⊥) }
@@ -61,11 +62,14 @@ pub fn statuses_of_executions()
         → (status ≡ 13) ↔ HasLongCode root bundle }
     ensures scenario { (what : Execution) (root bundle : List ℕ) (status : ℕ) (text : List ℕ) → IsExecutionAnswer what root bundle status text
         → (status ≡ 5) ↔ (LacksScenario what root bundle ⊎ GivesStatus what root bundle 5) }
-    ensures done { (what : Execution) (root bundle : List ℕ) (status : ℕ) (text : List ℕ) → IsExecutionAnswer what root bundle status text
+    ensures done { (what : Execution) (root bundle : List ℕ) (status : ℕ) (text : List ℕ) → is_run (execution_command what root) ≡ false
+        → IsExecutionAnswer what root bundle status text
         → (status ≡ 0) ↔ GivesStatus what root bundle 0 }
-    ensures not_so { (what : Execution) (root bundle : List ℕ) (status : ℕ) (text : List ℕ) → IsExecutionAnswer what root bundle status text
+    ensures not_so { (what : Execution) (root bundle : List ℕ) (status : ℕ) (text : List ℕ) → is_run (execution_command what root) ≡ false
+        → IsExecutionAnswer what root bundle status text
         → (status ≡ 1) ↔ GivesStatus what root bundle 1 }
-    ensures stop { (what : Execution) (root bundle : List ℕ) (status : ℕ) (text : List ℕ) → IsExecutionAnswer what root bundle status text
+    ensures stop { (what : Execution) (root bundle : List ℕ) (status : ℕ) (text : List ℕ) → is_run (execution_command what root) ≡ false
+        → IsExecutionAnswer what root bundle status text
         → (status ≡ 6) ↔ GivesStatus what root bundle 6 }
 {
     one_design();

@@ -12,7 +12,11 @@ returns c = has_answer (record {
   scenario_or_fault = c.scenario_or_fault.ensures;
   loose = c.events_are_loose.ensures;
   few = c.events_are_few.ensures;
+  lines = c.traces_are_few.ensures;
   pairs = c.pairs_can_be_fused.ensures;
   fused = c.one_report.ensures.exists;
   layout = c.layout_is_one.ensures.exists;
+  suit = c.scenarios_suit.ensures;
+  ends = c.each_run_ends.ensures.ends;
+  ends_named = c.each_run_ends.ensures.named;
 })

@@ -1,0 +1,46 @@
+//! What `run` answers. Each law is the contract of a function that does nothing.
+ghost use Rattle.std.specs.Prelude.{◌↔◌, ℕ, Bool, List};
+ghost use Rattle.pals_runs.specs.declared.commands.Command.TheVariants as command;
+ghost use Rattle.pals_top.specs.declared.execution.Execution.TheVariants as execution;
+ghost use Rattle.pals_top.specs.Executions.{IsExecutionAnswer};
+ghost use Rattle.answer_laws.specs.Meanings.{MeansScenario, HasLongCode};
+ghost use Rattle.answer_laws.specs.Runs.{AnswersAsSync, DoneInTime, DoneTracesAreSound, DoneWithinBounds, IsRunStatus, NoneIsStopped, OneAnswerInTime, StoppedTracesAreSound};
+
+use crate::accepted::accepted_designs_keep_their_rules;
+use design_laws::packages::one_design;
+use run_laws::laws::runs_in_time;
+use scenario_laws::facts::scenarios_suit;
+
+/// `run` answers 0, 6 or 7 exactly where the bundle means a scenario and no step code is too long.
+pub fn statuses_of_runs()
+    ensures { (root bundle : List ℕ) (trace : Bool) (status : ℕ) (text : List ℕ) → IsExecutionAnswer (execution.Run trace) root bundle status text
+        → IsRunStatus status ↔ (MeansScenario root bundle (command.Run root trace) × (HasLongCode root bundle → ⊥)) }
+{
+    one_design();
+}
+
+/// Where the bundle means a scenario whose run is in time, `run` has one answer without a trace, and never
+/// 6. Where the picks of each node reach its last target, as where nodes meet, and no step code is too
+/// long, it answers 0 and what `sync` answers, in a trace with a journal behind. With nodes that meet and
+/// delays within the bounds it always does.
+pub fn runs_in_time_are_synchronous()
+    ensures one { OneAnswerInTime }
+    ensures going { NoneIsStopped }
+    ensures done { DoneInTime }
+    ensures sync { AnswersAsSync }
+    ensures bounds { DoneWithinBounds }
+{
+    one_design();
+    accepted_designs_keep_their_rules();
+    scenarios_suit();
+    runs_in_time();
+}
+
+/// What `run --trace` writes at status 0, and what `run` writes at status 6, is a sound trace: the
+/// verdict on its lines says so, with as many rows, and with the stop that ended it, which is the last line.
+pub fn traces_of_runs_are_sound()
+    ensures done { DoneTracesAreSound }
+    ensures stopped { StoppedTracesAreSound }
+{
+    one_design();
+}
