@@ -41,11 +41,11 @@ fn check_case<P: Answers>(
     case: &str,
 ) -> io::Result<()> {
     let answer = program.answer(rt, case)?;
-    report(rt, name, number, case, answer.as_slice())
+    check_answer(rt, name, number, case, answer.as_slice())
 }
 
-// Writes whether the answer to a case is right, and an answer that is wrong.
-fn report(
+/// Writes whether the answer to a case is right, and an answer that is wrong.
+pub fn check_answer(
     rt: &HostRuntime,
     name: &str,
     number: usize,

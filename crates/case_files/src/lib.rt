@@ -22,5 +22,5 @@
 mod answers;
 mod makings;
 
-pub use answers::{Answers, asked, check, word};
+pub use answers::{Answers, asked, check, check_answer, word};
 pub use makings::text_of;

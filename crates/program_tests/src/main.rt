@@ -1,17 +1,21 @@
 //! What the whole program answers to words and bytes, over sources and sinks in memory that fail where they are told.
 #![tactic(auto)]
 
+mod question;
 mod rings;
+mod runs;
+mod series;
+mod traces;
 
-use case_files::{Answers, asked, check, text_of, word};
-use pals_base::{NoMemory, Text};
-use pals_io::{MemSink, MemSource};
-use pals_top::pals;
+use case_files::{asked, check_answer, text_of, word};
+use question::ask;
 use rings::check_ring;
-use std::alloc::Global;
-use std::io;
+use series::answer_series;
+use std::sync::Wait;
+use std::thread::Threads;
+use std::{fs, io};
 
-const FILES: [&str; 8] = [
+const FILES: [&str; 12] = [
     "commands",
     "checks",
     "refused_texts",
@@ -20,54 +24,58 @@ const FILES: [&str; 8] = [
     "worlds",
     "analyses",
     "timed",
+    "hostile",
+    "left_out",
+    "runs",
+    "audits",
 ];
 
-struct Program;
-
-impl Answers for Program {
-    // The status of the answer, and its text.
-    fn answer(&self, rt: &HostRuntime, case: &str) -> io::Result<Vec<u8>> {
-        let words = words(rt.alloc(), case)?;
-        let mut source = source(rt, case)?;
-        let mut sink = sink(rt.alloc(), case)?;
-        let status = pals(rt.alloc(), words.as_slice(), &mut source, &mut sink);
-        let mut answer = format!(in rt.alloc(); "{status}\n")?.into_bytes();
-        answer.extend_from_slice(sink.taken())?;
-        Ok(answer)
+// The status of the answer to a case, and its text.
+fn answer<R: Threads + Wait + Sync>(
+    threads: &R,
+    rt: &HostRuntime,
+    case: &str,
+) -> io::Result<Vec<u8>> {
+    if !word(case, "each").is_empty() {
+        return answer_series(threads, rt, case);
     }
+    let failing_read = word(case, "failing-read").parse().unwrap_or(0);
+    let failing_write = word(case, "failing-write").parse().unwrap_or(0);
+    let bundle = text_of(rt, case)?;
+    let alloc = rt.alloc();
+    let asked = ask(
+        threads,
+        alloc,
+        asked(case),
+        bundle,
+        4096,
+        failing_read,
+        failing_write,
+    )?;
+    let mut answer = format!(in alloc; "{}\n", asked.status)?.into_bytes();
+    answer.extend_from_slice(asked.text.as_slice())?;
+    Ok(answer)
 }
 
-// The words of the command line.
-fn words(alloc: Global, case: &str) -> Result<Vec<Text>, NoMemory> {
-    let mut words = Vec::new(alloc);
-    for word in asked(case).split_whitespace() {
-        words.push(Text::from_str(alloc, word)?)?;
+// Writes of each case in the file of this name whether the program answers it right.
+fn check_file<R: Threads + Wait + Sync>(
+    threads: &R,
+    rt: &HostRuntime,
+    name: &str,
+) -> io::Result<()> {
+    let file = format!(in rt.alloc(); "{name}.cases")?;
+    let cases = fs::read_to_string(rt, file)?;
+    for (index, case) in cases.as_str().split("\n\n").enumerate() {
+        let answer = answer(threads, rt, case)?;
+        check_answer(rt, name, index.saturating_add(1), case, answer.as_slice())?;
     }
-    Ok(words)
-}
-
-// The number of the call that fails, if one does.
-fn failing(alloc: Global, call: &str) -> Result<Vec<u64>, NoMemory> {
-    let mut calls = Vec::new(alloc);
-    if let Ok(number) = call.parse() {
-        calls.push(number)?;
-    }
-    Ok(calls)
-}
-
-fn source(rt: &HostRuntime, case: &str) -> io::Result<MemSource> {
-    let bytes = text_of(rt, case)?;
-    let failing = failing(rt.alloc(), word(case, "failing-read"))?;
-    Ok(MemSource::new(bytes, 4096, failing))
-}
-
-fn sink(alloc: Global, case: &str) -> Result<MemSink, NoMemory> {
-    let failing = failing(alloc, word(case, "failing-write"))?;
-    MemSink::new(alloc, 4096, 8, failing)
+    Ok(())
 }
 
 fn main(rt: HostRuntime) -> io::Result<()> {
-    check(&rt, &Program, &FILES)?;
-    check_ring(&rt, 3)?;
-    check_ring(&rt, 256)
+    for name in FILES {
+        check_file(&rt, &rt, name)?;
+    }
+    check_ring(&rt, &rt, 3)?;
+    check_ring(&rt, &rt, 256)
 }

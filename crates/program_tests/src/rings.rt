@@ -3,6 +3,7 @@ ghost use Rattle.std.specs.Prelude.{◌≤◌, ◌<◌};
 ghost use Rattle.pals_base.specs.declared.limits.TheConstants.{COMPONENTS};
 
 use case_files::text_of;
+use node_threads::{NoGate, ThreadStarter};
 use pals_base::{NoMemory, Text};
 use pals_io::{MemSink, MemSource};
 use pals_report::add_check;
@@ -10,14 +11,20 @@ use pals_top::pals;
 use pals_top::status::DONE;
 use std::alloc::Global;
 use std::io;
+use std::sync::Wait;
+use std::thread::Threads;
 use world_gen::ring;
 
 /// Writes whether the report on the text of a ring is that of its design.
-pub fn check_ring(rt: &HostRuntime, nodes: u32) -> io::Result<()>
+pub fn check_ring<R: Threads + Wait + Sync>(
+    threads: &R,
+    rt: &HostRuntime,
+    nodes: u32,
+) -> io::Result<()>
     requires some { 2 ≤ nodes }
     requires most { nodes ≤ COMPONENTS }
 {
-    let verdict = if is_right(rt, nodes)? {
+    let verdict = if is_right(threads, rt, nodes)? {
         "right"
     } else {
         "wrong"
@@ -25,7 +32,7 @@ pub fn check_ring(rt: &HostRuntime, nodes: u32) -> io::Result<()>
     println!(rt; "ring {nodes}: {verdict}")
 }
 
-fn is_right(rt: &HostRuntime, nodes: u32) -> io::Result<bool>
+fn is_right<R: Threads + Wait + Sync>(threads: &R, rt: &HostRuntime, nodes: u32) -> io::Result<bool>
     requires some { 2 ≤ nodes }
     requires most { nodes ≤ COMPONENTS }
 {
@@ -37,7 +44,15 @@ fn is_right(rt: &HostRuntime, nodes: u32) -> io::Result<bool>
     words.push(Text::from_str(alloc, "Top.impl")?)?;
     let mut source = MemSource::new(ring_text(rt, nodes)?, 4096, Vec::new(alloc));
     let mut sink = MemSink::new(alloc, report.len(), 4096, Vec::new(alloc))?;
-    let status = pals(alloc, words.as_slice(), &mut source, &mut sink);
+    let status = pals(
+        threads,
+        alloc,
+        words.as_slice(),
+        &mut source,
+        &mut sink,
+        &mut ThreadStarter,
+        &NoGate,
+    );
     Ok(status == DONE && sink.taken() == report.as_slice())
 }
 

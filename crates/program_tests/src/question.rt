@@ -1,0 +1,81 @@
+//! What the program answers to words and a bundle.
+use node_threads::{NoGate, ThreadStarter};
+use pals_base::{NoMemory, Text};
+use pals_io::{MemSink, MemSource};
+use pals_top::pals;
+use std::alloc::Global;
+use std::io;
+use std::sync::Wait;
+use std::thread::Threads;
+
+/// An answer: its status, what was written, and where the bundle ends, by line and column.
+#[derive(Drop)]
+pub struct Asked {
+    pub status: u8,
+    pub text: Vec<u8>,
+    pub end: (u64, u64),
+}
+
+/// What the program answers to the words of a command line and to these bytes. The source gives `size` bytes a call. The calls of
+/// these numbers fail, from 1; 0 is none.
+pub fn ask<R: Threads + Wait + Sync>(
+    threads: &R,
+    alloc: Global,
+    line: &str,
+    bundle: Vec<u8>,
+    size: usize,
+    failing_read: u64,
+    failing_write: u64,
+) -> io::Result<Asked> {
+    if size == 0 {
+        return Err(io::ErrorKind::InvalidInput.into());
+    }
+    let words = words(alloc, line)?;
+    let end = end_of(bundle.as_slice());
+    let mut source = MemSource::new(bundle, size, calls(alloc, failing_read)?);
+    let mut sink = MemSink::new(alloc, 65_536, 8, calls(alloc, failing_write)?)?;
+    let status = pals(
+        threads,
+        alloc,
+        words.as_slice(),
+        &mut source,
+        &mut sink,
+        &mut ThreadStarter,
+        &NoGate,
+    );
+    let mut text = Vec::new(alloc);
+    text.extend_from_slice(sink.taken())?;
+    Ok(Asked { status, text, end })
+}
+
+// The words of the command line.
+fn words(alloc: Global, line: &str) -> Result<Vec<Text>, NoMemory> {
+    let mut words = Vec::new(alloc);
+    for word in line.split_whitespace() {
+        words.push(Text::from_str(alloc, word)?)?;
+    }
+    Ok(words)
+}
+
+// The calls that fail: that of a number, if it is not 0.
+fn calls(alloc: Global, number: u64) -> Result<Vec<u64>, NoMemory> {
+    let mut calls = Vec::new(alloc);
+    if number != 0 {
+        calls.push(number)?;
+    }
+    Ok(calls)
+}
+
+// The place behind the last byte: its line and its column, from 1.
+fn end_of(bytes: &[u8]) -> (u64, u64) {
+    let (mut line, mut column) = (1_u64, 1_u64);
+    for byte in bytes {
+        if *byte == b'\n' {
+            line = line.saturating_add(1);
+            column = 1;
+        } else {
+            column = column.saturating_add(1);
+        }
+    }
+    (line, column)
+}
