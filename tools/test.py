@@ -248,6 +248,31 @@ def test_explain_shows_each_scenario_fault():
         expect(wanted is None or source.startswith(wanted), True, f"{answer}\n{text}")
 
 
+# Answers to runs and audits, and where each is shown.
+RUNS = [
+    ('{"rounds":2,"delays":{"p.b.i":[9]}}', "stop missed p.b.i 0 18000000 in-transit", 6, '"p.b.i"'),
+    ('{"rounds":2}', "stop early p.b.i 0 9000000", 6, "{"),
+    ('{"rounds":2,"clocks":{"p.a":[1],"p.b":[2]}}', "clock ended p.b 9000000", 7, '"p.b"'),
+    ('{"rounds":2,"clocks":{"p.a":[1]}}', "clock ended p.b 9000000", 7, '"clocks"'),
+    ('{"rounds":1,"trace":["round 0","start p.a 0 1"]}', "wrong 1 alarm", 1, '"start p.a'),
+    ('{"rounds":1,"trace":["round 0"]}', "wrong 1 unfinished", 1, '"trace"'),
+]
+
+
+def test_explain_shows_runs_and_traces():
+    """A stop of a run, a clock that has ended and the first wrong line of a trace are shown in the scenario."""
+    design = page("examples/two_counters.aadl")
+    for scenario, answer, wanted, shown in RUNS:
+        bundle = f"{design}%%%\n{scenario}".encode()
+        status, text = explained(bundle, answer)
+        place = re.match(r"b\.pals:(\d+):(\d+): ", text)
+        expect((status, bool(place)), (wanted, True), f"{answer}\n{text}")
+        source = bundle.split(b"\n")[int(place.group(1)) - 1][int(place.group(2)) - 1 :].decode()
+        expect(source.startswith(shown), True, f"{answer}\n{text}")
+    for answer in ("sound rounds 1 stop none", "sound rounds 1 stop p.b.i 0"):
+        expect(explained(f"{design}%%%\n{{}}".encode(), answer), (0, ""), answer)
+
+
 def test_explain_gives_the_status():
     """Of each example the status is that of the program; and of each other kind of answer."""
     for bundle, command, answer, wanted in answers():
@@ -289,6 +314,8 @@ def test_sentences_are_those_of_the_pages():
     expect(set(sentences.SCENARIO_FAULTS), named, "faults of docs/scenario.md")
     named = set(re.findall(r"(?m)^\| `event N (\w+)", page("docs/nodes.md")))
     expect(set(sentences.EVENT_FAULTS), named, "faults of docs/nodes.md")
+    rules = page("docs/traces.md").split("## The rules")[1].split("##")[0]
+    expect(list(sentences.TRACE_RULES), re.findall(r"(?m)^\| `(\w+)` \|", rules), "rules of docs/traces.md")
     grammar = language.split("body    =")[1].split("```")[0]
     inside = set(re.findall(r'"([a-z]+)"', grammar)) | {"constant", "applies", "to", "reference", "classifier"}
     expect(set(ANNEX), inside, "keywords inside of annexes")
@@ -301,7 +328,8 @@ def test_no_tool_stumbles():
     """Answers and bundles that are none end with a status and words, and with no trace of Python."""
     bundle = read(os.path.join(EXAMPLES, "turn_world_late.pals"))
     answers_to_try = [b"flat x\n", b"text 1 Syntax\n", b"event 9 NotDue\n", b"event 999 NotDue p.m 1 2\n", b"event 9 PastDeadline\n", b"\xff\n",
-                      b"scenario\n", b"round 0\np.a s x\n", b"p.a s x=1\n", b"stop missed p.b.i 0 _ lost\n", b"slot a 0\n"]
+                      b"scenario\n", b"round 0\np.a s x\n", b"p.a s x=1\n", b"stop missed p.b.i 0 _ lost\n", b"slot a 0\n", b"wrong 99 due\n",
+                      b"wrong 0 x\n", b"sound rounds 1 stop none\n", b"clock ended p 1\n", b"stop early p.b.i 0 9\n"]
     with tempfile.TemporaryDirectory() as folder:
         for given in answers_to_try:
             for whole in (bundle, bundle[:2000], b"", b'%%%\n{"events":[5]}', b"\xff\n%%%\n[[["):
@@ -353,6 +381,14 @@ def test_timeline_draws_each_kind():
         text = xml.dom.minidom.parseString(drawn).toxml()
         for part in parts:
             expect(part in text, True, f"{part} in the picture of {words}")
+    for name, parts in (("turn_trace", ["step 3", "kept"]), ("turn_trace_hasty", ["line 41 is wrong: this is sent too soon"])):
+        given = read(os.path.join(EXAMPLES, f"{name}.audit"))
+        status, drawn, said = tool("timeline", f"examples/{name}.pals", given=given)
+        expect((status, said), (0, ""), f"timeline of {name}")
+        for part in parts:
+            expect(part in xml.dom.minidom.parseString(drawn).toxml(), True, f"{part} in the picture of {name}")
+    expect(tool("timeline", "examples/turn_trace.pals", given=b"wrong 3 row\n")[0], 1, "a row that is wrong has no events")
+    expect(tool("timeline", "examples/clock_ended.pals", given=b"clock ended p.b 1\n")[0], 1, "a clock that has ended")
     expect(tool("timeline", given=read(os.path.join(EXAMPLES, "two_counters.rounds")))[0], 1, "rows have no journal")
     expect(tool("timeline", "examples/two_counters.pals", given=b"accepted\n")[0], 1, "a check report is of no run")
     expect(tool("timeline", "--rounds", "1")[0], 2, "words that are wrong")
@@ -361,7 +397,7 @@ def test_timeline_draws_each_kind():
 def reports():
     """The answers of the examples that are reports."""
     for _, command, answer, status in answers():
-        if status in (0, 1, 6):
+        if status in (0, 1, 6) and not command.startswith("audit"):
             yield command, read(os.path.join(TOP, answer))
 
 
@@ -466,6 +502,17 @@ def age(folder, name, seconds):
     """Sets the time of a file, in seconds since long ago."""
     path = os.path.join(folder, "crates", name)
     os.utime(path, (10**9 + seconds, 10**9 + seconds))
+
+
+def test_hostile_tools_make_what_they_say():
+    """Big bundles are as long as they may be, and the rows that memory is refused to are there."""
+    for kind, size, divided in (("no divider", 2**24, False), ("one byte too many", 2**24 + 1, False), ("one comment", 2**24, True)):
+        status, made, _ = tool("big_bundles", "--write", kind)
+        expect((status, size - 1024 < len(made) <= size), (0, True), kind)
+        expect(b"\n%%%\n" in made, divided, f"a divider in {kind}")
+    for name in ("big_bundles", "fail_alloc"):
+        expect(tool(name, "no such thing")[0], 2, f"{name} of nothing")
+    expect(tool("fail_alloc", "--program", "/no/program")[0], 1, "no program")
 
 
 def test_pals_hands_on():

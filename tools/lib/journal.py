@@ -74,6 +74,40 @@ def from_journal(lines):
     return run
 
 
+def from_trace(scenario, verdict):
+    """The run that the trace of a scenario tells, up to the line that a verdict names."""
+    lines = lines_of(scenario)
+    words = verdict.split()
+    index = int(words[1]) if words[0] == "wrong" else len(lines)
+    run = from_journal(lines[:index])
+    if not run.events:
+        raise Refused("nothing has happened before the line that is wrong")
+    if words[0] == "wrong":
+        found = parsed(lines[index]) if index < len(lines) else None
+        text = f"line {index} is wrong: {sentences.TRACE_RULES.get(words[2], words[2])}"
+        latest = max(event.at for event in run.events)
+        at = reading_or(found, latest) if found and run.axis == "readings" else latest + 1
+        run.end = End(at, found and found["what"], found and int(found["round"]), text, False)
+        run.lanes = list(dict.fromkeys([*run.lanes, *lanes_of([], ends_lane(found))]))
+    return run
+
+
+def lines_of(scenario):
+    """The lines of a scenario's trace."""
+    try:
+        found = json.loads(scenario.decode("utf-8")).get("trace")
+    except (ValueError, AttributeError) as error:
+        raise Refused("the scenario of the bundle cannot be read") from error
+    if not isinstance(found, list) or not all(isinstance(line, str) for line in found):
+        raise Refused("the scenario of the bundle has no trace")
+    return found
+
+
+def ends_lane(found):
+    """A line as an event, for the lane that it is of."""
+    return [Event(found["kind"], found["what"], 0, 0, 0, None, "")] if found else []
+
+
 def reading_or(found, latest):
     """The reading of a line, or the latest one before it."""
     own = found.get("reading", "_")

@@ -86,6 +86,23 @@ STOPS = {
     "lost": "a start needs the message of round $2 at $1, and no copy of it is left",
 }
 
+# A clock of a run that has ended.
+CLOCK_ENDED = "the clock of $1 has no reading left that is $2ms or more, which $1 waits for"
+
+# What is wrong with a line of a trace, by the rule that it breaks.
+TRACE_RULES = {
+    "row": "the rows of the composition do not go on like this",
+    "text": "this is no line of a journal, it names nothing of the design, or it has no reading",
+    "order": "this does not come now: the event is not allowed here, or its round, its step or its result is another one",
+    "reading": "the clock of this node has read more before",
+    "alarm": "this comes too soon: the clock of the node reads less than the alarm",
+    "release": "this is sent too soon: the clock of the node reads less than the release",
+    "due": "the message is not due yet, or one that is due to this node has not arrived",
+    "stop": "a stop stands here that is none, or none where one has to be, or another one",
+    "unfinished": "the trace ends here, without a stop, and a node has not done all its rounds",
+    "count": "there are more or fewer rows than rounds that all nodes have finished",
+}
+
 
 def sentence(form, details):
     """A sentence with its details put in."""
