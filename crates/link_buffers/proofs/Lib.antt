@@ -1,5 +1,6 @@
 pub mod Firsts
 pub mod Moves
+pub mod Parts
 pub mod Rings
 pub mod Splits
 pub mod Order

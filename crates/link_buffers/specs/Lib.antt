@@ -1,3 +1,4 @@
 pub mod Flights
+pub mod Halving
 pub mod Queues
 pub mod Rings

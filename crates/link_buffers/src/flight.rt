@@ -3,7 +3,8 @@ ghost use Rattle.std.specs.Prelude.{◌≡◌, ◌+◌, ◌-◌, ◌≤◌, [], 
 ghost use Rattle.pals_model.specs.Flights.{oldest, without_oldest};
 ghost use Rattle.link_buffers.specs.Flights.{flight_of, due_rounds, least};
 
-use crate::ring::{Ring, Standing, least_due, place_of_oldest, standing_at, take_at, top_with};
+use crate::middle::{standing_at, take_at};
+use crate::ring::{Ring, Standing, least_due, place_of_oldest, top_with};
 use pals_base::{Nanos, NoMemory, Tuple};
 use pals_model::FlightCopy;
 use std::alloc::Global;

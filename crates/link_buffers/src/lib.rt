@@ -3,7 +3,9 @@
 #![tactic(auto)]
 
 pub mod flight;
+mod halving;
 pub mod laws;
+mod middle;
 pub mod queue;
 mod ring;
 pub mod slot;

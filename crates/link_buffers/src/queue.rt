@@ -2,6 +2,9 @@
 ghost use Rattle.std.specs.Prelude.{◌≡◌, ◌+◌, ◌-◌, ◌≤◌, ◌↔◌, [], max, take, filter, count_by, Contains, IsTrue, IfOk, OnOk, OnErr, slice_get, if◌then◌else◌};
 ghost use Rattle.std.specs.Bool.{OnFalse};
 
+use crate::halving::partition_point;
+use crate::middle::{put_at, take_at};
+use circular_buffer::HeapCircularBuffer;
 use pals_base::{LinkNo, Nanos, NoMemory};
 use std::alloc::Global;
 use std::marker::Model;
@@ -27,21 +30,22 @@ impl DueEntry {
 
 /// A node's messages that become due. Contracts see the list of them in rising order of due reading,
 /// then link, then round, and the number of further ones that there is room for. Equal entries are
-/// kept as often as they were added. A place is found by halving.
+/// kept as often as they were added. A place is found by halving. Only the entries between it and the
+/// nearer end move: none where the first is taken out, or one is added behind all others.
 #[derive(Drop)]
 pub struct DueQueue {
-    entries: Vec<DueEntry>,
+    entries: HeapCircularBuffer<DueEntry>,
 }
 
 impl Model for DueQueue {
-    ghost use Rattle.std.specs.Prelude.{◌-◌, length, vec_capacity};
+    ghost use Rattle.std.specs.Prelude.{◌-◌, ◌≤◌, length};
     ghost use Rattle.link_buffers.specs.Queues.{QueueState, IsRising};
 
     ghost Value = { QueueState };
 
-    ghost view = { λ queue. record { entries = queue.entries.items; spare = vec_capacity queue.entries - length queue.entries.items } };
+    ghost view = { λ queue. record { entries = queue.entries.items; spare = queue.entries.capacity - length queue.entries.items } };
 
-    ghost invariant = { λ queue. IsRising queue.entries.items };
+    ghost invariant = { λ queue. (length queue.entries.items ≤ queue.entries.capacity) × IsRising queue.entries.items };
 }
 
 impl DueQueue {
@@ -52,7 +56,7 @@ impl DueQueue {
         ensures { IfOk result (λ queue. queue ≡ queue_of [] 0) }
     {
         Ok(DueQueue {
-            entries: Vec::new(alloc),
+            entries: HeapCircularBuffer::with_capacity(alloc, 0)?,
         })
     }
 
@@ -64,7 +68,11 @@ impl DueQueue {
         ensures same { OnErr result (self.new ≡ self.old) }
         ensures enough { places ≤ self.old.spare → result ≡ Ok tt }
     {
-        self.entries.reserve(places as usize)
+        let wanted = self.entries.len() + places as usize;
+        if wanted <= self.entries.capacity() {
+            return Ok(());
+        }
+        self.entries.resize(wanted.max(2 * self.entries.capacity()))
     }
 
     /// Adds an entry at its place in the order. It takes no memory.
@@ -72,11 +80,8 @@ impl DueQueue {
         requires { 1 ≤ self.old.spare }
         ensures { self.new ≡ queue_of (with_entry entry self.old.entries) (self.old.spare - 1) }
     {
-        let place = self
-            .entries
-            .partition_point(|other| !entry.comes_before(other));
-        // There is room, so the insertion is not refused.
-        let _ = self.entries.insert(place, entry);
+        let place = partition_point(&self.entries, |other| !entry.comes_before(other));
+        put_at(&mut self.entries, place, entry);
     }
 
     /// Takes out one entry that equals this one. The answer is false exactly where there is none,
@@ -87,13 +92,11 @@ impl DueQueue {
         ensures spare { self.new.spare ≡ (if result then self.old.spare + 1 else self.old.spare) }
         ensures same { OnFalse result (self.new ≡ self.old) }
     {
-        let place = self
-            .entries
-            .partition_point(|other| other.comes_before(&entry));
+        let place = partition_point(&self.entries, |other| other.comes_before(&entry));
         if !stands_at(&self.entries, place, &entry) {
             return false;
         }
-        self.entries.remove(place);
+        take_at(&mut self.entries, place);
         true
     }
 
@@ -102,7 +105,7 @@ impl DueQueue {
         ensures count { result ≡ count_by (is_due_at reading) self.now.entries }
         ensures first { take result self.now.entries ≡ filter (is_due_at reading) self.now.entries }
     {
-        self.entries.partition_point(|entry| entry.due <= reading)
+        partition_point(&self.entries, |entry| entry.due <= reading)
     }
 
     /// The entry at a place, in rising order, or none past the end.
@@ -115,8 +118,8 @@ impl DueQueue {
 }
 
 // Whether an entry stands at a place.
-fn stands_at(entries: &[DueEntry], place: usize, entry: &DueEntry) -> bool
-    ensures { IsTrue result ↔ (slice_get entries.now place ≡ Some entry.now) }
+fn stands_at(entries: &HeapCircularBuffer<DueEntry>, place: usize, entry: &DueEntry) -> bool
+    ensures { IsTrue result ↔ (slice_get entries.now.items place ≡ Some entry.now) }
 {
     match entries.get(place) {
         None => false,

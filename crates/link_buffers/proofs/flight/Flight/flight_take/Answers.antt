@@ -32,7 +32,7 @@ within : (c : After-map) → c.in_ok-place.place < length c.self.inside.ring.ite
 within c = oldest_within c.self.inside.ring.items c.args.round c.in_ok-place.place (place_is c)
 
 is_taken : (c : After-map) → is_some c.map.result ≡ true
-is_taken c = c.map.ensures.variant ∙ (ap is_some c.take_at.ensures.copy ∙ standing_there c.self.inside.ring.items c.in_ok-place.place (within c))
+is_taken c = c.map.ensures.variant ∙ (ap is_some c.take_at.ensures.item ∙ standing_there c.self.inside.ring.items c.in_ok-place.place (within c))
 
 if_none : {X : Type 0} (o : Option X) (P : Type 0) → is_some o ≡ true → IfNone o P
 if_none None P some = absurd (cc)
@@ -57,7 +57,7 @@ returns-clause-taken c =
     let some : oldest c.args.round (copies_of xs) ≡ slice_get (copies_of xs) n = find_some (is_of c.args.round) (copies_of xs) n (place_is c) in
     let mapped : c.map.result ≡ option_map (λ (s : Standing). s.copy.tuple) c.take_at.result = first_of (search rules, grind (arith, common_steps, c.map.ensures.cases)) in
     rw (← c.self.view_is)
-    (mapped ∙ (ap (option_map (λ (s : Standing). s.copy.tuple)) c.take_at.ensures.copy ∙ sym (ap (option_map (λ (copy : FlightCopy). copy.tuple)) some ∙ tuple_at xs n)))
+    (mapped ∙ (ap (option_map (λ (s : Standing). s.copy.tuple)) c.take_at.ensures.item ∙ sym (ap (option_map (λ (copy : FlightCopy). copy.tuple)) some ∙ tuple_at xs n)))
 
 pub returns-clause-others : goal.returns-clause-others
 returns-clause-others c =

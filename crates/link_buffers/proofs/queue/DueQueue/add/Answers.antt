@@ -1,33 +1,38 @@
-use Rattle.std.proofs.Common.{◌≡◌, ◌-◌, ◌≤◌, true, false, not, length, insert, vec_capacity, sym, subst, ◌∙◌, rules, tests, arith}
-use Rattle.std.specs.List.Sorted.{IsPartitionPoint}
-use Rattle.std.proofs.lemmas.List.Sorted.{IsPartitionPoint-from_clause}
-use Rattle.std.proofs.lemmas.Grind.{common_steps}
-use Rattle.link_buffers.specs.Queues.{comes_before, IsRising, with_entry}
+use Rattle.std.proofs.Common.{◌≡◌, ◌-◌, ◌≤◌, not, length, insert, sym, ap, ◌∙◌, subst, rules, tests, arith}
+use Rattle.link_buffers.specs.Halving.{IsFirstToFail}
+use Rattle.std.proofs.lemmas.List.Edits.{length-insert}
+use Rattle.link_buffers.specs.Queues.{comes_before, IsRising}
 use Rattle.link_buffers.proofs.Entries.{parted_not_after, inserted, rising-inserted, same_queue}
-use Rattle.link_buffers.proofs.queue.DueQueue.add.Goals.{After-insert}
+use Rattle.link_buffers.proofs.queue.DueQueue.add.Goals.{After-put_at}
 use Rattle.link_buffers.proofs.queue.DueQueue.add.Goals as goal
 
 -- the entries are parted at the place
-parts : (c : After-insert) → IsPartitionPoint (λ e. not (comes_before c.args.entry e) ≡ true) (λ e. not (comes_before c.args.entry e) ≡ false) c.self.inside.entries.items c.partition_point-place.result
+parts : (c : After-put_at) → IsFirstToFail (λ e. not (comes_before c.args.entry e)) c.self.inside.entries.items c.partition_point-place.result
 parts c =
-    IsPartitionPoint-from_clause (λ e. not (comes_before c.args.entry e)) c.self.inside.entries.items c.partition_point-place.result
-    (rw c.deref.ensures.value at c.partition_point-place.ensures.partitioned) (parted_not_after c.self.inside.entries.items c.args.entry c.self.invariant) (λ a r f k. search (rules, tests))
+    c.partition_point-place.ensures.parts (λ e. not (comes_before c.args.entry e)) (λ x b k. search (rules, tests)) (parted_not_after c.self.inside.entries.items c.args.entry c.self.invariant.1)
 
-within : (c : After-insert) → c.partition_point-place.result ≤ length c.self.inside.entries.items
-within c = grind (arith, common_steps)
+items : (c : After-put_at) → c.put_at.new.ring.items ≡ insert c.self.inside.entries.items c.partition_point-place.result c.args.entry
+items c = ap (λ b. b.items) c.put_at.ensures
 
-items : (c : After-insert) → c.insert.new.self.items ≡ insert c.self.inside.entries.items c.partition_point-place.result c.args.entry
-items c = grind (arith, common_steps)
+same : (c : After-put_at) → c.put_at.new.ring.capacity ≡ c.self.inside.entries.capacity
+same c = ap (λ b. b.capacity) c.put_at.ensures
 
 pub invariant_of-self : goal.invariant_of-self
 invariant_of-self c =
-    let s = (goal.at.invariant_of-self c).After-insert in
-    subst IsRising (sym (items s)) (rising-inserted c.self.inside.entries.items c.args.entry c.partition_point-place.result c.self.invariant (within s) (parts s))
+    let s = (goal.at.invariant_of-self c).After-put_at in
+    let xs = c.self.inside.entries.items in
+    let n = c.partition_point-place.result in
+    let within = c.partition_point-place.ensures.bound in
+    let more : 1 ≤ c.self.inside.entries.capacity - length xs = rw (← c.self.view_is) at c.requires in
+    let long = length-insert xs n c.args.entry within in
+    (rw (items s, same s) (omega arith), subst IsRising (sym (items s)) (rising-inserted xs c.args.entry n c.self.invariant.1 within (parts s)))
 
 pub returns : goal.returns
 returns c =
-    let s = (goal.at.returns c).After-insert in
+    let s = (goal.at.returns c).After-put_at in
     let xs = c.self.inside.entries.items in
-    let entries : c.insert.new.self.items ≡ with_entry c.args.entry xs = items s ∙ inserted xs c.args.entry c.partition_point-place.result (within s) (parts s) in
-    let room : vec_capacity c.insert.new.self - length c.insert.new.self.items ≡ (vec_capacity c.self.inside.entries - length xs) - 1 = grind (arith, common_steps) in
-    rw (← c.self.view_is) (same_queue _ _ _ _ entries room)
+    let n = c.partition_point-place.result in
+    let within = c.partition_point-place.ensures.bound in
+    let long = length-insert xs n c.args.entry within in
+    let room : c.put_at.new.ring.capacity - length c.put_at.new.ring.items ≡ (c.self.inside.entries.capacity - length xs) - 1 = rw (items s, same s) (omega arith) in
+    rw (← c.self.view_is) (same_queue _ _ _ _ (items s ∙ inserted xs c.args.entry n within (parts s)) room)
