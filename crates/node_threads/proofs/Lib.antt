@@ -10,4 +10,3 @@ mod Endings
 pub mod Outcomes
 mod Sending
 mod Seats
-mod Aims

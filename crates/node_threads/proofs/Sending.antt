@@ -1,5 +1,5 @@
 -- A course may go to other threads: what it is made of is data that it owns, and what lies under an `Arc` may be shared.
-use denote.Param.Send.{IsSend, IsSync, sendable, struct_send}
+use denote.Param.Send.{IsSend, IsSync, sendable, struct_send, recorded_send}
 use denote.Struct.Declared as S
 use Rattle.std.proofs.Crossing.{Box-send, Box-sync, Vec-send, Vec-sync, Arc-send, crosses}
 use Rattle.pals_base.proofs.behaviour.Expr.TheLaws.TheKnot.{send-Expr, sync-Expr}
@@ -43,6 +43,8 @@ use Rattle.pals_node.specs.contracts.plan.NodePlan.{the_field as node_plan}
 use Rattle.pals_node.specs.contracts.fields.Fields.{the_field as node_fields}
 use Rattle.pals_node.specs.contracts.fields.Fields.{the_type as node_fields_type}
 use Rattle.pals_node.specs.contracts.node.Node.{the_field as node}
+use Rattle.pals_bus.specs.contracts.node_list.NodeList.{the_field as node_list}
+use Rattle.pals_bus.specs.contracts.node_list.NodeList.TheInside.{the_type as node_list_inside}
 use Rattle.pals_bus.specs.contracts.fields.Fields.{the_field as bus_fields}
 use Rattle.pals_bus.specs.contracts.bus.Bus.{the_field as bus}
 use Rattle.node_threads.specs.contracts.course.Course.{the_field as course}
@@ -172,9 +174,21 @@ node_fields_send =
 node_send : IsSend node.row
 node_send = search (sendable, node_fields_send) depth 20
 
+node_list_inside_send : IsSend (S.row node_list_inside)
+node_list_inside_send =
+    recorded_send _ _ _ node_list_inside.to_one (
+    struct_send (S.shape node_list_inside) (
+      search (sendable, node_send, items_send) depth 20,
+      (search (sendable, items_send) depth 20, tt),
+    )
+    )
+
+node_list_send : IsSend node_list.row
+node_list_send = search (sendable, node_list_inside_send) depth 20
+
 -- ---- a bus, a course, and what lies under the lock
 bus_fields_send : IsSend bus_fields.row
-bus_fields_send = search (sendable, Arc-send, design_send, design_sync, env_send, delays_send, node_send, flight_send, queue_send, stop_send, entry_send, port_send, items_send, Vec-send) depth 20
+bus_fields_send = search (sendable, Arc-send, design_send, design_sync, env_send, delays_send, node_list_send, flight_send, queue_send, stop_send, entry_send, port_send, items_send, Vec-send) depth 20
 
 bus_send : IsSend bus.row
 bus_send = search (sendable, bus_fields_send) depth 20

@@ -1,8 +1,7 @@
 //! The course of a run: the bus, the lists of its nodes' clocks, and what is noted of each node.
-ghost use Rattle.std.specs.Prelude.{◌≡◌, ◌≢◌, ◌<◌, ◌≤◌, ℕ, length, false, Some, None, IsTrue, IfOk};
+ghost use Rattle.std.specs.Prelude.{◌≡◌, ◌<◌, ◌≤◌, length, false, None, IsTrue, IfOk};
 ghost use Rattle.pals_base.specs.declared.limits.TheConstants.{COMPONENTS};
 ghost use Rattle.bus_machine.specs.Laws.{IsRunOf};
-ghost use Rattle.bus_machine.specs.States.{node_at};
 ghost use Rattle.pals_bus.specs.Meeting.{HasEnded};
 ghost use Rattle.pals_bus.specs.Values.{opening_bus};
 ghost use Rattle.run_laws.specs.Runs.{target_of, Begin, Runs};
@@ -16,7 +15,6 @@ use pals_bus::Bus;
 use pals_clock::ListClock;
 use pals_model::Design;
 use pals_runs::Phase;
-use round_timer::step_alarm;
 use std::alloc::Global;
 use std::marker::Model;
 
@@ -178,40 +176,7 @@ impl Course {
         if node.0 >= self.count() {
             return None;
         }
-        match self.bus.phase(node) {
-            Phase::Running(step) => Some(self.alarm(node, step)),
-            Phase::Waiting | Phase::Between(_) | Phase::Holding | Phase::Done => {
-                self.next_target(node)
-            }
-        }
-    }
-
-    // From which reading on a node does what it does next.
-    fn next_target(&self, node: NodeNo) -> Option<Nanos>
-        requires node { node.0 < length self.now.bus.run.design.components }
-        requires rests { (step : ℕ) → (node_at self.now.bus.state node.0).phase ≢ Phase.Running step }
-        ensures { result ≡ target_of self.now.bus.run self.now.bus.state node.0 }
-    {
-        match self.bus.next(node) {
-            Some(next) => Some(next.target),
-            None => None,
-        }
-    }
-
-    // The alarm of the step whose job is out.
-    fn alarm(&self, node: NodeNo, step: u32) -> Nanos
-        requires node { node.0 < length self.now.bus.run.design.components }
-        requires runs { (node_at self.now.bus.state node.0).phase ≡ Phase.Running step }
-        ensures { target_of self.now.bus.run self.now.bus.state node.0 ≡ Some result }
-    {
-        self.agreement();
-        let plan = self.bus.plan(node);
-        step_alarm(
-            plan.period,
-            plan.step_period,
-            self.bus.count(node) - 1,
-            step,
-        )
+        self.bus.target(node)
     }
 }
 

@@ -25,7 +25,8 @@ use Rattle.pals_bus.specs.declared.fields.Fields.{Fields}
 use Rattle.pals_bus.specs.Values.{node_value, Happens}
 use Rattle.pals_bus.specs.Keeping.{Keeps, owed, run_of, state_of, value_of, copies_in}
 use Rattle.pals_bus.specs.Absent.{no_flight, no_node_value}
-use Rattle.pals_bus.proofs.NodeChanges.{nodes-set, node_is, node_here, same_node}
+use Rattle.pals_bus.specs.NodeLists.{node_of}
+use Rattle.pals_bus.proofs.NodeChanges.{nodes-set, node_is, same_node}
 use Rattle.pals_bus.proofs.Rooms.{flight_is, rooms-set}
 use Rattle.pals_bus.proofs.QueueRooms.{queues-set}
 use Rattle.pals_bus.proofs.Events.{node_happens}
@@ -153,44 +154,57 @@ arrive_keeps_bus f t g link round reading tuple m keeps within comes happens roo
     subst Keeps (sym is) all
 
 -- ---- the calls of an arrival
--- the node that a message comes to, as it stands then
-pub node_reached : (f t : Fields) (link : LinkNo) (round : ℕ) (tuple : Option (List Port)) (n : NodeValue) (target : ℕ) → Keeps f → link.0 < length (arc_value f.design).links → Takes f t link round tuple
-    → target ≡ (slice_index_or (arc_value f.design).links link.0 no_link).target.0 → n ≡ slice_index_or t.nodes target n → n ≡ node_value (value_of f) (slice_index_or (arc_value f.design).links link.0 no_link).target.0
-node_reached f t link round tuple n target keeps within takes target_is is =
+abbrev pub node_after : List NodeValue → ℕ → ℕ → ℕ → List Port → NodeValue
+node_after nodes target port round tuple = with_state (node_of nodes target) (received (node_of nodes target).state port round tuple)
+
+-- the node that a message comes to is there
+pub reached_within : (f t : Fields) (link : LinkNo) (round : ℕ) (tuple : Option (List Port)) (target : ℕ) → Keeps f → link.0 < length (arc_value f.design).links → Takes f t link round tuple
+    → target ≡ (slice_index_or (arc_value f.design).links link.0 no_link).target.0 → target < length t.nodes
+reached_within f t link round tuple target keeps within takes target_is =
+    let count = keeps.nodes.count in
+    let there = target_within (arc_value f.design) link.0 keeps.design within in
+    let nodes : length t.nodes ≡ length f.nodes = ap (λ (k : Fields). length k.nodes) takes.others in
+    omega (arith, nodes, count, there, target_is)
+
+-- the node, as it stands then
+node_reached : (f t : Fields) (link : LinkNo) (round : ℕ) (tuple : Option (List Port)) (target : ℕ) → Keeps f → link.0 < length (arc_value f.design).links → Takes f t link round tuple
+    → target ≡ (slice_index_or (arc_value f.design).links link.0 no_link).target.0 → node_of t.nodes target ≡ node_value (value_of f) (slice_index_or (arc_value f.design).links link.0 no_link).target.0
+node_reached f t link round tuple target keeps within takes target_is =
     let goal = (slice_index_or (arc_value f.design).links link.0 no_link).target.0 in
     let count = keeps.nodes.count in
     let there = target_within (arc_value f.design) link.0 keeps.design within in
     let nodes : t.nodes ≡ f.nodes = ap (λ (k : Fields). k.nodes) takes.others in
-    node_here f goal n keeps (omega (arith, count, there)) (is ∙ ap₂ (λ (ns : List NodeValue) (k : ℕ). slice_index_or ns k n) nodes target_is)
+    ap₂ (λ (ns : List NodeValue) (k : ℕ). node_of ns k) nodes target_is ∙ node_is f goal keeps (omega (arith, count, there))
 
-pub slot_reached : (f t : Fields) (link : LinkNo) (round : ℕ) (tuple : Option (List Port)) (n : NodeValue) (target port : ℕ) → Keeps f → link.0 < length (arc_value f.design).links → Takes f t link round tuple
-    → target ≡ (slice_index_or (arc_value f.design).links link.0 no_link).target.0 → port ≡ (slice_index_or (arc_value f.design).links link.0 no_link).in_port → n ≡ slice_index_or t.nodes target n → port < length n.state.slots
-slot_reached f t link round tuple n target port keeps within takes target_is port_is is =
-    let here = node_reached f t link round tuple n target keeps within takes target_is is in
-    let slots : length n.state.slots ≡ length (node_at (state_of f) (slice_index_or (arc_value f.design).links link.0 no_link).target.0).slots = ap (λ (k : NodeValue). length k.state.slots) here in
+pub slot_reached : (f t : Fields) (link : LinkNo) (round : ℕ) (tuple : Option (List Port)) (target port : ℕ) → Keeps f → link.0 < length (arc_value f.design).links → Takes f t link round tuple
+    → target ≡ (slice_index_or (arc_value f.design).links link.0 no_link).target.0 → port ≡ (slice_index_or (arc_value f.design).links link.0 no_link).in_port → port < length (node_of t.nodes target).state.slots
+slot_reached f t link round tuple target port keeps within takes target_is port_is =
+    let here = node_reached f t link round tuple target keeps within takes target_is in
+    let slots : length (node_of t.nodes target).state.slots ≡ length (node_at (state_of f) (slice_index_or (arc_value f.design).links link.0 no_link).target.0).slots = ap (λ (k : NodeValue). length k.state.slots) here in
     let room = has_slot f link.0 keeps within in
     omega (arith, slots, room, port_is)
 
 -- what the node answers is what the machine says
-pub arrival_is : (f t : Fields) (link : LinkNo) (round : ℕ) (tuple : Option (List Port)) (n : NodeValue) (target port : ℕ) (result : Arrived) → Keeps f → link.0 < length (arc_value f.design).links → Takes f t link round tuple
-    → target ≡ (slice_index_or (arc_value f.design).links link.0 no_link).target.0 → port ≡ (slice_index_or (arc_value f.design).links link.0 no_link).in_port → n ≡ slice_index_or t.nodes target n → result ≡ arrived n.state port round
+pub arrival_is : (f t : Fields) (link : LinkNo) (round : ℕ) (tuple : Option (List Port)) (target port : ℕ) (result : Arrived) → Keeps f → link.0 < length (arc_value f.design).links → Takes f t link round tuple
+    → target ≡ (slice_index_or (arc_value f.design).links link.0 no_link).target.0 → port ≡ (slice_index_or (arc_value f.design).links link.0 no_link).in_port → result ≡ arrived (node_of t.nodes target).state port round
     → result ≡ arrival (run_of f) (state_of f) link round
-arrival_is f t link round tuple n target port result keeps within takes target_is port_is is answers =
-    answers ∙ ap₂ (λ (k : NodeValue) (p : ℕ). arrived k.state p round) (node_reached f t link round tuple n target keeps within takes target_is is) port_is
+arrival_is f t link round tuple target port result keeps within takes target_is port_is answers =
+    answers ∙ ap₂ (λ (k : NodeValue) (p : ℕ). arrived k.state p round) (node_reached f t link round tuple target keeps within takes target_is) port_is
 
-pub comes_by : (f t g : Fields) (link : LinkNo) (round : ℕ) (reading : Option ℕ) (tuple : List Port) (n m : NodeValue) (target port : ℕ) (result : Arrived) (first : List JournalEntry) → Keeps f → link.0 < length (arc_value f.design).links
-    → Takes f t link round (Some tuple) → target ≡ (slice_index_or (arc_value f.design).links link.0 no_link).target.0 → port ≡ (slice_index_or (arc_value f.design).links link.0 no_link).in_port → n ≡ slice_index_or t.nodes target n
-    → result ≡ arrived n.state port round → m ≡ with_state n (received n.state port round tuple) → g ≡ record t { nodes = slice_set t.nodes target m; stop = g.stop; journal = g.journal } → g.stop ≡ early_stop link round reading result
-    → first ≡ t.journal.items ++ entry.Arrive link round reading result ∷ [] → g.journal.items ≡ first ++ stop_entry g.stop → Comes f t g link round reading tuple m
-comes_by f t g link round reading tuple n m target port result first keeps within takes target_is port_is is answers leaves same stop told all =
-    let here = node_reached f t link round (Some tuple) n target keeps within takes target_is is in
-    let said = arrival_is f t link round (Some tuple) n target port result keeps within takes target_is port_is is answers in
+pub comes_by : (f t g : Fields) (link : LinkNo) (round : ℕ) (reading : Option ℕ) (tuple : List Port) (target port : ℕ) (result : Arrived) (first : List JournalEntry) → Keeps f → link.0 < length (arc_value f.design).links
+    → Takes f t link round (Some tuple) → target ≡ (slice_index_or (arc_value f.design).links link.0 no_link).target.0 → port ≡ (slice_index_or (arc_value f.design).links link.0 no_link).in_port
+    → result ≡ arrived (node_of t.nodes target).state port round → g ≡ record t { nodes = slice_set t.nodes target (node_after t.nodes target port round tuple); stop = g.stop; journal = g.journal } → g.stop ≡ early_stop link round reading result
+    → first ≡ t.journal.items ++ entry.Arrive link round reading result ∷ [] → g.journal.items ≡ first ++ stop_entry g.stop → Comes f t g link round reading tuple (node_after t.nodes target port round tuple)
+comes_by f t g link round reading tuple target port result first keeps within takes target_is port_is answers same stop told all =
+    let here = node_reached f t link round (Some tuple) target keeps within takes target_is in
+    let said = arrival_is f t link round (Some tuple) target port result keeps within takes target_is port_is answers in
+    let m = node_after t.nodes target port round tuple in
     let stops : g.stop ≡ early_stop link round reading (arrival (run_of f) (state_of f) link round) = stop ∙ ap (early_stop link round reading) said in
     let before : List JournalEntry → Arrived → Option Stop → List JournalEntry = λ js a o. js ++ (entry.Arrive link round reading a ∷ stop_entry o) in
     let journal : t.journal.items ≡ f.journal.items = ap (λ (k : Fields). k.journal.items) takes.others in
     record {
       takes = takes;
-      node = leaves ∙ ap₂ (λ (k : NodeValue) (p : ℕ). with_state k (received k.state p round tuple)) here port_is;
+      node = ap₂ (λ (k : NodeValue) (p : ℕ). with_state k (received k.state p round tuple)) here port_is;
       others = same ∙ ap (λ (k : ℕ). let u : Fields = record t { nodes = slice_set t.nodes k m; stop = g.stop; journal = g.journal } in u) target_is;
       stop = stops;
       told =

@@ -1,3 +1,4 @@
+pub mod NodeLists
 pub mod NodeChanges
 pub mod Rooms
 pub mod QueueRooms

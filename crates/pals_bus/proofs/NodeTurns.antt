@@ -1,8 +1,8 @@
 -- A call of one node among those of a bus.
-use Rattle.std.proofs.Common.{◌≡◌, ◌∙◌, ℕ, ◌<◌, List, [], ◌∷◌, ◌++◌, length, refl, sym, ap, subst, arith}
-use Rattle.std.specs.Prelude.{slice_set, slice_index_or, vec_capacity}
+use Rattle.std.proofs.Common.{◌≡◌, ◌∙◌, ℕ, ◌<◌, [], ◌∷◌, ◌++◌, length, refl, sym, ap, subst, arith}
+use Rattle.std.specs.Prelude.{slice_set, vec_capacity}
 use Rattle.std.specs.Arc.{arc_value}
-use Rattle.std.proofs.lemmas.List.{set-get_or, length-set}
+use Rattle.std.proofs.lemmas.List.{length-set}
 use Rattle.std.proofs.lemmas.Grind.{get_or-set_at}
 use Rattle.pals_runs.specs.declared.journal.JournalEntry.{JournalEntry}
 use Rattle.bus_machine.specs.Nodes.{NodeState}
@@ -11,21 +11,8 @@ use Rattle.pals_bus.specs.declared.fields.Fields.{Fields}
 use Rattle.pals_bus.specs.Values.{node_value}
 use Rattle.pals_bus.specs.Keeping.{Keeps, node_in, value_of}
 use Rattle.pals_bus.specs.Absent.{no_node_value}
-use Rattle.pals_bus.proofs.NodeChanges.{nodes-set, node_here, node_shown, same_node}
-
--- the node after it
-pub turn_is : (f : Fields) (node : ℕ) (m : NodeValue) → node < length f.nodes → node_in (record f { nodes = slice_set f.nodes node m }) node ≡ m
-turn_is f node m within = get_or-set_at f.nodes node node m no_node_value refl within
-
--- the others stay
-pub turn_others : (f : Fields) (node : ℕ) (m : NodeValue) → node < length f.nodes
-    → ◌≡◌ {A = Fields} (record f { nodes = slice_set f.nodes node m }) (record f { nodes = slice_set f.nodes node (node_in (record f { nodes = slice_set f.nodes node m }) node) })
-turn_others f node m within = ap (λ (k : NodeValue). let g : Fields = record f { nodes = slice_set f.nodes node k } in g) (sym (turn_is f node m within))
-
--- a refused one changes nothing
-pub turn_refused : (f : Fields) (node : ℕ) (n m : NodeValue) → n ≡ slice_index_or f.nodes node n → m ≡ n → ◌≡◌ {A = Fields} (record f { nodes = slice_set f.nodes node m }) f
-turn_refused f node n m is same =
-    ap (λ (ns : List NodeValue). let g : Fields = record f { nodes = ns } in g) (ap (slice_set f.nodes node) (same ∙ is) ∙ set-get_or f.nodes node n)
+use Rattle.pals_bus.specs.NodeLists.{node_of}
+use Rattle.pals_bus.proofs.NodeChanges.{nodes-set, node_is, node_shown, same_node}
 
 -- what contracts see of the node after it
 pub turn_shown : (f g : Fields) (node : ℕ) (m : NodeValue) (s : NodeState) → Keeps f → node < length f.nodes → m ≡ with_state (node_value (value_of f) node) s
@@ -55,8 +42,5 @@ pub turned_capacity : (f t g : Fields) (node : ℕ) (x : JournalEntry) → Turne
 turned_capacity f t g node x turned = turned.capacity ∙ ap (λ (k : Fields). vec_capacity k.journal) turned.others
 
 -- what a call says of the node, as contracts see it
-pub turn_told : (f : Fields) (node : ℕ) (n m : NodeValue) (P : NodeValue → NodeValue → Type 0) → Keeps f → node < length f.nodes → n ≡ slice_index_or f.nodes node n → P n m → P (node_value (value_of f) node) (node_in (record f { nodes = slice_set f.nodes node m }) node)
-turn_told f node n m P keeps within is holds = subst (P (node_value (value_of f) node)) (sym (turn_is f node m within)) (subst (λ (k : NodeValue). P k m) (node_here f node n keeps within is) holds)
-
-pub turn_cause : (f : Fields) (node : ℕ) (n : NodeValue) (P : NodeValue → Type 0) → Keeps f → node < length f.nodes → n ≡ slice_index_or f.nodes node n → P n → P (node_value (value_of f) node)
-turn_cause f node n P keeps within is holds = subst P (node_here f node n keeps within is) holds
+pub turn_told : (f : Fields) (node : ℕ) (P : NodeValue → Type 0) → Keeps f → node < length f.nodes → P (node_of f.nodes node) → P (node_value (value_of f) node)
+turn_told f node P keeps within says = subst P (node_is f node keeps within) says

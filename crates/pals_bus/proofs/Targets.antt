@@ -1,22 +1,39 @@
 -- The reading that a node of a bus waits for.
-use Rattle.std.proofs.Common.{◌≡◌, ◌∙◌, inl, inr, ℕ, ◌+◌, ◌<◌, ◌≤◌, length, Option, Some, None, false, is_some, refl, sym, ap, arith}
-use Rattle.std.specs.Prelude.{option_map, slice_index_or}
-use Rattle.std.specs.Arc.{arc_value}
+use Rattle.std.proofs.Common.{◌≡◌, ◌∙◌, inl, inr, ℕ, ◌+◌, ◌<◌, ◌≤◌, List, length, map, Option, Some, None, false, is_some, refl, sym, ap, subst, arith}
+use Rattle.std.specs.Prelude.{slice_index_or}
 use Rattle.std.proofs.lemmas.Bool.{cases_lt, false≢true}
+use Rattle.std.proofs.lemmas.List.{length-map, get_or-map}
 use Rattle.pals_runs.specs.declared.journal.Stop.{Stop}
-use Rattle.bus_machine.specs.Targets.{target, action_of}
-use Rattle.pals_node.specs.Values.{NodeValue}
 use Rattle.pals_bus.specs.declared.fields.Fields.{Fields}
 use Rattle.pals_bus.specs.Keeping.{Keeps, value_of}
 use Rattle.pals_bus.specs.Values.{BusValue}
-use Rattle.pals_bus.proofs.NodeChanges.{node_here}
+use Rattle.pals_bus.specs.Absent.{no_node_value}
+use Rattle.pals_bus.specs.NodeLists.{target_of_node}
+use Rattle.pals_bus.proofs.NodeChanges.{node_is}
 use Rattle.pals_bus.specs.Meeting.{target_in, HasEnded}
 
-pub target_is : (f : Fields) (node : ℕ) (n : NodeValue) (o : Option ℕ) → Keeps f → node < length f.nodes → n ≡ slice_index_or f.nodes node n → o ≡ option_map (target n.program.plan) (action_of n.program.plan n.state) → target_in (value_of f) node ≡ o
-target_is f node n o keeps within is told = sym (told ∙ ap (λ (m : NodeValue). option_map (target m.program.plan) (action_of m.program.plan m.state)) (node_here f node n keeps within is))
+-- that of a node is the one in the list
+pub target_listed : (f : Fields) (b : BusValue) (targets : List (Option ℕ)) (node : ℕ) (o : Option ℕ) → Keeps f → value_of f ≡ b → targets ≡ map target_of_node f.nodes → node < length f.nodes → slice_index_or targets node None ≡ o → target_in b node ≡ o
+target_listed f b targets node o keeps shows are within is =
+    subst (λ (v : BusValue). target_in v node ≡ o) shows
+    (ap target_of_node (sym (node_is f node keeps within))
+    ∙ sym (get_or-map target_of_node f.nodes node no_node_value None within)
+    ∙ ap (λ (ts : List (Option ℕ)). slice_index_or ts node None) (sym are)
+    ∙ is)
 
-pub within_run : (f : Fields) → Keeps f → (node : ℕ) → node < length (arc_value f.design).components → node < length f.nodes
-within_run f keeps node within = let count = keeps.nodes.count in omega (arith, count, within)
+pub within_list : (f : Fields) (targets : List (Option ℕ)) (node : ℕ) → targets ≡ map target_of_node f.nodes → node < length targets → node < length f.nodes
+within_list f targets node are within = let size = ap length are ∙ length-map f.nodes target_of_node in omega (arith, size, within)
+
+pub all_listed : (f : Fields) (b : BusValue) (targets : List (Option ℕ)) (node : ℕ) → Keeps f → value_of f ≡ b → targets ≡ map target_of_node f.nodes → node < length b.run.design.components → node < length targets
+all_listed f b targets node keeps shows are within =
+    let size = ap length are ∙ length-map f.nodes target_of_node in
+    let count = keeps.nodes.count ∙ ap (λ (v : BusValue). length v.run.design.components) shows in
+    omega (arith, size, count, within)
+
+pub within_run : (f : Fields) (b : BusValue) → Keeps f → value_of f ≡ b → (node : ℕ) → node < length f.nodes → node < length b.run.design.components
+within_run f b keeps shows node within =
+    let count = keeps.nodes.count ∙ ap (λ (v : BusValue). length v.run.design.components) shows in
+    omega (arith, count, within)
 
 -- ---- no node so far has a lesser target
 same_some : (a b : ℕ) → ◌≡◌ {A = Option ℕ} (Some a) (Some b) → a ≡ b

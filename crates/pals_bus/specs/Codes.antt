@@ -17,7 +17,8 @@ use Rattle.pals_runs.specs.declared.journal.Stop.{Stop}
 use Rattle.pals_runs.specs.declared.journal.JournalEntry.{JournalEntry}
 use Rattle.bus_machine.specs.Nodes.{NodeState}
 use Rattle.bus_machine.specs.States.{Run, BusState}
-use Rattle.pals_node.specs.Codes.{state_code}
+use Rattle.pals_node.specs.Codes.{state_code, node_code}
+use Rattle.pals_node.specs.Values.{NodeValue}
 use Rattle.pals_bus.specs.Values.{BusValue}
 
 abbrev pub run_code : Coded Run
@@ -36,3 +37,6 @@ bus_code =
     (coded× run_code (coded× (coded_list codes.coded) (coded× coded_bool (coded× coded_bool (coded× bus_state_code (coded_list entries.coded))))))
     (λ b. (b.run, (b.codes, (b.meeting, (b.closed, (b.state, b.journal))))))
     (λ p. record { run = p.0; codes = p.1.0; meeting = p.1.1.0; closed = p.1.1.1.0; state = p.1.1.1.1.0; journal = p.1.1.1.1.1 }) (λ _. refl)
+
+abbrev pub nodes_code : Coded (List NodeValue)
+nodes_code = coded_list node_code

@@ -1,5 +1,6 @@
 pub mod Values
 pub mod Absent
+pub mod NodeLists
 pub mod Keeping
 pub mod Answers
 pub mod Queues

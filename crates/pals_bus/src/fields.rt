@@ -10,11 +10,11 @@ ghost use Rattle.pals_bus.specs.Queues.{HasQueueRoomFor};
 ghost use Rattle.pals_bus.specs.Sending.{HasRoomFor};
 
 use crate::flights::{reserve_links, reserve_queues};
+use crate::node_list::NodeList;
 use link_buffers::{DueQueue, Flight};
 use pals_base::limits::PORTS;
 use pals_base::{Items, LinkNo, NoMemory, NodeNo, Port};
 use pals_model::{Delays, Design, Env};
-use pals_node::Node;
 use pals_runs::{JournalEntry, Stop};
 use std::alloc::Global;
 use std::sync::Arc;
@@ -30,7 +30,7 @@ pub struct Fields {
     pub delays: Delays,
     pub meeting: bool,
     pub closed: bool,
-    pub nodes: Items<Node>,
+    pub nodes: NodeList,
     pub flights: Items<Flight>,
     pub queues: Items<DueQueue>,
     pub stop: Option<Stop>,

@@ -3,13 +3,21 @@ ghost use Rattle.std.specs.Prelude.{◌≡◌, ◌≢◌, ◌<◌, ◌↔◌, No
 ghost use Rattle.bus_machine.specs.Plans.{plan_of};
 ghost use Rattle.bus_machine.specs.States.{node_at};
 ghost use Rattle.bus_machine.specs.Targets.{next_of};
-ghost use Rattle.pals_bus.specs.Meeting.{HasEnded, Meets};
+ghost use Rattle.pals_bus.specs.Meeting.{target_in, HasEnded, Meets};
 
 use crate::answers::Meet;
 use crate::bus::Bus;
-use pals_base::NodeNo;
+use pals_base::{Nanos, NodeNo};
 
 impl Bus {
+    /// The reading that a node waits for, or works at; none where it is done. It takes no memory.
+    pub fn target(&self, node: NodeNo) -> Option<Nanos>
+        requires { node.0 < length self.now.run.design.components }
+        ensures { result ≡ target_in self.now node.0 }
+    {
+        self.fields.nodes.targets()[node.0 as usize]
+    }
+
     /// Whether a node whose nodes meet, and whose next action is to come, may go on: it may where no
     /// other node that is not done has a lesser target. It takes no memory.
     pub fn meet(&self, node: NodeNo) -> Meet
@@ -23,11 +31,12 @@ impl Bus {
         if f.closed || f.stop.is_some() {
             return Meet::Ended;
         }
-        let Some(own) = f.nodes[node.0 as usize].target() else {
+        let targets = f.nodes.targets();
+        let Some(own) = targets[node.0 as usize] else {
             unreachable!();
         };
-        for other in 0..f.nodes.len() {
-            if let Some(least) = f.nodes[other].target() {
+        for other in 0..targets.len() {
+            if let Some(least) = targets[other] {
                 if least < own {
                     return Meet::Wait {
                         node: NodeNo(other as u32),

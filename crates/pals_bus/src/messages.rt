@@ -111,7 +111,7 @@ impl Fields {
     {
         let tuple = self.take_message(link, round)?;
         let (target, port) = end_of(self.design.links(), link.0 as usize);
-        let result = self.nodes[target].arrive(port, round, tuple);
+        let result = self.nodes.arrive(target, port, round, tuple);
         let stop = early_stop(link, round, reading, result);
         let entry = JournalEntry::Arrive {
             link,

@@ -8,6 +8,7 @@ ghost use Rattle.pals_bus.specs.Absent.{no_flight, no_node_value};
 ghost use Rattle.pals_bus.specs.Absent.{no_queue};
 ghost use Rattle.pals_bus.specs.Openings.{AreOpening};
 
+use crate::node_list::NodeList;
 use link_buffers::{DueQueue, Flight};
 use pals_base::{Items, NoMemory, NodeNo, Port};
 use pals_model::{Design, Env};
@@ -22,7 +23,7 @@ pub fn opening_nodes(
     design: &Design,
     codes: Items<Code>,
     rounds: u32,
-) -> Result<Items<Node>, NoMemory>
+) -> Result<NodeList, NoMemory>
     requires some { 1 ≤ rounds }
     requires most { rounds ≤ ROUNDS }
     requires codes { AreCodes design.now codes }
@@ -35,11 +36,11 @@ pub fn opening_nodes(
         let plan = Arc::new(alloc, plan)?;
         nodes.push(Node::new(alloc, plan, rounds)?)?;
     }
-    Ok(Items::from_vec(nodes))
+    NodeList::new(alloc, Items::from_vec(nodes))
 }
 
 /// The nodes of the same run before its first event.
-pub fn fresh_nodes(alloc: Global, nodes: &[Node]) -> Result<Items<Node>, NoMemory>
+pub fn fresh_nodes(alloc: Global, nodes: &[Node]) -> Result<NodeList, NoMemory>
     requires { (node : ℕ) → node < length nodes.now → 1 ≤ (slice_index_or nodes.now node no_node_value).rounds }
     ensures { IfOk result (λ fresh. fresh ≡ map (λ n. opening_value n.program n.rounds) nodes.now) }
 {
@@ -47,7 +48,7 @@ pub fn fresh_nodes(alloc: Global, nodes: &[Node]) -> Result<Items<Node>, NoMemor
     for node in nodes {
         fresh.push(node.fresh(alloc)?)?;
     }
-    Ok(fresh)
+    NodeList::new(alloc, fresh)
 }
 
 /// A flight without copies for each link of a design.

@@ -20,7 +20,7 @@ impl Fields {
         ensures same { OnErr result (self.new ≡ self.old) }
         ensures cause { IfErr result (StartEnds (node_value (value_of self.old) node.0) reading) }
     {
-        self.nodes[node.0 as usize].start(&self.values, reading)
+        self.nodes.start(node.0 as usize, &self.values, reading)
     }
 
     /// A node starts the next step of its round.
@@ -32,7 +32,7 @@ impl Fields {
         ensures same { OnErr result (self.new ≡ self.old) }
         ensures cause { IfErr result (StepEnds (node_value (value_of self.old) node.0) reading) }
     {
-        self.nodes[node.0 as usize].step(reading)
+        self.nodes.step(node.0 as usize, reading)
     }
 
     /// A node finishes the step that is out, with what was handed in or by running the job here.
@@ -44,7 +44,7 @@ impl Fields {
         ensures same { OnErr result (self.new ≡ self.old) }
         ensures cause { OnErr result (NoneRuns (node_value (value_of self.old) node.0)) }
     {
-        self.nodes[node.0 as usize].finish(done)
+        self.nodes.finish(node.0 as usize, done)
     }
 
     /// A node finishes the step that is out by running its job here.
@@ -56,7 +56,7 @@ impl Fields {
         ensures same { OnErr result (self.new ≡ self.old) }
         ensures cause { OnErr result (NoneRuns (node_value (value_of self.old) node.0)) }
     {
-        self.nodes[node.0 as usize].finish_here()
+        self.nodes.finish_here(node.0 as usize)
     }
 
     /// A node sends its round, and gives the messages of all links from it.
@@ -72,7 +72,7 @@ impl Fields {
         ensures same { OnErr result (self.new ≡ self.old) }
         ensures cause { IfErr result (SendEnds (node_value (value_of self.old) node.0) reading) }
     {
-        self.nodes[node.0 as usize].send(reading)
+        self.nodes.send(node.0 as usize, reading)
     }
 
     /// How many rounds a node has started.

@@ -11,7 +11,10 @@ use Rattle.pals_bus.proofs.NodeChanges.{codes}
 use Rattle.pals_bus.proofs.bus.Bus.fresh.Goals as goal
 
 pub invariant_of-result : goal.invariant_of-result
-invariant_of-result c =
+invariant_of-result c = c.nodes.invariant
+
+pub invariant_of-result-2 : goal.invariant_of-result-2
+invariant_of-result-2 c =
     let f = c.self.inside.fields in
     let g : Fields = record {
       alloc = c.args.alloc;
@@ -21,7 +24,7 @@ invariant_of-result c =
       delays = c.in_ok-try_clone-3.field-0;
       meeting = f.meeting;
       closed = false;
-      nodes = c.nodes.inside.items.items;
+      nodes = c.nodes.inside.nodes;
       flights = c.in_ok-empty_flights.field-0;
       queues = c.queues.inside.items.items;
       stop = None;
@@ -37,9 +40,9 @@ invariant_of-result c =
       delays = c.in_ok-try_clone-3.ensures;
       meeting = refl;
       values = c.in_ok-room_for_values.ensures;
-      nodes = sym nodes ∙ c.in_ok-nodes.ensures ∙ ap (map (λ (n : NodeValue). opening_value n.program n.rounds)) c.as_slice.ensures.value;
+      nodes = sym nodes ∙ c.in_ok-nodes.ensures ∙ ap (map (λ (n : NodeValue). opening_value n.program n.rounds)) c.as_slice.ensures;
       flights = c.in_ok-empty_flights.ensures.flights ∙ ap (λ (d : DesignParts). map (λ (_ : Link). no_flight) d.links) c.deref.ensures;
-      queues = sym queues ∙ c.in_ok-queues.ensures ∙ ap (map (λ (_ : NodeValue). no_queue)) (c.as_slice-2.ensures.value ∙ nodes);
+      queues = sym queues ∙ c.in_ok-queues.ensures ∙ ap (map (λ (_ : NodeValue). no_queue)) (c.as_slice-2.ensures ∙ nodes);
       stop = refl;
       journal = c.new.ensures.items;
       closed = refl;
@@ -57,7 +60,7 @@ returns c =
       delays = c.in_ok-try_clone-3.field-0;
       meeting = f.meeting;
       closed = false;
-      nodes = c.nodes.inside.items.items;
+      nodes = c.nodes.inside.nodes;
       flights = c.in_ok-empty_flights.field-0;
       queues = c.queues.inside.items.items;
       stop = None;
@@ -73,9 +76,9 @@ returns c =
       delays = c.in_ok-try_clone-3.ensures;
       meeting = refl;
       values = c.in_ok-room_for_values.ensures;
-      nodes = sym nodes ∙ c.in_ok-nodes.ensures ∙ ap (map (λ (n : NodeValue). opening_value n.program n.rounds)) c.as_slice.ensures.value;
+      nodes = sym nodes ∙ c.in_ok-nodes.ensures ∙ ap (map (λ (n : NodeValue). opening_value n.program n.rounds)) c.as_slice.ensures;
       flights = c.in_ok-empty_flights.ensures.flights ∙ ap (λ (d : DesignParts). map (λ (_ : Link). no_flight) d.links) c.deref.ensures;
-      queues = sym queues ∙ c.in_ok-queues.ensures ∙ ap (map (λ (_ : NodeValue). no_queue)) (c.as_slice-2.ensures.value ∙ nodes);
+      queues = sym queues ∙ c.in_ok-queues.ensures ∙ ap (map (λ (_ : NodeValue). no_queue)) (c.as_slice-2.ensures ∙ nodes);
       stop = refl;
       journal = c.new.ensures.items;
       closed = refl;

@@ -6,7 +6,7 @@ use Rattle.pals_bus.specs.Keeping.{value_of}
 use Rattle.pals_bus.specs.Values.{BusValue}
 use Rattle.pals_bus.proofs.DueEntries.{due_by_queue}
 use Rattle.pals_bus.proofs.DueTurns.{flights_many}
-use Rattle.pals_bus.proofs.Targets.{within_run}
+use Rattle.pals_bus.proofs.Views.{within_nodes}
 use Rattle.pals_bus.proofs.bus.Bus.has_due.Goals as goal
 
 pub returns : goal.returns
@@ -16,7 +16,7 @@ returns c =
     let reading = c.args.reading in
     let count = c.due_count.result in
     let shows : value_of f ≡ c.args.self.now = cc in
-    let there = within_run f c.self.invariant node (subst (λ (b : BusValue). node < length b.run.design.components) (sym shows) c.requires) in
+    let there = within_nodes f node c.self.invariant (subst (λ (b : BusValue). node < length b.run.design.components) (sym shows) c.requires) in
     let many = c.self.invariant.queues.count in
     let within : node < length f.queues = omega (arith, many, there) in
     let here = c.index.ensures ∙ get_or_default f.queues node c.index.result.now no_queue within in
