@@ -8,8 +8,8 @@ use Rattle.aadl_tree.specs.Values as v
 use Rattle.aadl_tree.specs.ValueViews.{association_view, associations_view}
 use Rattle.aadl_tree.specs.Declarations.{section_parts}
 use Rattle.aadl_tree.specs.Maps.{kept_place}
-use Rattle.aadl_reader.specs.Reading.{spot, AtMark, Reads}
-use Rattle.aadl_reader.proofs.Written.{then, marked, respelled}
+use Rattle.aadl_grammar.specs.Reading.{spot, AtMark, Reads}
+use Rattle.aadl_grammar.proofs.Written.{then, marked, respelled}
 
 pub no_section : (section : Section) {ps : List (Part ℕ)} {ss : List Spot} → [] ≡ ps → Reads (section_parts section ps) ss ss
 no_section section e = respelled (ap (section_parts section) e) (record { written = inl refl })

@@ -5,8 +5,8 @@ use Rattle.aadl_lex.specs.declared.fault.LexFault.TheVariants as lexical
 use Rattle.aadl_lex.specs.Tokens.{IsFaultOf}
 use Rattle.aadl_tree.specs.Declarations.{PackageTree}
 use Rattle.aadl_tree.specs.Given.{IsTreeOf, StopsAt, NestsAt}
-use Rattle.aadl_reader.specs.declared.fault.ParseFault.{ParseFault}
-use Rattle.aadl_reader.specs.declared.fault.ParseFault.TheVariants as parsing
+use Rattle.aadl_grammar.specs.declared.fault.ParseFault.{ParseFault}
+use Rattle.aadl_grammar.specs.declared.fault.ParseFault.TheVariants as parsing
 use Rattle.aadl_parse.specs.declared.fault.TextFault.{TextFault}
 use Rattle.aadl_parse.specs.declared.fault.TextFault.TheVariants.{Lex, Memory, Syntax, TooDeep}
 

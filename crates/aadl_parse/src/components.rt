@@ -9,11 +9,11 @@ ghost use Rattle.aadl_tree.specs.NameViews.{reference_view};
 ghost use Rattle.aadl_tree.specs.ValueViews.{associations_view};
 ghost use Rattle.aadl_tree.specs.Views.{feature_view, subcomponent_view, connection_view, end_view};
 ghost use Rattle.aadl_tree.specs.Maps.{kept_place};
-ghost use Rattle.aadl_machine.specs.Symbols as s;
-ghost use Rattle.aadl_machine.specs.Table.{rows};
-ghost use Rattle.aadl_reader.specs.Reading.{here, AtMark, MissAll, Parses, AnyRoom, Room};
+ghost use Rattle.aadl_grammar.specs.Symbols as s;
+ghost use Rattle.aadl_grammar.specs.Table.{rows};
+ghost use Rattle.aadl_grammar.specs.Reading.{here, AtMark, MissAll, Parses, AnyRoom, Room};
 
-use aadl_reader::{
+use aadl_grammar::{
     ParseFault, Parsed, Reader, association, associations, dot_identifier, identifier, properties,
     reference,
 };

@@ -9,12 +9,12 @@ ghost use Rattle.aadl_tree.specs.Declarations.{category_mark, declaration_parts,
 ghost use Rattle.aadl_tree.specs.NameViews.{identifier_view, name_view};
 ghost use Rattle.aadl_tree.specs.Views.{annex_view, content_view, declaration_view, with_view, implementation_name_view};
 ghost use Rattle.aadl_tree.specs.Maps.{kept_place};
-ghost use Rattle.aadl_machine.specs.Symbols as s;
-ghost use Rattle.aadl_reader.specs.Reading.{Parses, AnyRoom, Room};
+ghost use Rattle.aadl_grammar.specs.Symbols as s;
+ghost use Rattle.aadl_grammar.specs.Reading.{Parses, AnyRoom, Room};
 ghost use Rattle.aadl_parse.specs.Rests.{rest_parts, package_of};
 
 use crate::components::{category, connections, features, own_properties, subcomponents};
-use aadl_reader::{ParseFault, Parsed, Reader, identifier, name};
+use aadl_grammar::{ParseFault, Parsed, Reader, identifier, name};
 use aadl_tree::{
     Annex, AnnexContent, Association, Category, Connection, Declaration, Feature, Identifier,
     Implementation, ImplementationName, Mark, Name, Subcomponent, TypeDeclaration, With,

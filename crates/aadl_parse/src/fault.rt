@@ -1,7 +1,7 @@
 //! Why a text has no tree.
 
+use aadl_grammar::ParseFault;
 use aadl_lex::LexFault;
-use aadl_reader::ParseFault;
 use std::alloc::AllocError;
 use thiserror::Error;
 

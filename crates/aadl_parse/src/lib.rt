@@ -15,8 +15,8 @@ mod components;
 mod declarations;
 mod fault;
 
+use aadl_grammar::{Reader, resolve};
 use aadl_lex::{LexFault, lex};
-use aadl_reader::{Reader, resolve};
 use aadl_tree::{GREATEST_NESTING, PackageTree};
 use declarations::{PackageParts, package};
 pub use fault::TextFault;

@@ -9,7 +9,7 @@ use Rattle.aadl_tree.specs.Given.{IsTreeOf}
 use Rattle.aadl_tree.specs.Maps.{kept_place, no_place}
 use Rattle.aadl_tree.specs.PackageViews.{placed, meaning}
 use Rattle.aadl_tree.proofs.Ties.Declarations.{package_tied}
-use Rattle.aadl_canon.proofs.Reading.{canon_of, reads_back, only_so}
+use Rattle.text_laws.proofs.Reading.{canon_of, reads_back, only_so}
 use Rattle.aadl_parse.specs.declared.fault.TextFault.{TextFault}
 use Rattle.aadl_parse.specs.declared.fault.TextFault.TheVariants.{Memory}
 use Rattle.aadl_parse.specs.Texts.{IsFaultOfText}

@@ -5,7 +5,7 @@ use Rattle.pals_base.specs.declared.limits.TheConstants.{INSTRUCTIONS}
 use Rattle.pals_model.specs.declared.design.DesignParts.{DesignParts}
 use Rattle.step_code.specs.Capped.{capped}
 use Rattle.design_codes.specs.Causes.{length_of, AreShort, IsFirstTooLong}
-use Rattle.package_laws.proofs.Least.{HasLeast, least}
+use Rattle.design_laws.proofs.Least.{HasLeast, least}
 
 too_long : (n : ℕ) → (INSTRUCTIONS < n) ⊎ (INSTRUCTIONS < n → ⊥)
 too_long n = by (cases_lt INSTRUCTIONS n)

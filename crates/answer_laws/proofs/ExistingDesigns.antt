@@ -12,7 +12,7 @@ use Rattle.pals_report.specs.Violations.{violation_lines}
 use Rattle.bundle_designs.specs.Accepted.{IsRefusedIn, IsAccepted}
 use Rattle.pals_top.specs.declared.status.TheConstants.{TEXT_REFUSED, DESIGN_REFUSED}
 use Rattle.pals_top.specs.Refusals.{IsBundleRefused}
-use Rattle.package_laws.specs.Packages.{HasFirstFault, HasInstance}
+use Rattle.design_laws.specs.Packages.{HasFirstFault, HasInstance}
 use Rattle.answer_laws.specs.Meanings.{HasTree}
 use Rattle.answer_laws.proofs.ExistingLaws.{ExistenceLaws}
 use Rattle.answer_laws.proofs.ExistingTexts.{IsRefused, tree_or_refused}

@@ -9,7 +9,7 @@ use Rattle.pals_model.specs.declared.design.DesignParts.{DesignParts}
 use Rattle.pals_model.specs.RoundTexts.{text_of}
 use Rattle.bound_checker.specs.Multiple.{greatest_rate, IsSuited, IsLeastMultiple, HasNoMultiple}
 use Rattle.pals_report.specs.CheckReports.{rates, check_lines, IsCheckReport}
-use Rattle.package_laws.proofs.Least.{IsLeast, HasLeast, least}
+use Rattle.design_laws.proofs.Least.{IsLeast, HasLeast, least}
 
 -- ---- what holds of all of a list can be told
 after : {X : Type 0} (P : X → Type 0) (x : X) (xs : List X) → P x → All P xs → (k : ℕ) (d : X) → k < length (x ∷ xs) → P (get_or (x ∷ xs) k d)

@@ -6,8 +6,8 @@ ghost use Rattle.pals_top.specs.Outside.{Reading};
 ghost use Rattle.answer_laws.specs.Runs.{is_run};
 
 use crate::accepted::accepted_designs_keep_their_rules;
+use design_laws::first_faults::one_fault;
 use design_laws::packages::one_design;
-use fault_laws::laws::one_fault;
 use loose_world::world_laws::one_end;
 use plant_fuse::laws::one_report;
 use round_budget::laws::text_is_one;

@@ -2,8 +2,10 @@
 ghost use Rattle.answer_laws.specs.Exists.{EachBundleHasAnAnswer, EachBundleHasOneAnswer};
 
 use crate::answers::answer_is_decided;
+use design_laws::existence::{
+    each_instance_has_its_list, first_faults_are_named, instance_or_fault,
+};
 use design_laws::packages::designs_of_texts_keep_their_rules;
-use package_laws::laws::{each_instance_has_its_list, first_faults_are_named, instance_or_fault};
 use plant_fuse::laws::one_report;
 use run_laws::laws::each_run_ends;
 use scenario_laws::events::{events_are_few, events_are_loose, traces_are_few};

@@ -22,12 +22,12 @@ use Rattle.aadl_tree.specs.ExpressionViews.{expression_view}
 use Rattle.aadl_tree.specs.ActionViews.{action_view, actions_view, mores_view, choice_view, elsifs_view, otherwise_of}
 use Rattle.aadl_tree.specs.Maps.{kept_place}
 use Rattle.aadl_tree.proofs.ActionViews.{view-out-choice}
-use Rattle.aadl_machine.specs.Symbols as s
-use Rattle.aadl_machine.specs.Symbols.{a_whole, the, Symbol}
-use Rattle.aadl_machine.specs.Machine.{Stack, takes, move, depth, syntax_at, fate}
-use Rattle.aadl_reader.specs.Reading.{At, AtMark, Begins, IsMarked, Misses, Reads}
-use Rattle.aadl_reader.proofs.Rows.{enters_as, takes_row, refuses_unless}
-use Rattle.aadl_reader.proofs.Written.{then, marked, respelled, regroup}
+use Rattle.aadl_grammar.specs.Symbols as s
+use Rattle.aadl_grammar.specs.Symbols.{a_whole, the, Symbol}
+use Rattle.aadl_grammar.specs.Machine.{Stack, takes, move, depth, syntax_at, fate}
+use Rattle.aadl_grammar.specs.Reading.{At, AtMark, Begins, IsMarked, Misses, Reads}
+use Rattle.aadl_grammar.proofs.Rows.{enters_as, takes_row, refuses_unless}
+use Rattle.aadl_grammar.proofs.Written.{then, marked, respelled, regroup}
 use Rattle.behaviour_parse.specs.declared.actions.Head.{Head}
 use Rattle.behaviour_parse.specs.Choosing.{head_parts, choice_parts}
 

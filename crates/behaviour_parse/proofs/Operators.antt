@@ -20,12 +20,12 @@ use Rattle.aadl_tree.specs.Expressions as e
 use Rattle.aadl_tree.specs.ExpressionViews.{factor_view, factors_view, term_view, terms_view, relation_view, relations_view}
 use Rattle.aadl_tree.specs.Maps.{kept_place}
 use Rattle.aadl_tree.specs.declared.limits.TheConstants.{GREATEST_NESTING}
-use Rattle.aadl_machine.specs.Symbols as s
-use Rattle.aadl_machine.specs.Table.{on}
-use Rattle.aadl_machine.specs.Machine.{Stack, takes, move, depth, fate}
-use Rattle.aadl_reader.specs.Reading.{Reads}
-use Rattle.aadl_reader.proofs.Rows.{takes_row, begins_past}
-use Rattle.aadl_reader.proofs.Written.{marked, respelled, regroup, shorter}
+use Rattle.aadl_grammar.specs.Symbols as s
+use Rattle.aadl_grammar.specs.Table.{on}
+use Rattle.aadl_grammar.specs.Machine.{Stack, takes, move, depth, fate}
+use Rattle.aadl_grammar.specs.Reading.{Reads}
+use Rattle.aadl_grammar.proofs.Rows.{takes_row, begins_past}
+use Rattle.aadl_grammar.proofs.Written.{marked, respelled, regroup, shorter}
 use Rattle.behaviour_parse.specs.Joining.{Joins}
 
 pub multiplies : (o : MultiplyOperator) → move s.factors (mark (e.multiply_mark o)) ≡ takes (s.factor ∷ s.factors ∷ [])

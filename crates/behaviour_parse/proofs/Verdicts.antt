@@ -9,16 +9,16 @@ use Rattle.aadl_tree.specs.Parts.{Written}
 use Rattle.aadl_tree.specs.Annexes.{AnnexTree, annex_tree_parts}
 use Rattle.aadl_tree.specs.Grammar.{IsBehaviour, place}
 use Rattle.aadl_tree.specs.Given.{end_of, IsBehaviourOf}
-use Rattle.aadl_machine.specs.Machine.{fate, annex_body, syntax_at}
-use Rattle.aadl_machine.proofs.Fates.Answers.{answers_text, answers_fault, answers_depth}
-use Rattle.aadl_machine.proofs.Placed.All.{one_placed_behaviour}
-use Rattle.aadl_machine.proofs.Fates.Starts.{behaviours}
-use Rattle.aadl_machine.proofs.Fates.Steps.{fate_end, fate_left}
-use Rattle.aadl_reader.specs.declared.fault.ParseFault.{ParseFault}
-use Rattle.aadl_reader.specs.declared.fault.ParseFault.TheVariants.{Memory, Syntax, TooDeep}
-use Rattle.aadl_reader.specs.declared.terminal.Terminal.{Terminal}
-use Rattle.aadl_reader.specs.Terminals.{spots_of}
-use Rattle.aadl_reader.specs.Reading.{FailsAs, Reads}
+use Rattle.aadl_grammar.specs.Machine.{fate, annex_body, syntax_at}
+use Rattle.aadl_grammar.proofs.Fates.Answers.{answers_text, answers_fault, answers_depth}
+use Rattle.aadl_grammar.proofs.Placed.All.{one_placed_behaviour}
+use Rattle.aadl_grammar.proofs.Fates.Starts.{behaviours}
+use Rattle.aadl_grammar.proofs.Fates.Steps.{fate_end, fate_left}
+use Rattle.aadl_grammar.specs.declared.fault.ParseFault.{ParseFault}
+use Rattle.aadl_grammar.specs.declared.fault.ParseFault.TheVariants.{Memory, Syntax, TooDeep}
+use Rattle.aadl_grammar.specs.declared.terminal.Terminal.{Terminal}
+use Rattle.aadl_grammar.specs.Terminals.{spots_of}
+use Rattle.aadl_grammar.specs.Reading.{FailsAs, Reads}
 use Rattle.behaviour_parse.specs.Behaviours.{IsOnlyBehaviourOf, IsFaultOfBehaviour}
 
 pub faults : (text : List ℕ) (tokens : List Token) (e : ParseFault) → FailsAs (fate 1 (end_of tokens) annex_body (spots_from true text tokens)) e → IsFaultOfBehaviour text tokens e

@@ -4,8 +4,8 @@ use Rattle.aadl_tree.specs.declared.mark.Mark.TheVariants as k
 use Rattle.aadl_tree.specs.declared.expressions.LogicOperator.{LogicOperator}
 use Rattle.aadl_tree.specs.declared.expressions.LogicOperator.TheVariants as logic
 use Rattle.aadl_tree.specs.Kinds.{Spot}
-use Rattle.aadl_machine.specs.Symbols.{the}
-use Rattle.aadl_reader.specs.Reading.{AtMark, Misses}
+use Rattle.aadl_grammar.specs.Symbols.{the}
+use Rattle.aadl_grammar.specs.Reading.{AtMark, Misses}
 
 -- the operator comes first: `and` and `or` are taken together with what may stand behind them
 abbrev pub Joins : LogicOperator → List Spot → List Spot → Type 0

@@ -8,13 +8,13 @@ ghost use Rattle.aadl_tree.specs.NameViews.{identifier_view, reference_view};
 ghost use Rattle.aadl_tree.specs.ExpressionViews.{expression_view};
 ghost use Rattle.aadl_tree.specs.ActionViews.{action_view, actions_view, elsifs_view, otherwise_of, block_view, loop_view};
 ghost use Rattle.aadl_tree.specs.Maps.{kept_place};
-ghost use Rattle.aadl_machine.specs.Symbols as s;
-ghost use Rattle.aadl_machine.specs.Table.{rows, on};
-ghost use Rattle.aadl_reader.specs.Reading.{here, MissAll, Begins, Parses, AnyRoom, Room};
+ghost use Rattle.aadl_grammar.specs.Symbols as s;
+ghost use Rattle.aadl_grammar.specs.Table.{rows, on};
+ghost use Rattle.aadl_grammar.specs.Reading.{here, MissAll, Begins, Parses, AnyRoom, Room};
 ghost use Rattle.behaviour_parse.specs.Choosing.{head_parts, choice_parts};
 
 use crate::expressions::expression;
-use aadl_reader::{ParseFault, Parsed, Reader, identifier, reference};
+use aadl_grammar::{ParseFault, Parsed, Reader, identifier, reference};
 use aadl_tree::{
     Action, Actions, Block, Bound, Choice, Elsif, Expression, Identifier, Loop, Mark, Reference,
 };

@@ -9,13 +9,13 @@ ghost use Rattle.aadl_tree.specs.NameViews.{identifier_view};
 ghost use Rattle.aadl_tree.specs.ActionViews.{block_view};
 ghost use Rattle.aadl_tree.specs.Views.{variable_view, state_view, guard_view, transition_view, annex_tree_view};
 ghost use Rattle.aadl_tree.specs.Maps.{kept_place};
-ghost use Rattle.aadl_machine.specs.Symbols as s;
-ghost use Rattle.aadl_machine.specs.Machine.{annex_body};
-ghost use Rattle.aadl_reader.specs.Reading.{Parses, AnyRoom, Room};
+ghost use Rattle.aadl_grammar.specs.Symbols as s;
+ghost use Rattle.aadl_grammar.specs.Machine.{annex_body};
+ghost use Rattle.aadl_grammar.specs.Reading.{Parses, AnyRoom, Room};
 
 use crate::actions::block;
 use crate::expressions::expression;
-use aadl_reader::{ParseFault, Parsed, Reader, identifier, identifiers, properties, reference};
+use aadl_grammar::{ParseFault, Parsed, Reader, identifier, identifiers, properties, reference};
 use aadl_tree::{
     AnnexTree, Block, Guard, Identifier, Mark, StateDeclaration, Transition, VariableDeclaration,
 };

@@ -17,9 +17,9 @@ mod actions;
 mod annex;
 mod expressions;
 
+pub use aadl_grammar::ParseFault;
+use aadl_grammar::{Reader, resolve};
 use aadl_lex::Token;
-pub use aadl_reader::ParseFault;
-use aadl_reader::{Reader, resolve};
 use aadl_tree::{AnnexTree, GREATEST_NESTING};
 pub use annex::body;
 use std::alloc::Global;

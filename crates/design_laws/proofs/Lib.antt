@@ -42,3 +42,38 @@ pub mod Sourcing
 pub mod Joining
 pub mod Accepting
 pub mod Merely
+pub mod Clear
+pub mod Expressions
+pub mod Actions
+pub mod Possible
+pub mod FaultAnnexes
+pub mod FaultDeclaring
+pub mod Covering
+pub mod Found
+pub mod Again
+pub mod Findings
+pub mod Faults
+pub mod Least
+mod Sorting
+mod Distinct
+mod Containing
+mod Reaching
+mod ExistingOrdering
+mod Paths
+mod Sound
+mod Finding
+mod Recursion
+mod Inside
+mod Outside
+mod Connections
+mod Lines
+mod Tracing
+mod Incoming
+mod Descending
+mod Taps
+mod Limits
+pub mod Flat
+mod NamedLists
+mod NamedAnnexes
+pub mod NamedFaults
+pub mod Violations

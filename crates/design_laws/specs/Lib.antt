@@ -5,3 +5,4 @@ pub mod Designs
 pub mod Accepted
 pub mod PackageDesigns
 pub mod Kinds
+pub mod Packages

@@ -1,11 +1,15 @@
 //! Why an instance in which nothing is found has one design, which keeps the rules of designs. Laws alone: of the names of
 //! a package, of annexes and behaviours, of rates, threads and chains, of designs, and of a whole package.
+//!
+//! And why each package has an instance and the list of all that is wrong with it, or a first fault, and has one alone.
 #![tactic(auto)]
 
 pub mod annexes;
 pub mod behaviours;
 pub mod chains;
 pub mod designs;
+pub mod existence;
+pub mod first_faults;
 pub mod names;
 pub mod packages;
 pub mod rates;

@@ -7,11 +7,11 @@ use Rattle.aadl_tree.specs.Parts.{Part, Spells, Written}
 use Rattle.aadl_tree.specs.Declarations.{PackageTree, package_parts}
 use Rattle.aadl_tree.specs.Grammar.{IsPackage}
 use Rattle.aadl_tree.specs.Maps.{no_place, package_to}
-use Rattle.aadl_machine.specs.Machine.{Fate, finished, syntax_at, deep_at, fate, whole_package}
-use Rattle.aadl_machine.proofs.Places.Alike.{alike_spells}
-use Rattle.aadl_machine.proofs.Places.Declarations.{package_alike}
-use Rattle.aadl_machine.proofs.Fates.Answers.{answers_text, answers_fault, answers_depth}
-use Rattle.aadl_machine.proofs.Fates.Starts.{packages}
+use Rattle.aadl_grammar.specs.Machine.{Fate, finished, syntax_at, deep_at, fate, whole_package}
+use Rattle.aadl_grammar.proofs.Places.Alike.{alike_spells}
+use Rattle.aadl_grammar.proofs.Places.Declarations.{package_alike}
+use Rattle.aadl_grammar.proofs.Fates.Answers.{answers_text, answers_fault, answers_depth}
+use Rattle.aadl_grammar.proofs.Fates.Starts.{packages}
 use Rattle.text_laws.specs.Texts.{HasTokens, HasLexFault, HasTree, Stops, NestsTooDeep}
 use Rattle.text_laws.proofs.Lexing.{tokens_or_fault}
 use Rattle.text_laws.proofs.Filling.Fills.{U}

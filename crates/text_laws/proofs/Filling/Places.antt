@@ -2,7 +2,7 @@
 use Rattle.std.proofs.Common.{◌≡◌, ℕ, sym, subst, List, [], ◌∷◌, ◌++◌, refl, inl, inr}
 use Rattle.aadl_tree.specs.Kinds.{Kind, Spot, kinds_of}
 use Rattle.aadl_tree.specs.Parts.{Part, token, may, extra_kinds, Spells, AreAt, HaveKinds, Written}
-use Rattle.aadl_machine.proofs.Basics.{heads, tails}
+use Rattle.aadl_grammar.proofs.Basics.{heads, tails}
 use Rattle.text_laws.proofs.Filling.Fills.{U, AreAsMany, Like}
 
 -- the first terminal is of this kind

@@ -4,9 +4,9 @@ use Rattle.aadl_tree.specs.Declarations.{subcomponent_parts}
 use Rattle.aadl_tree.specs.Views.{subcomponent_view}
 use Rattle.aadl_tree.specs.Maps.{kept_place}
 use Rattle.aadl_tree.specs.declared.limits.TheConstants.{GREATEST_NESTING}
-use Rattle.aadl_machine.specs.Symbols as s
-use Rattle.aadl_machine.specs.Machine.{Stack, depth, fate}
-use Rattle.aadl_reader.specs.Reading.{here, Reads}
+use Rattle.aadl_grammar.specs.Symbols as s
+use Rattle.aadl_grammar.specs.Machine.{Stack, depth, fate}
+use Rattle.aadl_grammar.specs.Reading.{here, Reads}
 use Rattle.aadl_parse.proofs.components.subcomponent_list.Given as goal
 
 abbrev pub invariant-loop-found : goal.invariant-loop-found

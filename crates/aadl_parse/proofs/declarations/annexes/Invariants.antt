@@ -5,9 +5,9 @@ use Rattle.aadl_tree.specs.Annexes.{annex_parts}
 use Rattle.aadl_tree.specs.Views.{annex_view}
 use Rattle.aadl_tree.specs.Maps.{kept_place}
 use Rattle.aadl_tree.specs.declared.limits.TheConstants.{GREATEST_NESTING}
-use Rattle.aadl_machine.specs.Symbols as s
-use Rattle.aadl_machine.specs.Machine.{Stack, depth, fate}
-use Rattle.aadl_reader.specs.Reading.{here, Reads}
+use Rattle.aadl_grammar.specs.Symbols as s
+use Rattle.aadl_grammar.specs.Machine.{Stack, depth, fate}
+use Rattle.aadl_grammar.specs.Reading.{here, Reads}
 use Rattle.aadl_parse.proofs.declarations.annexes.Given as goal
 
 abbrev pub invariant-loop-behind : goal.invariant-loop-behind

@@ -1,0 +1,13 @@
+-- What signs do.
+use Rattle.std.proofs.Common.{◌≡◌, refl, [], ◌∷◌}
+use Rattle.aadl_tree.specs.declared.expressions.Sign.{Sign}
+use Rattle.aadl_tree.specs.declared.expressions.Sign.TheVariants as signs
+use Rattle.aadl_tree.specs.Kinds.{mark}
+use Rattle.aadl_tree.specs.Values.{sign_mark}
+use Rattle.aadl_grammar.specs.Symbols as s
+use Rattle.aadl_grammar.specs.Machine.{takes, move}
+
+pub sign_quantity : (o : Sign) → move s.quantity (mark (sign_mark o)) ≡ takes (s.figure ∷ s.unit ∷ [])
+unfolding move
+sign_quantity signs.Plus = refl
+sign_quantity signs.Minus = refl

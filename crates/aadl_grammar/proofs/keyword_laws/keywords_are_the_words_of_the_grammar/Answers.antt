@@ -1,0 +1,12 @@
+use Rattle.aadl_tree.specs.Marks.{keywords_outside, keywords_inside}
+use Rattle.aadl_grammar.specs.Machine.{whole_package, annex_body}
+use Rattle.aadl_grammar.proofs.KeywordSides.{listed_if_it_comes, outside_first, outside_stays, outside_fine, inside_first, inside_stays, inside_fine}
+use Rattle.aadl_grammar.proofs.KeywordSides as sides
+use Rattle.aadl_grammar.proofs.KeywordWaysOf.{outside_reached, inside_reached}
+use Rattle.aadl_grammar.proofs.keyword_laws.keywords_are_the_words_of_the_grammar.Goals as goal
+
+pub returns-clause-outside : goal.returns-clause-outside
+returns-clause-outside c m = (outside_reached m, λ h. listed_if_it_comes keywords_outside sides.outside outside_stays outside_fine whole_package outside_first m h.0 h.1)
+
+pub returns-clause-inside : goal.returns-clause-inside
+returns-clause-inside c m = (inside_reached m, λ h. listed_if_it_comes keywords_inside sides.inside inside_stays inside_fine annex_body inside_first m h.0 h.1)

@@ -1,0 +1,5 @@
+use Rattle.aadl_grammar.proofs.Deciding.{rows_decide}
+use Rattle.aadl_grammar.proofs.laws.one_terminal_decides.Goals as goal
+
+pub returns : goal.returns
+returns c x = rows_decide x

@@ -1,0 +1,12 @@
+use Rattle.std.proofs.Common.{◌≡◌, ◌∙◌, sym, ap, subst, arith, rules, List}
+use Rattle.std.proofs.lemmas.Grind.{common_steps}
+use Rattle.aadl_grammar.specs.declared.terminal.Terminal.{Terminal}
+use Rattle.aadl_grammar.specs.Terminals.{AreWords}
+use Rattle.aadl_grammar.proofs.Firsts.{words_push}
+use Rattle.aadl_grammar.proofs.terminal.resolve.Goals as goal
+
+pub loop-token-preserved : goal.loop-token-preserved
+loop-token-preserved c = record {
+  spots = first_of (search rules, grind arith, grind (arith, common_steps));
+  words = rw c.in_ok-push.ensures.items (words_push c.args.text.now c.loop-token.found.items _ c.loop-token.invariant.words (λ e. c.requires c.loop-token.token-index _ (omega arith) (c.terminal_kind-kind.ensures.word e)));
+}

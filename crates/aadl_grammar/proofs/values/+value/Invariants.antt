@@ -1,0 +1,42 @@
+use Rattle.std.proofs.Common.{◌≡◌, ℕ, ◌+◌, ◌*◌, ◌∷◌, length}
+use Rattle.aadl_tree.specs.Values.{more_values_parts, associations_parts}
+use Rattle.aadl_tree.specs.ValueViews.{values_view, associations_view}
+use Rattle.aadl_tree.specs.Maps.{kept_place}
+use Rattle.aadl_tree.specs.declared.limits.TheConstants.{GREATEST_NESTING}
+use Rattle.aadl_grammar.specs.Symbols as s
+use Rattle.aadl_grammar.specs.Machine.{Stack, depth, fate}
+use Rattle.aadl_grammar.specs.Reading.{here, Reads}
+use Rattle.aadl_grammar.proofs.values.+value.Given as goal
+
+abbrev pub decreases-value : goal.decreases-value
+decreases-value l = 8 * l.room + 0
+
+abbrev pub decreases-more_values : goal.decreases-more_values
+decreases-more_values l = 8 * l.room + 1
+
+abbrev pub decreases-values : goal.decreases-values
+decreases-values l = 8 * l.room + 2
+
+abbrev pub decreases-association : goal.decreases-association
+decreases-association l = 8 * l.room + 1
+
+abbrev pub decreases-associations : goal.decreases-associations
+decreases-associations l = 8 * l.room + 2
+
+abbrev pub invariant-more_values-loop-behind : goal.invariant-more_values-loop-behind
+invariant-more_values-loop-behind l = record {
+  runs : (outer : ℕ) (below : Stack) → outer + depth below + l.room ≡ GREATEST_NESTING → fate outer l.reader.end (s.more_values ∷ below) (here l.reader l.at) ≡ fate outer l.reader.end (s.more_values ∷ below) (here l.reader l.rest);
+  reads : Reads (more_values_parts (values_view kept_place l.found.items)) (here l.reader l.at) (here l.reader l.rest);
+}
+
+abbrev pub decreases-more_values-loop-behind : goal.decreases-more_values-loop-behind
+decreases-more_values-loop-behind l = length (here l.reader l.rest)
+
+abbrev pub invariant-associations-loop-found : goal.invariant-associations-loop-found
+invariant-associations-loop-found l = record {
+  runs : (outer : ℕ) (below : Stack) → outer + depth below + l.room ≡ GREATEST_NESTING → fate outer l.reader.end (s.associations ∷ below) (here l.reader l.at) ≡ fate outer l.reader.end (s.associations ∷ below) (here l.reader l.rest);
+  reads : Reads (associations_parts (associations_view kept_place l.found.items)) (here l.reader l.at) (here l.reader l.rest);
+}
+
+abbrev pub decreases-associations-loop-found : goal.decreases-associations-loop-found
+decreases-associations-loop-found l = length (here l.reader l.rest)

@@ -1,0 +1,41 @@
+use Rattle.std.proofs.Common.{◌∙◌, ◌∷◌, refl, arith}
+use Rattle.aadl_grammar.specs.Reading.{here}
+use Rattle.aadl_grammar.proofs.Rows.{takes_row, omits_unless, along, exits, no_reads}
+use Rattle.aadl_grammar.proofs.Written.{marked, pushed, shorter}
+use Rattle.aadl_tree.specs.Parts.{behind}
+use Rattle.aadl_tree.specs.Names.{path_parts}
+use Rattle.aadl_tree.specs.NameViews.{path_view}
+use Rattle.aadl_tree.specs.Maps.{kept_place}
+use Rattle.aadl_tree.specs.declared.mark.Mark.TheVariants as k
+use Rattle.aadl_grammar.specs.Symbols as s
+use Rattle.aadl_grammar.specs.Machine.{move, depth, syntax_at, deep_at}
+use Rattle.aadl_grammar.proofs.values.more_paths.Goals as goal
+
+pub returns-in_err-next : goal.returns-in_err-next
+unfolding move depth
+returns-in_err-next c = record {
+  runs = λ outer below h. exits _ _ _ _ _ _ _ c.from_residual.ensures.1 (along _ _ _ (c.loop-behind.invariant.runs outer below (omega arith)
+      ∙ takes_row outer c.args.reader.now.end s.more_paths (below) c.in-Some.ensures refl (omega arith)) (c.in_err-next.ensures.runs outer (s.more_paths ∷ below) (omega arith)));
+  reads = no_reads _ _ _ c.from_residual.ensures.1;
+}
+
+pub loop-behind-preserved : goal.loop-behind-preserved
+unfolding move depth
+loop-behind-preserved c = record {
+  runs = λ outer below h. c.loop-behind.invariant.runs outer below (omega arith)
+      ∙ takes_row outer c.args.reader.now.end s.more_paths (below) c.in-Some.ensures refl (omega arith)
+      ∙ c.in_ok-next.ensures.runs outer (s.more_paths ∷ below) (omega arith);
+  reads = pushed (behind k.Comma path_parts) (path_view kept_place) c.loop-behind.found.items c.push.new.self.items c.in_ok-next.next c.in_ok-push.ensures.items c.loop-behind.invariant.reads (marked c.in-Some.ensures c.in_ok-next.ensures.reads);
+}
+
+pub returns : goal.returns
+unfolding move depth
+returns c = record {
+  runs = λ outer below h. c.loop-behind.invariant.runs outer below (omega arith)
+      ∙ omits_unless outer c.args.reader.now.end s.more_paths (below) (here c.args.reader.now c.loop-behind.rest) refl (c.in_default.ensures, tt);
+  reads = c.loop-behind.invariant.reads;
+}
+
+pub loop-behind-smaller : goal.loop-behind-smaller
+unfolding move depth
+loop-behind-smaller c = shorter c.in-Some.ensures c.in_ok-next.ensures.reads

@@ -1,0 +1,21 @@
+use Rattle.std.proofs.Common.{◌≡◌, ℕ, ◌+◌, ◌≤◌, ◌∷◌, length, map}
+use Rattle.std.specs.Prelude.{flat_map}
+use Rattle.aadl_tree.specs.declared.mark.Mark.TheVariants as k
+use Rattle.aadl_tree.specs.Parts.{behind}
+use Rattle.aadl_tree.specs.Names.{path_parts}
+use Rattle.aadl_tree.specs.NameViews.{path_view}
+use Rattle.aadl_tree.specs.Maps.{kept_place}
+use Rattle.aadl_tree.specs.declared.limits.TheConstants.{GREATEST_NESTING}
+use Rattle.aadl_grammar.specs.Symbols as s
+use Rattle.aadl_grammar.specs.Machine.{Stack, depth, fate}
+use Rattle.aadl_grammar.specs.Reading.{here, Reads}
+use Rattle.aadl_grammar.proofs.values.more_paths.Given as goal
+
+abbrev pub invariant-loop-behind : goal.invariant-loop-behind
+invariant-loop-behind l = record {
+  runs : (outer : ℕ) (below : Stack) → outer + depth below ≤ GREATEST_NESTING → fate outer l.reader.end (s.more_paths ∷ below) (here l.reader l.at) ≡ fate outer l.reader.end (s.more_paths ∷ below) (here l.reader l.rest);
+  reads : Reads (flat_map (behind k.Comma path_parts) (map (path_view kept_place) l.found.items)) (here l.reader l.at) (here l.reader l.rest);
+}
+
+abbrev pub decreases-loop-behind : goal.decreases-loop-behind
+decreases-loop-behind l = length (here l.reader l.rest)

@@ -1,0 +1,22 @@
+use Rattle.std.proofs.Common.{refl, arith}
+use Rattle.aadl_grammar.specs.Reading.{here}
+use Rattle.aadl_grammar.proofs.Rows.{takes_row, omits_unless, a_word_at}
+use Rattle.aadl_grammar.proofs.Written.{nothing, named}
+use Rattle.aadl_tree.specs.declared.mark.Mark.TheVariants as k
+use Rattle.aadl_grammar.specs.Symbols as s
+use Rattle.aadl_grammar.specs.Machine.{move, depth, syntax_at, deep_at}
+use Rattle.aadl_grammar.proofs.values.unit.Goals as goal
+
+pub returns-in-Some : goal.returns-in-Some
+unfolding move depth
+returns-in-Some c = record {
+  runs = λ outer below h. takes_row outer c.args.reader.now.end s.unit (below) (a_word_at (rw c.in-Some.is at c.in_ok-found.ensures.ok)) refl (omega arith);
+  reads = named (rw c.in-Some.is at c.in_ok-found.ensures.ok);
+}
+
+pub returns-in-None : goal.returns-in-None
+unfolding move depth
+returns-in-None c = record {
+  runs = λ outer below h. omits_unless outer c.args.reader.now.end s.unit (below) (here c.args.reader.now c.args.at) refl (rw c.in-None.is at c.in_ok-found.ensures.ok, tt);
+  reads = nothing;
+}

@@ -1,0 +1,26 @@
+//! The grammar as a machine, and what both parsers read with.
+//!
+//! The machine is a stack of symbols that are wanted, and what each does at a terminal. The table says
+//! how a symbol may begin and what is wanted then; one terminal decides. The laws here say that the
+//! machine takes just the texts of the grammar, and that it stops at the first terminal that no text
+//! goes on with. So a parser that follows the machine needs no other proof of where a text is at fault.
+//!
+//! A [`Reader`] holds the terminals of a text. Each function of the parsers reads one part of the
+//! grammar from a place on, and gives its tree with the place behind it, or the fault that the machine
+//! meets. Room says how many more openers may be open.
+#![tactic(auto)]
+
+mod fault;
+pub mod keyword_laws;
+pub mod laws;
+mod leaves;
+mod names;
+mod reader;
+mod terminal;
+mod values;
+
+pub use fault::ParseFault;
+pub use names::{dot_identifier, identifier, identifiers, name, path, reference};
+pub use reader::{Parsed, Reader};
+pub use terminal::{Terminal, TerminalKind, resolve};
+pub use values::{association, associations, properties};

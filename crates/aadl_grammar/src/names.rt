@@ -1,0 +1,143 @@
+//! Names and references.
+ghost use Rattle.std.specs.Prelude.{ℕ, List, [], ◌∷◌, map, flat_map, option_map};
+ghost use Rattle.aadl_tree.specs.declared.mark.Mark.TheVariants as k;
+ghost use Rattle.aadl_tree.specs.Parts.{behind, parts_if};
+ghost use Rattle.aadl_tree.specs.Names.{identifier_parts, name_parts, path_parts, identifiers_parts, reference_parts};
+ghost use Rattle.aadl_tree.specs.NameViews.{identifier_view, name_view, path_view, identifiers_view, reference_view};
+ghost use Rattle.aadl_tree.specs.Maps.{kept_place};
+ghost use Rattle.aadl_grammar.specs.Symbols as s;
+ghost use Rattle.aadl_grammar.specs.Reading.{Parses, AnyRoom};
+
+use crate::fault::ParseFault;
+use crate::reader::{Parsed, Reader};
+use aadl_tree::{Identifier, Identifiers, Mark, Name, Path, Reference};
+
+/// `id`
+pub fn identifier(reader: &Reader<'_>, at: usize) -> Parsed<Identifier>
+    ensures { Parses reader.now AnyRoom (s.identifier ∷ []) (λ x. identifier_parts (identifier_view kept_place x)) at result }
+{
+    match reader.word(at)? {
+        Some(found) => Ok(found),
+        None => Err(ParseFault::Syntax {
+            at: reader.place(at),
+        }),
+    }
+}
+
+/// `{ "::" id }`
+fn names(reader: &Reader<'_>, at: usize) -> Parsed<Vec<Identifier>>
+    ensures { Parses reader.now AnyRoom (s.names ∷ [])
+        (λ x. flat_map (behind k.Scope identifier_parts) (map (identifier_view kept_place) x.items)) at result }
+{
+    let mut found = Vec::new(reader.alloc);
+    let mut rest = at;
+    while let Some(behind) = reader.take(rest, Mark::Scope) {
+        let (next, behind) = identifier(reader, behind)?;
+        found.push(next)?;
+        rest = behind;
+    }
+    Ok((found, rest))
+}
+
+/// `{ "." id }`
+fn paths(reader: &Reader<'_>, at: usize) -> Parsed<Vec<Identifier>>
+    ensures { Parses reader.now AnyRoom (s.paths ∷ [])
+        (λ x. flat_map (behind k.Dot identifier_parts) (map (identifier_view kept_place) x.items)) at result }
+{
+    let mut found = Vec::new(reader.alloc);
+    let mut rest = at;
+    while let Some(behind) = reader.take(rest, Mark::Dot) {
+        let (next, behind) = identifier(reader, behind)?;
+        found.push(next)?;
+        rest = behind;
+    }
+    Ok((found, rest))
+}
+
+/// `{ "," id }`
+fn more_identifiers(reader: &Reader<'_>, at: usize) -> Parsed<Vec<Identifier>>
+    ensures { Parses reader.now AnyRoom (s.more_identifiers ∷ [])
+        (λ x. flat_map (behind k.Comma identifier_parts) (map (identifier_view kept_place) x.items)) at result }
+{
+    let mut found = Vec::new(reader.alloc);
+    let mut rest = at;
+    while let Some(behind) = reader.take(rest, Mark::Comma) {
+        let (next, behind) = identifier(reader, behind)?;
+        found.push(next)?;
+        rest = behind;
+    }
+    Ok((found, rest))
+}
+
+/// `id { "." id }`
+pub fn path(reader: &Reader<'_>, at: usize) -> Parsed<Path>
+    ensures { Parses reader.now AnyRoom (s.path ∷ []) (λ x. path_parts (path_view kept_place x)) at result }
+{
+    let (first, next) = identifier(reader, at)?;
+    let (others, next) = paths(reader, next)?;
+    let path = Path {
+        first,
+        rest: others,
+    };
+    Ok((path, next))
+}
+
+/// `id { "," id }`
+pub fn identifiers(reader: &Reader<'_>, at: usize) -> Parsed<Identifiers>
+    ensures { Parses reader.now AnyRoom (s.identifier ∷ s.more_identifiers ∷ [])
+        (λ x. identifiers_parts (identifiers_view kept_place x)) at result }
+{
+    let (first, next) = identifier(reader, at)?;
+    let (others, next) = more_identifiers(reader, next)?;
+    let identifiers = Identifiers {
+        first,
+        rest: others,
+    };
+    Ok((identifiers, next))
+}
+
+/// `id { "::" id }`
+pub fn name(reader: &Reader<'_>, at: usize) -> Parsed<Name>
+    ensures { Parses reader.now AnyRoom (s.name ∷ []) (λ x. name_parts (name_view kept_place x)) at result }
+{
+    let (first, next) = identifier(reader, at)?;
+    let (others, next) = names(reader, next)?;
+    let name = Name {
+        first,
+        rest: others,
+    };
+    Ok((name, next))
+}
+
+/// `[ "." id ]`
+pub fn dot_identifier(reader: &Reader<'_>, at: usize) -> Parsed<Option<Identifier>>
+    ensures { Parses reader.now AnyRoom (s.dot_identifier ∷ [])
+        (λ x. parts_if (behind k.Dot identifier_parts) (option_map (identifier_view kept_place) x)) at result }
+{
+    let Some(next) = reader.take(at, Mark::Dot) else {
+        return Ok((None, at));
+    };
+    let (found, next) = identifier(reader, next)?;
+    Ok((Some(found), next))
+}
+
+/// `{ id "::" } id [ "." id ]`
+pub fn reference(reader: &Reader<'_>, at: usize) -> Parsed<Reference>
+    ensures { Parses reader.now AnyRoom (s.reference ∷ []) (λ x. reference_parts (reference_view kept_place x)) at result }
+{
+    let mut qualifiers = Vec::new(reader.alloc);
+    let (mut type_name, mut rest) = identifier(reader, at)?;
+    while let Some(behind) = reader.take(rest, Mark::Scope) {
+        let (next, behind) = identifier(reader, behind)?;
+        qualifiers.push(type_name)?;
+        type_name = next;
+        rest = behind;
+    }
+    let (implementation, rest) = dot_identifier(reader, rest)?;
+    let reference = Reference {
+        qualifiers,
+        type_name,
+        implementation,
+    };
+    Ok((reference, rest))
+}

@@ -1,0 +1,99 @@
+//! Terminals: tokens, and whether each is a keyword.
+ghost use Rattle.std.specs.Prelude.{◌≡◌, IfOk, All};
+ghost use Rattle.aadl_lex.specs.Spelled.{IsWordAt};
+ghost use Rattle.aadl_lex.specs.Tokens.{bytes_of};
+ghost use Rattle.aadl_lex.specs.declared.token.TokenKind.TheVariants as class;
+ghost use Rattle.aadl_tree.specs.Kinds.{spots_from, kind_of};
+ghost use Rattle.aadl_grammar.specs.Terminals.{between, kind_with, spots_of, AreWords};
+ghost use Rattle.aadl_grammar.specs.declared.terminal.TerminalKind.TheVariants as t;
+
+use aadl_lex::{Token, TokenKind};
+use aadl_tree::Mark;
+use std::alloc::{AllocError, Global};
+
+/// What a terminal is. What it says otherwise stands in the text.
+#[derive(Clone, Copy)]
+pub enum TerminalKind {
+    /// A word that is no keyword.
+    Word,
+    /// A whole number, by its value.
+    Whole(i64),
+    /// A real.
+    Real,
+    /// A string.
+    Quoted,
+    /// An annex of another language.
+    Unread,
+    /// A keyword or a symbol.
+    Mark(Mark),
+    /// Bytes that are no symbol. No text has them.
+    Other,
+}
+
+/// A terminal: the bytes of the text from `start` up to `end`.
+#[derive(Clone, Copy)]
+pub struct Terminal {
+    pub kind: TerminalKind,
+    pub start: usize,
+    pub end: usize,
+}
+
+/// The bytes of the text between two places.
+pub(crate) fn between(text: &[u8], start: usize, end: usize) -> &[u8]
+    ensures { result.now ≡ between text.now start end }
+{
+    let rest = &text[start.min(text.len())..];
+    &rest[..end.saturating_sub(start).min(rest.len())]
+}
+
+fn terminal_kind(inside: bool, text: &[u8], token: Token) -> TerminalKind
+    ensures kind { kind_with result (bytes_of text.now token) ≡ kind_of inside text.now token }
+    ensures word { result ≡ t.Word → token.kind ≡ class.Word }
+{
+    let bytes = between(text, token.start, token.end);
+    match token.kind {
+        TokenKind::Word => match Mark::keyword(inside, bytes) {
+            Some(mark) => TerminalKind::Mark(mark),
+            None => TerminalKind::Word,
+        },
+        TokenKind::Whole(value) => TerminalKind::Whole(value),
+        TokenKind::Real => TerminalKind::Real,
+        TokenKind::Quoted => TerminalKind::Quoted,
+        TokenKind::Symbol => match Mark::symbol(bytes) {
+            Some(mark) => TerminalKind::Mark(mark),
+            None => TerminalKind::Other,
+        },
+        TokenKind::AnnexOpen => TerminalKind::Mark(Mark::AnnexOpen),
+        TokenKind::AnnexClose => TerminalKind::Mark(Mark::AnnexClose),
+        TokenKind::Unread => TerminalKind::Unread,
+    }
+}
+
+/// The terminals of the tokens, from inside a behaviour annex or outside on.
+pub fn resolve(
+    alloc: Global,
+    inside: bool,
+    text: &[u8],
+    tokens: &[Token],
+) -> Result<Vec<Terminal>, AllocError>
+    requires { All (IsWordAt text.now) tokens.now }
+    ensures spots { IfOk result (λ found. spots_of text.now found.items ≡ spots_from inside text.now tokens.now) }
+    ensures words { IfOk result (λ found. AreWords text.now found.items) }
+{
+    let mut found = Vec::with_capacity(alloc, tokens.len())?;
+    let mut within = inside;
+    for token in tokens {
+        let kind = terminal_kind(within, text, *token);
+        found.push(Terminal {
+            kind,
+            start: token.start,
+            end: token.end,
+        })?;
+        within = match token.kind {
+            TokenKind::AnnexOpen => true,
+            TokenKind::AnnexClose => false,
+            _ => within,
+        };
+    }
+    Ok(found)
+}

@@ -1,0 +1,283 @@
+//! Properties and their values.
+ghost use Rattle.std.specs.Prelude.{◌≡◌, ℕ, [], ◌∷◌, ◌++◌, flat_map, map, option_map, MatchOption};
+ghost use Rattle.aadl_tree.specs.declared.mark.Mark.TheVariants as k;
+ghost use Rattle.aadl_tree.specs.Parts.{behind, parts_if, plain};
+ghost use Rattle.aadl_tree.specs.Names.{identifier_parts, path_parts, reference_parts};
+ghost use Rattle.aadl_tree.specs.Values.{figure_parts, quantity_parts, value_parts, values_parts, more_values_parts, association_parts, associations_parts, properties_parts, applies_parts, association_mark};
+ghost use Rattle.aadl_tree.specs.NameViews.{identifier_view, path_view, reference_view};
+ghost use Rattle.aadl_tree.specs.ValueViews.{figure_view, quantity_view, value_view, values_view, association_view, associations_view};
+ghost use Rattle.aadl_tree.specs.Maps.{kept_place};
+ghost use Rattle.aadl_grammar.specs.Symbols as s;
+ghost use Rattle.aadl_grammar.specs.Table.{on};
+ghost use Rattle.aadl_grammar.specs.Reading.{here, AtMark, MissAll, Parses, AnyRoom, Room};
+
+use crate::fault::ParseFault;
+use crate::names::{name, path, reference};
+use crate::reader::{Parsed, Reader};
+use aadl_tree::{
+    Association, AssociationOperator, Figure, Identifier, Mark, Number, Path, Quantity, Reference,
+    Value,
+};
+
+/// `whole | real`
+fn figure(reader: &Reader<'_>, at: usize) -> Parsed<Figure>
+    ensures { Parses reader.now AnyRoom (s.figure ∷ []) (λ x. figure_parts (figure_view x)) at result }
+{
+    if let Some((value, next)) = reader.whole(at) {
+        return Ok((Figure::Whole(value), next));
+    }
+    match reader.real(at)? {
+        Some((bytes, next)) => Ok((Figure::Real(bytes), next)),
+        None => Err(ParseFault::Syntax {
+            at: reader.place(at),
+        }),
+    }
+}
+
+/// `[ id ]`
+fn unit(reader: &Reader<'_>, at: usize) -> Parsed<Option<Identifier>>
+    ensures { Parses reader.now AnyRoom (s.unit ∷ [])
+        (λ x. parts_if identifier_parts (option_map (identifier_view kept_place) x)) at result }
+{
+    match reader.word(at)? {
+        Some((found, next)) => Ok((Some(found), next)),
+        None => Ok((None, at)),
+    }
+}
+
+/// `[ "+" | "-" ] ( whole | real ) [ id ]`
+fn quantity(reader: &Reader<'_>, at: usize) -> Parsed<Quantity>
+    ensures { Parses reader.now AnyRoom (s.quantity ∷ []) (λ x. quantity_parts (quantity_view kept_place x)) at result }
+{
+    let Some((sign, next)) = reader.sign(at) else {
+        let (figure, next) = figure(reader, at)?;
+        let (unit, next) = unit(reader, next)?;
+        let number = Number { sign: None, figure };
+        return Ok((Quantity { number, unit }, next));
+    };
+    let (figure, next) = figure(reader, next)?;
+    let (unit, next) = unit(reader, next)?;
+    let number = Number {
+        sign: Some(sign),
+        figure,
+    };
+    Ok((Quantity { number, unit }, next))
+}
+
+/// `[ ".." quantity ]`
+fn upper(reader: &Reader<'_>, at: usize) -> Parsed<Option<Quantity>>
+    ensures { Parses reader.now AnyRoom (s.upper ∷ [])
+        (λ x. parts_if (behind k.Range quantity_parts) (option_map (quantity_view kept_place) x)) at result }
+{
+    let Some(next) = reader.take(at, Mark::Range) else {
+        return Ok((None, at));
+    };
+    let (found, next) = quantity(reader, next)?;
+    Ok((Some(found), next))
+}
+
+/// `"(" path ")"`
+fn path_group(reader: &Reader<'_>, at: usize, room: usize) -> Parsed<Path>
+    ensures { Parses reader.now (Room room) (s.path_group ∷ [])
+        (λ x. plain k.ParenOpen ∷ (path_parts (path_view kept_place x) ++ plain k.ParenClose ∷ [])) at result }
+{
+    let Some(next) = reader.take(at, Mark::ParenOpen) else {
+        return Err(ParseFault::Syntax {
+            at: reader.place(at),
+        });
+    };
+    let _inner = reader.deeper(at, room)?;
+    let (found, next) = path(reader, next)?;
+    let end = reader.expect(next, Mark::ParenClose)?;
+    Ok((found, end))
+}
+
+/// `"(" reference ")"`
+fn reference_group(reader: &Reader<'_>, at: usize, room: usize) -> Parsed<Reference>
+    ensures { Parses reader.now (Room room) (s.reference_group ∷ [])
+        (λ x. plain k.ParenOpen ∷ (reference_parts (reference_view kept_place x) ++ plain k.ParenClose ∷ [])) at result }
+{
+    let Some(next) = reader.take(at, Mark::ParenOpen) else {
+        return Err(ParseFault::Syntax {
+            at: reader.place(at),
+        });
+    };
+    let _inner = reader.deeper(at, room)?;
+    let (found, next) = reference(reader, next)?;
+    let end = reader.expect(next, Mark::ParenClose)?;
+    Ok((found, end))
+}
+
+/// `"=>" | "+=>"`
+fn operator(reader: &Reader<'_>, at: usize) -> Parsed<AssociationOperator>
+    ensures { Parses reader.now AnyRoom (s.operator ∷ []) (λ x. plain (association_mark x) ∷ []) at result }
+{
+    if let Some(next) = reader.take(at, Mark::Becomes) {
+        return Ok((AssociationOperator::Becomes, next));
+    }
+    match reader.take(at, Mark::Appends) {
+        Some(next) => Ok((AssociationOperator::Appends, next)),
+        None => Err(ParseFault::Syntax {
+            at: reader.place(at),
+        }),
+    }
+}
+
+/// `{ "," path }`
+fn more_paths(reader: &Reader<'_>, at: usize) -> Parsed<Vec<Path>>
+    ensures { Parses reader.now AnyRoom (s.more_paths ∷ [])
+        (λ x. flat_map (behind k.Comma path_parts) (map (path_view kept_place) x.items)) at result }
+{
+    let mut found = Vec::new(reader.alloc);
+    let mut rest = at;
+    while let Some(behind) = reader.take(rest, Mark::Comma) {
+        let (next, behind) = path(reader, behind)?;
+        found.push(next)?;
+        rest = behind;
+    }
+    Ok((found, rest))
+}
+
+/// `[ "applies" "to" path { "," path } ]`
+fn applies(reader: &Reader<'_>, at: usize) -> Parsed<Vec<Path>>
+    ensures { Parses reader.now AnyRoom (s.applies ∷ []) (λ x. applies_parts (map (path_view kept_place) x.items)) at result }
+{
+    let Some(next) = reader.take(at, Mark::Applies) else {
+        return Ok((Vec::new(reader.alloc), at));
+    };
+    let start = reader.expect(next, Mark::To)?;
+    let (first, next) = path(reader, start)?;
+    let (mut paths, next) = more_paths(reader, next)?;
+    paths.insert(0, first)?;
+    Ok((paths, next))
+}
+
+/// `[ value { "," value } ] ")"`
+#[cycle(value)]
+fn values(reader: &Reader<'_>, at: usize, room: usize) -> Parsed<Vec<Value>>
+    ensures { Parses reader.now (Room room) (s.values ∷ s.only k.ParenClose ∷ [])
+        (λ x. values_parts (values_view kept_place x.items) ++ plain k.ParenClose ∷ []) at result }
+{
+    if let Some(next) = reader.take(at, Mark::ParenClose) {
+        return Ok((Vec::new(reader.alloc), next));
+    }
+    let (first, next) = value(reader, at, room)?;
+    let (mut values, next) = more_values(reader, next, room)?;
+    values.insert(0, first)?;
+    let end = reader.expect(next, Mark::ParenClose)?;
+    Ok((values, end))
+}
+
+/// `{ "," value }`
+#[cycle(value)]
+fn more_values(reader: &Reader<'_>, at: usize, room: usize) -> Parsed<Vec<Value>>
+    ensures { Parses reader.now (Room room) (s.more_values ∷ []) (λ x. more_values_parts (values_view kept_place x.items)) at result }
+{
+    let mut found = Vec::new(reader.alloc);
+    let mut rest = at;
+    while let Some(behind) = reader.take(rest, Mark::Comma) {
+        let (next, behind) = value(reader, behind, room)?;
+        found.push(next)?;
+        rest = behind;
+    }
+    Ok((found, rest))
+}
+
+/// A value that begins with a bracket or a keyword; none where another one has to come.
+#[cycle(value)]
+fn value(reader: &Reader<'_>, at: usize, room: usize) -> Parsed<Value>
+    ensures { Parses reader.now (Room room) (s.value ∷ []) (λ x. value_parts (value_view kept_place x)) at result }
+{
+    if let Some(next) = reader.take(at, Mark::ParenOpen) {
+        let inner = reader.deeper(at, room)?;
+        let (values, end) = values(reader, next, inner)?;
+        return Ok((Value::List(values), end));
+    }
+    if let Some(next) = reader.take(at, Mark::BracketOpen) {
+        let inner = reader.deeper(at, room)?;
+        let (fields, next) = associations(reader, next, inner)?;
+        let end = reader.expect(next, Mark::BracketClose)?;
+        return Ok((Value::Record(fields), end));
+    }
+    if let Some(next) = reader.take(at, Mark::Reference) {
+        let (path, end) = path_group(reader, next, room)?;
+        return Ok((Value::Reference(path), end));
+    }
+    if let Some(next) = reader.take(at, Mark::Classifier) {
+        let (classifier, end) = reference_group(reader, next, room)?;
+        return Ok((Value::Classifier(classifier), end));
+    }
+    plain_value(reader, at)
+}
+
+/// A string, a name, or a number with its unit, or a range of two.
+fn plain_value(reader: &Reader<'_>, at: usize) -> Parsed<Value>
+    requires { MissAll (on k.ParenOpen [] ∷ on k.BracketOpen [] ∷ on k.Reference [] ∷ on k.Classifier [] ∷ []) (here reader.now at) }
+    ensures { Parses reader.now AnyRoom (s.value ∷ []) (λ x. value_parts (value_view kept_place x)) at result }
+{
+    if let Some((text, next)) = reader.quoted(at)? {
+        return Ok((Value::Text(text), next));
+    }
+    if reader.is_word(at) {
+        let (named, next) = reference(reader, at)?;
+        return Ok((Value::Named(named), next));
+    }
+    let (low, next) = quantity(reader, at)?;
+    let (high, next) = upper(reader, next)?;
+    Ok((Value::Number { low, high }, next))
+}
+
+/// `name ( "=>" | "+=>" ) [ "constant" ] value [ applies ] ";"`
+#[cycle(value)]
+pub fn association(reader: &Reader<'_>, at: usize, room: usize) -> Parsed<Association>
+    ensures { Parses reader.now (Room room) (s.association ∷ []) (λ x. association_parts (association_view kept_place x)) at result }
+{
+    let (name, next) = name(reader, at)?;
+    let (operator, next) = operator(reader, next)?;
+    let (constant, next) = reader.has(next, Mark::Constant);
+    let (value, next) = value(reader, next, room)?;
+    let (applies_to, next) = applies(reader, next)?;
+    let end = reader.expect(next, Mark::Semicolon)?;
+    let association = Association {
+        name,
+        operator,
+        constant,
+        value,
+        applies_to,
+    };
+    Ok((association, end))
+}
+
+/// `{ property }`
+#[cycle(value)]
+pub fn associations(reader: &Reader<'_>, at: usize, room: usize) -> Parsed<Vec<Association>>
+    ensures { Parses reader.now (Room room) (s.associations ∷ []) (λ x. associations_parts (associations_view kept_place x.items)) at result }
+{
+    let mut found = Vec::new(reader.alloc);
+    let mut rest = at;
+    while reader.is_word(rest) {
+        let (next, behind) = association(reader, rest, room)?;
+        found.push(next)?;
+        rest = behind;
+    }
+    found.shrink_to_fit();
+    Ok((found, rest))
+}
+
+/// `[ "{" property { property } "}" ]`
+pub fn properties(reader: &Reader<'_>, at: usize, room: usize) -> Parsed<Vec<Association>>
+    ensures { Parses reader.now (Room room) (s.properties ∷ []) (λ x. properties_parts (associations_view kept_place x.items)) at result }
+{
+    let Some(next) = reader.take(at, Mark::BraceOpen) else {
+        return Ok((Vec::new(reader.alloc), at));
+    };
+    let inner = reader.deeper(at, room)?;
+    if !reader.is_word(next) {
+        return Err(ParseFault::Syntax {
+            at: reader.place(next),
+        });
+    }
+    let (found, next) = associations(reader, next, inner)?;
+    let end = reader.expect(next, Mark::BraceClose)?;
+    Ok((found, end))
+}

@@ -1,4 +1,0 @@
-mod Lists
-mod Ways
-mod Sides
-mod WaysOf

@@ -1,9 +1,0 @@
-pub mod Basics
-pub mod Derived
-pub mod Builders
-pub mod Gives
-pub mod Opens
-pub mod Fates
-pub mod Places
-pub mod Deciding
-pub mod Placed

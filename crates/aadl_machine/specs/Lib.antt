@@ -1,5 +1,0 @@
-pub mod Symbols
-pub mod Table
-pub mod Machine
-pub mod Moved
-pub mod Example

@@ -1,6 +1,0 @@
-use Rattle.fault_laws.proofs.Findings.{rises}
-use Rattle.fault_laws.proofs.Faults.{one_fault}
-use Rattle.fault_laws.proofs.laws.one_fault.Goals as goal
-
-pub returns : goal.returns
-returns c = λ text tree root a b given x y. one_fault tree (rises text tree given) root a b x y

@@ -1,5 +1,0 @@
-use Rattle.fault_laws.proofs.Findings.{rises, one_finding}
-use Rattle.fault_laws.proofs.laws.one_finding.Goals as goal
-
-pub returns : goal.returns
-returns c = λ text tree root a b given x y place number. one_finding tree (rises text tree given) root a b x y place number

@@ -1,5 +1,0 @@
-use Rattle.package_laws.proofs.Violations.{has_list}
-use Rattle.package_laws.proofs.laws.each_instance_has_its_list.Goals as goal
-
-pub returns : goal.returns
-returns c = has_list

@@ -1,5 +1,0 @@
-use Rattle.package_laws.proofs.Flat.{each_package_ends}
-use Rattle.package_laws.proofs.laws.instance_or_fault.Goals as goal
-
-pub returns : goal.returns
-returns c = each_package_ends
