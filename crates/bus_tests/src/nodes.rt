@@ -2,7 +2,8 @@
 ghost use Rattle.std.specs.Prelude.{◌≡◌, ◌≤◌, IfOk};
 ghost use Rattle.pals_base.specs.declared.limits.TheConstants.{ROUNDS};
 
-use crate::designs::{TURN, TWO_COUNTERS, design_of};
+use crate::designs::design_of;
+use case_files::designs::{TURN, TWO_COUNTERS};
 use pals_base::{Nanos, NodeNo, Port};
 use pals_model::Design;
 use pals_node::{FinishEnd, Finished, Job, Node, NodePlan, SendEnd, StartEnd, StepEnd};

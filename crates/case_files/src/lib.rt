@@ -20,6 +20,7 @@
 #![tactic(auto)]
 
 mod answers;
+pub mod designs;
 mod makings;
 
 pub use answers::{Answers, asked, check, check_answer, word};

@@ -4,7 +4,7 @@ ghost use Rattle.std.specs.List.Sorted.{IsNonDecreasing};
 ghost use Rattle.pals_clock.specs.Clock.{AreReadings};
 
 use crate::buses::{bus_of, tells};
-use crate::designs::TWO_COUNTERS;
+use case_files::designs::TWO_COUNTERS;
 use node_threads::NoGate;
 use pals_base::{Items, Nanos, NoMemory};
 use pals_clock::{Clocks, ListClock};

@@ -1,7 +1,7 @@
 //! Nodes that meet.
 use crate::buses::{bus_of, tells};
-use crate::designs::TURN;
 use crate::gates::{Meets, Yields};
+use case_files::designs::TURN;
 use node_threads::NoGate;
 use pals_base::NodeNo;
 use pals_clock::Clocks;
