@@ -34,6 +34,12 @@ pub data Lexes : Reading → List ℕ → ℕ → List Token → Type 0 where
       → Lexes Inside (take (at + 3 + n) text) (at + 3) body → Lexes Outside text (at + 3 + n + 3) ts
       → Lexes r text at (token AnnexOpen at 3 ∷ body ++ token AnnexClose (at + 3 + n) 3 ∷ ts)
 
+-- To the tokens of a list were added those that the text has from the byte `at` on.
+pub record Adds (r : Reading) (text : List ℕ) (at : ℕ) (before after : List Token) : Type 0 where
+  pub tokens : List Token
+  pub added : after ≡ before ++ tokens
+  pub lexed : Lexes r text at tokens
+
 -- From the byte `at` on, this is the first fault of the text.
 pub data Faults : Reading → List ℕ → ℕ → LexFault → Type 0 where
   refused : (r : Reading) (text : List ℕ) (at : ℕ) (fault : LexFault) → at < length text → first r at (drop at text) ≡ Refused fault → Faults r text at fault

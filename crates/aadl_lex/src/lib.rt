@@ -4,13 +4,13 @@
 //! symbols, and annexes. [`lex`] gives all tokens of a text, or its first fault from left to right.
 #![tactic(auto)]
 
-ghost use Rattle.std.specs.Prelude.{ℕ, ◌≡◌, ◌≢◌, ◌+◌, ◌<◌, ◌≤◌, List, All, length, IfOk, IfErr};
+ghost use Rattle.std.specs.Prelude.{ℕ, ◌≡◌, ◌≢◌, ◌+◌, ◌<◌, ◌≤◌, List, All, length, IfOk, IfErr, OnOk};
 ghost use Rattle.std.specs.Str.{IsUtf8};
 ghost use Rattle.aadl_lex.specs.declared.fault.LexFault.{LexFault};
 ghost use Rattle.aadl_lex.specs.declared.token.Token.{Token};
 ghost use Rattle.aadl_lex.specs.declared.rules.Reading.TheVariants.{Outside};
 ghost use Rattle.aadl_lex.specs.Spelled.{IsWordAt, AreAmongTokensOf, AreSpelled};
-ghost use Rattle.aadl_lex.specs.Tokens.{Lexes, Faults, AreTokensOf, AreInOrder, IsFaultOf};
+ghost use Rattle.aadl_lex.specs.Tokens.{Adds, Faults, AreTokensOf, AreInOrder, IsFaultOf};
 
 mod fault;
 mod rules;
@@ -34,21 +34,22 @@ pub fn lex(alloc: Global, text: &[u8]) -> Result<Vec<Token>, LexFault>
             at: error.valid_up_to(),
         });
     }
-    read(alloc, text, 0, Reading::Outside)
+    let mut tokens = Vec::new(alloc);
+    read(&mut tokens, text, 0, Reading::Outside)?;
+    Ok(tokens)
 }
 
-/// The tokens from the byte `at` on.
+/// Adds the tokens from the byte `at` on.
 fn read(
-    alloc: Global,
+    found: &mut Vec<Token>,
     text: &[u8],
     mut at: usize,
     mut reading: Reading,
-) -> Result<Vec<Token>, LexFault>
+) -> Result<(), LexFault>
     requires { at ≤ length text.now }
-    ensures tokens { IfOk result (λ tokens. Lexes reading text.now at tokens.items) }
+    ensures tokens { OnOk result (Adds reading text.now at found.old.items found.new.items) }
     ensures fault { IfErr result (λ fault. fault ≢ LexFault.Memory → Faults reading text.now at fault) }
 {
-    let mut found = Vec::new(alloc);
     while at < text.len() {
         let (_, rest) = text.split_at(at);
         match front(reading, rest, at) {
@@ -60,9 +61,8 @@ fn read(
             }
             First::Body(len) => {
                 let close = at + 3 + len;
-                let mut body = read(alloc, &text[..close], at + 3, Reading::Inside)?;
                 found.push(Token::new(TokenKind::AnnexOpen, at, 3))?;
-                found.append(&mut body)?;
+                read(found, &text[..close], at + 3, Reading::Inside)?;
                 found.push(Token::new(TokenKind::AnnexClose, close, 3))?;
                 reading = Reading::Outside;
                 at = close + 3;
@@ -70,7 +70,7 @@ fn read(
             First::Refused(fault) => return Err(fault),
         }
     }
-    Ok(found)
+    Ok(())
 }
 
 /// A text has one list of tokens or one first fault, and never both.

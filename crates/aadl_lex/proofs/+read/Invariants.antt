@@ -1,7 +1,7 @@
 use Rattle.std.proofs.Common.{length, ◌-◌, ◌≤◌, ◌++◌, List}
 use Rattle.aadl_lex.specs.declared.fault.LexFault.{LexFault}
 use Rattle.aadl_lex.specs.declared.token.Token.{Token}
-use Rattle.aadl_lex.specs.Tokens.{Lexes, Faults}
+use Rattle.aadl_lex.specs.Tokens.{Lexes, Adds, Faults}
 use Rattle.aadl_lex.proofs.+read.Given as goal
 
 -- a body is shorter than the text round it
@@ -12,7 +12,7 @@ abbrev pub invariant-loop-at : goal.invariant-loop-at
 invariant-loop-at l = record {
   within : l.at ≤ length l.text;
   -- whatever tokens the rest has complete those of the text
-  tokens : (ts : List Token) → Lexes l.reading l.text l.at ts → Lexes l.fn.reading l.text l.fn.at (l.found.items ++ ts);
+  tokens : (ts : List Token) → Lexes l.reading l.text l.at ts → Adds l.fn.reading l.text l.fn.at l.fn.found.items (l.found.items ++ ts);
   faults : (fault : LexFault) → Faults l.reading l.text l.at fault → Faults l.fn.reading l.text l.fn.at fault;
 }
 
