@@ -29,12 +29,19 @@ impl Reader<'_> {
         Some((self.terminals[at], at + 1))
     }
 
+    /// The bytes of a terminal.
+    fn bytes(&self, terminal: Terminal) -> &[u8]
+        ensures { result.now ≡ between self.now.text.now terminal.start terminal.end }
+    {
+        between(self.text, terminal.start as usize, terminal.end as usize)
+    }
+
     /// Where the terminal at this number stands in the text, or where the text ends.
     pub fn place(&self, at: usize) -> usize
         ensures { result ≡ grammar.place self.now.end (here self.now at) }
     {
         match self.first(at) {
-            Some((terminal, _)) => terminal.start,
+            Some((terminal, _)) => terminal.start as usize,
             None => self.end,
         }
     }
@@ -84,7 +91,7 @@ impl Reader<'_> {
         };
         match terminal.kind {
             TerminalKind::Real => {
-                let bytes = between(self.text, terminal.start, terminal.end).to_vec(self.alloc)?;
+                let bytes = self.bytes(terminal).to_vec(self.alloc)?;
                 Ok(Some((bytes, next)))
             }
             _ => Ok(None),
@@ -101,7 +108,7 @@ impl Reader<'_> {
         };
         match terminal.kind {
             TerminalKind::Quoted => {
-                let bytes = between(self.text, terminal.start, terminal.end).to_vec(self.alloc)?;
+                let bytes = self.bytes(terminal).to_vec(self.alloc)?;
                 Ok(Some((bytes, next)))
             }
             _ => Ok(None),
@@ -118,7 +125,7 @@ impl Reader<'_> {
         };
         match terminal.kind {
             TerminalKind::Unread => {
-                let bytes = between(self.text, terminal.start, terminal.end).to_vec(self.alloc)?;
+                let bytes = self.bytes(terminal).to_vec(self.alloc)?;
                 Ok(Some((bytes, next)))
             }
             _ => Ok(None),
@@ -131,7 +138,7 @@ impl Reader<'_> {
         ensures ok { IfOk result (λ found. string_bytes found ≡ between self.now.text.now word.start word.end) }
         ensures err { IfErr result (λ e. e ≡ Memory) }
     {
-        let text = str::from_utf8(between(self.text, word.start, word.end)).unwrap();
+        let text = str::from_utf8(self.bytes(word)).unwrap();
         Ok(String::from_str(self.alloc, text)?)
     }
 
@@ -147,7 +154,7 @@ impl Reader<'_> {
         match terminal.kind {
             TerminalKind::Word => {
                 let spelling = self.spelling(terminal)?;
-                let at = terminal.start;
+                let at = terminal.start as usize;
                 Ok(Some((Identifier { at, spelling }, next)))
             }
             _ => Ok(None),

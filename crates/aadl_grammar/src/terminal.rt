@@ -30,12 +30,13 @@ pub enum TerminalKind {
     Other,
 }
 
-/// A terminal: the bytes of the text from `start` up to `end`.
+/// A terminal: the bytes of the text from `start` up to `end`. Its places have 32 bits, so that it
+/// takes 24 bytes.
 #[derive(Clone, Copy)]
 pub struct Terminal {
     pub kind: TerminalKind,
-    pub start: usize,
-    pub end: usize,
+    pub start: u32,
+    pub end: u32,
 }
 
 /// The bytes of the text between two places.
@@ -69,6 +70,16 @@ fn terminal_kind(inside: bool, text: &[u8], token: Token) -> TerminalKind
     }
 }
 
+/// A place in 32 bits. For a text of 4 GiB or more there is not enough memory.
+fn narrow(place: usize) -> Result<u32, AllocError>
+    ensures { IfOk result (λ narrow. narrow ≡ place) }
+{
+    if place > u32::MAX as usize {
+        return Err(AllocError);
+    }
+    Ok(place as u32)
+}
+
 /// The terminals of the tokens, from inside a behaviour annex or outside on.
 pub fn resolve(
     alloc: Global,
@@ -84,11 +95,9 @@ pub fn resolve(
     let mut within = inside;
     for token in tokens {
         let kind = terminal_kind(within, text, *token);
-        found.push(Terminal {
-            kind,
-            start: token.start,
-            end: token.end,
-        })?;
+        let start = narrow(token.start)?;
+        let end = narrow(token.end)?;
+        found.push(Terminal { kind, start, end })?;
         within = match token.kind {
             TokenKind::AnnexOpen => true,
             TokenKind::AnnexClose => false,

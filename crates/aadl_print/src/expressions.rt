@@ -93,9 +93,9 @@ fn print_relation(printer: &mut Printer, relation: &Relation) -> Result<(), Allo
     ensures { OnOk result (printer.new ≡ printed printer.old (relation_parts (relation_view no_place relation.now))) }
 {
     print_sum(printer, &relation.left)?;
-    if let Some((operator, right)) = &relation.right {
-        printer.mark(relation_mark(*operator))?;
-        print_sum(printer, right)?;
+    if let Some(right) = &relation.right {
+        printer.mark(relation_mark(right.0))?;
+        print_sum(printer, &right.1)?;
     }
     Ok(())
 }

@@ -1,5 +1,5 @@
 -- The views of actions, level by level.
-use Rattle.std.proofs.Common.{◌≡◌, ℕ, List, [], ◌∷◌, map, Option, Vec, Global, Box, refl, ap, ◌∙◌, rules}
+use Rattle.std.proofs.Common.{◌≡◌, ℕ, List, [], ◌∷◌, map, Option, Some, None, Vec, Global, Box, refl, ap, sym, ◌∙◌, rules}
 use Rattle.std.specs.Prelude.{option_map}
 use Rattle.aadl_tree.specs.declared.names.Identifier.{Identifier}
 use Rattle.aadl_tree.specs.declared.names.Reference.{Reference}
@@ -11,7 +11,7 @@ use Rattle.aadl_tree.specs.declared.actions.Block.{Block, roll-Block}
 use Rattle.aadl_tree.specs.declared.actions.Choice.{Choice, roll-Choice}
 use Rattle.aadl_tree.specs.declared.actions.Elsif.{Elsif}
 use Rattle.aadl_tree.specs.declared.actions.Loop.{Loop, roll-Loop}
-use Rattle.aadl_tree.specs.declared.actions.Action.TheViews.{out-Choice, out-roll-Choice, out-Loop}
+use Rattle.aadl_tree.specs.declared.actions.Action.TheViews.{out-Choice, roll-out-Choice, out-Loop}
 use Rattle.aadl_tree.specs.Actions.{assign, send, choose, loop, actions, elsif}
 use Rattle.aadl_tree.specs.Expressions as Plain
 use Rattle.aadl_tree.specs.Actions as Acts
@@ -35,8 +35,9 @@ pub view-actions : {P : Type 0} (place : ℕ → P) (first : Action) (rest : Vec
     → actions_view place (roll-Actions (record { first = first; rest = rest })) ≡ actions (action_view place first) (mores_view place rest.items)
 view-actions place first rest = search (rules, the_lemmas)
 
-pub view-block : {P : Type 0} (place : ℕ → P) (a : Option Actions) → block_view place (roll-Block (record { actions = a })) ≡ block_of (option_map (actions_view place) a)
-view-block place a = search (rules, the_lemmas)
+pub view-block : {P : Type 0} (place : ℕ → P) (a : Option (Box Actions Global)) → block_view place (roll-Block (record { actions = a })) ≡ block_of (option_map (λ b. actions_view place b.value) a)
+view-block place None = search (rules, the_lemmas)
+view-block place (Some a) = search (rules, the_lemmas)
 
 pub view-loop : {P : Type 0} (place : ℕ → P) (at : ℕ) (x : Identifier) (data_type : Reference) (low high : Bound) (body : Block)
     → loop_view place (roll-Loop (record { at = at; variable = x; data_type = data_type; low = low; high = high; body = body }))
@@ -51,25 +52,26 @@ elsifs_along place [] = refl
 elsifs_along place (x ∷ xs) =
     ap (λ p. elsif p.0 p.1 (elsifs_of (map (elsif_view place) xs))) (view-elsif place x) ∙ ap (elsif (expression_view place x.test) (actions_view place x.actions)) (elsifs_along place xs)
 
-choice_along : {P : Type 0} (place : ℕ → P) (x : Choice)
-    → choice_view place x
-    ≡ choose (expression_view place (out-Choice x).test) (actions_view place (out-Choice x).actions) (elsifs_of (map (elsif_view place) (out-Choice x).elsifs.items)) (otherwise_of (option_map (actions_view place) (out-Choice x).otherwise))
-choice_along place x = search (rules, the_lemmas)
+choice_along : {P : Type 0} (place : ℕ → P) (test : Expression) (a : Actions) (es : Vec Elsif Global) (o : Option (Box Actions Global))
+    → choice_view place (roll-Choice (record { test = test; actions = a; elsifs = es; otherwise = o }))
+    ≡ choose (expression_view place test) (actions_view place a) (elsifs_of (map (elsif_view place) es.items)) (otherwise_of (option_map (λ b. actions_view place b.value) o))
+choice_along place test a es None = search (rules, the_lemmas)
+choice_along place test a es (Some o) = search (rules, the_lemmas)
+
+pub view-choice : {P : Type 0} (place : ℕ → P) (test : Expression) (a : Actions) (es : Vec Elsif Global) (o : Option (Box Actions Global))
+    → choice_view place (roll-Choice (record { test = test; actions = a; elsifs = es; otherwise = o }))
+    ≡ choose (expression_view place test) (actions_view place a) (elsifs_view place es.items) (otherwise_of (option_map (λ b. actions_view place b.value) o))
+view-choice place test a es o =
+    choice_along place test a es o
+    ∙ ap (λ xs. choose (expression_view place test) (actions_view place a) xs (otherwise_of (option_map (λ b. actions_view place b.value) o))) (elsifs_along place es.items)
 
 -- the views of structs, by their fields
 pub view-out-choice : {P : Type 0} (place : ℕ → P) (x : Choice)
-    → choice_view place x ≡ choose (expression_view place (out-Choice x).test) (actions_view place (out-Choice x).actions) (elsifs_view place (out-Choice x).elsifs.items) (otherwise_of (option_map (actions_view place) (out-Choice x).otherwise))
+    → choice_view place x
+    ≡ choose (expression_view place (out-Choice x).test) (actions_view place (out-Choice x).actions) (elsifs_view place (out-Choice x).elsifs.items) (otherwise_of (option_map (λ b. actions_view place b.value) (out-Choice x).otherwise))
 view-out-choice place x =
-    choice_along place x
-    ∙ ap (λ es. choose (expression_view place (out-Choice x).test) (actions_view place (out-Choice x).actions) es (otherwise_of (option_map (actions_view place) (out-Choice x).otherwise))) (elsifs_along place (out-Choice x).elsifs.items)
-
-pub view-choice : {P : Type 0} (place : ℕ → P) (test : Expression) (a : Actions) (es : Vec Elsif Global) (o : Option Actions)
-    → choice_view place (roll-Choice (record { test = test; actions = a; elsifs = es; otherwise = o }))
-    ≡ choose (expression_view place test) (actions_view place a) (elsifs_view place es.items) (otherwise_of (option_map (actions_view place) o))
-view-choice place test a es o =
-    view-out-choice place (roll-Choice (record { test = test; actions = a; elsifs = es; otherwise = o }))
-    ∙ ap (λ y. choose (expression_view place y.test) (actions_view place y.actions) (elsifs_view place y.elsifs.items) (otherwise_of (option_map (actions_view place) y.otherwise)))
-    (out-roll-Choice (record { test = test; actions = a; elsifs = es; otherwise = o }))
+    let y = out-Choice x in
+    ap (choice_view place) (sym (roll-out-Choice x)) ∙ view-choice place y.test y.actions y.elsifs y.otherwise
 
 pub view-out-loop : {P : Type 0} (place : ℕ → P) (x : Loop)
     → loop_view place x

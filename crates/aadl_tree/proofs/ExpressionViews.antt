@@ -1,5 +1,5 @@
 -- The views of expressions, level by level.
-use Rattle.std.proofs.Common.{◌≡◌, ℕ, ℤ, Bool, Option, Vec, Global, Box, rules}
+use Rattle.std.proofs.Common.{◌≡◌, ◌∙◌, ap, sym, ℕ, ℤ, Bool, Option, Some, None, Vec, Global, Box, rules}
 use Rattle.std.specs.Prelude.{option_map}
 use Rattle.aadl_tree.specs.declared.names.Identifier.{Identifier}
 use Rattle.aadl_tree.specs.declared.expressions.Sign.{Sign}
@@ -13,10 +13,10 @@ use Rattle.aadl_tree.specs.declared.expressions.Expression.{Expression, roll-Exp
 use Rattle.aadl_tree.specs.declared.expressions.Relation.{Relation, roll-Relation}
 use Rattle.aadl_tree.specs.declared.expressions.Sum.{Sum, roll-Sum}
 use Rattle.aadl_tree.specs.declared.expressions.Term.{Term, roll-Term}
-use Rattle.aadl_tree.specs.declared.expressions.Factor.TheViews.{out-Expression, out-Sum, out-Relation}
+use Rattle.aadl_tree.specs.declared.expressions.Factor.TheViews.{out-Expression, out-Sum, out-Relation, roll-out-Relation}
 use Rattle.aadl_tree.specs.Expressions.{number, truth, named, group, absolute, negated, bare, term, total, expression}
 use Rattle.aadl_tree.specs.NameViews.{identifier_view}
-use Rattle.aadl_tree.specs.ExpressionViews.{leading_view, primary_view, factor_view, factors_view, term_view, terms_view, sum_view, relation_view, relation_of, relations_view, expression_view}
+use Rattle.aadl_tree.specs.ExpressionViews.{leading_view, primary_view, factor_view, factors_view, term_view, terms_view, sum_view, relation_view, sides_view, relations_view, expression_view}
 
 pub view-Whole : {P : Type 0} (place : ℕ → P) (at : ℕ) (n : ℤ) → primary_view place (Whole at n) ≡ number (place at) n
 view-Whole place at n = search (rules, the_lemmas)
@@ -47,9 +47,10 @@ pub view-sum : {P : Type 0} (place : ℕ → P) (sign : Option LeadingSign) (fir
     → sum_view place (roll-Sum (record { sign = sign; first = first; rest = rest })) ≡ total (option_map (leading_view place) sign) (term_view place first) (terms_view place rest.items)
 view-sum place sign first rest = search (rules, the_lemmas)
 
-pub view-relation : {P : Type 0} (place : ℕ → P) (left : Sum) (right : Option (RelationOperator × Sum))
-    → relation_view place (roll-Relation (record { left = left; right = right })) ≡ relation_of (sum_view place left) (option_map {U = RelationOperator × _} (λ x. (x.0, sum_view place x.1)) right)
-view-relation place left right = search (rules, the_lemmas)
+pub view-relation : {P : Type 0} (place : ℕ → P) (left : Sum) (right : Option (Box (RelationOperator × Sum) Global))
+    → relation_view place (roll-Relation (record { left = left; right = right })) ≡ sides_view place left right
+view-relation place left None = search (rules, the_lemmas)
+view-relation place left (Some right) = search (rules, the_lemmas)
 
 pub view-expression : {P : Type 0} (place : ℕ → P) (first : Relation) (rest : Vec (LogicOperator × Relation) Global)
     → expression_view place (roll-Expression (record { first = first; rest = rest })) ≡ expression (relation_view place first) (relations_view place rest.items)
@@ -60,8 +61,8 @@ pub view-out-sum : {P : Type 0} (place : ℕ → P) (x : Sum) → sum_view place
 view-out-sum place x = search (rules, the_lemmas)
 
 pub view-out-relation : {P : Type 0} (place : ℕ → P) (x : Relation)
-    → relation_view place x ≡ relation_of (sum_view place (out-Relation x).left) (option_map {U = RelationOperator × _} (λ y. (y.0, sum_view place y.1)) (out-Relation x).right)
-view-out-relation place x = search (rules, the_lemmas)
+    → relation_view place x ≡ sides_view place (out-Relation x).left (out-Relation x).right
+view-out-relation place x = ap (relation_view place) (sym (roll-out-Relation x)) ∙ view-relation place (out-Relation x).left (out-Relation x).right
 
 pub view-out-expression : {P : Type 0} (place : ℕ → P) (x : Expression) → expression_view place x ≡ expression (relation_view place (out-Expression x).first) (relations_view place (out-Expression x).rest.items)
 view-out-expression place x = search (rules, the_lemmas)

@@ -1,5 +1,5 @@
 -- The plain trees that actions stand for.
-use Rattle.std.specs.Prelude.{ℕ, List, [], ◌∷◌, map, Option, Some, None}
+use Rattle.std.specs.Prelude.{ℕ, List, [], ◌∷◌, map, Option, Some, None, option_map}
 use Rattle.aadl_tree.specs.declared.actions.Action as source_action
 use Rattle.aadl_tree.specs.declared.actions.Action.TheOpen.{Action-F, Actions-F, Block-F, Choice-F, Elsif-F, Loop-F}
 use Rattle.aadl_tree.specs.declared.actions.Actions as source_actions
@@ -39,10 +39,10 @@ abbrev pub actions_step : {P : Type 0} → Actions-F (Action P) (Actions P) (Blo
 actions_step x = actions x.first (mores_of x.rest.items)
 
 abbrev pub block_step : {P : Type 0} → Block-F (Action P) (Actions P) (Block P) (Action P) (Expression P × Actions P) (Action P) → Block P
-block_step x = block_of x.actions
+block_step x = block_of (option_map (λ b. b.value) x.actions)
 
 abbrev pub choice_step : {P : Type 0} → (ℕ → P) → Choice-F (Action P) (Actions P) (Block P) (Action P) (Expression P × Actions P) (Action P) → Action P
-choice_step place x = choose (expression_view place x.test) x.actions (elsifs_of x.elsifs.items) (otherwise_of x.otherwise)
+choice_step place x = choose (expression_view place x.test) x.actions (elsifs_of x.elsifs.items) (otherwise_of (option_map (λ b. b.value) x.otherwise))
 
 abbrev pub elsif_step : {P : Type 0} → (ℕ → P) → Elsif-F (Action P) (Actions P) (Block P) (Action P) (Expression P × Actions P) (Action P) → Expression P × Actions P
 elsif_step place x = (expression_view place x.test, x.actions)

@@ -1,5 +1,6 @@
 -- The plain trees that expressions stand for.
-use Rattle.std.specs.Prelude.{ℕ, List, [], ◌∷◌, map, Option, Some, None, option_map}
+use Rattle.std.specs.Prelude.{ℕ, List, [], ◌∷◌, map, Option, Some, None, option_map, Box}
+use Rattle.std.specs.declared.alloc.Global.{Global}
 use Rattle.aadl_tree.specs.declared.expressions.Sign.{Sign}
 use Rattle.aadl_tree.specs.declared.expressions.LogicOperator.{LogicOperator}
 use Rattle.aadl_tree.specs.declared.expressions.RelationOperator.{RelationOperator}
@@ -30,9 +31,9 @@ abbrev pub relations_of : {P : Type 0} → List (LogicOperator × Relation P) �
 relations_of [] = no_relations
 relations_of (x ∷ xs) = join x.0 x.1 (relations_of xs)
 
-abbrev pub relation_of : {P : Type 0} → Sum P → Option (RelationOperator × Sum P) → Relation P
+abbrev pub relation_of : {P : Type 0} → Sum P → Option (Box (RelationOperator × Sum P) Global) → Relation P
 relation_of left None = single left
-relation_of left (Some right) = compared left right.0 right.1
+relation_of left (Some right) = compared left right.value.0 right.value.1
 
 -- one level of each, with the parts already seen as trees
 abbrev pub primary_step : {P : Type 0} → (ℕ → P) → Primary-F (Factor P) (Primary P) (Expression P) (Relation P) (Sum P) (Term P) → Primary P
@@ -82,6 +83,11 @@ abbrev pub relation_view : {P : Type 0} → (ℕ → P) → source_relation.Rela
 relation_view {P} place =
     source_relation.fold-Relation (Factor P) (Primary P) (Expression P) (Relation P) (Sum P) (Term P)
     (factor_step place) (primary_step place) expression_step relation_step (sum_step place) term_step
+
+-- a relation's view, by its fields
+abbrev pub sides_view : {P : Type 0} → (ℕ → P) → source_sum.Sum → Option (Box (RelationOperator × source_sum.Sum) Global) → Relation P
+sides_view place left None = single (sum_view place left)
+sides_view place left (Some right) = compared (sum_view place left) right.value.0 (sum_view place right.value.1)
 
 abbrev pub expression_view : {P : Type 0} → (ℕ → P) → source_expression.Expression → Expression P
 expression_view {P} place =

@@ -38,7 +38,7 @@ pub struct Choice {
     pub test: Expression,
     pub actions: Actions,
     pub elsifs: Vec<Elsif>,
-    pub otherwise: Option<Actions>,
+    pub otherwise: Option<Box<Actions>>,
 }
 
 /// `"elsif" "(" expression ")" actions`
@@ -66,7 +66,7 @@ pub struct Loop {
 #[cycle(action)]
 #[derive(Drop)]
 pub struct Block {
-    pub actions: Option<Actions>,
+    pub actions: Option<Box<Actions>>,
 }
 
 /// An end of a loop's range: `[ "-" ] whole`.

@@ -52,7 +52,7 @@ pub struct Expression {
 #[derive(Drop)]
 pub struct Relation {
     pub left: Sum,
-    pub right: Option<(RelationOperator, Sum)>,
+    pub right: Option<Box<(RelationOperator, Sum)>>,
 }
 
 /// The sign before a sum's first term.

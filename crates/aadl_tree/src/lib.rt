@@ -11,6 +11,7 @@ pub mod declarations;
 pub mod expressions;
 pub mod laws;
 pub mod limits;
+mod lists;
 pub mod mark;
 pub mod meaning;
 pub mod names;
@@ -32,6 +33,7 @@ pub use expressions::{
     RelationOperator, Sign, Sum, Term,
 };
 pub use limits::GREATEST_NESTING;
+pub use lists::push_exact;
 pub use mark::Mark;
 pub use meaning::{Same, same};
 pub use names::{Identifier, Identifiers, Name, Path, Reference};

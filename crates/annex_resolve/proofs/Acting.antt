@@ -1,5 +1,5 @@
 -- One level of the text of actions after another.
-use Rattle.std.proofs.Common.{◌≡◌, ℕ, ◌+◌, ◌<◌, ℤ, not, Bool, Result, Ok, Err, List, [], ◌∷◌, ◌++◌, length, take, get_or, Option, Some, None, refl, sym, ap, ◌∙◌, append_assoc, Vec, Global}
+use Rattle.std.proofs.Common.{◌≡◌, ℕ, ◌+◌, ◌<◌, ℤ, not, Bool, Result, Ok, Err, List, [], ◌∷◌, ◌++◌, length, take, get_or, Option, Some, None, refl, sym, ap, ◌∙◌, append_assoc, Vec, Box, Global}
 use Rattle.std.specs.Prelude.{option_map, IfOk}
 use Rattle.std.specs.declared.alloc.AllocError.{AllocError}
 use Rattle.std.proofs.lemmas.List.{append-nil}
@@ -119,15 +119,15 @@ unfolding actions_of actions_findings
 all_actions scope around y first xs acts b a view reads = rw view reads
 
 -- ---- actions, if there are any
-pub no_actions : (scope : Scope) (around : ℕ) (o : Option source_actions.Actions) (acts : List Act) (b : List Violation) → o ≡ None → acts ≡ []
-    → let x = listed_block (option_map (actions_view kept_place) o) in ReadsActions (block_of scope x) (block_findings scope around x) acts b b
+pub no_actions : (scope : Scope) (around : ℕ) (o : Option (Box source_actions.Actions Global)) (acts : List Act) (b : List Violation) → o ≡ None → acts ≡ []
+    → let x = listed_block (option_map (λ b. actions_view kept_place b.value) o) in ReadsActions (block_of scope x) (block_findings scope around x) acts b b
 unfolding block_of block_findings
 no_actions scope around None acts b is none = record { tree_is = ap actions_along none; found = sym (append-nil b) }
 no_actions scope around (Some y) acts b is none = absurd (cc is)
 
-pub some_actions : (scope : Scope) (around : ℕ) (o : Option source_actions.Actions) (y : source_actions.Actions) (r : Result (Vec Act Global) AllocError) (b a : List Violation) → o ≡ Some y
-    → IfOk r (λ acts. ReadsActions (actions_of scope (actions_view kept_place y)) (actions_findings scope around (actions_view kept_place y)) acts.items b a)
-    → let x = listed_block (option_map (actions_view kept_place) o) in IfOk r (λ acts. ReadsActions (block_of scope x) (block_findings scope around x) acts.items b a)
+pub some_actions : (scope : Scope) (around : ℕ) (o : Option (Box source_actions.Actions Global)) (y : Box source_actions.Actions Global) (r : Result (Vec Act Global) AllocError) (b a : List Violation) → o ≡ Some y
+    → IfOk r (λ acts. ReadsActions (actions_of scope (actions_view kept_place y.value)) (actions_findings scope around (actions_view kept_place y.value)) acts.items b a)
+    → let x = listed_block (option_map (λ b. actions_view kept_place b.value) o) in IfOk r (λ acts. ReadsActions (block_of scope x) (block_findings scope around x) acts.items b a)
 unfolding block_of block_findings
 some_actions scope around o y (Ok acts) b a is reads = rw is reads
 some_actions scope around o y (Err e) b a is reads = tt
@@ -204,17 +204,17 @@ next_branch scope around e xs es i x branch branches news b m a within is before
           ∙ ap (λ l. b ++ (fs ++ l)) (sym (ap (λ l. elsifs_findings scope around (elsifs_view kept_place l)) (take_next es i x within is) ∙ elsifs_findings-push scope around (take i es) x));
     }
 
-pub chosen : (scope : Scope) (around : ℕ) (y : Action ℕ) (e : Expression ℕ) (xs : Actions ℕ) (es : List source_elsif.Elsif) (o : Option source_actions.Actions) (act : Act) (branches : List Branch) (acts : List Act) (b m a : List Violation)
-    → y ≡ choose e xs (elsifs_view kept_place es) (listed_otherwise (option_map (actions_view kept_place) o))
+pub chosen : (scope : Scope) (around : ℕ) (y : Action ℕ) (e : Expression ℕ) (xs : Actions ℕ) (es : List source_elsif.Elsif) (o : Option (Box source_actions.Actions Global)) (act : Act) (branches : List Branch) (acts : List Act) (b m a : List Violation)
+    → y ≡ choose e xs (elsifs_view kept_place es) (listed_otherwise (option_map (λ b. actions_view kept_place b.value) o))
     → ReadsBranches (plain.Where (expression_of scope e) (actions_of scope xs) (elsifs_of scope (elsifs_view kept_place es))) (branch_findings scope around e xs ++ elsifs_findings scope around (elsifs_view kept_place es)) branches b m
-    → (let x = listed_block (option_map (actions_view kept_place) o) in ReadsActions (block_of scope x) (block_findings scope around x) acts m a)
+    → (let x = listed_block (option_map (λ b. actions_view kept_place b.value) o) in ReadsActions (block_of scope x) (block_findings scope around x) acts m a)
     → act_tree act ≡ plain.If (branches_along branches) (actions_along acts)
     → ReadsAction (action_of scope y) (action_findings scope around y) act b a
 unfolding action_of action_findings
 chosen scope around y e xs es o act branches acts b m a view reads others is =
-    let rest = as_otherwise scope around (option_map (actions_view kept_place) o) acts m a others in
+    let rest = as_otherwise scope around (option_map (λ b. actions_view kept_place b.value) o) acts m a others in
     let fs = branch_findings scope around e xs ++ elsifs_findings scope around (elsifs_view kept_place es) in
-    let gs = otherwise_findings scope around (listed_otherwise (option_map (actions_view kept_place) o)) in
+    let gs = otherwise_findings scope around (listed_otherwise (option_map (λ b. actions_view kept_place b.value) o)) in
     rw view (record {
       tree_is = is ∙ ap (λ t. plain.If t (actions_along acts)) reads.tree_is ∙ ap (plain.If (plain.Where (expression_of scope e) (actions_of scope xs) (elsifs_of scope (elsifs_view kept_place es)))) rest.tree_is;
       found = rest.found ∙ ap (λ l. l ++ gs) reads.found ∙ append_assoc b fs gs;

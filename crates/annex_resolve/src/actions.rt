@@ -17,7 +17,7 @@ use crate::loops::{count_turns, is_too_long, signed, together};
 use crate::scope::{Entry, Meaning, Scope};
 use crate::types::kind_named;
 use crate::violation::{BAD_TYPE, LOOP_TOO_LONG, Violation, add_if};
-use aadl_tree::{Action, Actions, Block, Choice, Expression, Loop};
+use aadl_tree::{Action, Actions, Block, Choice, Expression, Loop, push_exact};
 use pals_base::{Act, Branch, Expr, Items, Kind, NoMemory};
 use std::alloc::Global;
 
@@ -109,11 +109,11 @@ fn resolve_some(
     alloc: Global,
     scope: &Scope,
     around: u64,
-    actions: &Option<Actions>,
+    actions: &Option<Box<Actions>>,
     found: &mut Items<Violation>,
 ) -> Result<Vec<Act>, NoMemory>
     requires { around ≤ NESTED_TURNS + 1 }
-    ensures { IfOk result (λ acts. let x = listed_block (option_map (actions_view kept_place) actions.now) in
+    ensures { IfOk result (λ acts. let x = listed_block (option_map (λ b. actions_view kept_place b.value) actions.now) in
         ReadsActions (block_of scope.now x) (block_findings scope.now around x) acts.items found.old found.new) }
 {
     match actions {
@@ -135,9 +135,11 @@ fn resolve_actions(
         ReadsActions (actions_of scope.now x) (actions_findings scope.now around x) acts.items found.old found.new) }
 {
     let mut acts = Vec::new(alloc);
-    acts.push(resolve_action(alloc, scope, around, &actions.first, found)?)?;
+    let first = resolve_action(alloc, scope, around, &actions.first, found)?;
+    push_exact(&mut acts, first)?;
     for action in &actions.rest {
-        acts.push(resolve_action(alloc, scope, around, action, found)?)?;
+        let act = resolve_action(alloc, scope, around, action, found)?;
+        push_exact(&mut acts, act)?;
     }
     Ok(acts)
 }
@@ -183,9 +185,11 @@ fn resolve_choice(
         ReadsAction (action_of scope.now x) (action_findings scope.now around x) act found.old found.new) }
 {
     let mut branches = Vec::new(alloc);
-    branches.push(resolve_branch(alloc, scope, around, &choice.actions, &choice.test, found)?)?;
+    let first = resolve_branch(alloc, scope, around, &choice.actions, &choice.test, found)?;
+    push_exact(&mut branches, first)?;
     for elsif in &choice.elsifs {
-        branches.push(resolve_branch(alloc, scope, around, &elsif.actions, &elsif.test, found)?)?;
+        let branch = resolve_branch(alloc, scope, around, &elsif.actions, &elsif.test, found)?;
+        push_exact(&mut branches, branch)?;
     }
     let otherwise = resolve_some(alloc, scope, around, &choice.otherwise, found)?;
     Ok(Act::If {

@@ -18,7 +18,7 @@ use crate::scope::{Entry, Meaning, Scope};
 use crate::violation::{BAD_TYPE, Violation, add_if};
 use aadl_tree::{
     Expression, Factor, Identifier, LeadingSign, LogicOperator, MultiplyOperator, Primary,
-    Relation, RelationOperator, Sign, Sum, Term,
+    Relation, RelationOperator, Sign, Sum, Term, push_exact,
 };
 use operators::{is_equality, logic_op, multiply_op, relation_op, sign_op};
 use pals_base::{Expr, Items, Kind, NoMemory, Operand};
@@ -215,10 +215,11 @@ fn resolve_relations(
     for (operator, relation) in relations {
         let typed = resolve_relation(alloc, scope, relation, found)?;
         expect(alloc, found, relation.at(), Some(Kind::Boolean), typed.kind)?;
-        operands.push(Operand {
+        let operand = Operand {
             op: logic_op(*operator),
             right: typed.expr,
-        })?;
+        };
+        push_exact(&mut operands, operand)?;
     }
     Ok(operands)
 }
@@ -236,11 +237,12 @@ fn resolve_relation(
     let left = resolve_sum(alloc, scope, &relation.left, found)?;
     match &relation.right {
         None => Ok(left),
-        Some((operator, sum)) => {
+        Some(other) => {
+            let (operator, sum) = (other.0, &other.1);
             let right = resolve_sum(alloc, scope, sum, found)?;
             let places = (relation.left.at(), sum.at());
-            expect_sides(alloc, found, *operator, places, left.kind, right.kind)?;
-            compared(alloc, left.expr, *operator, right.expr)
+            expect_sides(alloc, found, operator, places, left.kind, right.kind)?;
+            compared(alloc, left.expr, operator, right.expr)
         }
     }
 }
@@ -307,10 +309,11 @@ fn resolve_terms(
     for (sign, term) in terms {
         let typed = resolve_term(alloc, scope, term, found)?;
         expect(alloc, found, term.at(), Some(Kind::Integer), typed.kind)?;
-        operands.push(Operand {
+        let operand = Operand {
             op: sign_op(*sign),
             right: typed.expr,
-        })?;
+        };
+        push_exact(&mut operands, operand)?;
     }
     Ok(operands)
 }
@@ -357,10 +360,11 @@ fn resolve_factors(
     for (operator, factor) in factors {
         let typed = resolve_factor(alloc, scope, factor, found)?;
         expect(alloc, found, factor.at(), Some(Kind::Integer), typed.kind)?;
-        operands.push(Operand {
+        let operand = Operand {
             op: multiply_op(*operator),
             right: typed.expr,
-        })?;
+        };
+        push_exact(&mut operands, operand)?;
     }
     Ok(operands)
 }

@@ -1,5 +1,5 @@
 -- Actions, one more of them, and what stands behind the last one.
-use Rattle.std.proofs.Common.{◌≡◌, ℕ, ℤ, Bool, true, false, ◌+◌, ◌≤◌, ◌∙◌, sym, ap, refl, arith, subst, Option, Vec, Global, option_map, List, [], ◌∷◌, ◌++◌, append_assoc, inl, inr}
+use Rattle.std.proofs.Common.{◌≡◌, ℕ, ℤ, Bool, true, false, ◌+◌, ◌≤◌, ◌∙◌, sym, ap, refl, arith, subst, Option, Vec, Box, Global, option_map, List, [], ◌∷◌, ◌++◌, append_assoc, inl, inr}
 use Rattle.std.proofs.lemmas.List.{append-nil}
 use Rattle.aadl_tree.specs.declared.mark.Mark.TheVariants as k
 use Rattle.aadl_tree.specs.declared.expressions.Expression.{Expression}
@@ -36,15 +36,15 @@ pub choice_reads : (x : Choice) {ss mid rest : List Spot} → AtMark k.If ss mid
 choice_reads x l b = respelled (ap a.action_parts (sym (view-out-choice kept_place x))) (marked l b)
 
 -- a choice that is made of its parts
-pub choice_made : (test : Expression) (x : Actions) (es : Vec Elsif Global) (o : Option Actions) {ss rest : List Spot}
+pub choice_made : (test : Expression) (x : Actions) (es : Vec Elsif Global) (o : Option (Box Actions Global)) {ss rest : List Spot}
     → Reads (a.test_parts (expression_view kept_place test) ++ (a.actions_parts (actions_view kept_place x) ++ (a.elsifs_parts (elsifs_view kept_place es.items)
-    ++ (a.otherwise_parts (otherwise_of (option_map (actions_view kept_place) o)) ++ (plain k.End ∷ (plain k.If ∷ [])))))) ss rest
+    ++ (a.otherwise_parts (otherwise_of (option_map (λ b. actions_view kept_place b.value) o)) ++ (plain k.End ∷ (plain k.If ∷ [])))))) ss rest
     → Reads (choice_parts (roll-Choice (record { test = test; actions = x; elsifs = es; otherwise = o }))) ss rest
 choice_made test x es o b = respelled (ap layer_parts (sym (out-roll-Choice (record { test = test; actions = x; elsifs = es; otherwise = o })))) b where
   layer_parts : Choice-F Action Actions Block Choice Elsif Loop → List (Part ℕ)
   layer_parts c =
       a.test_parts (expression_view kept_place c.test) ++ (a.actions_parts (actions_view kept_place c.actions) ++ (a.elsifs_parts (elsifs_view kept_place c.elsifs.items)
-      ++ (a.otherwise_parts (otherwise_of (option_map (actions_view kept_place) c.otherwise)) ++ (plain k.End ∷ (plain k.If ∷ [])))))
+      ++ (a.otherwise_parts (otherwise_of (option_map (λ b. actions_view kept_place b.value) c.otherwise)) ++ (plain k.End ∷ (plain k.If ∷ [])))))
 
 pub begins_by : {x : Symbol} {kind : Kind} {ss rest : List Spot} {f : List Symbol} → At kind ss rest → move x kind ≡ takes f → Begins x ss
 begins_by {x} {kind} {ss} {rest} {f} l m = record { kind = kind; rest = rest; wanted = f; first = l; moves = m }

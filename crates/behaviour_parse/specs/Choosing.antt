@@ -21,4 +21,4 @@ head_parts x =
 abbrev pub choice_parts : Choice → List (Part ℕ)
 choice_parts x =
     test_parts (expression_view kept_place (out-Choice x).test) ++ (actions_parts (actions_view kept_place (out-Choice x).actions)
-    ++ (elsifs_parts (elsifs_view kept_place (out-Choice x).elsifs.items) ++ (otherwise_parts (otherwise_of (option_map (actions_view kept_place) (out-Choice x).otherwise)) ++ (plain k.End ∷ (plain k.If ∷ [])))))
+    ++ (elsifs_parts (elsifs_view kept_place (out-Choice x).elsifs.items) ++ (otherwise_parts (otherwise_of (option_map (λ b. actions_view kept_place b.value) (out-Choice x).otherwise)) ++ (plain k.End ∷ (plain k.If ∷ [])))))

@@ -17,6 +17,7 @@ use crate::expressions::expression;
 use aadl_grammar::{ParseFault, Parsed, Reader, identifier, reference};
 use aadl_tree::{
     Action, Actions, Block, Bound, Choice, Elsif, Expression, Identifier, Loop, Mark, Reference,
+    push_exact,
 };
 
 /// `"(" expression ")"`
@@ -207,7 +208,7 @@ fn elsifs(reader: &Reader<'_>, at: usize, room: usize) -> Parsed<Vec<Elsif>>
     while let Some(behind) = reader.take(rest, Mark::Elsif) {
         let (test, behind) = test(reader, behind, room)?;
         let (actions, behind) = actions(reader, behind, room)?;
-        found.push(Elsif { test, actions })?;
+        push_exact(&mut found, Elsif { test, actions })?;
         rest = behind;
     }
     Ok((found, rest))
@@ -215,15 +216,16 @@ fn elsifs(reader: &Reader<'_>, at: usize, room: usize) -> Parsed<Vec<Elsif>>
 
 /// `[ "else" actions ]`
 #[cycle(action)]
-fn otherwise(reader: &Reader<'_>, at: usize, room: usize) -> Parsed<Option<Actions>>
+fn otherwise(reader: &Reader<'_>, at: usize, room: usize) -> Parsed<Option<Box<Actions>>>
     ensures { Parses reader.now (Room room) (s.otherwise ∷ [])
-        (λ x. otherwise_parts (otherwise_of (option_map (actions_view kept_place) x))) at result }
+        (λ x. otherwise_parts (otherwise_of (option_map (λ b. actions_view kept_place b.value) x))) at result }
 {
     let Some(next) = reader.take(at, Mark::Else) else {
         return Ok((None, at));
     };
     let (found, end) = actions(reader, next, room)?;
-    Ok((Some(found), end))
+    let boxed = Box::new(reader.alloc, found)?;
+    Ok((Some(boxed), end))
 }
 
 /// `action { ";" action } [ ";" ]`
@@ -242,7 +244,7 @@ fn actions(reader: &Reader<'_>, at: usize, room: usize) -> Parsed<Actions>
             return Ok((actions, behind));
         }
         let (next, behind) = action(reader, behind, room)?;
-        others.push(next)?;
+        push_exact(&mut others, next)?;
         rest = behind;
     }
     let actions = Actions {
@@ -268,8 +270,9 @@ pub fn block(reader: &Reader<'_>, at: usize, room: usize) -> Parsed<Block>
     }
     let (found, next) = actions(reader, next, inner)?;
     let end = reader.expect(next, Mark::BraceClose)?;
+    let boxed = Box::new(reader.alloc, found)?;
     let block = Block {
-        actions: Some(found),
+        actions: Some(boxed),
     };
     Ok((block, end))
 }

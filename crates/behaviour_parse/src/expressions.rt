@@ -11,7 +11,7 @@ ghost use Rattle.behaviour_parse.specs.Joining.{Joins};
 use aadl_grammar::{ParseFault, Parsed, Reader};
 use aadl_tree::{
     Expression, Factor, LeadingSign, LogicOperator, Mark, MultiplyOperator, Primary, Relation,
-    RelationOperator, Sign, Sum, Term,
+    RelationOperator, Sign, Sum, Term, push_exact,
 };
 
 /// `[ "'" "fresh" ]`
@@ -109,7 +109,7 @@ fn term(reader: &Reader<'_>, at: usize, room: usize) -> Parsed<Term>
     let mut others = Vec::new(reader.alloc);
     while let Some((operator, behind)) = multiplying(reader, rest) {
         let (operand, behind) = factor(reader, behind, room)?;
-        others.push((operator, operand))?;
+        push_exact(&mut others, (operator, operand))?;
         rest = behind;
     }
     let term = Term {
@@ -129,7 +129,7 @@ fn terms(reader: &Reader<'_>, at: usize, room: usize) -> Parsed<(Term, Vec<(Sign
     let mut others = Vec::new(reader.alloc);
     while let Some((sign, behind)) = reader.sign(rest) {
         let (next, behind) = term(reader, behind, room)?;
-        others.push((sign, next))?;
+        push_exact(&mut others, (sign, next))?;
         rest = behind;
     }
     Ok(((first, others), rest))
@@ -195,9 +195,10 @@ fn relation(reader: &Reader<'_>, at: usize, room: usize) -> Parsed<Relation>
         return Ok((Relation { left, right: None }, next));
     };
     let (right, end) = sum(reader, behind, room)?;
+    let other = Box::new(reader.alloc, (operator, right))?;
     let relation = Relation {
         left,
-        right: Some((operator, right)),
+        right: Some(other),
     };
     Ok((relation, end))
 }
@@ -233,7 +234,7 @@ pub fn expression(reader: &Reader<'_>, at: usize, room: usize) -> Parsed<Express
     let mut others = Vec::new(reader.alloc);
     while let Some((operator, behind)) = joining(reader, rest) {
         let (next, behind) = relation(reader, behind, room)?;
-        others.push((operator, next))?;
+        push_exact(&mut others, (operator, next))?;
         rest = behind;
     }
     let expression = Expression {

@@ -1,17 +1,18 @@
 -- The views of structs, over their fields.
-use Rattle.std.proofs.Common.{◌≡◌, ℕ, rules}
+use Rattle.std.proofs.Common.{◌≡◌, ◌∙◌, ap, sym, ℕ, rules}
 use Rattle.std.specs.Prelude.{option_map}
 use Rattle.aadl_tree.specs.declared.expressions.Factor.{the_lemmas as expression_lemmas}
 use Rattle.aadl_tree.specs.declared.expressions.Factor.TheViews.{out-Term}
 use Rattle.aadl_tree.specs.declared.expressions.Term.{Term}
 use Rattle.aadl_tree.specs.declared.actions.Action.{the_lemmas as action_lemmas}
-use Rattle.aadl_tree.specs.declared.actions.Action.TheViews.{out-Actions, out-Block}
+use Rattle.aadl_tree.specs.declared.actions.Action.TheViews.{out-Actions, out-Block, roll-out-Block}
 use Rattle.aadl_tree.specs.declared.actions.Actions.{Actions}
 use Rattle.aadl_tree.specs.declared.actions.Block.{Block}
 use Rattle.aadl_tree.specs.Expressions.{term}
 use Rattle.aadl_tree.specs.Actions.{actions}
 use Rattle.aadl_tree.specs.ExpressionViews.{factor_view, factors_view, term_view}
 use Rattle.aadl_tree.specs.ActionViews.{action_view, actions_view, block_view, mores_view, block_of}
+use Rattle.aadl_tree.proofs.ActionViews.{view-block}
 
 pub view-out-term : {P : Type 0} (place : ℕ → P) (x : Term)
     → term_view place x ≡ term (factor_view place (out-Term x).first) (factors_view place (out-Term x).rest.items)
@@ -21,5 +22,5 @@ pub view-out-actions : {P : Type 0} (place : ℕ → P) (x : Actions)
     → actions_view place x ≡ actions (action_view place (out-Actions x).first) (mores_view place (out-Actions x).rest.items)
 view-out-actions place x = search (rules, action_lemmas)
 
-pub view-out-block : {P : Type 0} (place : ℕ → P) (x : Block) → block_view place x ≡ block_of (option_map (actions_view place) (out-Block x).actions)
-view-out-block place x = search (rules, action_lemmas)
+pub view-out-block : {P : Type 0} (place : ℕ → P) (x : Block) → block_view place x ≡ block_of (option_map (λ b. actions_view place b.value) (out-Block x).actions)
+view-out-block place x = ap (block_view place) (sym (roll-out-Block x)) ∙ view-block place (out-Block x).actions

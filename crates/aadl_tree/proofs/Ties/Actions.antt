@@ -1,5 +1,5 @@
 -- Actions.
-use Rattle.std.proofs.Common.{◌≡◌, ℕ, ◌∙◌, ap, ap₂, sym, subst, refl, List, [], ◌∷◌, map, Option, Some, None}
+use Rattle.std.proofs.Common.{◌≡◌, ℕ, ◌∙◌, ap, ap₂, sym, subst, refl, List, [], ◌∷◌, map, Option, Some, None, Box, Global}
 use Rattle.aadl_tree.specs.declared.actions.Action.{Action}
 use Rattle.aadl_tree.specs.declared.actions.Actions.{Actions}
 use Rattle.aadl_tree.specs.declared.actions.Block.{Block}
@@ -113,24 +113,24 @@ actions_by : {P Q : Type 0} (f : P → Q) (g : ℕ → P) (y : Actions-F (AActio
     → actions_to f (actions_step (seen_actions g (actions_layer f g y))) ≡ actions_step (seen_actions (λ n. f (g n)) (actions_layer f g y))
 actions_by f g y = ap₂ a.actions y.first.1 (mores_each f g y.rest.items)
 
-block_cases : {P Q : Type 0} (f : P → Q) (g : ℕ → P) (x : Option (AActions f g))
+block_cases : {P Q : Type 0} (f : P → Q) (g : ℕ → P) (x : Option (Box (AActions f g) Global))
     → (let y : Block-F (AAction f g) (AActions f g) (ABlock f g) (AChoice f g) (AElsif f g) (ALoop f g) = record { actions = x } in block_to f (block_step (seen_block g (block_layer f g y))) ≡ block_step (seen_block (λ n. f (g n)) (block_layer f g y)))
 block_cases f g None = refl
-block_cases f g (Some x) = ap a.block x.1
+block_cases f g (Some x) = ap a.block x.value.1
 
 block_by : {P Q : Type 0} (f : P → Q) (g : ℕ → P) (y : Block-F (AAction f g) (AActions f g) (ABlock f g) (AChoice f g) (AElsif f g) (ALoop f g))
     → block_to f (block_step (seen_block g (block_layer f g y))) ≡ block_step (seen_block (λ n. f (g n)) (block_layer f g y))
 block_by f g y = block_cases f g y.actions
 
-choice_cases : {P Q : Type 0} (f : P → Q) (g : ℕ → P) (y : Choice-F (AAction f g) (AActions f g) (ABlock f g) (AChoice f g) (AElsif f g) (ALoop f g)) (x : Option (AActions f g))
+choice_cases : {P Q : Type 0} (f : P → Q) (g : ℕ → P) (y : Choice-F (AAction f g) (AActions f g) (ABlock f g) (AChoice f g) (AElsif f g) (ALoop f g)) (x : Option (Box (AActions f g) Global))
     → (let z : Choice-F (AAction f g) (AActions f g) (ABlock f g) (AChoice f g) (AElsif f g) (ALoop f g) = record { test = y.test; actions = y.actions; elsifs = y.elsifs; otherwise = x } in
     action_to f (choice_step g (seen_choice g (choice_layer f g z))) ≡ choice_step (λ n. f (g n)) (seen_choice (λ n. f (g n)) (choice_layer f g z)))
 choice_cases {Q = Q} f g y None =
     ap₂ (λ (q : e.Expression Q) (r : a.Actions Q). a.choose q r (elsifs_to f (elsifs_of (map (elsif_view g) (map (λ u. u.0) y.elsifs.items)))) (a.no_otherwise)) (expression_tied f g y.test) y.actions.1
     ∙ ap₂ (a.choose (expression_view (λ n. f (g n)) y.test) (actions_view (λ n. f (g n)) y.actions.0)) (elsifs_each f g y.elsifs.items) (refl)
 choice_cases {Q = Q} f g y (Some x) =
-    ap₂ (λ (q : e.Expression Q) (r : a.Actions Q). a.choose q r (elsifs_to f (elsifs_of (map (elsif_view g) (map (λ u. u.0) y.elsifs.items)))) (a.otherwise (actions_to f (actions_view g x.0)))) (expression_tied f g y.test) y.actions.1
-    ∙ ap₂ (a.choose (expression_view (λ n. f (g n)) y.test) (actions_view (λ n. f (g n)) y.actions.0)) (elsifs_each f g y.elsifs.items) (ap a.otherwise x.1)
+    ap₂ (λ (q : e.Expression Q) (r : a.Actions Q). a.choose q r (elsifs_to f (elsifs_of (map (elsif_view g) (map (λ u. u.0) y.elsifs.items)))) (a.otherwise (actions_to f (actions_view g x.value.0)))) (expression_tied f g y.test) y.actions.1
+    ∙ ap₂ (a.choose (expression_view (λ n. f (g n)) y.test) (actions_view (λ n. f (g n)) y.actions.0)) (elsifs_each f g y.elsifs.items) (ap a.otherwise x.value.1)
 
 choice_by : {P Q : Type 0} (f : P → Q) (g : ℕ → P) (y : Choice-F (AAction f g) (AActions f g) (ABlock f g) (AChoice f g) (AElsif f g) (ALoop f g))
     → action_to f (choice_step g (seen_choice g (choice_layer f g y))) ≡ choice_step (λ n. f (g n)) (seen_choice (λ n. f (g n)) (choice_layer f g y))

@@ -1,5 +1,5 @@
 -- Expressions.
-use Rattle.std.proofs.Common.{◌≡◌, ℕ, ◌∙◌, ap, ap₂, sym, subst, refl, List, [], ◌∷◌, map, Option, Some, None, option_map}
+use Rattle.std.proofs.Common.{◌≡◌, ℕ, ◌∙◌, ap, ap₂, sym, subst, refl, List, [], ◌∷◌, map, Option, Some, None, option_map, Box, Global}
 use Rattle.aadl_tree.specs.declared.expressions.Sign.{Sign}
 use Rattle.aadl_tree.specs.declared.expressions.LogicOperator.{LogicOperator}
 use Rattle.aadl_tree.specs.declared.expressions.RelationOperator.{RelationOperator}
@@ -130,11 +130,11 @@ sum_by f g y =
     (perhaps_tied (leading_to f) (leading_view g) (leading_view (λ n. f (g n))) (λ x. refl) y.sign)
     ∙ ap₂ (e.total (option_map (leading_view (λ n. f (g n))) y.sign)) y.first.1 (terms_each f g y.rest.items)
 
-relation_cases : {P Q : Type 0} (f : P → Q) (g : ℕ → P) (left : ASum f g) (right : Option (RelationOperator × ASum f g))
+relation_cases : {P Q : Type 0} (f : P → Q) (g : ℕ → P) (left : ASum f g) (right : Option (Box (RelationOperator × ASum f g) Global))
     → (let y : Relation-F (AFactor f g) (APrimary f g) (AExpression f g) (ARelation f g) (ASum f g) (ATerm f g) = record { left = left; right = right } in
     relation_to f (relation_step (seen_relation g (relation_layer f g y))) ≡ relation_step (seen_relation (λ n. f (g n)) (relation_layer f g y)))
 relation_cases f g left None = ap e.single left.1
-relation_cases f g left (Some r) = ap₂ (λ a b. e.compared a r.0 b) left.1 r.1.1
+relation_cases f g left (Some r) = ap₂ (λ a b. e.compared a r.value.0 b) left.1 r.value.1.1
 
 relation_by : {P Q : Type 0} (f : P → Q) (g : ℕ → P) (y : Relation-F (AFactor f g) (APrimary f g) (AExpression f g) (ARelation f g) (ASum f g) (ATerm f g))
     → relation_to f (relation_step (seen_relation g (relation_layer f g y))) ≡ relation_step (seen_relation (λ n. f (g n)) (relation_layer f g y))

@@ -56,9 +56,10 @@ fn same_mores(left: &[Action], right: &[Action]) -> bool
 }
 
 #[cycle(same_action)]
-fn same_optional(left: &Option<Actions>, right: &Option<Actions>) -> bool
+fn same_optional(left: &Option<Box<Actions>>, right: &Option<Box<Actions>>) -> bool
     ensures { IsTrue result
-        ↔ (option_map (actions_view no_place) left.now ≡ option_map (actions_view no_place) right.now) }
+        ↔ (option_map (λ b. actions_view no_place b.value) left.now
+        ≡ option_map (λ b. actions_view no_place b.value) right.now) }
 {
     match (left, right) {
         (None, None) => true,

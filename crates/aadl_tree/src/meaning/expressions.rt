@@ -55,9 +55,7 @@ fn same_relation(left: &Relation, right: &Relation) -> bool
     }
     match (&left.right, &right.right) {
         (None, None) => true,
-        (Some((operator, sum)), Some((other_operator, other_sum))) => {
-            *operator == *other_operator && same_sum(sum, other_sum)
-        }
+        (Some(left), Some(right)) => left.0 == right.0 && same_sum(&left.1, &right.1),
         _ => false,
     }
 }

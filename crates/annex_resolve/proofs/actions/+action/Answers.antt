@@ -50,14 +50,16 @@ pub resolve_some-returns-in-None : goal.resolve_some-returns-in-None
 resolve_some-returns-in-None t c = no_actions c.args.scope.now c.args.around c.args.actions.now c.new.result.items c.args.found.now c.in-None.is c.new.ensures.items
 
 pub resolve_some-returns-in-Some : goal.resolve_some-returns-in-Some
-resolve_some-returns-in-Some t c = some_actions c.args.scope.now c.args.around c.args.actions.now c.in-Some.actions c.resolve_actions.result _ _ c.in-Some.is c.resolve_actions.ensures
+resolve_some-returns-in-Some t c =
+    let same = sym c.deref.ensures in
+    some_actions c.args.scope.now c.args.around c.args.actions.now c.in-Some.actions c.resolve_actions.result _ _ c.in-Some.is (rw same c.resolve_actions.ensures)
 
 pub resolve_actions-loop-action-init : goal.resolve_actions-loop-action-init
-resolve_actions-loop-action-init t c = one_action c.args.scope.now c.args.around _ c.in_ok-resolve_action.field-0 _ _ _ _ c.in_ok-resolve_action.ensures c.new-acts.ensures.items c.in_ok-push.ensures.items
+resolve_actions-loop-action-init t c = one_action c.args.scope.now c.args.around _ c.in_ok-first.first _ _ _ _ c.in_ok-first.ensures c.new-acts.ensures.items c.in_ok-push_exact.ensures
 
 pub resolve_actions-loop-action-preserved : goal.resolve_actions-loop-action-preserved
 resolve_actions-loop-action-preserved t c =
-    next_action c.args.scope.now c.args.around _ _ _ _ c.in_ok-resolve_action-2.field-0 _ _ _ _ _ c.loop-action-test.true c.action-item.is c.loop-action.invariant c.in_ok-resolve_action-2.ensures c.in_ok-push-2.ensures.items
+    next_action c.args.scope.now c.args.around _ _ _ _ c.in_ok-act.act _ _ _ _ _ c.loop-action-test.true c.action-item.is c.loop-action.invariant c.in_ok-act.ensures c.in_ok-push_exact-2.ensures
 
 pub resolve_actions-returns : goal.resolve_actions-returns
 resolve_actions-returns t c =
@@ -73,11 +75,11 @@ resolve_branch-returns t c =
 
 pub resolve_choice-loop-elsif-init : goal.resolve_choice-loop-elsif-init
 resolve_choice-loop-elsif-init t c =
-    one_branch c.args.scope.now c.args.around _ _ c.in_ok-resolve_branch.field-0 _ _ _ _ c.in_ok-resolve_branch.ensures c.new-branches.ensures.items c.in_ok-push.ensures.items
+    one_branch c.args.scope.now c.args.around _ _ c.in_ok-first.first _ _ _ _ c.in_ok-first.ensures c.new-branches.ensures.items c.in_ok-push_exact.ensures
 
 pub resolve_choice-loop-elsif-preserved : goal.resolve_choice-loop-elsif-preserved
 resolve_choice-loop-elsif-preserved t c =
-    next_branch c.args.scope.now c.args.around _ _ _ _ _ c.in_ok-resolve_branch-2.field-0 _ _ _ _ _ c.loop-elsif-test.true c.elsif-item.is c.loop-elsif.invariant c.in_ok-resolve_branch-2.ensures c.in_ok-push-2.ensures.items
+    next_branch c.args.scope.now c.args.around _ _ _ _ _ c.in_ok-branch.branch _ _ _ _ _ c.loop-elsif-test.true c.elsif-item.is c.loop-elsif.invariant c.in_ok-branch.ensures c.in_ok-push_exact-2.ensures
 
 pub resolve_choice-returns : goal.resolve_choice-returns
 resolve_choice-returns t c =
@@ -85,7 +87,7 @@ resolve_choice-returns t c =
     let x = out-Choice c.args.choice.now in
     chosen c.args.scope.now c.args.around _ _ _ c.deref-elsif-items.result.now x.otherwise _ _ _ _ _ _
     (view-out-choice kept_place c.args.choice.now
-    ∙ ap (λ es. choose (expression_view kept_place x.test) (actions_view kept_place x.actions) (elsifs_view kept_place es) (listed_otherwise (option_map (actions_view kept_place) x.otherwise))) (sym c.deref-elsif-items.ensures.value))
+    ∙ ap (λ es. choose (expression_view kept_place x.test) (actions_view kept_place x.actions) (elsifs_view kept_place es) (listed_otherwise (option_map (λ b. actions_view kept_place b.value) x.otherwise))) (sym c.deref-elsif-items.ensures.value))
     (rw all at c.loop-elsif.invariant) c.in_ok-otherwise.ensures (action_of-If c.loop-elsif.branches c.in_ok-otherwise.otherwise)
 
 -- ---- loops

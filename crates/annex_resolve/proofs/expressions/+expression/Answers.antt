@@ -36,7 +36,7 @@ resolve_relations-loop-operator-init t c = relations_none c.args.scope.now c.new
 pub resolve_relations-loop-operator-preserved : goal.resolve_relations-loop-operator-preserved
 resolve_relations-loop-operator-preserved t c =
     relations_next _ _ _ _ c.logic_op.result c.at.result c.in_ok-typed.typed _ _ _ _ _ _ c.loop-operator-test.true c.loop-operator-item.is c.loop-operator.invariant c.in_ok-typed.ensures
-    c.at.ensures c.in_ok-expect.ensures c.logic_op.ensures c.in_ok-push.ensures.items
+    c.at.ensures c.in_ok-expect.ensures c.logic_op.ensures c.in_ok-push_exact.ensures
 
 -- ---- relations
 pub resolve_relation-returns-in-None : goal.resolve_relation-returns-in-None
@@ -49,9 +49,12 @@ pub resolve_relation-returns-in_ok-expect_sides-in-Some : goal.resolve_relation-
 resolve_relation-returns-in_ok-expect_sides-in-Some t c =
     let view = view-out-relation kept_place c.args.relation.now in
     let right = c.in-Some.is in
-    rw (view, right) (relation_compared c.args.scope.now (sum_view kept_place (out-Relation c.args.relation.now).left) (sum_view kept_place c.in-Some.sum) c.in-Some.operator c.at.result c.at-in-Some.result
-    c.in_ok-left.left c.in_ok-right-in-Some.right c.compared.result _ _ _ _ c.in_ok-left.ensures c.in_ok-right-in-Some.ensures c.at.ensures c.at-in-Some.ensures c.in_ok-expect_sides-in-Some.ensures
-    c.compared.ensures.tree c.compared.ensures.kind)
+    let same = sym c.deref-in-Some.ensures in
+    let other = c.deref.ensures ∙ same in
+    let x = c.deref-in-Some.result.now in
+    rw (view, right, same) (relation_compared c.args.scope.now (sum_view kept_place (out-Relation c.args.relation.now).left) (sum_view kept_place x.1) x.0 c.at.result c.at-in-Some.result
+    c.in_ok-left.left c.in_ok-right-in-Some.right c.compared.result _ _ _ _ c.in_ok-left.ensures c.in_ok-right-in-Some.ensures c.at.ensures c.at-in-Some.ensures (rw other at c.in_ok-expect_sides-in-Some.ensures)
+    (rw other at c.compared.ensures.tree) c.compared.ensures.kind)
 
 -- ---- sums
 pub resolve_sum-returns-then-is_empty : goal.resolve_sum-returns-then-is_empty
@@ -79,7 +82,7 @@ resolve_terms-loop-sign-init t c = terms_none c.args.scope.now c.new-operands.re
 pub resolve_terms-loop-sign-preserved : goal.resolve_terms-loop-sign-preserved
 resolve_terms-loop-sign-preserved t c =
     terms_next _ _ _ _ c.sign_op.result c.at.result c.in_ok-typed.typed _ _ _ _ _ _ c.loop-sign-test.true c.loop-sign-item.is c.loop-sign.invariant c.in_ok-typed.ensures
-    c.at.ensures c.in_ok-expect.ensures c.sign_op.ensures c.in_ok-push.ensures.items
+    c.at.ensures c.in_ok-expect.ensures c.sign_op.ensures c.in_ok-push_exact.ensures
 
 pub resolve_term-returns-then-is_empty : goal.resolve_term-returns-then-is_empty
 resolve_term-returns-then-is_empty t c =
@@ -101,7 +104,7 @@ resolve_factors-loop-operator-init t c = factors_none c.args.scope.now c.new-ope
 pub resolve_factors-loop-operator-preserved : goal.resolve_factors-loop-operator-preserved
 resolve_factors-loop-operator-preserved t c =
     factors_next _ _ _ _ c.multiply_op.result c.at.result c.in_ok-typed.typed _ _ _ _ _ _ c.loop-operator-test.true c.loop-operator-item.is c.loop-operator.invariant c.in_ok-typed.ensures
-    c.at.ensures c.in_ok-expect.ensures c.multiply_op.ensures c.in_ok-push.ensures.items
+    c.at.ensures c.in_ok-expect.ensures c.multiply_op.ensures c.in_ok-push_exact.ensures
 
 -- ---- factors
 pub resolve_factor-returns-in_ok-new-in-Abs : goal.resolve_factor-returns-in_ok-new-in-Abs

@@ -4,8 +4,8 @@ use Rattle.aadl_grammar.proofs.Rows.{takes_row, deep_row, omits_unless, refuses_
 use Rattle.aadl_grammar.proofs.Written.{nothing, then, marked, respelled, shorter, placed_at}
 use Rattle.std.specs.Prelude.{Some, None}
 use Rattle.std.proofs.lemmas.List.{append-nil}
-use Rattle.aadl_tree.specs.Actions.{action_parts, actions_parts, mores_parts, block_parts}
-use Rattle.aadl_tree.specs.ActionViews.{action_view, mores_view, block_view, choice_view, loop_view}
+use Rattle.aadl_tree.specs.Actions.{otherwise, block, action_parts, actions_parts, mores_parts, otherwise_parts, block_parts}
+use Rattle.aadl_tree.specs.ActionViews.{action_view, actions_view, mores_view, block_view, choice_view, loop_view}
 use Rattle.aadl_tree.specs.Maps.{kept_place}
 use Rattle.aadl_tree.proofs.ActionViews.{view-If, view-For, view-actions, view-block}
 use Rattle.aadl_grammar.specs.Table.{rows}
@@ -174,7 +174,7 @@ elsifs-loop-behind-preserved t c = record {
       ∙ takes_row outer c.args.reader.now.end s.elsifs (below) c.in-Some.ensures refl (omega arith)
       ∙ c.in_ok-test.ensures.runs outer (s.actions ∷ s.elsifs ∷ below) (omega arith)
       ∙ c.in_ok-actions.ensures.runs outer (s.elsifs ∷ below) (omega arith);
-  reads = elsifs_push c.loop-behind.found.items c.push.new.self.items c.in_ok-test.test c.in_ok-actions.actions c.in_ok-push.ensures.items c.loop-behind.invariant.reads (marked c.in-Some.ensures (then c.in_ok-test.ensures.reads c.in_ok-actions.ensures.reads));
+  reads = elsifs_push c.loop-behind.found.items c.push_exact.new.list.items c.in_ok-test.test c.in_ok-actions.actions c.in_ok-push_exact.ensures c.loop-behind.invariant.reads (marked c.in-Some.ensures (then c.in_ok-test.ensures.reads c.in_ok-actions.ensures.reads));
 }
 
 pub elsifs-loop-behind-smaller : goal.elsifs-loop-behind-smaller
@@ -208,7 +208,7 @@ unfolding move depth
 otherwise-returns t c = record {
   runs = λ outer below h. takes_row outer c.args.reader.now.end s.otherwise (below) c.in-Some.ensures refl (omega arith)
       ∙ c.in_ok-found.ensures.runs outer (below) (omega arith);
-  reads = marked c.in-Some.ensures c.in_ok-found.ensures.reads;
+  reads = respelled (ap (λ a. otherwise_parts (otherwise (actions_view kept_place a))) (sym c.in_ok-boxed.ensures.ok)) (marked c.in-Some.ensures c.in_ok-found.ensures.reads);
 }
 
 pub actions-returns-in_err-first : goal.actions-returns-in_err-first
@@ -253,7 +253,7 @@ actions-loop-behind-preserved t c = record {
       ∙ begins_from outer c.args.reader.now.end below (rw c.if-not-begins_action.false at c.begins_action.ensures)
       ∙ begins_as outer c.args.reader.now.end s.actions s.action (s.mores ∷ []) (below) (here c.args.reader.now c.in-Some.behind) refl refl refl
       ∙ c.in_ok-next.ensures.runs outer (s.mores ∷ below) (omega arith);
-  reads = mores_push (action_parts (action_view kept_place c.loop-behind.first-1)) c.loop-behind.others.items c.push.new.self.items c.in_ok-next.next c.in_ok-push.ensures.items c.loop-behind.invariant.reads (marked c.in-Some.ensures c.in_ok-next.ensures.reads);
+  reads = mores_push (action_parts (action_view kept_place c.loop-behind.first-1)) c.loop-behind.others.items c.push_exact.new.list.items c.in_ok-next.next c.in_ok-push_exact.ensures c.loop-behind.invariant.reads (marked c.in-Some.ensures c.in_ok-next.ensures.reads);
 }
 
 pub actions-loop-behind-smaller : goal.actions-loop-behind-smaller
@@ -316,5 +316,5 @@ block-returns t c = record {
       ∙ before_closer outer c.args.reader.now.end s.body s.actions [] [] k.BraceClose below (here c.args.reader.now c.in-Some.next) refl refl refl tt c.in_default-take.ensures
       ∙ c.in_ok-found.ensures.runs outer (s.only k.BraceClose ∷ below) (omega (arith, c.in_ok-inner.ensures))
       ∙ c.in_ok-end.ensures.runs outer (below) (omega (arith, c.in_ok-inner.ensures));
-  reads = respelled (ap block_parts (sym (view-block kept_place (Some c.in_ok-found.found)))) (marked c.in-Some.ensures (then c.in_ok-found.ensures.reads (marked c.in_ok-end.ensures.reads nothing)));
+  reads = respelled (ap (λ a. block_parts (block a)) (ap (actions_view kept_place) (sym c.in_ok-boxed.ensures.ok)) ∙ ap block_parts (sym (view-block kept_place (Some c.in_ok-boxed.boxed)))) (marked c.in-Some.ensures (then c.in_ok-found.ensures.reads (marked c.in_ok-end.ensures.reads nothing)));
 }

@@ -6,8 +6,8 @@ use Rattle.aadl_grammar.proofs.Rows.{takes_row, deep_row, omits_unless, refuses_
 use Rattle.aadl_grammar.proofs.Written.{nothing, then, marked, named, respelled, shorter, placed_at}
 use Rattle.aadl_tree.specs.Parts.{token}
 use Rattle.aadl_tree.specs.Kinds.{whole}
-use Rattle.aadl_tree.specs.Expressions.{group, primary_parts, factor_parts, factors_parts, term_parts, terms_parts, sum_parts, relation_parts, relations_parts, expression_parts}
-use Rattle.aadl_tree.specs.ExpressionViews.{factor_view, factors_view, term_view, terms_view, relation_view, relations_view, expression_view}
+use Rattle.aadl_tree.specs.Expressions.{group, compared, primary_parts, factor_parts, factors_parts, term_parts, terms_parts, sum_parts, relation_parts, relations_parts, expression_parts}
+use Rattle.aadl_tree.specs.ExpressionViews.{factor_view, factors_view, term_view, terms_view, sum_view, relation_view, relations_view, expression_view}
 use Rattle.aadl_tree.specs.Maps.{kept_place}
 use Rattle.aadl_tree.proofs.ExpressionViews.{view-Whole, view-Truth, view-Named, view-Group, view-Abs, view-Not, view-Plain, view-term, view-sum, view-relation, view-expression}
 use Rattle.aadl_grammar.specs.Table.{on}
@@ -168,7 +168,7 @@ term-loop-operator-preserved t c = record {
   runs = λ outer below h. c.loop-operator.invariant.runs outer below (omega arith)
       ∙ takes_row outer c.args.reader.now.end s.factors (below) c.in-Some.ensures (multiplies c.in-Some.operator) (omega arith)
       ∙ c.in_ok-operand.ensures.runs outer (s.factors ∷ below) (omega arith);
-  reads = factors_push (factor_parts (factor_view kept_place c.loop-operator.first-1)) c.loop-operator.others.items c.push.new.self.items c.in-Some.operator c.in_ok-operand.operand c.in_ok-push.ensures.items c.loop-operator.invariant.reads (marked c.in-Some.ensures c.in_ok-operand.ensures.reads);
+  reads = factors_push (factor_parts (factor_view kept_place c.loop-operator.first-1)) c.loop-operator.others.items c.push_exact.new.list.items c.in-Some.operator c.in_ok-operand.operand c.in_ok-push_exact.ensures c.loop-operator.invariant.reads (marked c.in-Some.ensures c.in_ok-operand.ensures.reads);
 }
 
 pub term-loop-operator-smaller : goal.term-loop-operator-smaller
@@ -211,7 +211,7 @@ terms-loop-sign-preserved t c = record {
   runs = λ outer below h. c.loop-sign.invariant.runs outer below (omega arith)
       ∙ takes_row outer c.args.reader.now.end s.terms (below) c.in-Some.ensures (sign_terms c.in-Some.sign) (omega arith)
       ∙ c.in_ok-next.ensures.runs outer (s.terms ∷ below) (omega arith);
-  reads = terms_push (term_parts (term_view kept_place c.in_ok-first.first)) c.loop-sign.others.items c.push.new.self.items c.in-Some.sign c.in_ok-next.next c.in_ok-push.ensures.items c.loop-sign.invariant.reads (marked c.in-Some.ensures c.in_ok-next.ensures.reads);
+  reads = terms_push (term_parts (term_view kept_place c.in_ok-first.first)) c.loop-sign.others.items c.push_exact.new.list.items c.in-Some.sign c.in_ok-next.next c.in_ok-push_exact.ensures c.loop-sign.invariant.reads (marked c.in-Some.ensures c.in_ok-next.ensures.reads);
 }
 
 pub terms-loop-sign-smaller : goal.terms-loop-sign-smaller
@@ -288,7 +288,7 @@ relation-returns t c = record {
       ∙ c.in_ok-left.ensures.runs outer (s.compared ∷ below) (omega arith)
       ∙ takes_row outer c.args.reader.now.end s.compared (below) c.in-Some.ensures (compares c.in-Some.operator) (omega arith)
       ∙ c.in_ok-right.ensures.runs outer (below) (omega arith);
-  reads = respelled (ap relation_parts (sym (view-relation kept_place c.in_ok-left.left (Some (c.in-Some.operator, c.in_ok-right.right))))) (then c.in_ok-left.ensures.reads (marked c.in-Some.ensures c.in_ok-right.ensures.reads));
+  reads = respelled (ap (λ p. relation_parts (compared (sum_view kept_place c.in_ok-left.left) p.0 (sum_view kept_place p.1))) (sym c.in_ok-other.ensures.ok) ∙ ap relation_parts (sym (view-relation kept_place c.in_ok-left.left (Some c.in_ok-other.other)))) (then c.in_ok-left.ensures.reads (marked c.in-Some.ensures c.in_ok-right.ensures.reads));
 }
 
 pub expression-returns-in_err-first : goal.expression-returns-in_err-first
@@ -320,7 +320,7 @@ expression-loop-operator-preserved t c = record {
   runs = λ outer below h. c.loop-operator.invariant.runs outer below (omega arith)
       ∙ joined c.in-Some.operator outer c.args.reader.now.end below (here c.args.reader.now c.loop-operator.rest) (here c.args.reader.now c.in-Some.behind) (omega arith) c.in-Some.ensures
       ∙ c.in_ok-next.ensures.runs outer (s.relations ∷ below) (omega arith);
-  reads = relations_push (relation_parts (relation_view kept_place c.in_ok-first.first)) c.loop-operator.others.items c.push.new.self.items c.in-Some.operator c.in_ok-next.next c.in_ok-push.ensures.items c.loop-operator.invariant.reads (joined_reads c.in-Some.operator c.in-Some.ensures c.in_ok-next.ensures.reads);
+  reads = relations_push (relation_parts (relation_view kept_place c.in_ok-first.first)) c.loop-operator.others.items c.push_exact.new.list.items c.in-Some.operator c.in_ok-next.next c.in_ok-push_exact.ensures c.loop-operator.invariant.reads (joined_reads c.in-Some.operator c.in-Some.ensures c.in_ok-next.ensures.reads);
 }
 
 pub expression-loop-operator-smaller : goal.expression-loop-operator-smaller

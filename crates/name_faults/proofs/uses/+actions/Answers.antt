@@ -41,7 +41,7 @@ check_choice-returns-in-Some t c =
     let some = c.in-Some.is in
     closed c.check_actions-in-Some.result c.check_actions-in-Some.new.finder _ _
     (rw (view, some, found_append, found_append, found_append)
-    (cc (c.in_ok-check_expression.ensures, c.in_ok-check_actions.ensures, c.deref-elsif-items.ensures.value)))
+    (cc (c.in_ok-check_expression.ensures, c.in_ok-check_actions.ensures, c.deref-elsif-items.ensures.value, c.deref.ensures)))
     c.check_actions-in-Some.ensures
 
 pub check_choice-returns-in-None : goal.check_choice-returns-in-None

@@ -65,7 +65,7 @@ pub check_relation-returns-in-Some : goal.check_relation-returns-in-Some
 check_relation-returns-in-Some t c =
     let view = view-out-relation kept_place c.args.relation.now in
     let right = c.in-Some.is in
-    closed c.check_sum-in-Some.result c.check_sum-in-Some.new.finder _ _ (rw (view, right, found_append) (cc (c.in_ok-check_sum.ensures)))
+    closed c.check_sum-in-Some.result c.check_sum-in-Some.new.finder _ _ (rw (view, right, found_append) (cc (c.in_ok-check_sum.ensures, c.deref.ensures)))
     c.check_sum-in-Some.ensures
 
 pub check_relation-returns-in-None : goal.check_relation-returns-in-None
