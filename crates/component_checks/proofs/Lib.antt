@@ -3,3 +3,5 @@ pub mod Hours
 pub mod Added
 pub mod Singles
 pub mod Numbered
+pub mod Pieces
+pub mod Saying

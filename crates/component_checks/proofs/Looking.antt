@@ -1,10 +1,7 @@
 -- Associations of a name, and properties in several lists.
-use Rattle.std.proofs.Common.{◌≡◌, ◌∙◌, ℕ, Bool, true, false, cond, ◌&&◌, ◌++◌, List, [], ◌∷◌, ◌+◌, ◌<◌, length, take, get_or, reverse, append_assoc, Option, Some, None, refl, sym, ap, map, rules, find}
-use Rattle.std.specs.Prelude.{flat_map}
+use Rattle.std.proofs.Common.{◌≡◌, ◌∙◌, ℕ, Bool, true, false, cond, ◌&&◌, ◌++◌, List, [], ◌∷◌, Option, Some, None, refl, sym, ap, map, rules, find}
 use Rattle.std.specs.Option.{option_or}
 use Rattle.std.proofs.lemmas.Bool.{false≢true}
-use Rattle.std.proofs.lemmas.List.{reverse-append}
-use Rattle.std.proofs.lemmas.Option.{get_or_from_slice_get, slice_get-get_or}
 use Rattle.aadl_tree.specs.declared.values.Value.{the_lemmas as value_lemmas}
 use Rattle.aadl_tree.specs.declared.values.Value.TheViews.{out-Association}
 use Rattle.aadl_tree.specs.declared.values.Association.{Association as source}
@@ -13,10 +10,7 @@ use Rattle.aadl_tree.specs.NameViews.{name_view, path_view}
 use Rattle.aadl_tree.specs.ValueViews.{value_view, association_view}
 use Rattle.aadl_names.specs.declared.holder.Property.{Property}
 use Rattle.aadl_names.specs.Properties.{counts, is_named, name_of, association_named}
-use Rattle.aadl_tree.specs.Declarations.{PackageTree}
-use Rattle.aadl_uses.specs.declared.places.SubAt.{SubAt}
-use Rattle.annex_resolve.proofs.Reading.{take_next}
-use Rattle.component_checks.specs.Lists.{first_in, lists_at, lists_along, root_lists}
+use Rattle.component_checks.specs.Lists.{first_in}
 
 pub view_out_association : {P : Type 0} (place : ℕ → P) (x : source)
     → association_view place x
@@ -53,19 +47,3 @@ first_of_one p xs = or_none (association_named xs (name_of p))
 pub first-append : (p : Property) (a b : List (Associations ℕ)) → first_in p (a ++ b) ≡ option_or (first_in p a) (first_in p b)
 first-append p [] b = refl
 first-append p (x ∷ a) b = ap (option_or (association_named x (name_of p))) (first-append p a b) ∙ sym (or_or (association_named x (name_of p)) (first_in p a) (first_in p b))
-
--- one place further in
-pub along_next : (p : Property) (tree : PackageTree ℕ) (root : ℕ) (subs : List SubAt) (i : ℕ) (x : SubAt) → i < length subs → x ≡ get_or subs i x
-    → option_or (first_in p (lists_at tree x)) (first_in p (lists_along tree root (take i subs))) ≡ first_in p (lists_along tree root (take (i + 1) subs))
-along_next p tree root subs i x within is =
-    let front = reverse (take i subs) in
-    let turned : reverse (take (i + 1) subs) ≡ x ∷ front = ap reverse (take_next subs i x within is) ∙ reverse-append (take i subs) (x ∷ []) in
-    sym (ap (λ l. first_in p (flat_map (lists_at tree) l ++ root_lists tree root)) turned
-    ∙ ap (first_in p) (append_assoc (lists_at tree x) (flat_map (lists_at tree) front) (root_lists tree root))
-    ∙ first-append p (lists_at tree x) (flat_map (lists_at tree) front ++ root_lists tree root))
-
-pub along_turn : (p : Property) (tree : PackageTree ℕ) (root : ℕ) (subs : List SubAt) (i : ℕ) (none : SubAt) → i < length subs
-    → option_or (first_in p (lists_at tree (get_or subs i none))) (first_in p (lists_along tree root (take i subs))) ≡ first_in p (lists_along tree root (take (i + 1) subs))
-along_turn p tree root subs i none within =
-    let x = get_or subs i none in
-    along_next p tree root subs i x within (sym (get_or_from_slice_get subs i x x (slice_get-get_or subs i none within)))

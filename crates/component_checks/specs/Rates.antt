@@ -12,7 +12,7 @@ use Rattle.pals_base.specs.Bound.{least_period}
 use Rattle.pals_base.specs.Allowed.{divides_or_divided, is_allowed, suits_kind}
 use Rattle.annex_resolve.specs.declared.violation.Violation.{Violation}
 use Rattle.annex_resolve.specs.Scopes.{finding, found_if, has_some}
-use Rattle.component_checks.specs.declared.rules.TheConstants.{NOT_DIVISOR, RATE_TOO_HIGH, RATES_DONT_DIVIDE, NO_ADAPTOR, STRAY_ADAPTOR, ADAPTOR_OUT_OF_RANGE, PERIOD_TOO_SHORT}
+use Rattle.annex_resolve.specs.declared.violation.TheConstants.{NOT_DIVISOR, RATE_TOO_HIGH, RATES_DONT_DIVIDE, NO_ADAPTOR, STRAY_ADAPTOR, ADAPTOR_OUT_OF_RANGE, PERIOD_TOO_SHORT}
 use Rattle.component_checks.specs.Numbers.{divides}
 
 abbrev pub and_number : List ℕ → ℕ → List ℕ

@@ -13,7 +13,7 @@ use Rattle.annex_resolve.specs.declared.violation.Violation.{Violation}
 use Rattle.annex_resolve.specs.Scopes.{found_if}
 use Rattle.component_checks.specs.Numbers.{within_hour, rate_of}
 use Rattle.component_checks.specs.Rates.{period_findings}
-use Rattle.component_checks.specs.declared.rules.TheConstants.{NOT_PERIODIC}
+use Rattle.annex_resolve.specs.declared.violation.TheConstants.{NOT_PERIODIC}
 use Rattle.component_checks.specs.Lists.{lists_along, root_lists, sub_lists, innermost, first_in}
 use Rattle.component_checks.specs.Times.{time_at}
 

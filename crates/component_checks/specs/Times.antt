@@ -9,7 +9,7 @@ use Rattle.aadl_names.specs.declared.holder.Holder.{Holder}
 use Rattle.aadl_names.specs.Properties.{association_at, association_value, listed, counts, is_named, name_of, recognised, time_of, range_of}
 use Rattle.annex_resolve.specs.declared.violation.Violation.{Violation}
 use Rattle.annex_resolve.specs.Scopes.{found_if}
-use Rattle.component_checks.specs.declared.rules.TheConstants.{NUMBER_TOO_BIG}
+use Rattle.annex_resolve.specs.declared.violation.TheConstants.{NUMBER_TOO_BIG}
 
 -- what an association gives, if there is one
 abbrev pub time_at : Option (Association ℕ) → Option ℕ

@@ -4,16 +4,24 @@
 #![tactic(auto)]
 
 pub mod adaptors;
+pub mod carried;
+pub mod carried_lists;
 pub mod lists;
 pub mod numbers;
+pub mod properties;
 pub mod rates;
 pub mod roots;
-pub mod rules;
+pub mod spellings;
 pub mod texts;
 pub mod threads;
+pub mod timed;
+pub mod timed_lists;
 pub mod times;
 pub mod types;
+pub mod words;
 
 pub use adaptors::{Carrier, adaptor_named};
+pub use carried::Carried;
 pub use numbers::{gamma_by, range_of, rate_of, skew_of};
+pub use properties::Properties;
 pub use rates::{add_bound_findings, add_period_findings};

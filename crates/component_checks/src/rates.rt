@@ -7,8 +7,8 @@ ghost use Rattle.bound_checker.specs.Limits.{IsWithinHour};
 ghost use Rattle.component_checks.specs.Rates.{and_number, period_findings, bound_findings};
 
 use crate::numbers::divides;
-use crate::rules::{NOT_DIVISOR, PERIOD_TOO_SHORT, RATE_TOO_HIGH};
 use annex_resolve::Violation;
+use annex_resolve::violation::{NOT_DIVISOR, PERIOD_TOO_SHORT, RATE_TOO_HIGH};
 use bound_checker::least_period;
 use pals_base::limits::RATE;
 use pals_base::{Gamma, Items, Nanos, NoMemory, Text};

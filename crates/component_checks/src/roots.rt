@@ -1,19 +1,22 @@
 //! What is wrong with the root.
 ghost use Rattle.std.specs.Prelude.{◌≡◌, ◌≤◌, ◌++◌, IfOk, OnOk, option_map, option_copied};
+ghost use Rattle.std.specs.Option.{option_and_then};
 ghost use Rattle.pals_base.specs.declared.limits.TheConstants.{RATE};
 ghost use Rattle.aadl_tree.specs.Maps.{kept_place};
 ghost use Rattle.aadl_tree.specs.PackageViews.{placed};
 ghost use Rattle.aadl_tree.specs.ValueViews.{association_view};
+ghost use Rattle.component_checks.specs.Numbers.{within_hour};
 ghost use Rattle.component_checks.specs.Roots as spec;
+ghost use Rattle.component_checks.specs.Times.{time_at};
 
 use crate::lists::{implementation_at, root_property};
-use crate::rules::{GAMMA_MISSING, GAMMA_ORDER, NO_PERIOD};
-use crate::threads::{add_named, root_period};
+use crate::threads::add_named;
 use crate::times::{range_within, shown, time_within};
 use crate::{add_bound_findings, gamma_by};
 use aadl_names::{Names, Property};
 use aadl_tree::{Association, PackageTree};
 use annex_resolve::Violation;
+use annex_resolve::violation::{GAMMA_MISSING, GAMMA_ORDER, NO_PERIOD};
 use pals_base::{Gamma, Items, Nanos, NoMemory};
 use std::alloc::Global;
 
@@ -181,13 +184,23 @@ fn add_order_findings(
     add_reversed_range(alloc, Property::Network, network, found)
 }
 
-// Where the root's period stands.
-fn period_place(names: &Names<'_>, alloc: Global, root: usize) -> Result<usize, NoMemory>
-    ensures { IfOk result (λ at. at ≡ spec.place_of (spec.at_root (placed names.now.tree.now) root Property.Period)) }
+// Where a property stands, or 0.
+fn place_of(given: Option<&Association>) -> usize
+    ensures { result ≡ spec.place_of (option_map (association_view kept_place) (option_copied given.entry)) }
 {
-    match root_property(names, alloc, root, Property::Period)? {
-        Some(given) => Ok(given.name.first.at),
-        None => Ok(0),
+    match given {
+        Some(given) => given.name.first.at,
+        None => 0,
+    }
+}
+
+// The time that is given, where it is at most an hour.
+fn time_at(given: Option<&Association>) -> Option<Nanos>
+    ensures { result ≡ option_and_then within_hour (time_at (option_map (association_view kept_place) (option_copied given.entry))) }
+{
+    match given {
+        Some(given) => time_within(&given.value),
+        None => None,
     }
 }
 
@@ -205,8 +218,7 @@ pub fn add_root_findings(
 {
     add_missing_findings(names, alloc, root, found)?;
     add_order_findings(names, alloc, root, found)?;
-    let at = period_place(names, alloc, root)?;
-    let period = root_period(names, alloc, root)?;
+    let given = root_property(names, alloc, root, Property::Period)?;
     let gamma = root_gamma(names, alloc, root)?;
-    add_bound_findings(alloc, found, at, period, gamma, rate)
+    add_bound_findings(alloc, found, place_of(given), time_at(given), gamma, rate)
 }

@@ -9,11 +9,11 @@ ghost use Rattle.aadl_names.specs.Properties as properties;
 ghost use Rattle.component_checks.specs.Numbers.{within_hour, range_within};
 ghost use Rattle.component_checks.specs.Times as spec;
 
-use crate::rules::NUMBER_TOO_BIG;
-use aadl_names::spelling::spelled_name;
+use crate::spellings::is_spelled;
 use aadl_names::{Holder, Property};
 use aadl_tree::{Association, Figure, Identifier, Quantity, Sign, Value};
 use annex_resolve::Violation;
+use annex_resolve::violation::NUMBER_TOO_BIG;
 use name_faults::shapes::unit_of;
 use pals_base::limits::HOUR;
 use pals_base::{Items, Nanos, NoMemory, Text};
@@ -176,18 +176,18 @@ pub fn shown(property: Property) -> &'static str
     }
 }
 
-// Adds the finding that an association, of this name, gives a property a time above an hour.
+// Adds the finding that an association gives a property a time above an hour.
+#[tactic(auto, using(crate::proofs::Looking::view_out_association))]
 fn add_big_as(
     alloc: Global,
     association: &Association,
-    name: &str,
     property: Property,
     found: &mut Items<Violation>,
 ) -> Result<(), NoMemory>
-    requires { name.now ≡ properties.association_name (association_view kept_place association.now) }
     ensures { OnOk result (found.new ≡ found.old ++ spec.big_as (association_view kept_place association.now) property) }
 {
-    if name.eq_ignore_ascii_case(property.name()) && is_too_big(property, &association.value) {
+    let named = is_spelled(&association.name, property.name());
+    if named && is_too_big(property, &association.value) {
         found.push(Violation {
             at: association.name.first.at,
             number: NUMBER_TOO_BIG,
@@ -206,9 +206,8 @@ fn add_association_big(
 ) -> Result<(), NoMemory>
     ensures { OnOk result (found.new ≡ found.old ++ spec.association_big holder (association_view kept_place association.now)) }
 {
-    let name = spelled_name(alloc, &association.name)?;
     for property in holder.recognised() {
-        add_big_as(alloc, association, name.as_str(), *property, found)?;
+        add_big_as(alloc, association, *property, found)?;
     }
     Ok(())
 }

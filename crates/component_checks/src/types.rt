@@ -147,7 +147,7 @@ fn add_variable_findings(
 {
     let kind = kind_named(&variable.data_type);
     add_name_findings(alloc, kind, &variable.names, found)?;
-    let first = property_in(alloc, variable.properties.as_slice(), Property::Initial)?;
+    let first = property_in(variable.properties.as_slice(), Property::Initial);
     add_first_findings(alloc, kind, first, found)
 }
 

@@ -9,7 +9,7 @@ use Rattle.pals_base.specs.declared.behaviour.Kind.{Kind}
 use Rattle.pals_base.specs.declared.values.Adaptor.{Adaptor}
 use Rattle.pals_base.specs.Allowed.{divides_or_divided, is_allowed}
 use Rattle.annex_resolve.specs.Scopes.{finding, found_if, has_some}
-use Rattle.component_checks.specs.declared.rules.TheConstants.{RATES_DONT_DIVIDE, STRAY_ADAPTOR, ADAPTOR_OUT_OF_RANGE}
+use Rattle.annex_resolve.specs.declared.violation.TheConstants.{RATES_DONT_DIVIDE, STRAY_ADAPTOR, ADAPTOR_OUT_OF_RANGE}
 use Rattle.component_checks.specs.Rates.{and_number, adaptor_named, kind_suits, is_right, adaptor_findings, pair_findings}
 use Rattle.design_laws.proofs.Tests.{parts}
 use Rattle.design_laws.proofs.Tests as tests

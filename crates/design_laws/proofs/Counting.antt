@@ -11,7 +11,7 @@ use Rattle.pals_base.specs.Bound.{least_period}
 use Rattle.pals_model.specs.Rules.{IsGamma}
 use Rattle.component_checks.specs.Numbers.{not_zero, in_order, skew_of, range_of, divides, is_rate, rate_of, gamma_by}
 use Rattle.component_checks.specs.Rates.{bound_findings, period_findings, and_number}
-use Rattle.component_checks.specs.declared.rules.TheConstants.{NOT_DIVISOR, RATE_TOO_HIGH, PERIOD_TOO_SHORT}
+use Rattle.annex_resolve.specs.declared.violation.TheConstants.{NOT_DIVISOR, RATE_TOO_HIGH, PERIOD_TOO_SHORT}
 use Rattle.annex_resolve.specs.Scopes.{finding, found_if}
 use Rattle.design_laws.proofs.Tests.{both, parts, not_wrong}
 

@@ -39,7 +39,7 @@ use Rattle.component_checks.specs.Numbers.{within_hour, range_within, not_zero, 
 use Rattle.component_checks.specs.Numbers as numbers
 use Rattle.component_checks.specs.Rates.{bound_findings, period_findings}
 use Rattle.design_laws.proofs.Counting.{gamma_counts, IsRateOf, rate_counts, leaves_time, least_is_some, rate_from}
-use Rattle.component_checks.specs.declared.rules.TheConstants.{NO_PERIOD, NOT_PERIODIC, GAMMA_MISSING, GAMMA_ORDER}
+use Rattle.annex_resolve.specs.declared.violation.TheConstants.{NO_PERIOD, NOT_PERIODIC, GAMMA_MISSING, GAMMA_ORDER}
 use Rattle.component_checks.specs.Lists.{type_lists, own_lists, sub_lists, lists_at, root_lists, lists_along, first_in}
 use Rattle.component_checks.specs.Times.{time_at, range_at, shown, list_big}
 use Rattle.component_checks.specs.Types.{port_findings}

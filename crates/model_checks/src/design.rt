@@ -8,9 +8,10 @@ ghost use Rattle.model_checks.specs.Refused.{HasNoDesign};
 
 use aadl_instance::{Chain, ChainEnd, Instance, ThreadAt};
 use aadl_names::Names;
+use component_checks::Properties;
 use component_checks::roots::root_gamma;
 use component_checks::threads::{root_period, thread_rate};
-use model_violations::carriers::{adaptor_of, connection_of};
+use model_violations::carriers::carrier_of;
 use model_violations::ports::component_of;
 use model_violations::{ignored_names, resolve_implementation};
 use pals_base::{Adaptor, Behaviour, Items, NoMemory, TryClone};
@@ -39,19 +40,19 @@ fn behaviour(
 
 // A component, if nothing of it is refused.
 fn component(
-    names: &Names<'_>,
+    properties: &Properties<'_>,
     alloc: Global,
     root: usize,
     thread: &ThreadAt,
 ) -> Result<Option<Component>, NoMemory>
-    requires limits { IsWithinLimits (placed names.now.tree.now) thread.now }
-    requires rules { spec.HasRules (placed names.now.tree.now) thread.now }
-    ensures { IfOk result (λ found. found ≡ spec.component_in (placed names.now.tree.now) root thread.now) }
+    requires limits { IsWithinLimits (placed properties.now.names.tree.now) thread.now }
+    requires rules { spec.HasRules (placed properties.now.names.tree.now) thread.now }
+    ensures { IfOk result (λ found. found ≡ spec.component_in (placed properties.now.names.tree.now) root thread.now) }
 {
-    let Some(rate) = thread_rate(names, alloc, root, thread)? else {
+    let Some(rate) = thread_rate(properties, root, thread) else {
         return Ok(None);
     };
-    let Some(behaviour) = behaviour(names, alloc, thread)? else {
+    let Some(behaviour) = behaviour(&properties.names, alloc, thread)? else {
         return Ok(None);
     };
     Ok(Some(Component {
@@ -63,18 +64,18 @@ fn component(
 
 // The components, if nothing of them is refused.
 fn components(
-    names: &Names<'_>,
+    properties: &Properties<'_>,
     alloc: Global,
     root: usize,
     threads: &[ThreadAt],
 ) -> Result<Option<Items<Component>>, NoMemory>
-    requires limits { All (IsWithinLimits (placed names.now.tree.now)) threads.now }
-    requires rules { All (spec.HasRules (placed names.now.tree.now)) threads.now }
-    ensures { IfOk result (λ found. found ≡ spec.all_of (map (spec.component_in (placed names.now.tree.now) root) threads.now)) }
+    requires limits { All (IsWithinLimits (placed properties.now.names.tree.now)) threads.now }
+    requires rules { All (spec.HasRules (placed properties.now.names.tree.now)) threads.now }
+    ensures { IfOk result (λ found. found ≡ spec.all_of (map (spec.component_in (placed properties.now.names.tree.now) root) threads.now)) }
 {
     let mut components = Items::new(alloc);
     for thread in threads {
-        let Some(component) = component(names, alloc, root, thread)? else {
+        let Some(component) = component(properties, alloc, root, thread)? else {
             return Ok(None);
         };
         components.push(component)?;
@@ -83,53 +84,53 @@ fn components(
 }
 
 // The adaptor of a chain.
-fn adaptor(names: &Names<'_>, alloc: Global, chain: &Chain) -> Result<Option<Adaptor>, NoMemory>
-    ensures { IfOk result (λ found. found ≡ spec.chain_adaptor (placed names.now.tree.now) chain.now) }
+fn adaptor(properties: &Properties<'_>, chain: &Chain) -> Option<Adaptor>
+    ensures { result ≡ spec.chain_adaptor (placed properties.now.names.tree.now) chain.now }
 {
-    match connection_of(names.tree, chain.carrier) {
-        Some(connection) => Ok(adaptor_of(alloc, connection)?.flatten()),
-        None => Ok(None),
+    match carrier_of(properties, chain.carrier) {
+        Some((_, said)) => said.adaptor.flatten(),
+        None => None,
     }
 }
 
 // The link of a chain, if it runs between threads.
-fn link(names: &Names<'_>, alloc: Global, chain: &Chain) -> Result<Option<Link>, NoMemory>
-    ensures { IfOk result (λ found. found ≡ spec.link_in (placed names.now.tree.now) chain.now) }
+fn link(properties: &Properties<'_>, chain: &Chain) -> Option<Link>
+    ensures { result ≡ spec.link_in (placed properties.now.names.tree.now) chain.now }
 {
     let ChainEnd::Thread {
         node: source,
         port: out_port,
     } = &chain.from
     else {
-        return Ok(None);
+        return None;
     };
     let ChainEnd::Thread {
         node: target,
         port: in_port,
     } = &chain.to
     else {
-        return Ok(None);
+        return None;
     };
-    Ok(Some(Link {
+    Some(Link {
         source: *source,
         out_port: *out_port,
         target: *target,
         in_port: *in_port,
-        adaptor: adaptor(names, alloc, chain)?,
-    }))
+        adaptor: adaptor(properties, chain),
+    })
 }
 
 // The links.
 fn links(
-    names: &Names<'_>,
+    properties: &Properties<'_>,
     alloc: Global,
     chains: &[Chain],
 ) -> Result<Option<Items<Link>>, NoMemory>
-    ensures { IfOk result (λ found. found ≡ spec.all_of (map (spec.link_in (placed names.now.tree.now)) chains.now)) }
+    ensures { IfOk result (λ found. found ≡ spec.all_of (map (spec.link_in (placed properties.now.names.tree.now)) chains.now)) }
 {
     let mut links = Items::new(alloc);
     for chain in chains {
-        let Some(link) = link(names, alloc, chain)? else {
+        let Some(link) = link(properties, chain) else {
             return Ok(None);
         };
         links.push(link)?;
@@ -138,8 +139,8 @@ fn links(
 }
 
 // The feed of a chain, if it runs from the root to a thread.
-fn feed(names: &Names<'_>, alloc: Global, chain: &Chain) -> Result<Option<Feed>, NoMemory>
-    ensures { IfOk result (λ found. found ≡ spec.feed_in (placed names.now.tree.now) chain.now) }
+fn feed(properties: &Properties<'_>, alloc: Global, chain: &Chain) -> Result<Option<Feed>, NoMemory>
+    ensures { IfOk result (λ found. found ≡ spec.feed_in (placed properties.now.names.tree.now) chain.now) }
 {
     let ChainEnd::Root { name } = &chain.from else {
         return Ok(None);
@@ -155,21 +156,21 @@ fn feed(names: &Names<'_>, alloc: Global, chain: &Chain) -> Result<Option<Feed>,
         name: name.try_clone(alloc)?,
         target: *target,
         in_port: *in_port,
-        adaptor: adaptor(names, alloc, chain)?,
+        adaptor: adaptor(properties, chain),
     }))
 }
 
 // The feeds.
 fn feeds(
-    names: &Names<'_>,
+    properties: &Properties<'_>,
     alloc: Global,
     chains: &[Chain],
 ) -> Result<Option<Items<Feed>>, NoMemory>
-    ensures { IfOk result (λ found. found ≡ spec.all_of (map (spec.feed_in (placed names.now.tree.now)) chains.now)) }
+    ensures { IfOk result (λ found. found ≡ spec.all_of (map (spec.feed_in (placed properties.now.names.tree.now)) chains.now)) }
 {
     let mut feeds = Items::new(alloc);
     for chain in chains {
-        let Some(feed) = feed(names, alloc, chain)? else {
+        let Some(feed) = feed(properties, alloc, chain)? else {
             return Ok(None);
         };
         feeds.push(feed)?;
@@ -212,31 +213,33 @@ fn taps(alloc: Global, chains: &[Chain]) -> Result<Option<Items<Tap>>, NoMemory>
     Ok(Some(taps))
 }
 
-/// The parts of the design of an instance, by the names of its package, if nothing of it is refused.
+/// The parts of the design of an instance, by what the lists of its package say, if nothing of it is
+/// refused.
 pub fn design_parts(
-    names: &Names<'_>,
+    properties: &Properties<'_>,
     alloc: Global,
     instance: &Instance<'_>,
 ) -> Result<Option<DesignParts>, NoMemory>
-    requires names { names.now.tree.now ≡ instance.now.tree.now }
+    requires names { properties.now.names.tree.now ≡ instance.now.tree.now }
     requires rules { All (spec.HasRules (placed instance.now.tree.now)) instance.now.threads }
     ensures { IfOk result (λ found. MatchOption found (HasNoDesign (placed instance.now.tree.now) (shown instance.now))
         (λ design. spec.IsDesignOf (placed instance.now.tree.now) (shown instance.now) design)) }
 {
     let root = instance.root;
-    let Some(period) = root_period(names, alloc, root)? else {
+    let names = &properties.names;
+    let Some(period) = root_period(properties, root) else {
         return Ok(None);
     };
     let Some(gamma) = root_gamma(names, alloc, root)? else {
         return Ok(None);
     };
-    let Some(components) = components(names, alloc, root, instance.threads.as_slice())? else {
+    let Some(components) = components(properties, alloc, root, instance.threads.as_slice())? else {
         return Ok(None);
     };
-    let Some(links) = links(names, alloc, instance.links.as_slice())? else {
+    let Some(links) = links(properties, alloc, instance.links.as_slice())? else {
         return Ok(None);
     };
-    let Some(feeds) = feeds(names, alloc, instance.feeds.as_slice())? else {
+    let Some(feeds) = feeds(properties, alloc, instance.feeds.as_slice())? else {
         return Ok(None);
     };
     let Some(taps) = taps(alloc, instance.taps.as_slice())? else {

@@ -9,6 +9,7 @@ use crate::design::design_parts;
 use aadl_instance::Instance;
 use aadl_names::Names;
 use annex_resolve::Violation;
+use component_checks::Properties;
 use design_laws::designs::{designs_are_there, designs_keep_their_rules};
 use design_laws::names::texts_name;
 use design_laws::threads::{behaviours_keep_their_rules, no_violations_are_no_findings};
@@ -38,8 +39,12 @@ impl From<AllocError> for CheckFault {
 }
 
 // The design of an instance in which nothing is wrong.
-fn accepted(names: &Names<'_>, alloc: Global, instance: &Instance<'_>) -> Result<Design, NoMemory>
-    requires names { names.now.tree.now ≡ instance.now.tree.now }
+fn accepted(
+    properties: &Properties<'_>,
+    alloc: Global,
+    instance: &Instance<'_>,
+) -> Result<Design, NoMemory>
+    requires names { properties.now.names.tree.now ≡ instance.now.tree.now }
     requires none { AreViolations (placed instance.now.tree.now) (shown instance.now) [] }
     ensures { IfOk result (λ design. IsDesignOf (placed instance.now.tree.now) (shown instance.now) design) }
 {
@@ -48,7 +53,7 @@ fn accepted(names: &Names<'_>, alloc: Global, instance: &Instance<'_>) -> Result
     behaviours_keep_their_rules();
     designs_are_there();
     designs_keep_their_rules();
-    let Some(parts) = design_parts(names, alloc, instance)? else {
+    let Some(parts) = design_parts(properties, alloc, instance)? else {
         unreachable!();
     };
     Ok(Design::new(parts))
@@ -61,10 +66,11 @@ pub fn check(alloc: Global, instance: &Instance<'_>) -> Result<Design, CheckFaul
     ensures refused { IfErr result (λ fault. IsRefused (placed instance.now.tree.now) (shown instance.now) fault) }
 {
     let names = Names::of(alloc, instance.tree)?;
-    let found = violations_by(alloc, &names, instance)?;
+    let properties = Properties::of(alloc, names)?;
+    let found = violations_by(alloc, &properties, instance)?;
     if !found.is_empty() {
         return Err(CheckFault::Violations(found));
     }
-    let design = accepted(&names, alloc, instance)?;
+    let design = accepted(&properties, alloc, instance)?;
     Ok(design)
 }

@@ -7,9 +7,8 @@ use Rattle.aadl_uses.specs.declared.places.ThreadAt.{ThreadAt}
 use Rattle.aadl_instance.specs.declared.parts.Chain.{Chain}
 use Rattle.annex_resolve.specs.declared.violation.Violation.{Violation}
 use Rattle.annex_resolve.specs.Scopes.{found_if, has_some}
-use Rattle.component_checks.specs.declared.rules.TheConstants.{STRAY_ADAPTOR}
+use Rattle.annex_resolve.specs.declared.violation.TheConstants.{NOT_DELAYED, STRAY_ADAPTOR}
 use Rattle.component_checks.specs.Rates.{adaptor_named, pair_findings}
-use Rattle.model_violations.specs.declared.rules.TheConstants.{NOT_DELAYED}
 use Rattle.model_violations.specs.Ports.{end_name, end_kind, end_rate}
 use Rattle.model_violations.specs.Carriers.{connection_of, is_delayed, adaptor_text}
 

@@ -9,11 +9,9 @@ use Rattle.aadl_names.specs.declared.site.Site.{Site}
 use Rattle.aadl_names.specs.declared.site.Site.TheVariants.{Own, Inner}
 use Rattle.aadl_names.specs.Resolving.{ports_of, inner_ports, site}
 use Rattle.annex_resolve.specs.declared.violation.Violation.{Violation}
-use Rattle.annex_resolve.specs.declared.violation.TheConstants.{BAD_TYPE}
+use Rattle.annex_resolve.specs.declared.violation.TheConstants.{BAD_TYPE, DELAYED_ROOT, STRAY_ADAPTOR}
 use Rattle.annex_resolve.specs.Scopes.{found_if, has_some}
 use Rattle.annex_resolve.specs.Types.{kind_in, misfit}
-use Rattle.component_checks.specs.declared.rules.TheConstants.{STRAY_ADAPTOR}
-use Rattle.model_violations.specs.declared.rules.TheConstants.{DELAYED_ROOT}
 use Rattle.model_violations.specs.Carriers.{is_delayed, adaptor_text}
 
 -- ---- the types of both ends, where each is Integer or Boolean

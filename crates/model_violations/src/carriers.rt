@@ -1,21 +1,17 @@
 //! What connections say, and which of them carry chains.
-ghost use Rattle.std.specs.Prelude.{◌≡◌, IfOk, option_map, option_copied};
+ghost use Rattle.std.specs.Prelude.{◌≡◌, IfSome, option_map, option_copied};
 ghost use Rattle.aadl_tree.specs.Maps.{kept_place};
 ghost use Rattle.aadl_tree.specs.PackageViews.{placed};
-ghost use Rattle.aadl_tree.specs.ValueViews.{value_view};
 ghost use Rattle.aadl_tree.specs.Views.{connection_view};
-ghost use Rattle.aadl_names.specs.Properties.{text_of};
-ghost use Rattle.component_checks.specs.Rates.{adaptor_named};
+ghost use Rattle.component_checks.specs.Carried.{carried_by};
 ghost use Rattle.model_violations.specs.Carriers as spec;
 
 use aadl_instance::ConnAt;
-use aadl_names::Property;
-use aadl_tree::{Connection, PackageTree, Value};
-use component_checks::lists::{implementation_at, property_in};
-use component_checks::texts::unquoted;
-use component_checks::threads::is_word;
+use aadl_tree::{Connection, PackageTree};
+use component_checks::lists::implementation_at;
+use component_checks::{Carried, Properties};
 use indexmap::IndexSet;
-use pals_base::{Adaptor, NoMemory};
+use pals_base::NoMemory;
 use std::alloc::Global;
 use std::marker::Model;
 
@@ -29,39 +25,19 @@ pub fn connection_of<'t>(tree: &'t PackageTree, place: ConnAt) -> Option<&'t Con
     }
 }
 
-/// Whether a connection is delayed.
-pub fn is_delayed(alloc: Global, connection: &Connection) -> Result<bool, NoMemory>
-    ensures { IfOk result (λ delayed. delayed ≡ spec.is_delayed (connection_view kept_place connection.now)) }
+/// The connection of two numbers, with what it says of the chains that it carries.
+#[tactic(auto, using(crate::proofs::Mapped::of_mapped))]
+pub fn carrier_of<'t>(
+    properties: &Properties<'t>,
+    place: ConnAt,
+) -> Option<(&'t Connection, Carried)>
+    ensures connection { option_map (λ carrier. connection_view kept_place carrier.0.now) result
+        ≡ spec.connection_of (placed properties.now.names.tree.now) place }
+    ensures carried { IfSome result (λ carrier. carrier.1 ≡ carried_by (connection_view kept_place carrier.0.now).properties) }
 {
-    let timing = property_in(alloc, connection.properties.as_slice(), Property::Timing)?;
-    match timing {
-        Some(timing) => is_word(alloc, "Delayed", &timing.value),
-        None => Ok(false),
-    }
-}
-
-// The adaptor of a text, if it is a text.
-fn adaptor_in(value: &Value) -> Option<Option<Adaptor>>
-    ensures { result ≡ option_map adaptor_named (text_of (value_view kept_place value.now)) }
-{
-    match value {
-        Value::Text(bytes) => Some(component_checks::adaptor_named(unquoted(bytes.as_slice()))),
-        _ => None,
-    }
-}
-
-/// The adaptor of a connection: none is given, or a text, which may name no adaptor.
-pub fn adaptor_of(
-    alloc: Global,
-    connection: &Connection,
-) -> Result<Option<Option<Adaptor>>, NoMemory>
-    ensures { IfOk result (λ given. given ≡ option_map adaptor_named (spec.adaptor_text (connection_view kept_place connection.now))) }
-{
-    let given = property_in(alloc, connection.properties.as_slice(), Property::Adaptor)?;
-    match given {
-        Some(given) => Ok(adaptor_in(&given.value)),
-        None => Ok(None),
-    }
+    let connection = connection_of(properties.names.tree, place)?;
+    let carried = properties.of_connection(place.declaration, place.connection)?;
+    Some((connection, carried))
 }
 
 /// The connections that carry chains. Contracts see the numbers of each: its declaration's, and its

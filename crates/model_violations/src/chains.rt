@@ -3,18 +3,18 @@ ghost use Rattle.std.specs.Prelude.{◌≡◌, ◌<◌, ◌++◌, ℕ, OnOk, Som
 ghost use Rattle.aadl_tree.specs.Maps.{kept_place};
 ghost use Rattle.aadl_tree.specs.PackageViews.{placed};
 ghost use Rattle.aadl_tree.specs.Views.{connection_view};
+ghost use Rattle.component_checks.specs.Carried.{carried_by};
 ghost use Rattle.model_violations.specs.Chains as spec;
 
-use crate::carriers::{adaptor_of, connection_of, is_delayed};
+use crate::carriers::carrier_of;
 use crate::ports::{end_kind, end_name, end_rate};
-use crate::rules::NOT_DELAYED;
 use aadl_instance::{Chain, ThreadAt};
 use aadl_names::Names;
 use aadl_tree::Connection;
 use annex_resolve::Violation;
-use component_checks::Carrier;
-use component_checks::rules::STRAY_ADAPTOR;
+use annex_resolve::violation::{NOT_DELAYED, STRAY_ADAPTOR};
 use component_checks::threads::add_named;
+use component_checks::{Carried, Carrier, Properties};
 use pals_base::{Items, NoMemory};
 use std::alloc::Global;
 
@@ -48,16 +48,18 @@ fn add_adaptor_findings(
     rates: &[Option<u32>],
     chain: &Chain,
     connection: &Connection,
+    said: Carried,
     found: &mut Items<Violation>,
 ) -> Result<(), NoMemory>
-    requires { (n k : ℕ) → slice_get rates.now n ≡ Some (Some k) → 0 < k }
+    requires rates { (n k : ℕ) → slice_get rates.now n ≡ Some (Some k) → 0 < k }
+    requires said { said ≡ carried_by (connection_view kept_place connection.now).properties }
     ensures { OnOk result (found.new ≡ found.old
         ++ spec.adaptor_findings (placed names.now.tree.now) threads.now rates.now chain.now (connection_view kept_place connection.now)) }
 {
     let carrier = Carrier {
         at: connection.name.at,
         name: end_name(names, alloc, threads, &chain.to)?,
-        adaptor: adaptor_of(alloc, connection)?,
+        adaptor: said.adaptor,
         kind: end_kind(names, alloc, threads, &chain.to)?,
     };
     let source = end_rate(rates, &chain.from);
@@ -72,17 +74,18 @@ fn add_timing_findings(
     threads: &[ThreadAt],
     chain: &Chain,
     connection: &Connection,
+    said: Carried,
     found: &mut Items<Violation>,
 ) -> Result<(), NoMemory>
+    requires { said ≡ carried_by (connection_view kept_place connection.now).properties }
     ensures { OnOk result (found.new ≡ found.old
         ++ spec.timing_findings (placed names.now.tree.now) threads.now chain.now (connection_view kept_place connection.now)) }
 {
-    let delayed = is_delayed(alloc, connection)?;
     let name = end_name(names, alloc, threads, &chain.to)?;
     add_named(
         alloc,
         found,
-        !delayed,
+        !said.delayed,
         connection.name.at,
         NOT_DELAYED,
         name.as_str(),
@@ -92,7 +95,7 @@ fn add_timing_findings(
 /// Adds what is wrong with a link, over the threads and their rates: its carrier is not delayed, the
 /// rates don't divide, an adaptor is missing, stray or not allowed.
 pub fn add_link_findings(
-    names: &Names<'_>,
+    properties: &Properties<'_>,
     alloc: Global,
     threads: &[ThreadAt],
     rates: &[Option<u32>],
@@ -101,18 +104,19 @@ pub fn add_link_findings(
 ) -> Result<(), NoMemory>
     requires { (n k : ℕ) → slice_get rates.now n ≡ Some (Some k) → 0 < k }
     ensures { OnOk result (found.new ≡ found.old
-        ++ spec.link_findings (placed names.now.tree.now) threads.now rates.now link.now) }
+        ++ spec.link_findings (placed properties.now.names.tree.now) threads.now rates.now link.now) }
 {
-    let Some(connection) = connection_of(names.tree, link.carrier) else {
+    let names = &properties.names;
+    let Some((connection, said)) = carrier_of(properties, link.carrier) else {
         return Ok(());
     };
-    add_timing_findings(names, alloc, threads, link, connection, found)?;
-    add_adaptor_findings(names, alloc, threads, rates, link, connection, found)
+    add_timing_findings(names, alloc, threads, link, connection, said, found)?;
+    add_adaptor_findings(names, alloc, threads, rates, link, connection, said, found)
 }
 
 /// Adds what is wrong with a feed: the adaptor between the root's rate, which is 1, and the thread's.
 pub fn add_feed_findings(
-    names: &Names<'_>,
+    properties: &Properties<'_>,
     alloc: Global,
     threads: &[ThreadAt],
     rates: &[Option<u32>],
@@ -121,11 +125,12 @@ pub fn add_feed_findings(
 ) -> Result<(), NoMemory>
     requires { (n k : ℕ) → slice_get rates.now n ≡ Some (Some k) → 0 < k }
     ensures { OnOk result (found.new ≡ found.old
-        ++ spec.feed_findings (placed names.now.tree.now) threads.now rates.now feed.now) }
+        ++ spec.feed_findings (placed properties.now.names.tree.now) threads.now rates.now feed.now) }
 {
-    match connection_of(names.tree, feed.carrier) {
-        Some(connection) => {
-            add_adaptor_findings(names, alloc, threads, rates, feed, connection, found)
+    let names = &properties.names;
+    match carrier_of(properties, feed.carrier) {
+        Some((connection, said)) => {
+            add_adaptor_findings(names, alloc, threads, rates, feed, connection, said, found)
         }
         None => Ok(()),
     }
@@ -134,24 +139,23 @@ pub fn add_feed_findings(
 /// Adds the finding that a tap has an adaptor.
 #[tactic(auto, using(crate::proofs::Mapped::has_mapped))]
 pub fn add_tap_findings(
-    names: &Names<'_>,
+    properties: &Properties<'_>,
     alloc: Global,
     threads: &[ThreadAt],
     tap: &Chain,
     found: &mut Items<Violation>,
 ) -> Result<(), NoMemory>
     ensures { OnOk result (found.new ≡ found.old
-        ++ spec.tap_findings (placed names.now.tree.now) threads.now tap.now) }
+        ++ spec.tap_findings (placed properties.now.names.tree.now) threads.now tap.now) }
 {
-    let Some(connection) = connection_of(names.tree, tap.carrier) else {
+    let Some((connection, said)) = carrier_of(properties, tap.carrier) else {
         return Ok(());
     };
-    let stray = adaptor_of(alloc, connection)?.is_some();
-    let name = end_name(names, alloc, threads, &tap.to)?;
+    let name = end_name(&properties.names, alloc, threads, &tap.to)?;
     add_named(
         alloc,
         found,
-        stray,
+        said.adaptor.is_some(),
         connection.name.at,
         STRAY_ADAPTOR,
         name.as_str(),

@@ -8,17 +8,18 @@ ghost use Rattle.aadl_tree.specs.PackageViews.{placed};
 ghost use Rattle.aadl_tree.specs.Views.{connection_view, end_view, feature_view, implementation_view};
 ghost use Rattle.annex_resolve.specs.Types.{kind_in};
 ghost use Rattle.aadl_names.specs.declared.site.Site.TheVariants as sites;
+ghost use Rattle.component_checks.specs.Carried.{carried_by};
 ghost use Rattle.model_violations.specs.Carriers.{carries};
 ghost use Rattle.model_violations.specs.Connections as spec;
 
-use crate::carriers::{Carriers, adaptor_of, is_delayed};
-use crate::rules::DELAYED_ROOT;
+use crate::carriers::Carriers;
 use aadl_names::sites::site;
 use aadl_names::{Names, Site};
 use aadl_tree::{Connection, ConnectionEnd, Feature, Identifier, Implementation};
+use annex_resolve::violation::{DELAYED_ROOT, STRAY_ADAPTOR};
 use annex_resolve::{Violation, expect};
+use component_checks::Carried;
 use component_checks::lists::{target_of, type_of};
-use component_checks::rules::STRAY_ADAPTOR;
 use component_checks::threads::add_named;
 use component_checks::types::kind_in;
 use pals_base::{Items, Kind, NoMemory};
@@ -135,16 +136,17 @@ fn add_ends_findings(
 fn add_delay_findings(
     alloc: Global,
     connection: &Connection,
+    said: Carried,
     found: &mut Items<Violation>,
 ) -> Result<(), NoMemory>
+    requires { said ≡ carried_by (connection_view kept_place connection.now).properties }
     ensures { OnOk result (found.new ≡ found.old ++ spec.delay_findings (connection_view kept_place connection.now)) }
 {
     let own = joins_own(connection);
-    let delayed = is_delayed(alloc, connection)?;
     add_named(
         alloc,
         found,
-        own && delayed,
+        own && said.delayed,
         connection.name.at,
         DELAYED_ROOT,
         connection.name.spelling.as_str(),
@@ -157,15 +159,16 @@ fn add_adaptor_findings(
     alloc: Global,
     carried: bool,
     connection: &Connection,
+    said: Carried,
     found: &mut Items<Violation>,
 ) -> Result<(), NoMemory>
+    requires { said ≡ carried_by (connection_view kept_place connection.now).properties }
     ensures { OnOk result (found.new ≡ found.old ++ spec.adaptor_findings carried (connection_view kept_place connection.now)) }
 {
-    let given = adaptor_of(alloc, connection)?.is_some();
     add_named(
         alloc,
         found,
-        !carried && given,
+        !carried && said.adaptor.is_some(),
         connection.name.at,
         STRAY_ADAPTOR,
         connection.name.spelling.as_str(),
@@ -188,8 +191,9 @@ fn add_connection_findings(
         ++ spec.connection_findings (placed names.now.tree.now) (carries carriers.now) number (implementation_view kept_place x.now) (at, connection_view kept_place connection.now)) }
 {
     add_ends_findings(names, alloc, number, x, connection, found)?;
-    add_delay_findings(alloc, connection, found)?;
-    add_adaptor_findings(alloc, carriers.has(number, at), connection, found)
+    let said = Carried::of(alloc, connection.properties.as_slice())?;
+    add_delay_findings(alloc, connection, said, found)?;
+    add_adaptor_findings(alloc, carriers.has(number, at), connection, said, found)
 }
 
 /// Adds what is wrong with the connections of the implementation of a number: ends of different types,

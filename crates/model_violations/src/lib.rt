@@ -13,7 +13,6 @@ pub mod list;
 pub mod lists;
 pub mod order;
 pub mod ports;
-pub mod rules;
 pub mod spellings;
 pub mod threads;
 pub mod usage;

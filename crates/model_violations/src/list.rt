@@ -14,6 +14,7 @@ use crate::usage::{types_used, used_below};
 use aadl_instance::{Chain, Instance, ThreadAt};
 use aadl_names::Names;
 use annex_resolve::Violation;
+use component_checks::Properties;
 use component_checks::roots::add_root_findings;
 use component_checks::threads::{add_thread_findings, greatest_rate, thread_rate};
 use pals_base::{Items, NoMemory};
@@ -21,32 +22,32 @@ use std::alloc::Global;
 
 // The rates of threads, where they may make as many steps.
 fn rates_of(
-    names: &Names<'_>,
+    properties: &Properties<'_>,
     alloc: Global,
     root: usize,
     threads: &[ThreadAt],
 ) -> Result<Items<Option<u32>>, NoMemory>
-    ensures { IfOk result (λ rates. rates ≡ map (threads_spec.thread_rate (placed names.now.tree.now) root) threads.now) }
+    ensures { IfOk result (λ rates. rates ≡ map (threads_spec.thread_rate (placed properties.now.names.tree.now) root) threads.now) }
 {
     let mut rates = Items::new(alloc);
     for thread in threads {
-        rates.push(thread_rate(names, alloc, root, thread)?)?;
+        rates.push(thread_rate(properties, root, thread))?;
     }
     Ok(rates)
 }
 
 // Adds what is wrong with threads.
 fn add_threads_findings(
-    names: &Names<'_>,
+    properties: &Properties<'_>,
     alloc: Global,
     root: usize,
     threads: &[ThreadAt],
     found: &mut Items<Violation>,
 ) -> Result<(), NoMemory>
-    ensures { OnOk result (found.new ≡ found.old ++ flat_map (threads_spec.thread_findings (placed names.now.tree.now) root) threads.now) }
+    ensures { OnOk result (found.new ≡ found.old ++ flat_map (threads_spec.thread_findings (placed properties.now.names.tree.now) root) threads.now) }
 {
     for thread in threads {
-        add_thread_findings(names, alloc, root, thread, found)?;
+        add_thread_findings(properties, alloc, root, thread, found)?;
     }
     Ok(())
 }
@@ -74,7 +75,7 @@ fn carriers_of(alloc: Global, instance: &Instance<'_>) -> Result<Carriers, NoMem
 
 // Adds what is wrong with links, over the rates of the threads.
 fn add_links_findings(
-    names: &Names<'_>,
+    properties: &Properties<'_>,
     alloc: Global,
     threads: &[ThreadAt],
     rates: &[Option<u32>],
@@ -82,17 +83,17 @@ fn add_links_findings(
     found: &mut Items<Violation>,
 ) -> Result<(), NoMemory>
     requires { (n k : ℕ) → slice_get rates.now n ≡ Some (Some k) → 0 < k }
-    ensures { OnOk result (found.new ≡ found.old ++ flat_map (link_findings (placed names.now.tree.now) threads.now rates.now) links.now) }
+    ensures { OnOk result (found.new ≡ found.old ++ flat_map (link_findings (placed properties.now.names.tree.now) threads.now rates.now) links.now) }
 {
     for link in links {
-        add_link_findings(names, alloc, threads, rates, link, found)?;
+        add_link_findings(properties, alloc, threads, rates, link, found)?;
     }
     Ok(())
 }
 
 // Adds what is wrong with feeds.
 fn add_feeds_findings(
-    names: &Names<'_>,
+    properties: &Properties<'_>,
     alloc: Global,
     threads: &[ThreadAt],
     rates: &[Option<u32>],
@@ -100,33 +101,33 @@ fn add_feeds_findings(
     found: &mut Items<Violation>,
 ) -> Result<(), NoMemory>
     requires { (n k : ℕ) → slice_get rates.now n ≡ Some (Some k) → 0 < k }
-    ensures { OnOk result (found.new ≡ found.old ++ flat_map (feed_findings (placed names.now.tree.now) threads.now rates.now) feeds.now) }
+    ensures { OnOk result (found.new ≡ found.old ++ flat_map (feed_findings (placed properties.now.names.tree.now) threads.now rates.now) feeds.now) }
 {
     for feed in feeds {
-        add_feed_findings(names, alloc, threads, rates, feed, found)?;
+        add_feed_findings(properties, alloc, threads, rates, feed, found)?;
     }
     Ok(())
 }
 
 // Adds what is wrong with taps.
 fn add_taps_findings(
-    names: &Names<'_>,
+    properties: &Properties<'_>,
     alloc: Global,
     threads: &[ThreadAt],
     taps: &[Chain],
     found: &mut Items<Violation>,
 ) -> Result<(), NoMemory>
-    ensures { OnOk result (found.new ≡ found.old ++ flat_map (tap_findings (placed names.now.tree.now) threads.now) taps.now) }
+    ensures { OnOk result (found.new ≡ found.old ++ flat_map (tap_findings (placed properties.now.names.tree.now) threads.now) taps.now) }
 {
     for tap in taps {
-        add_tap_findings(names, alloc, threads, tap, found)?;
+        add_tap_findings(properties, alloc, threads, tap, found)?;
     }
     Ok(())
 }
 
 // Adds what is wrong with links, feeds and taps, over the rates of the threads.
 fn add_chain_findings(
-    names: &Names<'_>,
+    properties: &Properties<'_>,
     alloc: Global,
     instance: &Instance<'_>,
     rates: &[Option<u32>],
@@ -134,11 +135,11 @@ fn add_chain_findings(
 ) -> Result<(), NoMemory>
     requires { (n k : ℕ) → slice_get rates.now n ≡ Some (Some k) → 0 < k }
     ensures { OnOk result (found.new ≡ found.old
-        ++ spec.chain_findings (placed names.now.tree.now) (spec.shown instance.now) rates.now) }
+        ++ spec.chain_findings (placed properties.now.names.tree.now) (spec.shown instance.now) rates.now) }
 {
     let threads = instance.threads.as_slice();
     add_links_findings(
-        names,
+        properties,
         alloc,
         threads,
         rates,
@@ -146,14 +147,14 @@ fn add_chain_findings(
         found,
     )?;
     add_feeds_findings(
-        names,
+        properties,
         alloc,
         threads,
         rates,
         instance.feeds.as_slice(),
         found,
     )?;
-    add_taps_findings(names, alloc, threads, instance.taps.as_slice(), found)
+    add_taps_findings(properties, alloc, threads, instance.taps.as_slice(), found)
 }
 
 // Adds what is wrong with the declarations that are in use.
@@ -177,33 +178,36 @@ fn add_used_findings(
 // All findings, each rule in component, link or connection order.
 fn findings_of(
     alloc: Global,
-    names: &Names<'_>,
+    properties: &Properties<'_>,
     instance: &Instance<'_>,
 ) -> Result<Items<Violation>, NoMemory>
-    requires { names.now.tree.now ≡ instance.now.tree.now }
+    requires { properties.now.names.tree.now ≡ instance.now.tree.now }
     ensures { IfOk result (λ list. spec.AreFindings (placed instance.now.tree.now) (spec.shown instance.now) list) }
 {
     let mut found = Items::new(alloc);
+    let names = &properties.names;
+    let root = instance.root;
     let threads = instance.threads.as_slice();
-    let rates = rates_of(names, alloc, instance.root, threads)?;
+    let rates = rates_of(properties, alloc, root, threads)?;
     let greatest = greatest_rate(rates.as_slice());
-    add_root_findings(names, alloc, instance.root, greatest, &mut found)?;
-    add_threads_findings(names, alloc, instance.root, threads, &mut found)?;
-    add_chain_findings(names, alloc, instance, rates.as_slice(), &mut found)?;
+    add_root_findings(names, alloc, root, greatest, &mut found)?;
+    add_threads_findings(properties, alloc, root, threads, &mut found)?;
+    add_chain_findings(properties, alloc, instance, rates.as_slice(), &mut found)?;
     add_used_findings(names, alloc, instance, &mut found)?;
     Ok(found)
 }
 
-/// All that is wrong with an instance, in order of place, then of number, by the names of its package.
+/// All that is wrong with an instance, in order of place, then of number, by what the lists of its
+/// package say.
 pub fn violations_by(
     alloc: Global,
-    names: &Names<'_>,
+    properties: &Properties<'_>,
     instance: &Instance<'_>,
 ) -> Result<Items<Violation>, NoMemory>
-    requires { names.now.tree.now ≡ instance.now.tree.now }
+    requires { properties.now.names.tree.now ≡ instance.now.tree.now }
     ensures { IfOk result (λ list. spec.AreViolations (placed instance.now.tree.now) (spec.shown instance.now) list) }
 {
-    let found = findings_of(alloc, names, instance)?;
+    let found = findings_of(alloc, properties, instance)?;
     let list = in_order(found)?;
     Ok(list)
 }
@@ -213,5 +217,6 @@ pub fn violations(alloc: Global, instance: &Instance<'_>) -> Result<Items<Violat
     ensures { IfOk result (λ list. spec.AreViolations (placed instance.now.tree.now) (spec.shown instance.now) list) }
 {
     let names = Names::of(alloc, instance.tree)?;
-    violations_by(alloc, &names, instance)
+    let properties = Properties::of(alloc, names)?;
+    violations_by(alloc, &properties, instance)
 }

@@ -2,35 +2,36 @@
 ghost use Rattle.std.specs.Prelude.{◌≡◌, ◌++◌, OnOk, map, flat_map};
 ghost use Rattle.std.specs.List.{list_any};
 ghost use Rattle.aadl_tree.specs.Maps.{kept_place};
+ghost use Rattle.aadl_tree.specs.NameViews.{name_view};
 ghost use Rattle.aadl_tree.specs.ValueViews.{association_view, associations_view};
 ghost use Rattle.aadl_tree.specs.Views.{annex_view, variable_view};
-ghost use Rattle.aadl_names.specs.Properties.{association_name, name_of, recognised};
-ghost use Rattle.aadl_names.specs.Spelling.{same_name};
+ghost use Rattle.aadl_names.specs.Properties.{name_of, recognised};
+ghost use Rattle.aadl_names.specs.Spelling.{same_name, spelled_name};
 ghost use Rattle.model_violations.specs.Ignored as spec;
 
 use aadl_names::Holder;
 use aadl_names::spelling::spelled_name;
-use aadl_tree::{Annex, AnnexContent, Association, VariableDeclaration};
+use aadl_tree::{Annex, AnnexContent, Association, Name, VariableDeclaration};
+use component_checks::spellings::is_spelled;
 use pals_base::{Items, NoMemory, Text};
 use std::alloc::Global;
 
 // Whether a property of this name is recognised at a kind of place.
-fn is_recognised(holder: Holder, name: &str) -> bool
-    ensures { result ≡ list_any (λ p. same_name name.now (name_of p)) (recognised holder) }
+fn is_recognised(holder: Holder, name: &Name) -> bool
+    ensures { result ≡ list_any (λ p. same_name (spelled_name (name_view kept_place name.now)) (name_of p)) (recognised holder) }
 {
     holder
         .recognised()
         .iter()
-        .any(|property| name.eq_ignore_ascii_case(property.name()))
+        .any(|property| is_spelled(name, property.name()))
 }
 
-// Whether an association of this name means nothing at a kind of place.
+// Whether an association means nothing at a kind of place.
 #[tactic(auto, using(component_checks::proofs::Looking::view_out_association))]
-fn is_ignored(holder: Holder, association: &Association, name: &str) -> bool
-    requires { name.now ≡ association_name (association_view kept_place association.now) }
+fn is_ignored(holder: Holder, association: &Association) -> bool
     ensures { result ≡ spec.is_ignored holder (association_view kept_place association.now) }
 {
-    !(association.applies_to.is_empty() && is_recognised(holder, name))
+    !(association.applies_to.is_empty() && is_recognised(holder, &association.name))
 }
 
 // Adds the name of an association that means nothing at a kind of place.
@@ -43,9 +44,8 @@ fn add_association(
 ) -> Result<(), NoMemory>
     ensures { OnOk result (found.new ≡ found.old ++ spec.association_ignored holder (association_view kept_place association.now)) }
 {
-    let name = spelled_name(alloc, &association.name)?;
-    if is_ignored(holder, association, name.as_str()) {
-        found.push(name)?;
+    if is_ignored(holder, association) {
+        found.push(spelled_name(alloc, &association.name)?)?;
     }
     Ok(())
 }

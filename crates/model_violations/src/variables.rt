@@ -92,13 +92,12 @@ fn value_in(value: &Value) -> i64
 }
 
 // The first value of the variables of a declaration.
-fn first_of(alloc: Global, variable: &VariableDeclaration) -> Result<i64, NoMemory>
-    ensures { IfOk result (λ first. first ≡ spec.first_of (variable_view kept_place variable.now)) }
+fn first_of(variable: &VariableDeclaration) -> i64
+    ensures { result ≡ spec.first_of (variable_view kept_place variable.now) }
 {
-    let given = property_in(alloc, variable.properties.as_slice(), Property::Initial)?;
-    match given {
-        Some(given) => Ok(value_in(&given.value)),
-        None => Ok(0),
+    match property_in(variable.properties.as_slice(), Property::Initial) {
+        Some(given) => value_in(&given.value),
+        None => 0,
     }
 }
 
@@ -129,7 +128,7 @@ fn add_variables(
     ensures { OnOk result (variables.new ≡ variables.old ++ spec.variables_in (variable_view kept_place declaration.now)) }
 {
     let kind = kind_named(&declaration.data_type);
-    let first = first_of(alloc, declaration)?;
+    let first = first_of(declaration);
     add_variable(alloc, kind, first, &declaration.names.first, variables)?;
     for name in &declaration.names.rest {
         add_variable(alloc, kind, first, name, variables)?;

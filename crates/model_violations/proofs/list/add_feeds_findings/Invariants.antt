@@ -5,4 +5,4 @@ use Rattle.model_violations.specs.Chains.{feed_findings}
 use Rattle.model_violations.proofs.list.add_feeds_findings.Given as goal
 
 abbrev pub invariant-loop-feed : goal.invariant-loop-feed
-invariant-loop-feed l = l.found ≡ l.fn.found ++ flat_map (feed_findings (placed l.names.tree.now) l.threads l.rates) (take l.feed-index l.feeds)
+invariant-loop-feed l = l.found ≡ l.fn.found ++ flat_map (feed_findings (placed l.properties.names.tree.now) l.threads l.rates) (take l.feed-index l.feeds)

@@ -5,4 +5,4 @@ use Rattle.model_violations.specs.Chains.{tap_findings}
 use Rattle.model_violations.proofs.list.add_taps_findings.Given as goal
 
 abbrev pub invariant-loop-tap : goal.invariant-loop-tap
-invariant-loop-tap l = l.found ≡ l.fn.found ++ flat_map (tap_findings (placed l.names.tree.now) l.threads) (take l.tap-index l.taps)
+invariant-loop-tap l = l.found ≡ l.fn.found ++ flat_map (tap_findings (placed l.properties.names.tree.now) l.threads) (take l.tap-index l.taps)

@@ -9,16 +9,16 @@ use Rattle.model_violations.proofs.list.findings_of.Goals as goal
 
 pub add_root_findings-requires : goal.add_root_findings-requires
 add_root_findings-requires c =
-    greatest_fits (placed c.args.names.now.tree.now) c.args.instance.now.root c.as_slice-threads.result.now c.as_slice.result.now c.greatest_rate-greatest.result (c.as_slice.ensures.value ∙ c.in_ok-rates.ensures)
+    greatest_fits (placed c.args.properties.now.names.tree.now) c.args.instance.now.root c.as_slice-threads.result.now c.as_slice.result.now c.greatest_rate-greatest.result (c.as_slice.ensures.value ∙ c.in_ok-rates.ensures)
     c.greatest_rate-greatest.ensures
 
 pub add_chain_findings-requires : goal.add_chain_findings-requires
 add_chain_findings-requires c =
-    rates_positive (placed c.args.names.now.tree.now) c.args.instance.now.root c.as_slice-threads.result.now c.as_slice-2.result.now (c.as_slice-2.ensures.value ∙ c.in_ok-rates.ensures)
+    rates_positive (placed c.args.properties.now.names.tree.now) c.args.instance.now.root c.as_slice-threads.result.now c.as_slice-2.result.now (c.as_slice-2.ensures.value ∙ c.in_ok-rates.ensures)
 
 pub returns : goal.returns
 returns c =
-    let tree = placed c.args.names.now.tree.now in
+    let tree = placed c.args.properties.now.names.tree.now in
     let root = c.args.instance.now.root in
     let threads = c.as_slice-threads.ensures.value in
     let others = c.in_ok-add_used_findings.ensures in

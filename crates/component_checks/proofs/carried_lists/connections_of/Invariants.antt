@@ -1,0 +1,8 @@
+use Rattle.std.proofs.Common.{◌≡◌, map, take}
+use Rattle.aadl_tree.specs.Maps.{kept_place}
+use Rattle.aadl_tree.specs.Views.{connection_view}
+use Rattle.component_checks.specs.Carried.{carried_by}
+use Rattle.component_checks.proofs.carried_lists.connections_of.Given as goal
+
+abbrev pub invariant-loop-connection : goal.invariant-loop-connection
+invariant-loop-connection l = l.carried ≡ map (λ c. carried_by c.properties) (map (connection_view kept_place) (take l.connection-index l.connections))

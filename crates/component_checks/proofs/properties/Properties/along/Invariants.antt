@@ -1,0 +1,9 @@
+use Rattle.std.proofs.Common.{◌≡◌, take}
+use Rattle.aadl_tree.specs.PackageViews.{placed}
+use Rattle.component_checks.specs.Lists.{lists_along}
+use Rattle.component_checks.specs.Timed.{timed_by}
+use Rattle.component_checks.proofs.properties.Properties.along.Given as goal
+
+-- the nearest so far
+abbrev pub invariant-loop-sub : goal.invariant-loop-sub
+invariant-loop-sub l = l.nearest ≡ timed_by (lists_along (placed l.self.names.tree.now) l.root (take l.sub-index l.subs))

@@ -1,0 +1,9 @@
+-- Names that are compared piece by piece.
+use Rattle.std.specs.Prelude.{ℕ, Bool, false, List, Option, Some, None}
+use denote.Ref.{Bor}
+use Rattle.aadl_names.specs.Spelling.{same_name}
+
+-- whether a name's further letters are what is left of a text
+abbrev pub goes_on : List ℕ → Option (Bor (List ℕ)) → Bool
+goes_on more None = false
+goes_on more (Some rest) = same_name more rest.now

@@ -1,0 +1,119 @@
+//! What the lists of properties of a package say.
+ghost use Rattle.std.specs.Prelude.{◌≡◌, IfOk, map, option_map, slice_get};
+ghost use Rattle.std.proofs.Props.{props};
+ghost use Rattle.aadl_tree.specs.PackageViews.{placed};
+ghost use Rattle.aadl_names.specs.Resolving.{implementation_at, connections_of};
+ghost use Rattle.component_checks.specs.Carried.{carried_by, connections_carried};
+ghost use Rattle.component_checks.specs.Lists.{lists_at, root_lists, lists_along, sub_lists, innermost};
+ghost use Rattle.component_checks.specs.Timed as spec;
+ghost use Rattle.component_checks.specs.Timed.{timed_by};
+
+use crate::carried::Carried;
+use crate::carried_lists::{all_of_connections, carried_at};
+use crate::timed::Timed;
+use crate::timed_lists::{all_of_subs, all_of_types, all_own, numbered, numbered_in};
+use aadl_names::Names;
+use aadl_uses::SubAt;
+use pals_base::{Items, NoMemory};
+use std::alloc::Global;
+
+// What the lists of properties of a package say, by the numbers of declarations, subcomponents and
+// connections.
+#[derive(Drop)]
+struct Said {
+    // of each implementation, with its type
+    own: Items<Timed>,
+    // of each subcomponent, with its implementation and that one's type
+    subs: Items<Items<Timed>>,
+    // of each connection
+    connections: Items<Items<Carried>>,
+}
+
+/// A package with its names, and what its lists of properties say.
+#[derive(Drop)]
+pub struct Properties<'t> {
+    /// The package with its names.
+    pub names: Names<'t>,
+    said: Said,
+    ghost of_own: { said.own ≡ map (spec.own_timed (placed names.tree.now)) (placed names.tree.now).declarations } by { Prim.hlevel props },
+    ghost of_subs: { said.subs ≡ map (spec.subs_timed (placed names.tree.now)) (placed names.tree.now).declarations } by { Prim.hlevel props },
+    ghost of_connections: { said.connections ≡ map connections_carried (placed names.tree.now).declarations } by { Prim.hlevel props },
+}
+
+// What implementations say, and their types.
+fn own_in(names: &Names<'_>, alloc: Global) -> Result<Items<Timed>, NoMemory>
+    ensures { IfOk result (λ own. own ≡ map (spec.own_timed (placed names.now.tree.now)) (placed names.now.tree.now).declarations) }
+{
+    let types = all_of_types(alloc, names.tree)?;
+    all_own(names, alloc, types.as_slice())
+}
+
+// What the lists of a package with these names say.
+fn said_in(names: &Names<'_>, alloc: Global) -> Result<Said, NoMemory>
+    ensures own { IfOk result (λ said. said.own ≡ map (spec.own_timed (placed names.now.tree.now)) (placed names.now.tree.now).declarations) }
+    ensures subs { IfOk result (λ said. said.subs ≡ map (spec.subs_timed (placed names.now.tree.now)) (placed names.now.tree.now).declarations) }
+    ensures connections { IfOk result (λ said. said.connections ≡ map connections_carried (placed names.now.tree.now).declarations) }
+{
+    let connections = all_of_connections(alloc, names.tree)?;
+    let own = own_in(names, alloc)?;
+    let subs = all_of_subs(names, alloc, own.as_slice())?;
+    Ok(Said {
+        own,
+        subs,
+        connections,
+    })
+}
+
+impl<'t> Properties<'t> {
+    /// What the lists of a package with these names say.
+    pub fn of(alloc: Global, names: Names<'t>) -> Result<Properties<'t>, NoMemory>
+        ensures { IfOk result (λ properties. properties.names.tree.now ≡ names.entry.tree.now) }
+    {
+        let said = said_in(&names, alloc)?;
+        Ok(Properties { names, said })
+    }
+
+    /// What is said of the root.
+    pub fn of_root(&self, root: usize) -> Timed
+        ensures { result ≡ timed_by (root_lists (placed self.now.names.tree.now) root) }
+    {
+        numbered(self.said.own.as_slice(), Some(root))
+    }
+
+    /// What is said at a subcomponent.
+    pub fn of_sub(&self, sub: SubAt) -> Timed
+        ensures { result ≡ timed_by (lists_at (placed self.now.names.tree.now) sub) }
+    {
+        numbered_in(self.said.subs.as_slice(), sub.declaration, sub.sub)
+    }
+
+    /// What is said of a component below the root, by the nearest place on the way there.
+    pub fn along(&self, root: usize, subs: &[SubAt]) -> Timed
+        ensures { result ≡ timed_by (lists_along (placed self.now.names.tree.now) root subs.now) }
+    {
+        let mut nearest = self.of_root(root);
+        for sub in subs {
+            nearest = self.of_sub(*sub).or(nearest);
+        }
+        nearest
+    }
+
+    /// What is said of a component by its own places alone: the subcomponent that it is, its
+    /// implementation and its type.
+    pub fn of_component(&self, subs: &[SubAt]) -> Timed
+        ensures { result ≡ timed_by (sub_lists (placed self.now.names.tree.now) (innermost (placed self.now.names.tree.now) subs.now)) }
+    {
+        match subs.last() {
+            Some(sub) => self.of_sub(*sub),
+            None => Timed::none(),
+        }
+    }
+
+    /// What a connection says of the chains that it carries.
+    pub fn of_connection(&self, declaration: usize, connection: usize) -> Option<Carried>
+        ensures { result ≡ option_map (λ c. carried_by c.properties)
+            (slice_get (connections_of (implementation_at (placed self.now.names.tree.now) declaration)) connection) }
+    {
+        carried_at(self.said.connections.as_slice(), declaration, connection)
+    }
+}
