@@ -1,5 +1,5 @@
 -- What the nodes share under the lock: a bus with the clocks of its nodes, which are a run, and what is noted of each node.
-use Rattle.std.specs.Prelude.{◌≡◌, ◌⊎◌, ℕ, ◌<◌, ◌≤◌, Bool, true, false, List, [], length, map, Some, None, slice_index_or}
+use Rattle.std.specs.Prelude.{◌≡◌, ◌⊎◌, ℕ, ◌<◌, ◌≤◌, Bool, true, false, List, [], length, map, Option, Some, None, slice_index_or}
 use Rattle.pals_base.specs.declared.limits.TheConstants.{READING, ROUNDS}
 use Rattle.pals_base.specs.declared.values.NodeNo.{NodeNo}
 use Rattle.pals_clock.specs.Clock.{ClockState, unpicked}
@@ -8,6 +8,7 @@ use Rattle.pals_clock.specs.declared.clock.Clocks.TheVariants.{Meet, Lists}
 use Rattle.pals_model.specs.declared.design.Link.{Link}
 use Rattle.pals_runs.specs.declared.journal.Phase.TheVariants.{Waiting, Done}
 use Rattle.bus_machine.specs.declared.action.Action.{Action}
+use Rattle.bus_machine.specs.declared.action.Action.TheVariants as action
 use Rattle.bus_machine.specs.declared.action.Next.{Next}
 use Rattle.bus_machine.specs.Laws.{IsRunOf}
 use Rattle.bus_machine.specs.Plans.{plan_of}
@@ -84,9 +85,23 @@ pub record IsOpen (c : CourseValue) (node : ℕ) : Type 0 where
 abbrev pub IsDone : CourseValue → ℕ → Type 0
 IsDone c node = (node_at c.bus.state node).phase ≡ Done
 
--- what a node does next, and from when on
+-- what a node does next, and from when on; none where its job is out, or it is done
+abbrev pub next_in : CourseValue → ℕ → Option Next
+next_in c node = next_of (plan_of c.bus.run.design node) (node_at c.bus.state node)
+
 abbrev pub IsNext : CourseValue → ℕ → Next → Type 0
-IsNext c node next = next_of (plan_of c.bus.run.design node) (node_at c.bus.state node) ≡ Some next
+IsNext c node next = next_in c node ≡ Some next
+
+-- whether an action is a send
+abbrev pub sends : Action → Bool
+sends (action.Start round) = false
+sends (action.Step round step) = false
+sends (action.Send round) = true
+
+-- whether what comes next is a send
+abbrev pub is_send : Option Next → Bool
+is_send None = false
+is_send (Some next) = sends next.action
 
 -- a node is to start its next round
 pub record IsWaiting (c : CourseValue) (node : ℕ) : Type 0 where

@@ -1,17 +1,19 @@
 -- Who sleeps until the course of a run goes on, and who is to be woken once the lock is free.
-use Rattle.std.specs.Prelude.{◌≡◌, ◌⊎◌, ℕ, ◌<◌, Bool, true, false, List, length, replicate, Some, slice_index_or, slice_set}
+use Rattle.std.specs.Prelude.{◌≡◌, ◌⊎◌, ℕ, ◌<◌, ◌&&◌, Bool, true, false, List, length, replicate, Option, Some, None, slice_index_or, slice_set}
 use Rattle.pals_base.specs.declared.limits.TheConstants.{COMPONENTS}
 use Rattle.pals_runs.specs.declared.journal.Phase.TheVariants.{Waiting}
 use Rattle.bus_machine.specs.States.{Run, BusState, node_at}
 use Rattle.run_laws.specs.Runs.{target_of}
 use Rattle.node_threads.specs.declared.wakes.Wakes.{Wakes}
+use Rattle.node_threads.specs.declared.wakes.Bell.{Bell}
+use Rattle.node_threads.specs.declared.wakes.Bell.TheVariants as bell
 use Rattle.node_threads.specs.declared.sleepers.Seat.{Seat}
 use Rattle.node_threads.specs.declared.sleepers.Sleepers.{Sleepers}
 use Rattle.node_threads.specs.Courses.{CourseValue, IsOpen}
 
 -- nobody is to be woken
 abbrev pub no_wakes : Wakes
-no_wakes = record { nodes = replicate COMPONENTS false; caller = false }
+no_wakes = record { any = false; nodes = replicate COMPONENTS false; caller = false }
 
 -- a node has a thread of its own, which is awake
 abbrev pub free_seat : Seat
@@ -28,6 +30,10 @@ with_seat s node seat = record s { seats = slice_set s.seats node seat }
 abbrev pub IsAbove : Run → BusState → ℕ → ℕ → Type 0
 IsAbove run s hour node = (least : ℕ) → target_of run s node ≡ Some least → hour < least
 
+-- an hour is over: the target of each node that is not done is above it
+abbrev pub IsHourOver : CourseValue → ℕ → Type 0
+IsHourOver c hour = (node : ℕ) → node < length c.bus.run.design.components → IsAbove c.bus.run c.bus.state hour node
+
 -- a node that goes on waits: where nodes meet for the hour of its target, and else for its sources, before it starts a round
 pub record Waits (c : CourseValue) (hour node : ℕ) : Type 0 where
   pub is_open : IsOpen c node
@@ -37,13 +43,24 @@ pub record Waits (c : CourseValue) (hour node : ℕ) : Type 0 where
 -- ---- who is woken
 -- whether the thread that has a node is to be woken: the calling thread, or its own
 abbrev pub is_rung : Wakes → ℕ → Bool → Bool
-is_rung wakes node true = wakes.caller
-is_rung wakes node false = slice_index_or wakes.nodes node false
+is_rung wakes node true = wakes.any && wakes.caller
+is_rung wakes node false = wakes.any && slice_index_or wakes.nodes node false
 
 -- the thread that has a node is to be woken too
 abbrev pub with_rung : Wakes → ℕ → Bool → Wakes
-with_rung w node true = record w { caller = true }
-with_rung w node false = record w { nodes = slice_set w.nodes node true }
+with_rung w node true = record w { any = true; caller = true }
+with_rung w node false = record w { any = true; nodes = slice_set w.nodes node true }
+
+-- a bell is to be rung
+abbrev pub is_to_ring : Wakes → Bell → Bool
+is_to_ring w (bell.Node node) = is_rung w node false
+is_to_ring w bell.Caller = is_rung w 0 true
+
+-- a bell need not be rung; where there is none, nobody is to be woken
+abbrev pub without_bell : Wakes → Option Bell → Wakes
+without_bell w None = record w { any = false }
+without_bell w (Some (bell.Node node)) = record w { nodes = slice_set w.nodes node false }
+without_bell w (Some bell.Caller) = record w { any = false; caller = false }
 
 -- the thread that had a node slept, and is to be woken
 pub record IsRoused (old new : Sleepers) (node : ℕ) : Type 0 where

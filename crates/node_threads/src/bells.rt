@@ -3,10 +3,10 @@
 ghost use Rattle.std.specs.Prelude.{◌≡◌, IfOk, vec_len};
 
 use crate::locked::Locked;
-use crate::wakes::Wakes;
+use crate::wakes::Bell;
 use pals_base::{NoMemory, NodeNo};
 use std::alloc::Global;
-use std::sync::{Condvar, Mutex, Wait};
+use std::sync::{Condvar, Mutex, MutexGuard, Wait};
 
 #[derive(Drop)]
 pub struct Bells {
@@ -29,10 +29,16 @@ impl Bells {
         })
     }
 
-    /// Sleeps until a node need not wait.
-    pub fn sleep<R: Wait>(&self, rt: &R, lock: &Mutex<Locked>, node: NodeNo) {
-        if let Some(bell) = self.nodes.get(node.0 as usize) {
-            drop(bell.wait_while(rt, lock.lock(rt), |locked| locked.sleeps(node)));
+    /// Sleeps until a node need not wait, and gives the lock back that it was given.
+    pub fn sleep<'a, R: Wait>(
+        &self,
+        rt: &R,
+        locked: MutexGuard<'a, Locked>,
+        node: NodeNo,
+    ) -> MutexGuard<'a, Locked> {
+        match self.nodes.get(node.0 as usize) {
+            None => locked,
+            Some(bell) => bell.wait_while(rt, locked, |locked| locked.sleeps(node)),
         }
     }
 
@@ -45,15 +51,16 @@ impl Bells {
         locked.caller_is_over()
     }
 
-    /// Wakes those that are to be woken, once the lock is free.
-    pub fn ring(&self, wakes: &Wakes) {
-        for (number, bell) in self.nodes.iter().enumerate() {
-            if wakes.has_node(number) {
-                bell.notify_one();
+    /// Wakes the thread of a bell, if there is one.
+    pub fn ring(&self, bell: Option<Bell>) {
+        match bell {
+            None => {}
+            Some(Bell::Caller) => self.caller.notify_one(),
+            Some(Bell::Node(number)) => {
+                if let Some(bell) = self.nodes.get(number) {
+                    bell.notify_one();
+                }
             }
-        }
-        if wakes.has_caller() {
-            self.caller.notify_one();
         }
     }
 }

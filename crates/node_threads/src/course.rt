@@ -5,11 +5,12 @@ ghost use Rattle.bus_machine.specs.Laws.{IsRunOf};
 ghost use Rattle.pals_bus.specs.Meeting.{HasEnded};
 ghost use Rattle.pals_bus.specs.Values.{opening_bus};
 ghost use Rattle.run_laws.specs.Runs.{target_of, Begin, Runs};
-ghost use Rattle.node_threads.specs.Courses.{clocks_of, IsCourse, Stays, IsOpen, IsDone};
+ghost use Rattle.node_threads.specs.Courses.{clocks_of, IsCourse, Stays, IsOpen, IsDone, next_in, is_send};
 ghost use Rattle.node_threads.specs.Ends.{AllEnded, EndsFit, end_in, phase_end, closed_end};
 
 use crate::clocks::same_lists;
 use crate::ends::{NodeEnd, Note};
+use bus_machine::{Action, Next};
 use pals_base::{Items, Nanos, NoMemory, NodeNo};
 use pals_bus::Bus;
 use pals_clock::ListClock;
@@ -177,6 +178,28 @@ impl Course {
             return None;
         }
         self.bus.target(node)
+    }
+
+    /// Whether a node sends next.
+    pub fn is_to_send(&self, node: NodeNo) -> bool
+        ensures { node.0 < length self.now.bus.run.design.components → result ≡ is_send (next_in self.now node.0) }
+    {
+        node.0 < self.count() && is_send(self.bus.next(node))
+    }
+}
+
+// Whether what comes next is a send.
+fn is_send(next: Option<Next>) -> bool
+    ensures { result ≡ is_send next }
+{
+    match next {
+        Some(
+            Next {
+                action: Action::Send { round: _ },
+                target: _,
+            },
+        ) => true,
+        _ => false,
     }
 }
 

@@ -1,13 +1,14 @@
 //! What lies under the lock: the course of the run, and who sleeps until it goes on. A thread that takes
 //! the lock knows of it what the type of the course says, and no more.
 ghost use Rattle.std.specs.Prelude.{◌≡◌, ℕ, true, IsTrue};
+ghost use Rattle.run_laws.specs.Runs.{IsLeast};
 ghost use Rattle.node_threads.specs.Courses.{Stays, IsOpen, IsDone};
 ghost use Rattle.node_threads.specs.Sleepers.{seat_at, Waits};
 
 use crate::course::Course;
 use crate::ends::Turn;
 use crate::sleepers::Sleepers;
-use crate::wakes::Wakes;
+use crate::wakes::Bell;
 use pals_base::NodeNo;
 use pals_node::Done;
 
@@ -19,9 +20,13 @@ pub struct Locked {
 }
 
 impl Locked {
-    pub fn new(course: Course, sleepers: Sleepers) -> Locked
-        ensures { result ≡ record { course = course; sleepers = sleepers } }
+    /// A course, of which the hour is the least target, and who sleeps.
+    pub fn new(course: Course, mut sleepers: Sleepers) -> Locked
+        ensures course { result.course ≡ course }
+        ensures hour { IsLeast course.bus.run course.bus.state result.sleepers.hour }
+        ensures others { result.sleepers ≡ record sleepers { hour = result.sleepers.hour } }
     {
+        sleepers.move_hour(&course);
         Locked { course, sleepers }
     }
 
@@ -33,11 +38,15 @@ impl Locked {
     }
 
     /// The next turn of a node: its job that was done comes in, and then it goes on. It tells too whom
-    /// to wake once the lock is free.
+    /// to wake once the lock is free: one thread at most, which tells of the next one in its turn, so
+    /// that they do not all ask for the lock at once. Where a job comes in while others are to be woken,
+    /// it tells of none: a thread is on its way to its turn that will.
     #[tactic(auto, using(crate::proofs::Steps::stays_on))]
-    pub fn turn(&mut self, node: NodeNo, done: Option<Done>) -> (Turn, Wakes)
+    pub fn turn(&mut self, node: NodeNo, done: Option<Done>) -> (Turn, Option<Bell>)
         ensures { Stays self.old.course self.new.course }
     {
+        self.sleepers.rise(node);
+        let tells = done.is_none() || !self.sleepers.has_wakes();
         if let Some(done) = done {
             self.finish(node, done);
         }
@@ -45,26 +54,31 @@ impl Locked {
             Turn::Again => self.begin(node),
             other => other,
         };
-        (turn, self.sleepers.take_wakes())
+        let wake = if tells {
+            self.sleepers.take_wake()
+        } else {
+            None
+        };
+        (turn, wake)
     }
 
     /// The next turn of a node that the calling thread has.
-    pub fn turn_of_caller(&mut self, node: NodeNo) -> (Turn, Wakes)
+    pub fn turn_of_caller(&mut self, node: NodeNo) -> (Turn, Option<Bell>)
         ensures { Stays self.old.course self.new.course }
     {
         if self.sleepers.is_of_caller(node) {
             self.turn(node, None)
         } else {
-            (Turn::Wait, Wakes::none())
+            (Turn::Wait, None)
         }
     }
 
     /// The job of a node that the calling thread has comes in.
-    pub fn finish_of_caller(&mut self, node: NodeNo, done: Done) -> Wakes
+    pub fn finish_of_caller(&mut self, node: NodeNo, done: Done) -> Option<Bell>
         ensures { Stays self.old.course self.new.course }
     {
         self.finish(node, done);
-        self.sleepers.take_wakes()
+        self.sleepers.take_wake()
     }
 
     /// The calling thread has a node.
@@ -107,26 +121,67 @@ impl Locked {
     }
 
     // A node's job comes in.
+    #[tactic(auto, using(crate::proofs::Steps::stays_on))]
     fn finish(&mut self, node: NodeNo, done: Done)
         ensures { Stays self.old.course self.new.course }
     {
         self.course.end(node, done);
-        self.sleepers.move_hour(&self.course, node);
+        self.move_hour(node);
     }
 
     // A node goes on, and those are woken who waited for that.
+    #[tactic(auto, using(crate::proofs::Steps::stays_on))]
     fn begin(&mut self, node: NodeNo) -> Turn
         ensures { Stays self.old.course self.new.course }
     {
+        if self.sleepers.is_early(&self.course, node) {
+            return Turn::Wait;
+        }
         let turn = self.course.begin(node);
         match turn {
             Turn::Again => {
                 self.sleepers.wake_targets(&self.course, node);
-                self.sleepers.move_hour(&self.course, node);
+                self.move_hour(node);
             }
             Turn::Over => self.sleepers.wake_behind(&self.course, node),
             Turn::Wait | Turn::Work(_) => {}
         }
         turn
+    }
+
+    // Where the nodes meet: if a node was the last one at the hour, the hour moves. What is to be sent
+    // then is sent here, so that no thread is woken for that alone; if nobody is left at the hour, it
+    // moves once more. Those are woken that need not wait any more.
+    fn move_hour(&mut self, node: NodeNo)
+        ensures { Stays self.old.course self.new.course }
+    {
+        if !self.sleepers.is_hour_over(&self.course, node) {
+            return;
+        }
+        self.sleepers.move_hour(&self.course);
+        self.send_at_hour();
+        if !self.sleepers.some_at_hour(&self.course) {
+            self.sleepers.move_hour(&self.course);
+        }
+        self.sleepers.wake_all_ready(&self.course);
+    }
+
+    // The nodes whose target the hour has reached, and that send next, do so.
+    #[tactic(auto, using(crate::proofs::Steps::stays_on))]
+    fn send_at_hour(&mut self)
+        ensures { Stays self.old.course self.new.course }
+    {
+        for number in 0..self.course.count() {
+            self.send(NodeNo(number));
+        }
+    }
+
+    // A node that sends next does so, where the hour has reached its target.
+    fn send(&mut self, node: NodeNo)
+        ensures { Stays self.old.course self.new.course }
+    {
+        if self.sleepers.is_at_hour(&self.course, node) && self.course.is_to_send(node) {
+            let _sent = self.course.begin(node);
+        }
     }
 }

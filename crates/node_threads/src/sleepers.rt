@@ -1,11 +1,12 @@
 //! Who sleeps until the course of a run goes on.
-ghost use Rattle.std.specs.Prelude.{◌≡◌, ◌<◌, ◌≤◌, ℕ, length, replicate, IsTrue, IfOk, IfSome, true, false};
+ghost use Rattle.std.specs.Prelude.{◌≡◌, ◌<◌, ◌≤◌, ℕ, length, replicate, IsTrue, IfOk, IfSome, Some, true, false};
 ghost use Rattle.run_laws.specs.Runs.{IsLeast};
 ghost use Rattle.node_threads.specs.Courses.{IsOpen, IsDone};
-ghost use Rattle.node_threads.specs.Sleepers.{no_wakes, free_seat, seat_at, with_seat, IsAbove, Waits, Rouses};
+ghost use Rattle.node_threads.specs.declared.wakes.Bell.{Bell};
+ghost use Rattle.node_threads.specs.Sleepers.{no_wakes, is_to_ring, without_bell, free_seat, seat_at, with_seat, IsAbove, IsHourOver, Waits, Rouses};
 
 use crate::course::Course;
-use crate::wakes::Wakes;
+use crate::wakes::{Bell, Wakes};
 use pals_base::limits::READING;
 use pals_base::{Items, Nanos, NoMemory, NodeNo};
 use std::alloc::Global;
@@ -94,14 +95,26 @@ impl Sleepers {
         !self.is_of_caller(node) || !course.is_open(node)
     }
 
-    /// Those that are to be woken; after it nobody is.
-    pub fn take_wakes(&mut self) -> Wakes
-        ensures taken { result ≡ self.old.wakes }
-        ensures none { self.new ≡ record self.old { wakes = no_wakes } }
+    /// Whether anybody may have to be woken.
+    pub fn has_wakes(&self) -> bool
+        ensures { result ≡ self.now.wakes.any }
     {
-        let wakes = self.wakes;
-        self.wakes = Wakes::none();
-        wakes
+        self.wakes.any()
+    }
+
+    /// One that is to be woken, who then is no longer to be.
+    pub fn take_wake(&mut self) -> Option<Bell>
+        ensures taken { IfSome result (λ bell. is_to_ring self.old.wakes bell ≡ true) }
+        ensures rest { self.new ≡ record self.old { wakes = without_bell self.old.wakes result } }
+    {
+        self.wakes.take()
+    }
+
+    /// The thread of a node has a turn: it need not be woken.
+    pub fn rise(&mut self, node: NodeNo)
+        ensures { self.new ≡ record self.old { wakes = without_bell self.old.wakes (Some (Bell.Node node.0)) } }
+    {
+        self.wakes.remove(node.0 as usize);
     }
 
     fn seat(&self, node: NodeNo) -> Seat
@@ -128,13 +141,17 @@ impl Sleepers {
     fn must_wait(&self, course: &Course, node: NodeNo) -> bool
         ensures { IsTrue result → Waits course.now self.now.hour node.0 }
     {
-        if !course.is_open(node) {
-            return false;
-        }
         if course.meeting() {
-            return !self.is_at_hour(course, node);
+            return self.is_early(course, node);
         }
-        course.lacks(node)
+        course.is_open(node) && course.lacks(node)
+    }
+
+    /// Where the nodes meet: whether a node that goes on has a target that the hour has not reached.
+    pub fn is_early(&self, course: &Course, node: NodeNo) -> bool
+        ensures { IsTrue result → Waits course.now self.now.hour node.0 }
+    {
+        course.meeting() && course.is_open(node) && !self.is_at_hour(course, node)
     }
 
     // Wakes the thread that has a node, where it sleeps.
@@ -191,31 +208,37 @@ impl Sleepers {
         }
     }
 
-    /// Where the nodes meet: if a node was the last one at the hour, the hour moves, and those are woken
-    /// whose target it reaches.
-    pub fn move_hour(&mut self, course: &Course, node: NodeNo)
-        ensures { Rouses self.old self.new }
+    /// Where the nodes meet: whether a node has left the hour, and was the last one at it.
+    pub fn is_hour_over(&self, course: &Course, node: NodeNo) -> bool
+        ensures { IsTrue result → IsHourOver course.now self.now.hour }
     {
-        if !course.meeting() || self.is_at_hour(course, node) || self.some_at_hour(course) {
-            return;
-        }
+        // The last node is mostly the last to leave, so it is asked first.
+        let last = NodeNo(course.count().saturating_sub(1));
+        course.meeting()
+            && !self.is_at_hour(course, node)
+            && !self.is_at_hour(course, last)
+            && !self.some_at_hour(course)
+    }
+
+    /// The hour moves to the least target.
+    pub fn move_hour(&mut self, course: &Course)
+        ensures hour { IsLeast course.now.bus.run course.now.bus.state self.new.hour }
+        ensures others { self.new ≡ record self.old { hour = self.new.hour } }
+    {
         self.hour = least_target(course);
-        for number in 0..course.count() {
-            self.wake_at_hour(course, NodeNo(number));
-        }
     }
 
-    // Wakes the thread that has a node, where the hour has reached its target.
-    fn wake_at_hour(&mut self, course: &Course, node: NodeNo)
+    /// Wakes all threads that sleep though their node need not wait.
+    pub fn wake_all_ready(&mut self, course: &Course)
         ensures { Rouses self.old self.new }
     {
-        if self.is_at_hour(course, node) {
-            self.wake(node);
+        for number in 0..course.count() {
+            self.wake_ready(course, NodeNo(number));
         }
     }
 
-    // Whether the hour has reached the target of a node that is not done.
-    fn is_at_hour(&self, course: &Course, node: NodeNo) -> bool
+    /// Whether the hour has reached the target of a node that is not done.
+    pub fn is_at_hour(&self, course: &Course, node: NodeNo) -> bool
         ensures { result ≡ false → node.0 < length course.now.bus.run.design.components → IsAbove course.now.bus.run course.now.bus.state self.now.hour node.0 }
     {
         match course.target(node) {
@@ -224,8 +247,9 @@ impl Sleepers {
         }
     }
 
-    fn some_at_hour(&self, course: &Course) -> bool
-        ensures { result ≡ false → (k : ℕ) → k < length course.now.bus.run.design.components → IsAbove course.now.bus.run course.now.bus.state self.now.hour k }
+    /// Whether the hour has reached the target of some node that is not done.
+    pub fn some_at_hour(&self, course: &Course) -> bool
+        ensures { result ≡ false → IsHourOver course.now self.now.hour }
     {
         for number in 0..course.count() {
             if self.is_at_hour(course, NodeNo(number)) {

@@ -158,14 +158,14 @@ fn work<R: Wait, G: Gate>(rt: &R, lock: &Mutex<Locked>, bells: &Bells, gate: &G,
     for _ in rt.forever() {
         match take_turn(rt, lock, bells, node, done.take()) {
             Turn::Over => return,
-            Turn::Again => {}
-            Turn::Wait => bells.sleep(rt, lock, node),
+            Turn::Again | Turn::Wait => {}
             Turn::Work(job) => done = Some(done_by(gate, node, job)),
         }
     }
 }
 
-// The turn of a node that has a thread.
+// The turn of a node that has a thread. Where it waits, it sleeps under the same lock, and takes its next
+// turn as soon as it is woken.
 fn take_turn<R: Wait>(
     rt: &R,
     lock: &Mutex<Locked>,
@@ -173,8 +173,15 @@ fn take_turn<R: Wait>(
     node: NodeNo,
     done: Option<Done>,
 ) -> Turn {
-    let (turn, wakes) = lock.lock(rt).turn(node, done);
-    bells.ring(&wakes);
+    let mut locked = lock.lock(rt);
+    let (mut turn, mut wake) = locked.turn(node, done);
+    if matches!(&turn, Turn::Wait) {
+        bells.ring(wake);
+        locked = bells.sleep(rt, locked, node);
+        (turn, wake) = locked.turn(node, None);
+    }
+    drop(locked);
+    bells.ring(wake);
     turn
 }
 
@@ -204,12 +211,12 @@ fn work_one_turn<R: Wait, G: Gate>(
     node: NodeNo,
     gate: &G,
 ) {
-    let (turn, wakes) = lock.lock(rt).turn_of_caller(node);
-    bells.ring(&wakes);
+    let (turn, wake) = lock.lock(rt).turn_of_caller(node);
+    bells.ring(wake);
     if let Turn::Work(job) = turn {
         let done = done_by(gate, node, job);
-        let wakes = lock.lock(rt).finish_of_caller(node, done);
-        bells.ring(&wakes);
+        let wake = lock.lock(rt).finish_of_caller(node, done);
+        bells.ring(wake);
     }
 }
 

@@ -1,13 +1,16 @@
-//! Which threads a locked step wakes.
-ghost use Rattle.std.specs.Prelude.{◌≡◌, false, slice_index_or};
-ghost use Rattle.node_threads.specs.Sleepers.{no_wakes, with_rung};
+//! Which threads are to be woken.
+ghost use Rattle.std.specs.Prelude.{◌≡◌, IfSome, Some, false, true, slice_index_or};
+ghost use Rattle.node_threads.specs.declared.wakes.Bell.{Bell};
+ghost use Rattle.node_threads.specs.Sleepers.{no_wakes, with_rung, is_to_ring, without_bell};
 
 use pals_base::limits::COMPONENTS;
 
-/// The nodes whose threads are to be woken, and whether the calling thread is. It is made under the
-/// lock, and used once the lock is free.
-#[derive(Clone, Copy)]
+/// The nodes whose threads are to be woken, and whether the calling thread is. They are noted under the
+/// lock, and woken one after the other once it is free.
+#[derive(Drop)]
 pub struct Wakes {
+    // Whether anybody may be: without it none of the others counts, and nobody need look at them.
+    any: bool,
     // Of each node.
     nodes: [bool; COMPONENTS],
     caller: bool,
@@ -19,6 +22,7 @@ impl Wakes {
         ensures { result ≡ no_wakes }
     {
         Wakes {
+            any: false,
             nodes: [false; COMPONENTS],
             caller: false,
         }
@@ -28,6 +32,7 @@ impl Wakes {
     pub fn add(&mut self, number: usize, of_caller: bool)
         ensures { self.new ≡ with_rung self.old number of_caller }
     {
+        self.any = true;
         if of_caller {
             self.caller = true;
         } else if number < COMPONENTS {
@@ -35,15 +40,58 @@ impl Wakes {
         }
     }
 
-    pub fn has_node(&self, number: usize) -> bool
-        ensures { result ≡ slice_index_or self.now.nodes number false }
+    /// Whether anybody may have to be woken.
+    pub fn any(&self) -> bool
+        ensures { result ≡ self.now.any }
     {
-        number < COMPONENTS && self.nodes[number]
+        self.any
     }
 
-    pub fn has_caller(&self) -> bool
-        ensures { result ≡ self.now.caller }
+    /// A node's thread need not be woken.
+    pub fn remove(&mut self, number: usize)
+        ensures { self.new ≡ without_bell self.old (Some (Bell.Node number)) }
     {
-        self.caller
+        if number < COMPONENTS {
+            self.nodes[number] = false;
+        }
     }
+
+    /// One that is to be woken, who then is no longer to be. The calling thread comes last.
+    pub fn take(&mut self) -> Option<Bell>
+        ensures taken { IfSome result (λ bell. is_to_ring self.old bell ≡ true) }
+        ensures rest { self.new ≡ without_bell self.old result }
+    {
+        if !self.any {
+            return None;
+        }
+        if let Some(number) = self.first() {
+            self.remove(number);
+            return Some(Bell::Node(number));
+        }
+        self.any = false;
+        if !self.caller {
+            return None;
+        }
+        self.caller = false;
+        Some(Bell::Caller)
+    }
+
+    // The first node whose thread is noted.
+    fn first(&self) -> Option<usize>
+        ensures { IfSome result (λ number. slice_index_or self.now.nodes number false ≡ true) }
+    {
+        for number in 0..COMPONENTS {
+            if self.nodes[number] {
+                return Some(number);
+            }
+        }
+        None
+    }
+}
+
+/// What one thread is woken by: the bell of a node, or that of the calling thread.
+#[derive(Clone, Copy)]
+pub enum Bell {
+    Node(usize),
+    Caller,
 }

@@ -1,5 +1,5 @@
 use Rattle.node_threads.specs.Sleepers.{Rouses}
-use Rattle.node_threads.proofs.sleepers.Sleepers.move_hour.Given as goal
+use Rattle.node_threads.proofs.sleepers.Sleepers.wake_all_ready.Given as goal
 
 -- some are roused
 abbrev pub invariant-loop-number : goal.invariant-loop-number
