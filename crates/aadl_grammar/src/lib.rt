@@ -22,5 +22,5 @@ mod values;
 pub use fault::ParseFault;
 pub use names::{dot_identifier, identifier, identifiers, name, path, reference};
 pub use reader::{Parsed, Reader};
-pub use terminal::{Terminal, TerminalKind, resolve};
+pub use terminal::{Terminal, TerminalKind, narrow, resolve};
 pub use values::{association, associations, properties};

@@ -71,7 +71,7 @@ fn terminal_kind(inside: bool, text: &[u8], token: Token) -> TerminalKind
 }
 
 /// A place in 32 bits. For a text of 4 GiB or more there is not enough memory.
-fn narrow(place: usize) -> Result<u32, AllocError>
+pub fn narrow(place: usize) -> Result<u32, AllocError>
     ensures { IfOk result (λ narrow. narrow ≡ place) }
 {
     if place > u32::MAX as usize {

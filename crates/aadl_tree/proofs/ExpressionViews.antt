@@ -30,10 +30,10 @@ view-Named place x fresh = search (rules, the_lemmas)
 pub view-Group : {P : Type 0} (place : ℕ → P) (at : ℕ) (e : Box Expression Global) → primary_view place (Group at e) ≡ group (place at) (expression_view place e.value)
 view-Group place at e = search (rules, the_lemmas)
 
-pub view-Abs : {P : Type 0} (place : ℕ → P) (at : ℕ) (x : Primary) → factor_view place (Abs at x) ≡ absolute (place at) (primary_view place x)
+pub view-Abs : {P : Type 0} (place : ℕ → P) (at : ℕ) (x : Box Primary Global) → factor_view place (Abs at x) ≡ absolute (place at) (primary_view place x.value)
 view-Abs place at x = search (rules, the_lemmas)
 
-pub view-Not : {P : Type 0} (place : ℕ → P) (at : ℕ) (x : Primary) → factor_view place (Not at x) ≡ negated (place at) (primary_view place x)
+pub view-Not : {P : Type 0} (place : ℕ → P) (at : ℕ) (x : Box Primary Global) → factor_view place (Not at x) ≡ negated (place at) (primary_view place x.value)
 view-Not place at x = search (rules, the_lemmas)
 
 pub view-Plain : {P : Type 0} (place : ℕ → P) (x : Primary) → factor_view place (Plain x) ≡ bare (primary_view place x)

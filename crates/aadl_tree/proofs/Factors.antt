@@ -1,5 +1,5 @@
 -- What a factor is, by what it stands for.
-use Rattle.std.proofs.Common.{◌≡◌, ◌∙◌, ℕ, ap, sym}
+use Rattle.std.proofs.Common.{◌≡◌, ◌∙◌, ℕ, ap, sym, Box, Global}
 use Rattle.aadl_tree.specs.declared.expressions.Factor.{Factor, Abs, Not, Plain}
 use Rattle.aadl_tree.specs.declared.expressions.Factor.TheOpen.{Factor-F}
 use Rattle.aadl_tree.specs.declared.expressions.Factor.TheViews.{out-Factor, roll-Factor, roll-out-Factor, rolls-Abs, rolls-Not, rolls-Plain}
@@ -21,7 +21,7 @@ abbrev view : Factor → plain.Factor (Unit {0})
 view x = factor_view no_place x
 
 abbrev IsAbsolute : Factor → Type 0
-IsAbsolute x = (at : ℕ) × (y : Primary) × (x ≡ Abs at y)
+IsAbsolute x = (at : ℕ) × (y : Box Primary Global) × (x ≡ Abs at y)
 
 absolute_layer : (x : Factor) (layer : Layer) (operand : plain.Primary (Unit {0})) → x ≡ roll-Factor layer → view x ≡ absolute tt operand → IsAbsolute x
 absolute_layer x (Factor-F.Abs at y) operand is e = (at, y, is ∙ rolls-Abs at y)
@@ -32,7 +32,7 @@ pub only_absolute : (x : Factor) (operand : plain.Primary (Unit {0})) → view x
 only_absolute x operand e = absolute_layer x (out-Factor x) operand (sym (roll-out-Factor x)) e
 
 abbrev IsNegated : Factor → Type 0
-IsNegated x = (at : ℕ) × (y : Primary) × (x ≡ Not at y)
+IsNegated x = (at : ℕ) × (y : Box Primary Global) × (x ≡ Not at y)
 
 negated_layer : (x : Factor) (layer : Layer) (operand : plain.Primary (Unit {0})) → x ≡ roll-Factor layer → view x ≡ negated tt operand → IsNegated x
 negated_layer x (Factor-F.Abs at y) operand is e = let f = ap view (is ∙ rolls-Abs at y) ∙ view-Abs no_place at y in absurd cc

@@ -43,8 +43,8 @@ primary_step place (Primary-F.Named x fresh) = named (identifier_view place x) f
 primary_step place (Primary-F.Group at e) = group (place at) e.value
 
 abbrev pub factor_step : {P : Type 0} → (ℕ → P) → Factor-F (Factor P) (Primary P) (Expression P) (Relation P) (Sum P) (Term P) → Factor P
-factor_step place (Factor-F.Abs at x) = absolute (place at) x
-factor_step place (Factor-F.Not at x) = negated (place at) x
+factor_step place (Factor-F.Abs at x) = absolute (place at) x.value
+factor_step place (Factor-F.Not at x) = negated (place at) x.value
 factor_step place (Factor-F.Plain x) = bare x
 
 abbrev pub term_step : {P : Type 0} → Term-F (Factor P) (Primary P) (Expression P) (Relation P) (Sum P) (Term P) → Term P

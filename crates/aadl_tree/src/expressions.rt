@@ -55,11 +55,11 @@ pub struct Relation {
     pub right: Option<Box<(RelationOperator, Sum)>>,
 }
 
-/// The sign before a sum's first term.
+/// The sign before a sum's first term. Its place has 32 bits, so that it takes 8 bytes.
 #[derive(Clone, Copy)]
 pub struct LeadingSign {
     /// Where it stands.
-    pub at: usize,
+    pub at: u32,
     pub sign: Sign,
 }
 
@@ -84,8 +84,8 @@ pub struct Term {
 #[cycle(expression)]
 #[derive(Drop)]
 pub enum Factor {
-    Abs { at: usize, operand: Primary },
-    Not { at: usize, operand: Primary },
+    Abs { at: usize, operand: Box<Primary> },
+    Not { at: usize, operand: Box<Primary> },
     Plain(Primary),
 }
 

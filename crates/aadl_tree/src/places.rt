@@ -30,7 +30,7 @@ impl Sum {
         ensures { result ≡ sum_at (sum_view kept_place self.now) }
     {
         match &self.sign {
-            Some(sign) => sign.at,
+            Some(sign) => sign.at as usize,
             None => self.first.at(),
         }
     }

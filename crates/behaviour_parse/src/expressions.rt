@@ -8,7 +8,7 @@ ghost use Rattle.aadl_grammar.specs.Table.{rows};
 ghost use Rattle.aadl_grammar.specs.Reading.{here, AtMark, MissAll, Parses, AnyRoom, Room};
 ghost use Rattle.behaviour_parse.specs.Joining.{Joins};
 
-use aadl_grammar::{ParseFault, Parsed, Reader};
+use aadl_grammar::{ParseFault, Parsed, Reader, narrow};
 use aadl_tree::{
     Expression, Factor, LeadingSign, LogicOperator, Mark, MultiplyOperator, Primary, Relation,
     RelationOperator, Sign, Sum, Term, push_exact,
@@ -70,11 +70,21 @@ fn factor(reader: &Reader<'_>, at: usize, room: usize) -> Parsed<Factor>
     let place = reader.place(at);
     if let Some(next) = reader.take(at, Mark::Abs) {
         let (operand, end) = primary(reader, next, room)?;
-        return Ok((Factor::Abs { at: place, operand }, end));
+        let boxed = Box::new(reader.alloc, operand)?;
+        let factor = Factor::Abs {
+            at: place,
+            operand: boxed,
+        };
+        return Ok((factor, end));
     }
     if let Some(next) = reader.take(at, Mark::Not) {
         let (operand, end) = primary(reader, next, room)?;
-        return Ok((Factor::Not { at: place, operand }, end));
+        let boxed = Box::new(reader.alloc, operand)?;
+        let factor = Factor::Not {
+            at: place,
+            operand: boxed,
+        };
+        return Ok((factor, end));
     }
     let (operand, end) = primary(reader, at, room)?;
     Ok((Factor::Plain(operand), end))
@@ -150,9 +160,10 @@ fn sum(reader: &Reader<'_>, at: usize, room: usize) -> Parsed<Sum>
         };
         return Ok((sum, end));
     };
+    let at = narrow(place)?;
     let ((first, rest), end) = terms(reader, next, room)?;
     let sum = Sum {
-        sign: Some(LeadingSign { at: place, sign }),
+        sign: Some(LeadingSign { at, sign }),
         first,
         rest,
     };

@@ -10,6 +10,7 @@ use Rattle.step_code.proofs.code.Code.TheSendSync.{the_send as code_send, the_sy
 use Rattle.link_buffers.proofs.slot.Slot.TheSendSync.{the_send as slot_send}
 use Rattle.link_buffers.proofs.flight.Flight.TheSendSync.{the_send as flight_send}
 use Rattle.link_buffers.proofs.queue.DueQueue.TheSendSync.{the_send as queue_send}
+use Rattle.pals_bus.proofs.outgoing.Outgoing.TheSendSync.{the_send as outgoing_send}
 use Rattle.step_vm.proofs.room.Room.TheSendSync.{the_send as room_send}
 use Rattle.pals_clock.proofs.clock.ListClock.TheSendSync.{the_send as clock_send}
 use Rattle.pals_base.proofs.values.Port.TheSendSync.{the_field_send as port_send}
@@ -188,7 +189,7 @@ node_list_send = search (sendable, node_list_inside_send) depth 20
 
 -- ---- a bus, a course, and what lies under the lock
 bus_fields_send : IsSend bus_fields.row
-bus_fields_send = search (sendable, Arc-send, design_send, design_sync, env_send, delays_send, node_list_send, flight_send, queue_send, stop_send, entry_send, port_send, items_send, Vec-send) depth 20
+bus_fields_send = search (sendable, Arc-send, design_send, design_sync, outgoing_send, env_send, delays_send, node_list_send, flight_send, queue_send, stop_send, entry_send, port_send, items_send, Vec-send) depth 20
 
 bus_send : IsSend bus.row
 bus_send = search (sendable, bus_fields_send) depth 20

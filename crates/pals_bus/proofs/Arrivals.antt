@@ -136,6 +136,7 @@ arrive_keeps_bus f t g link round reading tuple m keeps within comes happens roo
     let one = one_stop why in
     let all : Keeps (come f t g target m) = record {
       design = keeps.design;
+      outgoing = keeps.outgoing;
       rounds = keeps.rounds;
       delays = keeps.delays;
       values = keeps.values;

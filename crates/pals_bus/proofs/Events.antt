@@ -61,6 +61,7 @@ pub keeps_event : (f g : Fields) (e : BusEvent) → Keeps f → g ≡ record f {
 keeps_event f g e keeps same values nodes flights rooms queues happens place =
     let all : Keeps (record f { nodes = g.nodes; flights = g.flights; queues = g.queues; stop = g.stop; journal = g.journal; values = g.values }) = record {
       design = keeps.design;
+      outgoing = keeps.outgoing;
       rounds = keeps.rounds;
       delays = keeps.delays;
       values = values;
@@ -80,6 +81,7 @@ keeps_room f g keeps same values flights copies less queues items more =
     let t : BusState = record (state_of f) { flights = copies_in g.flights } in
     let all : Keeps (record f { flights = g.flights; queues = g.queues; journal = g.journal; values = g.values }) = record {
       design = keeps.design;
+      outgoing = keeps.outgoing;
       rounds = keeps.rounds;
       delays = keeps.delays;
       values = values ∙ keeps.values;

@@ -6,6 +6,8 @@ pub mod QueueMessages
 pub mod QueueSends
 pub mod SameDues
 pub mod Events
+pub mod LinksFrom
+pub mod NextLinks
 pub mod Sendings
 pub mod AfterEvents
 pub mod Views

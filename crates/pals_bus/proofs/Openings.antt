@@ -30,6 +30,7 @@ use Rattle.pals_node.specs.Values.{NodeValue, Program, program_of, opening_value
 use Rattle.pals_bus.specs.declared.fields.Fields.{Fields}
 use Rattle.pals_bus.specs.Values.{AreCodes, code_at, no_code, opening_bus}
 use Rattle.pals_bus.specs.Keeping.{AreNodes, HasRooms, Keeps, copies_in, owed, run_of, state_of, value_of}
+use Rattle.pals_bus.specs.LinksFrom.{AreOutgoing}
 use Rattle.pals_bus.specs.Queues.{AreQueues}
 use Rattle.pals_bus.specs.Absent.{no_flight, no_queue, no_node_value}
 use Rattle.pals_bus.specs.Openings.{AreOpening}
@@ -133,6 +134,7 @@ opening_one design done rounds nodes code n are is =
 -- ---- the fields of a bus before the first event
 pub record IsOpening (f : Fields) (all : List CodeParts) : Type 0 where
   pub design : IsDesign (arc_value f.design)
+  pub outgoing : AreOutgoing (length (arc_value f.design).components) (arc_value f.design).links f.outgoing
   pub rounds : (1 ≤ f.rounds) × (f.rounds ≤ ROUNDS)
   pub delays : AreDelays (length (arc_value f.design).links) f.delays
   pub values : length f.values.items ≡ length f.env.lists
@@ -157,6 +159,7 @@ opening_keeps f all is =
     let none : length f.journal.items ≡ 0 = ap length is.journal in
     record {
       design = is.design;
+      outgoing = is.outgoing;
       rounds = is.rounds;
       delays = is.delays;
       values = is.values;
@@ -199,6 +202,7 @@ nodes_anew design rounds old new are is =
 -- a bus of the same run, made anew
 pub record IsAnew (f g : Fields) : Type 0 where
   pub design : arc_value g.design ≡ arc_value f.design
+  pub outgoing : AreOutgoing (length (arc_value f.design).components) (arc_value f.design).links g.outgoing
   pub env : g.env ≡ f.env
   pub rounds : g.rounds ≡ f.rounds
   pub delays : g.delays ≡ f.delays
@@ -217,6 +221,7 @@ anew_opens f g keeps is =
     let rounds_are : f.rounds ≡ g.rounds = sym is.rounds in
     record {
       design = subst IsDesign back keeps.design;
+      outgoing = subst (λ (d : DesignParts). AreOutgoing (length d.components) d.links g.outgoing) back is.outgoing;
       rounds = subst (λ (n : ℕ). (1 ≤ n) × (n ≤ ROUNDS)) rounds_are keeps.rounds;
       delays = subst (λ (d : DesignParts). AreDelays (length d.links) g.delays) back (subst (AreDelays (length (arc_value f.design).links)) (sym is.delays) keeps.delays);
       values = is.values ∙ ap (λ (e : Env). length e.lists) (sym is.env);

@@ -8,6 +8,7 @@ use Rattle.std.proofs.lemmas.List.Sums.{sum_by-cons, sum_by-drop_more}
 use Rattle.std.proofs.lemmas.Grind.{get_or-set_at}
 use Rattle.std.proofs.lemmas.Option.{get_or_from_slice_get}
 use Rattle.pals_base.specs.declared.limits.TheConstants.{PORTS}
+use Rattle.pals_base.specs.declared.values.LinkNo.{LinkNo}
 use Rattle.pals_model.specs.declared.design.Component.{Component}
 use Rattle.pals_model.specs.declared.design.DesignParts.{DesignParts}
 use Rattle.pals_model.specs.declared.design.Link.{Link}
@@ -17,7 +18,7 @@ use Rattle.link_buffers.specs.Flights.{FlightState}
 use Rattle.link_buffers.specs.Queues.{QueueState, is_entry}
 use Rattle.bus_machine.specs.States.{no_link}
 use Rattle.pals_node.specs.Values.{NodeValue}
-use Rattle.pals_bus.specs.Absent.{no_node_value, no_queue}
+use Rattle.pals_bus.specs.Absent.{no_node_value, no_queue, no_link_no}
 use Rattle.pals_bus.specs.Keeping.{copies_in}
 use Rattle.pals_bus.specs.Queues.{AreQueues, AreQueuesAmid, HasQueueRoomFor, NoLessQueueRoom, entries_in, is_awaited, is_copy_of, is_between}
 use Rattle.pals_bus.proofs.Rooms.{flight_is}
@@ -238,14 +239,6 @@ amid_other source k links nodes flights queues are within other = record {
   room = λ node. let room = are.room node in let more = sum_by-drop_more (λ l. cond (is_between source node l) 1 0) links k no_link within in omega (arith, room, more);
 }
 
--- all messages of the round are sent
-pub amid_all : (source : ℕ) (links : List Link) (nodes : List NodeValue) (flights : List FlightState) (queues : List QueueState) → AreQueuesAmid source (length links) links nodes flights queues → AreQueues links nodes flights queues
-amid_all source links nodes flights queues are = record {
-  count = are.count;
-  entries = are.entries;
-  room = λ node. let room = are.room node in omega (arith, room);
-}
-
 -- a queue has room for the message of the next link
 pub amid_room : (source k : ℕ) (links : List Link) (nodes : List NodeValue) (flights : List FlightState) (queues : List QueueState) → AreQueuesAmid source k links nodes flights queues → k < length links → (slice_index_or links k no_link).source.0 ≡ source
     → 1 ≤ (slice_index_or queues (slice_index_or links k no_link).target.0 no_queue).spare
@@ -282,15 +275,12 @@ few_into design is =
     ports_few (slice_get design.components link.target.0) link.in_port
     (λ c is_c. (subst (IsComponent design.period) (get_or_from_slice_get design.components link.target.0 c c is_c) (is.components.each link.target.0 c target.node_is)).small.ports) target.port_is)
 
--- ---- room in the queues that the first links go to
-pub record IsQueuesReserved (node first : ℕ) (links : List Link) (old new : List QueueState) : Type 0 where
+-- ---- room in the queues that the first of some links go to
+pub record IsQueuesReserved (first : ℕ) (numbers : List LinkNo) (links : List Link) (old new : List QueueState) : Type 0 where
   pub count : length new ≡ length old
   pub entries : entries_in new ≡ entries_in old
   pub less : NoLessQueueRoom old new
-  pub room : (number : ℕ) (link : Link) → number < first → slice_get links number ≡ Some link → link.source.0 ≡ node → PORTS ≤ (slice_index_or new link.target.0 no_queue).spare
-
-pub queues_reserved_none : (node : ℕ) (links : List Link) (old : List QueueState) → IsQueuesReserved node 0 links old old
-queues_reserved_none node links old = record { count = refl; entries = refl; less = λ k. omega arith; room = λ number link lt is from. absurd (omega (arith, lt)) }
+  pub room : (k : ℕ) → k < first → PORTS ≤ (slice_index_or new (slice_index_or links (slice_index_or numbers k no_link_no).0 no_link).target.0 no_queue).spare
 
 pub queue_more : (queues : List QueueState) (at k : ℕ) (queue : QueueState) → at < length queues → (slice_index_or queues at no_queue).spare ≤ queue.spare → (slice_index_or queues k no_queue).spare ≤ (slice_index_or (slice_set queues at queue) k no_queue).spare
 queue_more queues at k queue within more = elim (cases_eq k at) [
@@ -303,45 +293,25 @@ queue_more queues at k queue within more = elim (cases_eq k at) [
       omega (arith, new)
 ]
 
--- a queue with the same entries and no less room
-pub queues_reserved_same : (node k at : ℕ) (links : List Link) (old new : List QueueState) (queue : QueueState) → IsQueuesReserved node k links old new → at < length new → queue.entries ≡ (slice_index_or new at no_queue).entries → (slice_index_or new at no_queue).spare ≤ queue.spare
-    → IsQueuesReserved node k links old (slice_set new at queue)
-queues_reserved_same node k at links old new queue are within same more = record {
-  count = length-set new at queue ∙ are.count;
-  entries = map-set_same (λ (q : QueueState). q.entries) new at queue no_queue same ∙ are.entries;
-  less = λ j. let a = are.less j in let b = queue_more new at j queue within more in omega (arith, a, b);
-  room = λ number link lt is from. let a = are.room number link lt is from in let b = queue_more new at link.target.0 queue within more in omega (arith, a, b);
-}
-
-pub queues_reserved_other : (node k : ℕ) (links : List Link) (old new : List QueueState) (link : Link) → IsQueuesReserved node k links old new → slice_get links k ≡ Some link → link.source.0 ≢ node → IsQueuesReserved node (k + 1) links old new
-queues_reserved_other node k links old new link are is_link other = record {
-  count = are.count;
-  entries = are.entries;
-  less = are.less;
-  room = λ number l lt is from. elim (cases_lt number k) [
-    | inl before ↦ are.room number l before is from
-    | inr at ↦
-        let here : number ≡ k = omega (arith, lt, at) in
-        let same : l ≡ link = let two : Some l ≡ Some link = sym is ∙ ap (slice_get links) here ∙ is_link in cc in
-        absurd (other (ap (λ (m : Link). m.source.0) (sym same) ∙ from))
-  ];
-}
-
-pub queues_reserved_one : (node k : ℕ) (links : List Link) (old new : List QueueState) (link : Link) (queue : QueueState) → IsQueuesReserved node k links old new → slice_get links k ≡ Some link → link.target.0 < length new
-    → queue.entries ≡ (slice_index_or new link.target.0 no_queue).entries → (slice_index_or new link.target.0 no_queue).spare ≤ queue.spare → PORTS ≤ queue.spare → IsQueuesReserved node (k + 1) links old (slice_set new link.target.0 queue)
-queues_reserved_one node k links old new link queue are is_link within same more some =
-    let kept = queues_reserved_same node k link.target.0 links old new queue are within same more in
+-- the next link goes to a queue with the same entries, no less room, and room for a message on each in port
+pub queues_reserved_one : (k : ℕ) (numbers : List LinkNo) (links : List Link) (old new : List QueueState) (link : LinkNo) (target : ℕ) (queue : QueueState) → IsQueuesReserved k numbers links old new
+    → link ≡ slice_index_or numbers k no_link_no → target ≡ (slice_index_or links link.0 no_link).target.0 → target < length new → queue.entries ≡ (slice_index_or new target no_queue).entries
+    → (slice_index_or new target no_queue).spare ≤ queue.spare → PORTS ≤ queue.spare → IsQueuesReserved (k + 1) numbers links old (slice_set new target queue)
+queues_reserved_one k numbers links old new link target queue are is is_target within same more some =
+    let target_of = λ (n : ℕ). (slice_index_or links (slice_index_or numbers n no_link_no).0 no_link).target.0 in
     record {
-      count = kept.count;
-      entries = kept.entries;
-      less = kept.less;
-      room = λ number l lt is from. elim (cases_lt number k) [
-        | inl before ↦ kept.room number l before is from
+      count = length-set new target queue ∙ are.count;
+      entries = map-set_same (λ (q : QueueState). q.entries) new target queue no_queue same ∙ are.entries;
+      less = λ j. let a = are.less j in let b = queue_more new target j queue within more in omega (arith, a, b);
+      room = λ j lt. elim (cases_lt j k) [
+        | inl before ↦
+            let a = are.room j before in
+            let b = queue_more new target (target_of j) queue within more in
+            omega (arith, a, b)
         | inr at ↦
-            let here : number ≡ k = omega (arith, lt, at) in
-            let is_l : l ≡ link = let two : Some l ≡ Some link = sym is ∙ ap (slice_get links) here ∙ is_link in cc in
-            let spare : (slice_index_or (slice_set new link.target.0 queue) l.target.0 no_queue).spare ≡ queue.spare =
-            ap (λ (q : QueueState). q.spare) (get_or-set_at new link.target.0 l.target.0 queue no_queue (ap (λ (m : Link). m.target.0) is_l) within) in
+            let now : j ≡ k = omega (arith, lt, at) in
+            let here : target_of j ≡ target = ap target_of now ∙ ap (λ (l : LinkNo). (slice_index_or links l.0 no_link).target.0) (sym is) ∙ sym is_target in
+            let spare : (slice_index_or (slice_set new target queue) (target_of j) no_queue).spare ≡ queue.spare = ap (λ (q : QueueState). q.spare) (get_or-set_at new target (target_of j) queue no_queue here within) in
             omega (arith, spare, some)
       ];
     }

@@ -51,7 +51,7 @@ amid_one source links nodes flights queues link copy flight queue are within fli
     }
 
 -- ---- before the first event
-all_the_same : {X Y : Type 0} (y : Y) (xs : List X) (k : ℕ) → slice_index_or (map (λ (_ : X). y) xs) k y ≡ y
+pub all_the_same : {X Y : Type 0} (y : Y) (xs : List X) (k : ℕ) → slice_index_or (map (λ (_ : X). y) xs) k y ≡ y
 all_the_same y [] k = refl
 all_the_same y (x ∷ xs) zero = refl
 all_the_same y (x ∷ xs) (suc k) = all_the_same y xs k

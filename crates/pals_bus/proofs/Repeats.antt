@@ -119,6 +119,7 @@ repeat_keeps_bus f g link round copy keeps within repeats happens two wide room 
     let target : t < length f.queues = omega (arith, many, count, there) in
     let all : Keeps h = record {
       design = keeps.design;
+      outgoing = keeps.outgoing;
       rounds = keeps.rounds;
       delays = keeps.delays;
       values = keeps.values;

@@ -26,9 +26,6 @@ pub flight_here : (flights : List FlightState) (at : ℕ) (flight : FlightState)
 flight_here flights at flight within is = flight_is flights at ∙ ap (λ (k : FlightState). k.copies) (sym (is ∙ get_or_default flights at flight no_flight within))
 
 -- ---- room
-pub no_less : (flights : List FlightState) → NoLessRoom flights flights
-no_less flights number = omega arith
-
 pub no_less-set : (flights : List FlightState) (at : ℕ) (flight : FlightState) → at < length flights → (slice_index_or flights at no_flight).spare ≤ flight.spare → NoLessRoom flights (slice_set flights at flight)
 no_less-set flights at flight within more number = elim (cases_eq number at) [
   | inl e ↦

@@ -1,26 +1,28 @@
 -- A bus while the messages of a round are sent.
-use Rattle.std.proofs.Common.{◌≡◌, ◌∙◌, ℕ, suc, ◌+◌, ◌<◌, ◌≤◌, Bool, true, false, cond, List, [], ◌∷◌, length, drop, Option, refl, sym, ap, subst, arith, drop-cons, length-drop}
-use Rattle.std.specs.Prelude.{filter, slice_set, slice_index_or, not, nat_eq}
+use Rattle.std.proofs.Common.{◌≡◌, ◌∙◌, ℕ, suc, ◌+◌, ◌<◌, ◌≤◌, true, false, cond, List, [], ◌∷◌, length, drop, Option, sym, ap, subst, arith, drop-cons, length-drop}
+use Rattle.std.specs.Prelude.{◌-◌, filter, min, slice_set, slice_index_or}
 use Rattle.std.specs.Arc.{arc_value}
 use Rattle.std.proofs.lemmas.Bool.{eqb-true, false≢true}
 use Rattle.std.proofs.lemmas.Option.{slice_get-get_or}
+use Rattle.pals_base.specs.declared.limits.TheConstants.{HOUR}
 use Rattle.pals_base.specs.declared.values.Port.{Port}
 use Rattle.pals_base.specs.declared.values.LinkNo.{LinkNo}
-use Rattle.pals_model.specs.declared.design.Link.{Link}
 use Rattle.pals_model.specs.declared.flight.FlightCopy.{FlightCopy}
-use Rattle.pals_model.specs.Delays.{delay_of}
+use Rattle.pals_model.specs.Delays.{AreDelays, delay_of}
 use Rattle.pals_model.specs.Rules.{IsDesign}
 use Rattle.link_buffers.specs.Flights.{FlightState}
 use Rattle.link_buffers.specs.Queues.{QueueState}
 use Rattle.bus_machine.specs.LinkEvents.{sent_copy}
-use Rattle.bus_machine.specs.States.{no_link}
+use Rattle.bus_machine.specs.States.{link_at, no_link}
 use Rattle.pals_bus.specs.declared.fields.Fields.{Fields}
 use Rattle.pals_bus.specs.Sending.{is_from, place_of, HasRoomFor, with_copy, AreSent}
 use Rattle.pals_bus.specs.Queues.{AreQueuesAmid, with_due}
-use Rattle.pals_bus.specs.Absent.{no_flight, no_queue}
+use Rattle.pals_bus.specs.LinksFrom.{no_numbers}
+use Rattle.pals_bus.specs.Absent.{no_flight, no_queue, no_link_no}
+use Rattle.pals_bus.proofs.NextLinks.{IsAt, Reaches, reaches_all, reaches_next}
 use Rattle.pals_bus.proofs.QueueRooms.{eqb-refl, amid_other, amid_room}
 use Rattle.pals_bus.proofs.QueueSends.{amid_one}
-use Rattle.pals_bus.proofs.Sendings.{place_next, place_within, sent_none, sent_other, sent_one}
+use Rattle.pals_bus.proofs.Sendings.{place_next, place_within, sent_other, sent_one}
 use Rattle.pals_bus.proofs.Taken.{target_within}
 
 -- the first links have their messages, and the others are left
@@ -36,14 +38,6 @@ pub record CanSend (f : Fields) (node : ℕ) (messages : List (List Port)) : Typ
   pub flights : length f.flights ≡ length (arc_value f.design).links
   pub nodes : length f.nodes ≡ length (arc_value f.design).components
   pub count : length messages ≡ length (filter (is_from node) (arc_value f.design).links)
-
-pub sending_none : (f : Fields) (node round : ℕ) (reading : Option ℕ) (messages : List (List Port)) → AreQueuesAmid node 0 (arc_value f.design).links f.nodes f.flights f.queues → Sending f f node round reading messages messages 0
-sending_none f node round reading messages queues = record {
-  sent = sent_none node (arc_value f.design).links f.delays round reading messages f.flights;
-  left_are = refl;
-  queues = queues;
-  others = refl;
-}
 
 -- the next link is not the node's
 pub sending_other : (first now : Fields) (node round : ℕ) (reading : Option ℕ) (messages left : List (List Port)) (number : ℕ) → Sending first now node round reading messages left number → number < length (arc_value first.design).links
@@ -142,17 +136,47 @@ message_left first now node round reading messages left number can so_far within
     let all = length-drop (place_of node links number) messages in
     omega (arith, count, placed, size, all)
 
--- ---- whether a link is from the node, as the code asks
-other_source : (b r : Bool) → r ≡ not b → r ≡ true → b ≡ false
-other_source true r is told = absurd (false≢true (sym is ∙ told))
-other_source false r is told = refl
+-- ---- the next link from the node
+-- the numbers that the code reads are those of the fields as they were
+pub own_links : (first now : Fields) (node round : ℕ) (reading : Option ℕ) (messages left : List (List Port)) (at : ℕ) (ns all : List LinkNo)
+    → Reaches (Sending first now node round reading messages left) node at (arc_value first.design).links (slice_index_or first.outgoing node no_numbers) → all ≡ slice_index_or first.outgoing node no_numbers → at < length all → ns ≡ slice_index_or now.outgoing node no_numbers
+    → IsAt (Sending first now node round reading messages left) node at (arc_value first.design).links (slice_index_or first.outgoing node no_numbers) (slice_index_or ns at no_link_no)
+own_links first now node round reading messages left at ns all so_far all_are lt are =
+    let links = (arc_value first.design).links in
+    let numbers = slice_index_or first.outgoing node no_numbers in
+    let going = Sending first now node round reading messages left in
+    let same : ns ≡ numbers = are ∙ ap (λ (k : Fields). slice_index_or k.outgoing node no_numbers) so_far.holds.others in
+    subst (λ (k : List LinkNo). IsAt going node at links numbers (slice_index_or k at no_link_no)) (sym same)
+    (reaches_next going node at links numbers (λ k within other so_far. sending_other first now node round reading messages left k so_far within other) so_far (subst (λ (k : List LinkNo). at < length k) all_are lt))
 
-own_source : (b r : Bool) → r ≡ not b → r ≡ false → b ≡ true
-own_source true r is told = refl
-own_source false r is told = absurd (false≢true (sym told ∙ is))
+-- it has a delay of at most an hour
+pub sending_delay : (first now : Fields) (node round : ℕ) (reading : Option ℕ) (messages left : List (List Port)) (number : ℕ) → Sending first now node round reading messages left number → AreDelays (length (arc_value first.design).links) first.delays → number < length (arc_value first.design).links
+    → (number < length now.delays.lists) × (delay_of now.delays number round ≤ HOUR)
+sending_delay first now node round reading messages left number so_far are within =
+    subst (λ (k : Fields). (number < length k.delays.lists) × (delay_of k.delays number round ≤ HOUR)) (sym so_far.others)
+    (let each = are.each in
+    let inside : number < length first.delays.lists = omega (arith, each, within) in
+    let list = slice_index_or first.delays.lists number [] in
+    let is = are.lists number [] inside in
+    let some = is.some' in
+    (inside, is.within (min round (length list - 1)) 0 (omega (arith, some))))
 
-pub is_other : (links ls : List Link) (number node : ℕ) (r : Bool) → ls ≡ links → r ≡ not (nat_eq (slice_index_or ls number no_link).source.0 node) → r ≡ true → is_from node (slice_index_or links number no_link) ≡ false
-is_other links ls number node r same is told = ap (λ (k : List Link). nat_eq (slice_index_or k number no_link).source.0 node) (sym same) ∙ other_source (nat_eq (slice_index_or ls number no_link).source.0 node) r is told
+-- its flight, itself and the queue of its target are there
+pub sending_places : (first now : Fields) (node round : ℕ) (reading : Option ℕ) (messages left : List (List Port)) (number : ℕ) → CanSend first node messages → Sending first now node round reading messages left number → number < length (arc_value first.design).links
+    → (number < length now.flights) × ((number < length (arc_value now.design).links) × ((link_at (arc_value now.design) number).target.0 < length now.queues))
+sending_places first now node round reading messages left number can so_far within =
+    let same = so_far.sent.count in
+    let many = can.flights in
+    let queues_count = so_far.queues.count in
+    let nodes = can.nodes in
+    let there = target_within (arc_value first.design) number can.design within in
+    (omega (arith, same, many, within), subst (λ (k : Fields). (number < length (arc_value k.design).links) × ((link_at (arc_value k.design) number).target.0 < length now.queues)) (sym so_far.others) (within, omega (arith, queues_count, nodes, there)))
 
-pub is_own : (links ls : List Link) (number node : ℕ) (r : Bool) → ls ≡ links → r ≡ not (nat_eq (slice_index_or ls number no_link).source.0 node) → r ≡ false → is_from node (slice_index_or links number no_link) ≡ true
-is_own links ls number node r same is told = ap (λ (k : List Link). nat_eq (slice_index_or k number no_link).source.0 node) (sym same) ∙ own_source (nat_eq (slice_index_or ls number no_link).source.0 node) r is told
+-- once all links of the node are done
+pub sending_all : (first now : Fields) (node round : ℕ) (reading : Option ℕ) (messages left : List (List Port)) (at : ℕ) (all : List LinkNo)
+    → Reaches (Sending first now node round reading messages left) node at (arc_value first.design).links (slice_index_or first.outgoing node no_numbers) → all ≡ slice_index_or first.outgoing node no_numbers → length all ≤ at
+    → Sending first now node round reading messages left (length (arc_value first.design).links)
+sending_all first now node round reading messages left at all so_far are past =
+    let size = ap length are in
+    reaches_all (Sending first now node round reading messages left) node at (arc_value first.design).links (slice_index_or first.outgoing node no_numbers)
+    (λ k within other so_far. sending_other first now node round reading messages left k so_far within other) so_far (omega (arith, size, past))

@@ -10,6 +10,7 @@ use Rattle.std.proofs.lemmas.Grind.{get_or-set_at}
 use Rattle.std.proofs.lemmas.Option.{slice_get_within, slice_get-get_or, get_or_from_slice_get}
 use Rattle.std.proofs.Math.Seq.{map-set_same}
 use Rattle.pals_base.specs.declared.values.Port.{Port}
+use Rattle.pals_base.specs.declared.values.LinkNo.{LinkNo}
 use Rattle.pals_base.specs.declared.values.NodeNo.{NodeNo}
 use Rattle.pals_model.specs.declared.design.Link.{Link}
 use Rattle.pals_model.specs.declared.rounds.Delays.{Delays}
@@ -25,71 +26,41 @@ use Rattle.bus_machine.specs.States.{Run, BusState, node_at, flight_at, no_link}
 use Rattle.bus_machine.specs.Machine.{flight_after_send}
 use Rattle.bus_machine.proofs.Lists.{numbered_at, length-numbered}
 use Rattle.pals_bus.specs.Keeping.{copies_in}
-use Rattle.pals_bus.specs.Absent.{no_flight}
-use Rattle.pals_bus.specs.Sending.{is_from, place_of, HasRoomFor, NoLessRoom, with_copy, sent_flight, AreSent}
-use Rattle.pals_bus.proofs.Rooms.{flight_is, no_less, no_less-set, NoLessElsewhere}
+use Rattle.pals_bus.specs.Absent.{no_flight, no_link_no}
+use Rattle.pals_bus.specs.Sending.{is_from, place_of, NoLessRoom, with_copy, sent_flight, AreSent}
+use Rattle.pals_bus.proofs.Rooms.{flight_is, no_less-set, NoLessElsewhere}
 
--- ---- room on the first links
-pub record IsReserved (node first : ℕ) (links : List Link) (old new : List FlightState) : Type 0 where
+-- ---- room on the first of some links
+pub record IsReserved (first : ℕ) (numbers : List LinkNo) (old new : List FlightState) : Type 0 where
   pub count : length new ≡ length old
   pub copies : copies_in new ≡ copies_in old
   pub less : NoLessRoom old new
-  pub room : HasRoomFor node first links new
+  pub room : (k : ℕ) → k < first → 1 ≤ (slice_index_or new (slice_index_or numbers k no_link_no).0 no_flight).spare
 
-pub reserved_none : (node : ℕ) (links : List Link) (old : List FlightState) → IsReserved node 0 links old old
-reserved_none node links old = record { count = refl; copies = refl; less = no_less old; room = λ number link lt is from. absurd (omega (arith, lt)) }
-
--- a link that is not the node's
-pub reserved_other : (node k : ℕ) (links : List Link) (old new : List FlightState) (link : Link) → IsReserved node k links old new → slice_get links k ≡ Some link → link.source.0 ≢ node → IsReserved node (k + 1) links old new
-reserved_other node k links old new link are is_link other = record {
-  count = are.count;
-  copies = are.copies;
-  less = are.less;
-  room = λ number l lt is from. elim (cases_lt number k) [
-    | inl before ↦ are.room number l before is from
+-- the next link has a flight with as many copies, no less room, and room for one more
+pub reserved_one : (k : ℕ) (numbers : List LinkNo) (old new : List FlightState) (link : LinkNo) (flight : FlightState) → IsReserved k numbers old new → link ≡ slice_index_or numbers k no_link_no → link.0 < length new
+    → flight.copies ≡ (slice_index_or new link.0 no_flight).copies → (slice_index_or new link.0 no_flight).spare ≤ flight.spare → 1 ≤ flight.spare → IsReserved (k + 1) numbers old (slice_set new link.0 flight)
+reserved_one k numbers old new link flight are is within same more some = record {
+  count = length-set new link.0 flight ∙ are.count;
+  copies = map-set_same (λ (f : FlightState). f.copies) new link.0 flight no_flight same ∙ are.copies;
+  less = λ number. let a = are.less number in let b = no_less-set new link.0 flight within more number in omega (arith, a, b);
+  room = λ j lt. elim (cases_lt j k) [
+    | inl before ↦
+        let a = are.room j before in
+        let b = no_less-set new link.0 flight within more (slice_index_or numbers j no_link_no).0 in
+        omega (arith, a, b)
     | inr at ↦
-        let here : number ≡ k = omega (arith, lt, at) in
-        let same : l ≡ link = let both : Some l ≡ Some link = sym is ∙ ap (slice_get links) here ∙ is_link in cc in
-        absurd (other (ap (λ (m : Link). m.source.0) (sym same) ∙ from))
+        let now : j ≡ k = omega (arith, lt, at) in
+        let here : (slice_index_or numbers j no_link_no).0 ≡ link.0 = ap (λ (n : ℕ). (slice_index_or numbers n no_link_no).0) now ∙ ap (λ (l : LinkNo). l.0) (sym is) in
+        let spare : (slice_index_or (slice_set new link.0 flight) (slice_index_or numbers j no_link_no).0 no_flight).spare ≡ flight.spare =
+        ap (λ (f : FlightState). f.spare) (get_or-set_at new link.0 (slice_index_or numbers j no_link_no).0 flight no_flight here within) in
+        omega (arith, spare, some)
   ];
 }
-
--- a flight with as many copies and no less room
-pub reserved_same : (node k : ℕ) (links : List Link) (old new : List FlightState) (flight : FlightState) → IsReserved node k links old new → k < length new → flight.copies ≡ (slice_index_or new k no_flight).copies → (slice_index_or new k no_flight).spare ≤ flight.spare
-    → IsReserved node k links old (slice_set new k flight)
-reserved_same node k links old new flight are within same more = record {
-  count = length-set new k flight ∙ are.count;
-  copies = map-set_same (λ (f : FlightState). f.copies) new k flight no_flight same ∙ are.copies;
-  less = λ number. let a = are.less number in let b = no_less-set new k flight within more number in omega (arith, a, b);
-  room = λ number l lt is from. let a = are.room number l lt is from in let b = no_less-set new k flight within more number in omega (arith, a, b);
-}
-
-pub reserved_one : (node k : ℕ) (links : List Link) (old new : List FlightState) (flight : FlightState) → IsReserved node k links old new → k < length new → flight.copies ≡ (slice_index_or new k no_flight).copies → (slice_index_or new k no_flight).spare ≤ flight.spare → 1 ≤ flight.spare
-    → IsReserved node (k + 1) links old (slice_set new k flight)
-reserved_one node k links old new flight are within same more some =
-    let kept = reserved_same node k links old new flight are within same more in
-    record {
-      count = kept.count;
-      copies = kept.copies;
-      less = kept.less;
-      room = λ number l lt is from. elim (cases_lt number k) [
-        | inl before ↦ kept.room number l before is from
-        | inr at ↦
-            let here : number ≡ k = omega (arith, lt, at) in
-            let spare : (slice_index_or (slice_set new k flight) number no_flight).spare ≡ flight.spare = ap (λ (f : FlightState). f.spare) (get_or-set_at new k number flight no_flight here within) in
-            omega (arith, spare, some)
-      ];
-    }
 
 -- ---- places among the links from a node
 pub place_next : (node k : ℕ) (links : List Link) → k < length links → place_of node links (k + 1) ≡ place_of node links k + cond (is_from node (slice_index_or links k no_link)) 1 0
 place_next node k links within = length-filter_more (is_from node) links k no_link within
-
-pub place_at_most : (node k : ℕ) (links : List Link) → place_of node links k ≤ length (filter (is_from node) links)
-place_at_most node k links =
-    let p = is_from node in
-    let all : length (filter p links) ≡ length (filter p (take k links) ++ filter p (drop k links)) = ap (λ ls. length (filter p ls)) (sym (take-append-drop k links)) ∙ ap length (filter-append p (take k links) (drop k links)) in
-    omega (arith, all, length-append (filter p (take k links)) (filter p (drop k links)))
 
 first_found : {X : Type 0} (b : Bool) (y d : X) (zs : List X) → b ≡ true → slice_index_or (cond b (y ∷ zs) zs) 0 d ≡ y
 first_found true y d zs is = refl
@@ -116,9 +87,6 @@ pub place_within : (node k : ℕ) (links : List Link) → k < length links → i
 place_within node k links within from = filtered_within (is_from node) links k no_link within from
 
 -- ---- sending
-pub sent_none : (node : ℕ) (links : List Link) (delays : Delays) (round : ℕ) (reading : Option ℕ) (messages : List (List Port)) (old : List FlightState) → AreSent node links delays round reading messages 0 old old
-sent_none node links delays round reading messages old = record { count = refl; sent = λ number lt. absurd (omega (arith, lt)); others = λ number lt. refl }
-
 -- the next link is not the node's
 pub sent_other : (node k : ℕ) (links : List Link) (delays : Delays) (round : ℕ) (reading : Option ℕ) (messages : List (List Port)) (old new : List FlightState) → AreSent node links delays round reading messages k old new → is_from node (slice_index_or links k no_link) ≡ false
     → AreSent node links delays round reading messages (k + 1) old new

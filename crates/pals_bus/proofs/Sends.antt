@@ -87,6 +87,7 @@ send_keeps_bus f g node reading m messages round keeps within sends are queues s
     let place = keeps.place in
     let all : Keeps h = record {
       design = keeps.design;
+      outgoing = keeps.outgoing;
       rounds = keeps.rounds;
       delays = keeps.delays;
       values = keeps.values;

@@ -142,6 +142,7 @@ drop_keeps f t g link round tuple keeps takes same told happens room =
     let size = longer g.journal.items f.journal.items (entry.Drop link round) told in
     let all : Keeps h = record {
       design = keeps.design;
+      outgoing = keeps.outgoing;
       rounds = keeps.rounds;
       delays = keeps.delays;
       values = keeps.values;

@@ -1,5 +1,6 @@
 -- What stands in the place of an item that is not there.
 use Rattle.std.specs.Prelude.{[]}
+use Rattle.pals_base.specs.declared.values.LinkNo.{LinkNo}
 use Rattle.link_buffers.specs.Flights.{FlightState, flight_of}
 use Rattle.link_buffers.specs.Queues.{QueueState, queue_of}
 use Rattle.bus_machine.specs.declared.plan.Plan.{Plan}
@@ -30,3 +31,6 @@ no_flight = flight_of [] 0
 
 abbrev pub no_queue : QueueState
 no_queue = queue_of [] 0
+
+abbrev pub no_link_no : LinkNo
+no_link_no = record { 0 = 0 }

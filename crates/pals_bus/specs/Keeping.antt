@@ -17,6 +17,7 @@ use Rattle.pals_node.specs.Values.{NodeValue}
 use Rattle.pals_bus.specs.declared.fields.Fields.{Fields}
 use Rattle.pals_bus.specs.Values.{BusValue}
 use Rattle.pals_bus.specs.Absent.{no_node_value, no_flight}
+use Rattle.pals_bus.specs.LinksFrom.{AreOutgoing}
 use Rattle.pals_bus.specs.Queues.{AreQueues}
 
 -- ---- what contracts see of a bus's fields
@@ -72,6 +73,7 @@ owed n = (if is_some (running_step n.state.phase) then 1 else 0) + (if n.state.s
 -- ---- the whole
 pub record Keeps (f : Fields) : Type 0 where
   pub design : IsDesign (arc_value f.design)
+  pub outgoing : AreOutgoing (length (arc_value f.design).components) (arc_value f.design).links f.outgoing
   pub rounds : (1 ≤ f.rounds) × (f.rounds ≤ ROUNDS)
   pub delays : AreDelays (length (arc_value f.design).links) f.delays
   pub values : length f.values.items ≡ length f.env.lists

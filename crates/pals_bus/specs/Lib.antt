@@ -6,6 +6,7 @@ pub mod Answers
 pub mod Queues
 pub mod Due
 pub mod Sending
+pub mod LinksFrom
 pub mod Codes
 pub mod Meeting
 pub mod Loose

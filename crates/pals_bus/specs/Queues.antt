@@ -1,5 +1,5 @@
 -- The queue of a node: all copies in flight to it that have a due reading, in rising order.
-use Rattle.std.specs.Prelude.{◌≡◌, ℕ, ◌+◌, ◌-◌, ◌≤◌, nat_eq, nat_lt, Bool, false, ◌&&◌, ◌||◌, not, if◌then◌else◌, List, length, map, drop, filter, count_by, AllPairs, IsPermutation, Option, Some, None, slice_get, slice_index_or}
+use Rattle.std.specs.Prelude.{◌≡◌, ℕ, ◌+◌, ◌-◌, ◌≤◌, nat_eq, nat_lt, Bool, false, ◌&&◌, ◌||◌, not, if◌then◌else◌, List, length, map, drop, filter, count_by, All, AllPairs, IsPermutation, Option, Some, None, slice_get, slice_index_or}
 use Rattle.std.specs.Option.{option_map_or}
 use Rattle.pals_base.specs.declared.limits.TheConstants.{PORTS}
 use Rattle.pals_base.specs.declared.values.LinkNo.{LinkNo}
@@ -44,6 +44,11 @@ NoLessQueueRoom old new = (node : ℕ) → (slice_index_or old node no_queue).sp
 abbrev pub HasQueueRoomFor : ℕ → List Link → List QueueState → Type 0
 HasQueueRoomFor node links queues =
     (number : ℕ) (link : Link) → slice_get links number ≡ Some link → link.source.0 ≡ node → PORTS ≤ (slice_index_or queues link.target.0 no_queue).spare
+
+-- the target of each of these links has it
+abbrev pub HasQueueRoomOn : List LinkNo → List Link → List QueueState → Type 0
+HasQueueRoomOn numbers links queues =
+    All (λ link. PORTS ≤ (slice_index_or queues (slice_index_or links link.0 no_link).target.0 no_queue).spare) numbers
 
 -- ---- one message
 abbrev pub with_due : QueueState → Option ℕ → LinkNo → ℕ → QueueState

@@ -1,5 +1,6 @@
 -- The messages of a node's round, link by link.
-use Rattle.std.specs.Prelude.{◌≡◌, ℕ, ◌-◌, ◌<◌, ◌≤◌, nat_eq, Bool, if◌then◌else◌, List, [], ◌∷◌, ◌++◌, length, filter, take, Option, Some, slice_get, slice_index_or}
+use Rattle.std.specs.Prelude.{◌≡◌, ℕ, ◌-◌, ◌<◌, ◌≤◌, nat_eq, Bool, if◌then◌else◌, List, [], ◌∷◌, ◌++◌, length, filter, take, All, Option, Some, slice_get, slice_index_or}
+use Rattle.pals_base.specs.declared.values.LinkNo.{LinkNo}
 use Rattle.pals_base.specs.declared.values.Port.{Port}
 use Rattle.pals_model.specs.declared.design.Link.{Link}
 use Rattle.pals_model.specs.declared.rounds.Delays.{Delays}
@@ -23,6 +24,10 @@ place_of node links number = length (filter (is_from node) (take number links))
 abbrev pub HasRoomFor : ℕ → ℕ → List Link → List FlightState → Type 0
 HasRoomFor node first links flights =
     (number : ℕ) (link : Link) → number < first → slice_get links number ≡ Some link → link.source.0 ≡ node → 1 ≤ (slice_index_or flights number no_flight).spare
+
+-- each of these links has room for a message
+abbrev pub HasRoomOn : List LinkNo → List FlightState → Type 0
+HasRoomOn numbers flights = All (λ link. 1 ≤ (slice_index_or flights link.0 no_flight).spare) numbers
 
 abbrev pub NoLessRoom : List FlightState → List FlightState → Type 0
 NoLessRoom old new = (number : ℕ) → (slice_index_or old number no_flight).spare ≤ (slice_index_or new number no_flight).spare

@@ -13,6 +13,7 @@ ghost use Rattle.pals_bus.specs.Values.{opening_bus, AreCodes};
 
 use crate::Fields;
 use crate::opening::{empty_flights, empty_queues, fresh_nodes, opening_nodes, room_for_values};
+use crate::outgoing::Outgoing;
 use bus_machine::{Next, Plan};
 use pals_base::{Items, LinkNo, NoMemory, NodeNo, Same, TryClone};
 use pals_model::{Delays, Design, Env, FlightCopy, Part};
@@ -64,6 +65,7 @@ impl Bus {
         requires codes { AreCodes (arc_value design) codes }
         ensures { IfOk result (λ bus. bus ≡ opening_bus (record { design = arc_value design; env = env; rounds = rounds; delays = delays }) codes meeting) }
     {
+        let outgoing = Outgoing::new(alloc, &design)?;
         let nodes = opening_nodes(alloc, &design, codes, rounds)?;
         let flights = empty_flights(alloc, &design)?;
         let queues = empty_queues(alloc, nodes.as_slice())?;
@@ -72,6 +74,7 @@ impl Bus {
             fields: Fields {
                 alloc,
                 design,
+                outgoing,
                 env,
                 rounds,
                 delays,
@@ -222,12 +225,14 @@ impl Bus {
         ensures { IfOk result (λ bus. bus ≡ opening_bus self.now.run self.now.codes self.now.meeting) }
     {
         let f = &self.fields;
+        let outgoing = Outgoing::new(alloc, &f.design)?;
         let nodes = fresh_nodes(alloc, f.nodes.as_slice())?;
         let queues = empty_queues(alloc, nodes.as_slice())?;
         Ok(Bus {
             fields: Fields {
                 alloc,
                 design: Arc::try_clone(&f.design)?,
+                outgoing,
                 env: f.env.try_clone(alloc)?,
                 rounds: f.rounds,
                 delays: f.delays.try_clone(alloc)?,

@@ -11,6 +11,7 @@ ghost use Rattle.pals_bus.specs.Sending.{HasRoomFor};
 
 use crate::flights::{reserve_links, reserve_queues};
 use crate::node_list::NodeList;
+use crate::outgoing::Outgoing;
 use link_buffers::{DueQueue, Flight};
 use pals_base::limits::PORTS;
 use pals_base::{Items, LinkNo, NoMemory, NodeNo, Port};
@@ -19,12 +20,13 @@ use pals_runs::{JournalEntry, Stop};
 use std::alloc::Global;
 use std::sync::Arc;
 
-/// What a bus is of, its nodes and flights, the queue of each node's messages that become due, its
-/// journal, and room for the values of a round.
+/// What a bus is of, the links from each node, its nodes and flights, the queue of each node's messages
+/// that become due, its journal, and room for the values of a round.
 #[derive(Drop)]
 pub struct Fields {
     pub alloc: Global,
     pub design: Arc<Design>,
+    pub outgoing: Outgoing,
     pub env: Env,
     pub rounds: u32,
     pub delays: Delays,
@@ -70,6 +72,7 @@ impl Fields {
     /// Makes room for all that a round of a node needs: its entries, and its messages.
     pub fn reserve_round(&mut self, node: NodeNo) -> Result<(), NoMemory>
         requires keeps { Keeps self.old }
+        requires node { node.0 < length (arc_value self.old.design).components }
         ensures keeps { Keeps self.new }
         ensures others { self.new ≡ record self.old { journal = self.new.journal; flights = self.new.flights; queues = self.new.queues } }
         ensures items { self.new.journal.items ≡ self.old.journal.items }
@@ -79,8 +82,9 @@ impl Fields {
         ensures queues { OnOk result (HasQueueRoomFor node.0 (arc_value self.new.design).links self.new.queues) }
     {
         let links = self.design.links();
-        reserve_links(&mut self.flights, links, node)?;
-        reserve_queues(&mut self.queues, links, node)?;
+        let numbers = self.outgoing.links_from(node);
+        reserve_links(&mut self.flights, numbers)?;
+        reserve_queues(&mut self.queues, links, numbers)?;
         self.reserve_entries()
     }
 

@@ -9,8 +9,9 @@ ghost use Rattle.pals_model.specs.Rules.{IsDesign};
 ghost use Rattle.pals_bus.specs.Keeping.{Keeps, copies_in};
 ghost use Rattle.bus_machine.specs.States.{link_at};
 ghost use Rattle.pals_bus.specs.Absent.{no_flight, no_queue};
-ghost use Rattle.pals_bus.specs.Queues.{AreQueues, AreQueuesAmid, HasQueueRoomFor, NoLessQueueRoom, entries_in, with_due, without_due};
-ghost use Rattle.pals_bus.specs.Sending.{is_from, HasRoomFor, NoLessRoom, with_copy, AreSent};
+ghost use Rattle.pals_bus.specs.Queues.{AreQueues, AreQueuesAmid, HasQueueRoomOn, NoLessQueueRoom, entries_in, with_due, without_due};
+ghost use Rattle.pals_bus.specs.Sending.{is_from, HasRoomFor, HasRoomOn, NoLessRoom, with_copy, AreSent};
+ghost use Rattle.pals_bus.specs.LinksFrom.{AreOutgoing};
 
 use crate::fields::Fields;
 use link_buffers::{DueEntry, DueQueue, Flight};
@@ -18,42 +19,36 @@ use pals_base::limits::PORTS;
 use pals_base::{Items, LinkNo, Nanos, NoMemory, NodeNo, Tuple};
 use pals_model::{FlightCopy, Link};
 
-/// Makes room on each link from a node for one more message.
-pub fn reserve_links(
-    flights: &mut Items<Flight>,
-    links: &[Link],
-    node: NodeNo,
-) -> Result<(), NoMemory>
-    requires { length flights.old ≡ length links.now }
+/// Makes room on each of these links for one more message.
+pub fn reserve_links(flights: &mut Items<Flight>, numbers: &[LinkNo]) -> Result<(), NoMemory>
+    requires { All (λ link. link.0 < length flights.old) numbers.now }
     ensures copies { copies_in flights.new ≡ copies_in flights.old }
     ensures count { length flights.new ≡ length flights.old }
-    ensures room { OnOk result (HasRoomFor node.0 (length links.now) links.now flights.new) }
+    ensures room { OnOk result (HasRoomOn numbers.now flights.new) }
     ensures others { NoLessRoom flights.old flights.new }
 {
-    for number in 0..links.len() {
-        if links[number].source == node {
-            flights[number].reserve(1)?;
-        }
+    for link in numbers {
+        flights[link.0 as usize].reserve(1)?;
     }
     Ok(())
 }
 
-/// Makes room in the queue of each node that reads from this one, for a message on each of its in
+/// Makes room in the queue of the target of each of these links, for a message on each of its in
 /// ports.
 pub fn reserve_queues(
     queues: &mut Items<DueQueue>,
     links: &[Link],
-    node: NodeNo,
+    numbers: &[LinkNo],
 ) -> Result<(), NoMemory>
-    requires { All (λ link. link.target.0 < length queues.old) links.now }
+    requires numbers { All (λ link. link.0 < length links.now) numbers.now }
+    requires targets { All (λ link. link.target.0 < length queues.old) links.now }
     ensures entries { entries_in queues.new ≡ entries_in queues.old }
-    ensures room { OnOk result (HasQueueRoomFor node.0 links.now queues.new) }
+    ensures room { OnOk result (HasQueueRoomOn numbers.now links.now queues.new) }
     ensures others { NoLessQueueRoom queues.old queues.new }
 {
-    for link in links {
-        if link.source == node {
-            queues[link.target.0 as usize].reserve(PORTS as u32)?;
-        }
+    for link in numbers {
+        let target = links[link.0 as usize].target;
+        queues[target.0 as usize].reserve(PORTS as u32)?;
     }
     Ok(())
 }
@@ -71,6 +66,8 @@ impl Fields {
         requires design { IsDesign (arc_value self.old.design) }
         requires count { length self.old.flights ≡ length (arc_value self.old.design).links }
         requires nodes { length self.old.nodes ≡ length (arc_value self.old.design).components }
+        requires node { node.0 < length (arc_value self.old.design).components }
+        requires outgoing { AreOutgoing (length (arc_value self.old.design).components) (arc_value self.old.design).links self.old.outgoing }
         requires delays { AreDelays (length (arc_value self.old.design).links) self.old.delays }
         requires reading { IfSome reading (λ at. at ≤ READING) }
         requires room { HasRoomFor node.0 (length (arc_value self.old.design).links) (arc_value self.old.design).links self.old.flights }
@@ -81,14 +78,11 @@ impl Fields {
         ensures others { self.new ≡ record self.old { flights = self.new.flights; queues = self.new.queues } }
     {
         let mut messages = messages.into_vec().into_iter();
-        for number in 0..self.design.links().len() {
-            if self.design.links()[number].source != node {
-                continue;
-            }
+        for at in 0..self.outgoing.links_from(node).len() {
+            let link = self.outgoing.links_from(node)[at];
             match messages.next() {
                 None => unreachable!(),
                 Some(tuple) => {
-                    let link = LinkNo(number as u32);
                     let due = due_at(reading, self.delays.delay(link, round));
                     self.add_message(link, FlightCopy { round, due, tuple });
                 }

@@ -115,8 +115,8 @@ primary_by f g (Primary-F.Group at x) = ap (e.group (f (g at))) x.value.1
 
 factor_by : {P Q : Type 0} (f : P → Q) (g : ℕ → P) (y : Factor-F (AFactor f g) (APrimary f g) (AExpression f g) (ARelation f g) (ASum f g) (ATerm f g))
     → factor_to f (factor_step g (seen_factor g (factor_layer f g y))) ≡ factor_step (λ n. f (g n)) (seen_factor (λ n. f (g n)) (factor_layer f g y))
-factor_by f g (Factor-F.Abs at x) = ap (e.absolute (f (g at))) x.1
-factor_by f g (Factor-F.Not at x) = ap (e.negated (f (g at))) x.1
+factor_by f g (Factor-F.Abs at x) = ap (e.absolute (f (g at))) x.value.1
+factor_by f g (Factor-F.Not at x) = ap (e.negated (f (g at))) x.value.1
 factor_by f g (Factor-F.Plain x) = ap e.bare x.1
 
 term_by : {P Q : Type 0} (f : P → Q) (g : ℕ → P) (y : Term-F (AFactor f g) (APrimary f g) (AExpression f g) (ARelation f g) (ASum f g) (ATerm f g))

@@ -110,14 +110,14 @@ resolve_factors-loop-operator-preserved t c =
 pub resolve_factor-returns-in_ok-new-in-Abs : goal.resolve_factor-returns-in_ok-new-in-Abs
 resolve_factor-returns-in_ok-new-in-Abs t c =
     let view = ap (factor_view kept_place) c.in-Abs.is ∙ view-Abs kept_place c.in-Abs.at c.in-Abs.operand in
-    rw view (factor_absolute c.args.scope.now c.in-Abs.at (primary_view kept_place c.in-Abs.operand) c.at.result c.in_ok-typed-in-Abs.typed c.in_ok-new-in-Abs.field-0 _ _ _
-    c.in_ok-typed-in-Abs.ensures c.at.ensures c.in_ok-expect-in-Abs.ensures c.in_ok-new-in-Abs.ensures.ok)
+    rw view (factor_absolute c.args.scope.now c.in-Abs.at (primary_view kept_place c.in-Abs.operand.value) c.at.result c.in_ok-typed-in-Abs.typed c.in_ok-new-in-Abs.field-0 _ _ _
+    (rw c.deref.ensures at c.in_ok-typed-in-Abs.ensures) (rw c.deref-in-Abs.ensures at c.at.ensures) c.in_ok-expect-in-Abs.ensures c.in_ok-new-in-Abs.ensures.ok)
 
 pub resolve_factor-returns-in_ok-new-in-Not : goal.resolve_factor-returns-in_ok-new-in-Not
 resolve_factor-returns-in_ok-new-in-Not t c =
     let view = ap (factor_view kept_place) c.in-Not.is ∙ view-Not kept_place c.in-Not.at c.in-Not.operand in
-    rw view (factor_negated c.args.scope.now c.in-Not.at (primary_view kept_place c.in-Not.operand) c.at-in-Not.result c.in_ok-typed-in-Not.typed c.in_ok-new-in-Not.field-0 _ _ _
-    c.in_ok-typed-in-Not.ensures c.at-in-Not.ensures c.in_ok-expect-in-Not.ensures c.in_ok-new-in-Not.ensures.ok)
+    rw view (factor_negated c.args.scope.now c.in-Not.at (primary_view kept_place c.in-Not.operand.value) c.at-in-Not.result c.in_ok-typed-in-Not.typed c.in_ok-new-in-Not.field-0 _ _ _
+    (rw c.deref-in-Not.ensures at c.in_ok-typed-in-Not.ensures) (rw c.deref-in-Not-2.ensures at c.at-in-Not.ensures) c.in_ok-expect-in-Not.ensures c.in_ok-new-in-Not.ensures.ok)
 
 pub resolve_factor-returns-in-Plain : goal.resolve_factor-returns-in-Plain
 resolve_factor-returns-in-Plain t c =

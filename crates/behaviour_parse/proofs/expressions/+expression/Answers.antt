@@ -6,8 +6,8 @@ use Rattle.aadl_grammar.proofs.Rows.{takes_row, deep_row, omits_unless, refuses_
 use Rattle.aadl_grammar.proofs.Written.{nothing, then, marked, named, respelled, shorter, placed_at}
 use Rattle.aadl_tree.specs.Parts.{token}
 use Rattle.aadl_tree.specs.Kinds.{whole}
-use Rattle.aadl_tree.specs.Expressions.{group, compared, primary_parts, factor_parts, factors_parts, term_parts, terms_parts, sum_parts, relation_parts, relations_parts, expression_parts}
-use Rattle.aadl_tree.specs.ExpressionViews.{factor_view, factors_view, term_view, terms_view, sum_view, relation_view, relations_view, expression_view}
+use Rattle.aadl_tree.specs.Expressions.{group, absolute, negated, compared, primary_parts, factor_parts, factors_parts, term_parts, terms_parts, sum_parts, relation_parts, relations_parts, expression_parts}
+use Rattle.aadl_tree.specs.ExpressionViews.{primary_view, factor_view, factors_view, term_view, terms_view, sum_view, relation_view, relations_view, expression_view}
 use Rattle.aadl_tree.specs.Maps.{kept_place}
 use Rattle.aadl_tree.proofs.ExpressionViews.{view-Whole, view-Truth, view-Named, view-Group, view-Abs, view-Not, view-Plain, view-term, view-sum, view-relation, view-expression}
 use Rattle.aadl_grammar.specs.Table.{on}
@@ -106,7 +106,7 @@ unfolding move depth
 factor-returns-in-Some t c = record {
   runs = λ outer below h. takes_row outer c.args.reader.now.end s.factor (below) c.in-Some.ensures refl (omega arith)
       ∙ c.in_ok-operand.ensures.runs outer (below) (omega arith);
-  reads = respelled (ap factor_parts (sym (view-Abs kept_place c.place-place.result c.in_ok-operand.operand))) (placed_at c.place-place.result c.args.reader.now.end c.in-Some.ensures c.place-place.ensures c.in_ok-operand.ensures.reads);
+  reads = respelled (ap (λ x. factor_parts (absolute c.place-place.result (primary_view kept_place x))) (sym c.in_ok-boxed.ensures.ok) ∙ ap factor_parts (sym (view-Abs kept_place c.place-place.result c.in_ok-boxed.boxed))) (placed_at c.place-place.result c.args.reader.now.end c.in-Some.ensures c.place-place.ensures c.in_ok-operand.ensures.reads);
 }
 
 pub factor-returns-in_err-operand-2 : goal.factor-returns-in_err-operand-2
@@ -121,7 +121,7 @@ unfolding move depth
 factor-returns-in-Some-take t c = record {
   runs = λ outer below h. takes_row outer c.args.reader.now.end s.factor (below) c.in-Some-take.ensures refl (omega arith)
       ∙ c.in_ok-operand-2.ensures.runs outer (below) (omega arith);
-  reads = respelled (ap factor_parts (sym (view-Not kept_place c.place-place.result c.in_ok-operand-2.operand))) (placed_at c.place-place.result c.args.reader.now.end c.in-Some-take.ensures c.place-place.ensures c.in_ok-operand-2.ensures.reads);
+  reads = respelled (ap (λ x. factor_parts (negated c.place-place.result (primary_view kept_place x))) (sym c.in_ok-boxed-2.ensures.ok) ∙ ap factor_parts (sym (view-Not kept_place c.place-place.result c.in_ok-boxed-2.boxed))) (placed_at c.place-place.result c.args.reader.now.end c.in-Some-take.ensures c.place-place.ensures c.in_ok-operand-2.ensures.reads);
 }
 
 pub factor-returns-in_err-operand-3 : goal.factor-returns-in_err-operand-3
@@ -253,7 +253,7 @@ unfolding move depth
 sum-returns t c = record {
   runs = λ outer below h. takes_row outer c.args.reader.now.end s.sum (below) c.in-Some.ensures (sign_sum c.in-Some.sign) (omega arith)
       ∙ c.in_ok-first-2.ensures.runs outer (below) (omega arith);
-  reads = respelled (ap sum_parts (sym (view-sum kept_place (Some (record { at = c.place-place.result; sign = c.in-Some.sign })) c.in_ok-first-2.first c.in_ok-first-2.rest))) (placed_at c.place-place.result c.args.reader.now.end c.in-Some.ensures c.place-place.ensures c.in_ok-first-2.ensures.reads);
+  reads = respelled (ap sum_parts (sym (view-sum kept_place (Some (record { at = c.in_ok-at.at; sign = c.in-Some.sign })) c.in_ok-first-2.first c.in_ok-first-2.rest))) (placed_at c.in_ok-at.at c.args.reader.now.end c.in-Some.ensures (c.in_ok-at.ensures ∙ c.place-place.ensures) c.in_ok-first-2.ensures.reads);
 }
 
 pub relation-returns-in_err-left : goal.relation-returns-in_err-left

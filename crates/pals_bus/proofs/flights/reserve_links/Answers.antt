@@ -1,36 +1,27 @@
-use Rattle.std.proofs.Common.{◌∙◌, ◌+◌, ◌<◌, length, slice_index_or, sym, ap, subst, arith}
-use Rattle.std.proofs.lemmas.Bool.{false≢true}
+use Rattle.std.proofs.Common.{◌∙◌, ◌<◌, ◌≤◌, length, slice_index_or, refl, ap, arith}
 use Rattle.std.proofs.lemmas.List.{get_or_default}
-use Rattle.std.proofs.lemmas.Option.{slice_get-get_or}
+use Rattle.std.proofs.lemmas.List.Elements.{All-from_get_or}
+use Rattle.pals_base.specs.declared.values.LinkNo.{LinkNo}
 use Rattle.link_buffers.specs.Flights.{FlightState}
-use Rattle.bus_machine.specs.States.{no_link}
-use Rattle.pals_bus.specs.Absent.{no_flight}
-use Rattle.pals_bus.proofs.QueueRooms.{eqb-refl}
-use Rattle.pals_bus.proofs.Sendings.{IsReserved, reserved_other, reserved_one}
-use Rattle.pals_bus.proofs.flights.reserve_links.Goals.{then-eq+in_ok-reserve, else-eq}
+use Rattle.pals_bus.specs.Absent.{no_flight, no_link_no}
+use Rattle.pals_bus.proofs.Sendings.{reserved_one}
 use Rattle.pals_bus.proofs.flights.reserve_links.Goals as goal
 
-pub loop-number-preserved : goal.loop-number-preserved
-loop-number-preserved c =
-    let links = c.args.links.now in
-    let node = c.args.node.0 in
-    let k = c.loop-number.number in
-    let link = slice_index_or links k no_link in
-    let old = c.args.flights.now in
-    let new = c.loop-number.flights in
-    let is_link = slice_get-get_or links k no_link c.loop-number-test.true in
-    elim c.if-eq.branch [
-      | then-eq+in_ok-reserve w ↦
-          let many = c.loop-number.invariant.count in
-          let all = c.requires in
-          let below = c.loop-number-test.true in
-          let within : k < length new = omega (arith, many, all, below) in
-          let here = w.index_mut.ensures.value ∙ get_or_default new k w.index_mut.result.now no_flight within in
-          let room = w.in_ok-reserve.ensures.room in
-          let spare = ap (λ (f : FlightState). f.spare) here in
-          subst (IsReserved node (k + 1) links old) (sym w.flights-is)
-          (reserved_one node k links old new w.reserve.new.self c.loop-number.invariant within (w.reserve.ensures.copies ∙ ap (λ (f : FlightState). f.copies) here) (omega (arith, room, spare)) (omega (arith, room)))
-      | else-eq w ↦
-          subst (IsReserved node (k + 1) links old) (sym w.flights-is)
-          (reserved_other node k links old new link c.loop-number.invariant is_link (λ same. false≢true (sym w.if-eq.false ∙ c.eq.ensures ∙ eqb-refl link.source.0 node same)))
-    ]
+pub loop-link-preserved : goal.loop-link-preserved
+loop-link-preserved c =
+    let numbers = c.args.numbers.now in
+    let k = c.loop-link.link-index in
+    let link = slice_index_or numbers k no_link_no in
+    let new = c.loop-link.flights in
+    let many = c.loop-link.invariant.count in
+    let all = c.requires k no_link_no c.loop-link-test.true in
+    let within : link.0 < length new = omega (arith, many, all) in
+    let here = c.index_mut.ensures.value ∙ get_or_default new link.0 c.index_mut.result.now no_flight within in
+    let room = c.in_ok-reserve.ensures.room in
+    let spare = ap (λ (f : FlightState). f.spare) here in
+    reserved_one k numbers c.args.flights.now new link c.reserve.new.self c.loop-link.invariant refl within (c.reserve.ensures.copies ∙ ap (λ (f : FlightState). f.copies) here) (omega (arith, room, spare)) (omega (arith, room))
+
+pub returns-clause-room : goal.returns-clause-room
+returns-clause-room c =
+    let past = c.loop-link-test.false in
+    All-from_get_or (λ (link : LinkNo). 1 ≤ (slice_index_or c.loop-link.flights link.0 no_flight).spare) c.args.numbers.now no_link_no (λ k lt. c.loop-link.invariant.room k (omega (arith, past, lt)))

@@ -1,37 +1,32 @@
-use Rattle.std.proofs.Common.{◌∙◌, ◌+◌, ◌<◌, length, slice_index_or, sym, ap, subst, arith}
-use Rattle.std.proofs.lemmas.Bool.{false≢true}
+use Rattle.std.proofs.Common.{◌∙◌, ◌<◌, ◌≤◌, length, slice_index_or, refl, ap, arith}
 use Rattle.std.proofs.lemmas.List.{get_or_default}
-use Rattle.std.proofs.lemmas.Option.{slice_get_within, slice_get-get_or}
+use Rattle.std.proofs.lemmas.List.Elements.{All-from_get_or}
+use Rattle.pals_base.specs.declared.limits.TheConstants.{PORTS}
+use Rattle.pals_base.specs.declared.values.LinkNo.{LinkNo}
 use Rattle.link_buffers.specs.Queues.{QueueState}
 use Rattle.bus_machine.specs.States.{no_link}
-use Rattle.pals_bus.specs.Absent.{no_queue}
-use Rattle.pals_bus.proofs.QueueRooms.{IsQueuesReserved, eqb-refl, queues_reserved_other, queues_reserved_one}
-use Rattle.pals_bus.proofs.flights.reserve_queues.Goals.{then-eq+in_ok-reserve, else-eq}
+use Rattle.pals_bus.specs.Absent.{no_link_no, no_queue}
+use Rattle.pals_bus.proofs.QueueRooms.{queues_reserved_one}
 use Rattle.pals_bus.proofs.flights.reserve_queues.Goals as goal
 
 pub loop-link-preserved : goal.loop-link-preserved
 loop-link-preserved c =
+    let numbers = c.args.numbers.now in
     let links = c.args.links.now in
-    let node = c.args.node.0 in
     let k = c.loop-link.link-index in
-    let link = slice_index_or links k no_link in
-    let old = c.args.queues.now in
+    let link = slice_index_or numbers k no_link_no in
+    let target = (slice_index_or links link.0 no_link).target.0 in
     let new = c.loop-link.queues in
-    let is_link = slice_get-get_or links k no_link c.loop-link-test.true in
-    elim c.if-eq.branch [
-      | then-eq+in_ok-reserve w ↦
-          let many = c.loop-link.invariant.count in
-          let target = c.requires k no_link c.loop-link-test.true in
-          let within : link.target.0 < length new = omega (arith, many, target) in
-          let here = w.index_mut.ensures.value ∙ get_or_default new link.target.0 w.index_mut.result.now no_queue within in
-          let room = w.in_ok-reserve.ensures.room in
-          let spare = ap (λ (q : QueueState). q.spare) here in
-          subst (IsQueuesReserved node (k + 1) links old) (sym w.queues-is)
-          (queues_reserved_one node k links old new link w.reserve.new.self c.loop-link.invariant is_link within (w.reserve.ensures.entries ∙ ap (λ (q : QueueState). q.entries) here) (omega (arith, room, spare)) (omega (arith, room)))
-      | else-eq w ↦
-          subst (IsQueuesReserved node (k + 1) links old) (sym w.queues-is)
-          (queues_reserved_other node k links old new link c.loop-link.invariant is_link (λ same. false≢true (sym w.if-eq.false ∙ c.eq.ensures ∙ eqb-refl link.source.0 node same)))
-    ]
+    let many = c.loop-link.invariant.count in
+    let all = c.requires.targets link.0 no_link (c.requires.numbers k no_link_no c.loop-link-test.true) in
+    let within : target < length new = omega (arith, many, all) in
+    let here = c.index_mut.ensures.value ∙ get_or_default new target c.index_mut.result.now no_queue within in
+    let room = c.in_ok-reserve.ensures.room in
+    let spare = ap (λ (q : QueueState). q.spare) here in
+    queues_reserved_one k numbers links c.args.queues.now new link target c.reserve.new.self c.loop-link.invariant refl refl within (c.reserve.ensures.entries ∙ ap (λ (q : QueueState). q.entries) here) (omega (arith, room, spare)) (omega (arith, room))
 
 pub returns-clause-room : goal.returns-clause-room
-returns-clause-room c = λ number link is from. c.loop-link.invariant.room number link (let past = c.loop-link-test.false in let lt = slice_get_within c.args.links.now number link is in omega (arith, past, lt)) is from
+returns-clause-room c =
+    let past = c.loop-link-test.false in
+    All-from_get_or (λ (link : LinkNo). PORTS ≤ (slice_index_or c.loop-link.queues (slice_index_or c.args.links.now link.0 no_link).target.0 no_queue).spare) c.args.numbers.now no_link_no
+    (λ k lt. c.loop-link.invariant.room k (omega (arith, past, lt)))

@@ -1,10 +1,12 @@
-use Rattle.std.proofs.Common.{◌≡◌, ◌∙◌, None, false, map, refl, sym, ap}
+use Rattle.std.proofs.Common.{◌≡◌, ◌∙◌, None, false, length, map, refl, sym, ap, subst}
+use Rattle.std.specs.Arc.{arc_value}
 use Rattle.pals_model.specs.declared.design.DesignParts.{DesignParts}
 use Rattle.pals_model.specs.declared.design.Link.{Link}
 use Rattle.pals_node.specs.Values.{NodeValue, opening_value}
 use Rattle.pals_bus.specs.declared.fields.Fields.{Fields}
 use Rattle.pals_bus.specs.Absent.{no_flight, no_queue}
 use Rattle.pals_bus.specs.Keeping.{value_of}
+use Rattle.pals_bus.specs.LinksFrom.{AreOutgoing}
 use Rattle.pals_bus.specs.Values.{BusValue, opening_bus}
 use Rattle.pals_bus.proofs.Openings.{IsAnew, anew_opens, anew_shows, opening_keeps}
 use Rattle.pals_bus.proofs.NodeChanges.{codes}
@@ -19,6 +21,7 @@ invariant_of-result-2 c =
     let g : Fields = record {
       alloc = c.args.alloc;
       design = c.in_ok-try_clone.field-0;
+      outgoing = c.outgoing.inside.lists;
       env = c.in_ok-try_clone-2.field-0;
       rounds = f.rounds;
       delays = c.in_ok-try_clone-3.field-0;
@@ -28,23 +31,27 @@ invariant_of-result-2 c =
       flights = c.in_ok-empty_flights.field-0;
       queues = c.queues.inside.items.items;
       stop = None;
-      journal = c.new.result;
+      journal = c.new-2.result;
       values = c.in_ok-room_for_values.field-0;
     } in
+    let outgoing : c.in_ok-outgoing.outgoing ≡ g.outgoing = cc in
     let nodes : c.in_ok-nodes.nodes ≡ g.nodes = cc in
     let queues : c.in_ok-queues.queues ≡ g.queues = cc in
     let is : IsAnew f g = record {
       design = c.in_ok-try_clone.ensures;
+      outgoing =
+          subst (AreOutgoing (length (arc_value f.design).components) (arc_value f.design).links) outgoing
+          (subst (λ (d : DesignParts). AreOutgoing (length d.components) d.links c.in_ok-outgoing.outgoing) c.deref.ensures c.in_ok-outgoing.ensures);
       env = c.in_ok-try_clone-2.ensures;
       rounds = refl;
       delays = c.in_ok-try_clone-3.ensures;
       meeting = refl;
       values = c.in_ok-room_for_values.ensures;
       nodes = sym nodes ∙ c.in_ok-nodes.ensures ∙ ap (map (λ (n : NodeValue). opening_value n.program n.rounds)) c.as_slice.ensures;
-      flights = c.in_ok-empty_flights.ensures.flights ∙ ap (λ (d : DesignParts). map (λ (_ : Link). no_flight) d.links) c.deref.ensures;
+      flights = c.in_ok-empty_flights.ensures.flights ∙ ap (λ (d : DesignParts). map (λ (_ : Link). no_flight) d.links) c.deref-2.ensures;
       queues = sym queues ∙ c.in_ok-queues.ensures ∙ ap (map (λ (_ : NodeValue). no_queue)) (c.as_slice-2.ensures ∙ nodes);
       stop = refl;
-      journal = c.new.ensures.items;
+      journal = c.new-2.ensures.items;
       closed = refl;
     } in
     opening_keeps g (codes f.nodes) (anew_opens f g c.self.invariant is)
@@ -55,6 +62,7 @@ returns c =
     let g : Fields = record {
       alloc = c.args.alloc;
       design = c.in_ok-try_clone.field-0;
+      outgoing = c.outgoing.inside.lists;
       env = c.in_ok-try_clone-2.field-0;
       rounds = f.rounds;
       delays = c.in_ok-try_clone-3.field-0;
@@ -64,23 +72,27 @@ returns c =
       flights = c.in_ok-empty_flights.field-0;
       queues = c.queues.inside.items.items;
       stop = None;
-      journal = c.new.result;
+      journal = c.new-2.result;
       values = c.in_ok-room_for_values.field-0;
     } in
+    let outgoing : c.in_ok-outgoing.outgoing ≡ g.outgoing = cc in
     let nodes : c.in_ok-nodes.nodes ≡ g.nodes = cc in
     let queues : c.in_ok-queues.queues ≡ g.queues = cc in
     let is : IsAnew f g = record {
       design = c.in_ok-try_clone.ensures;
+      outgoing =
+          subst (AreOutgoing (length (arc_value f.design).components) (arc_value f.design).links) outgoing
+          (subst (λ (d : DesignParts). AreOutgoing (length d.components) d.links c.in_ok-outgoing.outgoing) c.deref.ensures c.in_ok-outgoing.ensures);
       env = c.in_ok-try_clone-2.ensures;
       rounds = refl;
       delays = c.in_ok-try_clone-3.ensures;
       meeting = refl;
       values = c.in_ok-room_for_values.ensures;
       nodes = sym nodes ∙ c.in_ok-nodes.ensures ∙ ap (map (λ (n : NodeValue). opening_value n.program n.rounds)) c.as_slice.ensures;
-      flights = c.in_ok-empty_flights.ensures.flights ∙ ap (λ (d : DesignParts). map (λ (_ : Link). no_flight) d.links) c.deref.ensures;
+      flights = c.in_ok-empty_flights.ensures.flights ∙ ap (λ (d : DesignParts). map (λ (_ : Link). no_flight) d.links) c.deref-2.ensures;
       queues = sym queues ∙ c.in_ok-queues.ensures ∙ ap (map (λ (_ : NodeValue). no_queue)) (c.as_slice-2.ensures ∙ nodes);
       stop = refl;
-      journal = c.new.ensures.items;
+      journal = c.new-2.ensures.items;
       closed = refl;
     } in
     let shows : value_of f ≡ c.args.self.now = cc in

@@ -1,4 +1,4 @@
-use Rattle.std.proofs.Common.{◌≡◌, ◌<◌, ◌≤◌, Some, false, is_some, refl, subst, sym, arith, rules, tests}
+use Rattle.std.proofs.Common.{◌≡◌, Some, false, is_some, refl, subst, arith, rules, tests}
 use Rattle.pals_bus.specs.Keeping.{value_of}
 use Rattle.pals_bus.specs.Values.{BusValue}
 use Rattle.pals_bus.specs.Meeting.{HasEnded}

@@ -1,10 +1,11 @@
-use Rattle.std.proofs.Common.{◌∙◌, None, false, map, refl, ap, subst}
+use Rattle.std.proofs.Common.{◌∙◌, None, false, map, length, refl, ap, subst}
 use Rattle.pals_model.specs.declared.design.DesignParts.{DesignParts}
 use Rattle.pals_model.specs.declared.design.Link.{Link}
 use Rattle.pals_model.specs.Rules.{IsDesign}
 use Rattle.pals_node.specs.Values.{NodeValue}
 use Rattle.pals_bus.specs.declared.fields.Fields.{Fields}
 use Rattle.pals_bus.specs.Absent.{no_flight, no_queue}
+use Rattle.pals_bus.specs.LinksFrom.{AreOutgoing}
 use Rattle.pals_bus.specs.Openings.{AreOpening}
 use Rattle.pals_bus.proofs.Openings.{IsOpening, opening_keeps, opening_shows}
 use Rattle.pals_bus.proofs.bus.Bus.new.Goals as goal
@@ -14,6 +15,7 @@ invariant_of-result c =
     let f : Fields = record {
       alloc = c.args.alloc;
       design = c.args.design;
+      outgoing = c.in_ok-outgoing.outgoing;
       env = c.args.env;
       rounds = c.args.rounds;
       delays = c.args.delays;
@@ -23,20 +25,21 @@ invariant_of-result c =
       flights = c.in_ok-flights.flights;
       queues = c.in_ok-queues.queues;
       stop = None;
-      journal = c.new.result;
+      journal = c.new-2.result;
       values = c.in_ok-values.values;
     } in
     let is : IsOpening f c.args.codes = record {
-      design = subst IsDesign c.deref-2.ensures c.empty_flights.ensures.rules;
+      design = subst IsDesign c.deref-3.ensures c.empty_flights.ensures.rules;
+      outgoing = subst (λ (d : DesignParts). AreOutgoing (length d.components) d.links c.in_ok-outgoing.outgoing) c.deref.ensures c.in_ok-outgoing.ensures;
       rounds = (c.requires.some, c.requires.most);
       delays = c.requires.delays;
       values = c.in_ok-values.ensures;
       codes_are = c.requires.codes;
-      nodes = subst (λ (d : DesignParts). AreOpening d c.args.codes c.args.rounds c.in_ok-nodes.nodes) c.deref.ensures c.in_ok-nodes.ensures;
-      flights = c.in_ok-flights.ensures.flights ∙ ap (λ (d : DesignParts). map (λ (_ : Link). no_flight) d.links) c.deref-2.ensures;
+      nodes = subst (λ (d : DesignParts). AreOpening d c.args.codes c.args.rounds c.in_ok-nodes.nodes) c.deref-2.ensures c.in_ok-nodes.ensures;
+      flights = c.in_ok-flights.ensures.flights ∙ ap (λ (d : DesignParts). map (λ (_ : Link). no_flight) d.links) c.deref-3.ensures;
       queues = c.in_ok-queues.ensures ∙ ap (map (λ (_ : NodeValue). no_queue)) c.as_slice.ensures;
       stop = refl;
-      journal = c.new.ensures.items;
+      journal = c.new-2.ensures.items;
       closed = refl;
     } in
     opening_keeps f c.args.codes is
@@ -46,6 +49,7 @@ returns c =
     let f : Fields = record {
       alloc = c.args.alloc;
       design = c.args.design;
+      outgoing = c.in_ok-outgoing.outgoing;
       env = c.args.env;
       rounds = c.args.rounds;
       delays = c.args.delays;
@@ -55,20 +59,21 @@ returns c =
       flights = c.in_ok-flights.flights;
       queues = c.in_ok-queues.queues;
       stop = None;
-      journal = c.new.result;
+      journal = c.new-2.result;
       values = c.in_ok-values.values;
     } in
     let is : IsOpening f c.args.codes = record {
-      design = subst IsDesign c.deref-2.ensures c.empty_flights.ensures.rules;
+      design = subst IsDesign c.deref-3.ensures c.empty_flights.ensures.rules;
+      outgoing = subst (λ (d : DesignParts). AreOutgoing (length d.components) d.links c.in_ok-outgoing.outgoing) c.deref.ensures c.in_ok-outgoing.ensures;
       rounds = (c.requires.some, c.requires.most);
       delays = c.requires.delays;
       values = c.in_ok-values.ensures;
       codes_are = c.requires.codes;
-      nodes = subst (λ (d : DesignParts). AreOpening d c.args.codes c.args.rounds c.in_ok-nodes.nodes) c.deref.ensures c.in_ok-nodes.ensures;
-      flights = c.in_ok-flights.ensures.flights ∙ ap (λ (d : DesignParts). map (λ (_ : Link). no_flight) d.links) c.deref-2.ensures;
+      nodes = subst (λ (d : DesignParts). AreOpening d c.args.codes c.args.rounds c.in_ok-nodes.nodes) c.deref-2.ensures c.in_ok-nodes.ensures;
+      flights = c.in_ok-flights.ensures.flights ∙ ap (λ (d : DesignParts). map (λ (_ : Link). no_flight) d.links) c.deref-3.ensures;
       queues = c.in_ok-queues.ensures ∙ ap (map (λ (_ : NodeValue). no_queue)) c.as_slice.ensures;
       stop = refl;
-      journal = c.new.ensures.items;
+      journal = c.new-2.ensures.items;
       closed = refl;
     } in
     opening_shows f c.args.codes is

@@ -1,103 +1,132 @@
-use Rattle.std.proofs.Common.{◌≡◌, ◌∙◌, ◌+◌, ◌<◌, ◌≤◌, ℕ, List, length, Option, sym, ap, subst, arith}
+use Rattle.std.proofs.Common.{◌≡◌, ◌∙◌, ◌+◌, ◌≤◌, ℕ, Option, sym, ap, subst, arith}
 use Rattle.std.specs.Prelude.{option_map, slice_index_or, slice_set}
 use Rattle.std.specs.Arc.{arc_value}
 use Rattle.std.specs.Vec.Iter.{into_iter_items}
-use Rattle.pals_base.specs.declared.values.LinkNo.{LinkNo}
-use Rattle.pals_model.specs.declared.design.DesignParts.{DesignParts}
-use Rattle.pals_model.specs.declared.design.Link.{Link}
+use Rattle.pals_base.specs.declared.limits.TheConstants.{HOUR}
 use Rattle.pals_model.specs.declared.flight.FlightCopy.{FlightCopy}
 use Rattle.pals_model.specs.Delays.{delay_of}
 use Rattle.bus_machine.specs.States.{link_at}
 use Rattle.pals_bus.specs.declared.fields.Fields.{Fields}
-use Rattle.pals_bus.specs.Absent.{no_queue}
+use Rattle.pals_bus.specs.Absent.{no_link_no, no_queue}
+use Rattle.pals_bus.specs.LinksFrom.{no_numbers}
 use Rattle.pals_bus.specs.Queues.{with_due}
-use Rattle.pals_bus.proofs.SendSteps.{CanSend, sending_other, sending_more, sending_room, sending_queue_room, message_left, is_other, is_own}
+use Rattle.pals_bus.proofs.NextLinks.{reaches_more}
+use Rattle.pals_bus.proofs.SendSteps.{CanSend, Sending, own_links, sending_all, sending_delay, sending_more, sending_places, sending_room, sending_queue_room, message_left}
 use Rattle.pals_bus.proofs.fields.Fields.send_messages.Goals as goal
-
-pub loop-number-preserved-then-ne : goal.loop-number-preserved-then-ne
-loop-number-preserved-then-ne c =
-    let first = c.args.self.now in
-    let now = c.loop-number.self in
-    let node = c.args.node.0 in
-    let number = c.loop-number.number in
-    let left = into_iter_items c.loop-number.messages in
-    let so_far = c.loop-number.invariant in
-    let all = c.links-number-end.ensures.value ∙ ap (λ (d : DesignParts). d.links) c.deref.ensures in
-    let within : number < length (arc_value first.design).links = subst (λ (ls : List Link). number < length ls) all c.loop-number-test.true in
-    let links = c.links.ensures.value ∙ ap (λ (d : DesignParts). d.links) c.deref-in-loop-number.ensures ∙ ap (λ (k : Fields). (arc_value k.design).links) so_far.others in
-    let other = is_other (arc_value first.design).links c.links.result.now number node c.ne.result links c.ne.ensures c.if-ne.true in
-    sending_other first now node c.args.round c.args.reading c.args.messages left number so_far within other
 
 pub unreachable-requires : goal.unreachable-requires
 unreachable-requires c =
     let first = c.args.self.now in
-    let now = c.loop-number.self in
+    let now = c.loop-at.self in
     let node = c.args.node.0 in
-    let number = c.loop-number.number in
-    let left = into_iter_items c.loop-number.messages in
-    let so_far = c.loop-number.invariant in
-    let all = c.links-number-end.ensures.value ∙ ap (λ (d : DesignParts). d.links) c.deref.ensures in
-    let within : number < length (arc_value first.design).links = subst (λ (ls : List Link). number < length ls) all c.loop-number-test.true in
-    let links = c.links.ensures.value ∙ ap (λ (d : DesignParts). d.links) c.deref-in-loop-number.ensures ∙ ap (λ (k : Fields). (arc_value k.design).links) so_far.others in
-    let own = is_own (arc_value first.design).links c.links.result.now number node c.ne.result links c.ne.ensures c.if-ne.false in
+    let left = into_iter_items c.loop-at.messages in
+    let here = own_links first now node c.args.round c.args.reading c.args.messages left c.loop-at.at c.links_from.result.now c.links_from-at-end.result.now c.loop-at.invariant c.links_from-at-end.ensures c.loop-at-test.true c.links_from.ensures in
+    let link = slice_index_or c.links_from.result.now c.loop-at.at no_link_no in
     let can : CanSend first node c.args.messages = record { design = c.requires.design; flights = c.requires.count; nodes = c.requires.nodes; count = c.requires.messages } in
-    let some = message_left first now node c.args.round c.args.reading c.args.messages left number can so_far within own in
+    let some = message_left first now node c.args.round c.args.reading c.args.messages left link.0 can here.holds here.within here.own in
     let none = c.in-None.ensures.cases.0 in
-    let size = c.loop-number.messages.rest.ok.0 in
+    let size = c.loop-at.messages.rest.ok.0 in
     absurd (omega (arith, some, none, size))
+
+pub delay-requires : goal.delay-requires
+delay-requires c =
+    let first = c.args.self.now in
+    let now = c.loop-at.self in
+    let node = c.args.node.0 in
+    let left = into_iter_items c.loop-at.messages in
+    let here = own_links first now node c.args.round c.args.reading c.args.messages left c.loop-at.at c.links_from.result.now c.links_from-at-end.result.now c.loop-at.invariant c.links_from-at-end.ensures c.loop-at-test.true c.links_from.ensures in
+    let link = slice_index_or c.links_from.result.now c.loop-at.at no_link_no in
+    (sending_delay first now node c.args.round c.args.reading c.args.messages left link.0 here.holds c.requires.delays here.within).0
+
+pub due_at-due-requires-clause-delay : goal.due_at-due-requires-clause-delay
+due_at-due-requires-clause-delay c =
+    let first = c.args.self.now in
+    let now = c.loop-at.self in
+    let node = c.args.node.0 in
+    let left = into_iter_items c.loop-at.messages in
+    let here = own_links first now node c.args.round c.args.reading c.args.messages left c.loop-at.at c.links_from.result.now c.links_from-at-end.result.now c.loop-at.invariant c.links_from-at-end.ensures c.loop-at-test.true c.links_from.ensures in
+    let link = slice_index_or c.links_from.result.now c.loop-at.at no_link_no in
+    subst (λ (d : ℕ). d ≤ HOUR) (sym c.delay.ensures) (sending_delay first now node c.args.round c.args.reading c.args.messages left link.0 here.holds c.requires.delays here.within).1
+
+pub add_message-requires-clause-link : goal.add_message-requires-clause-link
+add_message-requires-clause-link c =
+    let first = c.args.self.now in
+    let now = c.loop-at.self in
+    let node = c.args.node.0 in
+    let left = into_iter_items c.loop-at.messages in
+    let here = own_links first now node c.args.round c.args.reading c.args.messages left c.loop-at.at c.links_from.result.now c.links_from-at-end.result.now c.loop-at.invariant c.links_from-at-end.ensures c.loop-at-test.true c.links_from.ensures in
+    let link = slice_index_or c.links_from.result.now c.loop-at.at no_link_no in
+    let can : CanSend first node c.args.messages = record { design = c.requires.design; flights = c.requires.count; nodes = c.requires.nodes; count = c.requires.messages } in
+    (sending_places first now node c.args.round c.args.reading c.args.messages left link.0 can here.holds here.within).0
+
+pub add_message-requires-clause-number : goal.add_message-requires-clause-number
+add_message-requires-clause-number c =
+    let first = c.args.self.now in
+    let now = c.loop-at.self in
+    let node = c.args.node.0 in
+    let left = into_iter_items c.loop-at.messages in
+    let here = own_links first now node c.args.round c.args.reading c.args.messages left c.loop-at.at c.links_from.result.now c.links_from-at-end.result.now c.loop-at.invariant c.links_from-at-end.ensures c.loop-at-test.true c.links_from.ensures in
+    let link = slice_index_or c.links_from.result.now c.loop-at.at no_link_no in
+    let can : CanSend first node c.args.messages = record { design = c.requires.design; flights = c.requires.count; nodes = c.requires.nodes; count = c.requires.messages } in
+    (sending_places first now node c.args.round c.args.reading c.args.messages left link.0 can here.holds here.within).1.0
+
+pub add_message-requires-clause-target : goal.add_message-requires-clause-target
+add_message-requires-clause-target c =
+    let first = c.args.self.now in
+    let now = c.loop-at.self in
+    let node = c.args.node.0 in
+    let left = into_iter_items c.loop-at.messages in
+    let here = own_links first now node c.args.round c.args.reading c.args.messages left c.loop-at.at c.links_from.result.now c.links_from-at-end.result.now c.loop-at.invariant c.links_from-at-end.ensures c.loop-at-test.true c.links_from.ensures in
+    let link = slice_index_or c.links_from.result.now c.loop-at.at no_link_no in
+    let can : CanSend first node c.args.messages = record { design = c.requires.design; flights = c.requires.count; nodes = c.requires.nodes; count = c.requires.messages } in
+    (sending_places first now node c.args.round c.args.reading c.args.messages left link.0 can here.holds here.within).1.1
 
 pub add_message-requires-clause-room : goal.add_message-requires-clause-room
 add_message-requires-clause-room c =
     let first = c.args.self.now in
-    let now = c.loop-number.self in
+    let now = c.loop-at.self in
     let node = c.args.node.0 in
-    let number = c.loop-number.number in
-    let left = into_iter_items c.loop-number.messages in
-    let so_far = c.loop-number.invariant in
-    let all = c.links-number-end.ensures.value ∙ ap (λ (d : DesignParts). d.links) c.deref.ensures in
-    let within : number < length (arc_value first.design).links = subst (λ (ls : List Link). number < length ls) all c.loop-number-test.true in
-    let links = c.links.ensures.value ∙ ap (λ (d : DesignParts). d.links) c.deref-in-loop-number.ensures ∙ ap (λ (k : Fields). (arc_value k.design).links) so_far.others in
-    let own = is_own (arc_value first.design).links c.links.result.now number node c.ne.result links c.ne.ensures c.if-ne.false in
-    sending_room first now node c.args.round c.args.reading c.args.messages left number so_far c.requires.room within own
+    let left = into_iter_items c.loop-at.messages in
+    let here = own_links first now node c.args.round c.args.reading c.args.messages left c.loop-at.at c.links_from.result.now c.links_from-at-end.result.now c.loop-at.invariant c.links_from-at-end.ensures c.loop-at-test.true c.links_from.ensures in
+    let link = slice_index_or c.links_from.result.now c.loop-at.at no_link_no in
+    sending_room first now node c.args.round c.args.reading c.args.messages left link.0 here.holds c.requires.room here.within here.own
 
 pub add_message-requires-clause-queue : goal.add_message-requires-clause-queue
 add_message-requires-clause-queue c =
     let first = c.args.self.now in
-    let now = c.loop-number.self in
+    let now = c.loop-at.self in
     let node = c.args.node.0 in
-    let number = c.loop-number.number in
-    let left = into_iter_items c.loop-number.messages in
-    let so_far = c.loop-number.invariant in
-    let all = c.links-number-end.ensures.value ∙ ap (λ (d : DesignParts). d.links) c.deref.ensures in
-    let within : number < length (arc_value first.design).links = subst (λ (ls : List Link). number < length ls) all c.loop-number-test.true in
-    let links = c.links.ensures.value ∙ ap (λ (d : DesignParts). d.links) c.deref-in-loop-number.ensures ∙ ap (λ (k : Fields). (arc_value k.design).links) so_far.others in
-    let own = is_own (arc_value first.design).links c.links.result.now number node c.ne.result links c.ne.ensures c.if-ne.false in
-    subst (λ (k : Fields). 1 ≤ (slice_index_or now.queues (link_at (arc_value k.design) number).target.0 no_queue).spare) (sym so_far.others)
-    (sending_queue_room first now node c.args.round c.args.reading c.args.messages left number so_far within own)
+    let left = into_iter_items c.loop-at.messages in
+    let here = own_links first now node c.args.round c.args.reading c.args.messages left c.loop-at.at c.links_from.result.now c.links_from-at-end.result.now c.loop-at.invariant c.links_from-at-end.ensures c.loop-at-test.true c.links_from.ensures in
+    let link = slice_index_or c.links_from.result.now c.loop-at.at no_link_no in
+    subst (λ (k : Fields). 1 ≤ (slice_index_or now.queues (link_at (arc_value k.design) link.0).target.0 no_queue).spare) (sym here.holds.others)
+    (sending_queue_room first now node c.args.round c.args.reading c.args.messages left link.0 here.holds here.within here.own)
 
-pub loop-number-preserved : goal.loop-number-preserved
-loop-number-preserved c =
+pub loop-at-preserved : goal.loop-at-preserved
+loop-at-preserved c =
     let first = c.args.self.now in
-    let now = c.loop-number.self in
+    let now = c.loop-at.self in
     let node = c.args.node.0 in
-    let number = c.loop-number.number in
-    let left = into_iter_items c.loop-number.messages in
-    let so_far = c.loop-number.invariant in
-    let all = c.links-number-end.ensures.value ∙ ap (λ (d : DesignParts). d.links) c.deref.ensures in
-    let within : number < length (arc_value first.design).links = subst (λ (ls : List Link). number < length ls) all c.loop-number-test.true in
-    let links = c.links.ensures.value ∙ ap (λ (d : DesignParts). d.links) c.deref-in-loop-number.ensures ∙ ap (λ (k : Fields). (arc_value k.design).links) so_far.others in
-    let own = is_own (arc_value first.design).links c.links.result.now number node c.ne.result links c.ne.ensures c.if-ne.false in
+    let left = into_iter_items c.loop-at.messages in
+    let here = own_links first now node c.args.round c.args.reading c.args.messages left c.loop-at.at c.links_from.result.now c.links_from-at-end.result.now c.loop-at.invariant c.links_from-at-end.ensures c.loop-at-test.true c.links_from.ensures in
+    let link = slice_index_or c.links_from.result.now c.loop-at.at no_link_no in
     let can : CanSend first node c.args.messages = record { design = c.requires.design; flights = c.requires.count; nodes = c.requires.nodes; count = c.requires.messages } in
     let next = c.add_message.new.self in
     let adds = c.add_message.ensures in
-    let link : LinkNo = record { 0 = number } in
     let round = c.args.round in
     let reading = c.args.reading in
     let tuple = c.in-Some.tuple in
+    let rest = into_iter_items c.next.new.self in
     let copy : FlightCopy = record { round = round; due = c.due_at-due.result; tuple = tuple } in
-    let delay = c.delay.ensures ∙ ap (λ (k : Fields). delay_of k.delays number round) so_far.others in
+    let delay = c.delay.ensures ∙ ap (λ (k : Fields). delay_of k.delays link.0 round) here.holds.others in
     let due = c.due_at-due.ensures ∙ ap (λ (d : ℕ). option_map (λ (sent : ℕ). sent + d) reading) delay in
     let is = ap (λ (o : Option ℕ). let u : FlightCopy = record { round = round; due = o; tuple = tuple } in u) due in
     let queues =
-    subst (λ (k : Fields). next.queues ≡ slice_set now.queues (link_at (arc_value k.design) number).target.0 (with_due (slice_index_or now.queues (link_at (arc_value k.design) number).target.0 no_queue) copy.due link copy.round)) so_far.others adds.queues in
-    sending_more first now next node round reading c.args.messages left (into_iter_items c.next.new.self) link tuple copy can so_far within own c.in-Some.ensures.items is adds.flights queues adds.others
+    subst (λ (k : Fields). next.queues ≡ slice_set now.queues (link_at (arc_value k.design) link.0).target.0 (with_due (slice_index_or now.queues (link_at (arc_value k.design) link.0).target.0 no_queue) copy.due link copy.round)) here.holds.others adds.queues in
+    let more = sending_more first now next node round reading c.args.messages left rest link tuple copy can here.holds here.within here.own c.in-Some.ensures.items is adds.flights queues adds.others in
+    reaches_more (Sending first now node round reading c.args.messages left) (Sending first next node round reading c.args.messages rest) node c.loop-at.at (arc_value first.design).links (slice_index_or first.outgoing node no_numbers) link here more
+
+pub returns-clause-sent : goal.returns-clause-sent
+returns-clause-sent c =
+    let past = c.loop-at-test.false in
+    (sending_all c.args.self.now c.loop-at.self c.args.node.0 c.args.round c.args.reading c.args.messages (into_iter_items c.loop-at.messages) c.loop-at.at c.links_from-at-end.result.now c.loop-at.invariant c.links_from-at-end.ensures (omega (arith, past))).sent

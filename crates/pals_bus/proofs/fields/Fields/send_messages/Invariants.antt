@@ -1,7 +1,13 @@
+use Rattle.std.proofs.Common.{slice_index_or}
+use Rattle.std.specs.Arc.{arc_value}
 use Rattle.std.specs.Vec.Iter.{into_iter_items}
+use Rattle.pals_bus.specs.LinksFrom.{no_numbers}
+use Rattle.pals_bus.proofs.NextLinks.{Reaches}
 use Rattle.pals_bus.proofs.SendSteps.{Sending}
 use Rattle.pals_bus.proofs.fields.Fields.send_messages.Given as goal
 
--- the first links have their messages, and the others are left
-abbrev pub invariant-loop-number : goal.invariant-loop-number
-invariant-loop-number l = Sending l.fn.self l.self l.node.0 l.round l.reading l.fn.messages (into_iter_items l.messages) l.number
+-- the first links from the node have their messages, and the others are left
+abbrev pub invariant-loop-at : goal.invariant-loop-at
+invariant-loop-at l =
+    let first = l.fn.self in
+    Reaches (Sending first l.self l.node.0 l.round l.reading l.fn.messages (into_iter_items l.messages)) l.node.0 l.at (arc_value first.design).links (slice_index_or first.outgoing l.node.0 no_numbers)
