@@ -29,7 +29,7 @@ use Rattle.aadl_chains.proofs.OnChains.{next_at, is_in-at}
 use Rattle.aadl_chains.specs.Numbers.{Distinct, IsNumber}
 use Rattle.aadl_chains.specs.Walks.{OneEach}
 use Rattle.aadl_chains.specs.Links.{Ends, IsLink, OtherTarget}
-use Rattle.aadl_chains.specs.Takes.{EndsLink, Through, Deeper, AmongFirst, FromThread}
+use Rattle.aadl_chains.specs.PortCounts.{EndsLink, Through, Deeper, AmongFirst, FromThread}
 use Rattle.aadl_chains.proofs.Numbers.{no_number, same_number, both_numbers, no_more}
 use Rattle.aadl_chains.proofs.Steps.{goes_at}
 use Rattle.aadl_chains.proofs.Climbs.{crossed}

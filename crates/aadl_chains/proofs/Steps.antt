@@ -12,7 +12,7 @@ use Rattle.aadl_names.specs.declared.site.Site.TheVariants.{Own, Inner}
 use Rattle.aadl_names.specs.Resolving.{implementation_at}
 use Rattle.aadl_uses.specs.Uses.{standing}
 use Rattle.aadl_chains.specs.declared.connections.Wire.{Wire}
-use Rattle.aadl_chains.specs.Sites.{is_site}
+use Rattle.aadl_chains.specs.PortNumbers.{is_site}
 use Rattle.aadl_chains.specs.Firsts.{target_in, is_before, IsSecond}
 use Rattle.aadl_chains.specs.Wiring.{wire_of, wires_of, wires_at, first_into_at, with_source, sourced, into}
 use Rattle.aadl_chains.proofs.Rows.{listed}

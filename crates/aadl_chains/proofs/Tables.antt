@@ -12,7 +12,7 @@ use Rattle.aadl_names.specs.declared.site.Site.{Site}
 use Rattle.aadl_names.specs.declared.site.Site.TheVariants.{Own, Inner}
 use Rattle.aadl_names.proofs.Lookups.{lookup-push}
 use Rattle.aadl_chains.specs.declared.connections.Wire.{Wire}
-use Rattle.aadl_chains.specs.Sites.{same_site, is_site, number_of}
+use Rattle.aadl_chains.specs.PortNumbers.{same_site, is_site, number_of}
 use Rattle.aadl_chains.specs.Firsts.{first_into, target_in, is_before, IsSecond}
 
 -- ---- ports

@@ -15,7 +15,7 @@ use Rattle.aadl_chains.specs.Sound.{AreDeclared}
 use Rattle.aadl_chains.proofs.OnChains.{opposed, is_in-at}
 use Rattle.aadl_chains.specs.Numbers.{IsNumber}
 use Rattle.aadl_chains.specs.Walks.{Crossing, at_root, crosses, climb, IsThreadPort}
-use Rattle.aadl_chains.specs.Takes.{ComesFrom, EndsLink, Through, Deeper, AmongFirst, FromOwn, FromThread}
+use Rattle.aadl_chains.specs.PortCounts.{ComesFrom, EndsLink, Through, Deeper, AmongFirst, FromOwn, FromThread}
 use Rattle.aadl_chains.proofs.Numbers.{no_number, one_number, both_numbers, image_number}
 use Rattle.aadl_chains.proofs.Steps.{first_wire, into_first, known_into}
 use Rattle.aadl_chains.proofs.Deepened.{last_of, same_ends, port_outer, port_inner, climb_outer, root_outer, Within, Itself, crossing_outer}

@@ -26,7 +26,7 @@ use Rattle.aadl_chains.specs.Chains.{Port}
 use Rattle.aadl_chains.specs.Sound.{MayEnter, AreDeclared}
 use Rattle.aadl_chains.proofs.OnChains.{is_in-at}
 use Rattle.aadl_chains.specs.Numbers.{IsNumber}
-use Rattle.aadl_chains.specs.Takes.{ComesFrom, Through, AmongFirst, FromOwn, taken, taken_by, AreTaken, AreTakenBelow, IsTaken, IsNew, AreAdded}
+use Rattle.aadl_chains.specs.PortCounts.{ComesFrom, Through, AmongFirst, FromOwn, taken, taken_by, AreTaken, AreTakenBelow, IsTaken, IsNew, AreAdded}
 use Rattle.aadl_chains.proofs.Numbers.{no_number, same_number}
 use Rattle.aadl_chains.proofs.Steps.{first_if, second_never, first_wire}
 use Rattle.aadl_chains.proofs.Through.{through_number, own_from, own_to, one_through, thread_number, no_thread_number, none_first, more_first}

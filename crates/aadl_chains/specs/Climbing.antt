@@ -6,14 +6,14 @@ use Rattle.aadl_names.specs.declared.site.Site.TheVariants.{Own, Inner}
 use Rattle.aadl_uses.specs.Uses.{below}
 use Rattle.aadl_chains.specs.Wiring.{into}
 use Rattle.aadl_chains.specs.Inside.{is_in_at}
-use Rattle.aadl_chains.specs.declared.back.Begin.{Begin}
-use Rattle.aadl_chains.specs.declared.back.Begin.TheVariants as begins
-use Rattle.aadl_chains.specs.declared.back.Route.{Route}
-use Rattle.aadl_chains.specs.declared.back.Entry.{Entry}
-use Rattle.aadl_chains.specs.declared.back.Crossed.{Crossed}
-use Rattle.aadl_chains.specs.declared.back.Climbed.{Climbed}
-use Rattle.aadl_chains.specs.declared.back.Climbed.TheVariants as ends
-use Rattle.aadl_chains.specs.declared.back.Lower.{Lower}
+use Rattle.aadl_chains.specs.declared.tracing.Begin.{Begin}
+use Rattle.aadl_chains.specs.declared.tracing.Begin.TheVariants as begins
+use Rattle.aadl_chains.specs.declared.tracing.Route.{Route}
+use Rattle.aadl_chains.specs.declared.tracing.Entry.{Entry}
+use Rattle.aadl_chains.specs.declared.tracing.Crossed.{Crossed}
+use Rattle.aadl_chains.specs.declared.tracing.Climbed.{Climbed}
+use Rattle.aadl_chains.specs.declared.tracing.Climbed.TheVariants as ends
+use Rattle.aadl_chains.specs.declared.tracing.Lower.{Lower}
 use Rattle.aadl_chains.specs.Walks.{Crossing, Climb, nowhere, at_root, crosses}
 
 -- the first connection into a port of a subcomponent

@@ -4,7 +4,7 @@ use Rattle.std.specs.Option.{option_and_then}
 use Rattle.aadl_names.specs.declared.site.Site.{Site}
 use Rattle.aadl_names.specs.Resolving.{first_number}
 use Rattle.aadl_chains.specs.declared.connections.Wire.{Wire}
-use Rattle.aadl_chains.specs.Sites.{is_site}
+use Rattle.aadl_chains.specs.PortNumbers.{is_site}
 
 abbrev pub first_into : List Wire → Site → Option ℕ
 first_into wires target = first_number (λ wire. is_site target wire.target) wires

@@ -1,4 +1,4 @@
-pub mod Sites
+pub mod PortNumbers
 pub mod Firsts
 pub mod Wiring
 pub mod Ports
@@ -12,6 +12,6 @@ pub mod Walked
 pub mod Walks
 pub mod Links
 pub mod Numbers
-pub mod Takes
+pub mod PortCounts
 pub mod Routes
 pub mod Climbing

@@ -2,7 +2,7 @@
 ghost use Rattle.std.specs.Prelude.{◌≡◌, ◌↔◌, ℕ, None, Some, IfOk, OnOk, IsTrue, if◌then◌else◌};
 ghost use Rattle.std.specs.Option.{option_or};
 ghost use Rattle.aadl_names.specs.declared.site.Site.{Site};
-ghost use Rattle.aadl_chains.specs.Sites.{is_site, number_of};
+ghost use Rattle.aadl_chains.specs.PortNumbers.{is_site, number_of};
 ghost use Rattle.aadl_chains.specs.Firsts as spec;
 
 use aadl_names::Site;
@@ -30,7 +30,7 @@ impl Model for Connections {
     ghost use Rattle.std.specs.Prelude.{◌≡◌, List};
     ghost use Rattle.aadl_names.specs.declared.site.Site.{Site};
     ghost use Rattle.aadl_chains.specs.declared.connections.Wire.{Wire};
-    ghost use Rattle.aadl_chains.specs.Sites.{number_of};
+    ghost use Rattle.aadl_chains.specs.PortNumbers.{number_of};
     ghost use Rattle.aadl_chains.specs.Firsts as spec;
 
     ghost Value = { List Wire };

@@ -2,19 +2,19 @@
 //! threads and the root: which connections are on none, where each chain comes from, and whether there are too many links.
 #![tactic(auto)]
 
-pub mod back;
+pub mod tracing;
 pub mod connections;
 pub mod ends;
 pub mod inside;
 pub mod links;
 pub mod outside;
 pub mod ports;
-pub mod takes;
+pub mod port_counts;
 pub mod ways;
 pub mod wires;
 mod wiring;
 
-pub use back::{Begin, Route, trace_back, trace_tap};
+pub use tracing::{Begin, Route, trace_back, trace_tap};
 pub use connections::{Connections, Wire};
 pub use ends::first_end_fault;
 pub use inside::Inside;

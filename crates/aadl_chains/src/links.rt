@@ -14,9 +14,9 @@ ghost use Rattle.aadl_chains.specs.Chains.{IsEndFault};
 ghost use Rattle.aadl_chains.specs.Sound.{AreDeclared};
 ghost use Rattle.aadl_chains.specs.Numbers.{IsNumber};
 ghost use Rattle.aadl_chains.specs.Links.{IsLink, OtherTarget};
-ghost use Rattle.aadl_chains.specs.Takes.{EndsLink, Deeper, FromThread, AreTakenBelow};
+ghost use Rattle.aadl_chains.specs.PortCounts.{EndsLink, Deeper, FromThread, AreTakenBelow};
 
-use crate::takes::Takes;
+use crate::port_counts::PortCounts;
 use crate::{Inside, Wire, Wires};
 use aadl_names::Site;
 use aadl_tree::Direction;
@@ -56,7 +56,7 @@ fn link_counts(
     ensures { IfOk result (λ counts. (n : ℕ) → n < length (containment (placed wires.now.uses.tree.now))
         → IsNumber limit (EndsLink (placed wires.now.uses.tree.now) n) (slice_index counts.items n)) }
 {
-    let takes = Takes::of(alloc, wires, order, limit)?;
+    let takes = PortCounts::of(alloc, wires, order, limit)?;
     let gives = Inside::of(alloc, wires, order, Direction::Out)?;
     let mut counts = zeros(alloc, wires.uses.len())?;
     for at in 0..order.len() {
@@ -91,7 +91,7 @@ fn put(counts: &mut Vec<usize>, number: usize, count: usize)
 // The links below a declaration, by those below its subcomponents.
 fn links_below(
     wires: &Wires<'_>,
-    takes: &Takes,
+    takes: &PortCounts,
     gives: &Inside,
     counts: &[usize],
     number: usize,
@@ -126,7 +126,7 @@ fn links_deeper(wires: &Wires<'_>, counts: &[usize], number: usize, limit: usize
 // Those that its connections carry.
 fn links_carried(
     wires: &Wires<'_>,
-    takes: &Takes,
+    takes: &PortCounts,
     gives: &Inside,
     number: usize,
     limit: usize,
@@ -151,7 +151,7 @@ fn links_carried(
 // Those that one connection carries.
 fn carried(
     wires: &Wires<'_>,
-    takes: &Takes,
+    takes: &PortCounts,
     gives: &Inside,
     number: usize,
     at: usize,

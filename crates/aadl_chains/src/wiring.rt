@@ -8,7 +8,7 @@ ghost use Rattle.aadl_chains.specs.Wiring as spec;
 ghost use Rattle.aadl_chains.specs.Wiring.{wires_in, type_in};
 
 use crate::connections::{Connections, Wire};
-use aadl_names::sites::{site, type_number};
+use aadl_names::connection_ends::{site, type_number};
 use aadl_names::{Names, Site};
 use aadl_tree::{Connection, Declaration, Direction, Implementation};
 use pals_base::Items;

@@ -10,8 +10,8 @@ use Rattle.aadl_names.specs.declared.fault.FlatFault.TheVariants.{TooMany}
 use Rattle.aadl_names.specs.Resolving.{root_number}
 use Rattle.aadl_uses.specs.Uses.{standing}
 use Rattle.aadl_uses.specs.Threads.{Lists, IsThreadAt, PathBefore}
-use Rattle.aadl_uses.specs.declared.places.ThreadAt.{ThreadAt}
-use Rattle.aadl_uses.specs.Places.{thread_at}
+use Rattle.aadl_uses.specs.declared.thread_places.ThreadAt.{ThreadAt}
+use Rattle.aadl_uses.specs.ThreadPlaces.{thread_at}
 use Rattle.aadl_chains.proofs.Declared.{declared}
 use Rattle.aadl_chains.specs.Links.{IsLink, IsFeed, IsTap, TargetBefore, PortBefore}
 use Rattle.aadl_chains.proofs.Counted.{one_each}

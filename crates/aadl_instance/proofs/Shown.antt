@@ -20,7 +20,7 @@ use Rattle.aadl_uses.proofs.Searches.{contains_none, contains_at}
 use Rattle.aadl_names.specs.Resolving.{ports_at, ports_of, implementation_at}
 use Rattle.aadl_uses.specs.Uses.{standing, component_at}
 use Rattle.aadl_uses.specs.Threads.{IsThreadAt, PathBefore}
-use Rattle.aadl_uses.specs.Places.{ThreadWith}
+use Rattle.aadl_uses.specs.ThreadPlaces.{ThreadWith}
 use Rattle.aadl_chains.specs.Inside.{is_thread_at}
 use Rattle.aadl_chains.proofs.OnChains.{thread_from}
 use Rattle.aadl_chains.specs.Links.{same_path}

@@ -7,7 +7,7 @@ use Rattle.aadl_tree.specs.Declarations.{Implementation, Declaration, PackageTre
 use Rattle.aadl_names.specs.Resolving.{implementation_in, implementation_at}
 use Rattle.aadl_uses.specs.Uses.{standing, IsInUse}
 use Rattle.aadl_uses.specs.Threads.{is_thread_in}
-use Rattle.aadl_uses.specs.Places.{ThreadWith}
+use Rattle.aadl_uses.specs.ThreadPlaces.{ThreadWith}
 use Rattle.aadl_instance.specs.declared.thread_parts.Part.{Part}
 use Rattle.aadl_instance.specs.Parts.{most, count_of, count_at, IsUsedThread, HasTooMany}
 

@@ -16,7 +16,7 @@ use Rattle.aadl_uses.specs.Graphs.{Graph, below_in}
 use Rattle.aadl_uses.specs.Counts.{stands_at, IsMarkedAt}
 use Rattle.aadl_uses.specs.Weights as weights
 use Rattle.aadl_uses.specs.Weights.{path_weight, IsGreatest, IsGreatestOf, IsHeaviest}
-use Rattle.aadl_uses.specs.Places.{name_at, names_along, dotted_names, spelled_path, ThreadWith}
+use Rattle.aadl_uses.specs.ThreadPlaces.{name_at, names_along, dotted_names, spelled_path, ThreadWith}
 use Rattle.aadl_instance.specs.Paths.{weight_of, weights_in, name_weights, is_over}
 
 -- ---- names

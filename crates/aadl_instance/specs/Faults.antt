@@ -10,7 +10,7 @@ use Rattle.aadl_names.specs.PackageFaults.{package_faults}
 use Rattle.aadl_uses.specs.Uses.{IsRecursive}
 use Rattle.aadl_chains.specs.Chains.{IsEndFault}
 use Rattle.aadl_uses.specs.Threads.{MoreThan, IsThreadAt, PathBefore}
-use Rattle.aadl_uses.specs.Places.{ThreadWith, spelled_path}
+use Rattle.aadl_uses.specs.ThreadPlaces.{ThreadWith, spelled_path}
 use Rattle.aadl_instance.specs.Parts.{variable_count, state_count}
 use Rattle.aadl_chains.specs.Links.{IsLink, OtherTarget}
 

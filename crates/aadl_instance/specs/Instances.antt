@@ -7,8 +7,8 @@ use Rattle.aadl_tree.specs.declared.declarations.Direction.TheVariants as direct
 use Rattle.aadl_tree.specs.Declarations.{Feature, PackageTree}
 use Rattle.aadl_names.specs.Resolving.{first_number, ports_at}
 use Rattle.aadl_names.specs.PackageFaults.{goes_in}
-use Rattle.aadl_uses.specs.declared.places.ThreadAt.{ThreadAt}
-use Rattle.aadl_uses.specs.Places.{thread_at}
+use Rattle.aadl_uses.specs.declared.thread_places.ThreadAt.{ThreadAt}
+use Rattle.aadl_uses.specs.ThreadPlaces.{thread_at}
 use Rattle.aadl_instance.specs.declared.parts.Chain.{Chain}
 use Rattle.aadl_instance.specs.declared.parts.ChainEnd.{ChainEnd}
 use Rattle.aadl_instance.specs.declared.parts.ChainEnd.TheVariants.{Thread, Root}

@@ -4,7 +4,7 @@ use Rattle.pals_base.specs.declared.limits.TheConstants.{COMPONENTS, LINKS, PORT
 use Rattle.aadl_tree.specs.Declarations.{PackageTree}
 use Rattle.aadl_names.specs.Resolving.{ports_of}
 use Rattle.aadl_uses.specs.Threads.{MoreThan, IsThreadAt, PathBefore}
-use Rattle.aadl_uses.specs.Places.{ThreadWith, spelled_path}
+use Rattle.aadl_uses.specs.ThreadPlaces.{ThreadWith, spelled_path}
 use Rattle.aadl_instance.specs.Parts.{variable_count, state_count}
 use Rattle.aadl_chains.specs.Links.{IsLink, OtherTarget}
 use Rattle.aadl_instance.specs.declared.limits.Limit.{Limit}

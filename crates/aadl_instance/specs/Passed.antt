@@ -8,7 +8,7 @@ use Rattle.aadl_names.specs.Resolving.{ports_of, ports_at}
 use Rattle.aadl_uses.specs.Uses.{containment, component_at}
 use Rattle.aadl_uses.specs.Threads.{Lists, IsThreadAt, PathBefore}
 use Rattle.aadl_uses.specs.Orders.{IsOrder}
-use Rattle.aadl_uses.specs.Places.{ThreadWith}
+use Rattle.aadl_uses.specs.ThreadPlaces.{ThreadWith}
 use Rattle.aadl_chains.specs.Inside.{is_thread_at}
 use Rattle.aadl_chains.specs.Chains.{Port}
 use Rattle.aadl_chains.specs.Sound.{AreDeclared}
@@ -18,9 +18,9 @@ use Rattle.aadl_instance.specs.declared.parts.Chain.{Chain}
 use Rattle.aadl_instance.specs.declared.build.Incoming.{Incoming}
 use Rattle.aadl_instance.specs.declared.parts.ChainEnd.{ChainEnd}
 use Rattle.aadl_chains.specs.Routes.{begin_port}
-use Rattle.aadl_chains.specs.declared.back.Begin.{Begin}
-use Rattle.aadl_chains.specs.declared.back.Begin.TheVariants as begins
-use Rattle.aadl_chains.specs.declared.back.Route.{Route}
+use Rattle.aadl_chains.specs.declared.tracing.Begin.{Begin}
+use Rattle.aadl_chains.specs.declared.tracing.Begin.TheVariants as begins
+use Rattle.aadl_chains.specs.declared.tracing.Route.{Route}
 use Rattle.aadl_instance.specs.Instances.{end_in, chain_in}
 
 -- paths, the innermost subcomponent first

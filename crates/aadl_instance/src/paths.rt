@@ -7,7 +7,7 @@ ghost use Rattle.aadl_tree.specs.Views.{declaration_view, subcomponent_view};
 ghost use Rattle.aadl_uses.specs.Uses.{containment};
 ghost use Rattle.aadl_uses.specs.Orders.{IsOrder};
 ghost use Rattle.aadl_instance.specs.Paths as spec;
-ghost use Rattle.aadl_uses.specs.Places.{ThreadWith, spelled_path};
+ghost use Rattle.aadl_uses.specs.ThreadPlaces.{ThreadWith, spelled_path};
 
 use aadl_tree::{Declaration, Subcomponent};
 use aadl_uses::{Uses, Weights, heaviest_below};

@@ -2,7 +2,7 @@
 ghost use Rattle.std.specs.Prelude.{◌≡◌, ◌↔◌, ◌<◌, ℕ, min, Contains, IsTrue};
 ghost use Rattle.aadl_tree.specs.PackageViews.{placed};
 ghost use Rattle.aadl_uses.specs.Uses.{IsInUse};
-ghost use Rattle.aadl_uses.specs.Places.{ThreadWith};
+ghost use Rattle.aadl_uses.specs.ThreadPlaces.{ThreadWith};
 ghost use Rattle.aadl_instance.specs.Parts as spec;
 ghost use Rattle.aadl_instance.specs.Parts.{HasTooMany};
 

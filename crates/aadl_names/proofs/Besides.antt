@@ -19,7 +19,7 @@ use Rattle.aadl_names.specs.Spelling.{folded, same_name}
 use Rattle.aadl_names.specs.Twice.{again, twice}
 use Rattle.aadl_names.specs.Earliest.{sooner, earliest, is_before}
 use Rattle.aadl_names.proofs.Spots.{any_before}
-use Rattle.aadl_names.specs.Beside.{entry_again, again_beside, port_again, beside_each, beside}
+use Rattle.aadl_names.specs.DeclaredTwice.{entry_again, again_beside, port_again, beside_each, beside}
 use Rattle.aadl_names.proofs.Elements.{from_all, among_all, passing, any_of, got, is_here, only_here, none_here}
 use Rattle.aadl_names.proofs.Covers.{Covers, NotBehind, found_is_first, first_covers, not_itself}
 

@@ -12,7 +12,7 @@ use Rattle.aadl_names.specs.Behaviours.{behaviours}
 use Rattle.aadl_names.specs.Spaces.{port_entries, variable_entries, state_entries, member_entries, type_entry, implementation_entry, twice_in_behaviour}
 use Rattle.aadl_names.specs.Spaces.{twice_in_first, twice_in, twice_names}
 use Rattle.aadl_names.specs.PackageFaults.{wrong_names, package_faults}
-use Rattle.aadl_names.specs.Beside.{beside, beside_in_behaviour, beside_in_first, beside_in, beside_names}
+use Rattle.aadl_names.specs.DeclaredTwice.{beside, beside_in_behaviour, beside_in_first, beside_in, beside_names}
 use Rattle.aadl_names.proofs.Covers.{Covers, covers_itself, covers_append, covers_all, first_of_more, found_is_first}
 use Rattle.aadl_names.proofs.Besides.{beside_covers}
 

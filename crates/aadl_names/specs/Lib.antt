@@ -11,5 +11,5 @@ pub mod AnnexNames
 pub mod Tables
 pub mod Members
 pub mod PackageFaults
-pub mod Beside
+pub mod DeclaredTwice
 pub mod Orders

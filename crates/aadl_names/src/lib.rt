@@ -13,7 +13,7 @@ pub mod numbered;
 pub mod place_laws;
 pub mod role;
 pub mod site;
-pub mod sites;
+pub mod connection_ends;
 pub mod spelling;
 pub mod spot;
 pub mod table;

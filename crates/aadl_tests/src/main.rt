@@ -3,14 +3,14 @@
 
 mod behaviours;
 mod faults;
-mod texts;
+mod text_checks;
 
 use behaviours::behaviour;
 use case_files::{Answers, asked, check, text_of};
 use faults::messages;
 use std::alloc::{AllocError, Global};
 use std::io;
-use texts::{compared, printed, read, tokens};
+use text_checks::{compared, printed, read, tokens};
 
 // What an answer tells of a text.
 fn told(alloc: Global, asked: &str, text: &[u8]) -> Result<Vec<u8>, AllocError> {

@@ -17,7 +17,7 @@ pub mod ValueViews
 pub mod ExpressionViews
 pub mod ActionViews
 pub mod Views
-pub mod Places
+pub mod Offsets
 pub mod Given
 pub mod PackageViews
 pub mod SmallPackage

@@ -11,12 +11,12 @@ pub mod declarations;
 pub mod expressions;
 pub mod laws;
 pub mod limits;
-mod lists;
+mod push_exact;
 pub mod mark;
 pub mod meaning;
 pub mod names;
 pub mod package;
-pub mod places;
+pub mod offsets;
 mod spelling;
 pub mod values;
 
@@ -33,7 +33,7 @@ pub use expressions::{
     RelationOperator, Sign, Sum, Term,
 };
 pub use limits::GREATEST_NESTING;
-pub use lists::push_exact;
+pub use push_exact::push_exact;
 pub use mark::Mark;
 pub use meaning::{Same, same};
 pub use names::{Identifier, Identifiers, Name, Path, Reference};

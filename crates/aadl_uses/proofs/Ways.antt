@@ -7,8 +7,8 @@ use Rattle.std.proofs.lemmas.Option.{none-some}
 use Rattle.aadl_tree.specs.Declarations.{Subcomponent, PackageTree}
 use Rattle.aadl_names.specs.Resolving.{referred}
 use Rattle.aadl_uses.specs.Uses.{sub_at, below, standing}
-use Rattle.aadl_uses.specs.declared.places.SubAt.{SubAt}
-use Rattle.aadl_uses.specs.Places.{name_at, names_along, dotted_names, spelled_path, sub_in, subs_along}
+use Rattle.aadl_uses.specs.declared.thread_places.SubAt.{SubAt}
+use Rattle.aadl_uses.specs.ThreadPlaces.{name_at, names_along, dotted_names, spelled_path, sub_in, subs_along}
 
 -- ---- paths
 -- one more subcomponent is the innermost

@@ -7,4 +7,4 @@ pub mod Weights
 pub mod Uses
 pub mod Threads
 pub mod Recursion
-pub mod Places
+pub mod ThreadPlaces

@@ -15,7 +15,7 @@ use Rattle.pals_model.specs.Inputs.{rate_of}
 use Rattle.scenario_values.specs.declared.fault.ScenarioFault.{ScenarioFault}
 use Rattle.scenario_values.specs.declared.fault.ScenarioFault.TheVariants.{WrongKind, Unknown, OutOfRange}
 use Rattle.scenario_values.specs.Outcomes.{◌>>=◌, only_if, through}
-use Rattle.scenario_values.specs.Places.{inside}
+use Rattle.scenario_values.specs.FaultPlaces.{inside}
 use Rattle.scenario_values.specs.Values.{elements, text, whole, is_whole, port_value}
 use Rattle.scenario_values.proofs.Passing.{ok_same, ok_bind, ok_only_if, through_keeps, whole_within}
 use Rattle.scenario_names.specs.Names.{node_no, link_no, node_at, link_at}

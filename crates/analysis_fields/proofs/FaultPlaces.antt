@@ -7,7 +7,7 @@ use Rattle.pals_base.specs.declared.values.NodeNo.{NodeNo}
 use Rattle.pals_model.specs.declared.design.DesignParts.{DesignParts}
 use Rattle.scenario_values.specs.declared.fault.ScenarioFault.TheVariants.{OutOfRange}
 use Rattle.scenario_values.specs.Outcomes.{◌>>=◌, only_if}
-use Rattle.scenario_values.specs.Places.{inside}
+use Rattle.scenario_values.specs.FaultPlaces.{inside}
 use Rattle.analysis_fields.specs.contracts.faults.FaultPlacePartialEq.TheImpl.{ghosts}
 use Rattle.analysis_fields.specs.declared.faults.FaultPlace.{FaultPlace}
 use Rattle.analysis_fields.specs.declared.faults.RoundFault.{RoundFault}

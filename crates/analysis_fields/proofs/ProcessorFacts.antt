@@ -18,7 +18,7 @@ use Rattle.pals_model.specs.LinkNames.{node_named}
 use Rattle.scenario_values.specs.declared.fault.ScenarioFault.{ScenarioFault}
 use Rattle.scenario_values.specs.declared.fault.ScenarioFault.TheVariants.{Unknown, OutOfRange}
 use Rattle.scenario_values.specs.Outcomes.{◌>>=◌, only_if, through}
-use Rattle.scenario_values.specs.Places.{inside}
+use Rattle.scenario_values.specs.FaultPlaces.{inside}
 use Rattle.scenario_values.specs.Values.{entries, text, whole}
 use Rattle.scenario_values.proofs.Passing.{ok_same, ok_bind, ok_given, ok_only_if, through_keeps, whole_within}
 use Rattle.scenario_names.specs.Names.{node_no, node_at}

@@ -11,7 +11,7 @@ use Rattle.pals_runs.specs.declared.pairs.Pair.{Pair}
 use Rattle.scenario_values.specs.declared.fault.ScenarioFault.{ScenarioFault}
 use Rattle.scenario_values.specs.declared.fault.ScenarioFault.TheVariants.{OutOfRange}
 use Rattle.scenario_values.specs.Outcomes.{◌>>=◌, only_if, through}
-use Rattle.scenario_values.specs.Places.{inside}
+use Rattle.scenario_values.specs.FaultPlaces.{inside}
 use Rattle.scenario_values.specs.Values.{entries, text}
 use Rattle.scenario_names.specs.Names.{node_no, node_at}
 use Rattle.analysis_fields.specs.declared.plants.Named.{Named}

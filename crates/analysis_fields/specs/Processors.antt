@@ -13,7 +13,7 @@ use Rattle.scenario_values.specs.declared.fault.ScenarioFault.TheVariants.{Field
 use Rattle.analysis_fields.specs.declared.limits.TheConstants.{PROCESSORS}
 use Rattle.analysis_fields.specs.declared.processors.Processor.{Processor}
 use Rattle.scenario_values.specs.Outcomes.{◌>>=◌, given, only_if, through}
-use Rattle.scenario_values.specs.Places.{inside}
+use Rattle.scenario_values.specs.FaultPlaces.{inside}
 use Rattle.scenario_values.specs.Values.{elements, entries, text, whole, is_whole}
 use Rattle.scenario_names.specs.Names.{node_no, node_at}
 

@@ -16,7 +16,7 @@ use Rattle.analysis_fields.specs.declared.formulas.Role.{Role}
 use Rattle.analysis_fields.specs.declared.formulas.Role.TheVariants as role
 use Rattle.analysis_fields.specs.declared.limits.TheConstants.{PROPERTIES, FORMS, LEVELS}
 use Rattle.scenario_values.specs.Outcomes.{◌>>=◌, given, only_if, through}
-use Rattle.scenario_values.specs.Places.{inside}
+use Rattle.scenario_values.specs.FaultPlaces.{inside}
 use Rattle.analysis_fields.specs.PropertyValues.{PropertyValue}
 use Rattle.scenario_values.specs.Values.{values_in, elements, entries, text, number, is_whole}
 use Rattle.scenario_names.specs.Names.{node_at}

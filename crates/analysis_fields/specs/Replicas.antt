@@ -19,7 +19,7 @@ use Rattle.analysis_fields.specs.declared.faults.FaultPlace.{FaultPlace}
 use Rattle.analysis_fields.specs.declared.faults.RoundFault.{RoundFault}
 use Rattle.analysis_fields.specs.declared.limits.TheConstants.{REPLICAS}
 use Rattle.scenario_values.specs.Outcomes.{◌>>=◌, only_if, through}
-use Rattle.scenario_values.specs.Places.{inside}
+use Rattle.scenario_values.specs.FaultPlaces.{inside}
 use Rattle.scenario_values.specs.Values.{elements, text, whole, is_whole, port_value}
 use Rattle.scenario_names.specs.Names.{node_no, link_no, node_at, link_at}
 

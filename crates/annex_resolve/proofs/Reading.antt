@@ -21,7 +21,7 @@ use Rattle.aadl_tree.specs.declared.expressions.Term as source_term
 use Rattle.aadl_tree.specs.declared.expressions.Relation as source_relation
 use Rattle.aadl_tree.specs.Names.{Identifier}
 use Rattle.aadl_tree.specs.Expressions.{Primary, number, truth, named, group, absolute, negated, bare, Expression, Factor, Term, term, Sum, total, Relation, single, compared, expression}
-use Rattle.aadl_tree.specs.Places.{primary_at, factor_at, term_at, sum_at, relation_at}
+use Rattle.aadl_tree.specs.Offsets.{primary_at, factor_at, term_at, sum_at, relation_at}
 use Rattle.aadl_tree.specs.Maps.{kept_place}
 use Rattle.aadl_tree.specs.ExpressionViews.{leading_view, factor_view, factors_view, term_view, terms_view, relation_view, relations_view}
 use Rattle.annex_resolve.specs.declared.scope.Scope.{Scope}

@@ -7,7 +7,7 @@ use Rattle.aadl_tree.specs.declared.expressions.RelationOperator.{RelationOperat
 use Rattle.aadl_tree.specs.declared.expressions.RelationOperator.TheVariants as compare
 use Rattle.aadl_tree.specs.Names.{Identifier, Reference}
 use Rattle.aadl_tree.specs.Expressions.{LeadingSign, Primary, number, truth, named, group, Factor, absolute, negated, bare, Term, term, Factors, no_factors, factor, Sum, total, Terms, no_terms, add, Relation, single, compared, Expression, expression, Relations, no_relations, join}
-use Rattle.aadl_tree.specs.Places.{primary_at, factor_at, term_at, sum_at, relation_at, expression_at}
+use Rattle.aadl_tree.specs.Offsets.{primary_at, factor_at, term_at, sum_at, relation_at, expression_at}
 use Rattle.annex_resolve.specs.declared.scope.Scope.{Scope}
 use Rattle.annex_resolve.specs.declared.scope.Entry.{Entry}
 use Rattle.annex_resolve.specs.declared.violation.Violation.{Violation}

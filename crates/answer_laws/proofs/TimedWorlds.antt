@@ -8,7 +8,7 @@ use Rattle.bus_machine.specs.States.{Run}
 use Rattle.bus_machine.specs.WorldTexts.{worldtext}
 use Rattle.timed_laws.specs.Worlds.{World, opening_world, world_after}
 use Rattle.timed_laws.specs.Faults.{fault_of, IsWithin}
-use Rattle.timed_laws.specs.Lists.{world_left}
+use Rattle.timed_laws.specs.EventLists.{world_left}
 use Rattle.pals_report.specs.EventFaults.{event_fault_line}
 use Rattle.world_texts.specs.WorldTexts.{IsToldWorld}
 use Rattle.pals_top.specs.declared.status.TheConstants.{DONE, SCENARIO_REFUSED}

@@ -10,7 +10,7 @@ use Rattle.aadl_tree.specs.NameViews.{name_view, path_view}
 use Rattle.aadl_tree.specs.ValueViews.{value_view, association_view}
 use Rattle.aadl_names.specs.declared.holder.Property.{Property}
 use Rattle.aadl_names.specs.Properties.{counts, is_named, name_of, association_named}
-use Rattle.component_checks.specs.Lists.{first_in}
+use Rattle.component_checks.specs.PropertyLookup.{first_in}
 
 pub view_out_association : {P : Type 0} (place : ℕ → P) (x : source)
     → association_view place x

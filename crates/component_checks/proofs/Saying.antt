@@ -8,10 +8,10 @@ use Rattle.aadl_tree.specs.Values.{Associations}
 use Rattle.aadl_tree.specs.Declarations.{Subcomponent, Implementation, Declaration, PackageTree}
 use Rattle.aadl_names.specs.declared.holder.Property.TheVariants.{Period, Dispatch}
 use Rattle.aadl_names.specs.Resolving.{type_in, implementation_in, implementation_at, subcomponents_of, connections_of, type_number, type_of, referred, target_of}
-use Rattle.aadl_uses.specs.declared.places.SubAt.{SubAt}
+use Rattle.aadl_uses.specs.declared.thread_places.SubAt.{SubAt}
 use Rattle.annex_resolve.proofs.Reading.{take_next}
 use Rattle.component_checks.specs.declared.timed.Timed.{Timed}
-use Rattle.component_checks.specs.Lists.{type_lists, own_lists, sub_lists, lists_at, lists_along, root_lists, first_in}
+use Rattle.component_checks.specs.PropertyLookup.{type_lists, own_lists, sub_lists, lists_at, lists_along, root_lists, first_in}
 use Rattle.component_checks.specs.Carried as carried
 use Rattle.component_checks.specs.Carried.{carried_by, connections_carried}
 use Rattle.component_checks.specs.Timed.{period_at, dispatch_at, timed_by, nearer, type_timed, own_timed, sub_timed, subs_timed, or_nothing, or_none, numbered, numbered_in}

@@ -1,6 +1,6 @@
 pub mod Numbers
 pub mod Rates
-pub mod Lists
+pub mod PropertyLookup
 pub mod Times
 pub mod Threads
 pub mod Roots

@@ -13,7 +13,7 @@ use Rattle.annex_resolve.specs.Scopes.{found_if}
 use Rattle.component_checks.specs.Numbers.{within_hour, range_within, skew_of, range_of, gamma_by}
 use Rattle.component_checks.specs.Rates.{bound_findings}
 use Rattle.annex_resolve.specs.declared.violation.TheConstants.{NO_PERIOD, GAMMA_MISSING, GAMMA_ORDER}
-use Rattle.component_checks.specs.Lists.{root_lists, first_in}
+use Rattle.component_checks.specs.PropertyLookup.{root_lists, first_in}
 use Rattle.component_checks.specs.Times.{time_at, range_at, shown}
 use Rattle.component_checks.specs.Threads.{root_period}
 

@@ -7,14 +7,14 @@ use Rattle.aadl_tree.specs.Declarations.{Subcomponent, PackageTree}
 use Rattle.aadl_names.specs.declared.holder.Property.TheVariants.{Period, Dispatch}
 use Rattle.aadl_names.specs.Spelling.{same_name, spelled_reference}
 use Rattle.aadl_names.specs.Properties.{association_value, reference_of}
-use Rattle.aadl_uses.specs.declared.places.SubAt.{SubAt}
-use Rattle.aadl_uses.specs.declared.places.ThreadAt.{ThreadAt}
+use Rattle.aadl_uses.specs.declared.thread_places.SubAt.{SubAt}
+use Rattle.aadl_uses.specs.declared.thread_places.ThreadAt.{ThreadAt}
 use Rattle.annex_resolve.specs.declared.violation.Violation.{Violation}
 use Rattle.annex_resolve.specs.Scopes.{found_if}
 use Rattle.component_checks.specs.Numbers.{within_hour, rate_of}
 use Rattle.component_checks.specs.Rates.{period_findings}
 use Rattle.annex_resolve.specs.declared.violation.TheConstants.{NOT_PERIODIC}
-use Rattle.component_checks.specs.Lists.{lists_along, root_lists, sub_lists, innermost, first_in}
+use Rattle.component_checks.specs.PropertyLookup.{lists_along, root_lists, sub_lists, innermost, first_in}
 use Rattle.component_checks.specs.Times.{time_at}
 
 -- ---- periods, from the nearest place that gives one; none above an hour

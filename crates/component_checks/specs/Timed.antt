@@ -9,7 +9,7 @@ use Rattle.aadl_names.specs.Resolving.{type_in, implementation_in, subcomponents
 use Rattle.component_checks.specs.declared.timed.Timed.{Timed}
 use Rattle.component_checks.specs.Numbers.{within_hour}
 use Rattle.component_checks.specs.Threads.{is_word}
-use Rattle.component_checks.specs.Lists.{type_lists, own_lists, sub_lists, first_in}
+use Rattle.component_checks.specs.PropertyLookup.{type_lists, own_lists, sub_lists, first_in}
 
 -- the period that is given; none above an hour
 abbrev pub period_at : Option (Association ℕ) → Option (Option ℕ)

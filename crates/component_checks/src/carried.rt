@@ -8,8 +8,8 @@ ghost use Rattle.component_checks.specs.Rates.{adaptor_named};
 ghost use Rattle.component_checks.specs.Threads.{says};
 
 use crate::adaptor_named;
-use crate::lists::property_in;
-use crate::texts::unquoted;
+use crate::property_lookup::property_in;
+use crate::quotes::unquoted;
 use crate::words::is_word;
 use aadl_names::Property;
 use aadl_tree::{Association, Value};

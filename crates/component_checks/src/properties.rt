@@ -4,7 +4,7 @@ ghost use Rattle.std.proofs.Props.{props};
 ghost use Rattle.aadl_tree.specs.PackageViews.{placed};
 ghost use Rattle.aadl_names.specs.Resolving.{implementation_at, connections_of};
 ghost use Rattle.component_checks.specs.Carried.{carried_by, connections_carried};
-ghost use Rattle.component_checks.specs.Lists.{lists_at, root_lists, lists_along, sub_lists, innermost};
+ghost use Rattle.component_checks.specs.PropertyLookup.{lists_at, root_lists, lists_along, sub_lists, innermost};
 ghost use Rattle.component_checks.specs.Timed as spec;
 ghost use Rattle.component_checks.specs.Timed.{timed_by};
 

@@ -9,7 +9,7 @@ ghost use Rattle.component_checks.specs.Numbers.{within_hour};
 ghost use Rattle.component_checks.specs.Roots as spec;
 ghost use Rattle.component_checks.specs.Times.{time_at};
 
-use crate::lists::{implementation_at, root_property};
+use crate::property_lookup::{implementation_at, root_property};
 use crate::threads::add_named;
 use crate::times::{range_within, shown, time_within};
 use crate::{add_bound_findings, gamma_by};

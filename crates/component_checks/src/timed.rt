@@ -4,7 +4,7 @@ ghost use Rattle.aadl_tree.specs.Maps.{kept_place};
 ghost use Rattle.aadl_tree.specs.ValueViews.{association_view, associations_view};
 ghost use Rattle.component_checks.specs.Timed.{period_at, dispatch_at, timed_by, nearer};
 
-use crate::lists::property_in;
+use crate::property_lookup::property_in;
 use crate::times::time_within;
 use crate::words::is_word;
 use aadl_names::Property;

@@ -10,8 +10,8 @@ ghost use Rattle.annex_resolve.specs.Types.{kind_in};
 ghost use Rattle.annex_resolve.specs.Behaviours.{identifiers};
 ghost use Rattle.component_checks.specs.Types as spec;
 
-use crate::lists::property_in;
-use crate::texts::unquoted;
+use crate::property_lookup::property_in;
+use crate::quotes::unquoted;
 use aadl_names::Property;
 use aadl_tree::{
     AnnexTree, Association, Direction, Feature, Identifiers, Reference, Value, VariableDeclaration,

@@ -11,7 +11,7 @@ use Rattle.pals_model.specs.Rules as model
 use Rattle.aadl_tree.specs.Declarations.{Implementation, implementation, PackageTree}
 use Rattle.aadl_tree.specs.Given.{IsGiven}
 use Rattle.aadl_names.specs.PackageFaults.{package_faults}
-use Rattle.aadl_uses.specs.declared.places.ThreadAt.{ThreadAt}
+use Rattle.aadl_uses.specs.declared.thread_places.ThreadAt.{ThreadAt}
 use Rattle.component_checks.specs.Rates.{bound_findings}
 use Rattle.design_laws.proofs.Counting.{leaves_time}
 use Rattle.component_checks.specs.Threads.{root_period, thread_rate, raised, greatest_rate}

@@ -11,7 +11,7 @@ use Rattle.pals_model.specs.declared.design.DesignParts.{DesignParts}
 use Rattle.pals_model.specs.Rules.{IsDesign}
 use Rattle.pals_model.specs.Rules as model
 use Rattle.aadl_tree.specs.Declarations.{PackageTree}
-use Rattle.aadl_uses.specs.Places.{thread_at}
+use Rattle.aadl_uses.specs.ThreadPlaces.{thread_at}
 use Rattle.aadl_instance.specs.Flat.{Parts, IsFlat}
 use Rattle.aadl_instance.specs.Instances.{chain_at}
 use Rattle.component_checks.specs.Threads.{thread_rate, greatest_rate}

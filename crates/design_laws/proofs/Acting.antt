@@ -10,7 +10,7 @@ use Rattle.pals_base.specs.declared.limits.TheConstants.{TURNS, NESTED_TURNS}
 use Rattle.pals_base.specs.Tree as plain
 use Rattle.pals_base.specs.Kinds.{allows, kinds_of, suits_variable, suits_port, is_short, is_sound, are_sound, branches_are_sound}
 use Rattle.aadl_tree.specs.Expressions.{Expression}
-use Rattle.aadl_tree.specs.Places.{expression_at}
+use Rattle.aadl_tree.specs.Offsets.{expression_at}
 use Rattle.aadl_tree.specs.Actions.{Action, assign, send, choose, loop, Actions, actions, Mores, no_mores, more, Elsifs, no_elsifs, elsif, Otherwise, no_otherwise, otherwise, Block, no_block, block}
 use Rattle.annex_resolve.specs.declared.scope.Scope.{Scope}
 use Rattle.annex_resolve.specs.declared.scope.Entry.{Entry}

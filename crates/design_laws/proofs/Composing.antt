@@ -19,8 +19,8 @@ use Rattle.aadl_names.specs.Behaviours as names
 use Rattle.aadl_names.specs.Resolving.{implementation_at, ports_of}
 use Rattle.aadl_uses.specs.Uses.{standing}
 use Rattle.aadl_uses.specs.Threads.{IsThreadOf, IsThreadAt, PathBefore}
-use Rattle.aadl_names.specs.Beside.{first_behaviour}
-use Rattle.aadl_uses.specs.Places.{spelled_path, thread_at}
+use Rattle.aadl_names.specs.DeclaredTwice.{first_behaviour}
+use Rattle.aadl_uses.specs.ThreadPlaces.{spelled_path, thread_at}
 use Rattle.aadl_instance.specs.Parts.{count_in, variable_count, state_count}
 use Rattle.aadl_instance.specs.Flat.{Parts, IsFlat}
 use Rattle.annex_resolve.specs.Types.{kind_named}

@@ -14,7 +14,7 @@ use Rattle.aadl_tree.specs.Declarations.{Feature, Implementation, PackageTree}
 use Rattle.aadl_names.specs.Resolving.{implementation_at, ports_of, ports_at}
 use Rattle.aadl_names.specs.PackageFaults.{goes_in}
 use Rattle.aadl_uses.specs.Uses.{component_at}
-use Rattle.aadl_uses.specs.Places.{thread_at}
+use Rattle.aadl_uses.specs.ThreadPlaces.{thread_at}
 use Rattle.aadl_chains.specs.Chains.{Port, port_of, is_in}
 use Rattle.aadl_instance.specs.declared.parts.ChainEnd.TheVariants.{Thread}
 use Rattle.aadl_instance.specs.Instances.{same_direction, node_at, goes_as, port_number}

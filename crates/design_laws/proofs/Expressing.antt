@@ -17,7 +17,7 @@ use Rattle.aadl_tree.specs.declared.expressions.RelationOperator.TheVariants as 
 use Rattle.aadl_tree.specs.declared.expressions.MultiplyOperator.{MultiplyOperator}
 use Rattle.aadl_tree.specs.declared.expressions.MultiplyOperator.TheVariants as multiply
 use Rattle.aadl_tree.specs.Expressions.{Primary, number, truth, named, group, Factor, absolute, negated, bare, Term, term, Factors, no_factors, factor, Sum, total, Terms, no_terms, add, Relation, single, compared, Expression, expression, Relations, no_relations, join}
-use Rattle.aadl_tree.specs.Places.{primary_at, factor_at, term_at, sum_at, relation_at}
+use Rattle.aadl_tree.specs.Offsets.{primary_at, factor_at, term_at, sum_at, relation_at}
 use Rattle.annex_resolve.specs.declared.scope.Scope.{Scope}
 use Rattle.annex_resolve.specs.declared.scope.Entry.{Entry}
 use Rattle.annex_resolve.specs.declared.scope.Meaning.{Meaning}

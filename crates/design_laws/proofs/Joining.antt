@@ -14,7 +14,7 @@ use Rattle.pals_model.specs.declared.design.DesignParts.{DesignParts}
 use Rattle.pals_model.specs.Ports.{feed_kind}
 use Rattle.pals_model.specs.Rules as model
 use Rattle.aadl_tree.specs.Declarations.{Feature, PackageTree}
-use Rattle.aadl_uses.specs.Places.{thread_at}
+use Rattle.aadl_uses.specs.ThreadPlaces.{thread_at}
 use Rattle.aadl_chains.specs.Chains.{Port, Leads}
 use Rattle.aadl_chains.specs.Links.{Ends, TargetBefore, PortBefore}
 use Rattle.aadl_instance.specs.Flat.{Parts, IsFlat}

@@ -13,7 +13,7 @@ use Rattle.aadl_tree.specs.Declarations.{Feature, Connection, PackageTree}
 use Rattle.aadl_names.specs.Resolving.{ports_at, type_number}
 use Rattle.aadl_uses.specs.Uses.{component_at}
 use Rattle.aadl_uses.specs.Threads.{IsThreadAt}
-use Rattle.aadl_uses.specs.Places.{thread_at}
+use Rattle.aadl_uses.specs.ThreadPlaces.{thread_at}
 use Rattle.aadl_chains.specs.Chains.{Port, port_of, is_in}
 use Rattle.aadl_chains.specs.Links.{Ends}
 use Rattle.aadl_instance.specs.Flat.{Parts, IsFlat}

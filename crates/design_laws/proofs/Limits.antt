@@ -16,7 +16,7 @@ use Rattle.aadl_uses.specs.Counts.{path_before, Among}
 use Rattle.aadl_chains.specs.Numbers.{Distinct}
 use Rattle.aadl_chains.specs.Links.{Ends, IsLink, same_path, TargetBefore, OtherTarget}
 use Rattle.aadl_chains.proofs.Numbers.{no_more}
-use Rattle.aadl_uses.specs.Places.{ThreadWith, spelled_path}
+use Rattle.aadl_uses.specs.ThreadPlaces.{ThreadWith, spelled_path}
 use Rattle.aadl_instance.specs.Parts.{variable_count, state_count}
 use Rattle.aadl_instance.specs.declared.limits.Limit.{Limit}
 use Rattle.aadl_instance.specs.declared.limits.Limit.TheVariants.{Components, Links, Ports, Variables, States, Path}

@@ -17,7 +17,7 @@ use Rattle.aadl_names.specs.Resolving.{implementation_at, subcomponents_of, refe
 use Rattle.aadl_names.specs.Spaces.{port_entries, member_entries}
 use Rattle.aadl_uses.specs.Uses.{sub_at, below, standing}
 use Rattle.aadl_uses.specs.Counts.{path_before}
-use Rattle.aadl_uses.specs.Places.{name_at, names_along, dotted_names, spelled_path}
+use Rattle.aadl_uses.specs.ThreadPlaces.{name_at, names_along, dotted_names, spelled_path}
 use Rattle.design_laws.specs.Named.{IsNamed, HasWords, NamesDiffer}
 use Rattle.design_laws.proofs.Placed.{Pairs, all_append}
 use Rattle.design_laws.proofs.Differing.{one_name, Differs}

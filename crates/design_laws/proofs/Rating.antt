@@ -27,8 +27,8 @@ use Rattle.aadl_names.specs.PackageFaults.{variables_faults, stray_faults, port_
 use Rattle.aadl_names.specs.PackageFaults.{is_same_number, declaration_faults, wrong_names, package_faults}
 use Rattle.aadl_names.specs.PackageFaults as naming
 use Rattle.aadl_uses.specs.Uses.{sub_at, below, standing}
-use Rattle.aadl_uses.specs.declared.places.SubAt.{SubAt}
-use Rattle.aadl_uses.specs.Places.{sub_in, subs_along, thread_at}
+use Rattle.aadl_uses.specs.declared.thread_places.SubAt.{SubAt}
+use Rattle.aadl_uses.specs.ThreadPlaces.{sub_in, subs_along, thread_at}
 use Rattle.aadl_instance.specs.Flat.{Parts, IsFlat}
 use Rattle.annex_resolve.specs.Scopes.{found_if}
 use Rattle.design_laws.proofs.Tests.{is_right, not_wrong}
@@ -40,7 +40,7 @@ use Rattle.component_checks.specs.Numbers as numbers
 use Rattle.component_checks.specs.Rates.{bound_findings, period_findings}
 use Rattle.design_laws.proofs.Counting.{gamma_counts, IsRateOf, rate_counts, leaves_time, least_is_some, rate_from}
 use Rattle.annex_resolve.specs.declared.violation.TheConstants.{NO_PERIOD, NOT_PERIODIC, GAMMA_MISSING, GAMMA_ORDER}
-use Rattle.component_checks.specs.Lists.{type_lists, own_lists, sub_lists, lists_at, root_lists, lists_along, first_in}
+use Rattle.component_checks.specs.PropertyLookup.{type_lists, own_lists, sub_lists, lists_at, root_lists, lists_along, first_in}
 use Rattle.component_checks.specs.Times.{time_at, range_at, shown, list_big}
 use Rattle.component_checks.specs.Types.{port_findings}
 use Rattle.component_checks.specs.Threads.{root_period, own_period, is_periodic, thread_place, thread_rate, thread_findings}

@@ -18,10 +18,10 @@ use Rattle.aadl_names.specs.PackageFaults.{package_faults}
 use Rattle.aadl_names.specs.Spelling.{same_name, spelled_implementation}
 use Rattle.aadl_uses.specs.Uses.{sub_at, below, standing, component_at}
 use Rattle.aadl_uses.specs.Threads.{IsThreadAt}
-use Rattle.aadl_uses.specs.declared.places.SubAt.{SubAt}
-use Rattle.aadl_uses.specs.Places.{sub_in, subs_along, thread_at}
+use Rattle.aadl_uses.specs.declared.thread_places.SubAt.{SubAt}
+use Rattle.aadl_uses.specs.ThreadPlaces.{sub_in, subs_along, thread_at}
 use Rattle.aadl_instance.specs.Flat.{Parts, IsFlat}
-use Rattle.component_checks.specs.Lists.{sub_of, innermost}
+use Rattle.component_checks.specs.PropertyLookup.{sub_of, innermost}
 use Rattle.component_checks.specs.Types.{port_findings}
 use Rattle.model_violations.specs.Ports.{component_of}
 use Rattle.model_violations.specs.Threads as threads

@@ -23,7 +23,7 @@ use Rattle.aadl_names.specs.Twice.{twice}
 use Rattle.design_laws.proofs.Tests.{both, neither, not_wrong, not_false}
 use Rattle.component_checks.specs.Numbers.{within_hour, range_within}
 use Rattle.annex_resolve.specs.declared.violation.TheConstants.{NUMBER_TOO_BIG}
-use Rattle.component_checks.specs.Lists.{first_in}
+use Rattle.component_checks.specs.PropertyLookup.{first_in}
 use Rattle.component_checks.specs.Times.{time_at, range_at, is_above, has_above, is_too_big, shown, big_as, association_big, counted_big, list_big}
 use Rattle.design_laws.proofs.Differing.{left_none, where_true, all_none, all_false}
 

@@ -10,7 +10,7 @@ use Rattle.pals_model.specs.declared.design.Feed.{Feed}
 use Rattle.pals_model.specs.declared.design.Tap.{Tap}
 use Rattle.pals_model.specs.declared.design.DesignParts.{DesignParts}
 use Rattle.aadl_tree.specs.Declarations.{Connection, PackageTree}
-use Rattle.aadl_uses.specs.declared.places.ThreadAt.{ThreadAt}
+use Rattle.aadl_uses.specs.declared.thread_places.ThreadAt.{ThreadAt}
 use Rattle.aadl_instance.specs.declared.parts.Chain.{Chain}
 use Rattle.aadl_instance.specs.declared.parts.ChainEnd.{ChainEnd}
 use Rattle.aadl_instance.specs.declared.parts.ChainEnd.TheVariants.{Thread, Root}

@@ -11,13 +11,13 @@ use Rattle.aadl_tree.specs.Declarations.{Subcomponent, Implementation, PackageTr
 use Rattle.aadl_names.specs.Resolving.{implementation_at, referred, target_of, is_thread}
 use Rattle.aadl_uses.specs.Uses.{sub_at, below, standing, component_at}
 use Rattle.aadl_uses.specs.Threads.{IsThreadAt}
-use Rattle.aadl_uses.specs.declared.places.SubAt.{SubAt}
-use Rattle.aadl_uses.specs.declared.places.ThreadAt.{ThreadAt}
-use Rattle.aadl_uses.specs.Places.{sub_in, subs_along, thread_at}
+use Rattle.aadl_uses.specs.declared.thread_places.SubAt.{SubAt}
+use Rattle.aadl_uses.specs.declared.thread_places.ThreadAt.{ThreadAt}
+use Rattle.aadl_uses.specs.ThreadPlaces.{sub_in, subs_along, thread_at}
 use Rattle.aadl_instance.specs.declared.parts.Chain.{Chain}
 use Rattle.aadl_instance.specs.Flat.{Parts, IsFlat}
 use Rattle.aadl_instance.specs.Instances.{IsInstance}
-use Rattle.component_checks.specs.Lists.{sub_of, innermost}
+use Rattle.component_checks.specs.PropertyLookup.{sub_of, innermost}
 use Rattle.model_violations.specs.Ports.{component_of}
 use Rattle.model_violations.proofs.Flats.{is_small}
 use Rattle.model_checks.specs.Limits.{IsWithinLimits}

@@ -1,7 +1,7 @@
 -- The threads of an instance are within the limits of a design.
 use Rattle.std.specs.Prelude.{◌≡◌, ℕ, Some}
 use Rattle.aadl_tree.specs.Declarations.{Implementation, PackageTree}
-use Rattle.aadl_uses.specs.declared.places.ThreadAt.{ThreadAt}
+use Rattle.aadl_uses.specs.declared.thread_places.ThreadAt.{ThreadAt}
 use Rattle.model_violations.specs.Ports.{component_of}
 use Rattle.model_violations.specs.Threads.{IsSmall}
 

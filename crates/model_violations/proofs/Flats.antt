@@ -12,11 +12,11 @@ use Rattle.aadl_tree.specs.Declarations.{Implementation, PackageTree}
 use Rattle.aadl_names.specs.declared.fault.FlatFault.TheVariants.{TooMany}
 use Rattle.aadl_names.specs.Behaviours as names
 use Rattle.aadl_names.specs.Resolving.{is_root, is_thread, first_number, implementation_at, ports_of}
-use Rattle.aadl_names.specs.Beside.{first_behaviour}
+use Rattle.aadl_names.specs.DeclaredTwice.{first_behaviour}
 use Rattle.aadl_instance.specs.Parts.{count_in, variable_count}
 use Rattle.aadl_uses.specs.Uses.{standing, component_at, IsInUse}
 use Rattle.aadl_uses.specs.Threads.{IsThreadOf}
-use Rattle.aadl_uses.specs.declared.places.ThreadAt.{ThreadAt}
+use Rattle.aadl_uses.specs.declared.thread_places.ThreadAt.{ThreadAt}
 use Rattle.aadl_instance.specs.declared.parts.Chain.{Chain}
 use Rattle.aadl_instance.specs.Flat.{Parts, IsFlat}
 use Rattle.aadl_instance.specs.Instances.{IsInstance}

@@ -3,7 +3,7 @@ use Rattle.std.specs.Prelude.{ℕ, not, List, [], ◌++◌, Option, Some, None, 
 use Rattle.pals_base.specs.declared.behaviour.Kind.{Kind}
 use Rattle.pals_base.specs.declared.values.Adaptor.{Adaptor}
 use Rattle.aadl_tree.specs.Declarations.{Connection, PackageTree}
-use Rattle.aadl_uses.specs.declared.places.ThreadAt.{ThreadAt}
+use Rattle.aadl_uses.specs.declared.thread_places.ThreadAt.{ThreadAt}
 use Rattle.aadl_instance.specs.declared.parts.Chain.{Chain}
 use Rattle.annex_resolve.specs.declared.violation.Violation.{Violation}
 use Rattle.annex_resolve.specs.Scopes.{found_if, has_some}

@@ -4,12 +4,12 @@ use Rattle.std.specs.Option.{option_and_then}
 use Rattle.pals_base.specs.declared.behaviour.Kind.{Kind}
 use Rattle.aadl_tree.specs.Declarations.{Feature, Implementation, PackageTree}
 use Rattle.aadl_names.specs.Resolving.{ports_at, target_of}
-use Rattle.aadl_uses.specs.declared.places.ThreadAt.{ThreadAt}
+use Rattle.aadl_uses.specs.declared.thread_places.ThreadAt.{ThreadAt}
 use Rattle.aadl_instance.specs.declared.parts.ChainEnd.{ChainEnd}
 use Rattle.aadl_instance.specs.declared.parts.ChainEnd.TheVariants.{Thread, Root}
 use Rattle.aadl_instance.specs.Instances.{port_name}
 use Rattle.annex_resolve.specs.Types.{kind_in}
-use Rattle.component_checks.specs.Lists.{innermost}
+use Rattle.component_checks.specs.PropertyLookup.{innermost}
 use Rattle.component_checks.specs.Types.{is_in}
 
 -- ---- the ports of a thread, in ports and out ports apart

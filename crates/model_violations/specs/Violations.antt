@@ -2,12 +2,12 @@
 use Rattle.std.specs.Prelude.{◌≡◌, ℕ, nat_eq, nat_lt, Bool, ◌&&◌, ◌||◌, List, ◌++◌, map, flat_map, Option}
 use Rattle.std.specs.List.Sorted.{IsSortedBy, IsStableBy}
 use Rattle.aadl_tree.specs.Declarations.{PackageTree}
-use Rattle.aadl_uses.specs.declared.places.ThreadAt.{ThreadAt}
+use Rattle.aadl_uses.specs.declared.thread_places.ThreadAt.{ThreadAt}
 use Rattle.aadl_instance.specs.declared.parts.Chain.{Chain}
 use Rattle.aadl_instance.specs.declared.instance.Instance.{Instance}
 use Rattle.aadl_instance.specs.Flat.{Parts}
 use Rattle.aadl_instance.specs.Instances.{chain_at}
-use Rattle.aadl_uses.specs.Places.{thread_at}
+use Rattle.aadl_uses.specs.ThreadPlaces.{thread_at}
 use Rattle.annex_resolve.specs.declared.violation.Violation.{Violation}
 use Rattle.component_checks.specs.Threads.{thread_rate, greatest_rate, thread_findings}
 use Rattle.component_checks.specs.Roots.{root_findings}

@@ -8,7 +8,7 @@ ghost use Rattle.model_violations.specs.Carriers as spec;
 
 use aadl_instance::ConnAt;
 use aadl_tree::{Connection, PackageTree};
-use component_checks::lists::implementation_at;
+use component_checks::property_lookup::implementation_at;
 use component_checks::{Carried, Properties};
 use indexmap::IndexSet;
 use pals_base::NoMemory;

@@ -13,13 +13,13 @@ ghost use Rattle.model_violations.specs.Carriers.{carries};
 ghost use Rattle.model_violations.specs.Connections as spec;
 
 use crate::carriers::Carriers;
-use aadl_names::sites::site;
+use aadl_names::connection_ends::site;
 use aadl_names::{Names, Site};
 use aadl_tree::{Connection, ConnectionEnd, Feature, Identifier, Implementation};
 use annex_resolve::violation::{DELAYED_ROOT, STRAY_ADAPTOR};
 use annex_resolve::{Violation, expect};
 use component_checks::Carried;
-use component_checks::lists::{target_of, type_of};
+use component_checks::property_lookup::{target_of, type_of};
 use component_checks::threads::add_named;
 use component_checks::types::kind_in;
 use pals_base::{Items, Kind, NoMemory};

@@ -7,7 +7,7 @@ ghost use Rattle.model_violations.specs.Ignored as spec;
 use crate::ignored_declarations::add_declaration;
 use crate::spellings::first_spellings;
 use aadl_names::Names;
-use aadl_names::sites::type_number;
+use aadl_names::connection_ends::type_number;
 use aadl_tree::{Declaration, PackageTree};
 use pals_base::{Items, NoMemory, Text};
 use std::alloc::Global;

@@ -4,7 +4,7 @@ ghost use Rattle.aadl_tree.specs.Maps.{kept_place};
 ghost use Rattle.aadl_tree.specs.Views.{connection_view, declaration_view, feature_view, implementation_view, subcomponent_view, type_view};
 ghost use Rattle.model_violations.specs.Ignored as spec;
 
-use crate::lists::{add_annexes, add_list};
+use crate::ignored_properties::{add_annexes, add_list};
 use aadl_names::Holder;
 use aadl_tree::{Connection, Declaration, Feature, Implementation, Subcomponent, TypeDeclaration};
 use pals_base::{Items, NoMemory, Text};

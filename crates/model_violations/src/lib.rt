@@ -10,7 +10,7 @@ pub mod declared;
 pub mod ignored;
 pub mod ignored_declarations;
 pub mod list;
-pub mod lists;
+pub mod ignored_properties;
 pub mod order;
 pub mod ports;
 pub mod spellings;

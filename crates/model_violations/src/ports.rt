@@ -10,7 +10,7 @@ ghost use Rattle.model_violations.specs.Ports as spec;
 use aadl_instance::{ChainEnd, ThreadAt};
 use aadl_names::Names;
 use aadl_tree::{Feature, Implementation};
-use component_checks::lists::{innermost, target_of, type_of};
+use component_checks::property_lookup::{innermost, target_of, type_of};
 use component_checks::types::{is_in, kind_in};
 use pals_base::{Kind, NoMemory, NodeNo, Text, TryClone};
 use std::alloc::Global;

@@ -16,7 +16,7 @@ use aadl_names::Names;
 use aadl_tree::{Annex, AnnexContent, AnnexTree, Feature, Implementation};
 use annex_resolve::violation::NO_INITIAL;
 use annex_resolve::{Scope, Values, Violation, resolve_annex};
-use component_checks::lists::type_of;
+use component_checks::property_lookup::type_of;
 use component_checks::types::add_variables_findings;
 use pals_base::{BehaviourParts, Items, NoMemory};
 use std::alloc::Global;

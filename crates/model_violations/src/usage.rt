@@ -7,7 +7,7 @@ ghost use Rattle.model_violations.specs.Ignored.{is_number};
 ghost use Rattle.model_violations.specs.Use.{has, IsUse, own_type, type_used, uses_type};
 
 use aadl_names::Names;
-use aadl_names::sites::type_number;
+use aadl_names::connection_ends::type_number;
 use aadl_tree::Declaration;
 use aadl_uses::Uses;
 use indexmap::IndexSet;

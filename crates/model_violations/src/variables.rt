@@ -13,8 +13,8 @@ use crate::declared::Declared;
 use aadl_names::Property;
 use aadl_tree::{AnnexTree, Identifier, Value, VariableDeclaration};
 use annex_resolve::types::kind_named;
-use component_checks::lists::property_in;
-use component_checks::texts::unquoted;
+use component_checks::property_lookup::property_in;
+use component_checks::quotes::unquoted;
 use pals_base::{Items, Kind, NoMemory, Text};
 use std::alloc::Global;
 

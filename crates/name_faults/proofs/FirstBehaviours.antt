@@ -9,7 +9,7 @@ use Rattle.aadl_tree.specs.NameViews.{identifier_view}
 use Rattle.aadl_tree.specs.Maps.{kept_place}
 use Rattle.aadl_names.specs.Behaviours.{behaviours}
 use Rattle.aadl_names.proofs.Finds.{first_left, none_left}
-use Rattle.aadl_names.specs.Beside.{first_behaviour}
+use Rattle.aadl_names.specs.DeclaredTwice.{first_behaviour}
 
 -- an annex of some content, and others behind it
 abbrev first_with : Annex → AnnexContent ℕ → List (plain.Annex ℕ) → Option (AnnexTree ℕ)

@@ -17,7 +17,7 @@ use crate::categories::is_thread;
 use crate::parts::transitions_in;
 use crate::{Scope, check_transitions, state_names, variable_roles};
 use aadl_names::numbered::type_numbered;
-use aadl_names::sites::type_number;
+use aadl_names::connection_ends::type_number;
 use aadl_names::{Finder, Names, Role, Table};
 use aadl_tree::{Annex, AnnexContent, AnnexTree, Implementation};
 use std::alloc::{AllocError, Global};

@@ -18,7 +18,7 @@ use crate::implementations::check_outside_behaviours;
 use crate::types::check_type;
 use crate::{AllPortNames, names_at};
 use aadl_names::numbered::implementation_at;
-use aadl_names::sites::type_number;
+use aadl_names::connection_ends::type_number;
 use aadl_names::spelling::spelled_name;
 use aadl_names::{Finder, Names};
 use aadl_tree::{Declaration, Implementation};

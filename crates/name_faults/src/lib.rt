@@ -3,7 +3,7 @@
 #![tactic(auto)]
 
 mod behaviours;
-mod beside;
+mod declared_twice;
 pub mod categories;
 mod components;
 mod declarations;

@@ -7,18 +7,18 @@ ghost use Rattle.aadl_tree.specs.Views.{annex_tree_view, annex_view, implementat
 ghost use Rattle.aadl_tree.specs.Maps.{kept_place};
 ghost use Rattle.aadl_names.specs.Found.{found};
 ghost use Rattle.aadl_names.specs.Behaviours.{behaviours};
-ghost use Rattle.aadl_names.specs.Beside as spec;
-ghost use Rattle.aadl_names.specs.Beside.{first_behaviour};
+ghost use Rattle.aadl_names.specs.DeclaredTwice as spec;
+ghost use Rattle.aadl_names.specs.DeclaredTwice.{first_behaviour};
 ghost use Rattle.name_faults.specs.PortNames.{AreAllNamesOf};
 
-use crate::beside::check_beside;
+use crate::declared_twice::check_beside;
 use crate::categories::is_thread;
 use crate::entries::{
     implementation_entries, member_entries, state_entries, type_entries, variable_entries,
 };
 use crate::port_names::AllPortNames;
 use crate::ports::{names_at, ports_at};
-use aadl_names::sites::type_number;
+use aadl_names::connection_ends::type_number;
 use aadl_names::twice::check_twice;
 use aadl_names::{Finder, Names};
 use aadl_tree::{Annex, AnnexContent, AnnexTree, Declaration, Implementation};

@@ -21,7 +21,7 @@ mod outgoing;
 mod refusals;
 mod rounds;
 mod stops;
-mod turns;
+mod node_calls;
 
 pub use answers::{LooseFault, Meet};
 pub use bus::Bus;

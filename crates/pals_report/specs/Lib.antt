@@ -4,7 +4,7 @@ pub mod CheckReports
 pub mod FlatFaults
 pub mod Violations
 pub mod TextFaults
-pub mod Places
+pub mod TapPlaces
 pub mod Rows
 pub mod EventFaults
 pub mod Runs

@@ -4,12 +4,12 @@ ghost use Rattle.pals_base.specs.declared.limits.TheConstants.{COMPONENTS};
 ghost use Rattle.pals_model.specs.RoundTexts.{text_of, line_end, round_line, row_lines};
 ghost use Rattle.pals_model.specs.Rules.{IsDesign};
 ghost use Rattle.pals_report.specs.Appended.{BeginsWith};
-ghost use Rattle.pals_report.specs.Places.{tap_places};
+ghost use Rattle.pals_report.specs.TapPlaces.{tap_places};
 ghost use Rattle.pals_report.specs.Rows.{components_from, taps_from};
 
 use crate::component::add_part_line;
 use crate::parts::RoundParts;
-use crate::places::TapPlaces;
+use crate::tap_places::TapPlaces;
 use crate::tap::add_line_at_place;
 use itoa::Buffer;
 use pals_base::{NoMemory, NodeNo};

@@ -17,7 +17,7 @@ use Rattle.pals_model.specs.Inputs.{root_inputs}
 use Rattle.pals_model.specs.Ports.{root_kind}
 use Rattle.scenario_values.specs.declared.fault.ScenarioFault.TheVariants.{OutOfRange}
 use Rattle.scenario_values.specs.Outcomes.{◌>>=◌, only_if, through}
-use Rattle.scenario_values.specs.Places.{inside}
+use Rattle.scenario_values.specs.FaultPlaces.{inside}
 use Rattle.scenario_values.specs.Values.{elements, entries, short_list, whole}
 use Rattle.scenario_values.proofs.Passing.{ok_same, ok_bind, ok_only_if, through_keeps, whole_within}
 use Rattle.scenario_names.specs.Names.{node_at, link_at, root_at}

@@ -16,7 +16,7 @@ use Rattle.scenario_values.specs.declared.fault.ScenarioFault.TheVariants.{Wrong
 use Rattle.run_fields.specs.declared.events.Word.{Word}
 use Rattle.run_fields.specs.declared.events.Word.TheVariants.{Pass, Start, Step, Finish, Send, Arrive, Drop, Repeat}
 use Rattle.scenario_values.specs.Outcomes.{◌>>=◌, given, only_if, through}
-use Rattle.scenario_values.specs.Places.{inside}
+use Rattle.scenario_values.specs.FaultPlaces.{inside}
 use Rattle.scenario_values.specs.Values.{elements, short_list, text, whole, is_whole}
 use Rattle.scenario_names.specs.Names.{node_no, link_no, node_at, link_at}
 

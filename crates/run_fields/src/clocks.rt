@@ -4,7 +4,7 @@ ghost use Rattle.std.specs.List.Sorted.{IsNonDecreasing};
 ghost use Rattle.serde_json.specs.View.{view};
 ghost use Rattle.pals_clock.specs.Clock.{AreReadings, unpicked};
 ghost use Rattle.scenario_values.specs.Outcomes.{Answers, Makes};
-ghost use Rattle.scenario_values.specs.Places.{inside};
+ghost use Rattle.scenario_values.specs.FaultPlaces.{inside};
 ghost use Rattle.run_fields.specs.Clocks.{reading_list, with_clock, clock_lists, is_meet, clocks_in};
 
 use pals_base::limits::{LIST_ITEMS, READING};

@@ -4,7 +4,7 @@ ghost use Rattle.std.specs.List.{list_all};
 ghost use Rattle.serde_json.specs.Find.{as_str};
 ghost use Rattle.serde_json.specs.View.{view};
 ghost use Rattle.scenario_values.specs.Outcomes.{Answers};
-ghost use Rattle.scenario_values.specs.Places.{place_text};
+ghost use Rattle.scenario_values.specs.FaultPlaces.{place_text};
 ghost use Rattle.scenario_values.specs.Values.{is_whole};
 ghost use Rattle.run_fields.specs.Events.{word_of, is_usual, usual_word, node_part, link_parts, reading_parts, pass_parts, event_of, event_in, events_in};
 

@@ -3,7 +3,7 @@ ghost use Rattle.std.specs.Prelude.{◌≡◌, [], ◌∷◌, IfOk, codes, lengt
 ghost use Rattle.serde_json.specs.View.{view};
 ghost use Rattle.pals_model.specs.Inputs.{root_inputs};
 ghost use Rattle.scenario_values.specs.Outcomes.{Answers, Makes};
-ghost use Rattle.scenario_values.specs.Places.{inside};
+ghost use Rattle.scenario_values.specs.FaultPlaces.{inside};
 ghost use Rattle.run_fields.specs.Inputs.{value_list, with_input, inputs_in, delay_list, with_link_delays, delays_in};
 
 use pals_base::limits::HOUR;

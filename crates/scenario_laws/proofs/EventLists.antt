@@ -14,7 +14,7 @@ use Rattle.pals_runs.specs.declared.events.Event.{Event}
 use Rattle.pals_runs.specs.declared.events.Event.TheVariants as event
 use Rattle.scenario_values.specs.declared.fault.ScenarioFault.TheVariants.{WrongKind, OutOfRange}
 use Rattle.scenario_values.specs.Outcomes.{◌>>=◌, given, only_if, through}
-use Rattle.scenario_values.specs.Places.{inside}
+use Rattle.scenario_values.specs.FaultPlaces.{inside}
 use Rattle.scenario_values.specs.Values.{elements, short_list, text, whole, is_whole}
 use Rattle.scenario_values.proofs.Passing.{ok_same, ok_bind, ok_only_if}
 use Rattle.scenario_names.specs.Names.{node_at, link_at, node_no, link_no}

@@ -14,7 +14,7 @@ use Rattle.pals_model.specs.LinkNames.{node_named}
 use Rattle.pals_runs.specs.declared.pairs.Pair.{Pair}
 use Rattle.scenario_values.specs.declared.fault.ScenarioFault.TheVariants.{WrongKind, OutOfRange, Unknown}
 use Rattle.scenario_values.specs.Outcomes.{◌>>=◌, only_if, through}
-use Rattle.scenario_values.specs.Places.{inside}
+use Rattle.scenario_values.specs.FaultPlaces.{inside}
 use Rattle.scenario_values.specs.Values.{entries, text}
 use Rattle.scenario_values.proofs.Passing.{ok_same, ok_bind, ok_given, ok_only_if}
 use Rattle.scenario_names.specs.Names.{node_at}

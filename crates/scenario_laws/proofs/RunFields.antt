@@ -13,7 +13,7 @@ use Rattle.pals_model.specs.declared.design.DesignParts.{DesignParts}
 use Rattle.pals_model.specs.Ports.{root_kind}
 use Rattle.pals_runs.specs.declared.commands.Command.{Command}
 use Rattle.pals_runs.specs.declared.events.Event.{Event}
-use Rattle.scenario_values.specs.Places.{inside}
+use Rattle.scenario_values.specs.FaultPlaces.{inside}
 use Rattle.run_fields.specs.declared.events.Word.{Word}
 use Rattle.run_fields.specs.declared.events.Word.TheVariants.{Pass, Start, Step, Finish, Send, Arrive, Drop, Repeat}
 use Rattle.run_fields.specs.Inputs.{with_value, value_list, with_input, inputs_in, with_delay, delay_list, with_link_delays, delays_in}

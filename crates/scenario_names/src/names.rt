@@ -120,7 +120,7 @@ impl<'a> Names<'a> {
     ghost use Rattle.pals_model.specs.Rules.{IsDesign};
     ghost use Rattle.pals_runs.specs.Journal.{node_word};
     ghost use Rattle.scenario_values.specs.Outcomes.{Answers, Shows};
-    ghost use Rattle.scenario_values.specs.Places.{place_text};
+    ghost use Rattle.scenario_values.specs.FaultPlaces.{place_text};
     ghost use Rattle.scenario_names.specs.Names.{node_at, link_at, root_at};
 
     /// The tables of a design's names.

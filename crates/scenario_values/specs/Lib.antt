@@ -1,3 +1,3 @@
 pub mod Outcomes
-pub mod Places
+pub mod FaultPlaces
 pub mod Values

@@ -2,7 +2,7 @@
 ghost use Rattle.std.specs.Prelude.{◌≡◌, ◌≤◌, map, IfOk, IfErr};
 ghost use Rattle.serde_json.specs.View.{view};
 ghost use Rattle.scenario_values.specs.Outcomes.{Answers, Shows};
-ghost use Rattle.scenario_values.specs.Places.{place_text};
+ghost use Rattle.scenario_values.specs.FaultPlaces.{place_text};
 ghost use Rattle.scenario_values.specs.Values.{elements, entries, entry_of, short_list, integer_of, is_whole, in_range, whole, number, text, present, port_value};
 
 use crate::fault::ScenarioFault;

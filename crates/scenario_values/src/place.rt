@@ -1,6 +1,6 @@
 //! Where in a scenario a fault stands.
 ghost use Rattle.std.specs.Prelude.{◌≡◌, ◌≢◌, IfOk};
-ghost use Rattle.scenario_values.specs.Places.{place_text};
+ghost use Rattle.scenario_values.specs.FaultPlaces.{place_text};
 
 use crate::fault::ScenarioFault;
 use pals_base::{NoMemory, Text};

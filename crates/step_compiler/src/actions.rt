@@ -7,7 +7,7 @@ ghost use Rattle.step_compiler.specs.Adding.{Adds};
 
 use crate::expressions::push_expr;
 use crate::lengths::{acts_length, branches_length, expr_length};
-use crate::places::{behind, deeper};
+use crate::numbering::{behind, deeper};
 use pals_base::{Act, Branch, Items, NoMemory};
 use step_code::Instr;
 

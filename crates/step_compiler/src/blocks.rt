@@ -8,7 +8,7 @@ ghost use Rattle.step_compiler.specs.Blocks.{block_length, start_in, start_of, b
 ghost use Rattle.step_compiler.specs.Adding.{Adds};
 
 use crate::lengths::transition_length;
-use crate::places::{behind, item_at};
+use crate::numbering::{behind, item_at};
 use crate::transitions::{is_complete, push_transition};
 use pals_base::{Behaviour, Guard, Items, NoMemory, Transition};
 use std::alloc::Global;

@@ -11,7 +11,7 @@ use crate::depths::transitions_depth;
 use crate::fault::CompileFault;
 use crate::lengths::transitions_length;
 use crate::order::block_order;
-use crate::places::count;
+use crate::numbering::count;
 use pals_base::limits::INSTRUCTIONS;
 use pals_base::{Behaviour, Items, NoMemory};
 use std::alloc::Global;

@@ -4,7 +4,7 @@ ghost use Rattle.std.specs.Prelude.{◌≡◌, IfOk};
 ghost use Rattle.pals_base.specs.Seen.{action_of, actions_along, branches_along};
 ghost use Rattle.step_compiler.specs.Depths.{depth_act, depth_acts, depth_branches, depth_edges};
 
-use crate::places::deeper;
+use crate::numbering::deeper;
 use pals_base::{Act, Branch, NoMemory, Transition};
 
 /// How deep loops nest in actions.

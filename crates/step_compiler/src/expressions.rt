@@ -5,7 +5,7 @@ ghost use Rattle.step_compiler.specs.Layout.{operator, operand_of, code_of, code
 ghost use Rattle.step_compiler.specs.Adding.{Adds};
 
 use crate::lengths::expr_length;
-use crate::places::behind;
+use crate::numbering::behind;
 use pals_base::{Expr, Items, NoMemory, Op, Operand};
 use step_code::Instr;
 

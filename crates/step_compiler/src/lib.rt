@@ -10,7 +10,7 @@ mod fault;
 pub mod laws;
 mod lengths;
 mod order;
-mod places;
+mod numbering;
 mod transitions;
 
 pub use compiler::compile;

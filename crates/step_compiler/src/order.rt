@@ -3,7 +3,7 @@ ghost use Rattle.std.specs.Prelude.{◌≡◌, IfOk, OnOk, fold, map, filter, no
 ghost use Rattle.pals_base.specs.Steps.{upwards};
 ghost use Rattle.step_compiler.specs.Order.{is_placed, next_state, complete_states, block_order, with_next, awaited_marks, states_outside};
 
-use crate::places::{item_at, mark};
+use crate::numbering::{item_at, mark};
 use crate::transitions::is_complete;
 use pals_base::{Behaviour, NoMemory, Transition};
 use std::alloc::Global;

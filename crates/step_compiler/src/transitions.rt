@@ -8,7 +8,7 @@ ghost use Rattle.step_compiler.specs.Adding.{Adds};
 use crate::actions::push_acts;
 use crate::expressions::push_expr;
 use crate::lengths::transition_length;
-use crate::places::{behind, count, item_at};
+use crate::numbering::{behind, count, item_at};
 use pals_base::{Behaviour, Guard, Items, NoMemory, StateDecl, Transition};
 use step_code::Instr;
 

@@ -4,7 +4,7 @@
 pub mod laws;
 mod messages;
 pub mod opening;
-pub mod places;
+pub mod columns;
 mod product;
 pub mod reads;
 mod round;

@@ -17,7 +17,7 @@ use Rattle.timed_laws.specs.Worlds.{World, reading_at, opening_world, world_afte
 use Rattle.timed_laws.specs.Deadlines.{node_deadline, message_deadline}
 use Rattle.timed_laws.specs.Faults.{fault_of, IsWithin}
 use Rattle.timed_laws.specs.Kept.{Flies, IsInSlot, IsTaken, IsNowhere, KeepsTime}
-use Rattle.timed_laws.specs.Lists.{world_left}
+use Rattle.timed_laws.specs.EventLists.{world_left}
 
 -- ---- one event
 abbrev pub OpeningKeepsTime : Type 0

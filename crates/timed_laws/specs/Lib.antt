@@ -3,5 +3,5 @@ pub mod Deadlines
 pub mod Faults
 pub mod WorldRows
 pub mod Kept
-pub mod Lists
+pub mod EventLists
 pub mod Laws

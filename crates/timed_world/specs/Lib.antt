@@ -2,4 +2,4 @@ pub mod Standings
 pub mod Values
 pub mod Codes
 pub mod Passes
-pub mod Lists
+pub mod EventLists

@@ -4,11 +4,11 @@
 
 mod events;
 mod faults;
-mod lists;
+mod event_list;
 mod opening;
 mod passes;
 mod standing;
 mod world;
 
-pub use lists::{WorldEnd, run_list};
+pub use event_list::{WorldEnd, run_list};
 pub use world::World;

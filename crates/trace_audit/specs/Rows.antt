@@ -3,7 +3,7 @@ use Rattle.std.specs.Prelude.{◌≡◌, ◌≢◌, ℕ, ◌+◌, ◌/◌, ◌%�
 use Rattle.pals_model.specs.declared.design.DesignParts.{DesignParts}
 use Rattle.pals_model.specs.declared.rounds.Env.{Env}
 use Rattle.pals_model.specs.RoundTexts.{composed_lines}
-use Rattle.pals_report.specs.Places.{tap_places}
+use Rattle.pals_report.specs.TapPlaces.{tap_places}
 use Rattle.sync_product.specs.State.{state_after}
 use Rattle.trace_laws.specs.Traces.{row_size}
 use Rattle.trace_audit.specs.declared.rows.Rows.{Rows}

@@ -14,7 +14,7 @@ use Rattle.bus_machine.specs.Stops.{sent_rounds, rounds_sent_on}
 use Rattle.bus_machine.specs.Agreement.{PhaseAgrees}
 use Rattle.bus_machine.specs.Laws.{IsRunOf}
 use Rattle.timed_laws.specs.Worlds.{World, opening_world, since_at, ready_at, sendings, world_after}
-use Rattle.timed_laws.specs.Lists.{world_left}
+use Rattle.timed_laws.specs.EventLists.{world_left}
 use Rattle.world_gen.specs.Laws.{SchedulesAreWhole}
 use Rattle.world_gen.specs.Schedules.{step_time, finish_time, send_time, arrive_time, which, all_of, step_count, begins, starts_at, finishes_at, sends_at, arrivals_at, finishes, events_at, AreMoments, schedule_at}
 use Rattle.timed_laws.proofs.Nodes.{phase_agrees, rounds_at_most}

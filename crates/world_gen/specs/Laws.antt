@@ -7,7 +7,7 @@ use Rattle.bus_machine.specs.States.{Run, node_at}
 use Rattle.bus_machine.specs.Laws.{IsRunOf}
 use Rattle.timed_laws.specs.Worlds.{opening_world}
 use Rattle.timed_laws.specs.Faults.{IsWithin}
-use Rattle.timed_laws.specs.Lists.{world_left}
+use Rattle.timed_laws.specs.EventLists.{world_left}
 use Rattle.world_gen.specs.Schedules.{AreMoments, schedule_at}
 
 -- a schedule is within the bounds, and ends with all rounds finished and sent

@@ -26,7 +26,7 @@ use Rattle.bus_machine.specs.Agreement.{PhaseAgrees, Agrees}
 use Rattle.pals_bus.specs.Values.{BusValue}
 use Rattle.timed_laws.specs.Worlds.{World, world_run}
 use Rattle.timed_world.specs.Values.{WorldValue, opening_value}
-use Rattle.timed_world.specs.Lists.{Leads}
+use Rattle.timed_world.specs.EventLists.{Leads}
 use Rattle.design_codes.specs.Causes.{length_of, IsFirstTooLong}
 use Rattle.loose_world.proofs.WorldRows.{part_is}
 use Rattle.world_gen.specs.Laws.{IsWhole}

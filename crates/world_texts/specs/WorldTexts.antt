@@ -8,13 +8,13 @@ use Rattle.bus_machine.specs.WorldTexts.{worldtext}
 use Rattle.pals_bus.specs.Values.{opening_bus}
 use Rattle.timed_laws.specs.Worlds.{opening_world}
 use Rattle.timed_laws.specs.Faults.{fault_of, IsWithin}
-use Rattle.timed_laws.specs.Lists.{world_left}
+use Rattle.timed_laws.specs.EventLists.{world_left}
 use Rattle.loose_world.specs.Worlds.{InTurn}
 use Rattle.loose_world.specs.Histories.{Undergoes}
-use Rattle.timed_world.specs.declared.lists.WorldEnd.{WorldEnd}
-use Rattle.timed_world.specs.declared.lists.WorldEnd.TheVariants as end
+use Rattle.timed_world.specs.declared.event_list.WorldEnd.{WorldEnd}
+use Rattle.timed_world.specs.declared.event_list.WorldEnd.TheVariants as end
 use Rattle.timed_world.specs.Values.{WorldValue, world_of}
-use Rattle.timed_world.specs.Lists.{Leads, EndsAt}
+use Rattle.timed_world.specs.EventLists.{Leads, EndsAt}
 use Rattle.world_texts.specs.declared.world_text.Told.{Told}
 use Rattle.world_texts.specs.declared.world_text.Told.TheVariants.{Whole, Refused}
 

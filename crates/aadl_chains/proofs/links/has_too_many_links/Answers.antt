@@ -5,7 +5,7 @@ use Rattle.aadl_tree.specs.PackageViews.{placed}
 use Rattle.aadl_uses.specs.Uses.{targets_in}
 use Rattle.aadl_uses.proofs.Counted.{tells}
 use Rattle.aadl_chains.specs.Numbers.{IsNumber}
-use Rattle.aadl_chains.specs.Takes.{EndsLink}
+use Rattle.aadl_chains.specs.PortCounts.{EndsLink}
 use Rattle.aadl_chains.proofs.Counted.{more_links, one_each}
 use Rattle.aadl_chains.proofs.links.has_too_many_links.Goals as goal
 

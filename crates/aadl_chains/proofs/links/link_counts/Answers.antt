@@ -7,7 +7,7 @@ use Rattle.aadl_uses.proofs.Fronts.{FrontOf, no_front, front_known, front_more, 
 use Rattle.std.proofs.lemmas.List.{length-map}
 use Rattle.aadl_uses.specs.Uses.{targets_in}
 use Rattle.aadl_chains.specs.Numbers.{IsNumber}
-use Rattle.aadl_chains.specs.Takes.{EndsLink}
+use Rattle.aadl_chains.specs.PortCounts.{EndsLink}
 use Rattle.aadl_chains.proofs.WalkTables.{known_below}
 use Rattle.aadl_chains.proofs.links.link_counts.Goals.{in-Some, in_default}
 use Rattle.aadl_chains.proofs.links.link_counts.Goals as goal

@@ -1,6 +1,6 @@
 use Rattle.aadl_tree.specs.PackageViews.{placed}
 use Rattle.aadl_chains.specs.Numbers.{IsNumber}
-use Rattle.aadl_chains.specs.Takes.{FromThread, AmongFirst}
+use Rattle.aadl_chains.specs.PortCounts.{FromThread, AmongFirst}
 use Rattle.aadl_chains.proofs.links.links_carried.Given as goal
 
 -- by the connections so far

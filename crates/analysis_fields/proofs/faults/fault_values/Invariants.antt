@@ -1,5 +1,5 @@
 use Rattle.std.proofs.Common.{◌≡◌, [], map, drop}
-use Rattle.scenario_values.specs.Places.{place_text}
+use Rattle.scenario_values.specs.FaultPlaces.{place_text}
 use Rattle.analysis_fields.specs.Replicas.{with_fault_value}
 use Rattle.serde_json.specs.View.{view}
 use Rattle.scenario_values.specs.Outcomes.{through}

@@ -3,7 +3,7 @@ use Rattle.aadl_tree.specs.PackageViews.{placed}
 use Rattle.aadl_names.specs.Found.{found}
 use Rattle.aadl_names.specs.PackageFaults.{wrong_names}
 use Rattle.aadl_names.proofs.Finds.{found_append}
-use Rattle.aadl_names.specs.Beside.{beside_names}
+use Rattle.aadl_names.specs.DeclaredTwice.{beside_names}
 use Rattle.aadl_names.proofs.FirstFaults.{first_fault}
 use Rattle.name_faults.proofs.package.first_name_fault.Goals as goal
 

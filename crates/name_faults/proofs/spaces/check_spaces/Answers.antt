@@ -7,7 +7,7 @@ use Rattle.aadl_names.specs.declared.fault.FlatFault.{FlatFault}
 use Rattle.aadl_names.specs.Found.{found}
 use Rattle.aadl_names.specs.Twice.{twice}
 use Rattle.aadl_names.specs.Spaces.{type_entry, implementation_entry}
-use Rattle.aadl_names.specs.Beside.{beside_in, beside_names}
+use Rattle.aadl_names.specs.DeclaredTwice.{beside_in, beside_names}
 use Rattle.aadl_names.proofs.Finds.{next_found, last_found, found_append}
 use Rattle.name_faults.proofs.spaces.check_spaces.Goals as goal
 

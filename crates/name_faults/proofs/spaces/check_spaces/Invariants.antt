@@ -4,7 +4,7 @@ use Rattle.aadl_tree.specs.PackageViews.{placed}
 use Rattle.aadl_tree.specs.Views.{declaration_view}
 use Rattle.aadl_tree.specs.Maps.{kept_place}
 use Rattle.aadl_names.specs.Found.{found}
-use Rattle.aadl_names.specs.Beside.{beside_in}
+use Rattle.aadl_names.specs.DeclaredTwice.{beside_in}
 use Rattle.name_faults.proofs.spaces.check_spaces.Given as goal
 
 -- what is left is still to be looked at

@@ -3,7 +3,7 @@ use Rattle.std.specs.List.Sorted.{IsNonDecreasing}
 use Rattle.serde_json.specs.View.{view}
 use Rattle.pals_clock.specs.Clock.{AreReadings}
 use Rattle.scenario_values.specs.Outcomes.{through}
-use Rattle.scenario_values.specs.Places.{inside}
+use Rattle.scenario_values.specs.FaultPlaces.{inside}
 use Rattle.run_fields.specs.Clocks.{with_reading, last_of}
 use Rattle.run_fields.proofs.clocks.reading_list.Given as goal
 

@@ -1,5 +1,5 @@
 use Rattle.std.proofs.Common.{◌≡◌, [], map, drop}
-use Rattle.scenario_values.specs.Places.{place_text}
+use Rattle.scenario_values.specs.FaultPlaces.{place_text}
 use Rattle.run_fields.specs.Events.{with_number}
 use Rattle.serde_json.specs.View.{view}
 use Rattle.scenario_values.specs.Outcomes.{through}

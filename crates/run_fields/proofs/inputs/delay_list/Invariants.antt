@@ -1,7 +1,7 @@
 use Rattle.std.proofs.Common.{◌≡◌, [], length, map, drop, codes}
 use Rattle.serde_json.specs.View.{view}
 use Rattle.scenario_values.specs.Outcomes.{through}
-use Rattle.scenario_values.specs.Places.{inside}
+use Rattle.scenario_values.specs.FaultPlaces.{inside}
 use Rattle.run_fields.specs.Inputs.{with_delay}
 use Rattle.run_fields.proofs.inputs.delay_list.Given as goal
 

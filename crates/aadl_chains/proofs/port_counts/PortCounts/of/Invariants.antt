@@ -1,0 +1,6 @@
+use Rattle.aadl_tree.specs.PackageViews.{placed}
+use Rattle.aadl_chains.proofs.WalkTables.{FrontTable}
+use Rattle.aadl_chains.proofs.port_counts.PortCounts.of.Given as goal
+
+abbrev pub invariant-loop-at : goal.invariant-loop-at
+invariant-loop-at l = FrontTable (placed l.wires.uses.tree.now) l.limit l.order.keys l.at l.takes

@@ -1,0 +1,18 @@
+use Rattle.std.proofs.Common.{◌≡◌, ℕ, false, reverse, Some}
+use Rattle.aadl_tree.specs.PackageViews.{placed}
+use Rattle.aadl_uses.specs.Uses as uses
+use Rattle.aadl_chains.specs.Inside.{is_in_at}
+use Rattle.aadl_chains.specs.Walks.{OneEach}
+use Rattle.aadl_chains.proofs.Climbing.{rank}
+use Rattle.aadl_chains.proofs.Routes.{Descending}
+use Rattle.aadl_chains.proofs.tracing.descend.Given as goal
+
+abbrev pub invariant-down : goal.invariant-down
+invariant-down l =
+    (is_in_at (placed l.wires.uses.tree.now) l.here l.out ≡ false)
+    × ((root : ℕ) → OneEach (placed l.wires.uses.tree.now) root
+    → uses.standing (placed l.wires.uses.tree.now) root (reverse l.fn.path.items) ≡ Some l.fn.number
+    → Descending (placed l.wires.uses.tree.now) root (record { path = reverse l.fn.path.items; port = l.fn.port }) l.way.items l.here l.out)
+
+abbrev pub decreases-down : goal.decreases-down
+decreases-down l = rank l.order.keys l.here

@@ -1,0 +1,176 @@
+//! To how many in ports of threads connections lead from the in ports of implementations.
+ghost use Rattle.std.specs.Prelude.{◌≡◌, ◌+◌, ℕ, min, Some, slice_get, IfOk, OnOk, Contains, if◌then◌else◌};
+ghost use Rattle.aadl_tree.specs.PackageViews.{placed};
+ghost use Rattle.aadl_uses.specs.Uses.{containment};
+ghost use Rattle.aadl_chains.specs.Wiring.{wires_at};
+ghost use Rattle.aadl_uses.specs.Orders.{IsOrder};
+ghost use Rattle.aadl_chains.specs.declared.ports.PortAt.{PortAt};
+ghost use Rattle.aadl_chains.specs.Ports.{same_port};
+ghost use Rattle.aadl_chains.specs.Sound.{AreDeclared};
+ghost use Rattle.aadl_chains.specs.Numbers.{IsNumber};
+ghost use Rattle.aadl_chains.specs.PortCounts.{taken, taken_by, Through, AreTaken, AreTakenBelow, IsTaken, AreAdded};
+
+use crate::{PortAt, Wire, Wires};
+use aadl_names::Site;
+use aadl_uses::count::add_up_to;
+use indexmap::{IndexMap, IndexSet};
+use std::alloc::{AllocError, Global};
+use std::marker::Model;
+
+/// The in ports of implementations that are no threads, with the number of threads' in ports to which
+/// connections lead from them. Contracts see the entries.
+#[derive(Drop)]
+pub struct PortCounts {
+    numbers: IndexMap<PortAt, usize>,
+}
+
+impl Model for PortCounts {
+    ghost use Rattle.std.specs.Prelude.{ℕ, List};
+    ghost use Rattle.aadl_chains.specs.declared.ports.PortAt.{PortAt};
+
+    ghost Value = { List (PortAt × ℕ) };
+
+    ghost view = { λ t. t.numbers.entries };
+}
+
+impl PortCounts {
+    /// The numbers of a package, each up to a limit. The order has each declaration behind those that it
+    /// contains.
+    pub fn of(
+        alloc: Global,
+        wires: &Wires<'_>,
+        order: &IndexSet<usize>,
+        limit: usize,
+    ) -> Result<PortCounts, AllocError>
+        requires order { IsOrder (containment (placed wires.now.uses.tree.now)) order.now.keys }
+        requires declared { AreDeclared (placed wires.now.uses.tree.now) }
+        ensures { IfOk result (λ takes. (n : ℕ) → Contains order.now.keys n → AreTaken (placed wires.now.uses.tree.now) limit takes n) }
+    {
+        let mut takes = PortCounts {
+            numbers: IndexMap::new(alloc),
+        };
+        for at in 0..order.len() {
+            if let Some(number) = order.get_index(at) {
+                let number = *number;
+                takes.add_all(wires, number, limit)?;
+            }
+        }
+        Ok(takes)
+    }
+
+    /// To how many in ports of threads a connection leads from its target; the limit where there are more.
+    /// A connection into a port into which one before it goes leads nowhere.
+    pub fn through(
+        &self,
+        wires: &Wires<'_>,
+        number: usize,
+        at: usize,
+        wire: Wire,
+        limit: usize,
+    ) -> usize
+        requires wire { slice_get (wires_at (placed wires.now.uses.tree.now) number) at ≡ Some wire }
+        requires declared { AreDeclared (placed wires.now.uses.tree.now) }
+        ensures { AreTakenBelow (placed wires.now.uses.tree.now) limit self.now number
+            → IsNumber limit (Through (placed wires.now.uses.tree.now) number at) result }
+    {
+        match wire.target {
+            Some(target) => match target {
+                Site::Inner(sub, port) => {
+                    if wires.is_second(number, at) {
+                        0
+                    } else {
+                        self.below(wires, wires.uses.below(number, sub), port, limit)
+                    }
+                }
+                Site::Own(_) => 0,
+            },
+            None => 0,
+        }
+    }
+
+    // To how many a port of a declaration leads, or of a thread whether it goes in.
+    fn below(
+        &self,
+        wires: &Wires<'_>,
+        declaration: Option<usize>,
+        port: usize,
+        limit: usize,
+    ) -> usize
+        ensures { result ≡ taken_by limit self.now (placed wires.now.uses.tree.now) declaration port }
+    {
+        match declaration {
+            Some(declaration) => {
+                if wires.uses.is_thread(declaration) {
+                    if wires.is_in(declaration, port) {
+                        limit.min(1)
+                    } else {
+                        0
+                    }
+                } else {
+                    self.at(PortAt { declaration, port })
+                }
+            }
+            None => 0,
+        }
+    }
+
+    // The number of a port.
+    fn at(&self, port: PortAt) -> usize
+        ensures { result ≡ taken self.now port }
+    {
+        match self.numbers.get(&port) {
+            Some(number) => *number,
+            None => 0,
+        }
+    }
+
+    // Adds what the connections of an implementation lead to.
+    fn add_all(&mut self, wires: &Wires<'_>, number: usize, limit: usize) -> Result<(), AllocError>
+        requires { AreDeclared (placed wires.now.uses.tree.now) }
+        ensures { OnOk result (AreAdded (placed wires.now.uses.tree.now) limit number self.old self.new) }
+    {
+        for (at, wire) in wires.wires(number).iter().enumerate() {
+            self.add(wires, number, at, *wire, limit)?;
+        }
+        Ok(())
+    }
+
+    // Adds what a connection leads to, if it comes from an own port.
+    fn add(
+        &mut self,
+        wires: &Wires<'_>,
+        number: usize,
+        at: usize,
+        wire: Wire,
+        limit: usize,
+    ) -> Result<(), AllocError>
+        requires wire { slice_get (wires_at (placed wires.now.uses.tree.now) number) at ≡ Some wire }
+        requires declared { AreDeclared (placed wires.now.uses.tree.now) }
+        ensures { OnOk result (IsTaken (placed wires.now.uses.tree.now) limit number at wire self.old self.new) }
+    {
+        match wire.source {
+            Some(source) => match source {
+                Site::Own(port) => {
+                    let more = self.through(wires, number, at, wire, limit);
+                    let port = PortAt {
+                        declaration: number,
+                        port,
+                    };
+                    self.increase(port, more, limit)
+                }
+                Site::Inner(_, _) => Ok(()),
+            },
+            None => Ok(()),
+        }
+    }
+
+    // Adds to the number of a port.
+    fn increase(&mut self, port: PortAt, more: usize, limit: usize) -> Result<(), AllocError>
+        ensures { OnOk result ((other : PortAt)
+            → taken self.new other ≡ (if same_port port other then min limit (taken self.old port + more) else taken self.old other)) }
+    {
+        let number = add_up_to(limit, self.at(port), more);
+        self.numbers.insert(port, number)?;
+        Ok(())
+    }
+}

@@ -1,0 +1,14 @@
+use Rattle.std.proofs.Common.{◌≡◌, ℕ, ◌<◌, ◌++◌, length, map, drop, get_or}
+use Rattle.std.specs.List.{enumerate_from}
+use Rattle.pals_model.specs.RoundTexts.{taps_before}
+use Rattle.pals_report.specs.TapPlaces.{tap_places}
+use Rattle.pals_report.proofs.Counts.{place_in}
+use Rattle.pals_report.proofs.tap_places.places_of.Given as goal
+
+-- how many taps so far have each source; the places so far, and those of the taps that are left
+abbrev pub invariant-loop-tap : goal.invariant-loop-tap
+invariant-loop-tap l = record {
+  long : length l.counts.items ≡ l.nodes;
+  counts : (node : ℕ) → node < l.nodes → get_or l.counts.items node 0 ≡ taps_before l.taps l.tap-index node;
+  places : l.places ++ map (place_in l.taps) (enumerate_from l.tap-index (drop l.tap-index l.taps)) ≡ tap_places l.taps;
+}

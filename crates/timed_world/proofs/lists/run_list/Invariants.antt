@@ -1,7 +1,0 @@
-use Rattle.std.proofs.Common.{take}
-use Rattle.timed_world.specs.Lists.{Leads}
-use Rattle.timed_world.proofs.lists.run_list.Given as goal
-
-abbrev pub invariant-loop-index : goal.invariant-loop-index
-invariant-loop-index l =
-    Leads l.fn.world (take l.index l.events) l.world
