@@ -21,8 +21,8 @@ use Rattle.scenario_values.specs.Outcomes.{◌>>=◌, only_if, through}
 use Rattle.scenario_values.specs.FaultPlaces.{inside}
 use Rattle.scenario_values.specs.Values.{entries, text, whole}
 use Rattle.scenario_values.proofs.Passing.{ok_same, ok_bind, ok_given, ok_only_if, through_keeps, whole_within}
-use Rattle.scenario_names.specs.Names.{node_no, node_at}
-use Rattle.scenario_names.proofs.Search.{within}
+use Rattle.scenario_values.specs.Names.{node_no, node_at}
+use Rattle.scenario_values.proofs.Search.{within}
 use Rattle.analysis_fields.specs.AnalysisFacts.{IsProcessorOf}
 use Rattle.analysis_fields.specs.declared.limits.TheConstants.{PROCESSORS}
 use Rattle.analysis_fields.specs.declared.processors.Processor.{Processor}

@@ -13,7 +13,7 @@ use Rattle.scenario_values.specs.declared.fault.ScenarioFault.TheVariants.{OutOf
 use Rattle.scenario_values.specs.Outcomes.{◌>>=◌, only_if, through}
 use Rattle.scenario_values.specs.FaultPlaces.{inside}
 use Rattle.scenario_values.specs.Values.{entries, text}
-use Rattle.scenario_names.specs.Names.{node_no, node_at}
+use Rattle.scenario_values.specs.Names.{node_no, node_at}
 use Rattle.analysis_fields.specs.declared.plants.Named.{Named}
 
 abbrev pub pair : ℕ → ℕ → Pair

@@ -19,7 +19,7 @@ use Rattle.scenario_values.specs.Outcomes.{◌>>=◌, given, only_if, through}
 use Rattle.scenario_values.specs.FaultPlaces.{inside}
 use Rattle.analysis_fields.specs.PropertyValues.{PropertyValue}
 use Rattle.scenario_values.specs.Values.{values_in, elements, entries, text, number, is_whole}
-use Rattle.scenario_names.specs.Names.{node_at}
+use Rattle.scenario_values.specs.Names.{node_at}
 
 -- ---- words
 abbrev pub role_of : List ℕ → Option Role

@@ -21,7 +21,7 @@ use Rattle.analysis_fields.specs.declared.limits.TheConstants.{REPLICAS}
 use Rattle.scenario_values.specs.Outcomes.{◌>>=◌, only_if, through}
 use Rattle.scenario_values.specs.FaultPlaces.{inside}
 use Rattle.scenario_values.specs.Values.{elements, text, whole, is_whole, port_value}
-use Rattle.scenario_names.specs.Names.{node_no, link_no, node_at, link_at}
+use Rattle.scenario_values.specs.Names.{node_no, link_no, node_at, link_at}
 
 -- ---- replicas
 abbrev pub is_among : List NodeNo → ℕ → Bool

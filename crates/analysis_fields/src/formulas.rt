@@ -12,7 +12,7 @@ use crate::limits::{FORMS, LEVELS};
 use pals_base::NodeNo;
 use pals_model::Component;
 use pals_runs::{Compare, Form};
-use scenario_names::Names;
+use scenario_values::Names;
 use scenario_values::ScenarioFault;
 use scenario_values::json::{elements, is_whole, number, text};
 use scenario_values::place::{Place, out_of_range, unknown, wrong_kind};

@@ -12,7 +12,7 @@ use crate::limits::{LEVELS, PROPERTIES};
 use pals_base::names::is_word;
 use pals_base::{Items, Text};
 use pals_runs::Form;
-use scenario_names::Names;
+use scenario_values::Names;
 use scenario_values::ScenarioFault;
 use scenario_values::json::{entries, owned};
 use scenario_values::place::{Place, out_of_range};

@@ -5,7 +5,7 @@ ghost use Rattle.scenario_values.specs.Outcomes.{Answers, Shows};
 ghost use Rattle.analysis_fields.specs.Replicas.{is_among, with_replica, replicas_in};
 
 use pals_base::{Items, NodeNo};
-use scenario_names::Names;
+use scenario_values::Names;
 use scenario_values::ScenarioFault;
 use scenario_values::json::{elements, text};
 use scenario_values::place::{Place, out_of_range};

@@ -13,7 +13,7 @@ use Rattle.pals_model.specs.RoundTexts.{line_end, report}
 use Rattle.pals_report.specs.Runs.{clock_end_line}
 use Rattle.pals_runs.specs.declared.journal.JournalEntry.{JournalEntry}
 use Rattle.pals_runs.specs.declared.journal.Stop.{Stop}
-use Rattle.run_fields.specs.RunFacts.{IsOpening, AreClocksOf, AreClocksFor}
+use Rattle.scenario_json.specs.RunFacts.{IsOpening, AreClocksOf, AreClocksFor}
 use Rattle.scenario_json.specs.declared.scenario.Scenario.{Scenario}
 use Rattle.scenario_json.specs.Facts.{IsScenarioOf}
 use Rattle.bus_machine.specs.Laws.{IsRunOf}

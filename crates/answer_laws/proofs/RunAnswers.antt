@@ -7,7 +7,7 @@ use Rattle.pals_runs.specs.declared.commands.Command.TheVariants as command
 use Rattle.pals_runs.specs.declared.verdicts.Verdict.TheVariants.{Sound}
 use Rattle.design_codes.specs.Causes.{AreShort}
 use Rattle.serde_json.specs.Data.{Data}
-use Rattle.run_fields.specs.Events.{usual_word, event_in, events_in}
+use Rattle.scenario_json.specs.Events.{usual_word, event_in, events_in}
 use Rattle.scenario_json.specs.declared.scenario.Scenario.{Scenario}
 use Rattle.scenario_json.specs.Scenarios.{fields_in, scen, Means}
 use Rattle.scenario_laws.specs.Facts.{ScenariosSuit}
@@ -15,7 +15,7 @@ use Rattle.bus_machine.specs.Laws.{IsRunOf}
 use Rattle.bus_machine.specs.States.{finished_by_all}
 use Rattle.trace_laws.specs.Reports.{lines_of}
 use Rattle.trace_laws.specs.Traces.{verdict}
-use Rattle.replay_laws.proofs.Stops.{told as stop_is_last}
+use Rattle.run_laws.proofs.Stops.{told as stop_is_last}
 use Rattle.run_laws.specs.InTime.{InTime, NoneStops, BoundsAreInTime, EndsAreOne, AllPicked, PickedAreDone}
 use Rattle.run_texts.specs.RunTexts.{journal_text}
 use Rattle.pals_top.specs.declared.execution.Execution.TheVariants as execution

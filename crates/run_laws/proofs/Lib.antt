@@ -35,3 +35,5 @@ pub mod Work
 pub mod Going
 pub mod Ending
 pub mod InTime
+pub mod Told
+pub mod Stops

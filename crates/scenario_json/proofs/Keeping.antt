@@ -21,13 +21,13 @@ use Rattle.scenario_values.specs.declared.fault.ScenarioFault.TheVariants.{TooBi
 use Rattle.scenario_values.specs.Outcomes.{◌>>=◌, Answers}
 use Rattle.scenario_values.specs.Values.{whole}
 use Rattle.scenario_values.proofs.Passing.{read_as, ok_same, ok_bind, ok_only_if, whole_within}
-use Rattle.run_fields.specs.Cells.{cells_of}
-use Rattle.run_fields.specs.Inputs.{inputs_in, delays_in}
-use Rattle.run_fields.specs.Traces.{trace_in}
-use Rattle.run_fields.specs.Clocks.{clocks_in}
-use Rattle.run_fields.specs.Events.{events_in}
-use Rattle.run_fields.specs.RunFacts.{AreInputsOf, AreDelaysOf, AreClocksFor}
-use Rattle.run_fields.proofs.RunFacts.{no_inputs_keep, inputs_keep, least_delays_keep, delays_keep, clocks_keep}
+use Rattle.scenario_json.specs.Cells.{cells_of}
+use Rattle.scenario_json.specs.Inputs.{inputs_in, delays_in}
+use Rattle.scenario_json.specs.Traces.{trace_in}
+use Rattle.scenario_json.specs.Clocks.{clocks_in}
+use Rattle.scenario_json.specs.Events.{events_in}
+use Rattle.scenario_json.specs.RunFacts.{AreInputsOf, AreDelaysOf, AreClocksFor}
+use Rattle.scenario_json.proofs.RunFacts.{no_inputs_keep, inputs_keep, least_delays_keep, delays_keep, clocks_keep}
 use Rattle.analysis_fields.specs.AnalysisFacts.{IsFaultOf, IsProcessorOf}
 use Rattle.analysis_fields.specs.declared.faults.RoundFault.{RoundFault}
 use Rattle.analysis_fields.specs.declared.processors.Processor.{Processor}

@@ -2,8 +2,8 @@
 use Rattle.std.specs.Prelude.{◌≤◌, All}
 use Rattle.pals_base.specs.declared.limits.TheConstants.{ROUNDS, CELLS}
 use Rattle.pals_model.specs.declared.design.DesignParts.{DesignParts}
-use Rattle.run_fields.specs.Cells.{cells_of}
-use Rattle.run_fields.specs.RunFacts.{AreInputsOf, AreDelaysOf, AreClocksFor}
+use Rattle.scenario_json.specs.Cells.{cells_of}
+use Rattle.scenario_json.specs.RunFacts.{AreInputsOf, AreDelaysOf, AreClocksFor}
 use Rattle.analysis_fields.specs.AnalysisFacts.{IsFaultOf, IsProcessorOf}
 use Rattle.scenario_json.specs.declared.scenario.Scenario.{Scenario}
 

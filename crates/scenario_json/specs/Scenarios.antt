@@ -15,11 +15,11 @@ use Rattle.scenario_values.specs.declared.fault.ScenarioFault.TheVariants.{NotJs
 use Rattle.scenario_json.specs.declared.scenario.Scenario.{Scenario}
 use Rattle.scenario_values.specs.Outcomes.{◌>>=◌, only_if}
 use Rattle.scenario_values.specs.Values.{entries, whole}
-use Rattle.run_fields.specs.Cells.{cells_of}
-use Rattle.run_fields.specs.Inputs.{inputs_in, delays_in}
-use Rattle.run_fields.specs.Traces.{trace_in}
-use Rattle.run_fields.specs.Clocks.{clocks_in}
-use Rattle.run_fields.specs.Events.{events_in}
+use Rattle.scenario_json.specs.Cells.{cells_of}
+use Rattle.scenario_json.specs.Inputs.{inputs_in, delays_in}
+use Rattle.scenario_json.specs.Traces.{trace_in}
+use Rattle.scenario_json.specs.Clocks.{clocks_in}
+use Rattle.scenario_json.specs.Events.{events_in}
 use Rattle.analysis_fields.specs.Properties.{properties_in}
 use Rattle.analysis_fields.specs.Replicas.{replicas_in, faults_in}
 use Rattle.analysis_fields.specs.Plants.{plants_in}

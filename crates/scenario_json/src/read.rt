@@ -6,10 +6,10 @@ ghost use Rattle.pals_clock.specs.declared.clock.Clocks.TheVariants.{Meet};
 ghost use Rattle.pals_model.specs.Inputs.{root_inputs};
 ghost use Rattle.scenario_values.specs.Outcomes.{Answers};
 ghost use Rattle.scenario_values.specs.Values.{entry_of};
-ghost use Rattle.run_fields.specs.Inputs.{inputs_in, delays_in};
-ghost use Rattle.run_fields.specs.Traces.{trace_in};
-ghost use Rattle.run_fields.specs.Clocks.{clocks_in};
-ghost use Rattle.run_fields.specs.Events.{events_in};
+ghost use Rattle.scenario_json.specs.Inputs.{inputs_in, delays_in};
+ghost use Rattle.scenario_json.specs.Traces.{trace_in};
+ghost use Rattle.scenario_json.specs.Clocks.{clocks_in};
+ghost use Rattle.scenario_json.specs.Events.{events_in};
 ghost use Rattle.analysis_fields.specs.Properties.{properties_in};
 ghost use Rattle.analysis_fields.specs.Replicas.{replicas_in, faults_in};
 ghost use Rattle.analysis_fields.specs.Plants.{plants_in};
@@ -27,11 +27,11 @@ use pals_base::{Items, Nanos, NodeNo, Text, Tuple};
 use pals_clock::Clocks;
 use pals_model::{Delays, Design, Env};
 use pals_runs::{Command, Event, Pair};
-use run_fields::{
+use crate::{
     cells_of, least_delays, no_inputs, read_clocks, read_delays, read_events, read_inputs,
     read_trace,
 };
-use scenario_names::Names;
+use scenario_values::Names;
 use scenario_values::ScenarioFault;
 use scenario_values::json::{entries, whole};
 use scenario_values::place::{Place, missing, unknown};

@@ -17,10 +17,10 @@ use Rattle.scenario_values.specs.Outcomes.{◌>>=◌, given, only_if, through}
 use Rattle.scenario_values.specs.FaultPlaces.{inside}
 use Rattle.scenario_values.specs.Values.{elements, short_list, text, whole, is_whole}
 use Rattle.scenario_values.proofs.Passing.{ok_same, ok_bind, ok_only_if}
-use Rattle.scenario_names.specs.Names.{node_at, link_at, node_no, link_no}
-use Rattle.run_fields.specs.declared.events.Word.{Word}
-use Rattle.run_fields.specs.declared.events.Word.TheVariants.{Pass, Start, Step, Finish, Send, Arrive, Drop, Repeat}
-use Rattle.run_fields.specs.Events.{word_of, is_usual, node_part, link_parts, event_of, usual_word, event_from, event_in, with_event, events_in}
+use Rattle.scenario_values.specs.Names.{node_at, link_at, node_no, link_no}
+use Rattle.scenario_json.specs.declared.events.Word.{Word}
+use Rattle.scenario_json.specs.declared.events.Word.TheVariants.{Pass, Start, Step, Finish, Send, Arrive, Drop, Repeat}
+use Rattle.scenario_json.specs.Events.{word_of, is_usual, node_part, link_parts, event_of, usual_word, event_from, event_in, with_event, events_in}
 use Rattle.loose_world.specs.Worlds.{IsLooseIn}
 use Rattle.scenario_laws.specs.Events.{loosely, AreLooseEvents}
 use Rattle.scenario_laws.proofs.Names.{node_below, link_below}

@@ -17,10 +17,10 @@ use Rattle.scenario_values.specs.declared.fault.ScenarioFault.TheVariants.{NotJs
 use Rattle.scenario_values.specs.Outcomes.{◌>>=◌}
 use Rattle.scenario_values.specs.Values.{entries}
 use Rattle.scenario_values.proofs.Passing.{ok_same, ok_bind}
-use Rattle.run_fields.specs.Inputs.{inputs_in, delays_in}
-use Rattle.run_fields.specs.Traces.{trace_in}
-use Rattle.run_fields.specs.Clocks.{clocks_in}
-use Rattle.run_fields.specs.Events.{events_in}
+use Rattle.scenario_json.specs.Inputs.{inputs_in, delays_in}
+use Rattle.scenario_json.specs.Traces.{trace_in}
+use Rattle.scenario_json.specs.Clocks.{clocks_in}
+use Rattle.scenario_json.specs.Events.{events_in}
 use Rattle.analysis_fields.specs.declared.faults.RoundFault.{RoundFault}
 use Rattle.analysis_fields.specs.declared.processors.Processor.{Processor}
 use Rattle.analysis_fields.specs.Properties.{properties_in}

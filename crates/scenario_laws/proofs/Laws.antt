@@ -7,8 +7,8 @@ use Rattle.pals_base.specs.declared.limits.TheConstants.{LIST_ITEMS}
 use Rattle.pals_model.specs.declared.design.DesignParts.{DesignParts}
 use Rattle.pals_model.specs.Rules.{IsDesign}
 use Rattle.pals_runs.specs.declared.commands.Command.{Command}
-use Rattle.run_fields.specs.Events.{events_in}
-use Rattle.run_fields.specs.Traces.{trace_in}
+use Rattle.scenario_json.specs.Events.{events_in}
+use Rattle.scenario_json.specs.Traces.{trace_in}
 use Rattle.analysis_fields.specs.AnalysisFacts.{IsFaultOf}
 use Rattle.analysis_fields.specs.Replicas.{faults_in}
 use Rattle.analysis_fields.specs.Plants.{plants_in}

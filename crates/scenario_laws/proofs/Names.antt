@@ -9,7 +9,7 @@ use Rattle.pals_model.specs.declared.design.Link.{Link}
 use Rattle.pals_model.specs.LinkNames.{node_named, link_named, link_name}
 use Rattle.scenario_values.specs.declared.fault.ScenarioFault.TheVariants.{Unknown}
 use Rattle.scenario_values.proofs.Passing.{ok_given}
-use Rattle.scenario_names.specs.Names.{node_at, link_at}
+use Rattle.scenario_values.specs.Names.{node_at, link_at}
 
 chosen : (test : Bool) (n i most : ℕ) → (test ≡ true → n < most) → cond test (Some n) None ≡ Some i → i < most
 chosen true n i most below e = let same : n ≡ i = cc in subst (λ k. k < most) same (below refl)

@@ -17,7 +17,7 @@ use Rattle.scenario_values.specs.Outcomes.{◌>>=◌, only_if, through}
 use Rattle.scenario_values.specs.FaultPlaces.{inside}
 use Rattle.scenario_values.specs.Values.{entries, text}
 use Rattle.scenario_values.proofs.Passing.{ok_same, ok_bind, ok_given, ok_only_if}
-use Rattle.scenario_names.specs.Names.{node_at}
+use Rattle.scenario_values.specs.Names.{node_at}
 use Rattle.analysis_fields.specs.declared.plants.Named.{Named}
 use Rattle.analysis_fields.specs.Plants.{pair, named_in, shares, is_between, are_equals, is_alone, is_sound, pair_in, with_pair, plants_in}
 use Rattle.plant_fuse.specs.Fused.{IsPair, AreApart, ArePairs}

@@ -12,10 +12,10 @@ use Rattle.pals_runs.specs.declared.commands.Command.{Command}
 use Rattle.scenario_values.specs.declared.fault.ScenarioFault.{ScenarioFault}
 use Rattle.scenario_values.specs.declared.fault.ScenarioFault.TheVariants.{NotJson}
 use Rattle.scenario_values.specs.Values.{whole}
-use Rattle.run_fields.specs.Inputs.{inputs_in, delays_in}
-use Rattle.run_fields.specs.Traces.{trace_in}
-use Rattle.run_fields.specs.Clocks.{clocks_in}
-use Rattle.run_fields.specs.Events.{events_in}
+use Rattle.scenario_json.specs.Inputs.{inputs_in, delays_in}
+use Rattle.scenario_json.specs.Traces.{trace_in}
+use Rattle.scenario_json.specs.Clocks.{clocks_in}
+use Rattle.scenario_json.specs.Events.{events_in}
 use Rattle.analysis_fields.specs.Properties.{properties_in}
 use Rattle.analysis_fields.specs.Replicas.{replicas_in, faults_in}
 use Rattle.analysis_fields.specs.Plants.{plants_in}

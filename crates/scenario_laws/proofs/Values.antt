@@ -9,7 +9,7 @@ use Rattle.pals_base.specs.declared.values.Port.TheVariants.{Absent}
 use Rattle.pals_model.specs.declared.design.DesignParts.{DesignParts}
 use Rattle.scenario_values.specs.declared.fault.ScenarioFault.TheVariants.{WrongKind}
 use Rattle.scenario_values.specs.Values.{integer_of, elements, entries, short_list, in_range, whole, number, text, present, port_value}
-use Rattle.scenario_names.specs.Names.{node_at, link_at, root_at}
+use Rattle.scenario_values.specs.Names.{node_at, link_at, root_at}
 use Rattle.scenario_laws.proofs.Named.{IsNamed, ok, wrong, out, strange, bind, given_named, only}
 
 pub elements_named : (place : List ℕ) (d : Data) → IsNamed (elements place d)

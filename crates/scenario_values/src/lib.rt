@@ -4,6 +4,8 @@
 
 mod fault;
 pub mod json;
+mod names;
 pub mod place;
 
 pub use fault::ScenarioFault;
+pub use names::Names;

@@ -8,3 +8,14 @@ pub mod Stepping
 pub mod Sending
 pub mod Openings
 pub mod Standing
+pub mod Elements
+pub mod Images
+pub mod Parts
+pub mod Readings
+pub mod Taps
+pub mod Rounds
+pub mod Counting
+pub mod Back
+pub mod Counter
+pub mod Counters
+pub mod Exchanging

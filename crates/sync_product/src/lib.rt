@@ -1,12 +1,13 @@
 //! The multirate synchronous composition of a design, round by round.
 #![tactic(auto)]
 
+pub mod columns;
 pub mod laws;
 mod messages;
 pub mod opening;
-pub mod columns;
 mod product;
 pub mod reads;
+pub mod renumbering;
 mod round;
 pub mod stage;
 pub mod taps;

@@ -18,7 +18,7 @@ use pals_base::{Items, NoMemory, Text};
 use pals_bus::Bus;
 use pals_model::{Delays, Design, Env};
 use pals_runs::{TraceRule, Verdict};
-use scenario_names::Names;
+use scenario_values::Names;
 use std::alloc::Global;
 use std::sync::Arc;
 use step_code::Code;

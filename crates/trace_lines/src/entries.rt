@@ -9,7 +9,7 @@ ghost use Rattle.trace_lines.specs.Forms.{node_form, link_form, shown};
 use crate::forms::{Form, LinkForm, NodeForm, form_of};
 use pals_base::{LinkNo, NodeNo};
 use pals_runs::{JournalEntry, Stop};
-use scenario_names::Names;
+use scenario_values::Names;
 
 // The entry of what is told of a node.
 fn node_entry(node: NodeNo, what: NodeForm) -> JournalEntry

@@ -1,5 +1,0 @@
-use Rattle.renumbering_laws.proofs.Rounds.{message_after}
-use Rattle.renumbering_laws.proofs.laws.messages_are_renumbered.Goals as goal
-
-pub returns : goal.returns
-returns c to a b env_a env_b sound_a sound_b r inputs = message_after to a b sound_a sound_b r env_a env_b inputs

@@ -1,5 +1,0 @@
-use Rattle.replay_laws.proofs.Stops.{nothing_behind, told}
-use Rattle.replay_laws.proofs.laws.a_stop_is_last.Goals as goal
-
-pub returns : goal.returns
-returns c = record { nothing_behind = nothing_behind; told = told }

@@ -1,7 +1,0 @@
-use Rattle.std.proofs.Common.{◌≡◌, ◌≤◌, ◌*◌, ◌^◌, take, sum_by}
-use Rattle.run_fields.specs.Cells.{component_cells}
-use Rattle.run_fields.proofs.cells.of_components.Given as goal
-
--- the sum so far, no part of which is large
-abbrev pub invariant-loop-component : goal.invariant-loop-component
-invariant-loop-component l = (l.sum ≡ sum_by (component_cells) (take l.component-index l.components)) × (l.sum ≤ 2 ^ 66 * l.component-index)

@@ -1,9 +1,0 @@
-use Rattle.std.proofs.Common.{◌≡◌, [], length, map, drop}
-use Rattle.serde_json.specs.View.{view}
-use Rattle.scenario_values.specs.Outcomes.{through}
-use Rattle.run_fields.specs.Traces.{with_line}
-use Rattle.run_fields.proofs.traces.read_trace.Given as goal
-
--- the lines so far, and what is meant
-abbrev pub invariant-loop-at : goal.invariant-loop-at
-invariant-loop-at l = (length l.lines ≡ l.at) × (through with_line l.lines (map view (drop l.at l.items)) ≡ through with_line [] (map view l.items))

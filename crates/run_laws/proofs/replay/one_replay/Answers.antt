@@ -1,0 +1,5 @@
+use Rattle.run_laws.proofs.Told.{one_replay}
+use Rattle.run_laws.proofs.replay.one_replay.Goals as goal
+
+pub returns : goal.returns
+returns c = one_replay

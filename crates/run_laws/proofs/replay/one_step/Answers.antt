@@ -1,0 +1,5 @@
+use Rattle.run_laws.proofs.Told.{one_step}
+use Rattle.run_laws.proofs.replay.one_step.Goals as goal
+
+pub returns : goal.returns
+returns c = one_step

@@ -1,0 +1,12 @@
+use Rattle.std.proofs.Common.{◌≡◌, [], length, map, replicate}
+use Rattle.pals_clock.specs.Clock.{unpicked}
+use Rattle.scenario_json.specs.Clocks.{with_clock}
+use Rattle.scenario_values.specs.Outcomes.{through}
+use Rattle.scenario_values.specs.Values.{entry_of}
+use Rattle.scenario_json.proofs.clocks.clock_lists.Given as goal
+
+-- what is made so far, and what is meant
+abbrev pub invariant-loop-name : goal.invariant-loop-name
+invariant-loop-name l =
+    let step = with_clock l.names in
+    (length l.clocks ≡ length l.names.components) × (through step l.clocks (map entry_of l.name-iterator) ≡ through step (replicate (length l.names.components) (unpicked [])) (map entry_of l.initial.name-iterator))

@@ -1,0 +1,100 @@
+//! The clocks of the nodes.
+ghost use Rattle.std.specs.Prelude.{◌≡◌, [], IfOk, codes, length, replicate};
+ghost use Rattle.std.specs.List.Sorted.{IsNonDecreasing};
+ghost use Rattle.serde_json.specs.View.{view};
+ghost use Rattle.pals_clock.specs.Clock.{AreReadings, unpicked};
+ghost use Rattle.scenario_values.specs.Outcomes.{Answers, Makes};
+ghost use Rattle.scenario_values.specs.FaultPlaces.{inside};
+ghost use Rattle.scenario_json.specs.Clocks.{reading_list, with_clock, clock_lists, is_meet, clocks_in};
+
+use pals_base::limits::{LIST_ITEMS, READING};
+use pals_base::{Items, Nanos, NoMemory};
+use pals_clock::{Clocks, ListClock};
+use scenario_values::Names;
+use scenario_values::ScenarioFault;
+use scenario_values::json::{entries, short_list, whole};
+use scenario_values::place::Place;
+use serde_json::Value;
+use std::alloc::Global;
+
+// The readings of one clock, which don't fall.
+#[tactic(auto, unfolding(crate::specs::Clocks::reading_list))]
+fn reading_list(alloc: Global, name: &str, value: &Value) -> Result<Items<Nanos>, ScenarioFault>
+    ensures value { Answers (reading_list (inside (codes "clocks") name.now) (view value.now)) result }
+    ensures order { IfOk result IsNonDecreasing }
+    ensures range { IfOk result AreReadings }
+{
+    let items = short_list(alloc, Place::Name("clocks", name), LIST_ITEMS, value)?;
+    let mut readings = Items::new(alloc);
+    let mut last = 0;
+    for (at, item) in items.iter().enumerate() {
+        let place = Place::NameIndex("clocks", name, at);
+        let reading = whole(alloc, place, last, READING, item)?;
+        readings.push(reading)?;
+        last = reading;
+    }
+    Ok(readings)
+}
+
+// Puts the clock of one node into its place.
+#[tactic(auto, unfolding(crate::specs::Clocks::with_clock))]
+fn add_clock(
+    alloc: Global,
+    names: &Names<'_>,
+    clocks: &mut Items<ListClock>,
+    name: &str,
+    value: &Value,
+) -> Result<(), ScenarioFault>
+    requires { length clocks.old ≡ length names.now.components }
+    ensures value { Makes clocks.new (with_clock names.now clocks.old (name.now, view value.now)) result }
+    ensures len { length clocks.new ≡ length clocks.old }
+{
+    let node = names.node(alloc, Place::Name("clocks", name), name)?;
+    let readings = reading_list(alloc, name, value)?;
+    clocks.set(node.0 as usize, ListClock::new(readings));
+    Ok(())
+}
+
+// A clock without readings for each of `count` nodes.
+fn empty_clocks(alloc: Global, count: usize) -> Result<Items<ListClock>, NoMemory>
+    ensures { IfOk result (λ clocks. clocks ≡ replicate count (unpicked [])) }
+{
+    let mut clocks = Items::new(alloc);
+    for _done in 0..count {
+        clocks.push(ListClock::new(Items::new(alloc)))?;
+    }
+    Ok(clocks)
+}
+
+// A list for each node, empty where it is not named.
+#[tactic(auto, unfolding(crate::specs::Clocks::clock_lists))]
+fn clock_lists(alloc: Global, names: &Names<'_>, value: &Value) -> Result<Clocks, ScenarioFault>
+    ensures { Answers (clock_lists names.now (view value.now)) result }
+{
+    let members = entries(alloc, Place::Field("clocks"), value)?;
+    let mut clocks = empty_clocks(alloc, names.design().components().len())?;
+    for (name, item) in members.iter() {
+        add_clock(alloc, names, &mut clocks, name.as_str(), item)?;
+    }
+    Ok(Clocks::Lists(clocks))
+}
+
+fn is_meet(value: &Value) -> bool
+    ensures { result ≡ is_meet (view value.now) }
+{
+    match value.as_str() {
+        Some(text) => "meet" == text,
+        None => false,
+    }
+}
+
+/// The hour on which all nodes meet, or a list of readings for each node.
+#[tactic(auto, unfolding(crate::specs::Clocks::clocks_in))]
+pub fn read_clocks(alloc: Global, names: &Names<'_>, value: &Value) -> Result<Clocks, ScenarioFault>
+    ensures { Answers (clocks_in names.now (view value.now)) result }
+{
+    if is_meet(value) {
+        return Ok(Clocks::Meet);
+    }
+    clock_lists(alloc, names, value)
+}

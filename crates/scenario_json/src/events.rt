@@ -1,0 +1,275 @@
+//! The events of a world.
+ghost use Rattle.std.specs.Prelude.{◌≡◌, map, option_and_then};
+ghost use Rattle.std.specs.List.{list_all};
+ghost use Rattle.serde_json.specs.Find.{as_str};
+ghost use Rattle.serde_json.specs.View.{view};
+ghost use Rattle.scenario_values.specs.Outcomes.{Answers};
+ghost use Rattle.scenario_values.specs.FaultPlaces.{place_text};
+ghost use Rattle.scenario_values.specs.Values.{is_whole};
+ghost use Rattle.scenario_json.specs.Events.{word_of, is_usual, usual_word, node_part, link_parts, reading_parts, pass_parts, event_of, event_in, events_in};
+
+use pals_base::limits::{LIST_ITEMS, READING, ROUNDS};
+use pals_base::{Items, LinkNo, Nanos, NodeNo};
+use pals_runs::{Command, Event};
+use scenario_values::Names;
+use scenario_values::ScenarioFault;
+use scenario_values::json::{elements, is_whole, short_list, text, whole};
+use scenario_values::place::{Place, out_of_range, wrong_kind};
+use serde_json::Value;
+use std::alloc::Global;
+
+/// The word that an event begins with.
+#[derive(Clone, Copy, PartialEq, Eq)]
+pub enum Word {
+    Pass,
+    Start,
+    Step,
+    Finish,
+    Send,
+    Arrive,
+    Drop,
+    Repeat,
+}
+
+// The kind of event that a word is.
+fn word_of(name: &str) -> Option<Word>
+    ensures { result ≡ word_of name.now }
+{
+    if name == "pass" {
+        Some(Word::Pass)
+    } else if name == "start" {
+        Some(Word::Start)
+    } else if name == "step" {
+        Some(Word::Step)
+    } else if name == "finish" {
+        Some(Word::Finish)
+    } else if name == "send" {
+        Some(Word::Send)
+    } else if name == "arrive" {
+        Some(Word::Arrive)
+    } else if name == "drop" {
+        Some(Word::Drop)
+    } else if name == "repeat" {
+        Some(Word::Repeat)
+    } else {
+        None
+    }
+}
+
+// The kind of event that a value names.
+fn word_in(value: &Value) -> Option<Word>
+    ensures { result ≡ option_and_then word_of (as_str (view value.now)) }
+{
+    match value.as_str() {
+        Some(name) => word_of(name),
+        None => None,
+    }
+}
+
+// Whether the events of this command may begin with a word.
+fn is_usual(command: &Command, word: Word) -> bool
+    ensures { result ≡ is_usual command.now word }
+{
+    match command {
+        Command::World { loose: true, .. } => word != Word::Pass,
+        Command::World { loose: false, .. } => word != Word::Drop && word != Word::Repeat,
+        _ => true,
+    }
+}
+
+// The word of an event, where this command's events may have it.
+#[tactic(auto, unfolding(crate::specs::Events::usual_word))]
+fn usual_word(
+    alloc: Global,
+    command: &Command,
+    place: Place<'_>,
+    value: &Value,
+) -> Result<Word, ScenarioFault>
+    ensures { Answers (usual_word command.now (place_text place.entry) (view value.now)) result }
+{
+    let Some(word) = word_in(value) else {
+        return Err(wrong_kind(alloc, place));
+    };
+    if !is_usual(command, word) {
+        return Err(wrong_kind(alloc, place));
+    }
+    Ok(word)
+}
+
+// The node of an event that has one.
+#[tactic(auto, unfolding(crate::specs::Events::node_part))]
+fn node_part(
+    alloc: Global,
+    names: &Names<'_>,
+    place: Place<'_>,
+    parts: &[Value],
+) -> Result<NodeNo, ScenarioFault>
+    ensures { Answers (node_part names.now (place_text place.entry) (map view parts.now)) result }
+{
+    let [path] = parts else {
+        return Err(wrong_kind(alloc, place));
+    };
+    let path = text(alloc, place, path)?;
+    names.node(alloc, place, path)
+}
+
+// The link and the round of an event that has them.
+#[tactic(auto, unfolding(crate::specs::Events::link_parts))]
+fn link_parts(
+    alloc: Global,
+    names: &Names<'_>,
+    place: Place<'_>,
+    parts: &[Value],
+) -> Result<(LinkNo, u32), ScenarioFault>
+    ensures { Answers (link_parts names.now (place_text place.entry) (map view parts.now)) result }
+{
+    let [name, round] = parts else {
+        return Err(wrong_kind(alloc, place));
+    };
+    let name = text(alloc, place, name)?;
+    if !is_whole(round) {
+        return Err(wrong_kind(alloc, place));
+    }
+    let link = names.link(alloc, place, name)?;
+    let round = whole(alloc, place, 0, u64::from(ROUNDS), round)?;
+    Ok((link, round as u32))
+}
+
+// Whether all values are whole numbers.
+fn are_whole(values: &[Value]) -> bool
+    ensures { result ≡ list_all is_whole (map view values.now) }
+{
+    for value in values {
+        if !is_whole(value) {
+            return false;
+        }
+    }
+    true
+}
+
+// The readings of a pass.
+fn reading_parts(
+    alloc: Global,
+    place: Place<'_>,
+    values: &[Value],
+) -> Result<Items<Nanos>, ScenarioFault>
+    ensures { Answers (reading_parts (place_text place.entry) (map view values.now)) result }
+{
+    let mut readings = Items::new(alloc);
+    for value in values {
+        let reading = whole(alloc, place, 0, READING, value)?;
+        readings.push(reading)?;
+    }
+    Ok(readings)
+}
+
+// The time of a pass, and one reading for each component.
+#[tactic(auto, unfolding(crate::specs::Events::pass_parts))]
+fn pass_parts(
+    alloc: Global,
+    names: &Names<'_>,
+    place: Place<'_>,
+    parts: &[Value],
+) -> Result<(Nanos, Items<Nanos>), ScenarioFault>
+    ensures { Answers (pass_parts names.now (place_text place.entry) (map view parts.now)) result }
+{
+    let [time, readings] = parts else {
+        return Err(wrong_kind(alloc, place));
+    };
+    let values = elements(alloc, place, readings)?;
+    if !is_whole(time) || !are_whole(values) {
+        return Err(wrong_kind(alloc, place));
+    }
+    let time = whole(alloc, place, 0, READING, time)?;
+    if values.len() != names.design().components().len() {
+        return Err(out_of_range(alloc, place));
+    }
+    let readings = reading_parts(alloc, place, values)?;
+    Ok((time, readings))
+}
+
+// The event of a word and of what follows it.
+#[tactic(auto, unfolding(crate::specs::Events::event_of))]
+fn event_of(
+    alloc: Global,
+    names: &Names<'_>,
+    place: Place<'_>,
+    word: Word,
+    parts: &[Value],
+) -> Result<Event, ScenarioFault>
+    ensures { Answers (event_of names.now (place_text place.entry) word (map view parts.now)) result }
+{
+    match word {
+        Word::Pass => {
+            let (time, readings) = pass_parts(alloc, names, place, parts)?;
+            Ok(Event::Pass { time, readings })
+        }
+        Word::Start => {
+            let node = node_part(alloc, names, place, parts)?;
+            Ok(Event::Start(node))
+        }
+        Word::Step => {
+            let node = node_part(alloc, names, place, parts)?;
+            Ok(Event::Step(node))
+        }
+        Word::Finish => {
+            let node = node_part(alloc, names, place, parts)?;
+            Ok(Event::Finish(node))
+        }
+        Word::Send => {
+            let node = node_part(alloc, names, place, parts)?;
+            Ok(Event::Send(node))
+        }
+        Word::Arrive => {
+            let (link, round) = link_parts(alloc, names, place, parts)?;
+            Ok(Event::Arrive(link, round))
+        }
+        Word::Drop => {
+            let (link, round) = link_parts(alloc, names, place, parts)?;
+            Ok(Event::Drop(link, round))
+        }
+        Word::Repeat => {
+            let (link, round) = link_parts(alloc, names, place, parts)?;
+            Ok(Event::Repeat(link, round))
+        }
+    }
+}
+
+// An event.
+#[tactic(auto, unfolding(crate::specs::Events::event_in))]
+fn read_event(
+    alloc: Global,
+    names: &Names<'_>,
+    command: &Command,
+    place: Place<'_>,
+    value: &Value,
+) -> Result<Event, ScenarioFault>
+    ensures { Answers (event_in names.now command.now (place_text place.entry) (view value.now)) result }
+{
+    let items = elements(alloc, place, value)?;
+    let [first, parts @ ..] = items else {
+        return Err(wrong_kind(alloc, place));
+    };
+    let word = usual_word(alloc, command, place, first)?;
+    event_of(alloc, names, place, word, parts)
+}
+
+/// The events of a world, by their form and their names; whether each may happen is for the world.
+#[tactic(auto, unfolding(crate::specs::Events::events_in))]
+pub fn read_events(
+    alloc: Global,
+    names: &Names<'_>,
+    command: &Command,
+    value: &Value,
+) -> Result<Items<Event>, ScenarioFault>
+    ensures { Answers (events_in names.now command.now (view value.now)) result }
+{
+    let items = short_list(alloc, Place::Field("events"), LIST_ITEMS, value)?;
+    let mut events = Items::new(alloc);
+    for (at, item) in items.iter().enumerate() {
+        let place = Place::Index("events", at);
+        let event = read_event(alloc, names, command, place, item)?;
+        events.push(event)?;
+    }
+    Ok(events)
+}

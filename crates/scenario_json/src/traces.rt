@@ -1,0 +1,27 @@
+//! The lines of a trace.
+ghost use Rattle.serde_json.specs.View.{view};
+ghost use Rattle.scenario_values.specs.Outcomes.{Answers};
+ghost use Rattle.scenario_json.specs.Traces.{trace_in};
+
+use pals_base::limits::LIST_ITEMS;
+use pals_base::{Items, Text};
+use scenario_values::ScenarioFault;
+use scenario_values::json::{owned, short_list, text};
+use scenario_values::place::Place;
+use serde_json::Value;
+use std::alloc::Global;
+
+/// The lines of a trace.
+#[tactic(auto, unfolding(crate::specs::Traces::trace_in))]
+pub fn read_trace(alloc: Global, value: &Value) -> Result<Items<Text>, ScenarioFault>
+    ensures { Answers (trace_in (view value.now)) result }
+{
+    let items = short_list(alloc, Place::Field("trace"), LIST_ITEMS, value)?;
+    let mut lines = Items::new(alloc);
+    for (at, item) in items.iter().enumerate() {
+        let line = text(alloc, Place::Index("trace", at), item)?;
+        let owned = owned(alloc, line)?;
+        lines.push(owned)?;
+    }
+    Ok(lines)
+}

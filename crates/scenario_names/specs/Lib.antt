@@ -1,2 +1,0 @@
-pub mod NameTables
-pub mod Names

@@ -1,0 +1,6 @@
+use Rattle.sync_product.proofs.Counters.{counters_are_designs}
+use Rattle.sync_product.proofs.Exchanging.{counters_are_renumbered, no_inputs}
+use Rattle.sync_product.proofs.renumbering.counters_are_renumbered.Goals as goal
+
+pub returns : goal.returns
+returns c = record { designs = counters_are_designs; renumbered = counters_are_renumbered; inputs = no_inputs }
