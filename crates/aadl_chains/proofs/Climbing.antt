@@ -18,7 +18,7 @@ use Rattle.aadl_chains.specs.Inside.{is_in_at}
 use Rattle.aadl_chains.proofs.Numbers.{split}
 use Rattle.aadl_chains.specs.Sound.{MayLeave, AreDeclared}
 use Rattle.aadl_chains.proofs.OnChains.{next_at}
-use Rattle.aadl_chains.specs.declared.tracing.Entry.{Entry}
+use Rattle.aadl_chains.specs.declared.walks.Entry.{Entry}
 use Rattle.aadl_chains.specs.Walks.{Crossing, Climb, nowhere, crosses, climb, climb_by, climb_along, climb_into}
 use Rattle.aadl_chains.specs.Climbing.{entry}
 use Rattle.aadl_chains.proofs.Steps.{known, some_first, first_at}

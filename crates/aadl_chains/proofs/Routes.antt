@@ -13,9 +13,9 @@ use Rattle.aadl_chains.specs.Inside.{is_thread_at, is_in_at}
 use Rattle.aadl_chains.specs.Chains.{Port, Place, Goes, Leads, is_in, IsStart}
 use Rattle.aadl_chains.specs.Sound.{AreDeclared}
 use Rattle.aadl_chains.proofs.OnChains.{opposed, next_at, is_in-at, thread_from}
-use Rattle.aadl_chains.specs.declared.tracing.Begin.{Begin}
-use Rattle.aadl_chains.specs.declared.tracing.Begin.TheVariants as begins
-use Rattle.aadl_chains.specs.declared.tracing.Route.{Route}
+use Rattle.aadl_chains.specs.declared.walks.Begin.{Begin}
+use Rattle.aadl_chains.specs.declared.walks.Begin.TheVariants as begins
+use Rattle.aadl_chains.specs.declared.walks.Route.{Route}
 use Rattle.aadl_chains.specs.Walked.{Passes}
 use Rattle.aadl_chains.specs.Walks.{Crossing, nowhere, at_root, crosses, climb, OneEach, IsThreadPort}
 use Rattle.aadl_chains.specs.Links.{Ends, IsLink, IsFeed, IsTap}

@@ -9,8 +9,8 @@ use Rattle.aadl_chains.specs.Wiring.{into}
 use Rattle.aadl_chains.specs.Inside.{is_thread_at, is_in_at}
 use Rattle.aadl_chains.specs.Chains.{Port}
 use Rattle.aadl_chains.specs.Sound.{AreDeclared}
-use Rattle.aadl_chains.specs.declared.tracing.Begin.{Begin}
-use Rattle.aadl_chains.specs.declared.tracing.Lower.{Lower}
+use Rattle.aadl_chains.specs.declared.walks.Begin.{Begin}
+use Rattle.aadl_chains.specs.declared.walks.Lower.{Lower}
 use Rattle.aadl_chains.specs.Walks.{Crossing, at_root, crosses, climb, OneEach, IsThreadPort}
 use Rattle.aadl_chains.specs.Routes.{Descends, Traces, TracesTap}
 use Rattle.aadl_chains.specs.Climbing.{route_from, route_from_root}

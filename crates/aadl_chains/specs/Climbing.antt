@@ -6,14 +6,14 @@ use Rattle.aadl_names.specs.declared.site.Site.TheVariants.{Own, Inner}
 use Rattle.aadl_uses.specs.Uses.{below}
 use Rattle.aadl_chains.specs.Wiring.{into}
 use Rattle.aadl_chains.specs.Inside.{is_in_at}
-use Rattle.aadl_chains.specs.declared.tracing.Begin.{Begin}
-use Rattle.aadl_chains.specs.declared.tracing.Begin.TheVariants as begins
-use Rattle.aadl_chains.specs.declared.tracing.Route.{Route}
-use Rattle.aadl_chains.specs.declared.tracing.Entry.{Entry}
-use Rattle.aadl_chains.specs.declared.tracing.Crossed.{Crossed}
-use Rattle.aadl_chains.specs.declared.tracing.Climbed.{Climbed}
-use Rattle.aadl_chains.specs.declared.tracing.Climbed.TheVariants as ends
-use Rattle.aadl_chains.specs.declared.tracing.Lower.{Lower}
+use Rattle.aadl_chains.specs.declared.walks.Begin.{Begin}
+use Rattle.aadl_chains.specs.declared.walks.Begin.TheVariants as begins
+use Rattle.aadl_chains.specs.declared.walks.Route.{Route}
+use Rattle.aadl_chains.specs.declared.walks.Entry.{Entry}
+use Rattle.aadl_chains.specs.declared.walks.Crossed.{Crossed}
+use Rattle.aadl_chains.specs.declared.walks.Climbed.{Climbed}
+use Rattle.aadl_chains.specs.declared.walks.Climbed.TheVariants as ends
+use Rattle.aadl_chains.specs.declared.walks.Lower.{Lower}
 use Rattle.aadl_chains.specs.Walks.{Crossing, Climb, nowhere, at_root, crosses}
 
 -- the first connection into a port of a subcomponent

@@ -3,9 +3,9 @@ use Rattle.std.specs.Prelude.{◌≡◌, ◌⊎◌, ℕ, false, List, [], revers
 use Rattle.aadl_tree.specs.Declarations.{PackageTree}
 use Rattle.aadl_uses.specs.Threads.{IsThreadAt}
 use Rattle.aadl_chains.specs.Chains.{Port, Place, Leads, is_in, IsStart}
-use Rattle.aadl_chains.specs.declared.tracing.Begin.{Begin}
-use Rattle.aadl_chains.specs.declared.tracing.Begin.TheVariants as begins
-use Rattle.aadl_chains.specs.declared.tracing.Route.{Route}
+use Rattle.aadl_chains.specs.declared.walks.Begin.{Begin}
+use Rattle.aadl_chains.specs.declared.walks.Begin.TheVariants as begins
+use Rattle.aadl_chains.specs.declared.walks.Route.{Route}
 use Rattle.aadl_chains.specs.Links.{Ends, IsLink, IsFeed, IsTap}
 
 abbrev pub begin_port : Begin → Port

@@ -2,24 +2,24 @@
 //! threads and the root: which connections are on none, where each chain comes from, and whether there are too many links.
 #![tactic(auto)]
 
-pub mod tracing;
 pub mod connections;
 pub mod ends;
 pub mod inside;
 pub mod links;
 pub mod outside;
-pub mod ports;
 pub mod port_counts;
+pub mod ports;
+pub mod walks;
 pub mod ways;
 pub mod wires;
 mod wiring;
 
-pub use tracing::{Begin, Route, trace_back, trace_tap};
 pub use connections::{Connections, Wire};
 pub use ends::first_end_fault;
 pub use inside::Inside;
 pub use links::has_too_many_links;
 pub use outside::{Outside, Side};
 pub use ports::{PortAt, Ports};
+pub use walks::{Begin, Route, trace_back, trace_tap};
 pub use ways::Ways;
 pub use wires::Wires;

@@ -6,9 +6,9 @@ use Rattle.aadl_uses.specs.Threads.{IsThreadAt, PathBefore}
 use Rattle.aadl_chains.specs.Inside.{is_thread_at}
 use Rattle.aadl_chains.specs.Chains.{Port, is_in, IsEnd}
 use Rattle.aadl_chains.specs.Links.{Ends, IsLink, IsFeed, IsTap}
-use Rattle.aadl_chains.specs.declared.tracing.Begin.{Begin}
-use Rattle.aadl_chains.specs.declared.tracing.Begin.TheVariants as begins
-use Rattle.aadl_chains.specs.declared.tracing.Route.{Route}
+use Rattle.aadl_chains.specs.declared.walks.Begin.{Begin}
+use Rattle.aadl_chains.specs.declared.walks.Begin.TheVariants as begins
+use Rattle.aadl_chains.specs.declared.walks.Route.{Route}
 use Rattle.aadl_chains.specs.Routes.{begin_port, route_ends, IsOfKind, IsRoute, IsTapRoute, Traces, TracesTap}
 use Rattle.aadl_instance.specs.declared.parts.Chain.{Chain}
 use Rattle.aadl_instance.specs.declared.build.Incoming.{Incoming}

@@ -18,9 +18,9 @@ use Rattle.aadl_instance.specs.declared.parts.Chain.{Chain}
 use Rattle.aadl_instance.specs.declared.build.Incoming.{Incoming}
 use Rattle.aadl_instance.specs.declared.parts.ChainEnd.{ChainEnd}
 use Rattle.aadl_chains.specs.Routes.{begin_port}
-use Rattle.aadl_chains.specs.declared.tracing.Begin.{Begin}
-use Rattle.aadl_chains.specs.declared.tracing.Begin.TheVariants as begins
-use Rattle.aadl_chains.specs.declared.tracing.Route.{Route}
+use Rattle.aadl_chains.specs.declared.walks.Begin.{Begin}
+use Rattle.aadl_chains.specs.declared.walks.Begin.TheVariants as begins
+use Rattle.aadl_chains.specs.declared.walks.Route.{Route}
 use Rattle.aadl_instance.specs.Instances.{end_in, chain_in}
 
 -- paths, the innermost subcomponent first

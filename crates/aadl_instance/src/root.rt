@@ -1,10 +1,11 @@
 //! The root of a package.
 ghost use Rattle.std.specs.Prelude.{◌≡◌, ◌&&◌, IfOk, map};
+ghost use Rattle.aadl_tree.specs.Names.{same_name};
 ghost use Rattle.std.specs.List.{position_from};
 ghost use Rattle.aadl_tree.specs.Maps.{kept_place};
 ghost use Rattle.aadl_tree.specs.PackageViews.{placed};
 ghost use Rattle.aadl_tree.specs.Views.{declaration_view, implementation_view, implementation_name_view};
-ghost use Rattle.aadl_names.specs.Spelling.{same_name, spelled_implementation};
+ghost use Rattle.aadl_names.specs.Spelling.{spelled_implementation};
 ghost use Rattle.aadl_names.specs.Resolving as spec;
 
 use aadl_names::spelling::spelled_implementation;

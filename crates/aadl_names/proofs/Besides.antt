@@ -1,5 +1,6 @@
 -- What is declared twice among the ports of a type and beside them: enough of it has the first of it.
 use Rattle.std.proofs.Common.{◌≡◌, ◌⊎◌, ℕ, ◌+◌, Bool, true, false, cond, ◌&&◌, ◌||◌, nat_eq, nat_lt, List, [], ◌∷◌, ◌++◌, Contains, Option, Some, None}
+use Rattle.aadl_tree.specs.Names.{same_name}
 use Rattle.std.proofs.Common.{refl, sym, ap, ◌∙◌, subst, inl, inr, suc, add-zero, arith}
 use Rattle.std.specs.List.{list_any, flat_map}
 use Rattle.std.specs.Prelude.{slice_get}
@@ -15,7 +16,7 @@ use Rattle.aadl_names.specs.declared.fault.FlatFault.TheVariants.{Twice}
 use Rattle.aadl_names.specs.declared.entry.Entry.{Entry}
 use Rattle.aadl_names.specs.declared.spot.Spot.{Spot}
 use Rattle.aadl_names.specs.Found.{found, as_list}
-use Rattle.aadl_names.specs.Spelling.{folded, same_name}
+use Rattle.aadl_names.specs.Spelling.{folded}
 use Rattle.aadl_names.specs.Twice.{again, twice}
 use Rattle.aadl_names.specs.Earliest.{sooner, earliest, is_before}
 use Rattle.aadl_names.proofs.Spots.{any_before}

@@ -1,12 +1,13 @@
 -- Look-ups in tables of names.
 use Rattle.std.proofs.Common.{◌≡◌, ℕ, Bool, true, false, cond, List, [], ◌∷◌, ◌++◌, Option, Some, None, refl, sym, ap, ◌∙◌, map, not}
+use Rattle.aadl_tree.specs.Names.{same_name}
 use Rattle.std.specs.Map.{lookup}
 use Rattle.std.specs.Option.{option_or, is_some}
 use Rattle.std.specs.Str.{bytes_eq}
 use Rattle.std.proofs.lemmas.Bool.{true≢false, false≢true}
 use Rattle.std.proofs.lemmas.Slice.Eq.{bytes_eq-Decides}
 use Rattle.indexmap.specs.IndexMap.{insert_entry}
-use Rattle.aadl_names.specs.Spelling.{folded, same_name}
+use Rattle.aadl_names.specs.Spelling.{folded}
 use Rattle.aadl_names.specs.Tables.{value_of}
 
 -- look-ups by a part of the keys

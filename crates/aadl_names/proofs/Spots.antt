@@ -1,5 +1,6 @@
 -- The earliest of the declarations of a name.
 use Rattle.std.proofs.Common.{◌≡◌, ℕ, ◌+◌, ◌<◌, ◌≤◌, Bool, true, false, cond, ◌&&◌, ◌||◌, nat_lt, List, [], ◌∷◌, length, drop, get_or, Option, Some, None}
+use Rattle.aadl_tree.specs.Names.{same_name}
 use Rattle.std.proofs.Common.{refl, sym, ap, ◌∙◌, arith}
 use Rattle.std.specs.List.{list_any}
 use Rattle.std.proofs.lemmas.Bool.{true≢false}
@@ -7,7 +8,6 @@ use Rattle.std.proofs.lemmas.Bool.Decides.{nat_tests}
 use Rattle.aadl_names.specs.declared.fault.FlatFault.TheVariants.{Twice}
 use Rattle.aadl_names.specs.declared.entry.Entry.{Entry}
 use Rattle.aadl_names.specs.declared.spot.Spot.{Spot}
-use Rattle.aadl_names.specs.Spelling.{same_name}
 use Rattle.aadl_names.specs.Tables.{value_of}
 use Rattle.aadl_names.specs.Twice.{again}
 use Rattle.aadl_names.specs.Earliest.{sooner, is_sooner, earliest, is_before, again_by}

@@ -1,10 +1,10 @@
 -- Lists of words that are compared one by one.
 use Rattle.std.proofs.Common.{◌≡◌, ◌≢◌, ℕ, Bool, true, false, ◌&&◌, List, [], ◌∷◌, length, refl, ap, ◌∙◌, map, suc}
+use Rattle.aadl_tree.specs.Names.{same_name}
 use Rattle.aadl_tree.specs.declared.names.Identifier.{Identifier}
 use Rattle.aadl_tree.specs.NameViews.{identifier_view}
 use Rattle.aadl_tree.specs.Maps.{kept_place}
 use Rattle.aadl_tree.specs.Names as n
-use Rattle.aadl_names.specs.Spelling.{same_name}
 use Rattle.aadl_names.specs.Resolving.{same_words}
 
 abbrev seen : List Identifier → List (n.Identifier ℕ)

@@ -1,7 +1,7 @@
 -- How an annex uses the names that stand for something in it.
 use Rattle.std.specs.Prelude.{ℕ, Bool, true, false, List, [], ◌∷◌, ◌++◌, Option, Some, None, if◌then◌else◌}
 use Rattle.std.specs.Option.{option_or}
-use Rattle.aadl_tree.specs.Names.{Identifier}
+use Rattle.aadl_tree.specs.Names.{Identifier, same_name}
 use Rattle.aadl_tree.specs.Expressions.{Primary, number, truth, named, group, Factor, absolute, negated, bare, Term, term, Factors, no_factors, factor}
 use Rattle.aadl_tree.specs.Expressions.{Sum, total, Terms, no_terms, add, Relation, single, compared, Expression, expression, Relations, no_relations}
 use Rattle.aadl_tree.specs.Expressions.{join}
@@ -13,7 +13,6 @@ use Rattle.aadl_names.specs.declared.role.Role.{Role}
 use Rattle.aadl_names.specs.declared.role.Role.TheVariants.{Receives, Gives, Varies, Turns}
 use Rattle.aadl_names.specs.declared.role.Usage.{Usage}
 use Rattle.aadl_names.specs.declared.role.Usage.TheVariants.{Set, Send, Read, Fresh}
-use Rattle.aadl_names.specs.Spelling.{same_name}
 
 -- what names stand for
 abbrev pub Known : Type 0

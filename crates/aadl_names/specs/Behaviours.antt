@@ -1,7 +1,7 @@
 -- The behaviours among annexes, and what they declare.
 use Rattle.std.specs.Prelude.{ℕ, List, [], ◌∷◌, flat_map, Option, Some, None}
 use Rattle.std.specs.List.{filter_map}
-use Rattle.aadl_tree.specs.Names.{Identifier, Identifiers}
+use Rattle.aadl_tree.specs.Names.{Identifier, Identifiers, identifiers, listed_in}
 use Rattle.aadl_tree.specs.Annexes.{VariableDeclaration, AnnexTree, foreign, behaviour, Annex}
 
 -- a behaviour with the place of its annex
@@ -10,13 +10,6 @@ behaviour_in x = elim x.content as (λ _. Option (ℕ × AnnexTree ℕ)) [ forei
 
 abbrev pub behaviours : List (Annex ℕ) → List (ℕ × AnnexTree ℕ)
 behaviours xs = filter_map behaviour_in xs
-
-abbrev pub listed_in : {X : Type 0} → Option (List X) → List X
-listed_in None = []
-listed_in (Some xs) = xs
-
-abbrev pub identifiers : Identifiers ℕ → List (Identifier ℕ)
-identifiers x = x.first ∷ x.rest
 
 abbrev pub variables_of : AnnexTree ℕ → List (Identifier ℕ)
 variables_of tree = flat_map (λ v. identifiers v.names) (listed_in tree.variables)

@@ -1,10 +1,10 @@
 -- The earliest of the declarations of a name.
 use Rattle.std.specs.Prelude.{ℕ, ◌+◌, Bool, true, false, nat_lt, List, [], ◌∷◌, Option, Some, None, if◌then◌else◌}
+use Rattle.aadl_tree.specs.Names.{same_name}
 use Rattle.aadl_names.specs.declared.fault.FlatFault.{FlatFault}
 use Rattle.aadl_names.specs.declared.fault.FlatFault.TheVariants.{Twice}
 use Rattle.aadl_names.specs.declared.entry.Entry.{Entry}
 use Rattle.aadl_names.specs.declared.spot.Spot.{Spot}
-use Rattle.aadl_names.specs.Spelling.{same_name}
 
 -- the one that stands before the other; where both stand at one place, the first
 abbrev pub sooner : Option Spot → Option Spot → Option Spot

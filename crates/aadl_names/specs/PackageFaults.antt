@@ -7,7 +7,7 @@ use Rattle.aadl_tree.specs.declared.declarations.Category.{Category}
 use Rattle.aadl_tree.specs.declared.declarations.Category.TheVariants as categories
 use Rattle.aadl_tree.specs.declared.declarations.Direction.{Direction}
 use Rattle.aadl_tree.specs.declared.declarations.Direction.TheVariants as directions
-use Rattle.aadl_tree.specs.Names.{Identifier, Reference}
+use Rattle.aadl_tree.specs.Names.{Identifier, Reference, same_name, listed_in}
 use Rattle.aadl_tree.specs.Annexes.{VariableDeclaration, Guard, dispatch, otherwise, when, Transition, AnnexTree, foreign, behaviour, Annex}
 use Rattle.aadl_tree.specs.Declarations.{Feature, Subcomponent, ConnectionEnd, Connection, TypeDeclaration, Implementation, Declaration, type}
 use Rattle.aadl_tree.specs.Declarations.{implementation, PackageTree}
@@ -15,11 +15,11 @@ use Rattle.aadl_tree.specs.Actions.{Block}
 use Rattle.aadl_names.specs.declared.fault.FlatFault.{FlatFault}
 use Rattle.aadl_names.specs.declared.fault.FlatFault.TheVariants.{Unknown, WrongKind}
 use Rattle.aadl_names.specs.Findings.{wrong_if}
-use Rattle.aadl_names.specs.Spelling.{same_name, spelled_name, spelled_reference, spelled_implementation, spelled_end}
+use Rattle.aadl_names.specs.Spelling.{spelled_name, spelled_reference, spelled_implementation, spelled_end}
 use Rattle.aadl_names.specs.Resolving.{type_number, is_system, is_process, is_thread, ports_of, type_of, target_of, implementation_in, site, with_direction}
 use Rattle.aadl_names.specs.Properties.{list_faults}
 use Rattle.aadl_names.specs.Spaces.{twice_names}
-use Rattle.aadl_names.specs.Behaviours.{behaviours, listed_in, variables_in, variables_of, states_of}
+use Rattle.aadl_names.specs.Behaviours.{behaviours, variables_in, variables_of, states_of}
 use Rattle.aadl_names.specs.declared.role.Role.{Role}
 use Rattle.aadl_names.specs.declared.role.Role.TheVariants.{Receives, Gives, Varies}
 use Rattle.aadl_names.specs.declared.site.Site.{Site}

@@ -1,11 +1,12 @@
 -- The properties that mean something, where they do, and the shapes of their values.
 use Rattle.std.specs.Prelude.{ℕ, ◌*◌, ◌-◌, ◌==◌, pos, Bool, true, false, not, ◌&&◌, ◌||◌, nat_le, nat_eq, take, drop, List, [], ◌∷◌, ◌++◌, length, filter}
+use Rattle.std.specs.Option.{is_some}
 use Rattle.std.specs.Prelude.{map, flat_map, codes, Option, Some, None, if◌then◌else◌, find}
 use Rattle.std.specs.List.{list_any, starts_with}
 use Rattle.std.specs.Str.{bytes_eq}
 use Rattle.aadl_lex.specs.Rules.{whole_len, decimal, most}
 use Rattle.aadl_tree.specs.declared.declarations.Category.{Category}
-use Rattle.aadl_tree.specs.Names.{Path, Reference, Identifier}
+use Rattle.aadl_tree.specs.Names.{Path, Reference, Identifier, same_name}
 use Rattle.aadl_tree.specs.Values.{Figure, whole_figure, real_figure, Quantity, Value, list, text, named, number, no_values, value, Association}
 use Rattle.aadl_tree.specs.Values.{association, Associations, no_associations, associate}
 use Rattle.aadl_names.specs.declared.fault.FlatFault.{FlatFault}
@@ -15,7 +16,7 @@ use Rattle.aadl_names.specs.declared.holder.Holder.{Holder}
 use Rattle.aadl_names.specs.declared.holder.Holder.TheVariants as holders
 use Rattle.aadl_names.specs.declared.entry.Entry.{Entry}
 use Rattle.aadl_names.specs.Findings.{wrong_if}
-use Rattle.aadl_names.specs.Spelling.{same_name, spelled_name}
+use Rattle.aadl_names.specs.Spelling.{spelled_name}
 use Rattle.aadl_names.specs.Resolving.{is_thread}
 use Rattle.aadl_names.specs.Twice.{twice}
 
@@ -133,22 +134,18 @@ name_of Execution = codes "PALS_Profile::Execution"
 name_of Network = codes "PALS_Profile::Network"
 name_of Initial = codes "Data_Model::Initial_Value"
 
-abbrev pub has_some : {X : Type 0} → Option X → Bool
-has_some None = false
-has_some (Some x) = true
-
 abbrev pub is_initial_text : Option (List ℕ) → Bool
 is_initial_text None = false
 is_initial_text (Some bytes) = is_initial bytes
 
 abbrev pub has_shape : Property → Value ℕ → Bool
-has_shape Period v = has_some (time_of v)
-has_shape Dispatch v = has_some (reference_of v)
-has_shape Timing v = has_some (reference_of v)
-has_shape Adaptor v = has_some (text_of v)
-has_shape Skew v = has_some (time_of v)
-has_shape Execution v = has_some (range_of v)
-has_shape Network v = has_some (range_of v)
+has_shape Period v = is_some (time_of v)
+has_shape Dispatch v = is_some (reference_of v)
+has_shape Timing v = is_some (reference_of v)
+has_shape Adaptor v = is_some (text_of v)
+has_shape Skew v = is_some (time_of v)
+has_shape Execution v = is_some (range_of v)
+has_shape Network v = is_some (range_of v)
 has_shape Initial v = is_initial_text (only_text v)
 
 -- ---- the properties that are recognised at a kind of place

@@ -9,9 +9,6 @@ use Rattle.aadl_names.specs.declared.entry.Entry.{Entry}
 abbrev pub folded : List ℕ → List ℕ
 folded name = str_to_ascii_lowercase name
 
-abbrev pub same_name : List ℕ → List ℕ → Bool
-same_name a b = str_eq_ignore_ascii_case a b
-
 abbrev pub entry_of : Identifier ℕ → Entry
 entry_of x = record { name = x.spelling; at = x.at }
 

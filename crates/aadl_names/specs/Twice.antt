@@ -1,10 +1,10 @@
 -- What is declared twice among some declarations.
 use Rattle.std.specs.Prelude.{◌&&◌, nat_lt, List, [], ◌∷◌, flat_map, if◌then◌else◌}
+use Rattle.aadl_tree.specs.Names.{same_name}
 use Rattle.std.specs.List.{list_any}
 use Rattle.aadl_names.specs.declared.fault.FlatFault.{FlatFault}
 use Rattle.aadl_names.specs.declared.fault.FlatFault.TheVariants.{Twice}
 use Rattle.aadl_names.specs.declared.entry.Entry.{Entry}
-use Rattle.aadl_names.specs.Spelling.{same_name}
 
 -- each that has the name of another one which stands before it in the text
 abbrev pub again : List Entry → Entry → List FlatFault

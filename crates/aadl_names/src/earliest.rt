@@ -1,6 +1,6 @@
 //! The earliest of the declarations of each name.
 ghost use Rattle.std.specs.Prelude.{◌≡◌, ℕ, List, Some, None, OnOk, IfOk, if◌then◌else◌};
-ghost use Rattle.aadl_names.specs.Spelling.{same_name};
+ghost use Rattle.aadl_tree.specs.Names.{same_name};
 ghost use Rattle.aadl_names.specs.Tables.{value_of};
 ghost use Rattle.aadl_names.specs.Earliest as spec;
 

@@ -2,6 +2,7 @@
 //! far. Laws: places rise along a tree, and the first of what is looked at is the first of all that is wrong.
 #![tactic(auto)]
 
+pub mod connection_ends;
 pub mod earliest;
 pub mod entry;
 pub mod fault;
@@ -13,7 +14,6 @@ pub mod numbered;
 pub mod place_laws;
 pub mod role;
 pub mod site;
-pub mod connection_ends;
 pub mod spelling;
 pub mod spot;
 pub mod table;

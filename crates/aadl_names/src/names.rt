@@ -1,5 +1,6 @@
 //! What the names of a package name.
 ghost use Rattle.std.specs.Prelude.{◌≡◌, ℕ, List, [], IfOk, OnOk, map, Some, None, if◌then◌else◌, string_bytes, slice_index_or, slice_get};
+ghost use Rattle.aadl_tree.specs.Names.{same_name};
 ghost use Rattle.std.proofs.Props.{props};
 ghost use Rattle.std.specs.Option.{option_or};
 ghost use Rattle.aadl_tree.specs.PackageViews.{placed};
@@ -9,7 +10,6 @@ ghost use Rattle.aadl_tree.specs.Maps.{kept_place};
 ghost use Rattle.aadl_names.specs.Tables.{value_of};
 ghost use Rattle.aadl_names.specs.Members.{member_of};
 ghost use Rattle.aadl_names.specs.Resolving as spec;
-ghost use Rattle.aadl_names.specs.Spelling.{same_name};
 ghost use Rattle.aadl_names.specs.Resolving.{first_number, is_type, is_implementation, port_named, sub_named};
 
 use crate::spelling::{joined, spelled_implementation};

@@ -1,4 +1,5 @@
 //! What names stand for, found without regard to case.
+ghost use Rattle.aadl_tree.specs.Names.{same_name};
 
 use indexmap::IndexMap;
 use std::alloc::{AllocError, Global};
@@ -21,7 +22,6 @@ impl<V: Copy> Model for Table<V> {
 impl<V: Copy> Table<V> {
     ghost use Rattle.std.specs.Prelude.{◌≡◌, ℕ, List, None, Some, OnOk, IfOk, if◌then◌else◌};
     ghost use Rattle.std.specs.Option.{option_or};
-    ghost use Rattle.aadl_names.specs.Spelling.{same_name};
     ghost use Rattle.aadl_names.specs.Tables.{value_of};
 
     /// An empty table. It takes no memory.

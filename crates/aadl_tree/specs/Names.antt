@@ -1,5 +1,6 @@
 -- Names and references as plain trees. Each word keeps its place, of the type P.
-use Rattle.std.specs.Prelude.{ℕ, List, [], ◌∷◌, ◌++◌, flat_map, Option}
+use Rattle.std.specs.Prelude.{ℕ, Bool, List, [], ◌∷◌, ◌++◌, flat_map, Option, Some, None}
+use Rattle.std.specs.Str.{str_eq_ignore_ascii_case}
 use Rattle.aadl_tree.specs.declared.mark.Mark.TheVariants as k
 use Rattle.aadl_tree.specs.Kinds.{word}
 use Rattle.aadl_tree.specs.Parts.{Part, token, plain, parts_if, behind, chained}
@@ -47,3 +48,15 @@ qualifier_parts x = identifier_parts x ++ plain k.Scope ∷ []
 -- { id "::" } id [ "." id ]
 abbrev pub reference_parts : {P : Type 0} → Reference P → List (Part P)
 reference_parts x = flat_map qualifier_parts x.qualifiers ++ (identifier_parts x.type_name ++ parts_if (behind k.Dot identifier_parts) x.implementation)
+
+-- names are compared without regard to case
+abbrev pub same_name : List ℕ → List ℕ → Bool
+same_name a b = str_eq_ignore_ascii_case a b
+
+abbrev pub identifiers : {P : Type 0} → Identifiers P → List (Identifier P)
+identifiers x = x.first ∷ x.rest
+
+-- what is listed, where a list is there at all
+abbrev pub listed_in : {X : Type 0} → Option (List X) → List X
+listed_in None = []
+listed_in (Some xs) = xs

@@ -11,12 +11,12 @@ pub mod declarations;
 pub mod expressions;
 pub mod laws;
 pub mod limits;
-mod push_exact;
 pub mod mark;
 pub mod meaning;
 pub mod names;
-pub mod package;
 pub mod offsets;
+pub mod package;
+mod short_lists;
 mod spelling;
 pub mod values;
 
@@ -33,9 +33,9 @@ pub use expressions::{
     RelationOperator, Sign, Sum, Term,
 };
 pub use limits::GREATEST_NESTING;
-pub use push_exact::push_exact;
 pub use mark::Mark;
 pub use meaning::{Same, same};
 pub use names::{Identifier, Identifiers, Name, Path, Reference};
 pub use package::PackageTree;
+pub use short_lists::push_exact;
 pub use values::{Association, AssociationOperator, Figure, Number, Quantity, Value};

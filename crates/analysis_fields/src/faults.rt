@@ -12,10 +12,9 @@ use pals_base::limits::ROUNDS;
 use pals_base::{Items, Kind, LinkNo, NodeNo, Tuple};
 use pals_model::Link;
 use pals_runs::VoteFault;
-use scenario_values::Names;
-use scenario_values::ScenarioFault;
 use scenario_values::json::{elements, is_whole, port_value, text, whole};
 use scenario_values::place::{Place, out_of_range, unknown, wrong_kind};
+use scenario_values::{Names, ScenarioFault};
 use serde_json::Value;
 use std::alloc::Global;
 

@@ -12,10 +12,9 @@ use crate::limits::{FORMS, LEVELS};
 use pals_base::NodeNo;
 use pals_model::Component;
 use pals_runs::{Compare, Form};
-use scenario_values::Names;
-use scenario_values::ScenarioFault;
 use scenario_values::json::{elements, is_whole, number, text};
 use scenario_values::place::{Place, out_of_range, unknown, wrong_kind};
+use scenario_values::{Names, ScenarioFault};
 use serde_json::Value;
 use std::alloc::Global;
 

@@ -10,10 +10,9 @@ ghost use Rattle.analysis_fields.specs.Plants.{controller_in, named_in, is_numbe
 use pals_base::{Items, NodeNo};
 use pals_model::{DesignParts, Link};
 use pals_runs::Pair;
-use scenario_values::Names;
-use scenario_values::ScenarioFault;
 use scenario_values::json::{entries, text};
 use scenario_values::place::{Place, out_of_range};
+use scenario_values::{Names, ScenarioFault};
 use serde_json::{Map, Value};
 use std::alloc::Global;
 

@@ -12,10 +12,9 @@ use crate::limits::PROCESSORS;
 use pals_base::limits::HOUR;
 use pals_base::names::is_word;
 use pals_base::{Items, Nanos, NoMemory, NodeNo, Text};
-use scenario_values::Names;
-use scenario_values::ScenarioFault;
 use scenario_values::json::{elements, entries, is_whole, owned, text, whole};
 use scenario_values::place::{Place, missing, out_of_range, wrong_kind};
+use scenario_values::{Names, ScenarioFault};
 use serde_json::{Map, Value};
 use std::alloc::Global;
 

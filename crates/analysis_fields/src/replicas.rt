@@ -5,10 +5,9 @@ ghost use Rattle.scenario_values.specs.Outcomes.{Answers, Shows};
 ghost use Rattle.analysis_fields.specs.Replicas.{is_among, with_replica, replicas_in};
 
 use pals_base::{Items, NodeNo};
-use scenario_values::Names;
-use scenario_values::ScenarioFault;
 use scenario_values::json::{elements, text};
 use scenario_values::place::{Place, out_of_range};
+use scenario_values::{Names, ScenarioFault};
 use serde_json::Value;
 use std::alloc::Global;
 

@@ -1,5 +1,6 @@
 -- One level of an expression's text after another.
 use Rattle.std.proofs.Common.{◌≡◌, ℕ, ℤ, pos, not, Bool, Result, Ok, Err, ◌+◌, ◌<◌, List, [], ◌∷◌, ◌++◌, length, take, get_or, Option, Some, None, refl, sym, ap, ◌∙◌, append_assoc, arith, Box, Global}
+use Rattle.std.specs.Option.{is_some}
 use Rattle.std.specs.Prelude.{option_map, IfOk}
 use Rattle.std.specs.declared.alloc.AllocError.{AllocError}
 use Rattle.pals_base.specs.declared.behaviour.Expr.TheVariants as expr
@@ -30,7 +31,7 @@ use Rattle.annex_resolve.specs.declared.expressions.Typed.{Typed}
 use Rattle.annex_resolve.specs.declared.violation.Violation.{Violation}
 use Rattle.annex_resolve.specs.Types.{misfit, read_kind, primary_kind, primary_types, sides_misfit, factor_kind, factor_types, factors_types, term_kind, term_types, terms_types, total_kind, sum_types, relation_kind, relation_types, relations_types, expression_kind, expression_types}
 use Rattle.annex_resolve.specs.Resolved.{truth_of, primary_of, chained, signed_by, multiply_op, sign_op, relation_op, logic_op, factor_of, factors_of, term_of, terms_of, sum_of, relation_of, relations_of, expression_of}
-use Rattle.annex_resolve.specs.Scopes.{finding, found_if, has_some, entry_named, read_of, or_zero}
+use Rattle.annex_resolve.specs.Scopes.{finding, found_if, entry_named, read_of, or_zero}
 use Rattle.annex_resolve.specs.declared.violation.TheConstants.{BAD_TYPE}
 use Rattle.annex_resolve.specs.Reads.{Reads, ReadsOperands}
 
@@ -341,7 +342,7 @@ name_read scope x fresh entry r e k b known read some kind =
     record {
       tree_is = sym (ap or_zero is);
       kind_is = kind ∙ ap (read_kind fresh) known;
-      found = sym (ap (λ o. b ++ found_if (not (has_some o)) x.at BAD_TYPE []) is ∙ append-nil b);
+      found = sym (ap (λ o. b ++ found_if (not (is_some o)) x.at BAD_TYPE []) is ∙ append-nil b);
     }
 
 pub name_unread : (scope : Scope) (x : Identifier ℕ) (fresh : Bool) (entry : Option Entry) (r : Option Expr) (e : Expr) (k : Option Kind) (b a : List Violation)
@@ -354,5 +355,5 @@ name_unread scope x fresh entry r e k b a known read none kind zero found =
     record {
       tree_is = zero ∙ sym (ap or_zero is);
       kind_is = kind ∙ ap (read_kind fresh) known;
-      found = found ∙ sym (ap (λ o. b ++ found_if (not (has_some o)) x.at BAD_TYPE []) is);
+      found = found ∙ sym (ap (λ o. b ++ found_if (not (is_some o)) x.at BAD_TYPE []) is);
     }

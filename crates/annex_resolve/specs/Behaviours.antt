@@ -9,7 +9,7 @@ use Rattle.pals_base.specs.Tree as plain
 use Rattle.pals_base.specs.Fire.{is_complete, leaving}
 use Rattle.pals_base.specs.Rules.{dispatch_count}
 use Rattle.pals_base.specs.Steps.{upwards}
-use Rattle.aadl_tree.specs.Names.{Identifier, Identifiers}
+use Rattle.aadl_tree.specs.Names.{Identifier, Identifiers, same_name, identifiers, listed_in}
 use Rattle.aadl_tree.specs.Annexes.{StateDeclaration, Guard, dispatch, otherwise, when, Transition, AnnexTree}
 use Rattle.aadl_tree.specs.Actions.{Block}
 use Rattle.annex_resolve.specs.declared.scope.Scope.{Scope}
@@ -20,18 +20,11 @@ use Rattle.annex_resolve.specs.declared.ways.Way.{Way}
 use Rattle.annex_resolve.specs.declared.ways.Way.TheVariants.{Dispatch, Otherwise, Always, Guarded}
 use Rattle.annex_resolve.specs.declared.violation.Violation.{Violation}
 use Rattle.annex_resolve.specs.declared.violation.TheConstants.{NO_INITIAL, DISPATCH_COUNT, NO_OTHERWISE, CYCLE_WITHOUT_COMPLETE}
-use Rattle.annex_resolve.specs.Scopes.{same_name, found_if}
+use Rattle.annex_resolve.specs.Scopes.{found_if}
 use Rattle.annex_resolve.specs.Types.{whole_types}
 use Rattle.annex_resolve.specs.Resolved.{expression_of, block_of}
 use Rattle.annex_resolve.specs.Actions.{block_findings}
 use Rattle.annex_resolve.specs.CycleRules.{is_on_cycle}
-
-abbrev pub listed_in : {X : Type 0} → Option (List X) → List X
-listed_in None = []
-listed_in (Some xs) = xs
-
-abbrev pub identifiers : Identifiers ℕ → List (Identifier ℕ)
-identifiers x = x.first ∷ x.rest
 
 -- ---- states
 abbrev pub state_at : StateDeclaration ℕ → Identifier ℕ → StateAt

@@ -4,7 +4,7 @@ use Rattle.std.specs.Str.{str_eq_ignore_ascii_case}
 use Rattle.pals_base.specs.declared.behaviour.Kind.{Kind}
 use Rattle.pals_base.specs.declared.behaviour.Kind.TheVariants.{Integer}
 use Rattle.pals_base.specs.Tree as plain
-use Rattle.aadl_tree.specs.Names.{Identifier}
+use Rattle.aadl_tree.specs.Names.{Identifier, same_name}
 use Rattle.annex_resolve.specs.declared.scope.Meaning.{Meaning}
 use Rattle.annex_resolve.specs.declared.scope.Meaning.TheVariants.{InPort, OutPort, Variable, LoopVariable}
 use Rattle.annex_resolve.specs.declared.scope.Entry.{Entry}
@@ -19,9 +19,6 @@ abbrev pub found_if : Bool → ℕ → ℕ → List ℕ → List Violation
 found_if wrong at number details = if wrong then finding at number details ∷ [] else []
 
 -- ---- names, which are compared without regard to case
-abbrev pub same_name : List ℕ → List ℕ → Bool
-same_name a b = str_eq_ignore_ascii_case a b
-
 -- what is declared under a name; of two declarations the first counts
 abbrev pub entry_named : Scope → List ℕ → Option Entry
 entry_named scope name = find (λ e. same_name e.name name) scope.entries
@@ -60,10 +57,6 @@ read_by false m = value_of m
 abbrev pub read_of : Bool → Option Entry → Option plain.Expression
 read_of fresh None = None
 read_of fresh (Some e) = read_by fresh e.meaning
-
-abbrev pub has_some : {X : Type 0} → Option X → Bool
-has_some None = false
-has_some (Some x) = true
 
 -- what cannot be read is as good as 0
 abbrev pub or_zero : Option plain.Expression → plain.Expression

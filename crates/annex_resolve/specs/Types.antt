@@ -1,18 +1,18 @@
 -- The types of expressions, and what is wrong with them. None is a type that is neither Integer nor Boolean; it fits every place.
 use Rattle.std.specs.Prelude.{ℕ, Bool, true, false, not, ◌&&◌, List, [], ◌∷◌, ◌++◌, codes, Option, Some, None, if◌then◌else◌}
-use Rattle.std.specs.Option.{option_and_then}
+use Rattle.std.specs.Option.{option_and_then, is_some}
 use Rattle.pals_base.specs.declared.behaviour.Kind.{Kind}
 use Rattle.pals_base.specs.declared.behaviour.Kind.TheVariants.{Integer, Boolean}
 use Rattle.aadl_tree.specs.declared.expressions.RelationOperator.{RelationOperator}
 use Rattle.aadl_tree.specs.declared.expressions.RelationOperator.TheVariants as compare
-use Rattle.aadl_tree.specs.Names.{Identifier, Reference}
+use Rattle.aadl_tree.specs.Names.{Identifier, Reference, same_name}
 use Rattle.aadl_tree.specs.Expressions.{LeadingSign, Primary, number, truth, named, group, Factor, absolute, negated, bare, Term, term, Factors, no_factors, factor, Sum, total, Terms, no_terms, add, Relation, single, compared, Expression, expression, Relations, no_relations, join}
 use Rattle.aadl_tree.specs.Offsets.{primary_at, factor_at, term_at, sum_at, relation_at, expression_at}
 use Rattle.annex_resolve.specs.declared.scope.Scope.{Scope}
 use Rattle.annex_resolve.specs.declared.scope.Entry.{Entry}
 use Rattle.annex_resolve.specs.declared.violation.Violation.{Violation}
 use Rattle.annex_resolve.specs.declared.violation.TheConstants.{BAD_TYPE}
-use Rattle.annex_resolve.specs.Scopes.{same_name, found_if, entry_named, kind_of, read_of, has_some}
+use Rattle.annex_resolve.specs.Scopes.{found_if, entry_named, kind_of, read_of}
 
 -- ---- names of types
 abbrev pub is_base_types : List (Identifier ℕ) → Bool
@@ -20,7 +20,7 @@ is_base_types (x ∷ []) = same_name x.spelling (codes "Base_Types")
 is_base_types _ = false
 
 abbrev pub is_base_type : List ℕ → Reference ℕ → Bool
-is_base_type name x = is_base_types x.qualifiers && same_name x.type_name.spelling name && not (has_some x.implementation)
+is_base_type name x = is_base_types x.qualifiers && same_name x.type_name.spelling name && not (is_some x.implementation)
 
 -- `Base_Types::Integer` and `Base_Types::Boolean`
 abbrev pub kind_named : Reference ℕ → Option Kind
@@ -52,7 +52,7 @@ misfit at wanted given = found_if (not (fits given wanted)) at BAD_TYPE []
 
 -- what a name stands for in an expression has a value
 abbrev pub unread : Scope → Identifier ℕ → Bool → List Violation
-unread scope x fresh = found_if (not (has_some (read_of fresh (entry_named scope x.spelling)))) x.at BAD_TYPE []
+unread scope x fresh = found_if (not (is_some (read_of fresh (entry_named scope x.spelling)))) x.at BAD_TYPE []
 
 -- whether a port is fresh is a Boolean
 abbrev pub read_kind : Bool → Option Entry → Option Kind

@@ -1,11 +1,11 @@
 //! The states of an annex.
 ghost use Rattle.std.specs.Prelude.{◌≡◌, [], ◌∷◌, ◌++◌, IfOk, OnOk, length, filter, map, position};
+ghost use Rattle.aadl_tree.specs.Names.{same_name};
 ghost use Rattle.std.specs.List.{list_all};
 ghost use Rattle.aadl_tree.specs.Maps.{kept_place};
 ghost use Rattle.aadl_tree.specs.NameViews.{identifier_view};
 ghost use Rattle.aadl_tree.specs.Views.{state_view, annex_tree_view};
 ghost use Rattle.annex_resolve.specs.Behaviours.{state_at, states_in, states_of, state_number, first_initial, has_initial, declared};
-ghost use Rattle.annex_resolve.specs.Scopes.{same_name};
 
 use aadl_tree::{AnnexTree, Identifier, StateDeclaration};
 use pals_base::{Items, NoMemory, StateDecl, Text, TryClone};

@@ -1,10 +1,10 @@
 -- A name is compared with a text piece by piece.
 use Rattle.std.proofs.Common.{◌≡◌, ◌∙◌, ℕ, ◌<◌, Bool, true, false, ◌&&◌, List, [], ◌∷◌, ◌++◌, length, refl, sym, ap, map, arith}
+use Rattle.aadl_tree.specs.Names.{same_name}
 use Rattle.std.specs.Prelude.{nat_eq}
 use Rattle.std.specs.Char.{to_ascii_lowercase}
 use Rattle.std.specs.Str.{str_to_ascii_lowercase}
 use Rattle.std.proofs.lemmas.Slice.Eq.{bytes_eq-Decides}
-use Rattle.aadl_names.specs.Spelling.{same_name}
 
 none_more : (b : Bool) → (b && false) ≡ false
 none_more true = refl

@@ -1,5 +1,6 @@
 -- What is wrong with periods, rates and adaptors.
 use Rattle.std.specs.Prelude.{ℕ, ◌+◌, ◌*◌, ◌-◌, ◌/◌, drop, Bool, true, false, not, ◌&&◌, nat_eq, nat_le, nat_lt, List, [], ◌∷◌, ◌++◌, codes, Option, Some, None, if◌then◌else◌}
+use Rattle.std.specs.Option.{is_some}
 use Rattle.std.specs.List.{starts_with}
 use Rattle.std.specs.Str.{bytes_eq}
 use Rattle.std.specs.Fmt.{decimal}
@@ -11,7 +12,7 @@ use Rattle.pals_base.specs.declared.limits.TheConstants.{RATE}
 use Rattle.pals_base.specs.Bound.{least_period}
 use Rattle.pals_base.specs.Allowed.{divides_or_divided, is_allowed, suits_kind}
 use Rattle.annex_resolve.specs.declared.violation.Violation.{Violation}
-use Rattle.annex_resolve.specs.Scopes.{finding, found_if, has_some}
+use Rattle.annex_resolve.specs.Scopes.{finding, found_if}
 use Rattle.annex_resolve.specs.declared.violation.TheConstants.{NOT_DIVISOR, RATE_TOO_HIGH, RATES_DONT_DIVIDE, NO_ADAPTOR, STRAY_ADAPTOR, ADAPTOR_OUT_OF_RANGE, PERIOD_TOO_SHORT}
 use Rattle.component_checks.specs.Numbers.{divides}
 
@@ -72,7 +73,7 @@ adaptor_findings at name (Some adaptor) kind p q = found_if (not (is_right adapt
 
 abbrev pub pair_findings : ℕ → List ℕ → Option (Option Adaptor) → Option Kind → ℕ → ℕ → List Violation
 pair_findings at name given kind p q =
-    if nat_eq p q then found_if (has_some given) at STRAY_ADAPTOR name
+    if nat_eq p q then found_if (is_some given) at STRAY_ADAPTOR name
     else if divides_or_divided p q then adaptor_findings at name given kind p q
     else finding at RATES_DONT_DIVIDE (and_number (and_number name p) q) ∷ []
 

@@ -1,13 +1,13 @@
 -- What is wrong with the root: its period and the bounds, each missing, reversed or 0, and the period below the bound.
 use Rattle.std.specs.Prelude.{ℕ, Bool, false, not, nat_eq, nat_lt, List, [], ◌++◌, Option, Some, None}
-use Rattle.std.specs.Option.{option_and_then}
+use Rattle.std.specs.Option.{option_and_then, is_some}
 use Rattle.pals_base.specs.declared.values.Gamma.{Gamma}
 use Rattle.aadl_tree.specs.Values.{Association}
 use Rattle.aadl_tree.specs.Declarations.{Implementation, PackageTree}
 use Rattle.aadl_names.specs.declared.holder.Property.{Property}
 use Rattle.aadl_names.specs.declared.holder.Property.TheVariants.{Period, Skew, Execution, Network}
 use Rattle.aadl_names.specs.Resolving.{implementation_at}
-use Rattle.aadl_names.specs.Properties.{association_at, has_some}
+use Rattle.aadl_names.specs.Properties.{association_at}
 use Rattle.annex_resolve.specs.declared.violation.Violation.{Violation}
 use Rattle.annex_resolve.specs.Scopes.{found_if}
 use Rattle.component_checks.specs.Numbers.{within_hour, range_within, skew_of, range_of, gamma_by}
@@ -40,7 +40,7 @@ abbrev pub root_place : PackageTree ℕ → ℕ → ℕ
 root_place tree root = name_place (implementation_at tree root)
 
 abbrev pub missing : PackageTree ℕ → ℕ → ℕ → List ℕ → Property → List Violation
-missing tree root number details p = found_if (not (has_some (at_root tree root p))) (root_place tree root) number details
+missing tree root number details p = found_if (not (is_some (at_root tree root p))) (root_place tree root) number details
 
 abbrev pub missing_bound : PackageTree ℕ → ℕ → Property → List Violation
 missing_bound tree root p = missing tree root GAMMA_MISSING (shown p) p

@@ -1,7 +1,7 @@
 -- Names that are compared piece by piece.
 use Rattle.std.specs.Prelude.{ℕ, Bool, false, List, Option, Some, None}
+use Rattle.aadl_tree.specs.Names.{same_name}
 use denote.Ref.{Bor}
-use Rattle.aadl_names.specs.Spelling.{same_name}
 
 -- whether a name's further letters are what is left of a text
 abbrev pub goes_on : List ℕ → Option (Bor (List ℕ)) → Bool

@@ -1,11 +1,11 @@
 -- What is wrong with a component: its dispatch, and its period.
 use Rattle.std.specs.Prelude.{ℕ, max, Bool, false, not, List, ◌++◌, codes, fold, Option, Some, None}
 use Rattle.std.specs.Option.{option_and_then}
-use Rattle.aadl_tree.specs.Names.{Reference}
+use Rattle.aadl_tree.specs.Names.{Reference, same_name}
 use Rattle.aadl_tree.specs.Values.{Association}
 use Rattle.aadl_tree.specs.Declarations.{Subcomponent, PackageTree}
 use Rattle.aadl_names.specs.declared.holder.Property.TheVariants.{Period, Dispatch}
-use Rattle.aadl_names.specs.Spelling.{same_name, spelled_reference}
+use Rattle.aadl_names.specs.Spelling.{spelled_reference}
 use Rattle.aadl_names.specs.Properties.{association_value, reference_of}
 use Rattle.aadl_uses.specs.declared.thread_places.SubAt.{SubAt}
 use Rattle.aadl_uses.specs.declared.thread_places.ThreadAt.{ThreadAt}

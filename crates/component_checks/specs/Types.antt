@@ -1,9 +1,10 @@
 -- The types of ports, variables and first values.
 use Rattle.std.specs.Prelude.{ℕ, Bool, not, ◌||◌, List, [], ◌++◌, flat_map, codes, Option, Some, None, if◌then◌else◌}
+use Rattle.std.specs.Option.{is_some}
 use Rattle.std.specs.Str.{bytes_eq}
 use Rattle.pals_base.specs.declared.behaviour.Kind.{Kind}
 use Rattle.pals_base.specs.declared.behaviour.Kind.TheVariants.{Integer, Boolean}
-use Rattle.aadl_tree.specs.Names.{Identifier}
+use Rattle.aadl_tree.specs.Names.{Identifier, identifiers, listed_in}
 use Rattle.aadl_tree.specs.Values.{Association}
 use Rattle.aadl_tree.specs.Declarations.{Feature}
 use Rattle.aadl_tree.specs.Annexes.{VariableDeclaration, AnnexTree}
@@ -12,20 +13,19 @@ use Rattle.aadl_names.specs.PackageFaults.{goes_in}
 use Rattle.aadl_names.specs.Properties.{association_at, association_value, association_named, name_of, only_text}
 use Rattle.annex_resolve.specs.declared.violation.Violation.{Violation}
 use Rattle.annex_resolve.specs.declared.violation.TheConstants.{BAD_TYPE}
-use Rattle.annex_resolve.specs.Scopes.{found_if, has_some}
+use Rattle.annex_resolve.specs.Scopes.{found_if}
 use Rattle.annex_resolve.specs.Types.{kind_named, kind_in, misfit}
-use Rattle.annex_resolve.specs.Behaviours.{listed_in, identifiers}
 
 abbrev pub is_in : Feature ℕ → Bool
 is_in f = goes_in (Some f.direction)
 
 -- ---- a port's type is Integer or Boolean
 abbrev pub port_findings : Feature ℕ → List Violation
-port_findings p = found_if (not (has_some (kind_in p.data_type))) p.name.at BAD_TYPE []
+port_findings p = found_if (not (is_some (kind_in p.data_type))) p.name.at BAD_TYPE []
 
 -- ---- and so is a variable's; its first value is of that type
 abbrev pub name_findings : Option Kind → Identifier ℕ → List Violation
-name_findings kind x = found_if (not (has_some kind)) x.at BAD_TYPE []
+name_findings kind x = found_if (not (is_some kind)) x.at BAD_TYPE []
 
 abbrev pub is_truth : List ℕ → Bool
 is_truth text = bytes_eq text (codes "true") || bytes_eq text (codes "false")

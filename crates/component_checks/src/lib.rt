@@ -6,13 +6,13 @@
 pub mod adaptors;
 pub mod carried;
 pub mod carried_lists;
-pub mod property_lookup;
 pub mod numbers;
 pub mod properties;
+pub mod property_lookup;
+pub mod quotes;
 pub mod rates;
 pub mod roots;
 pub mod spellings;
-pub mod quotes;
 pub mod threads;
 pub mod timed;
 pub mod timed_lists;

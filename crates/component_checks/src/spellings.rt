@@ -1,8 +1,9 @@
 //! Names of properties, compared piece by piece.
 ghost use Rattle.std.specs.Prelude.{◌≡◌, ◌++◌, ℕ, List, codes, string_bytes};
+ghost use Rattle.aadl_tree.specs.Names.{same_name};
 ghost use Rattle.aadl_tree.specs.Maps.{kept_place};
 ghost use Rattle.aadl_tree.specs.NameViews.{name_view};
-ghost use Rattle.aadl_names.specs.Spelling.{same_name, spelled_name};
+ghost use Rattle.aadl_names.specs.Spelling.{spelled_name};
 ghost use Rattle.component_checks.specs.Spellings.{goes_on};
 
 use aadl_tree::{Identifier, Name};

@@ -6,8 +6,8 @@ ghost use Rattle.aadl_tree.specs.Views.{subcomponent_view};
 ghost use Rattle.annex_resolve.specs.Scopes.{found_if};
 ghost use Rattle.component_checks.specs.Threads as spec;
 
-use crate::property_lookup::innermost;
 use crate::properties::Properties;
+use crate::property_lookup::innermost;
 use crate::{add_period_findings, rate_of};
 use aadl_tree::PackageTree;
 use aadl_uses::{SubAt, ThreadAt};

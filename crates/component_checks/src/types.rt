@@ -1,5 +1,6 @@
 //! The types of ports, variables and first values.
 ghost use Rattle.std.specs.Prelude.{◌≡◌, ◌++◌, OnOk, flat_map, map, option_map, option_copied};
+ghost use Rattle.aadl_tree.specs.Names.{identifiers};
 ghost use Rattle.aadl_tree.specs.Maps.{kept_place};
 ghost use Rattle.aadl_tree.specs.NameViews.{identifier_view, identifiers_view, reference_view};
 ghost use Rattle.aadl_tree.specs.ValueViews.{value_view, values_view, association_view};
@@ -7,7 +8,6 @@ ghost use Rattle.aadl_tree.specs.Values.{list};
 ghost use Rattle.aadl_tree.specs.Views.{feature_view, variable_view, annex_tree_view};
 ghost use Rattle.aadl_names.specs.Properties.{only_text, text_of};
 ghost use Rattle.annex_resolve.specs.Types.{kind_in};
-ghost use Rattle.annex_resolve.specs.Behaviours.{identifiers};
 ghost use Rattle.component_checks.specs.Types as spec;
 
 use crate::property_lookup::property_in;

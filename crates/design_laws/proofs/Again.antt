@@ -4,7 +4,7 @@ use Rattle.std.specs.Prelude.{flat_map, slice_get}
 use Rattle.std.specs.List.{filter_map}
 use Rattle.std.proofs.lemmas.Option.{same_Some}
 use Rattle.std.proofs.lemmas.List.Elements.{Contains-append_left, Contains-append_right}
-use Rattle.aadl_tree.specs.Names.{Identifier}
+use Rattle.aadl_tree.specs.Names.{Identifier, identifiers, listed_in}
 use Rattle.aadl_tree.specs.Annexes.{VariableDeclaration, StateDeclaration, AnnexTree}
 use Rattle.aadl_tree.specs.Declarations.{Feature, Subcomponent, Connection, TypeDeclaration, Implementation, Declaration, type, implementation}
 use Rattle.aadl_tree.specs.Declarations.{PackageTree}
@@ -12,7 +12,7 @@ use Rattle.aadl_names.specs.declared.fault.FlatFault.{FlatFault}
 use Rattle.aadl_names.specs.declared.fault.FlatFault.TheVariants.{Twice}
 use Rattle.aadl_names.specs.declared.entry.Entry.{Entry}
 use Rattle.aadl_names.specs.Spelling.{entry_of, spelled_implementation}
-use Rattle.aadl_names.specs.Behaviours.{behaviours, identifiers, listed_in, variables_of, states_of}
+use Rattle.aadl_names.specs.Behaviours.{behaviours, variables_of, states_of}
 use Rattle.aadl_names.specs.Resolving.{is_thread, type_in, type_numbered, type_number, features_of, ports_of}
 use Rattle.aadl_names.specs.Spaces.{port_entries, variable_entries, state_entries, twice_in_behaviour, twice_in_first, member_entries}
 use Rattle.aadl_names.specs.Spaces.{twice_in, type_entry, implementation_entry, twice_names}

@@ -1,14 +1,14 @@
 -- Adaptors on which nothing is found are allowed.
 use Rattle.std.proofs.Common.{◌≡◌, ℕ, nat_eq, Bool, true, false, cond, ◌||◌, List, [], ◌∷◌, Option, Some, None, refl, ap, subst, arith}
 use Rattle.std.specs.Prelude.{option_map}
-use Rattle.std.specs.Option.{option_and_then}
+use Rattle.std.specs.Option.{option_and_then, is_some}
 use Rattle.std.proofs.Math.Nat.{mod_self}
 use Rattle.std.proofs.lemmas.Bool.{false≢true}
 use Rattle.std.proofs.lemmas.Bool.Decides.{nat_tests}
 use Rattle.pals_base.specs.declared.behaviour.Kind.{Kind}
 use Rattle.pals_base.specs.declared.values.Adaptor.{Adaptor}
 use Rattle.pals_base.specs.Allowed.{divides_or_divided, is_allowed}
-use Rattle.annex_resolve.specs.Scopes.{finding, found_if, has_some}
+use Rattle.annex_resolve.specs.Scopes.{finding, found_if}
 use Rattle.annex_resolve.specs.declared.violation.TheConstants.{RATES_DONT_DIVIDE, STRAY_ADAPTOR, ADAPTOR_OUT_OF_RANGE}
 use Rattle.component_checks.specs.Rates.{and_number, adaptor_named, kind_suits, is_right, adaptor_findings, pair_findings}
 use Rattle.design_laws.proofs.Tests.{parts}
@@ -42,7 +42,7 @@ right_fits (Some a) kind p q h = parts (is_allowed (Some a) p q) (kind_suits (So
 -- ---- all cases
 fits_by : (at : ℕ) (name : List ℕ) (text : Option (List ℕ)) (kind : Option Kind) (p q : ℕ) (same one : Bool) → nat_eq p q ≡ same
     → divides_or_divided p q ≡ one
-    → cond same (found_if (has_some (option_map adaptor_named text)) at STRAY_ADAPTOR name)
+    → cond same (found_if (is_some (option_map adaptor_named text)) at STRAY_ADAPTOR name)
     (cond one (adaptor_findings at name (option_map adaptor_named text) kind p q)
     (finding at RATES_DONT_DIVIDE (and_number (and_number name p) q) ∷ [])) ≡ []
     → Fits text kind p q

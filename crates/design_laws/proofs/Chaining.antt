@@ -1,23 +1,21 @@
 -- The types of ports along a chain of connections on which nothing is found.
 use Rattle.std.proofs.Common.{◌≡◌, ◌∙◌, ℕ, ◌+◌, Bool, true, List, [], ◌∷◌, ◌++◌, Option, Some, None, refl, sym, ap, subst, arith}
 use Rattle.std.specs.Prelude.{slice_get, option_map}
-use Rattle.std.specs.Option.{option_and_then}
+use Rattle.std.specs.Option.{option_and_then, is_some}
 use Rattle.std.proofs.lemmas.Bool.{false≢true}
 use Rattle.std.proofs.lemmas.Option.{same_Some, option_and_then_some}
 use Rattle.pals_base.specs.declared.behaviour.Kind.{Kind}
 use Rattle.pals_base.specs.declared.behaviour.Kind.TheVariants.{Integer, Boolean}
-use Rattle.aadl_tree.specs.Names.{Identifier}
+use Rattle.aadl_tree.specs.Names.{Identifier, same_name}
 use Rattle.aadl_tree.specs.Declarations.{Feature, Subcomponent, ConnectionEnd, Implementation, PackageTree}
 use Rattle.aadl_names.specs.declared.site.Site.{Site}
 use Rattle.aadl_names.specs.declared.site.Site.TheVariants.{Own, Inner}
 use Rattle.aadl_names.specs.Resolving.{implementation_at, subcomponents_of, referred, target_of, ports_of, ports_at, port_named, sub_named}
 use Rattle.aadl_names.specs.Resolving.{inner_ports, inner_site, site_by, site}
-use Rattle.aadl_names.specs.Spelling.{same_name}
 use Rattle.aadl_uses.specs.Uses.{sub_at, below, standing, component_at}
 use Rattle.aadl_chains.specs.Chains.{Port, Place, port_at, Goes, Leads, port_of}
 use Rattle.aadl_instance.specs.Flat.{Parts, IsFlat}
 use Rattle.annex_resolve.specs.declared.violation.TheConstants.{BAD_TYPE}
-use Rattle.annex_resolve.specs.Scopes.{has_some}
 use Rattle.annex_resolve.specs.Types.{kind_in, same_kind, fits}
 use Rattle.design_laws.proofs.Tests.{none_at, is_right}
 use Rattle.component_checks.specs.Types.{port_findings}
@@ -113,7 +111,7 @@ same_kinds None b k l first second e = absurd (cc first)
 same_kinds (Some a) None k l first second e = absurd (cc second)
 same_kinds (Some a) (Some b) k l first second e = ap Some (same_by a b e)
 
-some_kind : (o : Option Kind) → has_some o ≡ true → (k : Kind) × (o ≡ Some k)
+some_kind : (o : Option Kind) → is_some o ≡ true → (k : Kind) × (o ≡ Some k)
 some_kind None is = absurd (false≢true is)
 some_kind (Some k) is = (k, refl)
 
@@ -127,7 +125,7 @@ module _ {tree : PackageTree ℕ} {name : List ℕ} {parts : Parts} (flat : IsFl
       let at = stands_at tree parts.root path x stands in
       let clean = ports_clean flat used is_use none at.number x (is_used tree parts.root used is_use path at.number at.stands)
       (declared_at tree at.number x at.is) in
-      some_kind (kind_in f.data_type) (is_right (has_some (kind_in f.data_type)) f.name.at BAD_TYPE []
+      some_kind (kind_in f.data_type) (is_right (is_some (kind_in f.data_type)) f.name.at BAD_TYPE []
       (none_here port_findings (ports_of tree x) p f clean is))
 
   -- each port of the design has a type

@@ -1,5 +1,6 @@
 -- The components of an instance in which nothing is found.
 use Rattle.std.proofs.Common.{◌≡◌, ◌≢◌, ◌∙◌, inl, inr, ℕ, ◌≤◌, max, Bool, List, [], ◌∷◌, map, length, fold, codes, Option, Some, None}
+use Rattle.aadl_tree.specs.Names.{identifiers, listed_in}
 use Rattle.std.proofs.Common.{AllPairs, refl, sym, ap, subst, arith, length-append}
 use Rattle.std.specs.Prelude.{flat_map, slice_get, All, IsTrue}
 use Rattle.std.specs.List.{AllByRecursion}
@@ -24,7 +25,7 @@ use Rattle.aadl_uses.specs.ThreadPlaces.{spelled_path, thread_at}
 use Rattle.aadl_instance.specs.Parts.{count_in, variable_count, state_count}
 use Rattle.aadl_instance.specs.Flat.{Parts, IsFlat}
 use Rattle.annex_resolve.specs.Types.{kind_named}
-use Rattle.annex_resolve.specs.Behaviours.{listed_in, state_at, states_in, states_of, declared, behaviour_of}
+use Rattle.annex_resolve.specs.Behaviours.{state_at, states_in, states_of, declared, behaviour_of}
 use Rattle.component_checks.specs.Roots.{root_findings}
 use Rattle.component_checks.specs.Threads.{thread_rate, thread_findings, raised, greatest_rate}
 use Rattle.model_violations.specs.Values.{ins_in, outs_in, first_of, variable_of, variables_in, variables_of, named_of, var_of, values_of, scope_of}
@@ -45,32 +46,32 @@ use Rattle.design_laws.proofs.Matching.{Zipped, Made, all_made, zipped_length, a
 
 -- ---- how much a behaviour has
 variables_by : (vs : List (VariableDeclaration ℕ)) → length (flat_map variables_in vs) ≡ length
-    (flat_map (λ (v : VariableDeclaration ℕ). names.identifiers v.names) vs)
+    (flat_map (λ (v : VariableDeclaration ℕ). identifiers v.names) vs)
 variables_by [] = refl
 variables_by (v ∷ vs) =
     let a = length-append (variables_in v) (flat_map variables_in vs) in
-    let b = length-append (names.identifiers v.names) (flat_map (λ (w : VariableDeclaration ℕ). names.identifiers w.names) vs) in
-    let c = length-map (names.identifiers v.names) (variable_of (kind_named v.data_type) (first_of v)) in
+    let b = length-append (identifiers v.names) (flat_map (λ (w : VariableDeclaration ℕ). identifiers w.names) vs) in
+    let c = length-map (identifiers v.names) (variable_of (kind_named v.data_type) (first_of v)) in
     let d = variables_by vs in
     omega (arith, a, b, c, d)
 
 states_by : (ss : List (StateDeclaration ℕ)) → length (flat_map states_in ss) ≡ length
-    (flat_map (λ (s : StateDeclaration ℕ). names.identifiers s.names) ss)
+    (flat_map (λ (s : StateDeclaration ℕ). identifiers s.names) ss)
 states_by [] = refl
 states_by (s ∷ ss) =
     let a = length-append (states_in s) (flat_map states_in ss) in
-    let b = length-append (names.identifiers s.names) (flat_map (λ (t : StateDeclaration ℕ). names.identifiers t.names) ss) in
-    let c = length-map (names.identifiers s.names) (state_at s) in
+    let b = length-append (identifiers s.names) (flat_map (λ (t : StateDeclaration ℕ). identifiers t.names) ss) in
+    let c = length-map (identifiers s.names) (state_at s) in
     let d = states_by ss in
     omega (arith, a, b, c, d)
 
 variables_counted : (o : Option (List (VariableDeclaration ℕ))) → length (flat_map variables_in (listed_in o)) ≡ length
-    (flat_map (λ (v : VariableDeclaration ℕ). names.identifiers v.names) (names.listed_in o))
+    (flat_map (λ (v : VariableDeclaration ℕ). identifiers v.names) (listed_in o))
 variables_counted None = refl
 variables_counted (Some vs) = variables_by vs
 
 states_counted : (o : Option (List (StateDeclaration ℕ))) → length (flat_map states_in (listed_in o)) ≡ length
-    (flat_map (λ (s : StateDeclaration ℕ). names.identifiers s.names) (names.listed_in o))
+    (flat_map (λ (s : StateDeclaration ℕ). identifiers s.names) (listed_in o))
 states_counted None = refl
 states_counted (Some ss) = states_by ss
 

@@ -5,7 +5,7 @@ use Rattle.std.proofs.lemmas.Option.{same_Some}
 use Rattle.aadl_tree.specs.declared.mark.Mark.TheVariants as k
 use Rattle.aadl_tree.specs.Kinds.{mark}
 use Rattle.aadl_tree.specs.Parts.{Part, token, plain, parts_if, feature_section, subcomponent_section, connection_section, property_section}
-use Rattle.aadl_tree.specs.Names.{Identifier, identifier_parts, identifiers_parts, name_parts}
+use Rattle.aadl_tree.specs.Names.{Identifier, identifier_parts, identifiers_parts, name_parts, identifiers, listed_in}
 use Rattle.aadl_tree.specs.Values.{associations_parts}
 use Rattle.aadl_tree.specs.Annexes.{VariableDeclaration, StateDeclaration, AnnexTree, AnnexContent, foreign, behaviour, Annex}
 use Rattle.aadl_tree.specs.Annexes.{variable_parts, state_parts, declared_parts, annex_tree_parts, content_parts, annex_parts}
@@ -13,7 +13,7 @@ use Rattle.aadl_tree.specs.Declarations.{Feature, Subcomponent, Connection, Type
 use Rattle.aadl_tree.specs.Declarations.{category_mark, section_parts, feature_parts, subcomponent_parts, connection_parts, ending_parts}
 use Rattle.aadl_tree.specs.Declarations.{type_parts, implementation_name_parts, implementation_parts, declaration_parts, with_parts}
 use Rattle.aadl_tree.specs.Declarations.{package_parts}
-use Rattle.aadl_names.specs.Behaviours.{behaviours, identifiers, variables_of, states_of, listed_in}
+use Rattle.aadl_names.specs.Behaviours.{behaviours, variables_of, states_of}
 use Rattle.design_laws.proofs.Placed.{Rise, rise_front, rise_back, rise_tail, rise_section, Placed, placed_front, placed_back, placed_tail}
 use Rattle.design_laws.proofs.Placed.{placed_section, placed_append, placed_flat, placed_identifier, placed_identifiers, listed}
 use Rattle.design_laws.proofs.Placed.{placed_declared}

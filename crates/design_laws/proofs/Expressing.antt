@@ -1,5 +1,6 @@
 -- Where no type is wrong, the resolved expression is well typed.
 use Rattle.std.proofs.Common.{◌≡◌, ℕ, ◌+◌, Bool, true, false, nat_lt, ◌||◌, cond, [], ◌++◌, length, Option, Some, None, refl, sym, subst}
+use Rattle.std.specs.Option.{is_some}
 use Rattle.std.proofs.lemmas.Bool.{false≢true, lt-ltb}
 use Rattle.std.proofs.lemmas.Option.{slice_get_within, slice_get_past}
 use Rattle.pals_base.specs.declared.behaviour.Kind.{Kind}
@@ -23,7 +24,7 @@ use Rattle.annex_resolve.specs.declared.scope.Entry.{Entry}
 use Rattle.annex_resolve.specs.declared.scope.Meaning.{Meaning}
 use Rattle.annex_resolve.specs.declared.scope.Meaning.TheVariants.{InPort, OutPort, Variable, LoopVariable}
 use Rattle.annex_resolve.specs.declared.violation.TheConstants.{BAD_TYPE}
-use Rattle.annex_resolve.specs.Scopes.{entry_named, read_of, value_of, freshness_of, has_some, or_zero}
+use Rattle.annex_resolve.specs.Scopes.{entry_named, read_of, value_of, freshness_of, or_zero}
 use Rattle.annex_resolve.specs.Types.{fits, misfit, is_equality, read_kind, primary_kind, factor_kind, term_kind, total_kind, relation_kind, expression_kind, primary_types, factor_types, term_types, factors_types, sum_types, terms_types, relation_types, expression_types, relations_types}
 use Rattle.annex_resolve.specs.Resolved.{multiply_op, sign_op, relation_op, logic_op, negated_by, truth_of, primary_of, factor_of, term_of, factors_of, sum_of, terms_of, relation_of, expression_of, relations_of}
 use Rattle.design_laws.specs.Ready.{FitsMeaning, FitsScope}
@@ -99,20 +100,20 @@ only_allows : (k : Kind) → allows (only k) k ≡ true
 only_allows Integer = refl
 only_allows Boolean = refl
 
-value_sound : (b : BehaviourParts) (loops : ℕ) (m : Meaning) (kind : Option Kind) → FitsMeaning b loops m kind → has_some (value_of m) ≡ true → Has b loops kind (or_zero (value_of m))
+value_sound : (b : BehaviourParts) (loops : ℕ) (m : Meaning) (kind : Option Kind) → FitsMeaning b loops m kind → is_some (value_of m) ≡ true → Has b loops kind (or_zero (value_of m))
 value_sound b loops (InPort n) kind (p, is, k) h = (p.kind, k, subst (λ o. allows (port_kinds o) p.kind ≡ true) (sym is) (only_allows p.kind))
 value_sound b loops (OutPort n) kind fit h = absurd (false≢true h)
 value_sound b loops (Variable n) kind (v, is, k) h = (v.kind, k, subst (λ o. allows (declared_or o (nat_lt n (length b.vars + loops))) v.kind ≡ true) (sym is) (only_allows v.kind))
 value_sound b loops (LoopVariable n) kind (past, within, k) h =
     (Integer, k, subst (λ o. allows (declared_or o (nat_lt n (length b.vars + loops))) Integer ≡ true) (sym (slice_get_past b.vars n past)) (lt-ltb n (length b.vars + loops) within))
 
-fresh_sound : (b : BehaviourParts) (loops : ℕ) (m : Meaning) (kind : Option Kind) → FitsMeaning b loops m kind → has_some (freshness_of m) ≡ true → (kinds_of (or_zero (freshness_of m)) b loops).boolean ≡ true
+fresh_sound : (b : BehaviourParts) (loops : ℕ) (m : Meaning) (kind : Option Kind) → FitsMeaning b loops m kind → is_some (freshness_of m) ≡ true → (kinds_of (or_zero (freshness_of m)) b loops).boolean ≡ true
 fresh_sound b loops (InPort n) kind (p, is, k) h = lt-ltb n (length b.ins) (slice_get_within b.ins n p is)
 fresh_sound b loops (OutPort n) kind fit h = absurd (false≢true h)
 fresh_sound b loops (Variable n) kind fit h = absurd (false≢true h)
 fresh_sound b loops (LoopVariable n) kind fit h = absurd (false≢true h)
 
-read_sound : (b : BehaviourParts) (loops : ℕ) (fresh : Bool) (o : Option Entry) → ((e : Entry) → o ≡ Some e → FitsMeaning b loops e.meaning e.kind) → has_some (read_of fresh o) ≡ true
+read_sound : (b : BehaviourParts) (loops : ℕ) (fresh : Bool) (o : Option Entry) → ((e : Entry) → o ≡ Some e → FitsMeaning b loops e.meaning e.kind) → is_some (read_of fresh o) ≡ true
     → Has b loops (read_kind fresh o) (or_zero (read_of fresh o))
 read_sound b loops fresh None fit h = absurd (false≢true h)
 read_sound b loops true (Some e) fit h = (Boolean, refl, fresh_sound b loops e.meaning e.kind (fit e refl) h)
@@ -130,7 +131,7 @@ module _ (b : BehaviourParts) (loops : ℕ) (scope : Scope) (fit : FitsScope b l
     primary_sound (number at n) e = (Integer, refl, refl)
     primary_sound (truth at v) e = truth_has v
     primary_sound (named x fresh) e =
-        read_sound b loops fresh (entry_named scope x.spelling) (λ (k : Entry) is. fit.entries x.spelling k is) (is_right (has_some (read_of fresh (entry_named scope x.spelling))) x.at BAD_TYPE [] e)
+        read_sound b loops fresh (entry_named scope x.spelling) (λ (k : Entry) is. fit.entries x.spelling k is) (is_right (is_some (read_of fresh (entry_named scope x.spelling))) x.at BAD_TYPE [] e)
     primary_sound (group at x) e = expression_sound x e
 
     pub factor_sound : (x : Factor ℕ) → factor_types scope x ≡ [] → Has b loops (factor_kind scope x) (factor_of scope x)

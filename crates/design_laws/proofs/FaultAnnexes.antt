@@ -6,7 +6,7 @@ use Rattle.aadl_tree.specs.declared.mark.Mark.{Mark}
 use Rattle.aadl_tree.specs.declared.mark.Mark.TheVariants as k
 use Rattle.aadl_tree.specs.Kinds.{mark}
 use Rattle.aadl_tree.specs.Parts.{Part, token, plain, parts_if, behind}
-use Rattle.aadl_tree.specs.Names.{Identifier, Identifiers, identifier_parts, identifiers_parts, reference_parts}
+use Rattle.aadl_tree.specs.Names.{Identifier, Identifiers, identifier_parts, identifiers_parts, reference_parts, listed_in}
 use Rattle.aadl_tree.specs.Values.{Association, association, Associations, no_associations, associate}
 use Rattle.aadl_tree.specs.Values.{association_parts, associations_parts, properties_parts}
 use Rattle.aadl_tree.specs.Actions.{Block}
@@ -18,7 +18,7 @@ use Rattle.aadl_tree.specs.Declarations.{Implementation, PackageTree}
 use Rattle.aadl_names.specs.declared.fault.FlatFault.{FlatFault}
 use Rattle.aadl_names.specs.declared.fault.FlatFault.TheVariants.{Unknown, Twice}
 use Rattle.aadl_names.specs.Spelling.{spelled_name}
-use Rattle.aadl_names.specs.Behaviours.{listed_in, states_of}
+use Rattle.aadl_names.specs.Behaviours.{states_of}
 use Rattle.aadl_names.specs.AnnexNames.{Known}
 use Rattle.aadl_names.specs.PackageFaults.{is_among, known_in, state_uses, guard_uses, effect_uses, transition_uses, behaviour_faults}
 use Rattle.aadl_names.proofs.Elements.{is_here}

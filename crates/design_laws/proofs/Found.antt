@@ -6,7 +6,7 @@ use Rattle.std.proofs.lemmas.Option.{same_Some}
 use Rattle.std.proofs.lemmas.List.Elements.{Contains-append_left, Contains-append_right}
 use Rattle.aadl_tree.specs.declared.declarations.Category.{Category}
 use Rattle.aadl_tree.specs.declared.declarations.Direction.{Direction}
-use Rattle.aadl_tree.specs.Names.{Identifier}
+use Rattle.aadl_tree.specs.Names.{Identifier, listed_in}
 use Rattle.aadl_tree.specs.Values.{Associations}
 use Rattle.aadl_tree.specs.Annexes.{VariableDeclaration, AnnexTree, AnnexContent, foreign, behaviour, Annex}
 use Rattle.aadl_tree.specs.Declarations.{Feature, Subcomponent, ConnectionEnd, Connection, TypeDeclaration, Implementation, Declaration, type}
@@ -16,7 +16,7 @@ use Rattle.aadl_names.specs.declared.fault.FlatFault.TheVariants.{Twice}
 use Rattle.aadl_names.specs.declared.holder.Holder.{Holder}
 use Rattle.aadl_names.specs.declared.holder.Holder.TheVariants as holders
 use Rattle.aadl_names.specs.declared.site.Site.{Site}
-use Rattle.aadl_names.specs.Behaviours.{behaviour_in, behaviours, listed_in}
+use Rattle.aadl_names.specs.Behaviours.{behaviour_in, behaviours}
 use Rattle.aadl_names.specs.Resolving.{target_of, is_thread}
 use Rattle.aadl_names.specs.Properties.{listed, association_name, association_at, counts, counted, misshapen, association_entry, shape_fault}
 use Rattle.aadl_names.specs.Properties.{property_entries, list_faults}

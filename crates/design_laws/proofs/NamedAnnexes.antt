@@ -1,6 +1,6 @@
 -- What a behaviour does with names.
 use Rattle.std.proofs.Common.{ℕ, Bool, List, Option, Some, None}
-use Rattle.aadl_tree.specs.Names.{Identifier}
+use Rattle.aadl_tree.specs.Names.{Identifier, listed_in}
 use Rattle.aadl_tree.specs.Expressions as e
 use Rattle.aadl_tree.specs.Actions as a
 use Rattle.aadl_tree.specs.Annexes as x
@@ -9,7 +9,7 @@ use Rattle.aadl_names.specs.declared.role.Role.{Role}
 use Rattle.aadl_names.specs.declared.role.Usage.{Usage}
 use Rattle.aadl_names.specs.declared.role.Usage.TheVariants.{Set, Send}
 use Rattle.aadl_names.specs.AnnexNames as u
-use Rattle.aadl_names.specs.Behaviours.{listed_in, states_of}
+use Rattle.aadl_names.specs.Behaviours.{states_of}
 use Rattle.aadl_names.specs.PackageFaults as p
 use Rattle.design_laws.proofs.NamedLists.{AreNamed, none, both, each, either, kind, unknown, second}
 

@@ -10,15 +10,15 @@ use Rattle.pals_base.specs.declared.behaviour.VarDecl.{VarDecl}
 use Rattle.pals_base.specs.declared.behaviour.StateDecl.{StateDecl}
 use Rattle.pals_base.specs.Names.{is_word, AreDistinct}
 use Rattle.pals_base.specs.Rules.{has_word}
-use Rattle.aadl_tree.specs.Names.{Identifier}
+use Rattle.aadl_tree.specs.Names.{Identifier, same_name, identifiers, listed_in}
 use Rattle.aadl_tree.specs.Annexes.{VariableDeclaration, StateDeclaration, AnnexTree}
 use Rattle.aadl_tree.specs.Declarations.{Feature}
 use Rattle.aadl_names.specs.declared.entry.Entry.{Entry}
-use Rattle.aadl_names.specs.Spelling.{entry_of, same_name}
+use Rattle.aadl_names.specs.Spelling.{entry_of}
 use Rattle.aadl_names.specs.Spaces.{port_entries, variable_entries, state_entries}
 use Rattle.aadl_names.specs.Behaviours as names
 use Rattle.annex_resolve.specs.declared.states.StateAt.{StateAt}
-use Rattle.annex_resolve.specs.Behaviours.{identifiers, listed_in, state_at, states_in, states_of, declared}
+use Rattle.annex_resolve.specs.Behaviours.{state_at, states_in, states_of, declared}
 use Rattle.component_checks.specs.Types.{is_in}
 use Rattle.model_violations.specs.declared.declared.Declared.{Declared}
 use Rattle.model_violations.specs.Values.{port_of, ins_in, outs_in, variables_in, variables_of, named_of, var_of}
@@ -62,7 +62,7 @@ some_named v (i ∷ is) of each = ap (λ n. n ∷ map (λ (d : VarDecl). d.name)
 
 vars_named : (vs : List (VariableDeclaration ℕ))
     → map (λ (d : VarDecl). d.name) (map var_of (flat_map variables_in vs)) ≡ map spelling
-    (flat_map (λ (v : VariableDeclaration ℕ). names.identifiers v.names) vs)
+    (flat_map (λ (v : VariableDeclaration ℕ). identifiers v.names) vs)
 vars_named [] = refl
 vars_named (v ∷ vs) =
     let here = identifiers v.names in
@@ -71,11 +71,11 @@ vars_named (v ∷ vs) =
     ∙ (map-append (λ (d : VarDecl). d.name) (map var_of (variables_in v)) (map var_of rest)
     ∙ (ap (λ l. l ++ map (λ (d : VarDecl). d.name) (map var_of rest)) (some_named v here _ (λ i. refl))
     ∙ (ap (λ l. map spelling here ++ l) (vars_named vs)
-    ∙ sym (map-append spelling here (flat_map (λ (w : VariableDeclaration ℕ). names.identifiers w.names) vs)))))
+    ∙ sym (map-append spelling here (flat_map (λ (w : VariableDeclaration ℕ). identifiers w.names) vs)))))
 
 same_variables : (o : Option (List (VariableDeclaration ℕ)))
     → map (λ (d : VarDecl). d.name) (map var_of (flat_map variables_in (listed_in o))) ≡ map spelling
-    (flat_map (λ (v : VariableDeclaration ℕ). names.identifiers v.names) (names.listed_in o))
+    (flat_map (λ (v : VariableDeclaration ℕ). identifiers v.names) (listed_in o))
 same_variables None = refl
 same_variables (Some vs) = vars_named vs
 
@@ -84,17 +84,17 @@ some_states s [] = refl
 some_states s (i ∷ is) = ap (λ l. i.spelling ∷ l) (some_states s is)
 
 states_named : (ss : List (StateDeclaration ℕ)) → map (λ (d : StateAt). d.name) (flat_map states_in ss) ≡ map spelling
-    (flat_map (λ (s : StateDeclaration ℕ). names.identifiers s.names) ss)
+    (flat_map (λ (s : StateDeclaration ℕ). identifiers s.names) ss)
 states_named [] = refl
 states_named (s ∷ ss) =
     map-append (λ (d : StateAt). d.name) (states_in s) (flat_map states_in ss)
     ∙ (ap (λ l. l ++ map (λ (d : StateAt). d.name) (flat_map states_in ss)) (some_states s (identifiers s.names))
     ∙ (ap (λ l. map spelling (identifiers s.names) ++ l) (states_named ss)
-    ∙ sym (map-append spelling (identifiers s.names) (flat_map (λ (t : StateDeclaration ℕ). names.identifiers t.names) ss))))
+    ∙ sym (map-append spelling (identifiers s.names) (flat_map (λ (t : StateDeclaration ℕ). identifiers t.names) ss))))
 
 pub same_states : (o : Option (List (StateDeclaration ℕ)))
     → map (λ (d : StateAt). d.name) (flat_map states_in (listed_in o)) ≡ map spelling
-    (flat_map (λ (s : StateDeclaration ℕ). names.identifiers s.names) (names.listed_in o))
+    (flat_map (λ (s : StateDeclaration ℕ). identifiers s.names) (listed_in o))
 same_states None = refl
 same_states (Some ss) = states_named ss
 

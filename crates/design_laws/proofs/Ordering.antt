@@ -1,5 +1,6 @@
 -- Links and feeds stand in the order of their targets; feeds of one name have one type, and taps have different names.
 use Rattle.std.proofs.Common.{◌≡◌, ◌≢◌, ◌∙◌, inl, inr, ◌⊎◌, ℕ, ◌+◌, ◌*◌, ◌<◌, nat_lt, Bool, true, false, ◌&&◌, ◌||◌, List, [], ◌++◌}
+use Rattle.aadl_tree.specs.Names.{same_name}
 use Rattle.std.proofs.Common.{reverse, Some, refl, sym, ap, subst, arith}
 use Rattle.std.specs.Prelude.{slice_get}
 use Rattle.std.proofs.lemmas.Bool.{false≢true, cases_order}
@@ -9,7 +10,7 @@ use Rattle.pals_base.specs.declared.limits.TheConstants.{PORTS}
 use Rattle.pals_model.specs.declared.design.DesignParts.{DesignParts}
 use Rattle.pals_model.specs.Rules as model
 use Rattle.aadl_tree.specs.Declarations.{Feature, Implementation, PackageTree}
-use Rattle.aadl_names.specs.Spelling.{entry_of, same_name}
+use Rattle.aadl_names.specs.Spelling.{entry_of}
 use Rattle.aadl_names.specs.Resolving.{implementation_at, ports_at, ports_of}
 use Rattle.aadl_names.specs.Spaces.{port_entries, member_entries}
 use Rattle.aadl_uses.specs.Uses.{component_at}

@@ -1,5 +1,6 @@
 -- Paths of threads: words joined by dots, which differ.
 use Rattle.std.proofs.Common.{◌≡◌, ◌≢◌, ◌∙◌, inl, inr, ◌⊎◌, ℕ, ◌<◌, nat_eq, nat_le, nat_lt, Bool, true, false, cond, ◌&&◌, ◌||◌, List, []}
+use Rattle.aadl_tree.specs.Names.{same_name}
 use Rattle.std.proofs.Common.{◌∷◌, ◌++◌, map, length, reverse, codes, Option, Some, None, refl, sym, ap, subst, arith, append_assoc}
 use Rattle.std.specs.Prelude.{slice_get, IsTrue}
 use Rattle.std.specs.List.{AllByRecursion, list_all, slice_split, onto_first}
@@ -12,7 +13,7 @@ use Rattle.std.proofs.lemmas.Option.{same_Some, option_and_then_some}
 use Rattle.pals_base.specs.declared.limits.TheConstants.{NAME_BYTES}
 use Rattle.pals_base.specs.Names.{is_word_byte, is_led_by_letter, is_word, is_dot, is_path}
 use Rattle.aadl_tree.specs.Declarations.{Subcomponent, Connection, Implementation, PackageTree}
-use Rattle.aadl_names.specs.Spelling.{entry_of, same_name}
+use Rattle.aadl_names.specs.Spelling.{entry_of}
 use Rattle.aadl_names.specs.Resolving.{implementation_at, subcomponents_of, referred, ports_of}
 use Rattle.aadl_names.specs.Spaces.{port_entries, member_entries}
 use Rattle.aadl_uses.specs.Uses.{sub_at, below, standing}

@@ -2,7 +2,7 @@
 -- refers to something may refer to nothing. What a behaviour does with names counts as it is found.
 use Rattle.std.proofs.Common.{ℕ, List, [], ◌∷◌, ◌++◌}
 use Rattle.std.specs.Prelude.{flat_map}
-use Rattle.aadl_tree.specs.Names.{Identifier, Identifiers}
+use Rattle.aadl_tree.specs.Names.{Identifier, Identifiers, identifiers, listed_in}
 use Rattle.aadl_tree.specs.Values.{Association, Associations}
 use Rattle.aadl_tree.specs.Annexes.{VariableDeclaration, StateDeclaration, AnnexTree, AnnexContent, foreign, behaviour, Annex}
 use Rattle.aadl_tree.specs.Declarations.{Feature, Subcomponent, Connection, TypeDeclaration, Implementation, Declaration, type, implementation}
@@ -10,7 +10,6 @@ use Rattle.aadl_tree.specs.Declarations.{PackageTree}
 use Rattle.aadl_names.specs.declared.fault.FlatFault.{FlatFault}
 use Rattle.aadl_names.specs.declared.fault.FlatFault.TheVariants.{Twice}
 use Rattle.aadl_names.specs.Spelling.{spelled_implementation}
-use Rattle.aadl_names.specs.Behaviours.{identifiers, listed_in}
 use Rattle.aadl_names.specs.Properties.{listed, association_name, association_at}
 use Rattle.aadl_names.specs.PackageFaults.{behaviour_faults, unknown_reference, unknown_end}
 

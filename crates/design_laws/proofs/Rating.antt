@@ -3,7 +3,7 @@ use Rattle.std.proofs.Common.{◌≡◌, ◌∙◌, ℕ, ◌/◌, ◌≤◌, nat
 use Rattle.std.proofs.Common.{Option, Some, None, refl, sym, ap, subst, arith}
 use Rattle.std.specs.Prelude.{flat_map, slice_get}
 use Rattle.std.specs.List.{AllByRecursion}
-use Rattle.std.specs.Option.{option_and_then}
+use Rattle.std.specs.Option.{option_and_then, is_some}
 use Rattle.std.proofs.lemmas.Bool.{false≢true}
 use Rattle.std.proofs.lemmas.Bool.Decides.{nat_tests}
 use Rattle.std.proofs.lemmas.List.{reverse-reverse}
@@ -19,7 +19,7 @@ use Rattle.aadl_names.specs.declared.holder.Property.TheVariants.{Period, Skew, 
 use Rattle.aadl_names.specs.declared.holder.Holder.TheVariants as holders
 use Rattle.aadl_names.specs.Findings.{wrong_if}
 use Rattle.aadl_names.specs.Behaviours.{behaviours}
-use Rattle.aadl_names.specs.Properties.{has_some, recognised, list_faults}
+use Rattle.aadl_names.specs.Properties.{recognised, list_faults}
 use Rattle.aadl_names.specs.Resolving.{implementation_in, implementation_at, subcomponents_of, type_in, type_numbered, type_number}
 use Rattle.aadl_names.specs.Resolving.{referred, target_of, is_root}
 use Rattle.aadl_names.specs.PackageFaults.{may_contain, names_faults, subcomponent_faults, connection_faults, heading_faults}
@@ -110,7 +110,7 @@ type_properties tree root m t none is =
     (right_none _ l front)
 
 -- ---- some association
-pub some_from : {X : Type 0} (o : Option X) → has_some o ≡ true → (x : X) × (o ≡ Some x)
+pub some_from : {X : Type 0} (o : Option X) → is_some o ≡ true → (x : X) × (o ≡ Some x)
 some_from None is = absurd (false≢true is)
 some_from (Some x) is = (x, refl)
 
@@ -249,7 +249,7 @@ module _ {tree : PackageTree ℕ} {name : List ℕ} {parts : Parts} (flat : IsFl
     pub is : at_root tree parts.root p ≡ Some association
     pub good : IsGood p association
 
-  gives : (p : Property) → ((c : Category) → Among p (recognised (holders.Declaration c true))) → has_some (at_root tree parts.root p) ≡ true
+  gives : (p : Property) → ((c : Category) → Among p (recognised (holders.Declaration c true))) → is_some (at_root tree parts.root p) ≡ true
       → Gives p
   gives p known some =
       let a = some_from (at_root tree parts.root p) some in
@@ -264,40 +264,40 @@ module _ {tree : PackageTree ℕ} {name : List ℕ} {parts : Parts} (flat : IsFl
     all_ordered = right_none (missing_findings tree parts.root) (order_findings tree parts.root)
         (left_none (missing_findings tree parts.root ++ order_findings tree parts.root) _ clean)
 
-    has_period : has_some (at_root tree parts.root Period) ≡ true
+    has_period : is_some (at_root tree parts.root Period) ≡ true
     has_period =
         let a = missing tree parts.root NO_PERIOD [] Period in
         let b = missing_bound tree parts.root Skew in
         let c = missing_bound tree parts.root Execution in
         let d = missing_bound tree parts.root Network in
-        is_right (has_some (at_root tree parts.root Period)) (root_place tree parts.root) NO_PERIOD []
+        is_right (is_some (at_root tree parts.root Period)) (root_place tree parts.root) NO_PERIOD []
         (left_none a b (left_none (a ++ b) c (left_none (a ++ b ++ c) d all_missing)))
 
-    has_skew : has_some (at_root tree parts.root Skew) ≡ true
+    has_skew : is_some (at_root tree parts.root Skew) ≡ true
     has_skew =
         let a = missing tree parts.root NO_PERIOD [] Period in
         let b = missing_bound tree parts.root Skew in
         let c = missing_bound tree parts.root Execution in
         let d = missing_bound tree parts.root Network in
-        is_right (has_some (at_root tree parts.root Skew)) (root_place tree parts.root) GAMMA_MISSING (shown Skew)
+        is_right (is_some (at_root tree parts.root Skew)) (root_place tree parts.root) GAMMA_MISSING (shown Skew)
         (right_none a b (left_none (a ++ b) c (left_none (a ++ b ++ c) d all_missing)))
 
-    has_execution : has_some (at_root tree parts.root Execution) ≡ true
+    has_execution : is_some (at_root tree parts.root Execution) ≡ true
     has_execution =
         let a = missing tree parts.root NO_PERIOD [] Period in
         let b = missing_bound tree parts.root Skew in
         let c = missing_bound tree parts.root Execution in
         let d = missing_bound tree parts.root Network in
-        is_right (has_some (at_root tree parts.root Execution)) (root_place tree parts.root) GAMMA_MISSING (shown Execution)
+        is_right (is_some (at_root tree parts.root Execution)) (root_place tree parts.root) GAMMA_MISSING (shown Execution)
         (right_none (a ++ b) c (left_none (a ++ b ++ c) d all_missing))
 
-    has_network : has_some (at_root tree parts.root Network) ≡ true
+    has_network : is_some (at_root tree parts.root Network) ≡ true
     has_network =
         let a = missing tree parts.root NO_PERIOD [] Period in
         let b = missing_bound tree parts.root Skew in
         let c = missing_bound tree parts.root Execution in
         let d = missing_bound tree parts.root Network in
-        is_right (has_some (at_root tree parts.root Network)) (root_place tree parts.root) GAMMA_MISSING (shown Network)
+        is_right (is_some (at_root tree parts.root Network)) (root_place tree parts.root) GAMMA_MISSING (shown Network)
         (right_none (a ++ b ++ c) d all_missing)
 
     -- ---- the period

@@ -1,5 +1,6 @@
 -- The behaviours of the threads of an instance in which nothing is found.
 use Rattle.std.proofs.Common.{◌≡◌, ◌∙◌, ℕ, suc, ◌+◌, ◌-◌, Bool, true, false, cond, List, [], ◌∷◌, ◌++◌, length, map, reverse, Option, Some}
+use Rattle.aadl_tree.specs.Names.{same_name}
 use Rattle.std.proofs.Common.{None, refl, sym, ap, subst, arith}
 use Rattle.std.specs.Prelude.{flat_map, slice_get, All}
 use Rattle.std.specs.List.{position_from}
@@ -15,7 +16,7 @@ use Rattle.aadl_tree.specs.Declarations.{Declaration, type, Implementation, impl
 use Rattle.aadl_names.specs.Resolving.{is_thread, is_system, is_root, implementation_at, features_of, type_in, type_numbered, type_number}
 use Rattle.aadl_names.specs.Resolving.{ports_of, target_of, referred}
 use Rattle.aadl_names.specs.PackageFaults.{package_faults}
-use Rattle.aadl_names.specs.Spelling.{same_name, spelled_implementation}
+use Rattle.aadl_names.specs.Spelling.{spelled_implementation}
 use Rattle.aadl_uses.specs.Uses.{sub_at, below, standing, component_at}
 use Rattle.aadl_uses.specs.Threads.{IsThreadAt}
 use Rattle.aadl_uses.specs.declared.thread_places.SubAt.{SubAt}

@@ -6,7 +6,7 @@ use Rattle.std.specs.List.{list_any, list_all, position_or_len, enumerate_from}
 use Rattle.std.specs.Option.{unwrap_or}
 use Rattle.std.proofs.lemmas.Bool.{false≢true, lt-ltb}
 use Rattle.std.proofs.lemmas.List.Recursion.{is_position_or_len}
-use Rattle.aadl_tree.specs.Names.{Identifier}
+use Rattle.aadl_tree.specs.Names.{Identifier, same_name, listed_in}
 use Rattle.aadl_tree.specs.Annexes.{Transition, AnnexTree}
 use Rattle.aadl_tree.specs.Declarations.{Declaration, Implementation, implementation, PackageTree}
 use Rattle.aadl_names.specs.declared.fault.FlatFault.{FlatFault}
@@ -15,11 +15,10 @@ use Rattle.aadl_names.specs.AnnexNames.{Known}
 use Rattle.aadl_names.specs.Behaviours as names
 use Rattle.aadl_names.specs.Resolving.{is_thread}
 use Rattle.aadl_names.specs.Spaces.{twice_names}
-use Rattle.aadl_names.specs.Spelling.{same_name}
 use Rattle.aadl_names.specs.PackageFaults.{is_among, known_in, state_uses, guard_uses, effect_uses, transition_uses, behaviour_faults}
 use Rattle.aadl_names.specs.PackageFaults.{annex_faults, declaration_faults, wrong_names, package_faults}
 use Rattle.annex_resolve.specs.declared.states.StateAt.{StateAt}
-use Rattle.annex_resolve.specs.Behaviours.{listed_in, states_of, first_number, state_number, transitions_of}
+use Rattle.annex_resolve.specs.Behaviours.{states_of, first_number, state_number, transitions_of}
 use Rattle.design_laws.specs.Ready.{is_declared}
 use Rattle.design_laws.proofs.Tests.{both, none_at}
 use Rattle.design_laws.proofs.Placed.{all_weaker}
@@ -96,16 +95,12 @@ declared_by annex known t none =
     (nat_lt (state_number (states_of annex) t.target.spelling) (length (states_of annex)))
     (state_within annex t.source.spelling source) (state_within annex t.target.spelling target)
 
-same_list : {V : Type 0} (o : Option (List V)) → names.listed_in o ≡ listed_in o
-same_list None = refl
-same_list (Some vs) = refl
-
 pub all_declared : (tree : PackageTree ℕ) (x : Implementation ℕ) (annex : AnnexTree ℕ) → behaviour_faults tree x annex ≡ []
     → IsTrue (list_all (is_declared (states_of annex)) (transitions_of annex))
 unfolding behaviour_faults
 all_declared tree x annex none =
     let uses = transition_uses (is_among (names.states_of annex)) (known_in tree x annex) in
-    let each = all_none uses (transitions_of annex) (subst (λ l. flat_map uses l ≡ []) (same_list annex.transitions) none) in
+    let each = all_none uses (transitions_of annex) none in
     all_true (is_declared (states_of annex)) (transitions_of annex)
     (all_weaker (λ t. uses t ≡ []) (λ t. is_declared (states_of annex) t ≡ true) (λ t h. declared_by annex (known_in tree x annex) t h)
     (transitions_of annex) each)

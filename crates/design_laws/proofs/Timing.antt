@@ -3,7 +3,7 @@ use Rattle.std.proofs.Common.{◌≡◌, inl, inr, ◌⊎◌, ℕ, ◌≤◌, na
 use Rattle.std.proofs.Common.{Some, None, refl, ap, subst, arith}
 use Rattle.std.specs.Prelude.{flat_map, filter, find}
 use Rattle.std.specs.List.{AllByRecursion}
-use Rattle.std.specs.Option.{option_and_then, option_or}
+use Rattle.std.specs.Option.{option_and_then, option_or, is_some}
 use Rattle.std.proofs.lemmas.Bool.{false≢true}
 use Rattle.std.proofs.lemmas.Bool.Decides.{nat_tests}
 use Rattle.std.proofs.lemmas.Option.{same_Some}
@@ -16,7 +16,7 @@ use Rattle.aadl_names.specs.declared.holder.Holder.{Holder}
 use Rattle.aadl_names.specs.declared.holder.Holder.TheVariants as holders
 use Rattle.aadl_names.specs.Findings.{wrong_if}
 use Rattle.aadl_names.specs.Properties.{association_at, association_value, listed, counts, is_named, association_named, name_of}
-use Rattle.aadl_names.specs.Properties.{recognised, time_of, range_of, has_some, has_shape, misshapen, shape_fault, property_entries}
+use Rattle.aadl_names.specs.Properties.{recognised, time_of, range_of, has_shape, misshapen, shape_fault, property_entries}
 use Rattle.aadl_names.specs.Properties.{list_faults}
 use Rattle.aadl_names.specs.Resolving.{is_thread}
 use Rattle.aadl_names.specs.Twice.{twice}
@@ -143,15 +143,15 @@ pub first_good : (p : Property) (lists : List (Associations ℕ)) (x : Associati
 first_good p [] x all e = absurd (cc e)
 first_good p (xs ∷ rest) x all e = or_by p (association_named xs (name_of p)) (first_in p rest) x (all.0.each x) (first_good p rest x all.1) e
 
-or_some : (o rest : Option (Association ℕ)) → has_some rest ≡ true → has_some (option_or o rest) ≡ true
+or_some : (o rest : Option (Association ℕ)) → is_some rest ≡ true → is_some (option_or o rest) ≡ true
 or_some None rest is = is
 or_some (Some x) rest is = refl
 
-or_first : (o rest : Option (Association ℕ)) → has_some o ≡ true → has_some (option_or o rest) ≡ true
+or_first : (o rest : Option (Association ℕ)) → is_some o ≡ true → is_some (option_or o rest) ≡ true
 or_first None rest is = absurd (false≢true is)
 or_first (Some x) rest is = refl
 
-pub first_behind : (p : Property) (a b : List (Associations ℕ)) → has_some (first_in p b) ≡ true → has_some (first_in p (a ++ b)) ≡ true
+pub first_behind : (p : Property) (a b : List (Associations ℕ)) → is_some (first_in p b) ≡ true → is_some (first_in p (a ++ b)) ≡ true
 first_behind p [] b is = is
 first_behind p (xs ∷ a) b is = or_some (association_named xs (name_of p)) (first_in p (a ++ b)) (first_behind p a b is)
 
@@ -169,7 +169,7 @@ le_true m n h = grind (arith, nat_tests)
 within_is : (n : ℕ) → n ≤ HOUR → within_hour n ≡ Some n
 within_is n short = ap (λ b. cond b (Some n) None) (le_true n HOUR short)
 
-time_by : (given : Option ℕ) → has_some given ≡ true → is_above given ≡ false
+time_by : (given : Option ℕ) → is_some given ≡ true → is_above given ≡ false
     → (n : ℕ) × (given ≡ Some n) × IsTime (option_and_then within_hour given) n
 time_by None some small = absurd (false≢true some)
 time_by (Some n) some small = let short = within_by n small in (n, refl, record { is = within_is n short; short = short })
@@ -183,7 +183,7 @@ pub skew_good : (x : Association ℕ) → IsGood Skew x → (n : ℕ) × (time_a
 skew_good x good = time_by (time_of (association_value x)) good.shape good.small
 
 -- ---- ranges
-span_by : (given : Option (ℕ × ℕ)) → has_some given ≡ true → has_above given ≡ false → (r : ℕ × ℕ) × (option_and_then range_within given ≡ Some r)
+span_by : (given : Option (ℕ × ℕ)) → is_some given ≡ true → has_above given ≡ false → (r : ℕ × ℕ) × (option_and_then range_within given ≡ Some r)
 span_by None some small = absurd (false≢true some)
 span_by (Some r) some small =
     let h = neither (nat_lt HOUR r.0) (nat_lt HOUR r.1) small in (

@@ -3,7 +3,7 @@ use Rattle.std.proofs.Common.{◌≡◌, ◌∙◌, ℕ, Bool, true, false, not,
 use Rattle.std.proofs.Common.{pos, refl, ap, arith, inl, inr, ◌⊎◌}
 use Rattle.std.specs.Prelude.{flat_map, filter, slice_get, IsTrue, option_map}
 use Rattle.std.specs.List.{AllByRecursion, list_all, enumerate_from}
-use Rattle.std.specs.Option.{option_and_then}
+use Rattle.std.specs.Option.{option_and_then, is_some}
 use Rattle.std.specs.Str.{bytes_eq}
 use Rattle.std.proofs.lemmas.Bool.{false≢true}
 use Rattle.std.proofs.lemmas.List.{length-map}
@@ -14,7 +14,7 @@ use Rattle.pals_base.specs.declared.behaviour.Kind.TheVariants.{Integer, Boolean
 use Rattle.pals_base.specs.declared.behaviour.BehaviourParts.{BehaviourParts}
 use Rattle.pals_base.specs.Kinds.{allows, literal_kinds}
 use Rattle.pals_base.specs.Rules.{has_first}
-use Rattle.aadl_tree.specs.Names.{Identifier}
+use Rattle.aadl_tree.specs.Names.{Identifier, same_name, identifiers, listed_in}
 use Rattle.aadl_tree.specs.Values.{Association}
 use Rattle.aadl_tree.specs.Annexes.{VariableDeclaration, AnnexTree}
 use Rattle.aadl_tree.specs.Declarations.{Feature}
@@ -22,9 +22,7 @@ use Rattle.aadl_names.specs.declared.holder.Property.TheVariants.{Initial}
 use Rattle.aadl_names.specs.Properties.{association_at, association_value, association_named, name_of, only_text}
 use Rattle.annex_resolve.specs.declared.violation.TheConstants.{BAD_TYPE}
 use Rattle.annex_resolve.specs.declared.scope.Entry.{Entry}
-use Rattle.annex_resolve.specs.Scopes.{has_some, same_name}
 use Rattle.annex_resolve.specs.Types.{kind_named, kind_in, fits}
-use Rattle.annex_resolve.specs.Behaviours.{identifiers, listed_in}
 use Rattle.design_laws.specs.Ready.{FitsMeaning, FitsScope}
 use Rattle.design_laws.proofs.Tests.{is_right}
 use Rattle.component_checks.specs.Types.{is_in, port_findings, name_findings, is_truth, text_kind, first_findings, variable_findings}
@@ -40,7 +38,7 @@ use Rattle.design_laws.proofs.Partition.{all_mapped, all_kept, all_at, numbered,
 abbrev IsTyped : Declared → Type 0
 IsTyped d = d.kind ≡ Some (or_integer d.kind)
 
-typed_by : (kind : Option Kind) → has_some kind ≡ true → kind ≡ Some (or_integer kind)
+typed_by : (kind : Option Kind) → is_some kind ≡ true → kind ≡ Some (or_integer kind)
 typed_by None is = absurd (false≢true is)
 typed_by (Some k) is = refl
 
@@ -50,7 +48,7 @@ HasType f = IsTyped (port_of f)
 ports_typed : (fs : List (Feature ℕ)) → flat_map port_findings fs ≡ [] → AllByRecursion HasType fs
 ports_typed fs none =
     all_weaker (λ f. port_findings f ≡ []) HasType (λ f e. typed_by (kind_in f.data_type)
-    (is_right (has_some (kind_in f.data_type)) f.name.at BAD_TYPE [] e)) fs (all_none port_findings fs none)
+    (is_right (is_some (kind_in f.data_type)) f.name.at BAD_TYPE [] e)) fs (all_none port_findings fs none)
 
 pub ins_typed : (fs : List (Feature ℕ)) → flat_map port_findings fs ≡ [] → AllByRecursion IsTyped (ins_in fs)
 ins_typed fs none = all_mapped IsTyped port_of (filter is_in fs) (all_kept HasType is_in fs (ports_typed fs none))
@@ -118,7 +116,7 @@ variable_typed v none =
     let each = left_none (flat_map (name_findings kind) (identifiers v.names))
     (first_findings kind (association_named v.properties (name_of Initial))) none in
     let first = left_none (name_findings kind v.names.first) (flat_map (name_findings kind) v.names.rest) each in
-    let is = typed_by kind (is_right (has_some kind) v.names.first.at BAD_TYPE [] first) in
+    let is = typed_by kind (is_right (is_some kind) v.names.first.at BAD_TYPE [] first) in
     of_names IsTyped v (identifiers v.names) (λ i. is)
 
 variable_first : (v : VariableDeclaration ℕ) → variable_findings v ≡ [] → AllByRecursion HasFirst (variables_in v)

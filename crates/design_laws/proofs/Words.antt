@@ -18,7 +18,7 @@ use Rattle.aadl_tree.specs.Kinds.{Kind, word, whole, real, quoted, unread, mark,
 use Rattle.aadl_tree.specs.Kinds.{inside_behind}
 use Rattle.aadl_tree.specs.Parts.{Section, feature_section, subcomponent_section, connection_section, property_section, extra_kinds}
 use Rattle.aadl_tree.specs.Parts.{Part, token, may, plain, parts_if, behind, HaveKinds, Written}
-use Rattle.aadl_tree.specs.Names.{Identifier, Identifiers, identifier_parts, identifiers_parts, name_parts}
+use Rattle.aadl_tree.specs.Names.{Identifier, Identifiers, identifier_parts, identifiers_parts, name_parts, identifiers, listed_in}
 use Rattle.aadl_tree.specs.Values.{associations_parts}
 use Rattle.aadl_tree.specs.Annexes.{VariableDeclaration, StateDeclaration, AnnexTree, AnnexContent, foreign, behaviour, Annex, variable_parts}
 use Rattle.aadl_tree.specs.Annexes.{state_parts, declared_parts, annex_tree_parts, content_parts, annex_parts}
@@ -27,7 +27,7 @@ use Rattle.aadl_tree.specs.Declarations.{PackageTree, section_parts, feature_par
 use Rattle.aadl_tree.specs.Declarations.{ending_parts, implementation_name_parts, implementation_parts, declaration_parts, with_parts}
 use Rattle.aadl_tree.specs.Declarations.{package_parts}
 use Rattle.aadl_tree.specs.Given.{IsTreeOf}
-use Rattle.aadl_names.specs.Behaviours.{behaviours, identifiers, listed_in, variables_of, states_of}
+use Rattle.aadl_names.specs.Behaviours.{behaviours, variables_of, states_of}
 use Rattle.design_laws.specs.Named.{IsNamed, HasWords}
 use Rattle.design_laws.proofs.Placed.{all_append}
 use Rattle.design_laws.proofs.Wording.{same_words}

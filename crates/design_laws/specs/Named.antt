@@ -1,11 +1,10 @@
 -- What is known of the names of a package: they are words, and where nothing is declared twice, they differ.
 use Rattle.std.specs.Prelude.{◌≡◌, ℕ, true, false, List, [], ◌++◌, slice_get, IsTrue, Some, All, AllPairs}
 use Rattle.pals_base.specs.Names.{is_word}
-use Rattle.aadl_tree.specs.Names.{Identifier}
+use Rattle.aadl_tree.specs.Names.{Identifier, same_name}
 use Rattle.aadl_tree.specs.Annexes.{AnnexTree}
 use Rattle.aadl_tree.specs.Declarations.{Feature, Subcomponent, TypeDeclaration, Implementation, type, implementation, PackageTree}
 use Rattle.aadl_names.specs.declared.entry.Entry.{Entry}
-use Rattle.aadl_names.specs.Spelling.{same_name}
 use Rattle.aadl_names.specs.Behaviours.{behaviours, variables_of, states_of}
 use Rattle.aadl_names.specs.Resolving.{is_thread, ports_of}
 use Rattle.aadl_names.specs.PackageFaults.{package_faults}

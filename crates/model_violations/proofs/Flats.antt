@@ -1,5 +1,6 @@
 -- What the package of an instance keeps: its root is a declaration, and its threads are within the limits.
 use Rattle.std.proofs.Common.{◌≡◌, ◌∙◌, inl, inr, ℕ, ◌+◌, ◌<◌, ◌≤◌, Bool, true, false, cond, List, [], ◌∷◌, length, Option, Some, None, refl, sym, ap, subst, arith, codes, length-append}
+use Rattle.aadl_tree.specs.Names.{identifiers, listed_in}
 use Rattle.std.specs.Prelude.{flat_map, slice_get}
 use Rattle.std.specs.Option.{option_and_then}
 use Rattle.std.specs.List.{position_from}
@@ -20,7 +21,6 @@ use Rattle.aadl_uses.specs.declared.thread_places.ThreadAt.{ThreadAt}
 use Rattle.aadl_instance.specs.declared.parts.Chain.{Chain}
 use Rattle.aadl_instance.specs.Flat.{Parts, IsFlat}
 use Rattle.aadl_instance.specs.Instances.{IsInstance}
-use Rattle.annex_resolve.specs.Behaviours.{listed_in}
 use Rattle.annex_resolve.specs.Types.{kind_named}
 use Rattle.model_violations.specs.Values.{first_of, variable_of, variables_in, variables_of}
 use Rattle.model_violations.specs.Threads.{IsSmall, first_annex}
@@ -63,16 +63,16 @@ few_variables {tree} {name} {parts} flat path x thread =
     (λ more. flat.sound 8 (TooMany what) (inr (parts.root, flat.root, inr (inr (inr (what, inr (inr (inr (inl (refl, refl, (path, x, thread, more))))), refl))))))
 
 -- ---- the variables of an annex, by their names and with their types
-same_count : (vs : List (VariableDeclaration ℕ)) → length (flat_map variables_in vs) ≡ length (flat_map (λ v. names.identifiers v.names) vs)
+same_count : (vs : List (VariableDeclaration ℕ)) → length (flat_map variables_in vs) ≡ length (flat_map (λ v. identifiers v.names) vs)
 same_count [] = refl
 same_count (v ∷ vs) =
     let a = length-append (variables_in v) (flat_map variables_in vs) in
-    let b = length-append (names.identifiers v.names) (flat_map (λ w. names.identifiers w.names) vs) in
-    let c = length-map (names.identifiers v.names) (variable_of (kind_named v.data_type) (first_of v)) in
+    let b = length-append (identifiers v.names) (flat_map (λ w. identifiers w.names) vs) in
+    let c = length-map (identifiers v.names) (variable_of (kind_named v.data_type) (first_of v)) in
     let d = same_count vs in
     omega (arith, a, b, c, d)
 
-count_by : (o : Option (List (VariableDeclaration ℕ))) → length (flat_map variables_in (listed_in o)) ≡ length (flat_map (λ v. names.identifiers v.names) (names.listed_in o))
+count_by : (o : Option (List (VariableDeclaration ℕ))) → length (flat_map variables_in (listed_in o)) ≡ length (flat_map (λ v. identifiers v.names) (listed_in o))
 count_by None = refl
 count_by (Some vs) = same_count vs
 

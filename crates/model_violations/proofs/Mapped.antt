@@ -1,9 +1,9 @@
 -- What is made of something is there where that is.
 use Rattle.std.proofs.Common.{◌≡◌, ◌∙◌, Option, Some, None, refl, sym, ap}
+use Rattle.std.specs.Option.{is_some}
 use Rattle.std.specs.Prelude.{option_map}
-use Rattle.annex_resolve.specs.Scopes.{has_some}
 
-pub has_mapped : {A B : Type 0} (f : A → B) (o : Option A) → has_some (option_map f o) ≡ has_some o
+pub has_mapped : {A B : Type 0} (f : A → B) (o : Option A) → is_some (option_map f o) ≡ is_some o
 has_mapped f None = refl
 has_mapped f (Some x) = refl
 

@@ -1,9 +1,9 @@
 -- A table that has the names of a list, whatever their capitals.
 use Rattle.std.proofs.Common.{◌≡◌, ◌∙◌, ℕ, ◌+◌, ◌<◌, ◌≤◌, Bool, true, false, cond, ◌||◌, List, [], ◌∷◌, ◌++◌, length, drop, get_or, Option, Some, None, refl, sym, ap}
+use Rattle.aadl_tree.specs.Names.{same_name}
 use Rattle.std.specs.List.{list_any}
 use Rattle.std.specs.Option.{is_some, option_or}
 use Rattle.std.proofs.lemmas.List.Folds.{list_any-append}
-use Rattle.aadl_names.specs.Spelling.{same_name}
 use Rattle.aadl_names.specs.Tables.{value_of}
 use Rattle.aadl_names.proofs.Finds.{first_left, none_left}
 use Rattle.model_violations.specs.Ignored.{behind, all_behind, KnowsAll}

@@ -1,12 +1,13 @@
 -- What is wrong with links, feeds and taps. Their properties are those of their carriers.
 use Rattle.std.specs.Prelude.{ℕ, not, List, [], ◌++◌, Option, Some, None, option_map}
+use Rattle.std.specs.Option.{is_some}
 use Rattle.pals_base.specs.declared.behaviour.Kind.{Kind}
 use Rattle.pals_base.specs.declared.values.Adaptor.{Adaptor}
 use Rattle.aadl_tree.specs.Declarations.{Connection, PackageTree}
 use Rattle.aadl_uses.specs.declared.thread_places.ThreadAt.{ThreadAt}
 use Rattle.aadl_instance.specs.declared.parts.Chain.{Chain}
 use Rattle.annex_resolve.specs.declared.violation.Violation.{Violation}
-use Rattle.annex_resolve.specs.Scopes.{found_if, has_some}
+use Rattle.annex_resolve.specs.Scopes.{found_if}
 use Rattle.annex_resolve.specs.declared.violation.TheConstants.{NOT_DELAYED, STRAY_ADAPTOR}
 use Rattle.component_checks.specs.Rates.{adaptor_named, pair_findings}
 use Rattle.model_violations.specs.Ports.{end_name, end_kind, end_rate}
@@ -26,7 +27,7 @@ abbrev pub timing_findings : PackageTree ℕ → List ThreadAt → Chain → Con
 timing_findings tree threads x c = found_if (not (is_delayed c)) c.name.at NOT_DELAYED (end_name tree threads x.to)
 
 abbrev pub stray_findings : PackageTree ℕ → List ThreadAt → Chain → Connection ℕ → List Violation
-stray_findings tree threads x c = found_if (has_some (adaptor_text c)) c.name.at STRAY_ADAPTOR (end_name tree threads x.to)
+stray_findings tree threads x c = found_if (is_some (adaptor_text c)) c.name.at STRAY_ADAPTOR (end_name tree threads x.to)
 
 -- ---- on the carrier
 abbrev pub on_carrier : (Connection ℕ → List Violation) → Option (Connection ℕ) → List Violation

@@ -1,7 +1,7 @@
 -- What is wrong with the connections of an implementation, whatever they carry.
 use Rattle.std.specs.Prelude.{ℕ, Bool, true, false, not, ◌&&◌, ◌||◌, List, [], ◌++◌, flat_map, Option, Some, None, slice_get}
 use Rattle.std.specs.List.{enumerate_from}
-use Rattle.std.specs.Option.{option_and_then}
+use Rattle.std.specs.Option.{option_and_then, is_some}
 use Rattle.pals_base.specs.declared.behaviour.Kind.{Kind}
 use Rattle.aadl_tree.specs.Names.{Identifier}
 use Rattle.aadl_tree.specs.Declarations.{Feature, Connection, ConnectionEnd, Implementation, PackageTree}
@@ -10,7 +10,7 @@ use Rattle.aadl_names.specs.declared.site.Site.TheVariants.{Own, Inner}
 use Rattle.aadl_names.specs.Resolving.{ports_of, inner_ports, site}
 use Rattle.annex_resolve.specs.declared.violation.Violation.{Violation}
 use Rattle.annex_resolve.specs.declared.violation.TheConstants.{BAD_TYPE, DELAYED_ROOT, STRAY_ADAPTOR}
-use Rattle.annex_resolve.specs.Scopes.{found_if, has_some}
+use Rattle.annex_resolve.specs.Scopes.{found_if}
 use Rattle.annex_resolve.specs.Types.{kind_in, misfit}
 use Rattle.model_violations.specs.Carriers.{is_delayed, adaptor_text}
 
@@ -41,7 +41,7 @@ abbrev pub delay_findings : Connection ℕ → List Violation
 delay_findings c = found_if (joins_own c && is_delayed c) c.name.at DELAYED_ROOT c.name.spelling
 
 abbrev pub adaptor_findings : Bool → Connection ℕ → List Violation
-adaptor_findings carried c = found_if (not carried && has_some (adaptor_text c)) c.name.at STRAY_ADAPTOR c.name.spelling
+adaptor_findings carried c = found_if (not carried && is_some (adaptor_text c)) c.name.at STRAY_ADAPTOR c.name.spelling
 
 abbrev pub connection_findings : PackageTree ℕ → (ℕ → ℕ → Bool) → ℕ → Implementation ℕ → ℕ × Connection ℕ → List Violation
 connection_findings tree carried n x (i, c) = ends_findings tree x c ++ delay_findings c ++ adaptor_findings (carried n i) c

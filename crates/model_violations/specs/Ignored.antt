@@ -1,5 +1,6 @@
 -- The names of properties that mean nothing where they stand, over the whole package.
 use Rattle.std.specs.Prelude.{◌≡◌, ℕ, nat_eq, Bool, false, not, ◌&&◌, List, [], ◌∷◌, ◌++◌, flat_map, Option, Some, None, if◌then◌else◌}
+use Rattle.aadl_tree.specs.Names.{same_name}
 use Rattle.std.specs.List.{list_any, enumerate_from}
 use Rattle.std.specs.Option.{is_some, option_and_then}
 use Rattle.aadl_tree.specs.Values.{Association, Associations}
@@ -7,7 +8,6 @@ use Rattle.aadl_tree.specs.Annexes.{VariableDeclaration, Annex}
 use Rattle.aadl_tree.specs.Declarations.{Feature, Subcomponent, Connection, TypeDeclaration, Implementation, Declaration, type, implementation, PackageTree}
 use Rattle.aadl_names.specs.declared.holder.Holder.{Holder}
 use Rattle.aadl_names.specs.declared.holder.Holder.TheVariants as holders
-use Rattle.aadl_names.specs.Spelling.{same_name}
 use Rattle.aadl_names.specs.Tables.{value_of}
 use Rattle.aadl_names.specs.Behaviours.{variables_in}
 use Rattle.aadl_names.specs.Properties.{listed, counts, is_named, name_of, recognised, association_name}

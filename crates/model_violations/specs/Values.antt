@@ -8,7 +8,7 @@ use Rattle.pals_base.specs.declared.behaviour.Kind.TheVariants.{Integer}
 use Rattle.pals_base.specs.declared.behaviour.Named.{Named}
 use Rattle.pals_base.specs.declared.behaviour.VarDecl.{VarDecl}
 use Rattle.aadl_lex.specs.Rules.{decimal, most}
-use Rattle.aadl_tree.specs.Names.{Identifier}
+use Rattle.aadl_tree.specs.Names.{Identifier, identifiers, listed_in}
 use Rattle.aadl_tree.specs.Declarations.{Feature, Implementation, PackageTree}
 use Rattle.aadl_tree.specs.Annexes.{VariableDeclaration, AnnexTree}
 use Rattle.aadl_names.specs.declared.holder.Property.TheVariants.{Initial}
@@ -20,7 +20,6 @@ use Rattle.annex_resolve.specs.declared.scope.Scope.{Scope}
 use Rattle.annex_resolve.specs.declared.scope.Entry.{Entry}
 use Rattle.annex_resolve.specs.declared.scope.Meaning.TheVariants.{InPort, OutPort, Variable as VariableNumber}
 use Rattle.annex_resolve.specs.Types.{kind_named, kind_in}
-use Rattle.annex_resolve.specs.Behaviours.{listed_in, identifiers}
 use Rattle.model_violations.specs.declared.declared.Declared.{Declared}
 
 -- ---- what is declared, with its type, if that is Integer or Boolean, and its first value

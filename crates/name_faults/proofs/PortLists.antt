@@ -1,12 +1,12 @@
 -- The names of the ports of types, one type after the other.
 use Rattle.std.proofs.Common.{◌≡◌, ℕ, ◌+◌, ◌<◌, Bool, true, false, cond, List, [], ◌∷◌, ◌++◌, length, take, get_or, map, Option, Some, None, refl, sym, ap}
+use Rattle.aadl_tree.specs.Names.{same_name}
 use Rattle.std.proofs.Common.{◌∙◌, subst, zero, suc}
 use Rattle.std.specs.Prelude.{slice_get, slice_index_or, find, option_map}
 use Rattle.std.specs.Option.{option_or}
 use Rattle.std.proofs.lemmas.List.{map_more}
 use Rattle.aadl_tree.specs.Declarations.{Feature, Declaration, Implementation, PackageTree}
 use Rattle.aadl_names.specs.Tables.{value_of}
-use Rattle.aadl_names.specs.Spelling.{same_name}
 use Rattle.aadl_names.specs.Resolving.{features_of, type_in, type_numbered, type_number, ports_of}
 use Rattle.aadl_names.specs.PackageFaults.{role_in, port_roles}
 use Rattle.name_faults.specs.declared.port_names.PortNames.{PortNames}

@@ -1,9 +1,9 @@
 -- What names stand for by two tables and the variables of loops.
 use Rattle.std.specs.Prelude.{ℕ, Bool, List, Some, None, if◌then◌else◌}
+use Rattle.aadl_tree.specs.Names.{same_name}
 use Rattle.std.specs.List.{list_any}
 use Rattle.aadl_names.specs.declared.role.Role.{Role}
 use Rattle.aadl_names.specs.declared.role.Role.TheVariants.{Turns}
-use Rattle.aadl_names.specs.Spelling.{same_name}
 use Rattle.aadl_names.specs.AnnexNames.{Known, either}
 use Rattle.aadl_names.specs.Tables.{value_of}
 use Rattle.name_faults.specs.Marks.{is_marked}

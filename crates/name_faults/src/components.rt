@@ -11,8 +11,8 @@ ghost use Rattle.aadl_names.specs.Found.{found};
 ghost use Rattle.aadl_names.specs.PackageFaults as spec;
 
 use crate::check_properties;
-use aadl_names::numbered::target_of;
 use aadl_names::connection_ends::site;
+use aadl_names::numbered::target_of;
 use aadl_names::spelling::{spelled_end, spelled_reference};
 use aadl_names::{Finder, Holder, Names, Site};
 use aadl_tree::{

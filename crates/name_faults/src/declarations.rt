@@ -2,13 +2,14 @@
 #![tactic(auto, using(aadl_names::proofs::Finds::found_append))]
 
 ghost use Rattle.std.specs.Prelude.{◌≡◌, not, Some, OnOk, IfOk, slice_get};
+ghost use Rattle.aadl_tree.specs.Names.{same_name};
 ghost use Rattle.aadl_tree.specs.Declarations.{implementation};
 ghost use Rattle.aadl_tree.specs.PackageViews.{placed};
 ghost use Rattle.aadl_tree.specs.Views.{implementation_view, declaration_view};
 ghost use Rattle.aadl_tree.specs.Maps.{kept_place};
 ghost use Rattle.aadl_names.specs.Found.{found};
 ghost use Rattle.aadl_names.specs.Findings.{wrong_if};
-ghost use Rattle.aadl_names.specs.Spelling.{same_name, spelled_name};
+ghost use Rattle.aadl_names.specs.Spelling.{spelled_name};
 ghost use Rattle.aadl_names.specs.Resolving.{implementation_in};
 ghost use Rattle.aadl_names.specs.PackageFaults as spec;
 ghost use Rattle.name_faults.specs.PortNames.{AreAllNamesOf};
@@ -17,8 +18,8 @@ use crate::behaviours::check_behaviours;
 use crate::implementations::check_outside_behaviours;
 use crate::types::check_type;
 use crate::{AllPortNames, names_at};
-use aadl_names::numbered::implementation_at;
 use aadl_names::connection_ends::type_number;
+use aadl_names::numbered::implementation_at;
 use aadl_names::spelling::spelled_name;
 use aadl_names::{Finder, Names};
 use aadl_tree::{Declaration, Implementation};

@@ -3,10 +3,10 @@
 #![tactic(auto)]
 
 mod behaviours;
-mod declared_twice;
 pub mod categories;
 mod components;
 mod declarations;
+mod declared_twice;
 mod digits;
 pub mod entries;
 mod implementations;

@@ -1,11 +1,11 @@
 //! The ports of types, and what they are called.
 ghost use Rattle.std.specs.Prelude.{◌≡◌, ℕ, List, OnOk, IfOk, map, option_map, if◌then◌else◌, None, Some};
+ghost use Rattle.aadl_tree.specs.Names.{same_name};
 ghost use Rattle.std.specs.Option.{option_or};
 ghost use Rattle.aadl_tree.specs.PackageViews.{placed};
 ghost use Rattle.aadl_tree.specs.Views.{feature_view, declaration_view};
 ghost use Rattle.aadl_tree.specs.Maps.{kept_place};
 ghost use Rattle.aadl_names.specs.Found.{found};
-ghost use Rattle.aadl_names.specs.Spelling.{same_name};
 ghost use Rattle.aadl_names.specs.Tables.{value_of};
 ghost use Rattle.aadl_names.specs.Twice.{twice};
 ghost use Rattle.aadl_names.specs.Spaces.{port_entries};

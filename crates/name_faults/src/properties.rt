@@ -2,12 +2,12 @@
 #![tactic(auto, using(aadl_names::proofs::Finds::found_append))]
 
 ghost use Rattle.std.specs.Prelude.{◌≡◌, ◌&&◌, ◌++◌, not, OnOk, IfOk, flat_map};
+ghost use Rattle.aadl_tree.specs.Names.{same_name};
 ghost use Rattle.std.specs.List.{list_any};
 ghost use Rattle.aadl_tree.specs.Values.{associate, no_associations};
 ghost use Rattle.aadl_tree.specs.ValueViews.{value_view, association_view, associations_view};
 ghost use Rattle.aadl_tree.specs.Maps.{kept_place};
 ghost use Rattle.aadl_names.specs.Found.{found};
-ghost use Rattle.aadl_names.specs.Spelling.{same_name};
 ghost use Rattle.aadl_names.specs.Properties as spec;
 ghost use Rattle.aadl_names.specs.Properties.{property_entries};
 

@@ -1,12 +1,12 @@
 //! What the variables and the states of a behaviour are called.
 ghost use Rattle.std.specs.Prelude.{◌≡◌, ℕ, List, OnOk, IfOk};
+ghost use Rattle.aadl_tree.specs.Names.{same_name, identifiers};
 ghost use Rattle.std.specs.Option.{option_or};
 ghost use Rattle.aadl_tree.specs.NameViews.{identifier_view, identifiers_view};
 ghost use Rattle.aadl_tree.specs.Views.{annex_tree_view};
 ghost use Rattle.aadl_tree.specs.Maps.{kept_place};
 ghost use Rattle.aadl_names.specs.Tables.{value_of};
-ghost use Rattle.aadl_names.specs.Spelling.{same_name};
-ghost use Rattle.aadl_names.specs.Behaviours.{identifiers, variables_of, states_of};
+ghost use Rattle.aadl_names.specs.Behaviours.{variables_of, states_of};
 ghost use Rattle.aadl_names.specs.PackageFaults.{is_among, variable_roles};
 ghost use Rattle.name_faults.specs.Marks.{value_if, is_marked};
 

@@ -1,7 +1,7 @@
 //! What names stand for in a behaviour.
 ghost use Rattle.std.specs.Prelude.{◌≡◌};
+ghost use Rattle.aadl_tree.specs.Names.{same_name};
 ghost use Rattle.std.specs.List.{list_any};
-ghost use Rattle.aadl_names.specs.Spelling.{same_name};
 
 use aadl_names::{Role, Table};
 use aadl_tree::Identifier;

@@ -35,7 +35,7 @@ pub fn unit_of(name: &str) -> Option<u64>
 
 // Whether it is a unit of time.
 fn is_unit(unit: &Option<Identifier>) -> bool
-    ensures { result ≡ spec.has_some (spec.unit_in (option_map (identifier_view kept_place) unit.now)) }
+    ensures { result ≡ is_some (spec.unit_in (option_map (identifier_view kept_place) unit.now)) }
 {
     match unit {
         Some(unit) => unit_of(unit.spelling.as_str()).is_some(),
@@ -45,7 +45,7 @@ fn is_unit(unit: &Option<Identifier>) -> bool
 
 // Whether it is a whole number.
 fn is_whole(figure: &Figure) -> bool
-    ensures { result ≡ spec.has_some (spec.whole_of (figure_view figure.now)) }
+    ensures { result ≡ is_some (spec.whole_of (figure_view figure.now)) }
 {
     match figure {
         Figure::Whole(value) => *value >= 0,
@@ -56,7 +56,7 @@ fn is_whole(figure: &Figure) -> bool
 /// Whether it is a time: a whole number without a sign, and a unit.
 #[tactic(auto, using(crate::proofs::Times::has_time), unfolding(aadl_names::specs::Properties::time_in))]
 pub fn is_time(x: &Quantity) -> bool
-    ensures { result ≡ spec.has_some (spec.time_in (quantity_view kept_place x.now)) }
+    ensures { result ≡ is_some (spec.time_in (quantity_view kept_place x.now)) }
 {
     !is_signed(x.number.sign) && is_whole(&x.number.figure) && is_unit(&x.unit)
 }
@@ -124,7 +124,7 @@ fn is_initial_list(value: &Value) -> bool
 }
 
 fn is_time_value(value: &Value) -> bool
-    ensures { result ≡ spec.has_some (spec.time_of (value_view kept_place value.now)) }
+    ensures { result ≡ is_some (spec.time_of (value_view kept_place value.now)) }
 {
     match value {
         Value::Number { low, high: None } => is_time(low),
@@ -133,7 +133,7 @@ fn is_time_value(value: &Value) -> bool
 }
 
 fn is_range_value(value: &Value) -> bool
-    ensures { result ≡ spec.has_some (spec.range_of (value_view kept_place value.now)) }
+    ensures { result ≡ is_some (spec.range_of (value_view kept_place value.now)) }
 {
     match value {
         Value::Number {
@@ -145,7 +145,7 @@ fn is_range_value(value: &Value) -> bool
 }
 
 fn is_text_value(value: &Value) -> bool
-    ensures { result ≡ spec.has_some (spec.text_of (value_view kept_place value.now)) }
+    ensures { result ≡ is_some (spec.text_of (value_view kept_place value.now)) }
 {
     match value {
         Value::Text(_) => true,
@@ -154,7 +154,7 @@ fn is_text_value(value: &Value) -> bool
 }
 
 fn is_reference(value: &Value) -> bool
-    ensures { result ≡ spec.has_some (spec.reference_of (value_view kept_place value.now)) }
+    ensures { result ≡ is_some (spec.reference_of (value_view kept_place value.now)) }
 {
     match value {
         Value::Named(_) => true,

@@ -11,8 +11,8 @@ ghost use Rattle.aadl_names.specs.DeclaredTwice as spec;
 ghost use Rattle.aadl_names.specs.DeclaredTwice.{first_behaviour};
 ghost use Rattle.name_faults.specs.PortNames.{AreAllNamesOf};
 
-use crate::declared_twice::check_beside;
 use crate::categories::is_thread;
+use crate::declared_twice::check_beside;
 use crate::entries::{
     implementation_entries, member_entries, state_entries, type_entries, variable_entries,
 };

@@ -14,6 +14,7 @@ mod links;
 mod loose;
 mod meeting;
 mod messages;
+mod node_calls;
 mod node_list;
 mod nodes;
 mod opening;
@@ -21,7 +22,6 @@ mod outgoing;
 mod refusals;
 mod rounds;
 mod stops;
-mod node_calls;
 
 pub use answers::{LooseFault, Meet};
 pub use bus::Bus;

@@ -9,9 +9,9 @@ ghost use Rattle.pals_report.specs.Rows.{ArePartsOf};
 
 use crate::component::{add_component_line, add_part_line};
 use crate::parts::RoundParts;
-use crate::tap_places::TapPlaces;
 use crate::row::{add_lines, add_round_line};
 use crate::tap::{add_line_at_place, add_tap_line, place_of_tap};
+use crate::tap_places::TapPlaces;
 use crate::whole_or_none;
 use pals_base::{BehaviourParts, Frame, Kind, NoMemory, Port, Text};
 use pals_model::{Component, Design, Part, Tap};

@@ -9,8 +9,8 @@ ghost use Rattle.pals_report.specs.Rows.{components_from, taps_from};
 
 use crate::component::add_part_line;
 use crate::parts::RoundParts;
-use crate::tap_places::TapPlaces;
 use crate::tap::add_line_at_place;
+use crate::tap_places::TapPlaces;
 use itoa::Buffer;
 use pals_base::{NoMemory, NodeNo};
 use pals_model::{Component, Design, DesignParts};

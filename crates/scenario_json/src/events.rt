@@ -11,10 +11,9 @@ ghost use Rattle.scenario_json.specs.Events.{word_of, is_usual, usual_word, node
 use pals_base::limits::{LIST_ITEMS, READING, ROUNDS};
 use pals_base::{Items, LinkNo, Nanos, NodeNo};
 use pals_runs::{Command, Event};
-use scenario_values::Names;
-use scenario_values::ScenarioFault;
 use scenario_values::json::{elements, is_whole, short_list, text, whole};
 use scenario_values::place::{Place, out_of_range, wrong_kind};
+use scenario_values::{Names, ScenarioFault};
 use serde_json::Value;
 use std::alloc::Global;
 

@@ -8,10 +8,9 @@ ghost use Rattle.scenario_json.specs.Inputs.{value_list, with_input, inputs_in, 
 
 use pals_base::limits::HOUR;
 use pals_base::{Items, Kind, Nanos, NoMemory, Tuple};
-use scenario_values::Names;
-use scenario_values::ScenarioFault;
 use scenario_values::json::{elements, entries, port_value, whole};
 use scenario_values::place::{Place, out_of_range};
+use scenario_values::{Names, ScenarioFault};
 use serde_json::Value;
 use std::alloc::Global;
 

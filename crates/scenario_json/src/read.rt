@@ -18,6 +18,10 @@ ghost use Rattle.scenario_json.specs.Facts.{IsScenarioOf};
 ghost use Rattle.scenario_json.specs.Scenarios.{is_field, field, needs_events, needs_trace, needs_properties, needs_processors, rounds_in, fields_in, scen, IsAnswer};
 
 use crate::scenario::Scenario;
+use crate::{
+    cells_of, least_delays, no_inputs, read_clocks, read_delays, read_events, read_inputs,
+    read_trace,
+};
 use analysis_fields::{
     Processor, Property, RoundFault, read_faults, read_plants, read_processors, read_properties,
     read_replicas,
@@ -27,14 +31,9 @@ use pals_base::{Items, Nanos, NodeNo, Text, Tuple};
 use pals_clock::Clocks;
 use pals_model::{Delays, Design, Env};
 use pals_runs::{Command, Event, Pair};
-use crate::{
-    cells_of, least_delays, no_inputs, read_clocks, read_delays, read_events, read_inputs,
-    read_trace,
-};
-use scenario_values::Names;
-use scenario_values::ScenarioFault;
 use scenario_values::json::{entries, whole};
 use scenario_values::place::{Place, missing, unknown};
+use scenario_values::{Names, ScenarioFault};
 use serde_json::{Category, Map, Value};
 use std::alloc::Global;
 

@@ -6,11 +6,11 @@ ghost use Rattle.pals_model.specs.Inputs.{new_names};
 ghost use Rattle.pals_model.specs.LinkNames.{link_name};
 ghost use Rattle.scenario_values.specs.NameTables.{Numbers};
 
+use crate::ScenarioFault;
+use crate::place::{Place, unknown};
 use indexmap::IndexSet;
 use pals_base::{Kind, LinkNo, NoMemory, NodeNo, Text, TryClone};
 use pals_model::{Component, Design, DesignParts, Feed, Link};
-use crate::ScenarioFault;
-use crate::place::{Place, unknown};
 use std::alloc::Global;
 use std::collections::BTreeMap;
 use std::marker::Model;

@@ -9,8 +9,8 @@ mod expressions;
 mod fault;
 pub mod laws;
 mod lengths;
-mod order;
 mod numbering;
+mod order;
 mod transitions;
 
 pub use compiler::compile;

@@ -12,7 +12,7 @@ pub mod Elements
 pub mod Images
 pub mod Parts
 pub mod Readings
-pub mod Taps
+pub mod RenumberedTaps
 pub mod Rounds
 pub mod Counting
 pub mod Back

@@ -26,7 +26,7 @@ use Rattle.sync_product.specs.Renumbered.{renumbered_link, renumbered_tap, IsRen
 use Rattle.sync_product.proofs.Elements.{image_at}
 use Rattle.sync_product.proofs.Parts.{component_there, rate_there}
 use Rattle.sync_product.proofs.Readings.{SameMessages, brings}
-use Rattle.sync_product.proofs.Taps.{shown, same_shown}
+use Rattle.sync_product.proofs.RenumberedTaps.{shown, same_shown}
 
 -- before the first round a link is absent throughout
 link_begins : (design : DesignParts) (env : Env) (l : ℕ) (link : Link) → slice_get design.links l ≡ Some link

@@ -1,7 +1,6 @@
 //! The multirate synchronous composition of a design, round by round.
 #![tactic(auto)]
 
-pub mod columns;
 pub mod laws;
 mod messages;
 pub mod opening;
@@ -11,5 +10,6 @@ pub mod renumbering;
 mod round;
 pub mod stage;
 pub mod taps;
+pub mod tuple_columns;
 
 pub use product::Product;

@@ -4,8 +4,8 @@ ghost use Rattle.pals_model.specs.Rules.{IsDesign};
 ghost use Rattle.sync_product.specs.Sizes.{stage_size, stage_sizes, message_sizes};
 ghost use Rattle.sync_product.specs.Rounds.{sent_by};
 
-use crate::columns::write_column;
 use crate::stage::Stage;
+use crate::tuple_columns::write_column;
 use pals_base::{Items, Tuple};
 use pals_model::Design;
 

@@ -5,8 +5,8 @@ ghost use Rattle.pals_base.specs.Steps.{frame_after, outputs, column, columns};
 ghost use Rattle.sync_product.specs.Rounds.{brought, vectors};
 ghost use Rattle.sync_product.specs.Sizes.{frame_size, part_size, stage_size, frame_size_of, part_size_of, stage_size_of};
 
-use crate::columns::write_column;
 use crate::reads::{RoundInputs, write_inputs};
+use crate::tuple_columns::write_column;
 use behaviour_sem::fire_into;
 use pals_base::tuples::absent;
 use pals_base::{Behaviour, Frame, Items, NoMemory, Port, Tuple};

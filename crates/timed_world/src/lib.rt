@@ -2,9 +2,9 @@
 //! that its bounds allow, and says why it refuses another. No stop ever stands on its bus.
 #![tactic(auto)]
 
+mod event_list;
 mod events;
 mod faults;
-mod event_list;
 mod opening;
 mod passes;
 mod standing;

@@ -1,5 +1,5 @@
 use Rattle.std.proofs.Common.{ap, arith, ◌∙◌, cond, Some, None}
-use Rattle.aadl_names.specs.Spelling.{same_name}
+use Rattle.aadl_tree.specs.Names.{same_name}
 use Rattle.aadl_names.specs.Tables.{value_of}
 use Rattle.aadl_names.specs.Earliest.{sooner, earliest}
 use Rattle.aadl_names.proofs.Spots.{next_earliest, last_earliest}

@@ -1,8 +1,9 @@
 use Rattle.std.proofs.Common.{◌≡◌, ◌++◌, codes, drop, map}
+use Rattle.aadl_tree.specs.Names.{same_name}
 use Rattle.std.specs.Prelude.{flat_map}
 use Rattle.aadl_tree.specs.Maps.{kept_place}
 use Rattle.aadl_tree.specs.NameViews.{identifier_view, name_view}
-use Rattle.aadl_names.specs.Spelling.{same_name, spelled_name}
+use Rattle.aadl_names.specs.Spelling.{spelled_name}
 use Rattle.component_checks.proofs.spellings.is_spelled.Given as goal
 
 -- the words that are left decide

@@ -1,9 +1,9 @@
 use Rattle.std.proofs.Common.{◌≡◌, ◌++◌, map, drop}
+use Rattle.aadl_tree.specs.Names.{identifiers}
 use Rattle.aadl_tree.specs.Views.{state_view}
 use Rattle.aadl_tree.specs.Maps.{kept_place}
 use Rattle.std.specs.List.{flat_map}
 use Rattle.aadl_names.specs.Spelling.{entry_of}
-use Rattle.aadl_names.specs.Behaviours.{identifiers}
 use Rattle.name_faults.proofs.entries.state_entries.Given as goal
 
 -- what is left is still to be added

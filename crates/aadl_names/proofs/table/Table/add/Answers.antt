@@ -1,9 +1,10 @@
 use Rattle.std.proofs.Common.{ℕ, List, None, Some, refl, sym, ap, ◌∙◌, option_copied, cond}
+use Rattle.aadl_tree.specs.Names.{same_name}
 use Rattle.std.specs.Map.{lookup}
 use Rattle.std.specs.Option.{option_or}
 use Rattle.std.specs.Str.{bytes_eq}
 use Rattle.indexmap.proofs.CallerLemmas.{insert_entry-new}
-use Rattle.aadl_names.specs.Spelling.{folded, same_name}
+use Rattle.aadl_names.specs.Spelling.{folded}
 use Rattle.aadl_names.specs.Tables.{value_of}
 use Rattle.aadl_names.proofs.Lookups.{lookup_keys, found_none, found_some, value-added, value-kept}
 use Rattle.aadl_names.proofs.table.Table.add.Goals as goal

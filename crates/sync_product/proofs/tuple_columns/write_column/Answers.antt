@@ -4,7 +4,7 @@ use Rattle.pals_base.specs.Steps.{column, cut}
 use Rattle.sync_product.specs.Rounds.{place_before}
 use Rattle.sync_product.proofs.Filling.{filled_more, filled_all}
 use Rattle.sync_product.proofs.Columns.{cut_column-at, length-cut, length-column}
-use Rattle.sync_product.proofs.columns.write_column.Goals as goal
+use Rattle.sync_product.proofs.tuple_columns.write_column.Goals as goal
 
 pub loop-at-preserved : goal.loop-at-preserved
 loop-at-preserved c =

@@ -5,7 +5,7 @@ use Rattle.aadl_chains.specs.Routes.{TracesTap}
 use Rattle.aadl_chains.proofs.Steps.{inner_of}
 use Rattle.aadl_chains.proofs.Routes.{no_tap}
 use Rattle.aadl_chains.proofs.Tracing.{tap_route}
-use Rattle.aadl_chains.proofs.tracing.trace_tap.Goals as goal
+use Rattle.aadl_chains.proofs.walks.trace_tap.Goals as goal
 
 pub lower_of-lower-requires : goal.lower_of-lower-requires
 lower_of-lower-requires c =

@@ -1,7 +1,7 @@
 use Rattle.std.proofs.Common.{◌≡◌, ◌≤◌, length, reverse, take, None}
 use Rattle.aadl_tree.specs.PackageViews.{placed}
 use Rattle.aadl_chains.specs.Walks as walks
-use Rattle.aadl_chains.proofs.tracing.climb.Given as goal
+use Rattle.aadl_chains.proofs.walks.climb.Given as goal
 
 -- the rest of the walk
 abbrev pub invariant-up : goal.invariant-up

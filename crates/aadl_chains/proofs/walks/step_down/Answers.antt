@@ -1,7 +1,7 @@
 use Rattle.std.proofs.Common.{◌∙◌, sym}
 use Rattle.aadl_tree.specs.PackageViews.{placed}
 use Rattle.aadl_chains.proofs.Steps.{inner_of}
-use Rattle.aadl_chains.proofs.tracing.step_down.Goals as goal
+use Rattle.aadl_chains.proofs.walks.step_down.Goals as goal
 
 pub lower_of-requires : goal.lower_of-requires
 lower_of-requires c =

@@ -4,7 +4,7 @@ use Rattle.aadl_chains.specs.Chains.{Port}
 use Rattle.aadl_chains.proofs.Climbing.{rank_falls}
 use Rattle.aadl_chains.proofs.Counted.{thread_at}
 use Rattle.aadl_chains.proofs.Routes.{Descending, descend_first, descend_more, descend_thread, descend_none}
-use Rattle.aadl_chains.proofs.tracing.descend.Goals as goal
+use Rattle.aadl_chains.proofs.walks.descend.Goals as goal
 
 pub down-init : goal.down-init
 down-init c = (

@@ -4,7 +4,7 @@ use Rattle.aadl_chains.specs.Chains.{Port}
 use Rattle.aadl_chains.specs.Routes.{Traces}
 use Rattle.aadl_chains.proofs.Routes.{traces_nothing}
 use Rattle.aadl_chains.proofs.Tracing.{root_route}
-use Rattle.aadl_chains.proofs.tracing.trace_back.Goals as goal
+use Rattle.aadl_chains.proofs.walks.trace_back.Goals as goal
 
 pub returns-in-Nowhere : goal.returns-in-Nowhere
 returns-in-Nowhere c =

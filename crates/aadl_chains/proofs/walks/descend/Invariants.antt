@@ -5,7 +5,7 @@ use Rattle.aadl_chains.specs.Inside.{is_in_at}
 use Rattle.aadl_chains.specs.Walks.{OneEach}
 use Rattle.aadl_chains.proofs.Climbing.{rank}
 use Rattle.aadl_chains.proofs.Routes.{Descending}
-use Rattle.aadl_chains.proofs.tracing.descend.Given as goal
+use Rattle.aadl_chains.proofs.walks.descend.Given as goal
 
 abbrev pub invariant-down : goal.invariant-down
 invariant-down l =

@@ -6,7 +6,7 @@ use Rattle.aadl_chains.specs.Climbing.{crossing}
 use Rattle.aadl_chains.specs.Routes.{Traces}
 use Rattle.aadl_chains.proofs.Climbing.{crossing_from}
 use Rattle.aadl_chains.proofs.Tracing.{over_route}
-use Rattle.aadl_chains.proofs.tracing.trace_over.Goals as goal
+use Rattle.aadl_chains.proofs.walks.trace_over.Goals as goal
 
 pub lower_of-lower-requires : goal.lower_of-lower-requires
 lower_of-lower-requires c =
