@@ -39,7 +39,7 @@ fn type_of(
 {
     match declaration {
         Declaration::Type(_) => Ok(None),
-        Declaration::Implementation(x) => type_number(names, alloc, x),
+        Declaration::Implementation(x) => type_number(alloc, names, x),
     }
 }
 
@@ -109,8 +109,8 @@ fn wire_of(
     ensures { IfOk result (λ wire. wire ≡ spec.wire_of (placed names.now.tree.now) (implementation_view kept_place x.now)
         (connection_view kept_place connection.now)) }
 {
-    let source = site(names, alloc, number, x, &connection.source)?;
-    let target = site(names, alloc, number, x, &connection.target)?;
+    let source = site(alloc, names, number, x, &connection.source)?;
+    let target = site(alloc, names, number, x, &connection.target)?;
     Ok(Wire {
         source: site_alone(source),
         target: site_alone(target),

@@ -34,15 +34,15 @@ pub fn incoming_of(alloc: Global, network: &Network<'_>) -> Result<Incoming, All
         feeds: Items::new(alloc),
     };
     for thread in network.threads {
-        add_thread(&mut incoming, alloc, network, thread.as_slice())?;
+        add_thread(alloc, &mut incoming, network, thread.as_slice())?;
     }
     Ok(incoming)
 }
 
 // Adds the chains into a thread.
 fn add_thread(
-    incoming: &mut Incoming,
     alloc: Global,
+    incoming: &mut Incoming,
     network: &Network<'_>,
     path: &[usize],
 ) -> Result<(), AllocError>
@@ -56,15 +56,15 @@ fn add_thread(
         unreachable!();
     };
     for port in 0..network.wires.ports(declaration).len() {
-        add_port(incoming, alloc, network, path, declaration, port)?;
+        add_port(alloc, incoming, network, path, declaration, port)?;
     }
     Ok(())
 }
 
 // Adds the chain into a port of a thread, if there is one.
 fn add_port(
-    incoming: &mut Incoming,
     alloc: Global,
+    incoming: &mut Incoming,
     network: &Network<'_>,
     path: &[usize],
     declaration: usize,
@@ -78,7 +78,7 @@ fn add_port(
         → ShowsInto network.now node (port + 1) incoming.new) }
 {
     if network.wires.is_in(declaration, port) {
-        add_chain(incoming, alloc, network, path, declaration, port)
+        add_chain(alloc, incoming, network, path, declaration, port)
     } else {
         Ok(())
     }
@@ -86,8 +86,8 @@ fn add_port(
 
 // Adds the chain into an in port of a thread, if there is one.
 fn add_chain(
-    incoming: &mut Incoming,
     alloc: Global,
+    incoming: &mut Incoming,
     network: &Network<'_>,
     path: &[usize],
     declaration: usize,
@@ -134,15 +134,15 @@ pub fn taps_of(alloc: Global, network: &Network<'_>) -> Result<Items<Chain>, All
 {
     let mut taps = Items::new(alloc);
     for port in 0..network.wires.ports(network.root).len() {
-        add_tap(&mut taps, alloc, network, port)?;
+        add_tap(alloc, &mut taps, network, port)?;
     }
     Ok(taps)
 }
 
 // Adds the tap to a port of the root, if there is one.
 fn add_tap(
-    taps: &mut Items<Chain>,
     alloc: Global,
+    taps: &mut Items<Chain>,
     network: &Network<'_>,
     port: usize,
 ) -> Result<(), AllocError>

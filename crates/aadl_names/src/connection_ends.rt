@@ -16,8 +16,8 @@ use std::alloc::{AllocError, Global};
 
 /// The number of an implementation's type.
 pub fn type_number(
-    names: &Names<'_>,
     alloc: Global,
+    names: &Names<'_>,
     x: &Implementation,
 ) -> Result<Option<usize>, AllocError>
     ensures { IfOk result (λ number. number ≡ spec.type_number (placed names.now.tree.now) (implementation_view kept_place x.now)) }
@@ -27,23 +27,23 @@ pub fn type_number(
 
 /// The number of the type of what a subcomponent names.
 pub fn type_number_of_sub(
-    names: &Names<'_>,
     alloc: Global,
+    names: &Names<'_>,
     sub: &Subcomponent,
 ) -> Result<Option<usize>, AllocError>
     ensures { IfOk result (λ number. number ≡ option_and_then (spec.type_number (placed names.now.tree.now))
         (spec.target_of (placed names.now.tree.now) (subcomponent_view kept_place sub.now))) }
 {
-    match target_of(names, alloc, sub)? {
-        Some(x) => type_number(names, alloc, x),
+    match target_of(alloc, names, sub)? {
+        Some(x) => type_number(alloc, names, x),
         None => Ok(None),
     }
 }
 
 /// The number of a port of the type of a number.
 pub fn port_number(
-    names: &Names<'_>,
     alloc: Global,
+    names: &Names<'_>,
     of_type: Option<usize>,
     name: &str,
 ) -> Result<Option<usize>, AllocError>
@@ -68,8 +68,8 @@ pub fn port_direction(names: &Names<'_>, of_type: Option<usize>, port: usize) ->
 
 // An own port.
 fn own_site(
-    names: &Names<'_>,
     alloc: Global,
+    names: &Names<'_>,
     x: &Implementation,
     name: &Identifier,
 ) -> Result<Option<(Site, Option<Direction>)>, AllocError>
@@ -77,8 +77,8 @@ fn own_site(
         (option_map Site.Own (spec.port_named (spec.ports_of (placed names.now.tree.now) (implementation_view kept_place x.now))
         (string_bytes name.now.spelling)))) }
 {
-    let of_type = type_number(names, alloc, x)?;
-    match port_number(names, alloc, of_type, name.spelling.as_str())? {
+    let of_type = type_number(alloc, names, x)?;
+    match port_number(alloc, names, of_type, name.spelling.as_str())? {
         Some(port) => Ok(Some((Site::Own(port), port_direction(names, of_type, port)))),
         None => Ok(None),
     }
@@ -86,8 +86,8 @@ fn own_site(
 
 // A port of a subcomponent.
 fn inner_site(
-    names: &Names<'_>,
     alloc: Global,
+    names: &Names<'_>,
     x: &Implementation,
     sub: usize,
     name: &Identifier,
@@ -98,8 +98,8 @@ fn inner_site(
     let Some(subcomponent) = x.subcomponents.get(sub) else {
         return Ok(None);
     };
-    let of_type = type_number_of_sub(names, alloc, subcomponent)?;
-    match port_number(names, alloc, of_type, name.spelling.as_str())? {
+    let of_type = type_number_of_sub(alloc, names, subcomponent)?;
+    match port_number(alloc, names, of_type, name.spelling.as_str())? {
         Some(port) => Ok(Some((Site::Inner(sub, port), port_direction(names, of_type, port)))),
         None => Ok(None),
     }
@@ -109,8 +109,8 @@ fn inner_site(
 /// it goes.
 #[tactic(auto, unfolding(crate::specs::Resolving::site))]
 pub fn site(
-    names: &Names<'_>,
     alloc: Global,
+    names: &Names<'_>,
     number: usize,
     x: &Implementation,
     end: &ConnectionEnd,
@@ -119,10 +119,10 @@ pub fn site(
     ensures { IfOk result (λ site. site ≡ sited (placed names.now.tree.now) (implementation_view kept_place x.now) (end_view kept_place end.now)) }
 {
     let Some(port) = &end.second else {
-        return own_site(names, alloc, x, &end.first);
+        return own_site(alloc, names, x, &end.first);
     };
     match names.member(alloc, number, end.first.spelling.as_str())? {
-        Some(sub) => inner_site(names, alloc, x, sub, port),
+        Some(sub) => inner_site(alloc, names, x, sub, port),
         None => Ok(None),
     }
 }

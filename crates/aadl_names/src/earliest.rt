@@ -19,15 +19,15 @@ pub fn earliest_of(alloc: Global, entries: &[Entry]) -> Result<Table<Spot>, Allo
             number,
             at: entry.at,
         };
-        add_spot(&mut table, alloc, entry.name.as_str(), spot)?;
+        add_spot(alloc, &mut table, entry.name.as_str(), spot)?;
     }
     Ok(table)
 }
 
 // Adds a declaration of a name, unless one of the name stands before it.
 fn add_spot(
-    table: &mut Table<Spot>,
     alloc: Global,
+    table: &mut Table<Spot>,
     name: &str,
     spot: Spot,
 ) -> Result<(), AllocError>

@@ -130,8 +130,8 @@ fn same_words(a: &[Identifier], b: &[Identifier]) -> bool
 
 // Adds a word.
 fn add_word(
-    table: &mut Table<usize>,
     alloc: Global,
+    table: &mut Table<usize>,
     word: &Identifier,
     number: usize,
 ) -> Result<(), AllocError>
@@ -143,8 +143,8 @@ fn add_word(
 
 // Adds a declaration to the types, if it is one.
 fn add_type(
-    types: &mut Table<usize>,
     alloc: Global,
+    types: &mut Table<usize>,
     declaration: &Declaration,
     number: usize,
 ) -> Result<(), AllocError>
@@ -159,8 +159,8 @@ fn add_type(
 
 // Adds a declaration to the implementations, if it is one.
 fn add_implementation(
-    implementations: &mut Table<usize>,
     alloc: Global,
+    implementations: &mut Table<usize>,
     declaration: &Declaration,
     number: usize,
 ) -> Result<(), AllocError>
@@ -182,7 +182,7 @@ fn types_of(alloc: Global, declarations: &[Declaration]) -> Result<Table<usize>,
 {
     let mut table = Table::new(alloc);
     for (number, declaration) in declarations.iter().enumerate() {
-        add_type(&mut table, alloc, declaration, number)?;
+        add_type(alloc, &mut table, declaration, number)?;
     }
     Ok(table)
 }
@@ -196,7 +196,7 @@ fn implementations_of(
 {
     let mut table = Table::new(alloc);
     for (number, declaration) in declarations.iter().enumerate() {
-        add_implementation(&mut table, alloc, declaration, number)?;
+        add_implementation(alloc, &mut table, declaration, number)?;
     }
     Ok(table)
 }
@@ -222,7 +222,7 @@ fn port_numbers(alloc: Global, ports: &[Feature]) -> Result<Table<usize>, AllocE
 {
     let mut table = Table::new(alloc);
     for (number, port) in ports.iter().enumerate() {
-        add_word(&mut table, alloc, &port.name, number)?;
+        add_word(alloc, &mut table, &port.name, number)?;
     }
     Ok(table)
 }
@@ -233,7 +233,7 @@ fn sub_numbers(alloc: Global, subs: &[Subcomponent]) -> Result<Table<usize>, All
 {
     let mut table = Table::new(alloc);
     for (number, sub) in subs.iter().enumerate() {
-        add_word(&mut table, alloc, &sub.name, number)?;
+        add_word(alloc, &mut table, &sub.name, number)?;
     }
     Ok(table)
 }

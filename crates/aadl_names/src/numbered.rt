@@ -51,8 +51,8 @@ pub fn type_numbered<'t>(
 
 /// The type of an implementation.
 pub fn type_of<'t>(
-    names: &Names<'t>,
     alloc: Global,
+    names: &Names<'t>,
     x: &Implementation,
 ) -> Result<Option<&'t TypeDeclaration>, AllocError>
     ensures { IfOk result (λ found. option_map (type_view kept_place) (option_copied found)
@@ -64,8 +64,8 @@ pub fn type_of<'t>(
 
 /// The implementation that a subcomponent names.
 pub fn target_of<'t>(
-    names: &Names<'t>,
     alloc: Global,
+    names: &Names<'t>,
     sub: &Subcomponent,
 ) -> Result<Option<&'t Implementation>, AllocError>
     ensures { IfOk result (λ found. option_map (implementation_view kept_place) (option_copied found)

@@ -97,7 +97,7 @@ fn paths_of(
     let mut row = own_path(alloc, marks, number)?;
     for (sub, target) in graph.targets(number).iter().enumerate() {
         if let Some(below) = *target {
-            add_below(&mut row, alloc, sub, paths.from(below))?;
+            add_below(alloc, &mut row, sub, paths.from(below))?;
         }
     }
     Ok(row)
@@ -116,8 +116,8 @@ fn own_path(alloc: Global, marks: &[bool], number: usize) -> Result<Vec<Vec<usiz
 
 // Adds the paths that go through a subcomponent.
 fn add_below(
-    row: &mut Vec<Vec<usize>>,
     alloc: Global,
+    row: &mut Vec<Vec<usize>>,
     sub: usize,
     below: &[Vec<usize>],
 ) -> Result<(), AllocError>

@@ -17,7 +17,7 @@ pub fn order(alloc: Global, graph: &Containment) -> Result<IndexSet<usize>, Allo
     ensures { IfOk result (λ order. IsOrder graph.now order.keys) }
 {
     let mut order = IndexSet::new(alloc);
-    place_guessed(&mut order, graph, alloc)?;
+    place_guessed(alloc, &mut order, graph)?;
     for _turn in 0..graph.len() {
         if order.len() < graph.len() {
             place_each(&mut order, graph)?;
@@ -28,9 +28,9 @@ pub fn order(alloc: Global, graph: &Containment) -> Result<IndexSet<usize>, Allo
 
 // Places declarations in the order of a guess, which is right where none contains itself.
 fn place_guessed(
+    alloc: Global,
     order: &mut IndexSet<usize>,
     graph: &Containment,
-    alloc: Global,
 ) -> Result<(), AllocError>
     ensures { OnOk result (ArePlaced graph.now 0 order.old.keys order.new.keys) }
 {

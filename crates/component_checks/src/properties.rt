@@ -41,22 +41,22 @@ pub struct Properties<'t> {
 }
 
 // What implementations say, and their types.
-fn own_in(names: &Names<'_>, alloc: Global) -> Result<Items<Timed>, NoMemory>
+fn own_in(alloc: Global, names: &Names<'_>) -> Result<Items<Timed>, NoMemory>
     ensures { IfOk result (λ own. own ≡ map (spec.own_timed (placed names.now.tree.now)) (placed names.now.tree.now).declarations) }
 {
     let types = all_of_types(alloc, names.tree)?;
-    all_own(names, alloc, types.as_slice())
+    all_own(alloc, names, types.as_slice())
 }
 
 // What the lists of a package with these names say.
-fn said_in(names: &Names<'_>, alloc: Global) -> Result<Said, NoMemory>
+fn said_in(alloc: Global, names: &Names<'_>) -> Result<Said, NoMemory>
     ensures own { IfOk result (λ said. said.own ≡ map (spec.own_timed (placed names.now.tree.now)) (placed names.now.tree.now).declarations) }
     ensures subs { IfOk result (λ said. said.subs ≡ map (spec.subs_timed (placed names.now.tree.now)) (placed names.now.tree.now).declarations) }
     ensures connections { IfOk result (λ said. said.connections ≡ map connections_carried (placed names.now.tree.now).declarations) }
 {
     let connections = all_of_connections(alloc, names.tree)?;
-    let own = own_in(names, alloc)?;
-    let subs = all_of_subs(names, alloc, own.as_slice())?;
+    let own = own_in(alloc, names)?;
+    let subs = all_of_subs(alloc, names, own.as_slice())?;
     Ok(Said {
         own,
         subs,
@@ -69,7 +69,7 @@ impl<'t> Properties<'t> {
     pub fn of(alloc: Global, names: Names<'t>) -> Result<Properties<'t>, NoMemory>
         ensures { IfOk result (λ properties. properties.names.tree.now ≡ names.entry.tree.now) }
     {
-        let said = said_in(&names, alloc)?;
+        let said = said_in(alloc, &names)?;
         Ok(Properties { names, said })
     }
 

@@ -47,8 +47,8 @@ pub fn property_in(list: &[Association], property: Property) -> Option<&Associat
 
 // A property of an implementation: its own, or its type's.
 fn own_property<'t>(
-    names: &Names<'t>,
     alloc: Global,
+    names: &Names<'t>,
     x: &'t Implementation,
     property: Property,
 ) -> Result<Option<&'t Association>, NoMemory>
@@ -58,7 +58,7 @@ fn own_property<'t>(
     if let Some(found) = property_in(x.properties.as_slice(), property) {
         return Ok(Some(found));
     }
-    match type_of(names, alloc, x)? {
+    match type_of(alloc, names, x)? {
         Some(of_type) => Ok(property_in(of_type.properties.as_slice(), property)),
         None => Ok(None),
     }
@@ -66,8 +66,8 @@ fn own_property<'t>(
 
 /// A property of the root.
 pub fn root_property<'t>(
-    names: &Names<'t>,
     alloc: Global,
+    names: &Names<'t>,
     root: usize,
     property: Property,
 ) -> Result<Option<&'t Association>, NoMemory>
@@ -75,7 +75,7 @@ pub fn root_property<'t>(
         ≡ spec.first_in property (spec.root_lists (placed names.now.tree.now) root)) }
 {
     match implementation_at(names.tree, root) {
-        Some(x) => own_property(names, alloc, x, property),
+        Some(x) => own_property(alloc, names, x, property),
         None => Ok(None),
     }
 }

@@ -22,10 +22,10 @@ use std::alloc::Global;
 
 // The skew of the root.
 #[tactic(auto, using(crate::proofs::Hours::skew_twice))]
-fn root_skew(names: &Names<'_>, alloc: Global, root: usize) -> Result<Option<Nanos>, NoMemory>
+fn root_skew(alloc: Global, names: &Names<'_>, root: usize) -> Result<Option<Nanos>, NoMemory>
     ensures { IfOk result (λ skew. skew ≡ spec.root_skew (placed names.now.tree.now) root) }
 {
-    match root_property(names, alloc, root, Property::Skew)? {
+    match root_property(alloc, names, root, Property::Skew)? {
         Some(found) => Ok(crate::skew_of(time_within(&found.value))),
         None => Ok(None),
     }
@@ -34,26 +34,26 @@ fn root_skew(names: &Names<'_>, alloc: Global, root: usize) -> Result<Option<Nan
 // A range of the root.
 #[tactic(auto, using(crate::proofs::Hours::range_twice))]
 fn root_range(
-    names: &Names<'_>,
     alloc: Global,
+    names: &Names<'_>,
     root: usize,
     property: Property,
 ) -> Result<Option<(Nanos, Nanos)>, NoMemory>
     ensures { IfOk result (λ range. range ≡ spec.root_range (placed names.now.tree.now) root property) }
 {
-    match root_property(names, alloc, root, property)? {
+    match root_property(alloc, names, root, property)? {
         Some(found) => Ok(crate::range_of(range_within(&found.value))),
         None => Ok(None),
     }
 }
 
 /// The bounds of the root, where none of the three is missing or refused.
-pub fn root_gamma(names: &Names<'_>, alloc: Global, root: usize) -> Result<Option<Gamma>, NoMemory>
+pub fn root_gamma(alloc: Global, names: &Names<'_>, root: usize) -> Result<Option<Gamma>, NoMemory>
     ensures { IfOk result (λ gamma. gamma ≡ spec.root_gamma (placed names.now.tree.now) root) }
 {
-    let skew = root_skew(names, alloc, root)?;
-    let execution = root_range(names, alloc, root, Property::Execution)?;
-    let network = root_range(names, alloc, root, Property::Network)?;
+    let skew = root_skew(alloc, names, root)?;
+    let execution = root_range(alloc, names, root, Property::Execution)?;
+    let network = root_range(alloc, names, root, Property::Network)?;
     Ok(gamma_by(skew, execution, network))
 }
 
@@ -69,8 +69,8 @@ fn root_place(tree: &PackageTree, root: usize) -> usize
 
 // Adds the finding that the root lacks a property.
 fn add_missing(
-    names: &Names<'_>,
     alloc: Global,
+    names: &Names<'_>,
     root: usize,
     number: u32,
     details: &str,
@@ -80,14 +80,14 @@ fn add_missing(
     ensures { OnOk result (found.new ≡ found.old ++ spec.missing (placed names.now.tree.now) root number details.now property) }
 {
     let at = root_place(names.tree, root);
-    let given = root_property(names, alloc, root, property)?;
+    let given = root_property(alloc, names, root, property)?;
     add_named(alloc, found, given.is_none(), at, number, details)
 }
 
 // Adds the finding that the root lacks one of the bounds.
 fn add_missing_bound(
-    names: &Names<'_>,
     alloc: Global,
+    names: &Names<'_>,
     root: usize,
     property: Property,
     found: &mut Items<Violation>,
@@ -95,22 +95,22 @@ fn add_missing_bound(
     ensures { OnOk result (found.new ≡ found.old ++ spec.missing_bound (placed names.now.tree.now) root property) }
 {
     let number = GAMMA_MISSING;
-    add_missing(names, alloc, root, number, shown(property), property, found)
+    add_missing(alloc, names, root, number, shown(property), property, found)
 }
 
 // Adds the findings that the root lacks its period or bounds.
 fn add_missing_findings(
-    names: &Names<'_>,
     alloc: Global,
+    names: &Names<'_>,
     root: usize,
     found: &mut Items<Violation>,
 ) -> Result<(), NoMemory>
     ensures { OnOk result (found.new ≡ found.old ++ spec.missing_findings (placed names.now.tree.now) root) }
 {
-    add_missing(names, alloc, root, NO_PERIOD, "", Property::Period, found)?;
-    add_missing_bound(names, alloc, root, Property::Skew, found)?;
-    add_missing_bound(names, alloc, root, Property::Execution, found)?;
-    add_missing_bound(names, alloc, root, Property::Network, found)
+    add_missing(alloc, names, root, NO_PERIOD, "", Property::Period, found)?;
+    add_missing_bound(alloc, names, root, Property::Skew, found)?;
+    add_missing_bound(alloc, names, root, Property::Execution, found)?;
+    add_missing_bound(alloc, names, root, Property::Network, found)
 }
 
 // Adds the finding that a skew is 0.
@@ -169,18 +169,18 @@ fn add_reversed_range(
 
 // Adds the findings that the skew is 0, or a range reversed.
 fn add_order_findings(
-    names: &Names<'_>,
     alloc: Global,
+    names: &Names<'_>,
     root: usize,
     found: &mut Items<Violation>,
 ) -> Result<(), NoMemory>
     ensures { OnOk result (found.new ≡ found.old ++ spec.order_findings (placed names.now.tree.now) root) }
 {
-    let skew = root_property(names, alloc, root, Property::Skew)?;
+    let skew = root_property(alloc, names, root, Property::Skew)?;
     add_zero_skew(alloc, skew, found)?;
-    let execution = root_property(names, alloc, root, Property::Execution)?;
+    let execution = root_property(alloc, names, root, Property::Execution)?;
     add_reversed_range(alloc, Property::Execution, execution, found)?;
-    let network = root_property(names, alloc, root, Property::Network)?;
+    let network = root_property(alloc, names, root, Property::Network)?;
     add_reversed_range(alloc, Property::Network, network, found)
 }
 
@@ -207,8 +207,8 @@ fn time_at(given: Option<&Association>) -> Option<Nanos>
 /// Adds what is wrong with the root, where `rate` is the greatest rate of its components: its period or
 /// a bound is missing, the skew is 0, a range is reversed, the period is below the bound.
 pub fn add_root_findings(
-    names: &Names<'_>,
     alloc: Global,
+    names: &Names<'_>,
     root: usize,
     rate: u32,
     found: &mut Items<Violation>,
@@ -216,9 +216,9 @@ pub fn add_root_findings(
     requires { rate ≤ RATE }
     ensures { OnOk result (found.new ≡ found.old ++ spec.root_findings (placed names.now.tree.now) root rate) }
 {
-    add_missing_findings(names, alloc, root, found)?;
-    add_order_findings(names, alloc, root, found)?;
-    let given = root_property(names, alloc, root, Property::Period)?;
-    let gamma = root_gamma(names, alloc, root)?;
+    add_missing_findings(alloc, names, root, found)?;
+    add_order_findings(alloc, names, root, found)?;
+    let given = root_property(alloc, names, root, Property::Period)?;
+    let gamma = root_gamma(alloc, names, root)?;
     add_bound_findings(alloc, found, place_of(given), time_at(given), gamma, rate)
 }

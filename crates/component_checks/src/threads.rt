@@ -100,8 +100,8 @@ pub fn add_named(
 /// Adds what is wrong with a component: its dispatch is not periodic, or its period does not divide
 /// the root's, or does too often.
 pub fn add_thread_findings(
-    properties: &Properties<'_>,
     alloc: Global,
+    properties: &Properties<'_>,
     root: usize,
     thread: &ThreadAt,
     found: &mut Items<Violation>,

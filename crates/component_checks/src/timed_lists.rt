@@ -57,8 +57,8 @@ pub fn all_of_types(alloc: Global, tree: &PackageTree) -> Result<Items<Timed>, N
 
 // What an implementation says, and its type.
 fn own_of(
-    names: &Names<'_>,
     alloc: Global,
+    names: &Names<'_>,
     types: &[Timed],
     declaration: &Declaration,
 ) -> Result<Timed, NoMemory>
@@ -76,21 +76,21 @@ fn own_of(
 }
 
 /// What the implementations of a package say, and their types, by their numbers.
-pub fn all_own(names: &Names<'_>, alloc: Global, types: &[Timed]) -> Result<Items<Timed>, NoMemory>
+pub fn all_own(alloc: Global, names: &Names<'_>, types: &[Timed]) -> Result<Items<Timed>, NoMemory>
     requires { types.now ≡ map spec.type_timed (placed names.now.tree.now).declarations }
     ensures { IfOk result (λ own. own ≡ map (spec.own_timed (placed names.now.tree.now)) (placed names.now.tree.now).declarations) }
 {
     let mut own = Items::new(alloc);
     for declaration in &names.tree.declarations {
-        own.push(own_of(names, alloc, types, declaration)?)?;
+        own.push(own_of(alloc, names, types, declaration)?)?;
     }
     Ok(own)
 }
 
 // What a subcomponent says, its implementation and that one's type.
 fn sub_of(
-    names: &Names<'_>,
     alloc: Global,
+    names: &Names<'_>,
     own: &[Timed],
     sub: &Subcomponent,
 ) -> Result<Timed, NoMemory>
@@ -104,8 +104,8 @@ fn sub_of(
 
 // What subcomponents say, in order.
 fn subs_of(
-    names: &Names<'_>,
     alloc: Global,
+    names: &Names<'_>,
     own: &[Timed],
     subs: &[Subcomponent],
 ) -> Result<Items<Timed>, NoMemory>
@@ -114,15 +114,15 @@ fn subs_of(
 {
     let mut timed = Items::new(alloc);
     for sub in subs {
-        timed.push(sub_of(names, alloc, own, sub)?)?;
+        timed.push(sub_of(alloc, names, own, sub)?)?;
     }
     Ok(timed)
 }
 
 // What the subcomponents of a declaration say.
 fn subs_in(
-    names: &Names<'_>,
     alloc: Global,
+    names: &Names<'_>,
     own: &[Timed],
     declaration: &Declaration,
 ) -> Result<Items<Timed>, NoMemory>
@@ -131,14 +131,14 @@ fn subs_in(
 {
     match declaration {
         Declaration::Type(_) => Ok(Items::new(alloc)),
-        Declaration::Implementation(x) => subs_of(names, alloc, own, x.subcomponents.as_slice()),
+        Declaration::Implementation(x) => subs_of(alloc, names, own, x.subcomponents.as_slice()),
     }
 }
 
 /// What the subcomponents of a package say, by the numbers of their declarations and their own there.
 pub fn all_of_subs(
-    names: &Names<'_>,
     alloc: Global,
+    names: &Names<'_>,
     own: &[Timed],
 ) -> Result<Items<Items<Timed>>, NoMemory>
     requires { own.now ≡ map (spec.own_timed (placed names.now.tree.now)) (placed names.now.tree.now).declarations }
@@ -146,7 +146,7 @@ pub fn all_of_subs(
 {
     let mut subs = Items::new(alloc);
     for declaration in &names.tree.declarations {
-        subs.push(subs_in(names, alloc, own, declaration)?)?;
+        subs.push(subs_in(alloc, names, own, declaration)?)?;
     }
     Ok(subs)
 }

@@ -20,8 +20,8 @@ use std::alloc::Global;
 
 // The behaviour of a thread, if it has one.
 fn behaviour(
-    names: &Names<'_>,
     alloc: Global,
+    names: &Names<'_>,
     thread: &ThreadAt,
 ) -> Result<Option<Behaviour>, NoMemory>
     requires limits { IsWithinLimits (placed names.now.tree.now) thread.now }
@@ -29,10 +29,10 @@ fn behaviour(
     ensures { IfOk result (λ found. found ≡ spec.thread_behaviour (placed names.now.tree.now) thread.now) }
 {
     let mut found = Items::new(alloc);
-    let Some(x) = component_of(names, alloc, thread)? else {
+    let Some(x) = component_of(alloc, names, thread)? else {
         return Ok(None);
     };
-    let Some(parts) = resolve_implementation(names, alloc, x, &mut found)? else {
+    let Some(parts) = resolve_implementation(alloc, names, x, &mut found)? else {
         return Ok(None);
     };
     Ok(Some(Behaviour::new(parts)))
@@ -40,8 +40,8 @@ fn behaviour(
 
 // A component, if nothing of it is refused.
 fn component(
-    properties: &Properties<'_>,
     alloc: Global,
+    properties: &Properties<'_>,
     root: usize,
     thread: &ThreadAt,
 ) -> Result<Option<Component>, NoMemory>
@@ -52,7 +52,7 @@ fn component(
     let Some(rate) = thread_rate(properties, root, thread) else {
         return Ok(None);
     };
-    let Some(behaviour) = behaviour(&properties.names, alloc, thread)? else {
+    let Some(behaviour) = behaviour(alloc, &properties.names, thread)? else {
         return Ok(None);
     };
     Ok(Some(Component {
@@ -64,8 +64,8 @@ fn component(
 
 // The components, if nothing of them is refused.
 fn components(
-    properties: &Properties<'_>,
     alloc: Global,
+    properties: &Properties<'_>,
     root: usize,
     threads: &[ThreadAt],
 ) -> Result<Option<Items<Component>>, NoMemory>
@@ -75,7 +75,7 @@ fn components(
 {
     let mut components = Items::new(alloc);
     for thread in threads {
-        let Some(component) = component(properties, alloc, root, thread)? else {
+        let Some(component) = component(alloc, properties, root, thread)? else {
             return Ok(None);
         };
         components.push(component)?;
@@ -122,8 +122,8 @@ fn link(properties: &Properties<'_>, chain: &Chain) -> Option<Link>
 
 // The links.
 fn links(
-    properties: &Properties<'_>,
     alloc: Global,
+    properties: &Properties<'_>,
     chains: &[Chain],
 ) -> Result<Option<Items<Link>>, NoMemory>
     ensures { IfOk result (λ found. found ≡ spec.all_of (map (spec.link_in (placed properties.now.names.tree.now)) chains.now)) }
@@ -139,7 +139,7 @@ fn links(
 }
 
 // The feed of a chain, if it runs from the root to a thread.
-fn feed(properties: &Properties<'_>, alloc: Global, chain: &Chain) -> Result<Option<Feed>, NoMemory>
+fn feed(alloc: Global, properties: &Properties<'_>, chain: &Chain) -> Result<Option<Feed>, NoMemory>
     ensures { IfOk result (λ found. found ≡ spec.feed_in (placed properties.now.names.tree.now) chain.now) }
 {
     let ChainEnd::Root { name } = &chain.from else {
@@ -162,15 +162,15 @@ fn feed(properties: &Properties<'_>, alloc: Global, chain: &Chain) -> Result<Opt
 
 // The feeds.
 fn feeds(
-    properties: &Properties<'_>,
     alloc: Global,
+    properties: &Properties<'_>,
     chains: &[Chain],
 ) -> Result<Option<Items<Feed>>, NoMemory>
     ensures { IfOk result (λ found. found ≡ spec.all_of (map (spec.feed_in (placed properties.now.names.tree.now)) chains.now)) }
 {
     let mut feeds = Items::new(alloc);
     for chain in chains {
-        let Some(feed) = feed(properties, alloc, chain)? else {
+        let Some(feed) = feed(alloc, properties, chain)? else {
             return Ok(None);
         };
         feeds.push(feed)?;
@@ -216,8 +216,8 @@ fn taps(alloc: Global, chains: &[Chain]) -> Result<Option<Items<Tap>>, NoMemory>
 /// The parts of the design of an instance, by what the lists of its package say, if nothing of it is
 /// refused.
 pub fn design_parts(
-    properties: &Properties<'_>,
     alloc: Global,
+    properties: &Properties<'_>,
     instance: &Instance<'_>,
 ) -> Result<Option<DesignParts>, NoMemory>
     requires names { properties.now.names.tree.now ≡ instance.now.tree.now }
@@ -230,16 +230,16 @@ pub fn design_parts(
     let Some(period) = root_period(properties, root) else {
         return Ok(None);
     };
-    let Some(gamma) = root_gamma(names, alloc, root)? else {
+    let Some(gamma) = root_gamma(alloc, names, root)? else {
         return Ok(None);
     };
-    let Some(components) = components(properties, alloc, root, instance.threads.as_slice())? else {
+    let Some(components) = components(alloc, properties, root, instance.threads.as_slice())? else {
         return Ok(None);
     };
-    let Some(links) = links(properties, alloc, instance.links.as_slice())? else {
+    let Some(links) = links(alloc, properties, instance.links.as_slice())? else {
         return Ok(None);
     };
-    let Some(feeds) = feeds(properties, alloc, instance.feeds.as_slice())? else {
+    let Some(feeds) = feeds(alloc, properties, instance.feeds.as_slice())? else {
         return Ok(None);
     };
     let Some(taps) = taps(alloc, instance.taps.as_slice())? else {
@@ -252,6 +252,6 @@ pub fn design_parts(
         links,
         feeds,
         taps,
-        ignored: ignored_names(names, alloc, root)?,
+        ignored: ignored_names(alloc, names, root)?,
     }))
 }

@@ -40,8 +40,8 @@ impl From<AllocError> for CheckFault {
 
 // The design of an instance in which nothing is wrong.
 fn accepted(
-    properties: &Properties<'_>,
     alloc: Global,
+    properties: &Properties<'_>,
     instance: &Instance<'_>,
 ) -> Result<Design, NoMemory>
     requires names { properties.now.names.tree.now ≡ instance.now.tree.now }
@@ -53,7 +53,7 @@ fn accepted(
     behaviours_keep_their_rules();
     designs_are_there();
     designs_keep_their_rules();
-    let Some(parts) = design_parts(properties, alloc, instance)? else {
+    let Some(parts) = design_parts(alloc, properties, instance)? else {
         unreachable!();
     };
     Ok(Design::new(parts))
@@ -71,6 +71,6 @@ pub fn check(alloc: Global, instance: &Instance<'_>) -> Result<Design, CheckFaul
     if !found.is_empty() {
         return Err(CheckFault::Violations(found));
     }
-    let design = accepted(&properties, alloc, instance)?;
+    let design = accepted(alloc, &properties, instance)?;
     Ok(design)
 }

@@ -42,8 +42,8 @@ fn add_rated(
 
 // Adds what is wrong with the adaptor of a link or a feed that a connection carries.
 fn add_adaptor_findings(
-    names: &Names<'_>,
     alloc: Global,
+    names: &Names<'_>,
     threads: &[ThreadAt],
     rates: &[Option<u32>],
     chain: &Chain,
@@ -58,9 +58,9 @@ fn add_adaptor_findings(
 {
     let carrier = Carrier {
         at: connection.name.at,
-        name: end_name(names, alloc, threads, &chain.to)?,
+        name: end_name(alloc, names, threads, &chain.to)?,
         adaptor: said.adaptor,
-        kind: end_kind(names, alloc, threads, &chain.to)?,
+        kind: end_kind(alloc, names, threads, &chain.to)?,
     };
     let source = end_rate(rates, &chain.from);
     let target = end_rate(rates, &chain.to);
@@ -69,8 +69,8 @@ fn add_adaptor_findings(
 
 // Adds the finding that a link's carrier is not delayed.
 fn add_timing_findings(
-    names: &Names<'_>,
     alloc: Global,
+    names: &Names<'_>,
     threads: &[ThreadAt],
     chain: &Chain,
     connection: &Connection,
@@ -81,7 +81,7 @@ fn add_timing_findings(
     ensures { OnOk result (found.new ≡ found.old
         ++ spec.timing_findings (placed names.now.tree.now) threads.now chain.now (connection_view kept_place connection.now)) }
 {
-    let name = end_name(names, alloc, threads, &chain.to)?;
+    let name = end_name(alloc, names, threads, &chain.to)?;
     add_named(
         alloc,
         found,
@@ -95,8 +95,8 @@ fn add_timing_findings(
 /// Adds what is wrong with a link, over the threads and their rates: its carrier is not delayed, the
 /// rates don't divide, an adaptor is missing, stray or not allowed.
 pub fn add_link_findings(
-    properties: &Properties<'_>,
     alloc: Global,
+    properties: &Properties<'_>,
     threads: &[ThreadAt],
     rates: &[Option<u32>],
     link: &Chain,
@@ -110,14 +110,14 @@ pub fn add_link_findings(
     let Some((connection, said)) = carrier_of(properties, link.carrier) else {
         return Ok(());
     };
-    add_timing_findings(names, alloc, threads, link, connection, said, found)?;
-    add_adaptor_findings(names, alloc, threads, rates, link, connection, said, found)
+    add_timing_findings(alloc, names, threads, link, connection, said, found)?;
+    add_adaptor_findings(alloc, names, threads, rates, link, connection, said, found)
 }
 
 /// Adds what is wrong with a feed: the adaptor between the root's rate, which is 1, and the thread's.
 pub fn add_feed_findings(
-    properties: &Properties<'_>,
     alloc: Global,
+    properties: &Properties<'_>,
     threads: &[ThreadAt],
     rates: &[Option<u32>],
     feed: &Chain,
@@ -130,7 +130,7 @@ pub fn add_feed_findings(
     let names = &properties.names;
     match carrier_of(properties, feed.carrier) {
         Some((connection, said)) => {
-            add_adaptor_findings(names, alloc, threads, rates, feed, connection, said, found)
+            add_adaptor_findings(alloc, names, threads, rates, feed, connection, said, found)
         }
         None => Ok(()),
     }
@@ -139,8 +139,8 @@ pub fn add_feed_findings(
 /// Adds the finding that a tap has an adaptor.
 #[tactic(auto, using(crate::proofs::Mapped::has_mapped))]
 pub fn add_tap_findings(
-    properties: &Properties<'_>,
     alloc: Global,
+    properties: &Properties<'_>,
     threads: &[ThreadAt],
     tap: &Chain,
     found: &mut Items<Violation>,
@@ -151,7 +151,7 @@ pub fn add_tap_findings(
     let Some((connection, said)) = carrier_of(properties, tap.carrier) else {
         return Ok(());
     };
-    let name = end_name(&properties.names, alloc, threads, &tap.to)?;
+    let name = end_name(alloc, &properties.names, threads, &tap.to)?;
     add_named(
         alloc,
         found,

@@ -27,15 +27,15 @@ use std::alloc::Global;
 
 // The port of an implementation's type.
 fn own_port<'t>(
-    names: &Names<'t>,
     alloc: Global,
+    names: &Names<'t>,
     x: &Implementation,
     port: usize,
 ) -> Result<Option<&'t Feature>, NoMemory>
     ensures { IfOk result (λ found. option_map (feature_view kept_place) (option_copied found)
         ≡ spec.site_port (placed names.now.tree.now) (implementation_view kept_place x.now) (sites.Own port)) }
 {
-    match type_of(names, alloc, x)? {
+    match type_of(alloc, names, x)? {
         Some(of_type) => Ok(of_type.features.get(port)),
         None => Ok(None),
     }
@@ -43,8 +43,8 @@ fn own_port<'t>(
 
 // The port of a subcomponent.
 fn inner_port<'t>(
-    names: &Names<'t>,
     alloc: Global,
+    names: &Names<'t>,
     x: &Implementation,
     sub: usize,
     port: usize,
@@ -55,24 +55,24 @@ fn inner_port<'t>(
     let Some(sub) = x.subcomponents.get(sub) else {
         return Ok(None);
     };
-    match target_of(names, alloc, sub)? {
-        Some(target) => own_port(names, alloc, target, port),
+    match target_of(alloc, names, sub)? {
+        Some(target) => own_port(alloc, names, target, port),
         None => Ok(None),
     }
 }
 
 // The type of the port at a site.
 fn site_kind(
-    names: &Names<'_>,
     alloc: Global,
+    names: &Names<'_>,
     x: &Implementation,
     site: Site,
 ) -> Result<Option<Kind>, NoMemory>
     ensures { IfOk result (λ kind. kind ≡ spec.site_kind (placed names.now.tree.now) (implementation_view kept_place x.now) site) }
 {
     let port = match site {
-        Site::Own(port) => own_port(names, alloc, x, port)?,
-        Site::Inner(sub, port) => inner_port(names, alloc, x, sub, port)?,
+        Site::Own(port) => own_port(alloc, names, x, port)?,
+        Site::Inner(sub, port) => inner_port(alloc, names, x, sub, port)?,
     };
     match port {
         Some(port) => Ok(kind_in(&port.data_type)),
@@ -82,8 +82,8 @@ fn site_kind(
 
 // The type of the port at an end of a connection.
 fn kind_at(
-    names: &Names<'_>,
     alloc: Global,
+    names: &Names<'_>,
     number: usize,
     x: &Implementation,
     end: &ConnectionEnd,
@@ -91,8 +91,8 @@ fn kind_at(
     requires { slice_get (placed names.now.tree.now).declarations number ≡ Some (implementation (implementation_view kept_place x.now)) }
     ensures { IfOk result (λ kind. kind ≡ spec.kind_at (placed names.now.tree.now) (implementation_view kept_place x.now) (end_view kept_place end.now)) }
 {
-    match site(names, alloc, number, x, end)? {
-        Some((site, _direction)) => site_kind(names, alloc, x, site),
+    match site(alloc, names, number, x, end)? {
+        Some((site, _direction)) => site_kind(alloc, names, x, site),
         None => Ok(None),
     }
 }
@@ -116,8 +116,8 @@ fn joins_own(connection: &Connection) -> bool
 
 // Adds the finding that the ends of a connection are of different types.
 fn add_ends_findings(
-    names: &Names<'_>,
     alloc: Global,
+    names: &Names<'_>,
     number: usize,
     x: &Implementation,
     connection: &Connection,
@@ -127,8 +127,8 @@ fn add_ends_findings(
     ensures { OnOk result (found.new ≡ found.old
         ++ spec.ends_findings (placed names.now.tree.now) (implementation_view kept_place x.now) (connection_view kept_place connection.now)) }
 {
-    let source = kind_at(names, alloc, number, x, &connection.source)?;
-    let target = kind_at(names, alloc, number, x, &connection.target)?;
+    let source = kind_at(alloc, names, number, x, &connection.source)?;
+    let target = kind_at(alloc, names, number, x, &connection.target)?;
     expect(alloc, found, connection.name.at, source, target)
 }
 
@@ -177,8 +177,8 @@ fn add_adaptor_findings(
 
 // Adds what is wrong with a connection.
 fn add_connection_findings(
-    names: &Names<'_>,
     alloc: Global,
+    names: &Names<'_>,
     carriers: &Carriers,
     number: usize,
     x: &Implementation,
@@ -190,7 +190,7 @@ fn add_connection_findings(
     ensures { OnOk result (found.new ≡ found.old
         ++ spec.connection_findings (placed names.now.tree.now) (carries carriers.now) number (implementation_view kept_place x.now) (at, connection_view kept_place connection.now)) }
 {
-    add_ends_findings(names, alloc, number, x, connection, found)?;
+    add_ends_findings(alloc, names, number, x, connection, found)?;
     let said = Carried::of(alloc, connection.properties.as_slice())?;
     add_delay_findings(alloc, connection, said, found)?;
     add_adaptor_findings(alloc, carriers.has(number, at), connection, said, found)
@@ -199,8 +199,8 @@ fn add_connection_findings(
 /// Adds what is wrong with the connections of the implementation of a number: ends of different types,
 /// a delay at an own port, an adaptor on what carries no chain.
 pub fn add_connections_findings(
-    names: &Names<'_>,
     alloc: Global,
+    names: &Names<'_>,
     carriers: &Carriers,
     number: usize,
     x: &Implementation,
@@ -211,7 +211,7 @@ pub fn add_connections_findings(
         ++ spec.connections_findings (placed names.now.tree.now) (carries carriers.now) number (implementation_view kept_place x.now)) }
 {
     for (at, connection) in x.connections.iter().enumerate() {
-        add_connection_findings(names, alloc, carriers, number, x, at, connection, found)?;
+        add_connection_findings(alloc, names, carriers, number, x, at, connection, found)?;
     }
     Ok(())
 }

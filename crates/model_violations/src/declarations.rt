@@ -27,21 +27,21 @@ use std::alloc::Global;
 
 // Whether a type is the root's.
 fn is_root_type(
-    names: &Names<'_>,
     alloc: Global,
+    names: &Names<'_>,
     root: usize,
     number: usize,
 ) -> Result<bool, NoMemory>
     ensures { IfOk result (λ is. is ≡ is_root_type (placed names.now.tree.now) root number) }
 {
-    let of_root = root_type(names, alloc, root)?;
+    let of_root = root_type(alloc, names, root)?;
     Ok(is_number(number, of_root))
 }
 
 // Adds what is wrong with the type of a number.
 fn add_type_findings(
-    names: &Names<'_>,
     alloc: Global,
+    names: &Names<'_>,
     root: usize,
     number: usize,
     x: &TypeDeclaration,
@@ -50,7 +50,7 @@ fn add_type_findings(
     ensures { OnOk result (found.new ≡ found.old
         ++ spec.type_findings (is_root_type (placed names.now.tree.now) root number) (type_view kept_place x.now)) }
 {
-    let of_root = is_root_type(names, alloc, root, number)?;
+    let of_root = is_root_type(alloc, names, root, number)?;
     add_port_findings(alloc, x.features.as_slice(), found)?;
     let holder = Holder::Declaration(x.category, of_root);
     add_list_big(alloc, holder, x.properties.as_slice(), found)
@@ -73,8 +73,8 @@ fn add_subs_findings(
 
 // Adds what is wrong with the behaviour of an implementation, if it is a thread's.
 fn add_thread_findings(
-    names: &Names<'_>,
     alloc: Global,
+    names: &Names<'_>,
     x: &Implementation,
     found: &mut Items<Violation>,
 ) -> Result<(), NoMemory>
@@ -83,7 +83,7 @@ fn add_thread_findings(
 {
     match x.category {
         Category::Thread => {
-            let _behaviour = resolve_implementation(names, alloc, x, found)?;
+            let _behaviour = resolve_implementation(alloc, names, x, found)?;
             Ok(())
         }
         Category::System | Category::Process => Ok(()),
@@ -92,8 +92,8 @@ fn add_thread_findings(
 
 // Adds what is wrong with the implementation of a number.
 fn add_implementation_findings(
-    names: &Names<'_>,
     alloc: Global,
+    names: &Names<'_>,
     root: usize,
     carriers: &Carriers,
     number: usize,
@@ -108,14 +108,14 @@ fn add_implementation_findings(
     let holder = Holder::Declaration(x.category, number == root);
     add_list_big(alloc, holder, x.properties.as_slice(), found)?;
     add_subs_findings(alloc, x.subcomponents.as_slice(), found)?;
-    add_connections_findings(names, alloc, carriers, number, x, found)?;
-    add_thread_findings(names, alloc, x, found)
+    add_connections_findings(alloc, names, carriers, number, x, found)?;
+    add_thread_findings(alloc, names, x, found)
 }
 
 // Adds what is wrong with the declaration of a number, where it is in use.
 fn add_declaration_findings(
-    names: &Names<'_>,
     alloc: Global,
+    names: &Names<'_>,
     root: usize,
     used: &IndexSet<usize>,
     types: &IndexSet<usize>,
@@ -133,14 +133,14 @@ fn add_declaration_findings(
     match declaration {
         Declaration::Type(x) => {
             if types.contains(&number) {
-                add_type_findings(names, alloc, root, number, x, found)
+                add_type_findings(alloc, names, root, number, x, found)
             } else {
                 Ok(())
             }
         }
         Declaration::Implementation(x) => {
             if used.contains(&number) {
-                add_implementation_findings(names, alloc, root, carriers, number, x, found)
+                add_implementation_findings(alloc, names, root, carriers, number, x, found)
             } else {
                 Ok(())
             }
@@ -151,8 +151,8 @@ fn add_declaration_findings(
 /// Adds what is wrong with the declarations in use: the implementations and types of these numbers,
 /// where the connections carry chains.
 pub fn add_declarations_findings(
-    names: &Names<'_>,
     alloc: Global,
+    names: &Names<'_>,
     root: usize,
     used: &IndexSet<usize>,
     types: &IndexSet<usize>,
@@ -165,8 +165,8 @@ pub fn add_declarations_findings(
 {
     for (number, declaration) in names.tree.declarations.iter().enumerate() {
         add_declaration_findings(
-            names,
             alloc,
+            names,
             root,
             used,
             types,

@@ -13,11 +13,11 @@ use pals_base::{Items, NoMemory, Text};
 use std::alloc::Global;
 
 /// The number of the type of the root's implementation.
-pub fn root_type(names: &Names<'_>, alloc: Global, root: usize) -> Result<Option<usize>, NoMemory>
+pub fn root_type(alloc: Global, names: &Names<'_>, root: usize) -> Result<Option<usize>, NoMemory>
     ensures { IfOk result (λ number. number ≡ spec.root_type (placed names.now.tree.now) root) }
 {
     match names.tree.declarations.get(root) {
-        Some(Declaration::Implementation(x)) => type_number(names, alloc, x),
+        Some(Declaration::Implementation(x)) => type_number(alloc, names, x),
         Some(Declaration::Type(_)) => Ok(None),
         None => Ok(None),
     }
@@ -42,10 +42,10 @@ fn add_declarations(
 
 /// The names of the properties of a package that mean nothing where they stand, in order of first
 /// appearance, each as it is first spelled.
-pub fn ignored_names(names: &Names<'_>, alloc: Global, root: usize) -> Result<Items<Text>, NoMemory>
+pub fn ignored_names(alloc: Global, names: &Names<'_>, root: usize) -> Result<Items<Text>, NoMemory>
     ensures { IfOk result (λ found. found ≡ spec.ignored_names (placed names.now.tree.now) root) }
 {
-    let of_root = root_type(names, alloc, root)?;
+    let of_root = root_type(alloc, names, root)?;
     let mut found = Items::new(alloc);
     add_declarations(alloc, names.tree, root, of_root, &mut found)?;
     first_spellings(alloc, found.as_slice())

@@ -22,8 +22,8 @@ use std::alloc::Global;
 
 // The rates of threads, where they may make as many steps.
 fn rates_of(
-    properties: &Properties<'_>,
     alloc: Global,
+    properties: &Properties<'_>,
     root: usize,
     threads: &[ThreadAt],
 ) -> Result<Items<Option<u32>>, NoMemory>
@@ -38,8 +38,8 @@ fn rates_of(
 
 // Adds what is wrong with threads.
 fn add_threads_findings(
-    properties: &Properties<'_>,
     alloc: Global,
+    properties: &Properties<'_>,
     root: usize,
     threads: &[ThreadAt],
     found: &mut Items<Violation>,
@@ -47,7 +47,7 @@ fn add_threads_findings(
     ensures { OnOk result (found.new ≡ found.old ++ flat_map (threads_spec.thread_findings (placed properties.now.names.tree.now) root) threads.now) }
 {
     for thread in threads {
-        add_thread_findings(properties, alloc, root, thread, found)?;
+        add_thread_findings(alloc, properties, root, thread, found)?;
     }
     Ok(())
 }
@@ -75,8 +75,8 @@ fn carriers_of(alloc: Global, instance: &Instance<'_>) -> Result<Carriers, NoMem
 
 // Adds what is wrong with links, over the rates of the threads.
 fn add_links_findings(
-    properties: &Properties<'_>,
     alloc: Global,
+    properties: &Properties<'_>,
     threads: &[ThreadAt],
     rates: &[Option<u32>],
     links: &[Chain],
@@ -86,15 +86,15 @@ fn add_links_findings(
     ensures { OnOk result (found.new ≡ found.old ++ flat_map (link_findings (placed properties.now.names.tree.now) threads.now rates.now) links.now) }
 {
     for link in links {
-        add_link_findings(properties, alloc, threads, rates, link, found)?;
+        add_link_findings(alloc, properties, threads, rates, link, found)?;
     }
     Ok(())
 }
 
 // Adds what is wrong with feeds.
 fn add_feeds_findings(
-    properties: &Properties<'_>,
     alloc: Global,
+    properties: &Properties<'_>,
     threads: &[ThreadAt],
     rates: &[Option<u32>],
     feeds: &[Chain],
@@ -104,15 +104,15 @@ fn add_feeds_findings(
     ensures { OnOk result (found.new ≡ found.old ++ flat_map (feed_findings (placed properties.now.names.tree.now) threads.now rates.now) feeds.now) }
 {
     for feed in feeds {
-        add_feed_findings(properties, alloc, threads, rates, feed, found)?;
+        add_feed_findings(alloc, properties, threads, rates, feed, found)?;
     }
     Ok(())
 }
 
 // Adds what is wrong with taps.
 fn add_taps_findings(
-    properties: &Properties<'_>,
     alloc: Global,
+    properties: &Properties<'_>,
     threads: &[ThreadAt],
     taps: &[Chain],
     found: &mut Items<Violation>,
@@ -120,15 +120,15 @@ fn add_taps_findings(
     ensures { OnOk result (found.new ≡ found.old ++ flat_map (tap_findings (placed properties.now.names.tree.now) threads.now) taps.now) }
 {
     for tap in taps {
-        add_tap_findings(properties, alloc, threads, tap, found)?;
+        add_tap_findings(alloc, properties, threads, tap, found)?;
     }
     Ok(())
 }
 
 // Adds what is wrong with links, feeds and taps, over the rates of the threads.
 fn add_chain_findings(
-    properties: &Properties<'_>,
     alloc: Global,
+    properties: &Properties<'_>,
     instance: &Instance<'_>,
     rates: &[Option<u32>],
     found: &mut Items<Violation>,
@@ -139,28 +139,28 @@ fn add_chain_findings(
 {
     let threads = instance.threads.as_slice();
     add_links_findings(
-        properties,
         alloc,
+        properties,
         threads,
         rates,
         instance.links.as_slice(),
         found,
     )?;
     add_feeds_findings(
-        properties,
         alloc,
+        properties,
         threads,
         rates,
         instance.feeds.as_slice(),
         found,
     )?;
-    add_taps_findings(properties, alloc, threads, instance.taps.as_slice(), found)
+    add_taps_findings(alloc, properties, threads, instance.taps.as_slice(), found)
 }
 
 // Adds what is wrong with the declarations that are in use.
 fn add_used_findings(
-    names: &Names<'_>,
     alloc: Global,
+    names: &Names<'_>,
     instance: &Instance<'_>,
     found: &mut Items<Violation>,
 ) -> Result<(), NoMemory>
@@ -168,10 +168,10 @@ fn add_used_findings(
     ensures { OnOk result (spec.AddUsed (placed names.now.tree.now) (spec.shown instance.now) found.old found.new) }
 {
     let root = instance.root;
-    let used = used_below(names, alloc, root)?;
-    let types = types_used(names, alloc, &used)?;
+    let used = used_below(alloc, names, root)?;
+    let types = types_used(alloc, names, &used)?;
     let carriers = carriers_of(alloc, instance)?;
-    add_declarations_findings(names, alloc, root, &used, &types, &carriers, found)?;
+    add_declarations_findings(alloc, names, root, &used, &types, &carriers, found)?;
     Ok(())
 }
 
@@ -188,12 +188,12 @@ fn findings_of(
     let names = &properties.names;
     let root = instance.root;
     let threads = instance.threads.as_slice();
-    let rates = rates_of(properties, alloc, root, threads)?;
+    let rates = rates_of(alloc, properties, root, threads)?;
     let greatest = greatest_rate(rates.as_slice());
-    add_root_findings(names, alloc, root, greatest, &mut found)?;
-    add_threads_findings(properties, alloc, root, threads, &mut found)?;
-    add_chain_findings(properties, alloc, instance, rates.as_slice(), &mut found)?;
-    add_used_findings(names, alloc, instance, &mut found)?;
+    add_root_findings(alloc, names, root, greatest, &mut found)?;
+    add_threads_findings(alloc, properties, root, threads, &mut found)?;
+    add_chain_findings(alloc, properties, instance, rates.as_slice(), &mut found)?;
+    add_used_findings(alloc, names, instance, &mut found)?;
     Ok(found)
 }
 

@@ -17,15 +17,15 @@ use std::alloc::Global;
 
 /// The implementation of a thread.
 pub fn component_of<'t>(
-    names: &Names<'t>,
     alloc: Global,
+    names: &Names<'t>,
     thread: &ThreadAt,
 ) -> Result<Option<&'t Implementation>, NoMemory>
     ensures { IfOk result (λ found. option_map (implementation_view kept_place) (option_copied found)
         ≡ spec.component_of (placed names.now.tree.now) thread.now) }
 {
     match innermost(names.tree, thread.subs.as_slice()) {
-        Some(sub) => target_of(names, alloc, sub),
+        Some(sub) => target_of(alloc, names, sub),
         None => Ok(None),
     }
 }
@@ -49,18 +49,18 @@ fn in_port(ports: &[Feature], number: usize) -> Option<&Feature>
 
 /// An in port of a thread.
 pub fn thread_in<'t>(
-    names: &Names<'t>,
     alloc: Global,
+    names: &Names<'t>,
     thread: &ThreadAt,
     number: u32,
 ) -> Result<Option<&'t Feature>, NoMemory>
     ensures { IfOk result (λ found. option_map (feature_view kept_place) (option_copied found)
         ≡ slice_get (spec.ins_of (placed names.now.tree.now) thread.now) number) }
 {
-    let Some(component) = component_of(names, alloc, thread)? else {
+    let Some(component) = component_of(alloc, names, thread)? else {
         return Ok(None);
     };
-    match type_of(names, alloc, component)? {
+    match type_of(alloc, names, component)? {
         Some(of_type) => Ok(in_port(of_type.features.as_slice(), number as usize)),
         None => Ok(None),
     }
@@ -68,8 +68,8 @@ pub fn thread_in<'t>(
 
 // The name of an in port: its thread's path, a `.`, and its own.
 fn thread_port_name(
-    names: &Names<'_>,
     alloc: Global,
+    names: &Names<'_>,
     thread: &ThreadAt,
     number: u32,
 ) -> Result<Text, NoMemory>
@@ -77,7 +77,7 @@ fn thread_port_name(
 {
     let mut name = String::from_str(alloc, thread.path.as_str())?;
     name.push_str(".")?;
-    if let Some(port) = thread_in(names, alloc, thread, number)? {
+    if let Some(port) = thread_in(alloc, names, thread, number)? {
         name.push_str(port.name.spelling.as_str())?;
     }
     Ok(Text::new(name))
@@ -85,8 +85,8 @@ fn thread_port_name(
 
 /// The name that findings give to the end of a chain.
 pub fn end_name(
-    names: &Names<'_>,
     alloc: Global,
+    names: &Names<'_>,
     threads: &[ThreadAt],
     end: &ChainEnd,
 ) -> Result<Text, NoMemory>
@@ -94,7 +94,7 @@ pub fn end_name(
 {
     match end {
         ChainEnd::Thread { node, port } => match threads.get(node.0 as usize) {
-            Some(thread) => thread_port_name(names, alloc, thread, *port),
+            Some(thread) => thread_port_name(alloc, names, thread, *port),
             None => Ok(Text::new(String::new(alloc))),
         },
         ChainEnd::Root { name } => name.try_clone(alloc),
@@ -103,8 +103,8 @@ pub fn end_name(
 
 /// The type of the end of a chain; none where it is neither Integer nor Boolean, or the root's.
 pub fn end_kind(
-    names: &Names<'_>,
     alloc: Global,
+    names: &Names<'_>,
     threads: &[ThreadAt],
     end: &ChainEnd,
 ) -> Result<Option<Kind>, NoMemory>
@@ -116,7 +116,7 @@ pub fn end_kind(
     let Some(thread) = threads.get(node.0 as usize) else {
         return Ok(None);
     };
-    match thread_in(names, alloc, thread, *port)? {
+    match thread_in(alloc, names, thread, *port)? {
         Some(port) => Ok(kind_in(&port.data_type)),
         None => Ok(None),
     }

@@ -23,13 +23,13 @@ use std::alloc::Global;
 
 // The ports of an implementation.
 fn ports_of<'t>(
-    names: &Names<'t>,
     alloc: Global,
+    names: &Names<'t>,
     x: &Implementation,
 ) -> Result<&'t [Feature], NoMemory>
     ensures { IfOk result (λ ports. map (feature_view kept_place) ports.now ≡ ports_of (placed names.now.tree.now) (implementation_view kept_place x.now)) }
 {
-    match type_of(names, alloc, x)? {
+    match type_of(alloc, names, x)? {
         Some(of_type) => Ok(of_type.features.as_slice()),
         None => Ok(&[]),
     }
@@ -60,8 +60,8 @@ fn first_behaviour(annexes: &[Annex]) -> Option<(usize, &AnnexTree)>
 
 // The values of the behaviour of an implementation, and what their names stand for.
 fn setting_of(
-    names: &Names<'_>,
     alloc: Global,
+    names: &Names<'_>,
     x: &Implementation,
     annex: &AnnexTree,
 ) -> Result<(Values, Scope), NoMemory>
@@ -70,7 +70,7 @@ fn setting_of(
     ensures values { IfOk result (λ setting. setting.0 ≡ values_of (placed names.now.tree.now) (implementation_view kept_place x.now) (annex_tree_view kept_place annex.now)) }
     ensures scope { IfOk result (λ setting. setting.1 ≡ scope_of (placed names.now.tree.now) (implementation_view kept_place x.now) (annex_tree_view kept_place annex.now)) }
 {
-    let ports = ports_of(names, alloc, x)?;
+    let ports = ports_of(alloc, names, x)?;
     let ins = ins_in(alloc, ports)?;
     let outs = outs_in(alloc, ports)?;
     let variables = variables_of(alloc, annex)?;
@@ -80,8 +80,8 @@ fn setting_of(
 
 // Resolves the behaviour of an implementation that begins at a place, and adds what is wrong with it.
 fn resolve_behaviour(
-    names: &Names<'_>,
     alloc: Global,
+    names: &Names<'_>,
     x: &Implementation,
     at: usize,
     annex: &AnnexTree,
@@ -93,7 +93,7 @@ fn resolve_behaviour(
     ensures found { OnOk result (found.new ≡ found.old
         ++ spec.annex_rules (placed names.now.tree.now) (implementation_view kept_place x.now) (Some (at, annex_tree_view kept_place annex.now))) }
 {
-    let (values, scope) = setting_of(names, alloc, x, annex)?;
+    let (values, scope) = setting_of(alloc, names, x, annex)?;
     add_variables_findings(alloc, annex, found)?;
     let parts = resolve_annex(alloc, values, &scope, at, annex, found)?;
     Ok(parts)
@@ -102,8 +102,8 @@ fn resolve_behaviour(
 /// Resolves the behaviour of a thread's implementation, and adds what is wrong with it. Without an
 /// annex there is no behaviour, and that is what is wrong.
 pub fn resolve_implementation(
-    names: &Names<'_>,
     alloc: Global,
+    names: &Names<'_>,
     x: &Implementation,
     found: &mut Items<Violation>,
 ) -> Result<Option<BehaviourParts>, NoMemory>
@@ -113,7 +113,7 @@ pub fn resolve_implementation(
         ++ spec.implementation_findings (placed names.now.tree.now) (implementation_view kept_place x.now)) }
 {
     match first_behaviour(x.annexes.as_slice()) {
-        Some((at, annex)) => Ok(Some(resolve_behaviour(names, alloc, x, at, annex, found)?)),
+        Some((at, annex)) => Ok(Some(resolve_behaviour(alloc, names, x, at, annex, found)?)),
         None => {
             let at = x.name.component_type.at;
             found.push(Violation::bare(alloc, at, NO_INITIAL))?;

@@ -29,8 +29,8 @@ fn add_number(numbers: &mut IndexSet<usize>, number: Option<usize>) -> Result<()
 
 /// The numbers of the implementations that the root contains, and its own.
 pub fn used_below(
-    names: &Names<'_>,
     alloc: Global,
+    names: &Names<'_>,
     root: usize,
 ) -> Result<IndexSet<usize>, NoMemory>
     requires { root < length (placed names.now.tree.now).declarations }
@@ -43,22 +43,22 @@ pub fn used_below(
 
 // The number of a declaration's type, if it is an implementation.
 fn own_type(
-    names: &Names<'_>,
     alloc: Global,
+    names: &Names<'_>,
     declaration: &Declaration,
 ) -> Result<Option<usize>, NoMemory>
     ensures { IfOk result (λ number. number ≡ own_type (placed names.now.tree.now) (declaration_view kept_place declaration.now)) }
 {
     match declaration {
         Declaration::Type(_) => Ok(None),
-        Declaration::Implementation(x) => type_number(names, alloc, x),
+        Declaration::Implementation(x) => type_number(alloc, names, x),
     }
 }
 
 // Adds the number of a declaration's type, where it is an implementation in use.
 fn add_own_type(
-    names: &Names<'_>,
     alloc: Global,
+    names: &Names<'_>,
     used: &IndexSet<usize>,
     number: usize,
     declaration: &Declaration,
@@ -68,7 +68,7 @@ fn add_own_type(
         || uses_type (placed names.now.tree.now) (has used.now.keys) n (number, declaration_view kept_place declaration.now))) }
 {
     if used.contains(&number) {
-        let of_type = own_type(names, alloc, declaration)?;
+        let of_type = own_type(alloc, names, declaration)?;
         add_number(types, of_type)?;
         Ok(())
     } else {
@@ -78,15 +78,15 @@ fn add_own_type(
 
 /// The numbers of the types with an implementation that is in use.
 pub fn types_used(
-    names: &Names<'_>,
     alloc: Global,
+    names: &Names<'_>,
     used: &IndexSet<usize>,
 ) -> Result<IndexSet<usize>, NoMemory>
     ensures { IfOk result (λ types. (n : ℕ) → has types.keys n ≡ type_used (placed names.now.tree.now) (has used.now.keys) n) }
 {
     let mut types = IndexSet::new(alloc);
     for (number, declaration) in names.tree.declarations.iter().enumerate() {
-        add_own_type(names, alloc, used, number, declaration, &mut types)?;
+        add_own_type(alloc, names, used, number, declaration, &mut types)?;
     }
     Ok(types)
 }

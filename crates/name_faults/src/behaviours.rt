@@ -63,7 +63,7 @@ fn check_behaviour(
     let alloc = finder.alloc();
     let variables = variable_roles(alloc, behaviour)?;
     let states = state_names(alloc, behaviour)?;
-    let of_type = type_number(names, alloc, x)?;
+    let of_type = type_number(alloc, names, x)?;
     let scope = scope_of(alloc, comes_first(names, of_type, x), roles, &variables);
     check_transitions(finder, &states, &scope, transitions_in(behaviour))
 }

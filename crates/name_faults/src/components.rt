@@ -77,7 +77,7 @@ fn check_target(
         finder.wrong_if(true, at);
         return Ok(());
     };
-    let Some(target) = target_of(names, finder.alloc(), sub)? else {
+    let Some(target) = target_of(finder.alloc(), names, sub)? else {
         return unknown_target(finder, &sub.classifier);
     };
     finder.wrong_if(!same_category(target.category, sub.category), at);
@@ -197,8 +197,8 @@ pub fn check_connection(
 {
     let alloc = finder.alloc();
     let at = connection.name.at;
-    let source = site(names, alloc, number, x, &connection.source)?;
-    let target = site(names, alloc, number, x, &connection.target)?;
+    let source = site(alloc, names, number, x, &connection.source)?;
+    let target = site(alloc, names, number, x, &connection.target)?;
     check_source(finder, &connection.source, at, source)?;
     check_target_end(finder, &connection.target, at, target)?;
     finder.wrong_if(is_own(source) && is_own(target), at);

@@ -26,12 +26,12 @@ use aadl_tree::{Declaration, Implementation};
 use std::alloc::{AllocError, Global};
 
 // The number of the type of the implementation of a number.
-fn root_type(names: &Names<'_>, alloc: Global, root: usize) -> Result<Option<usize>, AllocError>
+fn root_type(alloc: Global, names: &Names<'_>, root: usize) -> Result<Option<usize>, AllocError>
     ensures { IfOk result (λ number. number ≡ spec.root_type (placed names.now.tree.now)
         (implementation_in (slice_get (placed names.now.tree.now).declarations root))) }
 {
     match implementation_at(names.tree, root) {
-        Some(x) => type_number(names, alloc, x),
+        Some(x) => type_number(alloc, names, x),
         None => Ok(None),
     }
 }
@@ -60,7 +60,7 @@ fn check_implementation(
         (spec.implementation_faults (placed names.now.tree.now) of_root (implementation_view kept_place x.now))) }
 {
     check_outside_behaviours(finder, names, number, of_root, x)?;
-    let of_type = type_number(names, finder.alloc(), x)?;
+    let of_type = type_number(finder.alloc(), names, x)?;
     check_behaviours(finder, names, &names_at(all, of_type).roles, x)
 }
 
@@ -116,7 +116,7 @@ pub fn check_declarations(
     ensures { OnOk result (finder.new ≡ found finder.old (spec.wrong_names (placed names.now.tree.now) root)) }
 {
     check_end_name(finder, names)?;
-    let root_type = root_type(names, finder.alloc(), root)?;
+    let root_type = root_type(finder.alloc(), names, root)?;
     for (number, declaration) in names.tree.declarations.iter().enumerate() {
         check_declaration(finder, names, all, root, root_type, number, declaration)?;
     }

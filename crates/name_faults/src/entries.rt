@@ -25,7 +25,7 @@ pub fn port_entries(alloc: Global, ports: &[Feature]) -> Result<Items<Entry>, Al
 {
     let mut entries = Items::new(alloc);
     for port in ports {
-        add_word(&mut entries, alloc, &port.name)?;
+        add_word(alloc, &mut entries, &port.name)?;
     }
     Ok(entries)
 }
@@ -35,33 +35,33 @@ pub fn member_entries(alloc: Global, x: &Implementation) -> Result<Items<Entry>,
     ensures { IfOk result (λ entries. entries ≡ spec.member_entries (implementation_view kept_place x.now)) }
 {
     let mut entries = Items::new(alloc);
-    add_subcomponents(&mut entries, alloc, x.subcomponents.as_slice())?;
-    add_connections(&mut entries, alloc, x.connections.as_slice())?;
+    add_subcomponents(alloc, &mut entries, x.subcomponents.as_slice())?;
+    add_connections(alloc, &mut entries, x.connections.as_slice())?;
     Ok(entries)
 }
 
 fn add_subcomponents(
-    entries: &mut Items<Entry>,
     alloc: Global,
+    entries: &mut Items<Entry>,
     subs: &[Subcomponent],
 ) -> Result<(), AllocError>
     ensures { OnOk result (entries.new ≡ entries.old ++ map (λ s. entry_of s.name) (map (subcomponent_view kept_place) subs.now)) }
 {
     for sub in subs {
-        add_word(entries, alloc, &sub.name)?;
+        add_word(alloc, entries, &sub.name)?;
     }
     Ok(())
 }
 
 fn add_connections(
-    entries: &mut Items<Entry>,
     alloc: Global,
+    entries: &mut Items<Entry>,
     connections: &[Connection],
 ) -> Result<(), AllocError>
     ensures { OnOk result (entries.new ≡ entries.old ++ map (λ c. entry_of c.name) (map (connection_view kept_place) connections.now)) }
 {
     for connection in connections {
-        add_word(entries, alloc, &connection.name)?;
+        add_word(alloc, entries, &connection.name)?;
     }
     Ok(())
 }
@@ -72,7 +72,7 @@ pub fn variable_entries(alloc: Global, behaviour: &AnnexTree) -> Result<Items<En
 {
     let mut entries = Items::new(alloc);
     for declaration in variables_in(behaviour) {
-        add_words(&mut entries, alloc, &declaration.names)?;
+        add_words(alloc, &mut entries, &declaration.names)?;
     }
     Ok(entries)
 }
@@ -83,7 +83,7 @@ pub fn state_entries(alloc: Global, behaviour: &AnnexTree) -> Result<Items<Entry
 {
     let mut entries = Items::new(alloc);
     for declaration in states_in(behaviour) {
-        add_words(&mut entries, alloc, &declaration.names)?;
+        add_words(alloc, &mut entries, &declaration.names)?;
     }
     Ok(entries)
 }
@@ -94,7 +94,7 @@ pub fn type_entries(alloc: Global, tree: &PackageTree) -> Result<Items<Entry>, A
 {
     let mut entries = Items::new(alloc);
     for declaration in &tree.declarations {
-        add_type(&mut entries, alloc, declaration)?;
+        add_type(alloc, &mut entries, declaration)?;
     }
     Ok(entries)
 }
@@ -105,14 +105,14 @@ pub fn implementation_entries(alloc: Global, tree: &PackageTree) -> Result<Items
 {
     let mut entries = Items::new(alloc);
     for declaration in &tree.declarations {
-        add_implementation(&mut entries, alloc, declaration)?;
+        add_implementation(alloc, &mut entries, declaration)?;
     }
     Ok(entries)
 }
 
 fn add_type(
-    entries: &mut Items<Entry>,
     alloc: Global,
+    entries: &mut Items<Entry>,
     declaration: &Declaration,
 ) -> Result<(), AllocError>
     ensures { OnOk result (entries.new ≡ entries.old ++ filter_map spec.type_entry (declaration_view kept_place declaration.now ∷ [])) }
@@ -128,8 +128,8 @@ fn add_type(
 }
 
 fn add_implementation(
-    entries: &mut Items<Entry>,
     alloc: Global,
+    entries: &mut Items<Entry>,
     declaration: &Declaration,
 ) -> Result<(), AllocError>
     ensures { OnOk result (entries.new ≡ entries.old ++ filter_map spec.implementation_entry (declaration_view kept_place declaration.now ∷ [])) }
@@ -145,20 +145,20 @@ fn add_implementation(
 }
 
 fn add_words(
-    entries: &mut Items<Entry>,
     alloc: Global,
+    entries: &mut Items<Entry>,
     words: &Identifiers,
 ) -> Result<(), AllocError>
     ensures { OnOk result (entries.new ≡ entries.old ++ map entry_of (identifiers (identifiers_view kept_place words.now))) }
 {
-    add_word(entries, alloc, &words.first)?;
+    add_word(alloc, entries, &words.first)?;
     for word in &words.rest {
-        add_word(entries, alloc, word)?;
+        add_word(alloc, entries, word)?;
     }
     Ok(())
 }
 
-fn add_word(entries: &mut Items<Entry>, alloc: Global, word: &Identifier) -> Result<(), AllocError>
+fn add_word(alloc: Global, entries: &mut Items<Entry>, word: &Identifier) -> Result<(), AllocError>
     ensures { OnOk result (entries.new ≡ entries.old ++ entry_of (identifier_view kept_place word.now) ∷ []) }
 {
     entries.push(entry_of(alloc, word)?)?;

@@ -20,10 +20,10 @@ use aadl_tree::Implementation;
 use std::alloc::{AllocError, Global};
 
 // Whether an implementation has a type, which is of its own category.
-fn has_type(names: &Names<'_>, alloc: Global, x: &Implementation) -> Result<bool, AllocError>
+fn has_type(alloc: Global, names: &Names<'_>, x: &Implementation) -> Result<bool, AllocError>
     ensures { IfOk result (λ has. has ≡ spec.has_type x.now.category (type_of (placed names.now.tree.now) (implementation_view kept_place x.now))) }
 {
-    match type_of(names, alloc, x)? {
+    match type_of(alloc, names, x)? {
         Some(declaration) => Ok(same_category(declaration.category, x.category)),
         None => Ok(false),
     }
@@ -40,7 +40,7 @@ fn check_heading(
     let alloc = finder.alloc();
     let name = spelled_implementation(alloc, &x.name)?;
     let end_name = spelled_implementation(alloc, &x.end_name)?;
-    let has_type = has_type(names, alloc, x)?;
+    let has_type = has_type(alloc, names, x)?;
     finder.wrong_if(
         !end_name.as_str().eq_ignore_ascii_case(name.as_str()),
         x.end_name.component_type.at,

@@ -34,7 +34,7 @@ fn role_in(direction: Direction) -> Role
 }
 
 // Adds a port to what names stand for, unless its name is there.
-fn add_role(roles: &mut Table<Role>, alloc: Global, port: &Feature) -> Result<(), AllocError>
+fn add_role(alloc: Global, roles: &mut Table<Role>, port: &Feature) -> Result<(), AllocError>
     ensures { OnOk result ((name : List ℕ) → value_of roles.new name
         ≡ option_or (value_of roles.old name)
         (if same_name name (feature_view kept_place port.now).name.spelling then Some (role_in (feature_view kept_place port.now).direction) else None)) }
@@ -48,7 +48,7 @@ fn port_roles(alloc: Global, ports: &[Feature]) -> Result<Table<Role>, AllocErro
 {
     let mut roles = Table::new(alloc);
     for port in ports {
-        add_role(&mut roles, alloc, port)?;
+        add_role(alloc, &mut roles, port)?;
     }
     Ok(roles)
 }

@@ -68,8 +68,8 @@ fn association_entry(alloc: Global, association: &Association) -> Result<Entry, 
 
 // Adds a property, unless it applies elsewhere.
 fn add_property(
-    entries: &mut Items<Entry>,
     alloc: Global,
+    entries: &mut Items<Entry>,
     association: &Association,
 ) -> Result<(), AllocError>
     ensures { OnOk result (entries.new ≡ entries.old ++ property_entries (associate (association_view kept_place association.now) no_associations)) }
@@ -86,7 +86,7 @@ fn property_entries(alloc: Global, list: &[Association]) -> Result<Items<Entry>,
 {
     let mut entries = Items::new(alloc);
     for association in list {
-        add_property(&mut entries, alloc, association)?;
+        add_property(alloc, &mut entries, association)?;
     }
     Ok(entries)
 }

@@ -21,7 +21,7 @@ pub fn variable_roles(alloc: Global, behaviour: &AnnexTree) -> Result<Table<Role
 {
     let mut table = Table::new(alloc);
     for declaration in variables_in(behaviour) {
-        add_words(&mut table, alloc, &declaration.names, Role::Varies)?;
+        add_words(alloc, &mut table, &declaration.names, Role::Varies)?;
     }
     Ok(table)
 }
@@ -32,15 +32,15 @@ pub fn state_names(alloc: Global, behaviour: &AnnexTree) -> Result<Table<()>, Al
 {
     let mut table = Table::new(alloc);
     for declaration in states_in(behaviour) {
-        add_words(&mut table, alloc, &declaration.names, ())?;
+        add_words(alloc, &mut table, &declaration.names, ())?;
     }
     Ok(table)
 }
 
 // Adds names with one value, unless they are there.
 fn add_words<V: Copy>(
-    table: &mut Table<V>,
     alloc: Global,
+    table: &mut Table<V>,
     words: &Identifiers,
     value: V,
 ) -> Result<(), AllocError>
@@ -48,16 +48,16 @@ fn add_words<V: Copy>(
         → value_of table.new name ≡ option_or (value_of table.old name)
         (value_if value (is_among (identifiers (identifiers_view kept_place words.now)) name))) }
 {
-    add_word(table, alloc, &words.first, value)?;
+    add_word(alloc, table, &words.first, value)?;
     for word in &words.rest {
-        add_word(table, alloc, word, value)?;
+        add_word(alloc, table, word, value)?;
     }
     Ok(())
 }
 
 fn add_word<V: Copy>(
-    table: &mut Table<V>,
     alloc: Global,
+    table: &mut Table<V>,
     word: &Identifier,
     value: V,
 ) -> Result<(), AllocError>

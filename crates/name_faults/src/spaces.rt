@@ -37,7 +37,7 @@ fn check_in_behaviour(
         (spec.beside_in_behaviour (placed names.now.tree.now) (implementation_view kept_place x.now) (annex_tree_view kept_place behaviour.now))) }
 {
     let alloc = finder.alloc();
-    let of_type = type_number(names, alloc, x)?;
+    let of_type = type_number(alloc, names, x)?;
     let variables = variable_entries(alloc, behaviour)?;
     check_beside(
         finder,
@@ -96,7 +96,7 @@ fn check_in_implementation(
         (spec.beside_in_implementation (placed names.now.tree.now) (implementation_view kept_place x.now))) }
 {
     let alloc = finder.alloc();
-    let of_type = type_number(names, alloc, x)?;
+    let of_type = type_number(alloc, names, x)?;
     let members = member_entries(alloc, x)?;
     check_beside(
         finder,
