@@ -1,7 +1,7 @@
 -- The behaviours among annexes, and what they declare.
-use Rattle.std.specs.Prelude.{ℕ, List, [], ◌∷◌, flat_map, Option, Some, None}
+use Rattle.std.specs.Prelude.{ℕ, List, [], flat_map, Option, Some, None}
 use Rattle.std.specs.List.{filter_map}
-use Rattle.aadl_tree.specs.Names.{Identifier, Identifiers, identifiers, listed_in}
+use Rattle.aadl_tree.specs.Names.{Identifier, identifiers, listed_in}
 use Rattle.aadl_tree.specs.Annexes.{VariableDeclaration, AnnexTree, foreign, behaviour, Annex}
 
 -- a behaviour with the place of its annex

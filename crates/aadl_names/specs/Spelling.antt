@@ -1,6 +1,6 @@
 -- Names, which are compared without regard to case, and how they are spelled.
-use Rattle.std.specs.Prelude.{ℕ, Bool, List, ◌++◌, flat_map, Option, Some, None, codes}
-use Rattle.std.specs.Str.{str_to_ascii_lowercase, str_eq_ignore_ascii_case}
+use Rattle.std.specs.Prelude.{ℕ, List, ◌++◌, flat_map, Option, Some, None, codes}
+use Rattle.std.specs.Str.{str_to_ascii_lowercase}
 use Rattle.aadl_tree.specs.Names.{Identifier, Name, Reference}
 use Rattle.aadl_tree.specs.Declarations.{ImplementationName, ConnectionEnd}
 use Rattle.aadl_names.specs.declared.entry.Entry.{Entry}

@@ -1,5 +1,5 @@
 //! The rounds of the synchronous composition.
-ghost use Rattle.std.specs.Prelude.{◌≡◌, ℕ, ◌+◌, List, ◌++◌, IfOk, OnOk};
+ghost use Rattle.std.specs.Prelude.{◌≡◌, ◌+◌, ◌++◌, IfOk, OnOk};
 ghost use Rattle.pals_model.specs.declared.rounds.Env.{Env};
 ghost use Rattle.pals_model.specs.Composition.{comp};
 ghost use Rattle.pals_model.specs.Inputs.{values_at};

@@ -1,5 +1,5 @@
 -- The behaviour of an annex, and what is wrong with it.
-use Rattle.std.specs.Prelude.{ℕ, ◌-◌, nat_eq, slice_get, position, take, Bool, true, false, not, ◌&&◌, ◌||◌, ◌==◌, List, [], ◌∷◌, ◌++◌, length, map, filter, flat_map, Option, Some, None, if◌then◌else◌}
+use Rattle.std.specs.Prelude.{ℕ, ◌-◌, nat_eq, slice_get, position, take, Bool, true, false, not, ◌&&◌, ◌||◌, ◌==◌, List, [], ◌++◌, length, map, filter, flat_map, Option, Some, None, if◌then◌else◌}
 use Rattle.std.specs.List.{list_any, list_all, enumerate_from}
 use Rattle.std.specs.Option.{unwrap_or}
 use Rattle.pals_base.specs.declared.behaviour.StateDecl.{StateDecl}
@@ -9,7 +9,7 @@ use Rattle.pals_base.specs.Tree as plain
 use Rattle.pals_base.specs.Fire.{is_complete, leaving}
 use Rattle.pals_base.specs.Rules.{dispatch_count}
 use Rattle.pals_base.specs.Steps.{upwards}
-use Rattle.aadl_tree.specs.Names.{Identifier, Identifiers, same_name, identifiers, listed_in}
+use Rattle.aadl_tree.specs.Names.{Identifier, same_name, identifiers, listed_in}
 use Rattle.aadl_tree.specs.Annexes.{StateDeclaration, Guard, dispatch, otherwise, when, Transition, AnnexTree}
 use Rattle.aadl_tree.specs.Actions.{Block}
 use Rattle.annex_resolve.specs.declared.scope.Scope.{Scope}

@@ -1,8 +1,6 @@
 //! What is wrong with components.
-ghost use Rattle.std.specs.Prelude.{◌≡◌, ◌≤◌, ◌++◌, OnOk, option_map, option_copied};
-ghost use Rattle.aadl_tree.specs.Maps.{kept_place};
+ghost use Rattle.std.specs.Prelude.{◌≡◌, ◌++◌, OnOk};
 ghost use Rattle.aadl_tree.specs.PackageViews.{placed};
-ghost use Rattle.aadl_tree.specs.Views.{subcomponent_view};
 ghost use Rattle.annex_resolve.specs.Scopes.{found_if};
 ghost use Rattle.component_checks.specs.Threads as spec;
 

@@ -2,7 +2,7 @@
 ghost use Rattle.std.specs.Prelude.{◌≡◌, ◌++◌, OnOk, flat_map, map, option_map, option_copied};
 ghost use Rattle.aadl_tree.specs.Names.{identifiers};
 ghost use Rattle.aadl_tree.specs.Maps.{kept_place};
-ghost use Rattle.aadl_tree.specs.NameViews.{identifier_view, identifiers_view, reference_view};
+ghost use Rattle.aadl_tree.specs.NameViews.{identifiers_view, reference_view};
 ghost use Rattle.aadl_tree.specs.ValueViews.{value_view, values_view, association_view};
 ghost use Rattle.aadl_tree.specs.Values.{list};
 ghost use Rattle.aadl_tree.specs.Views.{feature_view, variable_view, annex_tree_view};

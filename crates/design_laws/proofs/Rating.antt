@@ -23,8 +23,8 @@ use Rattle.aadl_names.specs.Properties.{recognised, list_faults}
 use Rattle.aadl_names.specs.Resolving.{implementation_in, implementation_at, subcomponents_of, type_in, type_numbered, type_number}
 use Rattle.aadl_names.specs.Resolving.{referred, target_of, is_root}
 use Rattle.aadl_names.specs.PackageFaults.{may_contain, names_faults, subcomponent_faults, connection_faults, heading_faults}
-use Rattle.aadl_names.specs.PackageFaults.{variables_faults, stray_faults, port_faults, outer_faults, annex_faults, type_faults}
-use Rattle.aadl_names.specs.PackageFaults.{is_same_number, declaration_faults, wrong_names, package_faults}
+use Rattle.aadl_names.specs.PackageFaults.{variables_faults, stray_faults, port_faults, outer_faults, annex_faults}
+use Rattle.aadl_names.specs.PackageFaults.{is_same_number, package_faults}
 use Rattle.aadl_names.specs.PackageFaults as naming
 use Rattle.aadl_uses.specs.Uses.{sub_at, below, standing}
 use Rattle.aadl_uses.specs.declared.thread_places.SubAt.{SubAt}
@@ -35,7 +35,7 @@ use Rattle.design_laws.proofs.Tests.{is_right, not_wrong}
 use Rattle.design_laws.proofs.Placed.{all_append}
 use Rattle.design_laws.proofs.Differing.{left_none, right_none}
 use Rattle.design_laws.proofs.Apart.{none_here}
-use Rattle.component_checks.specs.Numbers.{within_hour, range_within, not_zero, in_order, skew_of, gamma_by}
+use Rattle.component_checks.specs.Numbers.{within_hour, range_within, not_zero, in_order, gamma_by}
 use Rattle.component_checks.specs.Numbers as numbers
 use Rattle.component_checks.specs.Rates.{bound_findings, period_findings}
 use Rattle.design_laws.proofs.Counting.{gamma_counts, IsRateOf, rate_counts, leaves_time, least_is_some, rate_from}
@@ -50,7 +50,7 @@ use Rattle.model_violations.specs.Ignored.{is_number, is_root_type}
 use Rattle.model_violations.specs.Carriers.{carries}
 use Rattle.model_violations.specs.Connections.{connections_findings}
 use Rattle.model_violations.specs.Use.{IsUse}
-use Rattle.model_violations.specs.Declarations.{sub_findings, implementation_findings, type_findings}
+use Rattle.model_violations.specs.Declarations.{sub_findings}
 use Rattle.model_violations.specs.Declarations as uses
 use Rattle.model_violations.specs.Violations.{shown_by, used_findings, carriers_of}
 use Rattle.design_laws.proofs.Clean.{same_number, names_clean, declared_at, implementation_clean, type_clean, is_used}

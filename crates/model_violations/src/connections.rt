@@ -1,6 +1,5 @@
 //! What is wrong with the connections of an implementation, whatever they carry.
 ghost use Rattle.std.specs.Prelude.{◌≡◌, ◌||◌, ◌++◌, IfOk, OnOk, Some, option_map, option_copied, slice_get};
-ghost use Rattle.std.specs.Option.{option_and_then};
 ghost use Rattle.aadl_tree.specs.Maps.{kept_place};
 ghost use Rattle.aadl_tree.specs.Declarations.{implementation};
 ghost use Rattle.aadl_tree.specs.NameViews.{identifier_view};

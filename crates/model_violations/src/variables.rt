@@ -1,5 +1,5 @@
 //! The variables of a behaviour, with their first values.
-ghost use Rattle.std.specs.Prelude.{◌≡◌, ◌++◌, ◌∷◌, [], pos, nat_le, IfOk, OnOk, Some, None, if◌then◌else◌, option_map, option_copied};
+ghost use Rattle.std.specs.Prelude.{◌≡◌, ◌++◌, ◌∷◌, [], pos, nat_le, IfOk, OnOk, Some, None, if◌then◌else◌};
 ghost use Rattle.aadl_lex.specs.Rules.{decimal, most};
 ghost use Rattle.aadl_tree.specs.Maps.{kept_place};
 ghost use Rattle.aadl_tree.specs.NameViews.{identifier_view};

@@ -1,7 +1,7 @@
 //! What is wrong with the behaviours of an implementation.
 #![tactic(auto, using(aadl_names::proofs::Finds::found_append))]
 
-ghost use Rattle.std.specs.Prelude.{◌≡◌, ℕ, List, OnOk, IfOk};
+ghost use Rattle.std.specs.Prelude.{◌≡◌, ℕ, List, OnOk};
 ghost use Rattle.aadl_tree.specs.PackageViews.{placed};
 ghost use Rattle.aadl_tree.specs.Views.{annex_tree_view, annex_view, implementation_view};
 ghost use Rattle.aadl_tree.specs.Maps.{kept_place};

@@ -5,7 +5,6 @@ ghost use Rattle.std.specs.Prelude.{◌≡◌, Some, OnOk, map, slice_get};
 ghost use Rattle.aadl_tree.specs.Views.{feature_view};
 ghost use Rattle.aadl_tree.specs.Maps.{kept_place};
 ghost use Rattle.aadl_names.specs.Found.{found};
-ghost use Rattle.aadl_names.specs.Tables.{value_of};
 ghost use Rattle.aadl_names.specs.Spaces.{port_entries};
 ghost use Rattle.aadl_names.specs.DeclaredTwice as spec;
 ghost use Rattle.name_faults.specs.PortNames.{AreNamesOf};

@@ -1,5 +1,5 @@
 //! The ports of types, and what they are called.
-ghost use Rattle.std.specs.Prelude.{◌≡◌, ℕ, List, OnOk, IfOk, map, option_map, if◌then◌else◌, None, Some};
+ghost use Rattle.std.specs.Prelude.{◌≡◌, ℕ, List, OnOk, IfOk, map, if◌then◌else◌, None, Some};
 ghost use Rattle.aadl_tree.specs.Names.{same_name};
 ghost use Rattle.std.specs.Option.{option_or};
 ghost use Rattle.aadl_tree.specs.PackageViews.{placed};

@@ -1,8 +1,8 @@
 //! The shapes of the values of properties.
 
-ghost use Rattle.std.specs.Prelude.{◌≡◌, IsTrue, ◌↔◌, string_bytes, option_map};
+ghost use Rattle.std.specs.Prelude.{◌≡◌, option_map};
 ghost use Rattle.std.specs.Option.{is_some};
-ghost use Rattle.aadl_tree.specs.NameViews.{identifier_view, reference_view};
+ghost use Rattle.aadl_tree.specs.NameViews.{identifier_view};
 ghost use Rattle.aadl_tree.specs.ValueViews.{figure_view, quantity_view, value_view, values_view};
 ghost use Rattle.aadl_tree.specs.Values.{list};
 ghost use Rattle.aadl_tree.specs.Maps.{kept_place};

@@ -9,8 +9,8 @@ ghost use Rattle.plant_fuse.specs.Tables.{AreTables};
 use crate::tables::Tables;
 use pals_base::{Items, NodeNo, Tuple};
 use pals_model::{Design, Link};
-use sync_product::tuple_columns::write_column;
 use sync_product::stage::Stage;
+use sync_product::tuple_columns::write_column;
 
 /// Writes the message of each link, from the rows of its source: whole inside a pair, and else cut.
 pub fn send_all(design: &Design, tables: &Tables, stages: &[Stage], messages: &mut Items<Tuple>)

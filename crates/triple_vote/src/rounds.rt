@@ -8,9 +8,9 @@ ghost use Rattle.triple_vote.specs.Layers.{lengths, frame_sizes, tap_sizes, is_t
 use pals_base::{Items, NoMemory, NodeNo, Port, Tuple};
 use pals_model::{Design, Part, PortSource};
 use std::alloc::Global;
-use sync_product::tuple_columns::write_column;
 use sync_product::reads::RoundInputs;
 use sync_product::stage::Stage;
+use sync_product::tuple_columns::write_column;
 
 /// What a table says of a component, false past its end.
 pub fn is_there(there: &[bool], node: NodeNo) -> bool
