@@ -1,4 +1,5 @@
 pub mod Tables
+pub mod EndSites
 pub mod Rows
 pub mod Sets
 pub mod Joining

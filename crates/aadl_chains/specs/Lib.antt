@@ -1,6 +1,7 @@
 pub mod PortNumbers
 pub mod Firsts
 pub mod Wiring
+pub mod Known
 pub mod Ports
 pub mod Inside
 pub mod Outside

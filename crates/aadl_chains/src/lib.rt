@@ -3,6 +3,7 @@
 #![tactic(auto)]
 
 pub mod connections;
+mod end_sites;
 pub mod ends;
 pub mod inside;
 pub mod links;

@@ -11,6 +11,7 @@ ghost use Rattle.aadl_chains.specs.Wiring.{wires_in, wires_at, type_in};
 ghost use Rattle.aadl_chains.specs.Wiring as spec;
 
 use crate::connections::{Connections, Wire};
+use crate::end_sites::Known;
 use crate::wiring::{types_of, wiring_of};
 use aadl_names::{Names, Site};
 use aadl_tree::{Connection, Declaration, Direction, Feature};
@@ -36,7 +37,12 @@ impl<'t> Wires<'t> {
         ensures { IfOk result (λ wires. wires.uses.tree.now ≡ names.now.tree.now) }
     {
         let types = types_of(alloc, names, names.tree.declarations.as_slice())?;
-        let connections = wiring_of(alloc, names, names.tree.declarations.as_slice())?;
+        let known = Known {
+            names,
+            uses: &uses,
+            types: types.as_slice(),
+        };
+        let connections = wiring_of(alloc, &known, names.tree.declarations.as_slice())?;
         Ok(Wires {
             uses,
             types,

@@ -1,16 +1,19 @@
 //! What the connections of a package join.
-ghost use Rattle.std.specs.Prelude.{◌≡◌, Some, IfOk, map, option_map, slice_get};
+ghost use Rattle.std.specs.Prelude.{◌≡◌, ℕ, Some, IfOk, map, slice_get};
 ghost use Rattle.aadl_tree.specs.PackageViews.{placed};
-ghost use Rattle.aadl_tree.specs.Views.{declaration_view, implementation_view, connection_view};
+ghost use Rattle.aadl_tree.specs.Views.{declaration_view, connection_view};
 ghost use Rattle.aadl_tree.specs.Maps.{kept_place};
-ghost use Rattle.aadl_tree.specs.Declarations.{implementation};
+ghost use Rattle.aadl_tree.specs.Declarations.{Implementation};
+ghost use Rattle.aadl_names.specs.Resolving.{implementation_at};
+ghost use Rattle.aadl_chains.specs.Known.{tree_of, IsKnown};
 ghost use Rattle.aadl_chains.specs.Wiring as spec;
 ghost use Rattle.aadl_chains.specs.Wiring.{wires_in, type_in};
 
 use crate::connections::{Connections, Wire};
-use aadl_names::connection_ends::{site, type_number};
-use aadl_names::{Names, Site};
-use aadl_tree::{Connection, Declaration, Direction, Implementation};
+use crate::end_sites::{Known, site_of};
+use aadl_names::Names;
+use aadl_names::connection_ends::type_number;
+use aadl_tree::{Connection, Declaration};
 use pals_base::Items;
 use std::alloc::{AllocError, Global};
 
@@ -46,15 +49,16 @@ fn type_of(
 /// The connections of each declaration.
 pub fn wiring_of(
     alloc: Global,
-    names: &Names<'_>,
+    known: &Known<'_>,
     declarations: &[Declaration],
 ) -> Result<Items<Connections>, AllocError>
-    requires { map (declaration_view kept_place) declarations.now ≡ (placed names.now.tree.now).declarations }
-    ensures { IfOk result (λ wiring. wiring ≡ map (wires_in (placed names.now.tree.now)) (map (declaration_view kept_place) declarations.now)) }
+    requires known { IsKnown known.now }
+    requires all { map (declaration_view kept_place) declarations.now ≡ (tree_of known.now).declarations }
+    ensures { IfOk result (λ wiring. wiring ≡ map (wires_in (tree_of known.now)) (map (declaration_view kept_place) declarations.now)) }
 {
     let mut wiring = Items::new(alloc);
     for (number, declaration) in declarations.iter().enumerate() {
-        let wires = wires_of(alloc, names, number, declaration)?;
+        let wires = wires_of(alloc, known, number, declaration)?;
         wiring.push(Connections::of(alloc, wires)?)?;
     }
     Ok(wiring)
@@ -63,17 +67,18 @@ pub fn wiring_of(
 // The connections of a declaration.
 fn wires_of(
     alloc: Global,
-    names: &Names<'_>,
+    known: &Known<'_>,
     number: usize,
     declaration: &Declaration,
 ) -> Result<Items<Wire>, AllocError>
-    requires { slice_get (placed names.now.tree.now).declarations number ≡ Some (declaration_view kept_place declaration.now) }
-    ensures { IfOk result (λ wires. wires ≡ wires_in (placed names.now.tree.now) (declaration_view kept_place declaration.now)) }
+    requires known { IsKnown known.now }
+    requires stands { slice_get (tree_of known.now).declarations number ≡ Some (declaration_view kept_place declaration.now) }
+    ensures { IfOk result (λ wires. wires ≡ wires_in (tree_of known.now) (declaration_view kept_place declaration.now)) }
 {
     match declaration {
         Declaration::Type(_) => Ok(Items::new(alloc)),
         Declaration::Implementation(x) => {
-            wires_of_each(alloc, names, number, x, x.connections.as_slice())
+            wires_of_each(alloc, known, number, x.connections.as_slice())
         }
     }
 }
@@ -81,18 +86,17 @@ fn wires_of(
 // What connections of an implementation join.
 fn wires_of_each(
     alloc: Global,
-    names: &Names<'_>,
+    known: &Known<'_>,
     number: usize,
-    x: &Implementation,
     connections: &[Connection],
 ) -> Result<Items<Wire>, AllocError>
-    requires { slice_get (placed names.now.tree.now).declarations number ≡ Some (implementation (implementation_view kept_place x.now)) }
-    ensures { IfOk result (λ wires. wires ≡ map (spec.wire_of (placed names.now.tree.now) (implementation_view kept_place x.now))
-        (map (connection_view kept_place) connections.now)) }
+    requires { IsKnown known.now }
+    ensures { IfOk result (λ wires. (x : Implementation ℕ) → implementation_at (tree_of known.now) number ≡ Some x
+        → wires ≡ map (spec.wire_of (tree_of known.now) x) (map (connection_view kept_place) connections.now)) }
 {
     let mut wires = Items::new(alloc);
     for connection in connections {
-        wires.push(wire_of(alloc, names, number, x, connection)?)?;
+        wires.push(wire_of(alloc, known, number, connection)?)?;
     }
     Ok(wires)
 }
@@ -100,29 +104,15 @@ fn wires_of_each(
 // What a connection joins.
 fn wire_of(
     alloc: Global,
-    names: &Names<'_>,
+    known: &Known<'_>,
     number: usize,
-    x: &Implementation,
     connection: &Connection,
 ) -> Result<Wire, AllocError>
-    requires { slice_get (placed names.now.tree.now).declarations number ≡ Some (implementation (implementation_view kept_place x.now)) }
-    ensures { IfOk result (λ wire. wire ≡ spec.wire_of (placed names.now.tree.now) (implementation_view kept_place x.now)
-        (connection_view kept_place connection.now)) }
+    requires { IsKnown known.now }
+    ensures { IfOk result (λ wire. (x : Implementation ℕ) → implementation_at (tree_of known.now) number ≡ Some x
+        → wire ≡ spec.wire_of (tree_of known.now) x (connection_view kept_place connection.now)) }
 {
-    let source = site(alloc, names, number, x, &connection.source)?;
-    let target = site(alloc, names, number, x, &connection.target)?;
-    Ok(Wire {
-        source: site_alone(source),
-        target: site_alone(target),
-    })
-}
-
-// A port without its direction.
-fn site_alone(port: Option<(Site, Option<Direction>)>) -> Option<Site>
-    ensures { result ≡ option_map (λ p. p.0) port }
-{
-    match port {
-        Some((site, _)) => Some(site),
-        None => None,
-    }
+    let source = site_of(alloc, known, number, &connection.source)?;
+    let target = site_of(alloc, known, number, &connection.target)?;
+    Ok(Wire { source, target })
 }

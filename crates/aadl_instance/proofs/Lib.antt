@@ -8,5 +8,6 @@ pub mod Lists
 pub mod Ports
 pub mod Passing
 pub mod Shown
+pub mod Before
 pub mod Adding
 pub mod Settled

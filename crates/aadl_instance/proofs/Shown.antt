@@ -6,7 +6,7 @@ use Rattle.std.specs.List.{position_from}
 use Rattle.std.specs.Option.{option_and_then, option_map_or}
 use Rattle.std.proofs.lemmas.Bool.{true≢false, and_parts, cases_lt}
 use Rattle.std.proofs.lemmas.Bool.Decides.{nat_tests}
-use Rattle.std.proofs.lemmas.List.{take-map, reverse-reverse}
+use Rattle.std.proofs.lemmas.List.{take-map}
 use Rattle.std.proofs.lemmas.List.Folds.{fold-map}
 use Rattle.std.proofs.lemmas.Option.{same_Some, none-some, slice_get-map, slice_get_read, slice_get_within, get_or_from_slice_get}
 use Rattle.pals_base.specs.declared.limits.TheConstants.{PORTS}
@@ -52,7 +52,7 @@ same_is (x ∷ a) (y ∷ b) e =
     let same : x ≡ y = grind (arith, nat_tests) in
     ap (λ n. n ∷ a) same ∙ ap (λ l. y ∷ l) (same_is a b h.1)
 
-never_before : (path : List ℕ) → path_before path path ≡ false
+pub never_before : (path : List ℕ) → path_before path path ≡ false
 never_before [] = refl
 never_before (x ∷ path) =
     let less : nat_lt x x ≡ false = grind (arith, nat_tests) in
@@ -89,12 +89,6 @@ path_got threads i thread e =
 pub path_at : (threads : List (Vec ℕ Global)) (i : ℕ) (thread : Vec ℕ Global) → i < length threads → thread ≡ get_or threads i thread
     → slice_get (paths_of threads) i ≡ Some (reverse thread.items)
 path_at threads i thread lt e = path_got threads i thread (slice_get_read threads (length threads) i thread refl lt e)
-
-pub other_path : (threads : List (Vec ℕ Global)) (i : ℕ) (thread : Vec ℕ Global) (path : List ℕ) → i < length threads → thread ≡ get_or threads i thread
-    → (thread.items ≡ path → ⊥) → slice_get (paths_of threads) i ≡ Some (reverse path) → ⊥
-other_path threads i thread path lt e other is =
-    let same : reverse thread.items ≡ reverse path = same_Some (reverse thread.items) (reverse path) (sym (path_at threads i thread lt e) ∙ is) in
-    other (sym (reverse-reverse thread.items) ∙ (ap reverse same ∙ reverse-reverse path))
 
 -- ---- the number of a port
 count_map : {X Y : Type 0} (f : X → Y) (test : Y → Bool) (xs : List X) → count_by test (map f xs) ≡ count_by (λ x. test (f x)) xs

@@ -1,9 +1,10 @@
 //! Ends of chains, as an instance shows them.
-ghost use Rattle.std.specs.Prelude.{◌≡◌, ◌<◌, ◌≤◌, Some, [], count_by, length, map, reverse, slice_get, Contains, IfOk, MatchOption};
+ghost use Rattle.std.specs.Prelude.{◌≡◌, ◌<◌, ◌≤◌, Some, [], count_by, length, map, reverse, slice_get, AllPairs, Contains, IfOk};
 ghost use Rattle.pals_base.specs.declared.limits.TheConstants.{PORTS};
 ghost use Rattle.aadl_tree.specs.Maps.{kept_place};
 ghost use Rattle.aadl_tree.specs.Views.{feature_view};
-ghost use Rattle.aadl_uses.specs.Threads.{IsThreadAt};
+ghost use Rattle.aadl_uses.specs.Counts.{path_before};
+ghost use Rattle.aadl_uses.specs.Threads.{IsThreadAt, PathBefore};
 ghost use Rattle.aadl_chains.specs.Routes.{begin_port};
 ghost use Rattle.aadl_instance.specs.Instances as spec;
 ghost use Rattle.aadl_instance.specs.Instances.{end_in, number_among};
@@ -74,29 +75,30 @@ pub fn thread_end(network: &Network<'_>, path: &[usize], port: usize) -> ChainEn
     }
 }
 
-// The number of the thread at a path.
+// The number of the thread at a path: how many threads come before it.
 fn node_of(threads: &[Vec<usize>], path: &[usize]) -> NodeNo
+    requires in_order { AllPairs PathBefore (paths_of threads.now) }
     requires among { Contains (paths_of threads.now) (reverse path.now) }
     requires few { length threads.now ≤ u32.MAX }
     ensures { slice_get (paths_of threads.now) result.0 ≡ Some (reverse path.now) }
 {
-    match place_of(threads, path) {
-        Some(node) => NodeNo(node as u32),
-        None => unreachable!(),
-    }
+    let before = threads.partition_point(|thread| comes_before(thread.as_slice(), path));
+    NodeNo(before as u32)
 }
 
-// The place of a path among those of threads, if it is one of them.
-fn place_of(threads: &[Vec<usize>], path: &[usize]) -> Option<usize>
-    ensures { MatchOption result (¬ Contains (paths_of threads.now) (reverse path.now))
-        (λ node. slice_get (paths_of threads.now) node ≡ Some (reverse path.now)) }
+// Whether a path comes before another one.
+fn comes_before(path: &[usize], other: &[usize]) -> bool
+    ensures { result ≡ path_before path.now other.now }
 {
-    for (node, thread) in threads.iter().enumerate() {
-        if thread.as_slice() == path {
-            return Some(node);
+    for at in 0..other.len() {
+        if at == path.len() {
+            return true;
+        }
+        if path[at] != other[at] {
+            return path[at] < other[at];
         }
     }
-    None
+    false
 }
 
 // The number of a port among those that go as it does.

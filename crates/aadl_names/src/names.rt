@@ -12,7 +12,7 @@ ghost use Rattle.aadl_names.specs.Members.{member_of};
 ghost use Rattle.aadl_names.specs.Resolving as spec;
 ghost use Rattle.aadl_names.specs.Resolving.{first_number, is_type, is_implementation, port_named, sub_named};
 
-use crate::spelling::{joined, spelled_implementation};
+use crate::spelling::spelled_implementation;
 use crate::table::Table;
 use aadl_tree::{
     Declaration, Feature, Identifier, Implementation, PackageTree, Reference, Subcomponent,
@@ -71,8 +71,11 @@ impl<'t> Names<'t> {
         if !self.is_of(x) {
             return Ok(None);
         }
-        let name = joined(alloc, &x.type_name, implementation)?;
-        self.implementations.value(alloc, name.as_str())
+        self.implementations.dotted_value(
+            alloc,
+            x.type_name.spelling.as_str(),
+            implementation.spelling.as_str(),
+        )
     }
 
     /// The number of a port of a type, or of a subcomponent of an implementation, by its name.

@@ -1,5 +1,6 @@
 //! What names stand for, found without regard to case.
-ghost use Rattle.aadl_tree.specs.Names.{same_name};
+ghost use Rattle.std.specs.Prelude.{◌≡◌, ◌++◌, IfOk, codes};
+ghost use Rattle.aadl_names.specs.Spelling.{folded};
 
 use indexmap::IndexMap;
 use std::alloc::{AllocError, Global};
@@ -20,8 +21,9 @@ impl<V: Copy> Model for Table<V> {
 }
 
 impl<V: Copy> Table<V> {
-    ghost use Rattle.std.specs.Prelude.{◌≡◌, ℕ, List, None, Some, OnOk, IfOk, if◌then◌else◌};
+    ghost use Rattle.std.specs.Prelude.{◌≡◌, ◌++◌, ℕ, List, None, Some, OnOk, IfOk, codes, if◌then◌else◌};
     ghost use Rattle.std.specs.Option.{option_or};
+    ghost use Rattle.aadl_tree.specs.Names.{same_name};
     ghost use Rattle.aadl_names.specs.Tables.{value_of};
 
     /// An empty table. It takes no memory.
@@ -62,4 +64,29 @@ impl<V: Copy> Table<V> {
         let key = name.as_bytes().to_ascii_lowercase(alloc)?;
         Ok(self.values.get(&key).copied())
     }
+
+    /// What two names stand for with a point between them.
+    pub fn dotted_value(
+        &self,
+        alloc: Global,
+        first: &str,
+        second: &str,
+    ) -> Result<Option<V>, AllocError>
+        ensures { IfOk result (λ value. value ≡ value_of self.now (first.now ++ codes "." ++ second.now)) }
+    {
+        let key = dotted_key(alloc, first.as_bytes(), second.as_bytes())?;
+        Ok(self.values.get(&key).copied())
+    }
+}
+
+// Two names with a point between them, and their capitals made small.
+fn dotted_key(alloc: Global, first: &[u8], second: &[u8]) -> Result<Vec<u8>, AllocError>
+    ensures { IfOk result (λ key. key.items ≡ folded (first.now ++ codes "." ++ second.now)) }
+{
+    let mut key = Vec::with_capacity(alloc, first.len() + second.len() + 1)?;
+    key.extend_from_slice(first)?;
+    key.push(b'.')?;
+    key.extend_from_slice(second)?;
+    key.make_ascii_lowercase();
+    Ok(key)
 }

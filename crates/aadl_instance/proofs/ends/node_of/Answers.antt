@@ -1,14 +1,13 @@
-use Rattle.std.proofs.Common.{arith, reverse}
-use Rattle.std.proofs.lemmas.List.{length-map}
-use Rattle.std.proofs.lemmas.Option.{slice_get_within}
-use Rattle.aadl_instance.specs.Passed.{paths_of}
+use Rattle.std.proofs.Common.{rules}
+use Rattle.std.proofs.lemmas.List.Sorted.{IsPartitionPoint-from_clause}
+use Rattle.aadl_uses.specs.Counts.{path_before}
+use Rattle.aadl_instance.proofs.Before.{parted, number_found}
 use Rattle.aadl_instance.proofs.ends.node_of.Goals as goal
 
-pub overflow_cast-result : goal.overflow_cast-result
-overflow_cast-result c =
-    let within = slice_get_within (paths_of c.args.threads.now) c.in-Some.node (reverse c.args.path.now) c.in-Some.ensures in
-    let size = length-map c.args.threads.now (λ path. reverse path.items) in
-    omega arith
-
-pub unreachable-requires : goal.unreachable-requires
-unreachable-requires c = c.in-None.ensures c.requires.among
+pub returns : goal.returns
+returns c =
+    let threads = c.args.threads.now in
+    let path = c.args.path.now in
+    let point = IsPartitionPoint-from_clause (λ thread. path_before thread.items path) _ _ c.partition_point-before.ensures.partitioned
+    (parted threads path c.requires.in_order) (λ a r q k. search rules) in
+    number_found threads path c.requires.in_order c.partition_point-before.result point c.requires.among

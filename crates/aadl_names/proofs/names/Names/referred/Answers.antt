@@ -1,4 +1,4 @@
-use Rattle.std.proofs.Common.{◌≡◌, true, refl, ap, ◌∙◌}
+use Rattle.std.proofs.Common.{◌≡◌, ℕ, List, ◌++◌, codes, string_bytes, true, refl, ap, ◌∙◌}
 use Rattle.aadl_tree.specs.PackageViews.{placed}
 use Rattle.aadl_tree.specs.NameViews.{reference_view}
 use Rattle.aadl_tree.specs.Maps.{kept_place}
@@ -12,8 +12,10 @@ unfolding referred
 returns c =
     let some = c.in-Some.is in
     let own : spec.is_of (placed c.args.self.now.tree.now) (reference_view kept_place c.args.x.now) ≡ true = cc (c.is_of.ensures, c.if-not-is_of.false) in
-    ok_as c.value.result _ _
-    (c.args.self.now.of_implementations c.as_str.result.now
-    ∙ (ap (λ bs. first_number (is_implementation bs) (placed c.args.self.now.tree.now).declarations) (c.as_str.ensures ∙ c.in_ok-name.ensures)
-    ∙ rw (some, own) refl))
-    c.value.ensures
+    let tree = placed c.args.self.now.tree.now in
+    let key = ap (λ (l : List ℕ). l ++ codes "." ++ c.as_str-2.result.now) c.as_str.ensures.value
+    ∙ ap (λ (l : List ℕ). string_bytes c.args.x.now.type_name.spelling ++ codes "." ++ l) c.as_str-2.ensures.value in
+    ok_as c.dotted_value.result _ _
+    (c.args.self.now.of_implementations (c.as_str.result.now ++ codes "." ++ c.as_str-2.result.now)
+    ∙ (ap (λ (bs : List ℕ). first_number (is_implementation bs) tree.declarations) key ∙ rw (some, own) refl))
+    c.dotted_value.ensures
