@@ -6,7 +6,7 @@ use Rattle.std.proofs.lemmas.Bool.{true≢false, false≢true, cases_lt}
 use Rattle.std.proofs.lemmas.Bool.Decides.{nat_tests}
 use Rattle.std.proofs.lemmas.List.{length-map, get_or-map, get_or_default, drop_all, drop_more, reverse-reverse}
 use Rattle.std.proofs.lemmas.Option.{slice_get_read}
-use Rattle.core.specs.List.Sorted.{IsPartitionedBy, IsPartitionPoint}
+use Rattle.std.specs.List.Sorted.{IsPartitionedBy, IsPartitionPoint}
 use Rattle.aadl_uses.specs.Counts.{path_before}
 use Rattle.aadl_uses.specs.Threads.{PathBefore}
 use Rattle.aadl_instance.specs.Passed.{paths_of}

@@ -1,14 +1,30 @@
 -- Look-ups in tables of names.
-use Rattle.std.proofs.Common.{◌≡◌, ℕ, Bool, true, false, cond, List, [], ◌∷◌, ◌++◌, Option, Some, None, refl, sym, ap, ◌∙◌, map, not}
+use Rattle.std.proofs.Common.{◌≡◌, ℕ, ◌+◌, nat_lt, Bool, true, false, cond, arith, List, [], ◌∷◌, ◌++◌, Option, Some, None, refl, sym, ap, ◌∙◌, map, not}
 use Rattle.aadl_tree.specs.Names.{same_name}
 use Rattle.std.specs.Map.{lookup}
 use Rattle.std.specs.Option.{option_or, is_some}
 use Rattle.std.specs.Str.{bytes_eq}
-use Rattle.std.proofs.lemmas.Bool.{true≢false, false≢true}
+use Rattle.std.proofs.lemmas.Bool.{true≢false, false≢true, or_parts}
+use Rattle.std.proofs.lemmas.Bool.Decides.{nat_tests}
+use Rattle.std.specs.Char.{is_ascii_uppercase}
+use Rattle.std.specs.List.{list_any}
 use Rattle.std.proofs.lemmas.Slice.Eq.{bytes_eq-Decides}
 use Rattle.indexmap.specs.IndexMap.{insert_entry}
 use Rattle.aadl_names.specs.Spelling.{folded}
 use Rattle.aadl_names.specs.Tables.{value_of}
+
+-- a name that has no capital is its own key
+letter_by : (c : ℕ) (a b : Bool) → nat_lt c 65 ≡ a → nat_lt c 91 ≡ b → is_ascii_uppercase c ≡ false
+    → cond (nat_lt c 65) c (cond (nat_lt c 91) (c + 32) c) ≡ c
+letter_by c true b h g e = ap (λ t. cond t c (cond (nat_lt c 91) (c + 32) c)) h
+letter_by c false true h g e = let inside : is_ascii_uppercase c ≡ true = grind (arith, nat_tests) in absurd (true≢false (sym inside ∙ e))
+letter_by c false false h g e = ap (λ t. cond t c (cond (nat_lt c 91) (c + 32) c)) h ∙ ap (λ t. cond t (c + 32) c) g
+
+pub own_key : (name : List ℕ) → list_any is_ascii_uppercase name ≡ false → folded name ≡ name
+own_key [] e = refl
+own_key (c ∷ name) e =
+    let parts = or_parts (is_ascii_uppercase c) (list_any is_ascii_uppercase name) e in
+    ap (λ n. n ∷ folded name) (letter_by c (nat_lt c 65) (nat_lt c 91) refl refl parts.0) ∙ ap (λ l. c ∷ l) (own_key name parts.1)
 
 -- look-ups by a part of the keys
 pub lookup_keys : {K J X : Type 0} (part : K → J) (test : J → Bool) (es : List (K × X))

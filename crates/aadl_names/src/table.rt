@@ -1,5 +1,7 @@
 //! What names stand for, found without regard to case.
 ghost use Rattle.std.specs.Prelude.{◌≡◌, ◌++◌, IfOk, codes};
+ghost use Rattle.std.specs.Char.{is_ascii_uppercase};
+ghost use Rattle.std.specs.List.{list_any};
 ghost use Rattle.aadl_names.specs.Spelling.{folded};
 
 use indexmap::IndexMap;
@@ -61,8 +63,12 @@ impl<V: Copy> Table<V> {
     pub fn value(&self, alloc: Global, name: &str) -> Result<Option<V>, AllocError>
         ensures { IfOk result (λ value. value ≡ value_of self.now name.now) }
     {
-        let key = name.as_bytes().to_ascii_lowercase(alloc)?;
-        Ok(self.values.get(&key).copied())
+        let bytes = name.as_bytes();
+        if has_capital(bytes) {
+            let key = bytes.to_ascii_lowercase(alloc)?;
+            return Ok(self.values.get(&key).copied());
+        }
+        Ok(self.values.get(bytes).copied())
     }
 
     /// What two names stand for with a point between them.
@@ -89,4 +95,11 @@ fn dotted_key(alloc: Global, first: &[u8], second: &[u8]) -> Result<Vec<u8>, All
     key.extend_from_slice(second)?;
     key.make_ascii_lowercase();
     Ok(key)
+}
+
+// Whether a name has a capital. One that has none is its own key.
+fn has_capital(name: &[u8]) -> bool
+    ensures { result ≡ list_any is_ascii_uppercase name.now }
+{
+    name.iter().any(|byte| byte.is_ascii_uppercase())
 }
