@@ -27,3 +27,4 @@ pub mod DueTurns
 pub mod Openings
 pub mod Targets
 pub mod LooseSteps
+pub mod TargetLists

@@ -1,7 +1,7 @@
 -- The reading that a node of a bus waits for.
-use Rattle.std.proofs.Common.{◌≡◌, ◌∙◌, inl, inr, ℕ, ◌+◌, ◌<◌, ◌≤◌, List, length, map, Option, Some, None, false, is_some, refl, sym, ap, subst, arith}
+use Rattle.std.proofs.Common.{◌≡◌, ◌∙◌, inl, inr, ℕ, ◌<◌, List, length, map, Option, Some, None, false, is_some, refl, sym, ap, subst, arith}
 use Rattle.std.specs.Prelude.{slice_index_or}
-use Rattle.std.proofs.lemmas.Bool.{cases_lt, false≢true}
+use Rattle.std.proofs.lemmas.Bool.{false≢true}
 use Rattle.std.proofs.lemmas.List.{length-map, get_or-map}
 use Rattle.pals_runs.specs.declared.journal.Stop.{Stop}
 use Rattle.pals_bus.specs.declared.fields.Fields.{Fields}
@@ -34,25 +34,6 @@ pub within_run : (f : Fields) (b : BusValue) → Keeps f → value_of f ≡ b �
 within_run f b keeps shows node within =
     let count = keeps.nodes.count ∙ ap (λ (v : BusValue). length v.run.design.components) shows in
     omega (arith, count, within)
-
--- ---- no node so far has a lesser target
-same_some : (a b : ℕ) → ◌≡◌ {A = Option ℕ} (Some a) (Some b) → a ≡ b
-same_some a b is = cc
-
-pub least_here : (own least : ℕ) (o : Option ℕ) → o ≡ Some least → own ≤ least → (l : ℕ) → o ≡ Some l → own ≤ l
-least_here own least o is le l told = let same = same_some least l (sym is ∙ told) in omega (arith, same, le)
-
-pub none_here : (own : ℕ) (o : Option ℕ) → o ≡ None → (l : ℕ) → o ≡ Some l → own ≤ l
-none_here own o is l told = let both : ◌≡◌ {A = Option ℕ} None (Some l) = sym is ∙ told in absurd (cc)
-
-pub least_more : (b : BusValue) (own other : ℕ) (o : Option ℕ) → ((k least : ℕ) → k < other → target_in b k ≡ Some least → own ≤ least) → target_in b other ≡ o → ((least : ℕ) → o ≡ Some least → own ≤ least)
-    → (k least : ℕ) → k < other + 1 → target_in b k ≡ Some least → own ≤ least
-least_more b own other o before is here k least lt told = elim (cases_lt k other) [
-  | inl less ↦ before k least less told
-  | inr more ↦
-      let same : other ≡ k = omega (arith, lt, more) in
-      here least (sym is ∙ ap (target_in b) same ∙ told)
-]
 
 -- ---- the run goes on
 none_by : (o : Option Stop) → is_some o ≡ false → o ≡ None

@@ -11,3 +11,4 @@ pub mod Codes
 pub mod Meeting
 pub mod Loose
 pub mod Openings
+pub mod TargetLists

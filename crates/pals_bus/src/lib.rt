@@ -22,6 +22,7 @@ mod outgoing;
 mod refusals;
 mod rounds;
 mod stops;
+mod target_list;
 
 pub use answers::{LooseFault, Meet};
 pub use bus::Bus;
@@ -30,3 +31,4 @@ pub use loose::apply_loose;
 pub use node_list::NodeList;
 pub use outgoing::Outgoing;
 pub use refusals::{BusFinishEnd, BusSendEnd, BusStartEnd, BusStepEnd, DueEnd, LinkEnd};
+pub use target_list::TargetList;

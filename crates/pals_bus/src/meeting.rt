@@ -15,7 +15,7 @@ impl Bus {
         requires { node.0 < length self.now.run.design.components }
         ensures { result ≡ target_in self.now node.0 }
     {
-        self.fields.nodes.targets()[node.0 as usize]
+        self.fields.nodes.targets().target(node.0 as usize)
     }
 
     /// Whether a node whose nodes meet, and whose next action is to come, may go on: it may where no
@@ -32,16 +32,15 @@ impl Bus {
             return Meet::Ended;
         }
         let targets = f.nodes.targets();
-        let Some(own) = targets[node.0 as usize] else {
+        let Some(own) = targets.target(node.0 as usize) else {
             unreachable!();
         };
-        for other in 0..targets.len() {
-            if let Some(least) = targets[other] {
-                if least < own {
-                    return Meet::Wait {
-                        node: NodeNo(other as u32),
-                    };
-                }
+        let first = targets.first();
+        if let Some(least) = targets.target(first) {
+            if least < own {
+                return Meet::Wait {
+                    node: NodeNo(first as u32),
+                };
             }
         }
         Meet::Go { reading: own }

@@ -5,6 +5,7 @@ ghost use Rattle.pals_node.specs.Answers.{Starts, StartEnds, Steps, StepEnds, Fi
 ghost use Rattle.pals_node.specs.Values.{with_state};
 ghost use Rattle.pals_bus.specs.NodeLists.{node_of, target_of_node};
 
+use crate::target_list::TargetList;
 use pals_base::{Items, Nanos, NoMemory, Port, Tuple};
 use pals_node::{Done, FinishEnd, Finished, Job, Node, SendEnd, StartEnd, StepEnd};
 use pals_runs::Arrived;
@@ -12,13 +13,11 @@ use std::alloc::Global;
 use std::marker::Model;
 use std::ops::Index;
 
-/// The nodes of a run, in order. Contracts see them as a list. Beside them lies the target of each: what
-/// looks for the least one reads these alone.
+/// The nodes of a run, in order, and their targets. Contracts see them as a list.
 #[derive(Drop)]
 pub struct NodeList {
     nodes: Items<Node>,
-    // The reading that each node waits for, or works at, in nanoseconds; none where it is done.
-    targets: Items<Option<Nanos>>,
+    targets: TargetList,
 }
 
 impl Model for NodeList {
@@ -44,7 +43,7 @@ impl NodeList {
     pub fn new(alloc: Global, nodes: Items<Node>) -> Result<NodeList, NoMemory>
         ensures { IfOk result (λ list. list ≡ nodes) }
     {
-        let targets = targets_of(alloc, nodes.as_slice())?;
+        let targets = TargetList::new(targets_of(alloc, nodes.as_slice())?);
         Ok(NodeList { nodes, targets })
     }
 
@@ -63,10 +62,10 @@ impl NodeList {
     }
 
     /// The target of each node.
-    pub fn targets(&self) -> &[Option<Nanos>]
+    pub fn targets(&self) -> &TargetList
         ensures { result.now ≡ map target_of_node self.now }
     {
-        self.targets.as_slice()
+        &self.targets
     }
 
     /// A node starts its next round.
@@ -177,7 +176,7 @@ fn targets_of(alloc: Global, nodes: &[Node]) -> Result<Items<Option<Nanos>>, NoM
 }
 
 // The target of a node that has changed.
-fn keep_target(targets: &mut Items<Option<Nanos>>, nodes: &Items<Node>, node: usize)
+fn keep_target(targets: &mut TargetList, nodes: &Items<Node>, node: usize)
     requires node { node < length nodes.now }
     requires target { node < length targets.old }
     ensures { targets.new ≡ slice_set targets.old node (target_of_node (node_of nodes.now node)) }

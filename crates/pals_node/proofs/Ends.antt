@@ -1,21 +1,21 @@
 -- The end of a step, and what a node then keeps.
-use Rattle.std.proofs.Common.{◌≡◌, ◌∙◌, inl, inr, ℕ, zero, suc, ◌+◌, ◌-◌, ◌<◌, ◌≤◌, nat_eq, nat_lt, Bool, true, false, List, [], ◌∷◌, ◌++◌, length, map, Option, Some, None, All, slice_index_or, refl, sym, ap, ap₂, subst, arith, add-one}
-use Rattle.std.specs.Prelude.{if◌then◌else◌, vec_len, vec_capacity}
+use Rattle.std.proofs.Common.{◌≡◌, ◌∙◌, inl, inr, ℕ, ◌-◌, ◌≤◌, nat_eq, Bool, true, false, List, [], length, slice_index_or, refl, sym, ap, ap₂, subst, arith}
+use Rattle.std.specs.Prelude.{if◌then◌else◌}
 use Rattle.std.specs.Arc.{arc_value}
 use Rattle.std.proofs.lemmas.Bool.{eqb-true, eqb-false, cases_lt}
 use Rattle.pals_base.specs.declared.values.Port.{Port}
 use Rattle.pals_base.specs.declared.values.Frame.{Frame}
-use Rattle.pals_base.specs.Fire.{Fired, HasShape, fire}
+use Rattle.pals_base.specs.Fire.{Fired, HasShape}
 use Rattle.pals_base.specs.Steps.{with_places}
-use Rattle.pals_runs.specs.declared.journal.Phase.{Phase}
-use Rattle.pals_runs.specs.declared.journal.Phase.TheVariants.{Waiting, Running, Between, Holding, Done}
+use Rattle.pals_runs.specs.declared.journal.Phase.TheVariants.{Running, Holding}
 use Rattle.bus_machine.specs.declared.plan.Plan.{Plan}
-use Rattle.bus_machine.specs.Nodes.{NodeState, at_rest, job_of}
+use Rattle.bus_machine.specs.Nodes.{at_rest}
 use Rattle.bus_machine.specs.NodeEvents.{fired, finished, finished_with}
 use Rattle.pals_node.specs.declared.fields.Fields.{Fields}
 use Rattle.std.proofs.lemmas.Option.{slice_get-get_or, get_or_from_slice_get}
-use Rattle.pals_node.specs.Values.{Program, NodeValue, JobValue, job_value, job_at, with_state}
-use Rattle.pals_node.specs.Keeping.{IsProgram, AreTuples, HasRound, IsOpen, PhaseKeeps, HasPartRoom, HasMessageRoom, Keeps, IsStepMade, state_of, value_of, ended_at}
+use Rattle.pals_node.specs.Values.{Program, job_value, job_at}
+use Rattle.pals_node.specs.Keeping.{IsProgram, AreTuples, HasRound, IsOpen, PhaseKeeps, HasMessageRoom, Keeps, state_of, value_of}
+use Rattle.pals_node.specs.Memories.{HasMemory}
 use Rattle.pals_base.specs.declared.limits.TheConstants.{ROUNDS}
 use Rattle.step_code.specs.Exec.{exec, Leaves}
 use Rattle.step_vm.specs.Rooms.{IsRoomOf}
@@ -82,6 +82,7 @@ pub record KeepsRest (f : Fields) : Type 0 where
   pub messages_keep : HasMessageRoom (arc_value f.plan).plan f.sent f.messages
   pub room : IsRoomOf (arc_value f.plan).code f.room
   pub row : length f.row.items ≡ (arc_value f.plan).code.outs
+  pub spare : HasMemory (arc_value f.plan).code f.spare
 
 pub keeps_on : (old new : Fields) → KeepsRest old → new ≡ record old { phase = new.phase; outs = new.outs; parts = new.parts; next_part = new.next_part } → PhaseKeeps (arc_value old.plan).plan new new.phase → Keeps new
 keeps_on old new rest same phase =
@@ -95,6 +96,7 @@ keeps_on old new rest same phase =
       messages_keep = rest.messages_keep;
       room = rest.room;
       row = rest.row;
+      spare = rest.spare;
     } in
     subst Keeps (sym same) all
 

@@ -4,3 +4,4 @@ pub mod Ends
 pub mod Plans
 pub mod Starts
 pub mod KeyLaws
+pub mod Memories

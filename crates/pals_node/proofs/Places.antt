@@ -1,14 +1,14 @@
 -- Tuples written place by place.
-use Rattle.std.proofs.Common.{◌≡◌, ◌∙◌, ℕ, zero, suc, ◌+◌, ◌-◌, ◌<◌, ◌≤◌, inl, inr, Bool, cond, if◌then◌else◌, nat_lt, List, [], ◌∷◌, ◌++◌, length, map, take, drop, set, replicate, All, Option, Some, None, slice_index_or, refl, sym, ap, ap₂, subst, arith, add-one}
+use Rattle.std.proofs.Common.{◌≡◌, ◌∙◌, ℕ, zero, suc, ◌+◌, ◌-◌, ◌<◌, ◌≤◌, inl, inr, Bool, cond, if◌then◌else◌, nat_lt, List, [], ◌∷◌, ◌++◌, length, map, take, drop, set, replicate, All, Option, Some, None, slice_index_or, refl, sym, ap, ap₂, arith, add-one}
 use Rattle.std.specs.Prelude.{slice_set, zip}
 use Rattle.std.specs.List.{position_from}
 use Rattle.std.proofs.lemmas.Bool.{lt-ltb, le-ltb, cases_lt}
-use Rattle.std.proofs.lemmas.List.{drop_all, take_more, take_more_set, length-map, length-set, append-nil, take_all, length-append, length-take, length-take-le, length-replicate, get_or-map, get_or-take, get_or-replicate, get_or_append_left, get_or-append_right}
+use Rattle.std.proofs.lemmas.List.{drop_all, take_more, take_more_set, length-set, append-nil, take_all, length-append, length-take, length-take-le, length-replicate, get_or-take, get_or-replicate, get_or_append_left, get_or-append_right}
 use Rattle.std.proofs.lemmas.List.Elements.{All-head, All-tail, All-cons}
 use Rattle.std.proofs.lemmas.Option.{slice_get-get_or, get_or_from_slice_get}
 use Rattle.pals_base.specs.declared.values.Port.{Port}
 use Rattle.pals_base.specs.declared.values.Port.TheVariants.{Absent}
-use Rattle.pals_base.specs.Steps.{cut, with_places}
+use Rattle.pals_base.specs.Steps.{column, cut, with_places}
 
 -- ---- lists written over, element by element
 pub filled_more : {X : Type 0} (xs wanted : List X) (i : ℕ) (y : X) → length xs ≡ length wanted → i < length wanted → y ≡ slice_index_or wanted i y → take i xs ≡ take i wanted → take (i + 1) (set xs i y) ≡ take (i + 1) wanted
@@ -117,3 +117,14 @@ emptied {X} xs n = map (λ (_ : X). no_message) (take n xs)
 
 pub empty_more : {X : Type 0} (xs : List X) (k : ℕ) → k < length xs → map (λ (_ : X). no_message) (take k xs) ++ no_message ∷ [] ≡ map (λ (_ : X). no_message) (take (k + 1) xs)
 empty_more xs k within = more_empty xs k within ∙ ap (emptied xs) (sym (add-one k))
+
+-- each of them is
+pub empty_at : {X : Type 0} (xs : List X) (k : ℕ) → k < length xs → no_message ≡ slice_index_or (map (λ (_ : X). no_message) xs) k no_message
+empty_at [] k within = refl
+empty_at (x ∷ xs) zero within = refl
+empty_at (x ∷ xs) (suc k) within = empty_at xs k (omega arith)
+
+-- a column of what a function gives
+pub column_of : {X : Type 0} (f : X → List Port) (at : ℕ) (xs : List X) → column at (map f xs) ≡ map (λ x. slice_index_or (f x) at Absent) xs
+column_of f at [] = refl
+column_of f at (x ∷ xs) = ap (λ ports. slice_index_or (f x) at Absent ∷ ports) (column_of f at xs)

@@ -1,15 +1,13 @@
 -- The plan of a design's node keeps what plans keep.
-use Rattle.std.proofs.Common.{◌≡◌, ◌∙◌, ℕ, ◌+◌, ◌-◌, ◌*◌, ◌/◌, ◌<◌, ◌≤◌, nat_eq, Bool, true, List, length, map, All, Some, slice_get, slice_index_or, refl, sym, ap, subst, arith}
-use Rattle.std.specs.Prelude.{filter, min, max}
-use Rattle.std.proofs.Math.Nat.{div-le_self, mul-le-mul_right, mul-div-le, max-le, le-max_left, le-max_right, min-le_left, le-min}
+use Rattle.std.proofs.Common.{◌≡◌, ◌∙◌, ℕ, ◌+◌, ◌-◌, ◌*◌, ◌/◌, ◌<◌, ◌≤◌, nat_eq, length, All, slice_get, slice_index_or, ap, subst, arith}
+use Rattle.std.specs.Prelude.{max}
+use Rattle.std.proofs.Math.Nat.{div-le_self, mul-le-mul_right, mul-div-le, max-le, le-max_left, min-le_left, le-min}
 use Rattle.std.proofs.lemmas.Bool.{eqb-true}
 use Rattle.std.proofs.lemmas.List.{length-map}
-use Rattle.std.proofs.lemmas.List.Elements.{All-map, All-filter, filter_passes, All-weaker}
+use Rattle.std.proofs.lemmas.List.Elements.{All-map, All-filter, filter_passes}
 use Rattle.std.proofs.lemmas.Option.{slice_get-get_or}
 use Rattle.pals_base.specs.declared.values.Gamma.{Gamma}
-use Rattle.pals_base.specs.declared.limits.TheConstants.{HOUR}
 use Rattle.pals_base.specs.Bound.{backoff, step_period, sent_steps, release_offset, least_period}
-use Rattle.pals_model.specs.declared.design.Component.{Component}
 use Rattle.pals_model.specs.declared.design.Link.{Link}
 use Rattle.pals_model.specs.declared.design.Tap.{Tap}
 use Rattle.pals_model.specs.declared.design.DesignParts.{DesignParts}
@@ -18,7 +16,6 @@ use Rattle.pals_model.specs.Ports.{outs_in}
 use Rattle.pals_model.specs.Composition.{taps_of}
 use Rattle.pals_model.specs.Rules.{IsDesign, IsComponent, IsLink, IsTap, greatest_rate}
 use Rattle.pals_model.proofs.Lookups.{at_element}
-use Rattle.bus_machine.specs.declared.plan.Input.{Input}
 use Rattle.bus_machine.specs.Plans.{component_at, no_component, plan_of, input_of, out_links_of}
 use Rattle.bus_machine.proofs.Vectors.{length_sources}
 use Rattle.pals_node.specs.Keeping.{IsPlan}

@@ -1,16 +1,13 @@
 -- What a program that means its behaviour gives.
-use Rattle.std.proofs.Common.{◌≡◌, ◌∙◌, ℕ, Bool, true, false, List, length, Option, Some, None, slice_get, refl, sym, ap, subst}
+use Rattle.std.proofs.Common.{◌≡◌, ◌∙◌, Bool, true, List, length, Option, Some, None, slice_get, refl, sym}
 use Rattle.std.specs.Prelude.{IsTrue}
 use Rattle.std.proofs.lemmas.Bool.{false≢true}
 use Rattle.pals_base.specs.declared.values.Port.{Port}
 use Rattle.pals_base.specs.declared.values.Frame.{Frame}
-use Rattle.pals_base.specs.declared.behaviour.BehaviourParts.{BehaviourParts}
 use Rattle.pals_base.specs.declared.behaviour.StateDecl.{StateDecl}
 use Rattle.pals_base.specs.Fire.{Fired, HasShape, fire, may_begin}
 use Rattle.pals_base.proofs.Ending.{fires_well}
-use Rattle.step_code.specs.declared.instr.CodeParts.{CodeParts}
-use Rattle.step_code.specs.Exec.{Leaves, Executed, FitsCode, exec, has_entry}
-use Rattle.step_code.specs.Means.{Means}
+use Rattle.step_code.specs.Exec.{Leaves, FitsCode, exec}
 use Rattle.pals_node.specs.Values.{Program}
 use Rattle.pals_node.specs.Keeping.{IsProgram}
 

@@ -1,6 +1,6 @@
 -- What a start leaves, and what a node then keeps.
-use Rattle.std.proofs.Common.{◌≡◌, ◌∙◌, ℕ, zero, suc, ◌+◌, ◌-◌, ◌<◌, ◌≤◌, true, false, List, [], ◌∷◌, length, map, replicate, Option, Some, None, All, slice_index_or, refl, sym, ap, ap₂, subst, arith}
-use Rattle.std.specs.Prelude.{zip, vec_len, vec_capacity}
+use Rattle.std.proofs.Common.{◌≡◌, ◌∙◌, ℕ, suc, ◌+◌, ◌-◌, ◌<◌, false, List, [], ◌∷◌, length, map, replicate, Option, slice_index_or, refl, sym, ap, ap₂, subst, arith}
+use Rattle.std.specs.Prelude.{zip}
 use Rattle.std.specs.Arc.{arc_value}
 use Rattle.std.proofs.lemmas.List.{length-map, length-replicate}
 use Rattle.std.proofs.lemmas.List.Elements.{All-replicate, All-weaker}
@@ -11,14 +11,14 @@ use Rattle.pals_base.specs.declared.values.Frame.{Frame}
 use Rattle.pals_base.specs.Fire.{initial}
 use Rattle.pals_base.proofs.Steps.{length-columns, length-each_column}
 use Rattle.pals_model.specs.declared.rounds.Part.{Part}
-use Rattle.pals_runs.specs.declared.journal.Phase.TheVariants.{Waiting, Running}
+use Rattle.pals_runs.specs.declared.journal.Phase.TheVariants.{Running}
 use Rattle.bus_machine.specs.declared.plan.Input.{Input}
 use Rattle.bus_machine.specs.declared.plan.Plan.{Plan}
-use Rattle.bus_machine.specs.Nodes.{NodeState, brought, vectors_of}
+use Rattle.bus_machine.specs.Nodes.{brought, vectors_of}
 use Rattle.bus_machine.specs.NodeEvents.{started}
 use Rattle.pals_node.specs.declared.fields.Fields.{Fields}
-use Rattle.pals_node.specs.Values.{Program, NodeValue, with_state, job_value, job_at}
-use Rattle.pals_node.specs.Keeping.{IsPlan, AreTuples, HasRound, IsOpen, IsPartRoom, PhaseKeeps, Keeps, state_of, value_of}
+use Rattle.pals_node.specs.Values.{NodeValue, with_state, job_value}
+use Rattle.pals_node.specs.Keeping.{IsPlan, AreTuples, IsPartRoom, state_of, value_of}
 use Rattle.pals_node.proofs.Places.{no_message}
 
 -- ---- sizes
@@ -46,23 +46,16 @@ part_room plan part frame outs = record {
   outs = subst (AreTuples (length plan.taps) plan.rate) (sym outs) (absent_are (length plan.taps) plan.rate);
 }
 
--- ---- empty slots
-pub all_empty : {X Y : Type 0} (xs : List X) (ys : List Y) → length xs ≡ length ys → map (λ (_ : X). no_message) xs ≡ map (λ (_ : Y). no_message) ys
-all_empty [] [] same = refl
-all_empty [] (y ∷ ys) same = absurd (omega arith)
-all_empty (x ∷ xs) [] same = absurd (omega arith)
-all_empty (x ∷ xs) (y ∷ ys) same = ap (λ slots. no_message ∷ slots) (all_empty xs ys (omega arith))
-
 -- ---- the value
 abbrev started_value : Fields → List (Option (List Port)) → List (List Port) → List (List Port) → List Part → NodeValue
 started_value f slots vectors outs parts =
     with_state (value_of f) (record (state_of f) { count = f.count + 1; phase = Running 0; slots = slots; vectors = vectors; outs = outs; sent = false; parts = parts })
 
-pub starts_value : (f : Fields) (env : List Port) (slots : List (Option (List Port))) (vectors outs : List (List Port)) (parts : List Part) → slots ≡ map (λ (_ : Option (List Port)). no_message) f.slots → vectors ≡ vectors_of (arc_value f.plan).plan env f.slots
+pub starts_value : (f : Fields) (env : List Port) (vectors outs : List (List Port)) (parts : List Part) → vectors ≡ vectors_of (arc_value f.plan).plan env f.slots
     → outs ≡ replicate (length (arc_value f.plan).plan.behaviour.outs) (replicate (arc_value f.plan).plan.rate Absent) → parts ≡ f.parts.items
-    → started_value f slots vectors outs parts ≡ with_state (value_of f) (started (arc_value f.plan).plan env (state_of f))
-starts_value f env slots vectors outs parts is_slots is_vectors is_outs is_parts =
-    ap₂ (λ s v. started_value f s v outs parts) is_slots is_vectors ∙ ap₂ (λ o p. started_value f (map (λ (_ : Option (List Port)). no_message) f.slots) (vectors_of (arc_value f.plan).plan env f.slots) o p) is_outs is_parts
+    → started_value f (map (λ (_ : Option (List Port)). no_message) f.slots) vectors outs parts ≡ with_state (value_of f) (started (arc_value f.plan).plan env (state_of f))
+starts_value f env vectors outs parts is_vectors is_outs is_parts =
+    ap (λ v. started_value f (map (λ (_ : Option (List Port)). no_message) f.slots) v outs parts) is_vectors ∙ ap₂ (λ o p. started_value f (map (λ (_ : Option (List Port)). no_message) f.slots) (vectors_of (arc_value f.plan).plan env f.slots) o p) is_outs is_parts
 
 -- the job of the first step
 pub first_job : (f : Fields) (vectors : List (List Port)) (inputs : List Port) → 0 < length vectors → inputs ≡ slice_index_or vectors 0 inputs

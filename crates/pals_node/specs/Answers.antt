@@ -1,10 +1,9 @@
 -- What a node answers, and why.
-use Rattle.std.specs.Prelude.{◌≡◌, ◌≢◌, ℕ, nat_lt, Bool, true, false, List, Option, Some, None, IsTrue}
+use Rattle.std.specs.Prelude.{◌≡◌, ◌≢◌, ℕ, nat_lt, Bool, true, false, List, Option, Some, None}
 use Rattle.std.specs.Option.{option_map_or}
 use Rattle.pals_base.specs.declared.values.Port.{Port}
 use Rattle.pals_runs.specs.declared.journal.Phase.{Phase}
 use Rattle.pals_runs.specs.declared.journal.Phase.TheVariants.{Waiting, Running, Between, Holding, Done}
-use Rattle.bus_machine.specs.Nodes.{NodeState}
 use Rattle.bus_machine.specs.NodeEvents.{missing, started, stepped, finished, may_send, sent_from, messages_from}
 use Rattle.bus_machine.specs.Alarms.{start_alarm, step_alarm, release_alarm}
 use Rattle.pals_node.specs.declared.answers.StartEnd.{StartEnd}

@@ -4,7 +4,6 @@ use Rattle.std.specs.Arc.{arc_value}
 use Rattle.pals_base.specs.declared.limits.TheConstants.{HOUR, RATE, ROUNDS, PORTS}
 use Rattle.pals_base.specs.declared.values.Port.{Port}
 use Rattle.pals_base.specs.declared.values.Frame.{Frame}
-use Rattle.pals_base.specs.declared.behaviour.BehaviourParts.{BehaviourParts}
 use Rattle.pals_base.specs.Fire.{HasShape}
 use Rattle.pals_base.specs.Rules.{IsBehaviour}
 use Rattle.pals_model.specs.declared.rounds.Part.{Part}
@@ -20,6 +19,7 @@ use Rattle.bus_machine.specs.Nodes.{NodeState}
 use Rattle.bus_machine.specs.NodeEvents.{finished_with}
 use Rattle.pals_node.specs.declared.fields.Fields.{Fields}
 use Rattle.pals_node.specs.Values.{Program, NodeValue}
+use Rattle.pals_node.specs.Memories.{HasMemory}
 
 -- the numbers of a plan are in range, and its ports are the behaviour's
 pub record IsPlan (plan : Plan) : Type 0 where
@@ -99,6 +99,7 @@ pub record Keeps (f : Fields) : Type 0 where
   pub messages_keep : HasMessageRoom (arc_value f.plan).plan f.sent f.messages
   pub room : IsRoomOf (arc_value f.plan).code f.room
   pub row : length f.row.items ≡ (arc_value f.plan).code.outs
+  pub spare : HasMemory (arc_value f.plan).code f.spare
 
 -- what contracts see of a node's fields
 abbrev pub state_of : Fields → NodeState

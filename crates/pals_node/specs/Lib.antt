@@ -4,3 +4,4 @@ pub mod Keeping
 pub mod Rounds
 pub mod Codes
 pub mod Keys
+pub mod Memories

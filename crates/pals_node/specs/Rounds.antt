@@ -1,7 +1,6 @@
 -- What the start of a round reserves.
-use Rattle.std.specs.Prelude.{◌≡◌, List, Option, None, length, map, replicate}
+use Rattle.std.specs.Prelude.{◌≡◌, List, Option, length, replicate}
 use Rattle.pals_base.specs.declared.values.Port.{Port}
-use Rattle.bus_machine.specs.declared.plan.Input.{Input}
 use Rattle.bus_machine.specs.Nodes.{vectors_of}
 use Rattle.pals_node.specs.declared.fields.RoundRoom.{RoundRoom}
 use Rattle.pals_base.specs.declared.values.Port.TheVariants.{Absent}
@@ -15,7 +14,6 @@ empty_part plan = record { frame = initial plan.behaviour; outs = replicate (len
 
 -- what a round needs is made
 pub record IsBegun (plan : Plan) (env : List Port) (slots : List (Option (List Port))) (room : RoundRoom) : Type 0 where
-  pub slots_are : room.slots ≡ map (λ (_ : Input). None) plan.inputs
   pub vectors_are : room.vectors ≡ vectors_of plan env slots
   pub outs_are : room.outs ≡ replicate (length plan.behaviour.outs) (replicate plan.rate Absent)
   pub messages_are : room.messages ≡ replicate (length plan.out_links) (replicate plan.rate Absent)

@@ -1,19 +1,22 @@
 //! The fields of a node, and what each event does with them.
-ghost use Rattle.std.specs.Prelude.{◌≡◌, ◌+◌, ◌<◌, ◌≤◌, ◌++◌, ◌∷◌, IfOk, OnOk, OnErr, length, map, replicate, vec_len, vec_capacity, if◌then◌else◌, Some, None, slice_index_or, nat_eq, true, false, [], All};
+ghost use Rattle.std.specs.Prelude.{◌≡◌, ◌+◌, ◌<◌, ◌≤◌, ◌++◌, ◌∷◌, IfOk, OnOk, OnErr, length, map, replicate, vec_len, vec_capacity, if◌then◌else◌, Some, None, slice_index_or, nat_eq, true, false, [], All, List, Option};
 ghost use Rattle.std.specs.Arc.{arc_value};
 ghost use Rattle.pals_base.specs.declared.limits.TheConstants.{ROUNDS};
+ghost use Rattle.pals_base.specs.declared.values.Port.{Port};
 ghost use Rattle.pals_base.specs.declared.values.Port.TheVariants.{Absent};
 ghost use Rattle.pals_base.specs.Fire.{HasShape};
 ghost use Rattle.pals_runs.specs.declared.journal.Phase.TheVariants.{Running};
 ghost use Rattle.bus_machine.specs.NodeEvents.{started, stepped, finished, sent_from, messages_from, may_send, part_left};
 ghost use Rattle.pals_node.specs.Values.{job_at, job_value, opening_value, with_state};
+ghost use Rattle.pals_node.specs.Memories.{HasMemory};
 ghost use Rattle.pals_node.specs.Rounds.{empty_part, IsBegun};
 ghost use Rattle.bus_machine.specs.Nodes.{at_rest, vectors_of};
 ghost use Rattle.pals_node.specs.Keeping.{Keeps, IsProgram, PhaseKeeps, HasRound, HasPartRoom, IsPartRoom, AreTuples, IsStepMade, value_of, state_of, ended_at};
 
 use crate::buffers::{absent_tuples, write_places, write_ports};
-use crate::inputs::{empty_slots, round_vectors};
+use crate::inputs::{empty_all, empty_slots, round_vectors};
 use crate::job::{Done, Job};
+use crate::memory::Memory;
 use crate::plan::NodePlan;
 use bus_machine::Plan;
 use link_buffers::Slot;
@@ -24,7 +27,8 @@ use std::alloc::Global;
 use std::sync::Arc;
 use step_vm::Room;
 
-/// What a node stands at, the room for its steps, and what its last start reserved.
+/// What a node stands at, the room for its steps, what its last start reserved, and the memory of the
+/// last job that came back.
 #[derive(Drop)]
 pub struct Fields {
     pub alloc: Global,
@@ -42,6 +46,7 @@ pub struct Fields {
     pub messages: Option<Items<Tuple>>,
     pub room: Room,
     pub row: Vec<Port>,
+    pub spare: Option<Memory>,
 }
 
 impl Fields {
@@ -74,6 +79,7 @@ impl Fields {
             messages: None,
             room,
             row,
+            spare: None,
         })
     }
 
@@ -86,7 +92,15 @@ impl Fields {
     {
         let inputs = &self.vectors[step as usize];
         let round = self.count.saturating_sub(1);
-        Job::new(self.alloc, &self.plan, round, step, &self.frame, inputs)
+        Job::new(
+            self.alloc,
+            &self.plan,
+            round,
+            step,
+            &self.frame,
+            inputs,
+            None,
+        )
     }
 
     /// Starts the next round, and reserves what its steps, its part and its messages need.
@@ -99,6 +113,7 @@ impl Fields {
         ensures same { OnErr result (value_of self.new ≡ value_of self.old) }
     {
         self.parts.reserve(1)?;
+        let spare = self.spare.take();
         let (room, job) = begun(
             self.alloc,
             &self.plan,
@@ -106,6 +121,7 @@ impl Fields {
             env,
             self.slots.as_slice(),
             &self.frame,
+            spare,
         )?;
         self.begin(room);
         Ok(job)
@@ -114,10 +130,9 @@ impl Fields {
     // Begins a round with what its start reserved. It takes no memory.
     fn begin(&mut self, room: RoundRoom)
         requires count { self.old.count < ROUNDS }
-        ensures { self.new ≡ record self.old { count = self.old.count + 1; phase = Running 0; slots = room.slots; vectors = room.vectors; outs = room.outs; sent = false; next_part = Some room.part; messages = Some room.messages } }
+        ensures { self.new ≡ record self.old { count = self.old.count + 1; phase = Running 0; slots = map (λ (_ : Option (List Port)). None) self.old.slots; vectors = room.vectors; outs = room.outs; sent = false; next_part = Some room.part; messages = Some room.messages } }
     {
         let RoundRoom {
-            slots,
             vectors,
             outs,
             messages,
@@ -125,7 +140,7 @@ impl Fields {
         } = room;
         self.count += 1;
         self.phase = Phase::Running(0);
-        self.slots = slots;
+        empty_all(&mut self.slots);
         self.vectors = vectors;
         self.outs = outs;
         self.sent = false;
@@ -159,9 +174,8 @@ impl Fields {
         ensures value { value_of self.new ≡ with_state (value_of self.old) (finished (arc_value self.old.plan).plan self.old.rounds step (state_of self.old)) }
         ensures keeps { Keeps self.new }
     {
-        let (frame, row) = done.into_result();
-        self.frame = frame;
-        self.row = row;
+        let memory = done.give_result(&mut self.frame, &mut self.row);
+        self.spare = Some(memory);
         self.end_step(step);
     }
 
@@ -219,7 +233,6 @@ impl Fields {
 // What the start of a round reserves.
 #[derive(Drop)]
 struct RoundRoom {
-    slots: Items<Slot>,
     vectors: Items<Tuple>,
     outs: Items<Tuple>,
     messages: Items<Tuple>,
@@ -228,18 +241,15 @@ struct RoundRoom {
 
 // Room for a round, with these vectors.
 fn round_room(alloc: Global, plan: &Plan, vectors: Items<Tuple>) -> Result<RoundRoom, NoMemory>
-    ensures slots { IfOk result (λ room. room.slots ≡ map (λ _. None) plan.now.inputs) }
     ensures vectors { IfOk result (λ room. room.vectors ≡ vectors) }
     ensures outs { IfOk result (λ room. room.outs ≡ replicate (length plan.now.behaviour.outs) (replicate plan.now.rate Absent)) }
     ensures messages { IfOk result (λ room. room.messages ≡ replicate (length plan.now.out_links) (replicate plan.now.rate Absent)) }
     ensures part { IfOk result (λ room. room.part ≡ empty_part plan.now) }
 {
-    let slots = empty_slots(alloc, plan.inputs.as_slice())?;
     let outs = absent_tuples(alloc, plan.behaviour.outs().len(), plan.rate)?;
     let messages = absent_tuples(alloc, plan.out_links.len(), plan.rate)?;
     let part = part_room(alloc, plan)?;
     Ok(RoundRoom {
-        slots,
         vectors,
         outs,
         messages,
@@ -255,14 +265,16 @@ fn begun(
     env: &[Port],
     slots: &[Slot],
     frame: &Frame,
+    spare: Option<Memory>,
 ) -> Result<(RoundRoom, Job), NoMemory>
     requires program { IsProgram (arc_value plan.now) }
     requires slots { length slots.now ≡ length (arc_value plan.now).plan.inputs }
     requires frame { HasShape (arc_value plan.now).plan.behaviour frame.now }
+    requires spare { HasMemory (arc_value plan.now).code spare }
     ensures room { IfOk result (λ made. IsBegun (arc_value plan.now).plan env.now slots.now made.0) }
     ensures job { IfOk result (λ made. made.1 ≡ job_value (arc_value plan.now) round 0 frame.now (slice_index_or (vectors_of (arc_value plan.now).plan env.now slots.now) 0 [])) }
 {
-    let (vectors, job) = first_job(alloc, plan, round, env, slots, frame)?;
+    let (vectors, job) = first_job(alloc, plan, round, env, slots, frame, spare)?;
     let room = round_room(alloc, &plan.plan, vectors)?;
     Ok((room, job))
 }
@@ -284,15 +296,17 @@ fn first_job(
     env: &[Port],
     slots: &[Slot],
     frame: &Frame,
+    spare: Option<Memory>,
 ) -> Result<(Items<Tuple>, Job), NoMemory>
     requires program { IsProgram (arc_value plan.now) }
     requires slots { length slots.now ≡ length (arc_value plan.now).plan.inputs }
     requires frame { HasShape (arc_value plan.now).plan.behaviour frame.now }
+    requires spare { HasMemory (arc_value plan.now).code spare }
     ensures vectors { IfOk result (λ found. found.0 ≡ vectors_of (arc_value plan.now).plan env.now slots.now) }
     ensures job { IfOk result (λ found. found.1 ≡ job_value (arc_value plan.now) round 0 frame.now (slice_index_or (vectors_of (arc_value plan.now).plan env.now slots.now) 0 [])) }
 {
     let vectors = round_vectors(alloc, &plan.plan, env, slots)?;
-    let job = Job::new(alloc, plan, round, 0, frame, &vectors[0])?;
+    let job = Job::new(alloc, plan, round, 0, frame, &vectors[0], spare)?;
     Ok((vectors, job))
 }
 

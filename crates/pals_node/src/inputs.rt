@@ -1,12 +1,15 @@
 //! What a round's start reads.
-ghost use Rattle.std.specs.Prelude.{◌≡◌, IfOk, length, map, zip, option_copied, slice_index_or};
-ghost use Rattle.bus_machine.specs.Nodes.{message_in, brought, vectors_of};
+ghost use Rattle.std.specs.Prelude.{◌≡◌, ◌<◌, IfOk, length, map, zip, List, Option, None, slice_index_or};
+ghost use Rattle.pals_base.specs.declared.values.Port.{Port};
+ghost use Rattle.pals_base.specs.declared.values.Port.TheVariants.{Absent};
+ghost use Rattle.pals_base.specs.Steps.{column};
+ghost use Rattle.bus_machine.specs.Nodes.{brought, vectors_of};
 
 use bus_machine::{Input, Plan};
-use input_adaptors::adapt;
+use input_adaptors::adapted_place;
 use link_buffers::Slot;
-use pals_base::tuples::{absent, columns, place};
-use pals_base::{Items, NoMemory, Port, TryClone, Tuple};
+use pals_base::tuples::{absent, place};
+use pals_base::{Items, NoMemory, Port, Tuple};
 use std::alloc::Global;
 
 /// Empty slots, one for each in port.
@@ -20,6 +23,15 @@ pub fn empty_slots(alloc: Global, inputs: &[Input]) -> Result<Items<Slot>, NoMem
     Ok(slots)
 }
 
+/// Empties all slots. It takes no memory.
+pub fn empty_all(slots: &mut Items<Slot>)
+    ensures { slots.new ≡ map (λ (_ : Option (List Port)). None) slots.old }
+{
+    for at in 0..slots.len() {
+        let _message = slots[at].slot_take();
+    }
+}
+
 /// The input vectors of a round, one for each step, from the values of the root in ports and the
 /// messages in the slots.
 pub fn round_vectors(
@@ -31,45 +43,58 @@ pub fn round_vectors(
     requires { length slots.now ≡ length plan.now.inputs }
     ensures { IfOk result (λ vectors. vectors ≡ vectors_of plan.now env.now slots.now) }
 {
-    let mut tuples = Items::new(alloc);
-    for at in 0..slots.len() {
-        tuples.push(port_tuple(alloc, plan.rate, env, plan.inputs[at], &slots[at])?)?;
+    let mut vectors = Items::new(alloc);
+    for step in 0..plan.rate {
+        vectors.push(vector_at(alloc, plan, env, slots, step as usize)?)?;
     }
-    columns(alloc, plan.rate as usize, tuples.as_slice())
+    Ok(vectors)
 }
 
-// What an in port brings to the steps of a node of this rate.
-fn port_tuple(
+// What the in ports have in a step.
+fn vector_at(
+    alloc: Global,
+    plan: &Plan,
+    env: &[Port],
+    slots: &[Slot],
+    step: usize,
+) -> Result<Tuple, NoMemory>
+    requires slots { length slots.now ≡ length plan.now.inputs }
+    requires step { step < plan.now.rate }
+    ensures { IfOk result (λ vector. vector ≡ column step (map (λ p. brought plan.now.rate env.now p.0 p.1) (zip plan.now.inputs slots.now))) }
+{
+    let mut vector = Items::new(alloc);
+    for at in 0..slots.len() {
+        vector.push(port_at(alloc, plan.rate, env, plan.inputs[at], &slots[at], step)?)?;
+    }
+    Ok(vector)
+}
+
+// What an in port of a node of this rate has in a step.
+fn port_at(
     alloc: Global,
     rate: u32,
     env: &[Port],
     input: Input,
     slot: &Slot,
-) -> Result<Tuple, NoMemory>
-    ensures { IfOk result (λ tuple. tuple ≡ brought rate env.now input slot.now) }
+    step: usize,
+) -> Result<Port, NoMemory>
+    requires { step < rate }
+    ensures { IfOk result (λ port. port ≡ slice_index_or (brought rate env.now input slot.now) step Absent) }
 {
     match input {
-        Input::Nothing => absent(alloc, rate as usize),
+        Input::Nothing => Ok(Port::Absent),
         Input::Root { root, adaptor } => {
-            let value = Tuple::from_slice(alloc, &[place(env, root)])?;
-            adapt(alloc, adaptor, 1, rate, &value)
+            Ok(adapted_place(adaptor, 1, rate, &[place(env, root)], step))
         }
         Input::Link {
-            rate: source_rate,
+            rate: from,
             adaptor,
-        } => {
-            let message = message_in(alloc, source_rate, slot)?;
-            adapt(alloc, adaptor, source_rate, rate, &message)
-        }
-    }
-}
-
-// A copy of the message in a slot, or absent places where it is empty.
-fn message_in(alloc: Global, rate: u32, slot: &Slot) -> Result<Tuple, NoMemory>
-    ensures { IfOk result (λ tuple. tuple ≡ message_in rate slot.now) }
-{
-    match slot.message() {
-        None => absent(alloc, rate as usize),
-        Some(message) => message.try_clone(alloc),
+        } => match slot.message() {
+            None => {
+                let message = absent(alloc, from as usize)?;
+                Ok(adapted_place(adaptor, from, rate, message.as_slice(), step))
+            }
+            Some(message) => Ok(adapted_place(adaptor, from, rate, message.as_slice(), step)),
+        },
     }
 }

@@ -3,12 +3,15 @@ ghost use Rattle.std.specs.Prelude.{◌≡◌, ◌↔◌, length, IsTrue, IfOk};
 ghost use Rattle.std.specs.Arc.{arc_value};
 ghost use Rattle.step_code.specs.Exec.{FitsCode};
 ghost use Rattle.pals_node.specs.Values.{IsResult, job_value};
+ghost use Rattle.pals_node.specs.Memories.{HasMemory, IsLeft};
 
 use crate::keys::same_instr;
+use crate::memory::{Memory, memory_for};
 use crate::plan::NodePlan;
-use pals_base::{Frame, Items, NoMemory, NodeNo, Port, Same, TryClone, Tuple};
+use pals_base::{Frame, NoMemory, NodeNo, Port, Same, Tuple};
 use std::alloc::Global;
 use std::marker::Model;
+use std::mem::swap;
 use std::sync::Arc;
 use step_code::{CodeParts, Instr};
 use step_vm::Room;
@@ -50,21 +53,24 @@ pub struct Done {
     inputs: Tuple,
     result: Frame,
     outs: Vec<Port>,
+    room: Room,
 }
 
 impl Model for Done {
     ghost use Rattle.std.specs.Arc.{arc_value};
+    ghost use Rattle.step_vm.specs.Rooms.{IsRoomOf};
     ghost use Rattle.pals_node.specs.Values.{JobValue, IsResult, job_value};
 
     ghost Value = { JobValue };
 
     ghost view = { λ d. job_value (arc_value d.plan) d.round d.step d.frame d.inputs };
 
-    ghost invariant = { λ d. IsResult (job_value (arc_value d.plan) d.round d.step d.frame d.inputs) (record { frame = d.result; outs = d.outs.items }) };
+    ghost invariant = { λ d. IsResult (job_value (arc_value d.plan) d.round d.step d.frame d.inputs) (record { frame = d.result; outs = d.outs.items }) × IsRoomOf (arc_value d.plan).code d.room };
 }
 
 impl Job {
-    /// The job of a step, which fits its code.
+    /// The job of a step, which fits its code. It takes over the memory of an earlier job, where there
+    /// is some.
     pub(crate) fn new(
         alloc: Global,
         plan: &Arc<NodePlan>,
@@ -72,21 +78,31 @@ impl Job {
         step: u32,
         frame: &Frame,
         inputs: &Tuple,
+        spare: Option<Memory>,
     ) -> Result<Job, NoMemory>
         requires frame { FitsCode (arc_value plan.now).code frame.now }
         requires inputs { length inputs.now ≡ (arc_value plan.now).code.ins }
+        requires spare { HasMemory (arc_value plan.now).code spare }
         ensures { IfOk result (λ job. job ≡ job_value (arc_value plan.now) round step frame.now inputs.now) }
     {
-        let outs = plan.code.parts().outs as usize;
+        let memory = memory_for(alloc, &plan.code, frame, inputs, spare)?;
+        let plan = Arc::try_clone(plan)?;
+        let Memory {
+            frame,
+            inputs,
+            result,
+            outs,
+            room,
+        } = memory;
         Ok(Job {
-            plan: Arc::try_clone(plan)?,
+            plan,
             round,
             step,
-            frame: frame.try_clone(alloc)?,
-            inputs: inputs.try_clone(alloc)?,
-            result: frame.try_clone(alloc)?,
-            outs: vec![in alloc; Port::Absent; outs]?,
-            room: Room::for_code(alloc, &plan.code)?,
+            frame,
+            inputs,
+            result,
+            outs,
+            room,
         })
     }
 
@@ -154,6 +170,7 @@ impl Job {
             inputs,
             result,
             outs,
+            room,
         }
     }
 }
@@ -178,12 +195,29 @@ impl Done {
             && same_code(self.plan.code.parts(), plan.code.parts())
     }
 
-    /// The frame and the outputs that it left.
-    pub(crate) fn into_result(self) -> (Frame, Vec<Port>)
-        ensures { IsResult self (record { frame = result.0; outs = result.1.items }) }
+    /// The frame and the outputs that it left come in place of those of the step before, which go into
+    /// the memory that it gives back.
+    pub(crate) fn give_result(self, last: &mut Frame, row: &mut Vec<Port>) -> Memory
+        ensures result { IsResult self (record { frame = last.new; outs = row.new.items }) }
+        ensures memory { IsLeft self last.old row.old.items result }
     {
-        let Done { result, outs, .. } = self;
-        (result, outs)
+        let Done {
+            frame,
+            inputs,
+            mut result,
+            mut outs,
+            room,
+            ..
+        } = self;
+        swap(last, &mut result);
+        swap(row, &mut outs);
+        Memory {
+            frame,
+            inputs,
+            result,
+            outs,
+            room,
+        }
     }
 }
 

@@ -9,6 +9,7 @@ mod fields;
 mod inputs;
 mod job;
 mod keys;
+mod memory;
 mod node;
 mod plan;
 mod targets;

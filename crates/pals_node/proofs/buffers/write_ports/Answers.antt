@@ -1,6 +1,6 @@
-use Rattle.std.proofs.Common.{◌≡◌, ◌∙◌, ◌+◌, ◌<◌, ℕ, [], sym, ap, length, map, take, slice_index_or, arith, List}
+use Rattle.std.proofs.Common.{◌≡◌, ◌∙◌, ◌<◌, ℕ, [], sym, ap, length, map, slice_index_or, arith, List}
 use Rattle.std.proofs.lemmas.List.{length-set, length-map, get_or-map}
-use Rattle.std.proofs.lemmas.List.Elements.{All-set, All-get_or}
+use Rattle.std.proofs.lemmas.List.Elements.{All-set}
 use Rattle.pals_base.specs.declared.values.Port.{Port}
 use Rattle.pals_base.specs.Steps.{cut}
 use Rattle.pals_node.proofs.Places.{filled_more, filled_all, length-cut}

@@ -1,4 +1,4 @@
-use Rattle.std.proofs.Common.{◌≡◌, ◌∙◌, ◌++◌, ◌∷◌, [], ap, ap₂, arith}
+use Rattle.std.proofs.Common.{◌∙◌, ◌++◌, ◌∷◌, [], ap₂}
 use Rattle.pals_node.proofs.Places.{empty_more}
 use Rattle.pals_node.proofs.inputs.empty_slots.Goals as goal
 

@@ -1,10 +1,11 @@
-use Rattle.std.proofs.Common.{◌≡◌, List, map, take}
+use Rattle.std.proofs.Common.{◌≡◌, List, map}
 use Rattle.std.specs.Prelude.{Option, zip}
 use Rattle.pals_base.specs.declared.values.Port.{Port}
+use Rattle.pals_base.specs.Steps.{column, upwards}
 use Rattle.bus_machine.specs.declared.plan.Input.{Input}
 use Rattle.bus_machine.specs.Nodes.{brought}
 use Rattle.pals_node.proofs.inputs.round_vectors.Given as goal
 
--- the tuples so far
-abbrev pub invariant-loop-at : goal.invariant-loop-at
-invariant-loop-at l = l.tuples ≡ map (λ (p : Input × Option (List Port)). brought l.plan.rate l.env p.0 p.1) (zip (take l.at l.plan.inputs) (take l.at l.slots))
+-- the vectors so far
+abbrev pub invariant-loop-step : goal.invariant-loop-step
+invariant-loop-step l = l.vectors ≡ map (λ at. column at (map (λ (p : Input × Option (List Port)). brought l.plan.rate l.env p.0 p.1) (zip l.plan.inputs l.slots))) (upwards 0 l.step)

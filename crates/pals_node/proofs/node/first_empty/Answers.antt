@@ -1,4 +1,4 @@
-use Rattle.std.proofs.Common.{◌≡◌, ◌∙◌, ◌+◌, cond, true, sym, ap, List, Some, None, drop, arith, ◌≤◌, length}
+use Rattle.std.proofs.Common.{◌∙◌, ◌+◌, cond, sym, ap, List, Some, None, drop, arith, ◌≤◌, length}
 use Rattle.std.specs.Prelude.{suc, Bool, Option, zip}
 use Rattle.std.specs.List.{position_from}
 use Rattle.std.proofs.lemmas.Iterator.Adapters.{position_from-zero}

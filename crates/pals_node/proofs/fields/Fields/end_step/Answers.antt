@@ -1,10 +1,8 @@
-use Rattle.std.proofs.Common.{◌≡◌, ◌∙◌, ◌+◌, refl, sym, ap, ap₂, subst, length, arith, List}
+use Rattle.std.proofs.Common.{◌≡◌, ◌∙◌, refl, sym, ap, subst, length, arith}
 use Rattle.std.specs.Arc.{arc_value}
-use Rattle.std.proofs.lemmas.Grind.{common_steps}
-use Rattle.pals_base.specs.declared.values.Port.{Port}
 use Rattle.bus_machine.specs.declared.plan.Plan.{Plan}
 use Rattle.pals_node.specs.Values.{Program}
-use Rattle.pals_node.specs.Keeping.{AreTuples, HasRound, PhaseKeeps}
+use Rattle.pals_node.specs.Keeping.{AreTuples, PhaseKeeps}
 use Rattle.pals_node.proofs.Ends.{outs_keep, after_keeps}
 use Rattle.pals_node.proofs.fields.Fields.end_step.Goals as goal
 

@@ -1,4 +1,4 @@
-use Rattle.std.proofs.Common.{◌≡◌, ◌∙◌, sym, ap, length, arith}
+use Rattle.std.proofs.Common.{◌∙◌, sym, ap, length, arith}
 use Rattle.std.specs.Arc.{arc_value}
 use Rattle.pals_node.proofs.Programs.{fits}
 use Rattle.pals_node.proofs.fields.Fields.job.Goals as goal

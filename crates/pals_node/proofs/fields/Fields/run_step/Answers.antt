@@ -1,13 +1,11 @@
-use Rattle.std.proofs.Common.{◌≡◌, ◌∙◌, [], refl, sym, ap, subst, length, slice_index_or, arith}
+use Rattle.std.proofs.Common.{◌≡◌, ◌∙◌, [], sym, ap, subst, length, slice_index_or, arith}
 use Rattle.std.specs.Arc.{arc_value}
 use Rattle.std.specs.Vec.{with_items}
 use Rattle.step_code.specs.declared.instr.CodeParts.{CodeParts}
 use Rattle.step_code.specs.Exec.{exec, Leaves}
-use Rattle.step_vm.specs.Rooms.{Capacity, IsRoomOf}
-use Rattle.pals_base.specs.Fire.{Fired}
-use Rattle.pals_node.specs.Values.{Program, JobValue, IsResult}
-use Rattle.pals_node.specs.Keeping.{state_of}
-use Rattle.pals_node.proofs.Ends.{IsMade, runs_open, makes, keeps_on}
+use Rattle.step_vm.specs.Rooms.{IsRoomOf}
+use Rattle.pals_node.specs.Values.{Program}
+use Rattle.pals_node.proofs.Ends.{runs_open, makes, keeps_on}
 use Rattle.std.proofs.lemmas.List.{with_items_is}
 use Rattle.std.proofs.lemmas.Option.{slice_get-get_or, get_or_from_slice_get}
 use Rattle.pals_node.proofs.fields.Fields.run_step.Goals as goal
@@ -60,5 +58,6 @@ returns-clause-keeps c =
       messages_keep = keeps.messages_keep;
       room = subst (IsRoomOf p.code) (sym c.run.ensures.room) keeps.room;
       row = ap length (with_items_is f.row c.run.new.outs width) ∙ made.count_is ∙ sym keeps.program.means.outs;
+      spare = keeps.spare;
     })
     c.end_step.ensures.others c.end_step.ensures.keeps

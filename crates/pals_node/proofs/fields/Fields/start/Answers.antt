@@ -1,12 +1,12 @@
-use Rattle.std.proofs.Common.{◌≡◌, ◌∙◌, ◌+◌, ◌<◌, ◌≤◌, refl, sym, ap, subst, length, List, arith}
+use Rattle.std.proofs.Common.{◌≡◌, ◌∙◌, refl, sym, ap, subst, length, arith}
 use Rattle.std.specs.Arc.{arc_value}
 use Rattle.std.proofs.lemmas.Grind.{common_steps}
 use Rattle.std.proofs.lemmas.List.{length-map}
-use Rattle.pals_base.specs.declared.values.Port.{Port}
 use Rattle.bus_machine.specs.Nodes.{vectors_of}
+use Rattle.pals_node.specs.Memories.{HasMemory}
 use Rattle.pals_node.specs.Rounds.{empty_part}
 use Rattle.pals_node.specs.Keeping.{Keeps, AreTuples, PhaseKeeps, IsPartRoom, value_of}
-use Rattle.pals_node.proofs.Starts.{absent_are, vectors_are, part_room, all_empty, starts_value}
+use Rattle.pals_node.proofs.Starts.{absent_are, vectors_are, part_room, starts_value}
 use Rattle.pals_node.proofs.fields.Fields.start.Goals as goal
 
 pub returns-clause-ok : goal.returns-clause-ok
@@ -16,8 +16,7 @@ returns-clause-ok c =
     let room = c.in_ok-room.room in
     let is = c.in_ok-room.ensures.room in
     ap value_of c.begin.ensures
-    ∙ starts_value f c.args.env.now room.slots room.vectors room.outs c.reserve.new.self.items
-    (is.slots_are ∙ all_empty plan.inputs f.slots (sym c.requires.keeps.slots))
+    ∙ starts_value f c.args.env.now room.vectors room.outs c.reserve.new.self.items
     (is.vectors_are ∙ ap (vectors_of plan c.args.env.now) c.as_slice.ensures.value)
     is.outs_are c.reserve.ensures.items
 
@@ -35,7 +34,7 @@ returns-clause-keeps c =
       rounds = keeps.rounds;
       count = omega (arith, rests.1);
       frame = keeps.frame;
-      slots = ap length is.slots_are ∙ length-map plan.inputs _;
+      slots = length-map f.slots _ ∙ keeps.slots;
       phase_keeps = record {
         within = rules.rate.0;
         round = record {
@@ -49,4 +48,5 @@ returns-clause-keeps c =
       messages_keep = subst (AreTuples (length plan.out_links) plan.rate) (sym is.messages_are) (absent_are (length plan.out_links) plan.rate);
       room = keeps.room;
       row = keeps.row;
+      spare = subst (HasMemory (arc_value f.plan).code) (sym c.take-spare.ensures.after) tt;
     })

@@ -1,12 +1,8 @@
-use Rattle.std.proofs.Common.{◌≡◌, ◌∙◌, [], refl, sym, ap, subst, length, slice_index_or, arith}
-use Rattle.std.specs.Arc.{arc_value}
-use Rattle.step_code.specs.declared.instr.CodeParts.{CodeParts}
-use Rattle.step_code.specs.Exec.{exec, Leaves}
-use Rattle.step_vm.specs.Rooms.{Capacity, IsRoomOf}
+use Rattle.std.proofs.Common.{◌∙◌, Some, sym, subst}
 use Rattle.pals_base.specs.Fire.{Fired}
-use Rattle.pals_node.specs.Values.{Program, JobValue, IsResult}
-use Rattle.pals_node.specs.Keeping.{state_of}
-use Rattle.pals_node.proofs.Ends.{IsMade, runs_open, makes, keeps_on}
+use Rattle.pals_node.specs.Values.{JobValue, IsResult}
+use Rattle.pals_node.proofs.Ends.{runs_open, makes, keeps_on}
+use Rattle.pals_node.proofs.Memories.{memory_left}
 use Rattle.pals_node.proofs.fields.Fields.take_step.Goals as goal
 
 pub end_step-requires : goal.end_step-requires
@@ -14,9 +10,9 @@ end_step-requires c =
     let f = c.args.self.now in
     let keeps = c.requires.keeps in
     let round = runs_open f c.args.step keeps c.requires.runs in
-    let result : Fired = record { frame = c.into_result-frame.result.0; outs = c.into_result-frame.result.1.items } in
-    let left = subst (λ (job : JobValue). IsResult job result) c.requires.job c.into_result-frame.ensures in
-    let made = makes f c.args.step c.into_result-frame.result.0 c.into_result-frame.result.1.items keeps c.requires.runs left in
+    let result : Fired = record { frame = c.give_result-memory.new.last; outs = c.give_result-memory.new.row.items } in
+    let left = subst (λ (job : JobValue). IsResult job result) c.requires.job c.give_result-memory.ensures.result in
+    let made = makes f c.args.step c.give_result-memory.new.last c.give_result-memory.new.row.items keeps c.requires.runs left in
     record {
       ready = record {
         plan = keeps.program.plan;
@@ -31,10 +27,10 @@ pub returns-clause-keeps : goal.returns-clause-keeps
 returns-clause-keeps c =
     let f = c.args.self.now in
     let keeps = c.requires.keeps in
-    let result : Fired = record { frame = c.into_result-frame.result.0; outs = c.into_result-frame.result.1.items } in
-    let left = subst (λ (job : JobValue). IsResult job result) c.requires.job c.into_result-frame.ensures in
-    let made = makes f c.args.step c.into_result-frame.result.0 c.into_result-frame.result.1.items keeps c.requires.runs left in
-    keeps_on (record f { frame = c.into_result-frame.result.0; row = c.into_result-frame.result.1 }) c.end_step.new.self
+    let result : Fired = record { frame = c.give_result-memory.new.last; outs = c.give_result-memory.new.row.items } in
+    let left = subst (λ (job : JobValue). IsResult job result) c.requires.job c.give_result-memory.ensures.result in
+    let made = makes f c.args.step c.give_result-memory.new.last c.give_result-memory.new.row.items keeps c.requires.runs left in
+    keeps_on (record f { frame = c.give_result-memory.new.last; row = c.give_result-memory.new.row; spare = Some c.give_result-memory.result }) c.end_step.new.self
     (record {
       program = keeps.program;
       rounds = keeps.rounds;
@@ -44,5 +40,6 @@ returns-clause-keeps c =
       messages_keep = keeps.messages_keep;
       room = keeps.room;
       row = made.count_is ∙ sym keeps.program.means.outs;
+      spare = memory_left f c.args.step c.args.done c.give_result-memory.result keeps c.requires.runs c.requires.job c.give_result-memory.ensures.memory;
     })
     c.end_step.ensures.others c.end_step.ensures.keeps

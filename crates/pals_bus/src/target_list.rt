@@ -1,0 +1,114 @@
+//! The targets of the nodes of a run.
+ghost use Rattle.std.specs.Prelude.{◌≡◌, ◌<◌, length, None, slice_index_or, slice_set};
+ghost use Rattle.pals_bus.specs.TargetLists.{is_below, IsFirst, IsBound};
+
+use pals_base::{Items, Nanos};
+use std::marker::Model;
+
+/// The target of each node, in order: the reading that it waits for, or works at, in nanoseconds; none
+/// where it is done. Contracts see them as a list. A least one of them is at hand.
+#[derive(Drop)]
+pub struct TargetList {
+    targets: Items<Option<Nanos>>,
+    first: usize,
+}
+
+impl Model for TargetList {
+    ghost use Rattle.std.specs.Prelude.{List, Option, ℕ};
+
+    ghost Value = { List (Option ℕ) };
+
+    ghost use Rattle.pals_bus.specs.TargetLists.{IsFirst};
+
+    ghost view = { λ list. list.targets };
+
+    ghost invariant = { λ list. IsFirst list.targets list.first };
+}
+
+impl TargetList {
+    /// These targets.
+    pub fn new(targets: Items<Option<Nanos>>) -> TargetList
+        ensures { result ≡ targets }
+    {
+        let first = first_of(targets.as_slice());
+        TargetList { targets, first }
+    }
+
+    /// The target of a node; none where there is no such node.
+    pub fn target(&self, node: usize) -> Option<Nanos>
+        ensures { result ≡ slice_index_or self.now node None }
+    {
+        target_at(self.targets.as_slice(), node)
+    }
+
+    /// The number of a node with the least target, where there is a target.
+    pub fn first(&self) -> usize
+        ensures { IsFirst self.now result }
+    {
+        self.first
+    }
+
+    /// A node has another target. The next of the least ones is looked for from the last one on: where
+    /// targets rise, each is looked at once for each new least one, and once more.
+    pub fn set(&mut self, node: usize, target: Option<Nanos>)
+        requires { node < length self.old }
+        ensures { self.new ≡ slice_set self.old node target }
+    {
+        let least = target_at(self.targets.as_slice(), self.first);
+        self.targets.set(node, target);
+        if is_below(target, least) {
+            self.first = node;
+            return;
+        }
+        self.first = first_from(self.targets.as_slice(), self.first, least);
+    }
+}
+
+// A node with the least target, from a node on, where none is below a bound.
+fn first_from(targets: &[Option<Nanos>], from: usize, bound: Option<Nanos>) -> usize
+    requires { IsBound targets.now bound }
+    ensures { IsFirst targets.now result }
+{
+    for at in from..targets.len() {
+        if !is_below(bound, target_at(targets, at)) {
+            return at;
+        }
+    }
+    first_of(targets)
+}
+
+// The first node with the least target.
+fn first_of(targets: &[Option<Nanos>]) -> usize
+    ensures { IsFirst targets.now result }
+{
+    let mut first = 0;
+    for at in 0..targets.len() {
+        if is_below(target_at(targets, at), target_at(targets, first)) {
+            first = at;
+        }
+    }
+    first
+}
+
+// The target of a node; none where there is no such node.
+fn target_at(targets: &[Option<Nanos>], node: usize) -> Option<Nanos>
+    ensures { result ≡ slice_index_or targets.now node None }
+{
+    match targets.get(node) {
+        Some(target) => *target,
+        None => None,
+    }
+}
+
+// Whether a target is less than another one. None is above all others.
+fn is_below(target: Option<Nanos>, other: Option<Nanos>) -> bool
+    ensures { result ≡ is_below target other }
+{
+    match target {
+        None => false,
+        Some(target) => match other {
+            None => true,
+            Some(other) => target < other,
+        },
+    }
+}

@@ -1,0 +1,72 @@
+//! The memory of a job, which goes from one job of a node to the next.
+ghost use Rattle.std.specs.Prelude.{◌≡◌, length, IfOk};
+ghost use Rattle.step_code.specs.Exec.{FitsCode};
+ghost use Rattle.pals_node.specs.Memories.{IsMemoryFor, HasMemory, IsFilled};
+
+use pals_base::{Frame, NoMemory, Port, TryClone, Tuple};
+use std::alloc::Global;
+use step_code::Code;
+use step_vm::Room;
+
+/// What the job of a step is made of: the frame that it goes on from, its inputs, the frame and the
+/// outputs that it leaves, and the room for its code. What it holds is of no use to the next job.
+#[derive(Drop)]
+pub struct Memory {
+    pub frame: Frame,
+    pub inputs: Tuple,
+    pub result: Frame,
+    pub outs: Vec<Port>,
+    pub room: Room,
+}
+
+/// The memory for a step of a code that goes on from this frame with these inputs: that of an earlier
+/// job, where there is some, and else a new one.
+pub fn memory_for(
+    alloc: Global,
+    code: &Code,
+    frame: &Frame,
+    inputs: &Tuple,
+    spare: Option<Memory>,
+) -> Result<Memory, NoMemory>
+    requires frame { FitsCode code.now frame.now }
+    requires inputs { length inputs.now ≡ code.now.ins }
+    requires spare { HasMemory code.now spare }
+    ensures { IfOk result (IsFilled code.now frame.now inputs.now) }
+{
+    match spare {
+        None => new_memory(alloc, code, frame, inputs),
+        Some(mut memory) => {
+            memory.fill(code, frame, inputs);
+            Ok(memory)
+        }
+    }
+}
+
+// New memory for a step.
+fn new_memory(alloc: Global, code: &Code, frame: &Frame, inputs: &Tuple) -> Result<Memory, NoMemory>
+    ensures { IfOk result (IsFilled code.now frame.now inputs.now) }
+{
+    let outs = code.parts().outs as usize;
+    Ok(Memory {
+        frame: frame.try_clone(alloc)?,
+        inputs: inputs.try_clone(alloc)?,
+        result: frame.try_clone(alloc)?,
+        outs: vec![in alloc; Port::Absent; outs]?,
+        room: Room::for_code(alloc, code)?,
+    })
+}
+
+impl Memory {
+    // Writes what a step goes on from. It takes no memory.
+    fn fill(&mut self, code: &Code, frame: &Frame, inputs: &Tuple)
+        requires frame { FitsCode code.now frame.now }
+        requires inputs { length inputs.now ≡ code.now.ins }
+        requires fits { IsMemoryFor code.now self.old }
+        ensures { IsFilled code.now frame.now inputs.now self.new }
+    {
+        let _parts = code.parts();
+        self.frame.copy_from(frame);
+        self.inputs.copy_from_slice(inputs.as_slice());
+        self.result.copy_from(frame);
+    }
+}
