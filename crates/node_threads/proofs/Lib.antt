@@ -7,6 +7,6 @@ mod Waiting
 mod Acting
 mod Openings
 mod Endings
-pub mod Outcomes
-mod Sending
+mod Outcomes
+mod SendSync
 mod Seats

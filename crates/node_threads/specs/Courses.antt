@@ -21,8 +21,8 @@ use Rattle.run_laws.specs.Locked.{IsToStart}
 use Rattle.run_laws.specs.Runs.{lists_in, HasEnded, Does, IsAwaited, KeepsTo, Runs}
 use Rattle.node_threads.specs.declared.ends.Note.{Note}
 use Rattle.node_threads.specs.declared.ends.Note.TheVariants as note
-use Rattle.node_threads.specs.declared.ends.Look.{Look}
-use Rattle.node_threads.specs.declared.ends.Look.TheVariants as look
+use Rattle.node_threads.specs.declared.clocks.Look.{Look}
+use Rattle.node_threads.specs.declared.clocks.Look.TheVariants as look
 
 pub record CourseValue : Type 0 where
   pub bus : BusValue

@@ -5,8 +5,8 @@ use Rattle.pals_runs.specs.declared.journal.Phase.TheVariants.{Waiting}
 use Rattle.bus_machine.specs.States.{Run, BusState, node_at}
 use Rattle.run_laws.specs.Runs.{target_of}
 use Rattle.node_threads.specs.declared.wakes.Wakes.{Wakes}
-use Rattle.node_threads.specs.declared.wakes.Bell.{Bell}
-use Rattle.node_threads.specs.declared.wakes.Bell.TheVariants as bell
+use Rattle.node_threads.specs.declared.bell.Bell.{Bell}
+use Rattle.node_threads.specs.declared.bell.Bell.TheVariants as bell
 use Rattle.node_threads.specs.declared.sleepers.Seat.{Seat}
 use Rattle.node_threads.specs.declared.sleepers.Sleepers.{Sleepers}
 use Rattle.node_threads.specs.Courses.{CourseValue, IsOpen}

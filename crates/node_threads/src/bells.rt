@@ -1,13 +1,14 @@
-//! What waiting threads sleep on: one `Condvar` a node, and one for the calling thread. To ring and to
-//! sleep is seen by other threads alone, and under the lock: nothing is claimed of it.
+//! What waiting threads sleep on: one `Condvar` for each node, and one for the calling thread. Who sleeps
+//! and who is woken is seen by other threads alone, so no clause speaks of it.
 ghost use Rattle.std.specs.Prelude.{◌≡◌, IfOk, vec_len};
 
+use crate::bell::Bell;
 use crate::locked::Locked;
-use crate::wakes::Bell;
 use pals_base::{NoMemory, NodeNo};
 use std::alloc::Global;
 use std::sync::{Condvar, Mutex, MutexGuard, Wait};
 
+/// A bell for each node, and one for the calling thread.
 #[derive(Drop)]
 pub struct Bells {
     nodes: Vec<Condvar>,

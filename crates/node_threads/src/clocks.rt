@@ -6,12 +6,22 @@ ghost use Rattle.pals_clock.specs.declared.clock.Clocks.TheVariants.{Lists};
 ghost use Rattle.node_threads.specs.Courses.{Stays, IsOpen, IsNext, IsReady, Looks, EndsAt, fresh_of};
 
 use crate::course::Course;
-use crate::ends::Look;
 use bus_machine::Next;
 use pals_base::{Items, Nanos, NoMemory, NodeNo};
 use pals_bus::Meet;
 use pals_clock::{ClockEnd, Clocks, ListClock};
 use std::alloc::Global;
+
+/// What a node's clock answers for a target.
+#[derive(Clone, Copy)]
+pub enum Look {
+    /// It shows this reading, in nanoseconds.
+    At(Nanos),
+    /// Another node has to go on first.
+    Wait,
+    /// It has no reading for the target.
+    Ended,
+}
 
 impl Course {
     /// What a node's clock shows for what the node does next.

@@ -20,8 +20,8 @@ use std::alloc::Global;
 use std::marker::Model;
 
 /// What the nodes share under the lock. Contracts see the bus, the clocks of its nodes and what is noted
-/// of each node. What it keeps is the history of a run whose nodes keep to their clocks, so all that
-/// such runs keep holds whenever the lock is free.
+/// of each node. Its journal is always that of a run whose nodes keep to their clocks, so whatever holds
+/// of such runs holds whenever the lock is free.
 #[derive(Drop)]
 pub struct Course {
     pub(crate) bus: Bus,
@@ -61,8 +61,8 @@ impl Course {
         })
     }
 
-    /// What every course keeps: it is a run whose nodes keep to their clocks, and what is noted of them
-    /// is so.
+    /// What holds of every course: it is a run whose nodes keep to their clocks, and what is noted of
+    /// them is true.
     pub fn agreement(&self)
         ensures { IsCourse self.now }
     {
@@ -170,7 +170,8 @@ impl Course {
         self.bus.design()
     }
 
-    /// From which reading on a node does what it does, or what it does next. None where it is done.
+    /// The reading, in nanoseconds, from which on a node does what it is doing, or what it does next.
+    /// None where it is done.
     pub fn target(&self, node: NodeNo) -> Option<Nanos>
         ensures { node.0 < length self.now.bus.run.design.components → result ≡ target_of self.now.bus.run self.now.bus.state node.0 }
     {
@@ -203,7 +204,7 @@ fn is_send(next: Option<Next>) -> bool
     }
 }
 
-// The end that the bus shows for a node of which nothing is noted.
+// How the part of a node ended of which nothing is noted, or none where it has not.
 fn end_by(phase: Phase, stopped: bool, closed: bool) -> Option<NodeEnd>
     ensures { result ≡ phase_end phase stopped closed }
 {
@@ -218,6 +219,7 @@ fn end_by(phase: Phase, stopped: bool, closed: bool) -> Option<NodeEnd>
     }
 }
 
+// How it ended where no stop stands: only where the run is closed.
 fn closed_end(closed: bool) -> Option<NodeEnd>
     ensures { result ≡ closed_end closed }
 {

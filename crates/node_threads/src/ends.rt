@@ -1,6 +1,5 @@
-//! How the parts of a run's nodes go on and end.
+//! How the parts of a run's nodes end.
 use pals_base::Nanos;
-use pals_node::Job;
 
 /// How a node's part in a run ended.
 #[derive(Clone, Copy)]
@@ -26,28 +25,4 @@ pub enum Note {
     ClockEnded { target: Nanos },
     /// It found no memory.
     Memory,
-}
-
-/// What a node's clock answers for a target.
-#[derive(Clone, Copy)]
-pub enum Look {
-    /// It shows this reading, in nanoseconds.
-    At(Nanos),
-    /// Another node has to go on first.
-    Wait,
-    /// It has no reading for the target.
-    Ended,
-}
-
-/// What a thread does with its node after a locked step.
-#[derive(Drop)]
-pub enum Turn {
-    /// Runs a job, outside the lock.
-    Work(Job),
-    /// Sleeps until others have gone on.
-    Wait,
-    /// Goes on at once: the node has sent its round.
-    Again,
-    /// Nothing: the node's part has ended.
-    Over,
 }

@@ -5,10 +5,10 @@ ghost use Rattle.run_laws.specs.Runs.{IsLeast};
 ghost use Rattle.node_threads.specs.Courses.{Stays, IsOpen, IsDone};
 ghost use Rattle.node_threads.specs.Sleepers.{seat_at, Waits};
 
+use crate::bell::Bell;
 use crate::course::Course;
-use crate::ends::Turn;
 use crate::sleepers::Sleepers;
-use crate::wakes::Bell;
+use crate::under_lock::Turn;
 use pals_base::NodeNo;
 use pals_node::Done;
 
@@ -37,10 +37,10 @@ impl Locked {
         self.course
     }
 
-    /// The next turn of a node: its job that was done comes in, and then it goes on. It tells too whom
-    /// to wake once the lock is free: one thread at most, which tells of the next one in its turn, so
-    /// that they do not all ask for the lock at once. Where a job comes in while others are to be woken,
-    /// it tells of none: a thread is on its way to its turn that will.
+    /// The next turn of a node: its job that was done comes in, and then it goes on. The second answer
+    /// is whom to wake once the lock is free: one thread at most, which tells of the next one in its own
+    /// turn, so that they do not all ask for the lock at once. Where a job comes in while others are to
+    /// be woken, it is nobody: a thread that is on its way to its turn will tell of the next one.
     #[tactic(auto, using(crate::proofs::Steps::stays_on))]
     pub fn turn(&mut self, node: NodeNo, done: Option<Done>) -> (Turn, Option<Bell>)
         ensures { Stays self.old.course self.new.course }
@@ -125,11 +125,11 @@ impl Locked {
     fn finish(&mut self, node: NodeNo, done: Done)
         ensures { Stays self.old.course self.new.course }
     {
-        self.course.end(node, done);
+        self.course.hand_in(node, done);
         self.move_hour(node);
     }
 
-    // A node goes on, and those are woken who waited for that.
+    // A node goes on, and the threads that waited for that are woken.
     #[tactic(auto, using(crate::proofs::Steps::stays_on))]
     fn begin(&mut self, node: NodeNo) -> Turn
         ensures { Stays self.old.course self.new.course }
@@ -149,9 +149,9 @@ impl Locked {
         turn
     }
 
-    // Where the nodes meet: if a node was the last one at the hour, the hour moves. What is to be sent
-    // then is sent here, so that no thread is woken for that alone; if nobody is left at the hour, it
-    // moves once more. Those are woken that need not wait any more.
+    // Where the nodes meet: if a node was the last one at the hour, the hour moves. Nodes that send then
+    // do so here, so that no thread is woken for that alone; if none is left at the hour, it moves once
+    // more. The threads of all nodes that need not wait any more are woken.
     fn move_hour(&mut self, node: NodeNo)
         ensures { Stays self.old.course self.new.course }
     {

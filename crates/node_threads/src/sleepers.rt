@@ -2,11 +2,12 @@
 ghost use Rattle.std.specs.Prelude.{◌≡◌, ◌<◌, ◌≤◌, ℕ, length, replicate, IsTrue, IfOk, IfSome, Some, true, false};
 ghost use Rattle.run_laws.specs.Runs.{IsLeast};
 ghost use Rattle.node_threads.specs.Courses.{IsOpen, IsDone};
-ghost use Rattle.node_threads.specs.declared.wakes.Bell.{Bell};
+ghost use Rattle.node_threads.specs.declared.bell.Bell.{Bell};
 ghost use Rattle.node_threads.specs.Sleepers.{no_wakes, is_to_ring, without_bell, free_seat, seat_at, with_seat, IsAbove, IsHourOver, Waits, Rouses};
 
+use crate::bell::Bell;
 use crate::course::Course;
-use crate::wakes::{Bell, Wakes};
+use crate::wakes::Wakes;
 use pals_base::limits::READING;
 use pals_base::{Items, Nanos, NoMemory, NodeNo};
 use std::alloc::Global;
@@ -102,7 +103,7 @@ impl Sleepers {
         self.wakes.any()
     }
 
-    /// One that is to be woken, who then is no longer to be.
+    /// One bell that is to be rung, which then is noted no longer.
     pub fn take_wake(&mut self) -> Option<Bell>
         ensures taken { IfSome result (λ bell. is_to_ring self.old.wakes bell ≡ true) }
         ensures rest { self.new ≡ record self.old { wakes = without_bell self.old.wakes result } }
@@ -117,6 +118,7 @@ impl Sleepers {
         self.wakes.remove(node.0 as usize);
     }
 
+    // The seat of a node.
     fn seat(&self, node: NodeNo) -> Seat
         ensures { result ≡ seat_at self.now.seats node.0 }
     {
@@ -129,6 +131,7 @@ impl Sleepers {
         }
     }
 
+    // A node has this seat from now on.
     fn put(&mut self, node: NodeNo, seat: Seat)
         ensures { self.new ≡ with_seat self.old node.0 seat }
     {
@@ -144,7 +147,7 @@ impl Sleepers {
         if course.meeting() {
             return self.is_early(course, node);
         }
-        course.is_open(node) && course.lacks(node)
+        course.is_open(node) && course.waits_for_source(node)
     }
 
     /// Where the nodes meet: whether a node that goes on has a target that the hour has not reached.
@@ -173,7 +176,8 @@ impl Sleepers {
         );
     }
 
-    /// The part of a node has ended. At a stop or a close all are woken, and else its targets.
+    /// The part of a node has ended. At a stop or a close all threads are woken that sleep, and else those
+    /// that waited for this node.
     pub fn wake_behind(&mut self, course: &Course, node: NodeNo)
         ensures { Rouses self.old self.new }
     {
@@ -185,7 +189,7 @@ impl Sleepers {
         }
     }
 
-    /// With list clocks: wakes those that waited for a node alone.
+    /// With list clocks: wakes the threads that waited for a node, where they wait for no other.
     pub fn wake_targets(&mut self, course: &Course, node: NodeNo)
         ensures { Rouses self.old self.new }
     {

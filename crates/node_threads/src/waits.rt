@@ -14,7 +14,7 @@ use pals_runs::Phase;
 
 impl Course {
     /// Whether a node with a list, which is to start a round, has to wait for a source.
-    pub fn lacks(&self, node: NodeNo) -> bool
+    pub fn waits_for_source(&self, node: NodeNo) -> bool
         ensures starts { IsTrue result → (node_at self.now.bus.state node.0).phase ≡ Phase.Waiting }
         ensures awaited { result ≡ false → IsWaiting self.now node.0 → IsAwaitedIn self.now node.0 }
     {

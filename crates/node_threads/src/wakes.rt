@@ -1,23 +1,25 @@
 //! Which threads are to be woken.
 ghost use Rattle.std.specs.Prelude.{◌≡◌, IfSome, Some, false, true, slice_index_or};
-ghost use Rattle.node_threads.specs.declared.wakes.Bell.{Bell};
+ghost use Rattle.node_threads.specs.declared.bell.Bell.{Bell};
 ghost use Rattle.node_threads.specs.Sleepers.{no_wakes, with_rung, is_to_ring, without_bell};
 
+use crate::bell::Bell;
 use pals_base::limits::COMPONENTS;
 
 /// The nodes whose threads are to be woken, and whether the calling thread is. They are noted under the
 /// lock, and woken one after the other once it is free.
 #[derive(Drop)]
 pub struct Wakes {
-    // Whether anybody may be: without it none of the others counts, and nobody need look at them.
+    // Whether anybody may have to be woken. Where it is false the other two do not count.
     any: bool,
-    // Of each node.
+    // Of each node, whether its own thread is.
     nodes: [bool; COMPONENTS],
+    // Whether the calling thread is.
     caller: bool,
 }
 
 impl Wakes {
-    /// Nobody.
+    /// Nobody is to be woken.
     pub fn none() -> Wakes
         ensures { result ≡ no_wakes }
     {
@@ -28,7 +30,7 @@ impl Wakes {
         }
     }
 
-    /// The thread that has a node too: the calling thread, or its own.
+    /// The thread that has a node is to be woken too: the calling thread, or the node's own.
     pub fn add(&mut self, number: usize, of_caller: bool)
         ensures { self.new ≡ with_rung self.old number of_caller }
     {
@@ -47,7 +49,7 @@ impl Wakes {
         self.any
     }
 
-    /// A node's thread need not be woken.
+    /// A node's own thread need not be woken.
     pub fn remove(&mut self, number: usize)
         ensures { self.new ≡ without_bell self.old (Some (Bell.Node number)) }
     {
@@ -56,7 +58,7 @@ impl Wakes {
         }
     }
 
-    /// One that is to be woken, who then is no longer to be. The calling thread comes last.
+    /// One bell that is to be rung, which then is noted no longer. That of the calling thread comes last.
     pub fn take(&mut self) -> Option<Bell>
         ensures taken { IfSome result (λ bell. is_to_ring self.old bell ≡ true) }
         ensures rest { self.new ≡ without_bell self.old result }
@@ -87,11 +89,4 @@ impl Wakes {
         }
         None
     }
-}
-
-/// What one thread is woken by: the bell of a node, or that of the calling thread.
-#[derive(Clone, Copy)]
-pub enum Bell {
-    Node(usize),
-    Caller,
 }

@@ -1,5 +1,5 @@
 use Rattle.node_threads.specs.Courses.{Stays}
-use Rattle.node_threads.proofs.threads.go_round.Given as goal
+use Rattle.node_threads.proofs.driving.go_round.Given as goal
 
 -- the run and its lists stay
 abbrev pub invariant-loop-number : goal.invariant-loop-number

@@ -1,5 +1,5 @@
 use Rattle.node_threads.proofs.Outcomes.{outcome_by}
-use Rattle.node_threads.proofs.threads.driven.Goals as goal
+use Rattle.node_threads.proofs.driving.driven.Goals as goal
 
 pub returns : goal.returns
 returns g c =

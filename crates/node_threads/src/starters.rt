@@ -1,4 +1,4 @@
-//! What is handed in: which nodes may have a thread, and who is told of each job.
+//! Which nodes may have a thread.
 ghost use Rattle.std.specs.Prelude.{◌≡◌, ◌==◌, true, not};
 ghost use Rattle.std.specs.List.{list_any};
 
@@ -8,15 +8,6 @@ use std::marker::Model;
 /// Tells whether a node may have a thread.
 pub trait Starter {
     fn admits(&mut self, node: NodeNo) -> bool;
-}
-
-/// Is told of each job, which is one step of a round, outside the lock.
-pub trait Gate {
-    /// A node's job is about to run.
-    fn enter(&self, node: NodeNo, round: u32);
-
-    /// It has run.
-    fn leave(&self, node: NodeNo, round: u32);
 }
 
 /// Admits all nodes.
@@ -62,14 +53,4 @@ impl Starter for FakeStarter {
     {
         !self.refused.as_slice().contains(&node)
     }
-}
-
-/// Does nothing.
-#[derive(Clone, Copy)]
-pub struct NoGate;
-
-impl Gate for NoGate {
-    fn enter(&self, _node: NodeNo, _round: u32) {}
-
-    fn leave(&self, _node: NodeNo, _round: u32) {}
 }

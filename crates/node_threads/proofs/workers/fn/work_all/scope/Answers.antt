@@ -1,7 +1,7 @@
 use denote.Param.Send.{sendable}
 use Rattle.std.proofs.Crossing.{crosses}
-use Rattle.node_threads.proofs.Sending.{locked_send, bells_sync}
-use Rattle.node_threads.proofs.threads.fn.work_all.scope.Goals as goal
+use Rattle.node_threads.proofs.SendSync.{locked_send, bells_sync}
+use Rattle.node_threads.proofs.workers.fn.work_all.scope.Goals as goal
 
 pub spawn-requires-send-F : goal.spawn-requires-send-F
 spawn-requires-send-F g c = λ κs within. search (sendable, crosses, locked_send, bells_sync) depth 20

@@ -1,5 +1,5 @@
 use Rattle.node_threads.specs.Courses.{Stays}
-use Rattle.node_threads.proofs.threads.drive.Given as goal
+use Rattle.node_threads.proofs.driving.drive.Given as goal
 
 -- the run and its lists stay
 abbrev pub invariant-loop : goal.invariant-loop

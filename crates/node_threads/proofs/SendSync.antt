@@ -11,6 +11,7 @@ use Rattle.link_buffers.proofs.slot.Slot.TheSendSync.{the_send as slot_send}
 use Rattle.link_buffers.proofs.flight.Flight.TheSendSync.{the_send as flight_send}
 use Rattle.link_buffers.proofs.queue.DueQueue.TheSendSync.{the_send as queue_send}
 use Rattle.pals_bus.proofs.outgoing.Outgoing.TheSendSync.{the_send as outgoing_send}
+use Rattle.pals_bus.proofs.target_list.TargetList.TheSendSync.{the_send as targets_send}
 use Rattle.step_vm.proofs.room.Room.TheSendSync.{the_send as room_send}
 use Rattle.pals_clock.proofs.clock.ListClock.TheSendSync.{the_send as clock_send}
 use Rattle.pals_base.proofs.values.Port.TheSendSync.{the_field_send as port_send}
@@ -26,6 +27,7 @@ use Rattle.pals_base.proofs.behaviour.VarDecl.TheSendSync.{the_field_send as var
 use Rattle.pals_base.proofs.behaviour.StateDecl.TheSendSync.{the_field_send as state_send, the_field_sync as state_sync}
 use Rattle.pals_base.proofs.values.Gamma.TheSendSync.{the_field_send as gamma_send, the_field_sync as gamma_sync}
 use Rattle.pals_base.proofs.values.Frame.TheSendSync.{the_field_send as frame_send}
+use Rattle.pals_node.proofs.memory.Memory.TheSendSync.{the_field_send as memory_send}
 use Rattle.pals_model.proofs.design.Link.TheSendSync.{the_field_send as link_send, the_field_sync as link_sync}
 use Rattle.pals_model.proofs.design.Feed.TheSendSync.{the_field_send as feed_send, the_field_sync as feed_sync}
 use Rattle.pals_model.proofs.design.Tap.TheSendSync.{the_field_send as tap_send, the_field_sync as tap_sync}
@@ -156,7 +158,7 @@ node_fields_send =
                               search (sendable, items_send, port_send) depth 20,
                               (
                                 search (sendable, room_send) depth 20,
-                                (search (sendable, Vec-send, port_send) depth 20, tt),
+                                (search (sendable, Vec-send, port_send) depth 20, (search (sendable, memory_send) depth 20, tt)),
                               ),
                             ),
                           ),
@@ -180,7 +182,7 @@ node_list_inside_send =
     recorded_send _ _ _ node_list_inside.to_one (
     struct_send (S.shape node_list_inside) (
       search (sendable, node_send, items_send) depth 20,
-      (search (sendable, items_send) depth 20, tt),
+      (search (sendable, targets_send) depth 20, tt),
     )
     )
 

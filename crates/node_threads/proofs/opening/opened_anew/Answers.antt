@@ -1,5 +1,5 @@
 use Rattle.node_threads.proofs.Outcomes.{fresh_opens, fresh_clocks, anew_of}
-use Rattle.node_threads.proofs.threads.opened_anew.Goals as goal
+use Rattle.node_threads.proofs.opening.opened_anew.Goals as goal
 
 pub opened-requires-clause-opening : goal.opened-requires-clause-opening
 opened-requires-clause-opening c = fresh_opens c.args.bus.now c.in_ok-fresh.fresh c.in_ok-fresh.ensures

@@ -5,12 +5,26 @@ ghost use Rattle.pals_base.specs.declared.limits.TheConstants.{READING};
 ghost use Rattle.bus_machine.specs.Machine.{Start, Step, Send};
 ghost use Rattle.node_threads.specs.Courses.{Stays, IsOpen, IsNext, IsReady, EndsAt, IsToStartIn, IsAwaitedIn, Allows};
 
+use crate::clocks::Look;
 use crate::course::Course;
-use crate::ends::{Look, Note, Turn};
+use crate::ends::Note;
 use bus_machine::{Action, Next};
 use pals_base::{Nanos, NodeNo};
 use pals_bus::{BusFinishEnd, BusSendEnd, BusStartEnd, BusStepEnd, DueEnd};
 use pals_node::{Done, Finished, Job};
+
+/// What a thread does with its node after a locked step.
+#[derive(Drop)]
+pub enum Turn {
+    /// Runs a job, outside the lock.
+    Work(Job),
+    /// Sleeps until others have gone on.
+    Wait,
+    /// Goes on at once: the node has sent its round.
+    Again,
+    /// Nothing: the node's part has ended.
+    Over,
+}
 
 impl Course {
     /// A node goes on, where its part has not ended: up to a job, to a wait, or to its end.
@@ -26,8 +40,8 @@ impl Course {
         }
     }
 
-    /// A node's job is handed in.
-    pub fn end(&mut self, node: NodeNo, done: Done)
+    /// The job of a node, which is done, is handed in.
+    pub fn hand_in(&mut self, node: NodeNo, done: Done)
         ensures { Stays self.old self.new }
     {
         if node.0 < self.count() {
@@ -35,7 +49,7 @@ impl Course {
         }
     }
 
-    // The step of a node is finished whose job is out.
+    // The step of a node is finished, where its job is out.
     fn finish(&mut self, node: NodeNo, done: Done) -> Result<Finished, BusFinishEnd>
         requires { node.0 < length self.old.bus.run.design.components }
         ensures { Stays self.old self.new }
@@ -43,7 +57,7 @@ impl Course {
         self.bus.finish(node, done)
     }
 
-    // The job of a node whose thread came back without it is run here.
+    // Where a node's thread came back without its job, the job is run here.
     fn recover(&mut self, node: NodeNo) -> Turn
         requires { node.0 < length self.old.bus.run.design.components }
         ensures { Stays self.old self.new }

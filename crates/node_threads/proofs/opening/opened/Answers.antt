@@ -1,6 +1,6 @@
 use Rattle.node_threads.proofs.Openings.{begins}
 use Rattle.node_threads.proofs.Outcomes.{opens_of}
-use Rattle.node_threads.proofs.threads.opened.Goals as goal
+use Rattle.node_threads.proofs.opening.opened.Goals as goal
 
 pub new-requires-clause-clocks : goal.new-requires-clause-clocks
 new-requires-clause-clocks c = (begins c.args.bus c.args.clocks.now c.in_ok-lists.lists c.requires.clocks c.in_ok-lists.ensures.lists c.in_ok-lists.ensures.order).begin

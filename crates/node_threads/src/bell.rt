@@ -1,0 +1,10 @@
+//! What one thread is woken by.
+
+/// The bell of a node, or that of the calling thread.
+#[derive(Clone, Copy)]
+pub enum Bell {
+    /// Of the node of this number.
+    Node(usize),
+    /// Of the calling thread.
+    Caller,
+}

@@ -1,0 +1,35 @@
+//! Who is told of each job.
+ghost use Rattle.std.specs.Prelude.{◌≡◌};
+
+use pals_base::NodeNo;
+use pals_node::{Done, Job};
+
+/// Is told of each job, which is one step of a round, outside the lock.
+pub trait Gate {
+    /// A node's job is about to run.
+    fn enter(&self, node: NodeNo, round: u32);
+
+    /// It has run.
+    fn leave(&self, node: NodeNo, round: u32);
+}
+
+/// Does nothing.
+#[derive(Clone, Copy)]
+pub struct NoGate;
+
+impl Gate for NoGate {
+    fn enter(&self, _node: NodeNo, _round: u32) {}
+
+    fn leave(&self, _node: NodeNo, _round: u32) {}
+}
+
+/// Does a node's job, outside the lock. The gate is told of it.
+pub fn done_by<G: Gate>(gate: &G, node: NodeNo, job: Job) -> Done
+    ensures { result ≡ job }
+{
+    let round = job.round();
+    gate.enter(node, round);
+    let done = job.run();
+    gate.leave(node, round);
+    done
+}

@@ -1,0 +1,125 @@
+//! What threads do to the course under the lock: each has one node, and the calling thread has the nodes
+//! that have no thread. Only the type of a course tells what comes out, so there are no clauses here.
+use crate::bells::Bells;
+use crate::gates::{Gate, done_by};
+use crate::locked::Locked;
+use crate::starters::Starter;
+use crate::under_lock::Turn;
+use pals_base::NodeNo;
+use pals_node::Done;
+use std::sync::{Mutex, MutexGuard, Wait};
+use std::thread;
+use std::thread::Threads;
+
+/// The parts of all nodes, up to their ends.
+pub fn work_all<R: Threads + Wait + Sync, W: Starter, G: Gate + Sync>(
+    rt: &R,
+    lock: &Mutex<Locked>,
+    bells: &Bells,
+    count: u32,
+    starter: &mut W,
+    gate: &G,
+) {
+    thread::scope(thread::scope_env(), rt, |scope| {
+        for number in 0..count {
+            let node = NodeNo(number);
+            let started = starter.admits(node)
+                && scope
+                    .spawn(move || work(rt, lock, bells, gate, node))
+                    .is_ok();
+            if !started {
+                lock.lock(rt).give_to_caller(node);
+            }
+        }
+        work_in_turns(rt, lock, bells, count, gate);
+    });
+}
+
+// The part of a node, in a thread of its own: it does the job that its last turn asked for, if there is
+// one, and takes its next turn.
+fn work<R: Wait, G: Gate>(rt: &R, lock: &Mutex<Locked>, bells: &Bells, gate: &G, node: NodeNo) {
+    let mut turn = Turn::Again;
+    for _ in rt.forever() {
+        turn = take_turn(rt, lock, bells, node, done_in(turn, gate, node));
+        if matches!(&turn, Turn::Over) {
+            return;
+        }
+    }
+}
+
+// The turn of a node that has a thread. Where it waits, it sleeps under the same lock, and takes its next
+// turn as soon as it is woken.
+fn take_turn<R: Wait>(
+    rt: &R,
+    lock: &Mutex<Locked>,
+    bells: &Bells,
+    node: NodeNo,
+    done: Option<Done>,
+) -> Turn {
+    let mut locked = lock.lock(rt);
+    let (turn, wake) = locked.turn(node, done);
+    if !matches!(&turn, Turn::Wait) {
+        drop(locked);
+        bells.ring(wake);
+        return turn;
+    }
+    bells.ring(wake);
+    turn_after_sleep(rt, bells, locked, node)
+}
+
+// A node sleeps until it need not wait, and has its next turn.
+fn turn_after_sleep<R: Wait>(
+    rt: &R,
+    bells: &Bells,
+    locked: MutexGuard<'_, Locked>,
+    node: NodeNo,
+) -> Turn {
+    let mut locked = bells.sleep(rt, locked, node);
+    let (turn, wake) = locked.turn(node, None);
+    drop(locked);
+    bells.ring(wake);
+    turn
+}
+
+// The parts of the nodes that have no thread, in turns, in the thread that calls it.
+fn work_in_turns<R: Wait, G: Gate>(
+    rt: &R,
+    lock: &Mutex<Locked>,
+    bells: &Bells,
+    count: u32,
+    gate: &G,
+) {
+    for _ in rt.forever() {
+        for number in 0..count {
+            work_one_turn(rt, lock, bells, NodeNo(number), gate);
+        }
+        if bells.sleep_caller(rt, lock) {
+            return;
+        }
+    }
+}
+
+// The turn of a node, where the calling thread has it, with the job that it asks for.
+fn work_one_turn<R: Wait, G: Gate>(
+    rt: &R,
+    lock: &Mutex<Locked>,
+    bells: &Bells,
+    node: NodeNo,
+    gate: &G,
+) {
+    let (turn, wake) = lock.lock(rt).turn_of_caller(node);
+    bells.ring(wake);
+    if let Turn::Work(job) = turn {
+        let done = done_by(gate, node, job);
+        let wake = lock.lock(rt).finish_of_caller(node, done);
+        bells.ring(wake);
+    }
+}
+
+// Does the job that a node's turn asks for, if it asks for one.
+fn done_in<G: Gate>(turn: Turn, gate: &G, node: NodeNo) -> Option<Done> {
+    match turn {
+        Turn::Work(job) => Some(done_by(gate, node, job)),
+        Turn::Wait | Turn::Again | Turn::Over => None,
+    }
+}
