@@ -76,7 +76,7 @@ fn check_one(
 }
 
 /// Finds what is declared twice among ports and what stands beside them.
-#[tactic(auto, unfolding(aadl_names::specs::Beside::beside))]
+#[tactic(auto, unfolding(aadl_names::specs::DeclaredTwice::beside))]
 pub fn check_beside(
     finder: &mut Finder,
     ports: &[Feature],

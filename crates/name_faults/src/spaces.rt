@@ -123,7 +123,7 @@ fn check_in(
 }
 
 /// Finds two types or two implementations of one name, and two of one name in an implementation.
-#[tactic(auto, unfolding(aadl_names::specs::Beside::beside_names))]
+#[tactic(auto, unfolding(aadl_names::specs::DeclaredTwice::beside_names))]
 pub fn check_spaces(
     finder: &mut Finder,
     names: &Names<'_>,
