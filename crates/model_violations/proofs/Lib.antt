@@ -9,3 +9,5 @@ pub mod Sorting
 pub mod Found
 pub mod Mapped
 pub mod Filtered
+pub mod Plain
+pub mod Ends

@@ -1,5 +1,5 @@
 -- What is wrong with links, feeds and taps. Their properties are those of their carriers.
-use Rattle.std.specs.Prelude.{ℕ, not, List, [], ◌++◌, Option, Some, None, option_map}
+use Rattle.std.specs.Prelude.{ℕ, nat_eq, Bool, true, not, ◌&&◌, List, [], ◌++◌, Option, Some, None, option_map}
 use Rattle.std.specs.Option.{is_some}
 use Rattle.pals_base.specs.declared.behaviour.Kind.{Kind}
 use Rattle.pals_base.specs.declared.values.Adaptor.{Adaptor}
@@ -18,6 +18,12 @@ abbrev pub rated : ℕ → List ℕ → Option (Option Adaptor) → Option Kind 
 rated at name given kind None q = []
 rated at name given kind (Some p) None = []
 rated at name given kind (Some p) (Some q) = pair_findings at name given kind p q
+
+-- one of the rates is missing, or they agree, and there is no adaptor: nothing is found, whatever the name and the type are
+abbrev pub is_plain : Option (Option Adaptor) → Option ℕ → Option ℕ → Bool
+is_plain given None q = true
+is_plain given (Some p) None = true
+is_plain given (Some p) (Some q) = nat_eq p q && not (is_some given)
 
 abbrev pub adaptor_findings : PackageTree ℕ → List ThreadAt → List (Option ℕ) → Chain → Connection ℕ → List Violation
 adaptor_findings tree threads rates x c =

@@ -7,12 +7,19 @@ use Rattle.aadl_tree.specs.Names.{Identifier}
 use Rattle.aadl_tree.specs.Declarations.{Feature, Connection, ConnectionEnd, Implementation, PackageTree}
 use Rattle.aadl_names.specs.declared.site.Site.{Site}
 use Rattle.aadl_names.specs.declared.site.Site.TheVariants.{Own, Inner}
-use Rattle.aadl_names.specs.Resolving.{ports_of, inner_ports, site}
+use Rattle.aadl_names.specs.Resolving.{port_named, ports_of, inner_ports, site}
 use Rattle.annex_resolve.specs.declared.violation.Violation.{Violation}
 use Rattle.annex_resolve.specs.declared.violation.TheConstants.{DELAYED_ROOT, STRAY_ADAPTOR}
 use Rattle.annex_resolve.specs.Scopes.{found_if}
 use Rattle.annex_resolve.specs.Types.{kind_in, misfit}
 use Rattle.model_violations.specs.Carriers.{is_delayed, adaptor_text}
+
+-- ---- the type of a port, by its number and by its name
+abbrev pub kind_numbered : List (Feature ℕ) → ℕ → Option Kind
+kind_numbered ports p = option_and_then (λ f. kind_in f.data_type) (slice_get ports p)
+
+abbrev pub kind_named : List (Feature ℕ) → List ℕ → Option Kind
+kind_named ports name = option_and_then (kind_numbered ports) (port_named ports name)
 
 -- ---- the types of both ends, where each is Integer or Boolean
 abbrev pub site_port : PackageTree ℕ → Implementation ℕ → Site → Option (Feature ℕ)

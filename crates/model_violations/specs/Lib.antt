@@ -2,6 +2,7 @@ pub mod Values
 pub mod Threads
 pub mod Ignored
 pub mod Use
+pub mod Known
 pub mod Declarations
 pub mod Violations
 pub mod Ports

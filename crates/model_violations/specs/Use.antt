@@ -1,8 +1,9 @@
 -- Which declarations are in use below the root.
-use Rattle.std.specs.Prelude.{◌≡◌, ◌↔◌, ℕ, nat_eq, Bool, true, ◌&&◌, List, Option, None}
+use Rattle.std.specs.Prelude.{◌≡◌, ◌↔◌, ℕ, nat_eq, Bool, true, ◌&&◌, List, Option, Some}
 use Rattle.std.specs.List.{list_any, enumerate_from}
-use Rattle.aadl_tree.specs.Declarations.{Declaration, type, implementation, PackageTree}
-use Rattle.aadl_names.specs.Resolving.{type_number}
+use Rattle.std.specs.Option.{option_and_then}
+use Rattle.aadl_tree.specs.Declarations.{Declaration, PackageTree}
+use Rattle.aadl_names.specs.Resolving.{implementation_in, type_number}
 use Rattle.aadl_uses.specs.Uses.{IsInUse}
 use Rattle.model_violations.specs.Ignored.{is_number}
 
@@ -16,8 +17,7 @@ IsUse tree root used = (n : ℕ) → (used n ≡ true) ↔ IsInUse tree root n
 
 -- ---- a type is in use where an implementation of it is
 abbrev pub own_type : PackageTree ℕ → Declaration ℕ → Option ℕ
-own_type tree (type x) = None
-own_type tree (implementation x) = type_number tree x
+own_type tree d = option_and_then (type_number tree) (implementation_in (Some d))
 
 abbrev pub uses_type : PackageTree ℕ → (ℕ → Bool) → ℕ → ℕ × Declaration ℕ → Bool
 uses_type tree used n (m, d) = used m && is_number n (own_type tree d)

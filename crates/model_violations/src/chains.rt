@@ -15,8 +15,22 @@ use annex_resolve::Violation;
 use annex_resolve::violation::{NOT_DELAYED, STRAY_ADAPTOR};
 use component_checks::threads::add_named;
 use component_checks::{Carried, Carrier, Properties};
-use pals_base::{Items, NoMemory};
+use pals_base::{Adaptor, Items, NoMemory};
 use std::alloc::Global;
+
+// Whether nothing can be wrong between two rates, whatever is named and carried: one of them is missing,
+// or they agree, and there is no adaptor.
+fn is_plain(adaptor: Option<Option<Adaptor>>, source: Option<u32>, target: Option<u32>) -> bool
+    ensures { result ≡ spec.is_plain adaptor source target }
+{
+    match source {
+        None => true,
+        Some(source) => match target {
+            None => true,
+            Some(target) => source == target && adaptor.is_none(),
+        },
+    }
+}
 
 // Adds what is wrong with a carrier between two rates; without one of them nothing is found.
 fn add_rated(
@@ -56,14 +70,17 @@ fn add_adaptor_findings(
     ensures { OnOk result (found.new ≡ found.old
         ++ spec.adaptor_findings (placed names.now.tree.now) threads.now rates.now chain.now (connection_view kept_place connection.now)) }
 {
+    let source = end_rate(rates, &chain.from);
+    let target = end_rate(rates, &chain.to);
+    if is_plain(said.adaptor, source, target) {
+        return Ok(());
+    }
     let carrier = Carrier {
         at: connection.name.at,
         name: end_name(alloc, names, threads, &chain.to)?,
         adaptor: said.adaptor,
         kind: end_kind(alloc, names, threads, &chain.to)?,
     };
-    let source = end_rate(rates, &chain.from);
-    let target = end_rate(rates, &chain.to);
     add_rated(alloc, &carrier, source, target, found)
 }
 
@@ -81,15 +98,15 @@ fn add_timing_findings(
     ensures { OnOk result (found.new ≡ found.old
         ++ spec.timing_findings (placed names.now.tree.now) threads.now chain.now (connection_view kept_place connection.now)) }
 {
-    let name = end_name(alloc, names, threads, &chain.to)?;
-    add_named(
-        alloc,
-        found,
-        !said.delayed,
-        connection.name.at,
-        NOT_DELAYED,
-        name.as_str(),
-    )
+    if said.delayed {
+        return Ok(());
+    }
+    let details = end_name(alloc, names, threads, &chain.to)?;
+    found.push(Violation {
+        at: connection.name.at,
+        number: NOT_DELAYED,
+        details,
+    })
 }
 
 /// Adds what is wrong with a link, over the threads and their rates: its carrier is not delayed, the

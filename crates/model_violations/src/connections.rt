@@ -1,97 +1,116 @@
 //! What is wrong with the connections of an implementation, whatever they carry.
-ghost use Rattle.std.specs.Prelude.{◌≡◌, ◌||◌, ◌++◌, IfOk, OnOk, Some, option_map, option_copied, slice_get};
+ghost use Rattle.std.specs.Prelude.{◌≡◌, ◌||◌, ◌++◌, ℕ, IfOk, OnOk, Some, option_map, option_copied, slice_get, string_bytes};
+ghost use Rattle.std.specs.Option.{option_and_then};
 ghost use Rattle.aadl_tree.specs.Maps.{kept_place};
+ghost use Rattle.aadl_tree.specs.Declarations as trees;
 ghost use Rattle.aadl_tree.specs.Declarations.{implementation};
 ghost use Rattle.aadl_tree.specs.NameViews.{identifier_view};
 ghost use Rattle.aadl_tree.specs.PackageViews.{placed};
 ghost use Rattle.aadl_tree.specs.Views.{connection_view, end_view, feature_view, implementation_view};
-ghost use Rattle.annex_resolve.specs.Types.{kind_in};
-ghost use Rattle.aadl_names.specs.declared.site.Site.TheVariants as sites;
+ghost use Rattle.aadl_names.specs.Resolving.{features_of, implementation_at, ports_at, type_numbered};
+ghost use Rattle.aadl_uses.specs.Uses.{below};
 ghost use Rattle.component_checks.specs.Carried.{carried_by};
 ghost use Rattle.model_violations.specs.Carriers.{carries};
 ghost use Rattle.model_violations.specs.Connections as spec;
+ghost use Rattle.model_violations.specs.Known.{tree_of, IsKnown};
 
 use crate::carriers::Carriers;
-use aadl_names::connection_ends::site;
-use aadl_names::{Names, Site};
-use aadl_tree::{Connection, ConnectionEnd, Feature, Identifier, Implementation};
+use crate::known::{Known, type_at, type_below};
+use aadl_names::Names;
+use aadl_names::connection_ends::port_number;
+use aadl_names::numbered::type_numbered;
+use aadl_tree::{Connection, ConnectionEnd, Feature, Identifier, Implementation, PackageTree};
 use annex_resolve::violation::{DELAYED_ROOT, STRAY_ADAPTOR};
 use annex_resolve::{Violation, expect};
 use component_checks::Carried;
-use component_checks::property_lookup::{target_of, type_of};
 use component_checks::threads::add_named;
 use component_checks::types::kind_in;
 use pals_base::{Items, Kind, NoMemory};
 use std::alloc::Global;
 
-// The port of an implementation's type.
-fn own_port<'t>(
-    alloc: Global,
-    names: &Names<'t>,
-    x: &Implementation,
-    port: usize,
-) -> Result<Option<&'t Feature>, NoMemory>
-    ensures { IfOk result (λ found. option_map (feature_view kept_place) (option_copied found)
-        ≡ spec.site_port (placed names.now.tree.now) (implementation_view kept_place x.now) (sites.Own port)) }
+// A port of the type of a number.
+fn port_at<'t>(tree: &'t PackageTree, of_type: Option<usize>, port: usize) -> Option<&'t Feature>
+    ensures { option_map (feature_view kept_place) (option_copied result)
+        ≡ slice_get (features_of (type_numbered (placed tree.now) of_type)) port }
 {
-    match type_of(alloc, names, x)? {
-        Some(of_type) => Ok(of_type.features.get(port)),
-        None => Ok(None),
+    match type_numbered(tree, of_type) {
+        Some(of_type) => of_type.features.get(port),
+        None => None,
     }
 }
 
-// The port of a subcomponent.
-fn inner_port<'t>(
-    alloc: Global,
-    names: &Names<'t>,
-    x: &Implementation,
-    sub: usize,
-    port: usize,
-) -> Result<Option<&'t Feature>, NoMemory>
-    ensures { IfOk result (λ found. option_map (feature_view kept_place) (option_copied found)
-        ≡ spec.site_port (placed names.now.tree.now) (implementation_view kept_place x.now) (sites.Inner sub port)) }
-{
-    let Some(sub) = x.subcomponents.get(sub) else {
-        return Ok(None);
-    };
-    match target_of(alloc, names, sub)? {
-        Some(target) => own_port(alloc, names, target, port),
-        None => Ok(None),
-    }
-}
-
-// The type of the port at a site.
-fn site_kind(
+// The type of the port of a name, among those of the type of a number.
+fn kind_named(
     alloc: Global,
     names: &Names<'_>,
-    x: &Implementation,
-    site: Site,
+    of_type: Option<usize>,
+    name: &Identifier,
 ) -> Result<Option<Kind>, NoMemory>
-    ensures { IfOk result (λ kind. kind ≡ spec.site_kind (placed names.now.tree.now) (implementation_view kept_place x.now) site) }
+    ensures { IfOk result (λ kind. kind
+        ≡ spec.kind_named (features_of (type_numbered (placed names.now.tree.now) of_type)) (string_bytes name.now.spelling)) }
 {
-    let port = match site {
-        Site::Own(port) => own_port(alloc, names, x, port)?,
-        Site::Inner(sub, port) => inner_port(alloc, names, x, sub, port)?,
+    let Some(number) = port_number(alloc, names, of_type, name.spelling.as_str())? else {
+        return Ok(None);
     };
-    match port {
+    match port_at(names.tree, of_type, number) {
         Some(port) => Ok(kind_in(&port.data_type)),
         None => Ok(None),
     }
 }
 
-// The type of the port at an end of a connection.
+// The type of an own port.
+fn own_kind(
+    alloc: Global,
+    known: &Known<'_>,
+    number: usize,
+    name: &Identifier,
+) -> Result<Option<Kind>, NoMemory>
+    requires { IsKnown known.now }
+    ensures { IfOk result (λ kind. kind
+        ≡ spec.kind_named (ports_at (tree_of known.now) (implementation_at (tree_of known.now) number)) (string_bytes name.now.spelling)) }
+{
+    let of_type = type_at(known, number);
+    let kind = kind_named(alloc, known.names, of_type, name)?;
+    Ok(kind)
+}
+
+// The type of the port of a subcomponent.
+fn inner_kind(
+    alloc: Global,
+    known: &Known<'_>,
+    number: usize,
+    sub: usize,
+    name: &Identifier,
+) -> Result<Option<Kind>, NoMemory>
+    requires { IsKnown known.now }
+    ensures { IfOk result (λ kind. kind
+        ≡ spec.kind_named (ports_at (tree_of known.now) (option_and_then (implementation_at (tree_of known.now)) (below (tree_of known.now) number sub)))
+        (string_bytes name.now.spelling)) }
+{
+    let of_type = type_below(known, number, sub);
+    let kind = kind_named(alloc, known.names, of_type, name)?;
+    Ok(kind)
+}
+
+// The type of the port at an end of a connection of the implementation of a number.
 fn kind_at(
     alloc: Global,
-    names: &Names<'_>,
+    known: &Known<'_>,
     number: usize,
-    x: &Implementation,
     end: &ConnectionEnd,
 ) -> Result<Option<Kind>, NoMemory>
-    requires { slice_get (placed names.now.tree.now).declarations number ≡ Some (implementation (implementation_view kept_place x.now)) }
-    ensures { IfOk result (λ kind. kind ≡ spec.kind_at (placed names.now.tree.now) (implementation_view kept_place x.now) (end_view kept_place end.now)) }
+    requires { IsKnown known.now }
+    ensures { IfOk result (λ kind. (x : trees.Implementation ℕ) → implementation_at (tree_of known.now) number ≡ Some x
+        → kind ≡ spec.kind_at (tree_of known.now) x (end_view kept_place end.now)) }
 {
-    match site(alloc, names, number, x, end)? {
-        Some((site, _direction)) => site_kind(alloc, names, x, site),
+    let Some(port) = &end.second else {
+        return own_kind(alloc, known, number, &end.first);
+    };
+    match known
+        .names
+        .member(alloc, number, end.first.spelling.as_str())?
+    {
+        Some(sub) => inner_kind(alloc, known, number, sub, port),
         None => Ok(None),
     }
 }
@@ -113,22 +132,23 @@ fn joins_own(connection: &Connection) -> bool
     is_own(&connection.source.second) || is_own(&connection.target.second)
 }
 
-// Adds the finding that the ends of a connection are of different types.
+// Adds the finding that the ends of a connection of the implementation of a number are of different
+// types.
 fn add_ends_findings(
     alloc: Global,
-    names: &Names<'_>,
+    known: &Known<'_>,
     number: usize,
-    x: &Implementation,
     connection: &Connection,
     found: &mut Items<Violation>,
 ) -> Result<(), NoMemory>
-    requires { slice_get (placed names.now.tree.now).declarations number ≡ Some (implementation (implementation_view kept_place x.now)) }
-    ensures { OnOk result (found.new ≡ found.old
-        ++ spec.ends_findings (placed names.now.tree.now) (implementation_view kept_place x.now) (connection_view kept_place connection.now)) }
+    requires { IsKnown known.now }
+    ensures { OnOk result ((x : trees.Implementation ℕ) → implementation_at (tree_of known.now) number ≡ Some x
+        → found.new ≡ found.old ++ spec.ends_findings (tree_of known.now) x (connection_view kept_place connection.now)) }
 {
-    let source = kind_at(alloc, names, number, x, &connection.source)?;
-    let target = kind_at(alloc, names, number, x, &connection.target)?;
-    expect(alloc, found, connection.name.at, source, target)
+    let source = kind_at(alloc, known, number, &connection.source)?;
+    let target = kind_at(alloc, known, number, &connection.target)?;
+    expect(alloc, found, connection.name.at, source, target)?;
+    Ok(())
 }
 
 // Adds the finding that a connection with an end at an own port is delayed.
@@ -174,43 +194,44 @@ fn add_adaptor_findings(
     )
 }
 
-// Adds what is wrong with a connection.
+// Adds what is wrong with a connection of the implementation of a number.
 fn add_connection_findings(
     alloc: Global,
-    names: &Names<'_>,
+    known: &Known<'_>,
     carriers: &Carriers,
     number: usize,
-    x: &Implementation,
     at: usize,
     connection: &Connection,
     found: &mut Items<Violation>,
 ) -> Result<(), NoMemory>
-    requires { slice_get (placed names.now.tree.now).declarations number ≡ Some (implementation (implementation_view kept_place x.now)) }
-    ensures { OnOk result (found.new ≡ found.old
-        ++ spec.connection_findings (placed names.now.tree.now) (carries carriers.now) number (implementation_view kept_place x.now) (at, connection_view kept_place connection.now)) }
+    requires { IsKnown known.now }
+    ensures { OnOk result ((x : trees.Implementation ℕ) → implementation_at (tree_of known.now) number ≡ Some x → found.new ≡ found.old
+        ++ spec.connection_findings (tree_of known.now) (carries carriers.now) number x (at, connection_view kept_place connection.now)) }
 {
-    add_ends_findings(alloc, names, number, x, connection, found)?;
+    add_ends_findings(alloc, known, number, connection, found)?;
     let said = Carried::of(alloc, connection.properties.as_slice())?;
     add_delay_findings(alloc, connection, said, found)?;
-    add_adaptor_findings(alloc, carriers.has(number, at), connection, said, found)
+    add_adaptor_findings(alloc, carriers.has(number, at), connection, said, found)?;
+    Ok(())
 }
 
 /// Adds what is wrong with the connections of the implementation of a number: ends of different types,
 /// a delay at an own port, an adaptor on what carries no chain.
 pub fn add_connections_findings(
     alloc: Global,
-    names: &Names<'_>,
+    known: &Known<'_>,
     carriers: &Carriers,
     number: usize,
     x: &Implementation,
     found: &mut Items<Violation>,
 ) -> Result<(), NoMemory>
-    requires { slice_get (placed names.now.tree.now).declarations number ≡ Some (implementation (implementation_view kept_place x.now)) }
+    requires known { IsKnown known.now }
+    requires number { slice_get (tree_of known.now).declarations number ≡ Some (implementation (implementation_view kept_place x.now)) }
     ensures { OnOk result (found.new ≡ found.old
-        ++ spec.connections_findings (placed names.now.tree.now) (carries carriers.now) number (implementation_view kept_place x.now)) }
+        ++ spec.connections_findings (tree_of known.now) (carries carriers.now) number (implementation_view kept_place x.now)) }
 {
     for (at, connection) in x.connections.iter().enumerate() {
-        add_connection_findings(alloc, names, carriers, number, x, at, connection, found)?;
+        add_connection_findings(alloc, known, carriers, number, at, connection, found)?;
     }
     Ok(())
 }

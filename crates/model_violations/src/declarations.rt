@@ -10,11 +10,13 @@ ghost use Rattle.model_violations.specs.Ignored.{is_root_type};
 ghost use Rattle.model_violations.specs.Carriers.{carries};
 ghost use Rattle.model_violations.specs.Use.{has};
 ghost use Rattle.model_violations.specs.Declarations as spec;
+ghost use Rattle.model_violations.specs.Known.{tree_of, IsKnown};
 
 use crate::carriers::Carriers;
 use crate::connections::add_connections_findings;
 use crate::ignored::root_type;
 use crate::ignored_declarations::is_number;
+use crate::known::Known;
 use crate::resolve_implementation;
 use aadl_names::{Holder, Names};
 use aadl_tree::{Category, Declaration, Implementation, Subcomponent, TypeDeclaration};
@@ -93,29 +95,30 @@ fn add_thread_findings(
 // Adds what is wrong with the implementation of a number.
 fn add_implementation_findings(
     alloc: Global,
-    names: &Names<'_>,
+    known: &Known<'_>,
     root: usize,
     carriers: &Carriers,
     number: usize,
     x: &Implementation,
     found: &mut Items<Violation>,
 ) -> Result<(), NoMemory>
-    requires number { slice_get (placed names.now.tree.now).declarations number ≡ Some (implementation (implementation_view kept_place x.now)) }
-    requires small { is_thread x.now.category ≡ true → IsSmall (placed names.now.tree.now) (implementation_view kept_place x.now) }
+    requires known { IsKnown known.now }
+    requires number { slice_get (tree_of known.now).declarations number ≡ Some (implementation (implementation_view kept_place x.now)) }
+    requires small { is_thread x.now.category ≡ true → IsSmall (tree_of known.now) (implementation_view kept_place x.now) }
     ensures { OnOk result (found.new ≡ found.old
-        ++ spec.implementation_findings (placed names.now.tree.now) root (carries carriers.now) number (implementation_view kept_place x.now)) }
+        ++ spec.implementation_findings (tree_of known.now) root (carries carriers.now) number (implementation_view kept_place x.now)) }
 {
     let holder = Holder::Declaration(x.category, number == root);
     add_list_big(alloc, holder, x.properties.as_slice(), found)?;
     add_subs_findings(alloc, x.subcomponents.as_slice(), found)?;
-    add_connections_findings(alloc, names, carriers, number, x, found)?;
-    add_thread_findings(alloc, names, x, found)
+    add_connections_findings(alloc, known, carriers, number, x, found)?;
+    add_thread_findings(alloc, known.names, x, found)
 }
 
 // Adds what is wrong with the declaration of a number, where it is in use.
 fn add_declaration_findings(
     alloc: Global,
-    names: &Names<'_>,
+    known: &Known<'_>,
     root: usize,
     used: &IndexSet<usize>,
     types: &IndexSet<usize>,
@@ -124,23 +127,24 @@ fn add_declaration_findings(
     declaration: &Declaration,
     found: &mut Items<Violation>,
 ) -> Result<(), NoMemory>
-    requires number { slice_get (placed names.now.tree.now).declarations number ≡ Some (declaration_view kept_place declaration.now) }
-    requires small { spec.AreSmall (placed names.now.tree.now) (has used.now.keys) }
+    requires known { IsKnown known.now }
+    requires number { slice_get (tree_of known.now).declarations number ≡ Some (declaration_view kept_place declaration.now) }
+    requires small { spec.AreSmall (tree_of known.now) (has used.now.keys) }
     ensures { OnOk result (found.new ≡ found.old
-        ++ spec.declaration_findings (placed names.now.tree.now) root (has used.now.keys) (has types.now.keys) (carries carriers.now)
+        ++ spec.declaration_findings (tree_of known.now) root (has used.now.keys) (has types.now.keys) (carries carriers.now)
         (number, declaration_view kept_place declaration.now)) }
 {
     match declaration {
         Declaration::Type(x) => {
             if types.contains(&number) {
-                add_type_findings(alloc, names, root, number, x, found)
+                add_type_findings(alloc, known.names, root, number, x, found)
             } else {
                 Ok(())
             }
         }
         Declaration::Implementation(x) => {
             if used.contains(&number) {
-                add_implementation_findings(alloc, names, root, carriers, number, x, found)
+                add_implementation_findings(alloc, known, root, carriers, number, x, found)
             } else {
                 Ok(())
             }
@@ -152,21 +156,22 @@ fn add_declaration_findings(
 /// where the connections carry chains.
 pub fn add_declarations_findings(
     alloc: Global,
-    names: &Names<'_>,
+    known: &Known<'_>,
     root: usize,
     used: &IndexSet<usize>,
     types: &IndexSet<usize>,
     carriers: &Carriers,
     found: &mut Items<Violation>,
 ) -> Result<(), NoMemory>
-    requires { spec.AreSmall (placed names.now.tree.now) (has used.now.keys) }
+    requires known { IsKnown known.now }
+    requires small { spec.AreSmall (tree_of known.now) (has used.now.keys) }
     ensures { OnOk result (found.new ≡ found.old
-        ++ spec.declarations_findings (placed names.now.tree.now) root (has used.now.keys) (has types.now.keys) (carries carriers.now)) }
+        ++ spec.declarations_findings (tree_of known.now) root (has used.now.keys) (has types.now.keys) (carries carriers.now)) }
 {
-    for (number, declaration) in names.tree.declarations.iter().enumerate() {
+    for (number, declaration) in known.names.tree.declarations.iter().enumerate() {
         add_declaration_findings(
             alloc,
-            names,
+            known,
             root,
             used,
             types,

@@ -9,10 +9,12 @@ ghost use Rattle.model_violations.specs.Violations as spec;
 use crate::carriers::Carriers;
 use crate::chains::{add_feed_findings, add_link_findings, add_tap_findings};
 use crate::declarations::add_declarations_findings;
+use crate::known::{Known, types_of};
 use crate::order::in_order;
 use crate::usage::{types_used, used_below};
 use aadl_instance::{Chain, Instance, ThreadAt};
 use aadl_names::Names;
+use aadl_uses::Uses;
 use annex_resolve::Violation;
 use component_checks::Properties;
 use component_checks::roots::add_root_findings;
@@ -168,10 +170,17 @@ fn add_used_findings(
     ensures { OnOk result (spec.AddUsed (placed names.now.tree.now) (spec.shown instance.now) found.old found.new) }
 {
     let root = instance.root;
-    let used = used_below(alloc, names, root)?;
+    let uses = Uses::of(alloc, names)?;
+    let own_types = types_of(alloc, names, names.tree.declarations.as_slice())?;
+    let known = Known {
+        names,
+        uses: &uses,
+        types: own_types.as_slice(),
+    };
+    let used = used_below(alloc, &uses, root)?;
     let types = types_used(alloc, names, &used)?;
     let carriers = carriers_of(alloc, instance)?;
-    add_declarations_findings(alloc, names, root, &used, &types, &carriers, found)?;
+    add_declarations_findings(alloc, &known, root, &used, &types, &carriers, found)?;
     Ok(())
 }
 

@@ -28,21 +28,16 @@ fn add_number(numbers: &mut IndexSet<usize>, number: Option<usize>) -> Result<()
 }
 
 /// The numbers of the implementations that the root contains, and its own.
-pub fn used_below(
-    alloc: Global,
-    names: &Names<'_>,
-    root: usize,
-) -> Result<IndexSet<usize>, NoMemory>
-    requires { root < length (placed names.now.tree.now).declarations }
-    ensures { IfOk result (λ used. IsUse (placed names.now.tree.now) root (has used.keys)) }
+pub fn used_below(alloc: Global, uses: &Uses<'_>, root: usize) -> Result<IndexSet<usize>, NoMemory>
+    requires { root < length (placed uses.now.tree.now).declarations }
+    ensures { IfOk result (λ used. IsUse (placed uses.now.tree.now) root (has used.keys)) }
 {
-    let uses = Uses::of(alloc, names)?;
     let used = uses.in_use(alloc, root)?;
     Ok(used)
 }
 
-// The number of a declaration's type, if it is an implementation.
-fn own_type(
+/// The number of a declaration's type, if it is an implementation.
+pub fn own_type(
     alloc: Global,
     names: &Names<'_>,
     declaration: &Declaration,
