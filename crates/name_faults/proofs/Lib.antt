@@ -1,5 +1,6 @@
 pub mod Times
 pub mod PropertyEntries
+pub mod Single
 pub mod Views
 pub mod NameTables
 pub mod PortEntries

@@ -10,6 +10,7 @@ ghost use Rattle.aadl_tree.specs.Maps.{kept_place};
 ghost use Rattle.aadl_names.specs.Found.{found};
 ghost use Rattle.aadl_names.specs.Properties as spec;
 ghost use Rattle.aadl_names.specs.Properties.{property_entries};
+ghost use Rattle.aadl_names.specs.Twice.{twice};
 
 use crate::shapes::has_shape;
 use aadl_names::spelling::spelled_name;
@@ -91,6 +92,18 @@ fn property_entries(alloc: Global, list: &[Association]) -> Result<Items<Entry>,
     Ok(entries)
 }
 
+// Finds the properties that are given twice in one list.
+#[tactic(auto, using(crate::proofs::Single::none_twice))]
+fn check_repeated(finder: &mut Finder, list: &[Association]) -> Result<(), AllocError>
+    ensures { OnOk result (finder.new ≡ found finder.old (twice (property_entries (associations_view kept_place list.now)))) }
+{
+    if list.len() < 2 {
+        return Ok(());
+    }
+    let entries = property_entries(finder.alloc(), list)?;
+    check_twice(finder, entries.as_slice())
+}
+
 /// Finds the values of other shapes, and properties that are given twice, in one list of properties.
 /// What applies elsewhere does not count.
 pub fn check_properties(
@@ -101,6 +114,5 @@ pub fn check_properties(
     ensures { OnOk result (finder.new ≡ found finder.old (spec.list_faults holder (associations_view kept_place list.now))) }
 {
     check_shapes(finder, holder, list)?;
-    let entries = property_entries(finder.alloc(), list)?;
-    check_twice(finder, entries.as_slice())
+    check_repeated(finder, list)
 }
