@@ -1,11 +1,13 @@
 -- Where chains are found, and what is shown of them so far.
-use Rattle.std.specs.Prelude.{◌≡◌, ℕ, List, Some, slice_get}
+use Rattle.std.specs.Prelude.{◌≡◌, ℕ, List, Some, reverse, slice_get}
 use Rattle.aadl_tree.specs.Declarations.{PackageTree}
 use Rattle.aadl_tree.specs.PackageViews.{placed}
+use Rattle.aadl_uses.specs.Uses.{standing}
 use Rattle.aadl_chains.specs.Links.{Ends}
 use Rattle.aadl_instance.specs.declared.parts.Chain.{Chain}
 use Rattle.aadl_instance.specs.declared.build.Incoming.{Incoming}
 use Rattle.aadl_instance.specs.declared.ends.Network.{Network}
+use Rattle.aadl_instance.specs.declared.ends.Node.{Node}
 use Rattle.aadl_instance.specs.Passed.{paths_of, IsSettled, AreShown, AreInto, AreTapsTo}
 
 abbrev pub tree_of : Network → PackageTree ℕ
@@ -22,6 +24,11 @@ IsReady network = IsSettled (tree_of network) network.order.now.keys network.roo
 -- the thread of a number is the one at the path
 abbrev pub IsNumbered : Network → ℕ → List ℕ → Type 0
 IsNumbered network node path = slice_get (paths_in network) node ≡ Some path
+
+-- it is the thread of its number, and its declaration stands at its path
+pub record IsNode (network : Network) (node : Node) : Type 0 where
+  pub numbered : IsNumbered network node.number.0 (reverse node.path.now)
+  pub stands : standing (tree_of network) network.root (reverse node.path.now) ≡ Some node.declaration
 
 -- all chains of a kind, in an order
 abbrev pub Shows : Network → (PackageTree ℕ → ℕ → Ends → Type 0) → (Ends → Ends → Type 0) → List Chain → Type 0

@@ -7,7 +7,6 @@ use Rattle.aadl_tree.specs.Declarations.{Implementation, PackageTree}
 use Rattle.aadl_names.specs.Behaviours.{behaviours, variables_of, states_of}
 use Rattle.aadl_names.specs.Resolving.{implementation_at, is_thread, ports_of}
 use Rattle.aadl_names.specs.DeclaredTwice.{first_behaviour}
-use Rattle.aadl_uses.specs.Threads.{IsThreadOf}
 use Rattle.aadl_instance.specs.declared.thread_parts.Part.{Part}
 use Rattle.aadl_instance.specs.declared.thread_parts.Part.TheVariants.{Ports, Variables, States}
 

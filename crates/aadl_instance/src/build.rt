@@ -1,17 +1,16 @@
 //! The links, feeds and taps of a package that has no fault.
-ghost use Rattle.std.specs.Prelude.{◌≡◌, ◌+◌, ℕ, Some, true, [], reverse, IfOk, OnOk};
-ghost use Rattle.aadl_uses.specs.Uses as uses;
+ghost use Rattle.std.specs.Prelude.{◌≡◌, ◌+◌, true, [], reverse, IfOk, OnOk};
 ghost use Rattle.aadl_chains.specs.Inside.{is_in_at};
 ghost use Rattle.aadl_chains.specs.Links.{IsLink, IsFeed, IsTap, TargetBefore, PortBefore};
 ghost use Rattle.aadl_instance.specs.Passed as shown;
-ghost use Rattle.aadl_instance.specs.Networks.{tree_of, paths_in, IsReady, IsNumbered, Shows, ShowsInto, ShowsTaps};
+ghost use Rattle.aadl_instance.specs.Networks.{tree_of, paths_in, IsReady, IsNumbered, IsNode, Shows, ShowsInto, ShowsTaps};
 ghost use Rattle.aadl_instance.specs.Passed.{HasPort, IsBegin};
 
-use crate::ends::{Network, begin_end, root_end, thread_end};
+use crate::ends::{Network, Node, begin_end, node_end, root_end};
 use crate::parts::{Chain, ChainEnd, ConnAt};
 use aadl_chains::{Begin, Route, trace_back, trace_tap};
 use aadl_uses::standing;
-use pals_base::Items;
+use pals_base::{Items, NodeNo};
 use std::alloc::{AllocError, Global};
 
 /// The chains into threads.
@@ -33,30 +32,40 @@ pub fn incoming_of(alloc: Global, network: &Network<'_>) -> Result<Incoming, All
         links: Items::new(alloc),
         feeds: Items::new(alloc),
     };
-    for thread in network.threads {
-        add_thread(alloc, &mut incoming, network, thread.as_slice())?;
+    for (number, thread) in network.threads.iter().enumerate() {
+        add_thread(
+            alloc,
+            &mut incoming,
+            network,
+            NodeNo(number as u32),
+            thread.as_slice(),
+        )?;
     }
     Ok(incoming)
 }
 
-// Adds the chains into a thread.
+// Adds the chains into the thread of a number and a path.
 fn add_thread(
     alloc: Global,
     incoming: &mut Incoming,
     network: &Network<'_>,
+    number: NodeNo,
     path: &[usize],
 ) -> Result<(), AllocError>
     requires settled { IsReady network.now }
-    requires thread { (node : ℕ) × IsNumbered network.now node (reverse path.now) }
-    ensures { OnOk result ((node : ℕ) → IsNumbered network.now node (reverse path.now)
-        → ShowsInto network.now node 0 incoming.old
-        → ShowsInto network.now (node + 1) 0 incoming.new) }
+    requires thread { IsNumbered network.now number.0 (reverse path.now) }
+    ensures { OnOk result (ShowsInto network.now number.0 0 incoming.old → ShowsInto network.now (number.0 + 1) 0 incoming.new) }
 {
     let Some(declaration) = standing(&network.wires.uses, network.root, path) else {
         unreachable!();
     };
+    let node = Node {
+        number,
+        path,
+        declaration,
+    };
     for port in 0..network.wires.ports(declaration).len() {
-        add_port(alloc, incoming, network, path, declaration, port)?;
+        add_port(alloc, incoming, network, &node, port)?;
     }
     Ok(())
 }
@@ -66,19 +75,15 @@ fn add_port(
     alloc: Global,
     incoming: &mut Incoming,
     network: &Network<'_>,
-    path: &[usize],
-    declaration: usize,
+    node: &Node<'_>,
     port: usize,
 ) -> Result<(), AllocError>
     requires settled { IsReady network.now }
-    requires thread { (node : ℕ) × IsNumbered network.now node (reverse path.now) }
-    requires stands { uses.standing (tree_of network.now) network.now.root (reverse path.now) ≡ Some declaration }
-    ensures { OnOk result ((node : ℕ) → IsNumbered network.now node (reverse path.now)
-        → ShowsInto network.now node port incoming.old
-        → ShowsInto network.now node (port + 1) incoming.new) }
+    requires node { IsNode network.now node.now }
+    ensures { OnOk result (ShowsInto network.now node.now.number.0 port incoming.old → ShowsInto network.now node.now.number.0 (port + 1) incoming.new) }
 {
-    if network.wires.is_in(declaration, port) {
-        add_chain(alloc, incoming, network, path, declaration, port)
+    if network.wires.is_in(node.declaration, port) {
+        add_chain(alloc, incoming, network, node, port)
     } else {
         Ok(())
     }
@@ -89,22 +94,18 @@ fn add_chain(
     alloc: Global,
     incoming: &mut Incoming,
     network: &Network<'_>,
-    path: &[usize],
-    declaration: usize,
+    node: &Node<'_>,
     port: usize,
 ) -> Result<(), AllocError>
     requires settled { IsReady network.now }
-    requires thread { (node : ℕ) × IsNumbered network.now node (reverse path.now) }
-    requires stands { uses.standing (tree_of network.now) network.now.root (reverse path.now) ≡ Some declaration }
-    requires goes_in { is_in_at (tree_of network.now) declaration port ≡ true }
-    ensures { OnOk result ((node : ℕ) → IsNumbered network.now node (reverse path.now)
-        → ShowsInto network.now node port incoming.old
-        → ShowsInto network.now node (port + 1) incoming.new) }
+    requires node { IsNode network.now node.now }
+    requires goes_in { is_in_at (tree_of network.now) node.now.declaration port ≡ true }
+    ensures { OnOk result (ShowsInto network.now node.now.number.0 port incoming.old → ShowsInto network.now node.now.number.0 (port + 1) incoming.new) }
 {
     let wires = network.wires;
-    match trace_back(alloc, wires, network.order, network.root, path, port)? {
+    match trace_back(alloc, wires, network.order, network.root, node.path, port)? {
         Some(route) => {
-            let to = thread_end(network, path, port);
+            let to = node_end(network, node, port);
             let chain = chain_by(alloc, network, &route, to)?;
             incoming.push(&route.begin, chain)
         }

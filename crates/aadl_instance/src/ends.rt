@@ -8,7 +8,7 @@ ghost use Rattle.aadl_uses.specs.Threads.{IsThreadAt, PathBefore};
 ghost use Rattle.aadl_chains.specs.Routes.{begin_port};
 ghost use Rattle.aadl_instance.specs.Instances as spec;
 ghost use Rattle.aadl_instance.specs.Instances.{end_in, number_among};
-ghost use Rattle.aadl_instance.specs.Networks.{tree_of, paths_in, IsReady};
+ghost use Rattle.aadl_instance.specs.Networks.{tree_of, paths_in, IsReady, IsNode};
 ghost use Rattle.aadl_instance.specs.Passed.{paths_of, HasPort, IsBegin};
 
 use crate::parts::ChainEnd;
@@ -28,6 +28,14 @@ pub struct Network<'t> {
     pub order: &'t IndexSet<usize>,
     pub root: usize,
     pub threads: &'t [Vec<usize>],
+}
+
+/// A thread of a network: its number, its path, and the number of its declaration.
+#[derive(Drop)]
+pub struct Node<'t> {
+    pub number: NodeNo,
+    pub path: &'t [usize],
+    pub declaration: usize,
 }
 
 /// Where a chain begins.
@@ -69,9 +77,25 @@ pub fn thread_end(network: &Network<'_>, path: &[usize], port: usize) -> ChainEn
     let Some(declaration) = standing(&network.wires.uses, network.root, path) else {
         unreachable!();
     };
+    let node = Node {
+        number: node_of(network.threads, path),
+        path,
+        declaration,
+    };
+    node_end(network, &node, port)
+}
+
+/// The same, where the thread is known.
+pub fn node_end(network: &Network<'_>, node: &Node<'_>, port: usize) -> ChainEnd
+    requires settled { IsReady network.now }
+    requires node { IsNode network.now node.now }
+    requires port { HasPort (tree_of network.now) network.now.root (record { path = reverse node.now.path.now; port = port }) }
+    ensures { result ≡ end_in (tree_of network.now) network.now.root (paths_in network.now)
+        (record { path = reverse node.now.path.now; port = port }) }
+{
     ChainEnd::Thread {
-        node: node_of(network.threads, path),
-        port: port_number(network.wires.ports(declaration), port),
+        node: node.number,
+        port: port_number(network.wires.ports(node.declaration), port),
     }
 }
 

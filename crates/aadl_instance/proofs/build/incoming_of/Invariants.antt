@@ -3,6 +3,6 @@ use Rattle.aadl_instance.specs.Passed.{paths_of, AreInto}
 use Rattle.aadl_instance.proofs.build.incoming_of.Given as goal
 
 -- the chains into the threads so far
-abbrev pub invariant-loop-thread : goal.invariant-loop-thread
-invariant-loop-thread l =
-    AreInto (placed l.network.wires.now.uses.tree.now) l.network.root (paths_of l.network.threads.now) l.thread-index 0 l.incoming
+abbrev pub invariant-loop-number : goal.invariant-loop-number
+invariant-loop-number l =
+    AreInto (placed l.network.wires.now.uses.tree.now) l.network.root (paths_of l.network.threads.now) l.number 0 l.incoming

@@ -1,13 +1,5 @@
-use Rattle.std.proofs.Common.{◌≡◌, ◌<◌, ◌∙◌, sym, ap, arith, length, reverse, subst, List}
+use Rattle.std.proofs.Common.{arith, reverse}
 use Rattle.std.proofs.lemmas.List.{length-map}
-use Rattle.aadl_tree.specs.Maps.{kept_place}
-use Rattle.aadl_tree.specs.PackageViews.{placed}
-use Rattle.aadl_tree.specs.Views.{feature_view}
-use Rattle.aadl_names.specs.Resolving.{ports_at}
-use Rattle.aadl_instance.specs.declared.parts.ChainEnd.TheVariants.{Thread}
-use Rattle.aadl_instance.specs.Instances.{node_at, number_among}
-use Rattle.aadl_instance.specs.Passed.{paths_of}
-use Rattle.aadl_instance.proofs.Shown.{node_is, thread_shown, few_at, open_at}
 use Rattle.aadl_instance.proofs.ends.thread_end.Goals as goal
 
 pub node_of-requires-clause-among : goal.node_of-requires-clause-among
@@ -21,36 +13,3 @@ node_of-requires-clause-few c =
     let size = length-map c.args.network.now.threads.now (λ path. reverse path.items) in
     let few = c.requires.settled.few in
     omega arith
-
-pub port_number-requires-clause-within : goal.port_number-requires-clause-within
-port_number-requires-clause-within c =
-    let net = c.args.network.now in
-    let tree = placed net.wires.now.uses.tree.now in
-    let size = length-map c.ports.result.now (feature_view kept_place) in
-    let all : length (ports_at tree _) ≡ _ = sym (ap length c.ports.ensures) ∙ size in
-    let lt : c.args.port < length (ports_at tree _) = subst (λ o. c.args.port < length (ports_at tree o))
-    (open_at tree net.root (reverse c.args.path.now) c.in-Some.declaration (sym c.standing.ensures ∙ c.in-Some.is)) c.requires.port in
-    omega arith
-
-pub port_number-requires-clause-few : goal.port_number-requires-clause-few
-port_number-requires-clause-few c =
-    let net = c.args.network.now in
-    let tree = placed net.wires.now.uses.tree.now in
-    let size = length-map c.ports.result.now (feature_view kept_place) in
-    let all : length (ports_at tree _) ≡ _ = sym (ap length c.ports.ensures) ∙ size in
-    let few = few_at tree net.root (reverse c.args.path.now) c.in-Some.declaration (sym c.standing.ensures ∙ c.in-Some.is)
-    c.requires.thread c.requires.settled.few_ports in
-    omega arith
-
-pub returns : goal.returns
-returns c =
-    let net = c.args.network.now in
-    let tree = placed net.wires.now.uses.tree.now in
-    let paths = paths_of net.threads.now in
-    let path = reverse c.args.path.now in
-    ap (λ n. Thread n c.port_number.result) (sym (node_is paths c.node_of.result path c.requires.settled.threads.in_order c.node_of.ensures))
-    ∙ (ap (Thread (node_at paths path)) (
-    c.port_number.ensures ∙ (ap (λ (l : List _). number_among l c.args.port) c.ports.ensures
-    ∙ ap (λ o. number_among (ports_at tree o) c.args.port) (sym (open_at tree net.root path c.in-Some.declaration (sym c.standing.ensures ∙ c.in-Some.is))))
-    )
-    ∙ thread_shown tree net.root paths path c.args.port c.requires.settled.no_thread c.requires.thread)
