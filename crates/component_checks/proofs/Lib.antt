@@ -3,5 +3,4 @@ pub mod Hours
 pub mod Added
 pub mod Singles
 pub mod Numbered
-pub mod Pieces
 pub mod Saying

@@ -5,6 +5,5 @@ pub mod Times
 pub mod Threads
 pub mod Roots
 pub mod Types
-pub mod Spellings
 pub mod Timed
 pub mod Carried

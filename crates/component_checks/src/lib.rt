@@ -12,7 +12,6 @@ pub mod property_lookup;
 pub mod quotes;
 pub mod rates;
 pub mod roots;
-pub mod spellings;
 pub mod threads;
 pub mod timed;
 pub mod timed_lists;

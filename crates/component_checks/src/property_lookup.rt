@@ -7,12 +7,12 @@ ghost use Rattle.aadl_tree.specs.Views.{implementation_view, subcomponent_view};
 ghost use Rattle.aadl_names.specs.Properties.{name_of, counts, is_named, association_named};
 ghost use Rattle.component_checks.specs.PropertyLookup as spec;
 
-use crate::spellings::is_spelled;
 use aadl_names::numbered::subcomponent_at;
 pub use aadl_names::numbered::{implementation_at, target_of, type_of};
 use aadl_names::{Names, Property};
 use aadl_tree::{Association, Implementation, PackageTree, Subcomponent};
 use aadl_uses::SubAt;
+use name_faults::spellings::is_spelled;
 use pals_base::NoMemory;
 use std::alloc::Global;
 

@@ -13,7 +13,7 @@ ghost use Rattle.model_violations.specs.Ignored as spec;
 use aadl_names::Holder;
 use aadl_names::spelling::spelled_name;
 use aadl_tree::{Annex, AnnexContent, Association, Name, VariableDeclaration};
-use component_checks::spellings::is_spelled;
+use name_faults::spellings::is_spelled;
 use pals_base::{Items, NoMemory, Text};
 use std::alloc::Global;
 

@@ -9,3 +9,5 @@ pub mod FirstBehaviours
 pub mod Annexes
 pub mod NameUses
 pub mod Numbered
+pub mod Pieces
+pub mod EndSites

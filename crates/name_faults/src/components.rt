@@ -9,9 +9,11 @@ ghost use Rattle.aadl_tree.specs.Views.{feature_view, implementation_view, subco
 ghost use Rattle.aadl_tree.specs.Maps.{kept_place};
 ghost use Rattle.aadl_names.specs.Found.{found};
 ghost use Rattle.aadl_names.specs.PackageFaults as spec;
+ghost use Rattle.name_faults.specs.EndScopes.{tree_of, implementation_of, IsKnown};
 
 use crate::check_properties;
-use aadl_names::connection_ends::site;
+use crate::end_scope::{EndScope, site, sub_types};
+use aadl_names::connection_ends::type_number;
 use aadl_names::numbered::target_of;
 use aadl_names::spelling::{spelled_end, spelled_reference};
 use aadl_names::{Finder, Holder, Names, Site};
@@ -35,20 +37,7 @@ pub fn reference_at(reference: &Reference) -> usize
 pub fn same_category(a: Category, b: Category) -> bool
     ensures { result ≡ spec.same_category a b }
 {
-    match a {
-        Category::System => match b {
-            Category::System => true,
-            Category::Process | Category::Thread => false,
-        },
-        Category::Process => match b {
-            Category::Process => true,
-            Category::System | Category::Thread => false,
-        },
-        Category::Thread => match b {
-            Category::Thread => true,
-            Category::System | Category::Process => false,
-        },
-    }
+    a == b
 }
 
 // Whether a component may contain one of the other category.
@@ -183,26 +172,40 @@ fn is_own(port: Option<(Site, Option<Direction>)>) -> bool
     }
 }
 
-/// Finds what is wrong with a connection of the implementation of a number.
-pub fn check_connection(
+// Finds what is wrong with a connection of an implementation.
+fn check_connection(
     finder: &mut Finder,
-    names: &Names<'_>,
-    number: usize,
-    x: &Implementation,
+    scope: &EndScope<'_>,
     connection: &Connection,
 ) -> Result<(), AllocError>
-    requires { slice_get (placed names.now.tree.now).declarations number ≡ Some (implementation (implementation_view kept_place x.now)) }
+    requires { IsKnown scope.now }
     ensures { OnOk result (finder.new ≡ found finder.old
-        (spec.connection_faults (placed names.now.tree.now) (implementation_view kept_place x.now) (connection_view kept_place connection.now))) }
+        (spec.connection_faults (tree_of scope.now) (implementation_of scope.now) (connection_view kept_place connection.now))) }
 {
     let alloc = finder.alloc();
     let at = connection.name.at;
-    let source = site(alloc, names, number, x, &connection.source)?;
-    let target = site(alloc, names, number, x, &connection.target)?;
+    let source = site(alloc, scope, &connection.source)?;
+    let target = site(alloc, scope, &connection.target)?;
     check_source(finder, &connection.source, at, source)?;
     check_target_end(finder, &connection.target, at, target)?;
     finder.wrong_if(is_own(source) && is_own(target), at);
     check_properties(finder, Holder::Connection, connection.properties.as_slice())
+}
+
+// Finds what is wrong with connections of an implementation.
+fn check_connection_list(
+    finder: &mut Finder,
+    scope: &EndScope<'_>,
+    connections: &[Connection],
+) -> Result<(), AllocError>
+    requires { IsKnown scope.now }
+    ensures { OnOk result (finder.new ≡ found finder.old
+        (flat_map (spec.connection_faults (tree_of scope.now) (implementation_of scope.now)) (map (connection_view kept_place) connections.now))) }
+{
+    for connection in connections {
+        check_connection(finder, scope, connection)?;
+    }
+    Ok(())
 }
 
 /// Finds what is wrong with the subcomponents of a component of the category.
@@ -234,10 +237,20 @@ pub fn check_connections(
         (flat_map (spec.connection_faults (placed names.now.tree.now) (implementation_view kept_place x.now))
         (map (connection_view kept_place) connections.now))) }
 {
-    for connection in connections {
-        check_connection(finder, names, number, x, connection)?;
+    if connections.is_empty() {
+        return Ok(());
     }
-    Ok(())
+    let alloc = finder.alloc();
+    let own_type = type_number(alloc, names, x)?;
+    let sub_types = sub_types(alloc, names, x.subcomponents.as_slice())?;
+    let scope = EndScope {
+        names,
+        number,
+        implementation: x,
+        own_type,
+        sub_types: sub_types.as_slice(),
+    };
+    check_connection_list(finder, &scope, connections)
 }
 
 // Finds what is wrong with the properties of a port.

@@ -5,56 +5,52 @@ ghost use Rattle.std.specs.Prelude.{◌≡◌, ◌&&◌, ◌++◌, not, OnOk, If
 ghost use Rattle.aadl_tree.specs.Names.{same_name};
 ghost use Rattle.std.specs.List.{list_any};
 ghost use Rattle.aadl_tree.specs.Values.{associate, no_associations};
+ghost use Rattle.aadl_tree.specs.NameViews.{name_view};
 ghost use Rattle.aadl_tree.specs.ValueViews.{value_view, association_view, associations_view};
 ghost use Rattle.aadl_tree.specs.Maps.{kept_place};
 ghost use Rattle.aadl_names.specs.Found.{found};
 ghost use Rattle.aadl_names.specs.Properties as spec;
 ghost use Rattle.aadl_names.specs.Properties.{property_entries};
+ghost use Rattle.aadl_names.specs.Spelling as spelling;
 ghost use Rattle.aadl_names.specs.Twice.{twice};
 
 use crate::shapes::has_shape;
+use crate::spellings::is_spelled;
 use aadl_names::spelling::spelled_name;
 use aadl_names::twice::check_twice;
 use aadl_names::{Entry, Finder, Holder};
-use aadl_tree::{Association, Value};
+use aadl_tree::{Association, Name, Value};
 use pals_base::Items;
 use std::alloc::{AllocError, Global};
 
 // Whether a property of the name is recognised here, and the value has another shape.
-fn is_misshapen(holder: Holder, name: &str, value: &Value) -> bool
-    ensures { result ≡ list_any (λ p. same_name name.now (spec.name_of p) && not (spec.has_shape p (value_view kept_place value.now)))
-        (spec.recognised holder) }
+fn is_misshapen(holder: Holder, name: &Name, value: &Value) -> bool
+    ensures { result ≡ list_any (λ p. same_name (spelling.spelled_name (name_view kept_place name.now)) (spec.name_of p)
+        && not (spec.has_shape p (value_view kept_place value.now))) (spec.recognised holder) }
 {
-    holder.recognised().iter().any(|property| name.eq_ignore_ascii_case(property.name())
+    holder.recognised().iter().any(|property| is_spelled(name, property.name())
         && !has_shape(*property, value))
 }
 
 // Finds the value of another shape of one property. What applies elsewhere does not count.
-fn check_property(
-    finder: &mut Finder,
-    holder: Holder,
-    association: &Association,
-) -> Result<(), AllocError>
-    ensures { OnOk result (finder.new ≡ found finder.old (spec.shape_fault holder (association_view kept_place association.now))) }
+fn check_property(finder: &mut Finder, holder: Holder, association: &Association)
+    ensures { finder.new ≡ found finder.old (spec.shape_fault holder (association_view kept_place association.now)) }
 {
     if association.applies_to.is_empty() {
-        let name = spelled_name(finder.alloc(), &association.name)?;
         finder.wrong_if(
-            is_misshapen(holder, name.as_str(), &association.value),
+            is_misshapen(holder, &association.name, &association.value),
             association.name.first.at,
         );
     }
-    Ok(())
 }
 
 // Finds the values of other shapes in one list of properties.
-fn check_shapes(finder: &mut Finder, holder: Holder, list: &[Association]) -> Result<(), AllocError>
-    ensures { OnOk result (finder.new ≡ found finder.old (flat_map (spec.shape_fault holder) (spec.listed (associations_view kept_place list.now)))) }
+fn check_shapes(finder: &mut Finder, holder: Holder, list: &[Association])
+    ensures { finder.new ≡ found finder.old (flat_map (spec.shape_fault holder) (spec.listed (associations_view kept_place list.now))) }
 {
     for association in list {
-        check_property(finder, holder, association)?;
+        check_property(finder, holder, association);
     }
-    Ok(())
 }
 
 // What a property declares.
@@ -113,6 +109,6 @@ pub fn check_properties(
 ) -> Result<(), AllocError>
     ensures { OnOk result (finder.new ≡ found finder.old (spec.list_faults holder (associations_view kept_place list.now))) }
 {
-    check_shapes(finder, holder, list)?;
+    check_shapes(finder, holder, list);
     check_repeated(finder, list)
 }

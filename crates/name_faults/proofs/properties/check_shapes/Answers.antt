@@ -10,4 +10,4 @@ pub loop-association-preserved : goal.loop-association-preserved
 loop-association-preserved c =
     next_found (λ xs. flat_map (shape_fault c.args.holder) (listed (associations_view kept_place xs)))
     (λ x. shape_fault c.args.holder (association_view kept_place x)) (λ x xs. refl) _ _ _ _ _ _
-    c.loop-association-test.true c.association-item.is c.loop-association.invariant c.in_ok-check_property.ensures
+    c.loop-association-test.true c.association-item.is c.loop-association.invariant c.check_property.ensures

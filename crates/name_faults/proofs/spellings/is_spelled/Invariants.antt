@@ -4,7 +4,7 @@ use Rattle.std.specs.Prelude.{flat_map}
 use Rattle.aadl_tree.specs.Maps.{kept_place}
 use Rattle.aadl_tree.specs.NameViews.{identifier_view, name_view}
 use Rattle.aadl_names.specs.Spelling.{spelled_name}
-use Rattle.component_checks.proofs.spellings.is_spelled.Given as goal
+use Rattle.name_faults.proofs.spellings.is_spelled.Given as goal
 
 -- the words that are left decide
 abbrev pub invariant-loop-word : goal.invariant-loop-word

@@ -4,7 +4,7 @@ ghost use Rattle.aadl_tree.specs.Names.{same_name};
 ghost use Rattle.aadl_tree.specs.Maps.{kept_place};
 ghost use Rattle.aadl_tree.specs.NameViews.{name_view};
 ghost use Rattle.aadl_names.specs.Spelling.{spelled_name};
-ghost use Rattle.component_checks.specs.Spellings.{goes_on};
+ghost use Rattle.name_faults.specs.Spellings.{goes_on};
 
 use aadl_tree::{Identifier, Name};
 
