@@ -11,3 +11,4 @@ pub mod Shown
 pub mod Before
 pub mod Adding
 pub mod Settled
+pub mod Among

@@ -3,16 +3,16 @@ use Rattle.std.proofs.Common.{◌≡◌, ◌↔◌, ℕ, zero, suc, ◌+◌, ◌
 use Rattle.std.specs.Option.{option_and_then, option_map_or}
 use Rattle.std.proofs.lemmas.Bool.{true≢false}
 use Rattle.std.proofs.lemmas.Bool.Decides.{nat_tests}
-use Rattle.std.proofs.lemmas.List.{length-append, length-map, reverse-append, reverse-reverse}
+use Rattle.std.proofs.lemmas.List.{length-append, reverse-append, reverse-reverse}
 use Rattle.std.proofs.lemmas.Option.{none-some, same_Some, option_and_then_some}
 use Rattle.pals_base.specs.declared.limits.TheConstants.{PATH_BYTES}
 use Rattle.aadl_tree.specs.Declarations.{Subcomponent, Declaration, Implementation, PackageTree}
 use Rattle.aadl_names.specs.Resolving.{implementation_in, implementation_at, subcomponents_of, referred}
 use Rattle.aadl_uses.specs.Uses.{sub_at, below, standing, containment}
-use Rattle.aadl_uses.specs.Threads.{IsThreadAt, IsThreadOf, thread_marks}
+use Rattle.aadl_uses.specs.Threads.{thread_marks}
 use Rattle.aadl_uses.proofs.Containing.{below-same}
 use Rattle.aadl_uses.proofs.Counted.{thread_from, marked_from}
-use Rattle.aadl_uses.specs.Graphs.{Graph, below_in}
+use Rattle.aadl_uses.specs.Graphs.{below_in}
 use Rattle.aadl_uses.specs.Counts.{stands_at, IsMarkedAt}
 use Rattle.aadl_uses.specs.Weights as weights
 use Rattle.aadl_uses.specs.Weights.{path_weight, IsGreatest, IsGreatestOf, IsHeaviest}

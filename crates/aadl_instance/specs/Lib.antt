@@ -6,4 +6,5 @@ pub mod Silence
 pub mod Flat
 pub mod Instances
 pub mod Passed
+pub mod Numbers
 pub mod Networks

@@ -8,6 +8,7 @@ use Rattle.aadl_instance.specs.declared.parts.Chain.{Chain}
 use Rattle.aadl_instance.specs.declared.build.Incoming.{Incoming}
 use Rattle.aadl_instance.specs.declared.ends.Network.{Network}
 use Rattle.aadl_instance.specs.declared.ends.Node.{Node}
+use Rattle.aadl_instance.specs.Numbers.{AreNumbers}
 use Rattle.aadl_instance.specs.Passed.{paths_of, IsSettled, AreShown, AreInto, AreTapsTo}
 
 abbrev pub tree_of : Network → PackageTree ℕ
@@ -17,9 +18,11 @@ tree_of network = placed network.wires.now.uses.tree.now
 abbrev pub paths_in : Network → List (List ℕ)
 paths_in network = paths_of network.threads.now
 
--- nothing is found in the package, and these are an order of its declarations and its threads
-abbrev pub IsReady : Network → Type 0
-IsReady network = IsSettled (tree_of network) network.order.now.keys network.root (paths_in network)
+-- nothing is found in the package, and these are an order of its declarations and its threads,
+-- and the table has the ports' numbers
+pub record IsReady (network : Network) : Type 0 where
+  pub settled : IsSettled (tree_of network) network.order.now.keys network.root (paths_in network)
+  pub numbers : AreNumbers (tree_of network) network.numbers.now
 
 -- the thread of a number is the one at the path
 abbrev pub IsNumbered : Network → ℕ → List ℕ → Type 0

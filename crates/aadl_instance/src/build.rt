@@ -52,7 +52,7 @@ fn add_thread(
     number: NodeNo,
     path: &[usize],
 ) -> Result<(), AllocError>
-    requires settled { IsReady network.now }
+    requires ready { IsReady network.now }
     requires thread { IsNumbered network.now number.0 (reverse path.now) }
     ensures { OnOk result (ShowsInto network.now number.0 0 incoming.old → ShowsInto network.now (number.0 + 1) 0 incoming.new) }
 {
@@ -78,7 +78,7 @@ fn add_port(
     node: &Node<'_>,
     port: usize,
 ) -> Result<(), AllocError>
-    requires settled { IsReady network.now }
+    requires ready { IsReady network.now }
     requires node { IsNode network.now node.now }
     ensures { OnOk result (ShowsInto network.now node.now.number.0 port incoming.old → ShowsInto network.now node.now.number.0 (port + 1) incoming.new) }
 {
@@ -97,7 +97,7 @@ fn add_chain(
     node: &Node<'_>,
     port: usize,
 ) -> Result<(), AllocError>
-    requires settled { IsReady network.now }
+    requires ready { IsReady network.now }
     requires node { IsNode network.now node.now }
     requires goes_in { is_in_at (tree_of network.now) node.now.declaration port ≡ true }
     ensures { OnOk result (ShowsInto network.now node.now.number.0 port incoming.old → ShowsInto network.now node.now.number.0 (port + 1) incoming.new) }
@@ -147,7 +147,7 @@ fn add_tap(
     network: &Network<'_>,
     port: usize,
 ) -> Result<(), AllocError>
-    requires settled { IsReady network.now }
+    requires ready { IsReady network.now }
     requires port { HasPort (tree_of network.now) network.now.root (record { path = []; port = port }) }
     ensures { OnOk result (ShowsTaps network.now port taps.old
         → ShowsTaps network.now (port + 1) taps.new) }
@@ -172,7 +172,7 @@ fn chain_by(
     route: &Route,
     to: ChainEnd,
 ) -> Result<Chain, AllocError>
-    requires settled { IsReady network.now }
+    requires ready { IsReady network.now }
     requires begins { IsBegin (tree_of network.now) network.now.root route.now.begin }
     ensures { IfOk result (λ chain. chain ≡ shown.chain_by (tree_of network.now) network.now.root (paths_in network.now) route.now to) }
 {

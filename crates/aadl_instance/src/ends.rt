@@ -1,33 +1,29 @@
 //! Ends of chains, as an instance shows them.
-ghost use Rattle.std.specs.Prelude.{◌≡◌, ◌<◌, ◌≤◌, Some, [], count_by, length, map, reverse, slice_get, AllPairs, Contains, IfOk};
-ghost use Rattle.pals_base.specs.declared.limits.TheConstants.{PORTS};
-ghost use Rattle.aadl_tree.specs.Maps.{kept_place};
-ghost use Rattle.aadl_tree.specs.Views.{feature_view};
+ghost use Rattle.std.specs.Prelude.{◌≡◌, ◌≤◌, Some, [], length, reverse, slice_get, AllPairs, Contains, IfOk};
 ghost use Rattle.aadl_uses.specs.Counts.{path_before};
 ghost use Rattle.aadl_uses.specs.Threads.{IsThreadAt, PathBefore};
 ghost use Rattle.aadl_chains.specs.Routes.{begin_port};
-ghost use Rattle.aadl_instance.specs.Instances as spec;
-ghost use Rattle.aadl_instance.specs.Instances.{end_in, number_among};
+ghost use Rattle.aadl_instance.specs.Instances.{end_in};
 ghost use Rattle.aadl_instance.specs.Networks.{tree_of, paths_in, IsReady, IsNode};
 ghost use Rattle.aadl_instance.specs.Passed.{paths_of, HasPort, IsBegin};
 
+use crate::numbers::PortNumbers;
 use crate::parts::ChainEnd;
-use aadl_chains::wires::goes_in;
 use aadl_chains::{Begin, Wires};
-use aadl_tree::{Direction, Feature};
 use aadl_uses::standing;
 use indexmap::IndexSet;
 use pals_base::{NodeNo, Text};
 use std::alloc::{AllocError, Global};
 
 /// Where the chains of an instance are: the connections of its package, an order of the declarations, the number of
-/// its root, and the paths of its threads, in depth-first order of declaration.
+/// its root, the paths of its threads, in depth-first order of declaration, and the numbers of ports.
 #[derive(Clone, Copy)]
 pub struct Network<'t> {
     pub wires: &'t Wires<'t>,
     pub order: &'t IndexSet<usize>,
     pub root: usize,
     pub threads: &'t [Vec<usize>],
+    pub numbers: &'t PortNumbers,
 }
 
 /// A thread of a network: its number, its path, and the number of its declaration.
@@ -44,7 +40,7 @@ pub fn begin_end(
     network: &Network<'_>,
     begin: &Begin,
 ) -> Result<ChainEnd, AllocError>
-    requires settled { IsReady network.now }
+    requires ready { IsReady network.now }
     requires begins { IsBegin (tree_of network.now) network.now.root begin.now }
     ensures { IfOk result (λ end. end ≡ end_in (tree_of network.now) network.now.root (paths_in network.now) (begin_port begin.now)) }
 {
@@ -66,9 +62,9 @@ pub fn root_end(alloc: Global, network: &Network<'_>, port: usize) -> Result<Cha
     })
 }
 
-/// A port of a thread, by its number among those that go as it does.
-pub fn thread_end(network: &Network<'_>, path: &[usize], port: usize) -> ChainEnd
-    requires settled { IsReady network.now }
+// A port of the thread at a path.
+fn thread_end(network: &Network<'_>, path: &[usize], port: usize) -> ChainEnd
+    requires ready { IsReady network.now }
     requires thread { IsThreadAt (tree_of network.now) network.now.root (reverse path.now) }
     requires port { HasPort (tree_of network.now) network.now.root (record { path = reverse path.now; port = port }) }
     ensures { result ≡ end_in (tree_of network.now) network.now.root (paths_in network.now)
@@ -85,17 +81,18 @@ pub fn thread_end(network: &Network<'_>, path: &[usize], port: usize) -> ChainEn
     node_end(network, &node, port)
 }
 
-/// The same, where the thread is known.
+/// A port of a thread, by its number among those that go as it does.
 pub fn node_end(network: &Network<'_>, node: &Node<'_>, port: usize) -> ChainEnd
-    requires settled { IsReady network.now }
+    requires ready { IsReady network.now }
     requires node { IsNode network.now node.now }
     requires port { HasPort (tree_of network.now) network.now.root (record { path = reverse node.now.path.now; port = port }) }
     ensures { result ≡ end_in (tree_of network.now) network.now.root (paths_in network.now)
         (record { path = reverse node.now.path.now; port = port }) }
 {
+    let among = network.numbers.get(node.declaration, port);
     ChainEnd::Thread {
         node: node.number,
-        port: port_number(network.wires.ports(node.declaration), port),
+        port: among as u32,
     }
 }
 
@@ -123,33 +120,4 @@ fn comes_before(path: &[usize], other: &[usize]) -> bool
         }
     }
     false
-}
-
-// The number of a port among those that go as it does.
-fn port_number(ports: &[Feature], port: usize) -> u32
-    requires within { port < length ports.now }
-    requires few { length ports.now ≤ PORTS }
-    ensures { result ≡ number_among (map (feature_view kept_place) ports.now) port }
-{
-    count_as(&ports[port], &ports[..port]) as u32
-}
-
-// How many ports go as one does.
-fn count_as(one: &Feature, ports: &[Feature]) -> usize
-    ensures { result ≡ count_by (λ port. spec.same_direction one.now.direction port.direction) ports.now }
-{
-    let direction = one.direction;
-    ports
-        .iter()
-        .filter(|port| same_direction(direction, port.direction))
-        .count()
-}
-
-fn same_direction(a: Direction, b: Direction) -> bool
-    ensures { result ≡ spec.same_direction a b }
-{
-    match a {
-        Direction::In => goes_in(b),
-        Direction::Out => !goes_in(b),
-    }
 }

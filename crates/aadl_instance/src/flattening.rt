@@ -10,6 +10,7 @@ ghost use Rattle.aadl_instance.specs.Instances.{IsInstance};
 use crate::build::{incoming_of, taps_of};
 use crate::ends::Network;
 use crate::instance::Instance;
+use crate::numbers::PortNumbers;
 use crate::{Checked, check_package};
 use aadl_names::FlatFault;
 use aadl_tree::PackageTree;
@@ -43,11 +44,13 @@ fn instance_of<'t>(alloc: Global, checked: &Checked<'t>) -> Result<Instance<'t>,
 {
     let uses = &checked.wires.uses;
     let paths = thread_paths(alloc, uses, &checked.order, &checked.used, checked.root)?;
+    let numbers = PortNumbers::of(alloc, &checked.wires)?;
     let network = Network {
         wires: &checked.wires,
         order: &checked.order,
         root: checked.root,
         threads: paths.from(checked.root),
+        numbers: &numbers,
     };
     let threads = threads_at(alloc, uses, network.root, network.threads)?;
     let incoming = incoming_of(alloc, &network)?;

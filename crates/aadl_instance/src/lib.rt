@@ -9,6 +9,7 @@ mod flattening;
 pub mod instance;
 pub mod laws;
 pub mod limits;
+mod numbers;
 pub mod package;
 pub mod parts;
 mod paths;

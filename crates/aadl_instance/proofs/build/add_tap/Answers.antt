@@ -11,7 +11,7 @@ pub returns-then-is_in : goal.returns-then-is_in
 returns-then-is_in c =
     let net = c.args.network.now in
     let tree = placed net.wires.now.uses.tree.now in
-    in_tap tree net.root (paths_of net.threads.now) c.args.port c.requires.settled.no_thread c.args.taps.now
+    in_tap tree net.root (paths_of net.threads.now) c.args.port c.requires.ready.settled.no_thread c.args.taps.now
     (is_in-at tree net.root (port [] c.args.port) net.root refl ∙ (sym c.is_in.ensures ∙ c.if-is_in.true))
 
 pub chain_by-requires-clause-begins : goal.chain_by-requires-clause-begins

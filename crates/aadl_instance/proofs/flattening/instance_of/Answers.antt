@@ -14,15 +14,21 @@ pub incoming_of-requires : goal.incoming_of-requires
 incoming_of-requires c =
     let checked = c.args.checked.now in
     let tree = placed checked.wires.uses.tree.now in
-    settled tree checked c.requires.checked (paths_of c.from.result.now)
-    (all_listed tree checked.root c.from.result.now _ c.from.ensures c.in_ok-paths.ensures)
+    record {
+      settled = settled tree checked c.requires.checked (paths_of c.from.result.now)
+          (all_listed tree checked.root c.from.result.now _ c.from.ensures c.in_ok-paths.ensures);
+      numbers = c.in_ok-numbers.ensures;
+    }
 
 pub taps_of-requires : goal.taps_of-requires
 taps_of-requires c =
     let checked = c.args.checked.now in
     let tree = placed checked.wires.uses.tree.now in
-    settled tree checked c.requires.checked (paths_of c.from.result.now)
-    (all_listed tree checked.root c.from.result.now _ c.from.ensures c.in_ok-paths.ensures)
+    record {
+      settled = settled tree checked c.requires.checked (paths_of c.from.result.now)
+          (all_listed tree checked.root c.from.result.now _ c.from.ensures c.in_ok-paths.ensures);
+      numbers = c.in_ok-numbers.ensures;
+    }
 
 pub returns-clause-instance : goal.returns-clause-instance
 returns-clause-instance c = λ name root.

@@ -1,10 +1,10 @@
-use Rattle.std.proofs.Common.{◌≡◌, ◌+◌, ◌<◌, ◌∙◌, ℕ, Bool, List, None, ap, arith, get_or, length, map, subst, sym}
+use Rattle.std.proofs.Common.{◌≡◌, ◌+◌, ◌∙◌, ℕ, Bool, List, None, ap, arith, get_or, length, map, subst, sym}
 use Rattle.std.proofs.lemmas.List.{length-map}
 use Rattle.pals_base.specs.declared.limits.TheConstants.{PATH_BYTES}
 use Rattle.aadl_tree.specs.Maps.{kept_place}
 use Rattle.aadl_tree.specs.PackageViews.{placed}
 use Rattle.aadl_tree.specs.Views.{declaration_view}
-use Rattle.aadl_uses.specs.Uses.{containment, targets_in}
+use Rattle.aadl_uses.specs.Uses.{targets_in}
 use Rattle.aadl_uses.specs.Threads.{thread_marks}
 use Rattle.aadl_uses.specs.Graphs.{Graph}
 use Rattle.aadl_uses.specs.Weights.{IsHeaviest}

@@ -1,0 +1,11 @@
+use Rattle.std.proofs.Common.{◌≡◌, ◌<◌, ℕ, [], get_or, length}
+use Rattle.aadl_tree.specs.PackageViews.{placed}
+use Rattle.aadl_names.specs.Resolving.{implementation_at, ports_at}
+use Rattle.aadl_instance.specs.Numbers.{AreAmong}
+use Rattle.aadl_instance.proofs.numbers.PortNumbers.of.Given as goal
+
+-- the rows of the declarations so far
+abbrev pub invariant-loop-number : goal.invariant-loop-number
+invariant-loop-number l =
+    (length l.numbers ≡ l.number)
+    × ((n : ℕ) → n < l.number → AreAmong (ports_at (placed l.wires.uses.tree.now) (implementation_at (placed l.wires.uses.tree.now) n)) (get_or l.numbers n []))
