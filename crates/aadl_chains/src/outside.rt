@@ -17,7 +17,7 @@ use std::alloc::{AllocError, Global};
 
 /// Which ports are looked for below which root: in ports to which connections lead from where messages come from,
 /// or out ports from which they lead to where messages go.
-#[derive(Clone, Copy, Debug, PartialEq, Eq)]
+#[derive(Clone, Copy)]
 pub struct Side {
     pub root: usize,
     pub direction: Direction,

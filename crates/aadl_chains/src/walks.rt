@@ -40,7 +40,7 @@ pub struct Route {
 }
 
 /// A connection into a port, and where it comes from.
-#[derive(Clone, Copy, Debug, PartialEq, Eq)]
+#[derive(Clone, Copy)]
 pub struct Entry {
     pub declaration: usize,
     pub connection: usize,
@@ -49,7 +49,7 @@ pub struct Entry {
 
 /// A connection between two subcomponents of the component at the end of the first `depth` steps of
 /// a path, and the port from which it comes.
-#[derive(Clone, Copy, Debug, PartialEq, Eq)]
+#[derive(Clone, Copy)]
 pub struct Crossed {
     pub depth: usize,
     pub declaration: usize,
@@ -59,7 +59,7 @@ pub struct Crossed {
 }
 
 /// Where the walk up from a port ends.
-#[derive(Clone, Copy, Debug, PartialEq, Eq)]
+#[derive(Clone, Copy)]
 pub enum Climbed {
     /// At a port into which no connection goes.
     Nowhere,
@@ -70,7 +70,7 @@ pub enum Climbed {
 }
 
 /// A port of a subcomponent, with the implementation that it names.
-#[derive(Clone, Copy, Debug, PartialEq, Eq)]
+#[derive(Clone, Copy)]
 pub struct Lower {
     pub sub: usize,
     pub number: usize,

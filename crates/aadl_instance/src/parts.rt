@@ -22,7 +22,7 @@ pub enum ChainEnd {
 }
 
 /// A connection: the number of the declaration in which it stands, and its own number there.
-#[derive(Clone, Copy, Debug, PartialEq, Eq)]
+#[derive(Clone, Copy)]
 pub struct ConnAt {
     pub declaration: usize,
     pub connection: usize,

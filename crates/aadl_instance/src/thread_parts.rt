@@ -12,7 +12,7 @@ use indexmap::IndexSet;
 use pals_base::limits::{PORTS, STATES, VARIABLES};
 
 /// What a thread may have only a limited number of.
-#[derive(Clone, Copy, Debug, PartialEq, Eq)]
+#[derive(Clone, Copy)]
 pub enum Part {
     /// In ports and out ports together.
     Ports,

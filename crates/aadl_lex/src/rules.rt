@@ -9,7 +9,7 @@ use crate::scan;
 use crate::token::{NAME_BYTES, TokenKind};
 
 /// How a text is read at a place.
-#[derive(Clone, Copy, Debug, PartialEq, Eq)]
+#[derive(Clone, Copy, PartialEq)]
 pub enum Reading {
     /// Outside of annex bodies.
     Outside,
@@ -35,7 +35,7 @@ impl Reading {
 }
 
 /// What stands at the front of a text.
-#[derive(Clone, Copy, Debug, PartialEq, Eq)]
+#[derive(Clone, Copy)]
 pub enum First {
     /// A blank or a comment, by its number of bytes.
     Skipped(usize),

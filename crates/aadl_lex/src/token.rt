@@ -4,7 +4,7 @@
 pub const NAME_BYTES: usize = 64;
 
 /// The class of a token.
-#[derive(Clone, Copy, Debug, PartialEq, Eq)]
+#[derive(Clone, Copy, Debug)]
 pub enum TokenKind {
     /// A letter, and letters, digits and `_` behind it; [`NAME_BYTES`] at most.
     Word,
@@ -25,7 +25,7 @@ pub enum TokenKind {
 }
 
 /// A token: the bytes of the text from `start` up to `end`.
-#[derive(Clone, Copy, Debug, PartialEq, Eq)]
+#[derive(Clone, Copy)]
 pub struct Token {
     /// The token's class.
     pub kind: TokenKind,

@@ -1,7 +1,7 @@
 //! The port that an end of a connection names.
 
 /// A port, by numbers in the text's order.
-#[derive(Clone, Copy, Debug, PartialEq, Eq, Hash)]
+#[derive(Clone, Copy, PartialEq, Eq, Hash)]
 pub enum Site {
     /// A port of the implementation itself.
     Own(usize),

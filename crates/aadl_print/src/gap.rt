@@ -6,7 +6,7 @@ ghost use Rattle.aadl_tree.specs.Canon.{holds_left};
 use aadl_tree::Mark;
 
 /// What stands behind a terminal, where the next one lets it.
-#[derive(Clone, Copy, Debug, PartialEq, Eq)]
+#[derive(Clone, Copy)]
 pub enum Gap {
     Nothing,
     Space,

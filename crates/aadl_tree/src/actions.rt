@@ -70,7 +70,7 @@ pub struct Block {
 }
 
 /// An end of a loop's range: `[ "-" ] whole`.
-#[derive(Clone, Copy, PartialEq, Eq)]
+#[derive(Clone, Copy, PartialEq)]
 pub struct Bound {
     pub negative: bool,
     pub value: i64,

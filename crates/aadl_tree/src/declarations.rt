@@ -5,7 +5,7 @@ use crate::names::{Identifier, Name, Reference};
 use crate::values::Association;
 
 /// What kind of component it is.
-#[derive(Clone, Copy, Debug, PartialEq, Eq)]
+#[derive(Clone, Copy, PartialEq)]
 pub enum Category {
     System,
     Process,
@@ -13,7 +13,7 @@ pub enum Category {
 }
 
 /// Which way a port goes.
-#[derive(Clone, Copy, Debug, PartialEq, Eq)]
+#[derive(Clone, Copy, PartialEq)]
 pub enum Direction {
     In,
     Out,

@@ -3,14 +3,14 @@
 use crate::names::Identifier;
 
 /// `+` or `-`.
-#[derive(Clone, Copy, PartialEq, Eq)]
+#[derive(Clone, Copy, PartialEq)]
 pub enum Sign {
     Plus,
     Minus,
 }
 
 /// An operator between relations.
-#[derive(Clone, Copy, PartialEq, Eq)]
+#[derive(Clone, Copy, PartialEq)]
 pub enum LogicOperator {
     And,
     Or,
@@ -20,7 +20,7 @@ pub enum LogicOperator {
 }
 
 /// An operator between sums.
-#[derive(Clone, Copy, PartialEq, Eq)]
+#[derive(Clone, Copy, PartialEq)]
 pub enum RelationOperator {
     Equal,
     NotEqual,
@@ -31,7 +31,7 @@ pub enum RelationOperator {
 }
 
 /// An operator between factors.
-#[derive(Clone, Copy, PartialEq, Eq)]
+#[derive(Clone, Copy, PartialEq)]
 pub enum MultiplyOperator {
     Times,
     Divide,

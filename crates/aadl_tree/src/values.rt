@@ -4,7 +4,7 @@ use crate::expressions::Sign;
 use crate::names::{Identifier, Name, Path, Reference};
 
 /// How a property gets its value. Both mean the same.
-#[derive(Clone, Copy, PartialEq, Eq)]
+#[derive(Clone, Copy, PartialEq)]
 pub enum AssociationOperator {
     /// `=>`
     Becomes,

@@ -19,7 +19,7 @@ use serde_json::Value;
 use std::alloc::Global;
 
 /// Where a replica's fault stands: a round, and whose replica sends to whose on which link.
-#[derive(Clone, Copy, PartialEq, Eq, Hash, Debug)]
+#[derive(Clone, Copy, PartialEq, Eq, Hash)]
 pub struct FaultPlace {
     round: u32,
     replica: u32,

@@ -10,7 +10,7 @@ use std::alloc::{AllocError, Global};
 
 /// What a name stands for. In ports, out ports and variables are numbered apart; a loop variable has
 /// a number behind those of all variables and of the loops round it.
-#[derive(Clone, Copy, PartialEq, Eq, Debug)]
+#[derive(Clone, Copy)]
 pub enum Meaning {
     InPort(u32),
     OutPort(u32),

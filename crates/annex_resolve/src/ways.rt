@@ -13,7 +13,7 @@ use pals_base::{BehaviourParts, Guard as Trigger, Items, NoMemory, Transition};
 use std::alloc::Global;
 
 /// When a transition is taken.
-#[derive(Clone, Copy, PartialEq, Eq, Debug)]
+#[derive(Clone, Copy)]
 pub enum Way {
     Dispatch,
     Otherwise,
@@ -24,7 +24,7 @@ pub enum Way {
 }
 
 /// A transition, by the state that it leaves and its way.
-#[derive(Clone, Copy, PartialEq, Eq, Debug)]
+#[derive(Clone, Copy)]
 pub struct Leg {
     pub source: u32,
     pub way: Way,

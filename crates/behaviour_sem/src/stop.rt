@@ -3,7 +3,7 @@ use pals_base::Trap;
 use std::alloc::{AllocError, AllocFailed};
 
 /// What ends a run of actions early.
-#[derive(Clone, Copy, PartialEq, Eq, Debug)]
+#[derive(Clone, Copy, PartialEq)]
 pub enum Stop {
     /// A trap of the behaviour itself.
     Trapped(Trap),

@@ -10,7 +10,7 @@ use std::alloc::Global;
 use std::marker::Model;
 
 /// A message that is due from a reading on, in nanoseconds: its link and its round.
-#[derive(Clone, Copy, PartialEq, Eq, Debug)]
+#[derive(Clone, Copy, PartialEq, Debug)]
 pub struct DueEntry {
     pub due: Nanos,
     pub link: LinkNo,

@@ -13,7 +13,7 @@ use pals_runs::{Event, EventFault, Stop};
 use std::alloc::AllocError;
 
 /// How a loose world ended.
-#[derive(Clone, Copy, PartialEq, Eq, Debug)]
+#[derive(Clone, Copy)]
 pub enum LooseEnd {
     /// Each event happened, and no stop stands.
     All,

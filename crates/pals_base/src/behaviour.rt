@@ -4,7 +4,7 @@ use crate::text::Text;
 use std::marker::Model;
 
 /// The type of a port or a variable.
-#[derive(Clone, Copy, PartialEq, Eq, Debug)]
+#[derive(Clone, Copy, PartialEq)]
 pub enum Kind {
     Integer,
     Boolean,
@@ -33,7 +33,7 @@ pub struct StateDecl {
 }
 
 /// An operator between two operands of a chain.
-#[derive(Clone, Copy, PartialEq, Eq, Debug)]
+#[derive(Clone, Copy, PartialEq)]
 pub enum Op {
     Add,
     Sub,

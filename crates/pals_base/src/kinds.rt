@@ -7,7 +7,7 @@ use crate::behaviour::{BehaviourParts, Expr, Kind, Named, Op, Operand};
 
 /// The types that a value may have: none where an expression is not well typed, and both for a
 /// number that may stand for a truth value.
-#[derive(Clone, Copy, PartialEq, Eq, Debug)]
+#[derive(Clone, Copy)]
 pub struct Kinds {
     pub integer: bool,
     pub boolean: bool,

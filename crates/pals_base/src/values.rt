@@ -9,7 +9,7 @@ pub type NoMemory = AllocError;
 pub type Nanos = u64;
 
 /// What a port has in one step: nothing, or a number. False is 0, and true is 1.
-#[derive(Clone, Copy, PartialEq, Eq, Debug)]
+#[derive(Clone, Copy, PartialEq, Debug)]
 pub enum Port {
     Absent,
     Present(i64),
@@ -19,15 +19,15 @@ pub enum Port {
 pub type Tuple = Items<Port>;
 
 /// The number of a component, in the design's order, from 0.
-#[derive(Clone, Copy, PartialEq, Eq, Debug)]
+#[derive(Clone, Copy, PartialEq, Debug)]
 pub struct NodeNo(pub u32);
 
 /// The number of a link, in the design's order, from 0.
-#[derive(Clone, Copy, PartialEq, Eq, Debug)]
+#[derive(Clone, Copy, PartialEq, Debug)]
 pub struct LinkNo(pub u32);
 
 /// Why a step halted: a result that does not fit 64 bits, or a divisor of 0.
-#[derive(Clone, Copy, PartialEq, Eq, Debug)]
+#[derive(Clone, Copy, PartialEq, Debug)]
 pub enum Trap {
     Overflow,
     ZeroDivisor,
@@ -45,7 +45,7 @@ pub struct Frame {
 
 /// The bounds of a system, in nanoseconds: how far a clock may be from the time (less than `eps`),
 /// how long a step executes, and how long a message is under way.
-#[derive(Clone, Copy, PartialEq, Eq, Debug)]
+#[derive(Clone, Copy, PartialEq)]
 pub struct Gamma {
     pub eps: Nanos,
     pub alpha_min: Nanos,
@@ -55,7 +55,7 @@ pub struct Gamma {
 }
 
 /// How the places of a tuple go over to those of a target of another rate.
-#[derive(Clone, Copy, PartialEq, Eq, Debug)]
+#[derive(Clone, Copy, PartialEq, Debug)]
 pub enum Adaptor {
     Repeat,
     First,

@@ -3,7 +3,7 @@ use pals_base::{LinkNo, Nanos, NodeNo};
 use pals_runs::Stop;
 
 /// Whether a node may go on where the nodes meet. The reading is in nanoseconds.
-#[derive(Clone, Copy, PartialEq, Eq, Debug)]
+#[derive(Clone, Copy, PartialEq)]
 pub enum Meet {
     /// It may, at this reading.
     Go { reading: Nanos },

@@ -3,7 +3,7 @@ use pals_base::{Nanos, NoMemory};
 use pals_runs::Stop;
 
 /// Why nothing happens to a message.
-#[derive(Clone, Copy, PartialEq, Eq, Debug)]
+#[derive(Clone, Copy)]
 pub enum LinkEnd {
     /// A stop stands.
     Stopped(Stop),
@@ -14,7 +14,7 @@ pub enum LinkEnd {
 }
 
 /// Why a start gives no job. The alarm is in nanoseconds.
-#[derive(Clone, Copy, PartialEq, Eq, Debug)]
+#[derive(Clone, Copy)]
 pub enum BusStartEnd {
     /// A stop stands: it stood before, or the start misses a message.
     Stopped(Stop),
@@ -29,7 +29,7 @@ pub enum BusStartEnd {
 }
 
 /// Why a step gives no job. The alarm is in nanoseconds.
-#[derive(Clone, Copy, PartialEq, Eq, Debug)]
+#[derive(Clone, Copy)]
 pub enum BusStepEnd {
     /// A stop stands.
     Stopped(Stop),
@@ -42,7 +42,7 @@ pub enum BusStepEnd {
 }
 
 /// Why nothing is finished.
-#[derive(Clone, Copy, PartialEq, Eq, Debug)]
+#[derive(Clone, Copy)]
 pub enum BusFinishEnd {
     /// A stop stands.
     Stopped(Stop),
@@ -51,7 +51,7 @@ pub enum BusFinishEnd {
 }
 
 /// Why nothing is sent. The release is in nanoseconds.
-#[derive(Clone, Copy, PartialEq, Eq, Debug)]
+#[derive(Clone, Copy)]
 pub enum BusSendEnd {
     /// A stop stands.
     Stopped(Stop),
@@ -62,7 +62,7 @@ pub enum BusSendEnd {
 }
 
 /// Why not all messages that are due have arrived.
-#[derive(Clone, Copy, PartialEq, Eq, Debug)]
+#[derive(Clone, Copy, PartialEq)]
 pub enum DueEnd {
     /// A stop stands: it stood before, or a message came too early.
     Stopped(Stop),

@@ -10,7 +10,7 @@ use std::alloc::Global;
 use std::marker::Model;
 
 /// The clock's list holds no reading for the target.
-#[derive(Clone, Copy, PartialEq, Eq, Debug)]
+#[derive(Clone, Copy, PartialEq, Debug)]
 pub struct ClockEnd;
 
 /// The clocks of a run: one hour on which all nodes meet, or a list of readings for each node, in

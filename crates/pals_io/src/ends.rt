@@ -7,11 +7,11 @@ use std::error::Error;
 use std::fmt;
 
 /// A call of a source or of a sink failed. The count of its faults has the cause.
-#[derive(Clone, Copy, Debug, PartialEq, Eq)]
+#[derive(Clone, Copy, Debug, PartialEq)]
 pub struct Failed;
 
 /// Why not all bytes of a source were read.
-#[derive(Clone, Copy, Debug, PartialEq, Eq)]
+#[derive(Clone, Copy, Debug, PartialEq)]
 pub enum ReadEnd {
     /// A call of the source failed.
     ReadFault,
@@ -22,7 +22,7 @@ pub enum ReadEnd {
 }
 
 /// Not all bytes were written, since a call of the sink failed.
-#[derive(Clone, Copy, Debug, PartialEq, Eq)]
+#[derive(Clone, Copy, Debug)]
 pub struct WriteFault;
 
 impl fmt::Display for Failed {

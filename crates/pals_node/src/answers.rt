@@ -2,7 +2,7 @@
 use pals_base::{Nanos, NoMemory};
 
 /// Why a start gives no job. The alarm is in nanoseconds, and the port is an in port.
-#[derive(Clone, Copy, PartialEq, Eq, Debug)]
+#[derive(Clone, Copy, PartialEq, Debug)]
 pub enum StartEnd {
     /// The reading is below the round's alarm.
     NotYet { alarm: Nanos },
@@ -17,7 +17,7 @@ pub enum StartEnd {
 }
 
 /// Why a step gives no job. The alarm is in nanoseconds.
-#[derive(Clone, Copy, PartialEq, Eq, Debug)]
+#[derive(Clone, Copy, PartialEq, Debug)]
 pub enum StepEnd {
     /// The reading is below the step's alarm.
     NotYet { alarm: Nanos },
@@ -28,21 +28,21 @@ pub enum StepEnd {
 }
 
 /// How a step was finished: with what was handed in, or by running the job here.
-#[derive(Clone, Copy, PartialEq, Eq, Debug)]
+#[derive(Clone, Copy, PartialEq, Debug)]
 pub enum Finished {
     Used,
     Redone,
 }
 
 /// Why nothing is finished.
-#[derive(Clone, Copy, PartialEq, Eq, Debug)]
+#[derive(Clone, Copy, PartialEq, Debug)]
 pub enum FinishEnd {
     /// No job is out.
     NotRunning,
 }
 
 /// Why nothing is sent. The release is in nanoseconds.
-#[derive(Clone, Copy, PartialEq, Eq, Debug)]
+#[derive(Clone, Copy, PartialEq, Debug)]
 pub enum SendEnd {
     /// The reading is below the round's release.
     NotYet { release: Nanos },

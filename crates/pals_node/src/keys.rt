@@ -6,7 +6,7 @@ use step_code::Instr;
 
 /// An instruction's kind and its numbers: a slot, port or state, a place, and two numbers. What an
 /// instruction has not is 0.
-#[derive(Clone, Copy, PartialEq, Eq)]
+#[derive(Clone, Copy, PartialEq)]
 pub struct Key {
     pub kind: u32,
     pub slot: u32,

@@ -23,14 +23,14 @@ pub enum Event {
 }
 
 /// What a fault of an event is about: a node, or a link's message of a round.
-#[derive(Clone, Copy, PartialEq, Eq, Debug)]
+#[derive(Clone, Copy)]
 pub enum Which {
     Node(NodeNo),
     Message(LinkNo, u32),
 }
 
 /// Why a world refuses an event. All times are in nanoseconds.
-#[derive(Clone, Copy, PartialEq, Eq, Debug)]
+#[derive(Clone, Copy)]
 pub enum EventFault {
     /// A node or a link is not the design's, or there is not one reading for each component.
     BadName,

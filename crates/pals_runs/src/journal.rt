@@ -5,7 +5,7 @@ use pals_base::{LinkNo, Nanos, NodeNo};
 /// What a node is doing: it waits for its next round; the job of this step is out; a number of
 /// steps of the round are finished and the next is to start; all steps are finished and the round
 /// is not sent; or all rounds are done.
-#[derive(Clone, Copy, PartialEq, Eq, Debug)]
+#[derive(Clone, Copy, PartialEq, Debug)]
 pub enum Phase {
     Waiting,
     Running(u32),
@@ -16,7 +16,7 @@ pub enum Phase {
 
 /// What became of a message that arrived: it fills its slot; it is not used; or it comes before its
 /// target has started the message's round.
-#[derive(Clone, Copy, PartialEq, Eq, Debug)]
+#[derive(Clone, Copy, PartialEq)]
 pub enum Arrived {
     Kept,
     Ignored,
@@ -24,7 +24,7 @@ pub enum Arrived {
 }
 
 /// Why a message was missed: its source had not sent it, it was under way, or it was lost.
-#[derive(Clone, Copy, PartialEq, Eq, Debug)]
+#[derive(Clone, Copy, PartialEq)]
 pub enum Cause {
     NotSent,
     InTransit,
@@ -34,7 +34,7 @@ pub enum Cause {
 /// Why a run stopped: a round was to start without a link's message of the round before, or a
 /// message came too early. The round is the message's; the reading is that of the event, in
 /// nanoseconds, where it has one.
-#[derive(Clone, Copy, PartialEq, Eq, Debug)]
+#[derive(Clone, Copy, PartialEq)]
 pub enum Stop {
     Missed {
         link: LinkNo,
@@ -50,7 +50,7 @@ pub enum Stop {
 }
 
 /// An entry of the journal. A reading is in nanoseconds, and none in a loose world.
-#[derive(Clone, Copy, PartialEq, Eq, Debug)]
+#[derive(Clone, Copy, PartialEq)]
 pub enum JournalEntry {
     Arrive {
         link: LinkNo,

@@ -13,7 +13,7 @@ pub struct VoteFault {
 }
 
 /// A plant that its controller reads and answers within the round.
-#[derive(Clone, Copy, PartialEq, Eq, Debug)]
+#[derive(Clone, Copy)]
 pub struct Pair {
     pub plant: NodeNo,
     pub controller: NodeNo,

@@ -18,7 +18,7 @@ use serde_json::Value;
 use std::alloc::Global;
 
 /// The word that an event begins with.
-#[derive(Clone, Copy, PartialEq, Eq)]
+#[derive(Clone, Copy, PartialEq)]
 pub enum Word {
     Pass,
     Start,

@@ -5,7 +5,7 @@ use thiserror::Error;
 
 /// The first fault of parts, each `at` a place of an instruction, or of an entry where it stands
 /// badly.
-#[derive(Clone, Copy, Debug, PartialEq, Eq, Error)]
+#[derive(Clone, Copy, Debug, PartialEq, Error)]
 pub enum CodeFault {
     /// A jump to no place, or into or out of the body of a loop; or an entry at no place, or in a
     /// body; or an instruction behind which there is none.

@@ -4,7 +4,7 @@ ghost use Rattle.std.specs.Prelude.{◌≡◌, slice_get};
 use pals_base::Items;
 
 /// One instruction. Operands lie on a stack. Places, slots, ports and states are numbers from 0.
-#[derive(Clone, Copy, PartialEq, Eq, Debug)]
+#[derive(Clone, Copy, Debug)]
 pub enum Instr {
     /// Pushes the number.
     Push(i64),

@@ -4,7 +4,7 @@ use std::alloc::AllocError;
 use thiserror::Error;
 
 /// Why a behaviour is not compiled.
-#[derive(Clone, Copy, Debug, PartialEq, Eq, Error)]
+#[derive(Clone, Copy, Debug, Error)]
 pub enum CompileFault {
     /// Its code has more instructions than a component may have. The length is stopped at u64's
     /// greatest value.
