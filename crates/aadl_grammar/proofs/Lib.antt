@@ -17,3 +17,22 @@ mod KeywordLists
 mod KeywordWays
 mod KeywordSides
 mod KeywordWaysOf
+pub mod Lexing
+pub mod Filling
+pub mod Texts
+pub mod SideBySide
+pub mod Guards
+pub mod Forms
+pub mod Neighbours
+pub mod Shallow
+pub mod Literals
+pub mod Spoken
+pub mod Tokens
+pub mod Meets
+pub mod Closes
+pub mod Pieces
+pub mod CanonLexing
+pub mod Keywords
+pub mod Sayings
+pub mod Utf8
+pub mod Reading

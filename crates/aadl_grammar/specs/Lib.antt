@@ -6,3 +6,5 @@ pub mod Example
 pub mod Terminals
 pub mod Reading
 pub mod Reached
+pub mod Texts
+pub mod Reads

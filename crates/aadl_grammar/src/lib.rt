@@ -10,6 +10,7 @@
 //! meets. Room says how many more openers may be open.
 #![tactic(auto)]
 
+pub mod canon_laws;
 mod fault;
 pub mod keyword_laws;
 pub mod laws;
@@ -17,6 +18,7 @@ mod leaves;
 mod names;
 mod reader;
 mod terminal;
+pub mod text_laws;
 mod values;
 
 pub use fault::ParseFault;

@@ -2,3 +2,4 @@ pub mod Appends
 pub mod Views
 pub mod Sections
 pub mod Canons
+pub mod Again

@@ -17,7 +17,10 @@ mod gap;
 mod items;
 mod names;
 mod printer;
+mod round_trip;
 mod values;
+
+pub use round_trip::is_read_back;
 
 use aadl_tree::{Mark, PackageTree};
 use items::{Print, print_all};

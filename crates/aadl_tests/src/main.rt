@@ -1,13 +1,19 @@
-//! Texts through the crates that lex, read and print them.
+//! Texts through the crates that lex, read and print them; and packages: the first name that is wrong in
+//! one, what stands in what, and which implementation contains itself.
 #![tactic(auto)]
 
 mod behaviours;
+mod containment;
 mod faults;
+mod first_faults;
+mod packages;
 mod text_checks;
+mod threads;
 
 use behaviours::behaviour;
 use case_files::{Answers, asked, check, text_of};
 use faults::messages;
+use packages::Packages;
 use std::alloc::{AllocError, Global};
 use std::io;
 use text_checks::{compared, printed, read, tokens};
@@ -38,5 +44,6 @@ fn main(rt: HostRuntime) -> io::Result<()> {
         &rt,
         &Language,
         &["lexing", "reading", "printing", "sameness"],
-    )
+    )?;
+    check(&rt, &Packages, &["names", "behaviours", "containment"])
 }

@@ -13,7 +13,7 @@ use Rattle.design_laws.specs.PackageDesigns.{IsDesignIn}
 use Rattle.pals_runs.specs.declared.commands.Command.{Command}
 use Rattle.step_compiler.specs.Laws.{HasLayout}
 use Rattle.scenario_laws.specs.Events.{EventsAreLoose, EventsAreFew, TracesAreFew}
-use Rattle.text_laws.specs.Texts.{HasTree, HasLexFault, Stops, NestsTooDeep}
+use Rattle.aadl_grammar.specs.Texts.{HasTree, HasLexFault, Stops, NestsTooDeep}
 use Rattle.design_laws.specs.Packages.{HasFirstFault, HasInstance, HasList}
 use Rattle.scenario_laws.specs.Meanings.{HasScenario, HasFault}
 use Rattle.scenario_laws.specs.Plants.{PairsCanBeFused}

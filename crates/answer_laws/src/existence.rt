@@ -13,7 +13,7 @@ use scenario_laws::facts::scenarios_suit;
 use scenario_laws::meanings::scenario_or_fault;
 use scenario_laws::plants::pairs_can_be_fused;
 use step_compiler::laws::layout_is_one;
-use text_laws::laws::tree_or_fault;
+use aadl_grammar::text_laws::tree_or_fault;
 
 /// Each command that has a form has an answer to each bundle, whatever the root: there are a status and
 /// a text that the theorem on a call of the program allows. No answer to a bundle says that there was

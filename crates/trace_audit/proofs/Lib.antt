@@ -10,3 +10,5 @@ pub mod Placing
 pub mod Reporting
 pub mod Making
 pub mod Judging
+pub mod Spelling
+pub mod Splitting

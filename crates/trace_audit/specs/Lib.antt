@@ -6,3 +6,5 @@ pub mod Replays
 pub mod Lines
 pub mod Rows
 pub mod Reports
+pub mod Words
+pub mod Forms

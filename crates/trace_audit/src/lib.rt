@@ -6,11 +6,17 @@ mod clocks;
 mod ends;
 mod entries;
 mod events;
+mod forms;
 mod lines;
+mod numerals;
 mod replay;
 mod report;
 mod rows;
 mod rules;
+mod told_entries;
 mod traces;
+mod words;
 
+pub use forms::has_form;
+pub use told_entries::told;
 pub use traces::audit;

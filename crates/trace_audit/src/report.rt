@@ -10,7 +10,7 @@ use pals_base::{NoMemory, Text};
 use pals_model::{Design, Env};
 use std::alloc::Global;
 use std::sync::Arc;
-use trace_lines::has_form;
+use crate::has_form;
 
 /// How the report of a trace ends.
 #[derive(Clone, Copy)]

@@ -22,7 +22,7 @@ use scenario_values::Names;
 use std::alloc::Global;
 use std::sync::Arc;
 use step_code::Code;
-use trace_lines::told;
+use crate::told;
 
 /// The verdict on the lines of a trace: of a run of a design with the codes of its components, for so
 /// many rounds, with these values of the root in ports and these delays of the links. Each line is

@@ -3,7 +3,7 @@ use Rattle.aadl_tree.specs.Canon.{canon}
 use Rattle.aadl_tree.specs.Maps.{no_place, kept_place}
 use Rattle.aadl_tree.specs.PackageViews.{placed}
 use Rattle.aadl_tree.proofs.Ties.Declarations.{package_tied}
-use Rattle.text_laws.proofs.Reading.{canon_of}
+use Rattle.aadl_grammar.proofs.Reading.{canon_of}
 use Rattle.bundle_designs.proofs.printed.print_bundle.Goals as goal
 
 -- the printer writes the tree without its places, whose canonical text is the tree's

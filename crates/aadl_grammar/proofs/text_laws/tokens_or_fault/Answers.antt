@@ -1,0 +1,5 @@
+use Rattle.aadl_grammar.proofs.Lexing.{tokens_or_fault}
+use Rattle.aadl_grammar.proofs.text_laws.tokens_or_fault.Goals as goal
+
+pub returns : goal.returns
+returns c = tokens_or_fault

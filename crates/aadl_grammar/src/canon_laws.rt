@@ -1,0 +1,18 @@
+//! Laws of canonical texts. Each function does nothing; its contract is proved.
+ghost use Rattle.std.specs.Prelude.{◌≡◌, ℕ, List};
+ghost use Rattle.aadl_tree.specs.Declarations.{PackageTree};
+ghost use Rattle.aadl_tree.specs.Given.{IsTreeOf};
+ghost use Rattle.aadl_tree.specs.Canon.{canon};
+ghost use Rattle.aadl_tree.specs.Maps.{package_to, no_place};
+ghost use Rattle.aadl_tree.specs.PackageViews.{meaning};
+ghost use Rattle.aadl_tree.specs.declared.package.PackageTree.{PackageTree as SourceTree};
+ghost use Rattle.aadl_grammar.specs.Reads.{HasTree};
+
+/// The canonical text of a tree has a tree, within the greatest nesting, that is the same except
+/// for its places, and no other. The text does not depend on the places of the tree.
+pub fn canonical_text_is_read_back()
+    ensures of_text { (text : List ℕ) (tree : PackageTree ℕ) → IsTreeOf text tree → HasTree (canon tree) (package_to no_place tree) }
+    ensures only { (text : List ℕ) (tree again : PackageTree ℕ) → IsTreeOf text tree → IsTreeOf (canon tree) again → package_to no_place again ≡ package_to no_place tree }
+    ensures of_tree { (tree : SourceTree) → ∥ HasTree (canon (meaning tree)) (meaning tree) ∥₁ }
+    ensures places { (tree : PackageTree ℕ) → canon (package_to no_place tree) ≡ canon tree }
+{}

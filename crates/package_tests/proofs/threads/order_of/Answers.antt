@@ -1,7 +1,0 @@
-use Rattle.std.proofs.Common.{subst}
-use Rattle.aadl_tree.specs.PackageViews.{placed}
-use Rattle.aadl_uses.specs.Uses.{FirstIn, IsRecursive}
-use Rattle.package_tests.proofs.threads.order_of.Goals as goal
-
-pub order-requires : goal.order-requires
-order-requires c = λ fault. subst (FirstIn (IsRecursive (placed c.args.uses.now.tree.now))) c.in-None.is c.in_ok-first_recursive.ensures fault

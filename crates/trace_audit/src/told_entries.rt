@@ -1,0 +1,97 @@
+//! The entries that lines tell.
+ghost use Rattle.std.specs.Prelude.{◌≡◌, ℕ, List, Some, IfSome};
+ghost use Rattle.pals_model.specs.declared.design.DesignParts.{DesignParts};
+ghost use Rattle.pals_model.specs.LinkNames.{node_named, link_named};
+ghost use Rattle.trace_laws.specs.EntryLines.{IsEntryIn};
+ghost use Rattle.trace_laws.specs.TraceLines.{entry_of, told};
+ghost use Rattle.trace_audit.specs.Forms.{node_form, link_form, shown};
+
+use crate::forms::{Form, LinkForm, NodeForm, form_of};
+use pals_base::{LinkNo, NodeNo};
+use pals_runs::{JournalEntry, Stop};
+use scenario_values::Names;
+
+// The entry of what is told of a node.
+fn node_entry(node: NodeNo, what: NodeForm) -> JournalEntry
+    ensures { (design : DesignParts) (name : List ℕ) → node_named design name ≡ Some node.0 →
+        entry_of design (node_form name what) ≡ Some result }
+{
+    match what {
+        NodeForm::Start { round, reading } => JournalEntry::Start {
+            node,
+            round,
+            reading,
+        },
+        NodeForm::Step {
+            round,
+            step,
+            reading,
+        } => JournalEntry::Step {
+            node,
+            round,
+            step,
+            reading,
+        },
+        NodeForm::Finish { round } => JournalEntry::Finish { node, round },
+        NodeForm::Send { round, reading } => JournalEntry::Send {
+            node,
+            round,
+            reading,
+        },
+    }
+}
+
+// The entry of what is told of a link.
+fn link_entry(link: LinkNo, what: LinkForm) -> JournalEntry
+    ensures { (design : DesignParts) (name : List ℕ) → link_named design name ≡ Some link.0 →
+        entry_of design (link_form name what) ≡ Some result }
+{
+    match what {
+        LinkForm::Arrive {
+            round,
+            reading,
+            outcome,
+        } => JournalEntry::Arrive {
+            link,
+            round,
+            reading,
+            result: outcome,
+        },
+        LinkForm::Drop { round } => JournalEntry::Drop { link, round },
+        LinkForm::Repeat { round } => JournalEntry::Repeat { link, round },
+        LinkForm::Early { round, reading } => JournalEntry::Stopped(Stop::Early {
+            link,
+            round,
+            reading,
+        }),
+        LinkForm::Missed {
+            round,
+            reading,
+            cause,
+        } => JournalEntry::Stopped(Stop::Missed {
+            link,
+            round,
+            reading,
+            cause,
+        }),
+    }
+}
+
+// The entry of a form, where its name is the design's.
+fn entry_of(names: &Names<'_>, form: Form<'_>) -> Option<JournalEntry>
+    ensures { result ≡ entry_of names.now (shown form.entry) }
+{
+    match form {
+        Form::OfNode(name, what) => Some(node_entry(names.find_node(name)?, what)),
+        Form::OfLink(name, what) => Some(link_entry(names.find_link(name)?, what)),
+    }
+}
+
+/// The entry that a line tells, or none where it has no form or names nothing of the design. It is of a
+/// node or a link that is there, with numbers within their limits.
+pub fn told(names: &Names<'_>, line: &str) -> Option<JournalEntry>
+    ensures value { result ≡ told names.now line.now }
+    ensures within { IfSome result (IsEntryIn names.now) }
+{
+    entry_of(names, form_of(line)?)
+}

@@ -1,9 +1,0 @@
-use Rattle.std.proofs.Common.{rules, ◌≡◌}
-use Rattle.trace_laws.specs.TraceLines.{told}
-use Rattle.trace_laws.proofs.Told.{if_told}
-use Rattle.trace_lines.proofs.entries.told.Goals as goal
-
-pub returns-clause-within : goal.returns-clause-within
-returns-clause-within c =
-    let same : c.entry_of.result ≡ told c.args.names.now c.args.line.now = search rules in
-    if_told c.args.names.now c.args.line.now c.entry_of.result same
