@@ -9,18 +9,19 @@ use Rattle.aadl_tree.specs.Declarations.{Subcomponent, PackageTree}
 use Rattle.aadl_names.specs.declared.site.Site.{Site}
 use Rattle.aadl_names.specs.declared.site.Site.TheVariants.{Own, Inner}
 use Rattle.aadl_names.specs.Resolving.{first_number, implementation_in, subcomponents_of, referred}
-use Rattle.aadl_uses.specs.Uses.{below, standing, containment, targets_in}
+use Rattle.aadl_uses.specs.Uses.{below, standing}
+use Rattle.aadl_uses.specs.proof.Uses.{containment, targets_in}
 use Rattle.aadl_uses.proofs.Containing.{below-same}
-use Rattle.aadl_chains.specs.Wiring.{into}
-use Rattle.aadl_uses.specs.Orders.{IsOrder}
+use Rattle.aadl_chains.specs.proof.Wiring.{into}
+use Rattle.aadl_uses.specs.proof.Orders.{IsOrder}
 use Rattle.aadl_uses.proofs.Searches.{at_contains}
-use Rattle.aadl_chains.specs.Inside.{is_in_at}
+use Rattle.aadl_chains.specs.proof.Inside.{is_in_at}
 use Rattle.aadl_chains.proofs.Numbers.{split}
-use Rattle.aadl_chains.specs.Sound.{MayLeave, AreDeclared}
+use Rattle.aadl_chains.specs.proof.Sound.{MayLeave, AreDeclared}
 use Rattle.aadl_chains.proofs.OnChains.{next_at}
 use Rattle.aadl_chains.specs.declared.walks.Entry.{Entry}
-use Rattle.aadl_chains.specs.Walks.{Crossing, Climb, nowhere, crosses, climb, climb_by, climb_along, climb_into}
-use Rattle.aadl_chains.specs.Climbing.{entry}
+use Rattle.aadl_chains.specs.proof.Walks.{Crossing, Climb, nowhere, crosses, climb, climb_by, climb_along, climb_into}
+use Rattle.aadl_chains.specs.proof.Climbing.{entry}
 use Rattle.aadl_chains.proofs.Steps.{known, some_first, first_at}
 use Rattle.aadl_chains.proofs.Climbs.{crossed}
 

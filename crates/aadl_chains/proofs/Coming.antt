@@ -11,12 +11,12 @@ use Rattle.aadl_names.specs.Resolving.{implementation_at, site}
 use Rattle.aadl_uses.specs.Uses.{below, standing}
 use Rattle.aadl_uses.specs.Threads.{IsThreadAt}
 use Rattle.aadl_uses.proofs.Searches.{contains_none}
-use Rattle.aadl_chains.specs.Wiring.{into}
-use Rattle.aadl_chains.specs.Inside.{is_in_at, Reaches, of_thread, of_inner}
+use Rattle.aadl_chains.specs.proof.Wiring.{into}
+use Rattle.aadl_chains.specs.proof.Inside.{is_in_at, Reaches, of_thread, of_inner}
 use Rattle.aadl_chains.specs.Chains.{Port, Place, port_at, Goes, Leads, is_in, IsStart}
-use Rattle.aadl_chains.specs.Sound.{MayLeave, MayEnter, NotBothOwn, AreDeclared}
+use Rattle.aadl_chains.specs.proof.Sound.{MayLeave, MayEnter, NotBothOwn, AreDeclared}
 use Rattle.aadl_chains.proofs.OnChains.{opposed, next_at, below_at, is_in-at, thread_from}
-use Rattle.aadl_chains.specs.Walks.{Crossing, at_root, crosses, climb, OneEach}
+use Rattle.aadl_chains.specs.proof.Walks.{Crossing, at_root, crosses, climb, OneEach}
 use Rattle.aadl_chains.specs.Links.{not_own, is_crossing}
 use Rattle.aadl_chains.proofs.Steps.{into_of_goes, Known, known}
 use Rattle.aadl_chains.proofs.Climbs.{head_or_tail, climb_own, climb_inner}

@@ -8,7 +8,7 @@ use Rattle.std.proofs.lemmas.List.{length-map}
 use Rattle.std.proofs.lemmas.List.Elements.{All-from_recursion, recursion_from_All}
 use Rattle.std.proofs.lemmas.List.Kept.{AllPairs-cons}
 use Rattle.std.proofs.lemmas.Option.{same_Some, option_and_then_some, slice_get_within, slice_get-get_or, slice_get-map}
-use Rattle.aadl_uses.specs.Counts.{Among, count_of}
+use Rattle.aadl_uses.specs.proof.Counts.{Among, count_of}
 use Rattle.aadl_uses.proofs.Searches.{contains_none, contains_at, at_contains}
 use Rattle.aadl_tree.specs.declared.declarations.Direction.TheVariants as directions
 use Rattle.aadl_tree.specs.Declarations.{Connection, Implementation, PackageTree}
@@ -16,20 +16,22 @@ use Rattle.aadl_names.specs.declared.site.Site.TheVariants.{Own, Inner}
 use Rattle.aadl_names.specs.declared.fault.FlatFault.{FlatFault}
 use Rattle.aadl_names.specs.declared.fault.FlatFault.TheVariants.{TwoSources}
 use Rattle.aadl_names.specs.Resolving.{implementation_at, is_thread, subcomponents_of, connections_of, referred}
-use Rattle.aadl_uses.specs.Uses.{sub_at, below, standing, targets_of}
-use Rattle.aadl_uses.specs.Threads.{IsThreadAt, is_thread_in, MoreThan}
+use Rattle.aadl_uses.specs.Uses.{sub_at, below, standing}
+use Rattle.aadl_uses.specs.proof.Uses.{targets_of}
+use Rattle.aadl_uses.specs.Threads.{IsThreadAt, MoreThan}
+use Rattle.aadl_uses.specs.proof.Threads.{is_thread_in}
 use Rattle.aadl_chains.specs.declared.connections.Wire.{Wire}
 use Rattle.aadl_chains.specs.Firsts.{target_in}
 use Rattle.aadl_chains.specs.Wiring.{wire_of, wires_of, wires_at}
 use Rattle.aadl_chains.proofs.Rows.{listed}
-use Rattle.aadl_chains.specs.Inside.{is_thread_at, Reaches, ReachesIn, of_thread, of_inner}
+use Rattle.aadl_chains.specs.proof.Inside.{is_thread_at, Reaches, ReachesIn, of_thread, of_inner}
 use Rattle.aadl_chains.specs.Chains.{Port, Place, Leads, is_in, IsEndFault}
-use Rattle.aadl_chains.specs.Sound.{AreDeclared}
+use Rattle.aadl_chains.specs.proof.Sound.{AreDeclared}
 use Rattle.aadl_chains.proofs.OnChains.{next_at, is_in-at}
-use Rattle.aadl_chains.specs.Numbers.{Distinct, IsNumber}
-use Rattle.aadl_chains.specs.Walks.{OneEach}
+use Rattle.aadl_chains.specs.proof.Numbers.{Distinct, IsNumber}
+use Rattle.aadl_chains.specs.proof.Walks.{OneEach}
 use Rattle.aadl_chains.specs.Links.{Ends, IsLink, OtherTarget}
-use Rattle.aadl_chains.specs.PortCounts.{EndsLink, Through, Deeper, AmongFirst, FromThread}
+use Rattle.aadl_chains.specs.proof.PortCounts.{EndsLink, Through, Deeper, AmongFirst, FromThread}
 use Rattle.aadl_chains.proofs.Numbers.{no_number, same_number, both_numbers, no_more}
 use Rattle.aadl_chains.proofs.Steps.{goes_at}
 use Rattle.aadl_chains.proofs.Climbs.{crossed}

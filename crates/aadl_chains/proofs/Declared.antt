@@ -22,13 +22,13 @@ use Rattle.aadl_names.specs.PackageFaults.{is_own, goes_in, may_leave, may_enter
 use Rattle.aadl_names.specs.PackageFaults.{may_contain, variables_faults, heading_faults, outer_faults, annex_faults}
 use Rattle.aadl_names.specs.PackageFaults.{declaration_faults, wrong_names, package_faults}
 use Rattle.aadl_uses.specs.Uses.{below}
-use Rattle.aadl_uses.specs.Threads.{is_thread_in}
+use Rattle.aadl_uses.specs.proof.Threads.{is_thread_in}
 use Rattle.aadl_chains.specs.declared.connections.Wire.{Wire}
 use Rattle.aadl_chains.specs.Wiring.{wire_of, wires_of}
 use Rattle.aadl_chains.proofs.Rows.{listed}
 use Rattle.aadl_uses.proofs.Searches.{contains_none, contains_at, at_contains}
-use Rattle.aadl_chains.specs.Inside.{is_in_at}
-use Rattle.aadl_chains.specs.Sound.{MayLeave, MayEnter, NotBothOwn, IsDeclared, AreDeclared}
+use Rattle.aadl_chains.specs.proof.Inside.{is_in_at}
+use Rattle.aadl_chains.specs.proof.Sound.{MayLeave, MayEnter, NotBothOwn, IsDeclared, AreDeclared}
 
 -- ---- lists with nothing in them
 left_none : {X : Type 0} (a b : List X) → a ++ b ≡ [] → a ≡ []

@@ -11,19 +11,20 @@ use Rattle.aadl_names.specs.declared.fault.FlatFault.{FlatFault}
 use Rattle.aadl_names.specs.declared.fault.FlatFault.TheVariants.{DeadEnd, TwoSources}
 use Rattle.aadl_names.specs.Resolving.{implementation_at, connections_of}
 use Rattle.aadl_names.specs.declared.site.Site.{Site}
-use Rattle.aadl_names.specs.Found.{found}
+use Rattle.aadl_names.specs.proof.Found.{found}
 use Rattle.aadl_names.proofs.Finds.{found_append}
-use Rattle.aadl_uses.specs.Uses.{IsInUse, FirstIn}
+use Rattle.aadl_uses.specs.Uses.{IsInUse}
+use Rattle.aadl_uses.specs.proof.Uses.{FirstIn}
 use Rattle.aadl_chains.specs.declared.connections.Wire.{Wire}
 use Rattle.aadl_chains.specs.Firsts.{IsSecond}
 use Rattle.aadl_chains.specs.Wiring.{wire_of, wires_of, wires_at}
 use Rattle.aadl_uses.proofs.Searches.{contains_none, contains_at, at_contains}
-use Rattle.aadl_chains.specs.Outside.{LeadsFrom}
+use Rattle.aadl_chains.specs.proof.Outside.{LeadsFrom}
 use Rattle.aadl_chains.proofs.Ordered.{one_of_two}
 use Rattle.aadl_chains.specs.Chains.{IsDeadEnd, IsEndFault}
-use Rattle.aadl_chains.specs.Sound.{AreDeclared}
-use Rattle.aadl_chains.specs.OnChains.{IsOnWay}
-use Rattle.aadl_chains.specs.Findings.{FindsAll, IsOnWayAt, IsFoundAt, IsFoundIn, dead_end, second}
+use Rattle.aadl_chains.specs.proof.Sound.{AreDeclared}
+use Rattle.aadl_chains.specs.proof.OnChains.{IsOnWay}
+use Rattle.aadl_chains.specs.proof.Findings.{FindsAll, IsOnWayAt, IsFoundAt, IsFoundIn, dead_end, second}
 use Rattle.aadl_chains.proofs.Findings.{finds_nothing, finds_both, finds_same, first_found}
 use Rattle.aadl_chains.proofs.OnChains.{chained}
 use Rattle.aadl_chains.proofs.FromChains.{on_way}

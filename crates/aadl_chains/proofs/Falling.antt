@@ -9,15 +9,16 @@ use Rattle.aadl_tree.specs.declared.declarations.Direction.{Direction}
 use Rattle.aadl_tree.specs.Declarations.{PackageTree}
 use Rattle.aadl_names.specs.declared.site.Site.{Site}
 use Rattle.aadl_names.specs.declared.site.Site.TheVariants.{Own, Inner}
-use Rattle.aadl_uses.specs.Uses.{below, containment, targets_in, IsInUse}
+use Rattle.aadl_uses.specs.Uses.{below, IsInUse}
+use Rattle.aadl_uses.specs.proof.Uses.{containment, targets_in}
 use Rattle.aadl_uses.proofs.Containing.{below-same}
 use Rattle.aadl_chains.specs.declared.connections.Wire.{Wire}
 use Rattle.aadl_chains.specs.Wiring.{wires_at}
-use Rattle.aadl_uses.specs.Orders.{IsOrder}
+use Rattle.aadl_uses.specs.proof.Orders.{IsOrder}
 use Rattle.aadl_uses.proofs.Searches.{contains_none, at_contains}
 use Rattle.aadl_chains.specs.declared.ports.PortAt.{PortAt}
-use Rattle.aadl_chains.specs.Inside.{inner_end, outer_end, port_at}
-use Rattle.aadl_chains.specs.Outside.{LeadsOut, of_root, of_own, of_beside, LeadsFrom, AreLeading, HasLeading, AreLed, AreLedIfUsed, IsOutside}
+use Rattle.aadl_chains.specs.proof.Inside.{inner_end, outer_end, port_at}
+use Rattle.aadl_chains.specs.proof.Outside.{LeadsOut, of_root, of_own, of_beside, LeadsFrom, AreLeading, HasLeading, AreLed, AreLedIfUsed, IsOutside}
 use Rattle.aadl_chains.proofs.Ordered.{no_wires, split}
 use Rattle.aadl_chains.proofs.Leading.{leads_in_use}
 

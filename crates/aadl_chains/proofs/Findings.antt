@@ -3,12 +3,12 @@ use Rattle.std.proofs.Common.{◌⊎◌, inl, inr, [], ◌++◌, Contains, Optio
 use Rattle.std.proofs.lemmas.List.Elements.{Contains-append_left, Contains-append_right, Contains-append_cases}
 use Rattle.aadl_names.specs.declared.fault.FlatFault.{FlatFault}
 use Rattle.aadl_names.specs.Findings.{FirstOf}
-use Rattle.aadl_names.specs.Found.{found}
+use Rattle.aadl_names.specs.proof.Found.{found}
 use Rattle.aadl_names.proofs.Finds.{found_append}
-use Rattle.aadl_uses.specs.Uses.{FirstIn}
+use Rattle.aadl_uses.specs.proof.Uses.{FirstIn}
 use Rattle.aadl_uses.proofs.Searches.{contains_none}
 use Rattle.aadl_names.proofs.Covers.{found_is_first}
-use Rattle.aadl_chains.specs.Findings.{FindsAll}
+use Rattle.aadl_chains.specs.proof.Findings.{FindsAll}
 
 pub finds_nothing : (P : FlatFault → Type 0) (old : Option FlatFault) → ((fault : FlatFault) → P fault → ⊥) → FindsAll P old old
 finds_nothing P old none = record { faults = []; is = refl; each = λ f h. absurd (contains_none f h); all = λ f p. absurd (none f p) }

@@ -10,11 +10,11 @@ use Rattle.aadl_uses.specs.Uses.{below, standing}
 use Rattle.aadl_chains.specs.declared.connections.Wire.{Wire}
 use Rattle.aadl_chains.specs.Wiring.{wires_at}
 use Rattle.aadl_uses.proofs.Searches.{contains_none, contains_at, at_contains}
-use Rattle.aadl_chains.specs.Inside.{is_thread_at, is_in_at, Reaches, of_thread, of_inner}
-use Rattle.aadl_chains.specs.Outside.{LeadsOut, of_root, of_own, of_beside, LeadsFrom}
+use Rattle.aadl_chains.specs.proof.Inside.{is_thread_at, is_in_at, Reaches, of_thread, of_inner}
+use Rattle.aadl_chains.specs.proof.Outside.{LeadsOut, of_root, of_own, of_beside, LeadsFrom}
 use Rattle.aadl_chains.specs.Chains.{Port, Place, port_at, Goes, Leads, is_in, IsStart, IsEnd}
-use Rattle.aadl_chains.specs.Sound.{MayLeave, MayEnter, NotBothOwn, AreDeclared}
-use Rattle.aadl_chains.specs.OnChains.{IsOnWay}
+use Rattle.aadl_chains.specs.proof.Sound.{MayLeave, MayEnter, NotBothOwn, AreDeclared}
+use Rattle.aadl_chains.specs.proof.OnChains.{IsOnWay}
 use Rattle.aadl_chains.proofs.OnChains.{port, opposed, next_at, below_at, is_in-at, thread_from, wire_of_goes, among_goes, Chained}
 
 module _ (tree : PackageTree ℕ) (root : ℕ) where

@@ -11,9 +11,9 @@ use Rattle.aadl_uses.specs.Uses.{below}
 use Rattle.aadl_chains.specs.declared.connections.Wire.{Wire}
 use Rattle.aadl_chains.specs.Wiring.{wires_at}
 use Rattle.aadl_chains.specs.declared.ports.PortAt.{PortAt}
-use Rattle.aadl_chains.specs.Ports.{has, with_port}
-use Rattle.aadl_chains.specs.Inside.{is_thread_at, is_in_at, is_way, inner_end, outer_end, Reaches, of_thread, of_inner, port_at, reaches_by}
-use Rattle.aadl_chains.specs.Inside.{reaches_in, joined_inner, joined_by, AreReaching, HasAll, IsJoined, AreJoined, IsInside}
+use Rattle.aadl_chains.specs.proof.Ports.{has, with_port}
+use Rattle.aadl_chains.specs.proof.Inside.{is_thread_at, is_in_at, is_way, inner_end, outer_end, Reaches, of_thread, of_inner, port_at, reaches_by}
+use Rattle.aadl_chains.specs.proof.Inside.{reaches_in, joined_inner, joined_by, AreReaching, HasAll, IsJoined, AreJoined, IsInside}
 use Rattle.aadl_chains.proofs.Sets.{has-true, has-from, kept, added, either}
 
 module _ (tree : PackageTree ℕ) (d : Direction) where

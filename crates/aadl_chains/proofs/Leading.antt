@@ -13,10 +13,10 @@ use Rattle.aadl_chains.specs.declared.connections.Wire.{Wire}
 use Rattle.aadl_chains.specs.Wiring.{wires_at}
 use Rattle.aadl_uses.proofs.Searches.{contains_at, at_contains}
 use Rattle.aadl_chains.specs.declared.ports.PortAt.{PortAt}
-use Rattle.aadl_chains.specs.Ports.{has, with_port}
-use Rattle.aadl_chains.specs.Inside.{inner_end, outer_end, port_at, reaches_in, IsInside}
-use Rattle.aadl_chains.specs.Outside.{opposite, LeadsOut, of_root, of_own, of_beside, LeadsFrom, leads_from, port_below, port_in, led_by, AreLeading}
-use Rattle.aadl_chains.specs.Outside.{HasLeading, IsLed, AreLed}
+use Rattle.aadl_chains.specs.proof.Ports.{has, with_port}
+use Rattle.aadl_chains.specs.proof.Inside.{inner_end, outer_end, port_at, reaches_in, IsInside}
+use Rattle.aadl_chains.specs.proof.Outside.{opposite, LeadsOut, of_root, of_own, of_beside, LeadsFrom, leads_from, port_below, port_in, led_by, AreLeading}
+use Rattle.aadl_chains.specs.proof.Outside.{HasLeading, IsLed, AreLed}
 use Rattle.aadl_chains.proofs.Sets.{has-true, has-from, kept, added, either}
 use Rattle.aadl_chains.proofs.Joining.{reaches_in_to, reaches_from}
 use Rattle.aadl_chains.proofs.Ordered.{one_of_two}

@@ -9,14 +9,15 @@ use Rattle.aadl_names.specs.declared.site.Site.{Site}
 use Rattle.aadl_names.specs.declared.site.Site.TheVariants.{Own, Inner}
 use Rattle.aadl_names.specs.Resolving.{implementation_at, site}
 use Rattle.aadl_uses.specs.Uses.{below, standing, component_at}
-use Rattle.aadl_uses.specs.Threads.{IsThreadAt, is_thread_in}
-use Rattle.aadl_chains.specs.Inside.{is_thread_at, is_in_at}
+use Rattle.aadl_uses.specs.Threads.{IsThreadAt}
+use Rattle.aadl_uses.specs.proof.Threads.{is_thread_in}
+use Rattle.aadl_chains.specs.proof.Inside.{is_thread_at, is_in_at}
 use Rattle.aadl_chains.specs.Chains.{Port, Place, Goes, Leads, is_in, IsStart, IsEnd}
-use Rattle.aadl_chains.specs.Sound.{AreDeclared}
+use Rattle.aadl_chains.specs.proof.Sound.{AreDeclared}
 use Rattle.aadl_chains.proofs.OnChains.{opposed, is_in-at}
-use Rattle.aadl_chains.specs.Walks.{Crossing, at_root, crosses, climb, OneEach, IsThreadPort}
+use Rattle.aadl_chains.specs.proof.Walks.{Crossing, at_root, crosses, climb, OneEach, IsThreadPort}
 use Rattle.aadl_chains.specs.Links.{Ends, not_own, is_crossing, Carries, IsLink, IsFeed, IsTap}
-use Rattle.aadl_chains.specs.Wiring.{into}
+use Rattle.aadl_chains.specs.proof.Wiring.{into}
 use Rattle.aadl_chains.proofs.Steps.{Entered, goes_into, known_into, into_of_goes}
 use Rattle.aadl_chains.proofs.Climbs.{in_head, head_or_tail, Rooted, rooted, crossed}
 use Rattle.aadl_chains.proofs.Coming.{Crosses, Down, down, into_own, from_inner, never_both, MetRoot, MetCrossing, met}

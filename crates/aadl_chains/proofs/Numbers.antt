@@ -3,8 +3,8 @@ use Rattle.std.proofs.Common.{◌≡◌, ◌⊎◌, inl, inr, ℕ, ◌+◌, ◌<
 use Rattle.std.specs.List.{AllByRecursion}
 use Rattle.std.proofs.lemmas.Bool.{cases_order}
 use Rattle.std.proofs.lemmas.List.{length-append, length-map}
-use Rattle.aadl_uses.specs.Counts.{Among}
-use Rattle.aadl_chains.specs.Numbers.{Distinct, IsNumber}
+use Rattle.aadl_uses.specs.proof.Counts.{Among}
+use Rattle.aadl_chains.specs.proof.Numbers.{Distinct, IsNumber}
 
 -- ---- lists
 all_append : {X : Type 0} (P : X → Type 0) (xs ys : List X) → AllByRecursion P xs → AllByRecursion P ys → AllByRecursion P (xs ++ ys)

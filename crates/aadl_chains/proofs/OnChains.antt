@@ -12,16 +12,17 @@ use Rattle.aadl_names.specs.declared.site.Site.TheVariants.{Own, Inner}
 use Rattle.aadl_names.specs.Resolving.{implementation_at, ports_at, is_thread, site}
 use Rattle.aadl_names.specs.PackageFaults.{goes_in}
 use Rattle.aadl_uses.specs.Uses.{below, standing, IsInUse}
-use Rattle.aadl_uses.specs.Threads.{IsThreadAt, is_thread_in}
+use Rattle.aadl_uses.specs.Threads.{IsThreadAt}
+use Rattle.aadl_uses.specs.proof.Threads.{is_thread_in}
 use Rattle.aadl_chains.specs.declared.connections.Wire.{Wire}
 use Rattle.aadl_chains.specs.Wiring.{wire_of, wires_of, wires_at}
 use Rattle.aadl_chains.proofs.Rows.{listed}
 use Rattle.aadl_uses.proofs.Searches.{contains_none, contains_at, at_contains}
-use Rattle.aadl_chains.specs.Inside.{is_thread_at, is_in_at, Reaches, of_thread, of_inner}
-use Rattle.aadl_chains.specs.Outside.{LeadsOut, of_root, of_own, of_beside, LeadsFrom}
+use Rattle.aadl_chains.specs.proof.Inside.{is_thread_at, is_in_at, Reaches, of_thread, of_inner}
+use Rattle.aadl_chains.specs.proof.Outside.{LeadsOut, of_root, of_own, of_beside, LeadsFrom}
 use Rattle.aadl_chains.specs.Chains.{Port, Place, port_at, Goes, Leads, is_in, IsStart, IsEnd, IsChain}
-use Rattle.aadl_chains.specs.Sound.{MayLeave, MayEnter, NotBothOwn, AreDeclared}
-use Rattle.aadl_chains.specs.OnChains.{IsOnWay}
+use Rattle.aadl_chains.specs.proof.Sound.{MayLeave, MayEnter, NotBothOwn, AreDeclared}
+use Rattle.aadl_chains.specs.proof.OnChains.{IsOnWay}
 
 pub opposed : (b : Bool) → b ≡ true → b ≡ false → ⊥
 opposed b e f = true≢false (sym e ∙ f)

@@ -6,13 +6,13 @@ use Rattle.std.proofs.lemmas.Option.{same_Some, none-some, slice_get_past}
 use Rattle.aadl_tree.specs.declared.declarations.Direction.{Direction}
 use Rattle.aadl_tree.specs.Declarations.{PackageTree}
 use Rattle.aadl_names.specs.Resolving.{implementation_in}
-use Rattle.aadl_uses.specs.Uses.{containment, targets_in}
+use Rattle.aadl_uses.specs.proof.Uses.{containment, targets_in}
 use Rattle.aadl_uses.proofs.Containing.{below-same}
 use Rattle.aadl_chains.specs.Wiring.{wires_at, wires_of}
-use Rattle.aadl_uses.specs.Orders.{IsOrder}
+use Rattle.aadl_uses.specs.proof.Orders.{IsOrder}
 use Rattle.aadl_uses.proofs.Searches.{contains_none, at_contains}
 use Rattle.aadl_chains.specs.declared.ports.PortAt.{PortAt}
-use Rattle.aadl_chains.specs.Inside.{port_at, AreReaching, HasAll, HasAllBelow, AreJoined, IsInside}
+use Rattle.aadl_chains.specs.proof.Inside.{port_at, AreReaching, HasAll, HasAllBelow, AreJoined, IsInside}
 use Rattle.aadl_chains.proofs.Joining.{through}
 
 pub one_of_two : (k i : ℕ) → k < i + 1 → (k < i) ⊎ (k ≡ i)

@@ -9,10 +9,10 @@ use Rattle.aadl_names.specs.declared.site.Site.TheVariants.{Own, Inner}
 use Rattle.aadl_names.specs.Resolving.{implementation_at, is_thread, site}
 use Rattle.aadl_uses.specs.Uses.{below, standing, component_at}
 use Rattle.aadl_chains.specs.Chains.{Port, Place, port_at, Goes, Leads, is_in, IsStart}
-use Rattle.aadl_chains.specs.Inside.{is_in_at}
-use Rattle.aadl_chains.specs.Sound.{MayEnter}
+use Rattle.aadl_chains.specs.proof.Inside.{is_in_at}
+use Rattle.aadl_chains.specs.proof.Sound.{MayEnter}
 use Rattle.aadl_chains.proofs.OnChains.{is_in-at}
-use Rattle.aadl_chains.specs.Walked.{IsSound, Passes}
+use Rattle.aadl_chains.specs.proof.Walked.{IsSound, Passes}
 
 place_by : (a b : Place) → a.path ≡ b.path → a.connection ≡ b.connection → a ≡ b
 place_by a b path number =

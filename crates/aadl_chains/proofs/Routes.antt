@@ -8,18 +8,18 @@ use Rattle.aadl_names.specs.declared.site.Site.{Site}
 use Rattle.aadl_names.specs.declared.site.Site.TheVariants.{Own, Inner}
 use Rattle.aadl_uses.specs.Uses.{below, standing}
 use Rattle.aadl_uses.specs.Threads.{IsThreadAt}
-use Rattle.aadl_chains.specs.Wiring.{into}
-use Rattle.aadl_chains.specs.Inside.{is_thread_at, is_in_at}
+use Rattle.aadl_chains.specs.proof.Wiring.{into}
+use Rattle.aadl_chains.specs.proof.Inside.{is_thread_at, is_in_at}
 use Rattle.aadl_chains.specs.Chains.{Port, Place, Goes, Leads, is_in, IsStart}
-use Rattle.aadl_chains.specs.Sound.{AreDeclared}
+use Rattle.aadl_chains.specs.proof.Sound.{AreDeclared}
 use Rattle.aadl_chains.proofs.OnChains.{opposed, next_at, is_in-at, thread_from}
 use Rattle.aadl_chains.specs.declared.walks.Begin.{Begin}
 use Rattle.aadl_chains.specs.declared.walks.Begin.TheVariants as begins
 use Rattle.aadl_chains.specs.declared.walks.Route.{Route}
-use Rattle.aadl_chains.specs.Walked.{Passes}
-use Rattle.aadl_chains.specs.Walks.{Crossing, nowhere, at_root, crosses, climb, OneEach, IsThreadPort}
+use Rattle.aadl_chains.specs.proof.Walked.{Passes}
+use Rattle.aadl_chains.specs.proof.Walks.{Crossing, nowhere, at_root, crosses, climb, OneEach, IsThreadPort}
 use Rattle.aadl_chains.specs.Links.{Ends, IsLink, IsFeed, IsTap}
-use Rattle.aadl_chains.specs.Routes.{route_ends, IsGiver, Descends, Traces, TracesTap}
+use Rattle.aadl_chains.specs.proof.Routes.{route_ends, IsGiver, Descends, Traces, TracesTap}
 use Rattle.aadl_chains.proofs.Passing.{passes_end, passes_before, only_start, no_chain}
 use Rattle.aadl_chains.proofs.Steps.{entered, goes_into, into_of_goes, inner_of}
 use Rattle.aadl_chains.proofs.Coming.{into_own}

@@ -6,7 +6,8 @@ use Rattle.std.proofs.lemmas.Option.{same_Some, none-some}
 use Rattle.aadl_tree.specs.Declarations.{Declaration, Implementation, PackageTree, implementation}
 use Rattle.aadl_names.specs.Resolving.{implementation_in}
 use Rattle.aadl_chains.specs.declared.connections.Wire.{Wire}
-use Rattle.aadl_chains.specs.Wiring.{wires_of, wires_in, wires_at, type_number_by, type_in, type_number_at}
+use Rattle.aadl_chains.specs.Wiring.{wires_of, wires_at}
+use Rattle.aadl_chains.specs.proof.Wiring.{wires_in, type_number_by, type_in, type_number_at}
 
 module _ {D X : Type 0} (f : D → X) where
   pub listed : (ds : List D) (n : ℕ) (x : X) → slice_get (map f ds) n ≡ Some x → (d : D) × (slice_get ds n ≡ Some d) × (f d ≡ x)

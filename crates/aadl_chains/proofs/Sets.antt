@@ -7,7 +7,7 @@ use Rattle.std.proofs.lemmas.List.Folds.{list_any_at}
 use Rattle.std.proofs.lemmas.List.Elements.{Contains-append_left, Contains-push, Contains-push_cases}
 use Rattle.indexmap.proofs.CallerLemmas.{Contains-list_any}
 use Rattle.aadl_chains.specs.declared.ports.PortAt.{PortAt}
-use Rattle.aadl_chains.specs.Ports.{same_port, has, with_port}
+use Rattle.aadl_chains.specs.proof.Ports.{same_port, has, with_port}
 
 both_true : (a b : Bool) → (a && b) ≡ true → (a ≡ true) × (b ≡ true)
 both_true true b e = (refl, e)

@@ -4,13 +4,13 @@ use Rattle.std.specs.Option.{option_and_then}
 use Rattle.std.proofs.lemmas.Option.{same_Some, slice_get-map}
 use Rattle.aadl_tree.specs.Declarations.{Connection, Implementation, PackageTree}
 use Rattle.aadl_names.specs.Resolving.{implementation_at}
-use Rattle.aadl_uses.specs.Threads.{is_thread_in}
+use Rattle.aadl_uses.specs.proof.Threads.{is_thread_in}
 use Rattle.aadl_chains.specs.declared.connections.Wire.{Wire}
 use Rattle.aadl_chains.specs.Wiring.{wire_of, wires_of, wires_at}
 use Rattle.aadl_uses.proofs.Searches.{contains_none, contains_at}
-use Rattle.aadl_chains.specs.Sound.{MayEnter, AreDeclared}
-use Rattle.aadl_chains.specs.Walked.{IsSound}
-use Rattle.aadl_chains.specs.Walks.{OneEach}
+use Rattle.aadl_chains.specs.proof.Sound.{MayEnter, AreDeclared}
+use Rattle.aadl_chains.specs.proof.Walked.{IsSound}
+use Rattle.aadl_chains.specs.proof.Walks.{OneEach}
 
 module _ (tree : PackageTree ℕ) (root : ℕ) where
   wire_at : (n k : ℕ) (component : Implementation ℕ) (x : Connection ℕ) → implementation_at tree n ≡ Some component

@@ -12,18 +12,20 @@ use Rattle.aadl_names.specs.declared.site.Site.TheVariants.{Own, Inner}
 use Rattle.aadl_names.specs.Resolving.{implementation_at}
 use Rattle.aadl_uses.specs.Uses.{standing}
 use Rattle.aadl_chains.specs.declared.connections.Wire.{Wire}
-use Rattle.aadl_chains.specs.PortNumbers.{is_site}
-use Rattle.aadl_chains.specs.Firsts.{target_in, is_before, IsSecond}
-use Rattle.aadl_chains.specs.Wiring.{wire_of, wires_of, wires_at, first_into_at, with_source, sourced, into}
+use Rattle.aadl_chains.specs.proof.PortNumbers.{is_site}
+use Rattle.aadl_chains.specs.Firsts.{target_in, IsSecond}
+use Rattle.aadl_chains.specs.proof.Firsts.{is_before}
+use Rattle.aadl_chains.specs.Wiring.{wire_of, wires_of, wires_at}
+use Rattle.aadl_chains.specs.proof.Wiring.{first_into_at, with_source, sourced, into}
 use Rattle.aadl_chains.proofs.Rows.{listed}
 use Rattle.aadl_chains.proofs.Tables.{same_site-true, itself, second_from}
 use Rattle.aadl_uses.proofs.Searches.{contains_none, contains_at}
-use Rattle.aadl_chains.specs.Inside.{is_thread_at, is_in_at}
+use Rattle.aadl_chains.specs.proof.Inside.{is_thread_at, is_in_at}
 use Rattle.aadl_chains.specs.Chains.{Port, Place, port_at, Goes}
-use Rattle.aadl_chains.specs.Sound.{MayLeave, MayEnter, NotBothOwn, AreDeclared}
+use Rattle.aadl_chains.specs.proof.Sound.{MayLeave, MayEnter, NotBothOwn, AreDeclared}
 use Rattle.aadl_chains.proofs.OnChains.{among_goes, wire_of_goes}
-use Rattle.aadl_chains.specs.Walks.{OneEach}
-use Rattle.aadl_chains.specs.Climbing.{IsFromInner}
+use Rattle.aadl_chains.specs.proof.Walks.{OneEach}
+use Rattle.aadl_chains.specs.proof.Climbing.{IsFromInner}
 
 -- ---- the first that passes a test
 pub record FirstAt {X : Type 0} (test : X → Bool) (xs : List X) (k n : ℕ) : Type 0 where

@@ -12,8 +12,9 @@ use Rattle.aadl_names.specs.declared.site.Site.{Site}
 use Rattle.aadl_names.specs.declared.site.Site.TheVariants.{Own, Inner}
 use Rattle.aadl_names.proofs.Lookups.{lookup-push}
 use Rattle.aadl_chains.specs.declared.connections.Wire.{Wire}
-use Rattle.aadl_chains.specs.PortNumbers.{same_site, is_site, number_of}
-use Rattle.aadl_chains.specs.Firsts.{first_into, target_in, is_before, IsSecond}
+use Rattle.aadl_chains.specs.proof.PortNumbers.{same_site, is_site, number_of}
+use Rattle.aadl_chains.specs.proof.Firsts.{first_into, is_before}
+use Rattle.aadl_chains.specs.Firsts.{target_in, IsSecond}
 
 -- ---- ports
 both_true : (a b : Bool) → (a && b) ≡ true → (a ≡ true) × (b ≡ true)

@@ -8,14 +8,15 @@ use Rattle.aadl_names.specs.declared.site.Site.{Site}
 use Rattle.aadl_names.specs.declared.site.Site.TheVariants.{Own, Inner}
 use Rattle.aadl_uses.specs.Uses.{below}
 use Rattle.aadl_chains.specs.declared.connections.Wire.{Wire}
-use Rattle.aadl_chains.specs.Wiring.{wires_at, into, first_into_at}
-use Rattle.aadl_chains.specs.Inside.{is_thread_at, is_in_at, ReachesIn}
+use Rattle.aadl_chains.specs.Wiring.{wires_at}
+use Rattle.aadl_chains.specs.proof.Wiring.{into, first_into_at}
+use Rattle.aadl_chains.specs.proof.Inside.{is_thread_at, is_in_at, ReachesIn}
 use Rattle.aadl_chains.specs.Chains.{Port}
-use Rattle.aadl_chains.specs.Sound.{AreDeclared}
+use Rattle.aadl_chains.specs.proof.Sound.{AreDeclared}
 use Rattle.aadl_chains.proofs.OnChains.{opposed, is_in-at}
-use Rattle.aadl_chains.specs.Numbers.{IsNumber}
-use Rattle.aadl_chains.specs.Walks.{Crossing, at_root, crosses, climb, IsThreadPort}
-use Rattle.aadl_chains.specs.PortCounts.{ComesFrom, EndsLink, Through, Deeper, AmongFirst, FromOwn, FromThread}
+use Rattle.aadl_chains.specs.proof.Numbers.{IsNumber}
+use Rattle.aadl_chains.specs.proof.Walks.{Crossing, at_root, crosses, climb, IsThreadPort}
+use Rattle.aadl_chains.specs.proof.PortCounts.{ComesFrom, EndsLink, Through, Deeper, AmongFirst, FromOwn, FromThread}
 use Rattle.aadl_chains.proofs.Numbers.{no_number, one_number, both_numbers, image_number}
 use Rattle.aadl_chains.proofs.Steps.{first_wire, into_first, known_into}
 use Rattle.aadl_chains.proofs.Deepened.{last_of, same_ends, port_outer, port_inner, climb_outer, root_outer, Within, Itself, crossing_outer}

@@ -5,15 +5,15 @@ use Rattle.aadl_tree.specs.Declarations.{PackageTree}
 use Rattle.aadl_names.specs.declared.site.Site.{Site}
 use Rattle.aadl_names.specs.declared.site.Site.TheVariants.{Own, Inner}
 use Rattle.aadl_uses.specs.Uses.{below, standing}
-use Rattle.aadl_chains.specs.Wiring.{into}
-use Rattle.aadl_chains.specs.Inside.{is_thread_at, is_in_at}
+use Rattle.aadl_chains.specs.proof.Wiring.{into}
+use Rattle.aadl_chains.specs.proof.Inside.{is_thread_at, is_in_at}
 use Rattle.aadl_chains.specs.Chains.{Port}
-use Rattle.aadl_chains.specs.Sound.{AreDeclared}
+use Rattle.aadl_chains.specs.proof.Sound.{AreDeclared}
 use Rattle.aadl_chains.specs.declared.walks.Begin.{Begin}
 use Rattle.aadl_chains.specs.declared.walks.Lower.{Lower}
-use Rattle.aadl_chains.specs.Walks.{Crossing, at_root, crosses, climb, OneEach, IsThreadPort}
-use Rattle.aadl_chains.specs.Routes.{Descends, Traces, TracesTap}
-use Rattle.aadl_chains.specs.Climbing.{route_from, route_from_root}
+use Rattle.aadl_chains.specs.proof.Walks.{Crossing, at_root, crosses, climb, OneEach, IsThreadPort}
+use Rattle.aadl_chains.specs.proof.Routes.{Descends, Traces, TracesTap}
+use Rattle.aadl_chains.specs.proof.Climbing.{route_from, route_from_root}
 use Rattle.aadl_chains.proofs.Climbing.{crossing_from}
 use Rattle.aadl_chains.proofs.Routes.{traces_itself, traces_root, traces_none_over, traces_over, no_tap_over, tap_over}
 

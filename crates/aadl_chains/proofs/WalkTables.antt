@@ -7,26 +7,27 @@ use Rattle.std.specs.Option.{option_map_or}
 use Rattle.std.proofs.lemmas.Bool.{cases_order, true≢false, false≢true, eqb-true, eq-eqb}
 use Rattle.std.proofs.lemmas.Map.Keys.{apart_from_distinct}
 use Rattle.std.proofs.lemmas.Option.{same_Some, none-some, slice_get_within, slice_get-get_or}
-use Rattle.aadl_uses.specs.Orders.{IsSequence}
+use Rattle.aadl_uses.specs.proof.Orders.{IsSequence}
 use Rattle.aadl_uses.proofs.Searches.{contains_at, at_contains}
 use Rattle.aadl_tree.specs.Declarations.{Implementation, PackageTree}
 use Rattle.aadl_names.specs.declared.site.Site.{Site}
 use Rattle.aadl_names.specs.declared.site.Site.TheVariants.{Own, Inner}
 use Rattle.aadl_names.specs.Resolving.{implementation_at, is_thread}
-use Rattle.aadl_uses.specs.Uses.{below, containment}
-use Rattle.aadl_uses.specs.Threads.{is_thread_in}
+use Rattle.aadl_uses.specs.Uses.{below}
+use Rattle.aadl_uses.specs.proof.Uses.{containment}
+use Rattle.aadl_uses.specs.proof.Threads.{is_thread_in}
 use Rattle.aadl_uses.proofs.Containing.{below-same}
 use Rattle.aadl_chains.specs.declared.connections.Wire.{Wire}
 use Rattle.aadl_chains.specs.Firsts.{IsSecond}
 use Rattle.aadl_chains.specs.Wiring.{wires_at}
 use Rattle.aadl_chains.specs.declared.ports.PortAt.{PortAt}
-use Rattle.aadl_chains.specs.Ports.{same_port}
-use Rattle.aadl_chains.specs.Inside.{is_thread_at, is_in_at, port_at}
+use Rattle.aadl_chains.specs.proof.Ports.{same_port}
+use Rattle.aadl_chains.specs.proof.Inside.{is_thread_at, is_in_at, port_at}
 use Rattle.aadl_chains.specs.Chains.{Port}
-use Rattle.aadl_chains.specs.Sound.{MayEnter, AreDeclared}
+use Rattle.aadl_chains.specs.proof.Sound.{MayEnter, AreDeclared}
 use Rattle.aadl_chains.proofs.OnChains.{is_in-at}
-use Rattle.aadl_chains.specs.Numbers.{IsNumber}
-use Rattle.aadl_chains.specs.PortCounts.{ComesFrom, Through, AmongFirst, FromOwn, taken, taken_by, AreTaken, AreTakenBelow, IsTaken, IsNew, AreAdded}
+use Rattle.aadl_chains.specs.proof.Numbers.{IsNumber}
+use Rattle.aadl_chains.specs.proof.PortCounts.{ComesFrom, Through, AmongFirst, FromOwn, taken, taken_by, AreTaken, AreTakenBelow, IsTaken, IsNew, AreAdded}
 use Rattle.aadl_chains.proofs.Numbers.{no_number, same_number}
 use Rattle.aadl_chains.proofs.Steps.{first_if, second_never, first_wire}
 use Rattle.aadl_chains.proofs.Through.{through_number, own_from, own_to, one_through, thread_number, no_thread_number, none_first, more_first}

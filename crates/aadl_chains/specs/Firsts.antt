@@ -1,13 +1,8 @@
 -- The first connection into a port, and those behind it.
-use Rattle.std.specs.Prelude.{◌≡◌, ℕ, ◌<◌, Bool, false, nat_lt, List, Option, Some, None, slice_get}
+use Rattle.std.specs.Prelude.{◌≡◌, ℕ, ◌<◌, List, Option, Some, slice_get}
 use Rattle.std.specs.Option.{option_and_then}
 use Rattle.aadl_names.specs.declared.site.Site.{Site}
-use Rattle.aadl_names.specs.Resolving.{first_number}
 use Rattle.aadl_chains.specs.declared.connections.Wire.{Wire}
-use Rattle.aadl_chains.specs.PortNumbers.{is_site}
-
-abbrev pub first_into : List Wire → Site → Option ℕ
-first_into wires target = first_number (λ wire. is_site target wire.target) wires
 
 -- the port into which a connection goes, if it is declared
 abbrev pub target_in : List Wire → ℕ → Option Site
@@ -20,8 +15,3 @@ pub record IsSecond (wires : List Wire) (second : ℕ) : Type 0 where
   pub in_order : first < second
   pub earlier : target_in wires first ≡ Some target
   pub here : target_in wires second ≡ Some target
-
--- there is a number, and it is below another
-abbrev pub is_before : Option ℕ → ℕ → Bool
-is_before None n = false
-is_before (Some first) n = nat_lt first n

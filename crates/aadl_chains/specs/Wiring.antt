@@ -1,11 +1,8 @@
 -- What the connections of a package join: ports by their numbers, where the ends are declared.
-use Rattle.std.specs.Prelude.{ℕ, List, [], map, Option, Some, None, slice_get}
-use Rattle.std.specs.Option.{option_and_then, option_map_or}
-use Rattle.aadl_tree.specs.Declarations.{Feature, Connection, Implementation, Declaration, PackageTree}
-use Rattle.aadl_names.specs.declared.site.Site.{Site}
-use Rattle.aadl_names.specs.Resolving.{implementation_in, implementation_at, type_number, ports_at, site}
+use Rattle.std.specs.Prelude.{ℕ, List, [], map, Option, Some, None}
+use Rattle.aadl_tree.specs.Declarations.{Connection, Implementation, PackageTree}
+use Rattle.aadl_names.specs.Resolving.{implementation_at, site}
 use Rattle.aadl_chains.specs.declared.connections.Wire.{Wire}
-use Rattle.aadl_chains.specs.Firsts.{first_into}
 
 abbrev pub wire_of : PackageTree ℕ → Implementation ℕ → Connection ℕ → Wire
 wire_of tree x c = record { source = site tree x c.source; target = site tree x c.target }
@@ -14,35 +11,6 @@ abbrev pub wires_of : PackageTree ℕ → Option (Implementation ℕ) → List W
 wires_of tree None = []
 wires_of tree (Some x) = map (wire_of tree x) x.connections
 
-abbrev pub wires_in : PackageTree ℕ → Declaration ℕ → List Wire
-wires_in tree d = wires_of tree (implementation_in (Some d))
-
 -- the connections of a declaration
 abbrev pub wires_at : PackageTree ℕ → ℕ → List Wire
 wires_at tree n = wires_of tree (implementation_at tree n)
-
-abbrev pub type_number_by : PackageTree ℕ → Option (Implementation ℕ) → Option ℕ
-type_number_by tree x = option_and_then (type_number tree) x
-
--- the number of the type of a declaration, if it is an implementation
-abbrev pub type_in : PackageTree ℕ → Declaration ℕ → Option ℕ
-type_in tree d = type_number_by tree (implementation_in (Some d))
-
--- the number of the type of a declaration
-abbrev pub type_number_at : PackageTree ℕ → ℕ → Option ℕ
-type_number_at tree n = type_number_by tree (implementation_at tree n)
-
--- the number of the first connection of a declaration into a port
-abbrev pub first_into_at : PackageTree ℕ → ℕ → Site → Option ℕ
-first_into_at tree n target = first_into (wires_at tree n) target
-
--- where a connection comes from, with its number
-abbrev pub with_source : ℕ → Wire → Option (ℕ × Site)
-with_source number wire = option_map_or (λ source. Some (number, source)) wire.source None
-
-abbrev pub sourced : List Wire → ℕ → Option (ℕ × Site)
-sourced wires number = option_and_then (with_source number) (slice_get wires number)
-
--- the first connection of a declaration into a port, and where it comes from
-abbrev pub into : PackageTree ℕ → ℕ → Site → Option (ℕ × Site)
-into tree n target = option_and_then (sourced (wires_at tree n)) (first_into_at tree n target)

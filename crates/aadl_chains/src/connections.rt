@@ -2,8 +2,9 @@
 ghost use Rattle.std.specs.Prelude.{◌≡◌, ◌↔◌, ℕ, None, Some, IfOk, OnOk, IsTrue, if◌then◌else◌};
 ghost use Rattle.std.specs.Option.{option_or};
 ghost use Rattle.aadl_names.specs.declared.site.Site.{Site};
-ghost use Rattle.aadl_chains.specs.PortNumbers.{is_site, number_of};
+ghost use Rattle.aadl_chains.specs.proof.PortNumbers.{is_site, number_of};
 ghost use Rattle.aadl_chains.specs.Firsts as spec;
+ghost use Rattle.aadl_chains.specs.proof.Firsts as inner;
 
 use aadl_names::Site;
 use indexmap::IndexMap;
@@ -30,14 +31,15 @@ impl Model for Connections {
     ghost use Rattle.std.specs.Prelude.{◌≡◌, List};
     ghost use Rattle.aadl_names.specs.declared.site.Site.{Site};
     ghost use Rattle.aadl_chains.specs.declared.connections.Wire.{Wire};
-    ghost use Rattle.aadl_chains.specs.PortNumbers.{number_of};
+    ghost use Rattle.aadl_chains.specs.proof.PortNumbers.{number_of};
     ghost use Rattle.aadl_chains.specs.Firsts as spec;
+    ghost use Rattle.aadl_chains.specs.proof.Firsts as inner;
 
     ghost Value = { List Wire };
 
     ghost view = { λ c. c.wires };
 
-    ghost invariant = { λ c. (target : Site) → number_of c.firsts.entries target ≡ spec.first_into c.wires target };
+    ghost invariant = { λ c. (target : Site) → number_of c.firsts.entries target ≡ inner.first_into c.wires target };
 }
 
 impl Connections {
@@ -58,7 +60,7 @@ impl Connections {
 
     /// The number of the first one that goes into a port.
     pub fn first_into(&self, target: Site) -> Option<usize>
-        ensures { result ≡ spec.first_into self.now target }
+        ensures { result ≡ inner.first_into self.now target }
     {
         self.firsts.get(&target).copied()
     }
@@ -86,7 +88,7 @@ fn target_at(wires: &[Wire], number: usize) -> Option<Site>
 
 // Whether there is a number, and it is below another.
 fn is_before(first: Option<usize>, number: usize) -> bool
-    ensures { result ≡ spec.is_before first number }
+    ensures { result ≡ inner.is_before first number }
 {
     match first {
         Some(first) => first < number,
@@ -96,7 +98,7 @@ fn is_before(first: Option<usize>, number: usize) -> bool
 
 // The number of the first connection into each port.
 fn firsts_of(alloc: Global, wires: &[Wire]) -> Result<IndexMap<Site, usize>, AllocError>
-    ensures { IfOk result (λ firsts. (target : Site) → number_of firsts.entries target ≡ spec.first_into wires.now target) }
+    ensures { IfOk result (λ firsts. (target : Site) → number_of firsts.entries target ≡ inner.first_into wires.now target) }
 {
     let mut firsts = IndexMap::new(alloc);
     for (number, wire) in wires.iter().enumerate() {

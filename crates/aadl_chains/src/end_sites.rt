@@ -1,14 +1,14 @@
 //! The ports that ends of connections name, with what was looked up before.
 ghost use Rattle.std.specs.Prelude.{◌≡◌, ℕ, IfOk, Some, option_map, string_bytes};
 ghost use Rattle.std.specs.Option.{option_and_then};
-ghost use Rattle.aadl_tree.specs.Views.{end_view};
-ghost use Rattle.aadl_tree.specs.Maps.{kept_place};
+ghost use Rattle.aadl_tree.specs.proof.Views.{end_view};
+ghost use Rattle.aadl_tree.specs.proof.Maps.{kept_place};
 ghost use Rattle.aadl_tree.specs.Declarations.{Implementation};
 ghost use Rattle.aadl_names.specs.declared.site.Site.TheVariants.{Own, Inner};
 ghost use Rattle.aadl_names.specs.Resolving.{implementation_at, port_named, ports_at, site};
 ghost use Rattle.aadl_uses.specs.Uses.{below};
-ghost use Rattle.aadl_chains.specs.Wiring.{type_number_at};
-ghost use Rattle.aadl_chains.specs.Known.{tree_of, IsKnown};
+ghost use Rattle.aadl_chains.specs.proof.Wiring.{type_number_at};
+ghost use Rattle.aadl_chains.specs.proof.Known.{tree_of, IsKnown};
 
 use aadl_names::connection_ends::port_number;
 use aadl_names::{Names, Site};

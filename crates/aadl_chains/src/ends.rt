@@ -1,16 +1,17 @@
 //! Connections on no chain, and second ones into a port.
 ghost use Rattle.std.specs.Prelude.{◌≡◌, ◌↔◌, ℕ, Some, slice_get, IfOk, OnOk, Contains};
-ghost use Rattle.aadl_tree.specs.PackageViews.{placed};
-ghost use Rattle.aadl_tree.specs.Views.{connection_view};
-ghost use Rattle.aadl_tree.specs.Maps.{kept_place};
-ghost use Rattle.aadl_names.specs.Found.{found};
-ghost use Rattle.aadl_uses.specs.Uses.{containment, IsInUse, FirstIn};
+ghost use Rattle.aadl_tree.specs.proof.PackageViews.{placed};
+ghost use Rattle.aadl_tree.specs.proof.Views.{connection_view};
+ghost use Rattle.aadl_tree.specs.proof.Maps.{kept_place};
+ghost use Rattle.aadl_names.specs.proof.Found.{found};
+ghost use Rattle.aadl_uses.specs.proof.Uses.{containment, FirstIn};
+ghost use Rattle.aadl_uses.specs.Uses.{IsInUse};
 ghost use Rattle.aadl_chains.specs.Wiring.{wires_at};
-ghost use Rattle.aadl_uses.specs.Orders.{IsOrder};
+ghost use Rattle.aadl_uses.specs.proof.Orders.{IsOrder};
 ghost use Rattle.aadl_chains.specs.Chains.{IsEndFault};
-ghost use Rattle.aadl_chains.specs.Sound.{AreDeclared};
-ghost use Rattle.aadl_chains.specs.OnChains.{AreWays};
-ghost use Rattle.aadl_chains.specs.Findings.{FindsAll, IsFoundIn, IsFoundAt, dead_end, second};
+ghost use Rattle.aadl_chains.specs.proof.Sound.{AreDeclared};
+ghost use Rattle.aadl_chains.specs.proof.OnChains.{AreWays};
+ghost use Rattle.aadl_chains.specs.proof.Findings.{FindsAll, IsFoundIn, IsFoundAt, dead_end, second};
 
 use crate::ways::Ways;
 use crate::{Wire, Wires};

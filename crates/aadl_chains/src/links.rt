@@ -1,20 +1,21 @@
 //! Whether there are more links than a design may have, by numbers of declarations alone.
 ghost use Rattle.std.specs.Prelude.{◌≡◌, ◌↔◌, ◌<◌, ℕ, false, Some, length, slice_get, slice_index, slice_set, IfOk, IsTrue};
 ghost use Rattle.pals_base.specs.declared.limits.TheConstants.{LINKS};
-ghost use Rattle.aadl_tree.specs.PackageViews.{placed};
+ghost use Rattle.aadl_tree.specs.proof.PackageViews.{placed};
 ghost use Rattle.aadl_tree.specs.declared.declarations.Direction.TheVariants as directions;
 ghost use Rattle.aadl_names.specs.declared.fault.FlatFault.{FlatFault};
-ghost use Rattle.aadl_uses.specs.Uses.{containment, below};
+ghost use Rattle.aadl_uses.specs.proof.Uses.{containment};
+ghost use Rattle.aadl_uses.specs.Uses.{below};
 ghost use Rattle.aadl_uses.specs.Threads.{MoreThan};
 ghost use Rattle.aadl_chains.specs.Wiring.{wires_at};
-ghost use Rattle.aadl_uses.specs.Orders.{IsOrder};
-ghost use Rattle.aadl_uses.specs.Counts as spec;
-ghost use Rattle.aadl_chains.specs.Inside.{IsInside, is_thread_at};
+ghost use Rattle.aadl_uses.specs.proof.Orders.{IsOrder};
+ghost use Rattle.aadl_uses.specs.proof.Counts as spec;
+ghost use Rattle.aadl_chains.specs.proof.Inside.{IsInside, is_thread_at};
 ghost use Rattle.aadl_chains.specs.Chains.{IsEndFault};
-ghost use Rattle.aadl_chains.specs.Sound.{AreDeclared};
-ghost use Rattle.aadl_chains.specs.Numbers.{IsNumber};
+ghost use Rattle.aadl_chains.specs.proof.Sound.{AreDeclared};
+ghost use Rattle.aadl_chains.specs.proof.Numbers.{IsNumber};
 ghost use Rattle.aadl_chains.specs.Links.{IsLink, OtherTarget};
-ghost use Rattle.aadl_chains.specs.PortCounts.{EndsLink, Deeper, FromThread, AreTakenBelow};
+ghost use Rattle.aadl_chains.specs.proof.PortCounts.{EndsLink, Deeper, FromThread, AreTakenBelow};
 
 use crate::port_counts::PortCounts;
 use crate::{Inside, Wire, Wires};

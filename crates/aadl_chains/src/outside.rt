@@ -1,11 +1,12 @@
 //! Ports that connections join to threads or the root's ports outside.
 ghost use Rattle.std.specs.Prelude.{◌≡◌, ◌↔◌, ℕ, IfOk, OnOk, IsTrue, Contains};
-ghost use Rattle.aadl_tree.specs.PackageViews.{placed};
-ghost use Rattle.aadl_uses.specs.Uses.{containment, IsInUse};
-ghost use Rattle.aadl_uses.specs.Orders.{IsOrder};
-ghost use Rattle.aadl_chains.specs.Inside.{IsInside};
-ghost use Rattle.aadl_chains.specs.Outside as spec;
-ghost use Rattle.aadl_chains.specs.Outside.{opposite, LeadsFrom, IsOutside, IsLed, AreLed, AreLedIfUsed};
+ghost use Rattle.aadl_tree.specs.proof.PackageViews.{placed};
+ghost use Rattle.aadl_uses.specs.proof.Uses.{containment};
+ghost use Rattle.aadl_uses.specs.Uses.{IsInUse};
+ghost use Rattle.aadl_uses.specs.proof.Orders.{IsOrder};
+ghost use Rattle.aadl_chains.specs.proof.Inside.{IsInside};
+ghost use Rattle.aadl_chains.specs.proof.Outside as spec;
+ghost use Rattle.aadl_chains.specs.proof.Outside.{opposite, LeadsFrom, IsOutside, IsLed, AreLed, AreLedIfUsed};
 
 use crate::inside::{Inside, inner_end, outer_end, reaches_in};
 use crate::ports::{PortAt, Ports};

@@ -28,7 +28,7 @@ impl Model for Ports {
 
 impl Ports {
     ghost use Rattle.std.specs.Prelude.{◌≡◌, [], OnOk};
-    ghost use Rattle.aadl_chains.specs.Ports.{has, with_port};
+    ghost use Rattle.aadl_chains.specs.proof.Ports.{has, with_port};
 
     /// An empty set. It takes no memory.
     pub fn new(alloc: Global) -> Ports

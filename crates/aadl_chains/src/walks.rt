@@ -1,17 +1,18 @@
 //! Chains, walked back from where they end.
 ghost use Rattle.std.specs.Prelude.{◌≡◌, ◌++◌, ◌∷◌, ◌<◌, ℕ, false, take, reverse, length, None, Some, [], slice_index, IfOk};
-ghost use Rattle.aadl_tree.specs.PackageViews.{placed};
+ghost use Rattle.aadl_tree.specs.proof.PackageViews.{placed};
 ghost use Rattle.aadl_names.specs.declared.site.Site.TheVariants.{Own};
 ghost use Rattle.aadl_uses.specs.Uses as uses;
-ghost use Rattle.aadl_chains.specs.Wiring.{into};
-ghost use Rattle.aadl_uses.specs.Orders.{IsOrder};
-ghost use Rattle.aadl_chains.specs.Inside.{is_thread_at, is_in_at};
-ghost use Rattle.aadl_chains.specs.Sound.{AreDeclared};
-ghost use Rattle.aadl_chains.specs.Walks as walks;
-ghost use Rattle.aadl_chains.specs.Walks.{crosses, OneEach, IsThreadPort};
-ghost use Rattle.aadl_chains.specs.Routes.{Descends, Traces, TracesTap};
-ghost use Rattle.aadl_chains.specs.Climbing as spec;
-ghost use Rattle.aadl_chains.specs.Climbing.{IsFromInner, IsLower, LeadsDown};
+ghost use Rattle.aadl_uses.specs.proof.Uses as inner;
+ghost use Rattle.aadl_chains.specs.proof.Wiring.{into};
+ghost use Rattle.aadl_uses.specs.proof.Orders.{IsOrder};
+ghost use Rattle.aadl_chains.specs.proof.Inside.{is_thread_at, is_in_at};
+ghost use Rattle.aadl_chains.specs.proof.Sound.{AreDeclared};
+ghost use Rattle.aadl_chains.specs.proof.Walks as walks;
+ghost use Rattle.aadl_chains.specs.proof.Walks.{crosses, OneEach, IsThreadPort};
+ghost use Rattle.aadl_chains.specs.proof.Routes.{Descends, Traces, TracesTap};
+ghost use Rattle.aadl_chains.specs.proof.Climbing as spec;
+ghost use Rattle.aadl_chains.specs.proof.Climbing.{IsFromInner, IsLower, LeadsDown};
 
 use crate::Wires;
 use aadl_names::Site;
@@ -87,7 +88,7 @@ pub fn trace_back(
     path: &[usize],
     port: usize,
 ) -> Result<Option<Route>, AllocError>
-    requires order { IsOrder (uses.containment (placed wires.now.uses.tree.now)) order.now.keys }
+    requires order { IsOrder (inner.containment (placed wires.now.uses.tree.now)) order.now.keys }
     requires declared { AreDeclared (placed wires.now.uses.tree.now) }
     requires one { OneEach (placed wires.now.uses.tree.now) root }
     requires no_thread { is_thread_at (placed wires.now.uses.tree.now) root ≡ false }
@@ -109,7 +110,7 @@ pub fn trace_tap(
     root: usize,
     port: usize,
 ) -> Result<Option<Route>, AllocError>
-    requires order { IsOrder (uses.containment (placed wires.now.uses.tree.now)) order.now.keys }
+    requires order { IsOrder (inner.containment (placed wires.now.uses.tree.now)) order.now.keys }
     requires declared { AreDeclared (placed wires.now.uses.tree.now) }
     requires one { OneEach (placed wires.now.uses.tree.now) root }
     requires no_thread { is_thread_at (placed wires.now.uses.tree.now) root ≡ false }
@@ -229,7 +230,7 @@ fn trace_over(
     port: usize,
     crossed: Crossed,
 ) -> Result<Option<Route>, AllocError>
-    requires order { IsOrder (uses.containment (placed wires.now.uses.tree.now)) order.now.keys }
+    requires order { IsOrder (inner.containment (placed wires.now.uses.tree.now)) order.now.keys }
     requires declared { AreDeclared (placed wires.now.uses.tree.now) }
     requires one { OneEach (placed wires.now.uses.tree.now) root }
     requires no_thread { is_thread_at (placed wires.now.uses.tree.now) root ≡ false }
@@ -264,7 +265,7 @@ fn descend(
     number: usize,
     port: usize,
 ) -> Result<Option<Begin>, AllocError>
-    requires order { IsOrder (uses.containment (placed wires.now.uses.tree.now)) order.now.keys }
+    requires order { IsOrder (inner.containment (placed wires.now.uses.tree.now)) order.now.keys }
     requires declared { AreDeclared (placed wires.now.uses.tree.now) }
     requires out { is_in_at (placed wires.now.uses.tree.now) number port ≡ false }
     ensures { IfOk result (λ begin. (root : ℕ) → OneEach (placed wires.now.uses.tree.now) root

@@ -1,9 +1,10 @@
 //! Which connections are on chains.
 ghost use Rattle.std.specs.Prelude.{◌≡◌, ◌↔◌, ◌&&◌, ℕ, Some, IfOk, IsTrue, Contains};
-ghost use Rattle.aadl_tree.specs.PackageViews.{placed};
-ghost use Rattle.aadl_uses.specs.Uses.{containment, IsInUse};
-ghost use Rattle.aadl_uses.specs.Orders.{IsOrder};
-ghost use Rattle.aadl_chains.specs.OnChains.{IsOnWay, AreWays};
+ghost use Rattle.aadl_tree.specs.proof.PackageViews.{placed};
+ghost use Rattle.aadl_uses.specs.proof.Uses.{containment};
+ghost use Rattle.aadl_uses.specs.Uses.{IsInUse};
+ghost use Rattle.aadl_uses.specs.proof.Orders.{IsOrder};
+ghost use Rattle.aadl_chains.specs.proof.OnChains.{IsOnWay, AreWays};
 
 use crate::{Inside, Outside, Side, Wire, Wires};
 use aadl_names::Site;

@@ -1,14 +1,15 @@
 //! A package with its connections.
 ghost use Rattle.std.specs.Prelude.{◌≡◌, ◌↔◌, IfOk, IsTrue, map, option_map, option_copied, slice_get};
 ghost use Rattle.std.proofs.Props.{props};
-ghost use Rattle.aadl_tree.specs.PackageViews.{placed};
-ghost use Rattle.aadl_tree.specs.Views.{connection_view, feature_view};
-ghost use Rattle.aadl_tree.specs.Maps.{kept_place};
+ghost use Rattle.aadl_tree.specs.proof.PackageViews.{placed};
+ghost use Rattle.aadl_tree.specs.proof.Views.{connection_view, feature_view};
+ghost use Rattle.aadl_tree.specs.proof.Maps.{kept_place};
 ghost use Rattle.aadl_names.specs.Resolving.{implementation_at, connections_of, ports_at, direction_in};
 ghost use Rattle.aadl_names.specs.PackageFaults as faults;
 ghost use Rattle.aadl_chains.specs.Firsts.{IsSecond};
-ghost use Rattle.aadl_chains.specs.Wiring.{wires_in, wires_at, type_in};
-ghost use Rattle.aadl_chains.specs.Wiring as spec;
+ghost use Rattle.aadl_chains.specs.proof.Wiring.{wires_in, type_in};
+ghost use Rattle.aadl_chains.specs.Wiring.{wires_at};
+ghost use Rattle.aadl_chains.specs.proof.Wiring as spec;
 
 use crate::connections::{Connections, Wire};
 use crate::end_sites::Known;

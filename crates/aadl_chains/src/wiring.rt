@@ -1,13 +1,13 @@
 //! What the connections of a package join.
 ghost use Rattle.std.specs.Prelude.{◌≡◌, ℕ, Some, IfOk, map, slice_get};
-ghost use Rattle.aadl_tree.specs.PackageViews.{placed};
-ghost use Rattle.aadl_tree.specs.Views.{declaration_view, connection_view};
-ghost use Rattle.aadl_tree.specs.Maps.{kept_place};
+ghost use Rattle.aadl_tree.specs.proof.PackageViews.{placed};
+ghost use Rattle.aadl_tree.specs.proof.Views.{declaration_view, connection_view};
+ghost use Rattle.aadl_tree.specs.proof.Maps.{kept_place};
 ghost use Rattle.aadl_tree.specs.Declarations.{Implementation};
 ghost use Rattle.aadl_names.specs.Resolving.{implementation_at};
-ghost use Rattle.aadl_chains.specs.Known.{tree_of, IsKnown};
+ghost use Rattle.aadl_chains.specs.proof.Known.{tree_of, IsKnown};
 ghost use Rattle.aadl_chains.specs.Wiring as spec;
-ghost use Rattle.aadl_chains.specs.Wiring.{wires_in, type_in};
+ghost use Rattle.aadl_chains.specs.proof.Wiring.{wires_in, type_in};
 
 use crate::connections::{Connections, Wire};
 use crate::end_sites::{Known, site_of};

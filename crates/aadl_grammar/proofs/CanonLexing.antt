@@ -13,7 +13,7 @@ use Rattle.aadl_tree.specs.declared.mark.Mark.TheVariants as k
 use Rattle.aadl_tree.specs.Marks.{mark_text, keyword_of, symbol_of}
 use Rattle.aadl_tree.specs.Kinds.{Kind, mark, class_kind, inside_behind, spots_from, kinds_of}
 use Rattle.aadl_tree.specs.Canon.{kind_text, line_end, between, text_behind}
-use Rattle.aadl_grammar.specs.Machine.{kind_number}
+use Rattle.aadl_grammar.specs.proof.Machine.{kind_number}
 use Rattle.aadl_grammar.proofs.SideBySide.{AreNeighbours}
 use Rattle.aadl_grammar.proofs.Literals.{body_first}
 use Rattle.aadl_grammar.proofs.Spoken.{is_inside, Spoken, a_word, a_number, a_real, a_string, an_annex, a_keyword, a_symbol, opens, closes, behind, Said}

@@ -15,7 +15,7 @@ use Rattle.aadl_tree.specs.Canon.{kind_text}
 use Rattle.aadl_lex.proofs.Basics.{both_left, both_right}
 use Rattle.aadl_grammar.proofs.FirstTokens.{other_bytes}
 use Rattle.aadl_lex.proofs.Closes.{and_none, none_parts}
-use Rattle.aadl_lex.specs.Spelled.{IsReal, IsString}
+use Rattle.aadl_lex.specs.proof.Spelled.{IsReal, IsString}
 use Rattle.aadl_grammar.proofs.Literals.{number_digits}
 use Rattle.aadl_grammar.proofs.Spoken.{Spoken, a_word, a_number, a_real, a_string, a_keyword, a_symbol, closes}
 use Rattle.aadl_grammar.proofs.Tokens.{Ends, IsPlain, keyword_is_word}

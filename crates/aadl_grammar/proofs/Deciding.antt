@@ -1,9 +1,9 @@
 -- One terminal decides how a symbol begins.
 use Rattle.std.proofs.Common.{◌≡◌, true, not, ◌==◌, sym, ap, List, [], ◌∷◌, eq-eqb}
 use Rattle.std.proofs.lemmas.Bool.{or_left, or_right}
-use Rattle.aadl_grammar.specs.Symbols.{Class, Symbol, Row}
-use Rattle.aadl_grammar.specs.Table.{rows, Differ, Decides}
-use Rattle.aadl_grammar.specs.Machine.{class_number}
+use Rattle.aadl_grammar.specs.proof.Symbols.{Class, Symbol, Row}
+use Rattle.aadl_grammar.specs.proof.Table.{rows, Differ, Decides}
+use Rattle.aadl_grammar.specs.proof.Machine.{class_number}
 use Rattle.aadl_lex.proofs.Basics.{both_left, both_right}
 use Rattle.aadl_grammar.proofs.Basics.{not_both}
 use Rattle.aadl_grammar.proofs.Derived.Tails.{among, firsts, distinct, distinct_firsts}

@@ -15,7 +15,7 @@ use Rattle.aadl_lex.proofs.Basics.{both_left, both_right}
 use Rattle.aadl_lex.specs.Rules.{is_word, is_in_word}
 use Rattle.aadl_grammar.specs.declared.terminal.Terminal.{Terminal}
 use Rattle.aadl_grammar.specs.declared.terminal.TerminalKind.TheVariants as t
-use Rattle.aadl_grammar.specs.Terminals.{spot_of, spots_of, is_word_at, AreWords}
+use Rattle.aadl_grammar.specs.proof.Terminals.{spot_of, spots_of, is_word_at, AreWords}
 
 -- one terminal, and those behind it
 pub spots_cons : (text : List ℕ) (ts : List Terminal) (at : ℕ) (d : Terminal) → at < length ts → spots_of text (drop at ts) ≡ spot_of text (get_or ts at d) ∷ spots_of text (drop (at + 1) ts)

@@ -1,10 +1,10 @@
 -- Two forms of guards, each by a check of the table's rows.
 use Rattle.std.proofs.Common.{◌≡◌, ℕ, Bool, true, false, not, ◌&&◌, ◌||◌, ◌==◌, ◌∙◌, ap, refl, List, [], ◌∷◌, inl, inr}
-use Rattle.aadl_tree.specs.Marks.{mark_number}
-use Rattle.aadl_grammar.specs.Symbols.{Class, Symbol, Row}
-use Rattle.aadl_grammar.specs.Symbols as s
-use Rattle.aadl_grammar.specs.Table.{rows, can_omit}
-use Rattle.aadl_grammar.specs.Machine.{class_number}
+use Rattle.aadl_tree.specs.proof.Marks.{mark_number}
+use Rattle.aadl_grammar.specs.proof.Symbols.{Class, Symbol, Row}
+use Rattle.aadl_grammar.specs.proof.Symbols as s
+use Rattle.aadl_grammar.specs.proof.Table.{rows, can_omit}
+use Rattle.aadl_grammar.specs.proof.Machine.{class_number}
 use Rattle.aadl_lex.proofs.Basics.{both_left, both_right}
 use Rattle.aadl_grammar.proofs.Derived.Derivations.{Member}
 use Rattle.aadl_grammar.proofs.Guards.{neat, on_top, last_of, seam, Guard}

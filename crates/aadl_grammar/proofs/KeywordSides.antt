@@ -5,11 +5,11 @@ use Rattle.std.specs.List.{list_all}
 use Rattle.aadl_tree.specs.declared.mark.Mark.{Mark}
 use Rattle.aadl_tree.specs.declared.mark.Mark.TheVariants as k
 use Rattle.aadl_tree.specs.Marks.{keywords_outside, keywords_inside}
-use Rattle.aadl_grammar.specs.Symbols.{Class, the, Symbol, Row}
-use Rattle.aadl_grammar.specs.Symbols as s
-use Rattle.aadl_grammar.specs.Table.{rows}
-use Rattle.aadl_grammar.specs.Machine.{whole_package, annex_body}
-use Rattle.aadl_grammar.specs.Reached.{is_word, Stands, at_first, later, CanCome}
+use Rattle.aadl_grammar.specs.proof.Symbols.{Class, the, Symbol, Row}
+use Rattle.aadl_grammar.specs.proof.Symbols as s
+use Rattle.aadl_grammar.specs.proof.Table.{rows}
+use Rattle.aadl_grammar.specs.proof.Machine.{whole_package, annex_body}
+use Rattle.aadl_grammar.specs.proof.Reached.{is_word, Stands, at_first, later, CanCome}
 use Rattle.aadl_grammar.proofs.KeywordLists.{passes, or_not, or_false, listed, is_listed, false_unless}
 use Rattle.aadl_grammar.proofs.KeywordWays.{is_the, the_mark}
 

@@ -5,15 +5,15 @@ use Rattle.std.proofs.lemmas.Bool.{eqb-true, ltb-true}
 use Rattle.std.proofs.lemmas.List.Elements.{Contains-get_or}
 use Rattle.aadl_tree.specs.declared.mark.Mark.{Mark}
 use Rattle.aadl_tree.specs.declared.mark.Mark.TheVariants as k
-use Rattle.aadl_tree.specs.Marks.{mark_number}
+use Rattle.aadl_tree.specs.proof.Marks.{mark_number}
 use Rattle.aadl_tree.proofs.Numbers.{same_number}
 use Rattle.aadl_lex.proofs.Basics.{both_left, both_right}
 use Rattle.aadl_grammar.proofs.Basics.{not_both}
-use Rattle.aadl_grammar.specs.Machine.{class_number}
-use Rattle.aadl_grammar.specs.Symbols.{Class, a_word, a_whole, a_real, a_quoted, an_unread, the, Symbol, Row}
-use Rattle.aadl_grammar.specs.Symbols as s
-use Rattle.aadl_grammar.specs.Table.{rows}
-use Rattle.aadl_grammar.specs.Reached.{Stands, at_first, later, CanCome}
+use Rattle.aadl_grammar.specs.proof.Machine.{class_number}
+use Rattle.aadl_grammar.specs.proof.Symbols.{Class, a_word, a_whole, a_real, a_quoted, an_unread, the, Symbol, Row}
+use Rattle.aadl_grammar.specs.proof.Symbols as s
+use Rattle.aadl_grammar.specs.proof.Table.{rows}
+use Rattle.aadl_grammar.specs.proof.Reached.{Stands, at_first, later, CanCome}
 
 abbrev pub is_the : Mark → Class → Bool
 is_the m (the x) = mark_number x == mark_number m

@@ -5,9 +5,9 @@ use Rattle.std.specs.List.{list_all}
 use Rattle.aadl_tree.specs.declared.mark.Mark.{Mark}
 use Rattle.aadl_tree.specs.declared.mark.Mark.TheVariants as k
 use Rattle.aadl_tree.specs.Marks.{keywords_outside, keywords_inside}
-use Rattle.aadl_grammar.specs.Symbols.{Symbol}
-use Rattle.aadl_grammar.specs.Machine.{whole_package, annex_body}
-use Rattle.aadl_grammar.specs.Reached.{is_word, CanCome}
+use Rattle.aadl_grammar.specs.proof.Symbols.{Symbol}
+use Rattle.aadl_grammar.specs.proof.Machine.{whole_package, annex_body}
+use Rattle.aadl_grammar.specs.proof.Reached.{is_word, CanCome}
 use Rattle.aadl_lex.proofs.Basics.{both_left, both_right}
 use Rattle.aadl_grammar.proofs.KeywordLists.{passes}
 use Rattle.aadl_grammar.proofs.KeywordWays.{Turn, Way, leads_to, comes}

@@ -23,7 +23,7 @@ use Rattle.aadl_lex.specs.declared.rules.Reading.TheVariants.{Outside, AfterName
 use Rattle.aadl_lex.specs.Rules.{is_blank, run, is_in_word, word_first, whole_len, decimal, most, whole_first, number_by, real_len, is_in_string, string_first, body_len, annex_by, can_open, symbol_len, symbol_first, first, after, IsWithin}
 use Rattle.aadl_lex.specs.Tokens.{token, Lexes, ended, skips, takes, reads, Faults, refused, past_skipped, past_token, in_body, past_body, not_utf8, not_lexed}
 use Rattle.aadl_lex.proofs.Order.{stands_within}
-use Rattle.aadl_grammar.specs.Texts.{HasTokens, HasLexFault}
+use Rattle.aadl_grammar.specs.proof.Texts.{HasTokens, HasLexFault}
 
 -- ---- no rule gives the fault `Memory`
 abbrev IsNamed : First → Type 0

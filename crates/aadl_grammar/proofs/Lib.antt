@@ -8,6 +8,7 @@ pub mod Places
 pub mod Deciding
 pub mod Placed
 pub mod Firsts
+pub mod FirstTokens
 pub mod Rows
 pub mod Written
 pub mod Qualified

@@ -8,16 +8,16 @@ use Rattle.aadl_tree.specs.declared.values.Association.{Association}
 use Rattle.aadl_tree.specs.Kinds.{word, mark, Spot}
 use Rattle.aadl_tree.specs.Parts.{Part, plain}
 use Rattle.aadl_tree.specs.Values as v
-use Rattle.aadl_tree.specs.ValueViews.{value_view, values_view, association_view, associations_view}
-use Rattle.aadl_tree.specs.Maps.{kept_place}
+use Rattle.aadl_tree.specs.proof.ValueViews.{value_view, values_view, association_view, associations_view}
+use Rattle.aadl_tree.specs.proof.Maps.{kept_place}
 use Rattle.aadl_grammar.proofs.Basics.{heads}
-use Rattle.aadl_grammar.specs.Symbols.{a_word, a_quoted, Row}
-use Rattle.aadl_grammar.specs.Symbols as s
-use Rattle.aadl_grammar.specs.Machine.{Stack}
-use Rattle.aadl_grammar.specs.Table.{by, on}
+use Rattle.aadl_grammar.specs.proof.Symbols.{a_word, a_quoted, Row}
+use Rattle.aadl_grammar.specs.proof.Symbols as s
+use Rattle.aadl_grammar.specs.proof.Machine.{Stack}
+use Rattle.aadl_grammar.specs.proof.Table.{by, on}
 use Rattle.aadl_grammar.specs.declared.reader.Reader.{Reader}
 use Rattle.aadl_grammar.specs.declared.fault.ParseFault.{ParseFault}
-use Rattle.aadl_grammar.specs.Reading.{spot, At, AtMark, StartsWord, Reads, Parses, AnyRoom, Room}
+use Rattle.aadl_grammar.specs.proof.Reading.{spot, At, AtMark, StartsWord, Reads, Parses, AnyRoom, Room}
 use Rattle.aadl_grammar.proofs.Written.{nothing, then, marked, respelled, begun}
 
 pub starts_at : {ss : List Spot} (l : StartsWord ss) → At (word l.spelling) ss l.rest

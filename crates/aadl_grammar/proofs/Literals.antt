@@ -14,7 +14,7 @@ use Rattle.aadl_lex.specs.declared.rules.First.TheVariants.{Taken, Body, Refused
 use Rattle.aadl_lex.specs.declared.rules.Reading.{Reading}
 use Rattle.aadl_lex.specs.declared.rules.Reading.TheVariants.{Outside, AfterName}
 use Rattle.aadl_lex.specs.Rules.{is_blank, is_in_string, run, whole_len, decimal, decimal_from, most, real_len, number_by, close_from, annex_by, first}
-use Rattle.aadl_lex.specs.Spelled.{IsReal, IsString, IsUnread}
+use Rattle.aadl_lex.specs.proof.Spelled.{IsReal, IsString, IsUnread}
 use Rattle.aadl_lex.proofs.Closes.{unread_ends}
 use Rattle.aadl_lex.proofs.Scans.{more_by, decimal_cons}
 use Rattle.aadl_lex.proofs.Basics.{both_left, both_right}

@@ -5,9 +5,9 @@ use Rattle.aadl_tree.specs.declared.names.Identifier.{Identifier}
 use Rattle.aadl_tree.specs.Kinds.{Spot}
 use Rattle.aadl_tree.specs.Parts.{plain}
 use Rattle.aadl_tree.specs.Names.{identifier_parts, qualifier_parts}
-use Rattle.aadl_tree.specs.NameViews.{identifier_view}
-use Rattle.aadl_tree.specs.Maps.{kept_place}
-use Rattle.aadl_grammar.specs.Reading.{AtMark, Reads}
+use Rattle.aadl_tree.specs.proof.NameViews.{identifier_view}
+use Rattle.aadl_tree.specs.proof.Maps.{kept_place}
+use Rattle.aadl_grammar.specs.proof.Reading.{AtMark, Reads}
 use Rattle.aadl_grammar.proofs.Written.{nothing, then, marked, respelled, listed}
 
 pub qualified : (xs ys : List Identifier) (x : Identifier) {ss mid rest : List Spot} → ys ≡ xs ++ x ∷ [] → Reads (flat_map qualifier_parts (map (identifier_view kept_place) xs) ++ identifier_parts (identifier_view kept_place x)) ss mid → AtMark k.Scope mid rest

@@ -10,20 +10,20 @@ use Rattle.aadl_tree.specs.declared.mark.Mark.TheVariants as k
 use Rattle.aadl_tree.specs.Kinds.{Kind, mark, inside_behind, spots_from, spots, kinds_of}
 use Rattle.aadl_tree.specs.Parts.{Spells, Written, kept}
 use Rattle.aadl_tree.specs.Declarations.{PackageTree, package_parts}
-use Rattle.aadl_tree.specs.Maps.{package_to, no_place}
+use Rattle.aadl_tree.specs.proof.Maps.{package_to, no_place}
 use Rattle.aadl_tree.specs.Grammar.{IsShallow}
 use Rattle.aadl_tree.specs.Given.{IsTreeOf}
 use Rattle.aadl_tree.specs.Canon.{canon, canonical}
 use Rattle.aadl_tree.proofs.Parts.{written_spells, kept_spells}
-use Rattle.aadl_grammar.specs.Machine.{whole_package}
-use Rattle.aadl_grammar.specs.Moved.{Behind, Rising}
+use Rattle.aadl_grammar.specs.proof.Machine.{whole_package}
+use Rattle.aadl_grammar.specs.proof.Moved.{Behind, Rising}
 use Rattle.aadl_grammar.proofs.Places.Alike.{alike_kept}
 use Rattle.aadl_grammar.proofs.Places.Declarations.{package_alike}
 use Rattle.aadl_grammar.proofs.Derived.Derivations.{Derives}
 use Rattle.aadl_grammar.proofs.Placed.All.{one_placed_package}
 use Rattle.aadl_grammar.proofs.Placed.Canons.{same_package}
 use Rattle.aadl_grammar.proofs.Fates.Starts.{packages}
-use Rattle.aadl_grammar.specs.Reads.{HasTree}
+use Rattle.aadl_grammar.specs.proof.Reads.{HasTree}
 use Rattle.aadl_grammar.proofs.Neighbours.{neighbours}
 use Rattle.aadl_grammar.proofs.Shallow.{kept_shallow}
 use Rattle.aadl_grammar.proofs.Spoken.{Said, kept_said}

@@ -11,8 +11,8 @@ use Rattle.aadl_lex.specs.declared.token.TokenKind.TheVariants.{Word, Whole, Rea
 use Rattle.aadl_lex.specs.declared.rules.Reading.{Reading}
 use Rattle.aadl_lex.specs.declared.rules.Reading.TheVariants.{Outside, AfterName, Inside}
 use Rattle.aadl_lex.specs.Rules.{is_word, decimal, after}
-use Rattle.aadl_lex.specs.Spelled as spelled
-use Rattle.aadl_lex.specs.Spelled.{IsSpelled, AreSpelled}
+use Rattle.aadl_lex.specs.proof.Spelled as spelled
+use Rattle.aadl_lex.specs.proof.Spelled.{IsSpelled, AreSpelled}
 use Rattle.aadl_lex.specs.Tokens.{bytes_of, AreTokensOf, AreInOrder}
 use Rattle.aadl_lex.proofs.Order.{order_le, order_tokens}
 use Rattle.aadl_lex.proofs.Spelled.{spelled_tokens}

@@ -2,8 +2,8 @@
 use Rattle.std.specs.Prelude.{ℕ, ◌≡◌, ◌==◌, Bool, true, not, ◌&&◌, ◌||◌, List, [], ◌∷◌}
 use Rattle.aadl_tree.specs.declared.mark.Mark.TheVariants as k
 use Rattle.aadl_tree.specs.Kinds.{Kind}
-use Rattle.aadl_grammar.specs.Symbols.{Class, a_word, an_unread, the}
-use Rattle.aadl_grammar.specs.Machine.{class_number, kind_number}
+use Rattle.aadl_grammar.specs.proof.Symbols.{Class, a_word, an_unread, the}
+use Rattle.aadl_grammar.specs.proof.Machine.{class_number, kind_number}
 
 -- the terminal of this number is of the class
 abbrev pub of_class : ℕ → Class → Bool

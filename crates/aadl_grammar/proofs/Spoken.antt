@@ -8,12 +8,13 @@ use Rattle.aadl_lex.specs.declared.rules.Reading.TheVariants.{Outside, AfterName
 use Rattle.aadl_lex.specs.Rules.{is_word, most, close_from}
 use Rattle.aadl_tree.specs.declared.mark.Mark.{Mark}
 use Rattle.aadl_tree.specs.declared.mark.Mark.TheVariants as k
-use Rattle.aadl_tree.specs.Marks.{mark_text, mark_number, keyword_of, symbol_of}
+use Rattle.aadl_tree.specs.Marks.{mark_text, keyword_of, symbol_of}
+use Rattle.aadl_tree.specs.proof.Marks.{mark_number}
 use Rattle.aadl_tree.specs.Kinds.{Kind, word, whole, real, quoted, unread, mark}
 use Rattle.aadl_tree.specs.Parts.{Part, token, may, feature_section, subcomponent_section, connection_section, property_section, Extra, empty_section, last_semicolon, extra_kinds, Spells, kept}
-use Rattle.aadl_grammar.specs.Machine.{kind_number}
+use Rattle.aadl_grammar.specs.proof.Machine.{kind_number}
 use Rattle.aadl_grammar.proofs.SideBySide.{may_stand_behind, AreNeighbours}
-use Rattle.aadl_lex.specs.Spelled.{IsReal, IsString, IsUnread}
+use Rattle.aadl_lex.specs.proof.Spelled.{IsReal, IsString, IsUnread}
 
 abbrev pub is_inside : Reading → Bool
 is_inside Inside = true

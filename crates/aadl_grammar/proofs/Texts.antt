@@ -6,13 +6,13 @@ use Rattle.aadl_tree.specs.Kinds.{Spot, spots, kinds_of}
 use Rattle.aadl_tree.specs.Parts.{Part, Spells, Written}
 use Rattle.aadl_tree.specs.Declarations.{PackageTree, package_parts}
 use Rattle.aadl_tree.specs.Grammar.{IsPackage}
-use Rattle.aadl_tree.specs.Maps.{no_place, package_to}
-use Rattle.aadl_grammar.specs.Machine.{Fate, finished, syntax_at, deep_at, fate, whole_package}
+use Rattle.aadl_tree.specs.proof.Maps.{no_place, package_to}
+use Rattle.aadl_grammar.specs.proof.Machine.{Fate, finished, syntax_at, deep_at, fate, whole_package}
 use Rattle.aadl_grammar.proofs.Places.Alike.{alike_spells}
 use Rattle.aadl_grammar.proofs.Places.Declarations.{package_alike}
 use Rattle.aadl_grammar.proofs.Fates.Answers.{answers_text, answers_fault, answers_depth}
 use Rattle.aadl_grammar.proofs.Fates.Starts.{packages}
-use Rattle.aadl_grammar.specs.Texts.{HasTokens, HasLexFault, HasTree, Stops, NestsTooDeep}
+use Rattle.aadl_grammar.specs.proof.Texts.{HasTokens, HasLexFault, HasTree, Stops, NestsTooDeep}
 use Rattle.aadl_grammar.proofs.Lexing.{tokens_or_fault}
 use Rattle.aadl_grammar.proofs.Filling.Fills.{U}
 use Rattle.aadl_grammar.proofs.Filling.Declarations.{package_fill}

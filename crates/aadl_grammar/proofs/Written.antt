@@ -8,7 +8,7 @@ use Rattle.aadl_tree.specs.Parts.{Part, token, may, extra_kinds, HaveKinds, Writ
 use Rattle.aadl_tree.specs.Grammar.{place}
 use Rattle.aadl_tree.specs.Names.{Identifier, identifier_parts}
 use Rattle.aadl_tree.proofs.Parts.{written_append}
-use Rattle.aadl_grammar.specs.Reading.{spot, At, AtMark, AtWord, IsMarked, Reads}
+use Rattle.aadl_grammar.specs.proof.Reading.{spot, At, AtMark, AtWord, IsMarked, Reads}
 
 pub nothing : {ss : List Spot} → Reads [] ss ss
 nothing = record { written = refl }

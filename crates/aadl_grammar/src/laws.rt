@@ -7,13 +7,13 @@ ghost use Rattle.aadl_tree.specs.Parts.{Spells, Written, kept};
 ghost use Rattle.aadl_tree.specs.Annexes.{AnnexTree, annex_tree_parts};
 ghost use Rattle.aadl_tree.specs.Declarations.{PackageTree, package_parts};
 ghost use Rattle.aadl_tree.specs.Grammar.{nesting, IsPackage, IsBehaviour, IsShallow, FailsAt, DeepAt};
-ghost use Rattle.aadl_tree.specs.Example.{counting_kinds};
-ghost use Rattle.aadl_grammar.specs.Symbols.{Symbol};
-ghost use Rattle.aadl_grammar.specs.Symbols as s;
-ghost use Rattle.aadl_grammar.specs.Table.{rows, Decides};
-ghost use Rattle.aadl_grammar.specs.Machine.{fate, finished, syntax_at, deep_at, whole_package, annex_body};
-ghost use Rattle.aadl_grammar.specs.Moved.{Rising, SamePackage};
-ghost use Rattle.aadl_grammar.specs.Example.{numbered, without_value, nested, small_package};
+ghost use Rattle.aadl_tree.specs.proof.Example.{counting_kinds};
+ghost use Rattle.aadl_grammar.specs.proof.Symbols.{Symbol};
+ghost use Rattle.aadl_grammar.specs.proof.Symbols as s;
+ghost use Rattle.aadl_grammar.specs.proof.Table.{rows, Decides};
+ghost use Rattle.aadl_grammar.specs.proof.Machine.{fate, finished, syntax_at, deep_at, whole_package, annex_body};
+ghost use Rattle.aadl_grammar.specs.proof.Moved.{Rising, SamePackage};
+ghost use Rattle.aadl_grammar.specs.proof.Example.{numbered, without_value, nested, small_package};
 
 /// One terminal decides how a symbol begins: no two rows of the table's symbols are of one class.
 pub fn one_terminal_decides()

@@ -3,10 +3,10 @@ ghost use Rattle.std.specs.Prelude.{ℕ, List, [], ◌∷◌, map, flat_map, opt
 ghost use Rattle.aadl_tree.specs.declared.mark.Mark.TheVariants as k;
 ghost use Rattle.aadl_tree.specs.Parts.{behind, parts_if};
 ghost use Rattle.aadl_tree.specs.Names.{identifier_parts, name_parts, path_parts, identifiers_parts, reference_parts};
-ghost use Rattle.aadl_tree.specs.NameViews.{identifier_view, name_view, path_view, identifiers_view, reference_view};
-ghost use Rattle.aadl_tree.specs.Maps.{kept_place};
-ghost use Rattle.aadl_grammar.specs.Symbols as s;
-ghost use Rattle.aadl_grammar.specs.Reading.{Parses, AnyRoom};
+ghost use Rattle.aadl_tree.specs.proof.NameViews.{identifier_view, name_view, path_view, identifiers_view, reference_view};
+ghost use Rattle.aadl_tree.specs.proof.Maps.{kept_place};
+ghost use Rattle.aadl_grammar.specs.proof.Symbols as s;
+ghost use Rattle.aadl_grammar.specs.proof.Reading.{Parses, AnyRoom};
 
 use crate::fault::ParseFault;
 use crate::reader::{Parsed, Reader};

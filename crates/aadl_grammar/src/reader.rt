@@ -1,5 +1,5 @@
 //! The terminals of a text, read from places on.
-ghost use Rattle.aadl_grammar.specs.Terminals.{AreWords};
+ghost use Rattle.aadl_grammar.specs.proof.Terminals.{AreWords};
 
 use crate::fault::ParseFault;
 use crate::terminal::Terminal;

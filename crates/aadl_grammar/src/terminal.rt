@@ -1,10 +1,10 @@
 //! Terminals: tokens, and whether each is a keyword.
 ghost use Rattle.std.specs.Prelude.{◌≡◌, IfOk, All};
-ghost use Rattle.aadl_lex.specs.Spelled.{IsWordAt};
+ghost use Rattle.aadl_lex.specs.proof.Spelled.{IsWordAt};
 ghost use Rattle.aadl_lex.specs.Tokens.{bytes_of};
 ghost use Rattle.aadl_lex.specs.declared.token.TokenKind.TheVariants as class;
 ghost use Rattle.aadl_tree.specs.Kinds.{spots_from, kind_of};
-ghost use Rattle.aadl_grammar.specs.Terminals.{between, kind_with, spots_of, AreWords};
+ghost use Rattle.aadl_grammar.specs.proof.Terminals.{between, kind_with, spots_of, AreWords};
 ghost use Rattle.aadl_grammar.specs.declared.terminal.TerminalKind.TheVariants as t;
 
 use aadl_lex::{Token, TokenKind};

@@ -4,12 +4,12 @@ ghost use Rattle.aadl_tree.specs.declared.mark.Mark.TheVariants as k;
 ghost use Rattle.aadl_tree.specs.Parts.{behind, parts_if, plain};
 ghost use Rattle.aadl_tree.specs.Names.{identifier_parts, path_parts, reference_parts};
 ghost use Rattle.aadl_tree.specs.Values.{figure_parts, quantity_parts, value_parts, values_parts, more_values_parts, association_parts, associations_parts, properties_parts, applies_parts, association_mark};
-ghost use Rattle.aadl_tree.specs.NameViews.{identifier_view, path_view, reference_view};
-ghost use Rattle.aadl_tree.specs.ValueViews.{figure_view, quantity_view, value_view, values_view, association_view, associations_view};
-ghost use Rattle.aadl_tree.specs.Maps.{kept_place};
-ghost use Rattle.aadl_grammar.specs.Symbols as s;
-ghost use Rattle.aadl_grammar.specs.Table.{on};
-ghost use Rattle.aadl_grammar.specs.Reading.{here, AtMark, MissAll, Parses, AnyRoom, Room};
+ghost use Rattle.aadl_tree.specs.proof.NameViews.{identifier_view, path_view, reference_view};
+ghost use Rattle.aadl_tree.specs.proof.ValueViews.{figure_view, quantity_view, value_view, values_view, association_view, associations_view};
+ghost use Rattle.aadl_tree.specs.proof.Maps.{kept_place};
+ghost use Rattle.aadl_grammar.specs.proof.Symbols as s;
+ghost use Rattle.aadl_grammar.specs.proof.Table.{on};
+ghost use Rattle.aadl_grammar.specs.proof.Reading.{here, AtMark, MissAll, Parses, AnyRoom, Room};
 
 use crate::fault::ParseFault;
 use crate::names::{name, path, reference};

@@ -3,17 +3,17 @@ use Rattle.std.proofs.Common.{◌≡◌, ◌⊎◌, inl, inr, ℕ, ◌+◌, true
 use Rattle.std.proofs.lemmas.Bool.{true≢false}
 use Rattle.aadl_tree.specs.Declarations.{PackageTree}
 use Rattle.aadl_uses.specs.Threads.{IsThreadAt, PathBefore}
-use Rattle.aadl_chains.specs.Inside.{is_thread_at}
+use Rattle.aadl_chains.specs.proof.Inside.{is_thread_at}
 use Rattle.aadl_chains.specs.Chains.{Port, is_in, IsEnd}
 use Rattle.aadl_chains.specs.Links.{Ends, IsLink, IsFeed, IsTap}
 use Rattle.aadl_chains.specs.declared.walks.Begin.{Begin}
 use Rattle.aadl_chains.specs.declared.walks.Begin.TheVariants as begins
 use Rattle.aadl_chains.specs.declared.walks.Route.{Route}
-use Rattle.aadl_chains.specs.Routes.{begin_port, route_ends, IsOfKind, IsRoute, IsTapRoute, Traces, TracesTap}
+use Rattle.aadl_chains.specs.proof.Routes.{begin_port, route_ends, IsOfKind, IsRoute, IsTapRoute, Traces, TracesTap}
 use Rattle.aadl_instance.specs.declared.parts.Chain.{Chain}
 use Rattle.aadl_instance.specs.declared.build.Incoming.{Incoming}
 use Rattle.aadl_instance.specs.Instances.{chain_in}
-use Rattle.aadl_instance.specs.Passed.{HasPort, IsBegin, AreInto, AreTapsTo, with_chain}
+use Rattle.aadl_instance.specs.proof.Passed.{HasPort, IsBegin, AreInto, AreTapsTo, with_chain}
 use Rattle.aadl_instance.proofs.Ports.{begins_there}
 use Rattle.aadl_instance.proofs.Passing.{into_skip, into_link, into_feed, in_by, taps_more, taps_skip, not_root}
 

@@ -9,11 +9,11 @@ use Rattle.aadl_tree.specs.declared.declarations.Direction.{Direction}
 use Rattle.aadl_tree.specs.declared.declarations.Direction.TheVariants as directions
 use Rattle.aadl_tree.specs.declared.declarations.Feature as source
 use Rattle.aadl_tree.specs.Declarations.{Feature, PackageTree}
-use Rattle.aadl_tree.specs.Maps.{kept_place}
-use Rattle.aadl_tree.specs.Views.{feature_view}
+use Rattle.aadl_tree.specs.proof.Maps.{kept_place}
+use Rattle.aadl_tree.specs.proof.Views.{feature_view}
 use Rattle.aadl_names.specs.Resolving.{implementation_at, implementation_in, ports_at}
 use Rattle.aadl_instance.specs.Instances.{same_direction, goes_as, number_among}
-use Rattle.aadl_instance.specs.Numbers.{AreAmong, AreNumbers, seen, with_port}
+use Rattle.aadl_instance.specs.proof.Numbers.{AreAmong, AreNumbers, seen, with_port}
 use Rattle.aadl_instance.specs.declared.numbers.Seen.{Seen}
 use Rattle.aadl_instance.proofs.Shown.{number_is}
 

@@ -7,9 +7,9 @@ use Rattle.std.proofs.lemmas.Bool.Decides.{nat_tests}
 use Rattle.std.proofs.lemmas.List.{length-map, get_or-map, get_or_default, drop_all, drop_more, reverse-reverse}
 use Rattle.std.proofs.lemmas.Option.{slice_get_read}
 use Rattle.std.specs.List.Sorted.{IsPartitionedBy, IsPartitionPoint}
-use Rattle.aadl_uses.specs.Counts.{path_before}
+use Rattle.aadl_uses.specs.Threads.{path_before}
 use Rattle.aadl_uses.specs.Threads.{PathBefore}
-use Rattle.aadl_instance.specs.Passed.{paths_of}
+use Rattle.aadl_instance.specs.proof.Passed.{paths_of}
 use Rattle.aadl_instance.proofs.Shown.{never_before}
 
 -- ---- where a comparison ends

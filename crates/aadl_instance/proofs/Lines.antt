@@ -14,7 +14,7 @@ use Rattle.aadl_uses.specs.Uses.{IsRecursive}
 use Rattle.aadl_chains.specs.Chains.{IsEndFault}
 use Rattle.aadl_instance.specs.declared.limits.Limit.{Limit}
 use Rattle.aadl_instance.specs.declared.limits.Limit.TheVariants.{Components, Links, Ports, Variables, States, Path}
-use Rattle.aadl_instance.specs.Limits.{name_of, line_of, IsPassed}
+use Rattle.aadl_instance.specs.proof.Limits.{name_of, line_of, IsPassed}
 use Rattle.aadl_instance.specs.Faults.{IsOver, FoundIn, Found, IsFault, IsSilentTo}
 
 -- limits have the lines from 5 on

@@ -5,20 +5,20 @@ use Rattle.std.proofs.lemmas.Bool.{true≢false, cases_order}
 use Rattle.std.proofs.lemmas.Bool.Decides.{nat_tests}
 use Rattle.std.proofs.lemmas.List.{map-append}
 use Rattle.std.proofs.lemmas.Option.{same_Some, slice_get_within, get_or_from_slice_get}
-use Rattle.aadl_uses.specs.Counts.{path_before}
+use Rattle.aadl_uses.specs.Threads.{path_before}
 use Rattle.aadl_uses.proofs.Searches.{at_contains}
 use Rattle.aadl_tree.specs.Declarations.{PackageTree}
 use Rattle.aadl_names.specs.Resolving.{ports_at, implementation_at}
 use Rattle.aadl_uses.specs.Uses.{standing, component_at}
 use Rattle.aadl_uses.specs.Threads.{Lists, IsThreadAt, PathBefore}
-use Rattle.aadl_chains.specs.Inside.{is_thread_at}
+use Rattle.aadl_chains.specs.proof.Inside.{is_thread_at}
 use Rattle.aadl_chains.specs.Chains.{Port, is_in, IsEnd}
 use Rattle.aadl_chains.proofs.OnChains.{thread_from}
 use Rattle.aadl_chains.specs.Links.{Ends, IsLink, IsFeed, IsTap, same_path, TargetBefore, PortBefore}
 use Rattle.aadl_instance.specs.declared.parts.Chain.{Chain}
 use Rattle.aadl_instance.specs.declared.build.Incoming.{Incoming}
 use Rattle.aadl_instance.specs.Instances.{chain_in}
-use Rattle.aadl_instance.specs.Passed.{HasPort, AreShown, IsPassed, AreInto, AreTapsTo}
+use Rattle.aadl_instance.specs.proof.Passed.{HasPort, AreShown, IsPassed, AreInto, AreTapsTo}
 use Rattle.aadl_instance.proofs.Lists.{lists_same, lists_more, lists_none}
 use Rattle.aadl_instance.proofs.Ports.{in_within, ends_there}
 use Rattle.aadl_instance.proofs.Shown.{same_itself, open_at}

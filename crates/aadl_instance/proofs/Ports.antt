@@ -16,7 +16,7 @@ use Rattle.aadl_names.specs.Resolving.{inner_ports, inner_site, site_by, site}
 use Rattle.aadl_names.specs.Resolving.{subcomponents_of}
 use Rattle.aadl_uses.specs.Uses.{below, standing, component_at}
 use Rattle.aadl_chains.specs.Chains.{Port, Place, port_at, Goes, Leads}
-use Rattle.aadl_instance.specs.Passed.{HasPort}
+use Rattle.aadl_instance.specs.proof.Passed.{HasPort}
 
 -- ---- lists
 first_within : {X : Type 0} (test : X → Bool) (i : ℕ) (xs : List X) (k : ℕ) → position_from test i xs ≡ Some k → k < i + length xs

@@ -10,8 +10,8 @@ use Rattle.aadl_tree.specs.declared.declarations.Category.{Category}
 use Rattle.aadl_tree.specs.declared.declarations.Category.TheVariants as categories
 use Rattle.aadl_tree.specs.Declarations.{Implementation, Declaration, type, implementation, PackageTree}
 use Rattle.aadl_names.specs.Resolving.{implementation_in, is_root, is_system, is_thread, root_number}
-use Rattle.aadl_uses.specs.Threads.{is_thread_in}
-use Rattle.aadl_chains.specs.Inside.{is_thread_at}
+use Rattle.aadl_uses.specs.proof.Threads.{is_thread_in}
+use Rattle.aadl_chains.specs.proof.Inside.{is_thread_at}
 use Rattle.aadl_chains.proofs.Steps.{first_at}
 use Rattle.aadl_instance.specs.Faults.{IsRoot}
 

@@ -16,12 +16,12 @@ use Rattle.aadl_chains.proofs.Declared.{declared}
 use Rattle.aadl_chains.specs.Links.{IsLink, IsFeed, IsTap, TargetBefore, PortBefore}
 use Rattle.aadl_chains.proofs.Counted.{one_each}
 use Rattle.aadl_instance.specs.declared.package.Checked.{Checked}
-use Rattle.aadl_instance.specs.Silence.{IsChecked}
+use Rattle.aadl_instance.specs.proof.Silence.{IsChecked}
 use Rattle.aadl_instance.proofs.Lines.{root_silent}
 use Rattle.aadl_instance.proofs.Roots.{root_no_thread}
 use Rattle.aadl_instance.specs.declared.parts.Chain.{Chain}
 use Rattle.aadl_instance.specs.Instances.{IsInstance}
-use Rattle.aadl_instance.specs.Passed.{paths_of, IsSettled, AreShown}
+use Rattle.aadl_instance.specs.proof.Passed.{paths_of, IsSettled, AreShown}
 use Rattle.aadl_instance.proofs.Passing.{thread_listed}
 use Rattle.aadl_instance.proofs.Shown.{path_got, stands}
 

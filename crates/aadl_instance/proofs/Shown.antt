@@ -13,19 +13,19 @@ use Rattle.pals_base.specs.declared.limits.TheConstants.{PORTS}
 use Rattle.pals_base.specs.declared.values.NodeNo.{NodeNo}
 use Rattle.aadl_tree.specs.declared.declarations.Feature as source
 use Rattle.aadl_tree.specs.Declarations.{Feature, PackageTree}
-use Rattle.aadl_tree.specs.Maps.{kept_place}
-use Rattle.aadl_tree.specs.Views.{feature_view}
-use Rattle.aadl_uses.specs.Counts.{path_before}
+use Rattle.aadl_tree.specs.proof.Maps.{kept_place}
+use Rattle.aadl_tree.specs.proof.Views.{feature_view}
+use Rattle.aadl_uses.specs.Threads.{path_before}
 use Rattle.aadl_uses.proofs.Searches.{contains_none, contains_at}
 use Rattle.aadl_names.specs.Resolving.{ports_at, ports_of, implementation_at}
 use Rattle.aadl_uses.specs.Uses.{standing, component_at}
 use Rattle.aadl_uses.specs.Threads.{IsThreadAt, PathBefore}
 use Rattle.aadl_uses.specs.ThreadPlaces.{ThreadWith}
-use Rattle.aadl_chains.specs.Inside.{is_thread_at}
+use Rattle.aadl_chains.specs.proof.Inside.{is_thread_at}
 use Rattle.aadl_chains.proofs.OnChains.{thread_from}
 use Rattle.aadl_chains.specs.Links.{same_path}
 use Rattle.aadl_instance.specs.declared.parts.ChainEnd.TheVariants.{Thread}
-use Rattle.aadl_instance.specs.Passed.{paths_of}
+use Rattle.aadl_instance.specs.proof.Passed.{paths_of}
 use Rattle.aadl_instance.specs.Instances.{same_direction, node_at, goes_as, number_among, port_number, end_in}
 
 -- ---- the number of a thread

@@ -6,10 +6,10 @@ use Rattle.std.proofs.lemmas.Option.{option_and_then_some, slice_get_within}
 use Rattle.aadl_tree.specs.Declarations.{Implementation, Declaration, PackageTree}
 use Rattle.aadl_names.specs.Resolving.{implementation_in, implementation_at}
 use Rattle.aadl_uses.specs.Uses.{standing, IsInUse}
-use Rattle.aadl_uses.specs.Threads.{is_thread_in}
+use Rattle.aadl_uses.specs.proof.Threads.{is_thread_in}
 use Rattle.aadl_uses.specs.ThreadPlaces.{ThreadWith}
 use Rattle.aadl_instance.specs.declared.thread_parts.Part.{Part}
-use Rattle.aadl_instance.specs.Parts.{most, count_of, count_at, IsUsedThread, HasTooMany}
+use Rattle.aadl_instance.specs.proof.Parts.{most, count_of, count_at, IsUsedThread, HasTooMany}
 
 module _ (tree : PackageTree ℕ) (root : ℕ) (used : List ℕ) (part : Part) (same : (n : ℕ) → Contains used n ↔ IsInUse tree root n) where
   from_used : HasTooMany tree used part → ThreadWith tree root (λ x path. most part < count_of tree x part)

@@ -8,16 +8,17 @@ use Rattle.std.proofs.lemmas.Option.{none-some, same_Some, option_and_then_some}
 use Rattle.pals_base.specs.declared.limits.TheConstants.{PATH_BYTES}
 use Rattle.aadl_tree.specs.Declarations.{Subcomponent, Declaration, Implementation, PackageTree}
 use Rattle.aadl_names.specs.Resolving.{implementation_in, implementation_at, subcomponents_of, referred}
-use Rattle.aadl_uses.specs.Uses.{sub_at, below, standing, containment}
-use Rattle.aadl_uses.specs.Threads.{thread_marks}
+use Rattle.aadl_uses.specs.Uses.{sub_at, below, standing}
+use Rattle.aadl_uses.specs.proof.Uses.{containment}
+use Rattle.aadl_uses.specs.proof.Threads.{thread_marks}
 use Rattle.aadl_uses.proofs.Containing.{below-same}
 use Rattle.aadl_uses.proofs.Counted.{thread_from, marked_from}
-use Rattle.aadl_uses.specs.Graphs.{below_in}
-use Rattle.aadl_uses.specs.Counts.{stands_at, IsMarkedAt}
-use Rattle.aadl_uses.specs.Weights as weights
-use Rattle.aadl_uses.specs.Weights.{path_weight, IsGreatest, IsGreatestOf, IsHeaviest}
+use Rattle.aadl_uses.specs.proof.Graphs.{below_in}
+use Rattle.aadl_uses.specs.proof.Counts.{stands_at, IsMarkedAt}
+use Rattle.aadl_uses.specs.proof.Weights as weights
+use Rattle.aadl_uses.specs.proof.Weights.{path_weight, IsGreatest, IsGreatestOf, IsHeaviest}
 use Rattle.aadl_uses.specs.ThreadPlaces.{name_at, names_along, dotted_names, spelled_path, ThreadWith}
-use Rattle.aadl_instance.specs.Paths.{weight_of, weights_in, name_weights, is_over}
+use Rattle.aadl_instance.specs.proof.Paths.{weight_of, weights_in, name_weights, is_over}
 
 -- ---- names
 abbrev pub total : List (List ℕ) → ℕ

@@ -5,6 +5,7 @@ use Rattle.aadl_names.specs.declared.fault.FlatFault.{FlatFault}
 use Rattle.aadl_names.specs.Resolving.{root_number}
 use Rattle.aadl_uses.specs.Threads.{Lists, IsThreadAt, PathBefore}
 use Rattle.aadl_chains.specs.Links.{Ends, IsLink, IsFeed, IsTap, TargetBefore, PortBefore}
+use Rattle.aadl_instance.specs.Faults.{Found}
 pub use Rattle.aadl_instance.specs.Faults.{IsOver, Found, IsFault}
 
 -- what the flattened design has: the root's number, its threads by their paths, and its chains

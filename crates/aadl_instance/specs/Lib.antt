@@ -1,10 +1,5 @@
 pub mod Parts
-pub mod Paths
-pub mod Limits
 pub mod Faults
-pub mod Silence
 pub mod Flat
 pub mod Instances
-pub mod Passed
-pub mod Numbers
-pub mod Networks
+pub mod proof

@@ -1,10 +1,10 @@
 //! The links, feeds and taps of a package that has no fault.
 ghost use Rattle.std.specs.Prelude.{◌≡◌, ◌+◌, true, [], reverse, IfOk, OnOk};
-ghost use Rattle.aadl_chains.specs.Inside.{is_in_at};
+ghost use Rattle.aadl_chains.specs.proof.Inside.{is_in_at};
 ghost use Rattle.aadl_chains.specs.Links.{IsLink, IsFeed, IsTap, TargetBefore, PortBefore};
-ghost use Rattle.aadl_instance.specs.Passed as shown;
-ghost use Rattle.aadl_instance.specs.Networks.{tree_of, paths_in, IsReady, IsNumbered, IsNode, Shows, ShowsInto, ShowsTaps};
-ghost use Rattle.aadl_instance.specs.Passed.{HasPort, IsBegin};
+ghost use Rattle.aadl_instance.specs.proof.Passed as shown;
+ghost use Rattle.aadl_instance.specs.proof.Networks.{tree_of, paths_in, IsReady, IsNumbered, IsNode, Shows, ShowsInto, ShowsTaps};
+ghost use Rattle.aadl_instance.specs.proof.Passed.{HasPort, IsBegin};
 
 use crate::ends::{Network, Node, begin_end, node_end, root_end};
 use crate::parts::{Chain, ChainEnd, ConnAt};
@@ -115,7 +115,7 @@ fn add_chain(
 
 impl Incoming {
     ghost use Rattle.std.specs.Prelude.{OnOk};
-    ghost use Rattle.aadl_instance.specs.Passed.{with_chain};
+    ghost use Rattle.aadl_instance.specs.proof.Passed.{with_chain};
 
     // Adds a chain by where it begins.
     fn push(&mut self, begin: &Begin, chain: Chain) -> Result<(), AllocError>

@@ -1,9 +1,9 @@
 //! How many variables and states an implementation declares, counted up to a limit.
 ghost use Rattle.std.specs.Prelude.{◌≡◌, length, min};
 ghost use Rattle.aadl_tree.specs.Names.{identifiers};
-ghost use Rattle.aadl_tree.specs.Maps.{kept_place};
-ghost use Rattle.aadl_tree.specs.NameViews.{identifiers_view};
-ghost use Rattle.aadl_tree.specs.Views.{implementation_view};
+ghost use Rattle.aadl_tree.specs.proof.Maps.{kept_place};
+ghost use Rattle.aadl_tree.specs.proof.NameViews.{identifiers_view};
+ghost use Rattle.aadl_tree.specs.proof.Views.{implementation_view};
 ghost use Rattle.aadl_instance.specs.Parts.{variable_count, state_count};
 
 use aadl_tree::{Identifiers, Implementation};

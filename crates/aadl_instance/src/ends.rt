@@ -1,11 +1,11 @@
 //! Ends of chains, as an instance shows them.
 ghost use Rattle.std.specs.Prelude.{◌≡◌, ◌≤◌, Some, [], length, reverse, slice_get, AllPairs, Contains, IfOk};
-ghost use Rattle.aadl_uses.specs.Counts.{path_before};
+ghost use Rattle.aadl_uses.specs.Threads.{path_before};
 ghost use Rattle.aadl_uses.specs.Threads.{IsThreadAt, PathBefore};
-ghost use Rattle.aadl_chains.specs.Routes.{begin_port};
+ghost use Rattle.aadl_chains.specs.proof.Routes.{begin_port};
 ghost use Rattle.aadl_instance.specs.Instances.{end_in};
-ghost use Rattle.aadl_instance.specs.Networks.{tree_of, paths_in, IsReady, IsNode};
-ghost use Rattle.aadl_instance.specs.Passed.{paths_of, HasPort, IsBegin};
+ghost use Rattle.aadl_instance.specs.proof.Networks.{tree_of, paths_in, IsReady, IsNode};
+ghost use Rattle.aadl_instance.specs.proof.Passed.{paths_of, HasPort, IsBegin};
 
 use crate::numbers::PortNumbers;
 use crate::parts::ChainEnd;

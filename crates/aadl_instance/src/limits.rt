@@ -1,14 +1,15 @@
 //! The limits of a design, and the first one that it passes.
 ghost use Rattle.std.specs.Prelude.{◌≡◌, ◌↔◌, ◌<◌, ℕ, false, length, Contains, IfOk, IsTrue};
-ghost use Rattle.aadl_tree.specs.PackageViews.{placed};
+ghost use Rattle.aadl_tree.specs.proof.PackageViews.{placed};
 ghost use Rattle.aadl_names.specs.declared.fault.FlatFault.{FlatFault};
-ghost use Rattle.aadl_uses.specs.Uses.{containment, IsInUse};
+ghost use Rattle.aadl_uses.specs.proof.Uses.{containment};
+ghost use Rattle.aadl_uses.specs.Uses.{IsInUse};
 ghost use Rattle.aadl_chains.specs.Chains.{IsEndFault};
-ghost use Rattle.aadl_chains.specs.Sound.{AreDeclared};
-ghost use Rattle.aadl_uses.specs.Orders.{IsOrder};
-ghost use Rattle.aadl_chains.specs.Inside.{is_thread_at};
-ghost use Rattle.aadl_instance.specs.Limits as spec;
-ghost use Rattle.aadl_instance.specs.Limits.{IsPassed, IsFirstPassed};
+ghost use Rattle.aadl_chains.specs.proof.Sound.{AreDeclared};
+ghost use Rattle.aadl_uses.specs.proof.Orders.{IsOrder};
+ghost use Rattle.aadl_chains.specs.proof.Inside.{is_thread_at};
+ghost use Rattle.aadl_instance.specs.proof.Limits as spec;
+ghost use Rattle.aadl_instance.specs.proof.Limits.{IsPassed, IsFirstPassed};
 
 use crate::{Part, has_too_long_path, has_too_many};
 use aadl_chains::{Wires, has_too_many_links};

@@ -1,9 +1,9 @@
 //! The numbers of ports among those that go as they do.
 ghost use Rattle.std.specs.Prelude.{◌≡◌, ◌<◌, map, IfOk};
-ghost use Rattle.aadl_tree.specs.Maps.{kept_place};
-ghost use Rattle.aadl_tree.specs.PackageViews.{placed};
-ghost use Rattle.aadl_tree.specs.Views.{feature_view};
-ghost use Rattle.aadl_instance.specs.Numbers.{AreAmong, AreNumbers};
+ghost use Rattle.aadl_tree.specs.proof.Maps.{kept_place};
+ghost use Rattle.aadl_tree.specs.proof.PackageViews.{placed};
+ghost use Rattle.aadl_tree.specs.proof.Views.{feature_view};
+ghost use Rattle.aadl_instance.specs.proof.Numbers.{AreAmong, AreNumbers};
 
 use aadl_chains::Wires;
 use aadl_tree::{Direction, Feature};
@@ -27,8 +27,8 @@ impl Model for PortNumbers {
 
 impl PortNumbers {
     ghost use Rattle.std.specs.Prelude.{◌≡◌, ◌++◌, ◌∷◌, [], IfOk, OnOk};
-    ghost use Rattle.aadl_tree.specs.PackageViews.{placed};
-    ghost use Rattle.aadl_instance.specs.Numbers.{number_in, AreNumbers};
+    ghost use Rattle.aadl_tree.specs.proof.PackageViews.{placed};
+    ghost use Rattle.aadl_instance.specs.proof.Numbers.{number_in, AreNumbers};
 
     /// Those of the implementations of a package.
     pub fn of(alloc: Global, wires: &Wires<'_>) -> Result<PortNumbers, AllocError>
@@ -87,7 +87,7 @@ pub struct Seen {
 
 impl Seen {
     ghost use Rattle.std.specs.Prelude.{◌≡◌, ◌<◌};
-    ghost use Rattle.aadl_instance.specs.Numbers.{seen, with_port};
+    ghost use Rattle.aadl_instance.specs.proof.Numbers.{seen, with_port};
 
     // Counts one more, and gives how many before it go as it does.
     fn next(&mut self, direction: Direction) -> usize

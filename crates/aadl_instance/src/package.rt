@@ -1,6 +1,6 @@
 //! A package that has no fault below a root.
 ghost use Rattle.std.specs.Prelude.{◌≡◌, ◌⊎◌, [], Some, IfOk, MatchResult};
-ghost use Rattle.aadl_tree.specs.PackageViews.{placed};
+ghost use Rattle.aadl_tree.specs.proof.PackageViews.{placed};
 ghost use Rattle.aadl_names.specs.declared.fault.FlatFault.{FlatFault};
 ghost use Rattle.aadl_names.specs.declared.fault.FlatFault.TheVariants.{Memory};
 ghost use Rattle.aadl_names.specs.Findings.{IsFirstByLine};
@@ -9,7 +9,7 @@ ghost use Rattle.aadl_names.specs.Resolving as resolving;
 ghost use Rattle.aadl_uses.specs.Uses.{IsRecursive};
 ghost use Rattle.aadl_chains.specs.Chains.{IsEndFault};
 ghost use Rattle.aadl_instance.specs.Faults.{FoundIn, IsFault, IsRoot};
-ghost use Rattle.aadl_instance.specs.Silence.{IsOrdered, IsChecked, FindsFault};
+ghost use Rattle.aadl_instance.specs.proof.Silence.{IsOrdered, IsChecked, FindsFault};
 
 use crate::limits::first_limit;
 use crate::root::root_number;

@@ -1,10 +1,10 @@
 //! Whether some thread has more of something than a thread may have.
 ghost use Rattle.std.specs.Prelude.{◌≡◌, ◌↔◌, ◌<◌, ℕ, min, Contains, IsTrue};
-ghost use Rattle.aadl_tree.specs.PackageViews.{placed};
+ghost use Rattle.aadl_tree.specs.proof.PackageViews.{placed};
 ghost use Rattle.aadl_uses.specs.Uses.{IsInUse};
 ghost use Rattle.aadl_uses.specs.ThreadPlaces.{ThreadWith};
-ghost use Rattle.aadl_instance.specs.Parts as spec;
-ghost use Rattle.aadl_instance.specs.Parts.{HasTooMany};
+ghost use Rattle.aadl_instance.specs.proof.Parts as spec;
+ghost use Rattle.aadl_instance.specs.proof.Parts.{HasTooMany};
 
 use crate::counts::{states_up_to, variables_up_to};
 use aadl_chains::Wires;

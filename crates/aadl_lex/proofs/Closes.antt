@@ -4,7 +4,7 @@ use Rattle.std.specs.Prelude.{codes}
 use Rattle.std.specs.List.{starts_with}
 use Rattle.std.proofs.lemmas.Bool.{eqb-true}
 use Rattle.aadl_lex.specs.Rules.{close_from}
-use Rattle.aadl_lex.specs.Spelled.{IsUnread}
+use Rattle.aadl_lex.specs.proof.Spelled.{IsUnread}
 use Rattle.aadl_lex.proofs.Basics.{both_left, both_right, some_is}
 
 pub and_none : (a : Bool) → (a && false) ≡ false

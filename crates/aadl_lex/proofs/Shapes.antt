@@ -17,7 +17,7 @@ use Rattle.aadl_lex.specs.declared.rules.First.TheVariants.{Skipped, Taken, Body
 use Rattle.aadl_lex.specs.declared.rules.Reading.{Reading}
 use Rattle.aadl_lex.specs.declared.rules.Reading.TheVariants.{Outside, AfterName, Inside}
 use Rattle.aadl_lex.specs.Rules.{is_blank, is_in_word, is_in_string, run, whole_len, decimal, most, real_len, number_by, body_len, close_from, annex_by, can_open, symbols_of_three, symbols_of_two, symbols_of_one, symbol_len, first, after}
-use Rattle.aadl_lex.specs.Spelled.{IsWhole, IsReal, IsString, IsUnread, IsSymbol, IsSpelled, behind}
+use Rattle.aadl_lex.specs.proof.Spelled.{IsWhole, IsReal, IsString, IsUnread, IsSymbol, IsSpelled, behind}
 use Rattle.aadl_lex.proofs.Basics.{both_left, both_right, some_is}
 use Rattle.aadl_lex.proofs.Closes.{none_take, starts_exact, closes_of, closes_size, closes_front, closes_cut, close_at}
 use Rattle.aadl_lex.proofs.Within.{whole_len_le, run_some}

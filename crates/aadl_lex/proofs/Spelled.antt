@@ -15,7 +15,7 @@ use Rattle.aadl_lex.specs.declared.rules.Reading.{Reading}
 use Rattle.aadl_lex.specs.declared.rules.Reading.TheVariants.{Outside, AfterName, Inside}
 use Rattle.aadl_lex.specs.Rules.{is_word, can_open, close_from, first, after}
 use Rattle.aadl_lex.specs.Tokens.{token, bytes_of, Lexes, ended, skips, takes, reads, AreTokensOf}
-use Rattle.aadl_lex.specs.Spelled.{IsSpelled, AreSpelled, behind, IsWordAt, AreAmongTokensOf}
+use Rattle.aadl_lex.specs.proof.Spelled.{IsSpelled, AreSpelled, behind, IsWordAt, AreAmongTokensOf}
 use Rattle.aadl_lex.proofs.Order.{stands_within}
 use Rattle.aadl_lex.proofs.Closes.{none_drop, none_before, closes_of, closes_bytes, starts_exact}
 use Rattle.aadl_lex.proofs.Shapes.{Shape, first_shape, taken_spelled}

@@ -15,12 +15,12 @@ use Rattle.aadl_names.specs.declared.fault.FlatFault.{FlatFault}
 use Rattle.aadl_names.specs.declared.fault.FlatFault.TheVariants.{Twice}
 use Rattle.aadl_names.specs.declared.entry.Entry.{Entry}
 use Rattle.aadl_names.specs.declared.spot.Spot.{Spot}
-use Rattle.aadl_names.specs.Found.{found, as_list}
+use Rattle.aadl_names.specs.proof.Found.{found, as_list}
 use Rattle.aadl_names.specs.Spelling.{folded}
 use Rattle.aadl_names.specs.Twice.{again, twice}
-use Rattle.aadl_names.specs.Earliest.{sooner, earliest, is_before}
+use Rattle.aadl_names.specs.proof.Earliest.{sooner, earliest, is_before}
 use Rattle.aadl_names.proofs.Spots.{any_before}
-use Rattle.aadl_names.specs.DeclaredTwice.{entry_again, again_beside, port_again, beside_each, beside}
+use Rattle.aadl_names.specs.proof.DeclaredTwice.{entry_again, again_beside, port_again, beside_each, beside}
 use Rattle.aadl_names.proofs.Elements.{from_all, among_all, passing, any_of, got, is_here, only_here, none_here}
 use Rattle.aadl_names.proofs.Covers.{Covers, NotBehind, found_is_first, first_covers, not_itself}
 

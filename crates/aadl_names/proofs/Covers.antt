@@ -6,7 +6,7 @@ use Rattle.std.proofs.lemmas.List.Elements.{Contains-append_left, Contains-appen
 use Rattle.std.proofs.lemmas.Bool.Decides.{nat_tests}
 use Rattle.aadl_names.specs.declared.fault.FlatFault.{FlatFault}
 use Rattle.aadl_names.specs.Findings.{place_of, number_of, precedes, FirstOf}
-use Rattle.aadl_names.specs.Found.{earlier, found, as_list}
+use Rattle.aadl_names.specs.proof.Found.{earlier, found, as_list}
 use Rattle.aadl_names.proofs.Elements.{is_here, only_here, none_here}
 
 -- ---- the order of findings

@@ -3,7 +3,7 @@ use Rattle.std.proofs.Common.{◌≡◌, ◌<◌, ◌≤◌, ◌+◌, ℕ, ◌�
 use Rattle.std.proofs.lemmas.Grind.{common_steps}
 use Rattle.std.specs.Prelude.{OnOk}
 use Rattle.aadl_names.specs.declared.fault.FlatFault.{FlatFault}
-use Rattle.aadl_names.specs.Found.{earlier, found}
+use Rattle.aadl_names.specs.proof.Found.{earlier, found}
 
 pub found_append : (first : Option FlatFault) (a b : List FlatFault) → found first (a ++ b) ≡ found (found first a) b
 found_append first [] b = refl

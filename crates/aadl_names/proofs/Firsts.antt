@@ -7,8 +7,8 @@ use Rattle.std.specs.Option.{option_or}
 use Rattle.std.proofs.lemmas.List.{length-map, length-take-le, map_more, take_all}
 use Rattle.aadl_tree.specs.Declarations.{Declaration}
 use Rattle.aadl_names.specs.Resolving.{first_number}
-use Rattle.aadl_names.specs.Tables.{value_of}
-use Rattle.aadl_names.specs.Members.{member_of}
+use Rattle.aadl_names.specs.proof.Tables.{value_of}
+use Rattle.aadl_names.specs.proof.Members.{member_of}
 
 push_by : {X : Type 0} (b : Bool) (n : X) (old new more : Option X) → new ≡ option_or old more → cond b (Some n) new ≡ option_or (cond b (Some n) old) more
 push_by true n old new more e = refl

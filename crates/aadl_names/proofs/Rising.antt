@@ -8,7 +8,7 @@ use Rattle.aadl_tree.specs.Declarations.{PackageTree, package_parts}
 use Rattle.aadl_tree.specs.Given.{IsTreeOf}
 use Rattle.aadl_tree.specs.Kinds.{Kind, Spot, spots_from, spots, inside_behind}
 use Rattle.aadl_tree.specs.Parts.{Part, token, may, AreAt, HaveKinds, Written, extra_kinds}
-use Rattle.aadl_names.specs.Orders.{places_of, StandsBefore}
+use Rattle.aadl_names.specs.proof.Orders.{places_of, StandsBefore}
 
 -- ---- spots that rise from a place on
 abbrev Rising : ℕ → List Spot → Type 0

@@ -8,9 +8,9 @@ use Rattle.std.proofs.lemmas.Bool.Decides.{nat_tests}
 use Rattle.aadl_names.specs.declared.fault.FlatFault.TheVariants.{Twice}
 use Rattle.aadl_names.specs.declared.entry.Entry.{Entry}
 use Rattle.aadl_names.specs.declared.spot.Spot.{Spot}
-use Rattle.aadl_names.specs.Tables.{value_of}
+use Rattle.aadl_names.specs.proof.Tables.{value_of}
 use Rattle.aadl_names.specs.Twice.{again}
-use Rattle.aadl_names.specs.Earliest.{sooner, is_sooner, earliest, is_before, again_by}
+use Rattle.aadl_names.specs.proof.Earliest.{sooner, is_sooner, earliest, is_before, again_by}
 use Rattle.aadl_names.proofs.Lookups.{value-same}
 use Rattle.aadl_names.proofs.Finds.{first_left, none_left}
 

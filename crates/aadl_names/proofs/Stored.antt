@@ -9,11 +9,11 @@ use Rattle.aadl_tree.specs.declared.package.PackageTree as source_package
 use Rattle.aadl_tree.specs.declared.declarations.Declaration as source_declaration
 use Rattle.aadl_tree.specs.declared.declarations.Direction.{Direction}
 use Rattle.aadl_tree.specs.Declarations.{Feature, Subcomponent, TypeDeclaration, Implementation, Declaration, type, implementation, PackageTree}
-use Rattle.aadl_tree.specs.Views.{declaration_view}
-use Rattle.aadl_tree.specs.Maps.{kept_place}
-use Rattle.aadl_tree.specs.PackageViews.{placed}
+use Rattle.aadl_tree.specs.proof.Views.{declaration_view}
+use Rattle.aadl_tree.specs.proof.Maps.{kept_place}
+use Rattle.aadl_tree.specs.proof.PackageViews.{placed}
 use Rattle.aadl_names.specs.declared.site.Site.TheVariants.{Inner}
-use Rattle.aadl_names.specs.Members.{member_of}
+use Rattle.aadl_names.specs.proof.Members.{member_of}
 use Rattle.aadl_names.specs.Resolving.{type_in, type_number, type_numbered, target_of, features_of, port_named, ports_at, inner_ports, inner_site, direction_in, with_direction}
 
 -- the declaration of a number

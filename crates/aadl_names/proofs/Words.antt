@@ -2,8 +2,8 @@
 use Rattle.std.proofs.Common.{◌≡◌, ◌≢◌, ℕ, Bool, true, false, ◌&&◌, List, [], ◌∷◌, length, refl, ap, ◌∙◌, map, suc}
 use Rattle.aadl_tree.specs.Names.{same_name}
 use Rattle.aadl_tree.specs.declared.names.Identifier.{Identifier}
-use Rattle.aadl_tree.specs.NameViews.{identifier_view}
-use Rattle.aadl_tree.specs.Maps.{kept_place}
+use Rattle.aadl_tree.specs.proof.NameViews.{identifier_view}
+use Rattle.aadl_tree.specs.proof.Maps.{kept_place}
 use Rattle.aadl_tree.specs.Names as n
 use Rattle.aadl_names.specs.Resolving.{same_words}
 

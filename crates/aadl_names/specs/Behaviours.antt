@@ -1,5 +1,5 @@
 -- The behaviours among annexes, and what they declare.
-use Rattle.std.specs.Prelude.{ℕ, List, [], flat_map, Option, Some, None}
+use Rattle.std.specs.Prelude.{ℕ, List, [], flat_map, Option, Some, None, ◌∷◌}
 use Rattle.std.specs.List.{filter_map}
 use Rattle.aadl_tree.specs.Names.{Identifier, identifiers, listed_in}
 use Rattle.aadl_tree.specs.Annexes.{VariableDeclaration, AnnexTree, foreign, behaviour, Annex}
@@ -20,3 +20,7 @@ states_of tree = flat_map (λ s. identifiers s.names) (listed_in tree.states)
 -- the declarations of variables in an annex
 abbrev pub variables_in : Annex ℕ → List (VariableDeclaration ℕ)
 variables_in x = elim x.content as (λ _. List (VariableDeclaration ℕ)) [ foreign bytes ↦ [] | behaviour tree ↦ listed_in tree.variables ]
+
+abbrev pub first_behaviour : List (ℕ × AnnexTree ℕ) → Option (AnnexTree ℕ)
+first_behaviour [] = None
+first_behaviour (b ∷ bs) = Some b.1

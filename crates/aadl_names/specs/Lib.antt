@@ -1,15 +1,10 @@
 pub mod Spelling
 pub mod Findings
-pub mod Found
 pub mod Resolving
 pub mod Twice
-pub mod Earliest
 pub mod Properties
 pub mod Behaviours
 pub mod Spaces
 pub mod AnnexNames
-pub mod Tables
-pub mod Members
 pub mod PackageFaults
-pub mod DeclaredTwice
-pub mod Orders
+pub mod proof

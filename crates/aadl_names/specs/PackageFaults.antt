@@ -1,16 +1,12 @@
 -- What is wrong with the names of a whole package, one list for each sentence of the rules. What is declared twice stands
 -- in a file of its own.
-use Rattle.std.specs.Prelude.{ℕ, Bool, true, false, not, ◌&&◌, nat_eq, nat_lt, List, [], ◌∷◌, ◌++◌, map, flat_map, Option, Some, None, slice_get}
-use Rattle.std.specs.Prelude.{option_map, find, if◌then◌else◌}
+use Rattle.std.specs.Prelude.{ℕ, Bool, true, false, not, ◌&&◌, nat_eq, nat_lt, List, [], ◌∷◌, ◌++◌, map, flat_map, Option, Some, None, slice_get, option_map, find, if◌then◌else◌}
 use Rattle.std.specs.List.{list_any, enumerate_from}
 use Rattle.aadl_tree.specs.declared.declarations.Category.{Category}
-use Rattle.aadl_tree.specs.declared.declarations.Category.TheVariants as categories
 use Rattle.aadl_tree.specs.declared.declarations.Direction.{Direction}
-use Rattle.aadl_tree.specs.declared.declarations.Direction.TheVariants as directions
 use Rattle.aadl_tree.specs.Names.{Identifier, Reference, same_name, listed_in}
 use Rattle.aadl_tree.specs.Annexes.{VariableDeclaration, Guard, dispatch, otherwise, when, Transition, AnnexTree, foreign, behaviour, Annex}
-use Rattle.aadl_tree.specs.Declarations.{Feature, Subcomponent, ConnectionEnd, Connection, TypeDeclaration, Implementation, Declaration, type}
-use Rattle.aadl_tree.specs.Declarations.{implementation, PackageTree}
+use Rattle.aadl_tree.specs.Declarations.{Feature, Subcomponent, ConnectionEnd, Connection, TypeDeclaration, Implementation, Declaration, type, implementation, PackageTree}
 use Rattle.aadl_tree.specs.Actions.{Block}
 use Rattle.aadl_names.specs.declared.fault.FlatFault.{FlatFault}
 use Rattle.aadl_names.specs.declared.fault.FlatFault.TheVariants.{Unknown, WrongKind}
@@ -24,8 +20,10 @@ use Rattle.aadl_names.specs.declared.role.Role.{Role}
 use Rattle.aadl_names.specs.declared.role.Role.TheVariants.{Receives, Gives, Varies}
 use Rattle.aadl_names.specs.declared.site.Site.{Site}
 use Rattle.aadl_names.specs.declared.site.Site.TheVariants.{Own, Inner}
-use Rattle.aadl_names.specs.declared.holder.Holder.TheVariants as holders
 use Rattle.aadl_names.specs.AnnexNames.{Known, either, expression_uses, block_uses}
+use Rattle.aadl_tree.specs.declared.declarations.Category.TheVariants as categories
+use Rattle.aadl_tree.specs.declared.declarations.Direction.TheVariants as directions
+use Rattle.aadl_names.specs.declared.holder.Holder.TheVariants as holders
 
 -- ---- annexes
 abbrev pub role_in : Direction → Role

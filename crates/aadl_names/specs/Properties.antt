@@ -1,24 +1,22 @@
 -- The properties that mean something, where they do, and the shapes of their values.
-use Rattle.std.specs.Prelude.{ℕ, ◌*◌, ◌-◌, ◌==◌, pos, Bool, true, false, not, ◌&&◌, ◌||◌, nat_le, nat_eq, take, drop, List, [], ◌∷◌, ◌++◌, length, filter}
+use Rattle.std.specs.Prelude.{ℕ, ◌*◌, ◌-◌, ◌==◌, pos, Bool, true, false, not, ◌&&◌, ◌||◌, nat_le, nat_eq, take, drop, List, [], ◌∷◌, ◌++◌, length, filter, map, flat_map, codes, Option, Some, None, if◌then◌else◌, find}
 use Rattle.std.specs.Option.{is_some}
-use Rattle.std.specs.Prelude.{map, flat_map, codes, Option, Some, None, if◌then◌else◌, find}
 use Rattle.std.specs.List.{list_any, starts_with}
 use Rattle.std.specs.Str.{bytes_eq}
 use Rattle.aadl_lex.specs.Rules.{whole_len, decimal, most}
 use Rattle.aadl_tree.specs.declared.declarations.Category.{Category}
 use Rattle.aadl_tree.specs.Names.{Path, Reference, Identifier, same_name}
-use Rattle.aadl_tree.specs.Values.{Figure, whole_figure, real_figure, Quantity, Value, list, text, named, number, no_values, value, Association}
-use Rattle.aadl_tree.specs.Values.{association, Associations, no_associations, associate}
+use Rattle.aadl_tree.specs.Values.{Figure, whole_figure, real_figure, Quantity, Value, list, text, named, number, no_values, value, Association, association, Associations, no_associations, associate}
 use Rattle.aadl_names.specs.declared.fault.FlatFault.{FlatFault}
 use Rattle.aadl_names.specs.declared.holder.Property.{Property}
 use Rattle.aadl_names.specs.declared.holder.Property.TheVariants.{Period, Dispatch, Timing, Adaptor, Skew, Execution, Network, Initial}
 use Rattle.aadl_names.specs.declared.holder.Holder.{Holder}
-use Rattle.aadl_names.specs.declared.holder.Holder.TheVariants as holders
 use Rattle.aadl_names.specs.declared.entry.Entry.{Entry}
 use Rattle.aadl_names.specs.Findings.{wrong_if}
 use Rattle.aadl_names.specs.Spelling.{spelled_name}
 use Rattle.aadl_names.specs.Resolving.{is_thread}
 use Rattle.aadl_names.specs.Twice.{twice}
+use Rattle.aadl_names.specs.declared.holder.Holder.TheVariants as holders
 
 abbrev pub listed : Associations ℕ → List (Association ℕ)
 listed no_associations = []

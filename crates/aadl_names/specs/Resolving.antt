@@ -4,14 +4,13 @@ use Rattle.std.specs.Prelude.{ℕ, Bool, true, false, ◌&&◌, ◌||◌, List, 
 use Rattle.std.specs.List.{position_from}
 use Rattle.std.specs.Option.{option_and_then}
 use Rattle.aadl_tree.specs.declared.declarations.Category.{Category}
-use Rattle.aadl_tree.specs.declared.declarations.Category.TheVariants as categories
 use Rattle.aadl_tree.specs.declared.declarations.Direction.{Direction}
 use Rattle.aadl_tree.specs.Names.{Identifier, Reference, same_name}
-use Rattle.aadl_tree.specs.Declarations.{Feature, Subcomponent, ConnectionEnd, Connection, TypeDeclaration, Implementation, Declaration, type}
-use Rattle.aadl_tree.specs.Declarations.{implementation, PackageTree}
+use Rattle.aadl_tree.specs.Declarations.{Feature, Subcomponent, ConnectionEnd, Connection, TypeDeclaration, Implementation, Declaration, type, implementation, PackageTree}
 use Rattle.aadl_names.specs.declared.site.Site.{Site}
 use Rattle.aadl_names.specs.declared.site.Site.TheVariants.{Own, Inner}
 use Rattle.aadl_names.specs.Spelling.{spelled_implementation}
+use Rattle.aadl_tree.specs.declared.declarations.Category.TheVariants as categories
 
 -- the number of the first that passes the test
 abbrev pub first_number : {X : Type 0} → (X → Bool) → List X → Option ℕ

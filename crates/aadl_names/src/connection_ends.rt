@@ -1,9 +1,9 @@
 //! The ports that connections join.
 ghost use Rattle.std.specs.Prelude.{◌≡◌, IfOk, Some, string_bytes, slice_get, option_map};
 ghost use Rattle.std.specs.Option.{option_and_then};
-ghost use Rattle.aadl_tree.specs.PackageViews.{placed};
-ghost use Rattle.aadl_tree.specs.Views.{implementation_view, subcomponent_view, end_view};
-ghost use Rattle.aadl_tree.specs.Maps.{kept_place};
+ghost use Rattle.aadl_tree.specs.proof.PackageViews.{placed};
+ghost use Rattle.aadl_tree.specs.proof.Views.{implementation_view, subcomponent_view, end_view};
+ghost use Rattle.aadl_tree.specs.proof.Maps.{kept_place};
 ghost use Rattle.aadl_tree.specs.Declarations.{implementation};
 ghost use Rattle.aadl_names.specs.PackageFaults.{sited};
 ghost use Rattle.aadl_names.specs.Resolving as spec;

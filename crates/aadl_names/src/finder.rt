@@ -24,7 +24,7 @@ impl Model for Finder {
 impl Finder {
     ghost use Rattle.std.specs.Prelude.{◌≡◌, OnOk, None, [], ◌∷◌};
     ghost use Rattle.aadl_names.specs.declared.fault.FlatFault.TheVariants as faults;
-    ghost use Rattle.aadl_names.specs.Found.{found, comes_first, as_list};
+    ghost use Rattle.aadl_names.specs.proof.Found.{found, comes_first, as_list};
     ghost use Rattle.aadl_names.specs.Findings as spec;
 
     /// A finder that has found nothing yet. It takes no memory.

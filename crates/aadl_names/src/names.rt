@@ -3,12 +3,12 @@ ghost use Rattle.std.specs.Prelude.{◌≡◌, ℕ, List, [], IfOk, OnOk, map, S
 ghost use Rattle.aadl_tree.specs.Names.{same_name};
 ghost use Rattle.std.proofs.Props.{props};
 ghost use Rattle.std.specs.Option.{option_or};
-ghost use Rattle.aadl_tree.specs.PackageViews.{placed};
-ghost use Rattle.aadl_tree.specs.NameViews.{identifier_view, reference_view};
-ghost use Rattle.aadl_tree.specs.Views.{feature_view, subcomponent_view, declaration_view};
-ghost use Rattle.aadl_tree.specs.Maps.{kept_place};
-ghost use Rattle.aadl_names.specs.Tables.{value_of};
-ghost use Rattle.aadl_names.specs.Members.{member_of};
+ghost use Rattle.aadl_tree.specs.proof.PackageViews.{placed};
+ghost use Rattle.aadl_tree.specs.proof.NameViews.{identifier_view, reference_view};
+ghost use Rattle.aadl_tree.specs.proof.Views.{feature_view, subcomponent_view, declaration_view};
+ghost use Rattle.aadl_tree.specs.proof.Maps.{kept_place};
+ghost use Rattle.aadl_names.specs.proof.Tables.{value_of};
+ghost use Rattle.aadl_names.specs.proof.Members.{member_of};
 ghost use Rattle.aadl_names.specs.Resolving as spec;
 ghost use Rattle.aadl_names.specs.Resolving.{first_number, is_type, is_implementation, port_named, sub_named};
 

@@ -1,8 +1,8 @@
 //! The declarations of a package by their numbers.
 ghost use Rattle.std.specs.Prelude.{◌≡◌, IfOk, slice_get, option_map, option_copied};
-ghost use Rattle.aadl_tree.specs.PackageViews.{placed};
-ghost use Rattle.aadl_tree.specs.Views.{implementation_view, subcomponent_view, type_view};
-ghost use Rattle.aadl_tree.specs.Maps.{kept_place};
+ghost use Rattle.aadl_tree.specs.proof.PackageViews.{placed};
+ghost use Rattle.aadl_tree.specs.proof.Views.{implementation_view, subcomponent_view, type_view};
+ghost use Rattle.aadl_tree.specs.proof.Maps.{kept_place};
 ghost use Rattle.aadl_names.specs.Resolving as spec;
 
 use crate::names::Names;

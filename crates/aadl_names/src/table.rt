@@ -26,7 +26,7 @@ impl<V: Copy> Table<V> {
     ghost use Rattle.std.specs.Prelude.{◌≡◌, ◌++◌, ℕ, List, None, Some, OnOk, IfOk, codes, if◌then◌else◌};
     ghost use Rattle.std.specs.Option.{option_or};
     ghost use Rattle.aadl_tree.specs.Names.{same_name};
-    ghost use Rattle.aadl_names.specs.Tables.{value_of};
+    ghost use Rattle.aadl_names.specs.proof.Tables.{value_of};
 
     /// An empty table. It takes no memory.
     pub fn new(alloc: Global) -> Table<V>

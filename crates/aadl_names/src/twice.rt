@@ -2,9 +2,9 @@
 #![tactic(auto, using(crate::proofs::Finds::found_append))]
 
 ghost use Rattle.std.specs.Prelude.{◌≡◌, OnOk};
-ghost use Rattle.aadl_names.specs.Found.{found};
-ghost use Rattle.aadl_names.specs.Tables.{value_of};
-ghost use Rattle.aadl_names.specs.Earliest.{again_by};
+ghost use Rattle.aadl_names.specs.proof.Found.{found};
+ghost use Rattle.aadl_names.specs.proof.Tables.{value_of};
+ghost use Rattle.aadl_names.specs.proof.Earliest.{again_by};
 ghost use Rattle.aadl_names.specs.Twice.{twice};
 
 use crate::earliest::{earliest_of, is_before};

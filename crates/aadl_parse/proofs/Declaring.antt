@@ -10,11 +10,11 @@ use Rattle.aadl_tree.specs.declared.annex.Annex.{Annex}
 use Rattle.aadl_tree.specs.Kinds.{mark, Spot}
 use Rattle.aadl_tree.specs.Annexes.{annex_parts}
 use Rattle.aadl_tree.specs.Declarations.{category_mark, feature_parts, subcomponent_parts, connection_parts}
-use Rattle.aadl_tree.specs.Views.{feature_view, subcomponent_view, connection_view, annex_view}
-use Rattle.aadl_tree.specs.Maps.{kept_place}
-use Rattle.aadl_grammar.specs.Symbols as s
-use Rattle.aadl_grammar.specs.Machine.{takes, move}
-use Rattle.aadl_grammar.specs.Reading.{Reads}
+use Rattle.aadl_tree.specs.proof.Views.{feature_view, subcomponent_view, connection_view, annex_view}
+use Rattle.aadl_tree.specs.proof.Maps.{kept_place}
+use Rattle.aadl_grammar.specs.proof.Symbols as s
+use Rattle.aadl_grammar.specs.proof.Machine.{takes, move}
+use Rattle.aadl_grammar.specs.proof.Reading.{Reads}
 use Rattle.aadl_grammar.proofs.Written.{begun}
 
 pub feature_begun : (x : Feature) {ss rest : List Spot} → Reads (feature_parts (feature_view kept_place x)) ss rest → length rest < length ss

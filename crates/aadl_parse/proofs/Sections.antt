@@ -5,10 +5,10 @@ use Rattle.aadl_tree.specs.declared.values.Association.{Association}
 use Rattle.aadl_tree.specs.Kinds.{mark, Spot}
 use Rattle.aadl_tree.specs.Parts.{Part, Section, section_mark, property_section}
 use Rattle.aadl_tree.specs.Values as v
-use Rattle.aadl_tree.specs.ValueViews.{association_view, associations_view}
+use Rattle.aadl_tree.specs.proof.ValueViews.{association_view, associations_view}
 use Rattle.aadl_tree.specs.Declarations.{section_parts}
-use Rattle.aadl_tree.specs.Maps.{kept_place}
-use Rattle.aadl_grammar.specs.Reading.{spot, AtMark, Reads}
+use Rattle.aadl_tree.specs.proof.Maps.{kept_place}
+use Rattle.aadl_grammar.specs.proof.Reading.{spot, AtMark, Reads}
 use Rattle.aadl_grammar.proofs.Written.{then, marked, respelled}
 
 pub no_section : (section : Section) {ps : List (Part ℕ)} {ss : List Spot} → [] ≡ ps → Reads (section_parts section ps) ss ss

@@ -11,8 +11,8 @@ use Rattle.aadl_tree.specs.Parts.{Written}
 use Rattle.aadl_tree.specs.Declarations.{PackageTree, package_parts}
 use Rattle.aadl_tree.specs.Grammar.{IsPackage, IsShallow, FailsAt, DeepAt, place}
 use Rattle.aadl_tree.specs.Given.{IsTreeOf, StopsAt, NestsAt}
-use Rattle.aadl_grammar.specs.Symbols as s
-use Rattle.aadl_grammar.specs.Machine.{finished, fate, syntax_at}
+use Rattle.aadl_grammar.specs.proof.Symbols as s
+use Rattle.aadl_grammar.specs.proof.Machine.{finished, fate, syntax_at}
 use Rattle.aadl_grammar.proofs.Fates.Answers.{answers_text, answers_fault, answers_depth}
 use Rattle.aadl_grammar.proofs.Fates.Exclusive.{fails_once, fails_not_deep, deep_once}
 use Rattle.aadl_grammar.proofs.Fates.Verdict.{fails_no_text, deep_not_shallow}
@@ -22,8 +22,8 @@ use Rattle.aadl_grammar.proofs.Fates.Steps.{fate_end, fate_left}
 use Rattle.aadl_grammar.specs.declared.fault.ParseFault.{ParseFault}
 use Rattle.aadl_grammar.specs.declared.fault.ParseFault.TheVariants as parsing
 use Rattle.aadl_grammar.specs.declared.terminal.Terminal.{Terminal}
-use Rattle.aadl_grammar.specs.Terminals.{spots_of}
-use Rattle.aadl_grammar.specs.Reading.{FailsAs, Reads}
+use Rattle.aadl_grammar.specs.proof.Terminals.{spots_of}
+use Rattle.aadl_grammar.specs.proof.Reading.{FailsAs, Reads}
 use Rattle.aadl_parse.specs.declared.fault.TextFault.{TextFault}
 use Rattle.aadl_parse.specs.declared.fault.TextFault.TheVariants.{Lex, Memory, Syntax, TooDeep}
 use Rattle.aadl_parse.specs.Texts.{IsOnlyTreeOf, IsFaultOfText, of_parse}

@@ -5,13 +5,13 @@ ghost use Rattle.aadl_tree.specs.Parts.{plain, parts_if, feature_section, subcom
 ghost use Rattle.aadl_tree.specs.Names.{reference_parts};
 ghost use Rattle.aadl_tree.specs.Values.{associations_parts};
 ghost use Rattle.aadl_tree.specs.Declarations.{category_mark, direction_mark, section_parts, feature_parts, subcomponent_parts, connection_parts, end_parts};
-ghost use Rattle.aadl_tree.specs.NameViews.{reference_view};
-ghost use Rattle.aadl_tree.specs.ValueViews.{associations_view};
-ghost use Rattle.aadl_tree.specs.Views.{feature_view, subcomponent_view, connection_view, end_view};
-ghost use Rattle.aadl_tree.specs.Maps.{kept_place};
-ghost use Rattle.aadl_grammar.specs.Symbols as s;
-ghost use Rattle.aadl_grammar.specs.Table.{rows};
-ghost use Rattle.aadl_grammar.specs.Reading.{here, AtMark, MissAll, Parses, AnyRoom, Room};
+ghost use Rattle.aadl_tree.specs.proof.NameViews.{reference_view};
+ghost use Rattle.aadl_tree.specs.proof.ValueViews.{associations_view};
+ghost use Rattle.aadl_tree.specs.proof.Views.{feature_view, subcomponent_view, connection_view, end_view};
+ghost use Rattle.aadl_tree.specs.proof.Maps.{kept_place};
+ghost use Rattle.aadl_grammar.specs.proof.Symbols as s;
+ghost use Rattle.aadl_grammar.specs.proof.Table.{rows};
+ghost use Rattle.aadl_grammar.specs.proof.Reading.{here, AtMark, MissAll, Parses, AnyRoom, Room};
 
 use aadl_grammar::{
     ParseFault, Parsed, Reader, association, associations, dot_identifier, identifier, properties,

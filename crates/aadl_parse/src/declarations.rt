@@ -6,12 +6,12 @@ ghost use Rattle.aadl_tree.specs.Parts.{token, behind};
 ghost use Rattle.aadl_tree.specs.Names.{identifier_parts, name_parts};
 ghost use Rattle.aadl_tree.specs.Annexes.{annex_parts, content_parts};
 ghost use Rattle.aadl_tree.specs.Declarations.{category_mark, declaration_parts, with_parts, implementation_name_parts, ending_parts, package_parts};
-ghost use Rattle.aadl_tree.specs.NameViews.{identifier_view, name_view};
-ghost use Rattle.aadl_tree.specs.Views.{annex_view, content_view, declaration_view, with_view, implementation_name_view};
-ghost use Rattle.aadl_tree.specs.Maps.{kept_place};
-ghost use Rattle.aadl_grammar.specs.Symbols as s;
-ghost use Rattle.aadl_grammar.specs.Reading.{Parses, AnyRoom, Room};
-ghost use Rattle.aadl_parse.specs.Rests.{rest_parts, package_of};
+ghost use Rattle.aadl_tree.specs.proof.NameViews.{identifier_view, name_view};
+ghost use Rattle.aadl_tree.specs.proof.Views.{annex_view, content_view, declaration_view, with_view, implementation_name_view};
+ghost use Rattle.aadl_tree.specs.proof.Maps.{kept_place};
+ghost use Rattle.aadl_grammar.specs.proof.Symbols as s;
+ghost use Rattle.aadl_grammar.specs.proof.Reading.{Parses, AnyRoom, Room};
+ghost use Rattle.aadl_parse.specs.proof.Rests.{rest_parts, package_of};
 
 use crate::components::{category, connections, features, own_properties, subcomponents};
 use aadl_grammar::{ParseFault, Parsed, Reader, identifier, name};

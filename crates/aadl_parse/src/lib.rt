@@ -7,7 +7,7 @@
 ghost use Rattle.std.specs.Prelude.{ℕ, ◌≡◌, ◌≢◌, List, IfOk, IfErr};
 ghost use Rattle.aadl_tree.specs.Declarations.{PackageTree as Tree};
 ghost use Rattle.aadl_tree.specs.Given.{IsTreeOf};
-ghost use Rattle.aadl_tree.specs.PackageViews.{placed};
+ghost use Rattle.aadl_tree.specs.proof.PackageViews.{placed};
 ghost use Rattle.aadl_parse.specs.declared.fault.TextFault.{TextFault};
 ghost use Rattle.aadl_parse.specs.Texts.{IsOnlyTreeOf, IsFaultOfText};
 

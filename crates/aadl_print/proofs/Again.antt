@@ -6,8 +6,8 @@ use Rattle.std.proofs.Math.Logic.{∥∥₁_elim}
 use Rattle.aadl_tree.specs.declared.package.PackageTree.{PackageTree as SourceTree}
 use Rattle.aadl_tree.specs.Canon.{canon}
 use Rattle.aadl_tree.specs.Given.{IsTreeOf}
-use Rattle.aadl_tree.specs.Maps.{kept_place, no_place}
-use Rattle.aadl_tree.specs.PackageViews.{placed, meaning}
+use Rattle.aadl_tree.specs.proof.Maps.{kept_place, no_place}
+use Rattle.aadl_tree.specs.proof.PackageViews.{placed, meaning}
 use Rattle.aadl_tree.proofs.Ties.Declarations.{package_tied}
 use Rattle.aadl_grammar.proofs.Reading.{canon_of, reads_back, only_so}
 use Rattle.aadl_parse.specs.declared.fault.TextFault.{TextFault}

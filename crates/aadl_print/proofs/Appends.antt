@@ -5,7 +5,7 @@ use Rattle.std.specs.Prelude.{OnOk}
 use Rattle.std.proofs.Common.{Result, Ok, Err}
 use Rattle.std.proofs.lemmas.List.{take_all}
 use Rattle.aadl_tree.specs.Parts.{Part, token, may}
-use Rattle.aadl_print.specs.Printed.{Printed, put, printed}
+use Rattle.aadl_print.specs.proof.Printed.{Printed, put, printed}
 
 pub printed_append : {P : Type 0} → (before : Printed) (a b : List (Part P)) → printed before (a ++ b) ≡ printed (printed before a) b
 printed_append before [] b = refl

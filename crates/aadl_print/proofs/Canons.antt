@@ -6,7 +6,7 @@ use Rattle.aadl_tree.specs.Parts.{Part, token, may, kept}
 use Rattle.aadl_tree.specs.Canon.{kind_text, holds_left, holds_right, ends_line, line_end, text_behind, canonical, canon}
 use Rattle.aadl_tree.specs.Declarations.{PackageTree, package_parts}
 use Rattle.aadl_print.specs.declared.gap.Gap.TheVariants.{Nothing, Space, LineEnd}
-use Rattle.aadl_print.specs.Printed.{Printed, gap_text, gap_behind, blank, put, printed}
+use Rattle.aadl_print.specs.proof.Printed.{Printed, gap_text, gap_behind, blank, put, printed}
 
 -- terminals one behind the other
 abbrev written : Printed → List Kind → Printed

@@ -14,10 +14,10 @@ use Rattle.aadl_tree.specs.declared.actions.Block.{Block}
 use Rattle.aadl_tree.specs.Values.{association}
 use Rattle.aadl_tree.specs.Expressions.{term}
 use Rattle.aadl_tree.specs.Actions.{actions}
-use Rattle.aadl_tree.specs.NameViews.{name_view, path_view}
-use Rattle.aadl_tree.specs.ValueViews.{value_view, association_view}
-use Rattle.aadl_tree.specs.ExpressionViews.{factor_view, factors_view, term_view}
-use Rattle.aadl_tree.specs.ActionViews.{action_view, actions_view, block_view, mores_view, block_of}
+use Rattle.aadl_tree.specs.proof.NameViews.{name_view, path_view}
+use Rattle.aadl_tree.specs.proof.ValueViews.{value_view, association_view}
+use Rattle.aadl_tree.specs.proof.ExpressionViews.{factor_view, factors_view, term_view}
+use Rattle.aadl_tree.specs.proof.ActionViews.{action_view, actions_view, block_view, mores_view, block_of}
 use Rattle.aadl_tree.proofs.ActionViews.{view-block}
 
 pub view-out-association : {P : Type 0} (place : ℕ → P) (x : Association)

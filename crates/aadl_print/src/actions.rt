@@ -3,10 +3,10 @@
 
 ghost use Rattle.std.specs.Prelude.{◌≡◌, OnOk};
 ghost use Rattle.aadl_tree.specs.Actions.{test_parts, bound_parts, action_parts, actions_parts, block_parts};
-ghost use Rattle.aadl_tree.specs.ExpressionViews.{expression_view};
-ghost use Rattle.aadl_tree.specs.ActionViews.{action_view, actions_view, block_view, choice_view, loop_view};
-ghost use Rattle.aadl_tree.specs.Maps.{no_place};
-ghost use Rattle.aadl_print.specs.Printed.{printed};
+ghost use Rattle.aadl_tree.specs.proof.ExpressionViews.{expression_view};
+ghost use Rattle.aadl_tree.specs.proof.ActionViews.{action_view, actions_view, block_view, choice_view, loop_view};
+ghost use Rattle.aadl_tree.specs.proof.Maps.{no_place};
+ghost use Rattle.aadl_print.specs.proof.Printed.{printed};
 
 use crate::expressions::print_expression;
 use crate::items::{Print, print_if};
@@ -112,8 +112,8 @@ pub fn print_block(printer: &mut Printer, block: &Block) -> Result<(), AllocErro
 
 impl Print for Block {
     ghost use Rattle.aadl_tree.specs.Actions.{Block, block_parts};
-    ghost use Rattle.aadl_tree.specs.ActionViews.{block_view};
-    ghost use Rattle.aadl_tree.specs.Maps.{no_place};
+    ghost use Rattle.aadl_tree.specs.proof.ActionViews.{block_view};
+    ghost use Rattle.aadl_tree.specs.proof.Maps.{no_place};
 
     ghost Tree = { Block (Unit {0}) };
 

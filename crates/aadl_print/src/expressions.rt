@@ -3,9 +3,9 @@
 
 ghost use Rattle.std.specs.Prelude.{◌≡◌, OnOk};
 ghost use Rattle.aadl_tree.specs.Expressions.{multiply_mark, relation_mark, logic_parts, primary_parts, factor_parts, term_parts, sum_parts, relation_parts, expression_parts};
-ghost use Rattle.aadl_tree.specs.ExpressionViews.{primary_view, factor_view, term_view, sum_view, relation_view, expression_view};
-ghost use Rattle.aadl_tree.specs.Maps.{no_place};
-ghost use Rattle.aadl_print.specs.Printed.{printed};
+ghost use Rattle.aadl_tree.specs.proof.ExpressionViews.{primary_view, factor_view, term_view, sum_view, relation_view, expression_view};
+ghost use Rattle.aadl_tree.specs.proof.Maps.{no_place};
+ghost use Rattle.aadl_print.specs.proof.Printed.{printed};
 
 use crate::items::{Print, print_option};
 use crate::printer::Printer;
@@ -60,8 +60,8 @@ fn print_logic(printer: &mut Printer, operator: LogicOperator) -> Result<(), All
 
 impl Print for LeadingSign {
     ghost use Rattle.aadl_tree.specs.Expressions.{LeadingSign, leading_parts};
-    ghost use Rattle.aadl_tree.specs.ExpressionViews.{leading_view};
-    ghost use Rattle.aadl_tree.specs.Maps.{no_place};
+    ghost use Rattle.aadl_tree.specs.proof.ExpressionViews.{leading_view};
+    ghost use Rattle.aadl_tree.specs.proof.Maps.{no_place};
 
     ghost Tree = { LeadingSign (Unit {0}) };
 

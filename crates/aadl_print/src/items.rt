@@ -4,7 +4,7 @@
 ghost use Rattle.std.specs.Prelude.{◌≡◌, ◌≢◌, List, [], map, flat_map, option_map, OnOk};
 ghost use Rattle.aadl_tree.specs.Parts.{Part, marked_if, parts_if, behind, chained};
 ghost use Rattle.aadl_tree.specs.Annexes.{declared_parts};
-ghost use Rattle.aadl_print.specs.Printed.{printed, under};
+ghost use Rattle.aadl_print.specs.proof.Printed.{printed, under};
 
 use crate::printer::Printer;
 use aadl_tree::Mark;

@@ -6,8 +6,8 @@
 ghost use Rattle.std.specs.Prelude.{◌≡◌, IfOk, OnOk};
 ghost use Rattle.aadl_tree.specs.Canon.{canon};
 ghost use Rattle.aadl_tree.specs.Declarations.{package_parts};
-ghost use Rattle.aadl_tree.specs.PackageViews.{meaning};
-ghost use Rattle.aadl_print.specs.Printed.{printed};
+ghost use Rattle.aadl_tree.specs.proof.PackageViews.{meaning};
+ghost use Rattle.aadl_print.specs.proof.Printed.{printed};
 
 mod actions;
 mod annex;
@@ -20,11 +20,10 @@ mod printer;
 mod round_trip;
 mod values;
 
-pub use round_trip::is_read_back;
-
 use aadl_tree::{Mark, PackageTree};
 use items::{Print, print_all};
 use printer::Printer;
+pub use round_trip::is_read_back;
 use std::alloc::{AllocError, Global};
 
 /// The canonical text of a tree. It fails only if there is not enough memory.

@@ -3,9 +3,9 @@
 
 ghost use Rattle.std.specs.Prelude.{◌≡◌, map, flat_map, OnOk};
 ghost use Rattle.aadl_tree.specs.Names.{qualifier_parts};
-ghost use Rattle.aadl_tree.specs.NameViews.{identifier_view};
-ghost use Rattle.aadl_tree.specs.Maps.{no_place};
-ghost use Rattle.aadl_print.specs.Printed.{printed};
+ghost use Rattle.aadl_tree.specs.proof.NameViews.{identifier_view};
+ghost use Rattle.aadl_tree.specs.proof.Maps.{no_place};
+ghost use Rattle.aadl_print.specs.proof.Printed.{printed};
 
 use crate::items::{Print, print_behind, print_chain};
 use crate::printer::Printer;
@@ -14,8 +14,8 @@ use std::alloc::AllocError;
 
 impl Print for Identifier {
     ghost use Rattle.aadl_tree.specs.Names.{Identifier, identifier_parts};
-    ghost use Rattle.aadl_tree.specs.NameViews.{identifier_view};
-    ghost use Rattle.aadl_tree.specs.Maps.{no_place};
+    ghost use Rattle.aadl_tree.specs.proof.NameViews.{identifier_view};
+    ghost use Rattle.aadl_tree.specs.proof.Maps.{no_place};
 
     ghost Tree = { Identifier (Unit {0}) };
 
@@ -30,8 +30,8 @@ impl Print for Identifier {
 
 impl Print for Name {
     ghost use Rattle.aadl_tree.specs.Names.{Name, name_parts};
-    ghost use Rattle.aadl_tree.specs.NameViews.{name_view};
-    ghost use Rattle.aadl_tree.specs.Maps.{no_place};
+    ghost use Rattle.aadl_tree.specs.proof.NameViews.{name_view};
+    ghost use Rattle.aadl_tree.specs.proof.Maps.{no_place};
 
     ghost Tree = { Name (Unit {0}) };
 
@@ -46,8 +46,8 @@ impl Print for Name {
 
 impl Print for Path {
     ghost use Rattle.aadl_tree.specs.Names.{Path, path_parts};
-    ghost use Rattle.aadl_tree.specs.NameViews.{path_view};
-    ghost use Rattle.aadl_tree.specs.Maps.{no_place};
+    ghost use Rattle.aadl_tree.specs.proof.NameViews.{path_view};
+    ghost use Rattle.aadl_tree.specs.proof.Maps.{no_place};
 
     ghost Tree = { Path (Unit {0}) };
 
@@ -62,8 +62,8 @@ impl Print for Path {
 
 impl Print for Identifiers {
     ghost use Rattle.aadl_tree.specs.Names.{Identifiers, identifiers_parts};
-    ghost use Rattle.aadl_tree.specs.NameViews.{identifiers_view};
-    ghost use Rattle.aadl_tree.specs.Maps.{no_place};
+    ghost use Rattle.aadl_tree.specs.proof.NameViews.{identifiers_view};
+    ghost use Rattle.aadl_tree.specs.proof.Maps.{no_place};
 
     ghost Tree = { Identifiers (Unit {0}) };
 
@@ -90,8 +90,8 @@ fn print_qualifiers(printer: &mut Printer, names: &[Identifier]) -> Result<(), A
 
 impl Print for Reference {
     ghost use Rattle.aadl_tree.specs.Names.{Reference, reference_parts};
-    ghost use Rattle.aadl_tree.specs.NameViews.{reference_view};
-    ghost use Rattle.aadl_tree.specs.Maps.{no_place};
+    ghost use Rattle.aadl_tree.specs.proof.NameViews.{reference_view};
+    ghost use Rattle.aadl_tree.specs.proof.Maps.{no_place};
 
     ghost Tree = { Reference (Unit {0}) };
 

@@ -4,10 +4,10 @@
 ghost use Rattle.std.specs.Prelude.{◌≡◌, map, OnOk};
 ghost use Rattle.aadl_tree.specs.declared.mark.Mark.TheVariants as k;
 ghost use Rattle.aadl_tree.specs.Values.{sign_mark, association_mark, applies_parts, value_parts, values_parts, association_parts, associations_parts, properties_parts};
-ghost use Rattle.aadl_tree.specs.NameViews.{path_view};
-ghost use Rattle.aadl_tree.specs.ValueViews.{value_view, values_view, association_view, associations_view};
-ghost use Rattle.aadl_tree.specs.Maps.{no_place};
-ghost use Rattle.aadl_print.specs.Printed.{printed, under};
+ghost use Rattle.aadl_tree.specs.proof.NameViews.{path_view};
+ghost use Rattle.aadl_tree.specs.proof.ValueViews.{value_view, values_view, association_view, associations_view};
+ghost use Rattle.aadl_tree.specs.proof.Maps.{no_place};
+ghost use Rattle.aadl_print.specs.proof.Printed.{printed, under};
 
 use crate::items::{Print, print_behind, print_chain, print_if, print_option};
 use crate::printer::Printer;
@@ -37,7 +37,7 @@ fn association_mark(operator: AssociationOperator) -> Mark
 
 impl Print for Figure {
     ghost use Rattle.aadl_tree.specs.Values.{Figure, figure_parts};
-    ghost use Rattle.aadl_tree.specs.ValueViews.{figure_view};
+    ghost use Rattle.aadl_tree.specs.proof.ValueViews.{figure_view};
 
     ghost Tree = { Figure };
 
@@ -55,7 +55,7 @@ impl Print for Figure {
 
 impl Print for Number {
     ghost use Rattle.aadl_tree.specs.Values.{Number, number_parts};
-    ghost use Rattle.aadl_tree.specs.ValueViews.{number_view};
+    ghost use Rattle.aadl_tree.specs.proof.ValueViews.{number_view};
 
     ghost Tree = { Number };
 
@@ -73,8 +73,8 @@ impl Print for Number {
 
 impl Print for Quantity {
     ghost use Rattle.aadl_tree.specs.Values.{Quantity, quantity_parts};
-    ghost use Rattle.aadl_tree.specs.ValueViews.{quantity_view};
-    ghost use Rattle.aadl_tree.specs.Maps.{no_place};
+    ghost use Rattle.aadl_tree.specs.proof.ValueViews.{quantity_view};
+    ghost use Rattle.aadl_tree.specs.proof.Maps.{no_place};
 
     ghost Tree = { Quantity (Unit {0}) };
 

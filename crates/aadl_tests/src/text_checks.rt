@@ -2,8 +2,7 @@
 use crate::faults::{lex_fault, text_fault};
 use aadl_lex::{Token, lex};
 use aadl_parse::{TextFault, parse};
-use aadl_print::print;
-use aadl_print::is_read_back;
+use aadl_print::{is_read_back, print};
 use aadl_tree::{PackageTree, same};
 use std::alloc::{AllocError, Global};
 

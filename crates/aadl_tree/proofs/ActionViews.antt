@@ -15,9 +15,9 @@ use Rattle.aadl_tree.specs.declared.actions.Action.TheViews.{out-Choice, roll-ou
 use Rattle.aadl_tree.specs.Actions.{assign, send, choose, loop, actions, elsif}
 use Rattle.aadl_tree.specs.Expressions as Plain
 use Rattle.aadl_tree.specs.Actions as Acts
-use Rattle.aadl_tree.specs.NameViews.{identifier_view, reference_view}
-use Rattle.aadl_tree.specs.ExpressionViews.{expression_view}
-use Rattle.aadl_tree.specs.ActionViews.{action_view, actions_view, block_view, choice_view, loop_view, mores_view, elsif_view, elsifs_of, elsifs_view, otherwise_of, block_of}
+use Rattle.aadl_tree.specs.proof.NameViews.{identifier_view, reference_view}
+use Rattle.aadl_tree.specs.proof.ExpressionViews.{expression_view}
+use Rattle.aadl_tree.specs.proof.ActionViews.{action_view, actions_view, block_view, choice_view, loop_view, mores_view, elsif_view, elsifs_of, elsifs_view, otherwise_of, block_of}
 
 pub view-Assign : {P : Type 0} (place : ℕ → P) (x : Identifier) (e : Expression) → action_view place (Assign x e) ≡ assign (identifier_view place x) (expression_view place e)
 view-Assign place x e = search (rules, the_lemmas)

@@ -7,7 +7,7 @@ use Rattle.std.specs.Char.{to_ascii_lowercase}
 use Rattle.std.proofs.lemmas.Bool.{eq-eqb, eqb-true}
 use Rattle.std.proofs.lemmas.Slice.Eq.{bytes_eq-Decides}
 use Rattle.aadl_tree.specs.Marks.{mark_text, keywords, keyword_of, symbols, symbol_of}
-use Rattle.aadl_tree.specs.Beginnings.{keywords_from, symbols_from}
+use Rattle.aadl_tree.specs.proof.Beginnings.{keywords_from, symbols_from}
 
 kept : {A : Type 0} (p : A → Bool) (x : A) (xs ys : List A) (a b : Bool) → p x ≡ a → (a ≡ true → b ≡ true) → find p xs ≡ find p ys → cond a (Some x) (find p xs) ≡ find p (cond b (x ∷ ys) ys)
 kept p x xs ys true true e h same = rw e refl

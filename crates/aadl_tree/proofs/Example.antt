@@ -7,7 +7,7 @@ use Rattle.aadl_tree.specs.Kinds.{mark}
 use Rattle.aadl_tree.specs.Parts.{Spells, kept}
 use Rattle.aadl_tree.specs.Annexes.{transition_parts}
 use Rattle.aadl_tree.specs.Canon.{canonical}
-use Rattle.aadl_tree.specs.Example.{counting, counting_kinds, counting_text}
+use Rattle.aadl_tree.specs.proof.Example.{counting, counting_kinds, counting_text}
 
 pub counting_plain : Spells (transition_parts counting) (counting_kinds []) []
 counting_plain = (_, refl, (_, refl, (_, refl, (_, refl, (_, refl, (_, refl, (_, refl, (_, refl, (_, refl, (_, refl, (_, refl, (_, refl, (_, refl, (_, refl, (_, refl, (_, refl, (_, refl, (_, refl, (_, refl, (_, refl, inl (_, refl, (_, refl, refl))))))))))))))))))))))

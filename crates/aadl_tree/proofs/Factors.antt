@@ -10,8 +10,8 @@ use Rattle.aadl_tree.specs.declared.expressions.Sum.{Sum}
 use Rattle.aadl_tree.specs.declared.expressions.Term.{Term}
 use Rattle.aadl_tree.specs.Expressions as plain
 use Rattle.aadl_tree.specs.Expressions.{absolute, negated, bare}
-use Rattle.aadl_tree.specs.ExpressionViews.{factor_view}
-use Rattle.aadl_tree.specs.Maps.{no_place}
+use Rattle.aadl_tree.specs.proof.ExpressionViews.{factor_view}
+use Rattle.aadl_tree.specs.proof.Maps.{no_place}
 use Rattle.aadl_tree.proofs.ExpressionViews.{view-Abs, view-Not, view-Plain}
 
 abbrev Layer : Type 0

@@ -10,10 +10,10 @@ use Rattle.aadl_tree.specs.declared.expressions.Term.{Term}
 use Rattle.aadl_tree.specs.declared.expressions.Relation.{Relation}
 use Rattle.aadl_tree.specs.declared.actions.Action.{Action}
 use Rattle.aadl_tree.specs.declared.actions.Elsif.{Elsif}
-use Rattle.aadl_tree.specs.ValueViews.{values_view, associations_view}
-use Rattle.aadl_tree.specs.ExpressionViews.{factors_view, terms_view, relations_view}
-use Rattle.aadl_tree.specs.ActionViews.{mores_view, elsifs_view}
-use Rattle.aadl_tree.specs.Maps.{no_place}
+use Rattle.aadl_tree.specs.proof.ValueViews.{values_view, associations_view}
+use Rattle.aadl_tree.specs.proof.ExpressionViews.{factors_view, terms_view, relations_view}
+use Rattle.aadl_tree.specs.proof.ActionViews.{mores_view, elsifs_view}
+use Rattle.aadl_tree.specs.proof.Maps.{no_place}
 
 pub values-length : (a b : List Value) → values_view no_place a ≡ values_view no_place b → length a ≡ length b
 values-length [] [] same = refl

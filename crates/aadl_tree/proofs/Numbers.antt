@@ -4,7 +4,7 @@ use denote.Enum.Declared.{tag_of}
 use Rattle.aadl_tree.specs.declared.mark.Mark.{Mark}
 use Rattle.aadl_tree.specs.declared.mark.Mark.TheVariants as k
 use Rattle.aadl_tree.specs.contracts.mark.Mark.{the_type}
-use Rattle.aadl_tree.specs.Marks.{mark_number}
+use Rattle.aadl_tree.specs.proof.Marks.{mark_number}
 
 marks : List Mark
 marks =

@@ -13,8 +13,8 @@ use Rattle.aadl_tree.specs.declared.expressions.Term.{Term}
 use Rattle.aadl_tree.specs.Names as plain
 use Rattle.aadl_tree.specs.Expressions as plain_expressions
 use Rattle.aadl_tree.specs.Expressions.{number, truth, named, group}
-use Rattle.aadl_tree.specs.ExpressionViews.{primary_view}
-use Rattle.aadl_tree.specs.Maps.{no_place}
+use Rattle.aadl_tree.specs.proof.ExpressionViews.{primary_view}
+use Rattle.aadl_tree.specs.proof.Maps.{no_place}
 use Rattle.aadl_tree.proofs.ExpressionViews.{view-Whole, view-Truth, view-Named, view-Group}
 
 abbrev Layer : Type 0

@@ -15,7 +15,7 @@ use Rattle.aadl_tree.specs.Parts.{Written}
 use Rattle.aadl_tree.specs.Declarations.{package_parts}
 use Rattle.aadl_tree.specs.Grammar.{opened, is_end, nesting_from, IsShallow}
 use Rattle.aadl_tree.specs.Given.{IsTreeOf}
-use Rattle.aadl_tree.specs.SmallPackage.{package_text, package_tokens, small_package}
+use Rattle.aadl_tree.specs.proof.SmallPackage.{package_text, package_tokens, small_package}
 
 low_ascii : (w : List ℕ) → list_all (λ c. nat_lt c 128) w ≡ true → IsAscii w
 low_ascii [] e i = omega arith

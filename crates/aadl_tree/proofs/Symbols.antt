@@ -4,7 +4,7 @@ use Rattle.std.specs.Prelude.{is_some}
 use Rattle.std.specs.List.{list_all, list_any}
 use Rattle.std.specs.Str.{bytes_eq}
 use Rattle.std.proofs.lemmas.Slice.Eq.{bytes_eq-Decides}
-use Rattle.aadl_lex.specs.Spelled.{symbols, IsSymbol}
+use Rattle.aadl_lex.specs.proof.Spelled.{symbols, IsSymbol}
 use Rattle.aadl_lex.proofs.Basics.{both_left, both_right}
 use Rattle.aadl_tree.specs.Marks.{symbol_of}
 

@@ -10,8 +10,8 @@ use Rattle.aadl_tree.specs.declared.values.Value.TheViews.{out-Value, roll-Value
 use Rattle.aadl_tree.specs.Names as plain_names
 use Rattle.aadl_tree.specs.Values as plain
 use Rattle.aadl_tree.specs.Values.{list, fields, text, reference, classifier, named, number}
-use Rattle.aadl_tree.specs.ValueViews.{value_view}
-use Rattle.aadl_tree.specs.Maps.{no_place}
+use Rattle.aadl_tree.specs.proof.ValueViews.{value_view}
+use Rattle.aadl_tree.specs.proof.Maps.{no_place}
 use Rattle.aadl_tree.proofs.ValueViews.{view-List, view-Record, view-Text, view-Reference, view-Classifier, view-Named, view-Number}
 
 abbrev Layer : Type 0

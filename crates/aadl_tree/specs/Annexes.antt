@@ -1,13 +1,13 @@
 -- Annexes and behaviours as plain trees, and what they are spelled by.
 use Rattle.std.specs.Prelude.{ℕ, Bool, List, [], ◌∷◌, ◌++◌, flat_map, Option}
 use Rattle.aadl_tree.specs.declared.mark.Mark.{Mark}
-use Rattle.aadl_tree.specs.declared.mark.Mark.TheVariants as k
 use Rattle.aadl_tree.specs.Kinds.{mark, unread}
 use Rattle.aadl_tree.specs.Parts.{Part, token, plain, marked_if, parts_if}
 use Rattle.aadl_tree.specs.Names.{Identifier, Identifiers, Reference, identifier_parts, identifiers_parts, reference_parts}
 use Rattle.aadl_tree.specs.Values.{Associations, properties_parts}
 use Rattle.aadl_tree.specs.Expressions.{Expression, expression_parts}
 use Rattle.aadl_tree.specs.Actions.{Block, block_parts}
+use Rattle.aadl_tree.specs.declared.mark.Mark.TheVariants as k
 
 pub record VariableDeclaration (P : Type 0) : Type 0 where
   pub names : Identifiers P

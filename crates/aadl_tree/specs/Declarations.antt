@@ -1,16 +1,16 @@
 -- Types, implementations and what they declare, as plain trees, and what they are spelled by.
 use Rattle.std.specs.Prelude.{List, [], ◌∷◌, ◌++◌, flat_map, Option}
 use Rattle.aadl_tree.specs.declared.mark.Mark.{Mark}
-use Rattle.aadl_tree.specs.declared.mark.Mark.TheVariants as k
 use Rattle.aadl_tree.specs.declared.declarations.Category.{Category}
-use Rattle.aadl_tree.specs.declared.declarations.Category.TheVariants as categories
 use Rattle.aadl_tree.specs.declared.declarations.Direction.{Direction}
-use Rattle.aadl_tree.specs.declared.declarations.Direction.TheVariants as directions
 use Rattle.aadl_tree.specs.Kinds.{mark}
 use Rattle.aadl_tree.specs.Parts.{Part, token, may, Section, feature_section, subcomponent_section, connection_section, property_section, section_mark, empty_section, plain, parts_if, behind, chained}
 use Rattle.aadl_tree.specs.Names.{Identifier, Name, Reference, identifier_parts, name_parts, reference_parts}
 use Rattle.aadl_tree.specs.Values.{Associations, associations_parts, properties_parts}
 use Rattle.aadl_tree.specs.Annexes.{Annex, annex_parts}
+use Rattle.aadl_tree.specs.declared.mark.Mark.TheVariants as k
+use Rattle.aadl_tree.specs.declared.declarations.Category.TheVariants as categories
+use Rattle.aadl_tree.specs.declared.declarations.Direction.TheVariants as directions
 
 pub record With (P : Type 0) : Type 0 where
   pub first : Name P

@@ -1,18 +1,18 @@
 -- Expressions as plain trees, and what they are spelled by.
 use Rattle.std.specs.Prelude.{ℤ, Bool, true, false, List, [], ◌∷◌, ◌++◌, Option}
 use Rattle.aadl_tree.specs.declared.mark.Mark.{Mark}
-use Rattle.aadl_tree.specs.declared.mark.Mark.TheVariants as k
 use Rattle.aadl_tree.specs.declared.expressions.Sign.{Sign}
 use Rattle.aadl_tree.specs.declared.expressions.LogicOperator.{LogicOperator}
-use Rattle.aadl_tree.specs.declared.expressions.LogicOperator.TheVariants as logic
 use Rattle.aadl_tree.specs.declared.expressions.RelationOperator.{RelationOperator}
-use Rattle.aadl_tree.specs.declared.expressions.RelationOperator.TheVariants as compare
 use Rattle.aadl_tree.specs.declared.expressions.MultiplyOperator.{MultiplyOperator}
-use Rattle.aadl_tree.specs.declared.expressions.MultiplyOperator.TheVariants as multiply
 use Rattle.aadl_tree.specs.Kinds.{whole, mark}
 use Rattle.aadl_tree.specs.Parts.{Part, token, plain, parts_if}
 use Rattle.aadl_tree.specs.Names.{Identifier, identifier_parts}
 use Rattle.aadl_tree.specs.Values.{sign_mark}
+use Rattle.aadl_tree.specs.declared.mark.Mark.TheVariants as k
+use Rattle.aadl_tree.specs.declared.expressions.LogicOperator.TheVariants as logic
+use Rattle.aadl_tree.specs.declared.expressions.RelationOperator.TheVariants as compare
+use Rattle.aadl_tree.specs.declared.expressions.MultiplyOperator.TheVariants as multiply
 
 -- the sign before a sum
 pub record LeadingSign (P : Type 0) : Type 0 where

@@ -1,12 +1,12 @@
 -- Which tree the grammar gives for a text or a behaviour, and where it gives none.
-use Rattle.std.specs.Prelude.{ℕ, true, List, [], ◌∷◌, length}
+use Rattle.std.specs.Prelude.{ℕ, true, List, [], length}
 use Rattle.aadl_lex.specs.declared.token.Token.{Token}
 use Rattle.aadl_lex.specs.Tokens.{AreTokensOf}
 use Rattle.aadl_tree.specs.Kinds.{spots_from, spots, kinds_of}
 use Rattle.aadl_tree.specs.Parts.{Written}
 use Rattle.aadl_tree.specs.Annexes.{AnnexTree, annex_tree_parts}
 use Rattle.aadl_tree.specs.Declarations.{PackageTree, package_parts}
-use Rattle.aadl_tree.specs.Grammar.{IsPackage, IsBehaviour, IsShallow, FailsAt, DeepAt}
+use Rattle.aadl_tree.specs.Grammar.{IsPackage, IsShallow, FailsAt, DeepAt}
 
 -- The tree of a text: its tokens spell it, in their places, and are nowhere nested too deep.
 pub record IsTreeOf (text : List ℕ) (tree : PackageTree ℕ) : Type 0 where
@@ -27,29 +27,11 @@ pub record NestsAt (text : List ℕ) (at : ℕ) : Type 0 where
   pub lexed : AreTokensOf text tokens
   pub deep : DeepAt IsPackage 0 (spots text tokens) at
 
--- the grammar gives the tree for some text
-abbrev pub IsGiven : PackageTree ℕ → Type 0
-IsGiven tree = (text : List ℕ) × IsTreeOf text tree
-
 -- The tokens of a behaviour by itself stand in an opened annex, so one opener is open before them.
 abbrev pub outer_nesting : ℕ
 outer_nesting = 1
-
--- where the last token ends; 0 where there is none
-abbrev pub end_of : List Token → ℕ
-end_of [] = 0
-end_of (t ∷ []) = t.end
-end_of (t ∷ u ∷ ts) = end_of (u ∷ ts)
 
 -- the tree of a behaviour's tokens
 pub record IsBehaviourOf (text : List ℕ) (tokens : List Token) (tree : AnnexTree ℕ) : Type 0 where
   pub written : Written (annex_tree_parts tree) (spots_from true text tokens) []
   pub shallow : IsShallow outer_nesting (kinds_of (spots_from true text tokens))
-
--- The tokens are no behaviour from this place on.
-abbrev pub BehaviourStopsAt : List ℕ → List Token → ℕ → Type 0
-BehaviourStopsAt text tokens at = FailsAt IsBehaviour outer_nesting (end_of tokens) (spots_from true text tokens) at
-
--- At this place of the behaviour the nesting gets too deep.
-abbrev pub BehaviourNestsAt : List ℕ → List Token → ℕ → Type 0
-BehaviourNestsAt text tokens at = DeepAt IsBehaviour outer_nesting (spots_from true text tokens) at

@@ -1,5 +1,4 @@
 pub mod Marks
-pub mod Beginnings
 pub mod Kinds
 pub mod Parts
 pub mod Names
@@ -8,16 +7,8 @@ pub mod Expressions
 pub mod Actions
 pub mod Annexes
 pub mod Declarations
-pub mod Maps
 pub mod Grammar
 pub mod Canon
-pub mod Example
-pub mod NameViews
-pub mod ValueViews
-pub mod ExpressionViews
-pub mod ActionViews
-pub mod Views
 pub mod Offsets
 pub mod Given
-pub mod PackageViews
-pub mod SmallPackage
+pub mod proof

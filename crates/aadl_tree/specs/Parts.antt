@@ -1,8 +1,8 @@
 -- What a tree is spelled by, part for part, and which terminals spell it.
 use Rattle.std.specs.Prelude.{ℕ, ◌≡◌, ◌⊎◌, Bool, true, false, List, [], ◌∷◌, ◌++◌, flat_map, Option, Some, None}
 use Rattle.aadl_tree.specs.declared.mark.Mark.{Mark}
-use Rattle.aadl_tree.specs.declared.mark.Mark.TheVariants as k
 use Rattle.aadl_tree.specs.Kinds.{Kind, mark, Spot}
+use Rattle.aadl_tree.specs.declared.mark.Mark.TheVariants as k
 
 -- the sections of a type or an implementation
 pub data Section : Type 0 where

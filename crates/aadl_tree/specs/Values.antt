@@ -1,14 +1,14 @@
 -- Properties and their values as plain trees, and what they are spelled by.
 use Rattle.std.specs.Prelude.{ℕ, ℤ, Bool, List, [], ◌∷◌, ◌++◌, Option}
 use Rattle.aadl_tree.specs.declared.mark.Mark.{Mark}
-use Rattle.aadl_tree.specs.declared.mark.Mark.TheVariants as k
 use Rattle.aadl_tree.specs.declared.expressions.Sign.{Sign}
-use Rattle.aadl_tree.specs.declared.expressions.Sign.TheVariants as signs
 use Rattle.aadl_tree.specs.declared.values.AssociationOperator.{AssociationOperator}
-use Rattle.aadl_tree.specs.declared.values.AssociationOperator.TheVariants as operators
 use Rattle.aadl_tree.specs.Kinds.{whole, real, quoted}
 use Rattle.aadl_tree.specs.Parts.{Part, token, plain, marked_if, parts_if, behind, chained}
 use Rattle.aadl_tree.specs.Names.{Identifier, Name, Path, Reference, identifier_parts, name_parts, path_parts, reference_parts}
+use Rattle.aadl_tree.specs.declared.mark.Mark.TheVariants as k
+use Rattle.aadl_tree.specs.declared.expressions.Sign.TheVariants as signs
+use Rattle.aadl_tree.specs.declared.values.AssociationOperator.TheVariants as operators
 
 -- a number without its sign
 pub data Figure : Type 0 where

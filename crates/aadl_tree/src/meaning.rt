@@ -1,6 +1,6 @@
 //! Whether two trees mean the same, wherever they stand in a text.
 ghost use Rattle.std.specs.Prelude.{◌≡◌, ◌↔◌, IsTrue};
-ghost use Rattle.aadl_tree.specs.PackageViews.{meaning};
+ghost use Rattle.aadl_tree.specs.proof.PackageViews.{meaning};
 
 mod actions;
 mod annex;

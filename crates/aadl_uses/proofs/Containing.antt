@@ -8,8 +8,9 @@ use Rattle.std.proofs.lemmas.Option.{slice_get-map, same_Some, none-some, option
 use Rattle.aadl_tree.specs.Names.{Identifier, Reference}
 use Rattle.aadl_tree.specs.Declarations.{Declaration, PackageTree}
 use Rattle.aadl_names.specs.Resolving.{implementation_in, implementation_at, subcomponents_of, referred, named_by, is_of, first_number, is_implementation}
-use Rattle.aadl_uses.specs.Uses.{sub_at, below, standing, IsInUse, targets_of, targets_in, containment}
-use Rattle.aadl_uses.specs.Graphs.{below_in, reached_by, IsReached, IsWithin}
+use Rattle.aadl_uses.specs.Uses.{sub_at, below, standing, IsInUse}
+use Rattle.aadl_uses.specs.proof.Uses.{targets_of, targets_in, containment}
+use Rattle.aadl_uses.specs.proof.Graphs.{below_in, reached_by, IsReached, IsWithin}
 
 pub row : (tree : PackageTree ℕ) (ds : List (Declaration ℕ)) (n : ℕ)
     → get_or (map (targets_in tree) ds) n [] ≡ targets_of tree (implementation_in (slice_get ds n))

@@ -12,13 +12,16 @@ use Rattle.std.proofs.lemmas.List.Kept.{AllPairs-cons}
 use Rattle.std.proofs.lemmas.Option.{option_and_then_some}
 use Rattle.aadl_tree.specs.Declarations.{Implementation, Declaration, PackageTree}
 use Rattle.aadl_names.specs.Resolving.{implementation_in, implementation_at, is_thread}
-use Rattle.aadl_uses.specs.Uses.{standing, targets_in, containment}
-use Rattle.aadl_uses.specs.Threads.{Lists, MoreThan, IsThreadAt, PathBefore, is_thread_in, is_thread_declaration, thread_marks, AreCounted}
+use Rattle.aadl_uses.specs.Uses.{standing}
+use Rattle.aadl_uses.specs.proof.Uses.{targets_in, containment}
+use Rattle.aadl_uses.specs.Threads.{Lists, MoreThan, IsThreadAt, PathBefore}
+use Rattle.aadl_uses.specs.proof.Threads.{is_thread_in, is_thread_declaration, thread_marks, AreCounted}
 use Rattle.aadl_uses.proofs.Containing.{standing-same, and_then_same}
 use Rattle.aadl_uses.proofs.Cycles.{kept_as_is, regrouped}
-use Rattle.aadl_uses.specs.Graphs.{Graph, below_in, reached_by}
-use Rattle.aadl_uses.specs.Orders.{IsOrder}
-use Rattle.aadl_uses.specs.Counts.{stands_at, IsMarkedAt, path_before, Among, Ordered, AreListed, Counted}
+use Rattle.aadl_uses.specs.proof.Graphs.{Graph, below_in, reached_by}
+use Rattle.aadl_uses.specs.proof.Orders.{IsOrder}
+use Rattle.aadl_uses.specs.proof.Counts.{stands_at, IsMarkedAt, Among, Ordered, AreListed, Counted}
+use Rattle.aadl_uses.specs.Threads.{path_before}
 
 -- ---- paths from outside and from inside
 stands_end : (g : Graph) (n s : ℕ) (p : List ℕ) → stands_at g n (p ++ s ∷ []) ≡ option_and_then (λ k. below_in g k s) (stands_at g n p)

@@ -6,8 +6,9 @@ use Rattle.std.proofs.lemmas.List.{length-append, length-map}
 use Rattle.std.proofs.lemmas.Bool.{cases_order, true≢false}
 use Rattle.std.proofs.lemmas.Bool.Decides.{nat_tests}
 use Rattle.std.proofs.lemmas.Option.{slice_get_within, slice_get-get_or, option_and_then_some, none-some, same_Some}
-use Rattle.aadl_uses.specs.Graphs.{Graph, targets_in, below_in}
-use Rattle.aadl_uses.specs.Counts.{stands_at, IsMarkedAt, path_before, Among, Ordered, AreListed, Counted, own_count, own_paths, count_of}
+use Rattle.aadl_uses.specs.proof.Graphs.{Graph, targets_in, below_in}
+use Rattle.aadl_uses.specs.proof.Counts.{stands_at, IsMarkedAt, Among, Ordered, AreListed, Counted, own_count, own_paths, count_of}
+use Rattle.aadl_uses.specs.Threads.{path_before}
 
 -- ---- lists
 all_append : {X : Type 0} (P : X → Type 0) (xs ys : List X) → AllByRecursion P xs → AllByRecursion P ys → AllByRecursion P (xs ++ ys)

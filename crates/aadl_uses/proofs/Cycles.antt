@@ -11,10 +11,11 @@ use Rattle.aadl_names.specs.declared.fault.FlatFault.{FlatFault}
 use Rattle.aadl_names.specs.declared.fault.FlatFault.TheVariants.{Recursive}
 use Rattle.aadl_names.specs.Findings.{place_of, number_of, precedes}
 use Rattle.aadl_names.specs.Resolving.{referred}
-use Rattle.aadl_uses.specs.Uses.{sub_at, ClosesCycle, IsRecursive, FirstIn, containment}
-use Rattle.aadl_uses.specs.Recursion.{is_sooner, IsBefore, AreBefore, IsFound, IsSooner, IsFirstOf}
+use Rattle.aadl_uses.specs.Uses.{sub_at, ClosesCycle, IsRecursive}
+use Rattle.aadl_uses.specs.proof.Uses.{FirstIn, containment}
+use Rattle.aadl_uses.specs.proof.Recursion.{is_sooner, IsBefore, AreBefore, IsFound, IsSooner, IsFirstOf}
 use Rattle.aadl_uses.proofs.Containing.{below-same, standing-same}
-use Rattle.aadl_uses.specs.Graphs.{Graph, below_in, reached_by, LeadsBack}
+use Rattle.aadl_uses.specs.proof.Graphs.{Graph, below_in, reached_by, LeadsBack}
 
 pub kept_as_is : {X : Type 0} (o : Option X) → o ≡ option_and_then (λ x. Some x) o
 kept_as_is None = refl

@@ -3,8 +3,8 @@ use Rattle.std.proofs.Common.{◌≡◌, ℕ, ◌+◌, ◌<◌, ◌≤◌, List,
 use Rattle.std.proofs.lemmas.Bool.{cases_order}
 use Rattle.std.proofs.lemmas.List.{length-set}
 use Rattle.std.proofs.lemmas.Option.{none-some, same_Some}
-use Rattle.aadl_uses.specs.Graphs.{Graph, below_in}
-use Rattle.aadl_uses.specs.Orders.{IsSequence, IsOrder}
+use Rattle.aadl_uses.specs.proof.Graphs.{Graph, below_in}
+use Rattle.aadl_uses.specs.proof.Orders.{IsSequence, IsOrder}
 use Rattle.aadl_uses.proofs.Searches.{contains_at, at_contains}
 use Rattle.aadl_uses.proofs.Suspected.{one_of_two}
 

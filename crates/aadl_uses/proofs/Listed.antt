@@ -1,8 +1,9 @@
 -- Lists of paths that grow, and that they are all that lead to what is marked.
 use Rattle.std.proofs.Common.{◌≡◌, ℕ, ◌+◌, ◌<◌, ◌≤◌, Bool, List, [], ◌∷◌, ◌++◌, length, map, take, get_or, Contains, refl, sym, ap, ◌∙◌, append_assoc}
 use Rattle.std.proofs.lemmas.List.{take_more, take_all, map-append}
-use Rattle.aadl_uses.specs.Graphs.{Graph}
-use Rattle.aadl_uses.specs.Counts.{IsMarkedAt, path_before, AreListed}
+use Rattle.aadl_uses.specs.proof.Graphs.{Graph}
+use Rattle.aadl_uses.specs.proof.Counts.{IsMarkedAt, AreListed}
+use Rattle.aadl_uses.specs.Threads.{path_before}
 
 -- ---- paths behind others
 -- one more

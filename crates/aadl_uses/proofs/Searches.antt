@@ -9,7 +9,7 @@ use Rattle.std.proofs.lemmas.Option.{slice_get_within, slice_get-get_or, get_or_
 use Rattle.std.proofs.lemmas.Map.Steps.{length-le_from_distinct_below}
 use Rattle.indexmap.specs.IndexSet.{insert_key}
 use Rattle.indexmap.proofs.CallerLemmas.{Contains-list_any, Contains-insert_key}
-use Rattle.aadl_uses.specs.Graphs.{Graph, targets_in, below_in, reached_by, IsReached, IsWithin, AreAdded}
+use Rattle.aadl_uses.specs.proof.Graphs.{Graph, targets_in, below_in, reached_by, IsReached, IsWithin, AreAdded}
 
 -- ---- lists
 pub contains_none : {X : Type 0} (x : X) → Contains [] x → ⊥

@@ -10,8 +10,8 @@ use Rattle.std.proofs.lemmas.Option.{slice_get-get_or, same_Some}
 use Rattle.std.proofs.lemmas.Map.Steps.{length-le_from_distinct_below, le-length_from_below}
 use Rattle.indexmap.specs.IndexSet.{insert_key}
 use Rattle.indexmap.proofs.CallerLemmas.{Contains-list_any, Contains-insert_key}
-use Rattle.aadl_uses.specs.Graphs.{Graph, targets_in, below_in, IsReached, IsWithin, LeadsBack}
-use Rattle.aadl_uses.specs.Orders.{is_there, IsSequence, IsOrder, Misses, IsPlaced, ArePlaced}
+use Rattle.aadl_uses.specs.proof.Graphs.{Graph, targets_in, below_in, IsReached, IsWithin, LeadsBack}
+use Rattle.aadl_uses.specs.proof.Orders.{is_there, IsSequence, IsOrder, Misses, IsPlaced, ArePlaced}
 use Rattle.aadl_uses.proofs.Searches.{contains_none, contains_at, at_contains, get_left, insert_grows, below_target, reached_next}
 use Rattle.aadl_uses.proofs.Suspected.{one_of_two}
 

@@ -9,8 +9,8 @@ use Rattle.std.proofs.lemmas.List.{get_or_past}
 use Rattle.std.proofs.lemmas.List.Folds.{list_any_at}
 use Rattle.std.proofs.lemmas.List.Elements.{Contains-append_left, Contains-push}
 use Rattle.std.proofs.lemmas.Option.{same_Some, option_and_then_some, slice_get_past}
-use Rattle.aadl_uses.specs.Graphs.{Graph, targets_in, below_in, reached_by, IsReached, LeadsBack}
-use Rattle.aadl_uses.specs.Suspects.{level_in, is_above, is_suspect, AreSuspected}
+use Rattle.aadl_uses.specs.proof.Graphs.{Graph, targets_in, below_in, reached_by, IsReached, LeadsBack}
+use Rattle.aadl_uses.specs.proof.Suspects.{level_in, is_above, is_suspect, AreSuspected}
 use Rattle.aadl_uses.proofs.Searches.{contains_none, below_target}
 
 pub one_of_two : (a b : ℕ) → (a < b) ⊎ (b ≤ a)

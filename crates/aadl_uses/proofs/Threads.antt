@@ -2,13 +2,16 @@
 use Rattle.std.proofs.Common.{◌≡◌, ◌↔◌, ℕ, ◌<◌, Bool, List, ◌∷◌, length, map, reverse, Some, Contains, Result, Ok, Err, IfOk, sym, ap, ◌∙◌, subst}
 use Rattle.std.specs.Option.{option_and_then}
 use Rattle.aadl_tree.specs.Declarations.{PackageTree}
-use Rattle.aadl_uses.specs.Uses.{below, IsInUse, containment}
-use Rattle.aadl_uses.specs.Threads.{Lists, IsThreadAt, PathBefore, thread_marks}
+use Rattle.aadl_uses.specs.Uses.{below, IsInUse}
+use Rattle.aadl_uses.specs.proof.Uses.{containment}
+use Rattle.aadl_uses.specs.Threads.{Lists, IsThreadAt, PathBefore}
+use Rattle.aadl_uses.specs.proof.Threads.{thread_marks}
 use Rattle.aadl_uses.proofs.Containing.{below-same}
 use Rattle.aadl_uses.proofs.Counted.{threads_listed}
-use Rattle.aadl_uses.specs.Graphs.{Graph, below_in}
-use Rattle.aadl_uses.specs.Counts.{AreListed, IsMarkedAt, path_before}
-use Rattle.aadl_uses.specs.Paths.{paths_from, IsClosed}
+use Rattle.aadl_uses.specs.proof.Graphs.{Graph, below_in}
+use Rattle.aadl_uses.specs.proof.Counts.{AreListed, IsMarkedAt}
+use Rattle.aadl_uses.specs.Threads.{path_before}
+use Rattle.aadl_uses.specs.proof.Paths.{paths_from, IsClosed}
 
 -- ---- what is in use
 pub closed_by : (tree : PackageTree ℕ) (root : ℕ) (g : Graph) (used : List ℕ) → g ≡ containment tree → ((n : ℕ) → Contains used n ↔ IsInUse tree root n) → IsClosed g used

@@ -1,10 +1,4 @@
-pub mod Graphs
-pub mod Suspects
-pub mod Orders
-pub mod Counts
-pub mod Paths
-pub mod Weights
 pub mod Uses
 pub mod Threads
-pub mod Recursion
 pub mod ThreadPlaces
+pub mod proof

@@ -1,9 +1,8 @@
 -- Threads below an implementation, each by the path of subcomponents that leads to it, and how many there are.
-use Rattle.std.specs.Prelude.{◌≡◌, ℕ, ◌<◌, Bool, true, false, List, length, reverse, map, min, Option, Some, None, All, AllPairs, Contains}
-use Rattle.aadl_tree.specs.Declarations.{Implementation, Declaration, PackageTree}
-use Rattle.aadl_names.specs.Resolving.{implementation_in, is_thread}
+use Rattle.std.specs.Prelude.{◌≡◌, ℕ, ◌<◌, true, List, length, reverse, Some, All, AllPairs, Contains, Bool, false, ◌&&◌, ◌||◌, nat_eq, nat_lt, [], ◌∷◌}
+use Rattle.aadl_tree.specs.Declarations.{Implementation, PackageTree}
+use Rattle.aadl_names.specs.Resolving.{is_thread}
 use Rattle.aadl_uses.specs.Uses.{component_at}
-use Rattle.aadl_uses.specs.Counts.{path_before}
 
 -- a list of all that have P, each once, in an order
 pub record Lists {X : Type 0} (P : X → Type 0) (Before : X → X → Type 0) (xs : List X) : Type 0 where
@@ -25,23 +24,13 @@ IsThreadOf tree root path x = (component_at tree root path ≡ Some x) × (is_th
 abbrev pub IsThreadAt : PackageTree ℕ → ℕ → List ℕ → Type 0
 IsThreadAt tree root path = (x : Implementation ℕ) × IsThreadOf tree root path x
 
+-- in depth-first order of declaration
+abbrev pub path_before : List ℕ → List ℕ → Bool
+path_before [] [] = false
+path_before [] (y ∷ ys) = true
+path_before (x ∷ xs) [] = false
+path_before (x ∷ xs) (y ∷ ys) = nat_lt x y || (nat_eq x y && path_before xs ys)
+
 -- depth-first, in order of declaration
 abbrev pub PathBefore : List ℕ → List ℕ → Type 0
 PathBefore a b = path_before (reverse a) (reverse b) ≡ true
-
--- which declarations are implementations of threads
-abbrev pub is_thread_in : Option (Implementation ℕ) → Bool
-is_thread_in None = false
-is_thread_in (Some x) = is_thread x.category
-
-abbrev pub is_thread_declaration : Declaration ℕ → Bool
-is_thread_declaration d = is_thread_in (implementation_in (Some d))
-
-abbrev pub thread_marks : PackageTree ℕ → List Bool
-thread_marks tree = map is_thread_declaration tree.declarations
-
--- the number of threads below an implementation, which stops at the limit
-pub record AreCounted (tree : PackageTree ℕ) (limit n count : ℕ) : Type 0 where
-  pub paths : List (List ℕ)
-  pub listed : Lists (IsThreadAt tree n) PathBefore paths
-  pub count_is : count ≡ min limit (length paths)

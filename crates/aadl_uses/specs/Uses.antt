@@ -1,12 +1,10 @@
 -- Which implementation contains which, and what is in use.
-use Rattle.std.specs.Prelude.{◌≡◌, ℕ, List, [], ◌∷◌, ◌++◌, map, Option, Some, None, slice_get}
+use Rattle.std.specs.Prelude.{◌≡◌, ℕ, List, [], ◌∷◌, ◌++◌, Option, Some, slice_get}
 use Rattle.std.specs.Option.{option_and_then}
-use Rattle.aadl_tree.specs.Declarations.{Subcomponent, Implementation, Declaration, PackageTree}
+use Rattle.aadl_tree.specs.Declarations.{Subcomponent, Implementation, PackageTree}
 use Rattle.aadl_names.specs.declared.fault.FlatFault.{FlatFault}
 use Rattle.aadl_names.specs.declared.fault.FlatFault.TheVariants.{Recursive}
-use Rattle.aadl_names.specs.Findings.{IsFirst}
-use Rattle.aadl_names.specs.Resolving.{implementation_in, implementation_at, subcomponents_of, referred}
-use Rattle.aadl_uses.specs.Graphs.{Graph}
+use Rattle.aadl_names.specs.Resolving.{implementation_at, subcomponents_of, referred}
 
 abbrev pub sub_at : PackageTree ℕ → ℕ → ℕ → Option (Subcomponent ℕ)
 sub_at tree n s = slice_get (subcomponents_of (implementation_at tree n)) s
@@ -36,18 +34,3 @@ pub record ClosesCycle (tree : PackageTree ℕ) (sub : Subcomponent ℕ) : Type 
 
 abbrev pub IsRecursive : PackageTree ℕ → FlatFault → Type 0
 IsRecursive tree fault = (sub : Subcomponent ℕ) × ClosesCycle tree sub × (fault ≡ Recursive sub.name.spelling sub.name.at)
-
--- the first of what is found, or none where nothing is
-abbrev pub FirstIn : (FlatFault → Type 0) → Option FlatFault → Type 0
-FirstIn Found None = (fault : FlatFault) → Found fault → ⊥
-FirstIn Found (Some fault) = IsFirst Found fault
-
--- ---- the numbers that subcomponents name
-abbrev pub targets_of : PackageTree ℕ → Option (Implementation ℕ) → List (Option ℕ)
-targets_of tree x = map (λ sub. referred tree sub.classifier) (subcomponents_of x)
-
-abbrev pub targets_in : PackageTree ℕ → Declaration ℕ → List (Option ℕ)
-targets_in tree d = targets_of tree (implementation_in (Some d))
-
-abbrev pub containment : PackageTree ℕ → Graph
-containment tree = map (targets_in tree) tree.declarations

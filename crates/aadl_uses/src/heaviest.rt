@@ -1,8 +1,8 @@
 //! How heavy the heaviest paths to marked declarations are.
 ghost use Rattle.std.specs.Prelude.{◌≡◌, ◌+◌, ◌<◌, ◌++◌, ◌∷◌, [], ℕ, None, false, length, max, map, min, option_map, slice_index_or, slice_set, IfOk, OnOk};
-ghost use Rattle.aadl_uses.specs.Orders.{IsOrder};
-ghost use Rattle.aadl_uses.specs.Weights as spec;
-ghost use Rattle.aadl_uses.specs.Weights.{IsHeaviest, AreWeighed};
+ghost use Rattle.aadl_uses.specs.proof.Orders.{IsOrder};
+ghost use Rattle.aadl_uses.specs.proof.Weights as spec;
+ghost use Rattle.aadl_uses.specs.proof.Weights.{IsHeaviest, AreWeighed};
 
 use crate::Containment;
 use crate::count::add_up_to;

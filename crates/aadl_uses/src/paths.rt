@@ -1,9 +1,10 @@
 //! The paths to marked declarations below others.
 ghost use Rattle.std.specs.Prelude.{◌≡◌, ◌<◌, ◌++◌, ◌∷◌, [], ℕ, false, length, map, slice_index_or, slice_set, Contains, IfOk, OnOk};
-ghost use Rattle.aadl_uses.specs.Counts.{AreListed, IsMarkedAt, path_before, own_paths};
-ghost use Rattle.aadl_uses.specs.Orders.{IsOrder};
-ghost use Rattle.aadl_uses.specs.Paths as spec;
-ghost use Rattle.aadl_uses.specs.Paths.{IsClosed, AreKnown};
+ghost use Rattle.aadl_uses.specs.proof.Counts.{AreListed, IsMarkedAt, own_paths};
+ghost use Rattle.aadl_uses.specs.Threads.{path_before};
+ghost use Rattle.aadl_uses.specs.proof.Orders.{IsOrder};
+ghost use Rattle.aadl_uses.specs.proof.Paths as spec;
+ghost use Rattle.aadl_uses.specs.proof.Paths.{IsClosed, AreKnown};
 
 use crate::Containment;
 use indexmap::IndexSet;

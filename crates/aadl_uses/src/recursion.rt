@@ -1,8 +1,9 @@
 //! Implementations that contain themselves.
 ghost use Rattle.std.specs.Prelude.{◌≡◌, IfOk};
-ghost use Rattle.aadl_tree.specs.PackageViews.{placed};
-ghost use Rattle.aadl_uses.specs.Uses.{FirstIn, IsRecursive};
-ghost use Rattle.aadl_uses.specs.Recursion.{is_sooner, IsFirstOf, IsSooner};
+ghost use Rattle.aadl_tree.specs.proof.PackageViews.{placed};
+ghost use Rattle.aadl_uses.specs.proof.Uses.{FirstIn};
+ghost use Rattle.aadl_uses.specs.Uses.{IsRecursive};
+ghost use Rattle.aadl_uses.specs.proof.Recursion.{is_sooner, IsFirstOf, IsSooner};
 
 use crate::uses::Uses;
 use crate::{leads_back, suspects};

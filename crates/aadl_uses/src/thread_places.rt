@@ -1,6 +1,6 @@
 //! Where a thread stands.
 ghost use Rattle.std.specs.Prelude.{◌≡◌, All, IfOk, IsSome, map, reverse};
-ghost use Rattle.aadl_tree.specs.PackageViews.{placed};
+ghost use Rattle.aadl_tree.specs.proof.PackageViews.{placed};
 ghost use Rattle.aadl_uses.specs.Uses as ways;
 ghost use Rattle.aadl_uses.specs.ThreadPlaces as spec;
 

@@ -1,10 +1,11 @@
 //! All threads below a root.
 ghost use Rattle.std.specs.Prelude.{◌≡◌, ◌<◌, ◌↔◌, ℕ, Contains, IfOk, length, map, reverse};
-ghost use Rattle.aadl_tree.specs.PackageViews.{placed};
-ghost use Rattle.aadl_uses.specs.Uses.{IsInUse, containment};
+ghost use Rattle.aadl_tree.specs.proof.PackageViews.{placed};
+ghost use Rattle.aadl_uses.specs.Uses.{IsInUse};
+ghost use Rattle.aadl_uses.specs.proof.Uses.{containment};
 ghost use Rattle.aadl_uses.specs.Threads.{Lists, IsThreadAt, PathBefore};
-ghost use Rattle.aadl_uses.specs.Orders.{IsOrder};
-ghost use Rattle.aadl_uses.specs.Paths.{paths_from};
+ghost use Rattle.aadl_uses.specs.proof.Orders.{IsOrder};
+ghost use Rattle.aadl_uses.specs.proof.Paths.{paths_from};
 
 use crate::{Paths, Uses, paths_below};
 use indexmap::IndexSet;

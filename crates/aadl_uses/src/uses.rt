@@ -1,16 +1,18 @@
 //! What the subcomponents of a package name.
 ghost use Rattle.std.specs.Prelude.{◌≡◌, ◌↔◌, ◌<◌, ℕ, IfOk, IsTrue, Contains, map, length, slice_index, option_map, option_copied};
 ghost use Rattle.std.proofs.Props.{props};
-ghost use Rattle.aadl_tree.specs.PackageViews.{placed};
-ghost use Rattle.aadl_tree.specs.Views.{declaration_view, implementation_view, subcomponent_view};
-ghost use Rattle.aadl_tree.specs.Maps.{kept_place};
+ghost use Rattle.aadl_tree.specs.proof.PackageViews.{placed};
+ghost use Rattle.aadl_tree.specs.proof.Views.{declaration_view, implementation_view, subcomponent_view};
+ghost use Rattle.aadl_tree.specs.proof.Maps.{kept_place};
 ghost use Rattle.aadl_names.specs.declared.fault.FlatFault.{FlatFault};
 ghost use Rattle.aadl_names.specs.Resolving as names;
 ghost use Rattle.aadl_names.specs.Resolving.{implementation_at, referred};
-ghost use Rattle.aadl_uses.specs.Uses as spec;
-ghost use Rattle.aadl_uses.specs.Uses.{targets_in, sub_at, below, IsInUse, IsRecursive};
-ghost use Rattle.aadl_uses.specs.Threads.{is_thread_in, is_thread_declaration, thread_marks, IsThreadAt, PathBefore, MoreThan, AreCounted};
-ghost use Rattle.aadl_uses.specs.Orders.{IsOrder};
+ghost use Rattle.aadl_uses.specs.proof.Uses as spec;
+ghost use Rattle.aadl_uses.specs.proof.Uses.{targets_in};
+ghost use Rattle.aadl_uses.specs.Uses.{sub_at, below, IsInUse, IsRecursive};
+ghost use Rattle.aadl_uses.specs.proof.Threads.{is_thread_in, is_thread_declaration, thread_marks, AreCounted};
+ghost use Rattle.aadl_uses.specs.Threads.{IsThreadAt, PathBefore, MoreThan};
+ghost use Rattle.aadl_uses.specs.proof.Orders.{IsOrder};
 ghost use Rattle.pals_base.specs.declared.limits.TheConstants.{COMPONENTS};
 
 use crate::{Containment, counts_below, order, reached};

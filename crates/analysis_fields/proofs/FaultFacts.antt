@@ -19,7 +19,7 @@ use Rattle.scenario_values.specs.FaultPlaces.{inside}
 use Rattle.scenario_values.specs.Values.{elements, text, whole, is_whole, port_value}
 use Rattle.scenario_values.proofs.Passing.{ok_same, ok_bind, ok_only_if, through_keeps, whole_within}
 use Rattle.scenario_values.specs.Names.{node_no, link_no, node_at, link_at}
-use Rattle.analysis_fields.specs.AnalysisFacts.{IsFaultOf}
+use Rattle.analysis_fields.specs.proof.AnalysisFacts.{IsFaultOf}
 use Rattle.analysis_fields.specs.declared.faults.FaultEnds.{FaultEnds}
 use Rattle.analysis_fields.specs.declared.faults.RoundFault.{RoundFault}
 use Rattle.analysis_fields.specs.declared.limits.TheConstants.{REPLICAS}

@@ -23,7 +23,7 @@ use Rattle.scenario_values.specs.Values.{entries, text, whole}
 use Rattle.scenario_values.proofs.Passing.{ok_same, ok_bind, ok_given, ok_only_if, through_keeps, whole_within}
 use Rattle.scenario_values.specs.Names.{node_no, node_at}
 use Rattle.scenario_values.proofs.Search.{within}
-use Rattle.analysis_fields.specs.AnalysisFacts.{IsProcessorOf}
+use Rattle.analysis_fields.specs.proof.AnalysisFacts.{IsProcessorOf}
 use Rattle.analysis_fields.specs.declared.limits.TheConstants.{PROCESSORS}
 use Rattle.analysis_fields.specs.declared.processors.Processor.{Processor}
 use Rattle.analysis_fields.specs.Processors.{with_member, with_members, nodes_of, processor_parts, processor_in, with_processor, all_placed, nowhere, processors_in}

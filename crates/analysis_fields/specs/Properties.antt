@@ -1,5 +1,5 @@
 -- The properties of monitors.
-use Rattle.std.specs.Prelude.{ℕ, zero, suc, ◌+◌, nat_le, bytes_eq, codes, List, [], ◌∷◌, ◌++◌, length, sum_by, position, Bool, true, false, not, ◌&&◌, Option, Some, None, option_and_then, option_map, unwrap_or, slice_get, Result, Ok, Err, if◌then◌else◌}
+use Rattle.std.specs.Prelude.{ℕ, zero, suc, ◌+◌, nat_le, bytes_eq, codes, List, [], ◌∷◌, ◌++◌, length, sum_by, position, Bool, true, false, ◌&&◌, Option, Some, None, option_and_then, option_map, unwrap_or, slice_get, Result, Ok, Err, if◌then◌else◌}
 use Rattle.std.specs.List.{list_all}
 use Rattle.serde_json.specs.Data.{Data}
 use Rattle.serde_json.specs.Find.{as_str, as_array}
@@ -13,13 +13,13 @@ use Rattle.pals_runs.specs.Formula.{Formula, Var, Halted, Not, And, Or, Previous
 use Rattle.scenario_values.specs.declared.fault.ScenarioFault.{ScenarioFault}
 use Rattle.scenario_values.specs.declared.fault.ScenarioFault.TheVariants.{WrongKind, Unknown, OutOfRange}
 use Rattle.analysis_fields.specs.declared.formulas.Role.{Role}
-use Rattle.analysis_fields.specs.declared.formulas.Role.TheVariants as role
 use Rattle.analysis_fields.specs.declared.limits.TheConstants.{PROPERTIES, FORMS, LEVELS}
 use Rattle.scenario_values.specs.Outcomes.{◌>>=◌, given, only_if, through}
 use Rattle.scenario_values.specs.FaultPlaces.{inside}
 use Rattle.analysis_fields.specs.PropertyValues.{PropertyValue}
 use Rattle.scenario_values.specs.Values.{values_in, elements, entries, text, number, is_whole}
 use Rattle.scenario_values.specs.Names.{node_at}
+use Rattle.analysis_fields.specs.declared.formulas.Role.TheVariants as role
 
 -- ---- words
 abbrev pub role_of : List ℕ → Option Role

@@ -28,13 +28,14 @@ pub struct Property {
 }
 
 impl Model for Property {
-    ghost use Rattle.analysis_fields.specs.PropertyValues.{PropertyValue, property_code};
+    ghost use Rattle.analysis_fields.specs.PropertyValues.{PropertyValue};
+    ghost use Rattle.analysis_fields.specs.proof.PropertyValues.{property_code};
 
     ghost Value = { PropertyValue };
 
     ghost coded = { property_code };
 
-    ghost use Rattle.pals_runs.specs.FormulaOf.{formula_of};
+    ghost use Rattle.pals_runs.specs.proof.FormulaOf.{formula_of};
 
     ghost view = { λ property. record { name = property.name; form = formula_of property.form } };
 }

@@ -14,7 +14,8 @@ use Rattle.analysis_fields.specs.declared.faults.RoundFault.{RoundFault}
 use Rattle.analysis_fields.specs.Replicas.{is_among}
 use Rattle.triple_vote.specs.Texts.{replica_name}
 use Rattle.triple_vote.proofs.Tables.{length-upwards, table-at}
-use Rattle.analysis_texts.specs.Voted.{faults_of, filed}
+use Rattle.analysis_texts.specs.Voted.{faults_of}
+use Rattle.analysis_texts.specs.proof.Voted.{filed}
 
 pub length-table : {A : Type 0} (f : ℕ → A) (n : ℕ) → length (map f (upwards 0 n)) ≡ n
 length-table f n = length-map (upwards 0 n) f ∙ length-upwards 0 n

@@ -7,9 +7,9 @@ use Rattle.pals_model.specs.Inputs.{values_at}
 use Rattle.pals_model.specs.Rules.{IsDesign}
 use Rattle.pals_model.specs.RoundTexts.{text_of, row_lines}
 use Rattle.pals_runs.specs.declared.pairs.Pair.{Pair}
-use Rattle.plant_fuse.specs.Ends.{IsFirstBad}
+use Rattle.plant_fuse.specs.proof.Ends.{IsFirstBad}
 use Rattle.plant_fuse.specs.Fused.{ArePairs, Inputs, IsFused}
-use Rattle.plant_fuse.specs.State.{FuseState, begun, IsAdvanced}
+use Rattle.plant_fuse.specs.proof.State.{FuseState, begun, IsAdvanced}
 use Rattle.plant_fuse.specs.Texts.{freport, IsFusedReport}
 use Rattle.plant_fuse.proofs.Solutions.{solution_exists}
 use Rattle.plant_fuse.proofs.Following.{StandsAt, begins, stands_next, leaves_parts}

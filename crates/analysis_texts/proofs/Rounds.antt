@@ -16,9 +16,9 @@ use Rattle.pals_model.specs.Composition.{comp, next, no_frame, part, all_steps, 
 use Rattle.pals_model.specs.Inputs.{values_at}
 use Rattle.pals_model.specs.RoundTexts.{line_end, text_of, composed_lines, row, report}
 use Rattle.pals_model.proofs.CompositionLaws.{one_frame_each}
-use Rattle.pals_report.specs.Rows.{ArePartsOf}
-use Rattle.run_monitor.specs.Bits.{row_of}
-use Rattle.sync_product.specs.State.{ProductState, advanced, parts_of}
+use Rattle.pals_report.specs.proof.Rows.{ArePartsOf}
+use Rattle.run_monitor.specs.proof.Bits.{row_of}
+use Rattle.sync_product.specs.proof.State.{ProductState, advanced, parts_of}
 use Rattle.analysis_texts.proofs.Mapped.{map-map}
 
 -- ---- counting up

@@ -7,10 +7,10 @@ use Rattle.pals_model.specs.declared.design.Link.{Link}
 use Rattle.pals_model.specs.declared.design.DesignParts.{DesignParts}
 use Rattle.pals_runs.specs.declared.pairs.VoteFault.{VoteFault}
 use Rattle.analysis_fields.specs.declared.faults.RoundFault.{RoundFault}
-use Rattle.analysis_fields.specs.AnalysisFacts.{IsFaultOf}
+use Rattle.analysis_fields.specs.proof.AnalysisFacts.{IsFaultOf}
 use Rattle.analysis_fields.specs.Replicas.{source_in as named_source}
 use Rattle.triple_vote.specs.Replicas.{source_in}
-use Rattle.triple_vote.specs.Laws.{IsFault}
+use Rattle.triple_vote.specs.proof.Laws.{IsFault}
 use Rattle.triple_vote.proofs.Tables.{table-at}
 use Rattle.analysis_texts.specs.Voted.{faults_of}
 use Rattle.analysis_texts.proofs.Filing.{length-table}

@@ -13,7 +13,7 @@ use Rattle.analysis_fields.specs.PropertyValues.{PropertyValue}
 use Rattle.run_monitor.specs.Monitors.{holds}
 use Rattle.run_monitor.specs.Texts.{names_of, formulas_of, verdict_line, watched_lines, violation_text, last_line, watched_rows, watch_text}
 use Rattle.run_monitor.specs.Violations.{history, verdicts, violation, is_violated}
-use Rattle.run_monitor.specs.Lists.{MonitorsState, HasWatched}
+use Rattle.run_monitor.specs.proof.Lists.{MonitorsState, HasWatched}
 use Rattle.run_monitor.specs.declared.violation.Violation.{Violation}
 use Rattle.run_monitor.proofs.Violations.{violated_is_first, others_hold}
 use Rattle.run_monitor.proofs.Texts.{rows_go_on}

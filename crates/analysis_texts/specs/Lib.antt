@@ -1,3 +1,4 @@
 pub mod Budgeted
 pub mod Voted
 pub mod Watched
+pub mod proof

@@ -2,9 +2,9 @@
 ghost use Rattle.std.specs.Prelude.{◌≡◌, ◌++◌, IfOk, OnOk, slice_get};
 ghost use Rattle.pals_model.specs.Rules.{IsDesign};
 ghost use Rattle.pals_model.specs.RoundTexts.{text_of, row_lines};
-ghost use Rattle.pals_report.specs.TapPlaces.{tap_places};
+ghost use Rattle.pals_report.specs.proof.TapPlaces.{tap_places};
 ghost use Rattle.plant_fuse.specs.Fused.{ArePairs};
-ghost use Rattle.plant_fuse.specs.State.{begun, IsAdvanced};
+ghost use Rattle.plant_fuse.specs.proof.State.{begun, IsAdvanced};
 ghost use Rattle.plant_fuse.specs.Texts.{IsFusedReport};
 
 use pals_base::{Items, NoMemory, Port};

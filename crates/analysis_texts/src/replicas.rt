@@ -5,12 +5,13 @@ ghost use Rattle.pals_base.specs.declared.values.Port.{Port};
 ghost use Rattle.pals_model.specs.declared.design.Tap.{Tap};
 ghost use Rattle.pals_model.specs.RoundTexts.{text_of};
 ghost use Rattle.pals_runs.specs.declared.pairs.VoteFault.{VoteFault};
-ghost use Rattle.analysis_fields.specs.AnalysisFacts.{IsFaultOf};
-ghost use Rattle.triple_vote.specs.Laws.{IsFault};
+ghost use Rattle.analysis_fields.specs.proof.AnalysisFacts.{IsFaultOf};
+ghost use Rattle.triple_vote.specs.proof.Laws.{IsFault};
 ghost use Rattle.triple_vote.specs.Replicas.{is_replicated, frame_at, vopening};
-ghost use Rattle.triple_vote.specs.States.{vbegun};
+ghost use Rattle.triple_vote.specs.proof.States.{vbegun};
 ghost use Rattle.triple_vote.specs.Texts.{replica_lines, shown_line, vrow_lines, vreport};
-ghost use Rattle.analysis_texts.specs.Voted.{replicated_in, faults_of, names_of, all_names, all_lines};
+ghost use Rattle.analysis_texts.specs.Voted.{replicated_in, faults_of};
+ghost use Rattle.analysis_texts.specs.proof.Voted.{names_of, all_names, all_lines};
 
 use crate::faults::by_round;
 use crate::names::{replica_names, replicated};

@@ -4,7 +4,7 @@ ghost use Rattle.pals_model.specs.declared.rounds.Env.{Env};
 ghost use Rattle.pals_model.specs.Composition.{comp};
 ghost use Rattle.pals_model.specs.Inputs.{values_at};
 ghost use Rattle.pals_model.specs.RoundTexts.{report, row};
-ghost use Rattle.pals_report.specs.TapPlaces.{tap_places};
+ghost use Rattle.pals_report.specs.proof.TapPlaces.{tap_places};
 
 use pals_base::{NoMemory, Port};
 use pals_model::{Design, Env};

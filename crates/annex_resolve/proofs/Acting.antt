@@ -8,7 +8,7 @@ use Rattle.pals_base.specs.declared.behaviour.Act.{Act}
 use Rattle.pals_base.specs.declared.behaviour.Branch.{Branch}
 use Rattle.pals_base.specs.Tree as plain
 use Rattle.pals_base.specs.Kinds as base
-use Rattle.pals_base.specs.Seen.{tree_of, action_of as act_tree, actions_along, branches_along}
+use Rattle.pals_base.specs.proof.Seen.{tree_of, action_of as act_tree, actions_along, branches_along}
 use Rattle.aadl_tree.specs.declared.actions.Bound.{Bound}
 use Rattle.aadl_tree.specs.declared.actions.Action as source_action
 use Rattle.aadl_tree.specs.declared.actions.Actions as source_actions
@@ -16,9 +16,9 @@ use Rattle.aadl_tree.specs.declared.actions.Elsif as source_elsif
 use Rattle.aadl_tree.specs.Names.{Identifier, Reference}
 use Rattle.aadl_tree.specs.Expressions.{Expression}
 use Rattle.aadl_tree.specs.Actions.{Action, assign, send, choose, loop, Actions, actions, Block}
-use Rattle.aadl_tree.specs.Maps.{kept_place}
-use Rattle.aadl_tree.specs.ExpressionViews.{expression_view}
-use Rattle.aadl_tree.specs.ActionViews.{action_view, actions_view, mores_view, elsifs_view, otherwise_of as listed_otherwise, block_of as listed_block}
+use Rattle.aadl_tree.specs.proof.Maps.{kept_place}
+use Rattle.aadl_tree.specs.proof.ExpressionViews.{expression_view}
+use Rattle.aadl_tree.specs.proof.ActionViews.{action_view, actions_view, mores_view, elsifs_view, otherwise_of as listed_otherwise, block_of as listed_block}
 use Rattle.annex_resolve.specs.declared.scope.Scope.{Scope}
 use Rattle.annex_resolve.specs.declared.scope.Entry.{Entry}
 use Rattle.annex_resolve.specs.declared.violation.Violation.{Violation}
@@ -27,7 +27,7 @@ use Rattle.annex_resolve.specs.Scopes.{found_if, entry_named, kind_of, may_set, 
 use Rattle.annex_resolve.specs.Types.{whole_types, kind_named}
 use Rattle.annex_resolve.specs.Resolved.{signed, expression_of, action_of, actions_of, mores_of, elsifs_of, otherwise_of, block_of}
 use Rattle.annex_resolve.specs.Actions.{turns, together, is_too_long, is_integer, action_findings, actions_findings, mores_findings, branch_findings, elsifs_findings, otherwise_findings, block_findings}
-use Rattle.annex_resolve.specs.Reads.{ReadsAction, ReadsActions, ReadsBranch, ReadsBranches}
+use Rattle.annex_resolve.specs.proof.Reads.{ReadsAction, ReadsActions, ReadsBranch, ReadsBranches}
 use Rattle.annex_resolve.proofs.Reading.{take_next}
 
 -- ---- a name that is set or sent

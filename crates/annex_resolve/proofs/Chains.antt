@@ -6,7 +6,7 @@ use Rattle.pals_base.specs.declared.behaviour.Expr.{Expr}
 use Rattle.pals_base.specs.declared.behaviour.Expr.TheVariants as expr
 use Rattle.pals_base.specs.declared.behaviour.Operand.{Operand}
 use Rattle.pals_base.specs.Tree as plain
-use Rattle.pals_base.specs.Seen.{tree_of, operands_along}
+use Rattle.pals_base.specs.proof.Seen.{tree_of, operands_along}
 use Rattle.pals_base.proofs.Trees.{tree_of-Chain}
 use Rattle.annex_resolve.specs.Resolved.{chained}
 

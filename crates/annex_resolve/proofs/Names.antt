@@ -2,8 +2,8 @@
 use Rattle.std.proofs.Common.{◌≡◌, ◌≤◌, ◌<◌, Bool, List, [], ◌∷◌, length, get_or, codes, map, string_bytes, ap, ◌∙◌, arith}
 use Rattle.aadl_tree.specs.Names.{same_name}
 use Rattle.aadl_tree.specs.declared.names.Identifier as source
-use Rattle.aadl_tree.specs.Maps.{kept_place}
-use Rattle.aadl_tree.specs.NameViews.{identifier_view}
+use Rattle.aadl_tree.specs.proof.Maps.{kept_place}
+use Rattle.aadl_tree.specs.proof.NameViews.{identifier_view}
 use Rattle.annex_resolve.specs.Types.{is_base_types}
 
 pub one_qualifier : (xs : List source.Identifier) (x : source.Identifier) (r : Bool) → 1 ≤ length xs → length xs < 2 → x ≡ get_or xs 0 x

@@ -11,7 +11,7 @@ use Rattle.pals_base.specs.declared.behaviour.Kind.{Kind}
 use Rattle.pals_base.specs.declared.behaviour.Kind.TheVariants.{Integer, Boolean}
 use Rattle.pals_base.specs.declared.behaviour.Op.{Op}
 use Rattle.pals_base.specs.Tree as plain
-use Rattle.pals_base.specs.Seen.{tree_of, operands_along}
+use Rattle.pals_base.specs.proof.Seen.{tree_of, operands_along}
 use Rattle.aadl_tree.specs.declared.expressions.MultiplyOperator.{MultiplyOperator}
 use Rattle.aadl_tree.specs.declared.expressions.LogicOperator.{LogicOperator}
 use Rattle.aadl_tree.specs.declared.expressions.RelationOperator.{RelationOperator}
@@ -23,8 +23,8 @@ use Rattle.aadl_tree.specs.declared.expressions.Relation as source_relation
 use Rattle.aadl_tree.specs.Names.{Identifier}
 use Rattle.aadl_tree.specs.Expressions.{Primary, number, truth, named, group, absolute, negated, bare, Expression, Factor, Term, term, Sum, total, Relation, single, compared, expression}
 use Rattle.aadl_tree.specs.Offsets.{primary_at, factor_at, term_at, sum_at, relation_at}
-use Rattle.aadl_tree.specs.Maps.{kept_place}
-use Rattle.aadl_tree.specs.ExpressionViews.{leading_view, factor_view, factors_view, term_view, terms_view, relation_view, relations_view}
+use Rattle.aadl_tree.specs.proof.Maps.{kept_place}
+use Rattle.aadl_tree.specs.proof.ExpressionViews.{leading_view, factor_view, factors_view, term_view, terms_view, relation_view, relations_view}
 use Rattle.annex_resolve.specs.declared.scope.Scope.{Scope}
 use Rattle.annex_resolve.specs.declared.scope.Entry.{Entry}
 use Rattle.annex_resolve.specs.declared.expressions.Typed.{Typed}
@@ -33,7 +33,7 @@ use Rattle.annex_resolve.specs.Types.{misfit, read_kind, primary_kind, primary_t
 use Rattle.annex_resolve.specs.Resolved.{truth_of, primary_of, chained, signed_by, multiply_op, sign_op, relation_op, logic_op, factor_of, factors_of, term_of, terms_of, sum_of, relation_of, relations_of, expression_of}
 use Rattle.annex_resolve.specs.Scopes.{finding, found_if, entry_named, read_of, or_zero}
 use Rattle.annex_resolve.specs.declared.violation.TheConstants.{BAD_TYPE}
-use Rattle.annex_resolve.specs.Reads.{Reads, ReadsOperands}
+use Rattle.annex_resolve.specs.proof.Reads.{Reads, ReadsOperands}
 
 -- ---- lists of findings
 three : (b f m r : List Violation) → ((b ++ f) ++ m) ++ r ≡ b ++ ((f ++ m) ++ r)

@@ -6,7 +6,7 @@ use Rattle.std.proofs.lemmas.Option.{slice_get-map}
 use Rattle.pals_base.specs.declared.behaviour.BehaviourParts.{BehaviourParts}
 use Rattle.pals_base.specs.Steps.{upwards}
 use Rattle.annex_resolve.specs.CycleRules.{reaches}
-use Rattle.annex_resolve.specs.Tables.{row_of, table_of, cell, cell_in}
+use Rattle.annex_resolve.specs.proof.Tables.{row_of, table_of, cell, cell_in}
 
 pub upwards_at : (from n k : ℕ) → k < n → slice_get (upwards from n) k ≡ Some (from + k)
 upwards_at from zero k within = absurd (omega (arith, within))

@@ -10,8 +10,8 @@ use Rattle.aadl_tree.specs.declared.actions.Actions.{Actions}
 use Rattle.aadl_tree.specs.declared.actions.Block.{Block}
 use Rattle.aadl_tree.specs.Expressions.{term}
 use Rattle.aadl_tree.specs.Actions.{actions}
-use Rattle.aadl_tree.specs.ExpressionViews.{factor_view, factors_view, term_view}
-use Rattle.aadl_tree.specs.ActionViews.{action_view, actions_view, block_view, mores_view, block_of}
+use Rattle.aadl_tree.specs.proof.ExpressionViews.{factor_view, factors_view, term_view}
+use Rattle.aadl_tree.specs.proof.ActionViews.{action_view, actions_view, block_view, mores_view, block_of}
 use Rattle.aadl_tree.proofs.ActionViews.{view-block}
 
 pub view-out-term : {P : Type 0} (place : ℕ → P) (x : Term) → term_view place x ≡ term (factor_view place (out-Term x).first) (factors_view place (out-Term x).rest.items)

@@ -3,7 +3,6 @@ use Rattle.std.specs.Prelude.{ℕ, ◌+◌, ◌*◌, min, Bool, false, not, ◌&
 use Rattle.pals_base.specs.declared.behaviour.Kind.{Kind}
 use Rattle.pals_base.specs.declared.behaviour.Kind.TheVariants.{Boolean}
 use Rattle.pals_base.specs.declared.limits.TheConstants.{TURNS, NESTED_TURNS}
-use Rattle.pals_base.specs.Kinds as base
 use Rattle.aadl_tree.specs.declared.actions.Bound.{Bound}
 use Rattle.aadl_tree.specs.Names.{Identifier}
 use Rattle.aadl_tree.specs.Expressions.{Expression}
@@ -15,6 +14,7 @@ use Rattle.annex_resolve.specs.declared.violation.TheConstants.{BAD_TYPE, LOOP_T
 use Rattle.annex_resolve.specs.Scopes.{found_if, entry_named, kind_of, may_set, may_send, with_loop}
 use Rattle.annex_resolve.specs.Types.{whole_types, is_boolean, kind_named}
 use Rattle.annex_resolve.specs.Resolved.{signed}
+use Rattle.pals_base.specs.Kinds as base
 
 -- ---- loops
 abbrev pub turns : Bound → Bound → ℕ

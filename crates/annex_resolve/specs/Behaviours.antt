@@ -5,7 +5,6 @@ use Rattle.std.specs.Option.{unwrap_or}
 use Rattle.pals_base.specs.declared.behaviour.StateDecl.{StateDecl}
 use Rattle.pals_base.specs.declared.behaviour.BehaviourParts.{BehaviourParts}
 use Rattle.pals_base.specs.declared.behaviour.Kind.TheVariants.{Boolean}
-use Rattle.pals_base.specs.Tree as plain
 use Rattle.pals_base.specs.Fire.{is_complete, leaving}
 use Rattle.pals_base.specs.Rules.{dispatch_count}
 use Rattle.pals_base.specs.Steps.{upwards}
@@ -25,6 +24,7 @@ use Rattle.annex_resolve.specs.Types.{whole_types}
 use Rattle.annex_resolve.specs.Resolved.{expression_of, block_of}
 use Rattle.annex_resolve.specs.Actions.{block_findings}
 use Rattle.annex_resolve.specs.CycleRules.{is_on_cycle}
+use Rattle.pals_base.specs.Tree as plain
 
 -- ---- states
 abbrev pub state_at : StateDeclaration ℕ → Identifier ℕ → StateAt

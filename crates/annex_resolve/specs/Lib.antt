@@ -2,7 +2,6 @@ pub mod Scopes
 pub mod Types
 pub mod Resolved
 pub mod Actions
-pub mod Reads
 pub mod CycleRules
 pub mod Behaviours
-pub mod Tables
+pub mod proof

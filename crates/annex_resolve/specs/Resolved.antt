@@ -1,21 +1,21 @@
 -- Expressions and actions with their names resolved to numbers.
 use Rattle.std.specs.Prelude.{ℕ, ℤ, pos, ◌-ℤ◌, Bool, true, false, Option, Some, None, if◌then◌else◌}
 use Rattle.pals_base.specs.declared.behaviour.Op.{Op}
-use Rattle.pals_base.specs.declared.behaviour.Op.TheVariants as ops
-use Rattle.pals_base.specs.Tree as plain
 use Rattle.aadl_tree.specs.declared.expressions.Sign.{Sign}
-use Rattle.aadl_tree.specs.declared.expressions.Sign.TheVariants as signs
 use Rattle.aadl_tree.specs.declared.expressions.LogicOperator.{LogicOperator}
-use Rattle.aadl_tree.specs.declared.expressions.LogicOperator.TheVariants as logic
 use Rattle.aadl_tree.specs.declared.expressions.RelationOperator.{RelationOperator}
-use Rattle.aadl_tree.specs.declared.expressions.RelationOperator.TheVariants as compare
 use Rattle.aadl_tree.specs.declared.expressions.MultiplyOperator.{MultiplyOperator}
-use Rattle.aadl_tree.specs.declared.expressions.MultiplyOperator.TheVariants as multiply
 use Rattle.aadl_tree.specs.declared.actions.Bound.{Bound}
 use Rattle.aadl_tree.specs.Expressions.{LeadingSign, Primary, number, truth, named, group, Factor, absolute, negated, bare, Term, term, Factors, no_factors, factor, Sum, total, Terms, no_terms, add, Relation, single, compared, Expression, expression, Relations, no_relations, join}
 use Rattle.aadl_tree.specs.Actions.{Action, assign, send, choose, loop, Actions, actions, Mores, no_mores, more, Elsifs, no_elsifs, elsif, Otherwise, no_otherwise, otherwise, Block, no_block, block}
 use Rattle.annex_resolve.specs.declared.scope.Scope.{Scope}
 use Rattle.annex_resolve.specs.Scopes.{entry_named, read_of, or_zero, given_to, with_loop}
+use Rattle.pals_base.specs.declared.behaviour.Op.TheVariants as ops
+use Rattle.pals_base.specs.Tree as plain
+use Rattle.aadl_tree.specs.declared.expressions.Sign.TheVariants as signs
+use Rattle.aadl_tree.specs.declared.expressions.LogicOperator.TheVariants as logic
+use Rattle.aadl_tree.specs.declared.expressions.RelationOperator.TheVariants as compare
+use Rattle.aadl_tree.specs.declared.expressions.MultiplyOperator.TheVariants as multiply
 
 abbrev pub multiply_op : MultiplyOperator → Op
 multiply_op multiply.Times = ops.Mul

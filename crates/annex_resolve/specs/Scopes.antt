@@ -2,13 +2,13 @@
 use Rattle.std.specs.Prelude.{ℕ, ◌+◌, pos, Bool, true, false, List, [], ◌∷◌, ◌++◌, Option, Some, None, find, if◌then◌else◌}
 use Rattle.pals_base.specs.declared.behaviour.Kind.{Kind}
 use Rattle.pals_base.specs.declared.behaviour.Kind.TheVariants.{Integer}
-use Rattle.pals_base.specs.Tree as plain
 use Rattle.aadl_tree.specs.Names.{Identifier, same_name}
 use Rattle.annex_resolve.specs.declared.scope.Meaning.{Meaning}
 use Rattle.annex_resolve.specs.declared.scope.Meaning.TheVariants.{InPort, OutPort, Variable, LoopVariable}
 use Rattle.annex_resolve.specs.declared.scope.Entry.{Entry}
 use Rattle.annex_resolve.specs.declared.scope.Scope.{Scope}
 use Rattle.annex_resolve.specs.declared.violation.Violation.{Violation}
+use Rattle.pals_base.specs.Tree as plain
 
 -- ---- findings
 abbrev pub finding : ℕ → ℕ → List ℕ → Violation

@@ -4,7 +4,6 @@ use Rattle.std.specs.Option.{option_and_then, is_some}
 use Rattle.pals_base.specs.declared.behaviour.Kind.{Kind}
 use Rattle.pals_base.specs.declared.behaviour.Kind.TheVariants.{Integer, Boolean}
 use Rattle.aadl_tree.specs.declared.expressions.RelationOperator.{RelationOperator}
-use Rattle.aadl_tree.specs.declared.expressions.RelationOperator.TheVariants as compare
 use Rattle.aadl_tree.specs.Names.{Identifier, Reference, same_name}
 use Rattle.aadl_tree.specs.Expressions.{LeadingSign, Primary, number, truth, named, group, Factor, absolute, negated, bare, Term, term, Factors, no_factors, factor, Sum, total, Terms, no_terms, add, Relation, single, compared, Expression, expression, Relations, no_relations, join}
 use Rattle.aadl_tree.specs.Offsets.{primary_at, factor_at, term_at, sum_at, relation_at, expression_at}
@@ -13,6 +12,7 @@ use Rattle.annex_resolve.specs.declared.scope.Entry.{Entry}
 use Rattle.annex_resolve.specs.declared.violation.Violation.{Violation}
 use Rattle.annex_resolve.specs.declared.violation.TheConstants.{BAD_TYPE}
 use Rattle.annex_resolve.specs.Scopes.{found_if, entry_named, kind_of, read_of}
+use Rattle.aadl_tree.specs.declared.expressions.RelationOperator.TheVariants as compare
 
 -- ---- names of types
 abbrev pub is_base_types : List (Identifier ℕ) → Bool

@@ -1,16 +1,16 @@
 //! Actions: what is wrong with them, and the trees in which names are numbers. They recur as deep as
 //! the actions are.
 ghost use Rattle.std.specs.Prelude.{◌≡◌, ◌+◌, ◌≤◌, IfOk, option_copied, option_map};
-ghost use Rattle.pals_base.specs.Seen.{tree_of, action_of as act_tree};
+ghost use Rattle.pals_base.specs.proof.Seen.{tree_of, action_of as act_tree};
 ghost use Rattle.pals_base.specs.declared.limits.TheConstants.{NESTED_TURNS};
-ghost use Rattle.aadl_tree.specs.Maps.{kept_place};
-ghost use Rattle.aadl_tree.specs.ExpressionViews.{expression_view};
-ghost use Rattle.aadl_tree.specs.ActionViews.{action_view, actions_view, block_view, choice_view, loop_view, block_of as listed_block};
+ghost use Rattle.aadl_tree.specs.proof.Maps.{kept_place};
+ghost use Rattle.aadl_tree.specs.proof.ExpressionViews.{expression_view};
+ghost use Rattle.aadl_tree.specs.proof.ActionViews.{action_view, actions_view, block_view, choice_view, loop_view, block_of as listed_block};
 ghost use Rattle.annex_resolve.specs.Scopes.{may_set, may_send, nothing, given_to, kind_of};
 ghost use Rattle.annex_resolve.specs.Types.{whole_types};
 ghost use Rattle.annex_resolve.specs.Resolved.{expression_of, action_of, actions_of, block_of};
 ghost use Rattle.annex_resolve.specs.Actions.{is_integer, action_findings, actions_findings, block_findings, branch_findings};
-ghost use Rattle.annex_resolve.specs.Reads.{ReadsAction, ReadsActions, ReadsBranch};
+ghost use Rattle.annex_resolve.specs.proof.Reads.{ReadsAction, ReadsActions, ReadsBranch};
 
 use crate::expressions::{kind_of, resolve_whole};
 use crate::loops::{count_turns, is_too_long, signed, together};

@@ -45,7 +45,7 @@ pub struct Table {
 }
 
 impl Table {
-    ghost use Rattle.annex_resolve.specs.Tables.{row_of, IsTable, cell};
+    ghost use Rattle.annex_resolve.specs.proof.Tables.{row_of, IsTable, cell};
 
     // Where the transitions of a state lead.
     #[tactic(auto, using(pals_base::proofs::Upwards::map_upwards_more))]

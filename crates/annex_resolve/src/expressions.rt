@@ -2,15 +2,15 @@
 ghost use Rattle.std.specs.Prelude.{◌≡◌, ◌++◌, IfOk, OnOk, Some, option_map, option_copied};
 ghost use Rattle.pals_base.specs.declared.behaviour.Kind.TheVariants.{Integer, Boolean};
 ghost use Rattle.pals_base.specs.Tree.{Literal, Chain, Then, NoMore};
-ghost use Rattle.pals_base.specs.Seen.{tree_of, operands_along};
+ghost use Rattle.pals_base.specs.proof.Seen.{tree_of, operands_along};
 ghost use Rattle.aadl_tree.specs.Expressions.{named};
-ghost use Rattle.aadl_tree.specs.Maps.{kept_place};
-ghost use Rattle.aadl_tree.specs.NameViews.{identifier_view};
-ghost use Rattle.aadl_tree.specs.ExpressionViews.{leading_view, primary_view, factor_view, factors_view, term_view, terms_view, sum_view, relation_view, relations_view, expression_view};
+ghost use Rattle.aadl_tree.specs.proof.Maps.{kept_place};
+ghost use Rattle.aadl_tree.specs.proof.NameViews.{identifier_view};
+ghost use Rattle.aadl_tree.specs.proof.ExpressionViews.{leading_view, primary_view, factor_view, factors_view, term_view, terms_view, sum_view, relation_view, relations_view, expression_view};
 ghost use Rattle.annex_resolve.specs.Scopes.{kind_of, read_of};
 ghost use Rattle.annex_resolve.specs.Types.{fits, misfit, read_kind, is_equality, sides_misfit, primary_kind, factor_kind, term_kind, total_kind, relation_kind, expression_kind, primary_types, factor_types, term_types, factors_types, sum_types, terms_types, relation_types, expression_types, relations_types, whole_types};
 ghost use Rattle.annex_resolve.specs.Resolved.{multiply_op, sign_op, relation_op, logic_op, chained, signed_by, truth_of, primary_of, factor_of, term_of, factors_of, sum_of, terms_of, relation_of, expression_of, relations_of};
-ghost use Rattle.annex_resolve.specs.Reads.{Reads, ReadsOperands};
+ghost use Rattle.annex_resolve.specs.proof.Reads.{Reads, ReadsOperands};
 
 mod operators;
 

@@ -1,8 +1,8 @@
 //! The names of types.
 ghost use Rattle.std.specs.Prelude.{◌≡◌, map, string_bytes};
 ghost use Rattle.aadl_tree.specs.Names.{same_name};
-ghost use Rattle.aadl_tree.specs.Maps.{kept_place};
-ghost use Rattle.aadl_tree.specs.NameViews.{identifier_view, reference_view};
+ghost use Rattle.aadl_tree.specs.proof.Maps.{kept_place};
+ghost use Rattle.aadl_tree.specs.proof.NameViews.{identifier_view, reference_view};
 ghost use Rattle.annex_resolve.specs.Types.{is_base_types, is_base_type, kind_named};
 
 use aadl_tree::{Identifier, Reference};

@@ -11,13 +11,13 @@ use Rattle.pals_model.specs.declared.design.DesignParts.{DesignParts}
 use Rattle.pals_model.specs.RoundTexts.{report}
 use Rattle.pals_runs.specs.declared.pairs.Pair.{Pair}
 use Rattle.analysis_fields.specs.declared.faults.RoundFault.{RoundFault}
-use Rattle.analysis_fields.specs.AnalysisFacts.{IsFaultOf}
+use Rattle.analysis_fields.specs.proof.AnalysisFacts.{IsFaultOf}
 use Rattle.analysis_fields.specs.Replicas.{is_among, source_in as field_source}
 use Rattle.scenario_json.specs.declared.scenario.Scenario.{Scenario}
-use Rattle.triple_vote.specs.Laws.{IsFault, AreFaults, AreOutvoted, ReportIsThrice, ThriceWithoutReplicas}
+use Rattle.triple_vote.specs.proof.Laws.{IsFault, AreFaults, AreOutvoted, ReportIsThrice, ThriceWithoutReplicas}
 use Rattle.triple_vote.specs.Replicas.{is_replicated, source_in as vote_source}
 use Rattle.triple_vote.specs.Texts.{thrice}
-use Rattle.plant_fuse.specs.Laws.{ReportWithoutPairs}
+use Rattle.plant_fuse.specs.proof.Laws.{ReportWithoutPairs}
 use Rattle.plant_fuse.specs.Texts.{IsFusedReport}
 use Rattle.analysis_texts.specs.Voted.{replicated_in, faults_of}
 use Rattle.pals_top.specs.declared.analysis.Analysis.{Analysis}
@@ -26,8 +26,8 @@ use Rattle.pals_top.specs.Scenarios.{HasScenario}
 use Rattle.pals_top.specs.Vote.{IsVoted}
 use Rattle.pals_top.specs.Fuse.{IsFusedAnswer}
 use Rattle.pals_top.specs.Analyses.{command_of, Makes, IsAnalysisAnswer}
-use Rattle.scenario_laws.specs.Faults.{FaultsAreOfReplicas}
-use Rattle.answer_laws.specs.Analyses.{VotesAreOutvoted, VotesWithoutReplicas, FuseWithoutPlants}
+use Rattle.scenario_laws.specs.proof.Faults.{FaultsAreOfReplicas}
+use Rattle.answer_laws.specs.proof.Analyses.{VotesAreOutvoted, VotesWithoutReplicas, FuseWithoutPlants}
 use Rattle.answer_laws.proofs.Laws.{OneDesign, KeepsRules}
 use Rattle.answer_laws.proofs.Designs.{accepted_or_refused}
 use Rattle.answer_laws.proofs.Scenarios.{one_meaning, meant_or_refused}

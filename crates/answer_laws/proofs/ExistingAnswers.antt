@@ -17,11 +17,12 @@ use Rattle.pals_top.specs.declared.execution.Execution.TheVariants as execution
 use Rattle.pals_top.specs.Words.{HasForm}
 use Rattle.pals_top.specs.Scenarios.{HasScenarioFault}
 use Rattle.pals_top.specs.Analyses.{command_of as analysis_command, IsAnalysisAnswer}
-use Rattle.pals_top.specs.Executions.{command_of as execution_command, code_fault_line, HasEvents, IsExecutionAnswer}
-use Rattle.scenario_laws.specs.Meanings.{HasScenario, HasFault}
-use Rattle.answer_laws.specs.Meanings.{HasTree}
-use Rattle.answer_laws.specs.Runs.{is_run}
-use Rattle.answer_laws.specs.Exists.{IsAnswerTo, HasAnswer, HasOneAnswer}
+use Rattle.pals_top.specs.Executions.{command_of as execution_command, code_fault_line, IsExecutionAnswer}
+use Rattle.pals_top.specs.proof.Executions.{HasEvents}
+use Rattle.scenario_laws.specs.proof.Meanings.{HasScenario, HasFault}
+use Rattle.answer_laws.specs.proof.Meanings.{HasTree}
+use Rattle.answer_laws.specs.proof.Runs.{is_run}
+use Rattle.answer_laws.specs.proof.Exists.{IsAnswerTo, HasAnswer, HasOneAnswer}
 use Rattle.answer_laws.proofs.ExistingLaws.{ExistenceLaws}
 use Rattle.answer_laws.proofs.ExistingTexts.{IsRefused, tree_or_refused}
 use Rattle.answer_laws.proofs.ExistingDesigns.{HasDesign, HasRefusal, design_or_refused}

@@ -1,6 +1,6 @@
 -- The package of a bundle has a design below a root, or is refused.
 use Rattle.std.proofs.Common.{◌⊎◌, inl, inr, ℕ, List, [], ◌∷◌, ◌++◌, refl}
-use Rattle.aadl_tree.specs.Given.{IsGiven}
+use Rattle.aadl_tree.specs.proof.Given.{IsGiven}
 use Rattle.annex_resolve.specs.declared.violation.Violation.{Violation}
 use Rattle.aadl_instance.specs.Flat.{Parts, IsFlat}
 use Rattle.model_violations.specs.Violations.{shown_by, AreViolations}
@@ -12,8 +12,8 @@ use Rattle.pals_report.specs.Violations.{violation_lines}
 use Rattle.bundle_designs.specs.Accepted.{IsRefusedIn, IsAccepted}
 use Rattle.pals_top.specs.declared.status.TheConstants.{TEXT_REFUSED, DESIGN_REFUSED}
 use Rattle.pals_top.specs.Refusals.{IsBundleRefused}
-use Rattle.design_laws.specs.Packages.{HasFirstFault, HasInstance}
-use Rattle.answer_laws.specs.Meanings.{HasTree}
+use Rattle.design_laws.specs.proof.Packages.{HasFirstFault, HasInstance}
+use Rattle.answer_laws.specs.proof.Meanings.{HasTree}
 use Rattle.answer_laws.proofs.ExistingLaws.{ExistenceLaws}
 use Rattle.answer_laws.proofs.ExistingTexts.{IsRefused, tree_or_refused}
 

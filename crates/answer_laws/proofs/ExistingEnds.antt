@@ -14,7 +14,8 @@ use Rattle.pals_bus.specs.Loose.{loose_event}
 use Rattle.loose_world.specs.declared.events.LooseEnd.{LooseEnd}
 use Rattle.loose_world.specs.declared.events.LooseEnd.TheVariants as end
 use Rattle.loose_world.specs.Worlds.{IsFaultOf, IsLooseIn}
-use Rattle.loose_world.specs.Steps.{AllStep, ComesTo, StepsTo}
+use Rattle.loose_world.specs.Steps.{AllStep, ComesTo}
+use Rattle.loose_world.specs.proof.Steps.{StepsTo}
 
 -- from the opening of a run on they end in some way, at some state and with some journal
 abbrev pub HasEnd : Run → List Event → Type 0

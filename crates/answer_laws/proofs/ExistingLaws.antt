@@ -1,7 +1,7 @@
 -- The laws of lower crates by which each bundle has an answer.
 use Rattle.std.specs.Prelude.{◌⊎◌, ◌≢◌, ℕ, List, []}
 use Rattle.aadl_tree.specs.Declarations.{PackageTree}
-use Rattle.aadl_tree.specs.Given.{IsGiven}
+use Rattle.aadl_tree.specs.proof.Given.{IsGiven}
 use Rattle.aadl_names.specs.declared.fault.FlatFault.{FlatFault}
 use Rattle.aadl_names.specs.declared.fault.FlatFault.TheVariants.{Memory}
 use Rattle.aadl_instance.specs.Faults.{IsFault}
@@ -11,15 +11,15 @@ use Rattle.pals_model.specs.declared.design.DesignParts.{DesignParts}
 use Rattle.pals_model.specs.Rules.{IsDesign}
 use Rattle.design_laws.specs.PackageDesigns.{IsDesignIn}
 use Rattle.pals_runs.specs.declared.commands.Command.{Command}
-use Rattle.step_compiler.specs.Laws.{HasLayout}
-use Rattle.scenario_laws.specs.Events.{EventsAreLoose, EventsAreFew, TracesAreFew}
-use Rattle.aadl_grammar.specs.Texts.{HasTree, HasLexFault, Stops, NestsTooDeep}
-use Rattle.design_laws.specs.Packages.{HasFirstFault, HasInstance, HasList}
-use Rattle.scenario_laws.specs.Meanings.{HasScenario, HasFault}
-use Rattle.scenario_laws.specs.Plants.{PairsCanBeFused}
-use Rattle.scenario_laws.specs.Facts.{ScenariosSuit}
-use Rattle.run_laws.specs.Ending.{EachRunEnds, EndsAreNamed}
-use Rattle.plant_fuse.specs.Laws.{ReportExists}
+use Rattle.step_compiler.specs.proof.Laws.{HasLayout}
+use Rattle.scenario_laws.specs.proof.Events.{EventsAreLoose, EventsAreFew, TracesAreFew}
+use Rattle.aadl_grammar.specs.proof.Texts.{HasTree, HasLexFault, Stops, NestsTooDeep}
+use Rattle.design_laws.specs.proof.Packages.{HasFirstFault, HasInstance, HasList}
+use Rattle.scenario_laws.specs.proof.Meanings.{HasScenario, HasFault}
+use Rattle.scenario_laws.specs.proof.Plants.{PairsCanBeFused}
+use Rattle.scenario_laws.specs.proof.Facts.{ScenariosSuit}
+use Rattle.run_laws.specs.proof.Ending.{EachRunEnds, EndsAreNamed}
+use Rattle.plant_fuse.specs.proof.Laws.{ReportExists}
 
 pub record ExistenceLaws : Type 0 where
   -- a text has a tree or a first fault

@@ -3,16 +3,17 @@ use Rattle.std.proofs.Common.{ℕ, List, refl}
 use Rattle.pals_model.specs.declared.design.DesignParts.{DesignParts}
 use Rattle.pals_model.specs.Rules.{IsDesign}
 use Rattle.scenario_json.specs.declared.scenario.Scenario.{Scenario}
-use Rattle.scenario_json.specs.Facts.{IsScenarioOf}
-use Rattle.scenario_laws.specs.Events.{AreLooseEvents}
+use Rattle.scenario_json.specs.proof.Facts.{IsScenarioOf}
+use Rattle.scenario_laws.specs.proof.Events.{AreLooseEvents}
 use Rattle.plant_fuse.specs.Fused.{ArePairs}
-use Rattle.plant_fuse.specs.Laws.{ReportExists}
+use Rattle.plant_fuse.specs.proof.Laws.{ReportExists}
 use Rattle.pals_top.specs.declared.analysis.Analysis.{Analysis}
 use Rattle.pals_top.specs.declared.analysis.Analysis.TheVariants.{Sync, Watch, Vote, Fuse}
 use Rattle.pals_top.specs.declared.execution.Execution.{Execution}
 use Rattle.pals_top.specs.declared.execution.Execution.TheVariants.{TimedWorld, LooseWorld, Run, Audit, Budget}
 use Rattle.pals_top.specs.Analyses.{Makes as analyses}
-use Rattle.pals_top.specs.Executions.{Makes as executes, HasEvents}
+use Rattle.pals_top.specs.Executions.{Makes as executes}
+use Rattle.pals_top.specs.proof.Executions.{HasEvents}
 use Rattle.pals_top.specs.Worlds.{world_of}
 use Rattle.answer_laws.proofs.ExistingLaws.{ExistenceLaws}
 use Rattle.answer_laws.proofs.ExistingLayouts.{has_codes}

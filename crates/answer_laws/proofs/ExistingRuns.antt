@@ -13,17 +13,18 @@ use Rattle.pals_model.specs.RoundTexts.{line_end, report}
 use Rattle.pals_report.specs.Runs.{clock_end_line}
 use Rattle.pals_runs.specs.declared.journal.JournalEntry.{JournalEntry}
 use Rattle.pals_runs.specs.declared.journal.Stop.{Stop}
-use Rattle.scenario_json.specs.RunFacts.{IsOpening, AreClocksOf, AreClocksFor}
+use Rattle.scenario_json.specs.proof.RunFacts.{IsOpening, AreClocksOf, AreClocksFor}
 use Rattle.scenario_json.specs.declared.scenario.Scenario.{Scenario}
-use Rattle.scenario_json.specs.Facts.{IsScenarioOf}
-use Rattle.bus_machine.specs.Laws.{IsRunOf}
+use Rattle.scenario_json.specs.proof.Facts.{IsScenarioOf}
+use Rattle.bus_machine.specs.proof.Laws.{IsRunOf}
 use Rattle.bus_machine.specs.Plans.{plan_of}
 use Rattle.bus_machine.specs.States.{Run, BusState, finished_by_all}
 use Rattle.bus_machine.specs.Targets.{target}
-use Rattle.run_laws.specs.Ending.{AllAtEnd, HasCome, EachRunEnds, IsFirstEnded, EndsAreNamed}
+use Rattle.run_laws.specs.Timely.{AllAtEnd}
+use Rattle.run_laws.specs.proof.Ending.{HasCome, EachRunEnds, IsFirstEnded, EndsAreNamed}
 use Rattle.run_laws.specs.Meetings.{AllDone}
 use Rattle.run_laws.specs.Runs.{no_clock, clock_at, lists_in, AreFresh, Begin, Runs}
-use Rattle.run_laws.specs.Sound.{AreReadings}
+use Rattle.run_laws.specs.proof.Sound.{AreReadings}
 use Rattle.run_texts.specs.RunTexts.{journal_text, IsCompletedRun, IsStoppedRun, IsEndedRun}
 use Rattle.run_texts.proofs.Courses.{course, completed, stopped}
 use Rattle.pals_top.specs.declared.status.TheConstants.{DONE, STOPPED, CLOCK_ENDED}

@@ -7,8 +7,8 @@ use Rattle.pals_model.specs.RoundTexts.{line_end}
 use Rattle.pals_report.specs.TextFaults.{text_fault_line, no_divider_line}
 use Rattle.bundle_designs.specs.Bundles.{IsSplit, HasNoDivider}
 use Rattle.bundle_designs.specs.RefusedTexts.{IsTextRefused}
-use Rattle.aadl_grammar.specs.Texts.{HasTree as HasTreeOf, HasLexFault, Stops, NestsTooDeep}
-use Rattle.answer_laws.specs.Meanings.{HasTree}
+use Rattle.aadl_grammar.specs.proof.Texts.{HasTree as HasTreeOf, HasLexFault, Stops, NestsTooDeep}
+use Rattle.answer_laws.specs.proof.Meanings.{HasTree}
 use Rattle.answer_laws.proofs.Splits.{split_or_not}
 use Rattle.answer_laws.proofs.ExistingLaws.{ExistenceLaws}
 

@@ -11,7 +11,7 @@ use Rattle.bus_machine.specs.WorldTexts.{worldtext}
 use Rattle.loose_world.specs.declared.events.LooseEnd.{LooseEnd}
 use Rattle.loose_world.specs.declared.events.LooseEnd.TheVariants as end
 use Rattle.loose_world.specs.Worlds.{IsLooseIn}
-use Rattle.loose_world.specs.Steps.{StepsTo}
+use Rattle.loose_world.specs.proof.Steps.{StepsTo}
 use Rattle.pals_report.specs.EventFaults.{event_fault_line}
 use Rattle.pals_top.specs.declared.status.TheConstants.{DONE, SCENARIO_REFUSED, STOPPED}
 use Rattle.pals_top.specs.Loose.{run_of, IsWorldAnswer}

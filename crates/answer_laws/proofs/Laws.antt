@@ -7,10 +7,10 @@ use Rattle.aadl_tree.specs.Given.{IsTreeOf}
 use Rattle.aadl_names.specs.declared.fault.FlatFault.{FlatFault}
 use Rattle.aadl_instance.specs.Faults.{IsFault}
 use Rattle.design_laws.specs.PackageDesigns.{IsDesignIn}
-use Rattle.loose_world.specs.Ends.{OneEnd}
-use Rattle.round_budget.specs.Laws.{TextIsOne, VerdictIsOne}
-use Rattle.plant_fuse.specs.Laws.{ReportIsOne}
-use Rattle.scenario_laws.specs.Plants.{PairsCanBeFused}
+use Rattle.loose_world.specs.proof.Ends.{OneEnd}
+use Rattle.round_budget.specs.proof.Laws.{TextIsOne, VerdictIsOne}
+use Rattle.plant_fuse.specs.proof.Laws.{ReportIsOne}
+use Rattle.scenario_laws.specs.proof.Plants.{PairsCanBeFused}
 use Rattle.bundle_designs.specs.Accepted.{IsAccepted}
 
 -- a package has one design at most below a root

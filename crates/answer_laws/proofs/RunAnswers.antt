@@ -10,21 +10,21 @@ use Rattle.serde_json.specs.Data.{Data}
 use Rattle.scenario_json.specs.Events.{usual_word, event_in, events_in}
 use Rattle.scenario_json.specs.declared.scenario.Scenario.{Scenario}
 use Rattle.scenario_json.specs.Scenarios.{fields_in, scen, Means}
-use Rattle.scenario_laws.specs.Facts.{ScenariosSuit}
-use Rattle.bus_machine.specs.Laws.{IsRunOf}
+use Rattle.scenario_laws.specs.proof.Facts.{ScenariosSuit}
+use Rattle.bus_machine.specs.proof.Laws.{IsRunOf}
 use Rattle.bus_machine.specs.States.{finished_by_all}
 use Rattle.trace_laws.specs.Reports.{lines_of}
 use Rattle.trace_laws.specs.Traces.{verdict}
 use Rattle.run_laws.proofs.Stops.{told as stop_is_last}
-use Rattle.run_laws.specs.InTime.{InTime, NoneStops, BoundsAreInTime, EndsAreOne, AllPicked, PickedAreDone}
+use Rattle.run_laws.specs.proof.InTime.{InTime, NoneStops, BoundsAreInTime, EndsAreOne, AllPicked, PickedAreDone}
 use Rattle.run_texts.specs.RunTexts.{journal_text}
 use Rattle.pals_top.specs.declared.execution.Execution.TheVariants as execution
 use Rattle.pals_top.specs.Executions.{IsCodeTooLong, IsExecutionAnswer}
 use Rattle.pals_top.specs.Loose.{run_of}
 use Rattle.pals_top.specs.Run.{IsRunAnswer}
 use Rattle.pals_top.specs.Scenarios.{HasScenario}
-use Rattle.answer_laws.specs.Meanings.{MeansScenario, HasLongCode}
-use Rattle.answer_laws.specs.Runs.{IsRunStatus, IsInTime, OneAnswerInTime, NoneIsStopped, IsSynchronous, DoneInTime, AnswersAsSync, DoneWithinBounds, DoneTracesAreSound, IsStoppedTrace, StoppedTracesAreSound}
+use Rattle.answer_laws.specs.proof.Meanings.{MeansScenario, HasLongCode}
+use Rattle.answer_laws.specs.proof.Runs.{IsRunStatus, IsInTime, OneAnswerInTime, NoneIsStopped, IsSynchronous, DoneInTime, AnswersAsSync, DoneWithinBounds, DoneTracesAreSound, IsStoppedTrace, StoppedTracesAreSound}
 use Rattle.answer_laws.proofs.Laws.{OneDesign, KeepsRules}
 use Rattle.answer_laws.proofs.Designs.{accepted_or_refused}
 use Rattle.answer_laws.proofs.Scenarios.{one_meaning, meant_or_refused}

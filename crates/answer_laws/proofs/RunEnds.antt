@@ -9,17 +9,17 @@ use Rattle.pals_runs.specs.declared.journal.Phase.TheVariants.{Done}
 use Rattle.pals_report.specs.Runs.{clock_end_line}
 use Rattle.bus_machine.specs.declared.action.Action.{Action}
 use Rattle.bus_machine.specs.Agreement.{Agrees}
-use Rattle.bus_machine.specs.Laws.{IsRunOf}
+use Rattle.bus_machine.specs.proof.Laws.{IsRunOf}
 use Rattle.bus_machine.specs.Nodes.{NodeState}
 use Rattle.bus_machine.specs.Plans.{plan_of}
 use Rattle.bus_machine.specs.States.{Run, BusState, node_at, no_node}
-use Rattle.run_laws.specs.Ending.{AllAtEnd}
-use Rattle.run_laws.specs.InTime.{InTime, NoneStops, EndsFirst, EndsAreOne, AllPicked, PickedAreDone}
+use Rattle.run_laws.specs.Timely.{AllAtEnd}
+use Rattle.run_laws.specs.proof.InTime.{InTime, NoneStops, EndsFirst, EndsAreOne, AllPicked, PickedAreDone}
 use Rattle.run_laws.specs.Meetings.{AllDone}
 use Rattle.run_laws.specs.Turns.{upcoming}
 use Rattle.run_laws.proofs.InTime.{done_or_ended, one_first}
 use Rattle.run_texts.specs.RunTexts.{Course, IsCompletedRun, IsStoppedRun, IsEndedRun, EndsAt}
-use Rattle.answer_laws.specs.Runs.{ShowsRounds}
+use Rattle.answer_laws.specs.proof.Runs.{ShowsRounds}
 
 -- ---- what ends first
 -- a node with something to do is there

@@ -9,7 +9,7 @@ use Rattle.pals_top.specs.Print.{IsPrintAnswer}
 use Rattle.pals_top.specs.Check.{IsCheckAnswer}
 use Rattle.pals_top.specs.declared.analysis.Analysis.{Analysis}
 use Rattle.pals_top.specs.Analyses.{command_of, IsAnalysisAnswer}
-use Rattle.answer_laws.specs.Meanings.{HasTree, MeansDesign, MeansScenario}
+use Rattle.answer_laws.specs.proof.Meanings.{HasTree, MeansDesign, MeansScenario}
 use Rattle.answer_laws.proofs.Laws.{OneDesign}
 use Rattle.answer_laws.proofs.Designs.{read_or_refused, package_refused}
 use Rattle.answer_laws.proofs.Scenarios.{meant_or_refused}

@@ -12,9 +12,10 @@ use Rattle.bus_machine.specs.WorldTexts.{worldtext}
 use Rattle.pals_report.specs.EventFaults.{event_fault_line}
 use Rattle.loose_world.specs.declared.events.LooseEnd.{LooseEnd}
 use Rattle.loose_world.specs.declared.events.LooseEnd.TheVariants as end
-use Rattle.loose_world.specs.Steps.{AllStep, StepsToStop, StepsToFault, StepsTo}
-use Rattle.loose_world.specs.Ends.{IsOneLeft, AreOneEnd, OneEnd}
-use Rattle.pals_top.specs.Code.{status_at}
+use Rattle.loose_world.specs.Steps.{AllStep, StepsToStop, StepsToFault}
+use Rattle.loose_world.specs.proof.Steps.{StepsTo}
+use Rattle.loose_world.specs.proof.Ends.{IsOneLeft, AreOneEnd, OneEnd}
+use Rattle.pals_top.specs.proof.Code.{status_at}
 use Rattle.pals_top.specs.Loose.{run_of, IsWorldAnswer}
 
 -- ---- the ends of a run

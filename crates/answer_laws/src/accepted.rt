@@ -8,7 +8,7 @@ ghost use Rattle.aadl_instance.specs.Flat.{Parts, IsFlat};
 ghost use Rattle.model_violations.specs.Violations.{shown_by, AreViolations};
 ghost use Rattle.bundle_designs.specs.Parsed.{IsParsed};
 ghost use Rattle.bundle_designs.specs.Accepted.{IsAccepted};
-ghost use Rattle.answer_laws.specs.Meanings.{MeansDesign};
+ghost use Rattle.answer_laws.specs.proof.Meanings.{MeansDesign};
 
 use design_laws::packages::designs_of_texts_keep_their_rules;
 

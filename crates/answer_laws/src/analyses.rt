@@ -1,6 +1,6 @@
 //! What `vote` and `fuse` write where nothing keeps them from what `sync` writes. Each law is the contract
 //! of a function that does nothing.
-ghost use Rattle.answer_laws.specs.Analyses.{VotesAreOutvoted, VotesWithoutReplicas, FuseWithoutPlants};
+ghost use Rattle.answer_laws.specs.proof.Analyses.{VotesAreOutvoted, VotesWithoutReplicas, FuseWithoutPlants};
 
 use crate::accepted::accepted_designs_keep_their_rules;
 use design_laws::packages::one_design;

@@ -1,7 +1,8 @@
 //! Each bundle has an answer of each command, and one of each that is no run. Each law is the contract of a function that does nothing.
-ghost use Rattle.answer_laws.specs.Exists.{EachBundleHasAnAnswer, EachBundleHasOneAnswer};
+ghost use Rattle.answer_laws.specs.proof.Exists.{EachBundleHasAnAnswer, EachBundleHasOneAnswer};
 
 use crate::answers::answer_is_decided;
+use aadl_grammar::text_laws::tree_or_fault;
 use design_laws::existence::{
     each_instance_has_its_list, first_faults_are_named, instance_or_fault,
 };
@@ -13,7 +14,6 @@ use scenario_laws::facts::scenarios_suit;
 use scenario_laws::meanings::scenario_or_fault;
 use scenario_laws::plants::pairs_can_be_fused;
 use step_compiler::laws::layout_is_one;
-use aadl_grammar::text_laws::tree_or_fault;
 
 /// Each command that has a form has an answer to each bundle, whatever the root: there are a status and
 /// a text that the theorem on a call of the program allows. No answer to a bundle says that there was

@@ -3,8 +3,8 @@ ghost use Rattle.std.specs.Prelude.{◌↔◌, ℕ, Bool, List};
 ghost use Rattle.pals_runs.specs.declared.commands.Command.TheVariants as command;
 ghost use Rattle.pals_top.specs.declared.execution.Execution.TheVariants as execution;
 ghost use Rattle.pals_top.specs.Executions.{IsExecutionAnswer};
-ghost use Rattle.answer_laws.specs.Meanings.{MeansScenario, HasLongCode};
-ghost use Rattle.answer_laws.specs.Runs.{AnswersAsSync, DoneInTime, DoneTracesAreSound, DoneWithinBounds, IsRunStatus, NoneIsStopped, OneAnswerInTime, StoppedTracesAreSound};
+ghost use Rattle.answer_laws.specs.proof.Meanings.{MeansScenario, HasLongCode};
+ghost use Rattle.answer_laws.specs.proof.Runs.{AnswersAsSync, DoneInTime, DoneTracesAreSound, DoneWithinBounds, IsRunStatus, NoneIsStopped, OneAnswerInTime, StoppedTracesAreSound};
 
 use crate::accepted::accepted_designs_keep_their_rules;
 use design_laws::packages::one_design;

@@ -7,9 +7,9 @@ ghost use Rattle.pals_top.specs.declared.analysis.Analysis.{Analysis};
 ghost use Rattle.pals_top.specs.declared.execution.Execution.{Execution};
 ghost use Rattle.pals_top.specs.Analyses.{command_of, IsAnalysisAnswer};
 ghost use Rattle.pals_top.specs.Executions.{command_of as execution_command, IsExecutionAnswer};
-ghost use Rattle.answer_laws.specs.Meanings.{HasTree, MeansDesign, MeansScenario};
-ghost use Rattle.answer_laws.specs.Meanings.{HasLongCode, LacksScenario, GivesStatus};
-ghost use Rattle.answer_laws.specs.Runs.{is_run};
+ghost use Rattle.answer_laws.specs.proof.Meanings.{HasTree, MeansDesign, MeansScenario};
+ghost use Rattle.answer_laws.specs.proof.Meanings.{HasLongCode, LacksScenario, GivesStatus};
+ghost use Rattle.answer_laws.specs.proof.Runs.{is_run};
 
 use design_laws::packages::one_design;
 use loose_world::world_laws::one_end;

@@ -8,9 +8,9 @@ use Rattle.aadl_tree.specs.Kinds.{Spot}
 use Rattle.aadl_tree.specs.Parts.{Part, plain}
 use Rattle.aadl_tree.specs.Names as n
 use Rattle.aadl_tree.specs.Annexes as x
-use Rattle.aadl_tree.specs.Views.{variable_view, state_view, transition_view}
-use Rattle.aadl_tree.specs.Maps.{kept_place}
-use Rattle.aadl_grammar.specs.Reading.{Reads}
+use Rattle.aadl_tree.specs.proof.Views.{variable_view, state_view, transition_view}
+use Rattle.aadl_tree.specs.proof.Maps.{kept_place}
+use Rattle.aadl_grammar.specs.proof.Reading.{Reads}
 use Rattle.aadl_grammar.proofs.Written.{begun}
 
 pub variable_begun : (t : VariableDeclaration) {ss rest : List Spot} → Reads (x.variable_parts (variable_view kept_place t)) ss rest → length rest < length ss

@@ -17,16 +17,16 @@ use Rattle.aadl_tree.specs.Kinds.{mark, Spot}
 use Rattle.aadl_tree.specs.Parts.{Part, plain}
 use Rattle.aadl_tree.specs.Values.{sign_mark}
 use Rattle.aadl_tree.specs.Expressions as e
-use Rattle.aadl_tree.specs.ExpressionViews.{factor_view, factors_view, term_view, terms_view, relation_view, relations_view}
-use Rattle.aadl_tree.specs.Maps.{kept_place}
+use Rattle.aadl_tree.specs.proof.ExpressionViews.{factor_view, factors_view, term_view, terms_view, relation_view, relations_view}
+use Rattle.aadl_tree.specs.proof.Maps.{kept_place}
 use Rattle.aadl_tree.specs.declared.limits.TheConstants.{GREATEST_NESTING}
-use Rattle.aadl_grammar.specs.Symbols as s
-use Rattle.aadl_grammar.specs.Table.{on}
-use Rattle.aadl_grammar.specs.Machine.{Stack, takes, move, depth, fate}
-use Rattle.aadl_grammar.specs.Reading.{Reads}
+use Rattle.aadl_grammar.specs.proof.Symbols as s
+use Rattle.aadl_grammar.specs.proof.Table.{on}
+use Rattle.aadl_grammar.specs.proof.Machine.{Stack, takes, move, depth, fate}
+use Rattle.aadl_grammar.specs.proof.Reading.{Reads}
 use Rattle.aadl_grammar.proofs.Rows.{takes_row, begins_past}
 use Rattle.aadl_grammar.proofs.Written.{marked, respelled, regroup, shorter}
-use Rattle.behaviour_parse.specs.Joining.{Joins}
+use Rattle.behaviour_parse.specs.proof.Joining.{Joins}
 
 pub multiplies : (o : MultiplyOperator) → move s.factors (mark (e.multiply_mark o)) ≡ takes (s.factor ∷ s.factors ∷ [])
 unfolding move

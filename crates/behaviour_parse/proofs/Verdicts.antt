@@ -8,8 +8,9 @@ use Rattle.std.specs.Result.{IsErrAnd}
 use Rattle.aadl_tree.specs.Parts.{Written}
 use Rattle.aadl_tree.specs.Annexes.{AnnexTree, annex_tree_parts}
 use Rattle.aadl_tree.specs.Grammar.{IsBehaviour, place}
-use Rattle.aadl_tree.specs.Given.{end_of, IsBehaviourOf}
-use Rattle.aadl_grammar.specs.Machine.{fate, annex_body, syntax_at}
+use Rattle.aadl_tree.specs.proof.Given.{end_of}
+use Rattle.aadl_tree.specs.Given.{IsBehaviourOf}
+use Rattle.aadl_grammar.specs.proof.Machine.{fate, annex_body, syntax_at}
 use Rattle.aadl_grammar.proofs.Fates.Answers.{answers_text, answers_fault, answers_depth}
 use Rattle.aadl_grammar.proofs.Placed.All.{one_placed_behaviour}
 use Rattle.aadl_grammar.proofs.Fates.Starts.{behaviours}
@@ -17,9 +18,9 @@ use Rattle.aadl_grammar.proofs.Fates.Steps.{fate_end, fate_left}
 use Rattle.aadl_grammar.specs.declared.fault.ParseFault.{ParseFault}
 use Rattle.aadl_grammar.specs.declared.fault.ParseFault.TheVariants.{Memory, Syntax, TooDeep}
 use Rattle.aadl_grammar.specs.declared.terminal.Terminal.{Terminal}
-use Rattle.aadl_grammar.specs.Terminals.{spots_of}
-use Rattle.aadl_grammar.specs.Reading.{FailsAs, Reads}
-use Rattle.behaviour_parse.specs.Behaviours.{IsOnlyBehaviourOf, IsFaultOfBehaviour}
+use Rattle.aadl_grammar.specs.proof.Terminals.{spots_of}
+use Rattle.aadl_grammar.specs.proof.Reading.{FailsAs, Reads}
+use Rattle.behaviour_parse.specs.proof.Behaviours.{IsOnlyBehaviourOf, IsFaultOfBehaviour}
 
 pub faults : (text : List ℕ) (tokens : List Token) (e : ParseFault) → FailsAs (fate 1 (end_of tokens) annex_body (spots_from true text tokens)) e → IsFaultOfBehaviour text tokens e
 faults text tokens Memory f = tt

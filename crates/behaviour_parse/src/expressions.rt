@@ -1,12 +1,12 @@
 //! Expressions.
 ghost use Rattle.std.specs.Prelude.{ℕ, [], ◌∷◌, ◌++◌, MatchOption};
 ghost use Rattle.aadl_tree.specs.Expressions.{primary_parts, factor_parts, term_parts, terms_parts, sum_parts, relation_parts, expression_parts, multiply_mark, relation_mark, fresh_parts};
-ghost use Rattle.aadl_tree.specs.ExpressionViews.{primary_view, factor_view, term_view, terms_view, sum_view, relation_view, expression_view};
-ghost use Rattle.aadl_tree.specs.Maps.{kept_place};
-ghost use Rattle.aadl_grammar.specs.Symbols as s;
-ghost use Rattle.aadl_grammar.specs.Table.{rows};
-ghost use Rattle.aadl_grammar.specs.Reading.{here, AtMark, MissAll, Parses, AnyRoom, Room};
-ghost use Rattle.behaviour_parse.specs.Joining.{Joins};
+ghost use Rattle.aadl_tree.specs.proof.ExpressionViews.{primary_view, factor_view, term_view, terms_view, sum_view, relation_view, expression_view};
+ghost use Rattle.aadl_tree.specs.proof.Maps.{kept_place};
+ghost use Rattle.aadl_grammar.specs.proof.Symbols as s;
+ghost use Rattle.aadl_grammar.specs.proof.Table.{rows};
+ghost use Rattle.aadl_grammar.specs.proof.Reading.{here, AtMark, MissAll, Parses, AnyRoom, Room};
+ghost use Rattle.behaviour_parse.specs.proof.Joining.{Joins};
 
 use aadl_grammar::{ParseFault, Parsed, Reader, narrow};
 use aadl_tree::{

@@ -13,12 +13,12 @@ use Rattle.pals_base.specs.declared.behaviour.Branch.{Branch}
 use Rattle.pals_base.specs.Actions.{Effect, act, acts, act_first, for_each, numbers, counted_from, count_of, without_loop}
 use Rattle.pals_base.specs.Tree.{Actions, For}
 use Rattle.pals_base.specs.Expressions.{on_value}
-use Rattle.pals_base.specs.Seen.{action_of, actions_along, branches_along}
+use Rattle.pals_base.specs.proof.Seen.{action_of, actions_along, branches_along}
 use Rattle.pals_base.proofs.Trees.{action_of-If, action_of-For}
 use Rattle.behaviour_sem.specs.declared.stop.Stop.{Stop}
 use Rattle.behaviour_sem.specs.declared.stop.Stop.TheVariants as stop
-use Rattle.behaviour_sem.specs.Senses.{frame_of}
-use Rattle.behaviour_sem.specs.Left.{Left, Chose}
+use Rattle.behaviour_sem.specs.proof.Senses.{frame_of}
+use Rattle.behaviour_sem.specs.proof.Left.{Left, Chose}
 
 -- ---- trees
 pub act-If : (branches : Vec Branch Global) (otherwise : Vec Act Global) (frame : Frame) (fresh : List Bool) (outs : List Port) → act (action_of (variants.If branches otherwise)) frame fresh outs ≡ act_first (branches_along branches.items) frame fresh outs (acts (actions_along otherwise.items) frame fresh outs)

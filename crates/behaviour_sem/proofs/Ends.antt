@@ -6,7 +6,7 @@ use Rattle.pals_base.specs.declared.values.Frame.{Frame}
 use Rattle.pals_base.specs.declared.values.Port.{Port}
 use Rattle.pals_base.specs.declared.behaviour.BehaviourParts.{BehaviourParts}
 use Rattle.pals_base.specs.Fire.{Fired, fire, holding, silence, is_present, reaction, unless_halted, outcome}
-use Rattle.behaviour_sem.specs.Leads.{reacted}
+use Rattle.behaviour_sem.specs.proof.Leads.{reacted}
 
 -- a frame with these held inputs, and outputs
 abbrev pub with_held : Frame → List ℤ → List Port → Fired

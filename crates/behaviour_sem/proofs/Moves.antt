@@ -12,10 +12,10 @@ use Rattle.pals_base.specs.Fire.{Fired, along, held_of, holding, opens, first_op
 use Rattle.pals_base.specs.Tree.{Edge}
 use Rattle.behaviour_sem.specs.declared.stop.Stop.{Stop}
 use Rattle.behaviour_sem.specs.declared.stop.Stop.TheVariants as stop
-use Rattle.behaviour_sem.specs.Senses.{frame_of}
-use Rattle.behaviour_sem.specs.Left.{Left}
-use Rattle.behaviour_sem.specs.Runs.{effect}
-use Rattle.behaviour_sem.specs.Goes.{goes, move}
+use Rattle.behaviour_sem.specs.proof.Senses.{frame_of}
+use Rattle.behaviour_sem.specs.proof.Left.{Left}
+use Rattle.behaviour_sem.specs.proof.Runs.{effect}
+use Rattle.behaviour_sem.specs.proof.Goes.{goes, move}
 use Rattle.behaviour_sem.specs.declared.transitions.Place.{Place}
 use Rattle.pals_base.specs.declared.behaviour.BehaviourParts.{BehaviourParts}
 use Rattle.behaviour_sem.proofs.Seen.{acts-seen, opens-seen}

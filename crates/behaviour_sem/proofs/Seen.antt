@@ -11,8 +11,8 @@ use Rattle.pals_base.specs.Expressions.{eval, eval_rest, on_value, combined, is_
 use Rattle.pals_base.specs.Actions.{Effect, act, acts, act_first, for_each, numbers, with_vars, without_loop}
 use Rattle.pals_base.specs.Fire.{opens}
 use Rattle.pals_base.specs.Tree.{Expression, Literal, Variable, PortValue, Fresh, Neg, Abs, Not, Chain, Operands, NoMore, Then, Action, Assign, Emit, If, For, Actions, Nothing, Do, Branches, NoBranch, Where, Trigger, Dispatch, Always, When}
-use Rattle.behaviour_sem.specs.Senses.{frame_of}
-use Rattle.behaviour_sem.specs.Runs.{effect}
+use Rattle.behaviour_sem.specs.proof.Senses.{frame_of}
+use Rattle.behaviour_sem.specs.proof.Runs.{effect}
 
 -- equal goings on
 pub on_value-same : {A B : Type 0} (r : Result A Trap) (f g : A → Result B Trap) → ((v : A) → f v ≡ g v) → on_value r f ≡ on_value r g

@@ -2,8 +2,8 @@
 ghost use Rattle.std.specs.Prelude.{◌≡◌, length, slice_set};
 ghost use Rattle.pals_base.specs.Actions.{act, acts};
 ghost use Rattle.pals_base.specs.Tree.{For};
-ghost use Rattle.pals_base.specs.Seen.{action_of, actions_along, branches_along};
-ghost use Rattle.behaviour_sem.specs.Runs.{Runs, RunsFirst, turn};
+ghost use Rattle.pals_base.specs.proof.Seen.{action_of, actions_along, branches_along};
+ghost use Rattle.behaviour_sem.specs.proof.Runs.{Runs, RunsFirst, turn};
 
 use crate::expressions::{Inputs, eval, holds};
 use crate::stop::Stop;

@@ -2,8 +2,8 @@
 ghost use Rattle.std.specs.Prelude.{◌≡◌, ℤ, pos, map, slice_index_or, false, not};
 ghost use Rattle.pals_base.specs.Expressions.{eval, eval_rest, applied, is_true, truth};
 ghost use Rattle.pals_base.specs.Fire.{is_present};
-ghost use Rattle.pals_base.specs.Seen.{tree_of, operands_along};
-ghost use Rattle.behaviour_sem.specs.Senses.{seen, fresh};
+ghost use Rattle.pals_base.specs.proof.Seen.{tree_of, operands_along};
+ghost use Rattle.behaviour_sem.specs.proof.Senses.{seen, fresh};
 
 use pals_base::{Expr, Op, Operand, Port, Trap, abs, add, modulo, mul, neg, quot, rem, sub};
 

@@ -1,10 +1,10 @@
 //! Transitions: from a complete state to the next.
 ghost use Rattle.std.specs.Prelude.{◌≡◌, length, slice_get, Some};
 ghost use Rattle.pals_base.specs.Fire.{completes, opens, along, settled};
-ghost use Rattle.pals_base.specs.Seen.{trigger_of};
-ghost use Rattle.behaviour_sem.specs.Senses.{seen, fresh};
-ghost use Rattle.behaviour_sem.specs.Goes.{goes, move, dispatch_from};
-ghost use Rattle.behaviour_sem.specs.Leads.{Leads, reacted};
+ghost use Rattle.pals_base.specs.proof.Seen.{trigger_of};
+ghost use Rattle.behaviour_sem.specs.proof.Senses.{seen, fresh};
+ghost use Rattle.behaviour_sem.specs.proof.Goes.{goes, move, dispatch_from};
+ghost use Rattle.behaviour_sem.specs.proof.Leads.{Leads, reacted};
 
 use crate::actions::run_all;
 use crate::expressions::{Inputs, eval, holds};

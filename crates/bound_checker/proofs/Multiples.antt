@@ -9,9 +9,9 @@ use Rattle.std.proofs.Math.Nat.{dvd_of_mod-eq-zero, mod-eq-zero_of_dvd, dvd_tran
 use Rattle.pals_base.specs.declared.values.Gamma.{Gamma}
 use Rattle.pals_base.specs.Bound.{least_period}
 use Rattle.pals_base.specs.declared.limits.TheConstants.{HOUR}
-use Rattle.bound_checker.specs.Limits.{IsWithinHour, IsRate}
+use Rattle.bound_checker.specs.proof.Limits.{IsWithinHour, IsRate}
 use Rattle.bound_checker.specs.Multiple.{greatest_rate, IsSuited, IsLeastMultiple, HasNoMultiple}
-use Rattle.bound_checker.specs.Divisors.{IsLeastCommon, HasMultiplesOf}
+use Rattle.bound_checker.specs.proof.Divisors.{IsLeastCommon, HasMultiplesOf}
 
 -- ---- lists
 init_of_All : (P : ℕ → Type 0) (xs : List ℕ) (x : ℕ) → All P (xs ++ x ∷ []) → All P xs

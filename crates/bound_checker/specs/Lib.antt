@@ -1,4 +1,2 @@
-pub mod Limits
 pub mod Multiple
-pub mod Divisors
-pub mod Arrival
+pub mod proof

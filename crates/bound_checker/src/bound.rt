@@ -2,7 +2,7 @@
 ghost use Rattle.std.specs.Prelude.{◌≡◌, ◌≤◌, ◌↔◌, IsTrue};
 ghost use Rattle.pals_base.specs.Bound.{backoff, least_period};
 ghost use Rattle.pals_base.specs.declared.limits.TheConstants.{RATE};
-ghost use Rattle.bound_checker.specs.Limits.{IsWithinHour};
+ghost use Rattle.bound_checker.specs.proof.Limits.{IsWithinHour};
 
 use pals_base::{Gamma, Nanos};
 

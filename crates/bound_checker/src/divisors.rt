@@ -1,6 +1,6 @@
 //! Common divisors and multiples.
 ghost use Rattle.std.specs.Prelude.{ℕ, ◌*◌, ◌^◌, ◌<◌};
-ghost use Rattle.bound_checker.specs.Divisors.{IsGreatestDivisor, IsLeastCommon};
+ghost use Rattle.bound_checker.specs.proof.Divisors.{IsGreatestDivisor, IsLeastCommon};
 
 // The greatest number that divides both, by Euclid.
 fn gcd(a: u64, b: u64) -> u64

@@ -3,7 +3,7 @@ ghost use Rattle.std.specs.Prelude.{◌≡◌, ℕ, ◌+◌, ◌-◌, ◌*◌, �
 ghost use Rattle.pals_base.specs.declared.values.Gamma.{Gamma};
 ghost use Rattle.pals_base.specs.Bound.{least_period, step_period, sent_steps, release_offset};
 ghost use Rattle.bound_checker.specs.Multiple.{IsLeastMultiple, HasNoMultiple};
-ghost use Rattle.bound_checker.specs.Arrival.{IsStarted, IsSent, IsCarried};
+ghost use Rattle.bound_checker.specs.proof.Arrival.{IsStarted, IsSent, IsCarried};
 
 /// At least one and at most all of a component's steps are sent.
 pub fn some_steps_are_sent()

@@ -1,8 +1,8 @@
 //! The shortest period that meets the bound and that every rate divides.
 ghost use Rattle.std.specs.Prelude.{◌≡◌, All, MatchOption};
-ghost use Rattle.bound_checker.specs.Limits.{IsWithinHour, IsRate};
+ghost use Rattle.bound_checker.specs.proof.Limits.{IsWithinHour, IsRate};
 ghost use Rattle.bound_checker.specs.Multiple.{greatest_rate, IsLeastMultiple, HasNoMultiple};
-ghost use Rattle.bound_checker.specs.Divisors.{HasMultiplesOf};
+ghost use Rattle.bound_checker.specs.proof.Divisors.{HasMultiplesOf};
 
 use crate::bound::least_period;
 use crate::divisors::lcm;

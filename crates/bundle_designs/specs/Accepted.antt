@@ -2,7 +2,6 @@
 use Rattle.std.specs.Prelude.{ℕ, ◌≡◌, ◌≢◌, List, [], ◌++◌, ◌⊎◌}
 use Rattle.aadl_tree.specs.Declarations.{PackageTree}
 use Rattle.aadl_names.specs.declared.fault.FlatFault.{FlatFault}
-use Rattle.aadl_names.specs.declared.fault.FlatFault.TheVariants as flat
 use Rattle.aadl_instance.specs.Flat.{Parts, IsFlat}
 use Rattle.aadl_instance.specs.Faults.{IsFault}
 use Rattle.annex_resolve.specs.declared.violation.Violation.{Violation}
@@ -13,6 +12,7 @@ use Rattle.pals_model.specs.RoundTexts.{line_end, text_of as lines_text}
 use Rattle.pals_report.specs.FlatFaults.{flat_fault_line}
 use Rattle.pals_report.specs.Violations.{violation_lines}
 use Rattle.bundle_designs.specs.Parsed.{IsParsed}
+use Rattle.aadl_names.specs.declared.fault.FlatFault.TheVariants as flat
 
 -- ---- packages
 -- The package has no instance below the root of this name, and the text names its first fault.

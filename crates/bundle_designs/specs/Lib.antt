@@ -3,4 +3,4 @@ pub mod Bundles
 pub mod Parsed
 pub mod Printed
 pub mod RefusedTexts
-pub mod Refusals
+pub mod proof

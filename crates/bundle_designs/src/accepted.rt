@@ -1,9 +1,9 @@
 //! From a bundle to the design that it means.
 ghost use Rattle.std.specs.Prelude.{IfOk, IfErr};
-ghost use Rattle.aadl_tree.specs.PackageViews.{placed};
+ghost use Rattle.aadl_tree.specs.proof.PackageViews.{placed};
 ghost use Rattle.design_laws.specs.PackageDesigns.{IsDesignIn};
 ghost use Rattle.bundle_designs.specs.Accepted.{IsAccepted};
-ghost use Rattle.bundle_designs.specs.Refusals.{IsPackageRefusal, IsRefusal};
+ghost use Rattle.bundle_designs.specs.proof.Refusals.{IsPackageRefusal, IsRefusal};
 
 use crate::parsed::{Parsed, parse_bundle};
 use crate::refusal::Refusal;

@@ -1,8 +1,8 @@
 //! From a bundle to the tree of its design text.
 ghost use Rattle.std.specs.Prelude.{IfOk, IfErr};
-ghost use Rattle.aadl_tree.specs.PackageViews.{placed};
+ghost use Rattle.aadl_tree.specs.proof.PackageViews.{placed};
 ghost use Rattle.bundle_designs.specs.Parsed.{IsParsed};
-ghost use Rattle.bundle_designs.specs.Refusals.{IsTextRefusal};
+ghost use Rattle.bundle_designs.specs.proof.Refusals.{IsTextRefusal};
 
 use crate::bundle::split;
 use crate::refusal::Refusal;

@@ -1,7 +1,7 @@
 //! From a bundle to the canonical text of its design.
 ghost use Rattle.std.specs.Prelude.{IfOk, IfErr};
 ghost use Rattle.bundle_designs.specs.Printed.{IsPrinted};
-ghost use Rattle.bundle_designs.specs.Refusals.{IsTextRefusal};
+ghost use Rattle.bundle_designs.specs.proof.Refusals.{IsTextRefusal};
 
 use crate::parsed::parse_bundle;
 use crate::refusal::Refusal;

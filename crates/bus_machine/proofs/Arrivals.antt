@@ -33,7 +33,7 @@ use Rattle.bus_machine.specs.Stops.{missing_link, sent_rounds, rounds_sent_on}
 use Rattle.bus_machine.specs.Machine.{BusEvent, Start, Step, Finish, Send, Arrive, Drop, Repeat, arrival, early_stop, after_arrive, after, is_allowed}
 use Rattle.bus_machine.specs.Replay.{opens, goes_on}
 use Rattle.bus_machine.specs.Agreement.{IsInRound, PhaseAgrees, NodeAgrees, SlotAgrees, IsCopy, Agrees}
-use Rattle.bus_machine.specs.Laws.{IsRunOf, OpeningAgrees, StepKeepsAgreement, ReplayAgrees}
+use Rattle.bus_machine.specs.proof.Laws.{IsRunOf, OpeningAgrees, StepKeepsAgreement, ReplayAgrees}
 use Rattle.bus_machine.proofs.Lists.{All-without_oldest, oldest_is_one}
 use Rattle.bus_machine.proofs.Vectors.{SlotsAgree, length_sources}
 use Rattle.bus_machine.proofs.States.{with_stop_agrees, with_flight_agrees, with_node_agrees, slots_of}

@@ -19,8 +19,9 @@ use Rattle.pals_model.specs.declared.design.Tap.{Tap}
 use Rattle.pals_model.specs.declared.rounds.Part.{Part}
 use Rattle.pals_model.specs.Inputs.{values_at, feed}
 use Rattle.pals_model.specs.Composition.{comp, state, msg, part, taps_of}
-use Rattle.pals_model.specs.Laws.{own_steps}
-use Rattle.pals_model.specs.Laws.Steps.{own_steps_so_far, stepped_on}
+use Rattle.pals_model.specs.proof.Laws.{own_steps}
+use Rattle.pals_model.specs.Composition.{own_steps_so_far}
+use Rattle.pals_model.specs.proof.Laws.Steps.{stepped_on}
 use Rattle.pals_model.specs.Rules.{IsDesign}
 use Rattle.pals_model.proofs.StepLaws.{round_begins, round_goes_on, round_ends}
 use Rattle.pals_model.proofs.ShapeLaws.{feed_has_vectors}

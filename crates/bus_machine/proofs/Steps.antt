@@ -25,7 +25,7 @@ use Rattle.bus_machine.specs.States.{Run, BusState, node_at, flight_at, link_at,
 use Rattle.bus_machine.specs.Stops.{missing_link, link_into, sent_rounds, rounds_sent_on}
 use Rattle.bus_machine.specs.Machine.{after_start, on_step, flight_after_send, after_send}
 use Rattle.bus_machine.specs.Agreement.{SlotAgrees, IsCopy, Agrees}
-use Rattle.bus_machine.specs.Laws.{IsRunOf}
+use Rattle.bus_machine.specs.proof.Laws.{IsRunOf}
 use Rattle.bus_machine.proofs.Lists.{numbered_at, length-numbered}
 use Rattle.bus_machine.proofs.Vectors.{SlotsAgree}
 use Rattle.bus_machine.proofs.Nodes.{starts, steps_on, finishes, finish_keeps, sends, MaySend, may_send_of, sends_message}

@@ -1,6 +1,6 @@
 -- The rows of targets, computed.
 use Rattle.std.proofs.Common.{refl}
-use Rattle.bus_machine.specs.TargetRows.{NodesHaveTargets}
+use Rattle.bus_machine.specs.proof.TargetRows.{NodesHaveTargets}
 
 pub nodes_have_targets : NodesHaveTargets
 nodes_have_targets = record { slow = refl; fast = refl }

@@ -6,8 +6,7 @@ use Rattle.pals_model.specs.declared.design.Component.{Component}
 use Rattle.pals_model.specs.declared.design.Link.{Link}
 use Rattle.pals_model.specs.declared.flight.FlightCopy.{FlightCopy}
 use Rattle.pals_model.specs.Inputs.{feed}
-use Rattle.pals_model.specs.Composition.{comp, state, msg, part}
-use Rattle.pals_model.specs.Laws.Steps.{own_steps_so_far}
+use Rattle.pals_model.specs.Composition.{comp, state, msg, part, own_steps_so_far}
 use Rattle.pals_runs.specs.declared.journal.Phase.{Phase}
 use Rattle.pals_runs.specs.declared.journal.Phase.TheVariants.{Waiting, Running, Between, Holding, Done}
 use Rattle.bus_machine.specs.Nodes.{NodeState}

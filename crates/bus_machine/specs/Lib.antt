@@ -8,8 +8,6 @@ pub mod Stops
 pub mod Machine
 pub mod Replay
 pub mod Agreement
-pub mod Rows
-pub mod Laws
 pub mod Targets
-pub mod TargetRows
 pub mod WorldTexts
+pub mod proof

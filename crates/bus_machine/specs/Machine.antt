@@ -11,13 +11,13 @@ use Rattle.pals_model.specs.Flights.{without_oldest}
 use Rattle.pals_runs.specs.declared.journal.Arrived.{Arrived}
 use Rattle.pals_runs.specs.declared.journal.Arrived.TheVariants.{Kept, Ignored, Early}
 use Rattle.pals_runs.specs.declared.journal.Stop.{Stop}
-use Rattle.pals_runs.specs.declared.journal.Stop.TheVariants as stop
 use Rattle.bus_machine.specs.Plans.{plan_of}
 use Rattle.bus_machine.specs.Nodes.{round_of}
 use Rattle.bus_machine.specs.NodeEvents.{is_waiting, started, next_step, stepped, running_step, finished, may_send, sent_from, message_from, arrived, received}
 use Rattle.bus_machine.specs.LinkEvents.{sent_copy, is_in_flight, arriving, repeated}
 use Rattle.bus_machine.specs.States.{Run, BusState, node_at, flight_at, link_at, with_node, with_flight}
 use Rattle.bus_machine.specs.Stops.{missing_link, cause_of}
+use Rattle.pals_runs.specs.declared.journal.Stop.TheVariants as stop
 
 -- the events; those that a clock tells of carry a reading of it, or none
 pub data BusEvent : Type 0 where

@@ -11,9 +11,9 @@ use Rattle.pals_runs.specs.declared.journal.Phase.TheVariants.{Waiting, Running,
 use Rattle.pals_runs.specs.declared.journal.Arrived.{Arrived}
 use Rattle.pals_runs.specs.declared.journal.Arrived.TheVariants.{Kept, Ignored, Early}
 use Rattle.bus_machine.specs.declared.plan.Input.{Input}
-use Rattle.bus_machine.specs.declared.plan.Input.TheVariants as input
 use Rattle.bus_machine.specs.declared.plan.Plan.{Plan}
 use Rattle.bus_machine.specs.Nodes.{NodeState, job_of, vectors_of, finished_steps, at_rest}
+use Rattle.bus_machine.specs.declared.plan.Input.TheVariants as input
 
 -- ---- Start: a waiting node starts its next round, unless a link's message of the round before is missing
 abbrev pub is_waiting : Phase → Bool

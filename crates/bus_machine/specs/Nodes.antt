@@ -11,8 +11,8 @@ use Rattle.pals_model.specs.declared.rounds.Part.{Part}
 use Rattle.pals_runs.specs.declared.journal.Phase.{Phase}
 use Rattle.pals_runs.specs.declared.journal.Phase.TheVariants.{Waiting, Running, Between, Holding, Done}
 use Rattle.bus_machine.specs.declared.plan.Input.{Input}
-use Rattle.bus_machine.specs.declared.plan.Input.TheVariants as input
 use Rattle.bus_machine.specs.declared.plan.Plan.{Plan}
+use Rattle.bus_machine.specs.declared.plan.Input.TheVariants as input
 
 pub record NodeState : Type 0 where
   -- how many rounds it has started

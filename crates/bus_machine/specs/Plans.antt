@@ -8,12 +8,12 @@ use Rattle.pals_model.specs.declared.design.Feed.{Feed}
 use Rattle.pals_model.specs.declared.design.Tap.{Tap}
 use Rattle.pals_model.specs.declared.design.DesignParts.{DesignParts}
 use Rattle.pals_model.specs.declared.sources.PortSource.{PortSource}
-use Rattle.pals_model.specs.declared.sources.PortSource.TheVariants as source
 use Rattle.pals_model.specs.Inputs.{rate_of, sources_of}
 use Rattle.pals_model.specs.Composition.{taps_of}
 use Rattle.bus_machine.specs.declared.plan.Input.{Input}
-use Rattle.bus_machine.specs.declared.plan.Input.TheVariants as input
 use Rattle.bus_machine.specs.declared.plan.Plan.{Plan}
+use Rattle.pals_model.specs.declared.sources.PortSource.TheVariants as source
+use Rattle.bus_machine.specs.declared.plan.Input.TheVariants as input
 
 -- ---- components
 abbrev pub no_behaviour : BehaviourParts

@@ -4,10 +4,10 @@ use Rattle.pals_base.specs.Bound.{alarm}
 use Rattle.pals_runs.specs.declared.journal.Phase.{Phase}
 use Rattle.pals_runs.specs.declared.journal.Phase.TheVariants.{Waiting, Running, Between, Holding, Done}
 use Rattle.bus_machine.specs.declared.action.Action.{Action}
-use Rattle.bus_machine.specs.declared.action.Action.TheVariants as action
 use Rattle.bus_machine.specs.declared.action.Next.{Next}
 use Rattle.bus_machine.specs.declared.plan.Plan.{Plan}
 use Rattle.bus_machine.specs.Nodes.{NodeState, round_of}
+use Rattle.bus_machine.specs.declared.action.Action.TheVariants as action
 
 -- from which reading on it may be done
 abbrev pub target : Plan → Action → ℕ

@@ -9,9 +9,9 @@ use Rattle.pals_model.specs.Ports.{out_kind}
 use Rattle.pals_model.specs.Composition.{msg, part}
 use Rattle.pals_model.specs.RoundTexts.{text_of, tuple_text, row_lines}
 use Rattle.pals_runs.specs.declared.events.Event.{Event}
-use Rattle.pals_runs.specs.declared.events.Event.TheVariants as event
 use Rattle.pals_runs.specs.Journal.{link_word, spaced}
 use Rattle.bus_machine.specs.States.{link_at}
+use Rattle.pals_runs.specs.declared.events.Event.TheVariants as event
 
 abbrev pub is_finish : ℕ → Event → Bool
 is_finish node (event.Pass time readings) = false

@@ -2,7 +2,7 @@
 ghost use Rattle.std.specs.Prelude.{◌≡◌, ◌<◌, ◌≤◌, IsTrue, IfOk, length, true, Some};
 ghost use Rattle.pals_base.specs.declared.limits.TheConstants.{ROUNDS};
 ghost use Rattle.pals_model.specs.Delays.{AreDelays};
-ghost use Rattle.pals_bus.specs.Meeting.{GoesAt};
+ghost use Rattle.pals_bus.specs.proof.Meeting.{GoesAt};
 
 use crate::designs::design_of;
 use design_codes::compile_all;

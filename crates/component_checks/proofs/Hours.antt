@@ -5,7 +5,7 @@ use Rattle.std.proofs.lemmas.Bool.Decides.{nat_tests}
 use Rattle.std.proofs.lemmas.Nat.{mul-lt}
 use Rattle.std.proofs.lemmas.Option.{none-some, same_Some}
 use Rattle.pals_base.specs.declared.values.Gamma.{Gamma}
-use Rattle.bound_checker.specs.Limits.{IsWithinHour}
+use Rattle.bound_checker.specs.proof.Limits.{IsWithinHour}
 use Rattle.pals_base.specs.declared.limits.TheConstants.{HOUR}
 use Rattle.component_checks.specs.Numbers.{within_hour, range_within, not_zero, in_order, skew_of, range_of, gamma_by}
 

@@ -6,8 +6,8 @@ use Rattle.aadl_tree.specs.declared.values.Value.{the_lemmas as value_lemmas}
 use Rattle.aadl_tree.specs.declared.values.Value.TheViews.{out-Association}
 use Rattle.aadl_tree.specs.declared.values.Association.{Association as source}
 use Rattle.aadl_tree.specs.Values.{Association, Associations, association, associate}
-use Rattle.aadl_tree.specs.NameViews.{name_view, path_view}
-use Rattle.aadl_tree.specs.ValueViews.{value_view, association_view}
+use Rattle.aadl_tree.specs.proof.NameViews.{name_view, path_view}
+use Rattle.aadl_tree.specs.proof.ValueViews.{value_view, association_view}
 use Rattle.aadl_names.specs.declared.holder.Property.{Property}
 use Rattle.aadl_names.specs.Properties.{counts, is_named, name_of, association_named}
 use Rattle.component_checks.specs.PropertyLookup.{first_in}

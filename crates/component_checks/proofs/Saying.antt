@@ -12,9 +12,9 @@ use Rattle.aadl_uses.specs.declared.thread_places.SubAt.{SubAt}
 use Rattle.annex_resolve.proofs.Reading.{take_next}
 use Rattle.component_checks.specs.declared.timed.Timed.{Timed}
 use Rattle.component_checks.specs.PropertyLookup.{type_lists, own_lists, sub_lists, lists_at, lists_along, root_lists, first_in}
-use Rattle.component_checks.specs.Carried as carried
-use Rattle.component_checks.specs.Carried.{carried_by, connections_carried}
-use Rattle.component_checks.specs.Timed.{period_at, dispatch_at, timed_by, nearer, type_timed, own_timed, sub_timed, subs_timed, or_nothing, or_none, numbered, numbered_in}
+use Rattle.component_checks.specs.proof.Carried as carried
+use Rattle.component_checks.specs.proof.Carried.{carried_by, connections_carried}
+use Rattle.component_checks.specs.proof.Timed.{period_at, dispatch_at, timed_by, nearer, type_timed, own_timed, sub_timed, subs_timed, or_nothing, or_none, numbered, numbered_in}
 use Rattle.component_checks.proofs.Looking.{first-append}
 
 map_or : {A B : Type 0} (f : A → B) (a b : Option A) → option_map f (option_or a b) ≡ option_or (option_map f a) (option_map f b)

@@ -1,7 +1,7 @@
 -- A list of two and more is not one text.
 use Rattle.std.proofs.Common.{◌≡◌, ℕ, ◌≤◌, List, [], ◌∷◌, length, None, refl, arith}
 use Rattle.aadl_tree.specs.Values.{Value, list}
-use Rattle.aadl_tree.specs.ValueViews.{values_of}
+use Rattle.aadl_tree.specs.proof.ValueViews.{values_of}
 use Rattle.aadl_names.specs.Properties.{only_text}
 
 pub no_only_text : (vs : List (Value ℕ)) → 2 ≤ length vs → None ≡ only_text (list (values_of vs))

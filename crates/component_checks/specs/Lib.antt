@@ -5,5 +5,4 @@ pub mod Times
 pub mod Threads
 pub mod Roots
 pub mod Types
-pub mod Timed
-pub mod Carried
+pub mod proof

@@ -1,9 +1,9 @@
 //! What the list of a connection says of the chains that it carries.
 ghost use Rattle.std.specs.Prelude.{◌≡◌, IfOk, codes, option_map, option_copied};
-ghost use Rattle.aadl_tree.specs.Maps.{kept_place};
-ghost use Rattle.aadl_tree.specs.ValueViews.{association_view, associations_view, value_view};
+ghost use Rattle.aadl_tree.specs.proof.Maps.{kept_place};
+ghost use Rattle.aadl_tree.specs.proof.ValueViews.{association_view, associations_view, value_view};
 ghost use Rattle.aadl_names.specs.Properties.{text_of};
-ghost use Rattle.component_checks.specs.Carried.{carried_by, adaptor_of};
+ghost use Rattle.component_checks.specs.proof.Carried.{carried_by, adaptor_of};
 ghost use Rattle.component_checks.specs.Rates.{adaptor_named};
 ghost use Rattle.component_checks.specs.Threads.{says};
 

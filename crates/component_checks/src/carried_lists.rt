@@ -1,9 +1,9 @@
 //! What the lists of the connections of a package say, each list read once.
 ghost use Rattle.std.specs.Prelude.{◌≡◌, IfOk, map};
-ghost use Rattle.aadl_tree.specs.Maps.{kept_place};
-ghost use Rattle.aadl_tree.specs.PackageViews.{placed};
-ghost use Rattle.aadl_tree.specs.Views.{connection_view, declaration_view};
-ghost use Rattle.component_checks.specs.Carried as spec;
+ghost use Rattle.aadl_tree.specs.proof.Maps.{kept_place};
+ghost use Rattle.aadl_tree.specs.proof.PackageViews.{placed};
+ghost use Rattle.aadl_tree.specs.proof.Views.{connection_view, declaration_view};
+ghost use Rattle.component_checks.specs.proof.Carried as spec;
 
 use crate::carried::Carried;
 use aadl_tree::{Connection, Declaration, PackageTree};

@@ -1,12 +1,12 @@
 //! What the lists of properties of a package say.
 ghost use Rattle.std.specs.Prelude.{◌≡◌, IfOk, map, option_map, slice_get};
 ghost use Rattle.std.proofs.Props.{props};
-ghost use Rattle.aadl_tree.specs.PackageViews.{placed};
+ghost use Rattle.aadl_tree.specs.proof.PackageViews.{placed};
 ghost use Rattle.aadl_names.specs.Resolving.{implementation_at, connections_of};
-ghost use Rattle.component_checks.specs.Carried.{carried_by, connections_carried};
+ghost use Rattle.component_checks.specs.proof.Carried.{carried_by, connections_carried};
 ghost use Rattle.component_checks.specs.PropertyLookup.{lists_at, root_lists, lists_along, sub_lists, innermost};
-ghost use Rattle.component_checks.specs.Timed as spec;
-ghost use Rattle.component_checks.specs.Timed.{timed_by};
+ghost use Rattle.component_checks.specs.proof.Timed as spec;
+ghost use Rattle.component_checks.specs.proof.Timed.{timed_by};
 
 use crate::carried::Carried;
 use crate::carried_lists::{all_of_connections, carried_at};

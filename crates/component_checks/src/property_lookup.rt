@@ -1,9 +1,9 @@
 //! Where a property is looked up.
 ghost use Rattle.std.specs.Prelude.{◌≡◌, ◌&&◌, IfOk, Some, option_map, option_copied};
-ghost use Rattle.aadl_tree.specs.Maps.{kept_place};
-ghost use Rattle.aadl_tree.specs.PackageViews.{placed};
-ghost use Rattle.aadl_tree.specs.ValueViews.{association_view, associations_view};
-ghost use Rattle.aadl_tree.specs.Views.{implementation_view, subcomponent_view};
+ghost use Rattle.aadl_tree.specs.proof.Maps.{kept_place};
+ghost use Rattle.aadl_tree.specs.proof.PackageViews.{placed};
+ghost use Rattle.aadl_tree.specs.proof.ValueViews.{association_view, associations_view};
+ghost use Rattle.aadl_tree.specs.proof.Views.{implementation_view, subcomponent_view};
 ghost use Rattle.aadl_names.specs.Properties.{name_of, counts, is_named, association_named};
 ghost use Rattle.component_checks.specs.PropertyLookup as spec;
 

@@ -2,9 +2,9 @@
 ghost use Rattle.std.specs.Prelude.{◌≡◌, ◌≤◌, ◌++◌, IfOk, OnOk, option_map, option_copied};
 ghost use Rattle.std.specs.Option.{option_and_then};
 ghost use Rattle.pals_base.specs.declared.limits.TheConstants.{RATE};
-ghost use Rattle.aadl_tree.specs.Maps.{kept_place};
-ghost use Rattle.aadl_tree.specs.PackageViews.{placed};
-ghost use Rattle.aadl_tree.specs.ValueViews.{association_view};
+ghost use Rattle.aadl_tree.specs.proof.Maps.{kept_place};
+ghost use Rattle.aadl_tree.specs.proof.PackageViews.{placed};
+ghost use Rattle.aadl_tree.specs.proof.ValueViews.{association_view};
 ghost use Rattle.component_checks.specs.Numbers.{within_hour};
 ghost use Rattle.component_checks.specs.Roots as spec;
 ghost use Rattle.component_checks.specs.Times.{time_at};

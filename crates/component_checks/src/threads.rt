@@ -1,6 +1,6 @@
 //! What is wrong with components.
 ghost use Rattle.std.specs.Prelude.{◌≡◌, ◌++◌, OnOk};
-ghost use Rattle.aadl_tree.specs.PackageViews.{placed};
+ghost use Rattle.aadl_tree.specs.proof.PackageViews.{placed};
 ghost use Rattle.annex_resolve.specs.Scopes.{found_if};
 ghost use Rattle.component_checks.specs.Threads as spec;
 

@@ -1,8 +1,8 @@
 //! What lists of properties say of a component.
 ghost use Rattle.std.specs.Prelude.{◌≡◌, ◌∷◌, [], IfOk, option_map, option_copied};
-ghost use Rattle.aadl_tree.specs.Maps.{kept_place};
-ghost use Rattle.aadl_tree.specs.ValueViews.{association_view, associations_view};
-ghost use Rattle.component_checks.specs.Timed.{period_at, dispatch_at, timed_by, nearer};
+ghost use Rattle.aadl_tree.specs.proof.Maps.{kept_place};
+ghost use Rattle.aadl_tree.specs.proof.ValueViews.{association_view, associations_view};
+ghost use Rattle.component_checks.specs.proof.Timed.{period_at, dispatch_at, timed_by, nearer};
 
 use crate::property_lookup::property_in;
 use crate::times::time_within;

@@ -1,9 +1,9 @@
 //! What the lists of a package say of its components, each list read once.
 ghost use Rattle.std.specs.Prelude.{◌≡◌, IfOk, map};
-ghost use Rattle.aadl_tree.specs.Maps.{kept_place};
-ghost use Rattle.aadl_tree.specs.PackageViews.{placed};
-ghost use Rattle.aadl_tree.specs.Views.{declaration_view, subcomponent_view};
-ghost use Rattle.component_checks.specs.Timed as spec;
+ghost use Rattle.aadl_tree.specs.proof.Maps.{kept_place};
+ghost use Rattle.aadl_tree.specs.proof.PackageViews.{placed};
+ghost use Rattle.aadl_tree.specs.proof.Views.{declaration_view, subcomponent_view};
+ghost use Rattle.component_checks.specs.proof.Timed as spec;
 
 use crate::timed::Timed;
 use aadl_names::Names;

@@ -2,9 +2,9 @@
 ghost use Rattle.std.specs.Prelude.{◌≡◌, ◌*◌, ◌++◌, nat_lt, OnOk, option_map};
 ghost use Rattle.pals_base.specs.declared.limits.TheConstants.{HOUR};
 ghost use Rattle.std.specs.Option.{option_and_then};
-ghost use Rattle.aadl_tree.specs.Maps.{kept_place};
-ghost use Rattle.aadl_tree.specs.NameViews.{identifier_view};
-ghost use Rattle.aadl_tree.specs.ValueViews.{figure_view, quantity_view, value_view, association_view, associations_view};
+ghost use Rattle.aadl_tree.specs.proof.Maps.{kept_place};
+ghost use Rattle.aadl_tree.specs.proof.NameViews.{identifier_view};
+ghost use Rattle.aadl_tree.specs.proof.ValueViews.{figure_view, quantity_view, value_view, association_view, associations_view};
 ghost use Rattle.aadl_names.specs.Properties as properties;
 ghost use Rattle.component_checks.specs.Numbers.{within_hour, range_within};
 ghost use Rattle.component_checks.specs.Times as spec;

@@ -2,7 +2,7 @@
 #![tactic(auto)]
 
 ghost use Rattle.std.specs.Prelude.{IfOk, IfErr};
-ghost use Rattle.pals_bus.specs.Values.{AreCodes};
+ghost use Rattle.pals_bus.specs.proof.Values.{AreCodes};
 ghost use Rattle.step_compiler.specs.LaidOut.{AreLaidOut};
 ghost use Rattle.design_codes.specs.Causes.{AreShort, IsCause};
 ghost use Rattle.design_codes.specs.Behaviours.{behaviours};

@@ -9,7 +9,7 @@ use Rattle.pals_model.specs.declared.design.DesignParts.{DesignParts}
 use Rattle.pals_model.specs.Rules.{IsDesign}
 use Rattle.pals_model.specs.Rules as model
 use Rattle.aadl_tree.specs.Declarations.{Implementation, implementation, PackageTree}
-use Rattle.aadl_tree.specs.Given.{IsGiven}
+use Rattle.aadl_tree.specs.proof.Given.{IsGiven}
 use Rattle.aadl_names.specs.PackageFaults.{package_faults}
 use Rattle.aadl_uses.specs.declared.thread_places.ThreadAt.{ThreadAt}
 use Rattle.component_checks.specs.Rates.{bound_findings}
@@ -18,10 +18,10 @@ use Rattle.component_checks.specs.Threads.{root_period, thread_rate, raised, gre
 use Rattle.component_checks.specs.Roots.{root_gamma, at_root, place_of, missing_findings, order_findings}
 use Rattle.aadl_names.specs.declared.holder.Property.TheVariants.{Period}
 use Rattle.aadl_instance.specs.Flat.{Parts, IsFlat}
-use Rattle.design_laws.specs.Named.{NamesDiffer, AreNamed}
+use Rattle.design_laws.specs.proof.Named.{NamesDiffer, AreNamed}
 use Rattle.design_laws.proofs.Differing.{right_none}
 use Rattle.model_violations.specs.Violations.{Shown, shown_by, rates_of, AreViolations}
-use Rattle.design_laws.specs.Accepted.{IsShown, NothingFound, HasDesign}
+use Rattle.design_laws.specs.proof.Accepted.{IsShown, NothingFound, HasDesign}
 use Rattle.design_laws.specs.Designs.{put_first, all_of, component_by, thread_behaviour, component_in, IsDesignOf}
 use Rattle.design_laws.proofs.Clean.{all_parts}
 use Rattle.design_laws.proofs.Nothing.{nothing_found}

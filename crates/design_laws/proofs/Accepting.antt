@@ -16,10 +16,10 @@ use Rattle.aadl_instance.specs.Flat.{Parts, IsFlat}
 use Rattle.aadl_instance.specs.Instances.{chain_at}
 use Rattle.component_checks.specs.Threads.{thread_rate, greatest_rate}
 use Rattle.model_violations.specs.Ignored.{ignored_names}
-use Rattle.design_laws.specs.Named.{AreNamed}
+use Rattle.design_laws.specs.proof.Named.{AreNamed}
 use Rattle.model_violations.specs.Use.{IsUse}
 use Rattle.model_violations.specs.Violations.{Shown, shown_by, rates_of}
-use Rattle.design_laws.specs.Accepted.{IsShown, NothingFound, HasDesign}
+use Rattle.design_laws.specs.proof.Accepted.{IsShown, NothingFound, HasDesign}
 use Rattle.design_laws.specs.Designs.{component_in, link_in, feed_in, tap_in, all_of, IsDesignOf}
 use Rattle.design_laws.proofs.Clean.{NoFindings, all_parts}
 use Rattle.design_laws.proofs.Ruling.{ThreadLaw}

@@ -21,7 +21,7 @@ use Rattle.annex_resolve.specs.Scopes.{found_if, entry_named, kind_of, sets, sen
 use Rattle.annex_resolve.specs.Types.{fits, misfit, same_kind, whole_types, expression_kind, expression_types, kind_named}
 use Rattle.annex_resolve.specs.Resolved.{expression_of, action_of, actions_of, mores_of, elsifs_of, otherwise_of, block_of}
 use Rattle.annex_resolve.specs.Actions.{turns, together, is_too_long, is_integer, branch_findings, action_findings, actions_findings, mores_findings, elsifs_findings, otherwise_findings, block_findings}
-use Rattle.design_laws.specs.Ready.{FitsMeaning, FitsScope}
+use Rattle.design_laws.specs.proof.Ready.{FitsMeaning, FitsScope}
 use Rattle.design_laws.proofs.Tests.{both, parts, not_false, nothing_left, not_wrong, is_right}
 use Rattle.design_laws.proofs.Scopes.{inner_fits}
 use Rattle.design_laws.proofs.Expressing.{Has, is_truth, expression_sound}

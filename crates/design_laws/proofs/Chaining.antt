@@ -26,7 +26,7 @@ use Rattle.design_laws.proofs.Apart.{none_here}
 use Rattle.model_violations.specs.Use.{IsUse}
 use Rattle.model_violations.specs.Declarations.{thread_findings}
 use Rattle.model_violations.specs.Violations.{shown_by, used_findings, carriers_of}
-use Rattle.design_laws.specs.Kinds.{port_kind}
+use Rattle.design_laws.specs.proof.Kinds.{port_kind}
 use Rattle.design_laws.proofs.Clean.{declared_at, implementation_clean, stands_at, is_used}
 use Rattle.design_laws.proofs.Ruling.{joined, first_is, ports_clean}
 

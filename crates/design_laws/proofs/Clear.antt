@@ -7,7 +7,7 @@ use Rattle.aadl_tree.specs.Declarations.{section_parts}
 use Rattle.aadl_names.specs.declared.fault.FlatFault.{FlatFault}
 use Rattle.aadl_names.specs.Findings.{place_of}
 use Rattle.aadl_names.proofs.Elements.{only_here, none_here}
-use Rattle.aadl_names.specs.Orders.{places_of}
+use Rattle.aadl_names.specs.proof.Orders.{places_of}
 use Rattle.design_laws.proofs.Placed.{Rise, rise_front, rise_back, in_front, in_back}
 
 -- each of the findings stands at a place that the parts keep, and where places rise along the parts, two at one place are equal

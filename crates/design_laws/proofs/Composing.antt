@@ -20,7 +20,7 @@ use Rattle.aadl_names.specs.Behaviours as names
 use Rattle.aadl_names.specs.Resolving.{implementation_at, ports_of}
 use Rattle.aadl_uses.specs.Uses.{standing}
 use Rattle.aadl_uses.specs.Threads.{IsThreadOf, IsThreadAt, PathBefore}
-use Rattle.aadl_names.specs.DeclaredTwice.{first_behaviour}
+use Rattle.aadl_names.specs.Behaviours.{first_behaviour}
 use Rattle.aadl_uses.specs.ThreadPlaces.{spelled_path, thread_at}
 use Rattle.aadl_instance.specs.Parts.{count_in, variable_count, state_count}
 use Rattle.aadl_instance.specs.Flat.{Parts, IsFlat}
@@ -31,7 +31,7 @@ use Rattle.component_checks.specs.Threads.{thread_rate, thread_findings, raised,
 use Rattle.model_violations.specs.Values.{ins_in, outs_in, first_of, variable_of, variables_in, variables_of, named_of, var_of, values_of, scope_of}
 use Rattle.model_violations.specs.Threads.{first_annex, behaviour_by, behaviour_in}
 use Rattle.model_violations.proofs.Kept.{ports_both}
-use Rattle.design_laws.specs.Named.{AreNamed}
+use Rattle.design_laws.specs.proof.Named.{AreNamed}
 use Rattle.design_laws.proofs.Partition.{pairs_from, all_unmapped}
 use Rattle.design_laws.proofs.Differing.{all_none}
 use Rattle.design_laws.proofs.Counting.{IsRateOf}

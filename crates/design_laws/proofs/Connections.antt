@@ -6,21 +6,23 @@ use Rattle.aadl_tree.specs.declared.declarations.Direction.TheVariants as direct
 use Rattle.aadl_tree.specs.Declarations.{Connection, Implementation, PackageTree}
 use Rattle.aadl_names.specs.declared.fault.FlatFault.{FlatFault}
 use Rattle.aadl_names.specs.declared.site.Site.{Site}
-use Rattle.aadl_names.specs.Found.{found}
+use Rattle.aadl_names.specs.proof.Found.{found}
 use Rattle.aadl_names.specs.Resolving.{implementation_at, connections_of}
-use Rattle.aadl_uses.specs.Uses.{containment, IsInUse, FirstIn}
+use Rattle.aadl_uses.specs.proof.Uses.{containment, FirstIn}
+use Rattle.aadl_uses.specs.Uses.{IsInUse}
 use Rattle.aadl_chains.specs.declared.connections.Wire.{Wire}
-use Rattle.aadl_chains.specs.Firsts.{IsSecond, target_in, is_before, first_into}
+use Rattle.aadl_chains.specs.Firsts.{IsSecond, target_in}
+use Rattle.aadl_chains.specs.proof.Firsts.{is_before, first_into}
 use Rattle.aadl_chains.specs.Wiring.{wire_of, wires_of, wires_at}
 use Rattle.aadl_chains.proofs.Tables.{is_second-tells, no_second}
-use Rattle.aadl_uses.specs.Orders.{IsOrder}
+use Rattle.aadl_uses.specs.proof.Orders.{IsOrder}
 use Rattle.aadl_uses.proofs.Searches.{contains_none, contains_at, at_contains}
-use Rattle.aadl_chains.specs.Outside.{opposite, LeadsFrom, leads_from}
+use Rattle.aadl_chains.specs.proof.Outside.{opposite, LeadsFrom, leads_from}
 use Rattle.aadl_chains.proofs.Leading.{leads_to, leads_found}
 use Rattle.aadl_chains.specs.Chains.{IsEndFault}
-use Rattle.aadl_chains.specs.Sound.{AreDeclared}
-use Rattle.aadl_chains.specs.OnChains.{IsOnWay}
-use Rattle.aadl_chains.specs.Findings.{IsFoundAt, IsFoundIn, dead_end, second}
+use Rattle.aadl_chains.specs.proof.Sound.{AreDeclared}
+use Rattle.aadl_chains.specs.proof.OnChains.{IsOnWay}
+use Rattle.aadl_chains.specs.proof.Findings.{IsFoundAt, IsFoundIn, dead_end, second}
 use Rattle.aadl_chains.proofs.EndFaults.{both_found, nothing_at, ways_tell, no_source, no_target, end_fault, found_fault}
 use Rattle.design_laws.proofs.Finding.{Finds, none_found, alike_found, Below, found_below, first_in}
 use Rattle.design_laws.proofs.Inside.{inside}

@@ -1,8 +1,9 @@
 -- What there is of declarations that contain one another.
 use Rattle.std.specs.Prelude.{◌↔◌, ℕ, Bool, List, Contains}
-use Rattle.aadl_uses.specs.Graphs.{Graph, IsReached, LeadsBack}
-use Rattle.aadl_uses.specs.Orders.{IsOrder}
-use Rattle.aadl_uses.specs.Counts.{AreListed, IsMarkedAt, path_before}
+use Rattle.aadl_uses.specs.proof.Graphs.{Graph, IsReached, LeadsBack}
+use Rattle.aadl_uses.specs.proof.Orders.{IsOrder}
+use Rattle.aadl_uses.specs.proof.Counts.{AreListed, IsMarkedAt}
+use Rattle.aadl_uses.specs.Threads.{path_before}
 
 -- all that a declaration reaches
 pub record HasReach (g : Graph) (from : ℕ) : Type 0 where

@@ -7,15 +7,17 @@ use Rattle.aadl_tree.specs.Declarations.{Implementation, PackageTree}
 use Rattle.aadl_names.specs.declared.site.Site.{Site}
 use Rattle.aadl_names.specs.declared.site.Site.TheVariants.{Own}
 use Rattle.aadl_names.specs.Resolving.{implementation_at}
-use Rattle.aadl_uses.specs.Uses.{standing, containment}
-use Rattle.aadl_uses.specs.Threads.{IsThreadAt, is_thread_in}
-use Rattle.aadl_chains.specs.Wiring.{into}
-use Rattle.aadl_uses.specs.Orders.{IsOrder}
-use Rattle.aadl_chains.specs.Inside.{is_thread_at, is_in_at}
+use Rattle.aadl_uses.specs.Uses.{standing}
+use Rattle.aadl_uses.specs.proof.Uses.{containment}
+use Rattle.aadl_uses.specs.Threads.{IsThreadAt}
+use Rattle.aadl_uses.specs.proof.Threads.{is_thread_in}
+use Rattle.aadl_chains.specs.proof.Wiring.{into}
+use Rattle.aadl_uses.specs.proof.Orders.{IsOrder}
+use Rattle.aadl_chains.specs.proof.Inside.{is_thread_at, is_in_at}
 use Rattle.aadl_chains.specs.Chains.{Port, Place, Leads, IsStart}
-use Rattle.aadl_chains.specs.Sound.{AreDeclared}
-use Rattle.aadl_chains.specs.Walks.{OneEach}
-use Rattle.aadl_chains.specs.Routes.{IsGiver}
+use Rattle.aadl_chains.specs.proof.Sound.{AreDeclared}
+use Rattle.aadl_chains.specs.proof.Walks.{OneEach}
+use Rattle.aadl_chains.specs.proof.Routes.{IsGiver}
 use Rattle.aadl_chains.proofs.Steps.{inner_of}
 use Rattle.aadl_chains.proofs.Climbing.{rank, rank_falls}
 use Rattle.aadl_chains.proofs.Routes.{Descending, descend_first, descend_more, descend_thread, descend_none}

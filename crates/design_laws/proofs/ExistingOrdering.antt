@@ -2,8 +2,8 @@
 use Rattle.std.proofs.Common.{◌≡◌, ◌⊎◌, inl, inr, ℕ, zero, suc, ◌+◌, ◌<◌, ◌≤◌, Bool, true, false, nat_eq, List, [], length, refl, subst, arith}
 use Rattle.std.specs.List.{list_all}
 use Rattle.indexmap.specs.IndexSet.{insert_key}
-use Rattle.aadl_uses.specs.Graphs.{Graph, targets_in, IsWithin}
-use Rattle.aadl_uses.specs.Orders.{is_there, IsSequence, IsPlaced, ArePlaced}
+use Rattle.aadl_uses.specs.proof.Graphs.{Graph, targets_in, IsWithin}
+use Rattle.aadl_uses.specs.proof.Orders.{is_there, IsSequence, IsPlaced, ArePlaced}
 use Rattle.aadl_uses.proofs.Sequences.{misses_by, placed_not, placed_new, none_placed, placed_more, one_more, all_placed, no_sequence}
 use Rattle.aadl_uses.proofs.Suspected.{one_of_two}
 use Rattle.design_laws.proofs.Containing.{IsAcyclic, HasOrder}

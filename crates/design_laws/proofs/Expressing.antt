@@ -27,7 +27,7 @@ use Rattle.annex_resolve.specs.declared.violation.TheConstants.{BAD_TYPE}
 use Rattle.annex_resolve.specs.Scopes.{entry_named, read_of, value_of, freshness_of, or_zero}
 use Rattle.annex_resolve.specs.Types.{fits, misfit, is_equality, read_kind, primary_kind, factor_kind, term_kind, total_kind, relation_kind, expression_kind, primary_types, factor_types, term_types, factors_types, sum_types, terms_types, relation_types, expression_types, relations_types}
 use Rattle.annex_resolve.specs.Resolved.{multiply_op, sign_op, relation_op, logic_op, negated_by, truth_of, primary_of, factor_of, term_of, factors_of, sum_of, terms_of, relation_of, expression_of, relations_of}
-use Rattle.design_laws.specs.Ready.{FitsMeaning, FitsScope}
+use Rattle.design_laws.specs.proof.Ready.{FitsMeaning, FitsScope}
 use Rattle.design_laws.proofs.Tests.{both, nothing_left, is_right}
 
 -- an expression may have the type that it was found to have

@@ -16,7 +16,7 @@ use Rattle.aadl_names.specs.declared.fault.FlatFault.TheVariants.{Unknown, Twice
 use Rattle.aadl_names.specs.Spelling.{spelled_reference, spelled_implementation, spelled_end}
 use Rattle.aadl_names.specs.PackageFaults.{behaviour_faults, reference_at, unknown_reference, unknown_end}
 use Rattle.aadl_names.proofs.Elements.{is_here}
-use Rattle.aadl_names.specs.Orders.{places_of}
+use Rattle.aadl_names.specs.proof.Orders.{places_of}
 use Rattle.design_laws.proofs.Clear.{Clear, clear_none, clear_one, clear_front, clear_back, clear_tail, clear_section, clear_append, clear_flat}
 use Rattle.design_laws.proofs.Possible.{of_feature, of_subcomponent, of_connection, of_annex, none_of, of_type, of_implementation, of_declaration}
 use Rattle.design_laws.proofs.Possible.{possible}

@@ -2,10 +2,10 @@
 use Rattle.std.proofs.Common.{◌≡◌, ◌⊎◌, inl, inr, ℕ, zero, suc, ◌<◌, ◌≤◌, [], ◌∷◌, Contains, Option, None, refl, sym, subst, arith}
 use Rattle.std.proofs.lemmas.Bool.{cases_lt}
 use Rattle.aadl_names.specs.declared.fault.FlatFault.{FlatFault}
-use Rattle.aadl_names.specs.Found.{found}
+use Rattle.aadl_names.specs.proof.Found.{found}
 use Rattle.aadl_names.proofs.Elements.{is_here, only_here}
-use Rattle.aadl_uses.specs.Uses.{FirstIn}
-use Rattle.aadl_chains.specs.Findings.{FindsAll}
+use Rattle.aadl_uses.specs.proof.Uses.{FirstIn}
+use Rattle.aadl_chains.specs.proof.Findings.{FindsAll}
 use Rattle.aadl_chains.proofs.Findings.{finds_nothing, finds_both, finds_same, first_found}
 
 -- all that have P are found, after what was found before

@@ -3,27 +3,28 @@ use Rattle.std.proofs.Common.{◌≡◌, ◌⊎◌, inl, inr, ℕ, List, map, re
 use Rattle.std.proofs.lemmas.List.{length-map}
 use Rattle.aadl_tree.specs.Declarations.{PackageTree}
 use Rattle.aadl_names.specs.declared.fault.FlatFault.TheVariants.{TooMany}
-use Rattle.aadl_uses.specs.Uses.{containment, targets_in}
-use Rattle.aadl_uses.specs.Threads.{Lists, IsThreadAt, PathBefore, thread_marks}
+use Rattle.aadl_uses.specs.proof.Uses.{containment, targets_in}
+use Rattle.aadl_uses.specs.Threads.{Lists, IsThreadAt, PathBefore}
+use Rattle.aadl_uses.specs.proof.Threads.{thread_marks}
 use Rattle.aadl_uses.proofs.Containing.{within}
 use Rattle.aadl_uses.proofs.Counted.{threads_listed}
 use Rattle.aadl_uses.proofs.Cycles.{no_way_back}
-use Rattle.aadl_chains.specs.Sound.{AreDeclared}
+use Rattle.aadl_chains.specs.proof.Sound.{AreDeclared}
 use Rattle.aadl_chains.proofs.Declared.{declared}
 use Rattle.aadl_chains.specs.Links.{Ends, IsLink, IsFeed, IsTap, TargetBefore, PortBefore}
-use Rattle.aadl_chains.specs.Walks.{OneEach}
-use Rattle.aadl_uses.specs.Graphs.{LeadsBack}
+use Rattle.aadl_chains.specs.proof.Walks.{OneEach}
+use Rattle.aadl_uses.specs.proof.Graphs.{LeadsBack}
 use Rattle.design_laws.proofs.Containing.{HasOrder}
-use Rattle.aadl_chains.specs.Inside.{is_thread_at}
+use Rattle.aadl_chains.specs.proof.Inside.{is_thread_at}
 use Rattle.aadl_chains.proofs.Counted.{one_each}
-use Rattle.aadl_instance.specs.Limits.{name_of}
+use Rattle.aadl_instance.specs.proof.Limits.{name_of}
 use Rattle.aadl_instance.proofs.Roots.{is_root_at, root_declared, root_no_thread}
 use Rattle.aadl_instance.proofs.Lines.{silent_five, all_silent, limit_fault, root_fault, root_silent}
 use Rattle.design_laws.proofs.ExistingOrdering.{order}
 use Rattle.design_laws.proofs.Paths.{paths}
 use Rattle.design_laws.proofs.Sound.{IsSound}
 use Rattle.design_laws.proofs.Lines.{each_package_begins}
-use Rattle.design_laws.specs.Packages.{HasFirstFault, HasInstance}
+use Rattle.design_laws.specs.proof.Packages.{HasFirstFault, HasInstance}
 use Rattle.design_laws.proofs.Incoming.{links, feeds}
 use Rattle.design_laws.proofs.Taps.{taps}
 use Rattle.design_laws.proofs.Limits.{FirstOrNone, first}

@@ -25,7 +25,7 @@ use Rattle.annex_resolve.specs.CycleRules.{is_on_cycle}
 use Rattle.annex_resolve.specs.Behaviours.{declared, state_number, trigger_of, effect_of, edge_of, guard_types, effect_findings, transition_findings, breaks_dispatch, way_of, leg_of, ways_from, is_otherwise, is_guarded, is_open, lacks_otherwise, state_rules, cycles_of}
 use Rattle.annex_resolve.proofs.Tables.{mapped_at}
 use Rattle.annex_resolve.proofs.CycleWays.{way_reaches}
-use Rattle.design_laws.specs.Ready.{FitsScope, is_declared}
+use Rattle.design_laws.specs.proof.Ready.{FitsScope, is_declared}
 use Rattle.design_laws.proofs.Tests.{both, parts, neither, not_false, nothing_left, not_wrong, none_at, all_upwards, filter-map}
 use Rattle.design_laws.proofs.Acting.{test_sound, block_sound}
 

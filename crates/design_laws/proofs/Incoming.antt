@@ -2,17 +2,17 @@
 use Rattle.std.proofs.Common.{◌≡◌, ◌⊎◌, inl, inr, ℕ, zero, suc, ◌+◌, ◌≤◌, Bool, true, false, List, [], ◌∷◌, ◌++◌, length, slice_get, Some, refl, subst, arith}
 use Rattle.aadl_tree.specs.Declarations.{PackageTree}
 use Rattle.aadl_names.specs.Resolving.{implementation_at, ports_at}
-use Rattle.aadl_uses.specs.Uses.{containment}
+use Rattle.aadl_uses.specs.proof.Uses.{containment}
 use Rattle.aadl_uses.specs.Threads.{Lists, IsThreadAt, PathBefore}
-use Rattle.aadl_uses.specs.Orders.{IsOrder}
-use Rattle.aadl_chains.specs.Inside.{is_thread_at}
+use Rattle.aadl_uses.specs.proof.Orders.{IsOrder}
+use Rattle.aadl_chains.specs.proof.Inside.{is_thread_at}
 use Rattle.aadl_chains.specs.Chains.{is_in}
-use Rattle.aadl_chains.specs.Sound.{AreDeclared}
+use Rattle.aadl_chains.specs.proof.Sound.{AreDeclared}
 use Rattle.aadl_chains.specs.Links.{Ends, IsLink, IsFeed, TargetBefore}
-use Rattle.aadl_chains.specs.Walks.{OneEach}
+use Rattle.aadl_chains.specs.proof.Walks.{OneEach}
 use Rattle.aadl_instance.specs.declared.build.Incoming.{Incoming}
 use Rattle.aadl_instance.specs.Instances.{chain_in}
-use Rattle.aadl_instance.specs.Passed.{AreInto}
+use Rattle.aadl_instance.specs.proof.Passed.{AreInto}
 use Rattle.aadl_instance.proofs.Passing.{into_start, into_thread, into_skip, into_link, into_feed, links_whole, feeds_whole, thread_listed}
 use Rattle.aadl_instance.proofs.Adding.{out_added}
 use Rattle.aadl_instance.proofs.Shown.{stands}

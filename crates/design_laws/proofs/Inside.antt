@@ -2,14 +2,14 @@
 use Rattle.std.proofs.Common.{◌≡◌, ℕ, zero, suc, ◌+◌, ◌<◌, ◌≤◌, Bool, true, false, List, [], ◌∷◌, length, slice_get, Option, Some, None, refl, subst, arith}
 use Rattle.aadl_tree.specs.declared.declarations.Direction.{Direction}
 use Rattle.aadl_tree.specs.Declarations.{PackageTree}
-use Rattle.aadl_uses.specs.Uses.{containment}
+use Rattle.aadl_uses.specs.proof.Uses.{containment}
 use Rattle.aadl_chains.specs.declared.connections.Wire.{Wire}
 use Rattle.aadl_chains.specs.Wiring.{wires_at}
-use Rattle.aadl_uses.specs.Orders.{IsOrder}
+use Rattle.aadl_uses.specs.proof.Orders.{IsOrder}
 use Rattle.aadl_uses.proofs.Searches.{contains_at}
 use Rattle.aadl_chains.specs.declared.ports.PortAt.{PortAt}
-use Rattle.aadl_chains.specs.Ports.{with_port}
-use Rattle.aadl_chains.specs.Inside.{is_thread_at, inner_end, outer_end, port_at, joined_by, AreJoined, IsJoined, IsInside}
+use Rattle.aadl_chains.specs.proof.Ports.{with_port}
+use Rattle.aadl_chains.specs.proof.Inside.{is_thread_at, inner_end, outer_end, port_at, joined_by, AreJoined, IsJoined, IsInside}
 use Rattle.aadl_chains.proofs.Joining.{one_joined, none_joined, FrontJoined, none_yet, one_more, all_joined, thread_joined}
 use Rattle.aadl_chains.proofs.Ordered.{FrontInside, no_front, front_more, front_past, front_all}
 

@@ -22,7 +22,7 @@ use Rattle.aadl_chains.specs.Links as walks
 use Rattle.aadl_instance.specs.Instances.{port_name, chain_at}
 use Rattle.annex_resolve.specs.Types.{kind_in}
 use Rattle.model_violations.specs.Chains.{link_findings, feed_findings}
-use Rattle.design_laws.specs.Named.{AreNamed}
+use Rattle.design_laws.specs.proof.Named.{AreNamed}
 use Rattle.design_laws.proofs.Differing.{all_none}
 use Rattle.design_laws.proofs.Partition.{pairs_from, all_unmapped}
 use Rattle.model_violations.specs.Use.{IsUse}

@@ -24,7 +24,7 @@ use Rattle.model_violations.specs.Carriers.{adaptor_text}
 use Rattle.model_violations.specs.Chains.{timing_findings, adaptor_findings, on_carrier, link_findings, feed_findings}
 use Rattle.model_violations.specs.Ports.{end_name, end_kind, end_rate}
 use Rattle.component_checks.specs.Rates.{adaptor_named, kind_suits}
-use Rattle.design_laws.specs.Named.{HasWords}
+use Rattle.design_laws.specs.proof.Named.{HasWords}
 use Rattle.design_laws.proofs.Differing.{right_none}
 use Rattle.design_laws.proofs.Partition.{all_at}
 use Rattle.design_laws.proofs.Naming.{IsPort}

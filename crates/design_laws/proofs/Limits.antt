@@ -12,15 +12,16 @@ use Rattle.std.proofs.lemmas.List.Elements.{Contains-append_left, Contains-appen
 use Rattle.aadl_uses.specs.Uses.{component_at}
 use Rattle.aadl_uses.specs.Threads.{Lists, MoreThan, IsThreadOf, IsThreadAt, PathBefore}
 use Rattle.aadl_uses.proofs.Counted.{more_threads}
-use Rattle.aadl_uses.specs.Counts.{path_before, Among}
-use Rattle.aadl_chains.specs.Numbers.{Distinct}
+use Rattle.aadl_uses.specs.Threads.{path_before}
+use Rattle.aadl_uses.specs.proof.Counts.{Among}
+use Rattle.aadl_chains.specs.proof.Numbers.{Distinct}
 use Rattle.aadl_chains.specs.Links.{Ends, IsLink, same_path, TargetBefore, OtherTarget}
 use Rattle.aadl_chains.proofs.Numbers.{no_more}
 use Rattle.aadl_uses.specs.ThreadPlaces.{ThreadWith, spelled_path}
 use Rattle.aadl_instance.specs.Parts.{variable_count, state_count}
 use Rattle.aadl_instance.specs.declared.limits.Limit.{Limit}
 use Rattle.aadl_instance.specs.declared.limits.Limit.TheVariants.{Components, Links, Ports, Variables, States, Path}
-use Rattle.aadl_instance.specs.Limits.{line_of, IsPassed}
+use Rattle.aadl_instance.specs.proof.Limits.{line_of, IsPassed}
 use Rattle.aadl_instance.proofs.Lines.{limit_lines}
 
 told_more : (a b : ℕ) → (a < b) ⊎ (a < b → ⊥)

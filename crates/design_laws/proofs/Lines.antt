@@ -5,11 +5,12 @@ use Rattle.aadl_tree.specs.Declarations.{PackageTree}
 use Rattle.aadl_names.specs.declared.fault.FlatFault.{FlatFault}
 use Rattle.aadl_names.specs.declared.fault.FlatFault.TheVariants.{NoRoot}
 use Rattle.aadl_names.specs.Findings.{FirstOf}
-use Rattle.aadl_names.specs.Found.{found}
+use Rattle.aadl_names.specs.proof.Found.{found}
 use Rattle.aadl_names.specs.Resolving.{root_number}
 use Rattle.aadl_names.specs.PackageFaults.{package_faults}
 use Rattle.aadl_names.proofs.Covers.{found_is_first}
-use Rattle.aadl_uses.specs.Uses.{containment, targets_in, IsInUse, IsRecursive, FirstIn}
+use Rattle.aadl_uses.specs.proof.Uses.{containment, targets_in, FirstIn}
+use Rattle.aadl_uses.specs.Uses.{IsInUse, IsRecursive}
 use Rattle.aadl_uses.proofs.Containing.{within, in_use_by}
 use Rattle.aadl_uses.proofs.Cycles.{no_way_back}
 use Rattle.aadl_chains.specs.Chains.{IsEndFault}
@@ -18,7 +19,7 @@ use Rattle.aadl_instance.proofs.Roots.{is_root_at, root_declared}
 use Rattle.aadl_instance.proofs.Lines.{name_fault, recursion_fault, end_fault, no_root, root_fault}
 use Rattle.design_laws.proofs.Reaching.{reach}
 use Rattle.design_laws.proofs.ExistingOrdering.{order}
-use Rattle.design_laws.specs.Packages.{HasFirstFault}
+use Rattle.design_laws.specs.proof.Packages.{HasFirstFault}
 use Rattle.design_laws.proofs.Sound.{IsSound}
 use Rattle.design_laws.proofs.Recursion.{first_recursive}
 use Rattle.design_laws.proofs.Connections.{first_end}

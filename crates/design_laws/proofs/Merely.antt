@@ -7,9 +7,9 @@ use Rattle.pals_base.specs.Rules.{IsAcyclic}
 use Rattle.pals_model.specs.declared.design.DesignParts.{DesignParts}
 use Rattle.pals_model.specs.Rules.{IsDesign}
 use Rattle.aadl_tree.specs.Declarations.{PackageTree}
-use Rattle.design_laws.specs.Named.{AreNamed}
+use Rattle.design_laws.specs.proof.Named.{AreNamed}
 use Rattle.model_violations.specs.Violations.{Shown}
-use Rattle.design_laws.specs.Accepted.{IsShown, NothingFound}
+use Rattle.design_laws.specs.proof.Accepted.{IsShown, NothingFound}
 use Rattle.design_laws.specs.Designs.{IsDesignOf}
 use Rattle.design_laws.proofs.Ruling.{ThreadLaw}
 use Rattle.design_laws.proofs.Accepting.{has_design, one_design}

@@ -22,7 +22,7 @@ use Rattle.annex_resolve.specs.Behaviours.{state_at, states_in, states_of, decla
 use Rattle.component_checks.specs.Types.{is_in}
 use Rattle.model_violations.specs.declared.declared.Declared.{Declared}
 use Rattle.model_violations.specs.Values.{port_of, ins_in, outs_in, variables_in, variables_of, named_of, var_of}
-use Rattle.design_laws.specs.Named.{IsNamed, Differ}
+use Rattle.design_laws.specs.proof.Named.{IsNamed, Differ}
 use Rattle.design_laws.proofs.Placed.{Pairs, all_append, all_weaker, pairs_append, pairs_weaker}
 use Rattle.design_laws.proofs.Differing.{same_turned, same_itself, Differs}
 use Rattle.design_laws.proofs.Apart.{pairs_all}

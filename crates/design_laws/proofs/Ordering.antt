@@ -15,13 +15,13 @@ use Rattle.aadl_names.specs.Resolving.{implementation_at, ports_at, ports_of}
 use Rattle.aadl_names.specs.Spaces.{port_entries, member_entries}
 use Rattle.aadl_uses.specs.Uses.{component_at}
 use Rattle.aadl_uses.specs.Threads.{IsThreadAt}
-use Rattle.aadl_uses.specs.Counts.{path_before}
+use Rattle.aadl_uses.specs.Threads.{path_before}
 use Rattle.aadl_chains.specs.Chains.{Port, port_of, is_in}
 use Rattle.aadl_chains.specs.Links.{OtherTarget, Ends, same_path, TargetBefore}
 use Rattle.aadl_instance.specs.Flat.{Parts, IsFlat}
 use Rattle.aadl_instance.specs.Instances.{node_at, port_number}
 use Rattle.component_checks.specs.Types as types
-use Rattle.design_laws.specs.Named.{NamesDiffer}
+use Rattle.design_laws.specs.proof.Named.{NamesDiffer}
 use Rattle.design_laws.proofs.Placed.{Pairs}
 use Rattle.design_laws.proofs.Differing.{one_name, Differs}
 use Rattle.design_laws.proofs.Partition.{pairs_at, pairs_from, pairs_first, pairs_unmapped}

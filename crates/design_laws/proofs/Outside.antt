@@ -3,15 +3,16 @@ use Rattle.std.proofs.Common.{◌≡◌, ◌⊎◌, ◌↔◌, inl, inr, ℕ, ze
 use Rattle.std.specs.List.{list_any}
 use Rattle.aadl_tree.specs.declared.declarations.Direction.{Direction}
 use Rattle.aadl_tree.specs.Declarations.{PackageTree}
-use Rattle.aadl_uses.specs.Uses.{containment, IsInUse}
+use Rattle.aadl_uses.specs.proof.Uses.{containment}
+use Rattle.aadl_uses.specs.Uses.{IsInUse}
 use Rattle.aadl_chains.specs.declared.connections.Wire.{Wire}
 use Rattle.aadl_chains.specs.Wiring.{wires_at}
-use Rattle.aadl_uses.specs.Orders.{IsOrder}
+use Rattle.aadl_uses.specs.proof.Orders.{IsOrder}
 use Rattle.aadl_uses.proofs.Sequences.{of_any, not_of_any}
 use Rattle.aadl_chains.specs.declared.ports.PortAt.{PortAt}
-use Rattle.aadl_chains.specs.Ports.{with_port}
-use Rattle.aadl_chains.specs.Inside.{IsInside}
-use Rattle.aadl_chains.specs.Outside.{opposite, led_by, IsLed, AreLedIfUsed, IsOutside}
+use Rattle.aadl_chains.specs.proof.Ports.{with_port}
+use Rattle.aadl_chains.specs.proof.Inside.{IsInside}
+use Rattle.aadl_chains.specs.proof.Outside.{opposite, led_by, IsLed, AreLedIfUsed, IsOutside}
 use Rattle.aadl_chains.proofs.Leading.{FrontLed, none_yet, one_led, none_led, one_more, all_led}
 use Rattle.aadl_chains.proofs.Falling.{BackLed, no_back, back_next, back_all}
 use Rattle.design_laws.proofs.Inside.{within}

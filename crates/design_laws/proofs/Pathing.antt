@@ -17,9 +17,9 @@ use Rattle.aadl_names.specs.Spelling.{entry_of}
 use Rattle.aadl_names.specs.Resolving.{implementation_at, subcomponents_of, referred, ports_of}
 use Rattle.aadl_names.specs.Spaces.{port_entries, member_entries}
 use Rattle.aadl_uses.specs.Uses.{sub_at, below, standing}
-use Rattle.aadl_uses.specs.Counts.{path_before}
+use Rattle.aadl_uses.specs.Threads.{path_before}
 use Rattle.aadl_uses.specs.ThreadPlaces.{name_at, names_along, dotted_names, spelled_path}
-use Rattle.design_laws.specs.Named.{IsNamed, HasWords, NamesDiffer}
+use Rattle.design_laws.specs.proof.Named.{IsNamed, HasWords, NamesDiffer}
 use Rattle.design_laws.proofs.Placed.{Pairs, all_append}
 use Rattle.design_laws.proofs.Differing.{one_name, Differs}
 use Rattle.design_laws.proofs.Tests.{parts}

@@ -1,8 +1,9 @@
 -- Paths are listed declaration by declaration, in such an order.
 use Rattle.std.proofs.Common.{◌≡◌, ◌⊎◌, inl, inr, ℕ, zero, suc, ◌+◌, ◌<◌, ◌≤◌, Bool, false, List, ◌∷◌, ◌++◌, length, map, Option, Some, None, slice_get, get_or, refl, ap, subst, sym, ◌∙◌, arith}
-use Rattle.aadl_uses.specs.Graphs.{Graph, targets_in, below_in, IsWithin}
-use Rattle.aadl_uses.specs.Orders.{IsSequence}
-use Rattle.aadl_uses.specs.Counts.{AreListed, path_before, own_paths}
+use Rattle.aadl_uses.specs.proof.Graphs.{Graph, targets_in, below_in, IsWithin}
+use Rattle.aadl_uses.specs.proof.Orders.{IsSequence}
+use Rattle.aadl_uses.specs.proof.Counts.{AreListed, own_paths}
+use Rattle.aadl_uses.specs.Threads.{path_before}
 use Rattle.aadl_uses.proofs.Counting.{Begun, own_listed, listed_more, listed_same, all_listed}
 use Rattle.aadl_uses.proofs.Searches.{at_contains}
 use Rattle.aadl_uses.proofs.Suspected.{one_of_two}

@@ -10,7 +10,7 @@ use Rattle.aadl_tree.specs.Parts.{Part, Section, section_mark, empty_section, pl
 use Rattle.aadl_tree.specs.Names.{Identifier, Identifiers, identifier_parts, identifiers_parts}
 use Rattle.aadl_tree.specs.Annexes.{declared_parts}
 use Rattle.aadl_tree.specs.Declarations.{section_parts}
-use Rattle.aadl_names.specs.Orders.{places_in, places_of, StandsBefore}
+use Rattle.aadl_names.specs.proof.Orders.{places_in, places_of, StandsBefore}
 
 -- ---- all of a list, and all pairs of it
 abbrev pub Pairs : {X : Type 0} → (X → X → Type 0) → List X → Type 0

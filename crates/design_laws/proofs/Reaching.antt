@@ -5,7 +5,7 @@ use Rattle.std.proofs.lemmas.Bool.{true≢false}
 use Rattle.std.proofs.lemmas.List.{append-nil}
 use Rattle.std.proofs.lemmas.Option.{none-some}
 use Rattle.indexmap.specs.IndexSet.{insert_key}
-use Rattle.aadl_uses.specs.Graphs.{Graph, targets_in, below_in, IsWithin, LeadsBack, AreAdded}
+use Rattle.aadl_uses.specs.proof.Graphs.{Graph, targets_in, below_in, IsWithin, LeadsBack, AreAdded}
 use Rattle.aadl_uses.proofs.Searches.{added_none, added_skip, added_more, Searched, searched_first, searched_past, searched_more, searched_end}
 use Rattle.aadl_uses.proofs.Suspected.{leads_by}
 use Rattle.design_laws.proofs.Containing.{HasReach}

@@ -10,13 +10,13 @@ use Rattle.aadl_names.specs.PackageFaults.{package_faults}
 use Rattle.annex_resolve.specs.declared.behaviour.Values.{Values}
 use Rattle.annex_resolve.specs.declared.scope.Scope.{Scope}
 use Rattle.annex_resolve.specs.Behaviours.{annex_findings, behaviour_of}
-use Rattle.design_laws.specs.Ready.{IsReady}
+use Rattle.design_laws.specs.proof.Ready.{IsReady}
 use Rattle.component_checks.specs.Types.{port_findings, variables_findings}
 use Rattle.model_violations.specs.Values.{ins_in, outs_in, variables_of, values_of, scope_of}
 use Rattle.model_violations.specs.Threads.{first_annex, annex_rules, behaviour_by, implementation_findings}
-use Rattle.design_laws.specs.Named.{HasWords, NamesDiffer}
+use Rattle.design_laws.specs.proof.Named.{HasWords, NamesDiffer}
 use Rattle.design_laws.proofs.Differing.{left_none, right_none}
-use Rattle.design_laws.specs.Behaving.{Behaves}
+use Rattle.design_laws.specs.proof.Behaving.{Behaves}
 use Rattle.design_laws.proofs.Naming.{IsPort, values_apart, values_words, states_apart, states_words}
 use Rattle.design_laws.proofs.Typing.{ins_typed, outs_typed, variables_typed, variables_first, scope_fits}
 use Rattle.design_laws.proofs.Stating.{all_declared, first_clean}

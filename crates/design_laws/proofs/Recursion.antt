@@ -6,10 +6,11 @@ use Rattle.aadl_tree.specs.Declarations.{Subcomponent, PackageTree}
 use Rattle.aadl_names.specs.declared.fault.FlatFault.{FlatFault}
 use Rattle.aadl_names.specs.declared.fault.FlatFault.TheVariants.{Recursive}
 use Rattle.aadl_names.specs.Resolving.{implementation_at, subcomponents_of}
-use Rattle.aadl_uses.specs.Uses.{sub_at, containment, targets_in, IsRecursive, FirstIn}
+use Rattle.aadl_uses.specs.Uses.{sub_at, IsRecursive}
+use Rattle.aadl_uses.specs.proof.Uses.{containment, targets_in, FirstIn}
 use Rattle.aadl_uses.proofs.Containing.{within}
 use Rattle.aadl_uses.proofs.Cycles.{leads_back_from, closes_from}
-use Rattle.aadl_uses.specs.Graphs.{LeadsBack}
+use Rattle.aadl_uses.specs.proof.Graphs.{LeadsBack}
 use Rattle.aadl_uses.proofs.Suspected.{declared}
 use Rattle.design_laws.proofs.Reaching.{leads_back}
 use Rattle.design_laws.proofs.Finding.{Finds, none_found, alike_found, found_if, Below, found_below, first_in}

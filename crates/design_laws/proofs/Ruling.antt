@@ -26,9 +26,9 @@ use Rattle.component_checks.specs.PropertyLookup.{sub_of, innermost}
 use Rattle.component_checks.specs.Types.{port_findings}
 use Rattle.model_violations.specs.Ports.{component_of}
 use Rattle.model_violations.specs.Threads as threads
-use Rattle.design_laws.specs.Named.{HasWords, NamesDiffer, AreNamed}
+use Rattle.design_laws.specs.proof.Named.{HasWords, NamesDiffer, AreNamed}
 use Rattle.design_laws.proofs.Differing.{left_none, right_none, where_true}
-use Rattle.design_laws.specs.Behaving.{Behaves}
+use Rattle.design_laws.specs.proof.Behaving.{Behaves}
 use Rattle.model_violations.specs.Use.{IsUse}
 use Rattle.model_violations.specs.Declarations.{thread_findings}
 use Rattle.model_violations.specs.Violations.{shown_by, used_findings}

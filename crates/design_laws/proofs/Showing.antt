@@ -6,9 +6,9 @@ use Rattle.aadl_uses.specs.declared.thread_places.ThreadAt.{ThreadAt}
 use Rattle.aadl_uses.specs.ThreadPlaces.{thread_at}
 use Rattle.aadl_instance.specs.declared.parts.Chain.{Chain}
 use Rattle.aadl_instance.specs.Instances.{chain_at}
-use Rattle.design_laws.specs.Named.{AreNamed}
+use Rattle.design_laws.specs.proof.Named.{AreNamed}
 use Rattle.model_violations.specs.Violations.{Shown, shown_by}
-use Rattle.design_laws.specs.Accepted.{IsShown, NothingFound}
+use Rattle.design_laws.specs.proof.Accepted.{IsShown, NothingFound}
 use Rattle.design_laws.specs.Designs.{HasRules}
 use Rattle.design_laws.proofs.Clean.{all_parts}
 use Rattle.design_laws.proofs.Ruling as ruling

@@ -14,7 +14,7 @@ use Rattle.aadl_chains.specs.Wiring.{wire_of, wires_of, wires_at}
 use Rattle.aadl_chains.specs.Firsts.{target_in}
 use Rattle.aadl_chains.specs.Chains.{Port, Place, Leads, IsStart, IsSecondEnd}
 use Rattle.aadl_chains.proofs.Declared.{declared}
-use Rattle.aadl_chains.specs.Walked.{IsSound}
+use Rattle.aadl_chains.specs.proof.Walked.{IsSound}
 use Rattle.aadl_chains.proofs.Passing.{one_into, none_into_start}
 use Rattle.aadl_chains.proofs.Soundness.{sound_by}
 use Rattle.aadl_instance.specs.Flat.{Parts, IsFlat}

@@ -19,7 +19,7 @@ use Rattle.aadl_names.specs.PackageFaults.{is_among, known_in, state_uses, guard
 use Rattle.aadl_names.specs.PackageFaults.{annex_faults, declaration_faults, wrong_names, package_faults}
 use Rattle.annex_resolve.specs.declared.states.StateAt.{StateAt}
 use Rattle.annex_resolve.specs.Behaviours.{states_of, first_number, state_number, transitions_of}
-use Rattle.design_laws.specs.Ready.{is_declared}
+use Rattle.design_laws.specs.proof.Ready.{is_declared}
 use Rattle.design_laws.proofs.Tests.{both, none_at}
 use Rattle.design_laws.proofs.Placed.{all_weaker}
 use Rattle.design_laws.proofs.Differing.{same_turned, left_none, right_none, all_none}

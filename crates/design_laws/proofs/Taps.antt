@@ -5,23 +5,23 @@ use Rattle.aadl_tree.specs.Declarations.{PackageTree}
 use Rattle.aadl_names.specs.declared.site.Site.{Site}
 use Rattle.aadl_names.specs.declared.site.Site.TheVariants.{Own, Inner}
 use Rattle.aadl_names.specs.Resolving.{implementation_at, ports_at}
-use Rattle.aadl_uses.specs.Uses.{containment}
+use Rattle.aadl_uses.specs.proof.Uses.{containment}
 use Rattle.aadl_uses.specs.Threads.{Lists}
-use Rattle.aadl_chains.specs.Wiring.{into}
-use Rattle.aadl_uses.specs.Orders.{IsOrder}
-use Rattle.aadl_chains.specs.Inside.{is_thread_at, is_in_at}
+use Rattle.aadl_chains.specs.proof.Wiring.{into}
+use Rattle.aadl_uses.specs.proof.Orders.{IsOrder}
+use Rattle.aadl_chains.specs.proof.Inside.{is_thread_at, is_in_at}
 use Rattle.aadl_chains.specs.Chains.{Port, Leads}
-use Rattle.aadl_chains.specs.Sound.{AreDeclared}
+use Rattle.aadl_chains.specs.proof.Sound.{AreDeclared}
 use Rattle.aadl_chains.proofs.OnChains.{is_in-at, next_at}
 use Rattle.aadl_chains.specs.Links.{Ends, IsTap, PortBefore}
-use Rattle.aadl_chains.specs.Walks.{OneEach}
-use Rattle.aadl_chains.specs.Routes.{IsGiver}
+use Rattle.aadl_chains.specs.proof.Walks.{OneEach}
+use Rattle.aadl_chains.specs.proof.Routes.{IsGiver}
 use Rattle.aadl_chains.proofs.Steps.{entered, inner_of}
 use Rattle.aadl_chains.proofs.Linked.{tap_from, tap_met}
 use Rattle.aadl_chains.proofs.Routes.{no_tap, no_tap_over}
 use Rattle.aadl_instance.specs.declared.parts.Chain.{Chain}
 use Rattle.aadl_instance.specs.Instances.{chain_in}
-use Rattle.aadl_instance.specs.Passed.{AreTapsTo}
+use Rattle.aadl_instance.specs.proof.Passed.{AreTapsTo}
 use Rattle.aadl_instance.proofs.Passing.{taps_none, taps_more, taps_skip, taps_whole}
 use Rattle.aadl_instance.proofs.Adding.{in_tap}
 use Rattle.design_laws.proofs.Descending.{Gives, gives}

@@ -2,8 +2,8 @@
 use Rattle.std.proofs.Props.{props}
 use Rattle.std.proofs.Math.Logic.{∥∥₁_elim}
 use Rattle.aadl_tree.specs.declared.package.PackageTree as source
-use Rattle.aadl_tree.specs.PackageViews.{placed}
-use Rattle.design_laws.specs.Named.{AreNamed}
+use Rattle.aadl_tree.specs.proof.PackageViews.{placed}
+use Rattle.design_laws.specs.proof.Named.{AreNamed}
 use Rattle.design_laws.proofs.Apart.{differ_given}
 use Rattle.design_laws.proofs.Wording.{have_words}
 

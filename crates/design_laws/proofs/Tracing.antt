@@ -1,18 +1,18 @@
 -- The one link or feed into a port of a thread, or that there is none.
 use Rattle.std.proofs.Common.{◌≡◌, ◌⊎◌, inl, inr, ℕ, false, List, ◌∷◌, Some, None, refl, sym, ap, subst, ◌∙◌}
 use Rattle.aadl_tree.specs.Declarations.{PackageTree}
-use Rattle.aadl_uses.specs.Uses.{containment}
-use Rattle.aadl_uses.specs.Orders.{IsOrder}
-use Rattle.aadl_chains.specs.Inside.{is_thread_at}
+use Rattle.aadl_uses.specs.proof.Uses.{containment}
+use Rattle.aadl_uses.specs.proof.Orders.{IsOrder}
+use Rattle.aadl_chains.specs.proof.Inside.{is_thread_at}
 use Rattle.aadl_chains.specs.Chains.{Port, Leads}
-use Rattle.aadl_chains.specs.Sound.{AreDeclared}
+use Rattle.aadl_chains.specs.proof.Sound.{AreDeclared}
 use Rattle.aadl_chains.specs.declared.walks.Begin.TheVariants as begins
 use Rattle.aadl_chains.specs.Links.{Ends, IsLink, IsFeed}
-use Rattle.aadl_chains.specs.Routes.{route_ends, IsGiver}
+use Rattle.aadl_chains.specs.proof.Routes.{route_ends, IsGiver}
 use Rattle.aadl_chains.proofs.Climbing.{crossing_from}
 use Rattle.aadl_chains.proofs.Linked.{link_from, link_met, feed_met}
 use Rattle.aadl_chains.proofs.Routes.{traces_nothing, traces_itself, traces_root, traces_none_over}
-use Rattle.aadl_chains.specs.Walks.{Climb, Crossing, nowhere, at_root, crosses, climb, OneEach, IsThreadPort}
+use Rattle.aadl_chains.specs.proof.Walks.{Climb, Crossing, nowhere, at_root, crosses, climb, OneEach, IsThreadPort}
 use Rattle.design_laws.proofs.Descending.{Gives, gives}
 
 -- the one that comes into a port

@@ -23,7 +23,7 @@ use Rattle.aadl_names.specs.Properties.{association_at, association_value, assoc
 use Rattle.annex_resolve.specs.declared.violation.TheConstants.{BAD_TYPE}
 use Rattle.annex_resolve.specs.declared.scope.Entry.{Entry}
 use Rattle.annex_resolve.specs.Types.{kind_named, kind_in, fits}
-use Rattle.design_laws.specs.Ready.{FitsMeaning, FitsScope}
+use Rattle.design_laws.specs.proof.Ready.{FitsMeaning, FitsScope}
 use Rattle.design_laws.proofs.Tests.{is_right}
 use Rattle.component_checks.specs.Types.{is_in, port_findings, name_findings, is_truth, text_kind, first_findings, variable_findings}
 use Rattle.component_checks.specs.Types.{variables_findings}

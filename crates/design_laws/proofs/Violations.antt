@@ -4,7 +4,7 @@ use Rattle.aadl_tree.specs.Declarations.{PackageTree}
 use Rattle.aadl_instance.specs.Flat.{Parts, IsFlat}
 use Rattle.model_violations.specs.Use.{has, IsUse}
 use Rattle.model_violations.specs.Violations.{shown_by, findings, goes_before}
-use Rattle.design_laws.specs.Packages.{HasList}
+use Rattle.design_laws.specs.proof.Packages.{HasList}
 use Rattle.model_violations.proofs.Numbers.{is_use}
 use Rattle.model_violations.proofs.Sorting.{goes_before_orders}
 use Rattle.design_laws.proofs.Sorting.{has_sorted}

@@ -24,16 +24,16 @@ use Rattle.aadl_tree.specs.declared.annex.Annex as source_annex
 use Rattle.aadl_tree.specs.declared.package.PackageTree as source_package
 use Rattle.std.specs.declared.alloc.Global.{Global}
 use Rattle.std.specs.declared.vec.Vec.{Vec}
-use Rattle.aadl_tree.specs.Maps.{kept_place}
+use Rattle.aadl_tree.specs.proof.Maps.{kept_place}
 use Rattle.aadl_tree.specs.Names.{Identifier, identifiers, listed_in}
-use Rattle.aadl_tree.specs.NameViews.{identifier_view, identifiers_view}
-use Rattle.aadl_tree.specs.Views.{variable_view, state_view, annex_tree_view, content_view, annex_view, feature_view, subcomponent_view}
-use Rattle.aadl_tree.specs.Views.{type_view, implementation_view, declaration_view}
+use Rattle.aadl_tree.specs.proof.NameViews.{identifier_view, identifiers_view}
+use Rattle.aadl_tree.specs.proof.Views.{variable_view, state_view, annex_tree_view, content_view, annex_view, feature_view, subcomponent_view}
+use Rattle.aadl_tree.specs.proof.Views.{type_view, implementation_view, declaration_view}
 use Rattle.aadl_tree.specs.Annexes.{AnnexTree, VariableDeclaration, StateDeclaration}
 use Rattle.aadl_tree.specs.Declarations.{Feature, Subcomponent, TypeDeclaration, Implementation, type, implementation}
-use Rattle.aadl_tree.specs.PackageViews.{placed}
+use Rattle.aadl_tree.specs.proof.PackageViews.{placed}
 use Rattle.aadl_names.specs.Behaviours.{behaviour_in, behaviours, variables_of, states_of}
-use Rattle.design_laws.specs.Named.{IsNamed, HasWords}
+use Rattle.design_laws.specs.proof.Named.{IsNamed, HasWords}
 use Rattle.design_laws.proofs.Placed.{all_append}
 
 -- ---- what the lexer takes for a word is one

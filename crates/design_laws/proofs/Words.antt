@@ -8,7 +8,7 @@ use Rattle.aadl_lex.specs.declared.token.Token.{Token}
 use Rattle.aadl_lex.specs.declared.token.TokenKind.{TokenKind}
 use Rattle.aadl_lex.specs.declared.token.TokenKind.TheVariants as class
 use Rattle.aadl_lex.specs.Rules.{is_word}
-use Rattle.aadl_lex.specs.Spelled.{IsWordAt}
+use Rattle.aadl_lex.specs.proof.Spelled.{IsWordAt}
 use Rattle.aadl_lex.specs.Tokens.{bytes_of}
 use Rattle.aadl_lex.proofs.Spelled.{words_of}
 use Rattle.aadl_tree.specs.declared.mark.Mark.{Mark}
@@ -28,7 +28,7 @@ use Rattle.aadl_tree.specs.Declarations.{ending_parts, implementation_name_parts
 use Rattle.aadl_tree.specs.Declarations.{package_parts}
 use Rattle.aadl_tree.specs.Given.{IsTreeOf}
 use Rattle.aadl_names.specs.Behaviours.{behaviours, variables_of, states_of}
-use Rattle.design_laws.specs.Named.{IsNamed, HasWords}
+use Rattle.design_laws.specs.proof.Named.{IsNamed, HasWords}
 use Rattle.design_laws.proofs.Placed.{all_append}
 use Rattle.design_laws.proofs.Wording.{same_words}
 

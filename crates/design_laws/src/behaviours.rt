@@ -5,8 +5,8 @@ ghost use Rattle.aadl_names.specs.PackageFaults.{package_faults};
 ghost use Rattle.aadl_names.specs.Resolving.{is_thread, ports_of};
 ghost use Rattle.component_checks.specs.Types.{port_findings};
 ghost use Rattle.model_violations.specs.Threads.{implementation_findings};
-ghost use Rattle.design_laws.specs.Named.{HasWords, NamesDiffer};
-ghost use Rattle.design_laws.specs.Behaving.{Behaves};
+ghost use Rattle.design_laws.specs.proof.Named.{HasWords, NamesDiffer};
+ghost use Rattle.design_laws.specs.proof.Behaving.{Behaves};
 
 use crate::annexes::no_findings_make_a_behaviour;
 

@@ -5,7 +5,7 @@ ghost use Rattle.aadl_names.specs.declared.fault.FlatFault.{FlatFault};
 ghost use Rattle.aadl_names.specs.declared.fault.FlatFault.TheVariants.{Memory};
 ghost use Rattle.aadl_instance.specs.Faults.{IsFault};
 ghost use Rattle.aadl_instance.specs.Flat.{Parts, IsFlat};
-ghost use Rattle.design_laws.specs.Packages.{HasFirstFault, HasInstance, HasList};
+ghost use Rattle.design_laws.specs.proof.Packages.{HasFirstFault, HasInstance, HasList};
 
 /// Below the root of a name a package has an instance, or a first fault.
 pub fn instance_or_fault()

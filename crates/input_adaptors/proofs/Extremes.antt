@@ -7,7 +7,7 @@ use Rattle.pals_base.specs.declared.values.Port.{Port}
 use Rattle.pals_base.specs.declared.values.Port.TheVariants.{Absent, Present}
 use Rattle.pals_base.specs.declared.values.Adaptor.TheVariants.{Min, Max}
 use Rattle.pals_base.specs.Adaptors.{present, joined, of_present, least_of, greatest_of}
-use Rattle.input_adaptors.specs.Places.{IsLeast, IsGreatest}
+use Rattle.input_adaptors.specs.proof.Places.{IsLeast, IsGreatest}
 
 -- ---- a number is among the present ones exactly where a port has it
 pub Contains-head : {X : Type 0} (x : X) (xs : List X) → Contains (x ∷ xs) x

@@ -11,7 +11,7 @@ use mir.Val.{SFits}
 use Rattle.pals_base.specs.declared.values.Port.{Port}
 use Rattle.pals_base.specs.declared.values.Port.TheVariants.{Absent, Present}
 use Rattle.pals_base.specs.Adaptors.{present, of_present, latest_of, greatest_of, least_of, average_of}
-use Rattle.input_adaptors.specs.Numbers.{number_of, port_of, mean_of}
+use Rattle.input_adaptors.specs.proof.Numbers.{number_of, port_of, mean_of}
 
 -- ---- as a chain of iterators gives them
 pub filter_map-number_of : (ports : List Port) → filter_map number_of ports ≡ present ports

@@ -12,7 +12,7 @@ use Rattle.pals_base.specs.declared.values.Adaptor.{Adaptor}
 use Rattle.pals_base.specs.declared.values.Adaptor.TheVariants.{Repeat, First, Last, At, Latest, Max, Min, Average}
 use Rattle.pals_base.specs.Adaptors.{adapt, groups, joined, spread, placed}
 use Rattle.pals_base.specs.Allowed.{is_allowed, divides_or_divided}
-use Rattle.input_adaptors.specs.Places.{group_at}
+use Rattle.input_adaptors.specs.proof.Places.{group_at}
 
 -- ---- which side of the table
 pub adapt-faster : (a : Adaptor) (p q : ℕ) (tuple : List Port) → p < q → adapt (Some a) p q tuple ≡ flat_map (spread a (q / p)) tuple

@@ -4,7 +4,7 @@
 
 ghost use Rattle.std.specs.Prelude.{◌≡◌, ◌∷◌, [], OnOk, IsTrue, None};
 ghost use Rattle.pals_base.specs.declared.values.Port.TheVariants.{Present};
-ghost use Rattle.sync_product.specs.State.{advanced};
+ghost use Rattle.sync_product.specs.proof.State.{advanced};
 ghost use Rattle.bus_machine.specs.Machine.{Arrive};
 ghost use Rattle.bus_machine.specs.Agreement.{Agrees};
 ghost use Rattle.pals_bus.specs.Values.{Happens};

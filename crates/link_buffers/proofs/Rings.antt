@@ -13,8 +13,8 @@ use Rattle.std.proofs.Math.ListN.{get_or-map}
 use Rattle.pals_model.specs.declared.flight.FlightCopy.{FlightCopy}
 use Rattle.pals_model.specs.Flights.{is_of}
 use Rattle.link_buffers.specs.declared.ring.Standing.{Standing}
-use Rattle.link_buffers.specs.Flights.{is_due, due_rounds}
-use Rattle.link_buffers.specs.Rings.{copies_of, AreTopped, AreBelow}
+use Rattle.link_buffers.specs.proof.Flights.{is_due, due_rounds}
+use Rattle.link_buffers.specs.proof.Rings.{copies_of, AreTopped, AreBelow}
 use Rattle.link_buffers.proofs.Firsts.{place_within}
 
 -- ---- one copy more, and one less

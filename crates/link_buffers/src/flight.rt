@@ -1,7 +1,7 @@
 //! The messages that are under way on one link.
 ghost use Rattle.std.specs.Prelude.{◌≡◌, ◌+◌, ◌-◌, ◌≤◌, [], ◌∷◌, ◌++◌, max, IfNone, IfOk, OnOk, OnErr, option_copied, option_map, is_some, if◌then◌else◌};
 ghost use Rattle.pals_model.specs.Flights.{oldest, without_oldest};
-ghost use Rattle.link_buffers.specs.Flights.{flight_of, due_rounds, least};
+ghost use Rattle.link_buffers.specs.proof.Flights.{flight_of, due_rounds, least};
 
 use crate::middle::{standing_at, take_at};
 use crate::ring::{Ring, Standing, least_due, place_of_oldest, top_with};
@@ -19,8 +19,8 @@ pub struct Flight {
 
 impl Model for Flight {
     ghost use Rattle.std.specs.Prelude.{◌-◌, ◌≤◌, length};
-    ghost use Rattle.link_buffers.specs.Flights.{FlightState};
-    ghost use Rattle.link_buffers.specs.Rings.{copies_of, AreTopped};
+    ghost use Rattle.link_buffers.specs.proof.Flights.{FlightState};
+    ghost use Rattle.link_buffers.specs.proof.Rings.{copies_of, AreTopped};
 
     ghost Value = { FlightState };
 

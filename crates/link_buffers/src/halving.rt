@@ -1,7 +1,7 @@
 //! A place in a ring, found by halving.
 ghost use Rattle.std.specs.Prelude.{◌≤◌, Bool, length};
 ghost use Rattle.std.specs.List.Sorted.{IsPartitionedBy};
-ghost use Rattle.link_buffers.specs.Halving.{IsTest, IsFirstToFail};
+ghost use Rattle.link_buffers.specs.proof.Halving.{IsTest, IsFirstToFail};
 
 use crate::middle::standing_at;
 use circular_buffer::HeapCircularBuffer;

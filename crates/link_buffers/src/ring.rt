@@ -1,9 +1,9 @@
 //! Copies in a ring: the place of the oldest of a round, and the least round that is due.
 ghost use Rattle.std.specs.Prelude.{◌≡◌, ◌≤◌, length, map, filter, All};
-ghost use Rattle.link_buffers.specs.Flights.{is_due, least};
+ghost use Rattle.link_buffers.specs.proof.Flights.{is_due, least};
 ghost use Rattle.std.specs.List.{position};
 ghost use Rattle.pals_model.specs.Flights.{is_of};
-ghost use Rattle.link_buffers.specs.Rings.{copies_of, AreTopped, AreBelow};
+ghost use Rattle.link_buffers.specs.proof.Rings.{copies_of, AreTopped, AreBelow};
 
 use crate::middle::standing_at;
 use circular_buffer::HeapCircularBuffer;

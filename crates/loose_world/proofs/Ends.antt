@@ -14,8 +14,9 @@ use Rattle.pals_bus.specs.Loose.{loose_event}
 use Rattle.loose_world.specs.declared.events.LooseEnd.{LooseEnd}
 use Rattle.loose_world.specs.declared.events.LooseEnd.TheVariants as end
 use Rattle.loose_world.specs.Worlds.{IsFaultOf}
-use Rattle.loose_world.specs.Steps.{AllStep, ComesTo, StepsToStop, StepsToFault, StepsTo}
-use Rattle.loose_world.specs.Ends.{AreOneEnd}
+use Rattle.loose_world.specs.Steps.{AllStep, ComesTo, StepsToStop, StepsToFault}
+use Rattle.loose_world.specs.proof.Steps.{StepsTo}
+use Rattle.loose_world.specs.proof.Ends.{AreOneEnd}
 use Rattle.loose_world.proofs.Faults.{one_fault}
 
 -- ---- one event

@@ -22,13 +22,14 @@ use Rattle.bus_machine.specs.States.{Run, opening, BusState, node_at, no_node}
 use Rattle.bus_machine.specs.Stops.{sent_rounds}
 use Rattle.bus_machine.specs.Machine.{BusEvent, IsStep}
 use Rattle.bus_machine.specs.Agreement.{PhaseAgrees}
-use Rattle.bus_machine.specs.Laws.{IsRunOf}
+use Rattle.bus_machine.specs.proof.Laws.{IsRunOf}
 use Rattle.bus_machine.specs.WorldTexts.{is_finish, sender, sends_of, finished_by}
-use Rattle.pals_bus.specs.Values.{BusValue, Happens, opening_bus}
-use Rattle.loose_world.specs.Counts.{steps_in_hand, steps_finished, is_send, IsCounted}
+use Rattle.pals_bus.specs.Values.{BusValue, Happens}
+use Rattle.pals_bus.specs.proof.Values.{opening_bus}
+use Rattle.loose_world.specs.proof.Counts.{steps_in_hand, steps_finished, is_send, IsCounted}
 use Rattle.loose_world.specs.Worlds.{InTurn}
-use Rattle.loose_world.specs.Histories.{Undergoes, IsLeftBy, IsReplayed}
-use Rattle.loose_world.specs.Senders.{with_sender, senders}
+use Rattle.loose_world.specs.proof.Histories.{Undergoes, IsLeftBy, IsReplayed}
+use Rattle.loose_world.specs.proof.Senders.{with_sender, senders}
 use Rattle.loose_world.proofs.Senders.{and_sender}
 use Rattle.loose_world.proofs.StepCounts.{step_counts}
 use Rattle.loose_world.proofs.Undergone.{stays_replayed, opens_replayed, events_replay}

@@ -3,12 +3,13 @@ use Rattle.std.proofs.Common.{ℕ, List, take, false}
 use Rattle.step_code.specs.declared.instr.CodeParts.{CodeParts}
 use Rattle.pals_runs.specs.declared.events.Event.{Event}
 use Rattle.bus_machine.specs.States.{Run}
-use Rattle.bus_machine.specs.Laws.{IsRunOf}
-use Rattle.pals_bus.specs.Values.{BusValue, opening_bus}
+use Rattle.bus_machine.specs.proof.Laws.{IsRunOf}
+use Rattle.pals_bus.specs.Values.{BusValue}
+use Rattle.pals_bus.specs.proof.Values.{opening_bus}
 use Rattle.loose_world.specs.declared.events.LooseEnd.{LooseEnd}
 use Rattle.loose_world.specs.declared.events.LooseEnd.TheVariants as end
 use Rattle.loose_world.specs.Worlds.{AllHappen, RunsLoosely}
-use Rattle.loose_world.specs.Histories.{IsReplayed}
+use Rattle.loose_world.specs.proof.Histories.{IsReplayed}
 use Rattle.loose_world.proofs.Undergone.{undergoes_loose, left_by_loose, stays_replayed, events_replay}
 
 all_replay : (run : Run) (programs : List CodeParts) (events : List Event) (t : BusValue) (lines : List (List ℕ)) → IsRunOf run

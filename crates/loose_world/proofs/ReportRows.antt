@@ -10,7 +10,7 @@ use Rattle.pals_model.specs.RoundTexts.{line_end, row_lines, text_of}
 use Rattle.bus_machine.specs.Nodes.{NodeState}
 use Rattle.bus_machine.specs.States.{node_at, no_node, finished_by_all}
 use Rattle.pals_bus.specs.Values.{BusValue}
-use Rattle.loose_world.specs.Finished.{part_of_round, lines_before}
+use Rattle.loose_world.specs.proof.Finished.{part_of_round, lines_before}
 
 -- ---- rows
 pub rows_more : (b : BusValue) (round : ℕ) → text_of (lines_before b (round + 1)) ≡ text_of (lines_before b round) ++ text_of (row_lines b.run.design (part_of_round b round) round)

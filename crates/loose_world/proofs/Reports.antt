@@ -11,7 +11,7 @@ use Rattle.pals_model.specs.RoundTexts.{row_lines, composed_lines, report_lines,
 use Rattle.pals_model.specs.Rules.{IsDesign}
 use Rattle.pals_runs.specs.declared.events.Event.{Event}
 use Rattle.bus_machine.specs.WorldTexts.{finished_by, part_shown, rounds_shown, sent_lines, world_rows, worldtext}
-use Rattle.loose_world.specs.Reports.{AllHaveFinished}
+use Rattle.loose_world.specs.proof.Reports.{AllHaveFinished}
 use Rattle.loose_world.proofs.WorldRows.{same_map, same_flat_map, same_row}
 
 -- the most of equal numbers

@@ -24,19 +24,20 @@ use Rattle.bus_machine.specs.States.{Run, BusState, node_at, flight_at}
 use Rattle.bus_machine.specs.Stops.{sent_rounds, rounds_sent_on}
 use Rattle.bus_machine.specs.Machine.{Send, IsStep, flight_after_send, after_send}
 use Rattle.bus_machine.specs.Agreement.{IsCopy, Agrees}
-use Rattle.bus_machine.specs.Laws.{IsRunOf}
+use Rattle.bus_machine.specs.proof.Laws.{IsRunOf}
 use Rattle.bus_machine.specs.WorldTexts.{sender, sends_of, sent_line, sent_lines}
 use Rattle.bus_machine.proofs.Arrivals.{step_keeps_agreement}
 use Rattle.bus_machine.proofs.Lists.{numbered_at, oldest_is_one}
 use Rattle.bus_machine.proofs.Nodes.{MaySend}
 use Rattle.bus_machine.proofs.States.{node_set}
 use Rattle.pals_report.specs.SentLines.{sent_line as line}
-use Rattle.pals_bus.specs.Values.{BusValue, Happens, opening_bus}
+use Rattle.pals_bus.specs.Values.{BusValue, Happens}
+use Rattle.pals_bus.specs.proof.Values.{opening_bus}
 use Rattle.loose_world.specs.Sent.{message_lines, copy_lines}
 use Rattle.loose_world.specs.Sent.{sent_lines as shown_lines}
 use Rattle.loose_world.specs.Worlds.{InTurn, told_by}
-use Rattle.loose_world.specs.Histories.{Undergoes, IsLeftBy, IsReplayed}
-use Rattle.loose_world.specs.Senders.{senders, HasSent}
+use Rattle.loose_world.specs.proof.Histories.{Undergoes, IsLeftBy, IsReplayed}
+use Rattle.loose_world.specs.proof.Senders.{senders, HasSent}
 use Rattle.loose_world.proofs.Histories.{sent_more, nothing_sent, rounds_are_sent}
 use Rattle.loose_world.proofs.Senders.{round_lines, event_lines, and_sender, one_event}
 use Rattle.loose_world.proofs.StepCounts.{sender_before, sender_is_there}

@@ -23,11 +23,11 @@ use Rattle.bus_machine.specs.States.{Run, BusState, node_at, flight_at, link_at,
 use Rattle.bus_machine.specs.Stops.{missing_link, sent_rounds}
 use Rattle.bus_machine.specs.Machine.{BusEvent, Start, Step, Finish, Send, Arrive, Drop, Repeat, IsStep, after, after_start, after_send, after_arrive, on_step, is_allowed}
 use Rattle.bus_machine.specs.Agreement.{PhaseAgrees, Agrees}
-use Rattle.bus_machine.specs.Laws.{IsRunOf}
+use Rattle.bus_machine.specs.proof.Laws.{IsRunOf}
 use Rattle.bus_machine.proofs.Nodes.{finish_keeps, MaySend, may_send_of}
 use Rattle.bus_machine.proofs.States.{is_component}
-use Rattle.loose_world.specs.Counts.{steps_in_hand, steps_finished, IsCounted}
-use Rattle.loose_world.specs.Histories.{event_of}
+use Rattle.loose_world.specs.proof.Counts.{steps_in_hand, steps_finished, IsCounted}
+use Rattle.loose_world.specs.proof.Histories.{event_of}
 use Rattle.loose_world.proofs.Moves.{grows_at, stays_at}
 
 -- ---- the two quantities

@@ -9,12 +9,14 @@ use Rattle.pals_runs.specs.declared.journal.Stop.{Stop}
 use Rattle.bus_machine.specs.States.{Run, opening}
 use Rattle.bus_machine.specs.Machine.{BusEvent, is_allowed, IsStep}
 use Rattle.bus_machine.specs.Replay.{entries}
-use Rattle.pals_bus.specs.Values.{BusValue, Happens, opening_bus}
+use Rattle.pals_bus.specs.Values.{BusValue, Happens}
+use Rattle.pals_bus.specs.proof.Values.{opening_bus}
 use Rattle.pals_bus.specs.Loose.{IsRefused}
 use Rattle.loose_world.specs.declared.events.LooseEnd.{LooseEnd}
 use Rattle.loose_world.specs.declared.events.LooseEnd.TheVariants as end
 use Rattle.loose_world.specs.Worlds.{AllHappen, StopsAt, IsRefusedAt, RunsLoosely}
-use Rattle.loose_world.specs.Steps.{AllStep, StepsToStop, StepsToFault, StepsTo}
+use Rattle.loose_world.specs.Steps.{AllStep, StepsToStop, StepsToFault}
+use Rattle.loose_world.specs.proof.Steps.{StepsTo}
 
 -- the steps of a bus, and what they add to its journal
 record AreSteps (s t : BusValue) (events : List Event) : Type 0 where

@@ -6,13 +6,14 @@ use Rattle.pals_runs.specs.declared.events.Event.{Event}
 use Rattle.pals_runs.specs.declared.journal.Stop.{Stop}
 use Rattle.bus_machine.specs.States.{Run, finished_by_all}
 use Rattle.bus_machine.specs.Agreement.{Agrees}
-use Rattle.bus_machine.specs.Laws.{IsRunOf}
+use Rattle.bus_machine.specs.proof.Laws.{IsRunOf}
 use Rattle.bus_machine.specs.WorldTexts.{sent_lines, world_rows, worldtext}
-use Rattle.pals_bus.specs.Values.{BusValue, opening_bus}
-use Rattle.loose_world.specs.Finished.{finished_lines, common_lines}
+use Rattle.pals_bus.specs.Values.{BusValue}
+use Rattle.pals_bus.specs.proof.Values.{opening_bus}
+use Rattle.loose_world.specs.proof.Finished.{finished_lines, common_lines}
 use Rattle.loose_world.specs.declared.events.LooseEnd.TheVariants as end
 use Rattle.loose_world.specs.Worlds.{Tells}
-use Rattle.loose_world.specs.Histories.{IsLeftBy, IsReplayed}
+use Rattle.loose_world.specs.proof.Histories.{IsLeftBy, IsReplayed}
 use Rattle.loose_world.proofs.Turns.{text_more}
 use Rattle.loose_world.proofs.Undergone.{left_by_loose}
 use Rattle.loose_world.proofs.Journals.{journal_replays}

@@ -8,13 +8,14 @@ use Rattle.pals_runs.specs.declared.events.Event.TheVariants as event
 use Rattle.pals_runs.specs.declared.journal.JournalEntry.{JournalEntry}
 use Rattle.bus_machine.specs.States.{Run}
 use Rattle.bus_machine.specs.Machine.{BusEvent, Start, Step, Finish, Send, Arrive, Drop, Repeat, IsStep}
-use Rattle.bus_machine.specs.Laws.{IsRunOf}
+use Rattle.bus_machine.specs.proof.Laws.{IsRunOf}
 use Rattle.bus_machine.specs.Replay.{Replays, opens, goes_on, entries}
 use Rattle.bus_machine.proofs.Arrivals.{opening_agrees, step_keeps_agreement}
-use Rattle.pals_bus.specs.Values.{BusValue, Happens, opening_bus}
+use Rattle.pals_bus.specs.Values.{BusValue, Happens}
+use Rattle.pals_bus.specs.proof.Values.{opening_bus}
 use Rattle.pals_bus.specs.Loose.{loose_event, HappensLoose, GoesOn}
 use Rattle.loose_world.specs.Worlds.{InTurn, AllHappen}
-use Rattle.loose_world.specs.Histories.{event_of, Makes, Undergoes, IsLeftBy, IsReplayed}
+use Rattle.loose_world.specs.proof.Histories.{event_of, Makes, Undergoes, IsLeftBy, IsReplayed}
 use Rattle.loose_world.proofs.Turns.{turns_weaker}
 
 -- ---- events of loose worlds

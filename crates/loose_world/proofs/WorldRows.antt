@@ -18,11 +18,11 @@ use Rattle.bus_machine.specs.Plans.{component_at, no_component}
 use Rattle.bus_machine.specs.Nodes.{NodeState}
 use Rattle.bus_machine.specs.States.{Run, BusState, node_at, no_node, finished_by_all}
 use Rattle.bus_machine.specs.Agreement.{Agrees}
-use Rattle.bus_machine.specs.Laws.{IsRunOf}
+use Rattle.bus_machine.specs.proof.Laws.{IsRunOf}
 use Rattle.bus_machine.specs.WorldTexts.{finished_by, part_shown, rounds_shown, world_rows}
 use Rattle.pals_bus.specs.Values.{BusValue}
-use Rattle.loose_world.specs.Finished.{part_of_round, finished, finished_lines, common_lines}
-use Rattle.loose_world.specs.Histories.{IsLeftBy}
+use Rattle.loose_world.specs.proof.Finished.{part_of_round, finished, finished_lines, common_lines}
+use Rattle.loose_world.specs.proof.Histories.{IsLeftBy}
 use Rattle.loose_world.proofs.Histories.{rounds_are_finished}
 use Rattle.loose_world.proofs.Undergone.{events_replay}
 

@@ -1,11 +1,4 @@
-pub mod Finished
 pub mod Sent
 pub mod Worlds
-pub mod Counts
-pub mod Histories
-pub mod Senders
-pub mod Journals
-pub mod Reports
-pub mod WorldLaws
 pub mod Steps
-pub mod Ends
+pub mod proof

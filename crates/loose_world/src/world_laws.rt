@@ -1,12 +1,12 @@
 //! Laws of lists of events, with readings or without, and of loose worlds. The functions do nothing: their
 //! contracts are the laws.
-ghost use Rattle.loose_world.specs.WorldLaws.{StepCounts, EventsReplay, RoundsAreFinished, RoundsAreSent, FinishedRows};
-ghost use Rattle.loose_world.specs.WorldLaws.{CommonRows, RoundsWithoutNodes, SendsAreInFlight, LinesAreTold};
-ghost use Rattle.loose_world.specs.WorldLaws.{WorldIsTold, TextIsTold, StopIsTold};
-ghost use Rattle.loose_world.specs.Journals.{JournalReplays};
-ghost use Rattle.loose_world.specs.Reports.{WorldIsReported, WorldTextIsReported};
-ghost use Rattle.loose_world.specs.Steps.{EventsAreSteps};
-ghost use Rattle.loose_world.specs.Ends.{OneEnd};
+ghost use Rattle.loose_world.specs.proof.WorldLaws.{StepCounts, EventsReplay, RoundsAreFinished, RoundsAreSent, FinishedRows};
+ghost use Rattle.loose_world.specs.proof.WorldLaws.{CommonRows, RoundsWithoutNodes, SendsAreInFlight, LinesAreTold};
+ghost use Rattle.loose_world.specs.proof.WorldLaws.{WorldIsTold, TextIsTold, StopIsTold};
+ghost use Rattle.loose_world.specs.proof.Journals.{JournalReplays};
+ghost use Rattle.loose_world.specs.proof.Reports.{WorldIsReported, WorldTextIsReported};
+ghost use Rattle.loose_world.specs.proof.Steps.{EventsAreSteps};
+ghost use Rattle.loose_world.specs.proof.Ends.{OneEnd};
 
 /// A finish adds one to the steps that its node has finished, a send one to the rounds that its node
 /// has sent, and every other event leaves both.

@@ -20,7 +20,7 @@ use Rattle.aadl_instance.specs.Instances.{IsInstance}
 use Rattle.component_checks.specs.PropertyLookup.{sub_of, innermost}
 use Rattle.model_violations.specs.Ports.{component_of}
 use Rattle.model_violations.proofs.Flats.{is_small}
-use Rattle.model_checks.specs.Limits.{IsWithinLimits}
+use Rattle.model_checks.specs.proof.Limits.{IsWithinLimits}
 
 -- ---- the innermost subcomponent of a path
 last_of : {X : Type 0} (xs : List X) (x : X) → slice_get (xs ++ x ∷ []) (length (xs ++ x ∷ []) - 1) ≡ Some x

@@ -1,10 +1,10 @@
 //! The design of an instance.
 ghost use Rattle.std.specs.Prelude.{◌≡◌, IfOk, All, MatchOption, map};
-ghost use Rattle.aadl_tree.specs.PackageViews.{placed};
-ghost use Rattle.model_violations.specs.Violations.{shown};
+ghost use Rattle.aadl_tree.specs.proof.PackageViews.{placed};
+ghost use Rattle.model_violations.specs.proof.Violations.{shown};
 ghost use Rattle.design_laws.specs.Designs as spec;
-ghost use Rattle.model_checks.specs.Limits.{IsWithinLimits};
-ghost use Rattle.model_checks.specs.Refused.{HasNoDesign};
+ghost use Rattle.model_checks.specs.proof.Limits.{IsWithinLimits};
+ghost use Rattle.model_checks.specs.proof.Refused.{HasNoDesign};
 
 use aadl_instance::{Chain, ChainEnd, Instance, ThreadAt};
 use aadl_names::Names;

@@ -1,9 +1,10 @@
 //! From an instance to its design.
 ghost use Rattle.std.specs.Prelude.{◌≡◌, [], IfOk, IfErr};
-ghost use Rattle.aadl_tree.specs.PackageViews.{placed};
-ghost use Rattle.model_violations.specs.Violations.{shown, AreViolations};
+ghost use Rattle.aadl_tree.specs.proof.PackageViews.{placed};
+ghost use Rattle.model_violations.specs.proof.Violations.{shown};
+ghost use Rattle.model_violations.specs.Violations.{AreViolations};
 ghost use Rattle.design_laws.specs.Designs.{IsDesignOf};
-ghost use Rattle.model_checks.specs.Refused.{IsRefused};
+ghost use Rattle.model_checks.specs.proof.Refused.{IsRefused};
 
 use crate::design::design_parts;
 use aadl_instance::Instance;

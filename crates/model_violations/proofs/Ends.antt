@@ -4,7 +4,7 @@ use Rattle.std.specs.Option.{option_and_then}
 use Rattle.std.proofs.lemmas.Option.{none-some, same_Some}
 use Rattle.aadl_tree.specs.Names.{Identifier}
 use Rattle.aadl_tree.specs.Declarations.{Subcomponent, ConnectionEnd, Implementation, Declaration, type, implementation, PackageTree}
-use Rattle.aadl_names.specs.Members.{member_of}
+use Rattle.aadl_names.specs.proof.Members.{member_of}
 use Rattle.aadl_names.specs.declared.site.Site.TheVariants.{Own, Inner}
 use Rattle.aadl_names.specs.Resolving.{implementation_in, implementation_at, subcomponents_of, referred, target_of, port_named, sub_named}
 use Rattle.aadl_names.specs.Resolving.{ports_at, inner_ports, inner_site, site_by, site}

@@ -13,7 +13,7 @@ use Rattle.aadl_tree.specs.Declarations.{Implementation, PackageTree}
 use Rattle.aadl_names.specs.declared.fault.FlatFault.TheVariants.{TooMany}
 use Rattle.aadl_names.specs.Behaviours as names
 use Rattle.aadl_names.specs.Resolving.{is_root, is_thread, first_number, implementation_at, ports_of}
-use Rattle.aadl_names.specs.DeclaredTwice.{first_behaviour}
+use Rattle.aadl_names.specs.Behaviours.{first_behaviour}
 use Rattle.aadl_instance.specs.Parts.{count_in, variable_count}
 use Rattle.aadl_uses.specs.Uses.{standing, component_at, IsInUse}
 use Rattle.aadl_uses.specs.Threads.{IsThreadOf}

@@ -4,9 +4,10 @@ use Rattle.aadl_tree.specs.Names.{same_name}
 use Rattle.std.specs.List.{list_any}
 use Rattle.std.specs.Option.{is_some, option_or}
 use Rattle.std.proofs.lemmas.List.Folds.{list_any-append}
-use Rattle.aadl_names.specs.Tables.{value_of}
+use Rattle.aadl_names.specs.proof.Tables.{value_of}
 use Rattle.aadl_names.proofs.Finds.{first_left, none_left}
-use Rattle.model_violations.specs.Ignored.{behind, all_behind, KnowsAll}
+use Rattle.model_violations.specs.Ignored.{behind, all_behind}
+use Rattle.model_violations.specs.proof.Ignored.{KnowsAll}
 
 -- ---- the first of the names that are left
 new_behind : (first : List (List ℕ)) (x : List ℕ) → list_any (same_name x) first ≡ false → behind first x ≡ first ++ x ∷ []

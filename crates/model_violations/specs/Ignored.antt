@@ -1,17 +1,16 @@
 -- The names of properties that mean nothing where they stand, over the whole package.
-use Rattle.std.specs.Prelude.{◌≡◌, ℕ, nat_eq, Bool, false, not, ◌&&◌, List, [], ◌∷◌, ◌++◌, flat_map, Option, Some, None, if◌then◌else◌}
+use Rattle.std.specs.Prelude.{ℕ, nat_eq, Bool, false, not, ◌&&◌, List, [], ◌∷◌, ◌++◌, flat_map, Option, Some, None, if◌then◌else◌}
 use Rattle.aadl_tree.specs.Names.{same_name}
 use Rattle.std.specs.List.{list_any, enumerate_from}
-use Rattle.std.specs.Option.{is_some, option_and_then}
+use Rattle.std.specs.Option.{option_and_then}
 use Rattle.aadl_tree.specs.Values.{Association, Associations}
 use Rattle.aadl_tree.specs.Annexes.{VariableDeclaration, Annex}
 use Rattle.aadl_tree.specs.Declarations.{Feature, Subcomponent, Connection, TypeDeclaration, Implementation, Declaration, type, implementation, PackageTree}
 use Rattle.aadl_names.specs.declared.holder.Holder.{Holder}
-use Rattle.aadl_names.specs.declared.holder.Holder.TheVariants as holders
-use Rattle.aadl_names.specs.Tables.{value_of}
 use Rattle.aadl_names.specs.Behaviours.{variables_in}
 use Rattle.aadl_names.specs.Properties.{listed, counts, is_named, name_of, recognised, association_name}
 use Rattle.aadl_names.specs.Resolving.{implementation_at, type_number}
+use Rattle.aadl_names.specs.declared.holder.Holder.TheVariants as holders
 
 -- it applies elsewhere, or is not recognised at such a place
 abbrev pub is_ignored : Holder → Association ℕ → Bool
@@ -69,10 +68,6 @@ behind names x = if list_any (same_name x) names then names else names ++ x ∷ 
 abbrev pub all_behind : List (List ℕ) → List (List ℕ) → List (List ℕ)
 all_behind names [] = names
 all_behind names (x ∷ xs) = all_behind (behind names x) xs
-
--- a table has the names of a list
-abbrev pub KnowsAll : List (List ℕ × ℕ) → List (List ℕ) → Type 0
-KnowsAll table names = (name : List ℕ) → is_some (value_of table name) ≡ list_any (same_name name) names
 
 abbrev pub ignored_names : PackageTree ℕ → ℕ → List (List ℕ)
 ignored_names tree root = all_behind [] (flat_map (declaration_ignored root (root_type tree root)) (enumerate_from 0 tree.declarations))

@@ -2,10 +2,10 @@ pub mod Values
 pub mod Threads
 pub mod Ignored
 pub mod Use
-pub mod Known
 pub mod Declarations
 pub mod Violations
 pub mod Ports
 pub mod Carriers
 pub mod Chains
 pub mod Connections
+pub mod proof

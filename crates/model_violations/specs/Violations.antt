@@ -1,10 +1,9 @@
 -- All that is wrong with an instance, in order of place, then of number.
-use Rattle.std.specs.Prelude.{◌≡◌, ℕ, nat_eq, nat_lt, Bool, ◌&&◌, ◌||◌, List, ◌++◌, map, flat_map, Option}
+use Rattle.std.specs.Prelude.{ℕ, nat_eq, nat_lt, Bool, ◌&&◌, ◌||◌, List, ◌++◌, map, flat_map, Option}
 use Rattle.std.specs.List.Sorted.{IsSortedBy, IsStableBy}
 use Rattle.aadl_tree.specs.Declarations.{PackageTree}
 use Rattle.aadl_uses.specs.declared.thread_places.ThreadAt.{ThreadAt}
 use Rattle.aadl_instance.specs.declared.parts.Chain.{Chain}
-use Rattle.aadl_instance.specs.declared.instance.Instance.{Instance}
 use Rattle.aadl_instance.specs.Flat.{Parts}
 use Rattle.aadl_instance.specs.Instances.{chain_at}
 use Rattle.aadl_uses.specs.ThreadPlaces.{thread_at}
@@ -23,9 +22,6 @@ pub record Shown : Type 0 where
   pub links : List Chain
   pub feeds : List Chain
   pub taps : List Chain
-
-abbrev pub shown : Instance → Shown
-shown x = record { root = x.root; threads = x.threads; links = x.links; feeds = x.feeds; taps = x.taps }
 
 -- what the instance of a flattened design shows
 abbrev pub shown_by : PackageTree ℕ → Parts → Shown
@@ -62,18 +58,6 @@ unfoldable pub findings : PackageTree ℕ → Shown → (ℕ → Bool) → List 
 findings tree s used =
     root_findings tree s.root (greatest_rate (rates_of tree s)) ++ flat_map (thread_findings tree s.root) s.threads
     ++ chain_findings tree s (rates_of tree s) ++ used_findings tree s used
-
--- the list with the findings of the declarations in use behind it
-pub record AddUsed (tree : PackageTree ℕ) (s : Shown) (old new : List Violation) : Type 0 where
-  pub used : ℕ → Bool
-  pub is_use : IsUse tree s.root used
-  pub added : new ≡ old ++ used_findings tree s used
-
--- all findings
-pub record AreFindings (tree : PackageTree ℕ) (s : Shown) (list : List Violation) : Type 0 where
-  pub used : ℕ → Bool
-  pub is_use : IsUse tree s.root used
-  pub all : list ≡ findings tree s used
 
 -- ---- by place, then by number
 abbrev pub goes_before : Violation → Violation → Bool

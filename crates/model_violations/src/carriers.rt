@@ -1,9 +1,9 @@
 //! What connections say, and which of them carry chains.
 ghost use Rattle.std.specs.Prelude.{◌≡◌, IfSome, option_map, option_copied};
-ghost use Rattle.aadl_tree.specs.Maps.{kept_place};
-ghost use Rattle.aadl_tree.specs.PackageViews.{placed};
-ghost use Rattle.aadl_tree.specs.Views.{connection_view};
-ghost use Rattle.component_checks.specs.Carried.{carried_by};
+ghost use Rattle.aadl_tree.specs.proof.Maps.{kept_place};
+ghost use Rattle.aadl_tree.specs.proof.PackageViews.{placed};
+ghost use Rattle.aadl_tree.specs.proof.Views.{connection_view};
+ghost use Rattle.component_checks.specs.proof.Carried.{carried_by};
 ghost use Rattle.model_violations.specs.Carriers as spec;
 
 use aadl_instance::ConnAt;

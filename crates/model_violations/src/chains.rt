@@ -1,9 +1,9 @@
 //! What is wrong with links, feeds and taps.
 ghost use Rattle.std.specs.Prelude.{◌≡◌, ◌<◌, ◌++◌, ℕ, OnOk, Some, slice_get};
-ghost use Rattle.aadl_tree.specs.Maps.{kept_place};
-ghost use Rattle.aadl_tree.specs.PackageViews.{placed};
-ghost use Rattle.aadl_tree.specs.Views.{connection_view};
-ghost use Rattle.component_checks.specs.Carried.{carried_by};
+ghost use Rattle.aadl_tree.specs.proof.Maps.{kept_place};
+ghost use Rattle.aadl_tree.specs.proof.PackageViews.{placed};
+ghost use Rattle.aadl_tree.specs.proof.Views.{connection_view};
+ghost use Rattle.component_checks.specs.proof.Carried.{carried_by};
 ghost use Rattle.model_violations.specs.Chains as spec;
 
 use crate::carriers::carrier_of;

@@ -1,18 +1,18 @@
 //! What is wrong with the connections of an implementation, whatever they carry.
 ghost use Rattle.std.specs.Prelude.{◌≡◌, ◌||◌, ◌++◌, ℕ, IfOk, OnOk, Some, option_map, option_copied, slice_get, string_bytes};
 ghost use Rattle.std.specs.Option.{option_and_then};
-ghost use Rattle.aadl_tree.specs.Maps.{kept_place};
+ghost use Rattle.aadl_tree.specs.proof.Maps.{kept_place};
 ghost use Rattle.aadl_tree.specs.Declarations as trees;
 ghost use Rattle.aadl_tree.specs.Declarations.{implementation};
-ghost use Rattle.aadl_tree.specs.NameViews.{identifier_view};
-ghost use Rattle.aadl_tree.specs.PackageViews.{placed};
-ghost use Rattle.aadl_tree.specs.Views.{connection_view, end_view, feature_view, implementation_view};
+ghost use Rattle.aadl_tree.specs.proof.NameViews.{identifier_view};
+ghost use Rattle.aadl_tree.specs.proof.PackageViews.{placed};
+ghost use Rattle.aadl_tree.specs.proof.Views.{connection_view, end_view, feature_view, implementation_view};
 ghost use Rattle.aadl_names.specs.Resolving.{features_of, implementation_at, ports_at, type_numbered};
 ghost use Rattle.aadl_uses.specs.Uses.{below};
-ghost use Rattle.component_checks.specs.Carried.{carried_by};
+ghost use Rattle.component_checks.specs.proof.Carried.{carried_by};
 ghost use Rattle.model_violations.specs.Carriers.{carries};
 ghost use Rattle.model_violations.specs.Connections as spec;
-ghost use Rattle.model_violations.specs.Known.{tree_of, IsKnown};
+ghost use Rattle.model_violations.specs.proof.Known.{tree_of, IsKnown};
 
 use crate::carriers::Carriers;
 use crate::known::{Known, type_at, type_below};

@@ -1,16 +1,16 @@
 //! What is wrong with the declarations that are in use.
 ghost use Rattle.std.specs.Prelude.{◌≡◌, ◌++◌, true, IfOk, OnOk, Some, slice_get, map, flat_map};
-ghost use Rattle.aadl_tree.specs.Maps.{kept_place};
-ghost use Rattle.aadl_tree.specs.PackageViews.{placed};
+ghost use Rattle.aadl_tree.specs.proof.Maps.{kept_place};
+ghost use Rattle.aadl_tree.specs.proof.PackageViews.{placed};
 ghost use Rattle.aadl_tree.specs.Declarations.{implementation};
-ghost use Rattle.aadl_tree.specs.Views.{declaration_view, implementation_view, subcomponent_view, type_view};
+ghost use Rattle.aadl_tree.specs.proof.Views.{declaration_view, implementation_view, subcomponent_view, type_view};
 ghost use Rattle.aadl_names.specs.Resolving.{is_thread};
 ghost use Rattle.model_violations.specs.Threads.{IsSmall};
 ghost use Rattle.model_violations.specs.Ignored.{is_root_type};
 ghost use Rattle.model_violations.specs.Carriers.{carries};
 ghost use Rattle.model_violations.specs.Use.{has};
 ghost use Rattle.model_violations.specs.Declarations as spec;
-ghost use Rattle.model_violations.specs.Known.{tree_of, IsKnown};
+ghost use Rattle.model_violations.specs.proof.Known.{tree_of, IsKnown};
 
 use crate::carriers::Carriers;
 use crate::connections::add_connections_findings;

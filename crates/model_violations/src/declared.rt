@@ -1,7 +1,7 @@
 //! What a thread declares.
 ghost use Rattle.std.specs.Prelude.{◌≡◌, ◌∷◌, ◌++◌, [], IfOk, OnOk, if◌then◌else◌, map};
-ghost use Rattle.aadl_tree.specs.Maps.{kept_place};
-ghost use Rattle.aadl_tree.specs.Views.{feature_view};
+ghost use Rattle.aadl_tree.specs.proof.Maps.{kept_place};
+ghost use Rattle.aadl_tree.specs.proof.Views.{feature_view};
 ghost use Rattle.model_violations.specs.Values as spec;
 
 use aadl_tree::Feature;

@@ -1,7 +1,7 @@
 //! The properties of a package that mean nothing where they stand.
 ghost use Rattle.std.specs.Prelude.{◌≡◌, ◌++◌, IfOk, OnOk, flat_map};
 ghost use Rattle.std.specs.List.{enumerate_from};
-ghost use Rattle.aadl_tree.specs.PackageViews.{placed};
+ghost use Rattle.aadl_tree.specs.proof.PackageViews.{placed};
 ghost use Rattle.model_violations.specs.Ignored as spec;
 
 use crate::ignored_declarations::add_declaration;

@@ -1,12 +1,12 @@
 //! What is looked up once, before the connections of a package.
 ghost use Rattle.std.specs.Prelude.{◌≡◌, IfOk, map};
 ghost use Rattle.std.specs.Option.{option_and_then};
-ghost use Rattle.aadl_tree.specs.Maps.{kept_place};
-ghost use Rattle.aadl_tree.specs.PackageViews.{placed};
-ghost use Rattle.aadl_tree.specs.Views.{declaration_view};
+ghost use Rattle.aadl_tree.specs.proof.Maps.{kept_place};
+ghost use Rattle.aadl_tree.specs.proof.PackageViews.{placed};
+ghost use Rattle.aadl_tree.specs.proof.Views.{declaration_view};
 ghost use Rattle.aadl_uses.specs.Uses.{below};
-ghost use Rattle.model_violations.specs.Known as spec;
-ghost use Rattle.model_violations.specs.Known.{tree_of, IsKnown};
+ghost use Rattle.model_violations.specs.proof.Known as spec;
+ghost use Rattle.model_violations.specs.proof.Known.{tree_of, IsKnown};
 ghost use Rattle.model_violations.specs.Use.{own_type};
 
 use crate::usage::own_type;

@@ -1,10 +1,11 @@
 //! The list of all that is wrong with an instance.
 ghost use Rattle.std.specs.Prelude.{◌≡◌, ◌<◌, ◌++◌, ◌||◌, ℕ, IfOk, OnOk, Some, map, flat_map, slice_get};
-ghost use Rattle.aadl_tree.specs.PackageViews.{placed};
+ghost use Rattle.aadl_tree.specs.proof.PackageViews.{placed};
 ghost use Rattle.component_checks.specs.Threads as threads_spec;
 ghost use Rattle.model_violations.specs.Carriers.{carries};
 ghost use Rattle.model_violations.specs.Chains.{link_findings, feed_findings, tap_findings};
 ghost use Rattle.model_violations.specs.Violations as spec;
+ghost use Rattle.model_violations.specs.proof.Violations as inner;
 
 use crate::carriers::Carriers;
 use crate::chains::{add_feed_findings, add_link_findings, add_tap_findings};
@@ -66,7 +67,7 @@ fn add_carriers(carriers: &mut Carriers, chains: &[Chain]) -> Result<(), NoMemor
 
 // The connections that carry links, feeds and taps.
 fn carriers_of(alloc: Global, instance: &Instance<'_>) -> Result<Carriers, NoMemory>
-    ensures { IfOk result (λ carriers. (n i : ℕ) → carries carriers n i ≡ carries (spec.carriers_of (spec.shown instance.now)) n i) }
+    ensures { IfOk result (λ carriers. (n i : ℕ) → carries carriers n i ≡ carries (spec.carriers_of (inner.shown instance.now)) n i) }
 {
     let mut carriers = Carriers::new(alloc);
     add_carriers(&mut carriers, instance.links.as_slice())?;
@@ -137,7 +138,7 @@ fn add_chain_findings(
 ) -> Result<(), NoMemory>
     requires { (n k : ℕ) → slice_get rates.now n ≡ Some (Some k) → 0 < k }
     ensures { OnOk result (found.new ≡ found.old
-        ++ spec.chain_findings (placed properties.now.names.tree.now) (spec.shown instance.now) rates.now) }
+        ++ spec.chain_findings (placed properties.now.names.tree.now) (inner.shown instance.now) rates.now) }
 {
     let threads = instance.threads.as_slice();
     add_links_findings(
@@ -167,7 +168,7 @@ fn add_used_findings(
     found: &mut Items<Violation>,
 ) -> Result<(), NoMemory>
     requires { names.now.tree.now ≡ instance.now.tree.now }
-    ensures { OnOk result (spec.AddUsed (placed names.now.tree.now) (spec.shown instance.now) found.old found.new) }
+    ensures { OnOk result (inner.AddUsed (placed names.now.tree.now) (inner.shown instance.now) found.old found.new) }
 {
     let root = instance.root;
     let uses = Uses::of(alloc, names)?;
@@ -191,7 +192,7 @@ fn findings_of(
     instance: &Instance<'_>,
 ) -> Result<Items<Violation>, NoMemory>
     requires { properties.now.names.tree.now ≡ instance.now.tree.now }
-    ensures { IfOk result (λ list. spec.AreFindings (placed instance.now.tree.now) (spec.shown instance.now) list) }
+    ensures { IfOk result (λ list. inner.AreFindings (placed instance.now.tree.now) (inner.shown instance.now) list) }
 {
     let mut found = Items::new(alloc);
     let names = &properties.names;
@@ -214,7 +215,7 @@ pub fn violations_by(
     instance: &Instance<'_>,
 ) -> Result<Items<Violation>, NoMemory>
     requires { properties.now.names.tree.now ≡ instance.now.tree.now }
-    ensures { IfOk result (λ list. spec.AreViolations (placed instance.now.tree.now) (spec.shown instance.now) list) }
+    ensures { IfOk result (λ list. spec.AreViolations (placed instance.now.tree.now) (inner.shown instance.now) list) }
 {
     let found = findings_of(alloc, properties, instance)?;
     let list = in_order(found)?;
@@ -223,7 +224,7 @@ pub fn violations_by(
 
 /// All that is wrong with an instance, in order of place, then of number.
 pub fn violations(alloc: Global, instance: &Instance<'_>) -> Result<Items<Violation>, NoMemory>
-    ensures { IfOk result (λ list. spec.AreViolations (placed instance.now.tree.now) (spec.shown instance.now) list) }
+    ensures { IfOk result (λ list. spec.AreViolations (placed instance.now.tree.now) (inner.shown instance.now) list) }
 {
     let names = Names::of(alloc, instance.tree)?;
     let properties = Properties::of(alloc, names)?;

@@ -1,8 +1,8 @@
 //! The ports at which chains end.
 ghost use Rattle.std.specs.Prelude.{◌≡◌, ◌<◌, ℕ, IfOk, Some, filter, map, option_map, option_copied, slice_get};
-ghost use Rattle.aadl_tree.specs.Maps.{kept_place};
-ghost use Rattle.aadl_tree.specs.PackageViews.{placed};
-ghost use Rattle.aadl_tree.specs.Views.{feature_view, implementation_view};
+ghost use Rattle.aadl_tree.specs.proof.Maps.{kept_place};
+ghost use Rattle.aadl_tree.specs.proof.PackageViews.{placed};
+ghost use Rattle.aadl_tree.specs.proof.Views.{feature_view, implementation_view};
 ghost use Rattle.component_checks.specs.Types.{is_in};
 ghost use Rattle.model_violations.specs.Ports as spec;
 

@@ -1,6 +1,7 @@
 //! Names, each once, as it is first spelled.
 ghost use Rattle.std.specs.Prelude.{◌≡◌, [], IfOk, OnOk};
 ghost use Rattle.model_violations.specs.Ignored as spec;
+ghost use Rattle.model_violations.specs.proof.Ignored as inner;
 
 use aadl_names::table::Table;
 use pals_base::{Items, NoMemory, Text, TryClone};
@@ -13,9 +14,9 @@ fn add_first(
     numbers: &mut Table<usize>,
     first: &mut Items<Text>,
 ) -> Result<(), NoMemory>
-    requires { spec.KnowsAll numbers.old first.old }
+    requires { inner.KnowsAll numbers.old first.old }
     ensures first { OnOk result (first.new ≡ spec.behind first.old name.now) }
-    ensures known { OnOk result (spec.KnowsAll numbers.new first.new) }
+    ensures known { OnOk result (inner.KnowsAll numbers.new first.new) }
 {
     let text = name.as_str();
     let known = numbers.value(alloc, text)?;

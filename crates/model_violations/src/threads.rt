@@ -1,9 +1,9 @@
 //! The behaviour of a thread's implementation.
 ghost use Rattle.std.specs.Prelude.{◌≡◌, ◌++◌, ◌≤◌, IfOk, OnOk, length, map, option_map, slice_get, Some};
 ghost use Rattle.pals_base.specs.declared.limits.TheConstants.{PORTS, VARIABLES};
-ghost use Rattle.aadl_tree.specs.Maps.{kept_place};
-ghost use Rattle.aadl_tree.specs.PackageViews.{placed};
-ghost use Rattle.aadl_tree.specs.Views.{annex_view, annex_tree_view, feature_view, implementation_view};
+ghost use Rattle.aadl_tree.specs.proof.Maps.{kept_place};
+ghost use Rattle.aadl_tree.specs.proof.PackageViews.{placed};
+ghost use Rattle.aadl_tree.specs.proof.Views.{annex_view, annex_tree_view, feature_view, implementation_view};
 ghost use Rattle.aadl_names.specs.Behaviours.{behaviour_in, behaviours};
 ghost use Rattle.aadl_names.specs.Resolving.{ports_of};
 ghost use Rattle.model_violations.specs.Threads as spec;

@@ -1,8 +1,8 @@
 //! Which declarations are in use below the root.
 ghost use Rattle.std.specs.Prelude.{◌≡◌, ◌<◌, ◌||◌, ℕ, IfOk, OnOk, length};
-ghost use Rattle.aadl_tree.specs.Maps.{kept_place};
-ghost use Rattle.aadl_tree.specs.PackageViews.{placed};
-ghost use Rattle.aadl_tree.specs.Views.{declaration_view};
+ghost use Rattle.aadl_tree.specs.proof.Maps.{kept_place};
+ghost use Rattle.aadl_tree.specs.proof.PackageViews.{placed};
+ghost use Rattle.aadl_tree.specs.proof.Views.{declaration_view};
 ghost use Rattle.model_violations.specs.Ignored.{is_number};
 ghost use Rattle.model_violations.specs.Use.{has, IsUse, own_type, type_used, uses_type};
 

@@ -7,11 +7,11 @@ use Rattle.aadl_tree.specs.Declarations.{Implementation, PackageTree}
 use Rattle.aadl_names.specs.declared.fault.FlatFault.{FlatFault}
 use Rattle.aadl_names.specs.declared.fault.FlatFault.TheVariants.{WrongKind}
 use Rattle.aadl_names.specs.Behaviours.{behaviours}
-use Rattle.aadl_names.specs.Found.{found}
+use Rattle.aadl_names.specs.proof.Found.{found}
 use Rattle.aadl_names.specs.Resolving.{is_thread}
 use Rattle.aadl_names.specs.PackageFaults.{behaviour_faults, annex_faults}
 use Rattle.aadl_names.proofs.Finds.{first_left, none_left, found_append}
-use Rattle.name_faults.specs.Expected.{annex_uses, still_expected, behaviours_left}
+use Rattle.name_faults.specs.proof.Expected.{annex_uses, still_expected, behaviours_left}
 
 -- each behaviour that is left is too many
 all_left : (tree : PackageTree ℕ) (x : Implementation ℕ) (bs : List (ℕ × AnnexTree ℕ)) → behaviours_left tree x false bs ≡ map (λ c. WrongKind c.0) bs

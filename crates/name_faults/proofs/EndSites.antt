@@ -3,7 +3,7 @@ use Rattle.std.proofs.Common.{◌≡◌, ℕ, Some, None, slice_get, option_map,
 use Rattle.std.specs.Option.{option_and_then}
 use Rattle.aadl_tree.specs.Names.{Identifier}
 use Rattle.aadl_tree.specs.Declarations.{ConnectionEnd, Implementation, implementation, PackageTree}
-use Rattle.aadl_names.specs.Members.{member_of}
+use Rattle.aadl_names.specs.proof.Members.{member_of}
 use Rattle.aadl_names.specs.declared.site.Site.TheVariants.{Own}
 use Rattle.aadl_names.specs.PackageFaults.{sited}
 use Rattle.aadl_names.specs.Resolving.{ports_of, port_named, inner_site, site_by, site, with_direction}

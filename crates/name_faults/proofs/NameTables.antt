@@ -2,7 +2,7 @@
 use Rattle.std.proofs.Common.{◌≡◌, ℕ, ◌+◌, ◌<◌, ◌≤◌, Bool, true, false, ◌||◌, List, [], ◌∷◌, length, drop, get_or, Option, Some, None, refl, sym, ap, ◌∙◌}
 use Rattle.std.specs.Option.{option_or}
 use Rattle.aadl_names.proofs.Finds.{first_left, none_left}
-use Rattle.name_faults.specs.Marks.{value_if, is_marked}
+use Rattle.name_faults.specs.proof.Marks.{value_if, is_marked}
 
 or-assoc : {V : Type 0} (a b c : Option V) → option_or (option_or a b) c ≡ option_or a (option_or b c)
 or-assoc None b c = refl

@@ -6,12 +6,12 @@ use Rattle.std.specs.Prelude.{slice_get, slice_index_or, find, option_map}
 use Rattle.std.specs.Option.{option_or}
 use Rattle.std.proofs.lemmas.List.{map_more}
 use Rattle.aadl_tree.specs.Declarations.{Feature, Declaration, Implementation, PackageTree}
-use Rattle.aadl_names.specs.Tables.{value_of}
+use Rattle.aadl_names.specs.proof.Tables.{value_of}
 use Rattle.aadl_names.specs.Resolving.{features_of, type_in, type_numbered, type_number, ports_of}
 use Rattle.aadl_names.specs.PackageFaults.{role_in, port_roles}
 use Rattle.name_faults.specs.declared.port_names.PortNames.{PortNames}
 use Rattle.name_faults.specs.declared.port_names.AllPortNames.{AllPortNames}
-use Rattle.name_faults.specs.PortNames.{AreNamesOf, names_at, AreAllNamesOf}
+use Rattle.name_faults.specs.proof.PortNames.{AreNamesOf, names_at, AreAllNamesOf}
 
 cons_by : (b : Bool) (x : Feature ℕ) (rest : Option (Feature ℕ))
     → option_map (λ (p : Feature ℕ). role_in p.direction) (cond b (Some x) rest)

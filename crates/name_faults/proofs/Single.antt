@@ -4,9 +4,9 @@ use Rattle.std.specs.Prelude.{nat_lt}
 use Rattle.std.proofs.lemmas.Bool.{le-ltb}
 use Rattle.aadl_tree.specs.Names.{same_name}
 use Rattle.aadl_tree.specs.declared.values.Association.{Association}
-use Rattle.aadl_tree.specs.ValueViews.{association_view, associations_view}
+use Rattle.aadl_tree.specs.proof.ValueViews.{association_view, associations_view}
 use Rattle.aadl_tree.specs.Values as plain
-use Rattle.aadl_tree.specs.Maps.{kept_place}
+use Rattle.aadl_tree.specs.proof.Maps.{kept_place}
 use Rattle.aadl_names.specs.declared.entry.Entry.{Entry}
 use Rattle.aadl_names.specs.Twice.{twice}
 use Rattle.aadl_names.specs.Properties.{counts, association_entry, property_entries}

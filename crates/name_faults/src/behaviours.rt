@@ -2,16 +2,16 @@
 #![tactic(auto, using(aadl_names::proofs::Finds::found_append))]
 
 ghost use Rattle.std.specs.Prelude.{◌≡◌, ℕ, List, OnOk};
-ghost use Rattle.aadl_tree.specs.PackageViews.{placed};
-ghost use Rattle.aadl_tree.specs.Views.{annex_tree_view, annex_view, implementation_view};
-ghost use Rattle.aadl_tree.specs.Maps.{kept_place};
-ghost use Rattle.aadl_names.specs.Found.{found};
-ghost use Rattle.aadl_names.specs.Tables.{value_of};
+ghost use Rattle.aadl_tree.specs.proof.PackageViews.{placed};
+ghost use Rattle.aadl_tree.specs.proof.Views.{annex_tree_view, annex_view, implementation_view};
+ghost use Rattle.aadl_tree.specs.proof.Maps.{kept_place};
+ghost use Rattle.aadl_names.specs.proof.Found.{found};
+ghost use Rattle.aadl_names.specs.proof.Tables.{value_of};
 ghost use Rattle.aadl_names.specs.Behaviours.{behaviours};
 ghost use Rattle.aadl_names.specs.Resolving.{ports_of, type_numbered};
 ghost use Rattle.aadl_names.specs.PackageFaults as spec;
-ghost use Rattle.name_faults.specs.Scopes.{known_by};
-ghost use Rattle.name_faults.specs.Expected.{annex_uses, still_expected};
+ghost use Rattle.name_faults.specs.proof.Scopes.{known_by};
+ghost use Rattle.name_faults.specs.proof.Expected.{annex_uses, still_expected};
 
 use crate::categories::is_thread;
 use crate::parts::transitions_in;

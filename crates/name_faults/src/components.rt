@@ -3,13 +3,13 @@
 
 ghost use Rattle.std.specs.Prelude.{◌≡◌, Some, OnOk, slice_get, map, flat_map};
 ghost use Rattle.aadl_tree.specs.Declarations.{implementation};
-ghost use Rattle.aadl_tree.specs.PackageViews.{placed};
-ghost use Rattle.aadl_tree.specs.NameViews.{reference_view};
-ghost use Rattle.aadl_tree.specs.Views.{feature_view, implementation_view, subcomponent_view, connection_view, end_view};
-ghost use Rattle.aadl_tree.specs.Maps.{kept_place};
-ghost use Rattle.aadl_names.specs.Found.{found};
+ghost use Rattle.aadl_tree.specs.proof.PackageViews.{placed};
+ghost use Rattle.aadl_tree.specs.proof.NameViews.{reference_view};
+ghost use Rattle.aadl_tree.specs.proof.Views.{feature_view, implementation_view, subcomponent_view, connection_view, end_view};
+ghost use Rattle.aadl_tree.specs.proof.Maps.{kept_place};
+ghost use Rattle.aadl_names.specs.proof.Found.{found};
 ghost use Rattle.aadl_names.specs.PackageFaults as spec;
-ghost use Rattle.name_faults.specs.EndScopes.{tree_of, implementation_of, IsKnown};
+ghost use Rattle.name_faults.specs.proof.EndScopes.{tree_of, implementation_of, IsKnown};
 
 use crate::check_properties;
 use crate::end_scope::{EndScope, site, sub_types};

@@ -4,15 +4,15 @@
 ghost use Rattle.std.specs.Prelude.{◌≡◌, not, Some, OnOk, IfOk, slice_get};
 ghost use Rattle.aadl_tree.specs.Names.{same_name};
 ghost use Rattle.aadl_tree.specs.Declarations.{implementation};
-ghost use Rattle.aadl_tree.specs.PackageViews.{placed};
-ghost use Rattle.aadl_tree.specs.Views.{implementation_view, declaration_view};
-ghost use Rattle.aadl_tree.specs.Maps.{kept_place};
-ghost use Rattle.aadl_names.specs.Found.{found};
+ghost use Rattle.aadl_tree.specs.proof.PackageViews.{placed};
+ghost use Rattle.aadl_tree.specs.proof.Views.{implementation_view, declaration_view};
+ghost use Rattle.aadl_tree.specs.proof.Maps.{kept_place};
+ghost use Rattle.aadl_names.specs.proof.Found.{found};
 ghost use Rattle.aadl_names.specs.Findings.{wrong_if};
 ghost use Rattle.aadl_names.specs.Spelling.{spelled_name};
 ghost use Rattle.aadl_names.specs.Resolving.{implementation_in};
 ghost use Rattle.aadl_names.specs.PackageFaults as spec;
-ghost use Rattle.name_faults.specs.PortNames.{AreAllNamesOf};
+ghost use Rattle.name_faults.specs.proof.PortNames.{AreAllNamesOf};
 
 use crate::behaviours::check_behaviours;
 use crate::implementations::check_outside_behaviours;

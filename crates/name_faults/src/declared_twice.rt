@@ -2,12 +2,12 @@
 #![tactic(auto, using(aadl_names::proofs::Finds::found_append))]
 
 ghost use Rattle.std.specs.Prelude.{◌≡◌, Some, OnOk, map, slice_get};
-ghost use Rattle.aadl_tree.specs.Views.{feature_view};
-ghost use Rattle.aadl_tree.specs.Maps.{kept_place};
-ghost use Rattle.aadl_names.specs.Found.{found};
+ghost use Rattle.aadl_tree.specs.proof.Views.{feature_view};
+ghost use Rattle.aadl_tree.specs.proof.Maps.{kept_place};
+ghost use Rattle.aadl_names.specs.proof.Found.{found};
 ghost use Rattle.aadl_names.specs.Spaces.{port_entries};
-ghost use Rattle.aadl_names.specs.DeclaredTwice as spec;
-ghost use Rattle.name_faults.specs.PortNames.{AreNamesOf};
+ghost use Rattle.aadl_names.specs.proof.DeclaredTwice as spec;
+ghost use Rattle.name_faults.specs.proof.PortNames.{AreNamesOf};
 
 use crate::port_names::PortNames;
 use aadl_names::earliest::{earliest_of, is_before};
@@ -76,7 +76,7 @@ fn check_one(
 }
 
 /// Finds what is declared twice among ports and what stands beside them.
-#[tactic(auto, unfolding(aadl_names::specs::DeclaredTwice::beside))]
+#[tactic(auto, unfolding(aadl_names::specs::proof::DeclaredTwice::beside))]
 pub fn check_beside(
     finder: &mut Finder,
     ports: &[Feature],

@@ -1,12 +1,12 @@
 //! What the ends of connections name in an implementation, with its types looked up before.
 ghost use Rattle.std.specs.Prelude.{◌≡◌, IfOk, map, slice_get, option_map, string_bytes};
 ghost use Rattle.std.specs.Option.{option_and_then};
-ghost use Rattle.aadl_tree.specs.PackageViews.{placed};
-ghost use Rattle.aadl_tree.specs.Views.{subcomponent_view, end_view};
-ghost use Rattle.aadl_tree.specs.Maps.{kept_place};
+ghost use Rattle.aadl_tree.specs.proof.PackageViews.{placed};
+ghost use Rattle.aadl_tree.specs.proof.Views.{subcomponent_view, end_view};
+ghost use Rattle.aadl_tree.specs.proof.Maps.{kept_place};
 ghost use Rattle.aadl_names.specs.PackageFaults.{sited};
 ghost use Rattle.aadl_names.specs.Resolving as spec;
-ghost use Rattle.name_faults.specs.EndScopes.{type_of_sub, tree_of, implementation_of, IsKnown};
+ghost use Rattle.name_faults.specs.proof.EndScopes.{type_of_sub, tree_of, implementation_of, IsKnown};
 
 use aadl_names::connection_ends::{port_direction, port_number, type_number_of_sub};
 use aadl_names::{Names, Site};

@@ -2,10 +2,10 @@
 ghost use Rattle.std.specs.Prelude.{◌≡◌, ◌++◌, [], ◌∷◌, OnOk, IfOk, map};
 ghost use Rattle.aadl_tree.specs.Names.{identifiers};
 ghost use Rattle.std.specs.List.{filter_map};
-ghost use Rattle.aadl_tree.specs.PackageViews.{placed};
-ghost use Rattle.aadl_tree.specs.NameViews.{identifier_view, identifiers_view};
-ghost use Rattle.aadl_tree.specs.Views.{feature_view, subcomponent_view, connection_view, annex_tree_view, implementation_view, declaration_view};
-ghost use Rattle.aadl_tree.specs.Maps.{kept_place};
+ghost use Rattle.aadl_tree.specs.proof.PackageViews.{placed};
+ghost use Rattle.aadl_tree.specs.proof.NameViews.{identifier_view, identifiers_view};
+ghost use Rattle.aadl_tree.specs.proof.Views.{feature_view, subcomponent_view, connection_view, annex_tree_view, implementation_view, declaration_view};
+ghost use Rattle.aadl_tree.specs.proof.Maps.{kept_place};
 ghost use Rattle.aadl_names.specs.Spelling.{entry_of};
 ghost use Rattle.aadl_names.specs.Spaces as spec;
 

@@ -1,6 +1,6 @@
 //! The first name that is wrong in a package.
 ghost use Rattle.std.specs.Prelude.{◌≡◌, IfOk};
-ghost use Rattle.aadl_tree.specs.PackageViews.{placed};
+ghost use Rattle.aadl_tree.specs.proof.PackageViews.{placed};
 ghost use Rattle.aadl_names.specs.Findings.{FirstOf};
 ghost use Rattle.aadl_names.specs.PackageFaults.{package_faults};
 

@@ -2,16 +2,16 @@
 ghost use Rattle.std.specs.Prelude.{◌≡◌, ℕ, List, OnOk, IfOk, map, if◌then◌else◌, None, Some};
 ghost use Rattle.aadl_tree.specs.Names.{same_name};
 ghost use Rattle.std.specs.Option.{option_or};
-ghost use Rattle.aadl_tree.specs.PackageViews.{placed};
-ghost use Rattle.aadl_tree.specs.Views.{feature_view, declaration_view};
-ghost use Rattle.aadl_tree.specs.Maps.{kept_place};
-ghost use Rattle.aadl_names.specs.Found.{found};
-ghost use Rattle.aadl_names.specs.Tables.{value_of};
+ghost use Rattle.aadl_tree.specs.proof.PackageViews.{placed};
+ghost use Rattle.aadl_tree.specs.proof.Views.{feature_view, declaration_view};
+ghost use Rattle.aadl_tree.specs.proof.Maps.{kept_place};
+ghost use Rattle.aadl_names.specs.proof.Found.{found};
+ghost use Rattle.aadl_names.specs.proof.Tables.{value_of};
 ghost use Rattle.aadl_names.specs.Twice.{twice};
 ghost use Rattle.aadl_names.specs.Spaces.{port_entries};
 ghost use Rattle.aadl_names.specs.Resolving.{features_of, type_in, type_numbered};
 ghost use Rattle.aadl_names.specs.PackageFaults.{role_in, port_roles};
-ghost use Rattle.name_faults.specs.PortNames.{AreNamesOf, AreAllNamesOf, names_at};
+ghost use Rattle.name_faults.specs.proof.PortNames.{AreNamesOf, AreAllNamesOf, names_at};
 
 use crate::entries::port_entries;
 use crate::port_names::{AllPortNames, PortNames};

@@ -5,10 +5,10 @@ ghost use Rattle.std.specs.Prelude.{◌≡◌, ◌&&◌, ◌++◌, not, OnOk, If
 ghost use Rattle.aadl_tree.specs.Names.{same_name};
 ghost use Rattle.std.specs.List.{list_any};
 ghost use Rattle.aadl_tree.specs.Values.{associate, no_associations};
-ghost use Rattle.aadl_tree.specs.NameViews.{name_view};
-ghost use Rattle.aadl_tree.specs.ValueViews.{value_view, association_view, associations_view};
-ghost use Rattle.aadl_tree.specs.Maps.{kept_place};
-ghost use Rattle.aadl_names.specs.Found.{found};
+ghost use Rattle.aadl_tree.specs.proof.NameViews.{name_view};
+ghost use Rattle.aadl_tree.specs.proof.ValueViews.{value_view, association_view, associations_view};
+ghost use Rattle.aadl_tree.specs.proof.Maps.{kept_place};
+ghost use Rattle.aadl_names.specs.proof.Found.{found};
 ghost use Rattle.aadl_names.specs.Properties as spec;
 ghost use Rattle.aadl_names.specs.Properties.{property_entries};
 ghost use Rattle.aadl_names.specs.Spelling as spelling;

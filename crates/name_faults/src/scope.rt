@@ -20,7 +20,7 @@ pub struct Scope<'t> {
 }
 
 impl<'t> Model for Scope<'t> {
-    ghost use Rattle.name_faults.specs.Scopes.{Scoped};
+    ghost use Rattle.name_faults.specs.proof.Scopes.{Scoped};
 
     ghost Value = { Scoped };
 
@@ -29,11 +29,11 @@ impl<'t> Model for Scope<'t> {
 
 impl<'t> Scope<'t> {
     ghost use Rattle.std.specs.Prelude.{◌≡◌, IfOk};
-    ghost use Rattle.aadl_tree.specs.NameViews.{identifier_view};
-    ghost use Rattle.aadl_tree.specs.Maps.{kept_place};
+    ghost use Rattle.aadl_tree.specs.proof.NameViews.{identifier_view};
+    ghost use Rattle.aadl_tree.specs.proof.Maps.{kept_place};
     ghost use Rattle.aadl_names.specs.AnnexNames.{either, with_loop};
-    ghost use Rattle.aadl_names.specs.Tables.{value_of};
-    ghost use Rattle.name_faults.specs.Scopes.{loop_roles, known_by};
+    ghost use Rattle.aadl_names.specs.proof.Tables.{value_of};
+    ghost use Rattle.name_faults.specs.proof.Scopes.{loop_roles, known_by};
 
     /// The names of a behaviour, outside its loops.
     pub fn new(alloc: Global, first: &'t Table<Role>, second: &'t Table<Role>) -> Scope<'t>

@@ -2,10 +2,10 @@
 
 ghost use Rattle.std.specs.Prelude.{◌≡◌, option_map};
 ghost use Rattle.std.specs.Option.{is_some};
-ghost use Rattle.aadl_tree.specs.NameViews.{identifier_view};
-ghost use Rattle.aadl_tree.specs.ValueViews.{figure_view, quantity_view, value_view, values_view};
+ghost use Rattle.aadl_tree.specs.proof.NameViews.{identifier_view};
+ghost use Rattle.aadl_tree.specs.proof.ValueViews.{figure_view, quantity_view, value_view, values_view};
 ghost use Rattle.aadl_tree.specs.Values.{list};
-ghost use Rattle.aadl_tree.specs.Maps.{kept_place};
+ghost use Rattle.aadl_tree.specs.proof.Maps.{kept_place};
 ghost use Rattle.aadl_names.specs.Properties as spec;
 
 use crate::digits::is_number;

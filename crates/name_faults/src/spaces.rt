@@ -2,14 +2,14 @@
 #![tactic(auto, using(aadl_names::proofs::Finds::found_append))]
 
 ghost use Rattle.std.specs.Prelude.{◌≡◌, OnOk, map, option_map};
-ghost use Rattle.aadl_tree.specs.PackageViews.{placed};
-ghost use Rattle.aadl_tree.specs.Views.{annex_tree_view, annex_view, implementation_view, declaration_view};
-ghost use Rattle.aadl_tree.specs.Maps.{kept_place};
-ghost use Rattle.aadl_names.specs.Found.{found};
+ghost use Rattle.aadl_tree.specs.proof.PackageViews.{placed};
+ghost use Rattle.aadl_tree.specs.proof.Views.{annex_tree_view, annex_view, implementation_view, declaration_view};
+ghost use Rattle.aadl_tree.specs.proof.Maps.{kept_place};
+ghost use Rattle.aadl_names.specs.proof.Found.{found};
 ghost use Rattle.aadl_names.specs.Behaviours.{behaviours};
-ghost use Rattle.aadl_names.specs.DeclaredTwice as spec;
-ghost use Rattle.aadl_names.specs.DeclaredTwice.{first_behaviour};
-ghost use Rattle.name_faults.specs.PortNames.{AreAllNamesOf};
+ghost use Rattle.aadl_names.specs.proof.DeclaredTwice as spec;
+ghost use Rattle.aadl_names.specs.Behaviours.{first_behaviour};
+ghost use Rattle.name_faults.specs.proof.PortNames.{AreAllNamesOf};
 
 use crate::categories::is_thread;
 use crate::declared_twice::check_beside;
@@ -123,7 +123,7 @@ fn check_in(
 }
 
 /// Finds two types or two implementations of one name, and two of one name in an implementation.
-#[tactic(auto, unfolding(aadl_names::specs::DeclaredTwice::beside_names))]
+#[tactic(auto, unfolding(aadl_names::specs::proof::DeclaredTwice::beside_names))]
 pub fn check_spaces(
     finder: &mut Finder,
     names: &Names<'_>,

@@ -1,10 +1,10 @@
 //! Names of properties, compared piece by piece.
 ghost use Rattle.std.specs.Prelude.{◌≡◌, ◌++◌, ℕ, List, codes, string_bytes};
 ghost use Rattle.aadl_tree.specs.Names.{same_name};
-ghost use Rattle.aadl_tree.specs.Maps.{kept_place};
-ghost use Rattle.aadl_tree.specs.NameViews.{name_view};
+ghost use Rattle.aadl_tree.specs.proof.Maps.{kept_place};
+ghost use Rattle.aadl_tree.specs.proof.NameViews.{name_view};
 ghost use Rattle.aadl_names.specs.Spelling.{spelled_name};
-ghost use Rattle.name_faults.specs.Spellings.{goes_on};
+ghost use Rattle.name_faults.specs.proof.Spellings.{goes_on};
 
 use aadl_tree::{Identifier, Name};
 

@@ -2,13 +2,13 @@
 #![tactic(auto, using(aadl_names::proofs::Finds::found_append))]
 
 ghost use Rattle.std.specs.Prelude.{◌≡◌, OnOk, map, flat_map, option_map};
-ghost use Rattle.aadl_tree.specs.NameViews.{identifier_view};
-ghost use Rattle.aadl_tree.specs.ActionViews.{block_view};
-ghost use Rattle.aadl_tree.specs.Views.{guard_view, transition_view};
-ghost use Rattle.aadl_tree.specs.Maps.{kept_place};
-ghost use Rattle.aadl_names.specs.Found.{found};
+ghost use Rattle.aadl_tree.specs.proof.NameViews.{identifier_view};
+ghost use Rattle.aadl_tree.specs.proof.ActionViews.{block_view};
+ghost use Rattle.aadl_tree.specs.proof.Views.{guard_view, transition_view};
+ghost use Rattle.aadl_tree.specs.proof.Maps.{kept_place};
+ghost use Rattle.aadl_names.specs.proof.Found.{found};
 ghost use Rattle.aadl_names.specs.PackageFaults as spec;
-ghost use Rattle.name_faults.specs.Scopes.{known_by, is_state_by};
+ghost use Rattle.name_faults.specs.proof.Scopes.{known_by, is_state_by};
 
 use crate::scope::Scope;
 use crate::uses::{check_block, check_expression};

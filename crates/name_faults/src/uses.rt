@@ -2,13 +2,13 @@
 #![tactic(auto, using(aadl_names::proofs::Finds::found_append))]
 
 ghost use Rattle.std.specs.Prelude.{◌≡◌, OnOk};
-ghost use Rattle.aadl_tree.specs.NameViews.{identifier_view};
-ghost use Rattle.aadl_tree.specs.ExpressionViews.{primary_view, factor_view, term_view, sum_view, relation_view, expression_view};
-ghost use Rattle.aadl_tree.specs.ActionViews.{action_view, actions_view, block_view, choice_view, loop_view};
-ghost use Rattle.aadl_tree.specs.Maps.{kept_place};
-ghost use Rattle.aadl_names.specs.Found.{found};
+ghost use Rattle.aadl_tree.specs.proof.NameViews.{identifier_view};
+ghost use Rattle.aadl_tree.specs.proof.ExpressionViews.{primary_view, factor_view, term_view, sum_view, relation_view, expression_view};
+ghost use Rattle.aadl_tree.specs.proof.ActionViews.{action_view, actions_view, block_view, choice_view, loop_view};
+ghost use Rattle.aadl_tree.specs.proof.Maps.{kept_place};
+ghost use Rattle.aadl_names.specs.proof.Found.{found};
 ghost use Rattle.aadl_names.specs.AnnexNames as spec;
-ghost use Rattle.name_faults.specs.Scopes.{known_by};
+ghost use Rattle.name_faults.specs.proof.Scopes.{known_by};
 
 use crate::scope::Scope;
 use aadl_names::{Finder, Usage};

@@ -7,7 +7,7 @@ use Rattle.bus_machine.specs.NodeEvents.{is_waiting}
 use Rattle.bus_machine.specs.Machine.{Step, Send}
 use Rattle.run_laws.specs.Runs.{Does}
 use Rattle.run_laws.proofs.Picking.{runs_agree}
-use Rattle.node_threads.specs.Courses.{CourseValue, IsCourse, IsReady, IsToStartIn, Allows}
+use Rattle.node_threads.specs.proof.Courses.{CourseValue, IsCourse, IsReady, IsToStartIn, Allows}
 use Rattle.node_threads.proofs.Ranges.{start_waits}
 
 starts : (c : CourseValue) (node : NodeNo) (round reading : ℕ) → IsCourse c → IsReady c node (action.Start round) reading → IsToStartIn c node reading

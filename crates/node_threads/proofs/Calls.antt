@@ -3,13 +3,13 @@ use Rattle.std.proofs.Common.{◌≡◌, inl, inr, ℕ, ◌<◌, List, length, O
 use Rattle.std.specs.Prelude.{Result, Ok, Err, IfOk, IfErr, OnOk, OnErr}
 use Rattle.pals_base.specs.declared.values.NodeNo.{NodeNo}
 use Rattle.pals_clock.specs.Clock.{ClockState}
-use Rattle.pals_node.specs.Values.{JobValue}
+use Rattle.pals_node.specs.proof.Values.{JobValue}
 use Rattle.pals_node.specs.declared.answers.Finished.{Finished}
 use Rattle.bus_machine.specs.States.{Run}
 use Rattle.bus_machine.specs.Machine.{Start, Step, Finish, Send}
 use Rattle.pals_bus.specs.Values.{BusValue, Happens}
-use Rattle.pals_bus.specs.Answers.{StartsRound, BusStartEnds, StepsOn, FinishesStep, SendsRound}
-use Rattle.pals_bus.specs.Due.{TakesAllDue, DueEnds}
+use Rattle.pals_bus.specs.proof.Answers.{StartsRound, BusStartEnds, StepsOn, FinishesStep, SendsRound}
+use Rattle.pals_bus.specs.proof.Due.{TakesAllDue, DueEnds}
 use Rattle.pals_bus.specs.declared.refusals.BusStartEnd.{BusStartEnd}
 use Rattle.pals_bus.specs.declared.refusals.BusStartEnd.TheVariants as bus_start
 use Rattle.pals_bus.specs.declared.refusals.BusStepEnd.{BusStepEnd}
@@ -18,7 +18,7 @@ use Rattle.pals_bus.specs.declared.refusals.BusSendEnd.{BusSendEnd}
 use Rattle.pals_bus.specs.declared.refusals.DueEnd.{DueEnd}
 use Rattle.pals_bus.specs.declared.refusals.DueEnd.TheVariants as due_end
 use Rattle.node_threads.specs.declared.ends.Note.{Note}
-use Rattle.node_threads.specs.Courses.{CourseValue, course_of, IsCourse, IsOpen, IsToStartIn, IsAwaitedIn, Allows}
+use Rattle.node_threads.specs.proof.Courses.{CourseValue, course_of, IsCourse, IsOpen, IsToStartIn, IsAwaitedIn, Allows}
 use Rattle.node_threads.proofs.Steps.{Goes, goes_same, event_goes}
 use Rattle.node_threads.proofs.Taking.{Still, all_still, none_is_left}
 

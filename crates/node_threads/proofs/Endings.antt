@@ -10,8 +10,8 @@ use Rattle.node_threads.specs.declared.ends.NodeEnd.{NodeEnd}
 use Rattle.node_threads.specs.declared.ends.NodeEnd.TheVariants as end
 use Rattle.node_threads.specs.declared.ends.Note.{Note}
 use Rattle.node_threads.specs.declared.ends.Note.TheVariants as note
-use Rattle.node_threads.specs.Courses.{CourseValue, note_at, IsCourse}
-use Rattle.node_threads.specs.Ends.{EndFits, EndsFit, noted_end, phase_end, stopped_end, closed_end, end_in}
+use Rattle.node_threads.specs.proof.Courses.{CourseValue, note_at, IsCourse}
+use Rattle.node_threads.specs.proof.Ends.{EndFits, EndsFit, noted_end, phase_end, stopped_end, closed_end, end_in}
 
 -- ---- the ends
 closed_fits : (c : CourseValue) (node : ℕ) (closed : Bool) (e : NodeEnd) → c.bus.closed ≡ closed → closed_end closed ≡ Some e → EndFits c.bus c.clocks node e

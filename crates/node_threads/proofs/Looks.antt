@@ -22,12 +22,12 @@ use Rattle.bus_machine.specs.Plans.{plan_of}
 use Rattle.bus_machine.specs.States.{node_at}
 use Rattle.bus_machine.specs.Targets.{target, action_in, next_in}
 use Rattle.pals_bus.specs.Values.{BusValue}
-use Rattle.pals_bus.specs.Meeting.{target_in, HasEnded as HasStopped, GoesAt}
+use Rattle.pals_bus.specs.proof.Meeting.{target_in, HasEnded as HasStopped, GoesAt}
 use Rattle.run_laws.specs.Turns.{upcoming}
 use Rattle.run_laws.specs.Runs.{clock_at, no_clock, Shows, Does}
 use Rattle.run_laws.proofs.Picking.{runs_agree}
 use Rattle.node_threads.specs.declared.ends.Note.{Note}
-use Rattle.node_threads.specs.Courses.{CourseValue, clocks_of, course_of, EndsAt, IsCourse, IsOpen, IsNext, IsReady}
+use Rattle.node_threads.specs.proof.Courses.{CourseValue, clocks_of, course_of, EndsAt, IsCourse, IsOpen, IsNext, IsReady}
 use Rattle.node_threads.proofs.Ranges.{target_fits}
 use Rattle.node_threads.proofs.Steps.{Goes, pick_goes}
 

@@ -9,11 +9,12 @@ use Rattle.pals_clock.specs.Clock.{ClockState, unpicked}
 use Rattle.pals_clock.specs.declared.clock.Clocks.{Clocks}
 use Rattle.pals_clock.specs.declared.clock.Clocks.TheVariants.{Meet, Lists}
 use Rattle.pals_model.specs.Rules.{IsDesign}
-use Rattle.pals_bus.specs.Values.{BusValue, opening_bus}
+use Rattle.pals_bus.specs.Values.{BusValue}
+use Rattle.pals_bus.specs.proof.Values.{opening_bus}
 use Rattle.pals_bus.proofs.Openings.{map_more}
 use Rattle.run_laws.specs.Runs.{clock_at, no_clock, lists_in, Begin, opens}
 use Rattle.node_threads.specs.declared.ends.Note.TheVariants as note
-use Rattle.node_threads.specs.Courses.{clocks_of, course_of, note_at, IsCourse, AreMany, AreClocksOf, fresh_of}
+use Rattle.node_threads.specs.proof.Courses.{clocks_of, course_of, note_at, IsCourse, AreMany, AreClocksOf, fresh_of}
 
 -- ---- the opening
 many_lists : (b : BusValue) (clocks : Clocks) → Begin b.run clocks → AreMany (length b.run.design.components) clocks

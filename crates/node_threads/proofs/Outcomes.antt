@@ -4,14 +4,15 @@ use Rattle.std.specs.Prelude.{Result, Ok, Err, IfOk}
 use Rattle.pals_clock.specs.Clock.{ClockState}
 use Rattle.pals_clock.specs.declared.clock.Clocks.{Clocks}
 use Rattle.pals_clock.specs.declared.clock.Clocks.TheVariants.{Meet, Lists}
-use Rattle.bus_machine.specs.Laws.{IsRunOf}
-use Rattle.pals_bus.specs.Values.{BusValue, opening_bus}
+use Rattle.bus_machine.specs.proof.Laws.{IsRunOf}
+use Rattle.pals_bus.specs.Values.{BusValue}
+use Rattle.pals_bus.specs.proof.Values.{opening_bus}
 use Rattle.run_laws.specs.Runs.{lists_in, Runs}
 use Rattle.node_threads.specs.declared.ends.NodeEnd.{NodeEnd}
 use Rattle.node_threads.specs.declared.ends.Note.{Note}
-use Rattle.node_threads.specs.Courses.{CourseValue, AreClocksOf, clocks_of, course_of, IsOf, Stays}
+use Rattle.node_threads.specs.proof.Courses.{CourseValue, AreClocksOf, clocks_of, course_of, IsOf, Stays}
 use Rattle.node_threads.specs.declared.threads.RunEnd.{RunEnd}
-use Rattle.node_threads.specs.Ends.{EndsFit, IsOutcome}
+use Rattle.node_threads.specs.proof.Ends.{EndsFit, IsOutcome}
 use Rattle.node_threads.proofs.Openings.{Begins}
 
 -- ---- two courses of one run

@@ -10,12 +10,12 @@ use Rattle.bus_machine.specs.declared.plan.Plan.{Plan}
 use Rattle.bus_machine.specs.declared.action.Action.{Action}
 use Rattle.bus_machine.specs.declared.action.Action.TheVariants as action
 use Rattle.bus_machine.specs.Agreement.{PhaseAgrees, Agrees}
-use Rattle.bus_machine.specs.Laws.{IsRunOf}
+use Rattle.bus_machine.specs.proof.Laws.{IsRunOf}
 use Rattle.bus_machine.specs.Nodes.{NodeState, round_of}
 use Rattle.bus_machine.specs.Plans.{plan_of, component_at}
 use Rattle.bus_machine.specs.States.{Run, BusState, node_at}
 use Rattle.bus_machine.specs.Targets.{target, send_is_next, next_in}
-use Rattle.pals_node.specs.Keeping.{IsPlan}
+use Rattle.pals_node.specs.proof.Keeping.{IsPlan}
 use Rattle.pals_node.proofs.Plans.{plan_keeps}
 use Rattle.run_laws.specs.Turns.{upcoming}
 use Rattle.run_laws.proofs.Picking.{node_agrees}

@@ -7,7 +7,7 @@ use Rattle.std.proofs.lemmas.List.{length-set, get_or-set_other, get_or_past, se
 use Rattle.node_threads.specs.declared.wakes.Wakes.{Wakes}
 use Rattle.node_threads.specs.declared.sleepers.Seat.{Seat}
 use Rattle.node_threads.specs.declared.sleepers.Sleepers.{Sleepers}
-use Rattle.node_threads.specs.Sleepers.{seat_at, free_seat, with_seat, is_rung, with_rung, IsRoused, Rouses}
+use Rattle.node_threads.specs.proof.Sleepers.{seat_at, free_seat, with_seat, is_rung, with_rung, IsRoused, Rouses}
 
 -- past the last seat
 pub none_seat : (seats : List Seat) (node : ℕ) → None ≡ slice_get seats node → seat_at seats node ≡ free_seat

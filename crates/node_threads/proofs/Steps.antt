@@ -21,7 +21,7 @@ use Rattle.run_laws.specs.Runs.{clock_at, no_clock, left_for, KeepsTo, Runs, pic
 use Rattle.run_laws.proofs.Ended.{stays_ended, waits_for}
 use Rattle.node_threads.specs.declared.ends.Note.{Note}
 use Rattle.node_threads.specs.declared.ends.Note.TheVariants as note
-use Rattle.node_threads.specs.Courses.{CourseValue, course_of, clocks_of, note_at, EndsAt, IsCourse, Stays, IsOpen, Allows}
+use Rattle.node_threads.specs.proof.Courses.{CourseValue, course_of, clocks_of, note_at, EndsAt, IsCourse, Stays, IsOpen, Allows}
 
 pub record Goes (old new : CourseValue) : Type 0 where
   pub course : IsCourse new

@@ -6,16 +6,16 @@ use Rattle.std.proofs.lemmas.Option.{slice_get-get_or}
 use Rattle.pals_base.specs.declared.values.NodeNo.{NodeNo}
 use Rattle.pals_base.specs.declared.values.LinkNo.{LinkNo}
 use Rattle.pals_clock.specs.Clock.{ClockState}
-use Rattle.link_buffers.specs.Flights.{is_due}
+use Rattle.link_buffers.specs.proof.Flights.{is_due}
 use Rattle.bus_machine.specs.States.{flight_at}
 use Rattle.bus_machine.specs.Machine.{BusEvent, Arrive}
 use Rattle.pals_bus.specs.Values.{BusValue, Happens}
-use Rattle.pals_bus.specs.Due.{IsDueTo, TakesDue, takes_none, takes_next}
-use Rattle.run_laws.specs.Locked.{IsToStart, IsDueAt}
+use Rattle.pals_bus.specs.proof.Due.{IsDueTo, TakesDue, takes_none, takes_next}
+use Rattle.run_laws.specs.proof.Locked.{IsToStart, IsDueAt}
 use Rattle.run_laws.specs.Runs.{NoneDue, IsAwaited}
 use Rattle.run_laws.proofs.Due.{due_arrives}
 use Rattle.node_threads.specs.declared.ends.Note.{Note}
-use Rattle.node_threads.specs.Courses.{CourseValue, course_of, clocks_of, IsToStartIn}
+use Rattle.node_threads.specs.proof.Courses.{CourseValue, course_of, clocks_of, IsToStartIn}
 use Rattle.node_threads.proofs.Steps.{Goes, stays_on, event_goes}
 
 -- what stays while messages arrive

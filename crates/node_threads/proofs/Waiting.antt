@@ -14,7 +14,7 @@ use Rattle.run_laws.specs.Runs.{IsAwaited}
 use Rattle.run_laws.proofs.Clauses.{link_is}
 use Rattle.node_threads.specs.declared.ends.Note.{Note}
 use Rattle.node_threads.specs.declared.ends.Note.TheVariants as note
-use Rattle.node_threads.specs.Courses.{CourseValue, clocks_of, course_of, note_at, EndsAt, IsCourse, HasSent, IsSentOn, IsAwaitedIn}
+use Rattle.node_threads.specs.proof.Courses.{CourseValue, clocks_of, course_of, note_at, EndsAt, IsCourse, HasSent, IsSentOn, IsAwaitedIn}
 
 -- ---- one source
 ended_sent : (b : BusValue) (clocks : Clocks) (node rounds goal : ℕ) → EndsAt b clocks node goal → HasSent b clocks node rounds

@@ -1,12 +1,12 @@
 //! The course of a run: the bus, the lists of its nodes' clocks, and what is noted of each node.
 ghost use Rattle.std.specs.Prelude.{◌≡◌, ◌<◌, ◌≤◌, length, false, None, IsTrue, IfOk};
 ghost use Rattle.pals_base.specs.declared.limits.TheConstants.{COMPONENTS};
-ghost use Rattle.bus_machine.specs.Laws.{IsRunOf};
-ghost use Rattle.pals_bus.specs.Meeting.{HasEnded};
-ghost use Rattle.pals_bus.specs.Values.{opening_bus};
+ghost use Rattle.bus_machine.specs.proof.Laws.{IsRunOf};
+ghost use Rattle.pals_bus.specs.proof.Meeting.{HasEnded};
+ghost use Rattle.pals_bus.specs.proof.Values.{opening_bus};
 ghost use Rattle.run_laws.specs.Runs.{target_of, Begin, Runs};
-ghost use Rattle.node_threads.specs.Courses.{clocks_of, IsCourse, Stays, IsOpen, IsDone, next_in, is_send};
-ghost use Rattle.node_threads.specs.Ends.{AllEnded, EndsFit, end_in, phase_end, closed_end};
+ghost use Rattle.node_threads.specs.proof.Courses.{clocks_of, IsCourse, Stays, IsOpen, IsDone, next_in, is_send};
+ghost use Rattle.node_threads.specs.proof.Ends.{AllEnded, EndsFit, end_in, phase_end, closed_end};
 
 use crate::clocks::same_lists;
 use crate::ends::{NodeEnd, Note};
@@ -31,11 +31,11 @@ pub struct Course {
 }
 
 impl Model for Course {
-    ghost use Rattle.node_threads.specs.Courses.{CourseValue, course_of, IsCourse};
+    ghost use Rattle.node_threads.specs.proof.Courses.{CourseValue, course_of, IsCourse};
 
     ghost Value = { CourseValue };
 
-    ghost use Rattle.node_threads.specs.Codes.{course_code};
+    ghost use Rattle.node_threads.specs.proof.Codes.{course_code};
 
     ghost coded = { course_code };
 

@@ -1,8 +1,8 @@
 //! What comes of a run once its threads have ended. The parts of nodes that have not ended, as where a
 //! thread came back without its job, are driven to their ends with no other thread.
 ghost use Rattle.std.specs.Prelude.{IfOk};
-ghost use Rattle.node_threads.specs.Courses.{Stays};
-ghost use Rattle.node_threads.specs.Ends.{EndsFit, IsOutcome};
+ghost use Rattle.node_threads.specs.proof.Courses.{Stays};
+ghost use Rattle.node_threads.specs.proof.Ends.{EndsFit, IsOutcome};
 
 use crate::course::Course;
 use crate::ends::NodeEnd;

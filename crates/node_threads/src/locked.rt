@@ -2,8 +2,8 @@
 //! the lock knows of it what the type of the course says, and no more.
 ghost use Rattle.std.specs.Prelude.{◌≡◌, ℕ, true, IsTrue};
 ghost use Rattle.run_laws.specs.Runs.{IsLeast};
-ghost use Rattle.node_threads.specs.Courses.{Stays, IsOpen, IsDone};
-ghost use Rattle.node_threads.specs.Sleepers.{seat_at, Waits};
+ghost use Rattle.node_threads.specs.proof.Courses.{Stays, IsOpen, IsDone};
+ghost use Rattle.node_threads.specs.proof.Sleepers.{seat_at, Waits};
 
 use crate::bell::Bell;
 use crate::course::Course;

@@ -1,9 +1,9 @@
 //! Who sleeps until the course of a run goes on.
 ghost use Rattle.std.specs.Prelude.{◌≡◌, ◌<◌, ◌≤◌, ℕ, length, replicate, IsTrue, IfOk, IfSome, Some, true, false};
 ghost use Rattle.run_laws.specs.Runs.{IsLeast};
-ghost use Rattle.node_threads.specs.Courses.{IsOpen, IsDone};
+ghost use Rattle.node_threads.specs.proof.Courses.{IsOpen, IsDone};
 ghost use Rattle.node_threads.specs.declared.bell.Bell.{Bell};
-ghost use Rattle.node_threads.specs.Sleepers.{no_wakes, is_to_ring, without_bell, free_seat, seat_at, with_seat, IsAbove, IsHourOver, Waits, Rouses};
+ghost use Rattle.node_threads.specs.proof.Sleepers.{no_wakes, is_to_ring, without_bell, free_seat, seat_at, with_seat, IsAbove, IsHourOver, Waits, Rouses};
 
 use crate::bell::Bell;
 use crate::course::Course;

@@ -1,8 +1,8 @@
 //! A run of nodes in threads.
 ghost use Rattle.std.specs.Prelude.{◌≡◌, length, vec_len, IfOk};
-ghost use Rattle.pals_bus.specs.Values.{opening_bus};
-ghost use Rattle.node_threads.specs.Courses.{AreClocksOf};
-ghost use Rattle.node_threads.specs.Ends.{IsOutcome};
+ghost use Rattle.pals_bus.specs.proof.Values.{opening_bus};
+ghost use Rattle.node_threads.specs.proof.Courses.{AreClocksOf};
+ghost use Rattle.node_threads.specs.proof.Ends.{IsOutcome};
 
 use crate::bells::Bells;
 use crate::course::Course;

@@ -3,7 +3,7 @@
 ghost use Rattle.std.specs.Prelude.{◌≡◌, ◌<◌, ◌≤◌, ℕ, length, OnOk, Some};
 ghost use Rattle.pals_base.specs.declared.limits.TheConstants.{READING};
 ghost use Rattle.bus_machine.specs.Machine.{Start, Step, Send};
-ghost use Rattle.node_threads.specs.Courses.{Stays, IsOpen, IsNext, IsReady, EndsAt, IsToStartIn, IsAwaitedIn, Allows};
+ghost use Rattle.node_threads.specs.proof.Courses.{Stays, IsOpen, IsNext, IsReady, EndsAt, IsToStartIn, IsAwaitedIn, Allows};
 
 use crate::clocks::Look;
 use crate::course::Course;

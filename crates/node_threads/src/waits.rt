@@ -4,7 +4,7 @@ ghost use Rattle.pals_clock.specs.Clock.{ClockState};
 ghost use Rattle.pals_clock.specs.declared.clock.Clocks.TheVariants.{Lists};
 ghost use Rattle.bus_machine.specs.States.{link_at, node_at};
 ghost use Rattle.bus_machine.specs.Stops.{sent_rounds};
-ghost use Rattle.node_threads.specs.Courses.{HasSent, IsWaiting, IsAwaitedIn, IsSentOn};
+ghost use Rattle.node_threads.specs.proof.Courses.{HasSent, IsWaiting, IsAwaitedIn, IsSentOn};
 
 use crate::course::Course;
 use crate::ends::Note;

@@ -1,7 +1,7 @@
 //! Which threads are to be woken.
 ghost use Rattle.std.specs.Prelude.{◌≡◌, IfSome, Some, false, true, slice_index_or};
 ghost use Rattle.node_threads.specs.declared.bell.Bell.{Bell};
-ghost use Rattle.node_threads.specs.Sleepers.{no_wakes, with_rung, is_to_ring, without_bell};
+ghost use Rattle.node_threads.specs.proof.Sleepers.{no_wakes, with_rung, is_to_ring, without_bell};
 
 use crate::bell::Bell;
 use pals_base::limits::COMPONENTS;

@@ -5,7 +5,7 @@ use Rattle.pals_base.specs.declared.behaviour.Operand.{Operand}
 use Rattle.pals_base.specs.declared.behaviour.Act.{Act}
 use Rattle.pals_base.specs.declared.behaviour.Branch.{Branch}
 use Rattle.pals_base.specs.Tree.{Then, Do, Where}
-use Rattle.pals_base.specs.Seen.{tree_of, operands_along, action_of, actions_along, branches_along}
+use Rattle.pals_base.specs.proof.Seen.{tree_of, operands_along, action_of, actions_along, branches_along}
 
 -- an item and those after it
 drop_item : {X : Type 0} → (xs : List X) (i : ℕ) (x : X) → i < length xs → x ≡ get_or xs i x → drop i xs ≡ x ∷ drop (i + 1) xs

@@ -5,7 +5,7 @@ use Rattle.std.proofs.Math.Nat.{mod-le}
 use Rattle.std.proofs.Math.IntN.{pred_ℤ, pred_ℤ-*ℤ}
 use Rattle.std.proofs.lemmas.Int.{ints, quot-rem, rem_below}
 use Rattle.pals_base.specs.Arithmetic.{with_sign_of, remainder_of, modulus_of}
-use Rattle.pals_base.specs.Division.{IsRemainder, IsModulus}
+use Rattle.pals_base.specs.proof.Division.{IsRemainder, IsModulus}
 
 -- a divisor that is not 0
 not_0 : (b : ℤ) → b ≢ pos 0 → 0 < unsigned_abs b

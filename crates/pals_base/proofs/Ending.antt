@@ -18,7 +18,7 @@ use Rattle.pals_base.specs.Actions.{acts}
 use Rattle.pals_base.specs.Fire.{Fired, HasShape, holding, is_present, silence, completes, may_begin, is_complete, leaving, is_dispatch, opens, first_open, along, settled, dispatched, reaction, outcome, unless_halted, fire, initial}
 use Rattle.pals_base.specs.Kinds.{are_sound}
 use Rattle.pals_base.specs.Rules.{has_condition, is_edge, dispatch_count, is_always, ends_unguarded, has_ways, IsWay, IsBehaviour}
-use Rattle.pals_base.specs.Settling.{settles}
+use Rattle.pals_base.specs.proof.Settling.{settles}
 use Rattle.pals_base.proofs.Settling.{rule_at}
 use Rattle.pals_base.proofs.Ways.{incomplete_within, passed_element, settled_unless_cycle, way_is_short}
 use Rattle.pals_base.proofs.Keeping.{HasLengths, acts_keeps}

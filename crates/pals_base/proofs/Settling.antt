@@ -7,7 +7,7 @@ use Rattle.std.proofs.lemmas.List.Folds.{list_all-map}
 use Rattle.pals_base.specs.declared.behaviour.BehaviourParts.{BehaviourParts}
 use Rattle.pals_base.specs.Fire.{completes, is_complete, leaving}
 use Rattle.pals_base.specs.Steps.{upwards}
-use Rattle.pals_base.specs.Settling.{settles, marked, settles_next}
+use Rattle.pals_base.specs.proof.Settling.{settles, marked, settles_next}
 
 pub list_all-same : {A : Type 0} (f g : A → Bool) → ((x : A) → f x ≡ g x) → (xs : List A) → list_all f xs ≡ list_all g xs
 list_all-same f g same [] = refl

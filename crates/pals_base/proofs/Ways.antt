@@ -14,7 +14,7 @@ use Rattle.pals_base.specs.Tree.{Edge}
 use Rattle.pals_base.specs.Fire.{is_complete, leaving}
 use Rattle.pals_base.specs.Steps.{upwards}
 use Rattle.pals_base.specs.Rules.{IsWay, IsAcyclic}
-use Rattle.pals_base.specs.Settling.{settles}
+use Rattle.pals_base.specs.proof.Settling.{settles}
 use Rattle.pals_base.proofs.Settling.{all_marked, rule_at, settles_past}
 
 -- ---- lists

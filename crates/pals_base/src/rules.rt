@@ -1,7 +1,7 @@
 //! Whether parts keep the rules of a behaviour.
 ghost use Rattle.std.specs.Prelude.{◌≡◌, ◌↔◌, length, IsTrue, IfOk, IfSome, Option, slice_get};
 ghost use Rattle.std.specs.List.{list_all};
-ghost use Rattle.pals_base.specs.Seen.{trigger_of};
+ghost use Rattle.pals_base.specs.proof.Seen.{trigger_of};
 ghost use Rattle.pals_base.specs.Steps.{upwards};
 ghost use Rattle.pals_base.specs.Fire.{may_begin};
 ghost use Rattle.pals_base.specs.Rules.{HasNames, value_names, has_first, has_condition, is_edge, has_ways, IsAcyclic, IsBehaviour};

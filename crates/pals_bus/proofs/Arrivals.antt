@@ -20,12 +20,13 @@ use Rattle.bus_machine.specs.LinkEvents.{tuple_in, arriving}
 use Rattle.bus_machine.specs.States.{BusState, no_link, node_at, flight_at}
 use Rattle.bus_machine.specs.Machine.{Arrive, arrival, early_stop}
 use Rattle.bus_machine.specs.Replay.{Replays, goes_on, stop_entry}
-use Rattle.pals_node.specs.Values.{NodeValue, with_state}
+use Rattle.pals_node.specs.proof.Values.{NodeValue, with_state}
 use Rattle.pals_bus.specs.declared.fields.Fields.{Fields}
-use Rattle.pals_bus.specs.Values.{node_value, Happens}
-use Rattle.pals_bus.specs.Keeping.{Keeps, owed, run_of, state_of, value_of, copies_in}
-use Rattle.pals_bus.specs.Absent.{no_flight, no_node_value}
-use Rattle.pals_bus.specs.NodeLists.{node_of}
+use Rattle.pals_bus.specs.proof.Values.{node_value}
+use Rattle.pals_bus.specs.Values.{Happens}
+use Rattle.pals_bus.specs.proof.Keeping.{Keeps, owed, run_of, state_of, value_of, copies_in}
+use Rattle.pals_bus.specs.proof.Absent.{no_flight, no_node_value}
+use Rattle.pals_bus.specs.proof.NodeLists.{node_of}
 use Rattle.pals_bus.proofs.NodeChanges.{nodes-set, node_is, same_node}
 use Rattle.pals_bus.proofs.Rooms.{flight_is, rooms-set}
 use Rattle.pals_bus.proofs.QueueRooms.{queues-set}

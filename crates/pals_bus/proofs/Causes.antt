@@ -9,13 +9,13 @@ use Rattle.pals_model.specs.declared.design.Link.{Link}
 use Rattle.pals_model.specs.Rules.{IsDesign}
 use Rattle.pals_runs.specs.declared.journal.Cause.{Cause}
 use Rattle.pals_runs.specs.declared.journal.Cause.TheVariants.{NotSent, InTransit, Lost}
-use Rattle.link_buffers.specs.Flights.{FlightState}
+use Rattle.link_buffers.specs.proof.Flights.{FlightState}
 use Rattle.bus_machine.specs.LinkEvents.{is_in_flight}
 use Rattle.bus_machine.specs.States.{no_link, node_at}
 use Rattle.bus_machine.specs.Stops.{cause_of, rounds_sent_on, sent_rounds}
-use Rattle.pals_node.specs.Values.{NodeValue}
+use Rattle.pals_node.specs.proof.Values.{NodeValue}
 use Rattle.pals_bus.specs.declared.fields.Fields.{Fields}
-use Rattle.pals_bus.specs.Keeping.{Keeps, copies_in, copies_in_option, run_of, state_of}
+use Rattle.pals_bus.specs.proof.Keeping.{Keeps, copies_in, copies_in_option, run_of, state_of}
 use Rattle.pals_bus.proofs.NodeChanges.{node_here}
 
 -- the source of a link, or of none, is a node

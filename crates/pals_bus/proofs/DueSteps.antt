@@ -12,14 +12,14 @@ use Rattle.pals_base.specs.declared.values.LinkNo.{LinkNo}
 use Rattle.pals_model.specs.declared.flight.FlightCopy.{FlightCopy}
 use Rattle.pals_model.specs.Flights.{is_of, oldest, without_oldest}
 use Rattle.link_buffers.specs.declared.queue.DueEntry.{DueEntry}
-use Rattle.link_buffers.specs.Queues.{is_entry, is_due_at}
+use Rattle.link_buffers.specs.proof.Queues.{is_entry, is_due_at}
 use Rattle.link_buffers.proofs.Order.{entry_is_itself}
 use Rattle.bus_machine.specs.LinkEvents.{is_in_flight}
 use Rattle.bus_machine.specs.States.{Run, BusState, flight_at, link_at}
 use Rattle.bus_machine.specs.Machine.{Arrive}
 use Rattle.pals_bus.specs.Values.{BusValue, Happens}
-use Rattle.pals_bus.specs.Queues.{comes_first, is_copy_of}
-use Rattle.pals_bus.specs.Due.{IsDueTo, IsNextDue, TakesDue, takes_none, takes_next, AreLeft, flying}
+use Rattle.pals_bus.specs.proof.Queues.{comes_first, is_copy_of}
+use Rattle.pals_bus.specs.proof.Due.{IsDueTo, IsNextDue, TakesDue, takes_none, takes_next, AreLeft, flying}
 use Rattle.pals_bus.proofs.QueueMessages.{contains_counted, copy_counts, counts, counts_elsewhere, count_oldest}
 use Rattle.pals_bus.proofs.SameDues.{SameDue, due_of}
 use Rattle.pals_bus.proofs.Taken.{oldest_round}

@@ -7,16 +7,16 @@ use Rattle.std.proofs.lemmas.List.{length-map}
 use Rattle.pals_runs.specs.declared.journal.Arrived.{Arrived}
 use Rattle.pals_runs.specs.declared.journal.Stop.{Stop}
 use Rattle.link_buffers.specs.declared.queue.DueEntry.{DueEntry}
-use Rattle.link_buffers.specs.Flights.{FlightState}
+use Rattle.link_buffers.specs.proof.Flights.{FlightState}
 use Rattle.bus_machine.specs.LinkEvents.{is_in_flight}
 use Rattle.bus_machine.specs.States.{BusState, flight_at, link_at}
 use Rattle.bus_machine.specs.Machine.{Arrive, arrival, early_stop}
 use Rattle.bus_machine.specs.Replay.{entries, stop_entry}
 use Rattle.pals_bus.specs.declared.fields.Fields.{Fields}
 use Rattle.pals_bus.specs.Values.{BusValue, Happens}
-use Rattle.pals_bus.specs.Keeping.{Keeps, owed, run_of, state_of, value_of}
-use Rattle.pals_bus.specs.Queues.{is_copy_of}
-use Rattle.pals_bus.specs.Due.{TakesDue, takes_next, AreLeft}
+use Rattle.pals_bus.specs.proof.Keeping.{Keeps, owed, run_of, state_of, value_of}
+use Rattle.pals_bus.specs.proof.Queues.{is_copy_of}
+use Rattle.pals_bus.specs.proof.Due.{TakesDue, takes_next, AreLeft}
 use Rattle.pals_bus.proofs.SameDues.{SameDue, same_dues}
 use Rattle.pals_bus.proofs.DueEntries.{if_some, copy_there, link_there}
 use Rattle.pals_bus.proofs.DueSteps.{first_flies, first_in_flight, is_next, left_after}

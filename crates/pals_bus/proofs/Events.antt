@@ -5,17 +5,18 @@ use Rattle.std.specs.Arc.{arc_value}
 use Rattle.pals_model.specs.declared.flight.FlightCopy.{FlightCopy}
 use Rattle.pals_runs.specs.declared.journal.Stop.{Stop}
 use Rattle.pals_runs.specs.declared.journal.JournalEntry.{JournalEntry}
-use Rattle.link_buffers.specs.Flights.{FlightState}
+use Rattle.link_buffers.specs.proof.Flights.{FlightState}
 use Rattle.bus_machine.specs.Nodes.{NodeState}
 use Rattle.bus_machine.specs.States.{BusState}
 use Rattle.bus_machine.specs.Machine.{BusEvent, is_allowed, after}
 use Rattle.bus_machine.specs.Replay.{Replays, goes_on, entries}
-use Rattle.pals_node.specs.Values.{NodeValue, with_state}
+use Rattle.pals_node.specs.proof.Values.{NodeValue, with_state}
 use Rattle.pals_bus.specs.declared.fields.Fields.{Fields}
-use Rattle.pals_bus.specs.Values.{BusValue, node_value, Happens}
-use Rattle.pals_bus.specs.Keeping.{AreNodes, HasRooms, Keeps, copies_in, owed, run_of, state_of, value_of}
-use Rattle.pals_bus.specs.Sending.{NoLessRoom}
-use Rattle.pals_bus.specs.Queues.{AreQueues}
+use Rattle.pals_bus.specs.Values.{BusValue, Happens}
+use Rattle.pals_bus.specs.proof.Values.{node_value}
+use Rattle.pals_bus.specs.proof.Keeping.{AreNodes, HasRooms, Keeps, copies_in, owed, run_of, state_of, value_of}
+use Rattle.pals_bus.specs.proof.Sending.{NoLessRoom}
+use Rattle.pals_bus.specs.proof.Queues.{AreQueues}
 use Rattle.pals_bus.proofs.NodeChanges.{states, codes, states-set, codes-set, same_node}
 use Rattle.pals_bus.proofs.Rooms.{rooms_kept}
 

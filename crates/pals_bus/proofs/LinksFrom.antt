@@ -12,13 +12,13 @@ use Rattle.pals_base.specs.declared.values.LinkNo.{LinkNo}
 use Rattle.pals_model.specs.declared.design.Link.{Link}
 use Rattle.pals_model.specs.declared.design.DesignParts.{DesignParts}
 use Rattle.pals_model.specs.Rules.{IsDesign}
-use Rattle.link_buffers.specs.Flights.{FlightState}
-use Rattle.link_buffers.specs.Queues.{QueueState}
+use Rattle.link_buffers.specs.proof.Flights.{FlightState}
+use Rattle.link_buffers.specs.proof.Queues.{QueueState}
 use Rattle.bus_machine.specs.States.{no_link}
-use Rattle.pals_bus.specs.Absent.{no_flight, no_queue}
-use Rattle.pals_bus.specs.Sending.{is_from, HasRoomFor, HasRoomOn}
-use Rattle.pals_bus.specs.Queues.{HasQueueRoomFor, HasQueueRoomOn}
-use Rattle.pals_bus.specs.LinksFrom.{AreOutgoing, links_from, no_numbers, number_of}
+use Rattle.pals_bus.specs.proof.Absent.{no_flight, no_queue}
+use Rattle.pals_bus.specs.proof.Sending.{is_from, HasRoomFor, HasRoomOn}
+use Rattle.pals_bus.specs.proof.Queues.{HasQueueRoomFor, HasQueueRoomOn}
+use Rattle.pals_bus.specs.proof.LinksFrom.{AreOutgoing, links_from, no_numbers, number_of}
 use Rattle.pals_bus.proofs.QueueRooms.{eqb-refl}
 use Rattle.pals_bus.proofs.QueueSends.{all_the_same}
 

@@ -9,8 +9,8 @@ use Rattle.pals_runs.specs.declared.journal.Phase.TheVariants.{Waiting, Running,
 use Rattle.bus_machine.specs.NodeEvents.{is_waiting, next_step, running_step}
 use Rattle.bus_machine.specs.States.{BusState, node_at}
 use Rattle.bus_machine.specs.Machine.{BusEvent, Start, Step, Finish, Send, Drop, Repeat, is_allowed, on_step}
-use Rattle.pals_node.specs.Values.{JobValue}
-use Rattle.pals_node.specs.Answers.{is_busy}
+use Rattle.pals_node.specs.proof.Values.{JobValue}
+use Rattle.pals_node.specs.proof.Answers.{is_busy}
 use Rattle.pals_runs.specs.declared.events.Event.{Event}
 use Rattle.pals_runs.specs.declared.events.Event.TheVariants as event
 use Rattle.bus_machine.specs.LinkEvents.{is_in_flight}
@@ -26,8 +26,9 @@ use Rattle.pals_bus.specs.declared.refusals.BusSendEnd.TheVariants as bus_send
 use Rattle.pals_bus.specs.declared.refusals.LinkEnd.{LinkEnd}
 use Rattle.pals_bus.specs.declared.refusals.LinkEnd.TheVariants as link_end
 use Rattle.pals_bus.specs.Values.{BusValue, Happens}
-use Rattle.pals_bus.specs.Loose.{IsRefused, LooseEnds, start_fault, step_fault, finish_fault, send_fault, link_fault, loose_event, message_of}
-use Rattle.pals_bus.specs.Answers.{StartsRound, BusStartEnds, BusStepEnds, BusFinishEnds, BusSendEnds, LinkEnds}
+use Rattle.pals_bus.specs.Loose.{IsRefused, loose_event, message_of}
+use Rattle.pals_bus.specs.proof.Loose.{LooseEnds, start_fault, step_fault, finish_fault, send_fault, link_fault}
+use Rattle.pals_bus.specs.proof.Answers.{StartsRound, BusStartEnds, BusStepEnds, BusFinishEnds, BusSendEnds, LinkEnds}
 use Rattle.pals_bus.proofs.AfterEvents.{start_after}
 
 -- ---- no stop after an event

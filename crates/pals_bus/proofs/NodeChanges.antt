@@ -10,7 +10,7 @@ use Rattle.std.proofs.lemmas.List.Sums.{sum_by-set, sum_by-le}
 use Rattle.std.proofs.lemmas.Grind.{get_or-set_at}
 use Rattle.pals_base.specs.Steps.{with_places}
 use Rattle.step_code.specs.declared.instr.CodeParts.{CodeParts}
-use Rattle.step_code.specs.Means.{Means}
+use Rattle.step_code.specs.proof.Means.{Means}
 use Rattle.pals_model.specs.declared.design.DesignParts.{DesignParts}
 use Rattle.pals_runs.specs.declared.journal.Phase.{Phase}
 use Rattle.pals_runs.specs.declared.journal.Phase.TheVariants.{Waiting, Running, Between, Holding, Done}
@@ -20,11 +20,11 @@ use Rattle.bus_machine.specs.NodeEvents.{running_step, finished, fired, after_se
 use Rattle.bus_machine.specs.Plans.{component_at}
 use Rattle.bus_machine.specs.States.{no_node}
 use Rattle.bus_machine.proofs.Nodes.{finish_keeps}
-use Rattle.pals_node.specs.Values.{Program, NodeValue, with_state}
+use Rattle.pals_node.specs.proof.Values.{Program, NodeValue, with_state}
 use Rattle.pals_bus.specs.declared.fields.Fields.{Fields}
-use Rattle.pals_bus.specs.Values.{AreCodes, no_code, code_at, node_value}
-use Rattle.pals_bus.specs.Keeping.{IsNodeOf, AreNodes, Keeps, owed, value_of}
-use Rattle.pals_bus.specs.Absent.{no_node_value}
+use Rattle.pals_bus.specs.proof.Values.{AreCodes, no_code, code_at, node_value}
+use Rattle.pals_bus.specs.proof.Keeping.{IsNodeOf, AreNodes, Keeps, owed, value_of}
+use Rattle.pals_bus.specs.proof.Absent.{no_node_value}
 
 abbrev pub states : List NodeValue → List NodeState
 states nodes = map (λ (n : NodeValue). n.state) nodes

@@ -14,14 +14,15 @@ use Rattle.bus_machine.specs.States.{node_at}
 use Rattle.bus_machine.specs.Stops.{link_into}
 use Rattle.bus_machine.specs.Machine.{Finish, Send, missed_stop}
 use Rattle.pals_node.specs.declared.answers.StartEnd.TheVariants as start
-use Rattle.pals_node.specs.Values.{JobValue}
-use Rattle.pals_node.specs.Answers.{Starts, StartEnds, Steps, Finishes, Sends}
+use Rattle.pals_node.specs.proof.Values.{JobValue}
+use Rattle.pals_node.specs.proof.Answers.{Starts, StartEnds, Steps, Finishes, Sends}
 use Rattle.pals_bus.specs.declared.fields.Fields.{Fields}
-use Rattle.pals_bus.specs.Values.{BusValue, node_value, Happens}
-use Rattle.pals_bus.specs.Answers.{StartsRound, MissesMessage, StepsOn}
-use Rattle.pals_bus.specs.Keeping.{Keeps, owed, node_in, copies_in, run_of, state_of, value_of}
-use Rattle.pals_bus.specs.Sending.{HasRoomFor, AreSent}
-use Rattle.pals_bus.specs.Queues.{AreQueues, HasQueueRoomFor}
+use Rattle.pals_bus.specs.Values.{BusValue, Happens}
+use Rattle.pals_bus.specs.proof.Values.{node_value}
+use Rattle.pals_bus.specs.proof.Answers.{StartsRound, MissesMessage, StepsOn}
+use Rattle.pals_bus.specs.proof.Keeping.{Keeps, owed, node_in, copies_in, run_of, state_of, value_of}
+use Rattle.pals_bus.specs.proof.Sending.{HasRoomFor, AreSent}
+use Rattle.pals_bus.specs.proof.Queues.{AreQueues, HasQueueRoomFor}
 use Rattle.pals_bus.proofs.NodeTurns.{Turned, turn_shown, turned_same, turned_told, turned_capacity}
 use Rattle.pals_bus.proofs.NodeSteps.{start_happens, start_keeps, start_misses, miss_keeps, step_happens, step_keeps, finish_happens, finish_room, finish_keeps_bus}
 use Rattle.pals_bus.proofs.Sends.{send_owes, send_happens, send_keeps_bus}

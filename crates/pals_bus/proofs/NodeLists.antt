@@ -13,9 +13,9 @@ use Rattle.bus_machine.specs.declared.plan.Plan.{Plan}
 use Rattle.bus_machine.specs.Nodes.{NodeState}
 use Rattle.bus_machine.specs.NodeEvents.{with_message, arrived, received}
 use Rattle.bus_machine.specs.Targets.{target, action_in}
-use Rattle.pals_node.specs.Values.{NodeValue, with_state}
-use Rattle.pals_bus.specs.Absent.{no_node_value}
-use Rattle.pals_bus.specs.NodeLists.{node_of, target_of_node}
+use Rattle.pals_node.specs.proof.Values.{NodeValue, with_state}
+use Rattle.pals_bus.specs.proof.Absent.{no_node_value}
+use Rattle.pals_bus.specs.proof.NodeLists.{node_of, target_of_node}
 
 -- the targets are those of the nodes, once that of the changed node is put in
 pub targets_kept : (nodes : List NodeValue) (targets kept : List (Option ℕ)) (node : ℕ) (m : NodeValue) → targets ≡ map target_of_node nodes → node < length nodes → kept ≡ slice_set targets node (target_of_node (node_of (slice_set nodes node m) node))

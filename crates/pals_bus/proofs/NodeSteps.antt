@@ -18,15 +18,16 @@ use Rattle.bus_machine.specs.Machine.{BusEvent, Start, Step, Finish, is_allowed,
 use Rattle.bus_machine.specs.Replay.{Replays, goes_on, entries, start_entry}
 use Rattle.bus_machine.proofs.Nodes.{finish_keeps}
 use Rattle.pals_node.specs.declared.answers.StartEnd.TheVariants as start
-use Rattle.pals_node.specs.Values.{NodeValue, JobValue, with_state}
-use Rattle.pals_node.specs.Answers.{Starts, StartEnds, Steps, Finishes}
+use Rattle.pals_node.specs.proof.Values.{NodeValue, JobValue, with_state}
+use Rattle.pals_node.specs.proof.Answers.{Starts, StartEnds, Steps, Finishes}
 use Rattle.pals_bus.specs.declared.fields.Fields.{Fields}
-use Rattle.pals_bus.specs.Values.{node_value, Happens}
-use Rattle.pals_bus.specs.Answers.{StartsRound, MissesMessage, StepsOn}
-use Rattle.pals_bus.specs.Keeping.{HasRooms, Keeps, owed, run_of, state_of, value_of, copies_in}
-use Rattle.pals_bus.specs.Sending.{HasRoomFor}
-use Rattle.pals_bus.specs.Queues.{AreQueues, HasQueueRoomFor}
-use Rattle.pals_bus.specs.Absent.{no_node_value}
+use Rattle.pals_bus.specs.proof.Values.{node_value}
+use Rattle.pals_bus.specs.Values.{Happens}
+use Rattle.pals_bus.specs.proof.Answers.{StartsRound, MissesMessage, StepsOn}
+use Rattle.pals_bus.specs.proof.Keeping.{HasRooms, Keeps, owed, run_of, state_of, value_of, copies_in}
+use Rattle.pals_bus.specs.proof.Sending.{HasRoomFor}
+use Rattle.pals_bus.specs.proof.Queues.{AreQueues, HasQueueRoomFor}
+use Rattle.pals_bus.specs.proof.Absent.{no_node_value}
 use Rattle.pals_bus.proofs.NodeChanges.{nodes-set, node_is, same_node, owed_more, owed_less, owed_finished}
 use Rattle.pals_bus.proofs.Rooms.{rooms-set}
 use Rattle.pals_bus.proofs.QueueRooms.{few_into, queues_started, queues-set}

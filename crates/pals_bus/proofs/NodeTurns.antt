@@ -6,12 +6,12 @@ use Rattle.std.proofs.lemmas.List.{length-set}
 use Rattle.std.proofs.lemmas.Grind.{get_or-set_at}
 use Rattle.pals_runs.specs.declared.journal.JournalEntry.{JournalEntry}
 use Rattle.bus_machine.specs.Nodes.{NodeState}
-use Rattle.pals_node.specs.Values.{NodeValue, with_state}
+use Rattle.pals_node.specs.proof.Values.{NodeValue, with_state}
 use Rattle.pals_bus.specs.declared.fields.Fields.{Fields}
-use Rattle.pals_bus.specs.Values.{node_value}
-use Rattle.pals_bus.specs.Keeping.{Keeps, node_in, value_of}
-use Rattle.pals_bus.specs.Absent.{no_node_value}
-use Rattle.pals_bus.specs.NodeLists.{node_of}
+use Rattle.pals_bus.specs.proof.Values.{node_value}
+use Rattle.pals_bus.specs.proof.Keeping.{Keeps, node_in, value_of}
+use Rattle.pals_bus.specs.proof.Absent.{no_node_value}
+use Rattle.pals_bus.specs.proof.NodeLists.{node_of}
 use Rattle.pals_bus.proofs.NodeChanges.{nodes-set, node_is, node_shown, same_node}
 
 -- what contracts see of the node after it

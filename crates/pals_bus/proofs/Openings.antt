@@ -18,22 +18,22 @@ use Rattle.pals_model.specs.Rules.{IsDesign}
 use Rattle.pals_runs.specs.declared.journal.JournalEntry.{JournalEntry}
 use Rattle.pals_runs.specs.declared.journal.Stop.{Stop}
 use Rattle.step_code.specs.declared.instr.CodeParts.{CodeParts}
-use Rattle.step_code.specs.Means.{Means}
-use Rattle.link_buffers.specs.Flights.{FlightState}
-use Rattle.link_buffers.specs.Queues.{QueueState}
+use Rattle.step_code.specs.proof.Means.{Means}
+use Rattle.link_buffers.specs.proof.Flights.{FlightState}
+use Rattle.link_buffers.specs.proof.Queues.{QueueState}
 use Rattle.bus_machine.specs.Plans.{component_at, plan_of}
 use Rattle.bus_machine.specs.Nodes.{NodeState, opening_node}
 use Rattle.bus_machine.specs.States.{Run, BusState, opening, no_node}
 use Rattle.bus_machine.specs.Replay.{Replays, opens}
 use Rattle.bus_machine.specs.declared.plan.Plan.{Plan}
-use Rattle.pals_node.specs.Values.{NodeValue, Program, program_of, opening_value}
+use Rattle.pals_node.specs.proof.Values.{NodeValue, Program, program_of, opening_value}
 use Rattle.pals_bus.specs.declared.fields.Fields.{Fields}
-use Rattle.pals_bus.specs.Values.{AreCodes, code_at, no_code, opening_bus}
-use Rattle.pals_bus.specs.Keeping.{AreNodes, HasRooms, Keeps, copies_in, owed, run_of, state_of, value_of}
-use Rattle.pals_bus.specs.LinksFrom.{AreOutgoing}
-use Rattle.pals_bus.specs.Queues.{AreQueues}
-use Rattle.pals_bus.specs.Absent.{no_flight, no_queue, no_node_value}
-use Rattle.pals_bus.specs.Openings.{AreOpening}
+use Rattle.pals_bus.specs.proof.Values.{AreCodes, code_at, no_code, opening_bus}
+use Rattle.pals_bus.specs.proof.Keeping.{AreNodes, HasRooms, Keeps, copies_in, owed, run_of, state_of, value_of}
+use Rattle.pals_bus.specs.proof.LinksFrom.{AreOutgoing}
+use Rattle.pals_bus.specs.proof.Queues.{AreQueues}
+use Rattle.pals_bus.specs.proof.Absent.{no_flight, no_queue, no_node_value}
+use Rattle.pals_bus.specs.proof.Openings.{AreOpening}
 use Rattle.pals_bus.proofs.NodeChanges.{states, codes, codes_mean}
 use Rattle.pals_bus.proofs.QueueSends.{queues_open}
 

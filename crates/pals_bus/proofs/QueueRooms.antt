@@ -14,13 +14,13 @@ use Rattle.pals_model.specs.declared.design.DesignParts.{DesignParts}
 use Rattle.pals_model.specs.declared.design.Link.{Link}
 use Rattle.pals_model.specs.Ports.{ins_in}
 use Rattle.pals_model.specs.Rules.{IsComponent, IsDesign, port_place}
-use Rattle.link_buffers.specs.Flights.{FlightState}
-use Rattle.link_buffers.specs.Queues.{QueueState, is_entry}
+use Rattle.link_buffers.specs.proof.Flights.{FlightState}
+use Rattle.link_buffers.specs.proof.Queues.{QueueState, is_entry}
 use Rattle.bus_machine.specs.States.{no_link}
-use Rattle.pals_node.specs.Values.{NodeValue}
-use Rattle.pals_bus.specs.Absent.{no_node_value, no_queue, no_link_no}
-use Rattle.pals_bus.specs.Keeping.{copies_in}
-use Rattle.pals_bus.specs.Queues.{AreQueues, AreQueuesAmid, HasQueueRoomFor, NoLessQueueRoom, entries_in, is_awaited, is_copy_of, is_between}
+use Rattle.pals_node.specs.proof.Values.{NodeValue}
+use Rattle.pals_bus.specs.proof.Absent.{no_node_value, no_queue, no_link_no}
+use Rattle.pals_bus.specs.proof.Keeping.{copies_in}
+use Rattle.pals_bus.specs.proof.Queues.{AreQueues, AreQueuesAmid, HasQueueRoomFor, NoLessQueueRoom, entries_in, is_awaited, is_copy_of, is_between}
 use Rattle.pals_bus.proofs.Rooms.{flight_is}
 
 -- ---- counts

@@ -11,19 +11,19 @@ use Rattle.pals_model.specs.declared.design.Link.{Link}
 use Rattle.pals_model.specs.declared.flight.FlightCopy.{FlightCopy}
 use Rattle.pals_model.specs.Flights.{oldest}
 use Rattle.pals_runs.specs.declared.journal.JournalEntry.TheVariants as entry
-use Rattle.link_buffers.specs.Flights.{FlightState}
-use Rattle.link_buffers.specs.Queues.{QueueState}
+use Rattle.link_buffers.specs.proof.Flights.{FlightState}
+use Rattle.link_buffers.specs.proof.Queues.{QueueState}
 use Rattle.bus_machine.specs.LinkEvents.{once_more, repeated}
 use Rattle.bus_machine.specs.States.{no_link, flight_at}
 use Rattle.bus_machine.specs.Machine.{Repeat}
 use Rattle.bus_machine.specs.Replay.{Replays, goes_on}
-use Rattle.pals_node.specs.Values.{NodeValue}
+use Rattle.pals_node.specs.proof.Values.{NodeValue}
 use Rattle.pals_bus.specs.declared.fields.Fields.{Fields}
 use Rattle.pals_bus.specs.Values.{Happens}
-use Rattle.pals_bus.specs.Keeping.{HasRooms, Keeps, owed, run_of, state_of, value_of, copies_in}
-use Rattle.pals_bus.specs.Sending.{with_copy}
-use Rattle.pals_bus.specs.Queues.{AreQueues, is_awaited, with_due}
-use Rattle.pals_bus.specs.Absent.{no_flight, no_queue}
+use Rattle.pals_bus.specs.proof.Keeping.{HasRooms, Keeps, owed, run_of, state_of, value_of, copies_in}
+use Rattle.pals_bus.specs.proof.Sending.{with_copy}
+use Rattle.pals_bus.specs.proof.Queues.{AreQueues, is_awaited, with_due}
+use Rattle.pals_bus.specs.proof.Absent.{no_flight, no_queue}
 use Rattle.pals_bus.proofs.Rooms.{copies-set, flight_is, flight_here}
 use Rattle.pals_bus.proofs.QueueRooms.{IsFewInto, count-less, few_into}
 use Rattle.pals_bus.proofs.QueueMessages.{copy_added}

@@ -6,15 +6,15 @@ use Rattle.std.proofs.Math.Seq.{map-set_same}
 use Rattle.std.proofs.lemmas.List.{length-map, get_or_default}
 use Rattle.pals_base.specs.declared.values.LinkNo.{LinkNo}
 use Rattle.pals_model.specs.declared.design.Link.{Link}
-use Rattle.link_buffers.specs.Flights.{FlightState}
-use Rattle.link_buffers.specs.Queues.{QueueState}
+use Rattle.link_buffers.specs.proof.Flights.{FlightState}
+use Rattle.link_buffers.specs.proof.Queues.{QueueState}
 use Rattle.bus_machine.specs.States.{no_link}
 use Rattle.pals_bus.specs.declared.fields.Fields.{Fields}
-use Rattle.pals_bus.specs.Keeping.{Keeps, copies_in}
-use Rattle.pals_bus.specs.Sending.{NoLessRoom}
-use Rattle.pals_bus.specs.Queues.{NoLessQueueRoom, entries_in}
+use Rattle.pals_bus.specs.proof.Keeping.{Keeps, copies_in}
+use Rattle.pals_bus.specs.proof.Sending.{NoLessRoom}
+use Rattle.pals_bus.specs.proof.Queues.{NoLessQueueRoom, entries_in}
 use Rattle.pals_bus.proofs.QueueRooms.{queue_more, queues_copies, queues_more}
-use Rattle.pals_bus.specs.Absent.{no_flight, no_queue}
+use Rattle.pals_bus.specs.proof.Absent.{no_flight, no_queue}
 use Rattle.pals_bus.proofs.Rooms.{no_less-set}
 use Rattle.pals_bus.proofs.Events.{keeps_room}
 use Rattle.pals_bus.proofs.Taken.{target_within}

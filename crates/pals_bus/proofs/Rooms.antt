@@ -6,11 +6,11 @@ use Rattle.std.proofs.lemmas.List.{map-set, length-map, get_or-map, get_or-set_o
 use Rattle.std.proofs.lemmas.Grind.{get_or-set_at}
 use Rattle.std.proofs.lemmas.Option.{slice_get_within}
 use Rattle.pals_model.specs.declared.design.Link.{Link}
-use Rattle.link_buffers.specs.Flights.{FlightState}
-use Rattle.pals_node.specs.Values.{NodeValue}
-use Rattle.pals_bus.specs.Keeping.{HasRooms, copies_in}
-use Rattle.pals_bus.specs.Absent.{no_flight, no_node_value}
-use Rattle.pals_bus.specs.Sending.{HasRoomFor, NoLessRoom}
+use Rattle.link_buffers.specs.proof.Flights.{FlightState}
+use Rattle.pals_node.specs.proof.Values.{NodeValue}
+use Rattle.pals_bus.specs.proof.Keeping.{HasRooms, copies_in}
+use Rattle.pals_bus.specs.proof.Absent.{no_flight, no_node_value}
+use Rattle.pals_bus.specs.proof.Sending.{HasRoomFor, NoLessRoom}
 
 -- ---- copies
 pub copies-set : (flights : List FlightState) (at : ℕ) (flight : FlightState) → copies_in (slice_set flights at flight) ≡ slice_set (copies_in flights) at flight.copies

@@ -23,7 +23,7 @@ use Rattle.bus_machine.specs.States.{Run, BusState, node_at, flight_at, link_at,
 use Rattle.bus_machine.specs.Stops.{missing_link, sent_rounds}
 use Rattle.bus_machine.specs.Machine.{BusEvent, Start, Step, Finish, Send, Arrive, Drop, Repeat, is_allowed, after, after_start, on_step, flight_after_send}
 use Rattle.bus_machine.specs.Agreement.{Agrees}
-use Rattle.bus_machine.specs.Laws.{IsRunOf}
+use Rattle.bus_machine.specs.proof.Laws.{IsRunOf}
 use Rattle.bus_machine.specs.Replay.{Replays, opens, goes_on}
 use Rattle.bus_machine.proofs.Arrivals.{replay_agrees}
 use Rattle.bus_machine.proofs.Lists.{numbered_at, length-numbered}

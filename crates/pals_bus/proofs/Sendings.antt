@@ -16,7 +16,7 @@ use Rattle.pals_model.specs.declared.design.Link.{Link}
 use Rattle.pals_model.specs.declared.rounds.Delays.{Delays}
 use Rattle.pals_model.specs.declared.flight.FlightCopy.{FlightCopy}
 use Rattle.pals_model.specs.Delays.{delay_of}
-use Rattle.link_buffers.specs.Flights.{FlightState}
+use Rattle.link_buffers.specs.proof.Flights.{FlightState}
 use Rattle.bus_machine.specs.declared.plan.Plan.{Plan}
 use Rattle.bus_machine.specs.Plans.{plan_of}
 use Rattle.bus_machine.specs.Nodes.{NodeState, round_of}
@@ -25,9 +25,9 @@ use Rattle.bus_machine.specs.LinkEvents.{sent_copy}
 use Rattle.bus_machine.specs.States.{Run, BusState, node_at, flight_at, no_link}
 use Rattle.bus_machine.specs.Machine.{flight_after_send}
 use Rattle.bus_machine.proofs.Lists.{numbered_at, length-numbered}
-use Rattle.pals_bus.specs.Keeping.{copies_in}
-use Rattle.pals_bus.specs.Absent.{no_flight, no_link_no}
-use Rattle.pals_bus.specs.Sending.{is_from, place_of, NoLessRoom, with_copy, sent_flight, AreSent}
+use Rattle.pals_bus.specs.proof.Keeping.{copies_in}
+use Rattle.pals_bus.specs.proof.Absent.{no_flight, no_link_no}
+use Rattle.pals_bus.specs.proof.Sending.{is_from, place_of, NoLessRoom, with_copy, sent_flight, AreSent}
 use Rattle.pals_bus.proofs.Rooms.{flight_is, no_less-set, NoLessElsewhere}
 
 -- ---- room on the first of some links

@@ -16,14 +16,15 @@ use Rattle.bus_machine.specs.NodeEvents.{message_from, sent_from}
 use Rattle.bus_machine.specs.States.{node_at}
 use Rattle.bus_machine.specs.Machine.{Send, flight_after_send}
 use Rattle.bus_machine.specs.Replay.{Replays, goes_on}
-use Rattle.pals_node.specs.Values.{NodeValue}
-use Rattle.pals_node.specs.Answers.{Sends}
+use Rattle.pals_node.specs.proof.Values.{NodeValue}
+use Rattle.pals_node.specs.proof.Answers.{Sends}
 use Rattle.pals_bus.specs.declared.fields.Fields.{Fields}
-use Rattle.pals_bus.specs.Values.{node_value, Happens}
-use Rattle.pals_bus.specs.Keeping.{Keeps, owed, run_of, state_of, value_of}
-use Rattle.pals_bus.specs.Sending.{is_from, HasRoomFor, AreSent}
-use Rattle.pals_bus.specs.Queues.{AreQueues, AreQueuesAmid}
-use Rattle.pals_bus.specs.Absent.{no_node_value}
+use Rattle.pals_bus.specs.proof.Values.{node_value}
+use Rattle.pals_bus.specs.Values.{Happens}
+use Rattle.pals_bus.specs.proof.Keeping.{Keeps, owed, run_of, state_of, value_of}
+use Rattle.pals_bus.specs.proof.Sending.{is_from, HasRoomFor, AreSent}
+use Rattle.pals_bus.specs.proof.Queues.{AreQueues, AreQueuesAmid}
+use Rattle.pals_bus.specs.proof.Absent.{no_node_value}
 use Rattle.pals_bus.proofs.NodeChanges.{nodes-set, node_is, same_node, is_unsent, owed_less, owed_sent}
 use Rattle.pals_bus.proofs.Rooms.{room_of, rooms-set}
 use Rattle.pals_bus.proofs.QueueRooms.{queues_amid}

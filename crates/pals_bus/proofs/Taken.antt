@@ -12,20 +12,20 @@ use Rattle.pals_model.specs.declared.flight.FlightCopy.{FlightCopy}
 use Rattle.pals_model.specs.Flights.{is_of, oldest, without_oldest}
 use Rattle.pals_model.specs.Rules.{IsDesign}
 use Rattle.pals_runs.specs.declared.journal.JournalEntry.TheVariants as entry
-use Rattle.link_buffers.specs.Flights.{FlightState}
-use Rattle.link_buffers.specs.Queues.{QueueState}
+use Rattle.link_buffers.specs.proof.Flights.{FlightState}
+use Rattle.link_buffers.specs.proof.Queues.{QueueState}
 use Rattle.link_buffers.proofs.Counts.{without_none}
 use Rattle.bus_machine.specs.LinkEvents.{is_in_flight}
 use Rattle.bus_machine.specs.States.{no_link, flight_at}
 use Rattle.bus_machine.specs.Machine.{Drop}
 use Rattle.bus_machine.specs.Replay.{Replays, goes_on}
-use Rattle.pals_node.specs.Values.{NodeValue}
+use Rattle.pals_node.specs.proof.Values.{NodeValue}
 use Rattle.pals_bus.specs.declared.fields.Fields.{Fields}
 use Rattle.pals_bus.specs.Values.{Happens}
-use Rattle.pals_bus.specs.Keeping.{Keeps, owed, run_of, state_of, value_of, copies_in}
-use Rattle.pals_bus.specs.Sending.{NoLessRoom}
-use Rattle.pals_bus.specs.Queues.{AreQueues, without_due}
-use Rattle.pals_bus.specs.Absent.{no_flight, no_queue}
+use Rattle.pals_bus.specs.proof.Keeping.{Keeps, owed, run_of, state_of, value_of, copies_in}
+use Rattle.pals_bus.specs.proof.Sending.{NoLessRoom}
+use Rattle.pals_bus.specs.proof.Queues.{AreQueues, without_due}
+use Rattle.pals_bus.specs.proof.Absent.{no_flight, no_queue}
 use Rattle.pals_bus.proofs.Rooms.{copies-set, flight_is, rooms_kept}
 use Rattle.pals_bus.proofs.QueueRooms.{either, queue_more}
 use Rattle.pals_bus.proofs.QueueMessages.{copy_taken}

@@ -3,7 +3,7 @@ use Rattle.std.proofs.Common.{◌≡◌, ◌∙◌, inl, inr, ℕ, ◌+◌, ◌<
 use Rattle.std.specs.Prelude.{slice_index_or, slice_set}
 use Rattle.std.proofs.lemmas.Bool.{cases_lt, cases_eq, ltb-true, ltb-false, le-ltb, false≢true}
 use Rattle.std.proofs.lemmas.List.{get_or-set_same, get_or-set_other, get_or_past}
-use Rattle.pals_bus.specs.TargetLists.{is_below, IsBound, IsFirst}
+use Rattle.pals_bus.specs.proof.TargetLists.{is_below, IsBound, IsFirst}
 
 -- ---- the order
 pub no_lower : (t bound other : Option ℕ) → is_below t bound ≡ false → is_below bound other ≡ false → is_below t other ≡ false

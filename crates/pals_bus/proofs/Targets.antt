@@ -5,12 +5,12 @@ use Rattle.std.proofs.lemmas.Bool.{false≢true}
 use Rattle.std.proofs.lemmas.List.{length-map, get_or-map}
 use Rattle.pals_runs.specs.declared.journal.Stop.{Stop}
 use Rattle.pals_bus.specs.declared.fields.Fields.{Fields}
-use Rattle.pals_bus.specs.Keeping.{Keeps, value_of}
+use Rattle.pals_bus.specs.proof.Keeping.{Keeps, value_of}
 use Rattle.pals_bus.specs.Values.{BusValue}
-use Rattle.pals_bus.specs.Absent.{no_node_value}
-use Rattle.pals_bus.specs.NodeLists.{target_of_node}
+use Rattle.pals_bus.specs.proof.Absent.{no_node_value}
+use Rattle.pals_bus.specs.proof.NodeLists.{target_of_node}
 use Rattle.pals_bus.proofs.NodeChanges.{node_is}
-use Rattle.pals_bus.specs.Meeting.{target_in, HasEnded}
+use Rattle.pals_bus.specs.proof.Meeting.{target_in, HasEnded}
 
 -- that of a node is the one in the list
 pub target_listed : (f : Fields) (b : BusValue) (targets : List (Option ℕ)) (node : ℕ) (o : Option ℕ) → Keeps f → value_of f ≡ b → targets ≡ map target_of_node f.nodes → node < length f.nodes → slice_index_or targets node None ≡ o → target_in b node ≡ o

@@ -1,14 +1,3 @@
 pub mod Values
-pub mod Absent
-pub mod NodeLists
-pub mod Keeping
-pub mod Answers
-pub mod Queues
-pub mod Due
-pub mod Sending
-pub mod LinksFrom
-pub mod Codes
-pub mod Meeting
 pub mod Loose
-pub mod Openings
-pub mod TargetLists
+pub mod proof

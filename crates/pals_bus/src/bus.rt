@@ -9,7 +9,7 @@ ghost use Rattle.bus_machine.specs.Plans.{plan_of};
 ghost use Rattle.bus_machine.specs.States.{node_at, flight_at};
 ghost use Rattle.bus_machine.specs.Targets.{next_of};
 ghost use Rattle.pals_model.specs.Flights.{oldest};
-ghost use Rattle.pals_bus.specs.Values.{opening_bus, AreCodes};
+ghost use Rattle.pals_bus.specs.proof.Values.{opening_bus, AreCodes};
 
 use crate::Fields;
 use crate::opening::{empty_flights, empty_queues, fresh_nodes, opening_nodes, room_for_values};
@@ -36,11 +36,11 @@ impl Model for Bus {
 
     ghost Value = { BusValue };
 
-    ghost use Rattle.pals_bus.specs.Codes.{bus_code};
+    ghost use Rattle.pals_bus.specs.proof.Codes.{bus_code};
 
     ghost coded = { bus_code };
 
-    ghost use Rattle.pals_bus.specs.Keeping.{Keeps, value_of};
+    ghost use Rattle.pals_bus.specs.proof.Keeping.{Keeps, value_of};
 
     ghost view = { λ b. value_of b.fields };
 

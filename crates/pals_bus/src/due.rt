@@ -1,6 +1,6 @@
 //! All messages that are due to a node.
 ghost use Rattle.std.specs.Prelude.{◌≡◌, ◌<◌, ◌↔◌, length, IsTrue, IfErr, OnOk};
-ghost use Rattle.pals_bus.specs.Due.{TakesAllDue, DueEnds, HasDue};
+ghost use Rattle.pals_bus.specs.proof.Due.{TakesAllDue, DueEnds, HasDue};
 
 use crate::DueEnd;
 use crate::bus::Bus;

@@ -1,9 +1,9 @@
 //! All messages that are due to a node.
 ghost use Rattle.std.specs.Prelude.{◌≡◌, ◌+◌, ◌*◌, ◌^◌, ◌<◌, ◌≤◌, [], None, length, sum_by, IfOk, IfErr, IfNone, OnOk, vec_capacity};
 ghost use Rattle.std.specs.Arc.{arc_value};
-ghost use Rattle.pals_bus.specs.Due.{AreLeft, TakesDue, TakesAllDue, DueEnds};
-ghost use Rattle.pals_bus.specs.Keeping.{Keeps, owed, value_of};
-ghost use Rattle.pals_bus.specs.Queues.{AreDueEntries};
+ghost use Rattle.pals_bus.specs.proof.Due.{AreLeft, TakesDue, TakesAllDue, DueEnds};
+ghost use Rattle.pals_bus.specs.proof.Keeping.{Keeps, owed, value_of};
+ghost use Rattle.pals_bus.specs.proof.Queues.{AreDueEntries};
 
 use crate::fields::Fields;
 use crate::refusals::DueEnd;

@@ -4,10 +4,10 @@ ghost use Rattle.std.specs.Arc.{arc_value};
 ghost use Rattle.pals_base.specs.declared.limits.TheConstants.{PORTS};
 ghost use Rattle.pals_model.specs.Inputs.{values_at};
 ghost use Rattle.bus_machine.specs.States.{link_at};
-ghost use Rattle.pals_bus.specs.Absent.{no_flight, no_queue};
-ghost use Rattle.pals_bus.specs.Keeping.{Keeps, owed, copies_in};
-ghost use Rattle.pals_bus.specs.Queues.{HasQueueRoomFor};
-ghost use Rattle.pals_bus.specs.Sending.{HasRoomFor};
+ghost use Rattle.pals_bus.specs.proof.Absent.{no_flight, no_queue};
+ghost use Rattle.pals_bus.specs.proof.Keeping.{Keeps, owed, copies_in};
+ghost use Rattle.pals_bus.specs.proof.Queues.{HasQueueRoomFor};
+ghost use Rattle.pals_bus.specs.proof.Sending.{HasRoomFor};
 
 use crate::flights::{reserve_links, reserve_queues};
 use crate::node_list::NodeList;

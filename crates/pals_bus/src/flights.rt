@@ -6,12 +6,12 @@ ghost use Rattle.pals_base.specs.declared.limits.TheConstants.{HOUR, READING};
 ghost use Rattle.pals_model.specs.Delays.{AreDelays};
 ghost use Rattle.pals_model.specs.Flights.{oldest, without_oldest};
 ghost use Rattle.pals_model.specs.Rules.{IsDesign};
-ghost use Rattle.pals_bus.specs.Keeping.{Keeps, copies_in};
+ghost use Rattle.pals_bus.specs.proof.Keeping.{Keeps, copies_in};
 ghost use Rattle.bus_machine.specs.States.{link_at};
-ghost use Rattle.pals_bus.specs.Absent.{no_flight, no_queue};
-ghost use Rattle.pals_bus.specs.Queues.{AreQueues, AreQueuesAmid, HasQueueRoomOn, NoLessQueueRoom, entries_in, with_due, without_due};
-ghost use Rattle.pals_bus.specs.Sending.{is_from, HasRoomFor, HasRoomOn, NoLessRoom, with_copy, AreSent};
-ghost use Rattle.pals_bus.specs.LinksFrom.{AreOutgoing};
+ghost use Rattle.pals_bus.specs.proof.Absent.{no_flight, no_queue};
+ghost use Rattle.pals_bus.specs.proof.Queues.{AreQueues, AreQueuesAmid, HasQueueRoomOn, NoLessQueueRoom, entries_in, with_due, without_due};
+ghost use Rattle.pals_bus.specs.proof.Sending.{is_from, HasRoomFor, HasRoomOn, NoLessRoom, with_copy, AreSent};
+ghost use Rattle.pals_bus.specs.proof.LinksFrom.{AreOutgoing};
 
 use crate::fields::Fields;
 use link_buffers::{DueEntry, DueQueue, Flight};

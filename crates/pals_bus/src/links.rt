@@ -2,7 +2,7 @@
 ghost use Rattle.std.specs.Prelude.{◌≡◌, ◌<◌, length, IfOk, IfErr, OnOk, OnErr};
 ghost use Rattle.bus_machine.specs.Machine.{Arrive, Drop, Repeat, arrival};
 ghost use Rattle.pals_bus.specs.Values.{Happens};
-ghost use Rattle.pals_bus.specs.Answers.{LinkEnds};
+ghost use Rattle.pals_bus.specs.proof.Answers.{LinkEnds};
 
 use crate::LinkEnd;
 use crate::bus::Bus;

@@ -3,7 +3,7 @@ ghost use Rattle.std.specs.Prelude.{◌≡◌, ◌≢◌, ◌<◌, ◌↔◌, No
 ghost use Rattle.bus_machine.specs.Plans.{plan_of};
 ghost use Rattle.bus_machine.specs.States.{node_at};
 ghost use Rattle.bus_machine.specs.Targets.{next_of};
-ghost use Rattle.pals_bus.specs.Meeting.{target_in, HasEnded, Meets};
+ghost use Rattle.pals_bus.specs.proof.Meeting.{target_in, HasEnded, Meets};
 
 use crate::answers::Meet;
 use crate::bus::Bus;

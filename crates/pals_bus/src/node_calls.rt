@@ -1,10 +1,10 @@
 //! The calls of one of a bus's nodes, which change nothing else.
 ghost use Rattle.std.specs.Prelude.{◌≡◌, ◌<◌, length, IfOk, IfErr, OnOk, OnErr, slice_set};
-ghost use Rattle.pals_node.specs.Answers.{Starts, StartEnds, Steps, StepEnds, FinishesWith, FinishesHere, NoneRuns, Sends, SendEnds};
-ghost use Rattle.pals_bus.specs.Values.{node_value};
+ghost use Rattle.pals_node.specs.proof.Answers.{Starts, StartEnds, Steps, StepEnds, FinishesWith, FinishesHere, NoneRuns, Sends, SendEnds};
+ghost use Rattle.pals_bus.specs.proof.Values.{node_value};
 ghost use Rattle.bus_machine.specs.Nodes.{round_of};
 ghost use Rattle.bus_machine.specs.States.{node_at};
-ghost use Rattle.pals_bus.specs.Keeping.{Keeps, node_in, state_of, value_of};
+ghost use Rattle.pals_bus.specs.proof.Keeping.{Keeps, node_in, state_of, value_of};
 
 use crate::fields::Fields;
 use pals_base::{Items, Nanos, NodeNo, Tuple};

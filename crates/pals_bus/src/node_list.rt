@@ -1,9 +1,9 @@
 //! The nodes of a run, with their targets.
 ghost use Rattle.std.specs.Prelude.{◌≡◌, ◌<◌, length, map, OnOk, OnErr, IfOk, IfErr, slice_index_or, slice_set};
 ghost use Rattle.bus_machine.specs.NodeEvents.{arrived, received};
-ghost use Rattle.pals_node.specs.Answers.{Starts, StartEnds, Steps, StepEnds, FinishesWith, FinishesHere, NoneRuns, Sends, SendEnds};
-ghost use Rattle.pals_node.specs.Values.{with_state};
-ghost use Rattle.pals_bus.specs.NodeLists.{node_of, target_of_node};
+ghost use Rattle.pals_node.specs.proof.Answers.{Starts, StartEnds, Steps, StepEnds, FinishesWith, FinishesHere, NoneRuns, Sends, SendEnds};
+ghost use Rattle.pals_node.specs.proof.Values.{with_state};
+ghost use Rattle.pals_bus.specs.proof.NodeLists.{node_of, target_of_node};
 
 use crate::target_list::TargetList;
 use pals_base::{Items, Nanos, NoMemory, Port, Tuple};
@@ -22,18 +22,18 @@ pub struct NodeList {
 
 impl Model for NodeList {
     ghost use Rattle.std.specs.Prelude.{List};
-    ghost use Rattle.pals_node.specs.Values.{NodeValue};
+    ghost use Rattle.pals_node.specs.proof.Values.{NodeValue};
 
     ghost Value = { List NodeValue };
 
-    ghost use Rattle.pals_bus.specs.Codes.{nodes_code};
+    ghost use Rattle.pals_bus.specs.proof.Codes.{nodes_code};
 
     ghost coded = { nodes_code };
 
     ghost view = { λ list. list.nodes };
 
     ghost use Rattle.std.specs.Prelude.{◌≡◌, map};
-    ghost use Rattle.pals_bus.specs.NodeLists.{target_of_node};
+    ghost use Rattle.pals_bus.specs.proof.NodeLists.{target_of_node};
 
     ghost invariant = { λ list. list.targets ≡ map target_of_node list.nodes };
 }

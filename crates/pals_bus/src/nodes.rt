@@ -2,9 +2,9 @@
 ghost use Rattle.std.specs.Prelude.{◌≡◌, ◌<◌, ◌≤◌, length, IfOk, IfErr, OnOk, OnErr, IfSome, true};
 ghost use Rattle.pals_base.specs.declared.limits.TheConstants.{READING};
 ghost use Rattle.bus_machine.specs.Machine.{Finish};
-ghost use Rattle.pals_bus.specs.Meeting.{GoesAt};
+ghost use Rattle.pals_bus.specs.proof.Meeting.{GoesAt};
 ghost use Rattle.pals_bus.specs.Values.{Happens};
-ghost use Rattle.pals_bus.specs.Answers.{StartsRound, BusStartEnds, StepsOn, BusStepEnds, FinishesStep, BusFinishEnds, SendsRound, BusSendEnds};
+ghost use Rattle.pals_bus.specs.proof.Answers.{StartsRound, BusStartEnds, StepsOn, BusStepEnds, FinishesStep, BusFinishEnds, SendsRound, BusSendEnds};
 
 use crate::bus::Bus;
 use crate::{BusFinishEnd, BusSendEnd, BusStartEnd, BusStepEnd};

@@ -1,6 +1,6 @@
 //! The links from each node of a design.
 ghost use Rattle.std.specs.Prelude.{◌≡◌, ◌<◌, [], length, map, IfOk, slice_index_or};
-ghost use Rattle.pals_bus.specs.LinksFrom.{AreOutgoing, no_numbers};
+ghost use Rattle.pals_bus.specs.proof.LinksFrom.{AreOutgoing, no_numbers};
 
 use pals_base::{Items, LinkNo, NoMemory, NodeNo};
 use pals_model::{Component, Design};

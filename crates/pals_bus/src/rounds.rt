@@ -4,8 +4,8 @@ ghost use Rattle.std.specs.Arc.{arc_value};
 ghost use Rattle.pals_base.specs.declared.limits.TheConstants.{READING};
 ghost use Rattle.bus_machine.specs.Machine.{Finish};
 ghost use Rattle.pals_bus.specs.Values.{Happens};
-ghost use Rattle.pals_bus.specs.Answers.{StartsRound, BusStartEnds, StepsOn, BusStepEnds, FinishesStep, BusFinishEnds, SendsRound, BusSendEnds};
-ghost use Rattle.pals_bus.specs.Keeping.{Keeps, value_of};
+ghost use Rattle.pals_bus.specs.proof.Answers.{StartsRound, BusStartEnds, StepsOn, BusStepEnds, FinishesStep, BusFinishEnds, SendsRound, BusSendEnds};
+ghost use Rattle.pals_bus.specs.proof.Keeping.{Keeps, value_of};
 
 use crate::fields::Fields;
 use crate::refusals::{BusFinishEnd, BusSendEnd, BusStartEnd, BusStepEnd};

@@ -1,4 +1,2 @@
 pub mod Stream
-pub mod Memory
-pub mod Counted
-pub mod Messages
+pub mod proof

@@ -1,7 +1,7 @@
 //! A source in memory.
 ghost use Rattle.std.specs.Prelude.{◌≡◌, ◌↔◌, ◌<◌, ◌≤◌, [], ◌++◌, length, take, drop, Some, IsErr, IfOk, OnErr, Contains};
 ghost use Rattle.pals_io.specs.Stream.{one_more};
-ghost use Rattle.pals_io.specs.Memory.{count_given, after_giving, after_failed_read};
+ghost use Rattle.pals_io.specs.proof.Memory.{count_given, after_giving, after_failed_read};
 
 use super::ends::Failed;
 use super::streams::Source;
@@ -20,7 +20,7 @@ pub struct MemSource {
 
 impl Model for MemSource {
     ghost use Rattle.std.specs.Prelude.{◌<◌, ◌≤◌, length, drop};
-    ghost use Rattle.pals_io.specs.Memory.{SourceState};
+    ghost use Rattle.pals_io.specs.proof.Memory.{SourceState};
 
     ghost Value = { SourceState };
 

@@ -18,7 +18,7 @@ pub struct WriteSink<W> {
 }
 
 impl<W> Model for WriteSink<W> {
-    ghost use Rattle.pals_io.specs.Counted.{Counted};
+    ghost use Rattle.pals_io.specs.proof.Counted.{Counted};
 
     ghost Value = { Counted W };
 

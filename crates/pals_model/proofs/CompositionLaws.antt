@@ -25,7 +25,7 @@ use Rattle.pals_model.specs.declared.design.DesignParts.{DesignParts}
 use Rattle.pals_model.specs.declared.rounds.Env.{Env}
 use Rattle.pals_model.specs.Inputs.{rate_of, rate_in, values_at, feed, inputs_of, inputs_in, source_of, from_link, from_feed, link_goes_to, feed_goes_to, reading}
 use Rattle.pals_model.specs.Composition.{comp, next, state, msg, no_frame, steps_from, steps_of_round, message_of, tuple_in, part, taps_of}
-use Rattle.pals_model.specs.Laws.{own_steps, OneFrameEach, OneMessageEach, StateBegins, LinksBeginAbsent, StateGoesOn, MessageFromSource, PartFromSteps, RunsAlone, DependsOnPast}
+use Rattle.pals_model.specs.proof.Laws.{own_steps, OneFrameEach, OneMessageEach, StateBegins, LinksBeginAbsent, StateGoesOn, MessageFromSource, PartFromSteps, RunsAlone, DependsOnPast}
 
 -- ---- lengths
 length-steps_from : (design : DesignParts) (values : List Port) (messages : List (List Port)) (node : ℕ) (cs : List Component) (frames : List Frame) → length frames ≡ length cs → length (steps_from design values messages node cs frames) ≡ length cs

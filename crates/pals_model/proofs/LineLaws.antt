@@ -30,7 +30,8 @@ use Rattle.pals_model.specs.declared.rounds.Part.{Part}
 use Rattle.pals_model.specs.Composition.{part}
 use Rattle.pals_model.specs.RoundTexts.{text_of, value_text, port_text, with_commas, tuple_text, state_name, state_text, variable_text, vars_text, component_line, tap_line, round_line, part_lines, tap_lines, composed_lines, report_lines}
 use Rattle.pals_model.specs.Rules.{IsDesign, IsComponent, IsTap}
-use Rattle.pals_model.specs.Laws.Lines.{is_line_feed, IsLine, RowHasLines, ReportHasLines, TextSplits, RowSplits, ReportSplits}
+use Rattle.pals_model.specs.RoundTexts.{is_line_feed}
+use Rattle.pals_model.specs.proof.Laws.Lines.{IsLine, RowHasLines, ReportHasLines, TextSplits, RowSplits, ReportSplits}
 use Rattle.pals_model.proofs.Lookups.{at_element}
 use Rattle.pals_model.proofs.Words.{all_pass, word_without, path_without}
 

@@ -16,7 +16,7 @@ use Rattle.pals_model.specs.declared.design.DesignParts.{DesignParts}
 use Rattle.pals_model.specs.LinkNames.{port_name, in_port_name, target_name, link_name}
 use Rattle.pals_model.specs.Ports.{ins_in}
 use Rattle.pals_model.specs.Rules.{IsDesign, IsTarget, IsLink, LinkPrecedes, port_place}
-use Rattle.pals_model.specs.Laws.Names.{NodeIsFound, FoundNodeHasPath, TargetNamesDiffer, LinkIsFound, FoundLinkHasName}
+use Rattle.pals_model.specs.proof.Laws.Names.{NodeIsFound, FoundNodeHasPath, TargetNamesDiffer, LinkIsFound, FoundLinkHasName}
 use Rattle.pals_model.proofs.Lookups.{pair_at, at_element, first_at, found_at}
 use Rattle.pals_model.proofs.ShapeLaws.{component_at, is_behaviour}
 use Rattle.pals_model.proofs.Words.{IsWithout, all_pass, word_without, same_bytes, other_bytes, splits_at_last}

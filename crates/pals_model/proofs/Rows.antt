@@ -4,7 +4,7 @@ use Rattle.std.specs.Fmt.{digits}
 use Rattle.pals_base.specs.Fire.{fire}
 use Rattle.pals_model.specs.Inputs.{feed}
 use Rattle.pals_model.specs.Composition.{comp, part}
-use Rattle.pals_model.specs.Counters.{CountersCount}
+use Rattle.pals_model.specs.proof.Counters.{CountersCount}
 
 pub counters_count : CountersCount
 unfolding digits fire comp part feed

@@ -24,8 +24,8 @@ use Rattle.pals_model.specs.Inputs.{rate_of, rate_in, values_at, feed, inputs_of
 use Rattle.pals_model.specs.Ports.{outs_in}
 use Rattle.pals_model.specs.Composition.{comp, state, msg, taps_of}
 use Rattle.pals_model.specs.Rules.{IsDesign, IsComponent, IsLink, IsTap}
-use Rattle.pals_model.specs.Laws.{own_steps}
-use Rattle.pals_model.specs.Laws.Shapes.{AreVectors, AreTuples, IsPart, FeedHasVectors, StateHasShape, StepsGiveTuples, MessageHasRate, WaitingMessageHasRate, PartHasShape}
+use Rattle.pals_model.specs.proof.Laws.{own_steps}
+use Rattle.pals_model.specs.proof.Laws.Shapes.{AreVectors, AreTuples, IsPart, FeedHasVectors, StateHasShape, StepsGiveTuples, MessageHasRate, WaitingMessageHasRate, PartHasShape}
 use Rattle.pals_model.proofs.CompositionLaws.{state_begins, state_goes_on, message_from_source, part_from_steps}
 use Rattle.pals_model.proofs.Lookups.{at_element}
 

@@ -19,7 +19,8 @@ use Rattle.pals_base.proofs.Steps.{frame_after-append, outputs-append}
 use Rattle.pals_base.proofs.RoundUnderWay.{so_far-none, so_far-one_more, so_far-all}
 use Rattle.pals_model.specs.Inputs.{feed}
 use Rattle.pals_model.specs.Composition.{comp, state}
-use Rattle.pals_model.specs.Laws.Steps.{under_way, stepped_on, RoundBegins, RoundGoesOn, RoundEnds, PlacesStay, TrapIsSilent}
+use Rattle.pals_model.specs.Composition.{under_way}
+use Rattle.pals_model.specs.proof.Laws.Steps.{stepped_on, RoundBegins, RoundGoesOn, RoundEnds, PlacesStay, TrapIsSilent}
 use Rattle.pals_model.proofs.ShapeLaws.{is_behaviour, state_has_shape, feed_has_vectors, length-outputs, steps_keep_shape}
 
 abbrev as_stepped : Frame → List (List Port) → Stepped

@@ -13,7 +13,7 @@ use Rattle.pals_model.specs.declared.design.DesignParts.{DesignParts}
 use Rattle.pals_model.specs.declared.sources.PortSource.{PortSource}
 use Rattle.pals_model.specs.declared.sources.PortSource.TheVariants as source
 use Rattle.pals_model.specs.Inputs.{from_feed, from_link, link_goes_to, feed_goes_to, place_of, root_inputs, root_of, all_sources}
-use Rattle.pals_model.specs.SourceTables.{table_of, nothing, fed_from, linked_from, with_source}
+use Rattle.pals_model.specs.proof.SourceTables.{table_of, nothing, fed_from, linked_from, with_source}
 
 -- another source for one in port
 abbrev pub patched : (ℕ → ℕ → PortSource) → ℕ → ℕ → PortSource → ℕ → ℕ → PortSource

@@ -1,11 +1,11 @@
 -- The multirate synchronous composition: all components make their steps of a round at once, and the messages of
 -- a round are read in the next one. It has no clock, no buffer, no thread and no code.
-use Rattle.std.specs.Prelude.{ℕ, suc, zero, nat_eq, List, [], ◌∷◌, map, filter, replicate, Option, Some, None, slice_get, slice_index_or}
+use Rattle.std.specs.Prelude.{ℕ, suc, zero, nat_eq, List, [], ◌∷◌, map, filter, replicate, Option, Some, None, slice_get, slice_index_or, length, take}
 use Rattle.pals_base.specs.declared.values.Port.{Port}
 use Rattle.pals_base.specs.declared.values.Port.TheVariants.{Absent}
 use Rattle.pals_base.specs.declared.values.Frame.{Frame}
 use Rattle.pals_base.specs.Fire.{initial}
-use Rattle.pals_base.specs.Steps.{steps, cut, Stepped}
+use Rattle.pals_base.specs.Steps.{steps, cut, Stepped, frame_after, outputs, so_far}
 use Rattle.pals_base.specs.Bound.{sent_steps}
 use Rattle.pals_model.specs.declared.design.Component.{Component}
 use Rattle.pals_model.specs.declared.design.Link.{Link}
@@ -13,7 +13,8 @@ use Rattle.pals_model.specs.declared.design.Tap.{Tap}
 use Rattle.pals_model.specs.declared.design.DesignParts.{DesignParts}
 use Rattle.pals_model.specs.declared.rounds.Env.{Env}
 use Rattle.pals_model.specs.declared.rounds.Part.{Part}
-use Rattle.pals_model.specs.Inputs.{rate_of, inputs_of, values_at}
+use Rattle.pals_model.specs.Inputs.{rate_of, inputs_of, values_at, feed}
+use Rattle.pals_base.specs.declared.behaviour.BehaviourParts.{BehaviourParts}
 
 -- the frames after some rounds, and the messages of the last of these rounds
 pub record Configuration : Type 0 where
@@ -91,3 +92,12 @@ part_of design all node = record {
 
 unfoldable pub part : DesignParts → Env → ℕ → ℕ → Part
 part design env node round = part_of design (steps_of_round design env round) node
+
+-- in the midst of a round of `rate` steps, after those at these inputs: the frame, and the places that they filled
+abbrev pub under_way : BehaviourParts → Frame → ℕ → List (List Port) → Stepped
+under_way b frame rate vectors = record { frame = frame_after b frame vectors; tuples = so_far (length b.outs) rate (outputs b frame vectors) }
+
+-- a component's own round, after its first steps
+abbrev pub own_steps_so_far : DesignParts → Env → ℕ → ℕ → Component → ℕ → Stepped
+own_steps_so_far design env node round c count =
+    under_way c.behaviour (state design env node round) c.rate (take count (feed design env (comp design env round).messages node round))

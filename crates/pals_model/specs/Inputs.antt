@@ -111,3 +111,6 @@ inputs_in design values messages node (Some c) = inputs_of design values message
 -- the input vectors of a component's round, by the component's number
 unfoldable pub feed : DesignParts → Env → List (List Port) → ℕ → ℕ → List (List Port)
 feed design env messages node round = inputs_in design (values_at env round) messages node (slice_get design.components node)
+
+abbrev pub no_env : Env
+no_env = record { lists = [] }

@@ -1,11 +1,9 @@
 pub mod Ports
 pub mod Inputs
-pub mod SourceTables
 pub mod Composition
 pub mod RoundTexts
 pub mod LinkNames
 pub mod Delays
 pub mod Rules
-pub mod Laws
-pub mod Counters
 pub mod Flights
+pub mod proof

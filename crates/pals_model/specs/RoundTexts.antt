@@ -1,5 +1,5 @@
 -- The texts of values and of rounds. A text is a list of lines, each with its line end.
-use Rattle.std.specs.Prelude.{ℕ, nat_eq, ℤ, codes, decimal, List, [], ◌∷◌, ◌++◌, length, map, filter, flat_map, zip, take, Option, Some, None, slice_get, slice_index_or, if◌then◌else◌}
+use Rattle.std.specs.Prelude.{ℕ, nat_eq, ℤ, codes, decimal, List, [], ◌∷◌, ◌++◌, length, map, filter, flat_map, zip, take, Option, Some, None, slice_get, slice_index_or, if◌then◌else◌, Bool}
 use Rattle.std.specs.List.{enumerate_from}
 use Rattle.std.specs.Fmt.{signed_decimal}
 use Rattle.pals_base.specs.declared.values.Port.{Port}
@@ -118,3 +118,6 @@ report_lines design env n = flat_map (composed_lines design env) (upwards 0 n)
 -- the report of the first n rounds
 abbrev pub report : DesignParts → Env → ℕ → List ℕ
 report design env n = text_of (report_lines design env n)
+
+abbrev pub is_line_feed : ℕ → Bool
+is_line_feed byte = nat_eq byte 10

@@ -3,7 +3,7 @@
 ghost use Rattle.std.specs.Prelude.{◌≡◌, IfOk, OnOk, [], length, map};
 ghost use Rattle.pals_base.specs.Steps.{upwards};
 ghost use Rattle.pals_model.specs.Inputs.{new_names, feed_names, root_inputs, root_of, all_sources, place_of};
-ghost use Rattle.pals_model.specs.SourceTables.{table_of, nothing, fed_from, with_source};
+ghost use Rattle.pals_model.specs.proof.SourceTables.{table_of, nothing, fed_from, with_source};
 
 use crate::design::{Component, Design, Feed, Link};
 use indexmap::IndexSet;

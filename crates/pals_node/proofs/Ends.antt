@@ -13,12 +13,12 @@ use Rattle.bus_machine.specs.Nodes.{at_rest}
 use Rattle.bus_machine.specs.NodeEvents.{fired, finished, finished_with}
 use Rattle.pals_node.specs.declared.fields.Fields.{Fields}
 use Rattle.std.proofs.lemmas.Option.{slice_get-get_or, get_or_from_slice_get}
-use Rattle.pals_node.specs.Values.{Program, job_value, job_at}
-use Rattle.pals_node.specs.Keeping.{IsProgram, AreTuples, HasRound, IsOpen, PhaseKeeps, HasMessageRoom, Keeps, state_of, value_of}
-use Rattle.pals_node.specs.Memories.{HasMemory}
+use Rattle.pals_node.specs.proof.Values.{Program, job_value, job_at}
+use Rattle.pals_node.specs.proof.Keeping.{IsProgram, AreTuples, HasRound, IsOpen, PhaseKeeps, HasMessageRoom, Keeps, state_of, value_of}
+use Rattle.pals_node.specs.proof.Memories.{HasMemory}
 use Rattle.pals_base.specs.declared.limits.TheConstants.{ROUNDS}
-use Rattle.step_code.specs.Exec.{exec, Leaves}
-use Rattle.step_vm.specs.Rooms.{IsRoomOf}
+use Rattle.step_code.specs.proof.Exec.{exec, Leaves}
+use Rattle.step_vm.specs.proof.Rooms.{IsRoomOf}
 use Rattle.pals_node.proofs.Places.{length-with_places, places-with_places}
 use Rattle.pals_node.proofs.Programs.{fires, leaves_shape, leaves_outs}
 

@@ -2,7 +2,7 @@
 use Rattle.std.proofs.Common.{◌≡◌, ◌∙◌, refl, sym, ap}
 use Rattle.step_code.specs.declared.instr.Instr.{Instr}
 use Rattle.step_code.specs.declared.instr.Instr.TheVariants as instr
-use Rattle.pals_node.specs.Keys.{key_of, of_key}
+use Rattle.pals_node.specs.proof.Keys.{key_of, of_key}
 
 there : (i : Instr) → of_key (key_of i) ≡ i
 there (instr.Push low) = refl

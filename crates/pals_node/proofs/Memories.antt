@@ -4,12 +4,12 @@ use Rattle.std.specs.Arc.{arc_value}
 use Rattle.pals_base.specs.declared.values.Frame.{Frame}
 use Rattle.pals_base.specs.Fire.{HasShape}
 use Rattle.pals_runs.specs.declared.journal.Phase.TheVariants.{Running}
-use Rattle.step_vm.specs.Rooms.{IsRoomOf}
+use Rattle.step_vm.specs.proof.Rooms.{IsRoomOf}
 use Rattle.pals_node.specs.declared.fields.Fields.{Fields}
 use Rattle.pals_node.specs.declared.memory.Memory.{Memory}
-use Rattle.pals_node.specs.Values.{Program, JobValue, job_at}
-use Rattle.pals_node.specs.Memories.{HasSizes, IsMemoryFor, IsLeft}
-use Rattle.pals_node.specs.Keeping.{IsProgram, Keeps, value_of}
+use Rattle.pals_node.specs.proof.Values.{Program, JobValue, job_at}
+use Rattle.pals_node.specs.proof.Memories.{HasSizes, IsMemoryFor, IsLeft}
+use Rattle.pals_node.specs.proof.Keeping.{IsProgram, Keeps, value_of}
 use Rattle.pals_node.proofs.Ends.{runs_open, inputs_size}
 
 pub sizes : (p : Program) (frame : Frame) → IsProgram p → HasShape p.plan.behaviour frame → HasSizes p.code frame

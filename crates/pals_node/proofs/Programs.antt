@@ -7,9 +7,9 @@ use Rattle.pals_base.specs.declared.values.Frame.{Frame}
 use Rattle.pals_base.specs.declared.behaviour.StateDecl.{StateDecl}
 use Rattle.pals_base.specs.Fire.{Fired, HasShape, fire, may_begin}
 use Rattle.pals_base.proofs.Ending.{fires_well}
-use Rattle.step_code.specs.Exec.{Leaves, FitsCode, exec}
-use Rattle.pals_node.specs.Values.{Program}
-use Rattle.pals_node.specs.Keeping.{IsProgram}
+use Rattle.step_code.specs.proof.Exec.{Leaves, FitsCode, exec}
+use Rattle.pals_node.specs.proof.Values.{Program}
+use Rattle.pals_node.specs.proof.Keeping.{IsProgram}
 
 -- ---- frames
 is_true : (b : Bool) → IsTrue b → b ≡ true

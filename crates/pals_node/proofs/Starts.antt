@@ -17,8 +17,8 @@ use Rattle.bus_machine.specs.declared.plan.Plan.{Plan}
 use Rattle.bus_machine.specs.Nodes.{brought, vectors_of}
 use Rattle.bus_machine.specs.NodeEvents.{started}
 use Rattle.pals_node.specs.declared.fields.Fields.{Fields}
-use Rattle.pals_node.specs.Values.{NodeValue, with_state, job_value}
-use Rattle.pals_node.specs.Keeping.{IsPlan, AreTuples, IsPartRoom, state_of, value_of}
+use Rattle.pals_node.specs.proof.Values.{NodeValue, with_state, job_value}
+use Rattle.pals_node.specs.proof.Keeping.{IsPlan, AreTuples, IsPartRoom, state_of, value_of}
 use Rattle.pals_node.proofs.Places.{no_message}
 
 -- ---- sizes

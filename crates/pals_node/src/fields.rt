@@ -7,11 +7,11 @@ ghost use Rattle.pals_base.specs.declared.values.Port.TheVariants.{Absent};
 ghost use Rattle.pals_base.specs.Fire.{HasShape};
 ghost use Rattle.pals_runs.specs.declared.journal.Phase.TheVariants.{Running};
 ghost use Rattle.bus_machine.specs.NodeEvents.{started, stepped, finished, sent_from, messages_from, may_send, part_left};
-ghost use Rattle.pals_node.specs.Values.{job_at, job_value, opening_value, with_state};
-ghost use Rattle.pals_node.specs.Memories.{HasMemory};
-ghost use Rattle.pals_node.specs.Rounds.{empty_part, IsBegun};
+ghost use Rattle.pals_node.specs.proof.Values.{job_at, job_value, opening_value, with_state};
+ghost use Rattle.pals_node.specs.proof.Memories.{HasMemory};
+ghost use Rattle.pals_node.specs.proof.Rounds.{empty_part, IsBegun};
 ghost use Rattle.bus_machine.specs.Nodes.{at_rest, vectors_of};
-ghost use Rattle.pals_node.specs.Keeping.{Keeps, IsProgram, PhaseKeeps, HasRound, HasPartRoom, IsPartRoom, AreTuples, IsStepMade, value_of, state_of, ended_at};
+ghost use Rattle.pals_node.specs.proof.Keeping.{Keeps, IsProgram, PhaseKeeps, HasRound, HasPartRoom, IsPartRoom, AreTuples, IsStepMade, value_of, state_of, ended_at};
 
 use crate::buffers::{absent_tuples, write_places, write_ports};
 use crate::inputs::{empty_all, empty_slots, round_vectors};

@@ -1,9 +1,9 @@
 //! The job of one step, which may run anywhere, and what it leaves.
 ghost use Rattle.std.specs.Prelude.{◌≡◌, ◌↔◌, length, IsTrue, IfOk};
 ghost use Rattle.std.specs.Arc.{arc_value};
-ghost use Rattle.step_code.specs.Exec.{FitsCode};
-ghost use Rattle.pals_node.specs.Values.{IsResult, job_value};
-ghost use Rattle.pals_node.specs.Memories.{HasMemory, IsLeft};
+ghost use Rattle.step_code.specs.proof.Exec.{FitsCode};
+ghost use Rattle.pals_node.specs.proof.Values.{IsResult, job_value};
+ghost use Rattle.pals_node.specs.proof.Memories.{HasMemory, IsLeft};
 
 use crate::keys::same_instr;
 use crate::memory::{Memory, memory_for};
@@ -32,11 +32,11 @@ pub struct Job {
 
 impl Model for Job {
     ghost use Rattle.std.specs.Arc.{arc_value};
-    ghost use Rattle.pals_node.specs.Values.{JobValue, job_value};
+    ghost use Rattle.pals_node.specs.proof.Values.{JobValue, job_value};
 
     ghost Value = { JobValue };
 
-    ghost use Rattle.pals_node.specs.Keeping.{IsJob};
+    ghost use Rattle.pals_node.specs.proof.Keeping.{IsJob};
 
     ghost view = { λ j. job_value (arc_value j.plan) j.round j.step j.frame j.inputs };
 
@@ -58,8 +58,8 @@ pub struct Done {
 
 impl Model for Done {
     ghost use Rattle.std.specs.Arc.{arc_value};
-    ghost use Rattle.step_vm.specs.Rooms.{IsRoomOf};
-    ghost use Rattle.pals_node.specs.Values.{JobValue, IsResult, job_value};
+    ghost use Rattle.step_vm.specs.proof.Rooms.{IsRoomOf};
+    ghost use Rattle.pals_node.specs.proof.Values.{JobValue, IsResult, job_value};
 
     ghost Value = { JobValue };
 

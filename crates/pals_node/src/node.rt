@@ -6,8 +6,8 @@ ghost use Rattle.pals_base.specs.declared.limits.TheConstants.{ROUNDS, PORTS};
 ghost use Rattle.bus_machine.specs.Nodes.{finished_steps};
 ghost use Rattle.bus_machine.specs.NodeEvents.{arrived, received, lacks};
 ghost use Rattle.bus_machine.specs.Targets.{target, action_of, next_of};
-ghost use Rattle.pals_node.specs.Values.{opening_value, with_state};
-ghost use Rattle.pals_node.specs.Answers.{is_early, Starts, StartEnds, Steps, StepEnds, FinishesWith, FinishesHere, NoneRuns, Sends, SendEnds};
+ghost use Rattle.pals_node.specs.proof.Values.{opening_value, with_state};
+ghost use Rattle.pals_node.specs.proof.Answers.{is_early, Starts, StartEnds, Steps, StepEnds, FinishesWith, FinishesHere, NoneRuns, Sends, SendEnds};
 
 use crate::answers::{FinishEnd, Finished, SendEnd, StartEnd, StepEnd};
 use crate::fields::Fields;
@@ -33,15 +33,15 @@ pub struct Node {
 }
 
 impl Model for Node {
-    ghost use Rattle.pals_node.specs.Values.{NodeValue};
+    ghost use Rattle.pals_node.specs.proof.Values.{NodeValue};
 
     ghost Value = { NodeValue };
 
-    ghost use Rattle.pals_node.specs.Codes.{node_code};
+    ghost use Rattle.pals_node.specs.proof.Codes.{node_code};
 
     ghost coded = { node_code };
 
-    ghost use Rattle.pals_node.specs.Keeping.{Keeps, value_of};
+    ghost use Rattle.pals_node.specs.proof.Keeping.{Keeps, value_of};
 
     ghost view = { λ n. value_of n.fields };
 

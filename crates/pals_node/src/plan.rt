@@ -1,10 +1,10 @@
 //! What a node is given: the plan of its component, and the code of its steps.
 ghost use Rattle.std.specs.Prelude.{◌≡◌, ◌<◌, IfOk, length, map};
-ghost use Rattle.step_code.specs.Means.{Means};
+ghost use Rattle.step_code.specs.proof.Means.{Means};
 ghost use Rattle.bus_machine.specs.Plans.{component_at, input_of, plan_of};
 ghost use Rattle.pals_model.specs.Inputs.{sources_of};
-ghost use Rattle.pals_node.specs.Values.{program_of};
-ghost use Rattle.pals_node.specs.Keeping.{IsProgram};
+ghost use Rattle.pals_node.specs.proof.Values.{program_of};
+ghost use Rattle.pals_node.specs.proof.Keeping.{IsProgram};
 
 use bus_machine::{Input, Plan};
 use pals_base::bound::step_period;
@@ -23,15 +23,15 @@ pub struct NodePlan {
 }
 
 impl Model for NodePlan {
-    ghost use Rattle.pals_node.specs.Values.{Program};
+    ghost use Rattle.pals_node.specs.proof.Values.{Program};
 
     ghost Value = { Program };
 
-    ghost use Rattle.pals_node.specs.Codes.{program_code};
+    ghost use Rattle.pals_node.specs.proof.Codes.{program_code};
 
     ghost coded = { program_code };
 
-    ghost use Rattle.pals_node.specs.Keeping.{IsProgram};
+    ghost use Rattle.pals_node.specs.proof.Keeping.{IsProgram};
 
     ghost view = { λ p. record { plan = p.plan; code = p.code } };
 

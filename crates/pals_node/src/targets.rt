@@ -3,7 +3,7 @@ ghost use Rattle.std.specs.Prelude.{◌≡◌, ◌<◌, ◌≤◌, ◌-◌, IfSo
 ghost use Rattle.std.specs.Option.{option_map};
 ghost use Rattle.pals_base.specs.declared.limits.TheConstants.{READING, ROUNDS};
 ghost use Rattle.bus_machine.specs.Targets.{target, next_action, send_is_next};
-ghost use Rattle.pals_node.specs.Keeping.{IsPlan};
+ghost use Rattle.pals_node.specs.proof.Keeping.{IsPlan};
 
 use bus_machine::{Action, Next, Plan};
 use output_backoff::release_at;

@@ -1,7 +1,7 @@
 -- What a text begins with, and what is added to it.
 use Rattle.std.proofs.Common.{◌≡◌, Result, Ok, Err, OnOk, OnErr, ℕ, List, ◌++◌, length, drop, sym, ap, ◌∙◌, subst, append_assoc}
 use Rattle.std.proofs.lemmas.List.Prefix.{front_rest}
-use Rattle.pals_report.specs.Appended.{BeginsWith}
+use Rattle.pals_report.specs.proof.Appended.{BeginsWith}
 
 -- what begins with more begins with less
 begins_before : (text start more middle : List ℕ) → middle ≡ start ++ more → BeginsWith text middle → BeginsWith text start

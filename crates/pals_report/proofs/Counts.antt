@@ -7,7 +7,7 @@ use Rattle.std.proofs.lemmas.List.Filters.{length-filter_more}
 use Rattle.std.proofs.lemmas.List.FromFn.{get_or-enumerate_from, length-enumerate_from}
 use Rattle.pals_model.specs.declared.design.Tap.{Tap}
 use Rattle.pals_model.specs.RoundTexts.{taps_before}
-use Rattle.pals_report.specs.TapPlaces.{tap_places}
+use Rattle.pals_report.specs.proof.TapPlaces.{tap_places}
 
 -- a tap with its number has this place
 abbrev pub place_in : List Tap → ℕ × Tap → ℕ

@@ -1,13 +1,10 @@
-pub mod Appended
 pub mod Positions
 pub mod CheckReports
 pub mod FlatFaults
 pub mod Violations
 pub mod TextFaults
-pub mod TapPlaces
-pub mod Rows
 pub mod EventFaults
 pub mod Runs
 pub mod ScenarioFaults
 pub mod SentLines
-pub mod Words
+pub mod proof

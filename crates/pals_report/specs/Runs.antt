@@ -2,12 +2,12 @@
 use Rattle.std.specs.Prelude.{ℕ, codes, decimal, List, [], ◌∷◌, Option, Some, None}
 use Rattle.pals_model.specs.declared.design.DesignParts.{DesignParts}
 use Rattle.pals_runs.specs.declared.journal.Stop.{Stop}
-use Rattle.pals_runs.specs.declared.journal.Stop.TheVariants as stop
 use Rattle.pals_runs.specs.declared.verdicts.TraceRule.{TraceRule}
-use Rattle.pals_runs.specs.declared.verdicts.TraceRule.TheVariants as rule
 use Rattle.pals_runs.specs.declared.verdicts.Verdict.{Verdict}
 use Rattle.pals_runs.specs.declared.verdicts.Verdict.TheVariants.{Sound, Wrong}
 use Rattle.pals_runs.specs.Journal.{node_word, link_word, spaced}
+use Rattle.pals_runs.specs.declared.journal.Stop.TheVariants as stop
+use Rattle.pals_runs.specs.declared.verdicts.TraceRule.TheVariants as rule
 
 -- the node whose list ends, and the target for which it holds no reading
 abbrev pub clock_end_line : DesignParts → ℕ → ℕ → List ℕ

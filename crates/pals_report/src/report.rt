@@ -4,8 +4,8 @@ ghost use Rattle.std.specs.Prelude.{◌≡◌, ◌<◌, ◌++◌, Some, length, 
 ghost use Rattle.pals_model.specs.declared.design.Tap.{Tap};
 ghost use Rattle.pals_model.specs.declared.rounds.Env.{Env};
 ghost use Rattle.pals_model.specs.RoundTexts.{text_of, line_end, round_line, component_line, part_lines, tap_line, tap_lines, row_lines, row};
-ghost use Rattle.pals_report.specs.TapPlaces.{tap_places};
-ghost use Rattle.pals_report.specs.Rows.{ArePartsOf};
+ghost use Rattle.pals_report.specs.proof.TapPlaces.{tap_places};
+ghost use Rattle.pals_report.specs.proof.Rows.{ArePartsOf};
 
 use crate::component::{add_component_line, add_part_line};
 use crate::parts::RoundParts;

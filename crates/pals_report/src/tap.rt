@@ -1,8 +1,8 @@
 //! The line of a root out port: its name, and the whole tuple of its source.
 ghost use Rattle.std.specs.Prelude.{◌≡◌, ◌++◌, [], OnOk, OnErr, slice_index_or, option_copied};
 ghost use Rattle.pals_model.specs.RoundTexts.{text_of, line_end, tap_line, taps_before};
-ghost use Rattle.pals_report.specs.Appended.{BeginsWith};
-ghost use Rattle.pals_report.specs.Rows.{lines_at_place};
+ghost use Rattle.pals_report.specs.proof.Appended.{BeginsWith};
+ghost use Rattle.pals_report.specs.proof.Rows.{lines_at_place};
 
 use crate::value::add_tuple;
 use pals_base::{Kind, NoMemory, NodeNo, Port, Tuple};

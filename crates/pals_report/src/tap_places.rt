@@ -1,6 +1,6 @@
 //! The places of taps among those of their sources.
 ghost use Rattle.std.specs.Prelude.{◌≡◌, ◌<◌, All, IfOk};
-ghost use Rattle.pals_report.specs.TapPlaces.{tap_places};
+ghost use Rattle.pals_report.specs.proof.TapPlaces.{tap_places};
 
 use pals_base::{Items, NoMemory};
 use pals_model::{Design, Tap};

@@ -3,8 +3,8 @@ ghost use Rattle.std.specs.Prelude.{◌≡◌, ◌++◌, map, Some, OnOk, OnErr}
 ghost use Rattle.pals_model.specs.LinkNames.{in_port_name};
 ghost use Rattle.pals_model.specs.RoundTexts.{line_end};
 ghost use Rattle.pals_runs.specs.Journal.{node_word, link_word, reading_word, spaced};
-ghost use Rattle.pals_report.specs.Words.{word_text};
-ghost use Rattle.pals_report.specs.Appended.{BeginsWith};
+ghost use Rattle.pals_report.specs.proof.Words.{word_text};
+ghost use Rattle.pals_report.specs.proof.Appended.{BeginsWith};
 
 use crate::{add_tuple, whole_or_none};
 use itoa::Buffer;

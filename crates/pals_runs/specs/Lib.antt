@@ -1,5 +1,3 @@
 pub mod Formula
-pub mod FormulaCode
-pub mod FormulaOf
 pub mod Journal
-pub mod FormulaNames
+pub mod proof

@@ -7,7 +7,7 @@ use Rattle.bundle_designs.specs.Accepted.{IsAccepted}
 use Rattle.pals_top.specs.declared.analysis.Analysis.{Analysis}
 use Rattle.pals_top.specs.declared.answer.Answer.{Answer}
 use Rattle.pals_top.specs.Analyses.{command_of, Makes, IsAnalysisAnswer}
-use Rattle.pals_top.specs.Statuses.{status_of, text_of}
+use Rattle.pals_top.specs.proof.Statuses.{status_of, text_of}
 use Rattle.pals_top.proofs.Scenarios.{SaysFault}
 
 abbrev IsAnswered : Analysis → List ℕ → List ℕ → Answer → Type 0

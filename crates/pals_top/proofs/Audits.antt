@@ -8,7 +8,7 @@ use Rattle.trace_laws.specs.Traces.{verdict}
 use Rattle.pals_top.specs.declared.answer.Answer.{Answer}
 use Rattle.pals_top.specs.Audit.{SaysVerdict, IsAudited}
 use Rattle.pals_top.specs.Loose.{run_of}
-use Rattle.pals_top.specs.Statuses.{status_of, text_of}
+use Rattle.pals_top.specs.proof.Statuses.{status_of, text_of}
 
 -- the line of the verdict on a scenario's trace
 pub audited : {E : Type 0} (design shown : DesignParts) (scenario : Scenario) (v : Verdict) (answered : Result Answer E) → shown ≡ design

@@ -8,14 +8,15 @@ use Rattle.pals_runs.specs.declared.commands.Command.{Command}
 use Rattle.scenario_json.specs.declared.scenario.Scenario.{Scenario}
 use Rattle.scenario_json.specs.Scenarios.{Means}
 use Rattle.design_codes.specs.Causes.{AreShort, IsFirstTooLong}
-use Rattle.scenario_laws.specs.Events.{EventsAreLoose, EventsAreFew, TracesAreFew, loosely}
+use Rattle.scenario_laws.specs.proof.Events.{EventsAreLoose, EventsAreFew, TracesAreFew, loosely}
 use Rattle.bundle_designs.specs.Accepted.{IsAccepted}
 use Rattle.pals_top.specs.declared.answer.Answer.{Answer}
 use Rattle.pals_top.specs.declared.execution.Execution.{Execution}
 use Rattle.pals_top.specs.declared.execution.Execution.TheVariants.{TimedWorld, LooseWorld, Run, Audit, Budget}
 use Rattle.pals_top.specs.declared.status.TheConstants.{CODE_TOO_LONG}
-use Rattle.pals_top.specs.Executions.{command_of, code_fault_line, HasEvents, Makes, IsExecutionAnswer}
-use Rattle.pals_top.specs.Statuses.{status_of, text_of, Says}
+use Rattle.pals_top.specs.Executions.{command_of, code_fault_line, Makes, IsExecutionAnswer}
+use Rattle.pals_top.specs.proof.Executions.{HasEvents}
+use Rattle.pals_top.specs.proof.Statuses.{status_of, text_of, Says}
 use Rattle.pals_top.proofs.Scenarios.{SaysFault}
 
 -- what a scenario was read for, it keeps

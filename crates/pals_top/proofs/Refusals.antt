@@ -4,11 +4,12 @@ use Rattle.bundle_designs.specs.declared.refusal.Refusal.{Refusal}
 use Rattle.bundle_designs.specs.declared.refusal.Refusal.TheVariants.{Text, Design, Memory}
 use Rattle.bundle_designs.specs.RefusedTexts.{IsTextRefused}
 use Rattle.bundle_designs.specs.Accepted.{IsPackageRefused}
-use Rattle.bundle_designs.specs.Refusals.{IsTextRefusal, IsRefusal}
+use Rattle.bundle_designs.specs.proof.Refusals.{IsTextRefusal, IsRefusal}
 use Rattle.pals_top.specs.declared.answer.Answer.{Answer}
 use Rattle.pals_top.specs.declared.status.TheConstants.{TEXT_REFUSED}
-use Rattle.pals_top.specs.Refusals.{IsBundleRefused, SaysWhy}
-use Rattle.pals_top.specs.Statuses.{status_of, text_of}
+use Rattle.pals_top.specs.Refusals.{IsBundleRefused}
+use Rattle.pals_top.specs.proof.Refusals.{SaysWhy}
+use Rattle.pals_top.specs.proof.Statuses.{status_of, text_of}
 
 pub text_refused : (bundle : List ℕ) (refusal : Refusal) (a : Answer) → IsTextRefusal bundle refusal → SaysWhy refusal a
     → (status_of a ≡ TEXT_REFUSED) × IsTextRefused bundle (text_of a)

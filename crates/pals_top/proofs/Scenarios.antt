@@ -11,7 +11,7 @@ use Rattle.bundle_designs.specs.Accepted.{IsAccepted}
 use Rattle.pals_top.specs.declared.answer.Answer.{Answer}
 use Rattle.pals_top.specs.declared.status.TheConstants.{SCENARIO_REFUSED}
 use Rattle.pals_top.specs.Scenarios.{HasScenarioFault}
-use Rattle.pals_top.specs.Statuses.{status_of, text_of}
+use Rattle.pals_top.specs.proof.Statuses.{status_of, text_of}
 
 -- the answer says that the bundle's scenario has a fault, and its design is this one
 pub record SaysFault (root bundle : List ℕ) (design : DesignParts) (command : Command) (a : Answer) : Type 0 where

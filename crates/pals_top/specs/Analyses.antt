@@ -3,7 +3,6 @@ use Rattle.std.specs.Prelude.{◌≡◌, ℕ, List, ◌⊎◌}
 use Rattle.pals_model.specs.declared.design.DesignParts.{DesignParts}
 use Rattle.pals_model.specs.RoundTexts.{report}
 use Rattle.pals_runs.specs.declared.commands.Command.{Command}
-use Rattle.pals_runs.specs.declared.commands.Command.TheVariants as command
 use Rattle.scenario_json.specs.declared.scenario.Scenario.{Scenario}
 use Rattle.pals_top.specs.declared.analysis.Analysis.{Analysis}
 use Rattle.pals_top.specs.declared.analysis.Analysis.TheVariants.{Sync, Watch, Vote, Fuse}
@@ -13,6 +12,7 @@ use Rattle.pals_top.specs.Scenarios.{HasScenario, IsScenarioRefused}
 use Rattle.pals_top.specs.Watch.{IsWatched}
 use Rattle.pals_top.specs.Vote.{IsVoted}
 use Rattle.pals_top.specs.Fuse.{IsFusedAnswer}
+use Rattle.pals_runs.specs.declared.commands.Command.TheVariants as command
 
 -- the command that asks for it, below a root
 abbrev pub command_of : Analysis → List ℕ → Command

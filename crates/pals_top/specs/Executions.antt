@@ -1,15 +1,12 @@
 -- What the commands answer that need a design, its step codes and a scenario.
-use Rattle.std.specs.Prelude.{◌≡◌, ◌≤◌, ℕ, true, false, length, List, [], ◌∷◌, ◌++◌, codes, decimal, ◌⊎◌}
-use Rattle.pals_base.specs.declared.limits.TheConstants.{LIST_ITEMS}
+use Rattle.std.specs.Prelude.{◌≡◌, ℕ, true, false, List, [], ◌∷◌, ◌++◌, codes, decimal, ◌⊎◌}
 use Rattle.pals_base.specs.declared.values.NodeNo.{NodeNo}
 use Rattle.pals_model.specs.declared.design.DesignParts.{DesignParts}
 use Rattle.pals_model.specs.RoundTexts.{line_end}
 use Rattle.pals_runs.specs.declared.commands.Command.{Command}
-use Rattle.pals_runs.specs.declared.commands.Command.TheVariants as command
 use Rattle.pals_runs.specs.Journal.{node_word, spaced}
 use Rattle.scenario_json.specs.declared.scenario.Scenario.{Scenario}
 use Rattle.design_codes.specs.Causes.{AreShort, IsFirstTooLong}
-use Rattle.scenario_laws.specs.Events.{AreLooseEvents}
 use Rattle.bundle_designs.specs.Accepted.{IsAccepted}
 use Rattle.pals_top.specs.declared.execution.Execution.{Execution}
 use Rattle.pals_top.specs.declared.execution.Execution.TheVariants.{TimedWorld, LooseWorld, Run, Audit, Budget}
@@ -21,6 +18,7 @@ use Rattle.pals_top.specs.Worlds.{IsTimedAnswer}
 use Rattle.pals_top.specs.Run.{IsRunAnswer}
 use Rattle.pals_top.specs.Audit.{IsAudited}
 use Rattle.pals_top.specs.Budget.{IsBudgeted}
+use Rattle.pals_runs.specs.declared.commands.Command.TheVariants as command
 
 -- the command that asks for it, below a root
 abbrev pub command_of : Execution → List ℕ → Command
@@ -37,13 +35,6 @@ Makes LooseWorld design scenario status text = IsWorldAnswer design scenario sta
 Makes (Run trace) design scenario status text = IsRunAnswer design scenario trace status text
 Makes Audit design scenario status text = IsAudited design scenario status text
 Makes Budget design scenario status text = IsBudgeted design scenario status text
-
--- what the scenario of each keeps beside
-abbrev pub HasEvents : Execution → DesignParts → Scenario → Type 0
-HasEvents TimedWorld design scenario = length scenario.events ≤ LIST_ITEMS
-HasEvents LooseWorld design scenario = AreLooseEvents design scenario.events
-HasEvents Audit design scenario = length scenario.trace ≤ LIST_ITEMS
-HasEvents what design scenario = Unit {0}
 
 -- The bundle means a design and a scenario, no code is too long, and this is what is made of them.
 pub record IsExecuted (what : Execution) (root bundle : List ℕ) (status : ℕ) (text : List ℕ) : Type 0 where

@@ -2,7 +2,6 @@ pub mod Analyses
 pub mod Answers
 pub mod Budget
 pub mod Check
-pub mod Code
 pub mod Executions
 pub mod Loose
 pub mod Outside
@@ -10,7 +9,6 @@ pub mod Print
 pub mod Refusals
 pub mod Ring
 pub mod Scenarios
-pub mod Statuses
 pub mod Texts
 pub mod Watch
 pub mod Vote
@@ -19,3 +17,4 @@ pub mod Words
 pub mod Worlds
 pub mod Run
 pub mod Audit
+pub mod proof

@@ -1,11 +1,11 @@
 //! The commands that need a design and a scenario.
 ghost use Rattle.std.specs.Prelude.{◌≡◌, ℕ, List, IfOk};
 ghost use Rattle.bundle_designs.specs.Accepted.{IsAccepted};
-ghost use Rattle.scenario_json.specs.Facts.{IsScenarioOf};
+ghost use Rattle.scenario_json.specs.proof.Facts.{IsScenarioOf};
 ghost use Rattle.plant_fuse.specs.Fused.{ArePairs};
 ghost use Rattle.pals_top.specs.Analyses.{command_of, Makes, IsAnalysisAnswer};
 ghost use Rattle.pals_top.specs.declared.analysis.Analysis.TheVariants.{Sync};
-ghost use Rattle.pals_top.specs.Statuses.{status_of, text_of};
+ghost use Rattle.pals_top.specs.proof.Statuses.{status_of, text_of};
 ghost use Rattle.pals_top.specs.Watch.{IsWatched};
 ghost use Rattle.pals_top.specs.Vote.{IsVoted};
 ghost use Rattle.pals_top.specs.Fuse.{IsFusedAnswer};

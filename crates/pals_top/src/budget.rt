@@ -1,11 +1,11 @@
 //! The command `budget`: whether processors have time for the steps of their components.
 ghost use Rattle.std.specs.Prelude.{IfOk};
-ghost use Rattle.pals_bus.specs.Values.{AreCodes};
+ghost use Rattle.pals_bus.specs.proof.Values.{AreCodes};
 ghost use Rattle.step_compiler.specs.LaidOut.{AreLaidOut};
-ghost use Rattle.scenario_json.specs.Facts.{IsScenarioOf};
+ghost use Rattle.scenario_json.specs.proof.Facts.{IsScenarioOf};
 ghost use Rattle.design_codes.specs.Behaviours.{behaviours};
 ghost use Rattle.pals_top.specs.Budget.{IsBudgeted};
-ghost use Rattle.pals_top.specs.Statuses.{status_of, text_of};
+ghost use Rattle.pals_top.specs.proof.Statuses.{status_of, text_of};
 
 use crate::answer::Answer;
 use analysis_texts::budget;

@@ -1,15 +1,16 @@
 //! The commands that need a design, its step codes and a scenario.
 ghost use Rattle.std.specs.Prelude.{◌≡◌, ◌++◌, ℕ, List, IfOk};
 ghost use Rattle.pals_model.specs.RoundTexts.{line_end};
-ghost use Rattle.pals_bus.specs.Values.{AreCodes};
-ghost use Rattle.scenario_json.specs.Facts.{IsScenarioOf};
+ghost use Rattle.pals_bus.specs.proof.Values.{AreCodes};
+ghost use Rattle.scenario_json.specs.proof.Facts.{IsScenarioOf};
 ghost use Rattle.step_compiler.specs.LaidOut.{AreLaidOut};
 ghost use Rattle.design_codes.specs.Causes.{AreShort};
 ghost use Rattle.design_codes.specs.Behaviours.{behaviours};
 ghost use Rattle.bundle_designs.specs.Accepted.{IsAccepted};
 ghost use Rattle.pals_top.specs.declared.status.TheConstants.{CODE_TOO_LONG};
-ghost use Rattle.pals_top.specs.Executions.{command_of, code_fault_line, HasEvents, Makes, IsExecutionAnswer};
-ghost use Rattle.pals_top.specs.Statuses.{status_of, text_of, Says};
+ghost use Rattle.pals_top.specs.Executions.{command_of, code_fault_line, Makes, IsExecutionAnswer};
+ghost use Rattle.pals_top.specs.proof.Executions.{HasEvents};
+ghost use Rattle.pals_top.specs.proof.Statuses.{status_of, text_of, Says};
 
 use crate::answer::Answer;
 use crate::audit::answer_audit;

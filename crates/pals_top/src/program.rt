@@ -5,7 +5,7 @@ ghost use Rattle.pals_runs.specs.declared.commands.Command.{Command};
 ghost use Rattle.pals_top.specs.Words.{form, HasForm};
 ghost use Rattle.pals_top.specs.Outside.{reading};
 ghost use Rattle.pals_top.specs.Answers.{reads_source, IsAnswer, IsSourceAnswer, IsCommandAnswer};
-ghost use Rattle.pals_top.specs.Statuses.{status_of, text_of};
+ghost use Rattle.pals_top.specs.proof.Statuses.{status_of, text_of};
 
 use crate::analysis::{Analysis, answer_analysis};
 use crate::answer::Answer;

@@ -4,7 +4,7 @@ ghost use Rattle.pals_model.specs.RoundTexts.{line_end};
 ghost use Rattle.pals_report.specs.ScenarioFaults.{scenario_fault_line};
 ghost use Rattle.scenario_values.specs.declared.fault.ScenarioFault.{ScenarioFault};
 ghost use Rattle.pals_top.specs.declared.status.TheConstants.{SCENARIO_REFUSED};
-ghost use Rattle.pals_top.specs.Statuses.{status_of, text_of};
+ghost use Rattle.pals_top.specs.proof.Statuses.{status_of, text_of};
 
 use crate::answer::Answer;
 use pals_base::NoMemory;

@@ -1,9 +1,9 @@
 //! The command `run`: the nodes in threads.
-ghost use Rattle.pals_bus.specs.Values.{AreCodes};
+ghost use Rattle.pals_bus.specs.proof.Values.{AreCodes};
 ghost use Rattle.std.specs.Prelude.{IfOk};
-ghost use Rattle.scenario_json.specs.Facts.{IsScenarioOf};
+ghost use Rattle.scenario_json.specs.proof.Facts.{IsScenarioOf};
 ghost use Rattle.pals_top.specs.Run.{IsRunAnswer};
-ghost use Rattle.pals_top.specs.Statuses.{status_of, text_of};
+ghost use Rattle.pals_top.specs.proof.Statuses.{status_of, text_of};
 
 use crate::answer::Answer;
 use crate::loose::opened;

@@ -19,14 +19,15 @@ use Rattle.pals_model.specs.declared.sources.PortSource.{PortSource}
 use Rattle.pals_model.specs.declared.sources.PortSource.TheVariants as source
 use Rattle.pals_model.specs.Inputs.{rate_of, rate_in, sources_of, reading, values_at, feed, inputs_in}
 use Rattle.pals_model.specs.Composition.{Configuration, comp, state, no_frame, steps_of_round, message_of, tuple_in}
-use Rattle.pals_model.specs.Laws.{own_steps}
+use Rattle.pals_model.specs.proof.Laws.{own_steps}
 use Rattle.pals_model.specs.Rules.{IsDesign, IsLink}
 use Rattle.pals_model.specs.Ports.{outs_in}
 use Rattle.pals_model.proofs.CompositionLaws.{one_frame_each, state_begins, state_goes_on, steps_of_round-at}
 use Rattle.pals_model.proofs.ShapeLaws.{component_at, length-outputs}
 use Rattle.pals_model.proofs.Lookups.{at_element}
-use Rattle.plant_fuse.specs.Fused.{IsPair, ArePairs, Inputs, inputs_to, outputs_in, left_by, round_tuple, message_on, messages_before, from_round, value_on, value_read, vector_of, IsFused, frame_of, fused}
-use Rattle.plant_fuse.specs.Laws.{WithoutPairs}
+use Rattle.plant_fuse.specs.Fused.{IsPair, ArePairs, Inputs, inputs_to, outputs_in, left_by, round_tuple, message_on, messages_before, from_round, value_on, value_read, vector_of, IsFused}
+use Rattle.plant_fuse.specs.proof.Fused.{frame_of, fused}
+use Rattle.plant_fuse.specs.proof.Laws.{WithoutPairs}
 use Rattle.plant_fuse.proofs.Numbered.{length_map_upwards, table}
 use Rattle.plant_fuse.proofs.Ranks.{IsSmall, small_rate}
 use Rattle.plant_fuse.proofs.Causes.{read_at}

@@ -17,7 +17,7 @@ use Rattle.pals_model.specs.declared.design.DesignParts.{DesignParts}
 use Rattle.pals_model.specs.declared.rounds.Env.{Env}
 use Rattle.pals_model.specs.declared.rounds.Part.{Part}
 use Rattle.pals_model.specs.Composition.{comp, state, part, steps_of_round, tuple_in, tuple_of, taps_of}
-use Rattle.pals_model.specs.Laws.{own_steps}
+use Rattle.pals_model.specs.proof.Laws.{own_steps}
 use Rattle.pals_model.specs.Ports.{outs_in}
 use Rattle.pals_model.specs.Rules.{IsDesign, IsTap}
 use Rattle.pals_model.specs.RoundTexts.{text_of, round_line, part_lines, tap_lines, row_lines, composed_lines}
@@ -26,7 +26,7 @@ use Rattle.pals_model.proofs.ShapeLaws.{component_at}
 use Rattle.sync_product.proofs.Tables.{numbered-at}
 use Rattle.plant_fuse.specs.Fused.{Inputs, inputs_to, round_tuple, frame_before, IsFused}
 use Rattle.plant_fuse.specs.Texts.{fused_part, fused_parts, fused_lines}
-use Rattle.plant_fuse.specs.Laws.{ReportWithoutPairs}
+use Rattle.plant_fuse.specs.proof.Laws.{ReportWithoutPairs}
 use Rattle.plant_fuse.proofs.Prefixes.{take_upwards}
 use Rattle.plant_fuse.proofs.Alone as alone
 use Rattle.plant_fuse.proofs.Reports.{rows_same}

@@ -21,14 +21,14 @@ use Rattle.pals_model.specs.Composition.{Configuration, no_frame}
 use Rattle.pals_runs.specs.declared.pairs.Pair.{Pair}
 use Rattle.sync_product.specs.declared.reads.RoundInputs.{RoundInputs}
 use Rattle.sync_product.specs.declared.stage.Stage.{Stage}
-use Rattle.sync_product.specs.Sizes.{tap_ports}
-use Rattle.sync_product.specs.Rounds.{brought, vectors, frames_of}
+use Rattle.sync_product.specs.proof.Sizes.{tap_ports}
+use Rattle.sync_product.specs.proof.Rounds.{brought, vectors, frames_of}
 use Rattle.plant_fuse.specs.Fused.{is_back, is_forth, ArePairs, Inputs, inputs_to}
-use Rattle.plant_fuse.specs.Partners.{partner_of}
-use Rattle.plant_fuse.specs.Rounds as rounds
-use Rattle.plant_fuse.specs.Rounds.{Left, frame_at, outputs_from, place_at, left_in, left_before_by, link_by, read_by, vector_by, round_vector, IsFusedRound}
-use Rattle.plant_fuse.specs.Sides.{Seat, Work, from_partner, from_link, side_value, side_vector, row_at, row_before, plant_vector, controller_vector}
-use Rattle.plant_fuse.specs.Runs.{seat, rows_of, part_of_work, HasWork, IsRun, AreRun}
+use Rattle.plant_fuse.specs.proof.Partners.{partner_of}
+use Rattle.plant_fuse.specs.proof.Rounds as rounds
+use Rattle.plant_fuse.specs.proof.Rounds.{Left, frame_at, outputs_from, place_at, left_in, left_before_by, link_by, read_by, vector_by, round_vector, IsFusedRound}
+use Rattle.plant_fuse.specs.proof.Sides.{Seat, Work, from_partner, from_link, side_value, side_vector, row_at, row_before, plant_vector, controller_vector}
+use Rattle.plant_fuse.specs.proof.Runs.{seat, rows_of, part_of_work, HasWork, IsRun, AreRun}
 use Rattle.plant_fuse.proofs.Numbered.{map_map, map_upwards_same, table, table_at, table_same}
 use Rattle.plant_fuse.proofs.Inside.{read_from_target}
 use Rattle.plant_fuse.proofs.Partnering.{some_stands, pair_at, to_plant_forth, to_plant_back, to_controller_back, to_controller_forth, to_alone_back, to_alone_forth}

@@ -9,7 +9,7 @@ use Rattle.pals_base.specs.Steps.{outputs, frame_after, upwards}
 use Rattle.pals_base.proofs.Upwards.{map_upwards_more}
 use Rattle.pals_base.proofs.Steps.{frame_after-append, outputs-append}
 use Rattle.sync_product.specs.declared.reads.RoundInputs.{RoundInputs}
-use Rattle.plant_fuse.specs.Sides.{Seat, Work, side_vector, row_at, row_before, plant_vector, controller_vector, IsMade, work, AreMade}
+use Rattle.plant_fuse.specs.proof.Sides.{Seat, Work, side_vector, row_at, row_before, plant_vector, controller_vector, IsMade, work, AreMade}
 use Rattle.plant_fuse.proofs.Numbered.{map_upwards_same}
 
 -- ---- rows so far

@@ -10,9 +10,10 @@ use Rattle.pals_model.specs.Inputs.{values_at}
 use Rattle.pals_model.specs.Composition.{Configuration, opening}
 use Rattle.pals_model.specs.Rules.{IsDesign}
 use Rattle.pals_runs.specs.declared.pairs.Pair.{Pair}
-use Rattle.plant_fuse.specs.Fused.{ArePairs, Inputs, inputs_to, vector_of, messages_before, IsFused, first_rounds, frame_of, fused}
-use Rattle.plant_fuse.specs.Rounds.{IsFusedRound, after_round, last_round, AreRounds}
-use Rattle.plant_fuse.specs.Laws.{RoundsFollow}
+use Rattle.plant_fuse.specs.Fused.{ArePairs, Inputs, inputs_to, vector_of, messages_before, IsFused}
+use Rattle.plant_fuse.specs.proof.Fused.{first_rounds, frame_of, fused}
+use Rattle.plant_fuse.specs.proof.Rounds.{IsFusedRound, after_round, last_round, AreRounds}
+use Rattle.plant_fuse.specs.proof.Laws.{RoundsFollow}
 use Rattle.plant_fuse.proofs.Numbered.{table, table_same}
 use Rattle.plant_fuse.proofs.Causes.{read_at}
 use Rattle.plant_fuse.proofs.Prefixes.{solution_goes_on}

@@ -9,12 +9,12 @@ use Rattle.pals_model.specs.declared.rounds.Part.{Part}
 use Rattle.pals_model.specs.Inputs.{sources_of}
 use Rattle.pals_runs.specs.declared.pairs.Pair.{Pair}
 use Rattle.sync_product.specs.declared.stage.Stage.{Stage}
-use Rattle.sync_product.specs.Sizes.{tap_ports, part_size, part_size_of, part_sizes, stage_size, stage_size_of, stage_sizes}
+use Rattle.sync_product.specs.proof.Sizes.{tap_ports, part_size, part_size_of, part_sizes, stage_size, stage_size_of, stage_sizes}
 use Rattle.sync_product.proofs.Sizing.{length-upwards}
 use Rattle.sync_product.proofs.Tables.{length-numbered, count_of_sized}
 use Rattle.plant_fuse.specs.declared.tables.Tables.{Tables}
-use Rattle.plant_fuse.specs.Partners.{partner_of}
-use Rattle.plant_fuse.specs.Tables.{AreTables}
+use Rattle.plant_fuse.specs.proof.Partners.{partner_of}
+use Rattle.plant_fuse.specs.proof.Tables.{AreTables}
 
 module _ (design : DesignParts) (pairs : List Pair) (tables : Tables) (are : AreTables design pairs tables) where
   pub count_of_sources : length tables.sources ≡ length design.components

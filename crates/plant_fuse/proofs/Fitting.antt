@@ -10,7 +10,7 @@ use Rattle.pals_model.specs.declared.design.DesignParts.{DesignParts}
 use Rattle.pals_model.specs.Inputs.{rate_of}
 use Rattle.pals_runs.specs.declared.pairs.Pair.{Pair}
 use Rattle.plant_fuse.specs.Fused.{IsPair, AreApart, ArePairs}
-use Rattle.plant_fuse.specs.Ends.{AreTwo, stays_inside, CanBeFused}
+use Rattle.plant_fuse.specs.proof.Ends.{AreTwo, stays_inside, CanBeFused}
 
 -- ---- the links of a plant
 abbrev pub FromPlant : Pair → Link → Type 0

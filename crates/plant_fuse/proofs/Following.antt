@@ -8,11 +8,12 @@ use Rattle.pals_model.specs.Inputs.{values_at}
 use Rattle.pals_model.specs.Composition.{Configuration}
 use Rattle.pals_model.specs.Rules.{IsDesign}
 use Rattle.pals_runs.specs.declared.pairs.Pair.{Pair}
-use Rattle.plant_fuse.specs.Fused.{ArePairs, Inputs, IsFused, first_rounds, fused}
-use Rattle.plant_fuse.specs.Rounds.{IsFusedRound, after_round, last_round}
-use Rattle.plant_fuse.specs.State.{FuseState, begun, parts_after, advanced, IsAdvanced, AreStates}
+use Rattle.plant_fuse.specs.Fused.{ArePairs, Inputs, IsFused}
+use Rattle.plant_fuse.specs.proof.Fused.{first_rounds, fused}
+use Rattle.plant_fuse.specs.proof.Rounds.{IsFusedRound, after_round, last_round}
+use Rattle.plant_fuse.specs.proof.State.{FuseState, begun, parts_after, advanced, IsAdvanced, AreStates}
 use Rattle.plant_fuse.specs.Texts.{fused_parts}
-use Rattle.plant_fuse.specs.Laws.{StatesFollow}
+use Rattle.plant_fuse.specs.proof.Laws.{StatesFollow}
 use Rattle.plant_fuse.proofs.Solutions.{solution_is_one}
 use Rattle.plant_fuse.proofs.Prefixes.{solution_goes_on}
 use Rattle.plant_fuse.proofs.Onward.{rounds_go_on}

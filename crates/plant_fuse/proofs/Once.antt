@@ -14,8 +14,8 @@ use Rattle.pals_model.specs.Inputs.{source_of}
 use Rattle.pals_model.specs.Composition.{Configuration}
 use Rattle.pals_runs.specs.declared.pairs.Pair.{Pair}
 use Rattle.plant_fuse.specs.Fused.{ArePairs, is_back, is_forth, Inputs, inputs_to}
-use Rattle.plant_fuse.specs.Rounds.{frame_at, outputs_from, left_in, left_before_by, brought, link_by, read_by, round_vector, IsFusedRound}
-use Rattle.plant_fuse.specs.Laws.{RoundIsOne}
+use Rattle.plant_fuse.specs.proof.Rounds.{frame_at, outputs_from, left_in, left_before_by, brought, link_by, read_by, round_vector, IsFusedRound}
+use Rattle.plant_fuse.specs.proof.Laws.{RoundIsOne}
 use Rattle.plant_fuse.proofs.Numbered.{map_upwards_same, get_upwards_same, table_at, table_past, table_same}
 use Rattle.plant_fuse.proofs.Ranks.{is_controller, bump}
 use Rattle.plant_fuse.proofs.Inside.{forth_is, read_from_target}

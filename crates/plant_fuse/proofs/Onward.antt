@@ -23,9 +23,10 @@ use Rattle.pals_model.specs.Composition.{Configuration, no_frame}
 use Rattle.pals_model.specs.Rules.{IsDesign}
 use Rattle.pals_model.proofs.ShapeLaws.{length-outputs}
 use Rattle.pals_runs.specs.declared.pairs.Pair.{Pair}
-use Rattle.plant_fuse.specs.Fused.{ArePairs, is_back, is_forth, Inputs, inputs_to, outputs_in, left_by, left_before, round_tuple, message_on, messages_before, from_round, value_on, value_read, vector_of, IsFused, first_rounds, frame_of, fused}
-use Rattle.plant_fuse.specs.Rounds.{frame_at, outputs_from, left_in, left_before_by, brought, link_by, read_by, round_vector, IsFusedRound, tuple_from, message_in, after_round, last_round}
-use Rattle.plant_fuse.specs.Laws.{RoundsGoOn}
+use Rattle.plant_fuse.specs.Fused.{ArePairs, is_back, is_forth, Inputs, inputs_to, outputs_in, left_by, left_before, round_tuple, message_on, messages_before, from_round, value_on, value_read, vector_of, IsFused}
+use Rattle.plant_fuse.specs.proof.Fused.{first_rounds, frame_of, fused}
+use Rattle.plant_fuse.specs.proof.Rounds.{frame_at, outputs_from, left_in, left_before_by, brought, link_by, read_by, round_vector, IsFusedRound, tuple_from, message_in, after_round, last_round}
+use Rattle.plant_fuse.specs.proof.Laws.{RoundsGoOn}
 use Rattle.plant_fuse.proofs.Numbered.{map_each, map_upwards_same, length_map_upwards, table, table_at, table_same}
 use Rattle.plant_fuse.proofs.Ranks.{IsSmall, small_rate}
 use Rattle.plant_fuse.proofs.Inside.{back_rates, forth_is, read_from_target}

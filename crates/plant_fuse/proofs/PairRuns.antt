@@ -13,15 +13,15 @@ use Rattle.pals_model.specs.declared.sources.PortSource.{PortSource}
 use Rattle.pals_runs.specs.declared.pairs.Pair.{Pair}
 use Rattle.sync_product.specs.declared.reads.RoundInputs.{RoundInputs}
 use Rattle.sync_product.specs.declared.stage.Stage.{Stage}
-use Rattle.sync_product.specs.Rounds.{IsStepped, vectors, own_rows, frames_of}
+use Rattle.sync_product.specs.proof.Rounds.{IsStepped, vectors, own_rows, frames_of}
 use Rattle.sync_product.proofs.Tables.{slice_get-set_same, entry_at}
 use Rattle.plant_fuse.specs.declared.sides.Given.{Given}
 use Rattle.plant_fuse.specs.declared.sides.Side.{Side}
 use Rattle.plant_fuse.specs.declared.tables.Tables.{Tables}
-use Rattle.plant_fuse.specs.Partners.{partner_of, all_partners}
-use Rattle.plant_fuse.specs.Tables.{AreTables}
-use Rattle.plant_fuse.specs.Sides.{Seat, Work, seat_of, side_work, AreMade, AreSidesRun}
-use Rattle.plant_fuse.specs.Runs.{seat, IsGiven, HasWork, IsRun, StayBeside, IsRunAlone}
+use Rattle.plant_fuse.specs.proof.Partners.{partner_of, all_partners}
+use Rattle.plant_fuse.specs.proof.Tables.{AreTables}
+use Rattle.plant_fuse.specs.proof.Sides.{Seat, Work, seat_of, side_work, AreMade, AreSidesRun}
+use Rattle.plant_fuse.specs.proof.Runs.{seat, IsGiven, HasWork, IsRun, StayBeside, IsRunAlone}
 use Rattle.plant_fuse.proofs.Numbered.{counted_at}
 use Rattle.plant_fuse.proofs.TakenOut.{get_set_other}
 

@@ -9,7 +9,7 @@ use Rattle.pals_model.specs.declared.design.Link.{Link}
 use Rattle.pals_model.specs.declared.design.DesignParts.{DesignParts}
 use Rattle.pals_runs.specs.declared.pairs.Pair.{Pair}
 use Rattle.plant_fuse.specs.Fused.{goes, is_back, is_forth, IsPair, AreApart, ArePairs}
-use Rattle.plant_fuse.specs.Partners.{partner_of, is_inside}
+use Rattle.plant_fuse.specs.proof.Partners.{partner_of, is_inside}
 use Rattle.plant_fuse.proofs.Inside.{goes_parts}
 
 -- ---- one that stands in no pair

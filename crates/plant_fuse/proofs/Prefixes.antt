@@ -9,8 +9,9 @@ use Rattle.pals_model.specs.declared.rounds.Env.{Env}
 use Rattle.pals_model.specs.Inputs.{rate_of, rate_in}
 use Rattle.pals_model.specs.Rules.{IsDesign}
 use Rattle.pals_runs.specs.declared.pairs.Pair.{Pair}
-use Rattle.plant_fuse.specs.Fused.{ArePairs, Inputs, inputs_to, vector_of, reads, IsFused, first_rounds}
-use Rattle.plant_fuse.specs.Laws.{SolutionGoesOn}
+use Rattle.plant_fuse.specs.Fused.{ArePairs, Inputs, inputs_to, vector_of, reads, IsFused}
+use Rattle.plant_fuse.specs.proof.Fused.{first_rounds}
+use Rattle.plant_fuse.specs.proof.Laws.{SolutionGoesOn}
 use Rattle.plant_fuse.proofs.Numbered.{table_at, table_past, table_same}
 use Rattle.plant_fuse.proofs.Ranks.{rank, rounds_of_rank}
 use Rattle.plant_fuse.proofs.Causes.{Agree, same_reads, read_at, read_past}

@@ -3,10 +3,11 @@ use Rattle.std.proofs.Common.{◌≡◌, ℕ, [], ◌∷◌, All, None, refl, ar
 use Rattle.std.proofs.lemmas.List.Elements.{All-nil, All-cons}
 use Rattle.pals_base.specs.Fire.{fire}
 use Rattle.pals_model.specs.declared.design.Link.{Link}
-use Rattle.pals_model.specs.Counters.{two_counters}
+use Rattle.pals_model.specs.proof.Counters.{two_counters}
 use Rattle.pals_runs.specs.declared.pairs.Pair.{Pair}
-use Rattle.plant_fuse.specs.Fused.{IsPair, reads, fused}
-use Rattle.plant_fuse.specs.Rows.{CountersArePairs, CountersFuse, FusedCountersCount}
+use Rattle.plant_fuse.specs.Fused.{IsPair, reads}
+use Rattle.plant_fuse.specs.proof.Fused.{fused}
+use Rattle.plant_fuse.specs.proof.Rows.{CountersArePairs, CountersFuse, FusedCountersCount}
 
 pub counters_fuse : CountersFuse
 unfolding reads fire

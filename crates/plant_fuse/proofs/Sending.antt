@@ -7,8 +7,8 @@ use Rattle.pals_base.specs.Steps.{column, cut}
 use Rattle.pals_model.specs.declared.design.Link.{Link}
 use Rattle.pals_runs.specs.declared.pairs.Pair.{Pair}
 use Rattle.sync_product.specs.declared.stage.Stage.{Stage}
-use Rattle.plant_fuse.specs.Partners.{partner_of, is_inside}
-use Rattle.plant_fuse.specs.Messages.{sent_count, sent_from, sent_on}
+use Rattle.plant_fuse.specs.proof.Partners.{partner_of, is_inside}
+use Rattle.plant_fuse.specs.proof.Messages.{sent_count, sent_from, sent_on}
 
 -- what a link's message has to be
 pub sent_item : (pairs : List Pair) (stages : List Stage) (links : List Link) (number : ℕ) (d : Link) (rows : List (List Port)) (stage : Stage) (message : List Port) (inside : Bool) (count : ℕ)

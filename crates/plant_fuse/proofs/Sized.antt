@@ -10,13 +10,13 @@ use Rattle.pals_model.specs.declared.rounds.Part.{Part}
 use Rattle.pals_model.specs.Inputs.{source_of}
 use Rattle.pals_model.specs.Composition.{no_frame}
 use Rattle.sync_product.specs.declared.stage.Stage.{Stage}
-use Rattle.sync_product.specs.Sizes.{PartSize, StageSize, tap_ports, frame_size, frame_size_of, part_size, part_size_of, part_sizes, stage_size, stage_size_of, stage_sizes}
-use Rattle.sync_product.specs.Rounds.{frames_of}
+use Rattle.sync_product.specs.proof.Sizes.{PartSize, StageSize, tap_ports, frame_size, frame_size_of, part_size, part_size_of, part_sizes, stage_size, stage_size_of, stage_sizes}
+use Rattle.sync_product.specs.proof.Rounds.{frames_of}
 use Rattle.sync_product.proofs.Sizing.{length-upwards}
 use Rattle.sync_product.proofs.Tables.{numbered-at, mapped-at, sized_at}
 use Rattle.plant_fuse.specs.declared.sides.Given.{Given}
-use Rattle.plant_fuse.specs.Sides.{FitsGiven}
-use Rattle.plant_fuse.specs.Runs.{IsGiven}
+use Rattle.plant_fuse.specs.proof.Sides.{FitsGiven}
+use Rattle.plant_fuse.specs.proof.Runs.{IsGiven}
 use Rattle.plant_fuse.proofs.Counts.{count_of_parts, count_of_stages}
 
 abbrev no_part : Part

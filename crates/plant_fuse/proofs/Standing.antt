@@ -23,16 +23,16 @@ use Rattle.pals_model.proofs.ShapeLaws.{component_at, length-outputs}
 use Rattle.pals_runs.specs.declared.pairs.Pair.{Pair}
 use Rattle.sync_product.specs.declared.reads.RoundInputs.{RoundInputs}
 use Rattle.sync_product.specs.declared.stage.Stage.{Stage}
-use Rattle.sync_product.specs.Sizes.{StageSize, tap_ports, stage_size, stage_size_of, stage_sizes}
-use Rattle.sync_product.specs.Rounds.{frames_of}
+use Rattle.sync_product.specs.proof.Sizes.{StageSize, tap_ports, stage_size, stage_size_of, stage_sizes}
+use Rattle.sync_product.specs.proof.Rounds.{frames_of}
 use Rattle.sync_product.proofs.Columns.{cut_whole, length-column}
 use Rattle.sync_product.proofs.Tables.{length-numbered, numbered-at, mapped-at, sized_at}
 use Rattle.plant_fuse.specs.Fused.{is_back, is_forth, ArePairs, Inputs, inputs_to}
-use Rattle.plant_fuse.specs.Partners.{partner_of, is_inside}
-use Rattle.plant_fuse.specs.Messages.{sent_count, sent_from, sent_on}
-use Rattle.plant_fuse.specs.Rounds.{frame_at, place_at, left_in, tuple_from, tuple_in, message_in, after_round}
-use Rattle.plant_fuse.specs.Runs.{rows_of, AreRun}
-use Rattle.plant_fuse.specs.State.{FuseState, part_after, parts_after, advanced, IsAdvanced}
+use Rattle.plant_fuse.specs.proof.Partners.{partner_of, is_inside}
+use Rattle.plant_fuse.specs.proof.Messages.{sent_count, sent_from, sent_on}
+use Rattle.plant_fuse.specs.proof.Rounds.{frame_at, place_at, left_in, tuple_from, tuple_in, message_in, after_round}
+use Rattle.plant_fuse.specs.proof.Runs.{rows_of, AreRun}
+use Rattle.plant_fuse.specs.proof.State.{FuseState, part_after, parts_after, advanced, IsAdvanced}
 use Rattle.plant_fuse.proofs.Numbered.{map_map, map_each, length_map_upwards}
 use Rattle.plant_fuse.proofs.Alone.{by_place}
 use Rattle.plant_fuse.proofs.Counts.{count_of_stages}

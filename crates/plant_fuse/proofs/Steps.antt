@@ -8,7 +8,7 @@ use Rattle.pals_base.specs.declared.behaviour.BehaviourParts.{BehaviourParts}
 use Rattle.pals_base.specs.Fire.{fire, initial}
 use Rattle.pals_base.specs.Steps.{frame_after, outputs, upwards}
 use Rattle.plant_fuse.specs.Fused.{Inputs, inputs_to, outputs_in, vector_of}
-use Rattle.plant_fuse.specs.Laws.{StepsAreMade}
+use Rattle.plant_fuse.specs.proof.Laws.{StepsAreMade}
 use Rattle.plant_fuse.proofs.Causes.{read_at}
 
 frame_next : (b : BehaviourParts) (frame : Frame) (xs : List (List Port)) (step : ℕ) (v : List Port) → slice_get xs step ≡ Some v

@@ -5,7 +5,7 @@ use Rattle.std.proofs.lemmas.List.{length-set, length-map}
 use Rattle.std.proofs.lemmas.Option.{slice_get-map, slice_get_within, slice_get_read, same_Some}
 use Rattle.std.proofs.lemmas.Bool.{cases_order}
 use Rattle.sync_product.proofs.Tables.{slice_get-set_same}
-use Rattle.plant_fuse.specs.TakenFrom.{TakenFrom}
+use Rattle.plant_fuse.specs.proof.TakenFrom.{TakenFrom}
 
 pub get_set_other : {X : Type 0} (xs : List X) (i k : ℕ) (y : X) → k ≢ i → slice_get (set xs i y) k ≡ slice_get xs k
 get_set_other [] i k y other = refl

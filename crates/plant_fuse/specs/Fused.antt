@@ -8,7 +8,7 @@ use Rattle.pals_base.specs.declared.values.Port.{Port}
 use Rattle.pals_base.specs.declared.values.Port.TheVariants.{Absent}
 use Rattle.pals_base.specs.declared.values.Frame.{Frame}
 use Rattle.pals_base.specs.Bound.{sent_steps}
-use Rattle.pals_base.specs.Fire.{Fired, fire, initial}
+use Rattle.pals_base.specs.Fire.{initial}
 use Rattle.pals_base.specs.Steps.{frame_after, outputs, cut, upwards}
 use Rattle.pals_runs.specs.declared.pairs.Pair.{Pair}
 use Rattle.pals_model.specs.declared.design.Component.{Component}
@@ -16,9 +16,8 @@ use Rattle.pals_model.specs.declared.design.Link.{Link}
 use Rattle.pals_model.specs.declared.design.DesignParts.{DesignParts}
 use Rattle.pals_model.specs.declared.rounds.Env.{Env}
 use Rattle.pals_model.specs.declared.sources.PortSource.{PortSource}
-use Rattle.pals_model.specs.declared.sources.PortSource.TheVariants as source
 use Rattle.pals_model.specs.Inputs.{rate_of, sources_of, reading, values_at}
-use Rattle.pals_model.specs.Composition.{Configuration}
+use Rattle.pals_model.specs.declared.sources.PortSource.TheVariants as source
 
 -- ---- pairs
 -- a link goes from one component to another
@@ -126,9 +125,6 @@ vector_of design pairs env ins node c step = map (value_read design pairs env in
 abbrev pub frame_before : Inputs → ℕ → Component → ℕ → Frame
 frame_before ins node c step = frame_after c.behaviour (initial c.behaviour) (take step (inputs_to ins node))
 
-abbrev pub made_at : DesignParts → List Pair → Env → Inputs → ℕ → Component → ℕ → Fired
-made_at design pairs env ins node c step = fire c.behaviour (frame_before ins node c step) (vector_of design pairs env ins node c step)
-
 -- ---- the equations
 -- what all steps of the first rounds read, where they leave what they leave at these inputs
 unfoldable pub reads : DesignParts → List Pair → Env → ℕ → Inputs → Inputs
@@ -138,18 +134,3 @@ reads design pairs env rounds ins =
 -- the inputs of the first rounds are those that are read where they are the inputs
 abbrev pub IsFused : DesignParts → List Pair → Env → ℕ → Inputs → Type 0
 IsFused design pairs env rounds ins = ins ≡ reads design pairs env rounds ins
-
--- the inputs of fewer rounds
-abbrev pub first_rounds : DesignParts → ℕ → Inputs → Inputs
-first_rounds design rounds ins =
-    map (λ numbered. take (rounds * numbered.1.rate) (inputs_to ins numbered.0)) (enumerate_from 0 design.components)
-
--- ---- what stands after these rounds
-abbrev pub frame_of : Inputs → ℕ → Component → Frame
-frame_of ins node c = frame_after c.behaviour (initial c.behaviour) (inputs_to ins node)
-
-unfoldable pub fused : DesignParts → List Pair → ℕ → Inputs → Configuration
-fused design pairs rounds ins = record {
-  frames = map (λ numbered. frame_of ins numbered.0 numbered.1) (enumerate_from 0 design.components);
-  messages = messages_before design pairs ins rounds;
-}

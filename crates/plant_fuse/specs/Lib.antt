@@ -1,14 +1,3 @@
 pub mod Fused
-pub mod Laws
-pub mod Rows
-pub mod Rounds
-pub mod Ends
-pub mod Partners
-pub mod Tables
-pub mod Sides
-pub mod Runs
-pub mod TakenFrom
-pub mod Messages
-pub mod State
-pub mod Ready
 pub mod Texts
+pub mod proof

@@ -2,7 +2,7 @@
 ghost use Rattle.std.specs.Prelude.{◌≡◌, ◌<◌, ◌↔◌, IsTrue, IfSome, IfNone, length};
 ghost use Rattle.std.specs.List.{list_all};
 ghost use Rattle.plant_fuse.specs.Fused.{IsPair, AreApart, ArePairs};
-ghost use Rattle.plant_fuse.specs.Ends.{stays_inside, AreTwo, StandsApart, CanBeFused, IsFirstBad};
+ghost use Rattle.plant_fuse.specs.proof.Ends.{stays_inside, AreTwo, StandsApart, CanBeFused, IsFirstBad};
 
 use pals_model::{DesignParts, Link};
 use pals_runs::Pair;

@@ -3,8 +3,8 @@ ghost use Rattle.std.specs.Prelude.{◌≡◌, ◌<◌, IfOk, IfErr, OnOk, OnErr
 ghost use Rattle.std.specs.Arc.{arc_value};
 ghost use Rattle.pals_model.specs.Rules.{IsDesign};
 ghost use Rattle.plant_fuse.specs.Fused.{ArePairs};
-ghost use Rattle.plant_fuse.specs.Ends.{IsEnd};
-ghost use Rattle.plant_fuse.specs.State.{begun, IsAdvanced};
+ghost use Rattle.plant_fuse.specs.proof.Ends.{IsEnd};
+ghost use Rattle.plant_fuse.specs.proof.State.{begun, IsAdvanced};
 
 use crate::ends::FuseEnd;
 use crate::messages::send_all;
@@ -38,16 +38,16 @@ pub struct FuseProduct {
 }
 
 impl Model for FuseProduct {
-    ghost use Rattle.plant_fuse.specs.State.{FuseState, state_code};
+    ghost use Rattle.plant_fuse.specs.proof.State.{FuseState, state_code};
 
     ghost Value = { FuseState };
 
     ghost coded = { state_code };
 
     ghost use Rattle.std.specs.Arc.{arc_value};
-    ghost use Rattle.sync_product.specs.Rounds.{frames_of};
-    ghost use Rattle.sync_product.specs.Ready.{HasRoom};
-    ghost use Rattle.plant_fuse.specs.Ready.{IsReady};
+    ghost use Rattle.sync_product.specs.proof.Rounds.{frames_of};
+    ghost use Rattle.sync_product.specs.proof.Ready.{HasRoom};
+    ghost use Rattle.plant_fuse.specs.proof.Ready.{IsReady};
 
     ghost view = { λ p. record { design = arc_value p.design; pairs = p.tables.pairs; configuration = record { frames = frames_of p.parts; messages = p.messages }; parts = p.parts } };
 

@@ -1,10 +1,10 @@
 //! The steps of all components in a round.
 ghost use Rattle.std.specs.Prelude.{◌≡◌, ◌<◌, None, OnOk, length, map};
-ghost use Rattle.sync_product.specs.Sizes.{part_size, part_sizes, stage_size, stage_sizes};
-ghost use Rattle.sync_product.specs.Rounds.{frames_of};
+ghost use Rattle.sync_product.specs.proof.Sizes.{part_size, part_sizes, stage_size, stage_sizes};
+ghost use Rattle.sync_product.specs.proof.Rounds.{frames_of};
 ghost use Rattle.plant_fuse.specs.Fused.{IsPair, ArePairs};
-ghost use Rattle.plant_fuse.specs.Tables.{AreTables};
-ghost use Rattle.plant_fuse.specs.Runs.{IsGiven, IsRunAlone, AreAlone, IsRun, AreRun, StayBeside};
+ghost use Rattle.plant_fuse.specs.proof.Tables.{AreTables};
+ghost use Rattle.plant_fuse.specs.proof.Runs.{IsGiven, IsRunAlone, AreAlone, IsRun, AreRun, StayBeside};
 
 use crate::rooms::{put_stage, take_part, take_stage};
 use crate::sides::{Given, Side, run_sides};

@@ -1,7 +1,7 @@
 //! What is found once for a design and its pairs, so that the time that a round takes is in line with
 //! the design alone.
 ghost use Rattle.std.specs.Prelude.{◌≡◌, IfOk};
-ghost use Rattle.plant_fuse.specs.Partners.{partner_of, all_partners};
+ghost use Rattle.plant_fuse.specs.proof.Partners.{partner_of, all_partners};
 
 use pals_base::{Items, NoMemory, NodeNo};
 use pals_model::sources::all_sources;
@@ -21,7 +21,7 @@ pub struct Tables {
 }
 
 impl Tables {
-    ghost use Rattle.plant_fuse.specs.Tables.{AreTables};
+    ghost use Rattle.plant_fuse.specs.proof.Tables.{AreTables};
 
     /// The tables of a design and its pairs.
     pub fn new(alloc: Global, design: &Design, pairs: Items<Pair>) -> Result<Tables, NoMemory>

@@ -7,7 +7,7 @@ use Rattle.round_budget.specs.Budgets as budgets
 use Rattle.round_budget.specs.Budgets.{begins, served_at, serve, line_from}
 use Rattle.round_budget.specs.declared.releases.Release.{Release}
 use Rattle.round_budget.specs.declared.serving.Line.{Line}
-use Rattle.round_budget.specs.Values.{release_value, line_value}
+use Rattle.round_budget.specs.proof.Values.{release_value, line_value}
 
 pub map_push : {X Y : Type 0} (f : X → Y) (xs : List X) (x : X) → map f (xs ++ x ∷ []) ≡ map f xs ++ f x ∷ []
 map_push f [] x = refl

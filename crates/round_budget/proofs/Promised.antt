@@ -5,11 +5,11 @@ use Rattle.std.proofs.lemmas.Bool.Decides.{nat_tests}
 use Rattle.step_code.specs.declared.instr.CodeParts.{CodeParts}
 use Rattle.pals_model.specs.declared.design.DesignParts.{DesignParts}
 use Rattle.pals_model.specs.Rules.{IsDesign}
-use Rattle.round_budget.specs.Laws.{AreMembers, IsWithinBudget}
+use Rattle.round_budget.specs.proof.Laws.{AreMembers, IsWithinBudget}
 use Rattle.round_budget.specs.Budgets.{total, fits}
 use Rattle.round_budget.proofs.BudgetLaws.{most_responses_fit, exec_responses_fit}
 use Rattle.round_budget.proofs.Repeating.{timetable_repeats}
-use Rattle.round_budget.specs.Promises.{AllRespond, TimetableIsEach}
+use Rattle.round_budget.specs.proof.Promises.{AllRespond, TimetableIsEach}
 
 le_of_test : (n m : ℕ) → nat_le n m ≡ true → n ≤ m
 le_of_test n m is = grind (arith, nat_tests)

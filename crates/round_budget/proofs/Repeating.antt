@@ -12,8 +12,9 @@ use Rattle.step_code.specs.declared.instr.CodeParts.{CodeParts}
 use Rattle.pals_model.specs.declared.design.DesignParts.{DesignParts}
 use Rattle.pals_model.specs.Inputs.{rate_of}
 use Rattle.pals_model.specs.Rules.{IsDesign}
-use Rattle.round_budget.specs.Budgets.{Release, Served, Line, release_of, releases_of, releases_in, releases, precedes, put, in_order, begins, served_at, serve, budget, by_most, line_from, line_in_round, timetable}
-use Rattle.round_budget.specs.Laws.{IsWithinBudget, TimetableRepeats}
+use Rattle.round_budget.specs.Budgets.{Release, Served, Line, release_of, releases_of, releases_in, releases, precedes, put, in_order, begins, served_at, serve, budget, by_most, line_from, timetable}
+use Rattle.round_budget.specs.proof.Budgets.{line_in_round}
+use Rattle.round_budget.specs.proof.Laws.{IsWithinBudget, TimetableRepeats}
 use Rattle.round_budget.proofs.Elements.{every_weaker, every_both, every_map, every_flat_map, every_upwards}
 use Rattle.round_budget.proofs.Orders.{every_in_order}
 use Rattle.round_budget.proofs.Times.{IsIn, in_round, rate_fits}

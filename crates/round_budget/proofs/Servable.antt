@@ -12,13 +12,13 @@ use Rattle.pals_model.specs.Inputs.{rate_of}
 use Rattle.pals_model.specs.Rules.{IsDesign}
 use Rattle.round_budget.specs.Budgets as budgets
 use Rattle.round_budget.specs.Budgets.{release_of, releases_of, releases_in, releases, in_order, most_of, by_most, total}
-use Rattle.round_budget.specs.Laws.{IsWithinBudget}
+use Rattle.round_budget.specs.proof.Laws.{IsWithinBudget}
 use Rattle.round_budget.proofs.Elements.{every_both, every_map, every_flat_map, every_upwards}
 use Rattle.round_budget.proofs.Orders.{every_in_order}
 use Rattle.round_budget.proofs.Weights.{one_le}
 use Rattle.round_budget.proofs.Times.{IsRelease, releases_are}
 use Rattle.round_budget.specs.declared.releases.Release.{Release}
-use Rattle.round_budget.specs.Values.{release_value, CanServe}
+use Rattle.round_budget.specs.proof.Values.{release_value, CanServe}
 
 -- it comes at the round's alarm or later
 record ComesLate (design : DesignParts) (x : budgets.Release) : Type 0 where

@@ -11,7 +11,7 @@ use Rattle.round_budget.specs.Budgets.{Release, Served, precedes, put, in_order,
 use Rattle.round_budget.proofs.Elements.{every_weaker, Pairs, Member}
 use Rattle.round_budget.proofs.Orders.{NotAfter}
 use Rattle.round_budget.specs.declared.releases.Release as steps
-use Rattle.round_budget.specs.Values.{release_value}
+use Rattle.round_budget.specs.proof.Values.{release_value}
 
 -- ---- the same elements, as often
 abbrev pub AreSame : List Release → List Release → Type 0

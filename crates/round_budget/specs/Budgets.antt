@@ -1,22 +1,16 @@
 -- Round budgets: when one processor makes the steps of several components, one after the other. All
 -- numbers of time are nanoseconds.
-use Rattle.std.specs.Prelude.{ℕ, ◌+◌, ◌-◌, ◌*◌, max, nat_eq, nat_lt, nat_le, Bool, ◌&&◌, ◌||◌, if◌then◌else◌, List, [], ◌∷◌, flat_map, map, Option, Some, None, slice_get, slice_index_or}
+use Rattle.std.specs.Prelude.{ℕ, ◌+◌, ◌-◌, ◌*◌, max, nat_eq, nat_lt, nat_le, Bool, ◌&&◌, ◌||◌, if◌then◌else◌, List, [], ◌∷◌, flat_map, map, Option, Some, None, slice_get}
 use Rattle.std.specs.List.{sum_by}
 use Rattle.pals_base.specs.declared.values.Gamma.{Gamma}
-use Rattle.pals_base.specs.declared.values.Frame.{Frame}
-use Rattle.pals_base.specs.declared.values.Port.{Port}
 use Rattle.pals_base.specs.Bound.{alarm, step_period}
 use Rattle.pals_base.specs.Steps.{upwards}
 use Rattle.step_code.specs.declared.instr.CodeParts.{CodeParts}
 use Rattle.step_code.specs.Capped.{capped}
 use Rattle.step_code.specs.Paths.{weight_of}
-use Rattle.step_code.specs.Walks.{made}
-use Rattle.pals_model.specs.declared.design.Component.{Component}
 use Rattle.pals_model.specs.declared.design.DesignParts.{DesignParts}
-use Rattle.pals_model.specs.declared.rounds.Env.{Env}
-use Rattle.pals_model.specs.Inputs.{rate_of, feed}
-use Rattle.pals_model.specs.Composition.{comp, no_frame}
-use Rattle.pals_model.specs.Laws.Steps.{own_steps_so_far}
+use Rattle.pals_model.specs.Inputs.{rate_of}
+use Rattle.pals_base.specs.declared.values.NodeNo.{NodeNo}
 
 -- ---- releases
 -- a step of a round that a component is to make, and the reading from which on it may be made
@@ -66,10 +60,6 @@ pub record Served : Type 0 where
   pub begin : ℕ
   pub done : ℕ
 
--- how long after its release a step is done
-abbrev pub response : Served → ℕ
-response s = s.done - s.release.time
-
 -- the greater of a release and the moment at which the processor is free
 abbrev pub begins : ℕ → Release → ℕ
 begins free x = max x.time free
@@ -100,24 +90,6 @@ most_of codes node = most_in (slice_get codes node)
 abbrev pub by_most : List CodeParts → Release → ℕ
 by_most codes x = most_of codes x.node
 
-abbrev pub frame_before : DesignParts → Env → Release → Option Component → Frame
-frame_before design env x None = no_frame
-frame_before design env x (Some c) = (own_steps_so_far design env x.node x.round c x.step).frame
-
--- the inputs of the step in the composition
-abbrev pub inputs_at : DesignParts → Env → Release → List Port
-inputs_at design env x =
-    slice_index_or (feed design env (comp design env x.round).messages x.node x.round) x.step []
-
-abbrev pub made_in : Option CodeParts → Frame → List Port → ℕ
-made_in None frame inputs = 0
-made_in (Some c) frame inputs = made c frame inputs
-
--- those that the component's code makes in that step of the composition
-abbrev pub by_exec : DesignParts → Env → List CodeParts → Release → ℕ
-by_exec design env codes x =
-    made_in (slice_get codes x.node) (frame_before design env x (slice_get design.components x.node)) (inputs_at design env x)
-
 -- ---- whether they fit
 -- what one step of each member takes at most
 abbrev pub total : ℕ → List CodeParts → List ℕ → ℕ
@@ -136,10 +108,9 @@ pub record Line : Type 0 where
 abbrev pub line_from : ℕ → Served → Line
 line_from start s = record { node = s.release.node; step = s.release.step; begin = s.begin - start; done = s.done - start }
 
--- counted from the alarm of its own round
-abbrev pub line_in_round : DesignParts → Served → Line
-line_in_round design s = line_from (alarm design.period s.release.round) s
-
 abbrev pub timetable : DesignParts → List CodeParts → ℕ → List ℕ → List Line
 timetable design codes nanos members =
     map (line_from (alarm design.period 0)) (budget design members 1 nanos (by_most codes))
+
+abbrev pub numbers : List NodeNo → List ℕ
+numbers members = map (λ (member : NodeNo). member.0) members

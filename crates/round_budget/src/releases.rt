@@ -1,9 +1,10 @@
 //! The steps of one round, by their releases.
 ghost use Rattle.std.specs.Prelude.{◌<◌, ◌++◌, IfOk, OnOk, length, map};
 ghost use Rattle.round_budget.specs.Budgets.{releases, releases_in, releases_of, in_order};
-ghost use Rattle.round_budget.specs.Laws.{AreMembers};
+ghost use Rattle.round_budget.specs.proof.Laws.{AreMembers};
 ghost use Rattle.pals_model.specs.Rules.{IsDesign};
-ghost use Rattle.round_budget.specs.Values.{numbers, release_value, AreReleases};
+ghost use Rattle.round_budget.specs.Budgets.{numbers};
+ghost use Rattle.round_budget.specs.proof.Values.{release_value, AreReleases};
 
 use pals_base::bound::step_period;
 use pals_base::{Nanos, NoMemory, NodeNo};

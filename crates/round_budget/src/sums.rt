@@ -2,7 +2,7 @@
 ghost use Rattle.std.specs.Prelude.{◌≡◌, ◌<◌, ◌≤◌, All, length};
 ghost use Rattle.pals_base.specs.declared.limits.TheConstants.{HOUR, COMPONENTS};
 ghost use Rattle.round_budget.specs.Budgets.{total, fits};
-ghost use Rattle.round_budget.specs.Values.{numbers};
+ghost use Rattle.round_budget.specs.Budgets.{numbers};
 
 use pals_base::{Gamma, Nanos, NodeNo};
 use step_code::Code;

@@ -2,9 +2,10 @@
 ghost use Rattle.std.specs.Prelude.{◌≡◌, ◌≤◌, true, length, IfOk, IfErr, OnOk};
 ghost use Rattle.pals_base.specs.declared.limits.TheConstants.{HOUR};
 ghost use Rattle.round_budget.specs.Budgets.{timetable, total, fits};
-ghost use Rattle.round_budget.specs.Laws.{AreMembers};
-ghost use Rattle.round_budget.specs.Values.{numbers, AreLines};
-ghost use Rattle.round_budget.specs.Promises.{IsEnd, AllRespond, TimetableIsEach};
+ghost use Rattle.round_budget.specs.proof.Laws.{AreMembers};
+ghost use Rattle.round_budget.specs.Budgets.{numbers};
+ghost use Rattle.round_budget.specs.proof.Values.{AreLines};
+ghost use Rattle.round_budget.specs.proof.Promises.{IsEnd, AllRespond, TimetableIsEach};
 
 use crate::releases::ordered_releases;
 use crate::serving::{Line, serve};

@@ -17,15 +17,17 @@ use Rattle.pals_runs.specs.declared.journal.JournalEntry.{JournalEntry}
 use Rattle.bus_machine.specs.Plans.{plan_of, component_at}
 use Rattle.bus_machine.specs.States.{Run, BusState, node_at, link_at, no_link}
 use Rattle.bus_machine.specs.Agreement.{PhaseAgrees}
-use Rattle.bus_machine.specs.Laws.{IsRunOf}
+use Rattle.bus_machine.specs.proof.Laws.{IsRunOf}
 use Rattle.run_laws.specs.Shown.{sends}
 use Rattle.pals_clock.specs.declared.clock.Clocks.{Clocks}
 use Rattle.pals_clock.specs.declared.clock.Clocks.TheVariants.{Meet, Lists}
 use Rattle.run_laws.specs.Runs.{Runs}
-use Rattle.run_laws.specs.Timing.{due_of}
-use Rattle.run_laws.specs.Stopping.{IsFor, StopsAt, CauseFits, StopFits}
-use Rattle.run_laws.specs.Meetings.{IsLate, MeetingStop, MeetingsStop, MeetingsEnd, DelaysFit, NoMeetingStops}
-use Rattle.run_laws.specs.Bounds.{sent_at, BoundedStop, StopsAreBounded}
+use Rattle.run_laws.specs.proof.Timing.{due_of}
+use Rattle.run_laws.specs.proof.Stopping.{IsFor, StopsAt, CauseFits, StopFits}
+use Rattle.run_laws.specs.Meetings.{IsLate, MeetingStop, DelaysFit}
+use Rattle.run_laws.specs.proof.Meetings.{MeetingsStop, MeetingsEnd, NoMeetingStops}
+use Rattle.run_laws.specs.Bounds.{sent_at, BoundedStop}
+use Rattle.run_laws.specs.proof.Bounds.{StopsAreBounded}
 use Rattle.run_laws.proofs.Picking.{runs_agree, node_agrees}
 use Rattle.run_laws.proofs.Linking.{links_timed}
 use Rattle.run_laws.proofs.Aims.{next_alarm}

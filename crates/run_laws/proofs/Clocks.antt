@@ -11,7 +11,7 @@ use Rattle.bus_machine.specs.declared.plan.Plan.{Plan}
 use Rattle.bus_machine.specs.Nodes.{NodeState}
 use Rattle.bus_machine.specs.Targets.{targets}
 use Rattle.run_laws.specs.Turns.{Follows}
-use Rattle.run_laws.specs.Picked.{IsPicked}
+use Rattle.run_laws.specs.proof.Picked.{IsPicked}
 
 -- ---- where a clock stands
 idem_by : (r : ℕ) (later : List ℕ) (target : ℕ) (b : Bool) → nat_lt r target ≡ b → reached (reached later target) target ≡ reached later target

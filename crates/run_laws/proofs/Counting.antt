@@ -25,7 +25,7 @@ use Rattle.bus_machine.specs.Stops.{missing_link, sent_rounds}
 use Rattle.bus_machine.specs.Machine.{BusEvent, Start, Step, Finish, Send, Arrive, Drop, Repeat, after, after_start, after_send, after_arrive, on_step, is_allowed, arrival, early_stop}
 use Rattle.bus_machine.specs.Replay.{entries, start_entry, stop_entry}
 use Rattle.bus_machine.specs.Agreement.{PhaseAgrees, Agrees}
-use Rattle.bus_machine.specs.Laws.{IsRunOf}
+use Rattle.bus_machine.specs.proof.Laws.{IsRunOf}
 use Rattle.bus_machine.proofs.Nodes.{finish_keeps, MaySend, may_send_of}
 use Rattle.bus_machine.proofs.States.{is_component}
 use Rattle.run_laws.specs.Shown.{listed, start_in, send_in, starts, sends}

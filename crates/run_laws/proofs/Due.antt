@@ -21,13 +21,13 @@ use Rattle.bus_machine.specs.States.{Run, BusState, node_at, flight_at, link_at}
 use Rattle.bus_machine.specs.Stops.{sent_rounds}
 use Rattle.bus_machine.specs.Machine.{BusEvent, Arrive}
 use Rattle.bus_machine.specs.Targets.{next_in, target}
-use Rattle.bus_machine.specs.Laws.{IsRunOf}
+use Rattle.bus_machine.specs.proof.Laws.{IsRunOf}
 use Rattle.pals_clock.specs.Clock.{ClockState}
 use Rattle.pals_clock.specs.declared.clock.Clocks.{Clocks}
 use Rattle.pals_clock.specs.declared.clock.Clocks.TheVariants.{Meet, Lists}
 use Rattle.run_laws.specs.Runs.{Shows, Does, Takes, IsAwaited, HasEnded, target_of, Runs}
-use Rattle.run_laws.specs.Timing.{view}
-use Rattle.run_laws.specs.Locked.{ListPicks, ListEnds, IsToStart, IsDueAt, DueArrives}
+use Rattle.run_laws.specs.proof.Timing.{view}
+use Rattle.run_laws.specs.proof.Locked.{ListPicks, ListEnds, IsToStart, IsDueAt, DueArrives}
 use Rattle.run_laws.proofs.Clauses.{link_is}
 use Rattle.run_laws.proofs.Ended.{stays_ended}
 use Rattle.run_laws.proofs.Counting.{is_waiting_phase}

@@ -23,14 +23,15 @@ use Rattle.bus_machine.specs.Machine.{after}
 use Rattle.bus_machine.specs.Replay.{entries}
 use Rattle.bus_machine.specs.Targets.{target, action_in, next_in}
 use Rattle.bus_machine.specs.Agreement.{PhaseAgrees, Agrees}
-use Rattle.bus_machine.specs.Laws.{IsRunOf}
+use Rattle.bus_machine.specs.proof.Laws.{IsRunOf}
 use Rattle.pals_clock.specs.declared.clock.Clocks.{Clocks}
 use Rattle.pals_clock.specs.declared.clock.Clocks.TheVariants.{Meet, Lists}
 use Rattle.run_laws.specs.Turns.{upcoming}
 use Rattle.run_laws.specs.Runs.{no_clock, clock_at, lists_in, left_for, target_of, HasEnded, Picks, Runs, opens, picks_for, goes_on}
 use Rattle.run_laws.specs.Meetings.{AllDone}
 use Rattle.run_laws.specs.Timely.{IsOver, AllOver}
-use Rattle.run_laws.specs.Ending.{AllAtEnd, HasCome, IsEnding, EachRunEnds, EachGoesOn, JournalsEnd, EndsAreNamed}
+use Rattle.run_laws.specs.Timely.{AllAtEnd}
+use Rattle.run_laws.specs.proof.Ending.{HasCome, IsEnding, EachRunEnds, EachGoesOn, JournalsEnd, EndsAreNamed}
 use Rattle.run_laws.proofs.Picking.{runs_agree, node_agrees, many_clocks}
 use Rattle.run_laws.proofs.Stopping.{ended_still, sent_true}
 use Rattle.run_laws.proofs.Searching.{first_or_none, least_or_none}

@@ -15,7 +15,7 @@ use Rattle.bus_machine.specs.States.{Run, BusState, node_at, no_node, flight_at,
 use Rattle.bus_machine.specs.Stops.{missing_link}
 use Rattle.bus_machine.specs.Machine.{BusEvent, Start, Step, Finish, Send, Arrive, Drop, Repeat, after, after_start, on_step}
 use Rattle.bus_machine.specs.Agreement.{PhaseAgrees, Agrees}
-use Rattle.bus_machine.specs.Laws.{IsRunOf}
+use Rattle.bus_machine.specs.proof.Laws.{IsRunOf}
 use Rattle.bus_machine.specs.declared.action.Action.TheVariants as action
 use Rattle.bus_machine.proofs.States.{node_stays}
 use Rattle.run_laws.specs.Turns.{Follows}

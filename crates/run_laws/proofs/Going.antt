@@ -21,11 +21,11 @@ use Rattle.bus_machine.specs.States.{Run, BusState, node_at, flight_at, link_at,
 use Rattle.bus_machine.specs.Machine.{BusEvent, Start, Step, Finish, Send, Arrive, is_allowed}
 use Rattle.bus_machine.specs.Targets.{Progress, send_is_next, next_in}
 use Rattle.bus_machine.specs.Agreement.{PhaseAgrees}
-use Rattle.bus_machine.specs.Laws.{IsRunOf}
+use Rattle.bus_machine.specs.proof.Laws.{IsRunOf}
 use Rattle.trace_laws.specs.TraceRules.{is_due}
 use Rattle.pals_clock.specs.declared.clock.Clocks.{Clocks}
 use Rattle.run_laws.specs.Runs.{Does, IsAwaited, KeepsTo, Runs, next_start}
-use Rattle.run_laws.specs.Locked.{IsDueAt}
+use Rattle.run_laws.specs.proof.Locked.{IsDueAt}
 use Rattle.run_laws.proofs.Picking.{runs_agree, node_agrees, plan_rules}
 use Rattle.run_laws.proofs.Due.{due_takes}
 use Rattle.run_laws.proofs.Searching.{first_or_none}

@@ -15,7 +15,7 @@ use Rattle.pals_runs.specs.declared.journal.JournalEntry.{JournalEntry}
 use Rattle.pals_runs.specs.declared.journal.Stop.{Stop}
 use Rattle.pals_runs.specs.declared.journal.Stop.TheVariants as stop
 use Rattle.bus_machine.specs.declared.action.Action.{Action}
-use Rattle.bus_machine.specs.Laws.{IsRunOf}
+use Rattle.bus_machine.specs.proof.Laws.{IsRunOf}
 use Rattle.bus_machine.specs.Plans.{plan_of}
 use Rattle.bus_machine.specs.States.{Run, BusState, node_at, link_at, no_link}
 use Rattle.bus_machine.specs.Stops.{sent_rounds}
@@ -23,12 +23,13 @@ use Rattle.bus_machine.specs.Targets.{targets, target, next_in}
 use Rattle.run_laws.specs.Shown.{sends}
 use Rattle.run_laws.specs.Runs.{clock_at, lists_in, HasEnded, Runs}
 use Rattle.run_laws.specs.Picked.{picks_of, IsPickFor}
-use Rattle.run_laws.specs.Timing.{due_of}
+use Rattle.run_laws.specs.proof.Timing.{due_of}
 use Rattle.run_laws.specs.Timely.{IsTimely, PicksAll, PicksEndAt, ListStop}
 use Rattle.run_laws.specs.Meetings.{AllDone, MeetingStop}
-use Rattle.run_laws.specs.Stopping.{StopFits}
-use Rattle.run_laws.specs.Ending.{AllAtEnd, IsFirstEnded}
-use Rattle.run_laws.specs.InTime.{InTime, NoneStops, BoundsAreInTime, EndsFirst, EndsAreOne, PickedAreDone}
+use Rattle.run_laws.specs.proof.Stopping.{StopFits}
+use Rattle.run_laws.specs.Timely.{AllAtEnd}
+use Rattle.run_laws.specs.proof.Ending.{IsFirstEnded}
+use Rattle.run_laws.specs.proof.InTime.{InTime, NoneStops, BoundsAreInTime, EndsFirst, EndsAreOne, PickedAreDone}
 use Rattle.run_laws.proofs.Picking.{runs_agree, node_agrees}
 use Rattle.run_laws.proofs.Counting.{rounds_are_shown}
 use Rattle.run_laws.proofs.Stopping.{stops_fit}

@@ -3,10 +3,11 @@ use Rattle.std.proofs.Common.{List}
 use Rattle.pals_clock.specs.declared.clock.Clocks.{Clocks}
 use Rattle.pals_clock.specs.declared.clock.Clocks.TheVariants.{Meet, Lists}
 use Rattle.pals_runs.specs.declared.journal.JournalEntry.{JournalEntry}
-use Rattle.bus_machine.specs.Laws.{IsRunOf}
+use Rattle.bus_machine.specs.proof.Laws.{IsRunOf}
 use Rattle.bus_machine.specs.States.{Run, BusState}
 use Rattle.run_laws.specs.Runs.{Runs}
-use Rattle.run_laws.specs.Clauses.{KeepsClocks, ClausesAreKept}
+use Rattle.run_laws.specs.Clauses.{KeepsClocks}
+use Rattle.run_laws.specs.proof.Clauses.{ClausesAreKept}
 use Rattle.run_laws.proofs.Picking.{readings_are_picks, runs_replay, runs_agree}
 use Rattle.run_laws.proofs.Lines.{lines_are_picks}
 use Rattle.run_laws.proofs.ListClauses.{ends_are_timely, done_are_picked, ended_picks_end, lists_stop}

@@ -25,12 +25,13 @@ use Rattle.bus_machine.specs.declared.action.Action.{Action}
 use Rattle.bus_machine.specs.declared.action.Action.TheVariants as action
 use Rattle.bus_machine.specs.Targets.{actions, target, targets}
 use Rattle.trace_laws.specs.TraceLines.{Timed, timed}
-use Rattle.bus_machine.specs.Laws.{IsRunOf}
+use Rattle.bus_machine.specs.proof.Laws.{IsRunOf}
 use Rattle.run_laws.specs.Shown.{start_in, starts, act_in, acts}
 use Rattle.pals_clock.specs.declared.clock.Clocks.{Clocks}
 use Rattle.pals_clock.specs.declared.clock.Clocks.TheVariants.{Meet, Lists}
 use Rattle.run_laws.specs.Runs.{clock_at, Does, KeepsTo, Runs, opens, picks_for, goes_on}
-use Rattle.run_laws.specs.Picked.{picks_of, coming_start, action_shown, ShowsPick, LinesAre, LinesArePicks}
+use Rattle.run_laws.specs.Picked.{picks_of, coming_start, action_shown, ShowsPick, LinesAre}
+use Rattle.run_laws.specs.proof.Picked.{LinesArePicks}
 use Rattle.run_laws.proofs.Picking.{many_clocks}
 use Rattle.run_laws.proofs.Missing.{missed_link}
 use Rattle.run_laws.proofs.Clauses.{link_is}

@@ -35,7 +35,7 @@ use Rattle.bus_machine.specs.declared.plan.Input.{Input}
 use Rattle.trace_laws.specs.TraceRules.{is_due}
 use Rattle.bus_machine.specs.Replay.{entries, start_entry, stop_entry}
 use Rattle.bus_machine.specs.Agreement.{Agrees}
-use Rattle.bus_machine.specs.Laws.{IsRunOf}
+use Rattle.bus_machine.specs.proof.Laws.{IsRunOf}
 use Rattle.bus_machine.proofs.Lists.{numbered_at}
 use Rattle.bus_machine.proofs.Nodes.{finish_keeps}
 use Rattle.bus_machine.proofs.States.{node_stays}
@@ -43,7 +43,7 @@ use Rattle.run_laws.specs.Shown.{listed, if_at, start_in, send_in, starts, sends
 use Rattle.pals_clock.specs.declared.clock.Clocks.{Clocks}
 use Rattle.pals_clock.specs.declared.clock.Clocks.TheVariants.{Lists}
 use Rattle.run_laws.specs.Runs.{Takes, KeepsTo, Runs, opens, picks_for, goes_on}
-use Rattle.run_laws.specs.Timing.{LinkView, early_on, view, IsTimed, LinksAreTimed}
+use Rattle.run_laws.specs.proof.Timing.{LinkView, early_on, view, IsTimed, LinksAreTimed}
 use Rattle.run_laws.proofs.Picking.{runs_agree, node_opens}
 use Rattle.run_laws.proofs.Counting.{rounds_are_shown, sender_before}
 use Rattle.run_laws.proofs.Timed.{goes_later, goes_start, goes_send, goes_arrive, slot_after, taken_after, arrived_at}

@@ -17,7 +17,7 @@ use Rattle.bus_machine.specs.Plans.{plan_of, component_at}
 use Rattle.bus_machine.specs.Nodes.{NodeState}
 use Rattle.bus_machine.specs.States.{Run, BusState, node_at, link_at, no_link}
 use Rattle.bus_machine.specs.Agreement.{PhaseAgrees}
-use Rattle.bus_machine.specs.Laws.{IsRunOf}
+use Rattle.bus_machine.specs.proof.Laws.{IsRunOf}
 use Rattle.bus_machine.specs.declared.action.Action.{Action}
 use Rattle.bus_machine.specs.declared.action.Action.TheVariants as action
 use Rattle.bus_machine.specs.Targets.{targets, target}
@@ -25,10 +25,11 @@ use Rattle.run_laws.specs.Shown.{sends, acts}
 use Rattle.run_laws.specs.Turns.{turn, progress_in, Follows}
 use Rattle.pals_clock.specs.declared.clock.Clocks.TheVariants.{Lists}
 use Rattle.run_laws.specs.Runs.{clock_at, HasEnded, Runs}
-use Rattle.run_laws.specs.Timing.{due_of}
-use Rattle.run_laws.specs.Stopping.{CauseFits, StopFits}
+use Rattle.run_laws.specs.proof.Timing.{due_of}
+use Rattle.run_laws.specs.proof.Stopping.{CauseFits, StopFits}
 use Rattle.run_laws.specs.Picked.{picks_of, IsPickFor}
-use Rattle.run_laws.specs.Timely.{IsOver, EndsAreTimely, PicksAll, DoneArePicked, EndedPicksEnd, ListStop, ListsStop}
+use Rattle.run_laws.specs.Timely.{IsOver, PicksAll, ListStop}
+use Rattle.run_laws.specs.proof.Timely.{EndsAreTimely, DoneArePicked, EndedPicksEnd, ListsStop}
 use Rattle.run_laws.proofs.Turns.{IsPlan, length-targets, sized, size}
 use Rattle.run_laws.proofs.Clocks.{picks_end}
 use Rattle.run_laws.proofs.Picking.{runs_agree, nodes_pick, next_target, plan_rules, node_agrees, readings_are_picks}

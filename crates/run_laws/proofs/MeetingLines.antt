@@ -25,12 +25,13 @@ use Rattle.bus_machine.specs.Replay.{entries, start_entry, stop_entry}
 use Rattle.bus_machine.specs.declared.action.Action.{Action}
 use Rattle.bus_machine.specs.declared.action.Action.TheVariants as action
 use Rattle.bus_machine.specs.Targets.{Progress, target, send_is_next, next_in}
-use Rattle.bus_machine.specs.Laws.{IsRunOf}
+use Rattle.bus_machine.specs.proof.Laws.{IsRunOf}
 use Rattle.run_laws.specs.Shown.{start_in, starts}
 use Rattle.pals_clock.specs.declared.clock.Clocks.{Clocks}
 use Rattle.pals_clock.specs.declared.clock.Clocks.TheVariants.{Meet, Lists}
 use Rattle.run_laws.specs.Runs.{Does, KeepsTo, Runs, opens, picks_for, goes_on}
-use Rattle.run_laws.specs.Meetings.{AtNext, ShowTargets, MeetingsShowTargets}
+use Rattle.run_laws.specs.Meetings.{AtNext, ShowTargets}
+use Rattle.run_laws.specs.proof.Meetings.{MeetingsShowTargets}
 use Rattle.run_laws.proofs.Missing.{missed_link}
 use Rattle.run_laws.proofs.Counting.{rounds_are_shown}
 use Rattle.run_laws.proofs.Times.{send_round}

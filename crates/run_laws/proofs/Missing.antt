@@ -22,7 +22,7 @@ use Rattle.bus_machine.specs.NodeEvents.{lacks, missing, slot_at}
 use Rattle.bus_machine.specs.States.{Run, BusState, node_at}
 use Rattle.bus_machine.specs.Stops.{link_into, missing_link}
 use Rattle.bus_machine.specs.Agreement.{Agrees}
-use Rattle.bus_machine.specs.Laws.{IsRunOf}
+use Rattle.bus_machine.specs.proof.Laws.{IsRunOf}
 use Rattle.bus_machine.proofs.Lists.{none_found}
 
 -- ---- lists

@@ -5,7 +5,7 @@ use Rattle.pals_base.specs.declared.values.Port.{Port}
 use Rattle.pals_model.specs.declared.flight.FlightCopy.{FlightCopy}
 use Rattle.pals_model.specs.Flights.{is_of, oldest}
 use Rattle.pals_model.proofs.Lookups.{at_element}
-use Rattle.run_laws.specs.Timing.{LinkView, one_if, copies, Whereabouts, in_flight, in_slot, was_taken, came_early, IsDueCopy, IsTimed}
+use Rattle.run_laws.specs.proof.Timing.{LinkView, one_if, copies, Whereabouts, in_flight, in_slot, was_taken, came_early, IsDueCopy, IsTimed}
 
 some_copy : (flight : List FlightCopy) (place round : ℕ) (copy : FlightCopy) → slice_get flight place ≡ Some copy → is_of round copy ≡ true → 1 ≤ copies round flight
 some_copy [] place round copy is of = absurd (cc)

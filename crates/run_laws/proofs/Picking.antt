@@ -33,7 +33,7 @@ use Rattle.bus_machine.specs.Machine.{BusEvent, Start, Step, Finish, Send, Arriv
 use Rattle.bus_machine.specs.Replay.{Replays, entries, start_entry, stop_entry}
 use Rattle.bus_machine.specs.Replay.{opens as replay_opens, goes_on as replay_goes_on}
 use Rattle.bus_machine.specs.Agreement.{NodeAgrees, PhaseAgrees, Agrees}
-use Rattle.bus_machine.specs.Laws.{IsRunOf}
+use Rattle.bus_machine.specs.proof.Laws.{IsRunOf}
 use Rattle.bus_machine.specs.declared.action.Action.{Action}
 use Rattle.bus_machine.specs.declared.action.Action.TheVariants as action
 use Rattle.bus_machine.specs.Targets.{target, targets, next_in}
@@ -44,7 +44,8 @@ use Rattle.run_laws.specs.Turns.{upcoming, Follows}
 use Rattle.pals_clock.specs.declared.clock.Clocks.{Clocks}
 use Rattle.pals_clock.specs.declared.clock.Clocks.TheVariants.{Meet, Lists}
 use Rattle.run_laws.specs.Runs.{no_clock, clock_at, Does, Begins, Takes, KeepsTo, Picks, AreFresh, Begin, Runs, opens, picks_for, goes_on}
-use Rattle.run_laws.specs.Picked.{IsPicked, picks_of, IsPrefix}
+use Rattle.run_laws.specs.proof.Picked.{IsPicked}
+use Rattle.run_laws.specs.Picked.{picks_of, IsPrefix}
 use Rattle.run_laws.proofs.Turns.{IsPlan, length-targets}
 use Rattle.run_laws.proofs.Clocks.{does_next, picks_next, goes_otherwise, is_prefix}
 use Rattle.run_laws.proofs.Follows.{acting, is_at_most, next_is, target_is, starts_follow, steps_follow, sends_follow, finish_follows, received_follows}

@@ -29,12 +29,12 @@ use Rattle.bus_machine.specs.Stops.{missing_link, rounds_sent_on}
 use Rattle.bus_machine.specs.Machine.{BusEvent, Start, Step, Finish, Send, Arrive, Drop, Repeat, arrival, early_stop}
 use Rattle.bus_machine.specs.Replay.{entries, start_entry, stop_entry}
 use Rattle.bus_machine.specs.Agreement.{PhaseAgrees, IsCopy, Agrees}
-use Rattle.bus_machine.specs.Laws.{IsRunOf}
+use Rattle.bus_machine.specs.proof.Laws.{IsRunOf}
 use Rattle.bus_machine.specs.declared.action.Action.{Action}
 use Rattle.bus_machine.specs.declared.action.Action.TheVariants as action
 use Rattle.bus_machine.specs.Targets.{Progress, target, targets, send_is_next, next_action, next_in}
 use Rattle.bus_machine.proofs.Lists.{oldest_is_one}
-use Rattle.trace_laws.specs.EntryLines.{IsReading, IsOfLink, IsEntryIn}
+use Rattle.trace_laws.specs.proof.EntryLines.{IsReading, IsOfLink, IsEntryIn}
 use Rattle.pals_clock.specs.declared.clock.Clocks.{Clocks}
 use Rattle.pals_clock.specs.declared.clock.Clocks.TheVariants.{Meet, Lists}
 use Rattle.run_laws.specs.Runs.{clock_at, Does, Takes, KeepsTo, Runs, opens, picks_for, goes_on}
@@ -43,7 +43,7 @@ use Rattle.run_laws.proofs.Missing.{missed_link}
 use Rattle.run_laws.proofs.Aims.{IsTimedPlan, step_below, next_alarm}
 use Rattle.run_laws.proofs.Hours.{times_of}
 use Rattle.run_laws.proofs.Choosing.{same_lists}
-use Rattle.run_laws.specs.Sound.{AreReadings}
+use Rattle.run_laws.specs.proof.Sound.{AreReadings}
 
 -- ---- readings of lists
 reached_by : (r : ℕ) (rs : List ℕ) (t : ℕ) (b : Bool) → All (λ x. x ≤ READING) (r ∷ rs) → All (λ x. x ≤ READING) (reached rs t) → All (λ x. x ≤ READING) (cond b (reached rs t) (r ∷ rs))

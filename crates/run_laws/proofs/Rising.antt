@@ -17,14 +17,14 @@ use Rattle.bus_machine.specs.States.{Run, BusState, node_at, link_at}
 use Rattle.bus_machine.specs.Stops.{missing_link}
 use Rattle.bus_machine.specs.Machine.{BusEvent, Start, Step, Finish, Send, Arrive, Drop, Repeat, arrival, early_stop}
 use Rattle.bus_machine.specs.Replay.{entries, start_entry, stop_entry}
-use Rattle.bus_machine.specs.Laws.{IsRunOf}
+use Rattle.bus_machine.specs.proof.Laws.{IsRunOf}
 use Rattle.bus_machine.specs.declared.action.Action.{Action}
 use Rattle.trace_laws.specs.TraceLines.{Timed, timed}
 use Rattle.run_laws.specs.Shown.{latest}
 use Rattle.pals_clock.specs.declared.clock.Clocks.{Clocks}
 use Rattle.pals_clock.specs.declared.clock.Clocks.TheVariants.{Lists}
 use Rattle.run_laws.specs.Runs.{Does, KeepsTo, Runs, opens, picks_for, goes_on}
-use Rattle.run_laws.specs.Hours.{LinesRise}
+use Rattle.run_laws.specs.proof.Hours.{LinesRise}
 use Rattle.run_laws.proofs.Clauses.{link_is}
 use Rattle.run_laws.proofs.Hours.{no_fall}
 use Rattle.run_laws.proofs.Missing.{missed_link}

@@ -16,12 +16,12 @@ use Rattle.pals_runs.specs.declared.journal.JournalEntry.{JournalEntry}
 use Rattle.pals_runs.specs.declared.journal.Phase.TheVariants.{Done}
 use Rattle.bus_machine.specs.States.{Run, BusState, opening, node_at, flight_at, link_at}
 use Rattle.bus_machine.specs.Machine.{Start, Finish, Send, after}
-use Rattle.bus_machine.specs.Rows.{a, b}
+use Rattle.bus_machine.specs.proof.Rows.{a, b}
 use Rattle.bus_machine.specs.declared.action.Action.TheVariants as action
 use Rattle.trace_laws.specs.TraceRules.{is_due}
 use Rattle.pals_clock.specs.declared.clock.Clocks.TheVariants.{Meet, Lists}
 use Rattle.run_laws.specs.Runs.{clock_at, target_of, IsLeast, HasEnded, NoneDue, IsAwaited, Runs, opens, picks_for, goes_on}
-use Rattle.run_laws.specs.Rows.{counters_for, SomeMeetingEnds, SomeListEnds}
+use Rattle.run_laws.specs.proof.Rows.{counters_for, SomeMeetingEnds, SomeListEnds}
 use Rattle.run_laws.proofs.Missing.{upwards_get}
 use Rattle.run_laws.proofs.Clauses.{link_is}
 

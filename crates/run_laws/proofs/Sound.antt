@@ -3,7 +3,7 @@ use Rattle.std.proofs.Common.{◌≡◌, ◌≢◌, inl, inr, ◌⊎◌, ℕ, �
 use Rattle.std.specs.Prelude.{is_some, is_none}
 use Rattle.std.specs.List.{list_all}
 use Rattle.std.proofs.lemmas.List.Elements.{All-nil, All-cons, All-head, All-tail, All-append, All-from_get_or}
-use Rattle.pals_model.specs.Laws.Lines.{IsLine}
+use Rattle.pals_model.specs.proof.Laws.Lines.{IsLine}
 use Rattle.pals_model.specs.RoundTexts.{report_lines}
 use Rattle.pals_model.specs.Rules.{IsDesign}
 use Rattle.pals_model.specs.declared.design.DesignParts.{DesignParts}
@@ -16,13 +16,13 @@ use Rattle.pals_runs.specs.Journal.{entry_line}
 use Rattle.bus_machine.specs.Nodes.{NodeState}
 use Rattle.bus_machine.specs.States.{Run, BusState, finished_by_all, no_node}
 use Rattle.bus_machine.specs.Agreement.{Agrees}
-use Rattle.trace_laws.specs.EntryLines.{IsEntryIn}
+use Rattle.trace_laws.specs.proof.EntryLines.{IsEntryIn}
 use Rattle.trace_laws.specs.Traces.{is_done, wrong_or}
 use Rattle.trace_laws.proofs.Forms.{lines_have_forms, entries_have_lines}
 use Rattle.trace_laws.proofs.ReportEnds.{FirstHasForm, behind_report}
 use Rattle.trace_laws.proofs.Texts.{texts_have_lines}
 use Rattle.run_laws.specs.Meetings.{AllDone}
-use Rattle.run_laws.specs.Sound.{IsOver, trace_of, RunsAreSound, TracesAreTexts}
+use Rattle.run_laws.specs.proof.Sound.{IsOver, trace_of, RunsAreSound, TracesAreTexts}
 use Rattle.run_laws.proofs.Audits.{ends_at, journal_ends}
 use Rattle.run_laws.proofs.Picking.{runs_agree}
 use Rattle.run_laws.proofs.Ranges.{entries_fit}

@@ -38,7 +38,7 @@ use Rattle.bus_machine.specs.Stops.{missing_link, sent_rounds, cause_of}
 use Rattle.bus_machine.specs.Machine.{BusEvent, Start, Step, Finish, Send, Arrive, Drop, Repeat, is_allowed, after, after_start, after_arrive, on_step, arrival, early_stop, missed_stop}
 use Rattle.bus_machine.specs.Replay.{entries, start_entry, stop_entry}
 use Rattle.bus_machine.specs.Agreement.{PhaseAgrees, Agrees}
-use Rattle.bus_machine.specs.Laws.{IsRunOf}
+use Rattle.bus_machine.specs.proof.Laws.{IsRunOf}
 use Rattle.bus_machine.specs.declared.action.Action.TheVariants as action
 use Rattle.bus_machine.specs.Targets.{Progress, target, send_is_next, next_action}
 use Rattle.trace_laws.specs.TraceRules.{is_due}
@@ -48,8 +48,8 @@ use Rattle.run_laws.specs.Turns.{upcoming}
 use Rattle.pals_clock.specs.declared.clock.Clocks.{Clocks}
 use Rattle.pals_clock.specs.declared.clock.Clocks.TheVariants.{Meet, Lists}
 use Rattle.run_laws.specs.Runs.{no_clock, clock_at, IsLeast, Shows, HasEnded, IsAwaited, Begins, Takes, KeepsTo, Picks, Runs, opens, picks_for, goes_on}
-use Rattle.run_laws.specs.Timing.{view, early_on, due_of, one_if, copies, Whereabouts, in_flight, in_slot, was_taken, came_early, IsDueCopy}
-use Rattle.run_laws.specs.Stopping.{IsFor, StopsAt, NeverSent, CauseFits, StopFits, StopsFit}
+use Rattle.run_laws.specs.proof.Timing.{view, early_on, due_of, one_if, copies, Whereabouts, in_flight, in_slot, was_taken, came_early, IsDueCopy}
+use Rattle.run_laws.specs.proof.Stopping.{IsFor, StopsAt, NeverSent, CauseFits, StopFits, StopsFit}
 use Rattle.run_laws.proofs.Picking.{runs_agree, node_agrees, many_clocks}
 use Rattle.run_laws.proofs.Counting.{rounds_are_shown, is_waiting_phase}
 use Rattle.run_laws.proofs.Timed.{arriving_tells, due_if_sent}

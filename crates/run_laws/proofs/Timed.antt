@@ -14,7 +14,7 @@ use Rattle.pals_runs.specs.declared.journal.Arrived.{Arrived}
 use Rattle.pals_runs.specs.declared.journal.Arrived.TheVariants.{Kept, Ignored, Early}
 use Rattle.trace_laws.specs.TraceRules.{is_due}
 use Rattle.bus_machine.proofs.Lists.{All-without_oldest, oldest_is_one}
-use Rattle.run_laws.specs.Timing.{LinkView, due_of, one_if, copies, Whereabouts, in_flight, in_slot, was_taken, came_early, IsDueCopy, SlotWasDue, IsTimed}
+use Rattle.run_laws.specs.proof.Timing.{LinkView, due_of, one_if, copies, Whereabouts, in_flight, in_slot, was_taken, came_early, IsDueCopy, SlotWasDue, IsTimed}
 
 -- ---- lists
 get_more : (xs ys : List ℕ) (k x : ℕ) → slice_get xs k ≡ Some x → slice_get (xs ++ ys) k ≡ Some x

@@ -19,14 +19,14 @@ use Rattle.bus_machine.specs.Stops.{missing_link, sent_rounds}
 use Rattle.bus_machine.specs.Machine.{BusEvent, Start, Step, Finish, Send, Arrive, Drop, Repeat, is_allowed, arrival, early_stop}
 use Rattle.bus_machine.specs.Replay.{entries, start_entry, stop_entry}
 use Rattle.bus_machine.specs.Agreement.{Agrees}
-use Rattle.bus_machine.specs.Laws.{IsRunOf}
+use Rattle.bus_machine.specs.proof.Laws.{IsRunOf}
 use Rattle.bus_machine.specs.declared.action.Action.TheVariants as action
 use Rattle.bus_machine.specs.Targets.{Progress, send_is_next, next_in}
 use Rattle.run_laws.specs.Shown.{listed, start_in, send_in, starts, sends}
 use Rattle.pals_clock.specs.declared.clock.Clocks.{Clocks}
 use Rattle.pals_clock.specs.declared.clock.Clocks.TheVariants.{Meet, Lists}
 use Rattle.run_laws.specs.Runs.{Shows, Does, KeepsTo, Runs, opens, picks_for, goes_on}
-use Rattle.run_laws.specs.Stopping.{IsFor, TimesFit}
+use Rattle.run_laws.specs.proof.Stopping.{IsFor, TimesFit}
 use Rattle.run_laws.proofs.Picking.{runs_agree}
 use Rattle.run_laws.proofs.Counting.{rounds_are_shown, sender_before}
 use Rattle.run_laws.proofs.Linking.{unsent_round}

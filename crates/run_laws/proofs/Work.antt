@@ -31,13 +31,13 @@ use Rattle.bus_machine.specs.Stops.{missing_link}
 use Rattle.bus_machine.specs.Machine.{BusEvent, Start, Step, Finish, Send, Arrive, Drop, Repeat, is_allowed, after, after_start, after_send, after_arrive, on_step, flight_after_send, arrival, early_stop}
 use Rattle.bus_machine.specs.Replay.{entries, stop_entry}
 use Rattle.bus_machine.specs.Agreement.{PhaseAgrees, Agrees}
-use Rattle.bus_machine.specs.Laws.{IsRunOf}
+use Rattle.bus_machine.specs.proof.Laws.{IsRunOf}
 use Rattle.bus_machine.proofs.Lists.{numbered_at}
 use Rattle.bus_machine.proofs.States.{node_set, node_stays}
 use Rattle.pals_clock.specs.declared.clock.Clocks.{Clocks}
 use Rattle.run_laws.specs.Runs.{KeepsTo}
-use Rattle.run_laws.specs.Timing.{one_if}
-use Rattle.run_laws.specs.Ending.{most_lines}
+use Rattle.run_laws.specs.proof.Timing.{one_if}
+use Rattle.run_laws.specs.proof.Ending.{most_lines}
 use Rattle.run_laws.proofs.Picking.{node_agrees, below_nodes, plan_rules, node_opens}
 use Rattle.run_laws.proofs.Counting.{is_waiting_phase}
 use Rattle.run_laws.proofs.Timed.{without_by}

@@ -1,15 +1,14 @@
 -- What a stop says of the bounds, with any clocks.
-use Rattle.std.specs.Prelude.{◌≡◌, ℕ, ◌+◌, ◌-◌, ◌*◌, ◌<◌, ◌≤◌, max, List, Option, Some, slice_get, IfSome}
+use Rattle.std.specs.Prelude.{◌≡◌, ℕ, ◌+◌, ◌-◌, ◌*◌, ◌<◌, ◌≤◌, max, List, Option, Some, slice_get}
 use Rattle.pals_base.specs.Bound.{alarm, backoff}
 use Rattle.pals_model.specs.Delays.{delay_of}
 use Rattle.pals_runs.specs.declared.journal.Cause.TheVariants.{InTransit}
 use Rattle.pals_runs.specs.declared.journal.Stop.{Stop}
-use Rattle.pals_runs.specs.declared.journal.Stop.TheVariants as stop
 use Rattle.pals_runs.specs.declared.journal.JournalEntry.{JournalEntry}
 use Rattle.bus_machine.specs.Plans.{plan_of}
 use Rattle.bus_machine.specs.States.{Run, link_at}
 use Rattle.run_laws.specs.Shown.{sends}
-use Rattle.run_laws.specs.Each.{InRuns}
+use Rattle.pals_runs.specs.declared.journal.Stop.TheVariants as stop
 
 -- the reading of the source's send of a round
 abbrev pub sent_at : Run → List JournalEntry → ℕ → ℕ → Option ℕ
@@ -30,6 +29,3 @@ BoundedStop run journal (stop.Missed link round reading cause) = cause ≡ InTra
 BoundedStop run journal (stop.Early link round reading) = (at : ℕ) → reading ≡ Some at
     → run.design.gamma.mu_min ≤ delay_of run.delays link.0 round
     → alarm run.design.period round + 2 * run.design.gamma.eps ≤ at
-
-abbrev pub StopsAreBounded : Type 0
-StopsAreBounded = InRuns (λ run clocks journal s. IfSome s.stop (BoundedStop run journal))

@@ -12,7 +12,7 @@ use Rattle.bus_machine.specs.States.{Run, BusState, node_at}
 use Rattle.bus_machine.specs.Targets.{target}
 use Rattle.run_laws.specs.Runs.{HasEnded}
 use Rattle.run_laws.specs.Shown.{acts}
-use Rattle.run_laws.specs.Each.{InRuns, EachNode, EachLink}
+use Rattle.run_laws.specs.Each.{EachNode, EachLink}
 use Rattle.run_laws.specs.Picked.{picks_of, IsPrefix, LinesAre}
 use Rattle.run_laws.specs.Timely.{IsTimely, IsOver, AllOver, PicksAll, PicksEndAt, ListStop}
 use Rattle.run_laws.specs.Meetings.{ShowTargets, AllDone, IsLate, MeetingStop, DelaysFit}
@@ -56,6 +56,3 @@ pub record KeepsClauses (run : Run) (clocks : Clocks) (journal : List JournalEnt
   -- the journal replays to the state, which agrees with the composition
   pub replays : Replays run journal s
   pub agrees : Agrees run s
-
-abbrev pub ClausesAreKept : Type 0
-ClausesAreKept = InRuns KeepsClauses

@@ -6,12 +6,5 @@ pub mod Picked
 pub mod Timely
 pub mod Meetings
 pub mod Bounds
-pub mod Hours
-pub mod Timing
-pub mod Stopping
-pub mod Locked
-pub mod Rows
 pub mod Clauses
-pub mod Sound
-pub mod Ending
-pub mod InTime
+pub mod proof

@@ -1,18 +1,18 @@
 -- With nodes that meet: what each line shows, and when a run stops.
-use Rattle.std.specs.Prelude.{◌≡◌, ℕ, ◌+◌, ◌*◌, ◌<◌, ◌≤◌, List, [], ◌∷◌, ◌++◌, length, Option, Some, None, IfSome}
+use Rattle.std.specs.Prelude.{◌≡◌, ℕ, ◌+◌, ◌*◌, ◌<◌, ◌≤◌, List, [], ◌∷◌, ◌++◌, length, Option, Some}
 use Rattle.pals_base.specs.Bound.{alarm}
 use Rattle.pals_base.specs.declared.values.LinkNo.{LinkNo}
 use Rattle.pals_model.specs.Delays.{delay_of}
 use Rattle.pals_runs.specs.declared.journal.Phase.TheVariants.{Done}
 use Rattle.pals_runs.specs.declared.journal.Cause.TheVariants.{InTransit}
 use Rattle.pals_runs.specs.declared.journal.Stop.{Stop}
-use Rattle.pals_runs.specs.declared.journal.Stop.TheVariants as stop
 use Rattle.pals_runs.specs.declared.journal.JournalEntry.{JournalEntry}
-use Rattle.pals_runs.specs.declared.journal.JournalEntry.TheVariants as entry
 use Rattle.bus_machine.specs.Plans.{plan_of}
 use Rattle.bus_machine.specs.States.{Run, BusState, node_at, link_at}
 use Rattle.run_laws.specs.Shown.{starts}
-use Rattle.run_laws.specs.Each.{InMeetings, EachNode}
+use Rattle.run_laws.specs.Each.{EachNode}
+use Rattle.pals_runs.specs.declared.journal.Stop.TheVariants as stop
+use Rattle.pals_runs.specs.declared.journal.JournalEntry.TheVariants as entry
 
 -- ---- what lines show
 -- an arrival and a stop show the alarm of the round that their link's target starts next
@@ -40,9 +40,6 @@ abbrev pub ShowTargets : Run → List JournalEntry → List JournalEntry → Typ
 ShowTargets run front [] = Unit {0}
 ShowTargets run front (e ∷ es) = ShowsTarget run front e × ShowTargets run (front ++ e ∷ []) es
 
-abbrev pub MeetingsShowTargets : Type 0
-MeetingsShowTargets = InMeetings (λ run journal s. ShowTargets run [] journal)
-
 -- ---- when a run stops
 -- a round of a link that another round follows, and whose message becomes due after its target's next alarm
 pub record IsLate (run : Run) (number round : ℕ) : Type 0 where
@@ -54,24 +51,13 @@ pub record IsLate (run : Run) (number round : ℕ) : Type 0 where
 abbrev pub AllDone : Run → BusState → Type 0
 AllDone run s = EachNode run (λ node. (node_at s node).phase ≡ Done)
 
--- where all nodes are done, no round of a link is late
-abbrev pub MeetingsEnd : Type 0
-MeetingsEnd = InMeetings (λ run journal s. AllDone run s → (number round : ℕ) → IsLate run number round → ⊥)
-
 -- a message that is missed is late, and in transit; one that comes early has no delay, and is sent at its alarm
 abbrev pub MeetingStop : Run → Stop → Type 0
 MeetingStop run (stop.Missed link round reading cause) = IsLate run link.0 round × (cause ≡ InTransit)
 MeetingStop run (stop.Early link round reading) =
     (plan_of run.design (link_at run.design link.0).source.0).release_offset + delay_of run.delays link.0 round ≡ 0
 
-abbrev pub MeetingsStop : Type 0
-MeetingsStop = InMeetings (λ run journal s. IfSome s.stop (MeetingStop run))
-
 -- each delay is between the least and the greatest of the bounds
 abbrev pub DelaysFit : Run → Type 0
 DelaysFit run = (number round : ℕ) → number < length run.design.links
     → (run.design.gamma.mu_min ≤ delay_of run.delays number round) × (delay_of run.delays number round ≤ run.design.gamma.mu_max)
-
--- with such delays no stop ever stands
-abbrev pub NoMeetingStops : Type 0
-NoMeetingStops = InMeetings (λ run journal s. DelaysFit run → s.stop ≡ None)

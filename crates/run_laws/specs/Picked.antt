@@ -1,25 +1,21 @@
 -- With list clocks: the picks of a node's list, and what a journal shows of them.
-use Rattle.std.specs.Prelude.{◌≡◌, ◌⊎◌, ℕ, ◌+◌, ◌≤◌, List, [], ◌∷◌, ◌++◌, length, take, Option, Some, None, slice_get}
+use Rattle.std.specs.Prelude.{◌≡◌, ℕ, ◌+◌, ◌≤◌, List, [], ◌∷◌, ◌++◌, length, Option, Some, None, slice_get}
 use Rattle.pals_base.specs.Picks.{picks}
-use Rattle.pals_clock.specs.Clock.{ClockState, left_after}
+use Rattle.pals_clock.specs.Clock.{ClockState}
 use Rattle.pals_model.specs.declared.design.DesignParts.{DesignParts}
 use Rattle.pals_base.specs.declared.values.LinkNo.{LinkNo}
 use Rattle.pals_runs.specs.declared.journal.Stop.{Stop}
-use Rattle.pals_runs.specs.declared.journal.Stop.TheVariants as stop
 use Rattle.pals_runs.specs.declared.journal.JournalEntry.{JournalEntry}
-use Rattle.pals_runs.specs.declared.journal.JournalEntry.TheVariants as entry
 use Rattle.bus_machine.specs.declared.action.Action.{Action}
-use Rattle.bus_machine.specs.declared.action.Action.TheVariants as action
-use Rattle.bus_machine.specs.declared.plan.Plan.{Plan}
 use Rattle.bus_machine.specs.Plans.{plan_of}
-use Rattle.bus_machine.specs.Nodes.{NodeState}
-use Rattle.bus_machine.specs.States.{Run, node_at, link_at}
+use Rattle.bus_machine.specs.States.{Run, link_at}
 use Rattle.bus_machine.specs.Targets.{actions, targets, target}
 use Rattle.trace_laws.specs.TraceLines.{Timed, timed}
 use Rattle.run_laws.specs.Shown.{starts, acts}
-use Rattle.run_laws.specs.Turns.{Follows}
 use Rattle.run_laws.specs.Runs.{clock_at}
-use Rattle.run_laws.specs.Each.{InListRuns, EachNode}
+use Rattle.pals_runs.specs.declared.journal.Stop.TheVariants as stop
+use Rattle.pals_runs.specs.declared.journal.JournalEntry.TheVariants as entry
+use Rattle.bus_machine.specs.declared.action.Action.TheVariants as action
 
 -- ---- picks
 -- those of a node's list for all its targets
@@ -32,27 +28,8 @@ pub record IsPickFor (run : Run) (clocks : List ClockState) (node : ℕ) (action
   pub is_action : slice_get (actions (plan_of run.design node) run.rounds) place ≡ Some action
   pub is_pick : slice_get (picks_of run clocks node) place ≡ Some at
 
--- ---- of a node
--- its actions so far were done at its list's picks for them; its clock has picked for these, and at most for the next one
-pub record IsPicked (plan : Plan) (rounds : ℕ) (clock : ClockState) (n : NodeState) (shown : List ℕ) : Type 0 where
-  pub done : ℕ
-  pub follows : Follows plan done n
-  pub count : length shown ≡ done
-  pub shown_are : shown ≡ picks clock.readings (take done (targets plan rounds))
-  pub left : (clock.left ≡ left_after clock.readings (take done (targets plan rounds)))
-      ⊎ (clock.left ≡ left_after clock.readings (take (done + 1) (targets plan rounds)))
-
-abbrev pub NodesPick : Type 0
-NodesPick = InListRuns (λ run clocks journal s. EachNode run (λ node.
-    IsPicked (plan_of run.design node) run.rounds (clock_at clocks node) (node_at s node) (acts node journal)))
-
 abbrev pub IsPrefix : List ℕ → List ℕ → Type 0
 IsPrefix front all = (rest : List ℕ) × (all ≡ front ++ rest)
-
--- the readings of a node's starts, steps and sends are a prefix of its picks
-abbrev pub ReadingsArePicks : Type 0
-ReadingsArePicks = InListRuns (λ run clocks journal s. EachNode run (λ node.
-    IsPrefix (acts node journal) (picks_of run clocks node)))
 
 -- ---- of a line
 -- the start of the round that a link's target has not started
@@ -90,6 +67,3 @@ abbrev pub LinesAre : Run → List ClockState → List JournalEntry → List Jou
 LinesAre run clocks front [] = Unit {0}
 LinesAre run clocks front (e ∷ es) =
     ((t : Timed) → timed run.design e ≡ Some t → ShowsPick run clocks front e t) × LinesAre run clocks (front ++ e ∷ []) es
-
-abbrev pub LinesArePicks : Type 0
-LinesArePicks = InListRuns (λ run clocks journal s. LinesAre run clocks [] journal)

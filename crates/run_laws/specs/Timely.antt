@@ -1,18 +1,21 @@
 -- With list clocks: which rounds of links are in time, and what the end of a run tells of them.
-use Rattle.std.specs.Prelude.{◌≡◌, ◌⊎◌, ◌↔◌, ℕ, ◌+◌, ◌<◌, ◌≤◌, List, length, Some, slice_get, IfSome}
+use Rattle.std.specs.Prelude.{◌≡◌, ◌⊎◌, ℕ, ◌+◌, ◌<◌, ◌≤◌, List, length, Some, slice_get}
 use Rattle.pals_clock.specs.Clock.{ClockState}
 use Rattle.pals_model.specs.Delays.{delay_of}
 use Rattle.pals_runs.specs.declared.journal.Phase.TheVariants.{Done}
 use Rattle.pals_runs.specs.declared.journal.Cause.TheVariants.{NotSent}
 use Rattle.pals_runs.specs.declared.journal.Stop.{Stop}
-use Rattle.pals_runs.specs.declared.journal.Stop.TheVariants as stop
-use Rattle.bus_machine.specs.declared.action.Action.TheVariants as action
 use Rattle.bus_machine.specs.Plans.{plan_of}
 use Rattle.bus_machine.specs.States.{Run, BusState, node_at, link_at}
 use Rattle.bus_machine.specs.Targets.{targets, target}
 use Rattle.run_laws.specs.Runs.{HasEnded}
 use Rattle.run_laws.specs.Picked.{picks_of, IsPickFor}
-use Rattle.run_laws.specs.Each.{InListRuns, EachNode, EachLink}
+use Rattle.run_laws.specs.Each.{EachNode}
+use Rattle.pals_clock.specs.declared.clock.Clocks.{Clocks}
+use Rattle.pals_clock.specs.declared.clock.Clocks.TheVariants.{Meet, Lists}
+use Rattle.run_laws.specs.Meetings.{AllDone}
+use Rattle.pals_runs.specs.declared.journal.Stop.TheVariants as stop
+use Rattle.bus_machine.specs.declared.action.Action.TheVariants as action
 
 -- a round of a link is in time: where its target's picks reach the start of the round after it, its source's picks reach its
 -- send, and that pick plus the delay is no more than the pick of the start
@@ -29,11 +32,6 @@ IsOver run clocks s node = ((node_at s node).phase ≡ Done) ⊎ HasEnded run cl
 abbrev pub AllOver : Run → List ClockState → BusState → Type 0
 AllOver run clocks s = EachNode run (λ node. IsOver run clocks s node)
 
--- where all nodes have, each round of each link is in time
-abbrev pub EndsAreTimely : Type 0
-EndsAreTimely = InListRuns (λ run clocks journal s. AllOver run clocks s
-    → EachLink run (λ number. (round : ℕ) → IsTimely run clocks number round))
-
 -- a node's picks reach its last target
 abbrev pub PicksAll : Run → List ClockState → ℕ → Type 0
 PicksAll run clocks node = length (picks_of run clocks node) ≡ length (targets (plan_of run.design node) run.rounds)
@@ -42,16 +40,6 @@ PicksAll run clocks node = length (picks_of run clocks node) ≡ length (targets
 abbrev pub PicksEndAt : Run → List ClockState → ℕ → ℕ → Type 0
 PicksEndAt run clocks node goal =
     slice_get (targets (plan_of run.design node) run.rounds) (length (picks_of run clocks node)) ≡ Some goal
-
--- a node that has come to its end is done exactly where its picks reach its last target
-abbrev pub DoneArePicked : Type 0
-DoneArePicked = InListRuns (λ run clocks journal s. EachNode run (λ node. IsOver run clocks s node
-    → ((node_at s node).phase ≡ Done) ↔ PicksAll run clocks node))
-
--- the picks of a node whose list has ended end before its next target
-abbrev pub EndedPicksEnd : Type 0
-EndedPicksEnd = InListRuns (λ run clocks journal s. EachNode run (λ node. (ended : HasEnded run clocks s node)
-    → PicksEndAt run clocks node (target (plan_of run.design node) ended.0)))
 
 -- ---- where the run stops
 -- a message that is missed is of a round that is not in time, and where it was not sent its source's picks end before its send; one
@@ -66,5 +54,8 @@ ListStop run clocks s (stop.Early link round reading) =
     × IsPickFor run clocks (link_at run.design link.0).source.0 (action.Send round) send
     × (send + delay_of run.delays link.0 round ≤ start)
 
-abbrev pub ListsStop : Type 0
-ListsStop = InListRuns (λ run clocks journal s. IfSome s.stop (ListStop run clocks s))
+-- ---- an end
+-- each node is done; or, with list clocks, each is done or has come to its list's end
+abbrev pub AllAtEnd : Run → Clocks → BusState → Type 0
+AllAtEnd run Meet s = AllDone run s
+AllAtEnd run (Lists clocks) s = AllOver run clocks s

@@ -5,8 +5,8 @@ use Rattle.pals_runs.specs.declared.journal.Phase.TheVariants.{Waiting, Running,
 use Rattle.bus_machine.specs.declared.plan.Plan.{Plan}
 use Rattle.bus_machine.specs.Nodes.{NodeState, round_of}
 use Rattle.bus_machine.specs.declared.action.Action.{Action}
-use Rattle.bus_machine.specs.declared.action.Action.TheVariants as action
 use Rattle.bus_machine.specs.Targets.{Progress, next_action, progress_after, next_in}
+use Rattle.bus_machine.specs.declared.action.Action.TheVariants as action
 
 -- how far a node has come, and what it does next
 pub record Turn : Type 0 where

@@ -7,8 +7,8 @@ use Rattle.std.proofs.Math.Seq.{get_or-append_seam}
 use Rattle.pals_runs.specs.Formula.{Formula, Var, Not, And, Or, Previous, Once, Historically, Since, Halted}
 use Rattle.run_monitor.specs.declared.forms.FlatForm.{FlatForm}
 use Rattle.run_monitor.specs.declared.forms.FlatForm.TheVariants as flat
-use Rattle.pals_runs.specs.FormulaNames.{reads, names}
-use Rattle.run_monitor.specs.Flat.{formula_at, built, formulas_behind, forms_of, HasParts, IsFlat, Adds}
+use Rattle.pals_runs.specs.proof.FormulaNames.{reads, names}
+use Rattle.run_monitor.specs.proof.Flat.{formula_at, built, formulas_behind, forms_of, HasParts, IsFlat, Adds}
 
 -- ---- the formulas of forms
 behind-append : (fs : List Formula) (xs ys : List FlatForm) → formulas_behind fs (xs ++ ys) ≡ formulas_behind (formulas_behind fs xs) ys

@@ -12,7 +12,7 @@ use Rattle.pals_runs.specs.Formula.{Formula}
 use Rattle.run_monitor.specs.declared.violation.Violation.{Violation}
 use Rattle.run_monitor.specs.Monitors.{holds}
 use Rattle.run_monitor.specs.Violations.{history, verdicts, violation_at, violation_in, violation}
-use Rattle.run_monitor.specs.Found.{ViolatedIsFirst, OthersHold}
+use Rattle.run_monitor.specs.proof.Found.{ViolatedIsFirst, OthersHold}
 use Rattle.run_monitor.proofs.Histories.{past_stays}
 
 -- ---- the place of the first that is false

@@ -2,8 +2,8 @@
 use Rattle.std.proofs.Common.{◌≡◌, ◌≢◌, ◌∙◌, inl, inr, ℕ, zero, suc, ◌+◌, ◌<◌, ◌≤◌, Bool, not, ◌&&◌, ◌||◌, List, [], ◌∷◌, length, Some, slice_get, slice_set, refl, sym, ap, ap₂, arith, eq-or-lt_of_le}
 use Rattle.run_monitor.specs.declared.forms.FlatForm.{FlatForm}
 use Rattle.run_monitor.specs.declared.forms.FlatForm.TheVariants as flat
-use Rattle.run_monitor.specs.Flat.{HasParts, IsFlat}
-use Rattle.run_monitor.specs.Bits.{bit_at, next_bit}
+use Rattle.run_monitor.specs.proof.Flat.{HasParts, IsFlat}
+use Rattle.run_monitor.specs.proof.Bits.{bit_at, next_bit}
 
 pub put-here : (bits : List Bool) (at : ℕ) (b : Bool) → at < length bits → bit_at (slice_set bits at b) at ≡ b
 put-here [] at b within = absurd (omega arith)

@@ -1,12 +1,5 @@
 pub mod Times
 pub mod Monitors
-pub mod Further
 pub mod Violations
 pub mod Texts
-pub mod Laws
-pub mod Found
-pub mod Rows
-pub mod Flat
-pub mod Bits
-pub mod States
-pub mod Lists
+pub mod proof

@@ -1,8 +1,8 @@
 //! The bits of forms.
 ghost use Rattle.std.specs.Prelude.{◌≡◌, ◌<◌, length, is_some, Some, slice_get};
 ghost use Rattle.run_monitor.specs.Monitors.{frame_in, variable_in, compares};
-ghost use Rattle.run_monitor.specs.Flat.{IsFlat};
-ghost use Rattle.run_monitor.specs.Bits.{bit_at, seen_bit, row_bit, next_bit, row_of, AreSeen, AreOfRow, AreNext};
+ghost use Rattle.run_monitor.specs.proof.Flat.{IsFlat};
+ghost use Rattle.run_monitor.specs.proof.Bits.{bit_at, seen_bit, row_bit, next_bit, row_of, AreSeen, AreOfRow, AreNext};
 
 use crate::forms::FlatForm;
 use pals_base::{Frame, Items, NodeNo};

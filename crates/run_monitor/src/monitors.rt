@@ -6,11 +6,11 @@ ghost use Rattle.pals_model.specs.declared.design.DesignParts.{DesignParts};
 ghost use Rattle.pals_model.specs.declared.rounds.Env.{Env};
 ghost use Rattle.pals_model.specs.Composition.{comp};
 ghost use Rattle.pals_runs.specs.Formula.{Formula};
-ghost use Rattle.pals_runs.specs.FormulaOf.{formula_of};
-ghost use Rattle.run_monitor.specs.Bits.{row_of};
+ghost use Rattle.pals_runs.specs.proof.FormulaOf.{formula_of};
+ghost use Rattle.run_monitor.specs.proof.Bits.{row_of};
 ghost use Rattle.run_monitor.specs.Violations.{history};
-ghost use Rattle.run_monitor.specs.States.{said, GoesOn};
-ghost use Rattle.run_monitor.specs.Lists.{said_by, EachGoesOn, HasWatched, WatchesOn, WatchesRound};
+ghost use Rattle.run_monitor.specs.proof.States.{said, GoesOn};
+ghost use Rattle.run_monitor.specs.proof.Lists.{said_by, EachGoesOn, HasWatched, WatchesOn, WatchesRound};
 
 use crate::monitor::Monitor;
 use crate::violation::Violation;
@@ -28,7 +28,7 @@ pub struct Monitors {
 }
 
 impl Model for Monitors {
-    ghost use Rattle.run_monitor.specs.Lists.{MonitorsState, monitors_code};
+    ghost use Rattle.run_monitor.specs.proof.Lists.{MonitorsState, monitors_code};
 
     ghost Value = { MonitorsState };
 

@@ -11,20 +11,20 @@ use Rattle.pals_runs.specs.declared.journal.Stop.{Stop}
 use Rattle.bus_machine.specs.Agreement.{Agrees}
 use Rattle.bus_machine.specs.States.{Run, node_at, finished_by_all}
 use Rattle.pals_bus.specs.Values.{BusValue}
-use Rattle.loose_world.specs.Finished.{common_lines}
+use Rattle.loose_world.specs.proof.Finished.{common_lines}
 use Rattle.loose_world.proofs.WorldRows.{common_rows}
-use Rattle.node_threads.specs.Courses.{EndsAt as EndsAtOn}
+use Rattle.node_threads.specs.proof.Courses.{EndsAt as EndsAtOn}
 use Rattle.node_threads.specs.declared.ends.NodeEnd.{NodeEnd}
 use Rattle.node_threads.specs.declared.ends.NodeEnd.TheVariants as end
-use Rattle.node_threads.specs.Ends.{EndFits, EndsFit, IsOutcome}
+use Rattle.node_threads.specs.proof.Ends.{EndFits, EndsFit, IsOutcome}
 use Rattle.run_laws.specs.Timely.{IsOver}
-use Rattle.run_laws.specs.Ending.{AllAtEnd}
-use Rattle.run_laws.specs.Sound.{AreReadings}
+use Rattle.run_laws.specs.Timely.{AllAtEnd}
+use Rattle.run_laws.specs.proof.Sound.{AreReadings}
 use Rattle.run_laws.proofs.Picking.{runs_agree}
 use Rattle.run_texts.specs.declared.told.ToldRun.{ToldRun}
 use Rattle.run_texts.specs.declared.told.ToldRun.TheVariants as told
 use Rattle.run_texts.specs.RunTexts.{EndsAt, TellsRun}
-use Rattle.run_texts.specs.Ends.{IsComeEnd, journal_lines, TellsEnd}
+use Rattle.run_texts.specs.proof.Ends.{IsComeEnd, journal_lines, TellsEnd}
 use Rattle.run_texts.proofs.Courses.{course, completed, stopped}
 
 -- ---- what the ends say

@@ -1,2 +1,2 @@
 pub mod RunTexts
-pub mod Ends
+pub mod proof

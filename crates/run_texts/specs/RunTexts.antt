@@ -15,7 +15,7 @@ use Rattle.bus_machine.specs.Targets.{target}
 use Rattle.trace_laws.specs.Reports.{lines_of}
 use Rattle.trace_laws.specs.Traces.{verdict}
 use Rattle.run_laws.specs.Clauses.{KeepsClauses}
-use Rattle.run_laws.specs.Ending.{AllAtEnd}
+use Rattle.run_laws.specs.Timely.{AllAtEnd}
 use Rattle.run_laws.specs.Meetings.{AllDone}
 use Rattle.run_laws.specs.Runs.{Runs, HasEnded, lists_in}
 use Rattle.run_texts.specs.declared.told.ToldRun.{ToldRun}

@@ -26,9 +26,9 @@ use Rattle.scenario_json.specs.Inputs.{inputs_in, delays_in}
 use Rattle.scenario_json.specs.Traces.{trace_in}
 use Rattle.scenario_json.specs.Clocks.{clocks_in}
 use Rattle.scenario_json.specs.Events.{events_in}
-use Rattle.scenario_json.specs.RunFacts.{AreInputsOf, AreDelaysOf, AreClocksFor}
+use Rattle.scenario_json.specs.proof.RunFacts.{AreInputsOf, AreDelaysOf, AreClocksFor}
 use Rattle.scenario_json.proofs.RunFacts.{no_inputs_keep, inputs_keep, least_delays_keep, delays_keep, clocks_keep}
-use Rattle.analysis_fields.specs.AnalysisFacts.{IsFaultOf, IsProcessorOf}
+use Rattle.analysis_fields.specs.proof.AnalysisFacts.{IsFaultOf, IsProcessorOf}
 use Rattle.analysis_fields.specs.declared.faults.RoundFault.{RoundFault}
 use Rattle.analysis_fields.specs.declared.processors.Processor.{Processor}
 use Rattle.analysis_fields.specs.Properties.{properties_in}
@@ -39,7 +39,7 @@ use Rattle.analysis_fields.specs.Processors.{processors_in}
 use Rattle.analysis_fields.proofs.FaultFacts.{faults_keep}
 use Rattle.analysis_fields.proofs.ProcessorFacts.{processors_keep}
 use Rattle.scenario_json.specs.declared.scenario.Scenario.{Scenario}
-use Rattle.scenario_json.specs.Facts.{IsScenarioOf}
+use Rattle.scenario_json.specs.proof.Facts.{IsScenarioOf}
 use Rattle.scenario_json.specs.Scenarios.{field, small_enough, needs_events, needs_trace, needs_properties, needs_processors, rounds_in, fields_in}
 
 -- a field that is there keeps what its reader keeps, and one that is not there what stands in its place keeps

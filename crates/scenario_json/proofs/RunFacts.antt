@@ -23,7 +23,7 @@ use Rattle.scenario_values.proofs.Passing.{ok_same, ok_bind, ok_only_if, through
 use Rattle.scenario_values.specs.Names.{node_at, link_at, root_at}
 use Rattle.scenario_json.specs.Inputs.{value_list, with_input, inputs_in, with_delay, delay_list, with_link_delays, delays_in}
 use Rattle.scenario_json.specs.Clocks.{last_of, with_reading, reading_list, with_clock, clock_lists, is_meet, clocks_in}
-use Rattle.scenario_json.specs.RunFacts.{AreInputsOf, IsDelayList, AreDelaysOf, IsOpening, AreClocksOf, AreClocksFor}
+use Rattle.scenario_json.specs.proof.RunFacts.{AreInputsOf, IsDelayList, AreDelaysOf, IsOpening, AreClocksOf, AreClocksFor}
 use Rattle.scenario_json.proofs.Readings.{order_push}
 
 -- ---- inputs

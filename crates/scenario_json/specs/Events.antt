@@ -10,7 +10,6 @@ use Rattle.pals_model.specs.declared.design.DesignParts.{DesignParts}
 use Rattle.pals_runs.specs.declared.commands.Command.{Command}
 use Rattle.pals_runs.specs.declared.commands.Command.TheVariants.{World}
 use Rattle.pals_runs.specs.declared.events.Event.{Event}
-use Rattle.pals_runs.specs.declared.events.Event.TheVariants as event
 use Rattle.scenario_values.specs.declared.fault.ScenarioFault.{ScenarioFault}
 use Rattle.scenario_values.specs.declared.fault.ScenarioFault.TheVariants.{WrongKind, OutOfRange}
 use Rattle.scenario_json.specs.declared.events.Word.{Word}
@@ -19,6 +18,7 @@ use Rattle.scenario_values.specs.Outcomes.{◌>>=◌, given, only_if, through}
 use Rattle.scenario_values.specs.FaultPlaces.{inside}
 use Rattle.scenario_values.specs.Values.{elements, short_list, text, whole, is_whole}
 use Rattle.scenario_values.specs.Names.{node_no, link_no, node_at, link_at}
+use Rattle.pals_runs.specs.declared.events.Event.TheVariants as event
 
 -- ---- words
 -- the kind of event that a word is

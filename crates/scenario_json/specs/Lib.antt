@@ -1,8 +1,7 @@
-pub mod Facts
 pub mod Scenarios
 pub mod Cells
 pub mod Clocks
 pub mod Events
 pub mod Inputs
-pub mod RunFacts
 pub mod Traces
+pub mod proof

@@ -14,7 +14,7 @@ ghost use Rattle.analysis_fields.specs.Properties.{properties_in};
 ghost use Rattle.analysis_fields.specs.Replicas.{replicas_in, faults_in};
 ghost use Rattle.analysis_fields.specs.Plants.{plants_in};
 ghost use Rattle.analysis_fields.specs.Processors.{processors_in};
-ghost use Rattle.scenario_json.specs.Facts.{IsScenarioOf};
+ghost use Rattle.scenario_json.specs.proof.Facts.{IsScenarioOf};
 ghost use Rattle.scenario_json.specs.Scenarios.{is_field, field, needs_events, needs_trace, needs_properties, needs_processors, rounds_in, fields_in, scen, IsAnswer};
 
 use crate::scenario::Scenario;

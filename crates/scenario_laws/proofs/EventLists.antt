@@ -22,7 +22,7 @@ use Rattle.scenario_json.specs.declared.events.Word.{Word}
 use Rattle.scenario_json.specs.declared.events.Word.TheVariants.{Pass, Start, Step, Finish, Send, Arrive, Drop, Repeat}
 use Rattle.scenario_json.specs.Events.{word_of, is_usual, node_part, link_parts, event_of, usual_word, event_from, event_in, with_event, events_in}
 use Rattle.loose_world.specs.Worlds.{IsLooseIn}
-use Rattle.scenario_laws.specs.Events.{loosely, AreLooseEvents}
+use Rattle.scenario_laws.specs.proof.Events.{loosely, AreLooseEvents}
 use Rattle.scenario_laws.proofs.Names.{node_below, link_below}
 
 -- ---- nodes and links

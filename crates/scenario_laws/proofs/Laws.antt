@@ -9,16 +9,16 @@ use Rattle.pals_model.specs.Rules.{IsDesign}
 use Rattle.pals_runs.specs.declared.commands.Command.{Command}
 use Rattle.scenario_json.specs.Events.{events_in}
 use Rattle.scenario_json.specs.Traces.{trace_in}
-use Rattle.analysis_fields.specs.AnalysisFacts.{IsFaultOf}
+use Rattle.analysis_fields.specs.proof.AnalysisFacts.{IsFaultOf}
 use Rattle.analysis_fields.specs.Replicas.{faults_in}
 use Rattle.analysis_fields.specs.Plants.{plants_in}
 use Rattle.analysis_fields.proofs.FaultFacts.{faults_keep}
 use Rattle.scenario_json.specs.declared.scenario.Scenario.{Scenario}
-use Rattle.scenario_json.specs.Facts.{IsScenarioOf}
+use Rattle.scenario_json.specs.proof.Facts.{IsScenarioOf}
 use Rattle.scenario_json.specs.Scenarios.{needs_events, needs_trace, Means}
 use Rattle.scenario_json.proofs.Keeping.{answer_keeps}
 use Rattle.plant_fuse.specs.Fused.{ArePairs}
-use Rattle.scenario_laws.specs.Events.{loosely, AreLooseEvents}
+use Rattle.scenario_laws.specs.proof.Events.{loosely, AreLooseEvents}
 use Rattle.scenario_laws.proofs.Fields.{field_keeps, means_fields, means_read}
 use Rattle.scenario_laws.proofs.EventLists.{events_few, events_loose}
 use Rattle.scenario_laws.proofs.TraceLists.{trace_few}

@@ -13,7 +13,7 @@ use Rattle.std.proofs.lemmas.Map.Text.{btree_map_updates_text}
 use Rattle.std.proofs.lemmas.Option.{slice_get_within}
 use Rattle.std.proofs.lemmas.Slice.Eq.{bytes_eq-Decides}
 use Rattle.pals_model.proofs.Lookups.{found_at}
-use Rattle.scenario_values.specs.NameTables.{Numbers}
+use Rattle.scenario_values.specs.proof.NameTables.{Numbers}
 
 -- what is found stands in the list
 pub within : {X : Type 0} (test : X → Bool) (xs : List X) (n : ℕ) → position test xs ≡ Some n → n < length xs

@@ -1,5 +1,5 @@
 pub mod Outcomes
 pub mod FaultPlaces
 pub mod Values
-pub mod NameTables
 pub mod Names
+pub mod proof

@@ -4,7 +4,7 @@ ghost use Rattle.pals_model.specs.declared.design.Component.{Component};
 ghost use Rattle.pals_model.specs.declared.design.Feed.{Feed};
 ghost use Rattle.pals_model.specs.Inputs.{new_names};
 ghost use Rattle.pals_model.specs.LinkNames.{link_name};
-ghost use Rattle.scenario_values.specs.NameTables.{Numbers};
+ghost use Rattle.scenario_values.specs.proof.NameTables.{Numbers};
 
 use crate::ScenarioFault;
 use crate::place::{Place, unknown};
@@ -36,7 +36,7 @@ impl<'a> Model for Names<'a> {
 
     ghost view = { λ names. names.design.now };
 
-    ghost use Rattle.scenario_values.specs.NameTables.{AreTables};
+    ghost use Rattle.scenario_values.specs.proof.NameTables.{AreTables};
 
     ghost invariant = { λ names. AreTables names.design.now names.nodes names.links names.feeds names.roots.keys };
 }

@@ -4,7 +4,7 @@ use Rattle.step_code.specs.declared.instr.Instr.{Instr}
 use Rattle.step_code.specs.declared.instr.Instr.TheVariants.{Store, Jump, JumpZero, LoopStart, LoopNext, End}
 use Rattle.step_code.specs.declared.loops.Loop.{Loop}
 use Rattle.step_code.specs.Loops.{loop_at, around}
-use Rattle.step_code.specs.Rules.{stays}
+use Rattle.step_code.specs.proof.Rules.{stays}
 use Rattle.step_code.proofs.Nested.{Free}
 
 -- rules 1 and 6 on a jump

@@ -6,8 +6,8 @@ use Rattle.std.proofs.lemmas.Bool.{and_parts, ltb-true, cases_lt, false≢true}
 use Rattle.step_code.specs.declared.instr.Instr.{Instr}
 use Rattle.step_code.specs.declared.loops.Loop.{Loop}
 use Rattle.step_code.specs.Loops.{loop_at, with_loop, loops_below, around}
-use Rattle.step_code.specs.Innermost.{first, innermost, AreInnermost, ends_by, starts_from}
-use Rattle.step_code.specs.Rules.{inside, agrees, stays, strays}
+use Rattle.step_code.specs.proof.Innermost.{first, innermost, AreInnermost, ends_by, starts_from}
+use Rattle.step_code.specs.proof.Rules.{inside, agrees, stays, strays}
 use Rattle.step_code.proofs.Nesting.{loop_is, lt_true, all_below, agree_same, filter_below}
 use Rattle.step_code.proofs.Innermost.{is_found, read_innermost}
 

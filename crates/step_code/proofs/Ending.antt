@@ -11,9 +11,9 @@ use Rattle.step_code.specs.declared.instr.Instr.{Instr}
 use Rattle.step_code.specs.declared.instr.CodeParts.{CodeParts}
 use Rattle.step_code.specs.Loops.{around}
 use Rattle.step_code.specs.Paths.{heaviest, entry_weight, weight}
-use Rattle.step_code.specs.Exec.{Outcome, Ended, Trapped, Stuck, Unfinished, silent, senses, slots_of, left, run_from, from_entry, unless_halted, exec, Leaves, has_entry, FitsCode, Sized}
-use Rattle.step_code.specs.Heights.{Member}
-use Rattle.step_code.specs.Rules.{IsVerified}
+use Rattle.step_code.specs.proof.Exec.{Outcome, Ended, Trapped, Stuck, Unfinished, silent, senses, slots_of, left, run_from, from_entry, unless_halted, exec, Leaves, has_entry, FitsCode, Sized}
+use Rattle.step_code.specs.proof.Heights.{Member}
+use Rattle.step_code.specs.proof.Rules.{IsVerified}
 use Rattle.step_code.proofs.Nested.{IsOver}
 use Rattle.step_code.proofs.Steady.{IsFed, GoesOn}
 use Rattle.step_code.proofs.Bound.{ends_within}

@@ -3,8 +3,8 @@ use Rattle.std.proofs.Common.{◌≡◌, ◌∙◌, inl, ℕ, ◌+◌, ◌<◌, 
 use Rattle.std.specs.Prelude.{slice_get, slice_set}
 use Rattle.std.proofs.lemmas.List.{length-set, take_more}
 use Rattle.std.proofs.lemmas.Option.{slice_get-get_or}
-use Rattle.step_code.specs.Heights.{Member}
-use Rattle.step_code.specs.Checks.{Holds}
+use Rattle.step_code.specs.proof.Heights.{Member}
+use Rattle.step_code.specs.proof.Checks.{Holds}
 use Rattle.step_code.proofs.Bound.{get_set_other, get_set_same}
 use Rattle.step_code.proofs.Passing.{member_left, member_right, member_either, member_or_not}
 

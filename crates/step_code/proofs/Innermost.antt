@@ -7,7 +7,7 @@ use Rattle.std.proofs.lemmas.Option.{get_or_from_slice_get}
 use Rattle.step_code.specs.declared.instr.Instr.{Instr}
 use Rattle.step_code.specs.declared.loops.Loop.{Loop}
 use Rattle.step_code.specs.Loops.{loop_at, with_loop, loops_below}
-use Rattle.step_code.specs.Innermost.{first, innermost, AreInnermost, outwards, StartsBelow, ComesFrom}
+use Rattle.step_code.specs.proof.Innermost.{first, innermost, AreInnermost, outwards, StartsBelow, ComesFrom}
 use Rattle.step_code.proofs.Nesting.{loop_is, lt_true}
 
 -- the first loop that a test keeps: it is a loop, and what a stricter test keeps is it or starts below it

@@ -3,8 +3,8 @@ use Rattle.std.proofs.Common.{◌≡◌, ◌∙◌, ℕ, ◌+◌, ◌<◌, Bool,
 use Rattle.std.proofs.lemmas.List.{take_more}
 use Rattle.std.proofs.lemmas.List.Folds.{list_any-append}
 use Rattle.step_code.specs.declared.instr.Instr.{Instr}
-use Rattle.step_code.specs.Rules.{on_some, enters_badly, is_entry, is_bad_entry}
-use Rattle.step_code.specs.Checks.{IsLeast}
+use Rattle.step_code.specs.proof.Rules.{on_some, enters_badly, is_entry, is_bad_entry}
+use Rattle.step_code.specs.proof.Checks.{IsLeast}
 
 pub least_same : (test other : ℕ → Bool) (o : Option ℕ) → ((q : ℕ) → other q ≡ test q) → IsLeast test o → IsLeast other o
 least_same test other None same least = λ q. same q ∙ least q

@@ -5,8 +5,8 @@ use Rattle.std.specs.Option.{option_eq}
 use lib.Dec.{eqb}
 use Rattle.step_code.specs.declared.instr.CodeParts.{CodeParts}
 use Rattle.pals_base.specs.declared.limits.TheConstants.{INSTRUCTIONS}
-use Rattle.step_code.specs.Rules.{is_bad_entry, jumps_badly, finds, Rule, BadJump, rank, Finds, IsCleanBelow, IsFirst}
-use Rattle.step_code.specs.Checks.{IsLeast, AreHeights}
+use Rattle.step_code.specs.proof.Rules.{is_bad_entry, jumps_badly, finds, Rule, BadJump, rank, Finds, IsCleanBelow, IsFirst}
+use Rattle.step_code.specs.proof.Checks.{IsLeast, AreHeights}
 
 abbrev pub StandsFrom : ℕ → Option ℕ → Type 0
 StandsFrom at None = Unit {0}

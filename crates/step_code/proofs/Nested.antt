@@ -4,7 +4,7 @@ use Rattle.step_code.specs.declared.instr.Instr.{Instr}
 use Rattle.step_code.specs.declared.instr.Instr.TheVariants.{Store, Jump, JumpZero, LoopStart, LoopNext, End}
 use Rattle.step_code.specs.declared.loops.Loop.{Loop}
 use Rattle.step_code.specs.Loops.{around}
-use Rattle.step_code.specs.Exec.{Outcome, Ended, Trapped, Stuck, Unfinished}
+use Rattle.step_code.specs.proof.Exec.{Outcome, Ended, Trapped, Stuck, Unfinished}
 
 -- a slot of none of these loops
 abbrev pub Free : List Loop → ℕ → Type 0

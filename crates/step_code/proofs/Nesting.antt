@@ -11,7 +11,7 @@ use Rattle.step_code.specs.declared.instr.Instr.TheVariants.{Store, Jump, JumpZe
 use Rattle.step_code.specs.declared.loops.Loop.{Loop}
 use Rattle.step_code.specs.Loops.{closes, loop_from, loop_at, with_loop, loops_below, around}
 use Rattle.step_code.proofs.Nested.{Free, On, Nests, IsNested}
-use Rattle.step_code.specs.Rules.{inside, agrees, stays}
+use Rattle.step_code.specs.proof.Rules.{inside, agrees, stays}
 use Rattle.step_code.proofs.Clean.{Jumps, IsEnd, Clean, IsClean}
 
 pub lt_true : (a b : ℕ) → a < b → nat_lt a b ≡ true

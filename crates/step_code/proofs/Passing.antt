@@ -6,8 +6,8 @@ use Rattle.std.proofs.lemmas.List.{length-set}
 use Rattle.std.proofs.lemmas.Option.{slice_get-get_or}
 use Rattle.step_code.specs.declared.instr.Instr.{Instr}
 use Rattle.step_code.specs.Paths.{jump_of, next_of, onward}
-use Rattle.step_code.specs.Heights.{Member}
-use Rattle.step_code.specs.Checks.{Holds, AreThere, AreSet}
+use Rattle.step_code.specs.proof.Heights.{Member}
+use Rattle.step_code.specs.proof.Checks.{Holds, AreThere, AreSet}
 use Rattle.step_code.proofs.Bound.{get_set_other, get_set_same}
 
 -- ---- members

@@ -10,9 +10,9 @@ use Rattle.step_code.specs.declared.fault.CodeFault.{CodeFault}
 use Rattle.step_code.specs.declared.fault.CodeFault.TheVariants as fault
 use Rattle.pals_base.specs.declared.limits.TheConstants.{INSTRUCTIONS}
 use Rattle.step_code.specs.Paths.{jump_of, may_go_on, next_of, onward}
-use Rattle.step_code.specs.Heights.{takes, after, Member, Reaches, ComesFromBelow, Given, ways}
-use Rattle.step_code.specs.Rules.{strays, lacks_next, jumps_badly, jumps_back, lacks_loop, misses_slot, is_bad_entry, on_some, finds, Underflows, Differs, Rule, BadJump, BackJump, BadSlot, Underflow, HeightsDiffer, rank, Finds, IsCleanBelow, IsFirst, IsFaultOf}
-use Rattle.step_code.specs.Checks.{Holds, Clashes, AreThere, AreHeights, PassesOn, Disagrees, Passed}
+use Rattle.step_code.specs.proof.Heights.{takes, after, Member, Reaches, ComesFromBelow, Given, ways}
+use Rattle.step_code.specs.proof.Rules.{strays, lacks_next, jumps_badly, jumps_back, lacks_loop, misses_slot, is_bad_entry, on_some, finds, Underflows, Differs, Rule, BadJump, BackJump, BadSlot, Underflow, HeightsDiffer, rank, Finds, IsCleanBelow, IsFirst, IsFaultOf}
+use Rattle.step_code.specs.proof.Checks.{Holds, Clashes, AreThere, AreHeights, PassesOn, Disagrees, Passed}
 use Rattle.step_code.proofs.Refusals.{IsSound, or_left, or_right, goes_well}
 use Rattle.step_code.proofs.Crossing.{not_le}
 use Rattle.step_code.proofs.Passing.{member_right, member_either, same_or_not, member_or_not}

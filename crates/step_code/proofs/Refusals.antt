@@ -5,7 +5,7 @@ use Rattle.std.proofs.lemmas.Bool.{and_parts, ltb-true}
 use Rattle.step_code.specs.declared.instr.Instr.{Instr}
 use Rattle.step_code.specs.declared.instr.Instr.TheVariants.{LoopStart}
 use Rattle.step_code.specs.declared.instr.CodeParts.{CodeParts}
-use Rattle.step_code.specs.Rules.{stays, strays, jumps_badly, jumps_back, misses_slot, is_bad_entry, on_some, finds, Rule, BadJump, BackJump, BadSlot, Finds, IsCleanBelow}
+use Rattle.step_code.specs.proof.Rules.{stays, strays, jumps_badly, jumps_back, misses_slot, is_bad_entry, on_some, finds, Rule, BadJump, BackJump, BadSlot, Finds, IsCleanBelow}
 use Rattle.step_code.proofs.Nesting.{loop_is}
 use Rattle.step_code.proofs.Crossing.{AreClosed, not_le}
 

@@ -8,8 +8,8 @@ use Rattle.step_code.specs.declared.instr.CodeParts.{CodeParts}
 use Rattle.step_code.specs.declared.loops.Loop.{Loop}
 use Rattle.step_code.specs.Loops.{loop_at, around}
 use Rattle.step_code.specs.Paths.{onward}
-use Rattle.step_code.specs.Heights.{takes, after, Member, Reaches, ways, Fed}
-use Rattle.step_code.specs.Rules.{on_some, strays, lacks_next, ends_loop, is_no_loop_slot, Underflow, HeightsDiffer, IsVerified}
+use Rattle.step_code.specs.proof.Heights.{takes, after, Member, Reaches, ways, Fed}
+use Rattle.step_code.specs.proof.Rules.{on_some, strays, lacks_next, ends_loop, is_no_loop_slot, Underflow, HeightsDiffer, IsVerified}
 use Rattle.step_code.proofs.Nested.{Free, IsNested}
 use Rattle.step_code.proofs.Clean.{Jumps, IsEnd, Clean}
 use Rattle.step_code.proofs.Nesting.{loop_is, clean_nested}

@@ -2,8 +2,8 @@
 use Rattle.std.specs.Prelude.{◌≡◌, ℕ, ◌<◌, ◌≤◌, List, Option, Some, slice_get}
 use Rattle.step_code.specs.declared.instr.Instr.{Instr}
 use Rattle.step_code.specs.Paths.{onward}
-use Rattle.step_code.specs.Exec.{Outcome, Ended, Trapped, Stuck, Unfinished}
-use Rattle.step_code.specs.Heights.{takes, after, Member, Reaches, ways, Fed}
+use Rattle.step_code.specs.proof.Exec.{Outcome, Ended, Trapped, Stuck, Unfinished}
+use Rattle.step_code.specs.proof.Heights.{takes, after, Member, Reaches, ways, Fed}
 
 -- rule 2 finds nothing anywhere, nor does rule 3 with two instructions
 pub record IsLevel (code : List Instr) (entries : List (Option ℕ)) : Type 0 where

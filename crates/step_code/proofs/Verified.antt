@@ -6,8 +6,8 @@ use Rattle.step_code.specs.declared.instr.Instr.{Instr}
 use Rattle.step_code.specs.declared.instr.CodeParts.{CodeParts}
 use Rattle.step_code.specs.declared.loops.Loop.{Loop}
 use Rattle.step_code.specs.Loops.{around}
-use Rattle.step_code.specs.Heights.{Member}
-use Rattle.step_code.specs.Rules.{is_none, enters_badly, is_entry, is_bad_entry, on_some, finds, jumps_badly, BadJump, IsVerified}
+use Rattle.step_code.specs.proof.Heights.{Member}
+use Rattle.step_code.specs.proof.Rules.{is_none, enters_badly, is_entry, is_bad_entry, on_some, finds, jumps_badly, BadJump, IsVerified}
 use Rattle.step_code.proofs.Refusals.{untrue, or_left, not_false, is_sound, clean_closed}
 use Rattle.step_code.proofs.Crossing.{AreClosed}
 use Rattle.step_code.proofs.Placing.{IsKnown}

@@ -11,10 +11,10 @@ use Rattle.step_code.specs.declared.instr.Instr.{Instr}
 use Rattle.step_code.specs.declared.instr.CodeParts.{CodeParts}
 use Rattle.step_code.specs.declared.loops.Loop.{Loop}
 use Rattle.step_code.specs.Loops.{turns_of, around}
-use Rattle.step_code.specs.Innermost.{first, innermost}
+use Rattle.step_code.specs.proof.Innermost.{first, innermost}
 use Rattle.step_code.specs.Paths.{onward, leads, product, greatest, weight_at, heaviest, entry_weight, weight}
-use Rattle.step_code.specs.Heights.{Member}
-use Rattle.step_code.specs.Rules.{IsVerified}
+use Rattle.step_code.specs.proof.Heights.{Member}
+use Rattle.step_code.specs.proof.Rules.{IsVerified}
 use Rattle.step_code.specs.Capped.{capped, AreBest}
 use Rattle.step_code.proofs.Crossing.{around_outer}
 use Rattle.step_code.proofs.Placing.{known_there, known_later}

@@ -1,13 +1,5 @@
-pub mod Step
 pub mod Loops
-pub mod Innermost
 pub mod Paths
-pub mod Exec
-pub mod Heights
-pub mod Walks
-pub mod Rules
-pub mod Checks
 pub mod Capped
 pub mod Lengths
-pub mod Means
-pub mod Examples
+pub mod proof

@@ -27,7 +27,7 @@ impl Model for Code {
 
     ghost use Rattle.std.specs.Prelude.{◌≡◌};
     ghost use Rattle.step_code.specs.Paths.{weight_of};
-    ghost use Rattle.step_code.specs.Rules.{IsVerified};
+    ghost use Rattle.step_code.specs.proof.Rules.{IsVerified};
     ghost use Rattle.step_code.specs.Capped.{capped};
 
     ghost invariant = { λ code. IsVerified code.parts × (code.most ≡ capped (weight_of code.parts)) };
@@ -36,7 +36,7 @@ impl Model for Code {
 impl Code {
     ghost use Rattle.std.specs.Prelude.{◌≡◌};
     ghost use Rattle.step_code.specs.Paths.{weight_of};
-    ghost use Rattle.step_code.specs.Rules.{IsVerified};
+    ghost use Rattle.step_code.specs.proof.Rules.{IsVerified};
     ghost use Rattle.step_code.specs.Capped.{capped};
 
     /// The code of verified parts and their weight. It takes no memory.

@@ -6,11 +6,11 @@ ghost use Rattle.pals_base.specs.declared.values.Port.TheVariants.{Present};
 ghost use Rattle.pals_base.specs.Fire.{Fired};
 ghost use Rattle.step_code.specs.declared.instr.CodeParts.{CodeParts};
 ghost use Rattle.step_code.specs.Paths.{weight_of};
-ghost use Rattle.step_code.specs.Exec.{FitsCode, exec, Leaves};
-ghost use Rattle.step_code.specs.Heights.{Member};
-ghost use Rattle.step_code.specs.Walks.{IsPath, path_weight, made};
-ghost use Rattle.step_code.specs.Rules.{IsVerified};
-ghost use Rattle.step_code.specs.Examples.{counter, at_four, surface, nested};
+ghost use Rattle.step_code.specs.proof.Exec.{FitsCode, exec, Leaves};
+ghost use Rattle.step_code.specs.proof.Heights.{Member};
+ghost use Rattle.step_code.specs.proof.Walks.{IsPath, path_weight, made};
+ghost use Rattle.step_code.specs.proof.Rules.{IsVerified};
+ghost use Rattle.step_code.specs.proof.Examples.{counter, at_four, surface, nested};
 
 /// A counter at 4 that gets 2 makes its nine instructions, keeps 7 and gives it.
 pub fn counter_counts()

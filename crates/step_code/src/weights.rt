@@ -1,10 +1,10 @@
 //! How many instructions one step may take.
 ghost use Rattle.std.specs.Prelude.{◌≡◌, ◌+◌, ◌-◌, ◌<◌, map, option_to_list, slice_index_or, length, IfOk, Some};
-ghost use Rattle.step_code.specs.Innermost.{AreInnermost};
+ghost use Rattle.step_code.specs.proof.Innermost.{AreInnermost};
 ghost use Rattle.step_code.specs.Paths.{onward, greatest, weight_at, heaviest, entry_weight, weight_of};
-ghost use Rattle.step_code.specs.Heights.{Member};
-ghost use Rattle.step_code.specs.Rules.{IsVerified};
-ghost use Rattle.step_code.specs.Checks.{AreThere};
+ghost use Rattle.step_code.specs.proof.Heights.{Member};
+ghost use Rattle.step_code.specs.proof.Rules.{IsVerified};
+ghost use Rattle.step_code.specs.proof.Checks.{AreThere};
 ghost use Rattle.step_code.specs.Capped.{capped, AreWeights, AreBest};
 ghost use Rattle.pals_base.specs.declared.limits.TheConstants.{INSTRUCTIONS};
 

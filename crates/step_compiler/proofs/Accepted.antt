@@ -10,7 +10,7 @@ use Rattle.step_code.specs.declared.instr.Instr.{Instr}
 use Rattle.step_code.specs.declared.instr.Instr.TheVariants as code
 use Rattle.step_code.specs.declared.loops.Loop.{Loop}
 use Rattle.step_code.specs.Loops.{loop_from, loop_at, with_loop, loops_below}
-use Rattle.step_code.specs.Rules.{inside, agrees, stays}
+use Rattle.step_code.specs.proof.Rules.{inside, agrees, stays}
 use Rattle.step_code.specs.Lengths.{operand_length, length_of, length_act, length_acts, length_branches}
 use Rattle.step_compiler.specs.Layout.{operand_code, code_of, code_rest, code_act, code_acts, code_branches}
 use Rattle.step_compiler.proofs.Standing.{HasAt, has_front, has_back, code-length, act-length, acts-length, branches-length}

@@ -5,7 +5,7 @@ use Rattle.pals_base.specs.declared.behaviour.Operand.{Operand}
 use Rattle.pals_base.specs.declared.behaviour.Act.{Act}
 use Rattle.pals_base.specs.declared.behaviour.Branch.{Branch}
 use Rattle.pals_base.specs.Tree.{Then, Do, Where}
-use Rattle.pals_base.specs.Seen.{tree_of, operands_along, action_of, actions_along, branches_along}
+use Rattle.pals_base.specs.proof.Seen.{tree_of, operands_along, action_of, actions_along, branches_along}
 
 pub on_ok : {A E : Type 0} (r : Result A E) (P Q : Type 0) → (P → Q) → OnOk r P → OnOk r Q
 on_ok (Ok x) P Q f p = f p

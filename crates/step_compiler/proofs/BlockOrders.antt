@@ -9,11 +9,12 @@ use Rattle.std.proofs.lemmas.Option.{slice_get_within}
 use Rattle.pals_base.specs.declared.behaviour.BehaviourParts.{BehaviourParts}
 use Rattle.pals_base.specs.Rules.{IsBehaviour}
 use Rattle.pals_base.specs.Tree.{Edge}
-use Rattle.step_compiler.specs.Order.{is_placed, is_awaited, leads_from_outside, may_follow, next_state, with_next, ordered, complete_states, block_order}
+use Rattle.step_compiler.specs.proof.Order.{is_placed, is_awaited, leads_from_outside, may_follow, next_state, with_next, ordered, block_order}
+use Rattle.step_compiler.specs.LaidOut.{complete_states}
 use Rattle.step_compiler.proofs.Listing.{found_is}
 use Rattle.step_compiler.proofs.Covered.{order_full}
 use Rattle.step_compiler.specs.LaidOut.{MayFollow, IsNext, IsBlockOrder}
-use Rattle.step_compiler.specs.Laws.{OrderIsOne}
+use Rattle.step_compiler.specs.proof.Laws.{OrderIsOne}
 use Rattle.step_compiler.proofs.Placing.{placed_contains, contains_placed, find_least, get_take, take_next, get_front, get_seam}
 
 -- ---- what may follow

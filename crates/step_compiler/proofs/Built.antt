@@ -7,9 +7,11 @@ use Rattle.pals_base.specs.Tree.{Edge}
 use Rattle.pals_base.specs.Fire.{is_complete}
 use Rattle.pals_base.specs.Steps.{upwards}
 use Rattle.step_code.specs.Lengths.{length_edge, length_edges}
-use Rattle.step_code.specs.Heights.{Member}
-use Rattle.step_compiler.specs.Order.{is_placed, complete_states}
-use Rattle.step_compiler.specs.Blocks.{leaving_among, block_length, order_length, start_of}
+use Rattle.step_code.specs.proof.Heights.{Member}
+use Rattle.step_compiler.specs.proof.Order.{is_placed}
+use Rattle.step_compiler.specs.LaidOut.{complete_states}
+use Rattle.step_compiler.specs.proof.Blocks.{leaving_among, order_length}
+use Rattle.step_compiler.specs.Blocks.{block_length, start_of}
 use Rattle.step_compiler.proofs.Listing.{filter_more}
 
 -- ---- one more block

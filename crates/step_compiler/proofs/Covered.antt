@@ -8,12 +8,13 @@ use Rattle.pals_base.specs.Tree.{Edge}
 use Rattle.pals_base.specs.Fire.{is_complete, leaving}
 use Rattle.pals_base.specs.Steps.{upwards}
 use Rattle.pals_base.specs.Rules.{is_edge, IsBehaviour}
-use Rattle.pals_base.specs.Settling.{settles}
+use Rattle.pals_base.specs.proof.Settling.{settles}
 use Rattle.pals_base.proofs.Ways.{settled_unless_cycle}
 use Rattle.step_code.specs.Lengths.{code_length}
-use Rattle.step_code.specs.Heights.{Member}
-use Rattle.step_compiler.specs.Order.{states_of, is_placed, leads_from_outside, is_awaited, may_follow, next_state, with_next, ordered, complete_states, block_order}
-use Rattle.step_compiler.specs.Blocks.{order_length}
+use Rattle.step_code.specs.proof.Heights.{Member}
+use Rattle.step_compiler.specs.LaidOut.{states_of, complete_states}
+use Rattle.step_compiler.specs.proof.Order.{is_placed, leads_from_outside, is_awaited, may_follow, next_state, with_next, ordered, block_order}
+use Rattle.step_compiler.specs.proof.Blocks.{order_length}
 use Rattle.step_compiler.proofs.Listing.{found_is, none_is, member_upwards, length-upwards}
 use Rattle.step_compiler.proofs.Marking.{edge_has}
 use Rattle.step_compiler.proofs.Built.{placed_more, more_true, all_placed, IsBuilt, built_more, completes_first}

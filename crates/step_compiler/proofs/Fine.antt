@@ -9,8 +9,8 @@ use Rattle.step_code.specs.declared.instr.Instr.{Instr}
 use Rattle.step_code.specs.declared.instr.Instr.TheVariants as code
 use Rattle.step_code.specs.declared.instr.CodeParts.{CodeParts}
 use Rattle.step_code.specs.Paths.{jump_of, may_go_on, next_of}
-use Rattle.step_code.specs.Heights.{takes, after, Member, back_of, ways}
-use Rattle.step_code.specs.Rules.{stays, lacks_loop, misses_slot}
+use Rattle.step_code.specs.proof.Heights.{takes, after, Member, back_of, ways}
+use Rattle.step_code.specs.proof.Rules.{stays, lacks_loop, misses_slot}
 use Rattle.step_code.specs.Lengths.{operand_length, length_of, length_rest}
 use Rattle.step_compiler.specs.Layout.{operator, operand_code, code_of, code_rest}
 use Rattle.step_compiler.proofs.Sight.{Sees, SeesAll}

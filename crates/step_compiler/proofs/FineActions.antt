@@ -11,7 +11,7 @@ use Rattle.step_code.specs.declared.instr.Instr.TheVariants as code
 use Rattle.step_code.specs.declared.instr.CodeParts.{CodeParts}
 use Rattle.step_code.specs.declared.loops.Loop.{Loop}
 use Rattle.step_code.specs.Loops.{closes, loop_from, loop_at, with_loop, loops_below, around}
-use Rattle.step_code.specs.Rules.{on_some, stays, ends_loop}
+use Rattle.step_code.specs.proof.Rules.{on_some, stays, ends_loop}
 use Rattle.step_code.specs.Lengths.{length_of, length_act, length_acts, length_branches}
 use Rattle.step_compiler.specs.Layout.{code_of, code_act, code_acts, code_branches}
 use Rattle.step_compiler.proofs.Sight.{Sees, Sizes, SeesAct, SeesActs, SeesBranches}

@@ -9,8 +9,9 @@ use Rattle.pals_base.specs.Rules.{IsBehaviour}
 use Rattle.step_code.specs.declared.instr.Instr.{Instr}
 use Rattle.step_code.specs.Lengths.{length_trigger, length_edge}
 use Rattle.step_compiler.specs.Layout.{code_acts}
-use Rattle.step_compiler.specs.Order.{is_placed, block_order}
-use Rattle.step_compiler.specs.Blocks.{trigger_code, last_instr, past, edge_code, block_code, block_length, start_of, in_list, blocks_code, dispatch_offset, block_starts}
+use Rattle.step_compiler.specs.proof.Order.{is_placed, block_order}
+use Rattle.step_compiler.specs.Blocks.{trigger_code, last_instr, past, edge_code, block_code, block_length, start_of, blocks_code, dispatch_offset}
+use Rattle.step_compiler.specs.proof.Blocks.{in_list, block_starts}
 use Rattle.step_compiler.proofs.Listing.{listed}
 use Rattle.step_compiler.proofs.Standing.{HasAt, has_front, has_back, edge-length, block-length}
 use Rattle.step_compiler.proofs.Covered.{order_full}

@@ -12,13 +12,15 @@ use Rattle.pals_base.specs.Steps.{upwards}
 use Rattle.step_code.specs.declared.instr.Instr.{Instr}
 use Rattle.step_code.specs.declared.instr.CodeParts.{CodeParts}
 use Rattle.step_code.specs.Lengths.{length_edge, length_trigger}
-use Rattle.step_compiler.specs.Order.{states_of, block_order}
+use Rattle.step_compiler.specs.LaidOut.{states_of}
+use Rattle.step_compiler.specs.proof.Order.{block_order}
 use Rattle.step_compiler.specs.Layout.{code_acts}
-use Rattle.step_compiler.specs.Blocks.{trigger_code, past, last_instr, edge_code, block_code, block_length, blocks_code, block_starts, in_list, start_of, entry_of, compiled}
+use Rattle.step_compiler.specs.Blocks.{trigger_code, past, last_instr, edge_code, block_code, block_length, blocks_code, start_of, entry_of}
+use Rattle.step_compiler.specs.proof.Blocks.{block_starts, in_list, compiled}
 use Rattle.step_compiler.proofs.Marking.{edge_has}
 use Rattle.step_compiler.proofs.Laid.{start_is}
 use Rattle.step_compiler.specs.LaidOut.{IsLaidOut, AreLaidOut}
-use Rattle.step_compiler.specs.Laws.{HasLayout, LaidOutCodeIsOne, LaidOutCodesAreOne}
+use Rattle.step_compiler.specs.proof.Laws.{HasLayout, LaidOutCodeIsOne, LaidOutCodesAreOne}
 use Rattle.step_compiler.proofs.BlockOrders.{blocks_are_ordered, order_is_one}
 
 -- ---- starts count at states alone

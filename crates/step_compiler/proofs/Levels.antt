@@ -8,7 +8,7 @@ use Rattle.pals_base.specs.Fire.{is_complete}
 use Rattle.pals_base.specs.Tree.{Expression, Literal, Variable, PortValue, Fresh, Neg, Abs, Not, Chain, Operands, NoMore, Then, Action, Assign, Emit, If, For, Actions, Nothing, Do, Branches, NoBranch, Where, Edge, Trigger, Dispatch, Always, When}
 use Rattle.step_code.specs.declared.instr.Instr.{Instr}
 use Rattle.step_code.specs.declared.instr.Instr.TheVariants as code
-use Rattle.step_code.specs.Heights.{after}
+use Rattle.step_code.specs.proof.Heights.{after}
 use Rattle.step_code.specs.Lengths.{operand_length, length_of, length_rest, length_act, length_acts, length_branches, length_trigger, length_edge, length_edges}
 use Rattle.step_compiler.specs.Layout.{operator, operand_code, code_of, code_rest, code_act, code_acts, code_branches}
 use Rattle.step_compiler.specs.Blocks.{trigger_code, last_instr, past, edge_code, block_code}

@@ -3,7 +3,7 @@ use Rattle.std.proofs.Common.{◌≡◌, ◌∙◌, inl, inr, subst, None, ℕ, 
 use Rattle.std.specs.Prelude.{filter, find, slice_get}
 use Rattle.std.proofs.lemmas.List.Elements.{filter-append}
 use Rattle.pals_base.specs.Steps.{upwards}
-use Rattle.step_code.specs.Heights.{Member}
+use Rattle.step_code.specs.proof.Heights.{Member}
 use Rattle.pals_base.proofs.Upwards.{upwards-more, upwards_next}
 
 pub length-upwards : (from n : ℕ) → length (upwards from n) ≡ n

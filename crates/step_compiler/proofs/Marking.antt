@@ -9,7 +9,7 @@ use Rattle.pals_base.specs.Steps.{upwards}
 use Rattle.pals_base.specs.Tree.{Edge}
 use Rattle.pals_base.specs.Kinds.{are_sound}
 use Rattle.pals_base.specs.Rules.{has_condition, is_edge, IsBehaviour}
-use Rattle.step_compiler.specs.Order.{is_placed, leads_from_outside, is_awaited, states_outside, with_target}
+use Rattle.step_compiler.specs.proof.Order.{is_placed, leads_from_outside, is_awaited, states_outside, with_target}
 use Rattle.step_compiler.proofs.Listing.{listed, length-upwards}
 
 -- ---- a transition's states, guard and actions

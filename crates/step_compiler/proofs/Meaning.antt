@@ -17,24 +17,26 @@ use Rattle.pals_base.specs.Actions.{Effect, acts}
 use Rattle.pals_base.specs.Fire.{Fired, holding, is_present, silence, completes, may_begin, is_complete, leaving, is_dispatch, first_open, along, settled, dispatched, reaction, outcome, HasShape, fire}
 use Rattle.pals_base.specs.Fire as base
 use Rattle.pals_base.specs.Rules.{is_edge, dispatch_count, ends_unguarded, has_ways, IsBehaviour}
-use Rattle.pals_base.specs.Settling.{settles}
+use Rattle.pals_base.specs.proof.Settling.{settles}
 use Rattle.pals_base.proofs.Settling.{rule_at}
 use Rattle.pals_base.proofs.Ways.{settled_unless_cycle}
 use Rattle.step_code.specs.declared.instr.Instr.{Instr}
 use Rattle.step_code.specs.declared.instr.CodeParts.{CodeParts}
-use Rattle.step_code.specs.Step.{Senses}
+use Rattle.step_code.specs.proof.Step.{Senses}
 use Rattle.step_code.specs.Paths.{weight_of}
-use Rattle.step_code.specs.Exec.{Outcome, run, silent, left, senses, run_from, from_entry, unless_halted, exec, Leaves, has_entry}
-use Rattle.step_code.specs.Heights.{Member}
-use Rattle.step_code.specs.Rules.{IsVerified}
-use Rattle.step_code.specs.Means.{Means}
+use Rattle.step_code.specs.proof.Exec.{Outcome, run, silent, left, senses, run_from, from_entry, unless_halted, exec, Leaves, has_entry}
+use Rattle.step_code.specs.proof.Heights.{Member}
+use Rattle.step_code.specs.proof.Rules.{IsVerified}
+use Rattle.step_code.specs.proof.Means.{Means}
 use Rattle.step_code.specs.Lengths.{code_length}
 use Rattle.step_code.proofs.Nested.{IsOver}
 use Rattle.step_code.proofs.Longer.{longer}
 use Rattle.step_code.proofs.Ending.{length-holding, member_at, run_over}
 use Rattle.step_compiler.specs.Depths.{depth_acts, depth_edges}
-use Rattle.step_compiler.specs.Order.{states_of, block_order}
-use Rattle.step_compiler.specs.Blocks.{block_code, block_starts, in_list, blocks_code, dispatch_offset, entry_of, compiled}
+use Rattle.step_compiler.specs.LaidOut.{states_of}
+use Rattle.step_compiler.specs.proof.Order.{block_order}
+use Rattle.step_compiler.specs.Blocks.{block_code, blocks_code, dispatch_offset, entry_of}
+use Rattle.step_compiler.specs.proof.Blocks.{block_starts, in_list, compiled}
 use Rattle.step_compiler.proofs.Sight.{Sizes, IsGood, AreGood}
 use Rattle.step_compiler.proofs.Sighting.{Fitting, acts_seen, trigger_seen}
 use Rattle.step_compiler.proofs.Standing.{HasAt, blocks-length}

@@ -3,7 +3,7 @@ use Rattle.std.specs.Prelude.{◌≡◌, ℕ, ◌+◌, ◌<◌, true, false, Lis
 use Rattle.pals_base.specs.declared.behaviour.BehaviourParts.{BehaviourParts}
 use Rattle.pals_base.specs.Tree.{Expression, Literal, Variable, PortValue, Fresh, Neg, Abs, Not, Chain, Operands, NoMore, Then, Action, Assign, Emit, If, For, Actions, Nothing, Do, Branches, NoBranch, Where, Edge, Trigger, Dispatch, Always, When}
 use Rattle.pals_base.specs.Fire.{is_dispatch}
-use Rattle.pals_base.specs.Settling.{settles}
+use Rattle.pals_base.specs.proof.Settling.{settles}
 
 abbrev mutual
   -- the variables, held inputs and signs of freshness that it reads are there

@@ -6,7 +6,8 @@ use Rattle.pals_base.specs.Tree.{Expression, Actions, Branches, NoBranch, Where,
 use Rattle.step_code.specs.declared.instr.Instr.TheVariants as code
 use Rattle.step_code.specs.Lengths.{length_of, length_acts, length_branches, length_edge, length_edges}
 use Rattle.step_compiler.specs.Layout.{code_of, code_acts, code_branches}
-use Rattle.step_compiler.specs.Blocks.{edge_code, block_code, leaving_among}
+use Rattle.step_compiler.specs.Blocks.{edge_code, block_code}
+use Rattle.step_compiler.specs.proof.Blocks.{leaving_among}
 
 -- a branch and those behind it
 pub branches_split : (g : Expression) (as' : Actions) (later : Branches) (n end p : ℕ)

@@ -10,7 +10,8 @@ use Rattle.step_code.specs.declared.instr.Instr.{Instr}
 use Rattle.step_code.specs.declared.instr.Instr.TheVariants as code
 use Rattle.step_code.specs.Lengths.{operand_length, length_of, length_rest, length_act, length_acts, length_branches, length_trigger, length_edge, length_edges}
 use Rattle.step_compiler.specs.Layout.{operator, operand_code, code_of, code_rest, code_act, code_acts, code_branches}
-use Rattle.step_compiler.specs.Blocks.{trigger_code, last_instr, past, edge_code, block_code, block_length, blocks_code, order_length}
+use Rattle.step_compiler.specs.Blocks.{trigger_code, last_instr, past, edge_code, block_code, block_length, blocks_code}
+use Rattle.step_compiler.specs.proof.Blocks.{order_length}
 
 -- ---- code at a place
 abbrev pub HasAt : List Instr → ℕ → List Instr → Type 0

@@ -3,8 +3,9 @@ use Rattle.std.proofs.Common.{◌≡◌, ℕ, suc, ◌+◌, ◌<◌, Bool, true,
 use Rattle.std.specs.List.{All}
 use Rattle.pals_base.specs.declared.behaviour.BehaviourParts.{BehaviourParts}
 use Rattle.step_code.specs.Capped.{capped}
-use Rattle.step_compiler.specs.Order.{states_of}
-use Rattle.step_compiler.specs.Blocks.{block_length, capped_length, start_in, start_of}
+use Rattle.step_compiler.specs.LaidOut.{states_of}
+use Rattle.step_compiler.specs.Blocks.{block_length, start_of}
+use Rattle.step_compiler.specs.proof.Blocks.{capped_length, start_in}
 use Rattle.step_compiler.proofs.Listing.{listed}
 
 later : {A : Type 0} (P : A → Type 0) (x : A) (xs : List A) → All P (x ∷ xs) → All P xs

@@ -18,14 +18,16 @@ use Rattle.step_code.specs.declared.fault.CodeFault.TheVariants as fault
 use Rattle.step_code.specs.declared.loops.Loop.{Loop}
 use Rattle.step_code.specs.Loops.{around}
 use Rattle.step_code.specs.Paths.{jump_of, may_go_on, onward}
-use Rattle.step_code.specs.Exec.{has_entry}
-use Rattle.step_code.specs.Heights.{after, Member, Reaches, back_of, ways}
-use Rattle.step_code.specs.Rules.{on_some, strays, stays, lacks_next, jumps_badly, jumps_back, lacks_loop, misses_slot, is_none, enters_badly, is_entry, is_bad_entry, finds, Rule, BadJump, BackJump, BadSlot, Underflow, HeightsDiffer, Finds, IsFaultOf, IsVerified}
+use Rattle.step_code.specs.proof.Exec.{has_entry}
+use Rattle.step_code.specs.proof.Heights.{after, Member, Reaches, back_of, ways}
+use Rattle.step_code.specs.proof.Rules.{on_some, strays, stays, lacks_next, jumps_badly, jumps_back, lacks_loop, misses_slot, is_none, enters_badly, is_entry, is_bad_entry, finds, Rule, BadJump, BackJump, BadSlot, Underflow, HeightsDiffer, Finds, IsFaultOf, IsVerified}
 use Rattle.step_code.specs.Lengths.{length_of, length_acts, length_trigger, length_edge, length_edges, code_length}
 use Rattle.step_compiler.specs.Layout.{code_of, code_acts}
 use Rattle.step_compiler.specs.Depths.{depth_acts, depth_edges}
-use Rattle.step_compiler.specs.Order.{is_placed, states_of, block_order}
-use Rattle.step_compiler.specs.Blocks.{trigger_code, last_instr, past, edge_code, block_code, block_length, order_length, start_of, in_list, blocks_code, dispatch_offset, entry_of, block_starts, compiled}
+use Rattle.step_compiler.specs.proof.Order.{is_placed, block_order}
+use Rattle.step_compiler.specs.LaidOut.{states_of}
+use Rattle.step_compiler.specs.Blocks.{trigger_code, last_instr, past, edge_code, block_code, block_length, start_of, blocks_code, dispatch_offset, entry_of}
+use Rattle.step_compiler.specs.proof.Blocks.{order_length, in_list, block_starts, compiled}
 use Rattle.step_compiler.proofs.Sight.{SeesTrigger}
 use Rattle.step_compiler.proofs.Sighting.{acts_seen, trigger_seen}
 use Rattle.step_compiler.proofs.Standing.{HasAt, has_front, has_back, code-length, acts-length, trigger-length, edge-length, block-length, blocks-length}

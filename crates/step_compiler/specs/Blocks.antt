@@ -1,16 +1,12 @@
 -- The code of transitions, of states and of the whole behaviour.
-use Rattle.std.specs.Prelude.{ℕ, ◌+◌, ◌-◌, nat_eq, Bool, if◌then◌else◌, List, [], ◌∷◌, ◌++◌, length, map, filter, Option, Some, None, slice_index_or}
+use Rattle.std.specs.Prelude.{ℕ, ◌+◌, ◌-◌, nat_eq, Bool, if◌then◌else◌, List, [], ◌∷◌, ◌++◌, length, Option, Some, None}
 use Rattle.pals_base.specs.declared.behaviour.BehaviourParts.{BehaviourParts}
 use Rattle.pals_base.specs.Tree.{Edge, Trigger, Dispatch, Always, When}
 use Rattle.pals_base.specs.Fire.{is_complete, is_dispatch, leaving}
 use Rattle.step_code.specs.declared.instr.Instr.{Instr}
-use Rattle.step_code.specs.declared.instr.Instr.TheVariants as code
-use Rattle.step_code.specs.declared.instr.CodeParts.{CodeParts}
-use Rattle.step_code.specs.Capped.{capped}
 use Rattle.step_code.specs.Lengths.{length_trigger, length_edge, length_edges}
 use Rattle.step_compiler.specs.Layout.{code_of, code_acts}
-use Rattle.step_compiler.specs.Depths.{depth_edges}
-use Rattle.step_compiler.specs.Order.{states_of, block_order}
+use Rattle.step_code.specs.declared.instr.Instr.TheVariants as code
 
 -- a guard, which leads to a place where it is not true
 abbrev pub trigger_code : Trigger → ℕ → ℕ → List Instr
@@ -37,42 +33,14 @@ block_code b starts complete [] p = []
 block_code b starts complete (e ∷ es) p =
     edge_code b starts complete e p ++ block_code b starts complete es (p + length_edge e)
 
--- a transition in the block of its state
-abbrev pub transition_code : BehaviourParts → (ℕ → ℕ) → Edge → ℕ → List Instr
-transition_code b starts e p = edge_code b starts (is_complete b e.source) e p
-
 -- ---- blocks in an order
 abbrev pub block_length : BehaviourParts → ℕ → ℕ
 block_length b s = length_edges (leaving b s)
-
-abbrev pub order_length : BehaviourParts → List ℕ → ℕ
-order_length b [] = 0
-order_length b (s ∷ order) = block_length b s + order_length b order
-
--- those of some transitions that leave a state
-abbrev pub leaving_among : ℕ → List Edge → List Edge
-leaving_among s es = filter (λ e. nat_eq e.source s) es
-
--- the code of those, in the block of the state
-abbrev pub leaving_code : BehaviourParts → (ℕ → ℕ) → ℕ → List Edge → ℕ → List Instr
-leaving_code b starts s es p = block_code b starts (is_complete b s) (leaving_among s es) p
-
-abbrev pub capped_length : BehaviourParts → ℕ → ℕ
-capped_length b s = capped (block_length b s)
-
--- the place at which the block of a state begins, with the blocks' lengths listed
-abbrev pub start_in : List ℕ → List ℕ → ℕ → ℕ
-start_in lengths [] s = 0
-start_in lengths (t ∷ order) s = if nat_eq t s then 0 else slice_index_or lengths t 0 + start_in lengths order s
 
 -- the place at which the block of a state begins
 abbrev pub start_of : BehaviourParts → List ℕ → ℕ → ℕ
 start_of b [] s = 0
 start_of b (t ∷ order) s = if nat_eq t s then 0 else block_length b t + start_of b order s
-
--- places that are listed by state
-abbrev pub in_list : List ℕ → ℕ → ℕ
-in_list starts s = slice_index_or starts s 0
 
 abbrev pub blocks_code : BehaviourParts → (ℕ → ℕ) → List ℕ → ℕ → List Instr
 blocks_code b starts [] p = []
@@ -87,17 +55,3 @@ dispatch_offset (e ∷ es) = if is_dispatch e.trigger then 0 else length_edge e 
 
 abbrev pub entry_of : BehaviourParts → (ℕ → ℕ) → ℕ → Option ℕ
 entry_of b starts s = if is_complete b s then Some (starts s + dispatch_offset (leaving b s)) else None
-
--- ---- the whole
-abbrev pub block_starts : BehaviourParts → List ℕ
-block_starts b = map (start_of b (block_order b)) (states_of b)
-
-unfoldable pub compiled : BehaviourParts → CodeParts
-compiled b = record {
-  instrs = blocks_code b (in_list (block_starts b)) (block_order b) 0;
-  entries = map (entry_of b (in_list (block_starts b))) (states_of b);
-  vars = length b.vars;
-  loops = depth_edges b.transitions;
-  ins = length b.ins;
-  outs = length b.outs;
-}

@@ -1,13 +1,14 @@
 -- Which code a behaviour has, with no search for it. The instructions of expressions, actions and
 -- transitions at a place stand in Layout and Blocks; here is how the blocks of states are put together.
-use Rattle.std.specs.Prelude.{◌≡◌, ℕ, ◌<◌, ◌≤◌, List, length, map, take, Some, slice_get}
+use Rattle.std.specs.Prelude.{◌≡◌, ℕ, ◌<◌, ◌≤◌, List, length, map, take, Some, slice_get, filter}
 use Rattle.std.specs.List.{Contains}
 use Rattle.pals_base.specs.declared.behaviour.BehaviourParts.{BehaviourParts}
 use Rattle.pals_base.specs.Tree.{Edge}
 use Rattle.step_code.specs.declared.instr.CodeParts.{CodeParts}
-use Rattle.step_compiler.specs.Order.{states_of, complete_states}
 use Rattle.step_compiler.specs.Depths.{depth_edges}
 use Rattle.step_compiler.specs.Blocks.{blocks_code, start_of, entry_of}
+use Rattle.pals_base.specs.Fire.{is_complete}
+use Rattle.pals_base.specs.Steps.{upwards}
 
 -- ---- the order of blocks
 -- the block of a state may stand next: it is not placed, and all that jump to it are
@@ -20,6 +21,12 @@ pub record MayFollow (b : BehaviourParts) (placed : List ℕ) (state : ℕ) : Ty
 pub record IsNext (b : BehaviourParts) (placed : List ℕ) (state : ℕ) : Type 0 where
   pub may : MayFollow b placed state
   pub lowest : (other : ℕ) → other < state → ¬ MayFollow b placed other
+
+abbrev pub states_of : BehaviourParts → List ℕ
+states_of b = upwards 0 (length b.states)
+
+abbrev pub complete_states : BehaviourParts → List ℕ
+complete_states b = filter (is_complete b) (states_of b)
 
 -- the complete states stand first, in their order; then each is the next behind those before it; and
 -- each state stands somewhere

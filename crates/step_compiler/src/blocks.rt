@@ -3,9 +3,10 @@ ghost use Rattle.std.specs.Prelude.{◌≡◌, ◌<◌, [], ◌∷◌, filter, m
 ghost use Rattle.std.specs.List.{All};
 ghost use Rattle.step_code.specs.Capped.{capped};
 ghost use Rattle.step_code.specs.Lengths.{length_edges};
-ghost use Rattle.step_compiler.specs.Order.{states_of};
-ghost use Rattle.step_compiler.specs.Blocks.{block_length, start_in, start_of, blocks_code, dispatch_offset, entry_of, in_list, capped_length, leaving_code};
-ghost use Rattle.step_compiler.specs.Adding.{Adds};
+ghost use Rattle.step_compiler.specs.LaidOut.{states_of};
+ghost use Rattle.step_compiler.specs.Blocks.{block_length, start_of, blocks_code, dispatch_offset, entry_of};
+ghost use Rattle.step_compiler.specs.proof.Blocks.{start_in, in_list, capped_length, leaving_code};
+ghost use Rattle.step_compiler.specs.proof.Adding.{Adds};
 
 use crate::lengths::transition_length;
 use crate::numbering::{behind, item_at};

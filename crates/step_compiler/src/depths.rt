@@ -1,7 +1,7 @@
 //! How deep loops nest in actions. For a depth past what a number can count, the error is that
 //! there is not enough memory.
 ghost use Rattle.std.specs.Prelude.{◌≡◌, IfOk};
-ghost use Rattle.pals_base.specs.Seen.{action_of, actions_along, branches_along};
+ghost use Rattle.pals_base.specs.proof.Seen.{action_of, actions_along, branches_along};
 ghost use Rattle.step_compiler.specs.Depths.{depth_act, depth_acts, depth_branches, depth_edges};
 
 use crate::numbering::deeper;

@@ -1,8 +1,8 @@
 //! The instructions of expressions.
 ghost use Rattle.std.specs.Prelude.{◌≡◌, OnOk};
-ghost use Rattle.pals_base.specs.Seen.{tree_of, operands_along};
+ghost use Rattle.pals_base.specs.proof.Seen.{tree_of, operands_along};
 ghost use Rattle.step_compiler.specs.Layout.{operator, operand_of, code_of, code_rest};
-ghost use Rattle.step_compiler.specs.Adding.{Adds};
+ghost use Rattle.step_compiler.specs.proof.Adding.{Adds};
 
 use crate::lengths::expr_length;
 use crate::numbering::behind;

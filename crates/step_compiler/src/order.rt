@@ -1,7 +1,8 @@
 //! The order of the blocks of states.
 ghost use Rattle.std.specs.Prelude.{◌≡◌, IfOk, OnOk, fold, map, filter, not, replicate, length, false};
 ghost use Rattle.pals_base.specs.Steps.{upwards};
-ghost use Rattle.step_compiler.specs.Order.{is_placed, next_state, complete_states, block_order, with_next, awaited_marks, states_outside};
+ghost use Rattle.step_compiler.specs.proof.Order.{is_placed, next_state, block_order, with_next, awaited_marks, states_outside};
+ghost use Rattle.step_compiler.specs.LaidOut.{complete_states};
 
 use crate::numbering::{item_at, mark};
 use crate::transitions::is_complete;

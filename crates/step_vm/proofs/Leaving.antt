@@ -5,7 +5,7 @@ use Rattle.pals_base.specs.declared.values.Frame.{Frame}
 use Rattle.pals_base.specs.declared.values.Port.{Port}
 use Rattle.pals_base.specs.Fire.{Fired, holding}
 use Rattle.step_code.specs.declared.instr.CodeParts.{CodeParts}
-use Rattle.step_code.specs.Exec.{left, run_from, from_entry, unless_halted, exec, Leaves}
+use Rattle.step_code.specs.proof.Exec.{left, run_from, from_entry, unless_halted, exec, Leaves}
 
 -- the whole step
 pub stepped : (c : CodeParts) (frame held : Frame) (inputs : List Port) (entry : ℕ) (f : Fired) → held ≡ record frame { held = holding frame.held inputs } → frame.halt ≡ None → slice_get c.entries frame.state ≡ Some (Some entry)

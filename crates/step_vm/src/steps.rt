@@ -1,12 +1,12 @@
 //! Steps of code.
 ghost use Rattle.std.specs.Prelude.{◌≡◌, ◌≤◌, ◌-◌, ◌++◌, [], length, take, replicate, pos, Some, true, slice_get, ◌+◌};
 ghost use Rattle.pals_base.specs.Fire.{holding};
-ghost use Rattle.step_code.specs.Exec.{FitsCode, Sized, Leaves, exec, has_entry, left, run_from, silent};
-ghost use Rattle.step_code.specs.Heights.{Member};
-ghost use Rattle.step_code.specs.Rules.{IsVerified};
-ghost use Rattle.step_vm.specs.Stacks.{stack_of};
-ghost use Rattle.step_vm.specs.Outcomes.{HasEnded, LeavesBehind, ran};
-ghost use Rattle.step_vm.specs.Rooms.{IsRoomOf};
+ghost use Rattle.step_code.specs.proof.Exec.{FitsCode, Sized, Leaves, exec, has_entry, left, run_from, silent};
+ghost use Rattle.step_code.specs.proof.Heights.{Member};
+ghost use Rattle.step_code.specs.proof.Rules.{IsVerified};
+ghost use Rattle.step_vm.specs.proof.Stacks.{stack_of};
+ghost use Rattle.step_vm.specs.proof.Outcomes.{HasEnded, LeavesBehind, ran};
+ghost use Rattle.step_vm.specs.proof.Rooms.{IsRoomOf};
 
 use crate::machine::{Inputs, Onward, advance};
 use crate::room::Room;

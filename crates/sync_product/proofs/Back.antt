@@ -13,7 +13,7 @@ use Rattle.pals_model.specs.Rules.{IsDesign, IsLink, IsFeed}
 use Rattle.pals_model.proofs.Lookups.{at_element}
 use Rattle.pals_model.proofs.RootInputLaws.{root_inputs_are_feeds}
 use Rattle.pals_model.proofs.ShapeLaws.{component_at}
-use Rattle.sync_product.specs.Renumbered.{renumbered_link, renumbered_feed, values_of, IsRenumbered, AreSameInputs}
+use Rattle.sync_product.specs.proof.Renumbered.{renumbered_link, renumbered_feed, values_of, IsRenumbered, AreSameInputs}
 use Rattle.sync_product.proofs.Counting.{Search, search_below, too_many}
 use Rattle.sync_product.proofs.Elements.{contains_at, at_contains, image_at, from_image}
 use Rattle.sync_product.proofs.Images.{images_back}

@@ -5,7 +5,7 @@ use Rattle.std.proofs.lemmas.List.{length-map, append-nil, take_all, length-appe
 use Rattle.pals_base.specs.declared.values.Port.{Port}
 use Rattle.pals_base.specs.declared.values.Port.TheVariants.{Absent}
 use Rattle.pals_base.specs.Steps.{column, cut}
-use Rattle.sync_product.specs.Rounds.{place_before}
+use Rattle.sync_product.specs.proof.Rounds.{place_before}
 
 pub column-at : (rows : List (List Port)) (port at : ℕ) (d : Port) (row : List Port) → at < length rows → slice_index_or (column port rows) at d ≡ slice_index_or (slice_index_or rows at row) port Absent
 column-at rows port at d row within = get_or-map (λ (r : List Port). slice_index_or r port Absent) rows at row d within

@@ -12,7 +12,7 @@ use Rattle.pals_base.specs.Rules.{IsBehaviour, IsAcyclic}
 use Rattle.pals_base.specs.Tree.{Edge}
 use Rattle.pals_base.specs.Fire.{leaving}
 use Rattle.pals_model.specs.declared.design.Component.{Component}
-use Rattle.pals_model.specs.Counters.{two_counters}
+use Rattle.pals_model.specs.proof.Counters.{two_counters}
 
 -- ---- lists of none and of two
 pub all_of_two : {X : Type 0} (P : X → Type 0) (x y : X) → P x → P y → All P (x ∷ y ∷ [])

@@ -9,9 +9,9 @@ use Rattle.pals_model.specs.declared.design.Link.{Link}
 use Rattle.pals_model.specs.declared.design.Feed.{Feed}
 use Rattle.pals_model.specs.declared.design.Tap.{Tap}
 use Rattle.pals_model.specs.declared.design.DesignParts.{DesignParts}
-use Rattle.pals_model.specs.Counters.{two_counters}
+use Rattle.pals_model.specs.proof.Counters.{two_counters}
 use Rattle.pals_model.specs.Rules.{IsComponent, IsLink, IsFeed, IsTap, IsApart, LinkPrecedes, FeedPrecedes, AgreeInKind, AreLinks, AreFeeds, IsDesign}
-use Rattle.sync_product.specs.Exchanged.{exchanged_counters, fed, fed_counters, exchanged_fed_counters}
+use Rattle.sync_product.specs.proof.Exchanged.{exchanged_counters, fed, fed_counters, exchanged_fed_counters}
 use Rattle.sync_product.proofs.Counter.{all_of_two, no_pairs, pair_of_two, unlike, counter, counter_behaves}
 
 abbrev counter_at : List ℕ → Component

@@ -3,9 +3,10 @@ use Rattle.std.proofs.Common.{◌≡◌, ℕ, zero, suc, ◌<◌, List, [], ◌�
 use Rattle.std.specs.Prelude.{codes}
 use Rattle.std.proofs.lemmas.List.Elements.{All-nil}
 use Rattle.pals_base.specs.declared.values.Port.{Port}
-use Rattle.pals_model.specs.Counters.{two_counters, no_env}
-use Rattle.sync_product.specs.Renumbered.{IsRenumbered, AreSameInputs, values_of}
-use Rattle.sync_product.specs.Exchanged.{exchange, exchanged_counters, fed_counters, exchanged_fed_counters, inputs_of_two}
+use Rattle.pals_model.specs.proof.Counters.{two_counters}
+use Rattle.pals_model.specs.Inputs.{no_env}
+use Rattle.sync_product.specs.proof.Renumbered.{IsRenumbered, AreSameInputs, values_of}
+use Rattle.sync_product.specs.proof.Exchanged.{exchange, exchanged_counters, fed_counters, exchanged_fed_counters, inputs_of_two}
 use Rattle.sync_product.proofs.Counter.{all_of_two}
 
 -- two elements in the other order

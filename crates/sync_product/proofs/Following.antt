@@ -5,8 +5,8 @@ use Rattle.pals_model.specs.declared.design.DesignParts.{DesignParts}
 use Rattle.pals_model.specs.declared.rounds.Env.{Env}
 use Rattle.pals_model.specs.Inputs.{values_at}
 use Rattle.pals_model.specs.Composition.{Configuration, comp, next, part, part_of, all_steps}
-use Rattle.sync_product.specs.State.{parts_of}
-use Rattle.sync_product.specs.Laws.{DesignStays, StandsAtComposition, HasPartsOfRound}
+use Rattle.sync_product.specs.proof.State.{parts_of}
+use Rattle.sync_product.specs.proof.Laws.{DesignStays, StandsAtComposition, HasPartsOfRound}
 
 pub design_stays : DesignStays
 design_stays design env zero = refl

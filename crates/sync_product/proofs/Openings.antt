@@ -11,9 +11,9 @@ use Rattle.pals_model.specs.declared.design.Component.{Component}
 use Rattle.pals_model.specs.declared.design.Link.{Link}
 use Rattle.pals_model.specs.declared.design.DesignParts.{DesignParts}
 use Rattle.pals_model.specs.Inputs.{rate_of}
-use Rattle.sync_product.specs.State.{opening_part}
-use Rattle.sync_product.specs.Sizes.{FrameSize, PartSize, part_size, part_size_of, tap_ports}
-use Rattle.sync_product.specs.Rounds.{frames_of}
+use Rattle.sync_product.specs.proof.State.{opening_part}
+use Rattle.sync_product.specs.proof.Sizes.{FrameSize, PartSize, part_size, part_size_of, tap_ports}
+use Rattle.sync_product.specs.proof.Rounds.{frames_of}
 
 absent_sizes : (rate : ℕ) (ports : List ℕ) → map (λ (tuple : List Port). length tuple) (map (λ (port : ℕ). replicate rate Absent) ports) ≡ map (λ (port : ℕ). rate) ports
 absent_sizes rate [] = refl

@@ -7,7 +7,7 @@ use Rattle.pals_model.specs.declared.design.Link.{Link}
 use Rattle.pals_model.specs.declared.design.Feed.{Feed}
 use Rattle.pals_model.specs.declared.design.DesignParts.{DesignParts}
 use Rattle.pals_model.specs.Inputs.{rate_of, rate_in}
-use Rattle.sync_product.specs.Renumbered.{renumbered_link, renumbered_feed, IsRenumbered}
+use Rattle.sync_product.specs.proof.Renumbered.{renumbered_link, renumbered_feed, IsRenumbered}
 use Rattle.sync_product.proofs.Images.{there, comes_from}
 
 module _ (to : ℕ → ℕ) (a b : DesignParts) (r : IsRenumbered to a b) where

@@ -16,7 +16,7 @@ use Rattle.pals_model.specs.Rules.{IsDesign, IsLink, IsFeed}
 use Rattle.pals_model.proofs.Lookups.{at_element}
 use Rattle.pals_model.proofs.SourceLaws.{link_is_source, feed_is_source, nothing_is_source}
 use Rattle.pals_model.proofs.RootInputLaws.{root_inputs_are_feeds}
-use Rattle.sync_product.specs.Renumbered.{renumbered_link, renumbered_feed, IsRenumbered, values_of, AreSameInputs}
+use Rattle.sync_product.specs.proof.Renumbered.{renumbered_link, renumbered_feed, IsRenumbered, values_of, AreSameInputs}
 use Rattle.sync_product.proofs.Elements.{Passes, some_or_none, contains_at, image_at, column_at}
 use Rattle.sync_product.proofs.Images.{none_there}
 use Rattle.sync_product.proofs.Parts.{rate_there, same_number, link_there, feed_there}

@@ -4,7 +4,7 @@ use Rattle.std.proofs.lemmas.List.Elements.{All-head, All-tail}
 use Rattle.pals_base.specs.declared.values.Port.{Port}
 use Rattle.pals_model.specs.declared.design.Tap.{Tap}
 use Rattle.pals_model.specs.declared.design.DesignParts.{DesignParts}
-use Rattle.sync_product.specs.Renumbered.{renumbered_tap, IsRenumbered}
+use Rattle.sync_product.specs.proof.Renumbered.{renumbered_tap, IsRenumbered}
 use Rattle.sync_product.proofs.Parts.{same_number}
 
 -- one more element of each of two lists with the same images

@@ -18,11 +18,11 @@ use Rattle.pals_model.specs.declared.rounds.Part.{Part}
 use Rattle.pals_model.specs.Inputs.{rate_of, values_at, source_of, reading, inputs_in, feed}
 use Rattle.pals_model.specs.Composition.{comp, state, msg, part, taps_of}
 use Rattle.pals_model.specs.Rules.{IsDesign, IsLink, IsTap}
-use Rattle.pals_model.specs.Laws.{own_steps}
+use Rattle.pals_model.specs.proof.Laws.{own_steps}
 use Rattle.pals_model.proofs.Lookups.{at_element}
 use Rattle.pals_model.proofs.ShapeLaws.{component_at}
 use Rattle.pals_model.proofs.CompositionLaws.{state_begins, state_goes_on, message_from_source, part_from_steps}
-use Rattle.sync_product.specs.Renumbered.{renumbered_link, renumbered_tap, IsRenumbered, AreSameInputs}
+use Rattle.sync_product.specs.proof.Renumbered.{renumbered_link, renumbered_tap, IsRenumbered, AreSameInputs}
 use Rattle.sync_product.proofs.Elements.{image_at}
 use Rattle.sync_product.proofs.Parts.{component_there, rate_there}
 use Rattle.sync_product.proofs.Readings.{SameMessages, brings}

@@ -3,7 +3,7 @@ use Rattle.std.proofs.Common.{◌≡◌, ◌∙◌, ℕ, ◌<◌, inl, inr, List
 use Rattle.std.proofs.lemmas.Option.{slice_get_cases, slice_get_read}
 use Rattle.std.proofs.lemmas.List.{get_or-map}
 use Rattle.pals_base.specs.Steps.{column, cut}
-use Rattle.sync_product.specs.Rounds.{sent_by, sent_from}
+use Rattle.sync_product.specs.proof.Rounds.{sent_by, sent_from}
 use Rattle.pals_base.specs.declared.values.Port.{Port}
 use Rattle.pals_base.specs.Bound.{sent_steps}
 use Rattle.pals_model.specs.declared.design.Component.{Component}
@@ -11,7 +11,7 @@ use Rattle.pals_model.specs.declared.design.Link.{Link}
 use Rattle.pals_model.specs.declared.design.DesignParts.{DesignParts}
 use Rattle.pals_model.specs.Inputs.{rate_of, rate_in}
 use Rattle.sync_product.specs.declared.stage.Stage.{Stage}
-use Rattle.sync_product.specs.Sizes.{StageSize, stage_size, stage_size_of, stage_sizes, message_sizes}
+use Rattle.sync_product.specs.proof.Sizes.{StageSize, stage_size, stage_size_of, stage_sizes, message_sizes}
 use Rattle.sync_product.proofs.Sizing.{count_of_rows}
 use Rattle.sync_product.proofs.Tables.{sized_at, mapped-at}
 use Rattle.std.proofs.Common.{Some}

@@ -21,9 +21,9 @@ use Rattle.pals_model.specs.Rules.{IsDesign, IsLink, IsTap}
 use Rattle.pals_model.specs.Composition.{steps_from, no_frame, part_of, taps_of, tuple_in, message_of}
 use Rattle.sync_product.specs.declared.reads.RoundInputs.{RoundInputs}
 use Rattle.sync_product.specs.declared.stage.Stage.{Stage}
-use Rattle.sync_product.specs.Sizes.{StageSize, stage_size, stage_size_of, stage_sizes, tap_ports}
-use Rattle.sync_product.specs.Rounds.{AreStepped, frames_of, own_part, own_rows, sent_by, sent_from}
-use Rattle.sync_product.specs.State.{ProductState, advanced, parts_of}
+use Rattle.sync_product.specs.proof.Sizes.{StageSize, stage_size, stage_size_of, stage_sizes, tap_ports}
+use Rattle.sync_product.specs.proof.Rounds.{AreStepped, frames_of, own_part, own_rows, sent_by, sent_from}
+use Rattle.sync_product.specs.proof.State.{ProductState, advanced, parts_of}
 use Rattle.sync_product.proofs.Sizing.{length-upwards}
 use Rattle.sync_product.proofs.Tables.{mapped-at, sized_at, count_of_sized}
 

@@ -12,8 +12,8 @@ use Rattle.pals_model.specs.Inputs.{sources_of}
 use Rattle.pals_model.specs.Composition.{no_frame}
 use Rattle.sync_product.specs.declared.reads.RoundInputs.{RoundInputs}
 use Rattle.sync_product.specs.declared.stage.Stage.{Stage}
-use Rattle.sync_product.specs.Sizes.{tap_ports}
-use Rattle.sync_product.specs.Rounds.{IsStepped, frames_of, own_part, own_rows, own_vectors, vectors}
+use Rattle.sync_product.specs.proof.Sizes.{tap_ports}
+use Rattle.sync_product.specs.proof.Rounds.{IsStepped, frames_of, own_part, own_rows, own_vectors, vectors}
 use Rattle.sync_product.proofs.Tables.{slice_get-set_same, slice_get-set_other}
 
 pub stepped_more : (round : RoundInputs) (frames : List Frame) (next : List Part) (stages : List Stage) (node : ℕ) (item : Component) (part' : Part) (stage' : Stage)

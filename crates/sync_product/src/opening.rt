@@ -2,8 +2,8 @@
 ghost use Rattle.std.specs.Prelude.{◌≡◌, IfOk, map, replicate};
 ghost use Rattle.pals_base.specs.declared.values.Port.TheVariants.{Absent};
 ghost use Rattle.pals_model.specs.Inputs.{rate_of};
-ghost use Rattle.sync_product.specs.State.{opening_parts};
-ghost use Rattle.sync_product.specs.Sizes.{all_taps, stage_size, stage_sizes};
+ghost use Rattle.sync_product.specs.proof.State.{opening_parts};
+ghost use Rattle.sync_product.specs.proof.Sizes.{all_taps, stage_size, stage_sizes};
 
 use crate::stage::Stage;
 use pals_base::tuples::absent;

@@ -2,7 +2,7 @@
 ghost use Rattle.std.specs.Prelude.{◌≡◌, ◌<◌, [], length, map, slice_index_or};
 ghost use Rattle.pals_base.specs.declared.values.Port.TheVariants.{Absent};
 ghost use Rattle.pals_base.specs.Steps.{column};
-ghost use Rattle.sync_product.specs.Rounds.{brought};
+ghost use Rattle.sync_product.specs.proof.Rounds.{brought};
 
 use input_adaptors::adapted_place;
 use pals_base::tuples::place;

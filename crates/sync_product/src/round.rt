@@ -1,8 +1,8 @@
 //! The steps of all components in a round.
 ghost use Rattle.std.specs.Prelude.{◌≡◌, OnOk, length, map};
 ghost use Rattle.pals_model.specs.Inputs.{all_sources};
-ghost use Rattle.sync_product.specs.Sizes.{part_size, stage_size, part_sizes, stage_sizes, all_taps};
-ghost use Rattle.sync_product.specs.Rounds.{AreStepped, frames_of};
+ghost use Rattle.sync_product.specs.proof.Sizes.{part_size, stage_size, part_sizes, stage_sizes, all_taps};
+ghost use Rattle.sync_product.specs.proof.Rounds.{AreStepped, frames_of};
 
 use crate::reads::RoundInputs;
 use crate::stage::Stage;

@@ -2,7 +2,7 @@
 ghost use Rattle.std.specs.Prelude.{◌≡◌, ◌≤◌, IsTrue, IfOk, length};
 ghost use Rattle.pals_base.specs.declared.limits.TheConstants.{ROUNDS};
 ghost use Rattle.pals_model.specs.Delays.{AreDelays};
-ghost use Rattle.node_threads.specs.Courses.{AreClocksOf};
+ghost use Rattle.node_threads.specs.proof.Courses.{AreClocksOf};
 
 use crate::designs::design_of;
 use design_codes::compile_all;

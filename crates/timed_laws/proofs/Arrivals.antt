@@ -23,11 +23,11 @@ use Rattle.bus_machine.specs.States.{Run, BusState, node_at, flight_at, link_at,
 use Rattle.bus_machine.specs.Stops.{sent_rounds}
 use Rattle.bus_machine.specs.Machine.{Arrive, arrival, early_stop, after}
 use Rattle.bus_machine.specs.Agreement.{Agrees}
-use Rattle.bus_machine.specs.Laws.{IsRunOf}
+use Rattle.bus_machine.specs.proof.Laws.{IsRunOf}
 use Rattle.timed_laws.specs.Worlds.{World, reading_at, since_at, ready_at, sendings, world_after}
 use Rattle.bus_machine.proofs.Arrivals.{step_keeps_agreement}
 use Rattle.bus_machine.proofs.States.{node_set, node_stays}
-use Rattle.timed_laws.specs.Kept.{IsOnce, copies, waits, taken, one_if, KeepsLink, KeepsTime}
+use Rattle.timed_laws.specs.proof.Kept.{IsOnce, copies, waits, taken, one_if, KeepsLink, KeepsTime}
 use Rattle.timed_laws.proofs.Lists.{count_without, found_passes}
 use Rattle.timed_laws.proofs.Nodes.{Stands, stands_at, component_is}
 use Rattle.timed_laws.proofs.Links.{comes_in_time, ComesInTime, is_kept, link_is, rule_of, one_of_true, one_of_false, in_flight_counts, counts_in_flight}

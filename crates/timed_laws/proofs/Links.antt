@@ -15,9 +15,9 @@ use Rattle.bus_machine.specs.LinkEvents.{is_in_flight}
 use Rattle.bus_machine.specs.Nodes.{round_of}
 use Rattle.bus_machine.specs.States.{Run, node_at, flight_at, link_at, no_link}
 use Rattle.bus_machine.specs.Stops.{sent_rounds, rounds_sent_on}
-use Rattle.bus_machine.specs.Laws.{IsRunOf}
+use Rattle.bus_machine.specs.proof.Laws.{IsRunOf}
 use Rattle.timed_laws.specs.Worlds.{World, flight_since}
-use Rattle.timed_laws.specs.Kept.{KeepsTime, IsOnce, copies, waits, taken, one_if}
+use Rattle.timed_laws.specs.proof.Kept.{KeepsTime, IsOnce, copies, waits, taken, one_if}
 use Rattle.timed_laws.proofs.Times.{earlier, arrives_after, arrives_before, alarm_next}
 use Rattle.timed_laws.proofs.Lists.{found_is_one, one_is_found}
 use Rattle.timed_laws.proofs.Nodes.{fits_at, done_or, done_all, late, behind, rounds_at_most}

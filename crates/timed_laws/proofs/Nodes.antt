@@ -11,7 +11,7 @@ use Rattle.pals_model.specs.Rules.{IsComponent, greatest_rate}
 use Rattle.pals_model.proofs.Lookups.{at_element}
 use Rattle.pals_runs.specs.declared.journal.Phase.{Phase}
 use Rattle.pals_runs.specs.declared.journal.Phase.TheVariants.{Waiting, Running, Between, Holding, Done}
-use Rattle.bound_checker.specs.Arrival.{IsNear}
+use Rattle.bound_checker.specs.proof.Arrival.{IsNear}
 use Rattle.bus_machine.specs.declared.plan.Plan.{Plan}
 use Rattle.bus_machine.specs.Plans.{plan_of, component_at, no_component}
 use Rattle.bus_machine.specs.Nodes.{NodeState, round_of, finished_steps}
@@ -20,10 +20,10 @@ use Rattle.bus_machine.specs.Alarms.{start_alarm, step_alarm, release_alarm}
 use Rattle.bus_machine.specs.States.{Run, node_at}
 use Rattle.bus_machine.specs.Stops.{sent_rounds}
 use Rattle.bus_machine.specs.Agreement.{PhaseAgrees}
-use Rattle.bus_machine.specs.Laws.{IsRunOf}
+use Rattle.bus_machine.specs.proof.Laws.{IsRunOf}
 use Rattle.timed_laws.specs.Worlds.{World, reading_at, since_at, ready_at, sendings}
 use Rattle.timed_laws.specs.Deadlines.{last_before, lesser, phase_deadline, node_deadline}
-use Rattle.timed_laws.specs.Kept.{IsInTime, KeepsNode, KeepsSends, KeepsTime}
+use Rattle.timed_laws.specs.proof.Kept.{IsInTime, KeepsNode, KeepsSends, KeepsTime}
 use Rattle.timed_laws.proofs.Times.{Fits, fits, alarm_next, alarm_after, next_after_skew, late_running, late_between, unsent_running, unsent_between, unsent_ready}
 
 -- ---- last allowed times

@@ -17,12 +17,12 @@ use Rattle.bus_machine.specs.NodeEvents.{slot_at}
 use Rattle.bus_machine.specs.Alarms.{start_alarm}
 use Rattle.bus_machine.specs.States.{Run, opening, node_at, no_node, flight_at, link_at}
 use Rattle.bus_machine.specs.Stops.{rounds_sent_on, sent_rounds}
-use Rattle.bus_machine.specs.Laws.{IsRunOf}
+use Rattle.bus_machine.specs.proof.Laws.{IsRunOf}
 use Rattle.timed_laws.specs.Deadlines.{last_before}
 use Rattle.timed_laws.specs.Worlds.{opening_world, reading_at, since_at, ready_at}
 use Rattle.bus_machine.proofs.Arrivals.{opening_agrees}
-use Rattle.timed_laws.specs.Kept.{IsInTime, IsOnce, copies, waits, taken, one_if, KeepsLink}
-use Rattle.timed_laws.specs.Laws.{OpeningKeepsTime}
+use Rattle.timed_laws.specs.proof.Kept.{IsInTime, IsOnce, copies, waits, taken, one_if, KeepsLink}
+use Rattle.timed_laws.specs.proof.Laws.{OpeningKeepsTime}
 use Rattle.timed_laws.proofs.Lists.{upwards_at}
 use Rattle.timed_laws.proofs.Nodes.{Stands, StandsAt, deadline_is, both_in_time, send_last}
 use Rattle.timed_laws.proofs.Links.{rule_of, one_of_false}

@@ -12,14 +12,14 @@ use Rattle.pals_runs.specs.declared.events.Event.TheVariants as event
 use Rattle.pals_runs.specs.declared.events.EventFault.TheVariants as fault
 use Rattle.pals_runs.specs.declared.events.Which.{Which}
 use Rattle.pals_runs.specs.declared.events.Which.TheVariants as which
-use Rattle.bound_checker.specs.Arrival.{IsNear}
+use Rattle.bound_checker.specs.proof.Arrival.{IsNear}
 use Rattle.bus_machine.specs.Plans.{plan_of}
 use Rattle.bus_machine.specs.LinkEvents.{is_in_flight}
 use Rattle.bus_machine.specs.States.{Run, node_at, flight_at}
 use Rattle.timed_laws.specs.Worlds.{World, since_at, ready_at, sendings, world_after}
 use Rattle.timed_laws.specs.Deadlines.{node_deadline, message_deadline}
 use Rattle.timed_laws.specs.Faults.{fault_of, found_if, first_of, apart, clock_back, clock_apart, past, node_past, copy_past, link_past}
-use Rattle.timed_laws.specs.Kept.{IsInTime, KeepsNode, KeepsSends, KeepsTime}
+use Rattle.timed_laws.specs.proof.Kept.{IsInTime, KeepsNode, KeepsSends, KeepsTime}
 use Rattle.timed_laws.proofs.Lists.{both_none, none_first, upwards_at, enumerated_at, found_passes}
 use Rattle.timed_laws.proofs.Nodes.{deadline_is}
 use Rattle.timed_laws.proofs.Faults.{named, none_if}

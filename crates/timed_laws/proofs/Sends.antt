@@ -26,14 +26,14 @@ use Rattle.bus_machine.specs.States.{Run, BusState, node_at, flight_at, link_at}
 use Rattle.bus_machine.specs.Stops.{sent_rounds}
 use Rattle.bus_machine.specs.Machine.{flight_after_send}
 use Rattle.bus_machine.specs.Machine as machine
-use Rattle.bus_machine.specs.Laws.{IsRunOf}
+use Rattle.bus_machine.specs.proof.Laws.{IsRunOf}
 use Rattle.timed_laws.specs.Deadlines.{last_before, lesser}
 use Rattle.timed_laws.specs.Worlds.{World, reading_at, since_at, ready_at, sendings, moved, is_held, world_after}
 use Rattle.bus_machine.proofs.Lists.{numbered_at}
 use Rattle.bus_machine.proofs.Nodes.{MaySend, may_send_of}
 use Rattle.bus_machine.proofs.States.{node_set, node_stays}
 use Rattle.bus_machine.proofs.Steps.{send_keeps}
-use Rattle.timed_laws.specs.Kept.{IsInTime, RunsSince, IsSentAt, IsOnce, copies, waits, taken, one_if, KeepsLink, KeepsTime}
+use Rattle.timed_laws.specs.proof.Kept.{IsInTime, RunsSince, IsSentAt, IsOnce, copies, waits, taken, one_if, KeepsLink, KeepsTime}
 use Rattle.timed_laws.proofs.Times.{sent_prompt}
 use Rattle.timed_laws.proofs.Lists.{count_more}
 use Rattle.timed_laws.proofs.Nodes.{fits_at, component_is, MayBe, may_is, Stands, stands_at, left_in_time, both_in_time, send_in_time, phase_last, send_last, late}

@@ -30,13 +30,13 @@ use Rattle.bus_machine.specs.Alarms.{step_alarm}
 use Rattle.bus_machine.specs.States.{Run, BusState, node_at, flight_at, link_at, with_node}
 use Rattle.bus_machine.specs.Stops.{missing_link, link_into, sent_rounds}
 use Rattle.bus_machine.specs.Machine.{after_start}
-use Rattle.bus_machine.specs.Laws.{IsRunOf}
+use Rattle.bus_machine.specs.proof.Laws.{IsRunOf}
 use Rattle.timed_laws.specs.Worlds.{World, reading_at, ready_at, sendings, moved, world_after}
 use Rattle.bus_machine.specs.Agreement.{PhaseAgrees, SlotAgrees}
 use Rattle.bus_machine.proofs.Vectors.{reads_link, length_sources}
 use Rattle.bus_machine.proofs.States.{node_set, node_stays}
 use Rattle.bus_machine.proofs.Steps.{start_keeps}
-use Rattle.timed_laws.specs.Kept.{IsOnce, copies, waits, taken, one_if, RunsSince, KeepsLink, KeepsTime}
+use Rattle.timed_laws.specs.proof.Kept.{IsOnce, copies, waits, taken, one_if, RunsSince, KeepsLink, KeepsTime}
 use Rattle.timed_laws.proofs.Lists.{upwards_at, zipped_at}
 use Rattle.timed_laws.proofs.Nodes.{FitsAt, fits_at, may_is, Stands, stands_at, both_in_time, sends_in_time, late, phase_agrees}
 use Rattle.timed_laws.proofs.Links.{has_come, link_is, one_of_true, one_of_false}

@@ -4,7 +4,7 @@ use Rattle.std.specs.Fmt.{digits}
 use Rattle.pals_base.specs.Fire.{fire}
 use Rattle.pals_model.specs.Inputs.{feed}
 use Rattle.pals_model.specs.Composition.{comp, part, msg, state}
-use Rattle.timed_laws.specs.WorldRows.{EventsAreRefused, ArrivesTooSoon, EarliestSender, LatestSender}
+use Rattle.timed_laws.specs.proof.WorldRows.{EventsAreRefused, ArrivesTooSoon, EarliestSender, LatestSender}
 
 pub events_are_refused : EventsAreRefused
 unfolding digits fire

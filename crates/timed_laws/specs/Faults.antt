@@ -7,11 +7,8 @@ use Rattle.pals_base.specs.declared.values.LinkNo.{LinkNo}
 use Rattle.pals_base.specs.Steps.{upwards}
 use Rattle.pals_model.specs.declared.flight.FlightCopy.{FlightCopy}
 use Rattle.pals_runs.specs.declared.events.Event.{Event}
-use Rattle.pals_runs.specs.declared.events.Event.TheVariants as event
 use Rattle.pals_runs.specs.declared.events.EventFault.{EventFault}
-use Rattle.pals_runs.specs.declared.events.EventFault.TheVariants as fault
 use Rattle.pals_runs.specs.declared.events.Which.{Which}
-use Rattle.pals_runs.specs.declared.events.Which.TheVariants as which
 use Rattle.bus_machine.specs.Plans.{plan_of}
 use Rattle.bus_machine.specs.NodeEvents.{next_step}
 use Rattle.bus_machine.specs.Alarms.{start_alarm, step_alarm, release_alarm}
@@ -19,6 +16,9 @@ use Rattle.bus_machine.specs.States.{Run, node_at, flight_at}
 use Rattle.bus_machine.specs.Machine.{BusEvent, Start, Step, Finish, Send, Arrive, is_allowed}
 use Rattle.timed_laws.specs.Worlds.{World, reading_at, since_at, flight_since, world_after}
 use Rattle.timed_laws.specs.Deadlines.{node_deadline, message_deadline}
+use Rattle.pals_runs.specs.declared.events.Event.TheVariants as event
+use Rattle.pals_runs.specs.declared.events.EventFault.TheVariants as fault
+use Rattle.pals_runs.specs.declared.events.Which.TheVariants as which
 
 -- ---- the first that fits
 abbrev pub found_if : Bool → EventFault → Option EventFault

@@ -1,6 +1,6 @@
 //! What a world within the bounds keeps. Each law is the contract of a function that does nothing.
-ghost use Rattle.timed_laws.specs.Laws.{OpeningKeepsTime, EventKeepsTime, ArrivalsAreKept, CountsAreClose, MessagesStandOnce, TimesAreReadings, ListsAreTimely, ListsKeepArrivals};
-ghost use Rattle.timed_laws.specs.WorldRows.{EventsAreRefused, ArrivesTooSoon, EarliestSender, LatestSender};
+ghost use Rattle.timed_laws.specs.proof.Laws.{OpeningKeepsTime, EventKeepsTime, ArrivalsAreKept, CountsAreClose, MessagesStandOnce, TimesAreReadings, ListsAreTimely, ListsKeepArrivals};
+ghost use Rattle.timed_laws.specs.proof.WorldRows.{EventsAreRefused, ArrivesTooSoon, EarliestSender, LatestSender};
 
 /// No clock is off by the skew, nothing is past its last allowed time, and each message that was sent
 /// is in one place: so it is at the opening, and each event within the bounds keeps it.

@@ -6,8 +6,8 @@ use Rattle.pals_bus.specs.Values.{BusValue}
 use Rattle.timed_laws.specs.Worlds.{World, world_after}
 use Rattle.timed_laws.specs.Faults.{fault_of, IsWithin}
 use Rattle.timed_laws.specs.EventLists.{world_left}
-use Rattle.timed_world.specs.Values.{WorldValue, world_of, Moves}
-use Rattle.timed_world.specs.EventLists.{Leads}
+use Rattle.timed_world.specs.proof.Values.{WorldValue, world_of, Moves}
+use Rattle.timed_world.specs.proof.EventLists.{Leads}
 use Rattle.timed_world.proofs.Moving.{bus_stays}
 
 within_more : (run : Run) (w : World) (events : List Event) (e : Event) → IsWithin run w events → fault_of run (world_left run w events) e ≡ None

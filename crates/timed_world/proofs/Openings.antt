@@ -13,11 +13,11 @@ use Rattle.pals_model.specs.declared.rounds.Env.{Env}
 use Rattle.pals_model.specs.Delays.{AreDelays, IsDelayList}
 use Rattle.pals_model.specs.Rules.{IsDesign, IsGamma}
 use Rattle.step_code.specs.declared.instr.CodeParts.{CodeParts}
-use Rattle.bus_machine.specs.Laws.{IsRunOf}
+use Rattle.bus_machine.specs.proof.Laws.{IsRunOf}
 use Rattle.pals_bus.specs.Values.{BusValue}
 use Rattle.timed_laws.specs.Worlds.{world_run}
 use Rattle.timed_laws.proofs.Openings.{opening_keeps_time}
-use Rattle.timed_world.specs.Values.{WorldValue, KeepsWorld, opening_value}
+use Rattle.timed_world.specs.proof.Values.{WorldValue, KeepsWorld, opening_value}
 
 -- ---- the delays
 one_within : (delay most : ℕ) → delay ≤ most → All (λ d. d ≤ most) (delay ∷ [])

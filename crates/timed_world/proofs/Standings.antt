@@ -10,15 +10,15 @@ use Rattle.bus_machine.specs.declared.plan.Plan.{Plan}
 use Rattle.bus_machine.specs.Plans.{plan_of, component_at}
 use Rattle.bus_machine.specs.States.{Run, node_at}
 use Rattle.bus_machine.specs.Agreement.{PhaseAgrees}
-use Rattle.bus_machine.specs.Laws.{IsRunOf}
+use Rattle.bus_machine.specs.proof.Laws.{IsRunOf}
 use Rattle.timed_laws.specs.Worlds.{World, since_at, ready_at}
 use Rattle.timed_laws.specs.Deadlines.{node_deadline, phase_deadline, lesser}
-use Rattle.timed_laws.specs.Kept.{IsInTime, KeepsTime}
+use Rattle.timed_laws.specs.proof.Kept.{IsInTime, KeepsTime}
 use Rattle.timed_laws.proofs.Nodes.{deadline_is, phase_agrees, rounds_at_most, send_last as of_send, phase_last as of_phase}
 use Rattle.timed_laws.proofs.Numbers.{times_are_readings}
 use Rattle.timed_world.specs.declared.standing.Standing.{Standing}
-use Rattle.timed_world.specs.Values.{WorldValue, KeepsWorld, world_of}
-use Rattle.timed_world.specs.Standings.{IsSound, RunsStep, standing_of, phase_last, send_last, last_time}
+use Rattle.timed_world.specs.proof.Values.{WorldValue, KeepsWorld, world_of}
+use Rattle.timed_world.specs.proof.Standings.{IsSound, RunsStep, standing_of, phase_last, send_last, last_time}
 
 -- ---- a moment is at most the time, if there is a last time
 some_lesser : (a : ℕ) (b : Option ℕ) → is_some (lesser (Some a) b) ≡ true

@@ -1,7 +1,7 @@
 //! A list of events in a world.
 ghost use Rattle.std.specs.Prelude.{◌≤◌, length, IfOk, OnErr};
 ghost use Rattle.pals_base.specs.declared.limits.TheConstants.{LIST_ITEMS};
-ghost use Rattle.timed_world.specs.EventLists.{ListEnds, IsCutShort};
+ghost use Rattle.timed_world.specs.proof.EventLists.{ListEnds, IsCutShort};
 
 use crate::world::World;
 use pals_base::NoMemory;

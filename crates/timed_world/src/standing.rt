@@ -2,7 +2,7 @@
 ghost use Rattle.std.specs.Prelude.{◌≡◌, ◌<◌, ◌≤◌, nat_lt};
 ghost use Rattle.pals_base.specs.declared.limits.TheConstants.{HOUR};
 ghost use Rattle.pals_runs.specs.declared.events.EventFault.TheVariants as fault;
-ghost use Rattle.pals_node.specs.Keeping.{IsPlan};
+ghost use Rattle.pals_node.specs.proof.Keeping.{IsPlan};
 ghost use Rattle.bus_machine.specs.NodeEvents.{running_step};
 ghost use Rattle.timed_laws.specs.Deadlines.{last_before, lesser};
 ghost use Rattle.timed_laws.specs.Faults.{found_if, past};
@@ -28,7 +28,7 @@ pub struct Standing {
 }
 
 impl Standing {
-    ghost use Rattle.timed_world.specs.Standings.{IsSound, alarm_of_step, release_of, start_fault, step_fault, finish_fault, send_fault, may_go, phase_last, send_last, last_time};
+    ghost use Rattle.timed_world.specs.proof.Standings.{IsSound, alarm_of_step, release_of, start_fault, step_fault, finish_fault, send_fault, may_go, phase_last, send_last, last_time};
 
     /// Why it may not start its next round, if so.
     pub fn start_fault(&self, plan: &Plan) -> Option<EventFault>

@@ -2,14 +2,14 @@
 ghost use Rattle.std.specs.Prelude.{◌≡◌, ◌<◌, ◌≤◌, length, slice_index_or, IfOk};
 ghost use Rattle.std.specs.Arc.{arc_value};
 ghost use Rattle.pals_base.specs.declared.limits.TheConstants.{COMPONENTS, LINKS, ROUNDS};
-ghost use Rattle.bus_machine.specs.Laws.{IsRunOf};
+ghost use Rattle.bus_machine.specs.proof.Laws.{IsRunOf};
 ghost use Rattle.bus_machine.specs.Plans.{plan_of};
-ghost use Rattle.pals_node.specs.Keeping.{IsPlan};
-ghost use Rattle.pals_bus.specs.Values.{AreCodes};
-ghost use Rattle.timed_laws.specs.Kept.{KeepsTime};
+ghost use Rattle.pals_node.specs.proof.Keeping.{IsPlan};
+ghost use Rattle.pals_bus.specs.proof.Values.{AreCodes};
+ghost use Rattle.timed_laws.specs.proof.Kept.{KeepsTime};
 ghost use Rattle.timed_laws.specs.Worlds.{flight_since};
-ghost use Rattle.timed_world.specs.Standings.{IsSound, standing_of};
-ghost use Rattle.timed_world.specs.Values.{opening_value, world_of};
+ghost use Rattle.timed_world.specs.proof.Standings.{IsSound, standing_of};
+ghost use Rattle.timed_world.specs.proof.Values.{opening_value, world_of};
 
 use crate::opening::{least_delays, no_moments, no_times};
 use crate::standing::Standing;
@@ -37,11 +37,11 @@ pub struct World {
 }
 
 impl Model for World {
-    ghost use Rattle.timed_world.specs.Values.{WorldValue, KeepsWorld};
+    ghost use Rattle.timed_world.specs.proof.Values.{WorldValue, KeepsWorld};
 
     ghost Value = { WorldValue };
 
-    ghost use Rattle.timed_world.specs.Codes.{world_code};
+    ghost use Rattle.timed_world.specs.proof.Codes.{world_code};
 
     ghost coded = { world_code };
 

@@ -12,7 +12,7 @@ use Rattle.bus_machine.specs.Machine.{BusEvent, is_allowed}
 use Rattle.bus_machine.specs.Replay.{entries}
 use Rattle.trace_laws.specs.TraceLines.{timed, event_of}
 use Rattle.trace_laws.specs.TraceRules.{broken, falls, first_entry, fits, is_in_order, is_line_of, tells_stop, too_early, waits}
-use Rattle.trace_audit.specs.FirstRules.{first_rule}
+use Rattle.trace_audit.specs.proof.FirstRules.{first_rule}
 
 and_true : (b : Bool) → (b && true) ≡ b
 and_true true = refl

@@ -5,7 +5,7 @@ use Rattle.std.proofs.lemmas.Bool.{eq-eqb, eqb-true, false≢true}
 use Rattle.pals_model.specs.declared.design.Link.{Link}
 use Rattle.bus_machine.specs.States.{flight_at}
 use Rattle.trace_laws.specs.TraceRules.{is_due, has_due}
-use Rattle.pals_bus.specs.Due.{HasDue}
+use Rattle.pals_bus.specs.proof.Due.{HasDue}
 use Rattle.pals_bus.specs.Values.{BusValue}
 
 -- ---- one of a list

@@ -10,7 +10,7 @@ use Rattle.bus_machine.specs.States.{Run}
 use Rattle.trace_laws.specs.TraceLines.{told}
 use Rattle.trace_laws.specs.Traces.{Audit, audit_after, end_broken, entry_or, journal_verdict, line_broken, opening_audit, report_size, row_size, trace_verdict, verdict, wrong_or, wrong_row}
 use Rattle.trace_audit.specs.declared.replay.Replay.{Replay}
-use Rattle.trace_audit.specs.Replays.{Follows, IsReplay, audit_in}
+use Rattle.trace_audit.specs.proof.Replays.{Follows, IsReplay, audit_in}
 
 judged_at : (run : Run) (rows index : ℕ) (a : Audit) (lines : List (List ℕ)) (line : List ℕ) (o : Option JournalEntry) → index < length lines → line ≡ get_or lines index line → o ≡ told run.design line
     → journal_verdict run rows index a (drop index lines) ≡ wrong_or index (line_broken run a o) (journal_verdict run rows (index + 1) (audit_after run a (entry_or o)) (drop (index + 1) lines))

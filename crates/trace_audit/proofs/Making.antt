@@ -10,11 +10,11 @@ use Rattle.pals_model.specs.declared.rounds.Env.{Env}
 use Rattle.pals_model.specs.declared.rounds.Part.{Part}
 use Rattle.pals_model.specs.Composition.{part}
 use Rattle.pals_model.specs.Inputs.{values_at}
-use Rattle.pals_report.specs.Rows.{ArePartsOf}
-use Rattle.sync_product.specs.State.{ProductState, advanced, state_after}
+use Rattle.pals_report.specs.proof.Rows.{ArePartsOf}
+use Rattle.sync_product.specs.proof.State.{ProductState, advanced, state_after}
 use Rattle.sync_product.proofs.Following.{design_stays, has_parts_of_round}
 use Rattle.trace_audit.specs.declared.rows.Rows.{Rows}
-use Rattle.trace_audit.specs.Rows.{AreRows}
+use Rattle.trace_audit.specs.proof.Rows.{AreRows}
 
 at_place : {A : Type 0} (f : ℕ → A) (from n k : ℕ) → k < n → slice_get (map f (upwards from n)) k ≡ Some (f (from + k))
 at_place f from zero k h = absurd (omega arith)

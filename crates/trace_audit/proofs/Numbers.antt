@@ -21,9 +21,9 @@ use Rattle.bus_machine.specs.Replay.{entries, stop_entry}
 use Rattle.trace_laws.specs.TraceLines.{event_of, timed}
 use Rattle.trace_laws.specs.TraceRules.{broken, falls, first_entry, fits, is_in_order, same_result, tells_stop, too_early, waits}
 use Rattle.trace_laws.specs.Traces.{second_entry}
-use Rattle.pals_node.specs.Answers.{is_busy}
-use Rattle.trace_audit.specs.FirstRules.{first_rule}
-use Rattle.trace_audit.specs.Owing.{owed_by, stop_of}
+use Rattle.pals_node.specs.proof.Answers.{is_busy}
+use Rattle.trace_audit.specs.proof.FirstRules.{first_rule}
+use Rattle.trace_audit.specs.proof.Owing.{owed_by, stop_of}
 use Rattle.trace_audit.proofs.Breaking.{refused, unfit}
 
 -- ---- phases

@@ -10,7 +10,7 @@ use Rattle.trace_laws.specs.LineForms.{form_of}
 use Rattle.trace_laws.specs.Traces.{report_size, row_size, line_at}
 use Rattle.trace_audit.specs.declared.report.ReportEnd.{ReportEnd}
 use Rattle.trace_audit.specs.declared.report.ReportEnd.TheVariants.{Whole, Wrong}
-use Rattle.trace_audit.specs.Reports.{ReportEnds, end_at, index_of}
+use Rattle.trace_audit.specs.proof.Reports.{ReportEnds, end_at, index_of}
 
 -- how a report ends whose lines from an index on are these
 abbrev pub reported : DesignParts → Env → ℕ → List (List ℕ) → ReportEnd

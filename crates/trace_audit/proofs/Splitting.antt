@@ -10,7 +10,7 @@ use Rattle.std.proofs.lemmas.List.Splits.{length-slice_split, slice_split_none, 
 use Rattle.std.proofs.lemmas.Str.Pattern.{IsSplitOnceResult, split_parts}
 use denote.Ref.{Bor}
 use Rattle.trace_laws.specs.LineForms.{Form, at_end, words_of}
-use Rattle.trace_audit.specs.Words.{is_space}
+use Rattle.trace_audit.specs.proof.Words.{is_space}
 
 -- ---- the space on either side
 turned : (a b : ℕ) → nat_eq a b ≡ nat_eq b a

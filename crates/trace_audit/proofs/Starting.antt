@@ -11,15 +11,15 @@ use Rattle.bus_machine.specs.States.{node_at}
 use Rattle.bus_machine.specs.Stops.{missing_link}
 use Rattle.bus_machine.specs.Machine.{Start}
 use Rattle.bus_machine.specs.Replay.{start_entry}
-use Rattle.trace_laws.specs.EntryLines.{IsEntryIn}
+use Rattle.trace_laws.specs.proof.EntryLines.{IsEntryIn}
 use Rattle.trace_laws.specs.TraceRules.{alarm_at, broken, falls}
-use Rattle.pals_node.specs.Answers.{is_early}
-use Rattle.pals_bus.specs.Answers.{MissesMessage, StoppedAtStart}
-use Rattle.pals_bus.specs.Due.{HasDue}
+use Rattle.pals_node.specs.proof.Answers.{is_early}
+use Rattle.pals_bus.specs.proof.Answers.{MissesMessage, StoppedAtStart}
+use Rattle.pals_bus.specs.proof.Due.{HasDue}
 use Rattle.pals_bus.specs.Values.{BusValue, Happens}
-use Rattle.trace_audit.specs.Clocks.{read_at}
-use Rattle.trace_audit.specs.Events.{IsReady, SaysStart}
-use Rattle.trace_audit.specs.FirstRules.{first_rule}
+use Rattle.trace_audit.specs.proof.Clocks.{read_at}
+use Rattle.trace_audit.specs.proof.Events.{IsReady, SaysStart}
+use Rattle.trace_audit.specs.proof.FirstRules.{first_rule}
 use Rattle.trace_audit.proofs.Breaking.{late_breaks}
 use Rattle.trace_audit.proofs.Deciding.{due_is}
 use Rattle.trace_audit.proofs.Telling.{start_tells}

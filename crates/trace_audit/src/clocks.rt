@@ -4,8 +4,8 @@ ghost use Rattle.trace_laws.specs.TraceLines.{timed, has_reading};
 ghost use Rattle.trace_laws.specs.TraceRules.{falls};
 ghost use Rattle.trace_laws.specs.Traces.{noted};
 ghost use Rattle.bus_machine.specs.States.{link_at};
-ghost use Rattle.trace_laws.specs.EntryLines.{IsEntryIn};
-ghost use Rattle.trace_audit.specs.Clocks.{timed_of, read_at};
+ghost use Rattle.trace_laws.specs.proof.EntryLines.{IsEntryIn};
+ghost use Rattle.trace_audit.specs.proof.Clocks.{timed_of, read_at};
 
 use pals_base::{LinkNo, Nanos, NodeNo};
 use pals_model::Design;

@@ -2,8 +2,8 @@
 ghost use Rattle.std.specs.Prelude.{◌≡◌, ℕ, List, Option, is_some, option_and_then};
 ghost use Rattle.pals_runs.specs.declared.journal.Arrived.{Arrived};
 ghost use Rattle.trace_laws.specs.LineForms as lines;
-ghost use Rattle.trace_audit.specs.Words.{words_in};
-ghost use Rattle.trace_audit.specs.Forms.{form_shown, shown};
+ghost use Rattle.trace_audit.specs.proof.Words.{words_in};
+ghost use Rattle.trace_audit.specs.proof.Forms.{form_shown, shown};
 
 use crate::numerals::{reading_in, round_in};
 use crate::words::{Words, has_words};

@@ -1,16 +1,16 @@
 //! The report of a trace: the lines before the first that has a journal line's form.
 ghost use Rattle.std.specs.Prelude.{◌≡◌, ◌^◌, ◌<◌, ◌≤◌, length, IfOk};
 ghost use Rattle.std.specs.Arc.{arc_value};
-ghost use Rattle.trace_audit.specs.Reports.{ReportEnds, end_at, index_of};
-ghost use Rattle.trace_audit.specs.Rows.{IsAtLine};
+ghost use Rattle.trace_audit.specs.proof.Reports.{ReportEnds, end_at, index_of};
+ghost use Rattle.trace_audit.specs.proof.Rows.{IsAtLine};
 
+use crate::has_form;
 use crate::lines::row_size;
 use crate::rows::Rows;
 use pals_base::{NoMemory, Text};
 use pals_model::{Design, Env};
 use std::alloc::Global;
 use std::sync::Arc;
-use crate::has_form;
 
 /// How the report of a trace ends.
 #[derive(Clone, Copy)]

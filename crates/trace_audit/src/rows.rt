@@ -4,8 +4,8 @@ ghost use Rattle.std.specs.Arc.{arc_value};
 ghost use Rattle.pals_model.specs.RoundTexts.{composed_lines};
 ghost use Rattle.pals_model.specs.Rules.{IsDesign};
 ghost use Rattle.trace_laws.specs.Traces.{line_at, row_size};
-ghost use Rattle.trace_audit.specs.Lines.{HasLeft};
-ghost use Rattle.trace_audit.specs.Rows.{AreRows, IsAtLine, left_at};
+ghost use Rattle.trace_audit.specs.proof.Lines.{HasLeft};
+ghost use Rattle.trace_audit.specs.proof.Rows.{AreRows, IsAtLine, left_at};
 
 use crate::lines::{RowText, row_size};
 use pals_base::{NoMemory, Port};

@@ -3,17 +3,18 @@ ghost use Rattle.std.specs.Prelude.{◌≡◌, ◌/◌, ◌^◌, ◌<◌, ◌≤
 ghost use Rattle.std.specs.Arc.{arc_value};
 ghost use Rattle.pals_base.specs.declared.limits.TheConstants.{ROUNDS};
 ghost use Rattle.pals_model.specs.Delays.{AreDelays};
-ghost use Rattle.pals_bus.specs.Values.{AreCodes};
+ghost use Rattle.pals_bus.specs.proof.Values.{AreCodes};
 ghost use Rattle.pals_runs.specs.declared.verdicts.Verdict.TheVariants.{Sound, Wrong};
 ghost use Rattle.trace_laws.specs.Traces.{end_broken, journal_verdict, opening_audit, row_size, verdict, wrong_or};
 ghost use Rattle.trace_audit.specs.declared.report.ReportEnd.TheVariants.{Whole};
-ghost use Rattle.trace_audit.specs.Replays.{IsReplay, audit_in};
-ghost use Rattle.trace_audit.specs.Reports.{ReportEnds};
+ghost use Rattle.trace_audit.specs.proof.Replays.{IsReplay, audit_in};
+ghost use Rattle.trace_audit.specs.proof.Reports.{ReportEnds};
 
 use crate::ends::end_rule;
 use crate::lines::row_size;
 use crate::replay::Replay;
 use crate::report::{ReportEnd, read_report};
+use crate::told;
 use pals_base::{Items, NoMemory, Text};
 use pals_bus::Bus;
 use pals_model::{Delays, Design, Env};
@@ -22,7 +23,6 @@ use scenario_values::Names;
 use std::alloc::Global;
 use std::sync::Arc;
 use step_code::Code;
-use crate::told;
 
 /// The verdict on the lines of a trace: of a run of a design with the codes of its components, for so
 /// many rounds, with these values of the root in ports and these delays of the links. Each line is

@@ -35,7 +35,7 @@ use Rattle.pals_model.specs.Rules.{IsDesign, IsComponent}
 use Rattle.pals_model.proofs.Lookups.{at_element}
 use Rattle.pals_model.proofs.Words.{IsWithout, all_pass, word_without, path_without, other_bytes}
 use Rattle.trace_laws.specs.LineForms.{Form, is, is_there, spelled, round_in, words_of, with_step, arrive_line, start_line, step_line, finish_line, send_line, drop_line, repeat_line, early_line, missed_line, stop_line, form_of_words, form_of, named}
-use Rattle.trace_laws.specs.Reports.{ReportsHaveNoForms}
+use Rattle.trace_laws.specs.proof.Reports.{ReportsHaveNoForms}
 use Rattle.trace_laws.proofs.Words.{NoSpace, no_space}
 use Rattle.trace_laws.proofs.ReportRows.{numbered_all}
 

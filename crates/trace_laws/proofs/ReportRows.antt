@@ -18,7 +18,7 @@ use Rattle.pals_model.proofs.Lookups.{none_passes}
 use Rattle.pals_model.proofs.Words.{same_bytes}
 use Rattle.trace_laws.specs.Traces.{row_size, line_at}
 use Rattle.bus_machine.proofs.Lists.{length-numbered}
-use Rattle.trace_laws.specs.Reports.{ReportsHaveRows}
+use Rattle.trace_laws.specs.proof.Reports.{ReportsHaveRows}
 
 -- ---- numbered lists
 pub numbered_all : {X : Type 0} (P : ℕ × X → Type 0) (from : ℕ) (xs : List X) → ((i : ℕ) (x : X) → slice_get xs i ≡ Some x → P (from + i, x)) → All P (enumerate_from from xs)

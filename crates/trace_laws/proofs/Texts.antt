@@ -1,7 +1,8 @@
 -- The lines of a text.
 use Rattle.std.proofs.Common.{◌≡◌, ℕ, List, [], ◌∷◌, ◌++◌, refl, ap, ◌∙◌}
 use Rattle.pals_model.proofs.LineLaws.{text_splits}
-use Rattle.trace_laws.specs.Reports.{without_end, TextsHaveLines}
+use Rattle.trace_laws.specs.Reports.{without_end}
+use Rattle.trace_laws.specs.proof.Reports.{TextsHaveLines}
 
 ended : (lines : List (List ℕ)) → without_end (lines ++ [] ∷ []) ≡ lines
 ended [] = refl

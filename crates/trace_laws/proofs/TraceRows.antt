@@ -4,7 +4,7 @@ use Rattle.std.specs.Fmt.{digits}
 use Rattle.pals_base.specs.Fire.{fire}
 use Rattle.pals_model.specs.Inputs.{feed}
 use Rattle.pals_model.specs.Composition.{comp, part}
-use Rattle.trace_laws.specs.TraceRows.{TracesAreJudged}
+use Rattle.trace_laws.specs.proof.TraceRows.{TracesAreJudged}
 
 pub traces_are_judged : TracesAreJudged
 unfolding digits fire comp part feed

@@ -1,7 +1,6 @@
-pub mod EntryLines
 pub mod LineForms
 pub mod TraceLines
 pub mod TraceRules
 pub mod Traces
 pub mod Reports
-pub mod TraceRows
+pub mod proof

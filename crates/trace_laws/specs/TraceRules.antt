@@ -9,11 +9,8 @@ use Rattle.pals_model.specs.Inputs.{links_into}
 use Rattle.pals_runs.specs.declared.journal.Arrived.{Arrived}
 use Rattle.pals_runs.specs.declared.journal.Arrived.TheVariants.{Kept, Ignored, Early}
 use Rattle.pals_runs.specs.declared.journal.Stop.{Stop}
-use Rattle.pals_runs.specs.declared.journal.Stop.TheVariants as stop
 use Rattle.pals_runs.specs.declared.journal.JournalEntry.{JournalEntry}
-use Rattle.pals_runs.specs.declared.journal.JournalEntry.TheVariants as entry
 use Rattle.pals_runs.specs.declared.verdicts.TraceRule.{TraceRule}
-use Rattle.pals_runs.specs.declared.verdicts.TraceRule.TheVariants as rule
 use Rattle.pals_runs.specs.Journal.{entry_line}
 use Rattle.bus_machine.specs.Plans.{plan_of}
 use Rattle.bus_machine.specs.Nodes.{round_of}
@@ -23,6 +20,9 @@ use Rattle.bus_machine.specs.States.{Run, BusState, node_at, flight_at, link_at}
 use Rattle.bus_machine.specs.Machine.{BusEvent, is_allowed, arrival}
 use Rattle.bus_machine.specs.Replay.{entries}
 use Rattle.trace_laws.specs.TraceLines.{Timed, timed, event_of}
+use Rattle.pals_runs.specs.declared.journal.Stop.TheVariants as stop
+use Rattle.pals_runs.specs.declared.journal.JournalEntry.TheVariants as entry
+use Rattle.pals_runs.specs.declared.verdicts.TraceRule.TheVariants as rule
 
 -- ---- order: where the machine does not allow the event, or the entry tells another round, step or result than its own
 abbrev pub same_result : Arrived → Arrived → Bool

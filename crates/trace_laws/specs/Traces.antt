@@ -8,9 +8,7 @@ use Rattle.pals_model.specs.RoundTexts.{composed_lines}
 use Rattle.pals_runs.specs.declared.journal.Phase.{Phase}
 use Rattle.pals_runs.specs.declared.journal.Phase.TheVariants.{Waiting, Running, Between, Holding, Done}
 use Rattle.pals_runs.specs.declared.journal.JournalEntry.{JournalEntry}
-use Rattle.pals_runs.specs.declared.journal.JournalEntry.TheVariants as entry
 use Rattle.pals_runs.specs.declared.verdicts.TraceRule.{TraceRule}
-use Rattle.pals_runs.specs.declared.verdicts.TraceRule.TheVariants as rule
 use Rattle.pals_runs.specs.declared.verdicts.Verdict.{Verdict}
 use Rattle.pals_runs.specs.declared.verdicts.Verdict.TheVariants.{Sound, Wrong}
 use Rattle.bus_machine.specs.Nodes.{NodeState}
@@ -20,6 +18,8 @@ use Rattle.trace_laws.specs.TraceRules.{broken, is_line_of, reading_of}
 use Rattle.bus_machine.specs.States.{Run, BusState, opening, finished_by_all}
 use Rattle.bus_machine.specs.Machine.{BusEvent, after}
 use Rattle.bus_machine.specs.Replay.{entries}
+use Rattle.pals_runs.specs.declared.journal.JournalEntry.TheVariants as entry
+use Rattle.pals_runs.specs.declared.verdicts.TraceRule.TheVariants as rule
 
 -- ---- the report: the lines before the first that has a journal line's form
 abbrev pub report_size : List (List ℕ) → ℕ

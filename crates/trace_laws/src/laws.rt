@@ -1,7 +1,7 @@
 //! Laws of traces. The functions do nothing: their contracts are the laws.
-ghost use Rattle.trace_laws.specs.EntryLines.{EntriesHaveLines, LinesDiffer, LinesHaveForms, LinesTellEntries, ToldAreIn};
-ghost use Rattle.trace_laws.specs.Reports.{ReportsHaveNoForms, ReportsHaveRows, TextsHaveLines};
-ghost use Rattle.trace_laws.specs.TraceRows.{TracesAreJudged};
+ghost use Rattle.trace_laws.specs.proof.EntryLines.{EntriesHaveLines, LinesDiffer, LinesHaveForms, LinesTellEntries, ToldAreIn};
+ghost use Rattle.trace_laws.specs.proof.Reports.{ReportsHaveNoForms, ReportsHaveRows, TextsHaveLines};
+ghost use Rattle.trace_laws.specs.proof.TraceRows.{TracesAreJudged};
 
 /// The line of an entry of a design is one line, and has the form of that entry, with its name, its
 /// numbers and its words.

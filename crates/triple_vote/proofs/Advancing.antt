@@ -18,14 +18,14 @@ use Rattle.pals_model.specs.Rules.{IsDesign}
 use Rattle.pals_model.proofs.ShapeLaws.{component_at}
 use Rattle.pals_runs.specs.declared.pairs.VoteFault.{VoteFault}
 use Rattle.sync_product.specs.declared.stage.Stage.{Stage}
-use Rattle.sync_product.specs.Sizes.{part_size, part_size_of, stage_size}
-use Rattle.sync_product.specs.Rounds.{frames_of}
+use Rattle.sync_product.specs.proof.Sizes.{part_size, part_size_of, stage_size}
+use Rattle.sync_product.specs.proof.Rounds.{frames_of}
 use Rattle.sync_product.proofs.Tables.{count_of_sized, mapped-at}
 use Rattle.triple_vote.specs.declared.layer.Layer.{Layer}
 use Rattle.triple_vote.specs.Replicas.{copies_of, Voted, frame_at, received_at, first_frame, first_tuple, vopening, vshown_by}
-use Rattle.triple_vote.specs.States.{VotedState, vbegun, vadvanced}
-use Rattle.triple_vote.specs.Layers.{lengths, frame_sizes, tap_sizes}
-use Rattle.triple_vote.specs.Triples.{there_in, parts_in, frame_of, tuple_of, voted_of, AreThree, HaveReplicas, AreOpened, StayPut, AreMade, AllReceived, AreShown, AreTurned, AreHeard, HasTables, HasReplicas}
+use Rattle.triple_vote.specs.proof.States.{VotedState, vbegun, vadvanced}
+use Rattle.triple_vote.specs.proof.Layers.{lengths, frame_sizes, tap_sizes}
+use Rattle.triple_vote.specs.proof.Triples.{there_in, parts_in, frame_of, tuple_of, voted_of, AreThree, HaveReplicas, AreOpened, StayPut, AreMade, AllReceived, AreShown, AreTurned, AreHeard, HasTables, HasReplicas}
 use Rattle.triple_vote.proofs.Following.{replica_at, receiver_at}
 use Rattle.triple_vote.proofs.Layering.{room_at}
 use Rattle.triple_vote.proofs.Voting.{replicas-same, receivers-same, within_three, voted_is, shown_is}

@@ -5,7 +5,7 @@ use Rattle.std.proofs.lemmas.Bool.Decides.{Decides-int_eq}
 use Rattle.pals_base.specs.declared.values.Port.{Port}
 use Rattle.pals_base.specs.declared.values.Port.TheVariants.{Absent, Present}
 use Rattle.triple_vote.specs.Votes.{same_port, vote, votes}
-use Rattle.triple_vote.specs.Laws.{VotesOfThree}
+use Rattle.triple_vote.specs.proof.Laws.{VotesOfThree}
 
 -- ---- ports
 same-itself : (x : Port) → same_port x x ≡ true

@@ -13,7 +13,7 @@ use Rattle.pals_model.specs.Composition.{no_frame, comp, state, msg}
 use Rattle.pals_model.proofs.CompositionLaws.{one_frame_each, one_message_each}
 use Rattle.pals_runs.specs.declared.pairs.VoteFault.{VoteFault}
 use Rattle.triple_vote.specs.Replicas.{is_replicated, copies_of, receivers_in, Voted, for_replicas, for_receivers, first_frame, first_tuple, replica_steps, receives_on, vcomp}
-use Rattle.triple_vote.specs.Laws.{ReplicasAreStates, ReceivedAreMessages, TapsShowTuples, alone, NoReplicasAreComposition}
+use Rattle.triple_vote.specs.proof.Laws.{ReplicasAreStates, ReceivedAreMessages, TapsShowTuples, alone, NoReplicasAreComposition}
 use Rattle.triple_vote.proofs.Tables.{table-is, get_or-image}
 use Rattle.triple_vote.proofs.Faults.{vote_is}
 use Rattle.triple_vote.proofs.Following.{replica_at, receiver_at, Agrees, AreOverruled, agrees_after, shows_after}

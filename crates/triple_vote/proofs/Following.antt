@@ -15,7 +15,7 @@ use Rattle.pals_model.specs.declared.rounds.Env.{Env}
 use Rattle.pals_model.specs.Inputs.{rate_of, rate_in, values_at, feed, inputs_in}
 use Rattle.pals_model.specs.Composition.{no_frame, comp, state, msg, steps_of_round, tuple_in, tuple_of}
 use Rattle.pals_model.specs.Rules.{IsDesign, IsLink, IsTap}
-use Rattle.pals_model.specs.Laws.{own_steps}
+use Rattle.pals_model.specs.proof.Laws.{own_steps}
 use Rattle.pals_model.proofs.CompositionLaws.{state_begins, state_goes_on, message_from_source, steps_of_round-at}
 use Rattle.pals_model.proofs.Lookups.{at_element}
 use Rattle.pals_model.proofs.ShapeLaws.{component_at, message_has_rate}

@@ -11,14 +11,14 @@ use Rattle.pals_model.specs.declared.design.DesignParts.{DesignParts}
 use Rattle.pals_model.specs.Inputs.{rate_of}
 use Rattle.pals_model.proofs.Lookups.{at_element}
 use Rattle.pals_runs.specs.declared.pairs.VoteFault.{VoteFault}
-use Rattle.sync_product.specs.Sizes.{message_sizes}
+use Rattle.sync_product.specs.proof.Sizes.{message_sizes}
 use Rattle.sync_product.proofs.Tables.{item_at, mapped-at}
 use Rattle.triple_vote.specs.declared.layer.Layer.{Layer}
 use Rattle.triple_vote.specs.Votes.{votes}
 use Rattle.triple_vote.specs.Replicas.{source_in, is_replicated, is_fault, fault_or, vote_of}
-use Rattle.triple_vote.specs.Laws.{IsFault}
-use Rattle.triple_vote.specs.Layers.{lengths, tap_sizes, HasRoom, is_there}
-use Rattle.triple_vote.specs.Triples.{there_in, sent_in, shown_in, tuple_of, received_of, shown_of, AreOfSize, FaultsFit, AreThree}
+use Rattle.triple_vote.specs.proof.Laws.{IsFault}
+use Rattle.triple_vote.specs.proof.Layers.{lengths, tap_sizes, HasRoom, is_there}
+use Rattle.triple_vote.specs.proof.Triples.{there_in, sent_in, shown_in, tuple_of, received_of, shown_of, AreOfSize, FaultsFit, AreThree}
 use Rattle.triple_vote.proofs.Tables.{found}
 use Rattle.triple_vote.proofs.Places.{length-votes}
 use Rattle.triple_vote.proofs.Filling.{Filled, filled_put}

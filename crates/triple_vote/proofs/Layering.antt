@@ -9,9 +9,9 @@ use Rattle.pals_model.specs.declared.design.DesignParts.{DesignParts}
 use Rattle.pals_runs.specs.declared.pairs.VoteFault.{VoteFault}
 use Rattle.sync_product.proofs.Tables.{slice_get-set_same, slice_get-set_other}
 use Rattle.triple_vote.specs.declared.layer.Layer.{Layer}
-use Rattle.sync_product.specs.Sizes.{part_size, message_sizes}
-use Rattle.triple_vote.specs.Layers.{lengths, HasRoom, StaysPut, IsMade, IsTurned}
-use Rattle.triple_vote.specs.Triples.{AreThree, StayPut, AreReceived, AreTurned, AreHeard}
+use Rattle.sync_product.specs.proof.Sizes.{part_size, message_sizes}
+use Rattle.triple_vote.specs.proof.Layers.{lengths, HasRoom, StaysPut, IsMade, IsTurned}
+use Rattle.triple_vote.specs.proof.Triples.{AreThree, StayPut, AreReceived, AreTurned, AreHeard}
 
 -- an element, where it is written over
 put-at : {X : Type 0} (xs : List X) (at k : ℕ) (y x : X) → k ≡ at → at < length xs → slice_get (set xs at y) k ≡ Some x → y ≡ x

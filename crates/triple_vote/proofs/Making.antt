@@ -8,11 +8,11 @@ use Rattle.pals_base.specs.Steps.{column, cut}
 use Rattle.pals_model.specs.declared.design.Component.{Component}
 use Rattle.pals_model.specs.declared.design.DesignParts.{DesignParts}
 use Rattle.sync_product.specs.declared.stage.Stage.{Stage}
-use Rattle.sync_product.specs.Sizes.{StageSize, stage_size, stage_size_of, stage_sizes}
-use Rattle.sync_product.specs.Rounds.{frames_of, sent_from}
+use Rattle.sync_product.specs.proof.Sizes.{StageSize, stage_size, stage_size_of, stage_sizes}
+use Rattle.sync_product.specs.proof.Rounds.{frames_of, sent_from}
 use Rattle.sync_product.proofs.Tables.{mapped-at, sized_at}
 use Rattle.triple_vote.specs.declared.layer.Layer.{Layer}
-use Rattle.triple_vote.specs.Layers.{whole_from, is_there, rows_made, AreRun, AreSent, AreWhole, IsMade}
+use Rattle.triple_vote.specs.proof.Layers.{whole_from, is_there, rows_made, AreRun, AreSent, AreWhole, IsMade}
 
 module _ (design : DesignParts) (values : List Port) (heard : List (List Port)) (layer : Layer) (stages : List Stage)
     (run : AreRun design values heard layer.there (frames_of layer.parts) layer.next stages) (fit : map stage_size stages ≡ stage_sizes design) where

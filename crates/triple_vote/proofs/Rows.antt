@@ -4,10 +4,10 @@ use Rattle.std.proofs.lemmas.List.Elements.{All-nil, All-cons}
 use Rattle.std.specs.Fmt.{digits}
 use Rattle.pals_base.specs.Fire.{fire}
 use Rattle.triple_vote.specs.Replicas.{vcomp, vshown}
-use Rattle.pals_model.specs.Counters.{two_counters}
+use Rattle.pals_model.specs.proof.Counters.{two_counters}
 use Rattle.pals_runs.specs.declared.pairs.VoteFault.{VoteFault}
-use Rattle.triple_vote.specs.Laws.{IsFault}
-use Rattle.triple_vote.specs.Rows.{liar, first_round, OneLiarIsOutvoted, TwoLiarsAreNot, OneLiarText, TwoLiarsText, OneLiarIsFault, OneLiarIsAllowed}
+use Rattle.triple_vote.specs.proof.Laws.{IsFault}
+use Rattle.triple_vote.specs.proof.Rows.{liar, first_round, OneLiarIsOutvoted, TwoLiarsAreNot, OneLiarText, TwoLiarsText, OneLiarIsFault, OneLiarIsAllowed}
 
 pub one_liar_is_outvoted : OneLiarIsOutvoted
 unfolding fire vcomp

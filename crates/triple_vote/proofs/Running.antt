@@ -13,11 +13,11 @@ use Rattle.pals_model.specs.declared.sources.PortSource.{PortSource}
 use Rattle.pals_model.specs.Inputs.{inputs_of, source_of, sources_of, all_sources}
 use Rattle.pals_model.specs.Composition.{no_frame}
 use Rattle.sync_product.specs.declared.stage.Stage.{Stage}
-use Rattle.sync_product.specs.Sizes.{PartSize, StageSize, part_size, part_size_of, stage_size, stage_size_of, stage_sizes}
-use Rattle.sync_product.specs.Rounds.{frames_of}
+use Rattle.sync_product.specs.proof.Sizes.{PartSize, StageSize, part_size, part_size_of, stage_size, stage_size_of, stage_sizes}
+use Rattle.sync_product.specs.proof.Rounds.{frames_of}
 use Rattle.sync_product.proofs.Sizing.{length-upwards}
 use Rattle.sync_product.proofs.Tables.{numbered-at, mapped-at, entry_at, sized_at, within_table, count_of_sized, item_at, slice_get-set_same, slice_get-set_other}
-use Rattle.triple_vote.specs.Layers.{frame_sizes, is_there, frame_made, rows_made, IsRun}
+use Rattle.triple_vote.specs.proof.Layers.{frame_sizes, is_there, frame_made, rows_made, IsRun}
 
 abbrev rows_of : List Stage → List (List (List Port))
 rows_of stages = map (λ (s : Stage). s.rows) stages

@@ -10,11 +10,11 @@ use Rattle.pals_model.specs.Inputs.{rate_of}
 use Rattle.pals_model.specs.Rules.{IsDesign, IsLink, IsTap}
 use Rattle.pals_model.proofs.Lookups.{at_element}
 use Rattle.sync_product.specs.declared.stage.Stage.{Stage}
-use Rattle.sync_product.specs.Sizes.{stage_size, stage_sizes, message_sizes}
-use Rattle.sync_product.specs.Rounds.{sent_by, sent_from}
+use Rattle.sync_product.specs.proof.Sizes.{stage_size, stage_sizes, message_sizes}
+use Rattle.sync_product.specs.proof.Rounds.{sent_by, sent_from}
 use Rattle.sync_product.proofs.Columns.{cut_whole, length-column}
 use Rattle.sync_product.proofs.Tables.{item_at}
-use Rattle.triple_vote.specs.Layers.{lengths, tap_sizes, is_there, whole_from}
+use Rattle.triple_vote.specs.proof.Layers.{lengths, tap_sizes, is_there, whole_from}
 use Rattle.triple_vote.proofs.Filling.{Filled, filled_put}
 use Rattle.triple_vote.proofs.Sizing.{stage_within, stage_rows, tuple_within, tuple_size, sizes_stay, length-written}
 

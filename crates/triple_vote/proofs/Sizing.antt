@@ -9,12 +9,12 @@ use Rattle.pals_model.specs.declared.design.Component.{Component}
 use Rattle.pals_model.specs.declared.design.DesignParts.{DesignParts}
 use Rattle.pals_model.specs.Inputs.{rate_of, rate_in}
 use Rattle.sync_product.specs.declared.stage.Stage.{Stage}
-use Rattle.sync_product.specs.Sizes.{StageSize, stage_size, stage_size_of, stage_sizes}
+use Rattle.sync_product.specs.proof.Sizes.{StageSize, stage_size, stage_size_of, stage_sizes}
 use Rattle.sync_product.proofs.Columns.{length-cut, length-column}
 use Rattle.sync_product.proofs.Filling.{same_sizes}
 use Rattle.sync_product.proofs.Sizing.{count_of_rows}
 use Rattle.sync_product.proofs.Tables.{sized_at, mapped-at, count_of_sized}
-use Rattle.triple_vote.specs.Layers.{lengths}
+use Rattle.triple_vote.specs.proof.Layers.{lengths}
 
 -- ---- stages
 module _ (design : DesignParts) (stages : List Stage) (fit : map stage_size stages ≡ stage_sizes design) where

@@ -12,13 +12,13 @@ use Rattle.pals_model.specs.declared.design.Tap.{Tap}
 use Rattle.pals_model.specs.declared.design.DesignParts.{DesignParts}
 use Rattle.pals_model.specs.Inputs.{rate_of}
 use Rattle.pals_model.specs.Composition.{opening}
-use Rattle.sync_product.specs.Sizes.{FrameSize, PartSize, part_size, part_size_of, message_sizes}
-use Rattle.sync_product.specs.Rounds.{frames_of}
+use Rattle.sync_product.specs.proof.Sizes.{FrameSize, PartSize, part_size, part_size_of, message_sizes}
+use Rattle.sync_product.specs.proof.Rounds.{frames_of}
 use Rattle.sync_product.proofs.Openings.{opening_messages_fit}
 use Rattle.triple_vote.specs.declared.layer.Layer.{Layer}
 use Rattle.triple_vote.specs.Replicas.{is_replicated}
-use Rattle.triple_vote.specs.Layers.{lengths, opening_part, HasRoom, is_there, IsOpened}
-use Rattle.triple_vote.specs.Triples.{there_in, parts_in, AreThree, HaveReplicas, AreOpened, AreHeard}
+use Rattle.triple_vote.specs.proof.Layers.{lengths, opening_part, HasRoom, is_there, IsOpened}
+use Rattle.triple_vote.specs.proof.Triples.{there_in, parts_in, AreThree, HaveReplicas, AreOpened, AreHeard}
 
 -- ---- one layer
 size_of_opening : (c : Component) → part_size (opening_part c) ≡ part_size_of c []

@@ -3,8 +3,8 @@ use Rattle.std.proofs.Common.{◌∙◌, zero, suc, map, refl, ap, ap₂}
 use Rattle.pals_model.specs.declared.design.DesignParts.{DesignParts}
 use Rattle.pals_model.specs.Inputs.{values_at}
 use Rattle.triple_vote.specs.Replicas.{Voted, vnext, vcomp, vshown_by, vshown}
-use Rattle.triple_vote.specs.States.{VotedState, vstate_after}
-use Rattle.triple_vote.specs.Laws.{StandsAtVotes, ShowsVotes}
+use Rattle.triple_vote.specs.proof.States.{VotedState, vstate_after}
+use Rattle.triple_vote.specs.proof.Laws.{StandsAtVotes, ShowsVotes}
 
 pub stands_at_votes : StandsAtVotes
 unfolding vcomp

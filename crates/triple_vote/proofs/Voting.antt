@@ -19,13 +19,13 @@ use Rattle.pals_model.specs.Rules.{IsDesign, IsLink, IsTap, IsSource}
 use Rattle.pals_model.proofs.Lookups.{at_element}
 use Rattle.pals_model.proofs.ShapeLaws.{component_at}
 use Rattle.pals_runs.specs.declared.pairs.VoteFault.{VoteFault}
-use Rattle.sync_product.specs.Rounds.{frames_of}
+use Rattle.sync_product.specs.proof.Rounds.{frames_of}
 use Rattle.sync_product.proofs.Tables.{mapped-at}
 use Rattle.triple_vote.specs.declared.layer.Layer.{Layer}
 use Rattle.triple_vote.specs.Votes.{votes}
 use Rattle.triple_vote.specs.Replicas.{is_replicated, copies_of, receivers_in, Voted, for_replicas, for_receivers, steps_in, replica_steps, tuple_at, is_fault, fault_or, own_message, sent_to, vote_of, receives_on, vnext, vshown_by}
-use Rattle.triple_vote.specs.Layers.{is_there, frame_made, rows_made}
-use Rattle.triple_vote.specs.Triples.{there_in, parts_in, next_in, sent_in, shown_in, frame_of, tuple_of, voted_of, received_of, AllReceived, shown_of, AreShown, AreMade, HaveReplicas}
+use Rattle.triple_vote.specs.proof.Layers.{is_there, frame_made, rows_made}
+use Rattle.triple_vote.specs.proof.Triples.{there_in, parts_in, next_in, sent_in, shown_in, frame_of, tuple_of, voted_of, received_of, AllReceived, shown_of, AreShown, AreMade, HaveReplicas}
 use Rattle.triple_vote.proofs.Readings.{same_inputs}
 use Rattle.triple_vote.proofs.Following.{replica_at, receiver_at, has_first, has_three}
 

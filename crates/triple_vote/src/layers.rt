@@ -2,9 +2,9 @@
 ghost use Rattle.std.specs.Prelude.{◌≡◌, All, IfOk, OnOk, length, map, replicate};
 ghost use Rattle.pals_model.specs.Inputs.{all_sources};
 ghost use Rattle.pals_model.specs.Composition.{opening};
-ghost use Rattle.sync_product.specs.Sizes.{stage_size, stage_sizes};
-ghost use Rattle.triple_vote.specs.Laws.{IsFault};
-ghost use Rattle.triple_vote.specs.Triples.{AreThree, AreOpened, AreMade, StayPut, AreHeard, AllReceived, AreTurned};
+ghost use Rattle.sync_product.specs.proof.Sizes.{stage_size, stage_sizes};
+ghost use Rattle.triple_vote.specs.proof.Laws.{IsFault};
+ghost use Rattle.triple_vote.specs.proof.Triples.{AreThree, AreOpened, AreMade, StayPut, AreHeard, AllReceived, AreTurned};
 
 use crate::layer::Layer;
 use crate::receiving::receive_all;

@@ -3,8 +3,8 @@ ghost use Rattle.std.specs.Prelude.{◌≡◌, ◌≤◌, ◌<◌, ◌-◌, [], 
 ghost use Rattle.std.specs.Arc.{arc_value};
 ghost use Rattle.pals_model.specs.declared.design.Link.{Link};
 ghost use Rattle.triple_vote.specs.Replicas.{copies_of, frame_at, received_at};
-ghost use Rattle.triple_vote.specs.Laws.{IsFault};
-ghost use Rattle.triple_vote.specs.States.{vbegun, vadvanced};
+ghost use Rattle.triple_vote.specs.proof.Laws.{IsFault};
+ghost use Rattle.triple_vote.specs.proof.States.{vbegun, vadvanced};
 
 use crate::layer::Layer;
 use crate::layers::{opening_heard, opening_layers, receive_each, run_each, turn_each};
@@ -36,14 +36,14 @@ pub struct VoteProduct {
 }
 
 impl Model for VoteProduct {
-    ghost use Rattle.triple_vote.specs.States.{VotedState, voted_code};
+    ghost use Rattle.triple_vote.specs.proof.States.{VotedState, voted_code};
 
     ghost Value = { VotedState };
 
     ghost coded = { voted_code };
 
     ghost use Rattle.std.specs.Arc.{arc_value};
-    ghost use Rattle.triple_vote.specs.Triples.{parts_in, voted_of, HasTables, HasReplicas};
+    ghost use Rattle.triple_vote.specs.proof.Triples.{parts_in, voted_of, HasTables, HasReplicas};
 
     ghost view = { λ p. record {
       design = arc_value p.design;

@@ -1,10 +1,10 @@
 //! What replicas receive.
 ghost use Rattle.std.specs.Prelude.{◌≡◌, ◌<◌, ◌^◌, All, find, length};
-ghost use Rattle.sync_product.specs.Sizes.{message_sizes};
+ghost use Rattle.sync_product.specs.proof.Sizes.{message_sizes};
 ghost use Rattle.triple_vote.specs.Replicas.{is_fault, fault_or};
-ghost use Rattle.triple_vote.specs.Layers.{lengths};
-ghost use Rattle.triple_vote.specs.Laws.{IsFault};
-ghost use Rattle.triple_vote.specs.Triples.{AreThree, sent_in, tuple_of, received_of, AreReceived, AreOfSize, FaultsFit};
+ghost use Rattle.triple_vote.specs.proof.Layers.{lengths};
+ghost use Rattle.triple_vote.specs.proof.Laws.{IsFault};
+ghost use Rattle.triple_vote.specs.proof.Triples.{AreThree, sent_in, tuple_of, received_of, AreReceived, AreOfSize, FaultsFit};
 
 use crate::layer::Layer;
 use crate::rounds::{is_there, tuple_at};

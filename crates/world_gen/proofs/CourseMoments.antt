@@ -8,8 +8,8 @@ use Rattle.pals_base.specs.declared.limits.TheConstants.{READING}
 use Rattle.pals_runs.specs.declared.events.Event.{Event}
 use Rattle.timed_laws.specs.Deadlines.{lesser}
 use Rattle.world_gen.specs.declared.courses.Course.{Course}
-use Rattle.world_gen.specs.Schedules.{which, event_of}
-use Rattle.world_gen.specs.Courses.{IsCourse, time_of, next_of, deed_event, course_events, events_of, next_moment}
+use Rattle.world_gen.specs.proof.Schedules.{which, event_of}
+use Rattle.world_gen.specs.proof.Courses.{IsCourse, time_of, next_of, deed_event, course_events, events_of, next_moment}
 use Rattle.world_gen.proofs.CourseNumbers.{is_next, quiet_until, quiet_after, next_comes}
 use Rattle.world_gen.proofs.ScheduleLists.{nothing_of, nil_both}
 

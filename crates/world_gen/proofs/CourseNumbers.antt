@@ -11,8 +11,8 @@ use Rattle.pals_model.proofs.Lookups.{first_at, found_at}
 use Rattle.bus_machine.proofs.Lists.{none_found}
 use Rattle.timed_laws.proofs.Lists.{upwards_at}
 use Rattle.world_gen.specs.declared.courses.Course.{Course}
-use Rattle.world_gen.specs.Schedules.{which}
-use Rattle.world_gen.specs.Courses.{time_of, next_of}
+use Rattle.world_gen.specs.proof.Schedules.{which}
+use Rattle.world_gen.specs.proof.Courses.{time_of, next_of}
 use Rattle.world_gen.proofs.ScheduleTimes.{upwards_is}
 
 -- ---- the first number that passes a test

@@ -9,18 +9,18 @@ use Rattle.std.proofs.lemmas.Nat.{mul-le}
 use Rattle.pals_base.specs.declared.limits.TheConstants.{HOUR, ROUNDS, READING}
 use Rattle.pals_base.specs.Steps.{upwards}
 use Rattle.pals_model.specs.declared.design.DesignParts.{DesignParts}
-use Rattle.pals_model.specs.Counters.{no_env}
+use Rattle.pals_model.specs.Inputs.{no_env}
 use Rattle.pals_model.specs.Rules.{IsDesign}
 use Rattle.pals_runs.specs.declared.events.Event.{Event}
 use Rattle.pals_runs.specs.declared.events.Event.TheVariants as event
 use Rattle.bus_machine.specs.Plans.{plan_of}
 use Rattle.bus_machine.specs.States.{Run, link_at}
-use Rattle.bus_machine.specs.Laws.{IsRunOf}
+use Rattle.bus_machine.specs.proof.Laws.{IsRunOf}
 use Rattle.timed_laws.specs.Worlds.{world_run}
 use Rattle.timed_laws.proofs.Links.{rule_of}
 use Rattle.world_gen.specs.declared.courses.Course.{Course}
-use Rattle.world_gen.specs.Schedules.{step_time, finish_time, send_time, arrive_time, which, event_of, all_of, step_count, begins, starts_at, finishes_at, sends_at, arrivals_at, finishes, earlier_finishes, present_finishes, events_at}
-use Rattle.world_gen.specs.Courses.{IsCourse, time_of, deed_event, course_events, events_of, begin_course, finish_course, send_course, arrive_course, each_of, begin_courses, finish_courses, send_courses, arrive_courses, earlier_courses, present_courses, timetable}
+use Rattle.world_gen.specs.proof.Schedules.{step_time, finish_time, send_time, arrive_time, which, event_of, all_of, step_count, begins, starts_at, finishes_at, sends_at, arrivals_at, finishes, earlier_finishes, present_finishes, events_at}
+use Rattle.world_gen.specs.proof.Courses.{IsCourse, time_of, deed_event, course_events, events_of, begin_course, finish_course, send_course, arrive_course, each_of, begin_courses, finish_courses, send_courses, arrive_courses, earlier_courses, present_courses, timetable}
 use Rattle.world_gen.proofs.Numbered.{numbered_all}
 use Rattle.world_gen.proofs.ScheduleTimes.{whole, some_rate, some_step, step_at, send_before}
 

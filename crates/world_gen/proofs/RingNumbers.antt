@@ -19,7 +19,7 @@ use Rattle.pals_base.specs.Steps.{Stepped, frame_after, steps, upwards}
 use Rattle.pals_base.proofs.Division.{modulus_of-is}
 use Rattle.pals_model.specs.declared.design.Component.{Component}
 use Rattle.pals_model.specs.declared.design.DesignParts.{DesignParts}
-use Rattle.pals_model.specs.Counters.{no_env}
+use Rattle.pals_model.specs.Inputs.{no_env}
 use Rattle.pals_model.specs.Inputs.{inputs_of, values_at}
 use Rattle.pals_model.specs.Composition.{steps_from, comp, state, no_frame}
 use Rattle.pals_model.specs.declared.design.Link.{Link}
@@ -30,7 +30,7 @@ use Rattle.bus_machine.specs.States.{Run, BusState, node_at, link_at, no_link}
 use Rattle.bus_machine.specs.Stops.{sent_rounds, rounds_sent_on}
 use Rattle.bus_machine.specs.Agreement.{IsAtRest, PhaseAgrees, Agrees}
 use Rattle.world_gen.specs.Rings.{number_sum, next_number, ring_actions, ring_edge, ring_behaviour, before_in, ring_component, ring_link, ring, ring_number}
-use Rattle.world_gen.specs.RingLaws.{RingNumbersAreSmall, ring_run, number_at, IsRingDone, DoneRingsAddUp}
+use Rattle.world_gen.specs.proof.RingLaws.{RingNumbersAreSmall, ring_run, number_at, IsRingDone, DoneRingsAddUp}
 use Rattle.world_gen.proofs.Numbered.{numbered_get, numbered_at, numbered_all}
 use Rattle.world_gen.proofs.RingDesigns.{before_below}
 

@@ -1,7 +1,7 @@
 -- Rows, computed.
 use Rattle.std.proofs.Common.{refl}
 use Rattle.pals_base.specs.Fire.{fire}
-use Rattle.world_gen.specs.Rows.{CountersAreScheduled, FastIsScheduled, FastFaults}
+use Rattle.world_gen.specs.proof.Rows.{CountersAreScheduled, FastIsScheduled, FastFaults}
 
 pub counters_are_scheduled : CountersAreScheduled
 unfolding fire

@@ -15,11 +15,11 @@ use Rattle.bus_machine.specs.Plans.{plan_of}
 use Rattle.bus_machine.specs.Nodes.{NodeState, round_of}
 use Rattle.bus_machine.specs.NodeEvents.{running_step, may_send}
 use Rattle.bus_machine.specs.States.{Run, node_at, with_node}
-use Rattle.bus_machine.specs.Laws.{IsRunOf}
+use Rattle.bus_machine.specs.proof.Laws.{IsRunOf}
 use Rattle.timed_laws.specs.Worlds.{World, since_at, ready_at, sendings, moved, world_after}
 use Rattle.timed_laws.specs.Faults.{fault_of}
 use Rattle.bus_machine.proofs.States.{node_set, node_stays}
-use Rattle.world_gen.specs.Schedules.{step_time, finish_time, send_time, which, step_count}
+use Rattle.world_gen.specs.proof.Schedules.{step_time, finish_time, send_time, which, step_count}
 use Rattle.timed_laws.proofs.Faults.{FinishesInTime, finishes_in_time}
 use Rattle.world_gen.proofs.NoFaults.{finish_is_fine}
 use Rattle.timed_laws.proofs.Changes.{moved_here, moved_other}

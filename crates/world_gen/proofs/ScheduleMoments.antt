@@ -12,11 +12,11 @@ use Rattle.bus_machine.specs.Nodes.{NodeState, opening_node}
 use Rattle.bus_machine.specs.States.{Run, node_at, flight_at, link_at}
 use Rattle.bus_machine.specs.Stops.{sent_rounds, rounds_sent_on}
 use Rattle.bus_machine.specs.Agreement.{PhaseAgrees}
-use Rattle.bus_machine.specs.Laws.{IsRunOf}
+use Rattle.bus_machine.specs.proof.Laws.{IsRunOf}
 use Rattle.timed_laws.specs.Worlds.{World, opening_world, since_at, ready_at, sendings, world_after}
 use Rattle.timed_laws.specs.EventLists.{world_left}
-use Rattle.world_gen.specs.Laws.{SchedulesAreWhole}
-use Rattle.world_gen.specs.Schedules.{step_time, finish_time, send_time, arrive_time, which, all_of, step_count, begins, starts_at, finishes_at, sends_at, arrivals_at, finishes, events_at, AreMoments, schedule_at}
+use Rattle.world_gen.specs.proof.Laws.{SchedulesAreWhole}
+use Rattle.world_gen.specs.proof.Schedules.{step_time, finish_time, send_time, arrive_time, which, all_of, step_count, begins, starts_at, finishes_at, sends_at, arrivals_at, finishes, events_at, AreMoments, schedule_at}
 use Rattle.timed_laws.proofs.Nodes.{phase_agrees, rounds_at_most}
 use Rattle.timed_laws.proofs.Links.{rule_of}
 use Rattle.timed_laws.proofs.Openings.{opening_keeps_time, opens_at, zero_at, nothing_sent, nothing_flies, not_running}

@@ -19,13 +19,13 @@ use Rattle.bus_machine.specs.Alarms.{start_alarm, step_alarm, release_alarm}
 use Rattle.bus_machine.specs.States.{Run, node_at, flight_at, link_at}
 use Rattle.bus_machine.specs.Stops.{sent_rounds, rounds_sent_on}
 use Rattle.bus_machine.specs.Agreement.{PhaseAgrees}
-use Rattle.bus_machine.specs.Laws.{IsRunOf}
+use Rattle.bus_machine.specs.proof.Laws.{IsRunOf}
 use Rattle.timed_laws.specs.Deadlines.{last_before, node_deadline, message_deadline}
 use Rattle.timed_laws.specs.Worlds.{World, reading_at, since_at, ready_at, sendings, world_after}
 use Rattle.timed_laws.specs.Faults.{fault_of}
 use Rattle.bus_machine.proofs.Nodes.{MaySend, may_send_of}
-use Rattle.timed_laws.specs.Kept.{IsInTime, copies}
-use Rattle.world_gen.specs.Schedules.{step_time, finish_time, send_time, arrive_time, step_count, events_at}
+use Rattle.timed_laws.specs.proof.Kept.{IsInTime, copies}
+use Rattle.world_gen.specs.proof.Schedules.{step_time, finish_time, send_time, arrive_time, step_count, events_at}
 use Rattle.timed_laws.proofs.Nodes.{may_is, component_is, phase_agrees, rounds_at_most, both_in_time, sends_in_time, phase_last, send_last, deadline_is}
 use Rattle.timed_laws.proofs.Links.{rule_of, one_of_true, under_way, sent_most}
 use Rattle.world_gen.proofs.NoFaults.{pass_is_fine, replicate_at}

@@ -19,12 +19,12 @@ use Rattle.bus_machine.specs.NodeEvents.{after_send, may_send}
 use Rattle.bus_machine.specs.States.{Run, node_at, flight_at, link_at}
 use Rattle.bus_machine.specs.Stops.{sent_rounds, rounds_sent_on}
 use Rattle.bus_machine.specs.Agreement.{PhaseAgrees}
-use Rattle.bus_machine.specs.Laws.{IsRunOf}
+use Rattle.bus_machine.specs.proof.Laws.{IsRunOf}
 use Rattle.timed_laws.specs.Worlds.{World, since_at, ready_at, sendings, moved, is_held, world_after}
 use Rattle.timed_laws.specs.Faults.{fault_of}
 use Rattle.bus_machine.proofs.States.{node_set, node_stays}
-use Rattle.timed_laws.specs.Kept.{copies, one_if}
-use Rattle.world_gen.specs.Schedules.{step_time, finish_time, send_time, arrive_time, which, step_count}
+use Rattle.timed_laws.specs.proof.Kept.{copies, one_if}
+use Rattle.world_gen.specs.proof.Schedules.{step_time, finish_time, send_time, arrive_time, which, step_count}
 use Rattle.timed_laws.proofs.Lists.{count_more}
 use Rattle.timed_laws.proofs.Nodes.{fits_at, may_be, phase_agrees, rounds_at_most}
 use Rattle.timed_laws.proofs.Links.{one_of_true}

@@ -10,9 +10,9 @@ use Rattle.pals_runs.specs.declared.events.Event.{Event}
 use Rattle.pals_runs.specs.declared.events.Event.TheVariants as event
 use Rattle.timed_laws.specs.Worlds.{world_run}
 use Rattle.world_gen.specs.declared.courses.Course.{Course}
-use Rattle.world_gen.specs.Laws.{IsWhole}
-use Rattle.world_gen.specs.Schedules.{events_at, AreMoments, schedule_at, IsScheduleOf}
-use Rattle.world_gen.specs.Courses.{IsCourse, events_of, moment_events, next_moment, timetable}
+use Rattle.world_gen.specs.proof.Laws.{IsWhole}
+use Rattle.world_gen.specs.proof.Schedules.{events_at, AreMoments, schedule_at, IsScheduleOf}
+use Rattle.world_gen.specs.proof.Courses.{IsCourse, events_of, moment_events, next_moment, timetable}
 use Rattle.world_gen.proofs.CourseMoments.{moment_is, moments_are_over}
 use Rattle.world_gen.proofs.DesignCourses.{events_are, timetable_is_sound}
 use Rattle.world_gen.proofs.ScheduleMoments.{schedules_are_whole}

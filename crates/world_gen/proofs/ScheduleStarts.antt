@@ -19,11 +19,11 @@ use Rattle.bus_machine.specs.Alarms.{step_alarm}
 use Rattle.bus_machine.specs.States.{Run, node_at, with_node}
 use Rattle.bus_machine.specs.Stops.{sent_rounds}
 use Rattle.bus_machine.specs.Agreement.{PhaseAgrees}
-use Rattle.bus_machine.specs.Laws.{IsRunOf}
+use Rattle.bus_machine.specs.proof.Laws.{IsRunOf}
 use Rattle.timed_laws.specs.Worlds.{World, reading_at, since_at, ready_at, sendings, world_after}
 use Rattle.timed_laws.specs.Faults.{fault_of}
 use Rattle.bus_machine.proofs.States.{node_set, node_stays}
-use Rattle.world_gen.specs.Schedules.{step_time, finish_time, send_time, which, step_count, begins}
+use Rattle.world_gen.specs.proof.Schedules.{step_time, finish_time, send_time, which, step_count, begins}
 use Rattle.timed_laws.proofs.Nodes.{fits_at, phase_agrees, rounds_at_most}
 use Rattle.timed_laws.proofs.Faults.{StartsInTime, starts_in_time, StepsInTime, steps_in_time}
 use Rattle.world_gen.proofs.NoFaults.{start_is_fine, step_is_fine}

@@ -1,6 +1,2 @@
-pub mod Schedules
-pub mod Rows
-pub mod Laws
-pub mod Courses
 pub mod Rings
-pub mod RingLaws
+pub mod proof

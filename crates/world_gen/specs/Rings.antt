@@ -17,7 +17,7 @@ use Rattle.pals_model.specs.declared.design.Component.{Component}
 use Rattle.pals_model.specs.declared.design.Link.{Link}
 use Rattle.pals_model.specs.declared.design.DesignParts.{DesignParts}
 use Rattle.pals_model.specs.Composition.{state}
-use Rattle.pals_model.specs.Counters.{no_env}
+use Rattle.pals_model.specs.Inputs.{no_env}
 
 -- ---- what each component does
 abbrev pub number_port : List ℕ → Named

@@ -4,9 +4,9 @@ ghost use Rattle.std.specs.Prelude.{◌≡◌, ◌≤◌, ◌++◌, All, IfOk, O
 ghost use Rattle.pals_base.specs.declared.limits.TheConstants.{ROUNDS};
 ghost use Rattle.pals_model.specs.declared.rounds.Env.{Env};
 ghost use Rattle.timed_laws.specs.Worlds.{world_run};
-ghost use Rattle.world_gen.specs.Schedules.{IsScheduleOf};
-ghost use Rattle.world_gen.specs.Laws.{IsWhole};
-ghost use Rattle.world_gen.specs.Courses.{IsCourse, moment_events};
+ghost use Rattle.world_gen.specs.proof.Schedules.{IsScheduleOf};
+ghost use Rattle.world_gen.specs.proof.Laws.{IsWhole};
+ghost use Rattle.world_gen.specs.proof.Courses.{IsCourse, moment_events};
 
 use crate::courses::Course;
 use crate::timetables::{add_events, next_moment, timetable};

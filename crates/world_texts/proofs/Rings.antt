@@ -13,7 +13,7 @@ use Rattle.pals_model.specs.declared.design.DesignParts.{DesignParts}
 use Rattle.pals_model.specs.declared.rounds.Env.{Env}
 use Rattle.pals_model.specs.declared.rounds.Part.{Part}
 use Rattle.pals_model.specs.Composition.{comp, state, part}
-use Rattle.pals_model.specs.Counters.{no_env}
+use Rattle.pals_model.specs.Inputs.{no_env}
 use Rattle.pals_runs.specs.declared.journal.Phase.{Phase}
 use Rattle.pals_runs.specs.declared.journal.Phase.TheVariants.{Waiting, Running, Between, Holding, Done}
 use Rattle.pals_runs.specs.declared.events.Event.{Event}
@@ -25,11 +25,11 @@ use Rattle.bus_machine.specs.States.{Run, node_at}
 use Rattle.bus_machine.specs.Agreement.{PhaseAgrees, Agrees}
 use Rattle.pals_bus.specs.Values.{BusValue}
 use Rattle.timed_laws.specs.Worlds.{World, world_run}
-use Rattle.timed_world.specs.Values.{WorldValue, opening_value}
-use Rattle.timed_world.specs.EventLists.{Leads}
+use Rattle.timed_world.specs.proof.Values.{WorldValue, opening_value}
+use Rattle.timed_world.specs.proof.EventLists.{Leads}
 use Rattle.design_codes.specs.Causes.{length_of, IsFirstTooLong}
 use Rattle.loose_world.proofs.WorldRows.{part_is}
-use Rattle.world_gen.specs.Laws.{IsWhole}
+use Rattle.world_gen.specs.proof.Laws.{IsWhole}
 use Rattle.world_gen.specs.Rings.{ring, ring_component, ring_behaviour, ring_number}
 use Rattle.world_gen.proofs.Numbered.{length-numbered, numbered_at, numbered_get}
 use Rattle.world_gen.proofs.RingNumbers.{ring_numbers_are_small}

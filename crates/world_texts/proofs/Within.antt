@@ -11,8 +11,8 @@ use Rattle.pals_bus.specs.Values.{BusValue}
 use Rattle.timed_laws.specs.Worlds.{World, world_after}
 use Rattle.timed_laws.specs.Faults.{fault_of, IsWithin}
 use Rattle.timed_laws.specs.EventLists.{world_left}
-use Rattle.timed_world.specs.Values.{WorldValue, world_of, Moves}
-use Rattle.timed_world.specs.EventLists.{Leads}
+use Rattle.timed_world.specs.proof.Values.{WorldValue, world_of, Moves}
+use Rattle.timed_world.specs.proof.EventLists.{Leads}
 use Rattle.timed_world.proofs.Leads.{leads_more}
 
 -- none has a fault in its turn

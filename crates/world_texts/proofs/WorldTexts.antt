@@ -13,21 +13,22 @@ use Rattle.pals_runs.specs.declared.events.EventFault.{EventFault}
 use Rattle.pals_runs.specs.declared.events.EventFault.TheVariants.{BadName}
 use Rattle.bus_machine.specs.States.{Run}
 use Rattle.bus_machine.specs.Machine.{Start, Step, Finish, Send, Arrive, Drop, Repeat}
-use Rattle.bus_machine.specs.Laws.{IsRunOf}
+use Rattle.bus_machine.specs.proof.Laws.{IsRunOf}
 use Rattle.pals_bus.specs.Values.{BusValue}
 use Rattle.pals_bus.specs.Loose.{IsNamedIn}
 use Rattle.timed_laws.specs.Worlds.{World, reading_at}
 use Rattle.timed_laws.specs.Faults.{fault_of, event_fault, is_named, IsWithin}
 use Rattle.timed_laws.specs.EventLists.{world_left}
-use Rattle.loose_world.specs.Finished.{finished_lines}
+use Rattle.loose_world.specs.proof.Finished.{finished_lines}
 use Rattle.loose_world.specs.Worlds.{InTurn, told_by}
-use Rattle.loose_world.specs.Histories.{Undergoes}
+use Rattle.loose_world.specs.proof.Histories.{Undergoes}
 use Rattle.loose_world.proofs.Turns.{turns_next, told_more}
 use Rattle.loose_world.proofs.Texts.{world_is_told}
-use Rattle.timed_world.specs.Values.{WorldValue, world_of, opening_value, Moves}
-use Rattle.timed_world.specs.EventLists.{EndsAt}
+use Rattle.timed_world.specs.proof.Values.{WorldValue, world_of, opening_value, Moves}
+use Rattle.timed_world.specs.proof.EventLists.{EndsAt}
 use Rattle.timed_world.proofs.Leads.{leads_none}
-use Rattle.world_texts.specs.WorldTexts.{IsToldWorld, IsFirstFault, IsOpening, LeadsTelling}
+use Rattle.world_texts.specs.WorldTexts.{IsToldWorld, IsFirstFault}
+use Rattle.world_texts.specs.proof.WorldTexts.{IsOpening, LeadsTelling}
 use Rattle.world_texts.proofs.Within.{leads_next}
 
 -- ---- one event

@@ -1,2 +1,3 @@
 pub mod WorldTexts
 pub mod RingTexts
+pub mod proof

@@ -2,7 +2,7 @@
 use Rattle.std.specs.Prelude.{◌≡◌, ℕ, ℤ, pos, ◌*◌, ◌<◌, List, [], ◌∷◌, codes, decimal, slice_index_or}
 use Rattle.std.specs.Fmt.{signed_decimal}
 use Rattle.pals_model.specs.declared.rounds.Part.{Part}
-use Rattle.pals_model.specs.Counters.{no_env}
+use Rattle.pals_model.specs.Inputs.{no_env}
 use Rattle.pals_model.specs.RoundTexts.{text_of}
 use Rattle.pals_runs.specs.declared.journal.Phase.TheVariants.{Done}
 use Rattle.pals_runs.specs.Journal.{spaced}

@@ -3,9 +3,9 @@ use Rattle.std.proofs.Common.{Bool, true, false, [], None}
 use Rattle.aadl_tree.specs.Values as v
 use Rattle.aadl_tree.specs.Expressions as e
 use Rattle.aadl_tree.specs.Actions as a
-use Rattle.aadl_grammar.specs.Symbols.{Class, a_word, a_whole, a_real, a_quoted, an_unread, the, Symbol, Row}
-use Rattle.aadl_grammar.specs.Symbols as s
-use Rattle.aadl_grammar.specs.Table.{rows, can_omit}
+use Rattle.aadl_grammar.specs.proof.Symbols.{Class, a_word, a_whole, a_real, a_quoted, an_unread, the, Symbol, Row}
+use Rattle.aadl_grammar.specs.proof.Symbols as s
+use Rattle.aadl_grammar.specs.proof.Table.{rows, can_omit}
 use Rattle.aadl_grammar.proofs.Derived.Trees.{U, TreeOf}
 use Rattle.aadl_grammar.proofs.Derived.Rows.{Builders}
 use Rattle.aadl_grammar.proofs.Builders.Values.{only_builders, identifier_builders, name_builders, names_builders, path_builders, paths_builders, more_identifiers_builders, reference_builders, dot_identifier_builders, figure_builders, unit_builders, quantity_builders, upper_builders, value_builders, path_group_builders, reference_group_builders, values_builders, more_values_builders, operator_builders, constant_builders, applies_builders, more_paths_builders, association_builders, associations_builders, properties_builders}

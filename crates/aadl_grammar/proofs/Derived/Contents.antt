@@ -5,10 +5,10 @@ use Rattle.std.proofs.lemmas.Bool.{eqb-true, ltb-true}
 use Rattle.aadl_tree.specs.declared.mark.Mark.{Mark}
 use Rattle.aadl_tree.specs.declared.mark.Mark.TheVariants as k
 use Rattle.aadl_tree.specs.Kinds.{Kind, word, whole, real, quoted, unread, mark, other}
-use Rattle.aadl_grammar.specs.Symbols.{Class, a_word, a_whole, a_real, a_quoted, an_unread, the}
-use Rattle.aadl_tree.specs.Marks.{mark_number}
+use Rattle.aadl_grammar.specs.proof.Symbols.{Class, a_word, a_whole, a_real, a_quoted, an_unread, the}
+use Rattle.aadl_tree.specs.proof.Marks.{mark_number}
 use Rattle.aadl_tree.proofs.Numbers.{same_number}
-use Rattle.aadl_grammar.specs.Machine.{class_number, kind_number, fits}
+use Rattle.aadl_grammar.specs.proof.Machine.{class_number, kind_number, fits}
 use Rattle.aadl_grammar.proofs.Derived.Trees.{Content, kind_with}
 
 small : (m : Mark) → nat_lt (mark_number m) 100 ≡ true

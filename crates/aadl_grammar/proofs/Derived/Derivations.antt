@@ -3,9 +3,9 @@ use Rattle.std.proofs.Common.{◌≡◌, ◌⊎◌, Bool, true, false, cond, not
 use Rattle.std.proofs.Common.{inl, inr}
 use Rattle.std.proofs.lemmas.Bool.{eqb-true}
 use Rattle.aadl_tree.specs.Kinds.{Kind}
-use Rattle.aadl_grammar.specs.Symbols.{Class, Symbol, Row}
-use Rattle.aadl_grammar.specs.Table.{rows, can_omit}
-use Rattle.aadl_grammar.specs.Machine.{Stack, Move, takes, omitted, refuses, class_number, kind_number, fits, move_by, move, chosen, step, ends}
+use Rattle.aadl_grammar.specs.proof.Symbols.{Class, Symbol, Row}
+use Rattle.aadl_grammar.specs.proof.Table.{rows, can_omit}
+use Rattle.aadl_grammar.specs.proof.Machine.{Stack, Move, takes, omitted, refuses, class_number, kind_number, fits, move_by, move, chosen, step, ends}
 use Rattle.aadl_grammar.proofs.Derived.Tails.{among, firsts, first_of, tail, distinct, rows_settled, distinct_firsts, settled, settled_rows}
 use Rattle.aadl_grammar.proofs.Derived.Settled.{among_left, among_right, Clear, firsts_in_tail, clear_behind}
 use Rattle.std.proofs.lemmas.Bool.{false_from_ne_true, or_left, or_right}

@@ -2,9 +2,9 @@
 use Rattle.std.proofs.Common.{◌≡◌, Bool, true, false, sym, subst, refl, List, [], ◌∷◌, ◌++◌, inl, inr}
 use Rattle.aadl_tree.specs.Kinds.{Kind}
 use Rattle.aadl_tree.specs.Parts.{Spells}
-use Rattle.aadl_grammar.specs.Symbols.{Symbol, Row}
-use Rattle.aadl_grammar.specs.Table.{rows, can_omit}
-use Rattle.aadl_grammar.specs.Machine.{Stack}
+use Rattle.aadl_grammar.specs.proof.Symbols.{Symbol, Row}
+use Rattle.aadl_grammar.specs.proof.Table.{rows, can_omit}
+use Rattle.aadl_grammar.specs.proof.Machine.{Stack}
 use Rattle.aadl_grammar.proofs.Derived.Derivations.{Member, Derives, nothing, take, omit}
 use Rattle.aadl_grammar.proofs.Derived.Trees.{kind_with, TreeOf, parts, Trees, parts_all}
 use Rattle.aadl_grammar.proofs.Derived.Rows.{follow_first, split_first, split_all, follow_all, front, back, joined, Builder, Builders, Gives, AllGive, InRows}

@@ -3,8 +3,8 @@ use Rattle.std.proofs.Common.{◌≡◌, ◌⊎◌, ◌∙◌, sym, ap, ap₂, s
 use Rattle.aadl_tree.specs.Kinds.{Kind}
 use Rattle.aadl_tree.specs.Parts.{Part, Spells}
 use Rattle.aadl_tree.proofs.Parts.{spells_append, spells_split}
-use Rattle.aadl_grammar.specs.Symbols.{Symbol, Row}
-use Rattle.aadl_grammar.specs.Table.{behind, rows}
+use Rattle.aadl_grammar.specs.proof.Symbols.{Symbol, Row}
+use Rattle.aadl_grammar.specs.proof.Table.{behind, rows}
 use Rattle.aadl_grammar.proofs.Derived.Trees.{U, Content, kind_with, TreeOf, parts, Trees, parts_all}
 
 pub record Split (ps qs : List (Part U)) (ks rest : List Kind) : Type 0 where

@@ -1,10 +1,10 @@
 -- What decides between the symbols: no terminal both belongs to a symbol and may stand behind it.
 use Rattle.std.proofs.Common.{◌≡◌, ℕ, Bool, true, false, cond, not, ◌&&◌, ◌||◌, ◌==◌, List, [], ◌∷◌, ◌++◌, refl}
 use Rattle.aadl_tree.specs.declared.mark.Mark.TheVariants as k
-use Rattle.aadl_grammar.specs.Symbols.{Class, a_word, a_whole, a_real, a_quoted, an_unread, the, Symbol, Row}
-use Rattle.aadl_grammar.specs.Symbols as s
-use Rattle.aadl_grammar.specs.Table.{rows, can_omit}
-use Rattle.aadl_grammar.specs.Machine.{class_number}
+use Rattle.aadl_grammar.specs.proof.Symbols.{Class, a_word, a_whole, a_real, a_quoted, an_unread, the, Symbol, Row}
+use Rattle.aadl_grammar.specs.proof.Symbols as s
+use Rattle.aadl_grammar.specs.proof.Table.{rows, can_omit}
+use Rattle.aadl_grammar.specs.proof.Machine.{class_number}
 
 abbrev pub among : ℕ → List Class → Bool
 among n [] = false

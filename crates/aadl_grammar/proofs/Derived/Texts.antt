@@ -1,10 +1,10 @@
 -- Each stack has a text.
 use Rattle.std.proofs.Common.{◌≡◌, ℕ, zero, suc, Bool, true, false, cond, subst, refl, List, [], ◌∷◌, ◌++◌, Option, Some, None, append_assoc, is_some, inl, pos}
 use Rattle.aadl_tree.specs.Kinds.{Kind}
-use Rattle.aadl_grammar.specs.Symbols.{Class, a_word, a_whole, a_real, a_quoted, an_unread, the, Symbol, Row}
-use Rattle.aadl_grammar.specs.Symbols as s
-use Rattle.aadl_grammar.specs.Table.{rows, can_omit}
-use Rattle.aadl_grammar.specs.Machine.{Stack}
+use Rattle.aadl_grammar.specs.proof.Symbols.{Class, a_word, a_whole, a_real, a_quoted, an_unread, the, Symbol, Row}
+use Rattle.aadl_grammar.specs.proof.Symbols as s
+use Rattle.aadl_grammar.specs.proof.Table.{rows, can_omit}
+use Rattle.aadl_grammar.specs.proof.Machine.{Stack}
 use Rattle.aadl_grammar.proofs.Derived.Derivations.{Member, Derives, nothing, take, omit}
 use Rattle.aadl_grammar.proofs.Derived.Trees.{Content, kind_with}
 use Rattle.aadl_grammar.proofs.Derived.Contents.{fits_with}

@@ -2,9 +2,9 @@
 use Rattle.std.proofs.Common.{◌≡◌, Bool, true, false, ◌∙◌, sym, ap, ap₂, subst, refl, List, [], ◌∷◌, ◌++◌, inl, inr, not, ◌==◌, eq-eqb}
 use Rattle.aadl_tree.specs.Kinds.{Kind}
 use Rattle.aadl_tree.specs.Parts.{Spells}
-use Rattle.aadl_grammar.specs.Symbols.{Symbol, Row}
-use Rattle.aadl_grammar.specs.Table.{rows, can_omit}
-use Rattle.aadl_grammar.specs.Machine.{Stack, class_number, kind_number}
+use Rattle.aadl_grammar.specs.proof.Symbols.{Symbol, Row}
+use Rattle.aadl_grammar.specs.proof.Table.{rows, can_omit}
+use Rattle.aadl_grammar.specs.proof.Machine.{Stack, class_number, kind_number}
 use Rattle.aadl_grammar.proofs.Derived.Tails.{among, firsts, distinct, distinct_firsts}
 use Rattle.aadl_grammar.proofs.Derived.Settled.{Clear, firsts_in_tail}
 use Rattle.aadl_grammar.proofs.Derived.Derivations.{Member, begins, clear_taken}

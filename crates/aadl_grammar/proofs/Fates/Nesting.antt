@@ -4,10 +4,10 @@ use Rattle.std.proofs.lemmas.Bool.{eqb-true}
 use Rattle.aadl_tree.specs.declared.mark.Mark.TheVariants as k
 use Rattle.aadl_tree.specs.Kinds.{Kind, mark}
 use Rattle.aadl_tree.specs.Grammar.{opened, is_end}
-use Rattle.aadl_grammar.specs.Symbols.{Class, the, Symbol, Row}
-use Rattle.aadl_grammar.specs.Symbols as s
-use Rattle.aadl_grammar.specs.Table.{rows, can_omit}
-use Rattle.aadl_grammar.specs.Machine.{Stack, Move, takes, omitted, refuses, class_number, kind_number, fits, move, chosen, step, closes, depth}
+use Rattle.aadl_grammar.specs.proof.Symbols.{Class, the, Symbol, Row}
+use Rattle.aadl_grammar.specs.proof.Symbols as s
+use Rattle.aadl_grammar.specs.proof.Table.{rows, can_omit}
+use Rattle.aadl_grammar.specs.proof.Machine.{Stack, Move, takes, omitted, refuses, class_number, kind_number, fits, move, chosen, step, closes, depth}
 use Rattle.aadl_grammar.proofs.Derived.Tails.{among, firsts}
 use Rattle.aadl_grammar.proofs.Derived.Derivations.{Member, Goes, goes, member_first}
 use Rattle.aadl_grammar.proofs.Derived.Contents.{Said, said}

@@ -4,11 +4,11 @@ use Rattle.aadl_tree.specs.declared.mark.Mark.{Mark}
 use Rattle.aadl_tree.specs.declared.mark.Mark.TheVariants as k
 use Rattle.aadl_tree.specs.Kinds.{Kind, word, whole, real, quoted, unread, mark, other}
 use Rattle.aadl_tree.specs.Grammar.{opened, is_end}
-use Rattle.aadl_grammar.specs.Symbols.{Class, the, Symbol, Row}
-use Rattle.aadl_grammar.specs.Symbols as s
-use Rattle.aadl_grammar.specs.Table.{rows, can_omit}
-use Rattle.aadl_tree.specs.Marks.{mark_number}
-use Rattle.aadl_grammar.specs.Machine.{class_number, kind_number, closes, depth}
+use Rattle.aadl_grammar.specs.proof.Symbols.{Class, the, Symbol, Row}
+use Rattle.aadl_grammar.specs.proof.Symbols as s
+use Rattle.aadl_grammar.specs.proof.Table.{rows, can_omit}
+use Rattle.aadl_tree.specs.proof.Marks.{mark_number}
+use Rattle.aadl_grammar.specs.proof.Machine.{class_number, kind_number, closes, depth}
 use Rattle.aadl_grammar.proofs.Derived.Tails.{among, firsts}
 
 abbrev pub openers : List Class

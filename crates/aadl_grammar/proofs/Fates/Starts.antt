@@ -6,16 +6,16 @@ use Rattle.aadl_tree.specs.Parts.{Spells, kept}
 use Rattle.aadl_tree.specs.Annexes.{AnnexTree, annex_tree_parts}
 use Rattle.aadl_tree.specs.Declarations.{PackageTree, package_parts}
 use Rattle.aadl_tree.specs.Grammar.{IsPackage, IsBehaviour}
-use Rattle.aadl_grammar.specs.Symbols as s
-use Rattle.aadl_grammar.specs.Machine.{depth, whole_package, annex_body}
+use Rattle.aadl_grammar.specs.proof.Symbols as s
+use Rattle.aadl_grammar.specs.proof.Machine.{depth, whole_package, annex_body}
 use Rattle.aadl_grammar.proofs.Derived.Tails.{first_of, tail}
 use Rattle.aadl_grammar.proofs.Derived.Settled.{Clear, apart_means}
 use Rattle.aadl_grammar.proofs.Derived.Trees.{Trees}
 use Rattle.aadl_grammar.proofs.Derived.Languages.{derives, Written, written}
 use Rattle.aadl_grammar.proofs.Places.Alike.{alike_spells, alike_kept}
-use Rattle.aadl_tree.specs.Maps.{annex_tree_to}
+use Rattle.aadl_tree.specs.proof.Maps.{annex_tree_to}
 use Rattle.aadl_grammar.proofs.Places.Annexes.{annex_tree_alike}
-use Rattle.aadl_tree.specs.Maps.{package_to}
+use Rattle.aadl_tree.specs.proof.Maps.{package_to}
 use Rattle.aadl_grammar.proofs.Places.Declarations.{package_alike}
 use Rattle.aadl_grammar.proofs.Derived.Unique.{one}
 use Rattle.aadl_grammar.proofs.Fates.Verdict.{Language}

@@ -6,9 +6,9 @@ use Rattle.aadl_tree.specs.declared.mark.Mark.{Mark}
 use Rattle.aadl_tree.specs.Kinds.{Kind, mark, Spot}
 use Rattle.aadl_tree.specs.declared.limits.TheConstants.{GREATEST_NESTING}
 use Rattle.aadl_tree.specs.Grammar.{place}
-use Rattle.aadl_grammar.specs.Symbols.{the, Symbol, Row}
-use Rattle.aadl_grammar.specs.Table.{behind, rows, can_omit}
-use Rattle.aadl_grammar.specs.Machine.{Stack, Move, takes, omitted, refuses, kind_number, fits, move_by, move, chosen, step, ends, depth, Fate, finished, syntax_at, deep_at, fate_after, fate}
+use Rattle.aadl_grammar.specs.proof.Symbols.{the, Symbol, Row}
+use Rattle.aadl_grammar.specs.proof.Table.{behind, rows, can_omit}
+use Rattle.aadl_grammar.specs.proof.Machine.{Stack, Move, takes, omitted, refuses, kind_number, fits, move_by, move, chosen, step, ends, depth, Fate, finished, syntax_at, deep_at, fate_after, fate}
 use Rattle.aadl_grammar.proofs.Derived.Tails.{among, firsts}
 use Rattle.aadl_grammar.proofs.Derived.Contents.{Said, said, fits_with}
 use Rattle.std.proofs.lemmas.Bool.{or_parts}

@@ -5,7 +5,7 @@ use Rattle.aadl_tree.specs.declared.limits.TheConstants.{GREATEST_NESTING}
 use Rattle.aadl_tree.specs.declared.mark.Mark.TheVariants as k
 use Rattle.aadl_tree.specs.Kinds.{Kind, word, whole, real, quoted, unread, mark, other, Spot, kinds_of}
 use Rattle.aadl_tree.specs.Grammar.{Begins, opened, is_end, nesting_from, nesting, IsShallow, IsStuck, FailsAt, DeepAt}
-use Rattle.aadl_grammar.specs.Machine.{Stack, depth, Fate, finished, syntax_at, deep_at, fate}
+use Rattle.aadl_grammar.specs.proof.Machine.{Stack, depth, Fate, finished, syntax_at, deep_at, fate}
 use Rattle.aadl_grammar.proofs.Derived.Settled.{Clear}
 use Rattle.aadl_grammar.proofs.Derived.Derivations.{Derives, steps, derived_ends, ends_derived}
 use Rattle.aadl_grammar.proofs.Derived.Texts.{some_text}

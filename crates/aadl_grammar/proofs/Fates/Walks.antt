@@ -3,7 +3,7 @@ use Rattle.std.proofs.Common.{◌≡◌, ℕ, ◌+◌, ◌≤◌, Bool, ◌∙�
 use Rattle.aadl_tree.specs.declared.limits.TheConstants.{GREATEST_NESTING}
 use Rattle.aadl_tree.specs.Kinds.{Kind}
 use Rattle.aadl_tree.specs.Grammar.{is_end, nesting_from}
-use Rattle.aadl_grammar.specs.Machine.{Stack, step, depth}
+use Rattle.aadl_grammar.specs.proof.Machine.{Stack, step, depth}
 use Rattle.aadl_grammar.proofs.Derived.Settled.{Clear}
 use Rattle.aadl_grammar.proofs.Derived.Derivations.{Derives, steps, step_derives}
 use Rattle.aadl_grammar.proofs.Fates.Nesting.{Good, step_depth}

@@ -7,9 +7,9 @@ use Rattle.aadl_tree.specs.Values as v
 use Rattle.aadl_tree.specs.Actions as a
 use Rattle.aadl_tree.specs.Annexes as x
 use Rattle.aadl_grammar.proofs.Basics.{heads, tails}
-use Rattle.aadl_tree.specs.Maps.{no_place, identifier_to}
-use Rattle.aadl_tree.specs.Maps.{block_to}
-use Rattle.aadl_tree.specs.Maps.{variable_to, state_to, guard_to, transition_to, annex_tree_to, content_to, annex_to}
+use Rattle.aadl_tree.specs.proof.Maps.{no_place, identifier_to}
+use Rattle.aadl_tree.specs.proof.Maps.{block_to}
+use Rattle.aadl_tree.specs.proof.Maps.{variable_to, state_to, guard_to, transition_to, annex_tree_to, content_to, annex_to}
 use Rattle.aadl_grammar.proofs.Placed.Order.{in_turn}
 use Rattle.aadl_grammar.proofs.Placed.Names.{Fixed, identifier_fixed}
 use Rattle.aadl_grammar.proofs.Placed.Expressions.{expression_fixed}

@@ -9,11 +9,11 @@ use Rattle.aadl_tree.specs.Declarations.{PackageTree, package_parts}
 use Rattle.aadl_tree.proofs.Parts.{written_spells, kept_spells}
 use Rattle.aadl_grammar.proofs.Basics.{heads, tails}
 use Rattle.aadl_grammar.proofs.Places.Alike.{alike_spells, alike_kept}
-use Rattle.aadl_tree.specs.Maps.{package_to}
+use Rattle.aadl_tree.specs.proof.Maps.{package_to}
 use Rattle.aadl_grammar.proofs.Places.Declarations.{package_alike}
 use Rattle.aadl_grammar.proofs.Fates.Starts.{one_package}
-use Rattle.aadl_grammar.specs.Moved.{Behind, Rising, SamePackage}
-use Rattle.aadl_tree.specs.Maps.{no_place}
+use Rattle.aadl_grammar.specs.proof.Moved.{Behind, Rising, SamePackage}
+use Rattle.aadl_tree.specs.proof.Maps.{no_place}
 use Rattle.aadl_grammar.proofs.Placed.Replaced.{moved, survivors, survivors_kinds, package_replaced}
 
 abbrev sent : ℕ → ℕ → (ℕ → ℕ) → ℕ → ℕ

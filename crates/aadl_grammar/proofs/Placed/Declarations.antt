@@ -11,9 +11,9 @@ use Rattle.aadl_tree.specs.Values as v
 use Rattle.aadl_tree.specs.Annexes as x
 use Rattle.aadl_tree.specs.Declarations as d
 use Rattle.aadl_grammar.proofs.Basics.{heads, tails}
-use Rattle.aadl_tree.specs.Maps.{no_place, identifier_to, name_to, reference_to, associations_to}
-use Rattle.aadl_tree.specs.Maps.{annex_to}
-use Rattle.aadl_tree.specs.Maps.{feature_to, subcomponent_to, end_to, connection_to, implementation_name_to, type_to, implementation_to, declaration_to, with_to, package_to}
+use Rattle.aadl_tree.specs.proof.Maps.{no_place, identifier_to, name_to, reference_to, associations_to}
+use Rattle.aadl_tree.specs.proof.Maps.{annex_to}
+use Rattle.aadl_tree.specs.proof.Maps.{feature_to, subcomponent_to, end_to, connection_to, implementation_name_to, type_to, implementation_to, declaration_to, with_to, package_to}
 use Rattle.aadl_grammar.proofs.Placed.Order.{placed, in_turn}
 use Rattle.aadl_grammar.proofs.Placed.Names.{Fixed, identifier_fixed, chain_fixed, name_fixed}
 use Rattle.aadl_grammar.proofs.Placed.Values.{list_fixed, option_fixed, reference_fixed, associations_fixed, properties_fixed}

@@ -8,7 +8,7 @@ use Rattle.aadl_tree.specs.declared.mark.Mark.TheVariants as k
 use Rattle.aadl_tree.specs.Parts.{Part, plain, parts_if}
 use Rattle.aadl_tree.specs.Names as n
 use Rattle.aadl_tree.specs.Expressions as e
-use Rattle.aadl_tree.specs.Maps.{no_place, leading_to, primary_to, factor_to, term_to, factors_to, sum_to, terms_to, relation_to, expression_to, relations_to}
+use Rattle.aadl_tree.specs.proof.Maps.{no_place, leading_to, primary_to, factor_to, term_to, factors_to, sum_to, terms_to, relation_to, expression_to, relations_to}
 use Rattle.aadl_grammar.proofs.Placed.Order.{placed, in_turn}
 use Rattle.aadl_grammar.proofs.Placed.Names.{Fixed, identifier_fixed}
 

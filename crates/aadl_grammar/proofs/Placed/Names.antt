@@ -5,7 +5,7 @@ use Rattle.aadl_tree.specs.declared.mark.Mark.TheVariants as k
 use Rattle.aadl_tree.specs.Parts.{Part, behind}
 use Rattle.aadl_tree.specs.Names as n
 use Rattle.aadl_grammar.proofs.Basics.{heads, tails}
-use Rattle.aadl_tree.specs.Maps.{identifier_to, name_to, no_place}
+use Rattle.aadl_tree.specs.proof.Maps.{identifier_to, name_to, no_place}
 use Rattle.aadl_grammar.proofs.Placed.Order.{placed, Both, in_turn}
 
 abbrev pub Fixed : (T U : Type 0) → (T → U) → (T → List (Part ℕ)) → Type 0

@@ -5,7 +5,7 @@ use Rattle.aadl_tree.specs.Kinds.{Spot, kinds_of}
 use Rattle.aadl_tree.specs.Parts.{Part, token, may, AreAt, Written, kept}
 use Rattle.aadl_tree.specs.Declarations.{PackageTree, package_parts}
 use Rattle.aadl_grammar.proofs.Places.Alike.{Alike, none, one, extra}
-use Rattle.aadl_tree.specs.Maps.{package_to}
+use Rattle.aadl_tree.specs.proof.Maps.{package_to}
 use Rattle.aadl_grammar.proofs.Places.Declarations.{package_alike}
 
 -- the terminals that the tree keeps, of those that spell it

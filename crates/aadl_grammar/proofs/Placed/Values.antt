@@ -8,7 +8,7 @@ use Rattle.aadl_tree.specs.Names as n
 use Rattle.aadl_tree.specs.Values as v
 use Rattle.aadl_lex.proofs.Basics.{some_is}
 use Rattle.aadl_grammar.proofs.Basics.{heads, tails}
-use Rattle.aadl_tree.specs.Maps.{no_place, identifier_to, path_to, identifiers_to, reference_to, quantity_to, value_to, values_to, association_to, associations_to}
+use Rattle.aadl_tree.specs.proof.Maps.{no_place, identifier_to, path_to, identifiers_to, reference_to, quantity_to, value_to, values_to, association_to, associations_to}
 use Rattle.aadl_grammar.proofs.Placed.Order.{placed, in_turn}
 use Rattle.aadl_grammar.proofs.Placed.Names.{Fixed, identifier_fixed, chain_fixed, name_fixed}
 

@@ -1,15 +1,15 @@
 use Rattle.std.proofs.Common.{◌≡◌, ◌∙◌, List, subst, sym, ap, refl, arith, [], length}
 use Rattle.std.specs.List.{All}
 use Rattle.aadl_lex.specs.declared.token.Token.{Token}
-use Rattle.aadl_lex.specs.Spelled.{IsWordAt}
+use Rattle.aadl_lex.specs.proof.Spelled.{IsWordAt}
 use Rattle.aadl_lex.proofs.Spelled.{words_of}
 use Rattle.aadl_tree.specs.Kinds.{spots}
-use Rattle.aadl_grammar.specs.Machine.{depth}
-use Rattle.aadl_grammar.specs.Reading.{here}
-use Rattle.aadl_grammar.specs.Terminals.{spots_of}
+use Rattle.aadl_grammar.specs.proof.Machine.{depth}
+use Rattle.aadl_grammar.specs.proof.Reading.{here}
+use Rattle.aadl_grammar.specs.proof.Terminals.{spots_of}
 use Rattle.aadl_grammar.proofs.Firsts.{spots_past}
 use Rattle.aadl_parse.specs.Texts.{IsFaultOfText, of_parse}
-use Rattle.aadl_parse.specs.Rests.{package_of}
+use Rattle.aadl_parse.specs.proof.Rests.{package_of}
 use Rattle.aadl_parse.proofs.Verdicts.{at_fault, left_fault, at_tree, only_one, residual, some_left}
 use Rattle.aadl_parse.proofs.parse.Goals as goal
 

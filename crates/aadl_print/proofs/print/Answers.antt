@@ -1,4 +1,4 @@
-use Rattle.aadl_tree.specs.PackageViews.{meaning}
+use Rattle.aadl_tree.specs.proof.PackageViews.{meaning}
 use Rattle.aadl_print.proofs.Canons.{finished}
 use Rattle.aadl_print.proofs.print.Goals as goal
 

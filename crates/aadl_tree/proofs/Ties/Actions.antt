@@ -11,10 +11,10 @@ use Rattle.aadl_tree.specs.declared.actions.Action.TheViews.{roll-Action, roll-A
 use Rattle.aadl_tree.specs.declared.actions.Action.TheFolds.{ind-Block, map-Action, map-Actions, map-Block, map-Choice, map-Elsif, map-Loop, fold-roll-Action, fold-roll-Actions, fold-roll-Block, fold-roll-Choice, fold-roll-Elsif, fold-roll-Loop}
 use Rattle.aadl_tree.specs.Expressions as e
 use Rattle.aadl_tree.specs.Actions as a
-use Rattle.aadl_tree.specs.Maps.{expression_to, action_to, actions_to, mores_to, elsifs_to, block_to}
-use Rattle.aadl_tree.specs.NameViews.{identifier_view}
-use Rattle.aadl_tree.specs.ExpressionViews.{expression_view}
-use Rattle.aadl_tree.specs.ActionViews.{mores_of, elsifs_of, action_step, actions_step, block_step, choice_step, elsif_step, loop_step, action_view, actions_view, block_view, choice_view, elsif_view, loop_view}
+use Rattle.aadl_tree.specs.proof.Maps.{expression_to, action_to, actions_to, mores_to, elsifs_to, block_to}
+use Rattle.aadl_tree.specs.proof.NameViews.{identifier_view}
+use Rattle.aadl_tree.specs.proof.ExpressionViews.{expression_view}
+use Rattle.aadl_tree.specs.proof.ActionViews.{mores_of, elsifs_of, action_step, actions_step, block_step, choice_step, elsif_step, loop_step, action_view, actions_view, block_view, choice_view, elsif_view, loop_view}
 use Rattle.aadl_tree.proofs.Ties.Names.{reference_tied}
 use Rattle.aadl_tree.proofs.Ties.Expressions.{expression_tied}
 

@@ -14,8 +14,8 @@ use Rattle.aadl_tree.specs.declared.expressions.Factor.TheOpen.{Factor-F, Primar
 use Rattle.aadl_tree.specs.declared.expressions.Factor.TheViews.{roll-Factor, roll-Primary, roll-Expression, roll-Relation, roll-Sum, roll-Term}
 use Rattle.aadl_tree.specs.declared.expressions.Factor.TheFolds.{ind-Expression, map-Factor, map-Primary, map-Expression, map-Relation, map-Sum, map-Term, fold-roll-Factor, fold-roll-Primary, fold-roll-Expression, fold-roll-Relation, fold-roll-Sum, fold-roll-Term}
 use Rattle.aadl_tree.specs.Expressions as e
-use Rattle.aadl_tree.specs.Maps.{leading_to, primary_to, factor_to, term_to, factors_to, sum_to, terms_to, relation_to, expression_to, relations_to}
-use Rattle.aadl_tree.specs.ExpressionViews.{leading_view, factors_of, terms_of, relations_of, primary_step, factor_step, term_step, sum_step, relation_step, expression_step, primary_view, factor_view, term_view, sum_view, relation_view, expression_view}
+use Rattle.aadl_tree.specs.proof.Maps.{leading_to, primary_to, factor_to, term_to, factors_to, sum_to, terms_to, relation_to, expression_to, relations_to}
+use Rattle.aadl_tree.specs.proof.ExpressionViews.{leading_view, factors_of, terms_of, relations_of, primary_step, factor_step, term_step, sum_step, relation_step, expression_step, primary_view, factor_view, term_view, sum_view, relation_view, expression_view}
 use Rattle.aadl_tree.proofs.Ties.Names.{perhaps_tied}
 
 abbrev FactorTied : {P Q : Type 0} → (P → Q) → (ℕ → P) → Factor → Type 0

@@ -6,8 +6,8 @@ use Rattle.aadl_tree.specs.declared.names.Path as source_path
 use Rattle.aadl_tree.specs.declared.names.Identifiers as source_identifiers
 use Rattle.aadl_tree.specs.declared.names.Reference as source_reference
 use Rattle.aadl_tree.specs.Names as n
-use Rattle.aadl_tree.specs.Maps.{identifier_to, name_to, path_to, identifiers_to, reference_to}
-use Rattle.aadl_tree.specs.NameViews.{identifier_view, name_view, path_view, identifiers_view, reference_view}
+use Rattle.aadl_tree.specs.proof.Maps.{identifier_to, name_to, path_to, identifiers_to, reference_to}
+use Rattle.aadl_tree.specs.proof.NameViews.{identifier_view, name_view, path_view, identifiers_view, reference_view}
 
 pub each_tied : {A B C : Type 0} (to : B → C) (view : A → B) (after : A → C) → ((x : A) → to (view x) ≡ after x) → (xs : List A) → map to (map view xs) ≡ map after xs
 each_tied to view after tied [] = refl

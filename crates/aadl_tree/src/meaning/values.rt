@@ -1,14 +1,14 @@
 //! Whether two properties, or two values, mean the same.
 ghost use Rattle.std.specs.Prelude.{◌≡◌, ◌↔◌, IsTrue};
-ghost use Rattle.aadl_tree.specs.ValueViews.{value_view, values_view, association_view, associations_view};
-ghost use Rattle.aadl_tree.specs.Maps.{no_place};
+ghost use Rattle.aadl_tree.specs.proof.ValueViews.{value_view, values_view, association_view, associations_view};
+ghost use Rattle.aadl_tree.specs.proof.Maps.{no_place};
 
 use super::items::{Same, same_items, same_option};
 use crate::values::{Association, Figure, Number, Quantity, Value};
 
 impl Same for Figure {
     ghost use Rattle.aadl_tree.specs.Values.{Figure};
-    ghost use Rattle.aadl_tree.specs.ValueViews.{figure_view};
+    ghost use Rattle.aadl_tree.specs.proof.ValueViews.{figure_view};
 
     ghost Meaning = { Figure };
 
@@ -25,7 +25,7 @@ impl Same for Figure {
 
 impl Same for Number {
     ghost use Rattle.aadl_tree.specs.Values.{Number};
-    ghost use Rattle.aadl_tree.specs.ValueViews.{number_view};
+    ghost use Rattle.aadl_tree.specs.proof.ValueViews.{number_view};
 
     ghost Meaning = { Number };
 
@@ -38,8 +38,8 @@ impl Same for Number {
 
 impl Same for Quantity {
     ghost use Rattle.aadl_tree.specs.Values.{Quantity};
-    ghost use Rattle.aadl_tree.specs.ValueViews.{quantity_view};
-    ghost use Rattle.aadl_tree.specs.Maps.{no_place};
+    ghost use Rattle.aadl_tree.specs.proof.ValueViews.{quantity_view};
+    ghost use Rattle.aadl_tree.specs.proof.Maps.{no_place};
 
     ghost Meaning = { Quantity (Unit {0}) };
 

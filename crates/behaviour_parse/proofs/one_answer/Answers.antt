@@ -1,7 +1,7 @@
 use Rattle.std.proofs.Common.{true}
 use Rattle.aadl_tree.specs.Kinds.{spots_from}
 use Rattle.aadl_tree.specs.Grammar.{IsBehaviour}
-use Rattle.aadl_tree.specs.Given.{end_of}
+use Rattle.aadl_tree.specs.proof.Given.{end_of}
 use Rattle.aadl_grammar.proofs.Fates.Exclusive.{fails_once, fails_not_deep, deep_once}
 use Rattle.aadl_grammar.proofs.Fates.Verdict.{fails_no_text, deep_not_shallow}
 use Rattle.behaviour_parse.proofs.Verdicts.{only_one, is_behaviour}

@@ -1,10 +1,10 @@
 use Rattle.std.proofs.Common.{◌∙◌, ap, refl, arith, [], length}
 use Rattle.aadl_lex.proofs.Spelled.{words_among}
-use Rattle.aadl_grammar.specs.Machine.{depth}
-use Rattle.aadl_grammar.specs.Terminals.{spots_of}
+use Rattle.aadl_grammar.specs.proof.Machine.{depth}
+use Rattle.aadl_grammar.specs.proof.Terminals.{spots_of}
 use Rattle.aadl_grammar.proofs.Firsts.{spots_past}
-use Rattle.behaviour_parse.specs.Behaviours.{IsFaultOfBehaviour}
-use Rattle.aadl_grammar.specs.Reading.{here}
+use Rattle.behaviour_parse.specs.proof.Behaviours.{IsFaultOfBehaviour}
+use Rattle.aadl_grammar.specs.proof.Reading.{here}
 use Rattle.behaviour_parse.proofs.Verdicts.{at_fault, left_fault, at_tree, residual, some_left}
 use Rattle.behaviour_parse.proofs.parse_annex.Goals as goal
 

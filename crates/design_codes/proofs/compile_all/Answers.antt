@@ -3,7 +3,7 @@ use Rattle.std.specs.Prelude.{slice_index_or}
 use Rattle.std.proofs.lemmas.List.{get_or_default}
 use Rattle.pals_base.specs.declared.limits.TheConstants.{INSTRUCTIONS}
 use Rattle.pals_model.specs.declared.design.Component.{Component}
-use Rattle.step_code.specs.Means.{Means}
+use Rattle.step_code.specs.proof.Means.{Means}
 use Rattle.step_code.specs.Lengths.{code_length}
 use Rattle.step_compiler.specs.LaidOut.{IsLaidOut}
 use Rattle.bus_machine.specs.Plans.{component_at, no_component}

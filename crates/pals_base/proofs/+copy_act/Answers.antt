@@ -3,7 +3,7 @@ use Rattle.std.proofs.lemmas.Int.{to_z-of_z}
 use mir.Syntax.{w64}
 use mir.Val.{SFits, to_z, of_z}
 use Rattle.pals_base.specs.Tree.{If, For}
-use Rattle.pals_base.specs.Seen.{action_of, actions_along, branches_along}
+use Rattle.pals_base.specs.proof.Seen.{action_of, actions_along, branches_along}
 use Rattle.pals_base.proofs.Trees.{action_of-If, action_of-For}
 use Rattle.pals_base.proofs.Copies.{next_act, next_branch}
 use Rattle.pals_base.proofs.+copy_act.Goals as goal

@@ -1,5 +1,5 @@
 use Rattle.std.proofs.Common.{◌≡◌, ◌++◌, drop}
-use Rattle.pals_base.specs.Seen.{actions_along, branches_along}
+use Rattle.pals_base.specs.proof.Seen.{actions_along, branches_along}
 use Rattle.pals_base.proofs.+copy_act.Given as goal
 
 -- the copies so far, and then the actions that are left, stand for what all actions do

@@ -1,6 +1,6 @@
 use Rattle.std.proofs.Common.{◌∙◌, ◌+◌, ◌++◌, drop, refl, sym, ap}
 use Rattle.pals_base.specs.Tree.{Chain}
-use Rattle.pals_base.specs.Seen.{tree_of, operands_along}
+use Rattle.pals_base.specs.proof.Seen.{tree_of, operands_along}
 use Rattle.pals_base.proofs.Trees.{tree_of-Chain}
 use Rattle.pals_base.proofs.Copies.{next_operand}
 use Rattle.pals_base.proofs.+copy_expr.Goals as goal

@@ -1,5 +1,5 @@
 use Rattle.std.proofs.Common.{◌≡◌, ◌++◌, drop}
-use Rattle.pals_base.specs.Seen.{operands_along}
+use Rattle.pals_base.specs.proof.Seen.{operands_along}
 use Rattle.pals_base.proofs.+copy_expr.Given as goal
 
 -- the copies so far, and then the operands that are left, stand for what all operands do

@@ -1,5 +1,5 @@
 use Rattle.std.proofs.Common.{ap, ◌∙◌, sym}
-use Rattle.pals_base.specs.Seen.{tree_of, operands_along}
+use Rattle.pals_base.specs.proof.Seen.{tree_of, operands_along}
 use Rattle.pals_base.specs.Kinds.{kinds_of, kinds_along}
 use Rattle.pals_base.proofs.Trees.{tree_of-Chain}
 use Rattle.pals_base.proofs.+kinds_of_expr.Goals as goal

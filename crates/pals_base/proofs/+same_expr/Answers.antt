@@ -1,7 +1,7 @@
 use Rattle.std.proofs.Common.{◌≡◌, ap, ◌∙◌, arith}
 use Rattle.std.proofs.lemmas.Grind.{common_steps}
 use Rattle.pals_base.specs.Tree.{Chain}
-use Rattle.pals_base.specs.Seen.{tree_of, operands_along}
+use Rattle.pals_base.specs.proof.Seen.{tree_of, operands_along}
 use Rattle.pals_base.proofs.Trees.{tree_of-Chain}
 use Rattle.pals_base.proofs.Lengths.{same_operands-length}
 use Rattle.pals_base.proofs.+same_expr.Goals as goal

@@ -1,6 +1,6 @@
 //! Copies of actions.
 ghost use Rattle.std.specs.Prelude.{◌≡◌, IfOk};
-ghost use Rattle.pals_base.specs.Seen.{action_of, actions_along, branches_along};
+ghost use Rattle.pals_base.specs.proof.Seen.{action_of, actions_along, branches_along};
 
 use crate::behaviour::{Act, Branch};
 use crate::values::NoMemory;

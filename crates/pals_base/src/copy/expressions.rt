@@ -1,6 +1,6 @@
 //! Copies of expressions.
 ghost use Rattle.std.specs.Prelude.{◌≡◌, IfOk};
-ghost use Rattle.pals_base.specs.Seen.{tree_of, operands_along};
+ghost use Rattle.pals_base.specs.proof.Seen.{tree_of, operands_along};
 
 use crate::behaviour::{Expr, Operand};
 use crate::values::NoMemory;

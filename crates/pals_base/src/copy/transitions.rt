@@ -1,6 +1,6 @@
 //! Copies of guards and transitions.
 ghost use Rattle.std.specs.Prelude.{◌≡◌, IfOk};
-ghost use Rattle.pals_base.specs.Seen.{trigger_of};
+ghost use Rattle.pals_base.specs.proof.Seen.{trigger_of};
 
 use super::TryClone;
 use super::actions::copy_acts;

@@ -3,7 +3,7 @@ ghost use Rattle.std.specs.Prelude.{◌≡◌, ◌||◌, ◌+◌, IfOk, length, 
 ghost use Rattle.std.specs.List.{list_all};
 ghost use Rattle.pals_base.specs.Fire.{completes, is_complete, leaving};
 ghost use Rattle.pals_base.specs.Steps.{upwards};
-ghost use Rattle.pals_base.specs.Settling.{settles, marked, settles_next};
+ghost use Rattle.pals_base.specs.proof.Settling.{settles, marked, settles_next};
 ghost use Rattle.pals_base.specs.Rules.{dispatch_count, ends_unguarded, has_ways};
 
 use crate::behaviour::{BehaviourParts, Guard, StateDecl, Transition};

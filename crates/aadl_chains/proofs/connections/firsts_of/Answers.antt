@@ -1,5 +1,5 @@
 use Rattle.std.proofs.Common.{None, arith}
-use Rattle.aadl_chains.specs.PortNumbers.{is_site}
+use Rattle.aadl_chains.specs.proof.PortNumbers.{is_site}
 use Rattle.aadl_chains.proofs.Tables.{next_first, last_first}
 use Rattle.aadl_chains.proofs.connections.firsts_of.Goals as goal
 

@@ -2,8 +2,8 @@ use Rattle.std.proofs.Common.{◌≡◌, drop}
 use Rattle.std.specs.List.{position_from}
 use Rattle.std.specs.Option.{option_or}
 use Rattle.aadl_names.specs.declared.site.Site.{Site}
-use Rattle.aadl_chains.specs.PortNumbers.{is_site, number_of}
-use Rattle.aadl_chains.specs.Firsts.{first_into}
+use Rattle.aadl_chains.specs.proof.PortNumbers.{is_site, number_of}
+use Rattle.aadl_chains.specs.proof.Firsts.{first_into}
 use Rattle.aadl_chains.proofs.connections.firsts_of.Given as goal
 
 -- what is left may have the first one

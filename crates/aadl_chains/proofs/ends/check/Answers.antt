@@ -1,7 +1,7 @@
 use Rattle.std.proofs.Common.{sym}
-use Rattle.aadl_tree.specs.PackageViews.{placed}
-use Rattle.aadl_tree.specs.Views.{connection_view}
-use Rattle.aadl_tree.specs.Maps.{kept_place}
+use Rattle.aadl_tree.specs.proof.PackageViews.{placed}
+use Rattle.aadl_tree.specs.proof.Views.{connection_view}
+use Rattle.aadl_tree.specs.proof.Maps.{kept_place}
 use Rattle.aadl_names.proofs.Finds.{on_ok}
 use Rattle.aadl_chains.proofs.EndFaults.{both_found, nothing_at}
 use Rattle.aadl_chains.proofs.ends.check.Goals as goal

@@ -1,6 +1,6 @@
 use Rattle.std.proofs.Common.{◌∙◌, ap, arith, length, slice_get, sym, None, List}
 use Rattle.std.proofs.lemmas.Option.{slice_get-get_or}
-use Rattle.aadl_tree.specs.PackageViews.{placed}
+use Rattle.aadl_tree.specs.proof.PackageViews.{placed}
 use Rattle.aadl_chains.specs.declared.connections.Wire.{Wire}
 use Rattle.aadl_chains.proofs.EndFaults.{found_none, found_more, found_all}
 use Rattle.aadl_chains.proofs.ends.check_all.Goals as goal

@@ -1,5 +1,5 @@
-use Rattle.aadl_tree.specs.PackageViews.{placed}
-use Rattle.aadl_chains.specs.Findings.{FindsAll}
+use Rattle.aadl_tree.specs.proof.PackageViews.{placed}
+use Rattle.aadl_chains.specs.proof.Findings.{FindsAll}
 use Rattle.aadl_chains.proofs.EndFaults.{FoundBelow}
 use Rattle.aadl_chains.proofs.ends.check_all.Given as goal
 

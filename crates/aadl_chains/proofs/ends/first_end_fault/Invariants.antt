@@ -1,6 +1,6 @@
 use Rattle.std.proofs.Common.{None}
-use Rattle.aadl_tree.specs.PackageViews.{placed}
-use Rattle.aadl_chains.specs.Findings.{FindsAll}
+use Rattle.aadl_tree.specs.proof.PackageViews.{placed}
+use Rattle.aadl_chains.specs.proof.Findings.{FindsAll}
 use Rattle.aadl_chains.proofs.EndFaults.{FoundAmong}
 use Rattle.aadl_chains.proofs.ends.first_end_fault.Given as goal
 

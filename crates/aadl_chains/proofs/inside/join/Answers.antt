@@ -1,7 +1,7 @@
 use Rattle.std.proofs.Common.{◌∙◌, subst, sym}
-use Rattle.aadl_tree.specs.PackageViews.{placed}
+use Rattle.aadl_tree.specs.proof.PackageViews.{placed}
 use Rattle.aadl_names.proofs.Finds.{on_ok}
-use Rattle.aadl_chains.specs.Inside.{IsJoined}
+use Rattle.aadl_chains.specs.proof.Inside.{IsJoined}
 use Rattle.aadl_chains.proofs.Joining.{one_joined, none_joined}
 use Rattle.aadl_chains.proofs.inside.join.Goals as goal
 

@@ -1,4 +1,4 @@
-use Rattle.aadl_tree.specs.PackageViews.{placed}
+use Rattle.aadl_tree.specs.proof.PackageViews.{placed}
 use Rattle.aadl_chains.proofs.Joining.{FrontJoined}
 use Rattle.aadl_chains.proofs.inside.join_each.Given as goal
 

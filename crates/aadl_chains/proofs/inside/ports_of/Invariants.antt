@@ -1,4 +1,4 @@
-use Rattle.aadl_tree.specs.PackageViews.{placed}
+use Rattle.aadl_tree.specs.proof.PackageViews.{placed}
 use Rattle.aadl_chains.proofs.Ordered.{FrontInside}
 use Rattle.aadl_chains.proofs.inside.ports_of.Given as goal
 

@@ -1,8 +1,8 @@
-use Rattle.aadl_tree.specs.PackageViews.{placed}
-use Rattle.aadl_uses.specs.Uses.{containment}
+use Rattle.aadl_tree.specs.proof.PackageViews.{placed}
+use Rattle.aadl_uses.specs.proof.Uses.{containment}
 use Rattle.aadl_uses.proofs.Fronts.{FrontOf}
-use Rattle.aadl_chains.specs.Numbers.{IsNumber}
-use Rattle.aadl_chains.specs.PortCounts.{EndsLink}
+use Rattle.aadl_chains.specs.proof.Numbers.{IsNumber}
+use Rattle.aadl_chains.specs.proof.PortCounts.{EndsLink}
 use Rattle.aadl_chains.proofs.links.link_counts.Given as goal
 
 abbrev pub invariant-loop-at : goal.invariant-loop-at

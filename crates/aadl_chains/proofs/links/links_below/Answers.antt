@@ -1,4 +1,4 @@
-use Rattle.aadl_tree.specs.PackageViews.{placed}
+use Rattle.aadl_tree.specs.proof.PackageViews.{placed}
 use Rattle.aadl_chains.proofs.Counted.{links_both}
 use Rattle.aadl_chains.proofs.links.links_below.Goals as goal
 

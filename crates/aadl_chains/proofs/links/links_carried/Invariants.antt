@@ -1,6 +1,6 @@
-use Rattle.aadl_tree.specs.PackageViews.{placed}
-use Rattle.aadl_chains.specs.Numbers.{IsNumber}
-use Rattle.aadl_chains.specs.PortCounts.{FromThread, AmongFirst}
+use Rattle.aadl_tree.specs.proof.PackageViews.{placed}
+use Rattle.aadl_chains.specs.proof.Numbers.{IsNumber}
+use Rattle.aadl_chains.specs.proof.PortCounts.{FromThread, AmongFirst}
 use Rattle.aadl_chains.proofs.links.links_carried.Given as goal
 
 -- by the connections so far

@@ -1,6 +1,6 @@
-use Rattle.aadl_tree.specs.PackageViews.{placed}
-use Rattle.aadl_chains.specs.Numbers.{IsNumber}
-use Rattle.aadl_chains.specs.PortCounts.{Deeper, AmongFirst}
+use Rattle.aadl_tree.specs.proof.PackageViews.{placed}
+use Rattle.aadl_chains.specs.proof.Numbers.{IsNumber}
+use Rattle.aadl_chains.specs.proof.PortCounts.{Deeper, AmongFirst}
 use Rattle.aadl_chains.proofs.links.links_deeper.Given as goal
 
 -- below the subcomponents so far

@@ -1,7 +1,7 @@
 use Rattle.std.proofs.Common.{◌∙◌, subst, sym}
-use Rattle.aadl_tree.specs.PackageViews.{placed}
+use Rattle.aadl_tree.specs.proof.PackageViews.{placed}
 use Rattle.aadl_names.proofs.Finds.{on_ok}
-use Rattle.aadl_chains.specs.Outside.{IsLed}
+use Rattle.aadl_chains.specs.proof.Outside.{IsLed}
 use Rattle.aadl_chains.proofs.Leading.{one_led, none_led}
 use Rattle.aadl_chains.proofs.outside.lead.Goals as goal
 

@@ -1,6 +1,6 @@
 use Rattle.std.proofs.Common.{◌≡◌, ◌∙◌, ap, arith, get_or, length, slice_get, sym, Some, None, List}
 use Rattle.std.proofs.lemmas.Option.{slice_get-get_or}
-use Rattle.aadl_tree.specs.PackageViews.{placed}
+use Rattle.aadl_tree.specs.proof.PackageViews.{placed}
 use Rattle.aadl_chains.specs.declared.connections.Wire.{Wire}
 use Rattle.aadl_chains.specs.Wiring.{wires_at}
 use Rattle.aadl_chains.proofs.Leading.{none_yet, one_more, all_led}

@@ -1,4 +1,4 @@
-use Rattle.aadl_tree.specs.PackageViews.{placed}
+use Rattle.aadl_tree.specs.proof.PackageViews.{placed}
 use Rattle.aadl_chains.proofs.Leading.{FrontLed}
 use Rattle.aadl_chains.proofs.outside.lead_each.Given as goal
 

@@ -1,4 +1,4 @@
-use Rattle.aadl_tree.specs.PackageViews.{placed}
+use Rattle.aadl_tree.specs.proof.PackageViews.{placed}
 use Rattle.aadl_chains.proofs.Falling.{BackLed}
 use Rattle.aadl_chains.proofs.outside.ports_of.Given as goal
 

@@ -1,5 +1,5 @@
 use Rattle.std.proofs.Common.{◌∙◌, reverse, subst, sym, List, ℕ}
-use Rattle.aadl_tree.specs.PackageViews.{placed}
+use Rattle.aadl_tree.specs.proof.PackageViews.{placed}
 use Rattle.aadl_chains.specs.Chains.{Port}
 use Rattle.aadl_chains.proofs.Climbing.{rank_falls}
 use Rattle.aadl_chains.proofs.Counted.{thread_at}

@@ -1,7 +1,7 @@
 use Rattle.std.proofs.Common.{reverse, subst, sym}
-use Rattle.aadl_tree.specs.PackageViews.{placed}
+use Rattle.aadl_tree.specs.proof.PackageViews.{placed}
 use Rattle.aadl_chains.specs.Chains.{Port}
-use Rattle.aadl_chains.specs.Routes.{Traces}
+use Rattle.aadl_chains.specs.proof.Routes.{Traces}
 use Rattle.aadl_chains.proofs.Routes.{traces_nothing}
 use Rattle.aadl_chains.proofs.Tracing.{root_route}
 use Rattle.aadl_chains.proofs.walks.trace_back.Goals as goal

@@ -1,9 +1,9 @@
 use Rattle.std.proofs.Common.{◌∙◌, ◌∷◌, [], ap, refl, reverse, subst, sym, take}
 use Rattle.std.proofs.lemmas.List.{reverse-append}
-use Rattle.aadl_tree.specs.PackageViews.{placed}
+use Rattle.aadl_tree.specs.proof.PackageViews.{placed}
 use Rattle.aadl_chains.specs.Chains.{Port}
-use Rattle.aadl_chains.specs.Climbing.{crossing}
-use Rattle.aadl_chains.specs.Routes.{Traces}
+use Rattle.aadl_chains.specs.proof.Climbing.{crossing}
+use Rattle.aadl_chains.specs.proof.Routes.{Traces}
 use Rattle.aadl_chains.proofs.Climbing.{crossing_from}
 use Rattle.aadl_chains.proofs.Tracing.{over_route}
 use Rattle.aadl_chains.proofs.walks.trace_over.Goals as goal

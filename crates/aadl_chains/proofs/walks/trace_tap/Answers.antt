@@ -1,7 +1,7 @@
 use Rattle.std.proofs.Common.{◌∙◌, [], ap, reverse, subst, sym}
-use Rattle.aadl_tree.specs.PackageViews.{placed}
+use Rattle.aadl_tree.specs.proof.PackageViews.{placed}
 use Rattle.aadl_chains.specs.Chains.{Port}
-use Rattle.aadl_chains.specs.Routes.{TracesTap}
+use Rattle.aadl_chains.specs.proof.Routes.{TracesTap}
 use Rattle.aadl_chains.proofs.Steps.{inner_of}
 use Rattle.aadl_chains.proofs.Routes.{no_tap}
 use Rattle.aadl_chains.proofs.Tracing.{tap_route}

@@ -1,9 +1,9 @@
 use Rattle.std.proofs.Common.{◌≡◌, ℕ, map, take, Some}
 use Rattle.aadl_tree.specs.Declarations.{Implementation}
-use Rattle.aadl_tree.specs.Maps.{kept_place}
-use Rattle.aadl_tree.specs.Views.{connection_view}
+use Rattle.aadl_tree.specs.proof.Maps.{kept_place}
+use Rattle.aadl_tree.specs.proof.Views.{connection_view}
 use Rattle.aadl_names.specs.Resolving.{implementation_at}
-use Rattle.aadl_chains.specs.Known.{tree_of}
+use Rattle.aadl_chains.specs.proof.Known.{tree_of}
 use Rattle.aadl_chains.specs.Wiring.{wire_of}
 use Rattle.aadl_chains.proofs.wiring.wires_of_each.Given as goal
 

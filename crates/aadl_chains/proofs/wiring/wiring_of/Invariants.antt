@@ -1,8 +1,8 @@
 use Rattle.std.proofs.Common.{◌≡◌, map, take}
-use Rattle.aadl_tree.specs.Maps.{kept_place}
-use Rattle.aadl_tree.specs.Views.{declaration_view}
-use Rattle.aadl_chains.specs.Known.{tree_of}
-use Rattle.aadl_chains.specs.Wiring.{wires_in}
+use Rattle.aadl_tree.specs.proof.Maps.{kept_place}
+use Rattle.aadl_tree.specs.proof.Views.{declaration_view}
+use Rattle.aadl_chains.specs.proof.Known.{tree_of}
+use Rattle.aadl_chains.specs.proof.Wiring.{wires_in}
 use Rattle.aadl_chains.proofs.wiring.wiring_of.Given as goal
 
 abbrev pub invariant-loop-number : goal.invariant-loop-number

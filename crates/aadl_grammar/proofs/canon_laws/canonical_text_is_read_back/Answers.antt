@@ -2,10 +2,10 @@ use Rattle.std.proofs.Common.{sym, subst, ℕ, List}
 use Rattle.std.proofs.Math.Logic.{∥∥₁_map}
 use Rattle.aadl_tree.specs.Canon.{canon}
 use Rattle.aadl_tree.specs.Declarations.{PackageTree}
-use Rattle.aadl_tree.specs.Maps.{package_to, kept_place, no_place}
-use Rattle.aadl_tree.specs.PackageViews.{placed}
+use Rattle.aadl_tree.specs.proof.Maps.{package_to, kept_place, no_place}
+use Rattle.aadl_tree.specs.proof.PackageViews.{placed}
 use Rattle.aadl_tree.proofs.Ties.Declarations.{package_tied}
-use Rattle.aadl_grammar.specs.Reads.{HasTree}
+use Rattle.aadl_grammar.specs.proof.Reads.{HasTree}
 use Rattle.aadl_grammar.proofs.Reading.{canon_of, reads_back, only_so}
 use Rattle.aadl_grammar.proofs.canon_laws.canonical_text_is_read_back.Goals as goal
 

@@ -1,15 +1,15 @@
 use mir.Syntax.{w64}
 use mir.Val.{to_z, of_z, SFits}
 use Rattle.std.proofs.Common.{◌≡◌, ◌∙◌, ◌∷◌, [], ap, sym, refl, arith}
-use Rattle.aadl_grammar.specs.Reading.{here}
+use Rattle.aadl_grammar.specs.proof.Reading.{here}
 use Rattle.aadl_grammar.proofs.Rows.{takes_row, refuses_unless}
 use Rattle.aadl_grammar.proofs.Written.{nothing, told, respelled}
 use Rattle.std.proofs.Common.{rules, to_z-of_z}
 use Rattle.aadl_tree.specs.Kinds.{whole}
 use Rattle.aadl_tree.specs.Parts.{token}
 use Rattle.aadl_tree.specs.declared.mark.Mark.TheVariants as k
-use Rattle.aadl_grammar.specs.Symbols as s
-use Rattle.aadl_grammar.specs.Machine.{move, depth, syntax_at, deep_at}
+use Rattle.aadl_grammar.specs.proof.Symbols as s
+use Rattle.aadl_grammar.specs.proof.Machine.{move, depth, syntax_at, deep_at}
 use Rattle.aadl_grammar.proofs.values.figure.Goals as goal
 
 pub returns-in-Some : goal.returns-in-Some

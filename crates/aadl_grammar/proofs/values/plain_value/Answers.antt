@@ -1,14 +1,14 @@
 use Rattle.std.proofs.Common.{◌∙◌, ◌∷◌, [], ap, sym, refl, arith}
-use Rattle.aadl_grammar.specs.Reading.{here}
+use Rattle.aadl_grammar.specs.proof.Reading.{here}
 use Rattle.aadl_grammar.proofs.Rows.{takes_row, begins_past, acts_as, along, exits, no_reads}
 use Rattle.aadl_grammar.proofs.Written.{nothing, then, told, respelled}
 use Rattle.aadl_tree.specs.Values.{value_parts}
-use Rattle.aadl_tree.specs.Maps.{kept_place}
+use Rattle.aadl_tree.specs.proof.Maps.{kept_place}
 use Rattle.aadl_tree.proofs.ValueViews.{view-Text, view-Named, view-Number}
 use Rattle.aadl_grammar.proofs.Lists.{value_own, starts_at}
 use Rattle.aadl_tree.specs.declared.mark.Mark.TheVariants as k
-use Rattle.aadl_grammar.specs.Symbols as s
-use Rattle.aadl_grammar.specs.Machine.{move, depth, syntax_at, deep_at}
+use Rattle.aadl_grammar.specs.proof.Symbols as s
+use Rattle.aadl_grammar.specs.proof.Machine.{move, depth, syntax_at, deep_at}
 use Rattle.aadl_grammar.proofs.values.plain_value.Goals as goal
 
 pub returns-in-Some : goal.returns-in-Some

@@ -1,14 +1,14 @@
 use Rattle.std.proofs.Common.{◌∙◌, ◌∷◌, [], ap, sym, refl, arith}
-use Rattle.aadl_grammar.specs.Reading.{here}
+use Rattle.aadl_grammar.specs.proof.Reading.{here}
 use Rattle.aadl_grammar.proofs.Rows.{takes_row, deep_row, omits_unless, refuses_unless, begins_as, enters_as, along, exits, no_reads, too_deep}
 use Rattle.aadl_grammar.proofs.Written.{nothing, respelled}
 use Rattle.aadl_tree.specs.Values.{properties_parts}
-use Rattle.aadl_tree.specs.ValueViews.{associations_view}
-use Rattle.aadl_tree.specs.Maps.{kept_place}
+use Rattle.aadl_tree.specs.proof.ValueViews.{associations_view}
+use Rattle.aadl_tree.specs.proof.Maps.{kept_place}
 use Rattle.aadl_grammar.proofs.Lists.{starts_at, braced}
 use Rattle.aadl_tree.specs.declared.mark.Mark.TheVariants as k
-use Rattle.aadl_grammar.specs.Symbols as s
-use Rattle.aadl_grammar.specs.Machine.{move, depth, syntax_at, deep_at}
+use Rattle.aadl_grammar.specs.proof.Symbols as s
+use Rattle.aadl_grammar.specs.proof.Machine.{move, depth, syntax_at, deep_at}
 use Rattle.aadl_grammar.proofs.values.properties.Goals as goal
 
 pub returns-in_default : goal.returns-in_default

@@ -1,12 +1,12 @@
 use Rattle.std.proofs.Common.{◌∙◌, ◌∷◌, [], refl, arith}
-use Rattle.aadl_grammar.specs.Reading.{here}
+use Rattle.aadl_grammar.specs.proof.Reading.{here}
 use Rattle.aadl_grammar.proofs.Rows.{takes_row, begins_past, along, exits, no_reads}
 use Rattle.aadl_grammar.proofs.Written.{then, marked}
-use Rattle.aadl_grammar.specs.Table.{on}
+use Rattle.aadl_grammar.specs.proof.Table.{on}
 use Rattle.aadl_grammar.proofs.Signs.{sign_quantity}
 use Rattle.aadl_tree.specs.declared.mark.Mark.TheVariants as k
-use Rattle.aadl_grammar.specs.Symbols as s
-use Rattle.aadl_grammar.specs.Machine.{move, depth, syntax_at, deep_at}
+use Rattle.aadl_grammar.specs.proof.Symbols as s
+use Rattle.aadl_grammar.specs.proof.Machine.{move, depth, syntax_at, deep_at}
 use Rattle.aadl_grammar.proofs.values.quantity.Goals as goal
 
 pub returns-in_err-figure : goal.returns-in_err-figure

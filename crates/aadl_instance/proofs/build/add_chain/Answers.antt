@@ -1,11 +1,11 @@
 use Rattle.std.proofs.Common.{◌∙◌, ap, reverse, subst}
-use Rattle.aadl_tree.specs.PackageViews.{placed}
+use Rattle.aadl_tree.specs.proof.PackageViews.{placed}
 use Rattle.aadl_names.specs.Resolving.{ports_at}
 use Rattle.aadl_names.proofs.Finds.{on_ok}
 use Rattle.aadl_uses.specs.Uses.{component_at}
 use Rattle.aadl_chains.proofs.OnChains.{port, is_in-at}
-use Rattle.aadl_chains.specs.Routes.{Traces}
-use Rattle.aadl_instance.specs.Passed.{paths_of, chain_by}
+use Rattle.aadl_chains.specs.proof.Routes.{Traces}
+use Rattle.aadl_instance.specs.proof.Passed.{paths_of, chain_by}
 use Rattle.aadl_instance.proofs.Ports.{in_within}
 use Rattle.aadl_instance.proofs.Passing.{thread_listed}
 use Rattle.aadl_instance.proofs.Adding.{route_begins, route_added, none_added}

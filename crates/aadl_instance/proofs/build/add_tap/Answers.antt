@@ -1,9 +1,9 @@
 use Rattle.std.proofs.Common.{◌∙◌, [], ap, refl, subst, sym}
-use Rattle.aadl_tree.specs.PackageViews.{placed}
+use Rattle.aadl_tree.specs.proof.PackageViews.{placed}
 use Rattle.aadl_names.proofs.Finds.{on_ok}
 use Rattle.aadl_chains.proofs.OnChains.{port, is_in-at}
-use Rattle.aadl_chains.specs.Routes.{TracesTap}
-use Rattle.aadl_instance.specs.Passed.{paths_of, chain_by}
+use Rattle.aadl_chains.specs.proof.Routes.{TracesTap}
+use Rattle.aadl_instance.specs.proof.Passed.{paths_of, chain_by}
 use Rattle.aadl_instance.proofs.Adding.{tap_begins, tap_added, no_tap, in_tap}
 use Rattle.aadl_instance.proofs.build.add_tap.Goals as goal
 

@@ -1,10 +1,10 @@
 use Rattle.std.proofs.Common.{◌≤◌, ◌∙◌, sym, ap, arith, length, reverse}
 use Rattle.std.proofs.lemmas.List.{length-map}
-use Rattle.aadl_tree.specs.Maps.{kept_place}
-use Rattle.aadl_tree.specs.PackageViews.{placed}
-use Rattle.aadl_tree.specs.Views.{feature_view}
+use Rattle.aadl_tree.specs.proof.Maps.{kept_place}
+use Rattle.aadl_tree.specs.proof.PackageViews.{placed}
+use Rattle.aadl_tree.specs.proof.Views.{feature_view}
 use Rattle.aadl_names.specs.Resolving.{implementation_at, ports_at}
-use Rattle.aadl_instance.specs.Passed.{paths_of}
+use Rattle.aadl_instance.specs.proof.Passed.{paths_of}
 use Rattle.aadl_instance.proofs.Passing.{thread_listed, into_thread}
 use Rattle.aadl_instance.proofs.Shown.{stands}
 use Rattle.aadl_instance.proofs.build.add_thread.Goals as goal

@@ -1,10 +1,10 @@
 use Rattle.std.proofs.Common.{◌≤◌, ◌∙◌, sym, ap, arith, length, subst}
 use Rattle.std.proofs.lemmas.List.{length-map}
-use Rattle.aadl_tree.specs.Maps.{kept_place}
-use Rattle.aadl_tree.specs.PackageViews.{placed}
-use Rattle.aadl_tree.specs.Views.{feature_view}
+use Rattle.aadl_tree.specs.proof.Maps.{kept_place}
+use Rattle.aadl_tree.specs.proof.PackageViews.{placed}
+use Rattle.aadl_tree.specs.proof.Views.{feature_view}
 use Rattle.aadl_names.specs.Resolving.{implementation_at, ports_at}
-use Rattle.aadl_instance.specs.Passed.{paths_of, AreTapsTo}
+use Rattle.aadl_instance.specs.proof.Passed.{paths_of, AreTapsTo}
 use Rattle.aadl_instance.proofs.Passing.{taps_none, taps_whole}
 use Rattle.aadl_instance.proofs.build.taps_of.Goals as goal
 

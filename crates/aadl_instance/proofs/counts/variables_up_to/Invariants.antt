@@ -1,7 +1,7 @@
 use Rattle.std.proofs.Common.{◌≡◌, min, take}
 use Rattle.aadl_tree.specs.Names.{identifiers}
-use Rattle.aadl_tree.specs.Maps.{kept_place}
-use Rattle.aadl_tree.specs.Views.{variable_view}
+use Rattle.aadl_tree.specs.proof.Maps.{kept_place}
+use Rattle.aadl_tree.specs.proof.Views.{variable_view}
 use Rattle.aadl_instance.proofs.Counted.{words}
 use Rattle.aadl_instance.proofs.counts.variables_up_to.Given as goal
 

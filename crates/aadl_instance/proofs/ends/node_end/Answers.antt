@@ -1,9 +1,9 @@
 use Rattle.std.proofs.Common.{◌<◌, ◌∙◌, sym, ap, arith, length, reverse, subst}
-use Rattle.aadl_tree.specs.PackageViews.{placed}
+use Rattle.aadl_tree.specs.proof.PackageViews.{placed}
 use Rattle.aadl_names.specs.Resolving.{implementation_at, ports_at}
 use Rattle.aadl_instance.specs.declared.parts.ChainEnd.TheVariants.{Thread}
 use Rattle.aadl_instance.specs.Instances.{node_at, number_among}
-use Rattle.aadl_instance.specs.Passed.{paths_of}
+use Rattle.aadl_instance.specs.proof.Passed.{paths_of}
 use Rattle.aadl_instance.proofs.Among.{few_before}
 use Rattle.aadl_instance.proofs.Passing.{thread_listed}
 use Rattle.aadl_instance.proofs.Shown.{node_is, thread_shown, few_at, open_at}

@@ -1,6 +1,6 @@
 use Rattle.std.proofs.Common.{◌∙◌}
-use Rattle.aadl_tree.specs.PackageViews.{placed}
-use Rattle.aadl_instance.specs.Passed.{paths_of}
+use Rattle.aadl_tree.specs.proof.PackageViews.{placed}
+use Rattle.aadl_instance.specs.proof.Passed.{paths_of}
 use Rattle.aadl_instance.proofs.Settled.{all_listed, all_stand, settled, instance_is, threads_same}
 use Rattle.aadl_instance.proofs.flattening.instance_of.Goals as goal
 

@@ -1,7 +1,7 @@
 use Rattle.std.proofs.Common.{arith}
-use Rattle.aadl_tree.specs.PackageViews.{placed}
+use Rattle.aadl_tree.specs.proof.PackageViews.{placed}
 use Rattle.aadl_chains.proofs.OnChains.{opposed}
-use Rattle.aadl_instance.specs.Limits.{IsPassed}
+use Rattle.aadl_instance.specs.proof.Limits.{IsPassed}
 use Rattle.aadl_instance.proofs.Lines.{limit_lines, limit_line, last_line, passed_next, passed_earlier}
 use Rattle.aadl_instance.proofs.limits.first_limit.Goals as goal
 

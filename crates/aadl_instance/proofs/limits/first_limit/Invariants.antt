@@ -1,7 +1,7 @@
 use Rattle.std.proofs.Common.{◌+◌, ◌<◌}
-use Rattle.aadl_tree.specs.PackageViews.{placed}
+use Rattle.aadl_tree.specs.proof.PackageViews.{placed}
 use Rattle.aadl_instance.specs.declared.limits.Limit.{Limit}
-use Rattle.aadl_instance.specs.Limits.{line_of, IsPassed}
+use Rattle.aadl_instance.specs.proof.Limits.{line_of, IsPassed}
 use Rattle.aadl_instance.proofs.limits.first_limit.Given as goal
 
 -- the limits so far are not passed

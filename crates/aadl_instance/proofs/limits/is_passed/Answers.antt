@@ -1,7 +1,7 @@
 use Rattle.std.proofs.Common.{◌↔◌, IfOk, IsTrue, subst, sym}
-use Rattle.aadl_tree.specs.PackageViews.{placed}
+use Rattle.aadl_tree.specs.proof.PackageViews.{placed}
 use Rattle.aadl_instance.specs.declared.limits.Limit.{Limit}
-use Rattle.aadl_instance.specs.Limits.{IsPassed}
+use Rattle.aadl_instance.specs.proof.Limits.{IsPassed}
 use Rattle.aadl_instance.proofs.limits.is_passed.Goals as goal
 
 pub returns-in-Components : goal.returns-in-Components

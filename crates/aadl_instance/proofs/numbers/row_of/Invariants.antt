@@ -1,6 +1,6 @@
 use Rattle.std.proofs.Common.{◌≡◌, ◌<◌, ℕ, get_or, length, map}
-use Rattle.aadl_tree.specs.Maps.{kept_place}
-use Rattle.aadl_tree.specs.Views.{feature_view}
+use Rattle.aadl_tree.specs.proof.Maps.{kept_place}
+use Rattle.aadl_tree.specs.proof.Views.{feature_view}
 use Rattle.aadl_instance.specs.Instances.{number_among}
 use Rattle.aadl_instance.proofs.Among.{AreSeen}
 use Rattle.aadl_instance.proofs.numbers.row_of.Given as goal

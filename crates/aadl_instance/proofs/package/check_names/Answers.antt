@@ -1,5 +1,5 @@
 use Rattle.std.proofs.Common.{inr, subst}
-use Rattle.aadl_tree.specs.PackageViews.{placed}
+use Rattle.aadl_tree.specs.proof.PackageViews.{placed}
 use Rattle.aadl_names.specs.Findings.{FirstOf}
 use Rattle.aadl_names.specs.PackageFaults.{package_faults}
 use Rattle.aadl_instance.proofs.Lines.{name_fault}

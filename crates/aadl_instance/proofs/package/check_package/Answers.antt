@@ -1,13 +1,13 @@
 use Rattle.std.proofs.Common.{◌≡◌, ◌⊎◌, ◌∙◌, ap, inl, inr, subst, sym, Some}
 use Rattle.aadl_tree.specs.declared.package.PackageTree.{PackageTree}
-use Rattle.aadl_tree.specs.PackageViews.{placed}
+use Rattle.aadl_tree.specs.proof.PackageViews.{placed}
 use Rattle.aadl_names.specs.declared.fault.FlatFault.{FlatFault}
 use Rattle.aadl_names.specs.declared.fault.FlatFault.TheVariants.{Memory}
 use Rattle.aadl_names.specs.Findings.{IsFirstByLine}
 use Rattle.aadl_names.specs.Resolving.{root_number}
 use Rattle.aadl_instance.specs.declared.package.Checked.{Checked}
 use Rattle.aadl_instance.specs.Faults.{FoundIn, IsFault, IsRoot}
-use Rattle.aadl_instance.specs.Silence.{IsChecked}
+use Rattle.aadl_instance.specs.proof.Silence.{IsChecked}
 use Rattle.aadl_instance.proofs.Lines.{matched, no_root, root_fault}
 use Rattle.aadl_instance.proofs.Roots.{is_root_at}
 use Rattle.aadl_instance.proofs.package.check_package.Goals as goal

@@ -1,8 +1,9 @@
 use Rattle.std.proofs.Common.{inr, subst, sym}
 use Rattle.aadl_tree.specs.declared.package.PackageTree.{PackageTree}
-use Rattle.aadl_tree.specs.PackageViews.{placed}
+use Rattle.aadl_tree.specs.proof.PackageViews.{placed}
 use Rattle.aadl_names.specs.Findings.{IsFirst}
-use Rattle.aadl_uses.specs.Uses.{FirstIn, IsRecursive}
+use Rattle.aadl_uses.specs.proof.Uses.{FirstIn}
+use Rattle.aadl_uses.specs.Uses.{IsRecursive}
 use Rattle.aadl_instance.proofs.Lines.{recursion_fault}
 use Rattle.aadl_instance.proofs.package.check_recursion.Goals as goal
 

@@ -1,12 +1,13 @@
 use Rattle.std.proofs.Common.{◌↔◌, ◌<◌, ℕ, Contains, inr, length, refl, subst, sym}
 use Rattle.aadl_tree.specs.declared.package.PackageTree.{PackageTree}
-use Rattle.aadl_tree.specs.PackageViews.{placed}
+use Rattle.aadl_tree.specs.proof.PackageViews.{placed}
 use Rattle.aadl_names.specs.Findings.{IsFirstByLine}
-use Rattle.aadl_uses.specs.Uses.{containment, IsInUse, IsRecursive}
-use Rattle.aadl_uses.specs.Orders.{IsOrder}
+use Rattle.aadl_uses.specs.proof.Uses.{containment}
+use Rattle.aadl_uses.specs.Uses.{IsInUse, IsRecursive}
+use Rattle.aadl_uses.specs.proof.Orders.{IsOrder}
 use Rattle.aadl_instance.specs.declared.package.Checked.{Checked}
 use Rattle.aadl_instance.specs.Faults.{FoundIn}
-use Rattle.aadl_instance.specs.Silence.{IsOrdered, IsChecked, FindsFault}
+use Rattle.aadl_instance.specs.proof.Silence.{IsOrdered, IsChecked, FindsFault}
 use Rattle.aadl_instance.proofs.Roots.{root_declared}
 use Rattle.aadl_instance.proofs.package.check_uses.Goals as goal
 

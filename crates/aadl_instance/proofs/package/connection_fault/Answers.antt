@@ -1,6 +1,6 @@
 use Rattle.std.proofs.Common.{subst}
-use Rattle.aadl_tree.specs.PackageViews.{placed}
-use Rattle.aadl_uses.specs.Uses.{FirstIn}
+use Rattle.aadl_tree.specs.proof.PackageViews.{placed}
+use Rattle.aadl_uses.specs.proof.Uses.{FirstIn}
 use Rattle.aadl_chains.specs.Chains.{IsEndFault}
 use Rattle.aadl_chains.proofs.Declared.{declared}
 use Rattle.aadl_instance.proofs.Lines.{end_fault}

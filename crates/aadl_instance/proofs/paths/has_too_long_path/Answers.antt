@@ -1,14 +1,14 @@
 use Rattle.std.proofs.Common.{◌≡◌, ◌+◌, ◌∙◌, ℕ, Bool, List, None, ap, arith, get_or, length, map, subst, sym}
 use Rattle.std.proofs.lemmas.List.{length-map}
 use Rattle.pals_base.specs.declared.limits.TheConstants.{PATH_BYTES}
-use Rattle.aadl_tree.specs.Maps.{kept_place}
-use Rattle.aadl_tree.specs.PackageViews.{placed}
-use Rattle.aadl_tree.specs.Views.{declaration_view}
-use Rattle.aadl_uses.specs.Uses.{targets_in}
-use Rattle.aadl_uses.specs.Threads.{thread_marks}
-use Rattle.aadl_uses.specs.Graphs.{Graph}
-use Rattle.aadl_uses.specs.Weights.{IsHeaviest}
-use Rattle.aadl_instance.specs.Paths.{weights_in, name_weights, is_over}
+use Rattle.aadl_tree.specs.proof.Maps.{kept_place}
+use Rattle.aadl_tree.specs.proof.PackageViews.{placed}
+use Rattle.aadl_tree.specs.proof.Views.{declaration_view}
+use Rattle.aadl_uses.specs.proof.Uses.{targets_in}
+use Rattle.aadl_uses.specs.proof.Threads.{thread_marks}
+use Rattle.aadl_uses.specs.proof.Graphs.{Graph}
+use Rattle.aadl_uses.specs.proof.Weights.{IsHeaviest}
+use Rattle.aadl_instance.specs.proof.Paths.{weights_in, name_weights, is_over}
 use Rattle.aadl_instance.proofs.Weighed.{tells_long}
 use Rattle.aadl_instance.proofs.paths.has_too_long_path.Goals as goal
 

@@ -1,6 +1,6 @@
 use Rattle.std.proofs.Common.{◌∙◌, arith, sym}
-use Rattle.aadl_tree.specs.Maps.{kept_place}
-use Rattle.aadl_tree.specs.Views.{declaration_view}
+use Rattle.aadl_tree.specs.proof.Maps.{kept_place}
+use Rattle.aadl_tree.specs.proof.Views.{declaration_view}
 use Rattle.aadl_names.specs.Resolving.{is_root}
 use Rattle.aadl_instance.proofs.Roots.{mapped_here, mapped_next, mapped_none}
 use Rattle.aadl_instance.proofs.root.first_root.Goals as goal

@@ -1,8 +1,8 @@
 use Rattle.std.proofs.Common.{◌∙◌, Some, None, sym, ap}
 use Rattle.std.specs.Prelude.{string_bytes}
-use Rattle.aadl_tree.specs.PackageViews.{placed}
-use Rattle.aadl_tree.specs.Views.{implementation_view, subcomponent_view}
-use Rattle.aadl_tree.specs.Maps.{kept_place}
+use Rattle.aadl_tree.specs.proof.PackageViews.{placed}
+use Rattle.aadl_tree.specs.proof.Views.{implementation_view, subcomponent_view}
+use Rattle.aadl_tree.specs.proof.Maps.{kept_place}
 use Rattle.aadl_names.specs.Resolving.{features_of, type_numbered, port_named}
 use Rattle.aadl_names.proofs.Stored.{view_lent, ports_there, site_there, no_site_there, no_sub_there}
 use Rattle.aadl_names.proofs.connection_ends.inner_site.Goals as goal

@@ -1,5 +1,5 @@
 use Rattle.std.proofs.Common.{sym, ◌∙◌, ap}
-use Rattle.aadl_names.specs.Earliest.{is_sooner}
+use Rattle.aadl_names.specs.proof.Earliest.{is_sooner}
 use Rattle.aadl_names.proofs.Finds.{on_ok}
 use Rattle.aadl_names.proofs.Spots.{spot_set, spot_kept}
 use Rattle.aadl_names.proofs.earliest.add_spot.Goals as goal

@@ -1,7 +1,7 @@
 use Rattle.std.proofs.Common.{ap, arith, ◌∙◌, cond, Some, None}
 use Rattle.aadl_tree.specs.Names.{same_name}
-use Rattle.aadl_names.specs.Tables.{value_of}
-use Rattle.aadl_names.specs.Earliest.{sooner, earliest}
+use Rattle.aadl_names.specs.proof.Tables.{value_of}
+use Rattle.aadl_names.specs.proof.Earliest.{sooner, earliest}
 use Rattle.aadl_names.proofs.Spots.{next_earliest, last_earliest}
 use Rattle.aadl_names.proofs.earliest.earliest_of.Goals as goal
 

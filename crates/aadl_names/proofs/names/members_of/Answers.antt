@@ -1,5 +1,5 @@
-use Rattle.aadl_tree.specs.Views.{declaration_view}
-use Rattle.aadl_tree.specs.Maps.{kept_place}
+use Rattle.aadl_tree.specs.proof.Views.{declaration_view}
+use Rattle.aadl_tree.specs.proof.Maps.{kept_place}
 use Rattle.aadl_names.proofs.Firsts.{pushed_count, next_members}
 use Rattle.aadl_names.proofs.names.members_of.Goals as goal
 

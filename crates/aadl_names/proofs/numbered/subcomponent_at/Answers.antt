@@ -1,7 +1,7 @@
 use Rattle.std.proofs.Common.{◌∙◌, ap}
 use Rattle.std.specs.Prelude.{slice_get}
-use Rattle.aadl_tree.specs.Views.{subcomponent_view}
-use Rattle.aadl_tree.specs.Maps.{kept_place}
+use Rattle.aadl_tree.specs.proof.Views.{subcomponent_view}
+use Rattle.aadl_tree.specs.proof.Maps.{kept_place}
 use Rattle.aadl_names.specs.Resolving.{subcomponents_of}
 use Rattle.aadl_names.proofs.Stored.{view_lent}
 use Rattle.aadl_names.proofs.numbered.subcomponent_at.Goals as goal

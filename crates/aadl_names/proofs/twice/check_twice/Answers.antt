@@ -1,7 +1,7 @@
 use Rattle.std.proofs.Common.{refl, sym, ap, ◌∙◌}
 use Rattle.std.specs.List.{flat_map}
-use Rattle.aadl_names.specs.Found.{found}
-use Rattle.aadl_names.specs.Earliest.{again_by}
+use Rattle.aadl_names.specs.proof.Found.{found}
+use Rattle.aadl_names.specs.proof.Earliest.{again_by}
 use Rattle.aadl_names.specs.Twice.{again}
 use Rattle.aadl_names.proofs.Finds.{next_found}
 use Rattle.aadl_names.proofs.Spots.{again-earliest}

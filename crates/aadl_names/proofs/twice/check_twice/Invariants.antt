@@ -1,6 +1,6 @@
 use Rattle.std.proofs.Common.{◌≡◌, drop}
 use Rattle.std.specs.List.{flat_map}
-use Rattle.aadl_names.specs.Found.{found}
+use Rattle.aadl_names.specs.proof.Found.{found}
 use Rattle.aadl_names.specs.Twice.{again}
 use Rattle.aadl_names.proofs.twice.check_twice.Given as goal
 

@@ -1,15 +1,15 @@
 use Rattle.std.proofs.Common.{◌∙◌, ◌∷◌, [], refl, arith}
-use Rattle.aadl_grammar.specs.Reading.{here}
+use Rattle.aadl_grammar.specs.proof.Reading.{here}
 use Rattle.aadl_grammar.proofs.Rows.{omits_unless, enters_as, along, exits, no_reads}
 use Rattle.aadl_grammar.proofs.Written.{pushed}
 use Rattle.aadl_tree.specs.Declarations.{connection_parts}
-use Rattle.aadl_tree.specs.Views.{connection_view}
-use Rattle.aadl_tree.specs.Maps.{kept_place}
+use Rattle.aadl_tree.specs.proof.Views.{connection_view}
+use Rattle.aadl_tree.specs.proof.Maps.{kept_place}
 use Rattle.aadl_grammar.proofs.Lists.{starts_at}
 use Rattle.aadl_parse.proofs.Declaring.{connection_begun}
 use Rattle.aadl_tree.specs.declared.mark.Mark.TheVariants as k
-use Rattle.aadl_grammar.specs.Symbols as s
-use Rattle.aadl_grammar.specs.Machine.{move, depth, syntax_at, deep_at}
+use Rattle.aadl_grammar.specs.proof.Symbols as s
+use Rattle.aadl_grammar.specs.proof.Machine.{move, depth, syntax_at, deep_at}
 use Rattle.aadl_parse.proofs.components.connection_list.Goals as goal
 
 pub returns-in_err-next : goal.returns-in_err-next

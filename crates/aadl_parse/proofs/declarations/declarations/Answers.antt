@@ -1,14 +1,14 @@
 use Rattle.std.proofs.Common.{◌∙◌, ◌∷◌, sym, refl, arith}
-use Rattle.aadl_grammar.specs.Reading.{here}
+use Rattle.aadl_grammar.specs.proof.Reading.{here}
 use Rattle.aadl_grammar.proofs.Rows.{takes_row, omits_unless, along, exits, no_reads}
 use Rattle.aadl_grammar.proofs.Written.{respelled, pushed, shorter, placed_at}
 use Rattle.aadl_tree.specs.Declarations.{declaration_parts}
-use Rattle.aadl_tree.specs.Views.{declaration_view}
-use Rattle.aadl_tree.specs.Maps.{kept_place}
+use Rattle.aadl_tree.specs.proof.Views.{declaration_view}
+use Rattle.aadl_tree.specs.proof.Maps.{kept_place}
 use Rattle.aadl_parse.proofs.Declaring.{declaration_moves}
 use Rattle.aadl_tree.specs.declared.mark.Mark.TheVariants as k
-use Rattle.aadl_grammar.specs.Symbols as s
-use Rattle.aadl_grammar.specs.Machine.{move, depth, syntax_at, deep_at}
+use Rattle.aadl_grammar.specs.proof.Symbols as s
+use Rattle.aadl_grammar.specs.proof.Machine.{move, depth, syntax_at, deep_at}
 use Rattle.aadl_parse.proofs.declarations.declarations.Goals as goal
 
 pub returns-in_err-rest : goal.returns-in_err-rest

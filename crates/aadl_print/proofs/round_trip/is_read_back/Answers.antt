@@ -1,7 +1,7 @@
 use Rattle.std.proofs.Common.{rules, ◌∙◌, List, ℕ, subst}
 use Rattle.std.specs.Prelude.{◌≢◌}
 use Rattle.aadl_tree.specs.Given.{IsTreeOf}
-use Rattle.aadl_tree.specs.PackageViews.{placed}
+use Rattle.aadl_tree.specs.proof.PackageViews.{placed}
 use Rattle.aadl_parse.specs.declared.fault.TextFault.TheVariants.{Memory}
 use Rattle.aadl_parse.specs.Texts.{IsFaultOfText}
 use Rattle.aadl_print.proofs.Again.{same_again, no_fault}

@@ -1,7 +1,7 @@
 use Rattle.std.proofs.Common.{◌∙◌, ◌∷◌, refl, ap, arith}
 use Rattle.aadl_tree.specs.Values.{association_parts, associations_parts, value_parts, more_values_parts}
-use Rattle.aadl_tree.specs.ValueViews.{value_view, association_view, associations_view, values_view}
-use Rattle.aadl_tree.specs.Maps.{no_place}
+use Rattle.aadl_tree.specs.proof.ValueViews.{value_view, association_view, associations_view, values_view}
+use Rattle.aadl_tree.specs.proof.Maps.{no_place}
 use Rattle.aadl_tree.specs.Parts.{plain}
 use Rattle.aadl_tree.specs.declared.mark.Mark.TheVariants as k
 use Rattle.aadl_tree.proofs.ValueViews.{view-List, view-Record, view-Reference, view-Classifier}

@@ -1,4 +1,4 @@
-use Rattle.aadl_tree.specs.Maps.{kept_place, no_place}
+use Rattle.aadl_tree.specs.proof.Maps.{kept_place, no_place}
 use Rattle.aadl_tree.proofs.Ties.Declarations.{package_tied}
 use Rattle.aadl_tree.proofs.laws.places_can_be_dropped.Goals as goal
 

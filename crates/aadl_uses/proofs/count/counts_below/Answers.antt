@@ -1,5 +1,5 @@
 use Rattle.std.proofs.Common.{◌+◌, ◌∙◌, arith, subst, sym}
-use Rattle.aadl_uses.specs.Counts.{Counted}
+use Rattle.aadl_uses.specs.proof.Counts.{Counted}
 use Rattle.aadl_uses.proofs.Searches.{contains_at}
 use Rattle.aadl_uses.proofs.Fronts.{FrontOf, no_front, front_more, front_past, front_all}
 use Rattle.aadl_uses.proofs.count.counts_below.Goals.{in-Some, in_default}

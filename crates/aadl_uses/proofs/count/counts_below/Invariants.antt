@@ -1,4 +1,4 @@
-use Rattle.aadl_uses.specs.Counts.{Counted}
+use Rattle.aadl_uses.specs.proof.Counts.{Counted}
 use Rattle.aadl_uses.proofs.Fronts.{FrontOf}
 use Rattle.aadl_uses.proofs.count.counts_below.Given as goal
 

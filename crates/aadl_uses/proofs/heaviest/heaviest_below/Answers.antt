@@ -1,7 +1,7 @@
 use Rattle.std.proofs.Common.{◌+◌, None, arith, subst, sym}
 use Rattle.aadl_uses.proofs.Searches.{contains_at}
 use Rattle.aadl_uses.proofs.Fronts.{FrontOf, front_past, front_more, front_all}
-use Rattle.aadl_uses.specs.Weights.{IsHeaviest}
+use Rattle.aadl_uses.specs.proof.Weights.{IsHeaviest}
 use Rattle.aadl_uses.proofs.heaviest.heaviest_below.Goals.{in-Some, in_default}
 use Rattle.aadl_uses.proofs.heaviest.heaviest_below.Goals as goal
 

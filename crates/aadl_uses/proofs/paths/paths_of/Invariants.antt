@@ -1,5 +1,6 @@
 use Rattle.std.proofs.Common.{map}
-use Rattle.aadl_uses.specs.Counts.{AreListed, path_before}
+use Rattle.aadl_uses.specs.proof.Counts.{AreListed}
+use Rattle.aadl_uses.specs.Threads.{path_before}
 use Rattle.aadl_uses.proofs.Counting.{Begun}
 use Rattle.aadl_uses.proofs.paths.paths_of.Given as goal
 

@@ -1,6 +1,6 @@
 use Rattle.std.proofs.Common.{get_or, ℕ}
 use Rattle.std.proofs.lemmas.List.{get_or_default}
-use Rattle.aadl_tree.specs.PackageViews.{placed}
+use Rattle.aadl_tree.specs.proof.PackageViews.{placed}
 use Rattle.aadl_uses.proofs.Cycles.{first_more}
 use Rattle.aadl_uses.proofs.recursion.first_of.Goals as goal
 

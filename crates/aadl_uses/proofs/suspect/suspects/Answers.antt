@@ -1,7 +1,7 @@
 use Rattle.std.proofs.Common.{◌≡◌, ◌<◌, ℕ, false, subst, arith, List, length}
 use Rattle.std.specs.List.{list_any}
-use Rattle.aadl_uses.specs.Graphs.{targets_in}
-use Rattle.aadl_uses.specs.Suspects.{is_above, level_in, AreSuspected}
+use Rattle.aadl_uses.specs.proof.Graphs.{targets_in}
+use Rattle.aadl_uses.specs.proof.Suspects.{is_above, level_in, AreSuspected}
 use Rattle.aadl_uses.proofs.Suspected.{suspects_more, suspects_all}
 use Rattle.aadl_uses.proofs.suspect.suspects.Goals as goal
 

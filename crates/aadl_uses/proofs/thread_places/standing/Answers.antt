@@ -1,5 +1,5 @@
 use Rattle.std.proofs.Common.{◌∙◌, sym, refl}
-use Rattle.aadl_tree.specs.PackageViews.{placed}
+use Rattle.aadl_tree.specs.proof.PackageViews.{placed}
 use Rattle.aadl_uses.proofs.Ways.{next_none}
 use Rattle.aadl_uses.proofs.thread_places.standing.Goals as goal
 

@@ -1,5 +1,5 @@
 use Rattle.std.proofs.Common.{◌≡◌, Some, reverse, take}
-use Rattle.aadl_tree.specs.PackageViews.{placed}
+use Rattle.aadl_tree.specs.proof.PackageViews.{placed}
 use Rattle.aadl_uses.specs.Uses.{standing}
 use Rattle.aadl_uses.proofs.thread_places.standing.Given as goal
 

@@ -1,4 +1,4 @@
-use Rattle.aadl_tree.specs.PackageViews.{placed}
+use Rattle.aadl_tree.specs.proof.PackageViews.{placed}
 use Rattle.aadl_uses.proofs.Ways.{Along}
 use Rattle.aadl_uses.proofs.thread_places.thread_at.Given as goal
 

@@ -1,5 +1,5 @@
 use Rattle.std.proofs.Common.{◌≡◌, map, reverse, take}
-use Rattle.aadl_tree.specs.PackageViews.{placed}
+use Rattle.aadl_tree.specs.proof.PackageViews.{placed}
 use Rattle.aadl_uses.specs.ThreadPlaces.{thread_at}
 use Rattle.aadl_uses.proofs.thread_places.threads_at.Given as goal
 

@@ -1,9 +1,9 @@
 use Rattle.std.proofs.Common.{◌∙◌, ap, sym, map, List}
-use Rattle.aadl_tree.specs.PackageViews.{placed}
-use Rattle.aadl_tree.specs.Maps.{kept_place}
-use Rattle.aadl_tree.specs.Views.{declaration_view, subcomponent_view}
+use Rattle.aadl_tree.specs.proof.PackageViews.{placed}
+use Rattle.aadl_tree.specs.proof.Maps.{kept_place}
+use Rattle.aadl_tree.specs.proof.Views.{declaration_view, subcomponent_view}
 use Rattle.aadl_names.specs.Resolving.{referred}
-use Rattle.aadl_uses.specs.Uses.{targets_in}
+use Rattle.aadl_uses.specs.proof.Uses.{targets_in}
 use Rattle.aadl_uses.proofs.Containing.{ok_items}
 use Rattle.aadl_uses.proofs.uses.targets_of.Goals as goal
 

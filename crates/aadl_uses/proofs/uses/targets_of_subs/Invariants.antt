@@ -1,7 +1,7 @@
 use Rattle.std.proofs.Common.{◌≡◌, map, take}
-use Rattle.aadl_tree.specs.PackageViews.{placed}
-use Rattle.aadl_tree.specs.Maps.{kept_place}
-use Rattle.aadl_tree.specs.Views.{subcomponent_view}
+use Rattle.aadl_tree.specs.proof.PackageViews.{placed}
+use Rattle.aadl_tree.specs.proof.Maps.{kept_place}
+use Rattle.aadl_tree.specs.proof.Views.{subcomponent_view}
 use Rattle.aadl_names.specs.Resolving.{referred}
 use Rattle.aadl_uses.proofs.uses.targets_of_subs.Given as goal
 

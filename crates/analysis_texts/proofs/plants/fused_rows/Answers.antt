@@ -1,7 +1,7 @@
 use Rattle.std.proofs.Common.{rules, ◌≡◌, ◌∙◌, ◌++◌, length, take, drop, sym, ap, arith}
 use Rattle.pals_model.specs.declared.design.DesignParts.{DesignParts}
 use Rattle.pals_model.specs.Inputs.{values_at}
-use Rattle.pals_report.specs.TapPlaces.{tap_places}
+use Rattle.pals_report.specs.proof.TapPlaces.{tap_places}
 use Rattle.analysis_texts.proofs.FusedRows.{rows_begin, rows_next, rows_are}
 use Rattle.analysis_texts.proofs.Rounds.{written_whole, length_values_at}
 use Rattle.analysis_texts.proofs.plants.fused_rows.Goals as goal

@@ -1,5 +1,5 @@
 use Rattle.std.proofs.Common.{◌≡◌, ap, ◌∙◌, refl}
-use Rattle.sync_product.specs.State.{ProductState, advanced}
+use Rattle.sync_product.specs.proof.State.{ProductState, advanced}
 use Rattle.analysis_texts.proofs.Rounds.{further, row_after}
 use Rattle.analysis_texts.proofs.properties.go_on.Goals as goal
 

@@ -2,7 +2,7 @@ use Rattle.std.proofs.Common.{rules, refl, ◌≡◌, ◌<◌, ◌+◌, ◌++◌
 use Rattle.pals_model.specs.Composition.{comp}
 use Rattle.pals_model.specs.Inputs.{values_at}
 use Rattle.pals_model.specs.RoundTexts.{text_of}
-use Rattle.run_monitor.specs.Lists.{HasWatched}
+use Rattle.run_monitor.specs.proof.Lists.{HasWatched}
 use Rattle.run_monitor.specs.Texts.{watched_lines, watched_rows}
 use Rattle.run_monitor.specs.Violations.{history, violation, is_violated}
 use Rattle.analysis_texts.specs.Watched.{named, formulas}

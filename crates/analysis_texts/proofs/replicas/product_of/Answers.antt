@@ -5,7 +5,7 @@ use Rattle.pals_base.specs.Steps.{upwards}
 use Rattle.pals_model.specs.declared.design.Component.{Component}
 use Rattle.pals_model.specs.declared.design.DesignParts.{DesignParts}
 use Rattle.analysis_fields.specs.Replicas.{is_among}
-use Rattle.triple_vote.specs.States.{VotedState, vbegun}
+use Rattle.triple_vote.specs.proof.States.{VotedState, vbegun}
 use Rattle.analysis_texts.specs.Voted.{replicated_in}
 use Rattle.analysis_texts.proofs.Filing.{length-table}
 use Rattle.analysis_texts.proofs.replicas.product_of.Goals as goal

@@ -4,12 +4,12 @@ use Rattle.std.proofs.lemmas.List.{length-map}
 use Rattle.pals_model.specs.declared.design.DesignParts.{DesignParts}
 use Rattle.pals_model.specs.Inputs.{values_at}
 use Rattle.pals_runs.specs.declared.pairs.VoteFault.{VoteFault}
-use Rattle.triple_vote.specs.Laws.{IsFault}
+use Rattle.triple_vote.specs.proof.Laws.{IsFault}
 use Rattle.triple_vote.specs.Replicas.{vcomp, vshown_by}
-use Rattle.triple_vote.specs.States.{VotedState, vadvanced}
+use Rattle.triple_vote.specs.proof.States.{VotedState, vadvanced}
 use Rattle.triple_vote.specs.Texts.{vreport}
 use Rattle.triple_vote.proofs.Tables.{table-at}
-use Rattle.analysis_texts.specs.Voted.{all_names}
+use Rattle.analysis_texts.specs.proof.Voted.{all_names}
 use Rattle.analysis_texts.proofs.Rounds.{written_whole, length_values_at}
 use Rattle.analysis_texts.proofs.VotedRows.{MakesRound, voted_more}
 use Rattle.analysis_texts.proofs.replicas.rows.Goals as goal

@@ -1,7 +1,7 @@
 use Rattle.std.proofs.Common.{◌≡◌, ◌∙◌, All, IfOk, sym, ap, subst}
 use Rattle.pals_model.specs.declared.design.DesignParts.{DesignParts}
-use Rattle.analysis_fields.specs.AnalysisFacts.{IsFaultOf}
-use Rattle.triple_vote.specs.States.{VotedState, vbegun}
+use Rattle.analysis_fields.specs.proof.AnalysisFacts.{IsFaultOf}
+use Rattle.triple_vote.specs.proof.States.{VotedState, vbegun}
 use Rattle.triple_vote.specs.Texts.{vreport}
 use Rattle.analysis_texts.specs.Voted.{replicated_in, faults_of}
 use Rattle.analysis_texts.proofs.replicas.vote.Goals as goal

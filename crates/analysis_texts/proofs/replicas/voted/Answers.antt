@@ -3,9 +3,10 @@ use Rattle.std.proofs.lemmas.Result.{IfOk-weaker}
 use Rattle.pals_base.specs.Steps.{upwards}
 use Rattle.pals_model.specs.declared.design.DesignParts.{DesignParts}
 use Rattle.triple_vote.specs.Replicas.{vopening}
-use Rattle.triple_vote.specs.States.{VotedState}
+use Rattle.triple_vote.specs.proof.States.{VotedState}
 use Rattle.triple_vote.specs.Texts.{vreport}
-use Rattle.analysis_texts.specs.Voted.{replicated_in, faults_of, all_names}
+use Rattle.analysis_texts.specs.Voted.{replicated_in, faults_of}
+use Rattle.analysis_texts.specs.proof.Voted.{all_names}
 use Rattle.analysis_texts.proofs.Filing.{length-table}
 use Rattle.analysis_texts.proofs.VotedFaults.{rounds_keep}
 use Rattle.analysis_texts.proofs.replicas.voted.Goals as goal

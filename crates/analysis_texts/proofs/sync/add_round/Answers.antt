@@ -1,7 +1,7 @@
 use Rattle.std.proofs.Common.{◌≡◌, ◌++◌, OnOk, refl, ap, ◌∙◌, sym, subst}
 use Rattle.pals_model.specs.Composition.{comp}
 use Rattle.pals_model.specs.RoundTexts.{row}
-use Rattle.sync_product.specs.State.{ProductState, advanced}
+use Rattle.sync_product.specs.proof.State.{ProductState, advanced}
 use Rattle.analysis_texts.proofs.Rounds.{on_ok, further, parts_after}
 use Rattle.analysis_texts.proofs.sync.add_round.Goals as goal
 

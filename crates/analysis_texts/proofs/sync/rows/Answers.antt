@@ -3,7 +3,7 @@ use Rattle.pals_model.specs.declared.design.DesignParts.{DesignParts}
 use Rattle.pals_model.specs.Composition.{comp}
 use Rattle.pals_model.specs.Inputs.{values_at}
 use Rattle.pals_model.specs.RoundTexts.{row, report}
-use Rattle.pals_report.specs.TapPlaces.{tap_places}
+use Rattle.pals_report.specs.proof.TapPlaces.{tap_places}
 use Rattle.analysis_texts.proofs.Rounds.{written_whole, length_values_at, report_more}
 use Rattle.analysis_texts.proofs.sync.rows.Goals as goal
 

@@ -5,15 +5,15 @@ use mir.Syntax.{w64}
 use mir.Val.{SFits, to_z, of_z}
 use Rattle.pals_base.specs.Kinds as base
 use Rattle.pals_base.specs.Tree.{For}
-use Rattle.pals_base.specs.Seen.{actions_along}
+use Rattle.pals_base.specs.proof.Seen.{actions_along}
 use Rattle.pals_base.proofs.Trees.{action_of-If, action_of-For}
 use Rattle.aadl_tree.specs.declared.actions.Action.TheViews.{out-Actions, out-Choice, out-Loop}
-use Rattle.aadl_tree.specs.Maps.{kept_place}
-use Rattle.aadl_tree.specs.NameViews.{identifier_view, reference_view}
-use Rattle.aadl_tree.specs.ExpressionViews.{expression_view}
+use Rattle.aadl_tree.specs.proof.Maps.{kept_place}
+use Rattle.aadl_tree.specs.proof.NameViews.{identifier_view, reference_view}
+use Rattle.aadl_tree.specs.proof.ExpressionViews.{expression_view}
 use Rattle.std.specs.Prelude.{option_map}
 use Rattle.aadl_tree.specs.Actions.{actions, choose}
-use Rattle.aadl_tree.specs.ActionViews.{action_view, actions_view, block_view, mores_view, elsifs_view, otherwise_of as listed_otherwise}
+use Rattle.aadl_tree.specs.proof.ActionViews.{action_view, actions_view, block_view, mores_view, elsifs_view, otherwise_of as listed_otherwise}
 use Rattle.aadl_tree.proofs.ActionViews.{view-Assign, view-Send, view-If, view-For, view-out-choice, view-out-loop}
 use Rattle.annex_resolve.specs.Scopes.{entry_named}
 use Rattle.annex_resolve.proofs.Views.{view-out-actions, view-out-block}

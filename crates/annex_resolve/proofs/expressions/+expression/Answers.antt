@@ -6,8 +6,8 @@ use Rattle.pals_base.specs.Tree.{Literal}
 use Rattle.std.specs.Option.{is_some}
 use Rattle.std.proofs.lemmas.Bool.{true≢false}
 use Rattle.aadl_tree.specs.declared.expressions.Factor.TheViews.{out-Expression, out-Sum, out-Relation, out-Term}
-use Rattle.aadl_tree.specs.Maps.{kept_place}
-use Rattle.aadl_tree.specs.ExpressionViews.{primary_view, factor_view, term_view, sum_view, relation_view}
+use Rattle.aadl_tree.specs.proof.Maps.{kept_place}
+use Rattle.aadl_tree.specs.proof.ExpressionViews.{primary_view, factor_view, term_view, sum_view, relation_view}
 use Rattle.aadl_tree.proofs.ExpressionViews.{view-Whole, view-Truth, view-Group, view-Abs, view-Not, view-Plain, view-out-expression, view-out-sum, view-out-relation}
 use Rattle.annex_resolve.proofs.Views.{view-out-term}
 use Rattle.annex_resolve.proofs.Chains.{empty_by, some_by, none_by}

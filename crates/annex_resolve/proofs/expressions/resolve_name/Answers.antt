@@ -1,6 +1,6 @@
 use Rattle.std.proofs.Common.{ap, ◌∙◌, refl, ◌++◌, ◌∷◌, []}
-use Rattle.aadl_tree.specs.Maps.{kept_place}
-use Rattle.aadl_tree.specs.NameViews.{identifier_view}
+use Rattle.aadl_tree.specs.proof.Maps.{kept_place}
+use Rattle.aadl_tree.specs.proof.NameViews.{identifier_view}
 use Rattle.annex_resolve.specs.Scopes.{entry_named}
 use Rattle.annex_resolve.proofs.Reading.{name_read, name_unread}
 use Rattle.annex_resolve.proofs.expressions.resolve_name.Goals as goal

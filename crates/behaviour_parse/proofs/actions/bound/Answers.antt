@@ -1,14 +1,14 @@
 use mir.Syntax.{w64}
 use mir.Val.{to_z, of_z, SFits}
 use Rattle.std.proofs.Common.{◌≡◌, ◌∙◌, ◌∷◌, [], ap, sym, arith}
-use Rattle.aadl_grammar.specs.Reading.{here}
+use Rattle.aadl_grammar.specs.proof.Reading.{here}
 use Rattle.aadl_grammar.proofs.Written.{nothing, then, told, respelled, flagged}
 use Rattle.std.proofs.Common.{rules, to_z-of_z}
 use Rattle.aadl_tree.specs.Parts.{token}
 use Rattle.aadl_tree.specs.Kinds.{whole}
 use Rattle.behaviour_parse.proofs.Acting.{bound_runs, bound_refuses}
 use Rattle.aadl_tree.specs.declared.mark.Mark.TheVariants as k
-use Rattle.aadl_grammar.specs.Machine.{move, depth, syntax_at}
+use Rattle.aadl_grammar.specs.proof.Machine.{move, depth, syntax_at}
 use Rattle.behaviour_parse.proofs.actions.bound.Goals as goal
 
 pub returns-in-Some : goal.returns-in-Some

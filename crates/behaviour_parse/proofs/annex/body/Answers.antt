@@ -1,8 +1,8 @@
 use Rattle.std.proofs.Common.{◌∙◌, ◌∷◌, arith}
 use Rattle.aadl_grammar.proofs.Rows.{along, exits, no_reads}
 use Rattle.aadl_grammar.proofs.Written.{then}
-use Rattle.aadl_grammar.specs.Symbols as s
-use Rattle.aadl_grammar.specs.Machine.{move, depth}
+use Rattle.aadl_grammar.specs.proof.Symbols as s
+use Rattle.aadl_grammar.specs.proof.Machine.{move, depth}
 use Rattle.behaviour_parse.proofs.annex.body.Goals as goal
 
 pub returns-in_err-variables : goal.returns-in_err-variables

@@ -1,11 +1,11 @@
 use Rattle.std.proofs.Common.{◌∙◌, ◌∷◌, [], refl, arith}
-use Rattle.aadl_grammar.specs.Reading.{here}
+use Rattle.aadl_grammar.specs.proof.Reading.{here}
 use Rattle.aadl_grammar.proofs.Rows.{takes_row, omits_unless, before_closer, misses_at, along, exits, no_reads, only_takes}
 use Rattle.aadl_grammar.proofs.Written.{nothing, then, marked}
-use Rattle.aadl_grammar.specs.Table.{on, rows}
+use Rattle.aadl_grammar.specs.proof.Table.{on, rows}
 use Rattle.aadl_tree.specs.declared.mark.Mark.TheVariants as k
-use Rattle.aadl_grammar.specs.Symbols as s
-use Rattle.aadl_grammar.specs.Machine.{move, depth}
+use Rattle.aadl_grammar.specs.proof.Symbols as s
+use Rattle.aadl_grammar.specs.proof.Machine.{move, depth}
 use Rattle.behaviour_parse.proofs.annex.guard.Goals as goal
 
 pub returns-in-Some : goal.returns-in-Some

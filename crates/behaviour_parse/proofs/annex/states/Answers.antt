@@ -1,9 +1,9 @@
 use Rattle.std.proofs.Common.{◌∙◌, refl, arith}
-use Rattle.aadl_grammar.specs.Reading.{here}
+use Rattle.aadl_grammar.specs.proof.Reading.{here}
 use Rattle.aadl_grammar.proofs.Rows.{takes_row, omits_unless, along, exits, no_reads}
 use Rattle.aadl_grammar.proofs.Written.{nothing, marked}
-use Rattle.aadl_grammar.specs.Symbols as s
-use Rattle.aadl_grammar.specs.Machine.{move, depth}
+use Rattle.aadl_grammar.specs.proof.Symbols as s
+use Rattle.aadl_grammar.specs.proof.Machine.{move, depth}
 use Rattle.behaviour_parse.proofs.annex.states.Goals as goal
 
 pub returns-in_default : goal.returns-in_default

@@ -4,17 +4,17 @@ use Rattle.aadl_tree.specs.Parts.{plain, behind, parts_if}
 use Rattle.aadl_tree.specs.Names.{identifier_parts}
 use Rattle.aadl_tree.specs.Actions.{block_parts}
 use Rattle.aadl_tree.specs.Annexes.{guard_parts, label_parts}
-use Rattle.aadl_tree.specs.NameViews.{identifier_view}
-use Rattle.aadl_tree.specs.ActionViews.{block_view}
-use Rattle.aadl_tree.specs.Views.{guard_view}
-use Rattle.aadl_tree.specs.Maps.{kept_place}
-use Rattle.aadl_grammar.specs.Reading.{here}
+use Rattle.aadl_tree.specs.proof.NameViews.{identifier_view}
+use Rattle.aadl_tree.specs.proof.ActionViews.{block_view}
+use Rattle.aadl_tree.specs.proof.Views.{guard_view}
+use Rattle.aadl_tree.specs.proof.Maps.{kept_place}
+use Rattle.aadl_grammar.specs.proof.Reading.{here}
 use Rattle.aadl_grammar.proofs.Rows.{begins_as, along, exits, no_reads}
 use Rattle.aadl_grammar.proofs.Written.{then, respelled}
 use Rattle.behaviour_parse.proofs.Declaring.{departed}
 use Rattle.aadl_tree.specs.declared.mark.Mark.TheVariants as k
-use Rattle.aadl_grammar.specs.Symbols as s
-use Rattle.aadl_grammar.specs.Machine.{move, depth}
+use Rattle.aadl_grammar.specs.proof.Symbols as s
+use Rattle.aadl_grammar.specs.proof.Machine.{move, depth}
 use Rattle.behaviour_parse.proofs.annex.transition.Goals as goal
 
 pub returns-in_err-first : goal.returns-in_err-first

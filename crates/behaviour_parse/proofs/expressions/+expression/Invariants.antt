@@ -1,11 +1,11 @@
 use Rattle.std.proofs.Common.{◌≡◌, ℕ, ◌+◌, ◌*◌, ◌∷◌, ◌++◌, length}
 use Rattle.aadl_tree.specs.Expressions.{factor_parts, factors_parts, term_parts, terms_parts, relation_parts, relations_parts}
-use Rattle.aadl_tree.specs.ExpressionViews.{factor_view, factors_view, term_view, terms_view, relation_view, relations_view}
-use Rattle.aadl_tree.specs.Maps.{kept_place}
+use Rattle.aadl_tree.specs.proof.ExpressionViews.{factor_view, factors_view, term_view, terms_view, relation_view, relations_view}
+use Rattle.aadl_tree.specs.proof.Maps.{kept_place}
 use Rattle.aadl_tree.specs.declared.limits.TheConstants.{GREATEST_NESTING}
-use Rattle.aadl_grammar.specs.Symbols as s
-use Rattle.aadl_grammar.specs.Machine.{Stack, depth, fate}
-use Rattle.aadl_grammar.specs.Reading.{here, Reads}
+use Rattle.aadl_grammar.specs.proof.Symbols as s
+use Rattle.aadl_grammar.specs.proof.Machine.{Stack, depth, fate}
+use Rattle.aadl_grammar.specs.proof.Reading.{here, Reads}
 use Rattle.behaviour_parse.proofs.expressions.+expression.Given as goal
 
 abbrev pub decreases-primary : goal.decreases-primary

@@ -4,10 +4,10 @@ use mir.Val.{SFits}
 use Rattle.pals_base.specs.Actions.{Effect, act, acts, act_first, for_each, numbers}
 use Rattle.pals_base.specs.Fire.{is_present}
 use Rattle.pals_base.specs.Tree.{For}
-use Rattle.pals_base.specs.Seen.{action_of, actions_along, branches_along}
-use Rattle.behaviour_sem.specs.Senses.{frame_of}
-use Rattle.behaviour_sem.specs.Left.{Left, Chose}
-use Rattle.behaviour_sem.specs.Runs.{effect}
+use Rattle.pals_base.specs.proof.Seen.{action_of, actions_along, branches_along}
+use Rattle.behaviour_sem.specs.proof.Senses.{frame_of}
+use Rattle.behaviour_sem.specs.proof.Left.{Left, Chose}
+use Rattle.behaviour_sem.specs.proof.Runs.{effect}
 use Rattle.behaviour_sem.proofs.Branches.{act-If, act-For, turn_after, Left-chose-err, numbers-none, for_each-more}
 use Rattle.behaviour_sem.proofs.actions.+run.Goals as goal
 

@@ -3,9 +3,9 @@ use Rattle.std.specs.Prelude.{Result}
 use Rattle.pals_base.specs.declared.values.Trap.{Trap}
 use Rattle.pals_base.specs.Actions.{Effect, acts, act_first, for_each, numbers}
 use Rattle.pals_base.specs.Fire.{is_present}
-use Rattle.pals_base.specs.Seen.{actions_along, branches_along}
-use Rattle.behaviour_sem.specs.Senses.{frame_of}
-use Rattle.behaviour_sem.specs.Runs.{effect}
+use Rattle.pals_base.specs.proof.Seen.{actions_along, branches_along}
+use Rattle.behaviour_sem.specs.proof.Senses.{frame_of}
+use Rattle.behaviour_sem.specs.proof.Runs.{effect}
 use Rattle.behaviour_sem.proofs.Branches.{turn_after}
 use Rattle.behaviour_sem.proofs.actions.+run.Given as goal
 

@@ -3,8 +3,8 @@ use Rattle.pals_base.specs.declared.values.Frame.{Frame}
 use Rattle.pals_base.specs.declared.values.Port.{Port}
 use Rattle.pals_base.specs.declared.values.Port.TheVariants.{Absent}
 use Rattle.pals_base.specs.Fire.{Fired, holding, is_present}
-use Rattle.behaviour_sem.specs.Left.{Left}
-use Rattle.behaviour_sem.specs.Leads.{reacted}
+use Rattle.behaviour_sem.specs.proof.Left.{Left}
+use Rattle.behaviour_sem.specs.proof.Leads.{reacted}
 use Rattle.behaviour_sem.proofs.Ends.{with_held, fire-halted, fire-reacted}
 use Rattle.behaviour_sem.proofs.step.fire_into.Goals as goal
 

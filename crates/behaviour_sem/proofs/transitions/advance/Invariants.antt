@@ -2,7 +2,7 @@ use Rattle.std.proofs.Common.{◌≡◌, drop, map}
 use Rattle.std.specs.Prelude.{filter, nat_eq}
 use Rattle.pals_base.specs.Tree.{Edge}
 use Rattle.pals_base.specs.Fire.{first_open, is_present}
-use Rattle.behaviour_sem.specs.Leads.{fired}
+use Rattle.behaviour_sem.specs.proof.Leads.{fired}
 use Rattle.behaviour_sem.proofs.transitions.advance.Given as goal
 
 -- nothing has changed, and no guard so far was true

@@ -3,11 +3,11 @@ use Rattle.std.specs.Prelude.{Some}
 use Rattle.pals_base.specs.Actions.{acts}
 use Rattle.pals_base.specs.Fire.{along}
 use Rattle.pals_base.specs.Tree.{Edge}
-use Rattle.pals_base.specs.Seen.{actions_along}
-use Rattle.behaviour_sem.specs.Senses.{frame_of, fresh}
-use Rattle.behaviour_sem.specs.Left.{Left}
-use Rattle.behaviour_sem.specs.Runs.{effect}
-use Rattle.behaviour_sem.specs.Leads.{fired}
+use Rattle.pals_base.specs.proof.Seen.{actions_along}
+use Rattle.behaviour_sem.specs.proof.Senses.{frame_of, fresh}
+use Rattle.behaviour_sem.specs.proof.Left.{Left}
+use Rattle.behaviour_sem.specs.proof.Runs.{effect}
+use Rattle.behaviour_sem.specs.proof.Leads.{fired}
 use Rattle.behaviour_sem.proofs.Moves.{along-ran, along-stops}
 use Rattle.behaviour_sem.proofs.transitions.follow.Goals as goal
 

@@ -2,9 +2,9 @@ use Rattle.std.proofs.Common.{◌≡◌, ◌∙◌, ◌+◌, ◌-◌, suc, lengt
 use Rattle.std.specs.Prelude.{slice_get}
 use Rattle.pals_base.specs.Expressions.{on_value}
 use Rattle.pals_base.specs.Fire.{is_present, is_complete, completes, settled}
-use Rattle.behaviour_sem.specs.Left.{Left}
-use Rattle.behaviour_sem.specs.Goes.{move}
-use Rattle.behaviour_sem.specs.Leads.{fired}
+use Rattle.behaviour_sem.specs.proof.Left.{Left}
+use Rattle.behaviour_sem.specs.proof.Goes.{move}
+use Rattle.behaviour_sem.specs.proof.Leads.{fired}
 use Rattle.behaviour_sem.proofs.Moves.{Left-stops, settled-more}
 use Rattle.behaviour_sem.proofs.transitions.settle.Goals as goal
 

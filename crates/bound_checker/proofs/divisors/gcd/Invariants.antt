@@ -1,5 +1,5 @@
 use Rattle.std.proofs.Common.{ℕ}
-use Rattle.bound_checker.specs.Divisors.{IsGreatestDivisor}
+use Rattle.bound_checker.specs.proof.Divisors.{IsGreatestDivisor}
 use Rattle.bound_checker.proofs.divisors.gcd.Given as goal
 
 abbrev pub invariant-loop-low : goal.invariant-loop-low

@@ -1,7 +1,7 @@
 use Rattle.std.proofs.Common.{◌+◌, ◌∷◌, [], ◌++◌, take, get_or, min, sym, subst}
 use Rattle.std.proofs.lemmas.List.{take_more}
 use Rattle.pals_base.specs.declared.limits.TheConstants.{HOUR}
-use Rattle.bound_checker.specs.Divisors.{HasMultiplesOf, IsLeastCommon}
+use Rattle.bound_checker.specs.proof.Divisors.{HasMultiplesOf, IsLeastCommon}
 use Rattle.bound_checker.proofs.Multiples.{multiples_of_more}
 use Rattle.bound_checker.proofs.multiple.common_multiple.Goals as goal
 

@@ -1,7 +1,7 @@
 use Rattle.std.proofs.Common.{◌≡◌, sym, ap, ◌∙◌}
 use Rattle.aadl_tree.specs.Canon.{canon}
-use Rattle.aadl_tree.specs.Maps.{no_place, kept_place}
-use Rattle.aadl_tree.specs.PackageViews.{placed}
+use Rattle.aadl_tree.specs.proof.Maps.{no_place, kept_place}
+use Rattle.aadl_tree.specs.proof.PackageViews.{placed}
 use Rattle.aadl_tree.proofs.Ties.Declarations.{package_tied}
 use Rattle.aadl_grammar.proofs.Reading.{canon_of}
 use Rattle.bundle_designs.proofs.printed.print_bundle.Goals as goal

@@ -1,5 +1,5 @@
 use Rattle.std.proofs.Common.{sym, ◌∙◌}
-use Rattle.aadl_tree.specs.PackageViews.{placed}
+use Rattle.aadl_tree.specs.proof.PackageViews.{placed}
 use Rattle.aadl_names.specs.declared.holder.Property.TheVariants.{Skew, Execution, Network}
 use Rattle.component_checks.specs.Times.{time_at, range_at}
 use Rattle.component_checks.specs.Roots.{at_root}

@@ -1,9 +1,9 @@
 use Rattle.std.proofs.Common.{[], ◌∷◌, ◌∙◌, sym, ap}
-use Rattle.aadl_tree.specs.Maps.{kept_place}
-use Rattle.aadl_tree.specs.PackageViews.{placed}
-use Rattle.aadl_tree.specs.ValueViews.{associations_view}
-use Rattle.aadl_tree.specs.Views.{declaration_view, implementation_view}
-use Rattle.component_checks.specs.Timed.{own_timed, timed_by}
+use Rattle.aadl_tree.specs.proof.Maps.{kept_place}
+use Rattle.aadl_tree.specs.proof.PackageViews.{placed}
+use Rattle.aadl_tree.specs.proof.ValueViews.{associations_view}
+use Rattle.aadl_tree.specs.proof.Views.{declaration_view, implementation_view}
+use Rattle.component_checks.specs.proof.Timed.{own_timed, timed_by}
 use Rattle.component_checks.proofs.Saying.{own_is}
 use Rattle.component_checks.proofs.timed_lists.own_of.Goals as goal
 

@@ -1,6 +1,6 @@
 use Rattle.std.proofs.Common.{refl}
-use Rattle.aadl_tree.specs.ValueViews.{association_view, associations_view}
-use Rattle.aadl_tree.specs.Maps.{kept_place}
+use Rattle.aadl_tree.specs.proof.ValueViews.{association_view, associations_view}
+use Rattle.aadl_tree.specs.proof.Maps.{kept_place}
 use Rattle.component_checks.specs.Times.{counted_big, list_big}
 use Rattle.component_checks.proofs.Added.{next_added}
 use Rattle.component_checks.proofs.times.add_list_big.Goals as goal

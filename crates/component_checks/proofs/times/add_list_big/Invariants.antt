@@ -1,6 +1,6 @@
 use Rattle.std.proofs.Common.{◌≡◌, ◌++◌, drop}
-use Rattle.aadl_tree.specs.ValueViews.{associations_view}
-use Rattle.aadl_tree.specs.Maps.{kept_place}
+use Rattle.aadl_tree.specs.proof.ValueViews.{associations_view}
+use Rattle.aadl_tree.specs.proof.Maps.{kept_place}
 use Rattle.component_checks.specs.Times.{list_big}
 use Rattle.component_checks.proofs.times.add_list_big.Given as goal
 

@@ -1,4 +1,4 @@
-use Rattle.aadl_tree.specs.PackageViews.{placed}
+use Rattle.aadl_tree.specs.proof.PackageViews.{placed}
 use Rattle.design_laws.proofs.Accepted.{keeps_rules, is_there, within_bound}
 use Rattle.design_laws.proofs.packages.designs_keep_their_rules.Goals as goal
 

@@ -1,7 +1,7 @@
 use Rattle.std.proofs.Common.{◌-◌, ◌≡◌, ◌≤◌, Bool, true, false, length}
 use Rattle.std.specs.List.{AllWithin}
 use Rattle.std.specs.List.Sorted.{IsPartitionedBy}
-use Rattle.link_buffers.specs.Halving.{IsTest}
+use Rattle.link_buffers.specs.proof.Halving.{IsTest}
 use Rattle.link_buffers.proofs.halving.partition_point.Given as goal
 
 -- the items ahead of the low place pass, and those from the high one on fail

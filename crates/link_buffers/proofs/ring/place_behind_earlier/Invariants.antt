@@ -1,5 +1,5 @@
 use Rattle.std.proofs.Common.{◌-◌, ◌≤◌, length}
-use Rattle.link_buffers.specs.Rings.{AreBelow}
+use Rattle.link_buffers.specs.proof.Rings.{AreBelow}
 use Rattle.link_buffers.proofs.ring.place_behind_earlier.Given as goal
 
 -- the copies ahead of the low place are of earlier rounds

@@ -1,6 +1,6 @@
 use Rattle.std.proofs.Common.{◌∙◌, subst, sym}
 use Rattle.std.proofs.lemmas.List.Elements.{All-get_or}
-use Rattle.aadl_tree.specs.PackageViews.{placed}
+use Rattle.aadl_tree.specs.proof.PackageViews.{placed}
 use Rattle.design_laws.specs.Designs.{HasRules, component_in}
 use Rattle.model_checks.proofs.Wholes.{one_more, one_missing}
 use Rattle.model_checks.proofs.design.components.Goals as goal

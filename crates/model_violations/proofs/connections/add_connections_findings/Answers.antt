@@ -1,10 +1,10 @@
 use Rattle.std.proofs.Common.{◌<◌, ◌∙◌, length, get_or, ap, arith}
-use Rattle.aadl_tree.specs.Views.{connection_view, implementation_view}
-use Rattle.aadl_tree.specs.Maps.{kept_place}
+use Rattle.aadl_tree.specs.proof.Views.{connection_view, implementation_view}
+use Rattle.aadl_tree.specs.proof.Maps.{kept_place}
 use Rattle.aadl_names.specs.Resolving.{implementation_in}
 use Rattle.model_violations.specs.Carriers.{carries}
 use Rattle.model_violations.specs.Connections.{connection_findings}
-use Rattle.model_violations.specs.Known.{tree_of}
+use Rattle.model_violations.specs.proof.Known.{tree_of}
 use Rattle.component_checks.proofs.Numbered.{one_more}
 use Rattle.model_violations.proofs.connections.add_connections_findings.Goals as goal
 

@@ -1,11 +1,11 @@
 use Rattle.std.proofs.Common.{◌≡◌, ◌++◌, map, take}
 use Rattle.std.specs.Prelude.{flat_map}
 use Rattle.std.specs.List.{enumerate_from}
-use Rattle.aadl_tree.specs.Views.{connection_view, implementation_view}
-use Rattle.aadl_tree.specs.Maps.{kept_place}
+use Rattle.aadl_tree.specs.proof.Views.{connection_view, implementation_view}
+use Rattle.aadl_tree.specs.proof.Maps.{kept_place}
 use Rattle.model_violations.specs.Carriers.{carries}
 use Rattle.model_violations.specs.Connections.{connection_findings}
-use Rattle.model_violations.specs.Known.{tree_of}
+use Rattle.model_violations.specs.proof.Known.{tree_of}
 use Rattle.model_violations.proofs.connections.add_connections_findings.Given as goal
 
 abbrev pub invariant-loop-at : goal.invariant-loop-at

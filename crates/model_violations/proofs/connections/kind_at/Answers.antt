@@ -1,9 +1,9 @@
 use Rattle.std.proofs.Common.{◌∙◌, sym, ap, option_map, slice_get}
-use Rattle.aadl_tree.specs.Maps.{kept_place}
-use Rattle.aadl_tree.specs.NameViews.{identifier_view}
-use Rattle.aadl_tree.specs.Views.{end_view}
-use Rattle.aadl_names.specs.Members.{member_of}
-use Rattle.model_violations.specs.Known.{tree_of}
+use Rattle.aadl_tree.specs.proof.Maps.{kept_place}
+use Rattle.aadl_tree.specs.proof.NameViews.{identifier_view}
+use Rattle.aadl_tree.specs.proof.Views.{end_view}
+use Rattle.aadl_names.specs.proof.Members.{member_of}
+use Rattle.model_violations.specs.proof.Known.{tree_of}
 use Rattle.model_violations.proofs.Ends.{if_ok, own_is, inner_is, none_is}
 use Rattle.model_violations.proofs.connections.kind_at.Goals as goal
 

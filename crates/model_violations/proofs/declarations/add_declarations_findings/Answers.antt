@@ -1,13 +1,13 @@
 use Rattle.std.proofs.Common.{◌<◌, ◌∙◌, length, get_or, refl, ap, arith}
 use Rattle.std.specs.Prelude.{option_map}
 use Rattle.std.proofs.lemmas.Option.{slice_get-map, slice_get_read}
-use Rattle.aadl_tree.specs.Maps.{kept_place}
-use Rattle.aadl_tree.specs.Views.{declaration_view}
+use Rattle.aadl_tree.specs.proof.Maps.{kept_place}
+use Rattle.aadl_tree.specs.proof.Views.{declaration_view}
 use Rattle.model_violations.specs.Carriers.{carries}
 use Rattle.component_checks.proofs.Numbered.{one_more}
 use Rattle.model_violations.specs.Use.{has}
 use Rattle.model_violations.specs.Declarations.{declaration_findings}
-use Rattle.model_violations.specs.Known.{tree_of}
+use Rattle.model_violations.specs.proof.Known.{tree_of}
 use Rattle.model_violations.proofs.declarations.add_declarations_findings.Goals as goal
 
 pub add_declaration_findings-requires-clause-number : goal.add_declaration_findings-requires-clause-number

@@ -1,12 +1,12 @@
 use Rattle.std.proofs.Common.{◌≡◌, ◌++◌, map, take}
 use Rattle.std.specs.Prelude.{flat_map}
 use Rattle.std.specs.List.{enumerate_from}
-use Rattle.aadl_tree.specs.Views.{declaration_view}
-use Rattle.aadl_tree.specs.Maps.{kept_place}
+use Rattle.aadl_tree.specs.proof.Views.{declaration_view}
+use Rattle.aadl_tree.specs.proof.Maps.{kept_place}
 use Rattle.model_violations.specs.Carriers.{carries}
 use Rattle.model_violations.specs.Use.{has}
 use Rattle.model_violations.specs.Declarations.{declaration_findings}
-use Rattle.model_violations.specs.Known.{tree_of}
+use Rattle.model_violations.specs.proof.Known.{tree_of}
 use Rattle.model_violations.proofs.declarations.add_declarations_findings.Given as goal
 
 abbrev pub invariant-loop-number : goal.invariant-loop-number

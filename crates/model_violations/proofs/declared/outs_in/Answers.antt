@@ -1,6 +1,6 @@
 use Rattle.std.proofs.Common.{not, ap}
-use Rattle.aadl_tree.specs.Maps.{kept_place}
-use Rattle.aadl_tree.specs.Views.{feature_view}
+use Rattle.aadl_tree.specs.proof.Maps.{kept_place}
+use Rattle.aadl_tree.specs.proof.Views.{feature_view}
 use Rattle.component_checks.specs.Types.{is_in}
 use Rattle.model_violations.specs.Values.{port_of}
 use Rattle.model_violations.proofs.Kept.{kept_next}

@@ -1,6 +1,6 @@
 use Rattle.std.proofs.Common.{◌≡◌, map, take}
-use Rattle.aadl_tree.specs.Views.{feature_view}
-use Rattle.aadl_tree.specs.Maps.{kept_place}
+use Rattle.aadl_tree.specs.proof.Views.{feature_view}
+use Rattle.aadl_tree.specs.proof.Maps.{kept_place}
 use Rattle.model_violations.specs.Values.{outs_in}
 use Rattle.model_violations.proofs.declared.outs_in.Given as goal
 

@@ -1,8 +1,8 @@
 use Rattle.std.proofs.Common.{◌≡◌, ◌++◌, map, take}
 use Rattle.std.specs.Prelude.{flat_map}
 use Rattle.std.specs.List.{enumerate_from}
-use Rattle.aadl_tree.specs.Views.{declaration_view}
-use Rattle.aadl_tree.specs.Maps.{kept_place}
+use Rattle.aadl_tree.specs.proof.Views.{declaration_view}
+use Rattle.aadl_tree.specs.proof.Maps.{kept_place}
 use Rattle.model_violations.specs.Ignored.{declaration_ignored}
 use Rattle.model_violations.proofs.ignored.add_declarations.Given as goal
 

@@ -1,7 +1,7 @@
 use Rattle.std.proofs.Common.{◌≡◌, ◌++◌, map, take}
 use Rattle.std.specs.Prelude.{flat_map}
-use Rattle.aadl_tree.specs.Views.{annex_view}
-use Rattle.aadl_tree.specs.Maps.{kept_place}
+use Rattle.aadl_tree.specs.proof.Views.{annex_view}
+use Rattle.aadl_tree.specs.proof.Maps.{kept_place}
 use Rattle.model_violations.specs.Ignored.{annex_ignored}
 use Rattle.model_violations.proofs.ignored_properties.add_annexes.Given as goal
 

@@ -1,6 +1,6 @@
 use Rattle.std.proofs.Common.{◌≡◌, ◌++◌, drop}
-use Rattle.aadl_tree.specs.ValueViews.{associations_view}
-use Rattle.aadl_tree.specs.Maps.{kept_place}
+use Rattle.aadl_tree.specs.proof.ValueViews.{associations_view}
+use Rattle.aadl_tree.specs.proof.Maps.{kept_place}
 use Rattle.model_violations.specs.Ignored.{ignored_in}
 use Rattle.model_violations.proofs.ignored_properties.add_list.Given as goal
 

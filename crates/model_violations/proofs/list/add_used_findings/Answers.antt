@@ -1,8 +1,8 @@
 use Rattle.std.proofs.Common.{◌<◌, ◌∙◌, length, subst, sym}
-use Rattle.aadl_tree.specs.PackageViews.{placed}
+use Rattle.aadl_tree.specs.proof.PackageViews.{placed}
 use Rattle.model_violations.specs.Use.{has, IsUse}
 use Rattle.model_violations.specs.Declarations.{AreSmall}
-use Rattle.model_violations.specs.Violations.{shown}
+use Rattle.model_violations.specs.proof.Violations.{shown}
 use Rattle.model_violations.proofs.Flats.{root_within, are_small}
 use Rattle.model_violations.proofs.Found.{used_found}
 use Rattle.model_violations.proofs.list.add_used_findings.Goals as goal

@@ -1,5 +1,5 @@
 use Rattle.std.proofs.Common.{◌≡◌, map, take}
-use Rattle.aadl_tree.specs.PackageViews.{placed}
+use Rattle.aadl_tree.specs.proof.PackageViews.{placed}
 use Rattle.component_checks.specs.Threads.{thread_rate}
 use Rattle.model_violations.proofs.list.rates_of.Given as goal
 

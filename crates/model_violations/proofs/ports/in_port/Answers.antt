@@ -1,6 +1,6 @@
 use Rattle.std.proofs.Common.{◌≡◌, ◌∙◌, ◌+◌, sym, ap, arith}
-use Rattle.aadl_tree.specs.Maps.{kept_place}
-use Rattle.aadl_tree.specs.Views.{feature_view}
+use Rattle.aadl_tree.specs.proof.Maps.{kept_place}
+use Rattle.aadl_tree.specs.proof.Views.{feature_view}
 use Rattle.component_checks.specs.Types.{is_in}
 use Rattle.model_violations.proofs.Filtered.{found_here, found_later, not_here, nowhere}
 use Rattle.model_violations.proofs.ports.in_port.Goals as goal

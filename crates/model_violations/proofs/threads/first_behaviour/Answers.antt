@@ -1,6 +1,6 @@
 use Rattle.std.proofs.Common.{◌∙◌, sym, ap}
-use Rattle.aadl_tree.specs.Maps.{kept_place}
-use Rattle.aadl_tree.specs.Views.{annex_view}
+use Rattle.aadl_tree.specs.proof.Maps.{kept_place}
+use Rattle.aadl_tree.specs.proof.Views.{annex_view}
 use Rattle.aadl_names.specs.Behaviours.{behaviour_in}
 use Rattle.model_violations.proofs.Kept.{first_here, first_later}
 use Rattle.model_violations.proofs.threads.first_behaviour.Goals as goal

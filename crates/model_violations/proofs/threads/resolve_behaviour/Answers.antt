@@ -1,7 +1,7 @@
 use Rattle.std.proofs.Common.{◌∙◌, ◌++◌, ap, append_assoc}
-use Rattle.aadl_tree.specs.Maps.{kept_place}
-use Rattle.aadl_tree.specs.PackageViews.{placed}
-use Rattle.aadl_tree.specs.Views.{annex_tree_view, implementation_view}
+use Rattle.aadl_tree.specs.proof.Maps.{kept_place}
+use Rattle.aadl_tree.specs.proof.PackageViews.{placed}
+use Rattle.aadl_tree.specs.proof.Views.{annex_tree_view, implementation_view}
 use Rattle.annex_resolve.specs.Behaviours.{annex_findings}
 use Rattle.component_checks.specs.Types.{variables_findings}
 use Rattle.model_violations.specs.Values.{values_of}

@@ -1,7 +1,7 @@
 use Rattle.std.proofs.Common.{◌≡◌, ◌∙◌, map, length, ap, arith}
-use Rattle.aadl_tree.specs.Maps.{kept_place}
-use Rattle.aadl_tree.specs.PackageViews.{placed}
-use Rattle.aadl_tree.specs.Views.{annex_tree_view, feature_view, implementation_view}
+use Rattle.aadl_tree.specs.proof.Maps.{kept_place}
+use Rattle.aadl_tree.specs.proof.PackageViews.{placed}
+use Rattle.aadl_tree.specs.proof.Views.{annex_tree_view, feature_view, implementation_view}
 use Rattle.model_violations.specs.Values.{ins_in, outs_in, variables_of, values_by, scope_by}
 use Rattle.model_violations.proofs.Kept.{ports_both}
 use Rattle.model_violations.proofs.Settings.{of_lists}

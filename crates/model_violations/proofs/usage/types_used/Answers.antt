@@ -1,7 +1,7 @@
 use Rattle.std.proofs.Common.{◌<◌, ◌∙◌, length, get_or, ap, arith}
-use Rattle.aadl_tree.specs.PackageViews.{placed}
-use Rattle.aadl_tree.specs.Views.{declaration_view}
-use Rattle.aadl_tree.specs.Maps.{kept_place}
+use Rattle.aadl_tree.specs.proof.PackageViews.{placed}
+use Rattle.aadl_tree.specs.proof.Views.{declaration_view}
+use Rattle.aadl_tree.specs.proof.Maps.{kept_place}
 use Rattle.model_violations.specs.Use.{has, uses_type}
 use Rattle.model_violations.proofs.Numbers.{one_more_passes}
 use Rattle.model_violations.proofs.usage.types_used.Goals as goal

@@ -1,4 +1,4 @@
-use Rattle.aadl_tree.specs.PackageViews.{placed}
+use Rattle.aadl_tree.specs.proof.PackageViews.{placed}
 use Rattle.model_violations.proofs.Numbers.{is_use}
 use Rattle.model_violations.proofs.usage.used_below.Goals as goal
 

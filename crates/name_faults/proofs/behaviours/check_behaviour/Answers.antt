@@ -1,8 +1,8 @@
 use Rattle.std.proofs.Common.{ap, ◌∙◌}
-use Rattle.aadl_tree.specs.PackageViews.{placed}
-use Rattle.aadl_tree.specs.Views.{implementation_view}
-use Rattle.aadl_tree.specs.Maps.{kept_place}
-use Rattle.aadl_names.specs.Found.{found}
+use Rattle.aadl_tree.specs.proof.PackageViews.{placed}
+use Rattle.aadl_tree.specs.proof.Views.{implementation_view}
+use Rattle.aadl_tree.specs.proof.Maps.{kept_place}
+use Rattle.aadl_names.specs.proof.Found.{found}
 use Rattle.aadl_names.specs.Resolving.{type_numbered}
 use Rattle.aadl_names.specs.PackageFaults.{comes_first, behaviour_faults}
 use Rattle.aadl_names.proofs.Finds.{closed}

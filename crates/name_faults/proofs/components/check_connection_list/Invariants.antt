@@ -1,10 +1,10 @@
 use Rattle.std.proofs.Common.{◌≡◌, map, drop}
 use Rattle.std.specs.List.{flat_map}
-use Rattle.aadl_tree.specs.Views.{connection_view}
-use Rattle.aadl_tree.specs.Maps.{kept_place}
-use Rattle.aadl_names.specs.Found.{found}
+use Rattle.aadl_tree.specs.proof.Views.{connection_view}
+use Rattle.aadl_tree.specs.proof.Maps.{kept_place}
+use Rattle.aadl_names.specs.proof.Found.{found}
 use Rattle.aadl_names.specs.PackageFaults as spec
-use Rattle.name_faults.specs.EndScopes.{tree_of, implementation_of}
+use Rattle.name_faults.specs.proof.EndScopes.{tree_of, implementation_of}
 use Rattle.name_faults.proofs.components.check_connection_list.Given as goal
 
 -- what is left is still to be looked at

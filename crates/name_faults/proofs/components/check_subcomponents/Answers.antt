@@ -1,8 +1,8 @@
 use Rattle.std.proofs.Common.{refl, map}
 use Rattle.std.specs.List.{flat_map}
-use Rattle.aadl_tree.specs.PackageViews.{placed}
-use Rattle.aadl_tree.specs.Views.{subcomponent_view}
-use Rattle.aadl_tree.specs.Maps.{kept_place}
+use Rattle.aadl_tree.specs.proof.PackageViews.{placed}
+use Rattle.aadl_tree.specs.proof.Views.{subcomponent_view}
+use Rattle.aadl_tree.specs.proof.Maps.{kept_place}
 use Rattle.aadl_names.specs.PackageFaults as spec
 use Rattle.aadl_names.proofs.Finds.{next_found}
 use Rattle.name_faults.proofs.components.check_subcomponents.Goals as goal

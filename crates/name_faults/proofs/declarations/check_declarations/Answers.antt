@@ -2,11 +2,11 @@ use Rattle.std.proofs.Common.{map, sym, ap, ◌∙◌}
 use Rattle.aadl_tree.specs.Names.{same_name}
 use Rattle.std.specs.Prelude.{not, slice_get}
 use Rattle.std.specs.List.{flat_map, enumerate_from}
-use Rattle.aadl_tree.specs.PackageViews.{placed}
-use Rattle.aadl_tree.specs.Views.{declaration_view}
-use Rattle.aadl_tree.specs.Maps.{kept_place}
+use Rattle.aadl_tree.specs.proof.PackageViews.{placed}
+use Rattle.aadl_tree.specs.proof.Views.{declaration_view}
+use Rattle.aadl_tree.specs.proof.Maps.{kept_place}
 use Rattle.aadl_names.specs.Findings.{wrong_if}
-use Rattle.aadl_names.specs.Found.{found}
+use Rattle.aadl_names.specs.proof.Found.{found}
 use Rattle.aadl_names.specs.Spelling.{spelled_name}
 use Rattle.aadl_names.specs.PackageFaults.{declaration_faults, wrong_names}
 use Rattle.aadl_names.proofs.Finds.{found_append}

@@ -1,6 +1,6 @@
-use Rattle.aadl_tree.specs.PackageViews.{placed}
-use Rattle.aadl_tree.specs.Views.{implementation_view}
-use Rattle.aadl_tree.specs.Maps.{kept_place}
+use Rattle.aadl_tree.specs.proof.PackageViews.{placed}
+use Rattle.aadl_tree.specs.proof.Views.{implementation_view}
+use Rattle.aadl_tree.specs.proof.Maps.{kept_place}
 use Rattle.name_faults.proofs.PortLists.{roles_there}
 use Rattle.name_faults.proofs.declarations.check_implementation.Goals as goal
 

@@ -1,12 +1,12 @@
 use Rattle.std.proofs.Common.{None, map, refl, sym, ap, ◌∙◌}
 use Rattle.std.specs.List.{flat_map}
-use Rattle.aadl_tree.specs.Views.{feature_view}
-use Rattle.aadl_tree.specs.Maps.{kept_place}
-use Rattle.aadl_names.specs.Found.{found, as_list}
+use Rattle.aadl_tree.specs.proof.Views.{feature_view}
+use Rattle.aadl_tree.specs.proof.Maps.{kept_place}
+use Rattle.aadl_names.specs.proof.Found.{found, as_list}
 use Rattle.aadl_names.specs.Twice.{twice}
-use Rattle.aadl_names.specs.Earliest.{earliest}
+use Rattle.aadl_names.specs.proof.Earliest.{earliest}
 use Rattle.aadl_names.specs.Spaces.{port_entries}
-use Rattle.aadl_names.specs.DeclaredTwice.{beside_one, beside_each, beside}
+use Rattle.aadl_names.specs.proof.DeclaredTwice.{beside_one, beside_each, beside}
 use Rattle.aadl_names.proofs.Finds.{next_found, last_found, found_append}
 use Rattle.name_faults.proofs.declared_twice.check_beside.Goals as goal
 

@@ -1,11 +1,11 @@
 use Rattle.std.proofs.Common.{◌∷◌, [], Some, None, refl, sym, ap, ◌∙◌}
 use Rattle.std.proofs.lemmas.Option.{slice_get_read, slice_get_past}
-use Rattle.aadl_tree.specs.Views.{feature_view}
-use Rattle.aadl_tree.specs.Maps.{kept_place}
+use Rattle.aadl_tree.specs.proof.Views.{feature_view}
+use Rattle.aadl_tree.specs.proof.Maps.{kept_place}
 use Rattle.aadl_names.specs.declared.fault.FlatFault.TheVariants.{Twice}
-use Rattle.aadl_names.specs.Found.{found}
+use Rattle.aadl_names.specs.proof.Found.{found}
 use Rattle.aadl_names.proofs.Finds.{closed}
-use Rattle.aadl_names.specs.DeclaredTwice.{entry_again}
+use Rattle.aadl_names.specs.proof.DeclaredTwice.{entry_again}
 use Rattle.name_faults.proofs.PortEntries.{entry_there}
 use Rattle.name_faults.proofs.declared_twice.check_port.Goals as goal
 

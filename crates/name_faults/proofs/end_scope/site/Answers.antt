@@ -1,10 +1,10 @@
 use Rattle.std.proofs.Common.{◌∙◌, sym, ap, option_map, slice_get}
-use Rattle.aadl_tree.specs.Maps.{kept_place}
-use Rattle.aadl_tree.specs.NameViews.{identifier_view}
-use Rattle.aadl_tree.specs.Views.{end_view}
-use Rattle.aadl_names.specs.Members.{member_of}
+use Rattle.aadl_tree.specs.proof.Maps.{kept_place}
+use Rattle.aadl_tree.specs.proof.NameViews.{identifier_view}
+use Rattle.aadl_tree.specs.proof.Views.{end_view}
+use Rattle.aadl_names.specs.proof.Members.{member_of}
 use Rattle.aadl_names.proofs.Firsts.{ok_as}
-use Rattle.name_faults.specs.EndScopes.{tree_of, implementation_of}
+use Rattle.name_faults.specs.proof.EndScopes.{tree_of, implementation_of}
 use Rattle.name_faults.proofs.EndSites.{own_there, inner_there, none_there}
 use Rattle.name_faults.proofs.end_scope.site.Goals as goal
 

@@ -1,8 +1,8 @@
 use Rattle.std.proofs.Common.{◌≡◌, map, take}
-use Rattle.aadl_tree.specs.PackageViews.{placed}
-use Rattle.aadl_tree.specs.Maps.{kept_place}
-use Rattle.aadl_tree.specs.Views.{subcomponent_view}
-use Rattle.name_faults.specs.EndScopes.{type_of_sub}
+use Rattle.aadl_tree.specs.proof.PackageViews.{placed}
+use Rattle.aadl_tree.specs.proof.Maps.{kept_place}
+use Rattle.aadl_tree.specs.proof.Views.{subcomponent_view}
+use Rattle.name_faults.specs.proof.EndScopes.{type_of_sub}
 use Rattle.name_faults.proofs.end_scope.sub_types.Given as goal
 
 -- the types of the subcomponents so far

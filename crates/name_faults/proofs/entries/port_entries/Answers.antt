@@ -1,6 +1,6 @@
 use Rattle.std.proofs.Common.{refl, ◌∷◌, [], map}
-use Rattle.aadl_tree.specs.Views.{feature_view}
-use Rattle.aadl_tree.specs.Maps.{kept_place}
+use Rattle.aadl_tree.specs.proof.Views.{feature_view}
+use Rattle.aadl_tree.specs.proof.Maps.{kept_place}
 use Rattle.aadl_names.specs.Spelling.{entry_of}
 use Rattle.aadl_names.specs.Spaces.{port_entries}
 use Rattle.aadl_names.proofs.Adds.{next_added, last_added}

@@ -1,6 +1,6 @@
 use Rattle.std.proofs.Common.{◌≡◌, ◌++◌, map, drop}
-use Rattle.aadl_tree.specs.Views.{feature_view}
-use Rattle.aadl_tree.specs.Maps.{kept_place}
+use Rattle.aadl_tree.specs.proof.Views.{feature_view}
+use Rattle.aadl_tree.specs.proof.Maps.{kept_place}
 use Rattle.aadl_names.specs.Spaces.{port_entries}
 use Rattle.name_faults.proofs.entries.port_entries.Given as goal
 

@@ -1,6 +1,6 @@
 use Rattle.std.proofs.Common.{refl, ◌∷◌, [], map, ap, ◌∙◌}
-use Rattle.aadl_tree.specs.Views.{declaration_view}
-use Rattle.aadl_tree.specs.Maps.{kept_place}
+use Rattle.aadl_tree.specs.proof.Views.{declaration_view}
+use Rattle.aadl_tree.specs.proof.Maps.{kept_place}
 use Rattle.std.specs.List.{filter_map}
 use Rattle.aadl_names.specs.Spaces.{type_entry}
 use Rattle.aadl_names.proofs.Adds.{next_added, last_added}

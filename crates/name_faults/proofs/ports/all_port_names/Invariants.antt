@@ -1,6 +1,6 @@
 use Rattle.std.proofs.Common.{map, take}
-use Rattle.aadl_tree.specs.Views.{declaration_view}
-use Rattle.aadl_tree.specs.Maps.{kept_place}
+use Rattle.aadl_tree.specs.proof.Views.{declaration_view}
+use Rattle.aadl_tree.specs.proof.Maps.{kept_place}
 use Rattle.name_faults.proofs.PortLists.{AreNamed}
 use Rattle.name_faults.proofs.ports.all_port_names.Given as goal
 

@@ -1,8 +1,8 @@
 use Rattle.std.proofs.Common.{map, refl, sym, ap, cond, Some, None}
 use Rattle.aadl_tree.specs.Names.{same_name}
 use Rattle.std.specs.Option.{option_or}
-use Rattle.aadl_tree.specs.Views.{feature_view}
-use Rattle.aadl_tree.specs.Maps.{kept_place}
+use Rattle.aadl_tree.specs.proof.Views.{feature_view}
+use Rattle.aadl_tree.specs.proof.Maps.{kept_place}
 use Rattle.aadl_names.specs.PackageFaults.{role_in, port_roles}
 use Rattle.name_faults.proofs.NameTables.{next_role, last_role}
 use Rattle.name_faults.proofs.PortLists.{roles-cons}

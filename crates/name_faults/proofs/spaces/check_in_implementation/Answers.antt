@@ -1,4 +1,4 @@
-use Rattle.aadl_tree.specs.PackageViews.{placed}
+use Rattle.aadl_tree.specs.proof.PackageViews.{placed}
 use Rattle.name_faults.proofs.PortLists.{names_there}
 use Rattle.name_faults.proofs.spaces.check_in_implementation.Goals as goal
 

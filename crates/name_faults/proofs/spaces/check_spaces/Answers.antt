@@ -1,13 +1,13 @@
 use Rattle.std.proofs.Common.{◌≡◌, ◌++◌, List, Option, map, refl, sym, ap, ◌∙◌}
 use Rattle.std.specs.List.{flat_map, filter_map}
-use Rattle.aadl_tree.specs.PackageViews.{placed}
-use Rattle.aadl_tree.specs.Views.{declaration_view}
-use Rattle.aadl_tree.specs.Maps.{kept_place}
+use Rattle.aadl_tree.specs.proof.PackageViews.{placed}
+use Rattle.aadl_tree.specs.proof.Views.{declaration_view}
+use Rattle.aadl_tree.specs.proof.Maps.{kept_place}
 use Rattle.aadl_names.specs.declared.fault.FlatFault.{FlatFault}
-use Rattle.aadl_names.specs.Found.{found}
+use Rattle.aadl_names.specs.proof.Found.{found}
 use Rattle.aadl_names.specs.Twice.{twice}
 use Rattle.aadl_names.specs.Spaces.{type_entry, implementation_entry}
-use Rattle.aadl_names.specs.DeclaredTwice.{beside_in, beside_names}
+use Rattle.aadl_names.specs.proof.DeclaredTwice.{beside_in, beside_names}
 use Rattle.aadl_names.proofs.Finds.{next_found, last_found, found_append}
 use Rattle.name_faults.proofs.spaces.check_spaces.Goals as goal
 

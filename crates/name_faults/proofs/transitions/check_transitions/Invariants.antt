@@ -1,10 +1,10 @@
 use Rattle.std.proofs.Common.{◌≡◌, map, drop}
 use Rattle.std.specs.List.{flat_map}
-use Rattle.aadl_tree.specs.Views.{transition_view}
-use Rattle.aadl_tree.specs.Maps.{kept_place}
-use Rattle.aadl_names.specs.Found.{found}
+use Rattle.aadl_tree.specs.proof.Views.{transition_view}
+use Rattle.aadl_tree.specs.proof.Maps.{kept_place}
+use Rattle.aadl_names.specs.proof.Found.{found}
 use Rattle.aadl_names.specs.PackageFaults.{transition_uses}
-use Rattle.name_faults.specs.Scopes.{known_by, is_state_by}
+use Rattle.name_faults.specs.proof.Scopes.{known_by, is_state_by}
 use Rattle.name_faults.proofs.transitions.check_transitions.Given as goal
 
 -- what is left is still to be looked at

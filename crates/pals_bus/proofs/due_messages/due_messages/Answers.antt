@@ -7,7 +7,7 @@ use Rattle.std.proofs.lemmas.List.Sorted.{All-permutation, IsNonDecreasingBy-fro
 use Rattle.std.proofs.lemmas.List.Sums.{count_by-le-length}
 use Rattle.std.proofs.lemmas.Option.{get_or_from_slice_get}
 use Rattle.link_buffers.specs.declared.queue.DueEntry.{DueEntry}
-use Rattle.link_buffers.specs.Queues.{is_due_at}
+use Rattle.link_buffers.specs.proof.Queues.{is_due_at}
 use Rattle.pals_bus.proofs.DueEntries.{IsShort, number_of, in_order, due_place}
 use Rattle.pals_bus.proofs.due_messages.due_messages.Goals as goal
 

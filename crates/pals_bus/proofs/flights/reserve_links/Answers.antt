@@ -2,8 +2,8 @@ use Rattle.std.proofs.Common.{◌∙◌, ◌<◌, ◌≤◌, length, slice_index
 use Rattle.std.proofs.lemmas.List.{get_or_default}
 use Rattle.std.proofs.lemmas.List.Elements.{All-from_get_or}
 use Rattle.pals_base.specs.declared.values.LinkNo.{LinkNo}
-use Rattle.link_buffers.specs.Flights.{FlightState}
-use Rattle.pals_bus.specs.Absent.{no_flight, no_link_no}
+use Rattle.link_buffers.specs.proof.Flights.{FlightState}
+use Rattle.pals_bus.specs.proof.Absent.{no_flight, no_link_no}
 use Rattle.pals_bus.proofs.Sendings.{reserved_one}
 use Rattle.pals_bus.proofs.flights.reserve_links.Goals as goal
 

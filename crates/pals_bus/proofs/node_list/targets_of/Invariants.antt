@@ -1,5 +1,5 @@
 use Rattle.std.proofs.Common.{◌≡◌, map, take}
-use Rattle.pals_bus.specs.NodeLists.{target_of_node}
+use Rattle.pals_bus.specs.proof.NodeLists.{target_of_node}
 use Rattle.pals_bus.proofs.node_list.targets_of.Given as goal
 
 -- the targets of the first nodes are there

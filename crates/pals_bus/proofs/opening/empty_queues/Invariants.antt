@@ -1,6 +1,6 @@
 use Rattle.std.proofs.Common.{◌≡◌, map, take}
-use Rattle.pals_node.specs.Values.{NodeValue}
-use Rattle.pals_bus.specs.Absent.{no_queue}
+use Rattle.pals_node.specs.proof.Values.{NodeValue}
+use Rattle.pals_bus.specs.proof.Absent.{no_queue}
 use Rattle.pals_bus.proofs.opening.empty_queues.Given as goal
 
 -- the queue of each node so far is empty

@@ -1,5 +1,5 @@
 use Rattle.std.proofs.Common.{◌≡◌, length, ap, ◌∙◌, arith}
-use Rattle.pals_model.specs.SourceTables.{table_of, fed_from}
+use Rattle.pals_model.specs.proof.SourceTables.{table_of, fed_from}
 use Rattle.pals_model.proofs.Tables.{feeds_begin, feeds_turn}
 use Rattle.pals_model.proofs.sources.add_feeds.Goals as goal
 

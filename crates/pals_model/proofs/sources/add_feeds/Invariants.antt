@@ -1,5 +1,5 @@
 use Rattle.std.proofs.Common.{◌≡◌}
-use Rattle.pals_model.specs.SourceTables.{table_of, fed_from}
+use Rattle.pals_model.specs.proof.SourceTables.{table_of, fed_from}
 use Rattle.pals_model.proofs.sources.add_feeds.Given as goal
 
 -- the feeds from this number on are in the table

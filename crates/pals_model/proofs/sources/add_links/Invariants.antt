@@ -1,5 +1,5 @@
 use Rattle.std.proofs.Common.{◌≡◌}
-use Rattle.pals_model.specs.SourceTables.{table_of, linked_from}
+use Rattle.pals_model.specs.proof.SourceTables.{table_of, linked_from}
 use Rattle.pals_model.proofs.sources.add_links.Given as goal
 
 -- the links from this number on are in the table

@@ -1,6 +1,6 @@
 use Rattle.std.proofs.Common.{◌≡◌, ◌++◌, map, drop}
 use Rattle.std.specs.List.{enumerate_from}
-use Rattle.pals_model.specs.SourceTables.{table_of, nothing}
+use Rattle.pals_model.specs.proof.SourceTables.{table_of, nothing}
 use Rattle.pals_model.proofs.Tables.{row}
 use Rattle.pals_model.proofs.sources.empty_table.Given as goal
 

@@ -4,8 +4,8 @@ use Rattle.std.proofs.lemmas.Option.{slice_get-get_or, get_or_from_slice_get}
 use Rattle.pals_base.specs.declared.values.Port.{Port}
 use Rattle.bus_machine.specs.declared.plan.Plan.{Plan}
 use Rattle.bus_machine.specs.Nodes.{vectors_of}
-use Rattle.pals_node.specs.Values.{Program, job_value}
-use Rattle.pals_node.specs.Keeping.{AreTuples}
+use Rattle.pals_node.specs.proof.Values.{Program, job_value}
+use Rattle.pals_node.specs.proof.Keeping.{AreTuples}
 use Rattle.pals_node.proofs.Starts.{vectors_are}
 use Rattle.pals_node.proofs.fields.first_job.Goals as goal
 

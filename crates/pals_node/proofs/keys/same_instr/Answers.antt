@@ -1,5 +1,5 @@
 use Rattle.std.proofs.Common.{◌∙◌, sym, ap}
-use Rattle.pals_node.specs.Keys.{key_of}
+use Rattle.pals_node.specs.proof.Keys.{key_of}
 use Rattle.pals_node.proofs.KeyLaws.{same_key}
 use Rattle.pals_node.proofs.keys.same_instr.Goals as goal
 

@@ -2,7 +2,7 @@ use Rattle.std.proofs.Common.{map, sym, ap, ◌∙◌, subst, refl}
 use Rattle.std.specs.Prelude.{All, MatchOption}
 use Rattle.std.proofs.lemmas.List.Elements.{All-map}
 use Rattle.pals_model.specs.RoundTexts.{text_of}
-use Rattle.bound_checker.specs.Limits.{IsRate}
+use Rattle.bound_checker.specs.proof.Limits.{IsRate}
 use Rattle.bound_checker.specs.Multiple.{IsLeastMultiple, HasNoMultiple}
 use Rattle.pals_report.proofs.Begins.{joined_on_ok}
 use Rattle.pals_report.specs.CheckReports.{rate_of, check_lines, IsShortest}

@@ -1,7 +1,7 @@
 use Rattle.std.proofs.Common.{◌≡◌, ℕ, ◌<◌, ◌++◌, length, map, drop, get_or}
 use Rattle.std.specs.List.{enumerate_from}
 use Rattle.pals_model.specs.RoundTexts.{taps_before}
-use Rattle.pals_report.specs.TapPlaces.{tap_places}
+use Rattle.pals_report.specs.proof.TapPlaces.{tap_places}
 use Rattle.pals_report.proofs.Counts.{place_in}
 use Rattle.pals_report.proofs.tap_places.places_of.Given as goal
 

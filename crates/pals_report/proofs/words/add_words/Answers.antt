@@ -1,4 +1,4 @@
-use Rattle.pals_report.specs.Words.{word_text}
+use Rattle.pals_report.specs.proof.Words.{word_text}
 use Rattle.pals_report.proofs.Spaces.{spaced-all}
 use Rattle.pals_report.proofs.words.add_words.Goals as goal
 

@@ -7,13 +7,13 @@ use Rattle.pals_model.specs.declared.design.Link.{Link}
 use Rattle.pals_model.specs.Inputs.{rate_of}
 use Rattle.pals_model.specs.Rules.{IsDesign, IsLink}
 use Rattle.pals_model.proofs.Lookups.{at_element}
-use Rattle.sync_product.specs.Sizes.{message_sizes}
+use Rattle.sync_product.specs.proof.Sizes.{message_sizes}
 use Rattle.sync_product.proofs.Filling.{filled_more, same_sizes}
 use Rattle.sync_product.proofs.Tables.{count_of_sized}
 use Rattle.sync_product.proofs.Sending.{sized_message}
 use Rattle.sync_product.proofs.Columns.{length-cut, length-column}
-use Rattle.plant_fuse.specs.Partners.{is_inside}
-use Rattle.plant_fuse.specs.Messages.{sent_on}
+use Rattle.plant_fuse.specs.proof.Partners.{is_inside}
+use Rattle.plant_fuse.specs.proof.Messages.{sent_on}
 use Rattle.plant_fuse.proofs.Counts.{count_of_stages, count_of_partners}
 use Rattle.plant_fuse.proofs.PairRuns.{partner_entry}
 use Rattle.plant_fuse.proofs.Sending.{sent_item}

@@ -1,7 +1,7 @@
 use Rattle.std.proofs.Common.{◌≡◌, List, length, map, take}
 use Rattle.pals_base.specs.declared.values.Port.{Port}
-use Rattle.sync_product.specs.Sizes.{message_sizes}
-use Rattle.plant_fuse.specs.Messages.{sent_on}
+use Rattle.sync_product.specs.proof.Sizes.{message_sizes}
+use Rattle.plant_fuse.specs.proof.Messages.{sent_on}
 use Rattle.plant_fuse.proofs.messages.send_all.Given as goal
 
 -- the first messages are written

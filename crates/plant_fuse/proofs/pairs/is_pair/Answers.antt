@@ -2,7 +2,7 @@ use Rattle.std.proofs.Common.{◌≡◌, ◌∙◌, List, length, sym, ap, subst
 use Rattle.std.specs.List.{list_all}
 use Rattle.pals_model.specs.declared.design.Link.{Link}
 use Rattle.pals_model.specs.Inputs.{rate_of}
-use Rattle.plant_fuse.specs.Ends.{AreTwo, stays_inside}
+use Rattle.plant_fuse.specs.proof.Ends.{AreTwo, stays_inside}
 use Rattle.plant_fuse.proofs.Fitting.{pair_by, all_inside}
 use Rattle.plant_fuse.proofs.pairs.is_pair.Goals as goal
 

@@ -4,7 +4,7 @@ use Rattle.pals_model.specs.declared.design.Component.{Component}
 use Rattle.pals_model.specs.declared.rounds.Part.{Part}
 use Rattle.pals_model.specs.Inputs.{sources_of}
 use Rattle.pals_model.specs.Composition.{no_frame}
-use Rattle.sync_product.specs.Sizes.{tap_ports}
+use Rattle.sync_product.specs.proof.Sizes.{tap_ports}
 use Rattle.sync_product.proofs.Tables.{numbered-at, entry_at, item_at}
 use Rattle.plant_fuse.proofs.Counts.{count_of_sources, count_of_taps, count_of_parts}
 use Rattle.plant_fuse.proofs.round.given.Goals as goal

@@ -1,8 +1,8 @@
 use Rattle.std.proofs.Common.{◌≡◌, ◌<◌, ℕ, map, slice_get, Some, None}
 use Rattle.pals_model.specs.declared.design.Component.{Component}
-use Rattle.sync_product.specs.Rounds.{IsStepped, frames_of}
-use Rattle.sync_product.specs.Sizes.{part_size, stage_size}
-use Rattle.plant_fuse.specs.Partners.{partner_of}
+use Rattle.sync_product.specs.proof.Rounds.{IsStepped, frames_of}
+use Rattle.sync_product.specs.proof.Sizes.{part_size, stage_size}
+use Rattle.plant_fuse.specs.proof.Partners.{partner_of}
 use Rattle.plant_fuse.proofs.round.run_alone.Given as goal
 
 -- the first components that stand in no pair have made their steps, and the sizes stay

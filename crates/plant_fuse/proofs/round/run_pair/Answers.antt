@@ -6,13 +6,13 @@ use Rattle.pals_model.specs.declared.design.DesignParts.{DesignParts}
 use Rattle.pals_model.specs.declared.rounds.Part.{Part}
 use Rattle.pals_runs.specs.declared.pairs.Pair.{Pair}
 use Rattle.sync_product.specs.declared.stage.Stage.{Stage}
-use Rattle.sync_product.specs.Rounds.{frames_of}
-use Rattle.sync_product.specs.Sizes.{part_size, part_sizes, stage_size, stage_sizes}
+use Rattle.sync_product.specs.proof.Rounds.{frames_of}
+use Rattle.sync_product.specs.proof.Sizes.{part_size, part_sizes, stage_size, stage_sizes}
 use Rattle.plant_fuse.specs.Fused.{IsPair}
-use Rattle.plant_fuse.specs.Runs.{IsRun, StayBeside}
-use Rattle.plant_fuse.specs.Sides.{AreSidesRun}
+use Rattle.plant_fuse.specs.proof.Runs.{IsRun, StayBeside}
+use Rattle.plant_fuse.specs.proof.Sides.{AreSidesRun}
 use Rattle.plant_fuse.specs.declared.sides.Side.{Side}
-use Rattle.plant_fuse.specs.TakenFrom.{TakenFrom}
+use Rattle.plant_fuse.specs.proof.TakenFrom.{TakenFrom}
 use Rattle.plant_fuse.proofs.Counts.{count_of_parts, count_of_stages}
 use Rattle.plant_fuse.proofs.Outcomes.{on_ok, on_ok_map}
 use Rattle.plant_fuse.proofs.PairRuns.{pair_is_run}

@@ -7,7 +7,7 @@ use Rattle.pals_model.specs.Inputs.{rate_of}
 use Rattle.round_budget.specs.Budgets as budgets
 use Rattle.round_budget.specs.Budgets.{release_of}
 use Rattle.round_budget.specs.declared.releases.Release.{Release}
-use Rattle.round_budget.specs.Values.{release_value}
+use Rattle.round_budget.specs.proof.Values.{release_value}
 use Rattle.round_budget.proofs.Lines.{map_push}
 use Rattle.round_budget.proofs.releases.add_releases.Goals as goal
 

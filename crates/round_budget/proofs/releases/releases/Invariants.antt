@@ -1,6 +1,7 @@
 use Rattle.std.proofs.Common.{◌≡◌, map, take}
 use Rattle.round_budget.specs.Budgets.{releases_in}
-use Rattle.round_budget.specs.Values.{numbers, release_value}
+use Rattle.round_budget.specs.Budgets.{numbers}
+use Rattle.round_budget.specs.proof.Values.{release_value}
 use Rattle.round_budget.proofs.releases.releases.Given as goal
 
 abbrev pub invariant-loop-member : goal.invariant-loop-member

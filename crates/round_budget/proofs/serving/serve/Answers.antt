@@ -8,7 +8,7 @@ use Rattle.round_budget.specs.Budgets as budgets
 use Rattle.round_budget.specs.Budgets.{most_in, by_most, serve, line_from}
 use Rattle.round_budget.specs.declared.releases.Release.{Release}
 use Rattle.round_budget.specs.declared.serving.Line.{Line}
-use Rattle.round_budget.specs.Values.{release_value, line_value}
+use Rattle.round_budget.specs.proof.Values.{release_value, line_value}
 use Rattle.round_budget.proofs.Lines.{serve_next}
 use Rattle.round_budget.proofs.serving.serve.Goals as goal
 

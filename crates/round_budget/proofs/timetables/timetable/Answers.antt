@@ -3,7 +3,7 @@ use Rattle.std.proofs.lemmas.List.{length-map}
 use Rattle.pals_base.specs.declared.values.NodeNo.{NodeNo}
 use Rattle.pals_base.specs.declared.values.Gamma.{Gamma}
 use Rattle.round_budget.specs.Budgets.{total, fits}
-use Rattle.round_budget.specs.Values.{numbers}
+use Rattle.round_budget.specs.Budgets.{numbers}
 use Rattle.round_budget.proofs.Members.{rising_few}
 use Rattle.round_budget.proofs.Promised.{budgeted_by, all_respond, timetable_is_each}
 use Rattle.round_budget.proofs.timetables.timetable.Goals as goal

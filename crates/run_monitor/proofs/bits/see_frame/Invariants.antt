@@ -1,5 +1,5 @@
 use Rattle.std.proofs.Common.{◌≡◌, length}
-use Rattle.run_monitor.specs.Bits.{seen_bit}
+use Rattle.run_monitor.specs.proof.Bits.{seen_bit}
 use Rattle.run_monitor.proofs.Writing.{Stay, Seen}
 use Rattle.run_monitor.proofs.bits.see_frame.Given as goal
 

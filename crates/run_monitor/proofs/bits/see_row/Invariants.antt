@@ -1,5 +1,5 @@
 use Rattle.std.proofs.Common.{◌≡◌, length}
-use Rattle.run_monitor.specs.Bits.{row_of, row_bit}
+use Rattle.run_monitor.specs.proof.Bits.{row_of, row_bit}
 use Rattle.run_monitor.proofs.Writing.{Stay, Seen}
 use Rattle.run_monitor.proofs.bits.see_row.Given as goal
 

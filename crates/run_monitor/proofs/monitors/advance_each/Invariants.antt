@@ -1,4 +1,4 @@
-use Rattle.run_monitor.specs.Bits.{row_of}
+use Rattle.run_monitor.specs.proof.Bits.{row_of}
 use Rattle.run_monitor.proofs.Several.{GoneTo}
 use Rattle.run_monitor.proofs.monitors.advance_each.Given as goal
 

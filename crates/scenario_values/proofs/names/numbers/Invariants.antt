@@ -1,5 +1,5 @@
 use Rattle.std.proofs.Common.{◌≡◌, map, take, drop, vec_len, string_bytes}
-use Rattle.scenario_values.specs.NameTables.{Numbers}
+use Rattle.scenario_values.specs.proof.NameTables.{Numbers}
 use Rattle.scenario_values.proofs.names.numbers.Given as goal
 
 -- the last names are in the table, and the others are left

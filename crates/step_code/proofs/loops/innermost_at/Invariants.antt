@@ -1,4 +1,4 @@
-use Rattle.step_code.specs.Innermost.{ComesFrom}
+use Rattle.step_code.specs.proof.Innermost.{ComesFrom}
 use Rattle.step_code.proofs.Innermost.{start_of}
 use Rattle.step_code.proofs.loops.innermost_at.Given as goal
 

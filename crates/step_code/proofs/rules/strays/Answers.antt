@@ -1,5 +1,5 @@
 use Rattle.std.proofs.Common.{◌∙◌, ◌||◌, None, refl, sym, ap, arith, slice_index_or}
-use Rattle.step_code.specs.Innermost.{starts_from}
+use Rattle.step_code.specs.proof.Innermost.{starts_from}
 use Rattle.step_code.proofs.Crossing.{strays_up, strays_down}
 use Rattle.step_code.proofs.Refusals.{clean_closed}
 use Rattle.step_code.proofs.rules.strays.Goals as goal

@@ -3,7 +3,7 @@ use Rattle.std.specs.Prelude.{slice_get}
 use Rattle.std.proofs.lemmas.Option.{slice_get-get_or, get_or_from_slice_get}
 use Rattle.step_code.specs.declared.instr.Instr.TheVariants.{Push}
 use Rattle.step_code.specs.Paths.{onward, greatest, weight_at}
-use Rattle.step_code.specs.Checks.{AreThere}
+use Rattle.step_code.specs.proof.Checks.{AreThere}
 use Rattle.step_code.specs.Capped.{capped}
 use Rattle.step_code.proofs.Placing.{known_there}
 use Rattle.step_code.proofs.Verified.{verified_known}

@@ -1,5 +1,5 @@
 use Rattle.std.proofs.Common.{◌∙◌, sym, ap, subst}
-use Rattle.step_code.specs.Heights.{Member}
+use Rattle.step_code.specs.proof.Heights.{Member}
 use Rattle.step_code.specs.Paths.{entry_weight}
 use Rattle.step_code.specs.Capped.{capped}
 use Rattle.step_code.proofs.Weighing.{entry_best}

@@ -1,7 +1,7 @@
 use Rattle.std.proofs.Common.{◌≡◌, ◌∙◌, ◌*◌, ◌<◌, None, Some, length, sym, ap, arith, rules, slice_index_or}
 use Rattle.std.proofs.lemmas.Option.{get_or_from_slice_get}
 use Rattle.step_code.specs.Loops.{turns_of}
-use Rattle.step_code.specs.Innermost.{innermost}
+use Rattle.step_code.specs.proof.Innermost.{innermost}
 use Rattle.step_code.specs.Paths.{weight_at}
 use Rattle.step_code.specs.Capped.{capped}
 use Rattle.step_code.proofs.Innermost.{read_innermost}

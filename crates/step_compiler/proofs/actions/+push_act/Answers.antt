@@ -2,7 +2,7 @@ use Rattle.std.proofs.Common.{◌≡◌, ◌∙◌, ◌+◌, [], ◌∷◌, ◌+
 use Rattle.std.proofs.lemmas.Int.{to_z-of_z}
 use mir.Syntax.{w64}
 use mir.Val.{SFits}
-use Rattle.pals_base.specs.Seen.{tree_of, action_of, actions_along, branches_along}
+use Rattle.pals_base.specs.proof.Seen.{tree_of, action_of, actions_along, branches_along}
 use Rattle.pals_base.specs.Tree.{For, Where, NoBranch}
 use Rattle.pals_base.proofs.Trees.{action_of-If, action_of-For}
 use Rattle.step_code.specs.declared.instr.Instr.TheVariants as code

@@ -1,5 +1,5 @@
 use Rattle.std.proofs.Common.{◌≡◌, ◌++◌, length, drop}
-use Rattle.pals_base.specs.Seen.{actions_along, branches_along}
+use Rattle.pals_base.specs.proof.Seen.{actions_along, branches_along}
 use Rattle.step_compiler.specs.Layout.{code_acts, code_branches}
 use Rattle.step_compiler.proofs.actions.+push_act.Given as goal
 

@@ -3,7 +3,7 @@ use Rattle.pals_base.specs.Steps.{upwards}
 use Rattle.pals_base.proofs.Upwards.{map_upwards_more}
 use Rattle.step_code.specs.Capped.{capped}
 use Rattle.step_code.specs.Lengths.{length_edges}
-use Rattle.step_compiler.specs.Blocks.{leaving_among, capped_length}
+use Rattle.step_compiler.specs.proof.Blocks.{leaving_among, capped_length}
 use Rattle.step_compiler.proofs.blocks.block_lengths.Goals as goal
 
 pub loop-state-preserved : goal.loop-state-preserved

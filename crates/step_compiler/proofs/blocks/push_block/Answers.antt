@@ -1,7 +1,8 @@
 use Rattle.std.proofs.Common.{◌∙◌, ◌+◌, ◌<◌, [], ◌∷◌, ◌++◌, length, drop, slice_index_or, sym, ap, arith}
 use Rattle.pals_base.specs.Fire.{is_complete}
 use Rattle.step_code.specs.Lengths.{length_edges}
-use Rattle.step_compiler.specs.Blocks.{block_code, in_list, leaving_among}
+use Rattle.step_compiler.specs.Blocks.{block_code}
+use Rattle.step_compiler.specs.proof.Blocks.{in_list, leaving_among}
 use Rattle.step_compiler.proofs.Standing.{block-length}
 use Rattle.step_compiler.proofs.Appending.{more_parts, drop_item}
 use Rattle.step_compiler.proofs.Splitting.{leaving_split}

@@ -2,7 +2,8 @@ use Rattle.std.proofs.Common.{◌∙◌, [], ◌∷◌, ◌++◌, map, sym, ap, 
 use Rattle.pals_base.specs.Steps.{upwards}
 use Rattle.pals_base.proofs.Upwards.{map_upwards_more}
 use Rattle.step_code.specs.Capped.{capped}
-use Rattle.step_compiler.specs.Blocks.{start_in, start_of}
+use Rattle.step_compiler.specs.proof.Blocks.{start_in}
+use Rattle.step_compiler.specs.Blocks.{start_of}
 use Rattle.step_compiler.proofs.Starting.{starts_capped}
 use Rattle.step_compiler.proofs.blocks.starts.Goals as goal
 

@@ -2,8 +2,8 @@ use Rattle.std.proofs.Common.{◌∙◌, ◌≤◌, length, sym, ap, subst, arit
 use Rattle.pals_base.specs.declared.limits.TheConstants.{INSTRUCTIONS}
 use Rattle.pals_base.specs.declared.behaviour.BehaviourParts.{BehaviourParts}
 use Rattle.step_code.specs.declared.instr.CodeParts.{CodeParts}
-use Rattle.step_code.specs.Rules.{IsVerified}
-use Rattle.step_code.specs.Means.{Means}
+use Rattle.step_code.specs.proof.Rules.{IsVerified}
+use Rattle.step_code.specs.proof.Means.{Means}
 use Rattle.step_code.specs.Lengths.{length_edges, code_length}
 use Rattle.step_compiler.specs.LaidOut.{IsLaidOut}
 use Rattle.step_compiler.proofs.LaidOutCodes.{compiled_is_laid_out}

@@ -1,5 +1,5 @@
 use Rattle.std.proofs.Common.{◌≡◌, ◌++◌, length, drop}
-use Rattle.pals_base.specs.Seen.{operands_along}
+use Rattle.pals_base.specs.proof.Seen.{operands_along}
 use Rattle.step_compiler.specs.Layout.{code_rest}
 use Rattle.step_compiler.proofs.expressions.+push_expr.Given as goal
 

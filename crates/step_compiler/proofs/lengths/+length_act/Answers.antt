@@ -1,5 +1,5 @@
 use Rattle.std.proofs.Common.{◌∙◌, ap, arith}
-use Rattle.pals_base.specs.Seen.{action_of, actions_along, branches_along}
+use Rattle.pals_base.specs.proof.Seen.{action_of, actions_along, branches_along}
 use Rattle.pals_base.proofs.Trees.{action_of-If, action_of-For}
 use Rattle.step_code.specs.Capped.{capped}
 use Rattle.step_code.specs.Lengths.{length_act, length_acts, length_branches}

@@ -1,5 +1,5 @@
 use Rattle.std.proofs.Common.{◌≡◌, ◌≤◌, ◌+◌, ◌-◌, ◌^◌, drop}
-use Rattle.pals_base.specs.Seen.{actions_along, branches_along}
+use Rattle.pals_base.specs.proof.Seen.{actions_along, branches_along}
 use Rattle.step_code.specs.Capped.{capped}
 use Rattle.step_code.specs.Lengths.{length_acts, length_branches}
 use Rattle.step_compiler.proofs.lengths.+length_act.Given as goal

@@ -1,5 +1,5 @@
 use Rattle.std.proofs.Common.{◌∙◌, ap, arith}
-use Rattle.pals_base.specs.Seen.{tree_of, operands_along}
+use Rattle.pals_base.specs.proof.Seen.{tree_of, operands_along}
 use Rattle.pals_base.proofs.Trees.{tree_of-Chain}
 use Rattle.step_code.specs.Capped.{capped}
 use Rattle.step_code.specs.Lengths.{length_of, length_rest}

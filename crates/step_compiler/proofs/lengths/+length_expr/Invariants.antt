@@ -1,5 +1,5 @@
 use Rattle.std.proofs.Common.{◌≡◌, ◌≤◌, ◌+◌, ◌-◌, ◌^◌, drop}
-use Rattle.pals_base.specs.Seen.{operands_along}
+use Rattle.pals_base.specs.proof.Seen.{operands_along}
 use Rattle.step_code.specs.Capped.{capped}
 use Rattle.step_code.specs.Lengths.{length_rest}
 use Rattle.step_compiler.proofs.lengths.+length_expr.Given as goal

@@ -2,7 +2,7 @@ use Rattle.std.proofs.Common.{◌≡◌, ◌∙◌, ◌<◌, Bool, true, false, 
 use Rattle.std.specs.Prelude.{fold, replicate}
 use Rattle.pals_base.specs.Tree.{Edge}
 use Rattle.pals_base.specs.declared.behaviour.BehaviourParts.{BehaviourParts}
-use Rattle.step_compiler.specs.Order.{is_placed, is_awaited, may_follow, states_outside, with_target}
+use Rattle.step_compiler.specs.proof.Order.{is_placed, is_awaited, may_follow, states_outside, with_target}
 use Rattle.step_compiler.proofs.Listing.{found, skipped}
 use Rattle.step_compiler.proofs.Marking.{outside_tells, awaited_tells}
 use Rattle.step_compiler.proofs.order.next_state.Goals as goal

@@ -2,10 +2,11 @@ use Rattle.std.proofs.Common.{◌≡◌, ◌∙◌, [], ◌∷◌, ◌++◌, len
 use Rattle.std.specs.Prelude.{slice_get}
 use Rattle.pals_base.specs.Fire.{completes, is_complete}
 use Rattle.pals_base.specs.Tree.{Edge}
-use Rattle.pals_base.specs.Seen.{trigger_of, actions_along}
+use Rattle.pals_base.specs.proof.Seen.{trigger_of, actions_along}
 use Rattle.step_code.specs.Lengths.{length_trigger}
 use Rattle.step_compiler.specs.Layout.{code_acts}
-use Rattle.step_compiler.specs.Blocks.{trigger_code, last_instr, past, in_list}
+use Rattle.step_compiler.specs.Blocks.{trigger_code, last_instr, past}
+use Rattle.step_compiler.specs.proof.Blocks.{in_list}
 use Rattle.step_compiler.proofs.Standing.{trigger-length}
 use Rattle.step_compiler.proofs.Appending.{on_ok, between}
 use Rattle.step_compiler.proofs.transitions.push_transition.Goals as goal

@@ -1,7 +1,7 @@
 use Rattle.std.proofs.Common.{◌≡◌, subst}
 use Rattle.pals_base.specs.Fire.{Fired}
 use Rattle.step_code.specs.declared.instr.CodeParts.{CodeParts}
-use Rattle.step_code.specs.Exec.{exec, Leaves}
+use Rattle.step_code.specs.proof.Exec.{exec, Leaves}
 use Rattle.step_vm.proofs.Fitting.{frame_fits}
 use Rattle.step_vm.proofs.steps.run.Goals as goal
 

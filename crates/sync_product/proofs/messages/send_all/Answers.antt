@@ -7,8 +7,8 @@ use Rattle.pals_model.specs.declared.design.Component.{Component}
 use Rattle.pals_model.specs.declared.design.Link.{Link}
 use Rattle.pals_model.specs.Rules.{IsLink}
 use Rattle.pals_model.proofs.Lookups.{at_element}
-use Rattle.sync_product.specs.Sizes.{stage_size, stage_size_of, stage_sizes, message_sizes}
-use Rattle.sync_product.specs.Rounds.{sent_by}
+use Rattle.sync_product.specs.proof.Sizes.{stage_size, stage_size_of, stage_sizes, message_sizes}
+use Rattle.sync_product.specs.proof.Rounds.{sent_by}
 use Rattle.sync_product.proofs.Filling.{filled_more, same_sizes}
 use Rattle.sync_product.proofs.Tables.{count_of_sized, within_same}
 use Rattle.sync_product.proofs.Sending.{sized_message, sent_item}

@@ -6,8 +6,8 @@ use Rattle.pals_base.specs.declared.values.Port.TheVariants.{Absent}
 use Rattle.pals_base.specs.declared.values.Frame.{Frame}
 use Rattle.pals_model.specs.declared.design.Component.{Component}
 use Rattle.pals_model.specs.declared.rounds.Part.{Part}
-use Rattle.sync_product.specs.State.{opening_part}
-use Rattle.sync_product.specs.Sizes.{tap_ports}
+use Rattle.sync_product.specs.proof.State.{opening_part}
+use Rattle.sync_product.specs.proof.Sizes.{tap_ports}
 use Rattle.sync_product.proofs.Tables.{numbered-at, entry_at, within_table, item_at}
 use Rattle.sync_product.proofs.opening.opening_parts.Goals as goal
 

@@ -1,6 +1,6 @@
 use Rattle.std.proofs.Common.{◌≡◌, length, take, map}
 use Rattle.pals_base.specs.Steps.{column}
-use Rattle.sync_product.specs.Rounds.{brought}
+use Rattle.sync_product.specs.proof.Rounds.{brought}
 use Rattle.sync_product.proofs.reads.write_inputs.Given as goal
 
 -- the first places are written

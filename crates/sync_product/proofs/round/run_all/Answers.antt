@@ -6,7 +6,7 @@ use Rattle.pals_base.specs.Steps.{upwards}
 use Rattle.pals_model.specs.declared.design.Component.{Component}
 use Rattle.pals_model.specs.declared.rounds.Part.{Part}
 use Rattle.pals_model.specs.Inputs.{source_of, sources_of}
-use Rattle.sync_product.specs.Sizes.{PartSize, StageSize, frame_size, part_size, part_size_of, part_sizes, stage_size, stage_size_of, stage_sizes, tap_ports}
+use Rattle.sync_product.specs.proof.Sizes.{PartSize, StageSize, frame_size, part_size, part_size_of, part_sizes, stage_size, stage_size_of, stage_sizes, tap_ports}
 use Rattle.sync_product.proofs.Filling.{same_sizes}
 use Rattle.sync_product.proofs.Tables.{numbered-at, mapped-at, entry_at, sized_at, within_table, within_sized, count_of_sized, item_at}
 use Rattle.sync_product.proofs.Sizing.{length-upwards}

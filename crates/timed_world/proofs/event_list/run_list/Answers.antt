@@ -2,8 +2,8 @@ use Rattle.std.proofs.Common.{◌≡◌, List, [], ◌∷◌, ◌++◌, take, No
 use Rattle.std.proofs.lemmas.List.{take_more}
 use Rattle.pals_runs.specs.declared.events.Event.{Event}
 use Rattle.timed_laws.specs.Faults.{fault_of}
-use Rattle.timed_world.specs.Values.{world_of}
-use Rattle.timed_world.specs.EventLists.{Leads}
+use Rattle.timed_world.specs.proof.Values.{world_of}
+use Rattle.timed_world.specs.proof.EventLists.{Leads}
 use Rattle.timed_world.proofs.Leads.{leads_more}
 use Rattle.timed_world.proofs.event_list.run_list.Goals as goal
 

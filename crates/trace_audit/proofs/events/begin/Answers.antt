@@ -3,8 +3,8 @@ use Rattle.pals_runs.specs.declared.verdicts.TraceRule.TheVariants as rule
 use Rattle.bus_machine.specs.NodeEvents.{is_waiting}
 use Rattle.bus_machine.specs.Machine.{Start}
 use Rattle.trace_laws.specs.TraceRules.{alarm_at, falls}
-use Rattle.pals_node.specs.Answers.{is_early}
-use Rattle.pals_bus.specs.Answers.{BusStartEnds}
+use Rattle.pals_node.specs.proof.Answers.{is_early}
+use Rattle.pals_bus.specs.proof.Answers.{BusStartEnds}
 use Rattle.trace_audit.proofs.Breaking.{early_breaks}
 use Rattle.trace_audit.proofs.Starting.{started, misses}
 use Rattle.trace_audit.proofs.events.begin.Goals as goal

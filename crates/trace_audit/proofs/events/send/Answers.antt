@@ -7,8 +7,8 @@ use Rattle.bus_machine.specs.Nodes.{round_of}
 use Rattle.bus_machine.specs.Plans.{plan_of}
 use Rattle.bus_machine.specs.States.{node_at}
 use Rattle.bus_machine.specs.Machine.{Send}
-use Rattle.pals_node.specs.Answers.{is_early}
-use Rattle.pals_bus.specs.Answers.{BusSendEnds}
+use Rattle.pals_node.specs.proof.Answers.{is_early}
+use Rattle.pals_bus.specs.proof.Answers.{BusSendEnds}
 use Rattle.trace_audit.proofs.Breaking.{early_breaks}
 use Rattle.trace_audit.proofs.events.send.Goals as goal
 

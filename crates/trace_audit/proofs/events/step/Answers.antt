@@ -8,8 +8,8 @@ use Rattle.bus_machine.specs.NodeEvents.{next_step}
 use Rattle.bus_machine.specs.Plans.{plan_of}
 use Rattle.bus_machine.specs.States.{node_at}
 use Rattle.bus_machine.specs.Machine.{Step}
-use Rattle.pals_node.specs.Answers.{is_early}
-use Rattle.pals_bus.specs.Answers.{BusStepEnds}
+use Rattle.pals_node.specs.proof.Answers.{is_early}
+use Rattle.pals_bus.specs.proof.Answers.{BusStepEnds}
 use Rattle.trace_audit.proofs.Breaking.{early_breaks}
 use Rattle.trace_audit.proofs.Numbers.{next_is, step_fits}
 use Rattle.trace_audit.proofs.events.step.Goals as goal

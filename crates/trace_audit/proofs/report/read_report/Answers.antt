@@ -2,8 +2,8 @@ use Rattle.std.proofs.Common.{sym, subst₂}
 use Rattle.std.specs.Prelude.{IfOk}
 use Rattle.pals_model.specs.declared.design.DesignParts.{DesignParts}
 use Rattle.pals_model.specs.declared.rounds.Env.{Env}
-use Rattle.trace_audit.specs.Reports.{ReportEnds}
-use Rattle.trace_audit.specs.Rows.{IsAtLine}
+use Rattle.trace_audit.specs.proof.Reports.{ReportEnds}
+use Rattle.trace_audit.specs.proof.Rows.{IsAtLine}
 use Rattle.trace_audit.proofs.report.read_report.Goals as goal
 
 pub read_lines-requires-clause-rows : goal.read_lines-requires-clause-rows

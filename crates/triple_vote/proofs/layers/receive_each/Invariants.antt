@@ -1,4 +1,4 @@
-use Rattle.triple_vote.specs.Triples.{AreHeard}
+use Rattle.triple_vote.specs.proof.Triples.{AreHeard}
 use Rattle.triple_vote.proofs.Layering.{ReceivedTo}
 use Rattle.triple_vote.proofs.layers.receive_each.Given as goal
 

@@ -1,6 +1,6 @@
 use Rattle.std.proofs.Common.{◌≡◌, map}
-use Rattle.sync_product.specs.Sizes.{stage_size}
-use Rattle.triple_vote.specs.Triples.{AreThree, StayPut}
+use Rattle.sync_product.specs.proof.Sizes.{stage_size}
+use Rattle.triple_vote.specs.proof.Triples.{AreThree, StayPut}
 use Rattle.triple_vote.proofs.Layering.{MadeTo}
 use Rattle.triple_vote.proofs.layers.run_each.Given as goal
 

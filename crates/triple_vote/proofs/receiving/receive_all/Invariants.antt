@@ -1,9 +1,9 @@
 use Rattle.std.proofs.Common.{◌≡◌, [], slice_index_or}
 use Rattle.pals_model.specs.declared.design.Link.{Link}
-use Rattle.sync_product.specs.Sizes.{message_sizes}
+use Rattle.sync_product.specs.proof.Sizes.{message_sizes}
 use Rattle.triple_vote.specs.Replicas.{is_replicated}
-use Rattle.triple_vote.specs.Layers.{lengths, is_there}
-use Rattle.triple_vote.specs.Triples.{there_in, sent_in, received_of}
+use Rattle.triple_vote.specs.proof.Layers.{lengths, is_there}
+use Rattle.triple_vote.specs.proof.Triples.{there_in, sent_in, received_of}
 use Rattle.triple_vote.proofs.Filling.{Filled}
 use Rattle.triple_vote.proofs.receiving.receive_all.Given as goal
 

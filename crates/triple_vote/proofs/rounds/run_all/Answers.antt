@@ -3,8 +3,8 @@ use Rattle.std.proofs.lemmas.List.{get_or_default}
 use Rattle.std.proofs.lemmas.Option.{slice_get_within}
 use Rattle.pals_base.specs.Steps.{frame_after, outputs}
 use Rattle.pals_model.specs.declared.rounds.Part.{Part}
-use Rattle.sync_product.specs.Sizes.{PartSize, frame_size, part_size, stage_size}
-use Rattle.sync_product.specs.Rounds.{frames_of, vectors}
+use Rattle.sync_product.specs.proof.Sizes.{PartSize, frame_size, part_size, stage_size}
+use Rattle.sync_product.specs.proof.Rounds.{frames_of, vectors}
 use Rattle.sync_product.proofs.Filling.{same_sizes}
 use Rattle.triple_vote.proofs.Sizing.{stage_within}
 use Rattle.triple_vote.proofs.Running.{run_skip, run_more, frame_by, rows_by, component_is, node_within, part_within, part_room, stage_room, sources_within, sources_are, sources_count}

@@ -1,6 +1,6 @@
 use Rattle.std.proofs.Common.{◌≡◌, map}
-use Rattle.sync_product.specs.Sizes.{part_size, stage_size}
-use Rattle.sync_product.specs.Rounds.{frames_of}
+use Rattle.sync_product.specs.proof.Sizes.{part_size, stage_size}
+use Rattle.sync_product.specs.proof.Rounds.{frames_of}
 use Rattle.triple_vote.proofs.Running.{RunTo}
 use Rattle.triple_vote.proofs.rounds.run_all.Given as goal
 

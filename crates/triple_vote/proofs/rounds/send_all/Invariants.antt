@@ -1,8 +1,8 @@
 use Rattle.std.proofs.Common.{◌≡◌}
 use Rattle.pals_model.specs.declared.design.Link.{Link}
-use Rattle.sync_product.specs.Sizes.{message_sizes}
-use Rattle.sync_product.specs.Rounds.{sent_by}
-use Rattle.triple_vote.specs.Layers.{lengths, is_there}
+use Rattle.sync_product.specs.proof.Sizes.{message_sizes}
+use Rattle.sync_product.specs.proof.Rounds.{sent_by}
+use Rattle.triple_vote.specs.proof.Layers.{lengths, is_there}
 use Rattle.triple_vote.proofs.Filling.{Filled}
 use Rattle.triple_vote.proofs.rounds.send_all.Given as goal
 

@@ -1,7 +1,7 @@
 use Rattle.std.proofs.Common.{◌∙◌, true, refl, ap, length, arith}
 use Rattle.pals_model.specs.declared.design.Tap.{Tap}
 use Rattle.triple_vote.specs.Replicas.{is_replicated}
-use Rattle.triple_vote.specs.Triples.{shown_in, shown_of}
+use Rattle.triple_vote.specs.proof.Triples.{shown_in, shown_of}
 use Rattle.triple_vote.proofs.Filling.{filled_all}
 use Rattle.triple_vote.proofs.Gathering.{shown_fit, shown_sizes_stay, shown_more}
 use Rattle.triple_vote.proofs.showing.show_each.Goals as goal

@@ -1,5 +1,5 @@
 use Rattle.std.proofs.Common.{◌≡◌, ap, ◌∙◌}
-use Rattle.pals_base.specs.Seen.{tree_of, operands_along}
+use Rattle.pals_base.specs.proof.Seen.{tree_of, operands_along}
 use Rattle.pals_base.specs.Tree.{Chain}
 use Rattle.pals_base.proofs.Trees.{tree_of-Chain}
 use Rattle.world_gen.proofs.ring_behaviours.chain.Goals as goal

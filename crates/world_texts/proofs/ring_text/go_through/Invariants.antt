@@ -1,5 +1,5 @@
 use Rattle.std.proofs.Common.{take}
-use Rattle.timed_world.specs.EventLists.{Leads}
+use Rattle.timed_world.specs.proof.EventLists.{Leads}
 use Rattle.world_texts.proofs.ring_text.go_through.Given as goal
 
 -- the first events have happened

@@ -5,7 +5,7 @@ use Rattle.pals_runs.specs.declared.events.Event.{Event}
 use Rattle.pals_bus.specs.Values.{BusValue}
 use Rattle.timed_laws.specs.Faults.{fault_of}
 use Rattle.loose_world.specs.Worlds.{told_by}
-use Rattle.timed_world.specs.Values.{world_of, Moves}
+use Rattle.timed_world.specs.proof.Values.{world_of, Moves}
 use Rattle.world_texts.proofs.WorldTexts.{telling_more}
 use Rattle.world_texts.proofs.world_text.tell_events.Goals as goal
 

@@ -1,5 +1,5 @@
 use Rattle.std.proofs.Common.{take}
-use Rattle.world_texts.specs.WorldTexts.{LeadsTelling}
+use Rattle.world_texts.specs.proof.WorldTexts.{LeadsTelling}
 use Rattle.world_texts.proofs.world_text.tell_events.Given as goal
 
 -- the first events have happened, and what they sent is told

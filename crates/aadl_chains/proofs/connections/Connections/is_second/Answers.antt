@@ -1,5 +1,6 @@
 use Rattle.std.proofs.Common.{ap, sym, ◌∙◌}
-use Rattle.aadl_chains.specs.Firsts.{target_in, is_before}
+use Rattle.aadl_chains.specs.Firsts.{target_in}
+use Rattle.aadl_chains.specs.proof.Firsts.{is_before}
 use Rattle.aadl_chains.proofs.Tables.{is_second-tells, no_second}
 use Rattle.aadl_chains.proofs.connections.Connections.is_second.Goals as goal
 

@@ -1,6 +1,6 @@
 use Rattle.std.proofs.Common.{◌∙◌, ap, sym}
-use Rattle.aadl_tree.specs.PackageViews.{placed}
-use Rattle.aadl_chains.specs.Inside.{reaches_in}
+use Rattle.aadl_tree.specs.proof.PackageViews.{placed}
+use Rattle.aadl_chains.specs.proof.Inside.{reaches_in}
 use Rattle.aadl_chains.proofs.Joining.{reaches_in_to, reaches_in_from}
 use Rattle.aadl_chains.proofs.inside.Inside.reaches.Goals as goal
 

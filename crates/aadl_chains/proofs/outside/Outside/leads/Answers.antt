@@ -1,5 +1,5 @@
 use Rattle.std.proofs.Common.{◌∙◌, sym}
-use Rattle.aadl_tree.specs.PackageViews.{placed}
+use Rattle.aadl_tree.specs.proof.PackageViews.{placed}
 use Rattle.aadl_chains.proofs.Leading.{leads_to, leads_found}
 use Rattle.aadl_chains.proofs.outside.Outside.leads.Goals as goal
 

@@ -1,5 +1,5 @@
 use Rattle.std.proofs.Common.{◌≡◌, Some, ◌∙◌, ap}
-use Rattle.aadl_tree.specs.PackageViews.{placed}
+use Rattle.aadl_tree.specs.proof.PackageViews.{placed}
 use Rattle.aadl_names.specs.declared.site.Site.TheVariants.{Own}
 use Rattle.aadl_names.proofs.Finds.{on_ok}
 use Rattle.aadl_chains.proofs.WalkTables.{own_taken}

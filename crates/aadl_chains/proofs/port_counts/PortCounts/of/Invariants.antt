@@ -1,4 +1,4 @@
-use Rattle.aadl_tree.specs.PackageViews.{placed}
+use Rattle.aadl_tree.specs.proof.PackageViews.{placed}
 use Rattle.aadl_chains.proofs.WalkTables.{FrontTable}
 use Rattle.aadl_chains.proofs.port_counts.PortCounts.of.Given as goal
 

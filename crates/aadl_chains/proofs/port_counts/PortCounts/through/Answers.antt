@@ -1,9 +1,9 @@
 use Rattle.std.proofs.Common.{◌≡◌, ◌∙◌, ap, subst, sym, Some}
-use Rattle.aadl_tree.specs.PackageViews.{placed}
+use Rattle.aadl_tree.specs.proof.PackageViews.{placed}
 use Rattle.aadl_names.specs.declared.site.Site.TheVariants.{Inner}
 use Rattle.aadl_chains.proofs.OnChains.{opposed}
-use Rattle.aadl_chains.specs.Numbers.{IsNumber}
-use Rattle.aadl_chains.specs.PortCounts.{Through, taken_by}
+use Rattle.aadl_chains.specs.proof.Numbers.{IsNumber}
+use Rattle.aadl_chains.specs.proof.PortCounts.{Through, taken_by}
 use Rattle.aadl_chains.proofs.Steps.{own_no_inner, none_no_inner}
 use Rattle.aadl_chains.proofs.WalkTables.{through-number, through-second, through-none}
 use Rattle.aadl_chains.proofs.port_counts.PortCounts.through.Goals as goal

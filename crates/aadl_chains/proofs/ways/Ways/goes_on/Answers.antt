@@ -1,8 +1,8 @@
 use Rattle.std.proofs.Common.{◌↔◌, IsTrue, subst, sym}
-use Rattle.aadl_tree.specs.PackageViews.{placed}
+use Rattle.aadl_tree.specs.proof.PackageViews.{placed}
 use Rattle.aadl_chains.specs.declared.outside.Side.{Side}
-use Rattle.aadl_chains.specs.Outside.{LeadsFrom}
-use Rattle.aadl_chains.specs.OnChains.{IsOnWay}
+use Rattle.aadl_chains.specs.proof.Outside.{LeadsFrom}
+use Rattle.aadl_chains.specs.proof.OnChains.{IsOnWay}
 use Rattle.aadl_chains.proofs.EndFaults.{ways_tell, no_target}
 use Rattle.aadl_chains.proofs.ways.Ways.goes_on.Goals as goal
 

@@ -1,4 +1,4 @@
-use Rattle.aadl_tree.specs.PackageViews.{placed}
+use Rattle.aadl_tree.specs.proof.PackageViews.{placed}
 use Rattle.aadl_chains.proofs.EndFaults.{no_source}
 use Rattle.aadl_chains.proofs.ways.Ways.has.Goals as goal
 

@@ -1,8 +1,8 @@
 use Rattle.std.proofs.Common.{◌<◌, ◌≤◌, ◌∙◌, ℕ, ◌+◌, [], ap, arith, get_or, length, subst, sym}
 use Rattle.std.proofs.lemmas.List.{length_push}
-use Rattle.aadl_tree.specs.PackageViews.{placed}
+use Rattle.aadl_tree.specs.proof.PackageViews.{placed}
 use Rattle.aadl_names.specs.Resolving.{implementation_at, ports_at}
-use Rattle.aadl_instance.specs.Numbers.{AreAmong}
+use Rattle.aadl_instance.specs.proof.Numbers.{AreAmong}
 use Rattle.aadl_instance.proofs.Among.{more_at, rows_whole}
 use Rattle.aadl_instance.proofs.numbers.PortNumbers.of.Goals as goal
 

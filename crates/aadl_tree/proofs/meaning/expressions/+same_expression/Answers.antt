@@ -1,8 +1,8 @@
 use mathlib.Core.Bool.{beq}
 use Rattle.std.proofs.Common.{◌≡◌, Bool, true, false, refl, arith, ap, sym, ◌∙◌}
 use Rattle.std.specs.Prelude.{option_map}
-use Rattle.aadl_tree.specs.ExpressionViews.{primary_view, factor_view, leading_view, term_view}
-use Rattle.aadl_tree.specs.Maps.{no_place}
+use Rattle.aadl_tree.specs.proof.ExpressionViews.{primary_view, factor_view, leading_view, term_view}
+use Rattle.aadl_tree.specs.proof.Maps.{no_place}
 use Rattle.aadl_tree.specs.declared.expressions.Factor.TheViews.{out-Sum}
 use Rattle.aadl_tree.proofs.ExpressionViews.{view-out-expression, view-out-sum, view-term, view-Whole, view-Truth, view-Named, view-Group, view-Abs, view-Not, view-Plain}
 use Rattle.aadl_tree.proofs.Primaries.{only_whole, only_truth, only_named, only_group}

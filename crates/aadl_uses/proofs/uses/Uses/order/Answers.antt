@@ -1,6 +1,6 @@
 use Rattle.std.proofs.Common.{subst, sym}
-use Rattle.aadl_tree.specs.PackageViews.{placed}
-use Rattle.aadl_uses.specs.Graphs.{Graph, IsWithin, LeadsBack}
+use Rattle.aadl_tree.specs.proof.PackageViews.{placed}
+use Rattle.aadl_uses.specs.proof.Graphs.{Graph, IsWithin, LeadsBack}
 use Rattle.aadl_uses.proofs.Containing.{within}
 use Rattle.aadl_uses.proofs.Cycles.{no_way_back}
 use Rattle.aadl_uses.proofs.Counted.{ok_order}

@@ -1,6 +1,6 @@
 use Rattle.std.proofs.Common.{◌∙◌, ap}
-use Rattle.aadl_tree.specs.PackageViews.{placed}
-use Rattle.aadl_uses.specs.Graphs.{Graph, targets_in}
+use Rattle.aadl_tree.specs.proof.PackageViews.{placed}
+use Rattle.aadl_uses.specs.proof.Graphs.{Graph, targets_in}
 use Rattle.aadl_uses.proofs.Containing.{row}
 use Rattle.aadl_uses.proofs.uses.Uses.targets.Goals as goal
 

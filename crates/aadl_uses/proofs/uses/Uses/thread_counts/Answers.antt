@@ -1,7 +1,7 @@
 use Rattle.std.proofs.Common.{◌∙◌, subst, sym}
-use Rattle.aadl_tree.specs.PackageViews.{placed}
-use Rattle.aadl_uses.specs.Graphs.{Graph}
-use Rattle.aadl_uses.specs.Orders.{IsOrder}
+use Rattle.aadl_tree.specs.proof.PackageViews.{placed}
+use Rattle.aadl_uses.specs.proof.Graphs.{Graph}
+use Rattle.aadl_uses.specs.proof.Orders.{IsOrder}
 use Rattle.aadl_uses.proofs.Counted.{ok_counts}
 use Rattle.aadl_uses.proofs.uses.Uses.thread_counts.Goals as goal
 

@@ -1,5 +1,5 @@
 use Rattle.std.proofs.Common.{ap, ◌∙◌}
-use Rattle.annex_resolve.specs.Tables.{cell}
+use Rattle.annex_resolve.specs.proof.Tables.{cell}
 use Rattle.annex_resolve.proofs.Tables.{cell_of_table}
 use Rattle.annex_resolve.proofs.cycles.Table.reaches.Goals as goal
 

@@ -1,6 +1,6 @@
 use Rattle.std.proofs.Common.{◌≡◌, ◌-◌, ◌≤◌, [], ◌∷◌, ◌++◌, length, drop, sym, ap, ◌∙◌, subst, arith, length-append}
 use Rattle.link_buffers.specs.declared.ring.Standing.{Standing}
-use Rattle.link_buffers.specs.Rings.{AreTopped}
+use Rattle.link_buffers.specs.proof.Rings.{AreTopped}
 use Rattle.link_buffers.proofs.Rings.{topped_push}
 use Rattle.link_buffers.proofs.flight.Flight.flight_add.Goals as goal
 

@@ -5,7 +5,7 @@ use Rattle.std.proofs.lemmas.List.Edits.{length-remove}
 use Rattle.pals_model.specs.declared.flight.FlightCopy.{FlightCopy}
 use Rattle.pals_model.specs.Flights.{is_of, oldest}
 use Rattle.link_buffers.specs.declared.ring.Standing.{Standing}
-use Rattle.link_buffers.specs.Rings.{copies_of, AreTopped}
+use Rattle.link_buffers.specs.proof.Rings.{copies_of, AreTopped}
 use Rattle.link_buffers.proofs.Firsts.{find_some, find_none, without_some}
 use Rattle.link_buffers.proofs.Rings.{oldest_within, standing_there, tuple_at, copies_remove, topped_remove}
 use Rattle.link_buffers.proofs.flight.Flight.flight_take.Goals.{After-map}

@@ -1,10 +1,10 @@
 use Rattle.std.proofs.Common.{◌≡◌, ◌≢◌, ◌<◌, false, length, remove, Contains, Some, slice_get, sym, ap, subst, rules, tests, arith}
-use Rattle.link_buffers.specs.Halving.{IsFirstToFail}
+use Rattle.link_buffers.specs.proof.Halving.{IsFirstToFail}
 use Rattle.std.proofs.lemmas.List.Edits.{length-remove}
 use Rattle.std.proofs.lemmas.List.Quantifiers.{all_pairs_remove}
 use Rattle.std.proofs.lemmas.Option.{slice_get_within}
 use Rattle.std.proofs.lemmas.Grind.{common_steps}
-use Rattle.link_buffers.specs.Queues.{comes_before, IsRising}
+use Rattle.link_buffers.specs.proof.Queues.{comes_before, IsRising}
 use Rattle.link_buffers.proofs.Entries.{parted_before, removed, found, absent, kept}
 use Rattle.link_buffers.proofs.queue.DueQueue.remove.Goals.{After-stands_at, After-take_at}
 use Rattle.link_buffers.proofs.queue.DueQueue.remove.Goals as goal

@@ -1,6 +1,6 @@
 use Rattle.std.proofs.Common.{◌≡◌, sym, ◌∙◌, arith}
 use Rattle.std.proofs.lemmas.Grind.{common_steps}
-use Rattle.node_threads.specs.Courses.{note_at}
+use Rattle.node_threads.specs.proof.Courses.{note_at}
 use Rattle.node_threads.proofs.Waiting.{noted_sent}
 use Rattle.node_threads.proofs.course.Course.has_sent.Goals as goal
 

@@ -4,7 +4,7 @@ use Rattle.pals_model.specs.declared.design.DesignParts.{DesignParts}
 use Rattle.pals_model.specs.Rules.{IsDesign}
 use Rattle.node_threads.specs.declared.ends.Note.{Note}
 use Rattle.node_threads.specs.declared.ends.Note.TheVariants as note
-use Rattle.node_threads.specs.Courses.{course_of, IsCourse}
+use Rattle.node_threads.specs.proof.Courses.{course_of, IsCourse}
 use Rattle.node_threads.proofs.Openings.{course_opens}
 use Rattle.node_threads.proofs.course.Course.new.Goals as goal
 

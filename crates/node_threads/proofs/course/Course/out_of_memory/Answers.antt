@@ -1,6 +1,6 @@
 use Rattle.std.proofs.Common.{List, sym, subst}
 use Rattle.node_threads.specs.declared.ends.Note.{Note}
-use Rattle.node_threads.specs.Courses.{course_of, IsCourse, Stays}
+use Rattle.node_threads.specs.proof.Courses.{course_of, IsCourse, Stays}
 use Rattle.node_threads.proofs.Steps.{memory_keeps}
 use Rattle.node_threads.proofs.course.Course.out_of_memory.Goals as goal
 

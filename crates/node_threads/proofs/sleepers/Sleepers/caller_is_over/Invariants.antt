@@ -1,6 +1,6 @@
 use Rattle.std.proofs.Common.{◌≡◌, ℕ, ◌<◌, true}
-use Rattle.node_threads.specs.Courses.{IsOpen, IsDone}
-use Rattle.node_threads.specs.Sleepers.{seat_at}
+use Rattle.node_threads.specs.proof.Courses.{IsOpen, IsDone}
+use Rattle.node_threads.specs.proof.Sleepers.{seat_at}
 use Rattle.node_threads.proofs.sleepers.Sleepers.caller_is_over.Given as goal
 
 -- the nodes so far that the calling thread has are done, where they go on

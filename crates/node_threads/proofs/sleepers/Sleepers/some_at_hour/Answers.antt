@@ -1,5 +1,5 @@
 use Rattle.std.proofs.Common.{ℕ, arith}
-use Rattle.node_threads.specs.Sleepers.{IsAbove}
+use Rattle.node_threads.specs.proof.Sleepers.{IsAbove}
 use Rattle.node_threads.proofs.Seats.{one_more}
 use Rattle.node_threads.proofs.sleepers.Sleepers.some_at_hour.Goals as goal
 

@@ -1,5 +1,5 @@
 use Rattle.std.proofs.Common.{ℕ, ◌<◌}
-use Rattle.node_threads.specs.Sleepers.{IsAbove}
+use Rattle.node_threads.specs.proof.Sleepers.{IsAbove}
 use Rattle.node_threads.proofs.sleepers.Sleepers.some_at_hour.Given as goal
 
 -- the targets of the nodes so far are above the hour

@@ -1,4 +1,4 @@
-use Rattle.node_threads.specs.Sleepers.{Rouses}
+use Rattle.node_threads.specs.proof.Sleepers.{Rouses}
 use Rattle.node_threads.proofs.sleepers.Sleepers.wake_targets.Given as goal
 
 -- some are roused

@@ -1,5 +1,5 @@
 use Rattle.std.proofs.Common.{◌≡◌, length, map}
-use Rattle.pals_base.specs.Settling.{settles}
+use Rattle.pals_base.specs.proof.Settling.{settles}
 use Rattle.pals_base.specs.Steps.{upwards}
 use Rattle.pals_base.proofs.rules.states.settled_states.Given as goal
 

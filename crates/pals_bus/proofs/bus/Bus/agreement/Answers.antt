@@ -1,8 +1,9 @@
 use Rattle.std.proofs.Common.{◌≡◌, subst}
 use Rattle.std.specs.Arc.{arc_value}
 use Rattle.bus_machine.specs.Agreement.{Agrees}
-use Rattle.pals_bus.specs.Keeping.{value_of}
-use Rattle.pals_bus.specs.Values.{AreCodes, BusValue}
+use Rattle.pals_bus.specs.proof.Keeping.{value_of}
+use Rattle.pals_bus.specs.proof.Values.{AreCodes}
+use Rattle.pals_bus.specs.Values.{BusValue}
 use Rattle.pals_bus.proofs.NodeChanges.{codes_mean}
 use Rattle.pals_bus.proofs.Views.{agrees}
 use Rattle.pals_bus.proofs.bus.Bus.agreement.Goals as goal

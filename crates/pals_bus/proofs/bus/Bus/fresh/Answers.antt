@@ -2,12 +2,13 @@ use Rattle.std.proofs.Common.{◌≡◌, ◌∙◌, None, false, length, map, re
 use Rattle.std.specs.Arc.{arc_value}
 use Rattle.pals_model.specs.declared.design.DesignParts.{DesignParts}
 use Rattle.pals_model.specs.declared.design.Link.{Link}
-use Rattle.pals_node.specs.Values.{NodeValue, opening_value}
+use Rattle.pals_node.specs.proof.Values.{NodeValue, opening_value}
 use Rattle.pals_bus.specs.declared.fields.Fields.{Fields}
-use Rattle.pals_bus.specs.Absent.{no_flight, no_queue}
-use Rattle.pals_bus.specs.Keeping.{value_of}
-use Rattle.pals_bus.specs.LinksFrom.{AreOutgoing}
-use Rattle.pals_bus.specs.Values.{BusValue, opening_bus}
+use Rattle.pals_bus.specs.proof.Absent.{no_flight, no_queue}
+use Rattle.pals_bus.specs.proof.Keeping.{value_of}
+use Rattle.pals_bus.specs.proof.LinksFrom.{AreOutgoing}
+use Rattle.pals_bus.specs.Values.{BusValue}
+use Rattle.pals_bus.specs.proof.Values.{opening_bus}
 use Rattle.pals_bus.proofs.Openings.{IsAnew, anew_opens, anew_shows, opening_keeps}
 use Rattle.pals_bus.proofs.NodeChanges.{codes}
 use Rattle.pals_bus.proofs.bus.Bus.fresh.Goals as goal

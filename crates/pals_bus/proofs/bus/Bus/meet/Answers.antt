@@ -1,7 +1,7 @@
 use Rattle.std.proofs.Common.{◌≡◌, ◌∙◌, Some, false, is_some, refl, sym, subst, rules, tests, arith}
-use Rattle.pals_bus.specs.Keeping.{value_of}
+use Rattle.pals_bus.specs.proof.Keeping.{value_of}
 use Rattle.pals_bus.specs.Values.{BusValue}
-use Rattle.pals_bus.specs.Meeting.{HasEnded}
+use Rattle.pals_bus.specs.proof.Meeting.{HasEnded}
 use Rattle.pals_bus.proofs.TargetLists.{some_within, least_of}
 use Rattle.pals_bus.proofs.Targets.{target_listed, within_list, all_listed, within_run, still_going}
 use Rattle.pals_bus.proofs.bus.Bus.meet.Goals as goal

@@ -2,11 +2,11 @@ use Rattle.std.proofs.Common.{◌∙◌, None, false, map, length, refl, ap, sub
 use Rattle.pals_model.specs.declared.design.DesignParts.{DesignParts}
 use Rattle.pals_model.specs.declared.design.Link.{Link}
 use Rattle.pals_model.specs.Rules.{IsDesign}
-use Rattle.pals_node.specs.Values.{NodeValue}
+use Rattle.pals_node.specs.proof.Values.{NodeValue}
 use Rattle.pals_bus.specs.declared.fields.Fields.{Fields}
-use Rattle.pals_bus.specs.Absent.{no_flight, no_queue}
-use Rattle.pals_bus.specs.LinksFrom.{AreOutgoing}
-use Rattle.pals_bus.specs.Openings.{AreOpening}
+use Rattle.pals_bus.specs.proof.Absent.{no_flight, no_queue}
+use Rattle.pals_bus.specs.proof.LinksFrom.{AreOutgoing}
+use Rattle.pals_bus.specs.proof.Openings.{AreOpening}
 use Rattle.pals_bus.proofs.Openings.{IsOpening, opening_keeps, opening_shows}
 use Rattle.pals_bus.proofs.bus.Bus.new.Goals as goal
 

@@ -8,7 +8,7 @@ use Rattle.pals_runs.specs.declared.journal.JournalEntry.TheVariants as entry
 use Rattle.bus_machine.specs.Machine.{Repeat}
 use Rattle.pals_bus.specs.declared.fields.Fields.{Fields}
 use Rattle.pals_bus.specs.Values.{BusValue, Happens}
-use Rattle.pals_bus.specs.Keeping.{value_of}
+use Rattle.pals_bus.specs.proof.Keeping.{value_of}
 use Rattle.pals_bus.proofs.NodeEnds.{room_shows}
 use Rattle.pals_bus.proofs.Repeats.{Repeats, oldest_kept, repeat_happens, repeat_keeps_bus}
 use Rattle.pals_bus.proofs.fields.Fields.copy_message.Goals as goal

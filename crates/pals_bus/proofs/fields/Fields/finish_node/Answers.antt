@@ -1,6 +1,6 @@
 use Rattle.std.proofs.Common.{OnErr}
-use Rattle.pals_node.specs.Answers.{NoneRuns}
-use Rattle.pals_node.specs.Values.{NodeValue}
+use Rattle.pals_node.specs.proof.Answers.{NoneRuns}
+use Rattle.pals_node.specs.proof.Values.{NodeValue}
 use Rattle.pals_bus.proofs.NodeTurns.{turn_told}
 use Rattle.pals_bus.proofs.fields.Fields.finish_node.Goals as goal
 

@@ -1,7 +1,7 @@
 use Rattle.std.proofs.Common.{OnOk}
-use Rattle.pals_node.specs.Answers.{FinishesHere}
-use Rattle.pals_node.specs.Values.{NodeValue}
-use Rattle.pals_bus.specs.NodeLists.{node_of}
+use Rattle.pals_node.specs.proof.Answers.{FinishesHere}
+use Rattle.pals_node.specs.proof.Values.{NodeValue}
+use Rattle.pals_bus.specs.proof.NodeLists.{node_of}
 use Rattle.pals_bus.proofs.NodeTurns.{turn_told}
 use Rattle.pals_bus.proofs.fields.Fields.finish_node_here.Goals as goal
 

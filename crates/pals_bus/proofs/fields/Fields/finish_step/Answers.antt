@@ -1,11 +1,11 @@
 use Rattle.std.proofs.Common.{refl, sym, subst, arith}
 use Rattle.std.proofs.lemmas.Grind.{common_steps}
 use Rattle.pals_runs.specs.declared.journal.JournalEntry.TheVariants as entry
-use Rattle.pals_node.specs.Values.{NodeValue}
-use Rattle.pals_node.specs.Answers.{FinishesWith}
+use Rattle.pals_node.specs.proof.Values.{NodeValue}
+use Rattle.pals_node.specs.proof.Answers.{FinishesWith}
 use Rattle.pals_bus.specs.declared.fields.Fields.{Fields}
-use Rattle.pals_bus.specs.Values.{node_value}
-use Rattle.pals_bus.specs.Keeping.{value_of}
+use Rattle.pals_bus.specs.proof.Values.{node_value}
+use Rattle.pals_bus.specs.proof.Keeping.{value_of}
 use Rattle.pals_bus.proofs.NodeTurns.{Turned}
 use Rattle.pals_bus.proofs.NodeEnds.{Stands, node_there, finish_answers, finish_leaves, finish_shows, finish_place}
 use Rattle.pals_bus.proofs.fields.Fields.finish_step.Goals as goal

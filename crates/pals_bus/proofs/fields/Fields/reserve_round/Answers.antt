@@ -4,9 +4,9 @@ use Rattle.pals_base.specs.declared.values.LinkNo.{LinkNo}
 use Rattle.pals_model.specs.declared.design.DesignParts.{DesignParts}
 use Rattle.pals_model.specs.declared.design.Link.{Link}
 use Rattle.pals_bus.specs.declared.fields.Fields.{Fields}
-use Rattle.pals_bus.specs.LinksFrom.{links_from}
-use Rattle.pals_bus.specs.Queues.{HasQueueRoomFor, HasQueueRoomOn}
-use Rattle.pals_bus.specs.Sending.{HasRoomFor, HasRoomOn}
+use Rattle.pals_bus.specs.proof.LinksFrom.{links_from}
+use Rattle.pals_bus.specs.proof.Queues.{HasQueueRoomFor, HasQueueRoomOn}
+use Rattle.pals_bus.specs.proof.Sending.{HasRoomFor, HasRoomOn}
 use Rattle.pals_bus.proofs.LinksFrom.{numbers_within, room_for, queue_room_for}
 use Rattle.pals_bus.proofs.Reserves.{more_room, held}
 use Rattle.pals_bus.proofs.fields.Fields.reserve_round.Goals as goal

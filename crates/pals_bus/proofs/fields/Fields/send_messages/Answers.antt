@@ -7,9 +7,9 @@ use Rattle.pals_model.specs.declared.flight.FlightCopy.{FlightCopy}
 use Rattle.pals_model.specs.Delays.{delay_of}
 use Rattle.bus_machine.specs.States.{link_at}
 use Rattle.pals_bus.specs.declared.fields.Fields.{Fields}
-use Rattle.pals_bus.specs.Absent.{no_link_no, no_queue}
-use Rattle.pals_bus.specs.LinksFrom.{no_numbers}
-use Rattle.pals_bus.specs.Queues.{with_due}
+use Rattle.pals_bus.specs.proof.Absent.{no_link_no, no_queue}
+use Rattle.pals_bus.specs.proof.LinksFrom.{no_numbers}
+use Rattle.pals_bus.specs.proof.Queues.{with_due}
 use Rattle.pals_bus.proofs.NextLinks.{reaches_more}
 use Rattle.pals_bus.proofs.SendSteps.{CanSend, Sending, own_links, sending_all, sending_delay, sending_more, sending_places, sending_room, sending_queue_room, message_left}
 use Rattle.pals_bus.proofs.fields.Fields.send_messages.Goals as goal

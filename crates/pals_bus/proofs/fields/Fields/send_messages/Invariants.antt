@@ -1,7 +1,7 @@
 use Rattle.std.proofs.Common.{slice_index_or}
 use Rattle.std.specs.Arc.{arc_value}
 use Rattle.std.specs.Vec.Iter.{into_iter_items}
-use Rattle.pals_bus.specs.LinksFrom.{no_numbers}
+use Rattle.pals_bus.specs.proof.LinksFrom.{no_numbers}
 use Rattle.pals_bus.proofs.NextLinks.{Reaches}
 use Rattle.pals_bus.proofs.SendSteps.{Sending}
 use Rattle.pals_bus.proofs.fields.Fields.send_messages.Given as goal

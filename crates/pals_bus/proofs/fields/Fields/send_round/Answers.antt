@@ -2,8 +2,8 @@ use Rattle.std.proofs.Common.{refl, sym, subst, arith}
 use Rattle.std.specs.Arc.{arc_value}
 use Rattle.std.proofs.lemmas.Grind.{common_steps}
 use Rattle.pals_bus.specs.declared.fields.Fields.{Fields}
-use Rattle.pals_bus.specs.Keeping.{node_in, value_of}
-use Rattle.pals_bus.specs.Queues.{AreQueuesAmid}
+use Rattle.pals_bus.specs.proof.Keeping.{node_in, value_of}
+use Rattle.pals_bus.specs.proof.Queues.{AreQueuesAmid}
 use Rattle.pals_bus.proofs.Sends.{send_queues}
 use Rattle.pals_bus.proofs.NodeEnds.{Stands, IsSent, node_there, send_answers, send_leaves, send_place}
 use Rattle.pals_bus.proofs.fields.Fields.send_round.Goals as goal

@@ -6,7 +6,7 @@ use Rattle.pals_runs.specs.declared.journal.JournalEntry.TheVariants as entry
 use Rattle.bus_machine.specs.Machine.{missed_stop}
 use Rattle.bus_machine.specs.Stops.{link_into}
 use Rattle.pals_bus.specs.declared.fields.Fields.{Fields}
-use Rattle.pals_bus.specs.Keeping.{run_of, state_of, value_of}
+use Rattle.pals_bus.specs.proof.Keeping.{run_of, state_of, value_of}
 use Rattle.pals_bus.proofs.NodeTurns.{Turned}
 use Rattle.pals_bus.proofs.NodeEnds.{IsReady, room_shows, values_show, start_answers, start_leaves, miss_answers, miss_leaves}
 use Rattle.pals_bus.proofs.fields.Fields.start_round.Goals as goal

@@ -2,7 +2,7 @@ use Rattle.std.proofs.Common.{◌≡◌, ◌∙◌, ◌∷◌, [], ◌++◌, Non
 use Rattle.std.proofs.lemmas.Grind.{common_steps}
 use Rattle.pals_runs.specs.declared.journal.JournalEntry.TheVariants as entry
 use Rattle.pals_bus.specs.declared.fields.Fields.{Fields}
-use Rattle.pals_bus.specs.Keeping.{value_of}
+use Rattle.pals_bus.specs.proof.Keeping.{value_of}
 use Rattle.pals_bus.proofs.NodeTurns.{Turned}
 use Rattle.pals_bus.proofs.NodeEnds.{Stands, journal_shows, step_answers, step_leaves}
 use Rattle.pals_bus.proofs.fields.Fields.start_step.Goals as goal

@@ -1,9 +1,9 @@
 use Rattle.std.proofs.Common.{◌∙◌, ◌<◌, length, sym, subst, arith}
 use Rattle.std.specs.Prelude.{IfNone, []}
 use Rattle.std.proofs.lemmas.List.{get_or_default}
-use Rattle.pals_bus.specs.Absent.{no_queue}
-use Rattle.pals_bus.specs.Due.{AreLeft, TakesDue}
-use Rattle.pals_bus.specs.Keeping.{value_of}
+use Rattle.pals_bus.specs.proof.Absent.{no_queue}
+use Rattle.pals_bus.specs.proof.Due.{AreLeft, TakesDue}
+use Rattle.pals_bus.specs.proof.Keeping.{value_of}
 use Rattle.pals_bus.specs.Values.{BusValue}
 use Rattle.pals_bus.proofs.DueEntries.{left_at_first}
 use Rattle.pals_bus.proofs.DueSteps.{none_due}

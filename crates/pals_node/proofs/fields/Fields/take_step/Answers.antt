@@ -1,6 +1,6 @@
 use Rattle.std.proofs.Common.{◌∙◌, Some, sym, subst}
 use Rattle.pals_base.specs.Fire.{Fired}
-use Rattle.pals_node.specs.Values.{JobValue, IsResult}
+use Rattle.pals_node.specs.proof.Values.{JobValue, IsResult}
 use Rattle.pals_node.proofs.Ends.{runs_open, makes, keeps_on}
 use Rattle.pals_node.proofs.Memories.{memory_left}
 use Rattle.pals_node.proofs.fields.Fields.take_step.Goals as goal

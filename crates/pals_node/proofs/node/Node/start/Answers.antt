@@ -6,8 +6,8 @@ use Rattle.pals_base.specs.Bound.{alarm}
 use Rattle.bus_machine.specs.declared.plan.Input.{Input}
 use Rattle.bus_machine.specs.declared.plan.Plan.{Plan}
 use Rattle.bus_machine.specs.NodeEvents.{lacks}
-use Rattle.pals_node.specs.Values.{Program}
-use Rattle.pals_node.specs.Answers.{is_early}
+use Rattle.pals_node.specs.proof.Values.{Program}
+use Rattle.pals_node.specs.proof.Answers.{is_early}
 use Rattle.pals_node.proofs.node.Node.start.Goals as goal
 
 -- the first in port that lacks its message, after some rounds

@@ -7,11 +7,11 @@ use Rattle.pals_model.specs.declared.rounds.Part.{Part}
 use Rattle.pals_model.specs.Rules.{IsDesign}
 use Rattle.sync_product.specs.declared.reads.RoundInputs.{RoundInputs}
 use Rattle.sync_product.specs.declared.stage.Stage.{Stage}
-use Rattle.sync_product.specs.Sizes.{part_size, part_sizes, stage_size, stage_sizes}
-use Rattle.sync_product.specs.Rounds.{frames_of}
+use Rattle.sync_product.specs.proof.Sizes.{part_size, part_sizes, stage_size, stage_sizes}
+use Rattle.sync_product.specs.proof.Rounds.{frames_of}
 use Rattle.plant_fuse.specs.Fused.{ArePairs}
-use Rattle.plant_fuse.specs.Messages.{sent_on}
-use Rattle.plant_fuse.specs.State.{FuseState, IsAdvanced}
+use Rattle.plant_fuse.specs.proof.Messages.{sent_on}
+use Rattle.plant_fuse.specs.proof.State.{FuseState, IsAdvanced}
 use Rattle.plant_fuse.proofs.Counts.{count_of_parts}
 use Rattle.plant_fuse.proofs.Standing.{standing, advanced_by}
 use Rattle.plant_fuse.proofs.product.FuseProduct.advance.Goals as goal

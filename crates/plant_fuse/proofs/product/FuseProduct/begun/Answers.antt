@@ -6,13 +6,13 @@ use Rattle.pals_model.specs.declared.design.DesignParts.{DesignParts}
 use Rattle.pals_model.specs.declared.rounds.Part.{Part}
 use Rattle.pals_model.specs.Composition.{opening}
 use Rattle.pals_runs.specs.declared.pairs.Pair.{Pair}
-use Rattle.sync_product.specs.Sizes.{part_size, stage_sizes}
-use Rattle.sync_product.specs.Rounds.{frames_of}
-use Rattle.sync_product.specs.State.{opening_parts}
+use Rattle.sync_product.specs.proof.Sizes.{part_size, stage_sizes}
+use Rattle.sync_product.specs.proof.Rounds.{frames_of}
+use Rattle.sync_product.specs.proof.State.{opening_parts}
 use Rattle.sync_product.proofs.Openings.{opening_fits, opening_frames, opening_messages_fit}
 use Rattle.plant_fuse.specs.Fused.{ArePairs}
-use Rattle.plant_fuse.specs.Tables.{AreTables}
-use Rattle.plant_fuse.specs.State.{FuseState}
+use Rattle.plant_fuse.specs.proof.Tables.{AreTables}
+use Rattle.plant_fuse.specs.proof.State.{FuseState}
 use Rattle.plant_fuse.proofs.product.FuseProduct.begun.Goals as goal
 
 pub invariant_of-result : goal.invariant_of-result

@@ -1,6 +1,6 @@
 use Rattle.std.proofs.Common.{◌∙◌, ◌-◌, Bool, List, ap, ap₂, sym}
-use Rattle.run_monitor.specs.Bits.{bit_at}
-use Rattle.run_monitor.specs.States.{MonitorState, said}
+use Rattle.run_monitor.specs.proof.Bits.{bit_at}
+use Rattle.run_monitor.specs.proof.States.{MonitorState, said}
 use Rattle.run_monitor.proofs.Adding.{length-forms}
 use Rattle.run_monitor.proofs.monitor.Monitor.said.Goals as goal
 

@@ -6,9 +6,9 @@ use Rattle.pals_model.specs.declared.design.DesignParts.{DesignParts}
 use Rattle.pals_model.specs.declared.rounds.Part.{Part}
 use Rattle.pals_model.specs.Inputs.{all_sources}
 use Rattle.pals_model.specs.Composition.{opening}
-use Rattle.sync_product.specs.Sizes.{all_taps, part_size, stage_sizes}
-use Rattle.sync_product.specs.Rounds.{frames_of}
-use Rattle.sync_product.specs.State.{ProductState, opening_parts}
+use Rattle.sync_product.specs.proof.Sizes.{all_taps, part_size, stage_sizes}
+use Rattle.sync_product.specs.proof.Rounds.{frames_of}
+use Rattle.sync_product.specs.proof.State.{ProductState, opening_parts}
 use Rattle.sync_product.proofs.Openings.{opening_fits, opening_frames, opening_messages_fit}
 use Rattle.sync_product.proofs.product.Product.new.Goals as goal
 

@@ -2,8 +2,8 @@ use Rattle.std.proofs.Common.{◌∙◌, ℕ, ◌<◌, ap, sym, refl, length, sl
 use Rattle.std.proofs.lemmas.Option.{slice_get_read}
 use Rattle.std.specs.Arc.{arc_value}
 use Rattle.pals_model.specs.declared.design.Component.{Component}
-use Rattle.sync_product.specs.State.{ProductState}
-use Rattle.sync_product.specs.Sizes.{part_size, part_size_of, part_sizes, tap_ports}
+use Rattle.sync_product.specs.proof.State.{ProductState}
+use Rattle.sync_product.specs.proof.Sizes.{part_size, part_size_of, part_sizes, tap_ports}
 use Rattle.sync_product.proofs.Tables.{count_of_sized, length-numbered}
 use Rattle.sync_product.proofs.product.Product.part.Goals as goal
 

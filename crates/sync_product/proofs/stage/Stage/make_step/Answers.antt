@@ -2,7 +2,7 @@ use Rattle.std.proofs.Common.{◌≡◌, ◌∙◌, ℕ, List, [], ap, sym, leng
 use Rattle.std.proofs.lemmas.List.{with_items_is, get_or_default}
 use Rattle.std.specs.Vec.{with_items}
 use Rattle.pals_base.specs.declared.values.Port.{Port}
-use Rattle.sync_product.specs.Sizes.{FrameSize, StageSize, frame_size}
+use Rattle.sync_product.specs.proof.Sizes.{FrameSize, StageSize, frame_size}
 use Rattle.sync_product.proofs.Filling.{same_sizes}
 use Rattle.sync_product.proofs.stage.Stage.make_step.Goals as goal
 

@@ -5,8 +5,8 @@ use Rattle.pals_base.specs.Fire.{fire}
 use Rattle.pals_base.specs.Steps.{column, columns, frame_after, outputs}
 use Rattle.pals_base.proofs.Upwards.{map_upwards_more}
 use Rattle.pals_base.proofs.Steps.{frame_after-append, outputs-append}
-use Rattle.sync_product.specs.Rounds.{brought}
-use Rattle.sync_product.specs.Sizes.{StageSize, stage_size}
+use Rattle.sync_product.specs.proof.Rounds.{brought}
+use Rattle.sync_product.specs.proof.Sizes.{StageSize, stage_size}
 use Rattle.sync_product.proofs.Sizing.{count_of_rows, length_of_row}
 use Rattle.sync_product.proofs.stage.Stage.make_steps.Goals as goal
 

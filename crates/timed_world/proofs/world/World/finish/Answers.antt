@@ -6,7 +6,7 @@ use Rattle.bus_machine.specs.NodeEvents.{running_step}
 use Rattle.bus_machine.specs.States.{node_at}
 use Rattle.timed_laws.specs.Worlds.{is_last_sent}
 use Rattle.timed_world.specs.declared.standing.Standing.{Standing}
-use Rattle.timed_world.specs.Values.{WorldValue}
+use Rattle.timed_world.specs.proof.Values.{WorldValue}
 use Rattle.timed_world.proofs.Moving.{IsFine, ends_sent, moves_on, stays_put, ended, moves_keep}
 use Rattle.timed_world.proofs.world.World.finish.Goals as goal
 

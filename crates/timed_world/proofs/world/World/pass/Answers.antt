@@ -1,6 +1,6 @@
 use Rattle.std.proofs.Common.{sym, subst}
 use Rattle.pals_runs.specs.declared.events.Event.TheVariants as event
-use Rattle.timed_world.specs.Values.{WorldValue}
+use Rattle.timed_world.specs.proof.Values.{WorldValue}
 use Rattle.timed_world.proofs.Moving.{IsFine, passed, moves_keep}
 use Rattle.timed_world.proofs.world.World.pass.Goals as goal
 

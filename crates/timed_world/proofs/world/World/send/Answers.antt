@@ -4,7 +4,7 @@ use Rattle.bus_machine.specs.States.{node_at}
 use Rattle.timed_laws.specs.Worlds.{is_held}
 use Rattle.timed_laws.proofs.Faults.{sends_in_time}
 use Rattle.timed_world.specs.declared.standing.Standing.{Standing}
-use Rattle.timed_world.specs.Values.{WorldValue, world_of}
+use Rattle.timed_world.specs.proof.Values.{WorldValue, world_of}
 use Rattle.timed_world.proofs.Moving.{IsFine, reads, moves_on, stays_put, sent, moves_keep}
 use Rattle.timed_world.proofs.Refusals.{send_reads}
 use Rattle.timed_world.proofs.world.World.send.Goals as goal

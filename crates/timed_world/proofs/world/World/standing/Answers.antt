@@ -2,8 +2,8 @@ use Rattle.std.proofs.Common.{◌≡◌, ℕ, ◌<◌, length, ◌∙◌, sym, s
 use Rattle.std.proofs.lemmas.List.{get_or_default}
 use Rattle.bus_machine.specs.Plans.{plan_of}
 use Rattle.timed_world.specs.declared.standing.Standing.{Standing}
-use Rattle.timed_world.specs.Standings.{IsSound}
-use Rattle.timed_world.specs.Values.{WorldValue}
+use Rattle.timed_world.specs.proof.Standings.{IsSound}
+use Rattle.timed_world.specs.proof.Values.{WorldValue}
 use Rattle.timed_world.proofs.Standings.{sound_again}
 use Rattle.timed_world.proofs.world.World.standing.Goals as goal
 

@@ -2,9 +2,9 @@ use Rattle.std.proofs.Common.{◌≡◌, ◌++◌, length, take, drop, sym, ap, 
 use Rattle.pals_model.specs.declared.design.DesignParts.{DesignParts}
 use Rattle.pals_model.specs.Inputs.{values_at}
 use Rattle.pals_model.specs.RoundTexts.{composed_lines, row}
-use Rattle.sync_product.specs.State.{ProductState}
+use Rattle.sync_product.specs.proof.State.{ProductState}
 use Rattle.trace_audit.specs.declared.lines.RowText.{RowText}
-use Rattle.trace_audit.specs.Lines.{HasLeft}
+use Rattle.trace_audit.specs.proof.Lines.{HasLeft}
 use Rattle.trace_audit.proofs.Making.{length-values_at, on_ok, parts_made, written_whole}
 use Rattle.trace_audit.proofs.rows.Rows.make_row.Goals as goal
 

@@ -1,8 +1,8 @@
 use Rattle.std.proofs.Common.{◌≡◌, length, refl, sym, ap, ◌∙◌, rules}
 use Rattle.std.specs.Arc.{arc_value}
 use Rattle.pals_model.specs.declared.design.DesignParts.{DesignParts}
-use Rattle.pals_report.specs.TapPlaces.{tap_places}
-use Rattle.sync_product.specs.State.{begun, state_after}
+use Rattle.pals_report.specs.proof.TapPlaces.{tap_places}
+use Rattle.sync_product.specs.proof.State.{begun, state_after}
 use Rattle.trace_audit.proofs.Placing.{first_place, none_begun}
 use Rattle.trace_audit.proofs.rows.Rows.new.Goals as goal
 

@@ -1,5 +1,5 @@
 use Rattle.std.proofs.Common.{◌∙◌, ap}
-use Rattle.trace_audit.specs.Words.{words_in}
+use Rattle.trace_audit.specs.proof.Words.{words_in}
 use Rattle.trace_audit.proofs.Splitting.{cut_once}
 use Rattle.trace_audit.proofs.words.Words.next.Goals as goal
 

@@ -1,9 +1,9 @@
 use Rattle.std.proofs.Common.{◌∙◌, Bool, List, subst}
 use Rattle.pals_model.specs.declared.rounds.Part.{Part}
 use Rattle.sync_product.specs.declared.stage.Stage.{Stage}
-use Rattle.sync_product.specs.Rounds.{frames_of}
+use Rattle.sync_product.specs.proof.Rounds.{frames_of}
 use Rattle.triple_vote.specs.declared.layer.Layer.{Layer}
-use Rattle.triple_vote.specs.Layers.{AreRun, AreSent, AreWhole}
+use Rattle.triple_vote.specs.proof.Layers.{AreRun, AreSent, AreWhole}
 use Rattle.triple_vote.proofs.Making.{is_made}
 use Rattle.triple_vote.proofs.layer.Layer.run.Goals as goal
 

@@ -1,9 +1,9 @@
 use Rattle.std.proofs.Common.{◌∙◌, ap, subst}
 use Rattle.std.specs.Arc.{arc_value}
 use Rattle.pals_model.specs.declared.design.DesignParts.{DesignParts}
-use Rattle.triple_vote.specs.Layers.{tap_sizes}
-use Rattle.triple_vote.specs.States.{VotedState, vadvanced}
-use Rattle.triple_vote.specs.Triples.{AreThree, AreHeard}
+use Rattle.triple_vote.specs.proof.Layers.{tap_sizes}
+use Rattle.triple_vote.specs.proof.States.{VotedState, vadvanced}
+use Rattle.triple_vote.specs.proof.Triples.{AreThree, AreHeard}
 use Rattle.triple_vote.proofs.Advancing.{tables_stay, replicas_turn, state_advanced_by}
 use Rattle.triple_vote.proofs.product.VoteProduct.advance.Goals as goal
 

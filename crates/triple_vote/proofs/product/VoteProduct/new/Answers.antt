@@ -6,10 +6,10 @@ use Rattle.pals_model.specs.declared.design.Tap.{Tap}
 use Rattle.pals_model.specs.declared.design.DesignParts.{DesignParts}
 use Rattle.pals_model.specs.Inputs.{rate_of, all_sources}
 use Rattle.pals_model.specs.Composition.{opening}
-use Rattle.sync_product.specs.Sizes.{stage_sizes}
-use Rattle.triple_vote.specs.States.{vbegun}
-use Rattle.triple_vote.specs.Layers.{lengths}
-use Rattle.triple_vote.specs.Triples.{AreOpened}
+use Rattle.sync_product.specs.proof.Sizes.{stage_sizes}
+use Rattle.triple_vote.specs.proof.States.{vbegun}
+use Rattle.triple_vote.specs.proof.Layers.{lengths}
+use Rattle.triple_vote.specs.proof.Triples.{AreOpened}
 use Rattle.triple_vote.proofs.Starting.{shown_fits, are_heard}
 use Rattle.triple_vote.proofs.Advancing.{state_begun}
 use Rattle.triple_vote.proofs.product.VoteProduct.new.Goals as goal

@@ -4,7 +4,7 @@ use Rattle.std.proofs.lemmas.List.{get_or_default}
 use Rattle.pals_base.specs.declared.values.Port.{Port}
 use Rattle.pals_model.specs.declared.design.Tap.{Tap}
 use Rattle.pals_model.specs.Inputs.{rate_of}
-use Rattle.triple_vote.specs.States.{VotedState}
+use Rattle.triple_vote.specs.proof.States.{VotedState}
 use Rattle.triple_vote.proofs.Sizing.{tuple_within}
 use Rattle.triple_vote.proofs.product.VoteProduct.out_tuple.Goals as goal
 

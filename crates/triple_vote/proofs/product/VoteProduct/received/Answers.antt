@@ -5,8 +5,8 @@ use Rattle.pals_base.specs.declared.values.Port.{Port}
 use Rattle.pals_model.specs.declared.design.Link.{Link}
 use Rattle.pals_model.specs.Inputs.{rate_of}
 use Rattle.triple_vote.specs.Replicas.{copies_of, received_at}
-use Rattle.triple_vote.specs.States.{VotedState}
-use Rattle.triple_vote.specs.Triples.{parts_in}
+use Rattle.triple_vote.specs.proof.States.{VotedState}
+use Rattle.triple_vote.specs.proof.Triples.{parts_in}
 use Rattle.triple_vote.proofs.Advancing.{received_read, before_three}
 use Rattle.triple_vote.proofs.Gathering.{no_link}
 use Rattle.triple_vote.proofs.Layering.{heard_room}

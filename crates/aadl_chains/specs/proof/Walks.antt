@@ -1,0 +1,51 @@
+-- The walk back from an in port: from one component up to the next around it, until a connection between two subcomponents, or the root.
+use Rattle.std.specs.Prelude.{◌≡◌, ℕ, true, List, [], ◌∷◌, Option, Some, None}
+use Rattle.aadl_tree.specs.Declarations.{PackageTree}
+use Rattle.aadl_names.specs.declared.site.Site.{Site}
+use Rattle.aadl_names.specs.declared.site.Site.TheVariants.{Own, Inner}
+use Rattle.aadl_uses.specs.Uses.{standing, IsInUse}
+use Rattle.aadl_uses.specs.Threads.{IsThreadAt}
+use Rattle.aadl_chains.specs.Firsts.{target_in}
+use Rattle.aadl_chains.specs.Wiring.{wires_at}
+use Rattle.aadl_chains.specs.proof.Wiring.{into}
+use Rattle.aadl_chains.specs.Chains.{Port, is_in}
+
+-- a connection between two subcomponents of the component at a path, and the port from which it comes
+pub record Crossing : Type 0 where
+  pub path : List ℕ
+  pub declaration : ℕ
+  pub connection : ℕ
+  pub sub : ℕ
+  pub port : ℕ
+
+-- where the walk ends: at a port into which no connection goes, at a port of the root, by the last connection that was passed, or at a crossing
+pub data Climb : Type 0 where
+  nowhere : Climb
+  at_root : Option ℕ → ℕ → Climb
+  crosses : Crossing → Climb
+
+abbrev pub climb_by : (ℕ → ℕ → Climb) → List ℕ → ℕ → ℕ → Site → Climb
+climb_by up path n k (Own q) = up k q
+climb_by up path n k (Inner t p) = crosses (record { path = path; declaration = n; connection = k; sub = t; port = p })
+
+abbrev pub climb_along : (ℕ → ℕ → Climb) → List ℕ → ℕ → Option (ℕ × Site) → Climb
+climb_along up path n None = nowhere
+climb_along up path n (Some from) = climb_by up path n from.0 from.1
+
+abbrev pub climb_into : PackageTree ℕ → (ℕ → ℕ → Climb) → List ℕ → ℕ → ℕ → Option ℕ → Climb
+climb_into tree up path s port None = nowhere
+climb_into tree up path s port (Some n) = climb_along up path n (into tree n (Inner s port))
+
+-- from a port of the component at a path, the innermost subcomponent first, behind the last connection
+abbrev pub climb : PackageTree ℕ → ℕ → Option ℕ → List ℕ → ℕ → Climb
+climb tree root last [] port = at_root last port
+climb tree root last (s ∷ path) port = climb_into tree (λ k q. climb tree root (Some k) path q) path s port (standing tree root path)
+
+-- at most one connection of an implementation in use goes into a port
+abbrev pub OneEach : PackageTree ℕ → ℕ → Type 0
+OneEach tree root = (n i j : ℕ) (target : Site) → IsInUse tree root n → target_in (wires_at tree n) i ≡ Some target
+    → target_in (wires_at tree n) j ≡ Some target → i ≡ j
+
+-- an in port of a thread
+abbrev pub IsThreadPort : PackageTree ℕ → ℕ → Port → Type 0
+IsThreadPort tree root port = IsThreadAt tree root port.path × (is_in tree root port ≡ true)

@@ -1,0 +1,29 @@
+-- A table of the numbers of ports among those that go as they do.
+use Rattle.std.specs.Prelude.{◌≡◌, ℕ, ◌+◌, ◌<◌, List, [], length, slice_index_or}
+use Rattle.aadl_tree.specs.declared.declarations.Direction.{Direction}
+use Rattle.aadl_tree.specs.Declarations.{Feature, PackageTree}
+use Rattle.aadl_names.specs.Resolving.{implementation_at, ports_at}
+use Rattle.aadl_instance.specs.Instances.{number_among}
+use Rattle.aadl_instance.specs.declared.numbers.Seen.{Seen}
+use Rattle.aadl_tree.specs.declared.declarations.Direction.TheVariants as directions
+
+abbrev pub number_in : List (List ℕ) → ℕ → ℕ → ℕ
+number_in rows n port = slice_index_or (slice_index_or rows n []) port 0
+
+-- the row has the number of each port
+abbrev pub AreAmong : List (Feature ℕ) → List ℕ → Type 0
+AreAmong ports row = (port : ℕ) → port < length ports → slice_index_or row port 0 ≡ number_among ports port
+
+-- each implementation has the row of its ports
+abbrev pub AreNumbers : PackageTree ℕ → List (List ℕ) → Type 0
+AreNumbers tree rows = (n : ℕ) → AreAmong (ports_at tree (implementation_at tree n)) (slice_index_or rows n [])
+
+-- ---- as they are counted
+-- how many go so
+abbrev pub seen : Seen → Direction → ℕ
+seen s directions.In = s.inward
+seen s directions.Out = s.outward
+
+abbrev pub with_port : Seen → Direction → Seen
+with_port s directions.In = record s { inward = s.inward + 1 }
+with_port s directions.Out = record s { outward = s.outward + 1 }

@@ -1,0 +1,34 @@
+-- What the list of a connection says of the chains that it carries: whether they are delayed, and their adaptor.
+use Rattle.std.specs.Prelude.{ℕ, List, [], map, codes, Option, Some, None, option_map, slice_get}
+use Rattle.std.specs.Option.{option_and_then}
+use Rattle.pals_base.specs.declared.values.Adaptor.{Adaptor}
+use Rattle.aadl_tree.specs.Values.{Association, Associations}
+use Rattle.aadl_tree.specs.Declarations.{Declaration}
+use Rattle.aadl_names.specs.Properties.{association_named, association_value, name_of, text_of}
+use Rattle.aadl_names.specs.Resolving.{implementation_in, connections_of}
+use Rattle.component_checks.specs.declared.carried.Carried.{Carried}
+use Rattle.component_checks.specs.Rates.{adaptor_named}
+use Rattle.component_checks.specs.Threads.{says}
+use Rattle.aadl_names.specs.declared.holder.Property.TheVariants as properties
+
+abbrev pub adaptor_of : Option (Association ℕ) → Option (Option Adaptor)
+adaptor_of x = option_map adaptor_named (option_and_then (λ a. text_of (association_value a)) x)
+
+abbrev pub carried_by : Associations ℕ → Carried
+carried_by xs =
+    record {
+      delayed = says (codes "Delayed") (association_named xs (name_of properties.Timing));
+      adaptor = adaptor_of (association_named xs (name_of properties.Adaptor));
+    }
+
+-- by the connections of a declaration
+abbrev pub connections_carried : Declaration ℕ → List Carried
+connections_carried d = map (λ c. carried_by c.properties) (connections_of (implementation_in (Some d)))
+
+-- what stands at a number in the list of a number
+abbrev pub or_none : Option (List Carried) → List Carried
+or_none None = []
+or_none (Some carried) = carried
+
+abbrev pub carried_at : List (List Carried) → ℕ → ℕ → Option Carried
+carried_at carried n i = slice_get (or_none (slice_get carried n)) i

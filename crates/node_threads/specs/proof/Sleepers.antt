@@ -1,0 +1,75 @@
+-- Who sleeps until the course of a run goes on, and who is to be woken once the lock is free.
+use Rattle.std.specs.Prelude.{◌≡◌, ◌⊎◌, ℕ, ◌<◌, ◌&&◌, Bool, true, false, List, length, replicate, Option, Some, None, slice_index_or, slice_set}
+use Rattle.pals_base.specs.declared.limits.TheConstants.{COMPONENTS}
+use Rattle.pals_runs.specs.declared.journal.Phase.TheVariants.{Waiting}
+use Rattle.bus_machine.specs.States.{Run, BusState, node_at}
+use Rattle.run_laws.specs.Runs.{target_of}
+use Rattle.node_threads.specs.declared.wakes.Wakes.{Wakes}
+use Rattle.node_threads.specs.declared.bell.Bell.{Bell}
+use Rattle.node_threads.specs.declared.sleepers.Seat.{Seat}
+use Rattle.node_threads.specs.declared.sleepers.Sleepers.{Sleepers}
+use Rattle.node_threads.specs.proof.Courses.{CourseValue, IsOpen}
+use Rattle.node_threads.specs.declared.bell.Bell.TheVariants as bell
+
+-- nobody is to be woken
+abbrev pub no_wakes : Wakes
+no_wakes = record { any = false; nodes = replicate COMPONENTS false; caller = false }
+
+-- a node has a thread of its own, which is awake
+abbrev pub free_seat : Seat
+free_seat = record { of_caller = false; sleeps = false }
+
+abbrev pub seat_at : List Seat → ℕ → Seat
+seat_at seats node = slice_index_or seats node free_seat
+
+abbrev pub with_seat : Sleepers → ℕ → Seat → Sleepers
+with_seat s node seat = record s { seats = slice_set s.seats node seat }
+
+-- ---- waits
+-- a node's target is above an hour
+abbrev pub IsAbove : Run → BusState → ℕ → ℕ → Type 0
+IsAbove run s hour node = (least : ℕ) → target_of run s node ≡ Some least → hour < least
+
+-- an hour is over: the target of each node that is not done is above it
+abbrev pub IsHourOver : CourseValue → ℕ → Type 0
+IsHourOver c hour = (node : ℕ) → node < length c.bus.run.design.components → IsAbove c.bus.run c.bus.state hour node
+
+-- a node that goes on waits: where nodes meet for the hour of its target, and else for its sources, before it starts a round
+pub record Waits (c : CourseValue) (hour node : ℕ) : Type 0 where
+  pub is_open : IsOpen c node
+  pub meets : c.bus.meeting ≡ true → IsAbove c.bus.run c.bus.state hour node
+  pub starts : c.bus.meeting ≡ false → (node_at c.bus.state node).phase ≡ Waiting
+
+-- ---- who is woken
+-- whether the thread that has a node is to be woken: the calling thread, or its own
+abbrev pub is_rung : Wakes → ℕ → Bool → Bool
+is_rung wakes node true = wakes.any && wakes.caller
+is_rung wakes node false = wakes.any && slice_index_or wakes.nodes node false
+
+-- the thread that has a node is to be woken too
+abbrev pub with_rung : Wakes → ℕ → Bool → Wakes
+with_rung w node true = record w { any = true; caller = true }
+with_rung w node false = record w { any = true; nodes = slice_set w.nodes node true }
+
+-- a bell is to be rung
+abbrev pub is_to_ring : Wakes → Bell → Bool
+is_to_ring w (bell.Node node) = is_rung w node false
+is_to_ring w bell.Caller = is_rung w 0 true
+
+-- a bell need not be rung; where there is none, nobody is to be woken
+abbrev pub without_bell : Wakes → Option Bell → Wakes
+without_bell w None = record w { any = false }
+without_bell w (Some (bell.Node node)) = record w { nodes = slice_set w.nodes node false }
+without_bell w (Some bell.Caller) = record w { any = false; caller = false }
+
+-- the thread that had a node slept, and is to be woken
+pub record IsRoused (old new : Sleepers) (node : ℕ) : Type 0 where
+  pub slept : (seat_at old.seats node).sleeps ≡ true
+  pub seat : seat_at new.seats node ≡ record { of_caller = (seat_at old.seats node).of_caller; sleeps = false }
+  pub rung : node < length new.wakes.nodes → is_rung new.wakes node (seat_at old.seats node).of_caller ≡ true
+
+-- some who slept are roused, and nothing else changes for anybody; who was to be woken still is
+pub record Rouses (old new : Sleepers) : Type 0 where
+  pub seats : (node : ℕ) → (seat_at new.seats node ≡ seat_at old.seats node) ⊎ IsRoused old new node
+  pub many : length new.wakes.nodes ≡ length old.wakes.nodes
+  pub rung : (node : ℕ) (own : Bool) → is_rung old.wakes node own ≡ true → is_rung new.wakes node own ≡ true

@@ -1,0 +1,12 @@
+-- The nodes of a run, in order.
+use Rattle.std.specs.Prelude.{ℕ, List, Option, option_map, slice_index_or}
+use Rattle.bus_machine.specs.Targets.{target, action_of}
+use Rattle.pals_node.specs.proof.Values.{NodeValue}
+use Rattle.pals_bus.specs.proof.Absent.{no_node_value}
+
+abbrev pub node_of : List NodeValue → ℕ → NodeValue
+node_of nodes node = slice_index_or nodes node no_node_value
+
+-- the reading that a node waits for, or works at; none where it is done
+abbrev pub target_of_node : NodeValue → Option ℕ
+target_of_node n = option_map (target n.program.plan) (action_of n.program.plan n.state)

@@ -1,0 +1,8 @@
+-- What the theorem of the program does not rest on: definitions of contracts below it, of laws, and of proofs.
+pub mod Values
+pub mod Answers
+pub mod Keeping
+pub mod Rounds
+pub mod Codes
+pub mod Keys
+pub mod Memories

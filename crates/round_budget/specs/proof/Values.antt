@@ -1,0 +1,33 @@
+-- What the code has, as the definitions see it.
+use Rattle.std.specs.Prelude.{◌≡◌, ℕ, ◌*◌, ◌<◌, ◌≤◌, List, length, map}
+use Rattle.pals_base.specs.declared.limits.TheConstants.{HOUR}
+use Rattle.step_code.specs.declared.instr.CodeParts.{CodeParts}
+use Rattle.round_budget.specs.Budgets.{serve, by_most, line_from}
+use Rattle.round_budget.specs.declared.releases.Release.{Release}
+use Rattle.round_budget.specs.declared.serving.Line.{Line}
+use Rattle.round_budget.specs.Budgets as budgets
+
+-- a release of the first round
+abbrev pub release_value : Release → budgets.Release
+release_value release = record { node = release.node.0; round = 0; step = release.step; time = release.time }
+
+abbrev pub AreReleases : List Release → List budgets.Release → Type 0
+AreReleases made all = map release_value made ≡ all
+
+abbrev pub line_value : Line → budgets.Line
+line_value line = record { node = line.node.0; step = line.step; begin = line.begin; done = line.done }
+
+abbrev pub AreLines : List Line → List budgets.Line → Type 0
+AreLines made all = map line_value made ≡ all
+
+-- the lines of releases that are served one after the other, counted from a start
+abbrev pub served_lines : List CodeParts → ℕ → ℕ → List Release → List budgets.Line
+served_lines codes nanos start releases =
+    map (line_from start) (serve (λ x. nanos * by_most codes x) 0 (map release_value releases))
+
+-- it has a code, comes at the start or later and within two hours, and takes an hour at most
+pub record CanServe (codes : List CodeParts) (nanos start : ℕ) (x : budgets.Release) : Type 0 where
+  pub code : x.node < length codes
+  pub late : start ≤ x.time
+  pub soon : x.time ≤ 2 * HOUR
+  pub short : nanos * by_most codes x ≤ HOUR

@@ -1,0 +1,104 @@
+-- Runs of code, and what a step of code leaves.
+use Rattle.std.specs.Prelude.{◌≡◌, ℕ, zero, suc, ℤ, pos, Bool, true, false, List, [], ◌++◌, length, map, take, replicate, Option, Some, None, slice_get}
+use Rattle.pals_base.specs.declared.values.Trap.{Trap}
+use Rattle.pals_base.specs.declared.values.Frame.{Frame}
+use Rattle.pals_base.specs.declared.values.Port.{Port}
+use Rattle.pals_base.specs.declared.values.Port.TheVariants.{Absent}
+use Rattle.pals_base.specs.Fire.{Fired, holding, is_present}
+use Rattle.step_code.specs.declared.instr.Instr.{Instr}
+use Rattle.step_code.specs.declared.instr.CodeParts.{CodeParts}
+use Rattle.step_code.specs.proof.Step.{Next, Goes, Ends, Traps, Sticks, Senses, step}
+use Rattle.step_code.specs.Paths.{weight_of}
+
+-- how a run ends
+pub data Outcome : Type 0 where
+  Ended : (state : ℕ) (slots : List ℤ) (outs : List Port) → Outcome
+  Trapped : Trap → Outcome
+  Stuck : Outcome
+  Unfinished : Outcome
+
+abbrev pub Rest : Type 0
+Rest = ℕ → List ℤ → List ℤ → List Port → Outcome
+
+abbrev pub then_run : Next → Rest → Outcome
+then_run (Goes place stack slots outs) rest = rest place stack slots outs
+then_run (Ends state slots outs) rest = Ended state slots outs
+then_run (Traps trap) rest = Trapped trap
+then_run Sticks rest = Stuck
+
+-- at most n instructions, one after another
+abbrev pub run : List Instr → Senses → ℕ → Rest
+run code s zero place stack slots outs = Unfinished
+run code s (suc n) place stack slots outs = then_run (step (slice_get code place) s place stack slots outs) (run code s n)
+
+-- how many of them there are, the last one counted too
+abbrev pub then_count : Next → (ℕ → List ℤ → List ℤ → List Port → ℕ) → ℕ
+then_count (Goes place stack slots outs) rest = rest place stack slots outs
+then_count (Ends state slots outs) rest = 0
+then_count (Traps trap) rest = 0
+then_count Sticks rest = 0
+
+abbrev pub count : List Instr → Senses → ℕ → ℕ → List ℤ → List ℤ → List Port → ℕ
+count code s zero place stack slots outs = 0
+count code s (suc n) place stack slots outs = suc (then_count (step (slice_get code place) s place stack slots outs) (count code s n))
+
+-- ---- a step of a node
+-- what a step of code leaves, unless it is stuck or unfinished
+pub data Executed : Type 0 where
+  Leaves : Fired → Executed
+  IsStuck : Executed
+  IsUnfinished : Executed
+
+abbrev pub silent : CodeParts → List Port
+silent c = replicate c.outs Absent
+
+abbrev pub left : CodeParts → Frame → Outcome → Executed
+left c held (Ended state slots outs) = Leaves (record { frame = record held { state = state; vars = take c.vars slots }; outs = outs })
+left c held (Trapped trap) = Leaves (record { frame = record held { halt = Some trap }; outs = silent c })
+left c held Stuck = IsStuck
+left c held Unfinished = IsUnfinished
+
+abbrev pub senses : List ℤ → List Port → Senses
+senses held inputs = record { held = held; fresh = map is_present inputs }
+
+-- the slots at the start: the variables, and 0 for each loop
+abbrev pub slots_of : CodeParts → List ℤ → List ℤ
+slots_of c vars = vars ++ replicate c.loops (pos 0)
+
+-- from a place on, within the code's weight
+abbrev pub run_from : CodeParts → Frame → List Port → ℕ → Outcome
+run_from c held inputs place = run c.instrs (senses held.held inputs) (weight_of c) place [] (slots_of c held.vars) (silent c)
+
+abbrev pub from_entry : CodeParts → Frame → List Port → Option (Option ℕ) → Outcome
+from_entry c held inputs (Some (Some e)) = run_from c held inputs e
+from_entry c held inputs (Some None) = Stuck
+from_entry c held inputs None = Stuck
+
+-- a halted frame runs nothing
+abbrev pub unless_halted : CodeParts → Frame → Option Trap → Outcome → Executed
+unless_halted c held None ran = left c held ran
+unless_halted c held (Some trap) ran = Leaves (record { frame = held; outs = silent c })
+
+-- a step of code: it holds each present input first
+abbrev pub exec : CodeParts → Frame → List Port → Executed
+exec c frame inputs =
+    let held : Frame = record frame { held = holding frame.held inputs } in
+    unless_halted c held frame.halt (from_entry c held inputs (slice_get c.entries frame.state))
+
+-- ---- frames
+abbrev pub has_entry : Option (Option ℕ) → Bool
+has_entry (Some (Some e)) = true
+has_entry (Some None) = false
+has_entry None = false
+
+-- the frame fits the code: its state has an entry, and it has as many variables and held inputs
+pub record FitsCode (c : CodeParts) (frame : Frame) : Type 0 where
+  pub entry : has_entry (slice_get c.entries frame.state) ≡ true
+  pub vars : length frame.vars ≡ c.vars
+  pub held : length frame.held ≡ c.ins
+
+-- the frame, and inputs, have the code's numbers of variables and in ports
+pub record Sized (c : CodeParts) (frame : Frame) (inputs : List Port) : Type 0 where
+  pub vars : length frame.vars ≡ c.vars
+  pub ins : length frame.held ≡ c.ins
+  pub inputs' : length inputs ≡ c.ins

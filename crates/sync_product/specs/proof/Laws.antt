@@ -1,0 +1,20 @@
+-- Laws of products.
+use Rattle.std.specs.Prelude.{◌≡◌, ℕ, suc, map, length}
+use Rattle.pals_base.specs.Steps.{upwards}
+use Rattle.pals_model.specs.declared.design.DesignParts.{DesignParts}
+use Rattle.pals_model.specs.declared.rounds.Env.{Env}
+use Rattle.pals_model.specs.Composition.{comp, part}
+use Rattle.sync_product.specs.proof.State.{state_after}
+
+-- the design stays
+abbrev pub DesignStays : Type 0
+DesignStays = (design : DesignParts) (env : Env) (rounds : ℕ) → (state_after design env rounds).design ≡ design
+
+-- after any number of rounds of an environment, its configuration is that of the composition
+abbrev pub StandsAtComposition : Type 0
+StandsAtComposition = (design : DesignParts) (env : Env) (rounds : ℕ) → (state_after design env rounds).configuration ≡ comp design env rounds
+
+-- after a round its parts are those of that round
+abbrev pub HasPartsOfRound : Type 0
+HasPartsOfRound = (design : DesignParts) (env : Env) (round : ℕ) →
+    (state_after design env (suc round)).parts ≡ map (λ node. part design env node round) (upwards 0 (length design.components))

@@ -1,0 +1,16 @@
+-- What a passing of time finds of a message in flight.
+use Rattle.std.specs.Prelude.{ℕ, if◌then◌else◌, Option, Some, None}
+use Rattle.pals_runs.specs.declared.events.EventFault.{EventFault}
+use Rattle.bus_machine.specs.LinkEvents.{is_in_flight}
+use Rattle.bus_machine.specs.States.{Run, flight_at}
+use Rattle.timed_laws.specs.Worlds.{World}
+use Rattle.timed_laws.specs.Deadlines.{message_deadline}
+use Rattle.timed_laws.specs.Faults.{past}
+use Rattle.pals_runs.specs.declared.events.Which.TheVariants as which
+
+-- it is in flight beyond its last allowed time
+abbrev pub flying_past : Run → World → ℕ → ℕ → ℕ → Option EventFault
+flying_past run w time link round =
+    if is_in_flight round (flight_at w.bus link)
+    then past time (which.Message (record { 0 = link }) round) (Some (message_deadline run w link round))
+    else None

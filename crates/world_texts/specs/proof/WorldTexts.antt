@@ -1,0 +1,37 @@
+-- The telling of a list of timed events, event by event.
+use Rattle.std.specs.Prelude.{◌≡◌, ℕ, false, List, ◌++◌}
+use Rattle.pals_model.specs.RoundTexts.{text_of}
+use Rattle.pals_runs.specs.declared.events.Event.{Event}
+use Rattle.bus_machine.specs.States.{Run}
+use Rattle.pals_bus.specs.proof.Values.{opening_bus}
+use Rattle.timed_laws.specs.Worlds.{opening_world}
+use Rattle.loose_world.specs.Worlds.{InTurn}
+use Rattle.loose_world.specs.proof.Histories.{Undergoes}
+use Rattle.timed_world.specs.declared.event_list.WorldEnd.{WorldEnd}
+use Rattle.timed_world.specs.proof.Values.{WorldValue, world_of}
+use Rattle.timed_world.specs.proof.EventLists.{Leads, EndsAt}
+use Rattle.world_texts.specs.declared.world_text.Told.{Told}
+use Rattle.world_texts.specs.declared.world_text.Told.TheVariants.{Whole, Refused}
+use Rattle.world_texts.specs.WorldTexts.{IsFirstFault, IsToldWorld}
+use Rattle.timed_world.specs.declared.event_list.WorldEnd.TheVariants as end
+
+abbrev pub TellsWorld : Run → List Event → Told → Type 0
+TellsWorld run events (Whole text) = IsToldWorld run events text.items
+TellsWorld run events (Refused index fault) = IsFirstFault run events index fault
+
+-- ---- from any world on
+-- a world has had no event yet
+pub record IsOpening (v : WorldValue) : Type 0 where
+  pub bus : v.bus ≡ opening_bus v.bus.run v.bus.codes false
+  pub world : world_of v ≡ opening_world v.bus.run
+
+-- events lead from one world to another, and the lines of what their bus sends are added to a text
+pub record LeadsTelling (old : WorldValue) (events : List Event) (new : WorldValue) (before text : List ℕ) : Type 0 where
+  pub leads : Leads old events new
+  pub lines : List (List ℕ)
+  pub undergone : InTurn Undergoes old.bus events new.bus lines
+  pub told : text ≡ before ++ text_of lines
+
+abbrev pub TellsEvents : WorldValue → List Event → WorldEnd → WorldValue → List ℕ → List ℕ → Type 0
+TellsEvents old events end.All new before text = LeadsTelling old events new before text
+TellsEvents old events (end.At index fault) new before text = EndsAt old events index fault new
