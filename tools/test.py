@@ -1,9 +1,10 @@
 #!/usr/bin/env python3
-"""Tries the tools, and ./pals without the program: tools/test.py
+"""Tries the tools, ./pals without the program, and where definitions stand: tools/test.py
 
 It runs in some seconds, needs neither the program nor rt, and ends with status 0 exactly where all is as it should be.
 """
 
+import glob
 import io
 import json
 import os
@@ -569,6 +570,19 @@ def test_pages_show_what_the_tools_write():
                     expect(ran.stdout.decode(), wanted, f"{name}: {command}")
                     count += 1
     expect(count >= 8, True, f"{count} commands in the pages")
+
+
+def test_definitions_are_told_by_their_folder():
+    """No definition on which the theorem rests uses one of a folder `proof`, nor does the theorem."""
+    files = [it for it in glob.glob(f"{TOP}/crates/*/specs/**/*.antt", recursive=True) if not it.endswith("/Lib.antt")]
+    rests = [it for it in files if "/specs/proof" not in it]
+    for name in rests:
+        expect(b".specs.proof." in read(name), False, f"a definition of proofs, used in {name}")
+    clauses = page("crates/pals_top/src/program.rt").partition("pub fn pals<")[2].partition("\n{")[0]
+    inner = re.findall(r"\.specs\.proof\.\w+\.\{(.*)\}", page("crates/pals_top/src/program.rt"))
+    for name in (name for names in inner for name in names.split(", ")):
+        expect(re.search(rf"\b{name}\b", clauses), None, f"{name} in the theorem")
+    expect(f"`crates/*/specs`: {len(rests)} of them" in page("docs/definitions.md"), True, f"{len(rests)} files in the page")
 
 
 def main():
