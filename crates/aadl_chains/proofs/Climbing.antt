@@ -12,7 +12,7 @@ use Rattle.aadl_names.specs.Resolving.{first_number, implementation_in, subcompo
 use Rattle.aadl_uses.specs.Uses.{below, standing}
 use Rattle.aadl_uses.specs.proof.Uses.{containment, targets_in}
 use Rattle.aadl_uses.proofs.Containing.{below-same}
-use Rattle.aadl_chains.specs.proof.Wiring.{into}
+use Rattle.aadl_uses.specs.proof.Wiring.{into}
 use Rattle.aadl_uses.specs.proof.Orders.{IsOrder}
 use Rattle.aadl_uses.proofs.Searches.{at_contains}
 use Rattle.aadl_chains.specs.proof.Inside.{is_in_at}

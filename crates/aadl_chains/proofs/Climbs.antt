@@ -7,7 +7,7 @@ use Rattle.aadl_tree.specs.Declarations.{PackageTree}
 use Rattle.aadl_names.specs.declared.site.Site.{Site}
 use Rattle.aadl_names.specs.declared.site.Site.TheVariants.{Own, Inner}
 use Rattle.aadl_uses.specs.Uses.{standing}
-use Rattle.aadl_chains.specs.proof.Wiring.{into}
+use Rattle.aadl_uses.specs.proof.Wiring.{into}
 use Rattle.aadl_uses.proofs.Searches.{contains_none}
 use Rattle.aadl_chains.specs.Chains.{Port, Place, Goes, Leads}
 use Rattle.aadl_chains.specs.proof.Walks.{Crossing, Climb, nowhere, at_root, crosses, climb_along, climb_into, climb}

@@ -11,7 +11,7 @@ use Rattle.aadl_names.specs.Resolving.{implementation_at, site}
 use Rattle.aadl_uses.specs.Uses.{below, standing}
 use Rattle.aadl_uses.specs.Threads.{IsThreadAt}
 use Rattle.aadl_uses.proofs.Searches.{contains_none}
-use Rattle.aadl_chains.specs.proof.Wiring.{into}
+use Rattle.aadl_uses.specs.proof.Wiring.{into}
 use Rattle.aadl_chains.specs.proof.Inside.{is_in_at, Reaches, of_thread, of_inner}
 use Rattle.aadl_chains.specs.Chains.{Port, Place, port_at, Goes, Leads, is_in, IsStart}
 use Rattle.aadl_chains.specs.proof.Sound.{MayLeave, MayEnter, NotBothOwn, AreDeclared}

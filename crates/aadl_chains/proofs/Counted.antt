@@ -20,10 +20,10 @@ use Rattle.aadl_uses.specs.Uses.{sub_at, below, standing}
 use Rattle.aadl_uses.specs.proof.Uses.{targets_of}
 use Rattle.aadl_uses.specs.Threads.{IsThreadAt, MoreThan}
 use Rattle.aadl_uses.specs.proof.Threads.{is_thread_in}
-use Rattle.aadl_chains.specs.declared.connections.Wire.{Wire}
-use Rattle.aadl_chains.specs.Firsts.{target_in}
-use Rattle.aadl_chains.specs.Wiring.{wire_of, wires_of, wires_at}
-use Rattle.aadl_chains.proofs.Rows.{listed}
+use Rattle.aadl_uses.specs.declared.connections.Wire.{Wire}
+use Rattle.aadl_uses.specs.Firsts.{target_in}
+use Rattle.aadl_uses.specs.Wiring.{wire_of, wires_of, wires_at}
+use Rattle.aadl_uses.proofs.Rows.{listed}
 use Rattle.aadl_chains.specs.proof.Inside.{is_thread_at, Reaches, ReachesIn, of_thread, of_inner}
 use Rattle.aadl_chains.specs.Chains.{Port, Place, Leads, is_in, IsEndFault}
 use Rattle.aadl_chains.specs.proof.Sound.{AreDeclared}

@@ -23,9 +23,9 @@ use Rattle.aadl_names.specs.PackageFaults.{may_contain, variables_faults, headin
 use Rattle.aadl_names.specs.PackageFaults.{declaration_faults, wrong_names, package_faults}
 use Rattle.aadl_uses.specs.Uses.{below}
 use Rattle.aadl_uses.specs.proof.Threads.{is_thread_in}
-use Rattle.aadl_chains.specs.declared.connections.Wire.{Wire}
-use Rattle.aadl_chains.specs.Wiring.{wire_of, wires_of}
-use Rattle.aadl_chains.proofs.Rows.{listed}
+use Rattle.aadl_uses.specs.declared.connections.Wire.{Wire}
+use Rattle.aadl_uses.specs.Wiring.{wire_of, wires_of}
+use Rattle.aadl_uses.proofs.Rows.{listed}
 use Rattle.aadl_uses.proofs.Searches.{contains_none, contains_at, at_contains}
 use Rattle.aadl_chains.specs.proof.Inside.{is_in_at}
 use Rattle.aadl_chains.specs.proof.Sound.{MayLeave, MayEnter, NotBothOwn, IsDeclared, AreDeclared}

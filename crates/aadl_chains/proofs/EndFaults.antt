@@ -15,9 +15,9 @@ use Rattle.aadl_names.specs.proof.Found.{found}
 use Rattle.aadl_names.proofs.Finds.{found_append}
 use Rattle.aadl_uses.specs.Uses.{IsInUse}
 use Rattle.aadl_uses.specs.proof.Uses.{FirstIn}
-use Rattle.aadl_chains.specs.declared.connections.Wire.{Wire}
-use Rattle.aadl_chains.specs.Firsts.{IsSecond}
-use Rattle.aadl_chains.specs.Wiring.{wire_of, wires_of, wires_at}
+use Rattle.aadl_uses.specs.declared.connections.Wire.{Wire}
+use Rattle.aadl_uses.specs.Firsts.{IsSecond}
+use Rattle.aadl_uses.specs.Wiring.{wire_of, wires_of, wires_at}
 use Rattle.aadl_uses.proofs.Searches.{contains_none, contains_at, at_contains}
 use Rattle.aadl_chains.specs.proof.Outside.{LeadsFrom}
 use Rattle.aadl_chains.proofs.Ordered.{one_of_two}

@@ -1,6 +1,3 @@
-pub mod Tables
-pub mod EndSites
-pub mod Rows
 pub mod Sets
 pub mod Joining
 pub mod Ordered

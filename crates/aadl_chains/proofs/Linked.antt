@@ -17,7 +17,7 @@ use Rattle.aadl_chains.specs.proof.Sound.{AreDeclared}
 use Rattle.aadl_chains.proofs.OnChains.{opposed, is_in-at}
 use Rattle.aadl_chains.specs.proof.Walks.{Crossing, at_root, crosses, climb, OneEach, IsThreadPort}
 use Rattle.aadl_chains.specs.Links.{Ends, not_own, is_crossing, Carries, IsLink, IsFeed, IsTap}
-use Rattle.aadl_chains.specs.proof.Wiring.{into}
+use Rattle.aadl_uses.specs.proof.Wiring.{into}
 use Rattle.aadl_chains.proofs.Steps.{Entered, goes_into, known_into, into_of_goes}
 use Rattle.aadl_chains.proofs.Climbs.{in_head, head_or_tail, Rooted, rooted, crossed}
 use Rattle.aadl_chains.proofs.Coming.{Crosses, Down, down, into_own, from_inner, never_both, MetRoot, MetCrossing, met}

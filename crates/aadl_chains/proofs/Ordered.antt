@@ -8,7 +8,7 @@ use Rattle.aadl_tree.specs.Declarations.{PackageTree}
 use Rattle.aadl_names.specs.Resolving.{implementation_in}
 use Rattle.aadl_uses.specs.proof.Uses.{containment, targets_in}
 use Rattle.aadl_uses.proofs.Containing.{below-same}
-use Rattle.aadl_chains.specs.Wiring.{wires_at, wires_of}
+use Rattle.aadl_uses.specs.Wiring.{wires_at, wires_of}
 use Rattle.aadl_uses.specs.proof.Orders.{IsOrder}
 use Rattle.aadl_uses.proofs.Searches.{contains_none, at_contains}
 use Rattle.aadl_chains.specs.declared.ports.PortAt.{PortAt}

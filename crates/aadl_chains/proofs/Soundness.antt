@@ -5,8 +5,8 @@ use Rattle.std.proofs.lemmas.Option.{same_Some, slice_get-map}
 use Rattle.aadl_tree.specs.Declarations.{Connection, Implementation, PackageTree}
 use Rattle.aadl_names.specs.Resolving.{implementation_at}
 use Rattle.aadl_uses.specs.proof.Threads.{is_thread_in}
-use Rattle.aadl_chains.specs.declared.connections.Wire.{Wire}
-use Rattle.aadl_chains.specs.Wiring.{wire_of, wires_of, wires_at}
+use Rattle.aadl_uses.specs.declared.connections.Wire.{Wire}
+use Rattle.aadl_uses.specs.Wiring.{wire_of, wires_of, wires_at}
 use Rattle.aadl_uses.proofs.Searches.{contains_none, contains_at}
 use Rattle.aadl_chains.specs.proof.Sound.{MayEnter, AreDeclared}
 use Rattle.aadl_chains.specs.proof.Walked.{IsSound}

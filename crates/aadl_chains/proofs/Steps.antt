@@ -11,14 +11,14 @@ use Rattle.aadl_names.specs.declared.site.Site.{Site}
 use Rattle.aadl_names.specs.declared.site.Site.TheVariants.{Own, Inner}
 use Rattle.aadl_names.specs.Resolving.{implementation_at}
 use Rattle.aadl_uses.specs.Uses.{standing}
-use Rattle.aadl_chains.specs.declared.connections.Wire.{Wire}
-use Rattle.aadl_chains.specs.proof.PortNumbers.{is_site}
-use Rattle.aadl_chains.specs.Firsts.{target_in, IsSecond}
-use Rattle.aadl_chains.specs.proof.Firsts.{is_before}
-use Rattle.aadl_chains.specs.Wiring.{wire_of, wires_of, wires_at}
-use Rattle.aadl_chains.specs.proof.Wiring.{first_into_at, with_source, sourced, into}
-use Rattle.aadl_chains.proofs.Rows.{listed}
-use Rattle.aadl_chains.proofs.Tables.{same_site-true, itself, second_from}
+use Rattle.aadl_uses.specs.declared.connections.Wire.{Wire}
+use Rattle.aadl_uses.specs.proof.PortNumbers.{is_site}
+use Rattle.aadl_uses.specs.Firsts.{target_in, IsSecond}
+use Rattle.aadl_uses.specs.proof.Firsts.{is_before}
+use Rattle.aadl_uses.specs.Wiring.{wire_of, wires_of, wires_at}
+use Rattle.aadl_uses.specs.proof.Wiring.{first_into_at, with_source, sourced, into}
+use Rattle.aadl_uses.proofs.Rows.{listed}
+use Rattle.aadl_uses.proofs.Tables.{same_site-true, itself, second_from}
 use Rattle.aadl_uses.proofs.Searches.{contains_none, contains_at}
 use Rattle.aadl_chains.specs.proof.Inside.{is_thread_at, is_in_at}
 use Rattle.aadl_chains.specs.Chains.{Port, Place, port_at, Goes}

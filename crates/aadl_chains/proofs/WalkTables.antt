@@ -17,9 +17,9 @@ use Rattle.aadl_uses.specs.Uses.{below}
 use Rattle.aadl_uses.specs.proof.Uses.{containment}
 use Rattle.aadl_uses.specs.proof.Threads.{is_thread_in}
 use Rattle.aadl_uses.proofs.Containing.{below-same}
-use Rattle.aadl_chains.specs.declared.connections.Wire.{Wire}
-use Rattle.aadl_chains.specs.Firsts.{IsSecond}
-use Rattle.aadl_chains.specs.Wiring.{wires_at}
+use Rattle.aadl_uses.specs.declared.connections.Wire.{Wire}
+use Rattle.aadl_uses.specs.Firsts.{IsSecond}
+use Rattle.aadl_uses.specs.Wiring.{wires_at}
 use Rattle.aadl_chains.specs.declared.ports.PortAt.{PortAt}
 use Rattle.aadl_chains.specs.proof.Ports.{same_port}
 use Rattle.aadl_chains.specs.proof.Inside.{is_thread_at, is_in_at, port_at}

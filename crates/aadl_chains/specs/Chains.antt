@@ -9,8 +9,8 @@ use Rattle.aadl_names.specs.Resolving.{implementation_at, connections_of, ports_
 use Rattle.aadl_names.specs.PackageFaults.{goes_in}
 use Rattle.aadl_uses.specs.Uses.{standing, component_at, IsInUse}
 use Rattle.aadl_uses.specs.Threads.{IsThreadAt}
-use Rattle.aadl_chains.specs.Firsts.{IsSecond}
-use Rattle.aadl_chains.specs.Wiring.{wires_at}
+use Rattle.aadl_uses.specs.Firsts.{IsSecond}
+use Rattle.aadl_uses.specs.Wiring.{wires_at}
 
 -- a port of the component at a path
 pub record Port : Type 0 where

@@ -1,8 +1,4 @@
 -- What the theorem of the program does not rest on: definitions of contracts below it, of laws, and of proofs.
-pub mod PortNumbers
-pub mod Firsts
-pub mod Wiring
-pub mod Known
 pub mod Ports
 pub mod Inside
 pub mod Outside

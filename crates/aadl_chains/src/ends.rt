@@ -6,7 +6,7 @@ ghost use Rattle.aadl_tree.specs.proof.Maps.{kept_place};
 ghost use Rattle.aadl_names.specs.proof.Found.{found};
 ghost use Rattle.aadl_uses.specs.proof.Uses.{containment, FirstIn};
 ghost use Rattle.aadl_uses.specs.Uses.{IsInUse};
-ghost use Rattle.aadl_chains.specs.Wiring.{wires_at};
+ghost use Rattle.aadl_uses.specs.Wiring.{wires_at};
 ghost use Rattle.aadl_uses.specs.proof.Orders.{IsOrder};
 ghost use Rattle.aadl_chains.specs.Chains.{IsEndFault};
 ghost use Rattle.aadl_chains.specs.proof.Sound.{AreDeclared};
@@ -14,9 +14,9 @@ ghost use Rattle.aadl_chains.specs.proof.OnChains.{AreWays};
 ghost use Rattle.aadl_chains.specs.proof.Findings.{FindsAll, IsFoundIn, IsFoundAt, dead_end, second};
 
 use crate::ways::Ways;
-use crate::{Wire, Wires};
 use aadl_names::{Finder, FlatFault};
 use aadl_tree::Connection;
+use aadl_uses::{Wire, Wires};
 use indexmap::IndexSet;
 use std::alloc::{AllocError, Global};
 
@@ -29,10 +29,10 @@ pub fn first_end_fault(
     used: &IndexSet<usize>,
     root: usize,
 ) -> Result<Option<FlatFault>, AllocError>
-    requires order { IsOrder (containment (placed wires.now.uses.tree.now)) order.now.keys }
-    requires used { (n : ℕ) → Contains used.now.keys n ↔ IsInUse (placed wires.now.uses.tree.now) root n }
-    requires declared { AreDeclared (placed wires.now.uses.tree.now) }
-    ensures { IfOk result (FirstIn (IsEndFault (placed wires.now.uses.tree.now) root)) }
+    requires order { IsOrder (containment (placed wires.now.uses.names.tree.now)) order.now.keys }
+    requires used { (n : ℕ) → Contains used.now.keys n ↔ IsInUse (placed wires.now.uses.names.tree.now) root n }
+    requires declared { AreDeclared (placed wires.now.uses.names.tree.now) }
+    ensures { IfOk result (FirstIn (IsEndFault (placed wires.now.uses.names.tree.now) root)) }
 {
     let ways = Ways::of(alloc, wires, order, used, root)?;
     let mut finder = Finder::new(alloc);
@@ -52,8 +52,8 @@ fn check_all(
     ways: &Ways,
     number: usize,
 ) -> Result<(), AllocError>
-    requires { AreWays (placed wires.now.uses.tree.now) ways.now }
-    ensures { OnOk result (FindsAll (IsFoundIn (placed wires.now.uses.tree.now) ways.now.root number) finder.old finder.new) }
+    requires { AreWays (placed wires.now.uses.names.tree.now) ways.now }
+    ensures { OnOk result (FindsAll (IsFoundIn (placed wires.now.uses.names.tree.now) ways.now.root number) finder.old finder.new) }
 {
     for (at, wire) in wires.wires(number).iter().enumerate() {
         check(finder, wires, ways, number, at, *wire)?;
@@ -70,9 +70,9 @@ fn check(
     at: usize,
     wire: Wire,
 ) -> Result<(), AllocError>
-    requires ways { AreWays (placed wires.now.uses.tree.now) ways.now }
-    requires wire { slice_get (wires_at (placed wires.now.uses.tree.now) number) at ≡ Some wire }
-    ensures { OnOk result (FindsAll (IsFoundAt (placed wires.now.uses.tree.now) ways.now.root number at) finder.old finder.new) }
+    requires ways { AreWays (placed wires.now.uses.names.tree.now) ways.now }
+    requires wire { slice_get (wires_at (placed wires.now.uses.names.tree.now) number) at ≡ Some wire }
+    ensures { OnOk result (FindsAll (IsFoundAt (placed wires.now.uses.names.tree.now) ways.now.root number at) finder.old finder.new) }
 {
     match wires.connection(number, at) {
         Some(connection) => {

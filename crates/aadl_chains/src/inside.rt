@@ -8,9 +8,9 @@ ghost use Rattle.aadl_chains.specs.proof.Inside as spec;
 ghost use Rattle.aadl_chains.specs.proof.Inside.{ReachesIn, IsInside, IsJoined, AreJoined};
 
 use crate::ports::{PortAt, Ports};
-use crate::{Wire, Wires};
 use aadl_names::Site;
 use aadl_tree::Direction;
+use aadl_uses::{Wire, Wires};
 use indexmap::IndexSet;
 use std::alloc::{AllocError, Global};
 
@@ -31,8 +31,8 @@ impl Inside {
         order: &IndexSet<usize>,
         direction: Direction,
     ) -> Result<Inside, AllocError>
-        requires { IsOrder (containment (placed wires.now.uses.tree.now)) order.now.keys }
-        ensures { IfOk result (λ inside. (inside.direction ≡ direction) × IsInside (placed wires.now.uses.tree.now) direction inside.ports) }
+        requires { IsOrder (containment (placed wires.now.uses.names.tree.now)) order.now.keys }
+        ensures { IfOk result (λ inside. (inside.direction ≡ direction) × IsInside (placed wires.now.uses.names.tree.now) direction inside.ports) }
     {
         let ports = ports_of(alloc, wires, order, direction)?;
         Ok(Inside { direction, ports })
@@ -40,8 +40,8 @@ impl Inside {
 
     /// Whether connections join a port of a subcomponent to a thread below.
     pub fn reaches(&self, wires: &Wires<'_>, declaration: usize, sub: usize, port: usize) -> bool
-        requires { IsInside (placed wires.now.uses.tree.now) self.now.direction self.now.ports }
-        ensures { IsTrue result ↔ ReachesIn (placed wires.now.uses.tree.now) self.now.direction declaration sub port }
+        requires { IsInside (placed wires.now.uses.names.tree.now) self.now.direction self.now.ports }
+        ensures { IsTrue result ↔ ReachesIn (placed wires.now.uses.names.tree.now) self.now.direction declaration sub port }
     {
         reaches_in(
             &self.ports,
@@ -60,8 +60,8 @@ fn ports_of(
     order: &IndexSet<usize>,
     direction: Direction,
 ) -> Result<Ports, AllocError>
-    requires { IsOrder (containment (placed wires.now.uses.tree.now)) order.now.keys }
-    ensures { IfOk result (λ ports. IsInside (placed wires.now.uses.tree.now) direction ports) }
+    requires { IsOrder (containment (placed wires.now.uses.names.tree.now)) order.now.keys }
+    ensures { IfOk result (λ ports. IsInside (placed wires.now.uses.names.tree.now) direction ports) }
 {
     let mut ports = Ports::new(alloc);
     for at in 0..order.len() {
@@ -80,7 +80,7 @@ fn join_all(
     direction: Direction,
     number: usize,
 ) -> Result<(), AllocError>
-    ensures { OnOk result (AreJoined (placed wires.now.uses.tree.now) direction number ports.old ports.new) }
+    ensures { OnOk result (AreJoined (placed wires.now.uses.names.tree.now) direction number ports.old ports.new) }
 {
     if wires.uses.is_thread(number) {
         Ok(())
@@ -95,8 +95,8 @@ fn join_each(
     direction: Direction,
     number: usize,
 ) -> Result<(), AllocError>
-    requires { spec.is_thread_at (placed wires.now.uses.tree.now) number ≡ false }
-    ensures { OnOk result (AreJoined (placed wires.now.uses.tree.now) direction number ports.old ports.new) }
+    requires { spec.is_thread_at (placed wires.now.uses.names.tree.now) number ≡ false }
+    ensures { OnOk result (AreJoined (placed wires.now.uses.names.tree.now) direction number ports.old ports.new) }
 {
     for wire in wires.wires(number) {
         join(ports, wires, direction, number, *wire)?;
@@ -112,7 +112,7 @@ fn join(
     number: usize,
     wire: Wire,
 ) -> Result<(), AllocError>
-    ensures { OnOk result (IsJoined (placed wires.now.uses.tree.now) direction number wire ports.old ports.new) }
+    ensures { OnOk result (IsJoined (placed wires.now.uses.names.tree.now) direction number wire ports.old ports.new) }
 {
     match joined(ports, wires, direction, number, wire) {
         Some(port) => ports.add(PortAt {
@@ -131,7 +131,7 @@ fn joined(
     number: usize,
     wire: Wire,
 ) -> Option<usize>
-    ensures { result ≡ spec.joined_by ports.now (placed wires.now.uses.tree.now) direction number (spec.outer_end direction wire)
+    ensures { result ≡ spec.joined_by ports.now (placed wires.now.uses.names.tree.now) direction number (spec.outer_end direction wire)
         (spec.inner_end direction wire) }
 {
     match outer_end(direction, wire) {
@@ -158,7 +158,7 @@ fn joined_inner(
     port: usize,
     inner: Option<Site>,
 ) -> Option<usize>
-    ensures { result ≡ spec.joined_inner ports.now (placed wires.now.uses.tree.now) direction number port inner }
+    ensures { result ≡ spec.joined_inner ports.now (placed wires.now.uses.names.tree.now) direction number port inner }
 {
     match inner {
         Some(Site::Inner(sub, other)) => {
@@ -187,7 +187,7 @@ pub fn reaches_in(
     declaration: Option<usize>,
     port: usize,
 ) -> bool
-    ensures { result ≡ spec.reaches_in ports.now (placed wires.now.uses.tree.now) direction declaration port }
+    ensures { result ≡ spec.reaches_in ports.now (placed wires.now.uses.names.tree.now) direction declaration port }
 {
     match declaration {
         Some(declaration) => reaches_by(ports, wires, direction, declaration, port),
@@ -202,7 +202,7 @@ fn reaches_by(
     declaration: usize,
     port: usize,
 ) -> bool
-    ensures { result ≡ spec.reaches_by ports.now (placed wires.now.uses.tree.now) direction declaration port }
+    ensures { result ≡ spec.reaches_by ports.now (placed wires.now.uses.names.tree.now) direction declaration port }
 {
     if wires.uses.is_thread(declaration) {
         is_way(direction, wires.is_in(declaration, port))

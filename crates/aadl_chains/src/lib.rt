@@ -1,9 +1,6 @@
-//! The connections of a package with the ports that they join, and the chains that they make between threads, and between
-//! threads and the root: which connections are on none, where each chain comes from, and whether there are too many links.
+//! The chains that the connections of a package make between threads, and between threads and the root: which connections are on none, where each chain comes from, and whether there are too many links.
 #![tactic(auto)]
 
-pub mod connections;
-mod end_sites;
 pub mod ends;
 pub mod inside;
 pub mod links;
@@ -12,10 +9,7 @@ pub mod port_counts;
 pub mod ports;
 pub mod walks;
 pub mod ways;
-pub mod wires;
-mod wiring;
 
-pub use connections::{Connections, Wire};
 pub use ends::first_end_fault;
 pub use inside::Inside;
 pub use links::has_too_many_links;
@@ -23,4 +17,3 @@ pub use outside::{Outside, Side};
 pub use ports::{PortAt, Ports};
 pub use walks::{Begin, Route, trace_back, trace_tap};
 pub use ways::Ways;
-pub use wires::Wires;

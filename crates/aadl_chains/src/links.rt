@@ -7,7 +7,7 @@ ghost use Rattle.aadl_names.specs.declared.fault.FlatFault.{FlatFault};
 ghost use Rattle.aadl_uses.specs.proof.Uses.{containment};
 ghost use Rattle.aadl_uses.specs.Uses.{below};
 ghost use Rattle.aadl_uses.specs.Threads.{MoreThan};
-ghost use Rattle.aadl_chains.specs.Wiring.{wires_at};
+ghost use Rattle.aadl_uses.specs.Wiring.{wires_at};
 ghost use Rattle.aadl_uses.specs.proof.Orders.{IsOrder};
 ghost use Rattle.aadl_uses.specs.proof.Counts as spec;
 ghost use Rattle.aadl_chains.specs.proof.Inside.{IsInside, is_thread_at};
@@ -17,11 +17,12 @@ ghost use Rattle.aadl_chains.specs.proof.Numbers.{IsNumber};
 ghost use Rattle.aadl_chains.specs.Links.{IsLink, OtherTarget};
 ghost use Rattle.aadl_chains.specs.proof.PortCounts.{EndsLink, Deeper, FromThread, AreTakenBelow};
 
+use crate::Inside;
 use crate::port_counts::PortCounts;
-use crate::{Inside, Wire, Wires};
 use aadl_names::Site;
 use aadl_tree::Direction;
 use aadl_uses::count::add_up_to;
+use aadl_uses::{Wire, Wires};
 use indexmap::IndexSet;
 use pals_base::limits::LINKS;
 use std::alloc::{AllocError, Global};
@@ -34,12 +35,12 @@ pub fn has_too_many_links(
     order: &IndexSet<usize>,
     root: usize,
 ) -> Result<bool, AllocError>
-    requires order { IsOrder (containment (placed wires.now.uses.tree.now)) order.now.keys }
-    requires declared { AreDeclared (placed wires.now.uses.tree.now) }
-    requires ends { (fault : FlatFault) → ¬ IsEndFault (placed wires.now.uses.tree.now) root fault }
-    requires root { root < length (placed wires.now.uses.tree.now).declarations }
-    requires no_thread { is_thread_at (placed wires.now.uses.tree.now) root ≡ false }
-    ensures { IfOk result (λ more. IsTrue more ↔ MoreThan LINKS (IsLink (placed wires.now.uses.tree.now) root) OtherTarget) }
+    requires order { IsOrder (containment (placed wires.now.uses.names.tree.now)) order.now.keys }
+    requires declared { AreDeclared (placed wires.now.uses.names.tree.now) }
+    requires ends { (fault : FlatFault) → ¬ IsEndFault (placed wires.now.uses.names.tree.now) root fault }
+    requires root { root < length (placed wires.now.uses.names.tree.now).declarations }
+    requires no_thread { is_thread_at (placed wires.now.uses.names.tree.now) root ≡ false }
+    ensures { IfOk result (λ more. IsTrue more ↔ MoreThan LINKS (IsLink (placed wires.now.uses.names.tree.now) root) OtherTarget) }
 {
     let counts = link_counts(alloc, wires, order, LINKS + 1)?;
     Ok(count_at(counts.as_slice(), root) > LINKS)
@@ -52,10 +53,10 @@ fn link_counts(
     order: &IndexSet<usize>,
     limit: usize,
 ) -> Result<Vec<usize>, AllocError>
-    requires order { IsOrder (containment (placed wires.now.uses.tree.now)) order.now.keys }
-    requires declared { AreDeclared (placed wires.now.uses.tree.now) }
-    ensures { IfOk result (λ counts. (n : ℕ) → n < length (containment (placed wires.now.uses.tree.now))
-        → IsNumber limit (EndsLink (placed wires.now.uses.tree.now) n) (slice_index counts.items n)) }
+    requires order { IsOrder (containment (placed wires.now.uses.names.tree.now)) order.now.keys }
+    requires declared { AreDeclared (placed wires.now.uses.names.tree.now) }
+    ensures { IfOk result (λ counts. (n : ℕ) → n < length (containment (placed wires.now.uses.names.tree.now))
+        → IsNumber limit (EndsLink (placed wires.now.uses.names.tree.now) n) (slice_index counts.items n)) }
 {
     let takes = PortCounts::of(alloc, wires, order, limit)?;
     let gives = Inside::of(alloc, wires, order, Direction::Out)?;
@@ -98,13 +99,13 @@ fn links_below(
     number: usize,
     limit: usize,
 ) -> usize
-    requires declared { AreDeclared (placed wires.now.uses.tree.now) }
-    requires takes { AreTakenBelow (placed wires.now.uses.tree.now) limit takes.now number }
+    requires declared { AreDeclared (placed wires.now.uses.names.tree.now) }
+    requires takes { AreTakenBelow (placed wires.now.uses.names.tree.now) limit takes.now number }
     requires direction { gives.now.direction ≡ directions.Out }
-    requires gives { IsInside (placed wires.now.uses.tree.now) directions.Out gives.now.ports }
-    requires counts { (s m : ℕ) → below (placed wires.now.uses.tree.now) number s ≡ Some m
-        → IsNumber limit (EndsLink (placed wires.now.uses.tree.now) m) (slice_index counts.now m) }
-    ensures { IsNumber limit (EndsLink (placed wires.now.uses.tree.now) number) result }
+    requires gives { IsInside (placed wires.now.uses.names.tree.now) directions.Out gives.now.ports }
+    requires counts { (s m : ℕ) → below (placed wires.now.uses.names.tree.now) number s ≡ Some m
+        → IsNumber limit (EndsLink (placed wires.now.uses.names.tree.now) m) (slice_index counts.now m) }
+    ensures { IsNumber limit (EndsLink (placed wires.now.uses.names.tree.now) number) result }
 {
     let deeper = links_deeper(wires, counts, number, limit);
     let carried = links_carried(wires, takes, gives, number, limit);
@@ -113,9 +114,9 @@ fn links_below(
 
 // Those below its subcomponents.
 fn links_deeper(wires: &Wires<'_>, counts: &[usize], number: usize, limit: usize) -> usize
-    requires { (s m : ℕ) → below (placed wires.now.uses.tree.now) number s ≡ Some m
-        → IsNumber limit (EndsLink (placed wires.now.uses.tree.now) m) (slice_index counts.now m) }
-    ensures { IsNumber limit (λ port. (s : ℕ) × Deeper (placed wires.now.uses.tree.now) number s port) result }
+    requires { (s m : ℕ) → below (placed wires.now.uses.names.tree.now) number s ≡ Some m
+        → IsNumber limit (EndsLink (placed wires.now.uses.names.tree.now) m) (slice_index counts.now m) }
+    ensures { IsNumber limit (λ port. (s : ℕ) × Deeper (placed wires.now.uses.names.tree.now) number s port) result }
 {
     let mut count = 0;
     for target in wires.uses.targets(number) {
@@ -132,11 +133,11 @@ fn links_carried(
     number: usize,
     limit: usize,
 ) -> usize
-    requires declared { AreDeclared (placed wires.now.uses.tree.now) }
-    requires takes { AreTakenBelow (placed wires.now.uses.tree.now) limit takes.now number }
+    requires declared { AreDeclared (placed wires.now.uses.names.tree.now) }
+    requires takes { AreTakenBelow (placed wires.now.uses.names.tree.now) limit takes.now number }
     requires direction { gives.now.direction ≡ directions.Out }
-    requires gives { IsInside (placed wires.now.uses.tree.now) directions.Out gives.now.ports }
-    ensures { IsNumber limit (λ port. (k : ℕ) × FromThread (placed wires.now.uses.tree.now) number k port) result }
+    requires gives { IsInside (placed wires.now.uses.names.tree.now) directions.Out gives.now.ports }
+    ensures { IsNumber limit (λ port. (k : ℕ) × FromThread (placed wires.now.uses.names.tree.now) number k port) result }
 {
     let mut count = 0;
     for (at, wire) in wires.wires(number).iter().enumerate() {
@@ -159,12 +160,12 @@ fn carried(
     wire: Wire,
     limit: usize,
 ) -> usize
-    requires wire { slice_get (wires_at (placed wires.now.uses.tree.now) number) at ≡ Some wire }
-    requires declared { AreDeclared (placed wires.now.uses.tree.now) }
-    requires takes { AreTakenBelow (placed wires.now.uses.tree.now) limit takes.now number }
+    requires wire { slice_get (wires_at (placed wires.now.uses.names.tree.now) number) at ≡ Some wire }
+    requires declared { AreDeclared (placed wires.now.uses.names.tree.now) }
+    requires takes { AreTakenBelow (placed wires.now.uses.names.tree.now) limit takes.now number }
     requires direction { gives.now.direction ≡ directions.Out }
-    requires gives { IsInside (placed wires.now.uses.tree.now) directions.Out gives.now.ports }
-    ensures { IsNumber limit (FromThread (placed wires.now.uses.tree.now) number at) result }
+    requires gives { IsInside (placed wires.now.uses.names.tree.now) directions.Out gives.now.ports }
+    ensures { IsNumber limit (FromThread (placed wires.now.uses.names.tree.now) number at) result }
 {
     match wire.source {
         Some(source) => match source {

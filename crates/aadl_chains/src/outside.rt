@@ -10,9 +10,9 @@ ghost use Rattle.aadl_chains.specs.proof.Outside.{opposite, LeadsFrom, IsOutside
 
 use crate::inside::{Inside, inner_end, outer_end, reaches_in};
 use crate::ports::{PortAt, Ports};
-use crate::{Wire, Wires};
 use aadl_names::Site;
 use aadl_tree::Direction;
+use aadl_uses::{Wire, Wires};
 use indexmap::IndexSet;
 use std::alloc::{AllocError, Global};
 
@@ -44,11 +44,11 @@ impl Outside {
         used: &IndexSet<usize>,
         side: Side,
     ) -> Result<Outside, AllocError>
-        requires order { IsOrder (containment (placed wires.now.uses.tree.now)) order.now.keys }
-        requires used { (n : ℕ) → Contains used.now.keys n ↔ IsInUse (placed wires.now.uses.tree.now) side.root n }
+        requires order { IsOrder (containment (placed wires.now.uses.names.tree.now)) order.now.keys }
+        requires used { (n : ℕ) → Contains used.now.keys n ↔ IsInUse (placed wires.now.uses.names.tree.now) side.root n }
         requires opposite { inside.now.direction ≡ opposite side.direction }
-        requires inside { IsInside (placed wires.now.uses.tree.now) (opposite side.direction) inside.now.ports }
-        ensures { IfOk result (λ outside. (outside.side ≡ side) × IsOutside (placed wires.now.uses.tree.now) side.root side.direction outside.ports) }
+        requires inside { IsInside (placed wires.now.uses.names.tree.now) (opposite side.direction) inside.now.ports }
+        ensures { IfOk result (λ outside. (outside.side ≡ side) × IsOutside (placed wires.now.uses.names.tree.now) side.root side.direction outside.ports) }
     {
         let ports = ports_of(alloc, wires, inside, order, used, side)?;
         Ok(Outside { side, ports })
@@ -56,10 +56,10 @@ impl Outside {
 
     /// Whether connections lead from an end of a connection of an implementation in use to a thread or the root.
     pub fn leads(&self, wires: &Wires<'_>, inside: &Inside, declaration: usize, site: Site) -> bool
-        requires outside { IsOutside (placed wires.now.uses.tree.now) self.now.side.root self.now.side.direction self.now.ports }
+        requires outside { IsOutside (placed wires.now.uses.names.tree.now) self.now.side.root self.now.side.direction self.now.ports }
         requires opposite { inside.now.direction ≡ opposite self.now.side.direction }
-        requires inside { IsInside (placed wires.now.uses.tree.now) (opposite self.now.side.direction) inside.now.ports }
-        ensures { IsTrue result ↔ LeadsFrom (placed wires.now.uses.tree.now) self.now.side.root self.now.side.direction declaration site }
+        requires inside { IsInside (placed wires.now.uses.names.tree.now) (opposite self.now.side.direction) inside.now.ports }
+        ensures { IsTrue result ↔ LeadsFrom (placed wires.now.uses.names.tree.now) self.now.side.root self.now.side.direction declaration site }
     {
         leads_from(
             &self.ports,
@@ -81,11 +81,11 @@ fn ports_of(
     used: &IndexSet<usize>,
     side: Side,
 ) -> Result<Ports, AllocError>
-    requires order { IsOrder (containment (placed wires.now.uses.tree.now)) order.now.keys }
-    requires used { (n : ℕ) → Contains used.now.keys n ↔ IsInUse (placed wires.now.uses.tree.now) side.root n }
+    requires order { IsOrder (containment (placed wires.now.uses.names.tree.now)) order.now.keys }
+    requires used { (n : ℕ) → Contains used.now.keys n ↔ IsInUse (placed wires.now.uses.names.tree.now) side.root n }
     requires opposite { inside.now.direction ≡ opposite side.direction }
-    requires inside { IsInside (placed wires.now.uses.tree.now) (opposite side.direction) inside.now.ports }
-    ensures { IfOk result (λ ports. IsOutside (placed wires.now.uses.tree.now) side.root side.direction ports) }
+    requires inside { IsInside (placed wires.now.uses.names.tree.now) (opposite side.direction) inside.now.ports }
+    ensures { IfOk result (λ ports. IsOutside (placed wires.now.uses.names.tree.now) side.root side.direction ports) }
 {
     let mut ports = Ports::new(alloc);
     for at in 0..order.len() {
@@ -106,10 +106,10 @@ fn lead_if_used(
     side: Side,
     number: usize,
 ) -> Result<(), AllocError>
-    requires used { (n : ℕ) → Contains used.now.keys n ↔ IsInUse (placed wires.now.uses.tree.now) side.root n }
+    requires used { (n : ℕ) → Contains used.now.keys n ↔ IsInUse (placed wires.now.uses.names.tree.now) side.root n }
     requires opposite { inside.now.direction ≡ opposite side.direction }
-    requires inside { IsInside (placed wires.now.uses.tree.now) (opposite side.direction) inside.now.ports }
-    ensures { OnOk result (AreLedIfUsed (placed wires.now.uses.tree.now) side.root side.direction number ports.old ports.new) }
+    requires inside { IsInside (placed wires.now.uses.names.tree.now) (opposite side.direction) inside.now.ports }
+    ensures { OnOk result (AreLedIfUsed (placed wires.now.uses.names.tree.now) side.root side.direction number ports.old ports.new) }
 {
     if used.contains(&number) {
         lead_each(ports, wires, inside, side, number)
@@ -126,10 +126,10 @@ fn lead_each(
     side: Side,
     number: usize,
 ) -> Result<(), AllocError>
-    requires used { IsInUse (placed wires.now.uses.tree.now) side.root number }
+    requires used { IsInUse (placed wires.now.uses.names.tree.now) side.root number }
     requires opposite { inside.now.direction ≡ opposite side.direction }
-    requires inside { IsInside (placed wires.now.uses.tree.now) (opposite side.direction) inside.now.ports }
-    ensures { OnOk result (AreLed (placed wires.now.uses.tree.now) side.root side.direction number ports.old ports.new) }
+    requires inside { IsInside (placed wires.now.uses.names.tree.now) (opposite side.direction) inside.now.ports }
+    ensures { OnOk result (AreLed (placed wires.now.uses.names.tree.now) side.root side.direction number ports.old ports.new) }
 {
     for wire in wires.wires(number) {
         lead(ports, wires, inside, side, number, *wire)?;
@@ -147,8 +147,8 @@ fn lead(
     wire: Wire,
 ) -> Result<(), AllocError>
     requires opposite { inside.now.direction ≡ opposite side.direction }
-    requires inside { IsInside (placed wires.now.uses.tree.now) (opposite side.direction) inside.now.ports }
-    ensures { OnOk result (IsLed (placed wires.now.uses.tree.now) side.root side.direction inside.now.ports number wire ports.old ports.new) }
+    requires inside { IsInside (placed wires.now.uses.names.tree.now) (opposite side.direction) inside.now.ports }
+    ensures { OnOk result (IsLed (placed wires.now.uses.names.tree.now) side.root side.direction inside.now.ports number wire ports.old ports.new) }
 {
     match led(ports, wires, inside, side, number, wire) {
         Some(port) => ports.add(port),
@@ -166,7 +166,7 @@ fn led(
     wire: Wire,
 ) -> Option<PortAt>
     requires { inside.now.direction ≡ opposite side.direction }
-    ensures { result ≡ spec.led_by ports.now inside.now.ports (placed wires.now.uses.tree.now) side.root side.direction number wire }
+    ensures { result ≡ spec.led_by ports.now inside.now.ports (placed wires.now.uses.names.tree.now) side.root side.direction number wire }
 {
     if leads_from(
         ports,
@@ -192,7 +192,7 @@ fn leads_from(
     site: Option<Site>,
 ) -> bool
     requires { inside.now.direction ≡ opposite side.direction }
-    ensures { result ≡ spec.leads_from ports.now inside.now.ports (placed wires.now.uses.tree.now) side.root side.direction number site }
+    ensures { result ≡ spec.leads_from ports.now inside.now.ports (placed wires.now.uses.names.tree.now) side.root side.direction number site }
 {
     match site {
         Some(Site::Own(port)) => {
@@ -212,7 +212,7 @@ fn leads_from(
 
 // The port of a subcomponent that an end of a connection names.
 fn port_in(wires: &Wires<'_>, number: usize, site: Option<Site>) -> Option<PortAt>
-    ensures { result ≡ spec.port_in (placed wires.now.uses.tree.now) number site }
+    ensures { result ≡ spec.port_in (placed wires.now.uses.names.tree.now) number site }
 {
     match site {
         Some(Site::Inner(sub, port)) => port_below(wires.uses.below(number, sub), port),

@@ -2,7 +2,7 @@
 ghost use Rattle.std.specs.Prelude.{◌≡◌, ◌+◌, ℕ, min, Some, slice_get, IfOk, OnOk, Contains, if◌then◌else◌};
 ghost use Rattle.aadl_tree.specs.proof.PackageViews.{placed};
 ghost use Rattle.aadl_uses.specs.proof.Uses.{containment};
-ghost use Rattle.aadl_chains.specs.Wiring.{wires_at};
+ghost use Rattle.aadl_uses.specs.Wiring.{wires_at};
 ghost use Rattle.aadl_uses.specs.proof.Orders.{IsOrder};
 ghost use Rattle.aadl_chains.specs.declared.ports.PortAt.{PortAt};
 ghost use Rattle.aadl_chains.specs.proof.Ports.{same_port};
@@ -10,9 +10,10 @@ ghost use Rattle.aadl_chains.specs.proof.Sound.{AreDeclared};
 ghost use Rattle.aadl_chains.specs.proof.Numbers.{IsNumber};
 ghost use Rattle.aadl_chains.specs.proof.PortCounts.{taken, taken_by, Through, AreTaken, AreTakenBelow, IsTaken, AreAdded};
 
-use crate::{PortAt, Wire, Wires};
+use crate::PortAt;
 use aadl_names::Site;
 use aadl_uses::count::add_up_to;
+use aadl_uses::{Wire, Wires};
 use indexmap::{IndexMap, IndexSet};
 use std::alloc::{AllocError, Global};
 use std::marker::Model;
@@ -42,9 +43,9 @@ impl PortCounts {
         order: &IndexSet<usize>,
         limit: usize,
     ) -> Result<PortCounts, AllocError>
-        requires order { IsOrder (containment (placed wires.now.uses.tree.now)) order.now.keys }
-        requires declared { AreDeclared (placed wires.now.uses.tree.now) }
-        ensures { IfOk result (λ takes. (n : ℕ) → Contains order.now.keys n → AreTaken (placed wires.now.uses.tree.now) limit takes n) }
+        requires order { IsOrder (containment (placed wires.now.uses.names.tree.now)) order.now.keys }
+        requires declared { AreDeclared (placed wires.now.uses.names.tree.now) }
+        ensures { IfOk result (λ takes. (n : ℕ) → Contains order.now.keys n → AreTaken (placed wires.now.uses.names.tree.now) limit takes n) }
     {
         let mut takes = PortCounts {
             numbers: IndexMap::new(alloc),
@@ -68,10 +69,10 @@ impl PortCounts {
         wire: Wire,
         limit: usize,
     ) -> usize
-        requires wire { slice_get (wires_at (placed wires.now.uses.tree.now) number) at ≡ Some wire }
-        requires declared { AreDeclared (placed wires.now.uses.tree.now) }
-        ensures { AreTakenBelow (placed wires.now.uses.tree.now) limit self.now number
-            → IsNumber limit (Through (placed wires.now.uses.tree.now) number at) result }
+        requires wire { slice_get (wires_at (placed wires.now.uses.names.tree.now) number) at ≡ Some wire }
+        requires declared { AreDeclared (placed wires.now.uses.names.tree.now) }
+        ensures { AreTakenBelow (placed wires.now.uses.names.tree.now) limit self.now number
+            → IsNumber limit (Through (placed wires.now.uses.names.tree.now) number at) result }
     {
         match wire.target {
             Some(target) => match target {
@@ -96,7 +97,7 @@ impl PortCounts {
         port: usize,
         limit: usize,
     ) -> usize
-        ensures { result ≡ taken_by limit self.now (placed wires.now.uses.tree.now) declaration port }
+        ensures { result ≡ taken_by limit self.now (placed wires.now.uses.names.tree.now) declaration port }
     {
         match declaration {
             Some(declaration) => {
@@ -126,8 +127,8 @@ impl PortCounts {
 
     // Adds what the connections of an implementation lead to.
     fn add_all(&mut self, wires: &Wires<'_>, number: usize, limit: usize) -> Result<(), AllocError>
-        requires { AreDeclared (placed wires.now.uses.tree.now) }
-        ensures { OnOk result (AreAdded (placed wires.now.uses.tree.now) limit number self.old self.new) }
+        requires { AreDeclared (placed wires.now.uses.names.tree.now) }
+        ensures { OnOk result (AreAdded (placed wires.now.uses.names.tree.now) limit number self.old self.new) }
     {
         for (at, wire) in wires.wires(number).iter().enumerate() {
             self.add(wires, number, at, *wire, limit)?;
@@ -144,9 +145,9 @@ impl PortCounts {
         wire: Wire,
         limit: usize,
     ) -> Result<(), AllocError>
-        requires wire { slice_get (wires_at (placed wires.now.uses.tree.now) number) at ≡ Some wire }
-        requires declared { AreDeclared (placed wires.now.uses.tree.now) }
-        ensures { OnOk result (IsTaken (placed wires.now.uses.tree.now) limit number at wire self.old self.new) }
+        requires wire { slice_get (wires_at (placed wires.now.uses.names.tree.now) number) at ≡ Some wire }
+        requires declared { AreDeclared (placed wires.now.uses.names.tree.now) }
+        ensures { OnOk result (IsTaken (placed wires.now.uses.names.tree.now) limit number at wire self.old self.new) }
     {
         match wire.source {
             Some(source) => match source {

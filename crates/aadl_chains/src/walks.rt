@@ -4,7 +4,7 @@ ghost use Rattle.aadl_tree.specs.proof.PackageViews.{placed};
 ghost use Rattle.aadl_names.specs.declared.site.Site.TheVariants.{Own};
 ghost use Rattle.aadl_uses.specs.Uses as uses;
 ghost use Rattle.aadl_uses.specs.proof.Uses as inner;
-ghost use Rattle.aadl_chains.specs.proof.Wiring.{into};
+ghost use Rattle.aadl_uses.specs.proof.Wiring.{into};
 ghost use Rattle.aadl_uses.specs.proof.Orders.{IsOrder};
 ghost use Rattle.aadl_chains.specs.proof.Inside.{is_thread_at, is_in_at};
 ghost use Rattle.aadl_chains.specs.proof.Sound.{AreDeclared};
@@ -14,9 +14,8 @@ ghost use Rattle.aadl_chains.specs.proof.Routes.{Descends, Traces, TracesTap};
 ghost use Rattle.aadl_chains.specs.proof.Climbing as spec;
 ghost use Rattle.aadl_chains.specs.proof.Climbing.{IsFromInner, IsLower, LeadsDown};
 
-use crate::Wires;
 use aadl_names::Site;
-use aadl_uses::standing;
+use aadl_uses::{Wires, standing};
 use indexmap::IndexSet;
 use std::alloc::{AllocError, Global};
 
@@ -88,12 +87,12 @@ pub fn trace_back(
     path: &[usize],
     port: usize,
 ) -> Result<Option<Route>, AllocError>
-    requires order { IsOrder (inner.containment (placed wires.now.uses.tree.now)) order.now.keys }
-    requires declared { AreDeclared (placed wires.now.uses.tree.now) }
-    requires one { OneEach (placed wires.now.uses.tree.now) root }
-    requires no_thread { is_thread_at (placed wires.now.uses.tree.now) root ≡ false }
-    requires thread { IsThreadPort (placed wires.now.uses.tree.now) root (record { path = reverse path.now; port = port }) }
-    ensures { IfOk result (Traces (placed wires.now.uses.tree.now) root (record { path = reverse path.now; port = port })) }
+    requires order { IsOrder (inner.containment (placed wires.now.uses.names.tree.now)) order.now.keys }
+    requires declared { AreDeclared (placed wires.now.uses.names.tree.now) }
+    requires one { OneEach (placed wires.now.uses.names.tree.now) root }
+    requires no_thread { is_thread_at (placed wires.now.uses.names.tree.now) root ≡ false }
+    requires thread { IsThreadPort (placed wires.now.uses.names.tree.now) root (record { path = reverse path.now; port = port }) }
+    ensures { IfOk result (Traces (placed wires.now.uses.names.tree.now) root (record { path = reverse path.now; port = port })) }
 {
     match climb(wires, root, path, port) {
         Climbed::Nowhere => Ok(None),
@@ -110,12 +109,12 @@ pub fn trace_tap(
     root: usize,
     port: usize,
 ) -> Result<Option<Route>, AllocError>
-    requires order { IsOrder (inner.containment (placed wires.now.uses.tree.now)) order.now.keys }
-    requires declared { AreDeclared (placed wires.now.uses.tree.now) }
-    requires one { OneEach (placed wires.now.uses.tree.now) root }
-    requires no_thread { is_thread_at (placed wires.now.uses.tree.now) root ≡ false }
-    requires out { is_in_at (placed wires.now.uses.tree.now) root port ≡ false }
-    ensures { IfOk result (TracesTap (placed wires.now.uses.tree.now) root (record { path = []; port = port })) }
+    requires order { IsOrder (inner.containment (placed wires.now.uses.names.tree.now)) order.now.keys }
+    requires declared { AreDeclared (placed wires.now.uses.names.tree.now) }
+    requires one { OneEach (placed wires.now.uses.names.tree.now) root }
+    requires no_thread { is_thread_at (placed wires.now.uses.names.tree.now) root ≡ false }
+    requires out { is_in_at (placed wires.now.uses.names.tree.now) root port ≡ false }
+    ensures { IfOk result (TracesTap (placed wires.now.uses.names.tree.now) root (record { path = []; port = port })) }
 {
     match wires.into(root, Site::Own(port)) {
         Some(from) => {
@@ -158,7 +157,7 @@ fn route_from(begin: Option<Begin>, declaration: usize, connection: usize) -> Op
 
 // Walks up from a port of the component at a path.
 fn climb(wires: &Wires<'_>, root: usize, path: &[usize], port: usize) -> Climbed
-    ensures { spec.climbed path.now result ≡ walks.climb (placed wires.now.uses.tree.now) root None (reverse path.now) port }
+    ensures { spec.climbed path.now result ≡ walks.climb (placed wires.now.uses.names.tree.now) root None (reverse path.now) port }
 {
     let mut depth = path.len();
     let mut here = port;
@@ -197,8 +196,8 @@ fn entry_at(
     port: usize,
 ) -> Option<Entry>
     requires { depth < length path.now }
-    ensures { result ≡ spec.entry (placed wires.now.uses.tree.now)
-        (uses.standing (placed wires.now.uses.tree.now) root (reverse (take depth path.now))) (slice_index path.now depth) port }
+    ensures { result ≡ spec.entry (placed wires.now.uses.names.tree.now)
+        (uses.standing (placed wires.now.uses.names.tree.now) root (reverse (take depth path.now))) (slice_index path.now depth) port }
 {
     match standing(&wires.uses, root, &path[..depth]) {
         Some(declaration) => entry_into(wires, declaration, path[depth], port),
@@ -208,7 +207,7 @@ fn entry_at(
 
 // The connection of a declaration into a port of a subcomponent.
 fn entry_into(wires: &Wires<'_>, declaration: usize, sub: usize, port: usize) -> Option<Entry>
-    ensures { result ≡ spec.entry (placed wires.now.uses.tree.now) (Some declaration) sub port }
+    ensures { result ≡ spec.entry (placed wires.now.uses.names.tree.now) (Some declaration) sub port }
 {
     match wires.into(declaration, Site::Inner(sub, port)) {
         Some(from) => Some(Entry {
@@ -230,13 +229,13 @@ fn trace_over(
     port: usize,
     crossed: Crossed,
 ) -> Result<Option<Route>, AllocError>
-    requires order { IsOrder (inner.containment (placed wires.now.uses.tree.now)) order.now.keys }
-    requires declared { AreDeclared (placed wires.now.uses.tree.now) }
-    requires one { OneEach (placed wires.now.uses.tree.now) root }
-    requires no_thread { is_thread_at (placed wires.now.uses.tree.now) root ≡ false }
-    requires thread { IsThreadPort (placed wires.now.uses.tree.now) root (record { path = reverse path.now; port = port }) }
-    requires climbs { walks.climb (placed wires.now.uses.tree.now) root None (reverse path.now) port ≡ crosses (spec.crossing path.now crossed) }
-    ensures { IfOk result (Traces (placed wires.now.uses.tree.now) root (record { path = reverse path.now; port = port })) }
+    requires order { IsOrder (inner.containment (placed wires.now.uses.names.tree.now)) order.now.keys }
+    requires declared { AreDeclared (placed wires.now.uses.names.tree.now) }
+    requires one { OneEach (placed wires.now.uses.names.tree.now) root }
+    requires no_thread { is_thread_at (placed wires.now.uses.names.tree.now) root ≡ false }
+    requires thread { IsThreadPort (placed wires.now.uses.names.tree.now) root (record { path = reverse path.now; port = port }) }
+    requires climbs { walks.climb (placed wires.now.uses.names.tree.now) root None (reverse path.now) port ≡ crosses (spec.crossing path.now crossed) }
+    ensures { IfOk result (Traces (placed wires.now.uses.names.tree.now) root (record { path = reverse path.now; port = port })) }
 {
     let lower = lower_of(
         wires,
@@ -265,12 +264,12 @@ fn descend(
     number: usize,
     port: usize,
 ) -> Result<Option<Begin>, AllocError>
-    requires order { IsOrder (inner.containment (placed wires.now.uses.tree.now)) order.now.keys }
-    requires declared { AreDeclared (placed wires.now.uses.tree.now) }
-    requires out { is_in_at (placed wires.now.uses.tree.now) number port ≡ false }
-    ensures { IfOk result (λ begin. (root : ℕ) → OneEach (placed wires.now.uses.tree.now) root
-        → uses.standing (placed wires.now.uses.tree.now) root (reverse path.items) ≡ Some number
-        → Descends (placed wires.now.uses.tree.now) root (record { path = reverse path.items; port = port }) begin) }
+    requires order { IsOrder (inner.containment (placed wires.now.uses.names.tree.now)) order.now.keys }
+    requires declared { AreDeclared (placed wires.now.uses.names.tree.now) }
+    requires out { is_in_at (placed wires.now.uses.names.tree.now) number port ≡ false }
+    ensures { IfOk result (λ begin. (root : ℕ) → OneEach (placed wires.now.uses.names.tree.now) root
+        → uses.standing (placed wires.now.uses.names.tree.now) root (reverse path.items) ≡ Some number
+        → Descends (placed wires.now.uses.names.tree.now) root (record { path = reverse path.items; port = port }) begin) }
 {
     let mut way = path;
     let mut here = number;
@@ -290,9 +289,9 @@ fn descend(
 
 // The port of a subcomponent that gives to an own out port, if there is one.
 fn step_down(wires: &Wires<'_>, here: usize, out: usize) -> Option<Lower>
-    requires declared { AreDeclared (placed wires.now.uses.tree.now) }
-    requires out { is_in_at (placed wires.now.uses.tree.now) here out ≡ false }
-    ensures { LeadsDown (placed wires.now.uses.tree.now) here out result }
+    requires declared { AreDeclared (placed wires.now.uses.names.tree.now) }
+    requires out { is_in_at (placed wires.now.uses.names.tree.now) here out ≡ false }
+    ensures { LeadsDown (placed wires.now.uses.names.tree.now) here out result }
 {
     match wires.into(here, Site::Own(out)) {
         Some(from) => Some(lower_of(wires, here, from.1)),
@@ -302,8 +301,8 @@ fn step_down(wires: &Wires<'_>, here: usize, out: usize) -> Option<Lower>
 
 // An out port of a subcomponent, with what the subcomponent names.
 fn lower_of(wires: &Wires<'_>, here: usize, source: Site) -> Lower
-    requires { IsFromInner (placed wires.now.uses.tree.now) here source }
-    ensures { IsLower (placed wires.now.uses.tree.now) here source result }
+    requires { IsFromInner (placed wires.now.uses.names.tree.now) here source }
+    ensures { IsLower (placed wires.now.uses.names.tree.now) here source result }
 {
     match source {
         Site::Inner(sub, port) => match wires.uses.below(here, sub) {

@@ -6,9 +6,10 @@ ghost use Rattle.aadl_uses.specs.Uses.{IsInUse};
 ghost use Rattle.aadl_uses.specs.proof.Orders.{IsOrder};
 ghost use Rattle.aadl_chains.specs.proof.OnChains.{IsOnWay, AreWays};
 
-use crate::{Inside, Outside, Side, Wire, Wires};
+use crate::{Inside, Outside, Side};
 use aadl_names::Site;
 use aadl_tree::Direction;
+use aadl_uses::{Wire, Wires};
 use indexmap::IndexSet;
 use std::alloc::{AllocError, Global};
 
@@ -37,9 +38,9 @@ impl Ways {
         used: &IndexSet<usize>,
         root: usize,
     ) -> Result<Ways, AllocError>
-        requires order { IsOrder (containment (placed wires.now.uses.tree.now)) order.now.keys }
-        requires used { (n : ℕ) → Contains used.now.keys n ↔ IsInUse (placed wires.now.uses.tree.now) root n }
-        ensures { IfOk result (λ ways. (ways.root ≡ root) × AreWays (placed wires.now.uses.tree.now) ways) }
+        requires order { IsOrder (containment (placed wires.now.uses.names.tree.now)) order.now.keys }
+        requires used { (n : ℕ) → Contains used.now.keys n ↔ IsInUse (placed wires.now.uses.names.tree.now) root n }
+        ensures { IfOk result (λ ways. (ways.root ≡ root) × AreWays (placed wires.now.uses.names.tree.now) ways) }
     {
         let gives = Inside::of(alloc, wires, order, Direction::Out)?;
         let takes = Inside::of(alloc, wires, order, Direction::In)?;
@@ -65,8 +66,8 @@ impl Ways {
     /// Whether a connection of an implementation in use is on a chain, at some place where the implementation
     /// stands.
     pub fn has(&self, wires: &Wires<'_>, number: usize, wire: Wire) -> bool
-        requires { AreWays (placed wires.now.uses.tree.now) self.now }
-        ensures { IsTrue result ↔ IsOnWay (placed wires.now.uses.tree.now) self.now.root number wire }
+        requires { AreWays (placed wires.now.uses.names.tree.now) self.now }
+        ensures { IsTrue result ↔ IsOnWay (placed wires.now.uses.names.tree.now) self.now.root number wire }
     {
         match wire.source {
             Some(source) => self.goes_on(wires, number, wire, source),
@@ -76,9 +77,9 @@ impl Ways {
 
     // Whether a connection from this port is on a chain.
     fn goes_on(&self, wires: &Wires<'_>, number: usize, wire: Wire, source: Site) -> bool
-        requires ways { AreWays (placed wires.now.uses.tree.now) self.now }
+        requires ways { AreWays (placed wires.now.uses.names.tree.now) self.now }
         requires source { wire.source ≡ Some source }
-        ensures { IsTrue result ↔ IsOnWay (placed wires.now.uses.tree.now) self.now.root number wire }
+        ensures { IsTrue result ↔ IsOnWay (placed wires.now.uses.names.tree.now) self.now.root number wire }
     {
         match wire.target {
             Some(target) => {

@@ -9,8 +9,8 @@ ghost use Rattle.aadl_instance.specs.proof.Passed.{paths_of, HasPort, IsBegin};
 
 use crate::numbers::PortNumbers;
 use crate::parts::ChainEnd;
-use aadl_chains::{Begin, Wires};
-use aadl_uses::standing;
+use aadl_chains::Begin;
+use aadl_uses::{Wires, standing};
 use indexmap::IndexSet;
 use pals_base::{NodeNo, Text};
 use std::alloc::{AllocError, Global};

@@ -25,22 +25,22 @@ pub fn flatten<'t>(
     root: &Text,
 ) -> Result<Instance<'t>, FlatFault>
     ensures fault { IfErr result (λ fault. (fault ≡ Memory) ⊎ IsFault (placed tree.now) root.now fault) }
-    ensures tree { IfOk result (λ x. x.tree.now ≡ tree.now) }
+    ensures tree { IfOk result (λ x. x.wires.uses.names.tree.now ≡ tree.now) }
     ensures instance { IfOk result (λ x. (i : IsInstance (placed tree.now) x.root x.threads x.links x.feeds x.taps) × (i.name ≡ root.now)) }
 {
     match check_package(alloc, tree, root) {
-        Ok(checked) => Ok(instance_of(alloc, &checked)?),
+        Ok(checked) => Ok(instance_of(alloc, checked)?),
         Err(fault) => Err(fault),
     }
 }
 
 // The instance of a package that has no fault below a root that has a name.
-fn instance_of<'t>(alloc: Global, checked: &Checked<'t>) -> Result<Instance<'t>, NoMemory>
-    requires checked { IsChecked (placed checked.now.wires.uses.tree.now) checked.now }
-    requires name { (name : List ℕ) × (root_number (placed checked.now.wires.uses.tree.now) name ≡ Some checked.now.root) }
-    ensures tree { IfOk result (λ x. x.tree.now ≡ checked.now.wires.uses.tree.now) }
-    ensures instance { IfOk result (λ x. (name : List ℕ) → root_number (placed checked.now.wires.uses.tree.now) name ≡ Some checked.now.root
-        → (i : IsInstance (placed checked.now.wires.uses.tree.now) x.root x.threads x.links x.feeds x.taps) × (i.name ≡ name)) }
+fn instance_of<'t>(alloc: Global, checked: Checked<'t>) -> Result<Instance<'t>, NoMemory>
+    requires checked { IsChecked (placed checked.wires.uses.names.tree.now) checked }
+    requires name { (name : List ℕ) × (root_number (placed checked.wires.uses.names.tree.now) name ≡ Some checked.root) }
+    ensures tree { IfOk result (λ x. x.wires.uses.names.tree.now ≡ checked.entry.wires.uses.names.tree.now) }
+    ensures instance { IfOk result (λ x. (name : List ℕ) → root_number (placed checked.entry.wires.uses.names.tree.now) name ≡ Some checked.entry.root
+        → (i : IsInstance (placed checked.entry.wires.uses.names.tree.now) x.root x.threads x.links x.feeds x.taps) × (i.name ≡ name)) }
 {
     let uses = &checked.wires.uses;
     let paths = thread_paths(alloc, uses, &checked.order, &checked.used, checked.root)?;
@@ -56,8 +56,8 @@ fn instance_of<'t>(alloc: Global, checked: &Checked<'t>) -> Result<Instance<'t>,
     let incoming = incoming_of(alloc, &network)?;
     let taps = taps_of(alloc, &network)?;
     Ok(Instance {
-        tree: uses.tree,
-        root: network.root,
+        wires: checked.wires,
+        root: checked.root,
         threads,
         links: incoming.links,
         feeds: incoming.feeds,

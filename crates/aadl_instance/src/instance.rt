@@ -3,16 +3,15 @@ ghost use Rattle.aadl_tree.specs.proof.PackageViews.{placed};
 ghost use Rattle.aadl_instance.specs.Instances.{IsInstance};
 
 use crate::parts::Chain;
-use aadl_tree::PackageTree;
-use aadl_uses::ThreadAt;
+use aadl_uses::{ThreadAt, Wires};
 use pals_base::Items;
 
 /// The instance of a package below one root. Its type keeps that the package has no fault, and that
 /// these are all threads, links, feeds and taps, each once, in their order.
 #[derive(Drop)]
 pub struct Instance<'t> {
-    /// The package.
-    pub tree: &'t PackageTree,
+    /// The package with its connections, as its names were looked up.
+    pub wires: Wires<'t>,
     /// The number of the root's implementation among the package's declarations.
     pub root: usize,
     /// The threads, in depth-first order of declaration.
@@ -23,5 +22,5 @@ pub struct Instance<'t> {
     pub feeds: Items<Chain>,
     /// The chains from threads to the root's out ports, in order of these ports' declaration.
     pub taps: Items<Chain>,
-    pub ghost flat: { ∥ IsInstance (placed tree.now) root threads links feeds taps ∥₁ },
+    pub ghost flat: { ∥ IsInstance (placed wires.uses.names.tree.now) root threads links feeds taps ∥₁ },
 }

@@ -12,7 +12,8 @@ ghost use Rattle.aadl_instance.specs.proof.Limits as spec;
 ghost use Rattle.aadl_instance.specs.proof.Limits.{IsPassed, IsFirstPassed};
 
 use crate::{Part, has_too_long_path, has_too_many};
-use aadl_chains::{Wires, has_too_many_links};
+use aadl_chains::has_too_many_links;
+use aadl_uses::Wires;
 use indexmap::IndexSet;
 use std::alloc::{AllocError, Global};
 
@@ -62,13 +63,13 @@ pub fn first_limit(
     used: &IndexSet<usize>,
     root: usize,
 ) -> Result<Option<Limit>, AllocError>
-    requires order { IsOrder (containment (placed wires.now.uses.tree.now)) order.now.keys }
-    requires used { (n : ℕ) → Contains used.now.keys n ↔ IsInUse (placed wires.now.uses.tree.now) root n }
-    requires declared { AreDeclared (placed wires.now.uses.tree.now) }
-    requires ends { (fault : FlatFault) → ¬ IsEndFault (placed wires.now.uses.tree.now) root fault }
-    requires root { root < length (placed wires.now.uses.tree.now).declarations }
-    requires no_thread { is_thread_at (placed wires.now.uses.tree.now) root ≡ false }
-    ensures { IfOk result (IsFirstPassed (placed wires.now.uses.tree.now) root) }
+    requires order { IsOrder (containment (placed wires.now.uses.names.tree.now)) order.now.keys }
+    requires used { (n : ℕ) → Contains used.now.keys n ↔ IsInUse (placed wires.now.uses.names.tree.now) root n }
+    requires declared { AreDeclared (placed wires.now.uses.names.tree.now) }
+    requires ends { (fault : FlatFault) → ¬ IsEndFault (placed wires.now.uses.names.tree.now) root fault }
+    requires root { root < length (placed wires.now.uses.names.tree.now).declarations }
+    requires no_thread { is_thread_at (placed wires.now.uses.names.tree.now) root ≡ false }
+    ensures { IfOk result (IsFirstPassed (placed wires.now.uses.names.tree.now) root) }
 {
     let limits = LIMITS;
     for limit in &limits {
@@ -88,13 +89,13 @@ fn is_passed(
     root: usize,
     limit: Limit,
 ) -> Result<bool, AllocError>
-    requires order { IsOrder (containment (placed wires.now.uses.tree.now)) order.now.keys }
-    requires used { (n : ℕ) → Contains used.now.keys n ↔ IsInUse (placed wires.now.uses.tree.now) root n }
-    requires declared { AreDeclared (placed wires.now.uses.tree.now) }
-    requires ends { (fault : FlatFault) → ¬ IsEndFault (placed wires.now.uses.tree.now) root fault }
-    requires root { root < length (placed wires.now.uses.tree.now).declarations }
-    requires no_thread { is_thread_at (placed wires.now.uses.tree.now) root ≡ false }
-    ensures { IfOk result (λ passed. IsTrue passed ↔ IsPassed (placed wires.now.uses.tree.now) root limit) }
+    requires order { IsOrder (containment (placed wires.now.uses.names.tree.now)) order.now.keys }
+    requires used { (n : ℕ) → Contains used.now.keys n ↔ IsInUse (placed wires.now.uses.names.tree.now) root n }
+    requires declared { AreDeclared (placed wires.now.uses.names.tree.now) }
+    requires ends { (fault : FlatFault) → ¬ IsEndFault (placed wires.now.uses.names.tree.now) root fault }
+    requires root { root < length (placed wires.now.uses.names.tree.now).declarations }
+    requires no_thread { is_thread_at (placed wires.now.uses.names.tree.now) root ≡ false }
+    ensures { IfOk result (λ passed. IsTrue passed ↔ IsPassed (placed wires.now.uses.names.tree.now) root limit) }
 {
     match limit {
         Limit::Components => wires.uses.has_too_many_threads(alloc, order, root),

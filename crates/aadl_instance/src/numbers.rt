@@ -5,8 +5,8 @@ ghost use Rattle.aadl_tree.specs.proof.PackageViews.{placed};
 ghost use Rattle.aadl_tree.specs.proof.Views.{feature_view};
 ghost use Rattle.aadl_instance.specs.proof.Numbers.{AreAmong, AreNumbers};
 
-use aadl_chains::Wires;
 use aadl_tree::{Direction, Feature};
+use aadl_uses::Wires;
 use std::alloc::{AllocError, Global};
 use std::marker::Model;
 
@@ -32,7 +32,7 @@ impl PortNumbers {
 
     /// Those of the implementations of a package.
     pub fn of(alloc: Global, wires: &Wires<'_>) -> Result<PortNumbers, AllocError>
-        ensures { IfOk result (λ numbers. AreNumbers (placed wires.now.uses.tree.now) numbers) }
+        ensures { IfOk result (λ numbers. AreNumbers (placed wires.now.uses.names.tree.now) numbers) }
     {
         let mut numbers = PortNumbers {
             rows: Vec::new(alloc),

@@ -13,10 +13,10 @@ ghost use Rattle.aadl_instance.specs.proof.Silence.{IsOrdered, IsChecked, FindsF
 
 use crate::limits::first_limit;
 use crate::root::root_number;
-use aadl_chains::{Wires, first_end_fault};
+use aadl_chains::first_end_fault;
 use aadl_names::{FlatFault, Names};
 use aadl_tree::PackageTree;
-use aadl_uses::{Uses, first_recursive};
+use aadl_uses::{Uses, Wires, first_recursive};
 use indexmap::IndexSet;
 use name_faults::first_name_fault;
 use pals_base::Text;
@@ -42,69 +42,66 @@ pub fn check_package<'t>(
     name: &Text,
 ) -> Result<Checked<'t>, FlatFault>
     ensures { MatchResult result
-        (λ checked. (resolving.root_number (placed tree.now) name.now ≡ Some checked.root) × (checked.wires.uses.tree.now ≡ tree.now)
+        (λ checked. (resolving.root_number (placed tree.now) name.now ≡ Some checked.root) × (checked.wires.uses.names.tree.now ≡ tree.now)
         × IsChecked (placed tree.now) checked)
         (λ fault. (fault ≡ Memory) ⊎ IsFault (placed tree.now) name.now fault) }
 {
     match root_number(alloc, tree, name)? {
         Some(root) => {
             let names = Names::of(alloc, tree)?;
-            check_names(alloc, &names, root)
+            let uses = Uses::of(alloc, names)?;
+            let wires = Wires::of(alloc, uses)?;
+            check_names(alloc, wires, root)
         }
         None => Err(FlatFault::NoRoot),
     }
 }
 
 // Looks for what is wrong with names, and then further.
-fn check_names<'t>(alloc: Global, names: &Names<'t>, root: usize) -> Result<Checked<'t>, FlatFault>
-    requires { IsRoot (placed names.now.tree.now) root }
+fn check_names<'t>(alloc: Global, wires: Wires<'t>, root: usize) -> Result<Checked<'t>, FlatFault>
+    requires { IsRoot (placed wires.uses.names.tree.now) root }
     ensures { MatchResult result
-        (λ checked. (checked.root ≡ root) × (checked.wires.uses.tree.now ≡ names.now.tree.now) × IsChecked (placed names.now.tree.now) checked)
-        (λ fault. (fault ≡ Memory) ⊎ IsFirstByLine (FoundIn (placed names.now.tree.now) root) fault) }
+        (λ checked. (checked.root ≡ root) × (checked.wires.uses.names.tree.now ≡ wires.entry.uses.names.tree.now)
+        × IsChecked (placed wires.entry.uses.names.tree.now) checked)
+        (λ fault. (fault ≡ Memory) ⊎ IsFirstByLine (FoundIn (placed wires.entry.uses.names.tree.now) root) fault) }
 {
-    match first_name_fault(alloc, names, root)? {
+    match first_name_fault(alloc, &wires, root)? {
         Some(fault) => Err(fault),
-        None => check_recursion(alloc, names, root),
+        None => check_recursion(alloc, wires, root),
     }
 }
 
 // Looks for implementations that contain themselves, and then further.
 fn check_recursion<'t>(
     alloc: Global,
-    names: &Names<'t>,
+    wires: Wires<'t>,
     root: usize,
 ) -> Result<Checked<'t>, FlatFault>
-    requires root { IsRoot (placed names.now.tree.now) root }
-    requires names { package_faults (placed names.now.tree.now) root ≡ [] }
+    requires root { IsRoot (placed wires.uses.names.tree.now) root }
+    requires names { package_faults (placed wires.uses.names.tree.now) root ≡ [] }
     ensures { MatchResult result
-        (λ checked. (checked.root ≡ root) × (checked.wires.uses.tree.now ≡ names.now.tree.now) × IsChecked (placed names.now.tree.now) checked)
-        (λ fault. (fault ≡ Memory) ⊎ IsFirstByLine (FoundIn (placed names.now.tree.now) root) fault) }
+        (λ checked. (checked.root ≡ root) × (checked.wires.uses.names.tree.now ≡ wires.entry.uses.names.tree.now)
+        × IsChecked (placed wires.entry.uses.names.tree.now) checked)
+        (λ fault. (fault ≡ Memory) ⊎ IsFirstByLine (FoundIn (placed wires.entry.uses.names.tree.now) root) fault) }
 {
-    let uses = Uses::of(alloc, names)?;
-    match first_recursive(alloc, &uses)? {
+    match first_recursive(alloc, &wires.uses)? {
         Some(fault) => Err(fault),
-        None => check_uses(alloc, names, uses, root),
+        None => check_wires(alloc, wires, root),
     }
 }
 
 // Looks for what is wrong with connections, and then further.
-fn check_uses<'t>(
-    alloc: Global,
-    names: &Names<'t>,
-    uses: Uses<'t>,
-    root: usize,
-) -> Result<Checked<'t>, FlatFault>
-    requires root { IsRoot (placed names.now.tree.now) root }
-    requires tree { uses.tree.now ≡ names.now.tree.now }
-    requires names { package_faults (placed names.now.tree.now) root ≡ [] }
-    requires recursion { (fault : FlatFault) → ¬ IsRecursive (placed names.now.tree.now) fault }
+fn check_wires<'t>(alloc: Global, wires: Wires<'t>, root: usize) -> Result<Checked<'t>, FlatFault>
+    requires root { IsRoot (placed wires.uses.names.tree.now) root }
+    requires names { package_faults (placed wires.uses.names.tree.now) root ≡ [] }
+    requires recursion { (fault : FlatFault) → ¬ IsRecursive (placed wires.uses.names.tree.now) fault }
     ensures { MatchResult result
-        (λ checked. (checked.root ≡ root) × (checked.wires.uses.tree.now ≡ names.now.tree.now) × IsChecked (placed names.now.tree.now) checked)
-        (λ fault. (fault ≡ Memory) ⊎ IsFirstByLine (FoundIn (placed names.now.tree.now) root) fault) }
+        (λ checked. (checked.root ≡ root) × (checked.wires.uses.names.tree.now ≡ wires.entry.uses.names.tree.now)
+        × IsChecked (placed wires.entry.uses.names.tree.now) checked)
+        (λ fault. (fault ≡ Memory) ⊎ IsFirstByLine (FoundIn (placed wires.entry.uses.names.tree.now) root) fault) }
 {
-    let order = uses.order(alloc)?;
-    let used = uses.in_use(alloc, root)?;
-    let wires = Wires::of(alloc, names, uses)?;
+    let order = wires.uses.order(alloc)?;
+    let used = wires.uses.in_use(alloc, root)?;
     let checked = Checked {
         wires,
         order,
@@ -119,8 +116,8 @@ fn check_uses<'t>(
 
 // The first fault of connections or limits.
 fn connection_fault(alloc: Global, checked: &Checked<'_>) -> Result<Option<FlatFault>, AllocError>
-    requires { IsOrdered (placed checked.now.wires.uses.tree.now) checked.now }
-    ensures { IfOk result (FindsFault (placed checked.now.wires.uses.tree.now) checked.now) }
+    requires { IsOrdered (placed checked.now.wires.uses.names.tree.now) checked.now }
+    ensures { IfOk result (FindsFault (placed checked.now.wires.uses.names.tree.now) checked.now) }
 {
     match first_end_fault(
         alloc,
@@ -136,9 +133,9 @@ fn connection_fault(alloc: Global, checked: &Checked<'_>) -> Result<Option<FlatF
 
 // The first fault of limits.
 fn limit_fault(alloc: Global, checked: &Checked<'_>) -> Result<Option<FlatFault>, AllocError>
-    requires ordered { IsOrdered (placed checked.now.wires.uses.tree.now) checked.now }
-    requires ends { (fault : FlatFault) → ¬ IsEndFault (placed checked.now.wires.uses.tree.now) checked.now.root fault }
-    ensures { IfOk result (FindsFault (placed checked.now.wires.uses.tree.now) checked.now) }
+    requires ordered { IsOrdered (placed checked.now.wires.uses.names.tree.now) checked.now }
+    requires ends { (fault : FlatFault) → ¬ IsEndFault (placed checked.now.wires.uses.names.tree.now) checked.now.root fault }
+    ensures { IfOk result (FindsFault (placed checked.now.wires.uses.names.tree.now) checked.now) }
 {
     match first_limit(
         alloc,

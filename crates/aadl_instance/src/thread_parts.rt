@@ -7,7 +7,7 @@ ghost use Rattle.aadl_instance.specs.proof.Parts as spec;
 ghost use Rattle.aadl_instance.specs.proof.Parts.{HasTooMany};
 
 use crate::counts::{states_up_to, variables_up_to};
-use aadl_chains::Wires;
+use aadl_uses::Wires;
 use indexmap::IndexSet;
 use pals_base::limits::{PORTS, STATES, VARIABLES};
 
@@ -37,10 +37,10 @@ impl Part {
 
 /// Whether a thread that is in use has more of something than it may have.
 pub fn has_too_many(wires: &Wires<'_>, used: &IndexSet<usize>, part: Part) -> bool
-    ensures used { IsTrue result ↔ HasTooMany (placed wires.now.uses.tree.now) used.now.keys part }
+    ensures used { IsTrue result ↔ HasTooMany (placed wires.now.uses.names.tree.now) used.now.keys part }
     // of all that is in use below a root
-    ensures below { (root : ℕ) → ((n : ℕ) → Contains used.now.keys n ↔ IsInUse (placed wires.now.uses.tree.now) root n)
-        → IsTrue result ↔ ThreadWith (placed wires.now.uses.tree.now) root (λ x path. spec.most part < spec.count_of (placed wires.now.uses.tree.now) x part) }
+    ensures below { (root : ℕ) → ((n : ℕ) → Contains used.now.keys n ↔ IsInUse (placed wires.now.uses.names.tree.now) root n)
+        → IsTrue result ↔ ThreadWith (placed wires.now.uses.names.tree.now) root (λ x path. spec.most part < spec.count_of (placed wires.now.uses.names.tree.now) x part) }
 {
     for number in 0..wires.uses.len() {
         if used.contains(&number) && wires.uses.is_thread(number) && has_over(wires, number, part) {
@@ -52,14 +52,14 @@ pub fn has_too_many(wires: &Wires<'_>, used: &IndexSet<usize>, part: Part) -> bo
 
 // Whether an implementation has more of something than a thread may have.
 fn has_over(wires: &Wires<'_>, number: usize, part: Part) -> bool
-    ensures { IsTrue result ↔ (spec.most part < spec.count_at (placed wires.now.uses.tree.now) number part) }
+    ensures { IsTrue result ↔ (spec.most part < spec.count_at (placed wires.now.uses.names.tree.now) number part) }
 {
     count_up_to(wires, number, part, part.most() + 1) > part.most()
 }
 
 // How much of something an implementation has, up to a limit.
 fn count_up_to(wires: &Wires<'_>, number: usize, part: Part, limit: usize) -> usize
-    ensures { result ≡ min limit (spec.count_at (placed wires.now.uses.tree.now) number part) }
+    ensures { result ≡ min limit (spec.count_at (placed wires.now.uses.names.tree.now) number part) }
 {
     match part {
         Part::Ports => limit.min(wires.ports(number).len()),

@@ -10,3 +10,4 @@ pub mod Covers
 pub mod Besides
 pub mod FirstFaults
 pub mod Rising
+pub mod Pieces

@@ -2,19 +2,16 @@
 use denote.Ref.{Bor}
 use Rattle.std.proofs.Common.{◌≡◌, ◌∙◌, ℕ, List, Option, Some, None, refl, sym, ap, map}
 use Rattle.std.specs.Prelude.{slice_get, option_map, option_copied}
-use Rattle.std.specs.Option.{option_and_then}
 use Rattle.std.specs.Slice.{IsItemAt}
 use Rattle.std.proofs.lemmas.Option.{none-some, slice_get-map, slice_get_read, slice_get_past}
 use Rattle.aadl_tree.specs.declared.package.PackageTree as source_package
 use Rattle.aadl_tree.specs.declared.declarations.Declaration as source_declaration
-use Rattle.aadl_tree.specs.declared.declarations.Direction.{Direction}
-use Rattle.aadl_tree.specs.Declarations.{Feature, Subcomponent, TypeDeclaration, Implementation, Declaration, type, implementation, PackageTree}
+use Rattle.aadl_tree.specs.Declarations.{TypeDeclaration, Declaration, type, implementation, PackageTree}
 use Rattle.aadl_tree.specs.proof.Views.{declaration_view}
 use Rattle.aadl_tree.specs.proof.Maps.{kept_place}
 use Rattle.aadl_tree.specs.proof.PackageViews.{placed}
-use Rattle.aadl_names.specs.declared.site.Site.TheVariants.{Inner}
 use Rattle.aadl_names.specs.proof.Members.{member_of}
-use Rattle.aadl_names.specs.Resolving.{type_in, type_number, type_numbered, target_of, features_of, port_named, ports_at, inner_ports, inner_site, direction_in, with_direction}
+use Rattle.aadl_names.specs.Resolving.{type_in, type_numbered, features_of, port_named}
 
 -- the declaration of a number
 pub declaration_there : (tree : source_package.PackageTree) (n : ℕ) (ds : List source_declaration.Declaration) (d : Option source_declaration.Declaration)
@@ -44,27 +41,3 @@ pub members_there : (tree : PackageTree ℕ) (of_type : Option ℕ) (n : ℕ) (x
     → member_of (slice_get tree.declarations n) name ≡ port_named (features_of (type_numbered tree of_type)) name
 members_there tree of_type n x name some is =
     typed (slice_get tree.declarations n) x name is ∙ ap (λ o. port_named (features_of (type_numbered tree o)) name) (sym some)
-
--- ---- a port of a subcomponent
-pub ports_there : (tree : PackageTree ℕ) (x : Implementation ℕ) (s : ℕ) (sub : Subcomponent ℕ) (of_type : Option ℕ) → Some sub ≡ slice_get x.subcomponents s
-    → of_type ≡ option_and_then (type_number tree) (target_of tree sub) → features_of (type_numbered tree of_type) ≡ inner_ports tree x s
-ports_there tree x s sub of_type there is =
-    ap (λ o. features_of (type_numbered tree o)) is
-    ∙ ap (λ o. ports_at tree (option_and_then (target_of tree) o)) there
-
-pub site_there : (tree : PackageTree ℕ) (x : Implementation ℕ) (s p : ℕ) (name : List ℕ) (ports : List (Feature ℕ)) (d : Option Direction)
-    → ports ≡ inner_ports tree x s → Some p ≡ port_named ports name → d ≡ direction_in ports p
-    → Some (Inner s p, d) ≡ option_map (with_direction tree x) (inner_site tree x name s)
-site_there tree x s p name ports d same found goes =
-    ap (λ e. Some (Inner s p, e)) (goes ∙ ap (λ l. direction_in l p) same)
-    ∙ ap (λ o. option_map (with_direction tree x) (option_map (Inner s) o)) (found ∙ ap (λ l. port_named l name) same)
-
-pub no_site_there : (tree : PackageTree ℕ) (x : Implementation ℕ) (s : ℕ) (name : List ℕ) (ports : List (Feature ℕ)) → ports ≡ inner_ports tree x s
-    → None ≡ port_named ports name → None ≡ option_map (with_direction tree x) (inner_site tree x name s)
-no_site_there tree x s name ports same found =
-    ap (λ o. option_map (with_direction tree x) (option_map (Inner s) o)) (found ∙ ap (λ l. port_named l name) same)
-
-pub no_sub_there : (tree : PackageTree ℕ) (x : Implementation ℕ) (s : ℕ) (name : List ℕ) → None ≡ slice_get x.subcomponents s
-    → None ≡ option_map (with_direction tree x) (inner_site tree x name s)
-no_sub_there tree x s name there =
-    ap (λ o. option_map (with_direction tree x) (option_map (Inner s) (port_named (ports_at tree (option_and_then (target_of tree) o)) name))) there

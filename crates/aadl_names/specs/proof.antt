@@ -5,3 +5,4 @@ pub mod Tables
 pub mod Members
 pub mod DeclaredTwice
 pub mod Orders
+pub mod Spellings

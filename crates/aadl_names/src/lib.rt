@@ -9,6 +9,7 @@ pub mod fault;
 pub mod finder;
 pub mod finding_laws;
 pub mod holder;
+pub mod name_comparison;
 pub mod names;
 pub mod numbered;
 pub mod place_laws;
@@ -18,6 +19,7 @@ pub mod spelling;
 pub mod spot;
 pub mod table;
 pub mod twice;
+pub mod units;
 
 pub use entry::Entry;
 pub use fault::FlatFault;

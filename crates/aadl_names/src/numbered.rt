@@ -1,13 +1,11 @@
 //! The declarations of a package by their numbers.
-ghost use Rattle.std.specs.Prelude.{◌≡◌, IfOk, slice_get, option_map, option_copied};
+ghost use Rattle.std.specs.Prelude.{◌≡◌, slice_get, option_map, option_copied};
 ghost use Rattle.aadl_tree.specs.proof.PackageViews.{placed};
 ghost use Rattle.aadl_tree.specs.proof.Views.{implementation_view, subcomponent_view, type_view};
 ghost use Rattle.aadl_tree.specs.proof.Maps.{kept_place};
 ghost use Rattle.aadl_names.specs.Resolving as spec;
 
-use crate::names::Names;
 use aadl_tree::{Declaration, Implementation, PackageTree, Subcomponent, TypeDeclaration};
-use std::alloc::{AllocError, Global};
 
 /// The implementation of a number.
 pub fn implementation_at<'t>(tree: &'t PackageTree, number: usize) -> Option<&'t Implementation>
@@ -46,33 +44,5 @@ pub fn type_numbered<'t>(
         Some(Declaration::Type(x)) => Some(x),
         Some(Declaration::Implementation(_)) => None,
         None => None,
-    }
-}
-
-/// The type of an implementation.
-pub fn type_of<'t>(
-    alloc: Global,
-    names: &Names<'t>,
-    x: &Implementation,
-) -> Result<Option<&'t TypeDeclaration>, AllocError>
-    ensures { IfOk result (λ found. option_map (type_view kept_place) (option_copied found)
-        ≡ spec.type_of (placed names.now.tree.now) (implementation_view kept_place x.now)) }
-{
-    let number = names.type_number(alloc, &x.name.component_type)?;
-    Ok(type_numbered(names.tree, number))
-}
-
-/// The implementation that a subcomponent names.
-pub fn target_of<'t>(
-    alloc: Global,
-    names: &Names<'t>,
-    sub: &Subcomponent,
-) -> Result<Option<&'t Implementation>, AllocError>
-    ensures { IfOk result (λ found. option_map (implementation_view kept_place) (option_copied found)
-        ≡ spec.target_of (placed names.now.tree.now) (subcomponent_view kept_place sub.now)) }
-{
-    match names.referred(alloc, &sub.classifier)? {
-        Some(number) => Ok(implementation_at(names.tree, number)),
-        None => Ok(None),
     }
 }

@@ -8,7 +8,7 @@ use std::alloc::{AllocError, Global};
 /// What the subcomponents of a package name.
 pub fn uses(alloc: Global, tree: &PackageTree) -> Result<Uses<'_>, AllocError> {
     let names = Names::of(alloc, tree)?;
-    Uses::of(alloc, &names)
+    Uses::of(alloc, names)
 }
 
 fn cycle(alloc: Global, tree: &PackageTree) -> Result<Option<FlatFault>, AllocError> {
@@ -37,7 +37,7 @@ pub fn first_cycle(alloc: Global, text: &str, tree: &PackageTree) -> Result<Stri
 // The numbers of the declarations in use below the one of number 1; none where it is not there.
 fn used(alloc: Global, tree: &PackageTree) -> Result<IndexSet<usize>, AllocError> {
     let uses = uses(alloc, tree)?;
-    if 1 < uses.tree.declarations.len() {
+    if 1 < uses.names.tree.declarations.len() {
         uses.in_use(alloc, 1)
     } else {
         Ok(IndexSet::new(alloc))

@@ -1,6 +1,8 @@
 //! The first name that is wrong in a package.
-use aadl_names::{FlatFault, Names};
+use crate::containment::uses;
+use aadl_names::FlatFault;
 use aadl_tree::PackageTree;
+use aadl_uses::Wires;
 use name_faults::first_name_fault;
 use std::alloc::{AllocError, Global};
 
@@ -22,9 +24,9 @@ fn told(alloc: Global, text: &str, fault: &FlatFault) -> Result<String, AllocErr
 
 // The first fault of a package whose last declaration is the root.
 fn fault_of(alloc: Global, tree: &PackageTree) -> Result<Option<FlatFault>, AllocError> {
-    let names = Names::of(alloc, tree)?;
+    let wires = Wires::of(alloc, uses(alloc, tree)?)?;
     let root = tree.declarations.len().saturating_sub(1);
-    first_name_fault(alloc, &names, root)
+    first_name_fault(alloc, &wires, root)
 }
 
 /// The first fault of a package whose last declaration is the root, or `sound`.

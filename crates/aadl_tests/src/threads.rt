@@ -12,7 +12,7 @@ use std::alloc::{AllocError, Global};
 
 // The declarations, each behind those that it contains; nothing where one contains itself.
 fn order_of(alloc: Global, uses: &Uses<'_>) -> Result<Option<IndexSet<usize>>, AllocError>
-    ensures { IfOk result (λ found. IfSome found (λ order. IsOrder (containment (placed uses.now.tree.now)) order.keys)) }
+    ensures { IfOk result (λ found. IfSome found (λ order. IsOrder (containment (placed uses.now.names.tree.now)) order.keys)) }
 {
     match first_recursive(alloc, uses)? {
         None => Ok(Some(uses.order(alloc)?)),
@@ -22,7 +22,7 @@ fn order_of(alloc: Global, uses: &Uses<'_>) -> Result<Option<IndexSet<usize>>, A
 
 // Whether the last declaration has more threads below it than a design may have.
 fn has_too_many(alloc: Global, uses: &Uses<'_>, order: &IndexSet<usize>) -> Result<bool, AllocError>
-    requires { IsOrder (containment (placed uses.now.tree.now)) order.now.keys }
+    requires { IsOrder (containment (placed uses.now.names.tree.now)) order.now.keys }
 {
     let root = uses.len().saturating_sub(1);
     if root < uses.len() {

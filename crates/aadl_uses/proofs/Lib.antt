@@ -10,3 +10,6 @@ pub mod Cycles
 pub mod Counted
 pub mod Threads
 pub mod Ways
+pub mod Tables
+pub mod Rows
+pub mod EndSites

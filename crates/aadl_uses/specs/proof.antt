@@ -8,3 +8,7 @@ pub mod Weights
 pub mod Uses
 pub mod Threads
 pub mod Recursion
+pub mod Types
+pub mod PortNumbers
+pub mod Firsts
+pub mod Wiring

@@ -13,7 +13,7 @@ use std::alloc::{AllocError, Global};
 
 /// The first subcomponent of a package that leads back to the implementation in which it stands.
 pub fn first_recursive(alloc: Global, uses: &Uses<'_>) -> Result<Option<FlatFault>, AllocError>
-    ensures { IfOk result (FirstIn (IsRecursive (placed uses.now.tree.now))) }
+    ensures { IfOk result (FirstIn (IsRecursive (placed uses.now.names.tree.now))) }
 {
     let suspects = suspects(alloc, uses.containment())?;
     first_of(alloc, uses, suspects.as_slice())
@@ -25,7 +25,7 @@ fn first_of(
     uses: &Uses<'_>,
     suspects: &[(usize, usize)],
 ) -> Result<Option<FlatFault>, AllocError>
-    ensures { IfOk result (IsFirstOf (placed uses.now.tree.now) suspects.now) }
+    ensures { IfOk result (IsFirstOf (placed uses.now.names.tree.now) suspects.now) }
 {
     let mut first = None;
     for suspect in suspects {
@@ -43,7 +43,7 @@ fn sooner(
     within: usize,
     sub: usize,
 ) -> Result<Option<FlatFault>, AllocError>
-    ensures { IfOk result (IsSooner (placed uses.now.tree.now) first within sub) }
+    ensures { IfOk result (IsSooner (placed uses.now.names.tree.now) first within sub) }
 {
     let Some(declared) = uses.subcomponent(within, sub) else {
         return Ok(first);

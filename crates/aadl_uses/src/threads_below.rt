@@ -21,10 +21,10 @@ pub fn thread_paths(
     used: &IndexSet<usize>,
     root: usize,
 ) -> Result<Paths, NoMemory>
-    requires order { IsOrder (containment (placed uses.now.tree.now)) order.now.keys }
-    requires used { (n : ℕ) → Contains used.now.keys n ↔ IsInUse (placed uses.now.tree.now) root n }
-    requires root { root < length (placed uses.now.tree.now).declarations }
-    ensures { IfOk result (λ paths. Lists (IsThreadAt (placed uses.now.tree.now) root) PathBefore (map reverse (paths_from paths root))) }
+    requires order { IsOrder (containment (placed uses.now.names.tree.now)) order.now.keys }
+    requires used { (n : ℕ) → Contains used.now.keys n ↔ IsInUse (placed uses.now.names.tree.now) root n }
+    requires root { root < length (placed uses.now.names.tree.now).declarations }
+    ensures { IfOk result (λ paths. Lists (IsThreadAt (placed uses.now.names.tree.now) root) PathBefore (map reverse (paths_from paths root))) }
 {
     let marks = uses.thread_marks(alloc)?;
     paths_below(alloc, uses.containment(), marks.as_slice(), order, used)

@@ -1,83 +1,93 @@
-//! What the subcomponents of a package name.
+//! What is looked up of a package, once: what its subcomponents name, and the types of its implementations.
 ghost use Rattle.std.specs.Prelude.{◌≡◌, ◌↔◌, ◌<◌, ℕ, IfOk, IsTrue, Contains, map, length, slice_index, option_map, option_copied};
+ghost use Rattle.std.specs.Option.{option_and_then};
 ghost use Rattle.std.proofs.Props.{props};
 ghost use Rattle.aadl_tree.specs.proof.PackageViews.{placed};
 ghost use Rattle.aadl_tree.specs.proof.Views.{declaration_view, implementation_view, subcomponent_view};
 ghost use Rattle.aadl_tree.specs.proof.Maps.{kept_place};
 ghost use Rattle.aadl_names.specs.declared.fault.FlatFault.{FlatFault};
-ghost use Rattle.aadl_names.specs.Resolving as names;
+ghost use Rattle.aadl_names.specs.Resolving as resolving;
 ghost use Rattle.aadl_names.specs.Resolving.{implementation_at, referred};
 ghost use Rattle.aadl_uses.specs.proof.Uses as spec;
 ghost use Rattle.aadl_uses.specs.proof.Uses.{targets_in};
+ghost use Rattle.aadl_uses.specs.proof.Types.{type_in, type_number_at};
 ghost use Rattle.aadl_uses.specs.Uses.{sub_at, below, IsInUse, IsRecursive};
 ghost use Rattle.aadl_uses.specs.proof.Threads.{is_thread_in, is_thread_declaration, thread_marks, AreCounted};
 ghost use Rattle.aadl_uses.specs.Threads.{IsThreadAt, PathBefore, MoreThan};
 ghost use Rattle.aadl_uses.specs.proof.Orders.{IsOrder};
 ghost use Rattle.pals_base.specs.declared.limits.TheConstants.{COMPONENTS};
 
+use crate::types::types_of;
 use crate::{Containment, counts_below, order, reached};
 use aadl_names::Names;
 use aadl_names::numbered::{implementation_at, subcomponent_at};
 use aadl_tree::{Category, Declaration, Implementation, PackageTree, Subcomponent};
 use indexmap::IndexSet;
+use pals_base::Items;
 use pals_base::limits::COMPONENTS;
 use std::alloc::{AllocError, Global};
 
-/// A package with the implementations that its subcomponents name.
+/// A package with the implementations that its subcomponents name, and with the types of its
+/// implementations, all by their numbers.
 #[derive(Drop)]
 pub struct Uses<'t> {
-    /// The package.
-    pub tree: &'t PackageTree,
+    /// The package with its names.
+    pub names: Names<'t>,
     graph: Containment,
-    ghost of_subs: { graph ≡ spec.containment (placed tree.now) } by { Prim.hlevel props },
+    types: Items<Option<usize>>,
+    ghost of_subs: { graph ≡ spec.containment (placed names.tree.now) } by { Prim.hlevel props },
+    ghost of_types: { types ≡ map (type_in (placed names.tree.now)) (placed names.tree.now).declarations } by { Prim.hlevel props },
 }
 
 impl<'t> Uses<'t> {
     /// The uses of a package with these names.
-    pub fn of(alloc: Global, names: &Names<'t>) -> Result<Uses<'t>, AllocError>
-        ensures { IfOk result (λ uses. uses.tree.now ≡ names.now.tree.now) }
+    pub fn of(alloc: Global, names: Names<'t>) -> Result<Uses<'t>, AllocError>
+        ensures { IfOk result (λ uses. uses.names.tree.now ≡ names.entry.tree.now) }
     {
-        let graph = containment_of(alloc, names, names.tree.declarations.as_slice())?;
+        let declarations = names.tree.declarations.as_slice();
+        let graph = containment_of(alloc, &names, declarations)?;
+        let types = types_of(alloc, &names, declarations)?;
         Ok(Uses {
-            tree: names.tree,
+            names,
             graph,
+            types,
         })
     }
 
     /// What each declaration contains, by numbers.
     pub fn containment(&self) -> &Containment
-        ensures { result.now ≡ spec.containment (placed self.now.tree.now) }
+        ensures { result.now ≡ spec.containment (placed self.now.names.tree.now) }
     {
         &self.graph
     }
 
     /// How many declarations there are.
     pub fn len(&self) -> usize
-        ensures { result ≡ length (placed self.now.tree.now).declarations }
+        ensures { result ≡ length (placed self.now.names.tree.now).declarations }
     {
         self.graph.len()
     }
 
     /// The numbers of the implementations that the subcomponents of a declaration name, in order.
     pub fn targets(&self, number: usize) -> &[Option<usize>]
-        ensures { result.now ≡ spec.targets_of (placed self.now.tree.now) (implementation_at (placed self.now.tree.now) number) }
+        ensures { result.now ≡ spec.targets_of (placed self.now.names.tree.now) (implementation_at (placed self.now.names.tree.now) number) }
     {
         self.graph.targets(number)
     }
 
     /// All declarations, each behind those that its subcomponents name. None contains itself.
     pub fn order(&self, alloc: Global) -> Result<IndexSet<usize>, AllocError>
-        requires { (fault : FlatFault) → ¬ IsRecursive (placed self.now.tree.now) fault }
-        ensures { IfOk result (λ order. IsOrder (spec.containment (placed self.now.tree.now)) order.keys) }
+        requires { (fault : FlatFault) → ¬ IsRecursive (placed self.now.names.tree.now) fault }
+        ensures { IfOk result (λ order. IsOrder (spec.containment (placed self.now.names.tree.now)) order.keys) }
     {
         order(alloc, &self.graph)
     }
 
     /// Which declarations are implementations of threads.
     pub fn thread_marks(&self, alloc: Global) -> Result<Vec<bool>, AllocError>
-        ensures { IfOk result (λ marks. marks.items ≡ thread_marks (placed self.now.tree.now)) }
+        ensures { IfOk result (λ marks. marks.items ≡ thread_marks (placed self.now.names.tree.now)) }
     {
-        marks_of(alloc, self.tree.declarations.as_slice())
+        marks_of(alloc, self.names.tree.declarations.as_slice())
     }
 
     /// How many threads stand below each declaration, itself among them; the limit where there are
@@ -88,9 +98,9 @@ impl<'t> Uses<'t> {
         order: &IndexSet<usize>,
         limit: usize,
     ) -> Result<Vec<usize>, AllocError>
-        requires { IsOrder (spec.containment (placed self.now.tree.now)) order.now.keys }
-        ensures { IfOk result (λ counts. (n : ℕ) → n < length (placed self.now.tree.now).declarations
-            → AreCounted (placed self.now.tree.now) limit n (slice_index counts.items n)) }
+        requires { IsOrder (spec.containment (placed self.now.names.tree.now)) order.now.keys }
+        ensures { IfOk result (λ counts. (n : ℕ) → n < length (placed self.now.names.tree.now).declarations
+            → AreCounted (placed self.now.names.tree.now) limit n (slice_index counts.items n)) }
     {
         let marks = self.thread_marks(alloc)?;
         counts_below(alloc, &self.graph, marks.as_slice(), order, limit)
@@ -103,9 +113,9 @@ impl<'t> Uses<'t> {
         order: &IndexSet<usize>,
         root: usize,
     ) -> Result<bool, AllocError>
-        requires order { IsOrder (spec.containment (placed self.now.tree.now)) order.now.keys }
-        requires root { root < length (placed self.now.tree.now).declarations }
-        ensures { IfOk result (λ more. IsTrue more ↔ MoreThan COMPONENTS (IsThreadAt (placed self.now.tree.now) root) PathBefore) }
+        requires order { IsOrder (spec.containment (placed self.now.names.tree.now)) order.now.keys }
+        requires root { root < length (placed self.now.names.tree.now).declarations }
+        ensures { IfOk result (λ more. IsTrue more ↔ MoreThan COMPONENTS (IsThreadAt (placed self.now.names.tree.now) root) PathBefore) }
     {
         let counts = self.thread_counts(alloc, order, COMPONENTS + 1)?;
         let count = count_at(counts.as_slice(), root);
@@ -114,9 +124,9 @@ impl<'t> Uses<'t> {
 
     /// Whether a declaration is the implementation of a thread.
     pub fn is_thread(&self, number: usize) -> bool
-        ensures { result ≡ is_thread_in (implementation_at (placed self.now.tree.now) number) }
+        ensures { result ≡ is_thread_in (implementation_at (placed self.now.names.tree.now) number) }
     {
-        match self.tree.declarations.get(number) {
+        match self.names.tree.declarations.get(number) {
             Some(declaration) => is_thread(declaration),
             None => false,
         }
@@ -124,31 +134,51 @@ impl<'t> Uses<'t> {
 
     /// The number of the implementation that a subcomponent of a declaration names.
     pub fn below(&self, number: usize, sub: usize) -> Option<usize>
-        ensures { result ≡ below (placed self.now.tree.now) number sub }
+        ensures { result ≡ below (placed self.now.names.tree.now) number sub }
     {
         self.graph.below(number, sub)
     }
 
+    /// The number of the type of a declaration, if it is an implementation whose type is declared.
+    pub fn type_number(&self, number: usize) -> Option<usize>
+        ensures { result ≡ type_number_at (placed self.now.names.tree.now) number }
+    {
+        match self.types.get(number) {
+            Some(of_type) => *of_type,
+            None => None,
+        }
+    }
+
+    /// The number of the type of what a subcomponent of a declaration names.
+    pub fn type_below(&self, number: usize, sub: usize) -> Option<usize>
+        ensures { result ≡ option_and_then (type_number_at (placed self.now.names.tree.now)) (below (placed self.now.names.tree.now) number sub) }
+    {
+        match self.below(number, sub) {
+            Some(target) => self.type_number(target),
+            None => None,
+        }
+    }
+
     /// The numbers of the implementations that are in use below a root, its own among them.
     pub fn in_use(&self, alloc: Global, root: usize) -> Result<IndexSet<usize>, AllocError>
-        requires { root < length (placed self.now.tree.now).declarations }
-        ensures { IfOk result (λ used. (n : ℕ) → Contains used.keys n ↔ IsInUse (placed self.now.tree.now) root n) }
+        requires { root < length (placed self.now.names.tree.now).declarations }
+        ensures { IfOk result (λ used. (n : ℕ) → Contains used.keys n ↔ IsInUse (placed self.now.names.tree.now) root n) }
     {
         reached(alloc, &self.graph, root)
     }
 
     /// The implementation of a number.
     pub fn implementation(&self, number: usize) -> Option<&'t Implementation>
-        ensures { option_map (implementation_view kept_place) (option_copied result) ≡ implementation_at (placed self.now.tree.now) number }
+        ensures { option_map (implementation_view kept_place) (option_copied result) ≡ implementation_at (placed self.now.names.tree.now) number }
     {
-        implementation_at(self.tree, number)
+        implementation_at(self.names.tree, number)
     }
 
     /// A subcomponent of a declaration.
     pub fn subcomponent(&self, number: usize, sub: usize) -> Option<&'t Subcomponent>
-        ensures { option_map (subcomponent_view kept_place) (option_copied result) ≡ sub_at (placed self.now.tree.now) number sub }
+        ensures { option_map (subcomponent_view kept_place) (option_copied result) ≡ sub_at (placed self.now.names.tree.now) number sub }
     {
-        subcomponent_at(self.tree, number, sub)
+        subcomponent_at(self.names.tree, number, sub)
     }
 }
 
@@ -163,7 +193,7 @@ fn is_thread(declaration: &Declaration) -> bool
 }
 
 fn is_thread_category(category: Category) -> bool
-    ensures { result ≡ names.is_thread category }
+    ensures { result ≡ resolving.is_thread category }
 {
     match category {
         Category::Thread => true,

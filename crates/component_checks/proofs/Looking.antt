@@ -1,6 +1,6 @@
 -- Associations of a name, and properties in several lists.
 use Rattle.std.proofs.Common.{◌≡◌, ◌∙◌, ℕ, Bool, true, false, cond, ◌&&◌, ◌++◌, List, [], ◌∷◌, Option, Some, None, refl, sym, ap, map, rules, find}
-use Rattle.std.specs.Option.{option_or}
+use Rattle.std.specs.Option.{option_or, option_and_then}
 use Rattle.std.proofs.lemmas.Bool.{false≢true}
 use Rattle.aadl_tree.specs.declared.values.Value.{the_lemmas as value_lemmas}
 use Rattle.aadl_tree.specs.declared.values.Value.TheViews.{out-Association}
@@ -9,8 +9,11 @@ use Rattle.aadl_tree.specs.Values.{Association, Associations, association, assoc
 use Rattle.aadl_tree.specs.proof.NameViews.{name_view, path_view}
 use Rattle.aadl_tree.specs.proof.ValueViews.{value_view, association_view}
 use Rattle.aadl_names.specs.declared.holder.Property.{Property}
+use Rattle.aadl_tree.specs.Declarations.{Implementation, PackageTree}
 use Rattle.aadl_names.specs.Properties.{counts, is_named, name_of, association_named}
-use Rattle.component_checks.specs.PropertyLookup.{first_in}
+use Rattle.aadl_names.specs.Resolving.{implementation_at, type_number, type_numbered}
+use Rattle.aadl_uses.specs.proof.Types.{type_number_at}
+use Rattle.component_checks.specs.PropertyLookup.{type_lists, own_lists, root_lists, first_in}
 
 pub view_out_association : {P : Type 0} (place : ℕ → P) (x : source)
     → association_view place x
@@ -31,6 +34,15 @@ named_here name x xs h = hit_by (is_named name) x _ (counts x) h
 
 pub named_later : (name : List ℕ) (x : Association ℕ) (xs : Associations ℕ) → (counts x && is_named name x) ≡ false → association_named (associate x xs) name ≡ association_named xs name
 named_later name x xs h = miss_by (is_named name) x _ (counts x) h
+
+-- ---- a property of the implementation of a number: its own, or its type's
+pub root_given : (tree : PackageTree ℕ) (n : ℕ) (p : Property) (x : Implementation ℕ) (own : Option (Association ℕ)) → Some x ≡ implementation_at tree n → own ≡ association_named x.properties (name_of p)
+    → option_or own (first_in p (type_lists (type_numbered tree (type_number_at tree n)))) ≡ first_in p (root_lists tree n)
+root_given tree n p x own is given =
+    let of_type = first_in p (type_lists (type_numbered tree (type_number_at tree n))) in
+    ap (λ o. option_or o of_type) given
+    ∙ ap (λ o. option_or (association_named x.properties (name_of p)) (first_in p (type_lists (type_numbered tree (option_and_then (type_number tree) o))))) (sym is)
+    ∙ ap (λ o. first_in p (own_lists tree o)) is
 
 -- ---- one list behind the other
 or_none : {A : Type 0} (x : Option A) → option_or x None ≡ x

@@ -9,6 +9,8 @@ use Rattle.aadl_tree.specs.Declarations.{Subcomponent, Implementation, Declarati
 use Rattle.aadl_names.specs.declared.holder.Property.TheVariants.{Period, Dispatch}
 use Rattle.aadl_names.specs.Resolving.{type_in, implementation_in, implementation_at, subcomponents_of, connections_of, type_number, type_of, referred, target_of}
 use Rattle.aadl_uses.specs.declared.thread_places.SubAt.{SubAt}
+use Rattle.aadl_uses.specs.Uses.{sub_at, below}
+use Rattle.aadl_uses.specs.proof.Types.{type_number_at}
 use Rattle.annex_resolve.proofs.Reading.{take_next}
 use Rattle.component_checks.specs.declared.timed.Timed.{Timed}
 use Rattle.component_checks.specs.PropertyLookup.{type_lists, own_lists, sub_lists, lists_at, lists_along, root_lists, first_in}
@@ -87,17 +89,24 @@ behind_list : (lists : List (Associations ℕ)) (xs : Associations ℕ) (own beh
 behind_list lists xs own behind said result is_own is_behind is_said is =
     is ∙ ap (λ t. nearer t behind) is_own ∙ ap (nearer (timed_by (xs ∷ []))) (is_behind ∙ is_said) ∙ sym (timed_append (xs ∷ []) lists)
 
-pub own_is : (tree : PackageTree ℕ) (x : Implementation ℕ) (types : List Timed) (number : Option ℕ) (own behind result : Timed) → types ≡ map type_timed tree.declarations
-    → number ≡ type_number tree x → own ≡ timed_by (x.properties ∷ []) → behind ≡ numbered types number → result ≡ nearer own behind → result ≡ timed_by (own_lists tree (Some x))
-own_is tree x types number own behind result are names is_own is_behind is =
+pub own_is : (tree : PackageTree ℕ) (n : ℕ) (x : Implementation ℕ) (types : List Timed) (number : Option ℕ) (own behind result : Timed) → types ≡ map type_timed tree.declarations
+    → Some x ≡ implementation_at tree n → number ≡ type_number_at tree n → own ≡ timed_by (x.properties ∷ []) → behind ≡ numbered types number → result ≡ nearer own behind
+    → result ≡ timed_by (root_lists tree n)
+own_is tree n x types number own behind result are declared names is_own is_behind is =
     behind_list (type_lists (type_of tree x)) x.properties own behind (numbered types number) result is_own is_behind
-    (ap (λ l. numbered l number) are ∙ ap (numbered (map type_timed tree.declarations)) names ∙ types_numbered tree.declarations (type_number tree x)) is
+    (ap (λ l. numbered l number) are ∙ ap (numbered (map type_timed tree.declarations)) (names ∙ ap (option_and_then (type_number tree)) (sym declared))
+    ∙ types_numbered tree.declarations (type_number tree x)) is
+    ∙ ap (λ o. timed_by (own_lists tree o)) declared
 
-pub sub_is : (tree : PackageTree ℕ) (x : Subcomponent ℕ) (owns : List Timed) (number : Option ℕ) (own behind result : Timed) → owns ≡ map (own_timed tree) tree.declarations
-    → number ≡ referred tree x.classifier → own ≡ timed_by (x.properties ∷ []) → behind ≡ numbered owns number → result ≡ nearer own behind → result ≡ timed_by (sub_lists tree (Some x))
-sub_is tree x owns number own behind result are names is_own is_behind is =
+pub sub_is : (tree : PackageTree ℕ) (at : SubAt) (x : Subcomponent ℕ) (owns : List Timed) (number : Option ℕ) (own behind result : Timed) → owns ≡ map (own_timed tree) tree.declarations
+    → Some x ≡ sub_at tree at.declaration at.sub → number ≡ below tree at.declaration at.sub → own ≡ timed_by (x.properties ∷ []) → behind ≡ numbered owns number → result ≡ nearer own behind
+    → result ≡ timed_by (lists_at tree at)
+sub_is tree at x owns number own behind result are declared names is_own is_behind is =
     behind_list (own_lists tree (target_of tree x)) x.properties own behind (numbered owns number) result is_own is_behind
-    (ap (λ l. numbered l number) are ∙ ap (numbered (map (own_timed tree) tree.declarations)) names ∙ own_numbered tree (referred tree x.classifier)) is
+    (ap (λ l. numbered l number) are
+    ∙ ap (numbered (map (own_timed tree) tree.declarations)) (names ∙ ap (option_and_then (λ (s : Subcomponent ℕ). referred tree s.classifier)) (sym declared))
+    ∙ own_numbered tree (referred tree x.classifier)) is
+    ∙ ap (λ o. timed_by (sub_lists tree o)) declared
 
 -- ---- one place further in
 along_next : (tree : PackageTree ℕ) (root : ℕ) (subs : List SubAt) (i : ℕ) (x : SubAt) → i < length subs → x ≡ get_or subs i x

@@ -12,8 +12,7 @@ use crate::carried::Carried;
 use crate::carried_lists::{all_of_connections, carried_at};
 use crate::timed::Timed;
 use crate::timed_lists::{all_of_subs, all_of_types, all_own, numbered, numbered_in};
-use aadl_names::Names;
-use aadl_uses::SubAt;
+use aadl_uses::{SubAt, Uses};
 use pals_base::{Items, NoMemory};
 use std::alloc::Global;
 
@@ -29,34 +28,35 @@ struct Said {
     connections: Items<Items<Carried>>,
 }
 
-/// A package with its names, and what its lists of properties say.
+/// A package with what is looked up of it, and what its lists of properties say.
 #[derive(Drop)]
 pub struct Properties<'t> {
-    /// The package with its names.
-    pub names: Names<'t>,
+    /// The package with what is looked up of it.
+    pub uses: &'t Uses<'t>,
     said: Said,
-    ghost of_own: { said.own ≡ map (spec.own_timed (placed names.tree.now)) (placed names.tree.now).declarations } by { Prim.hlevel props },
-    ghost of_subs: { said.subs ≡ map (spec.subs_timed (placed names.tree.now)) (placed names.tree.now).declarations } by { Prim.hlevel props },
-    ghost of_connections: { said.connections ≡ map connections_carried (placed names.tree.now).declarations } by { Prim.hlevel props },
+    ghost of_own: { said.own ≡ map (spec.own_timed (placed uses.now.names.tree.now)) (placed uses.now.names.tree.now).declarations } by { Prim.hlevel props },
+    ghost of_subs: { said.subs
+        ≡ map (spec.subs_timed (placed uses.now.names.tree.now)) (placed uses.now.names.tree.now).declarations } by { Prim.hlevel props },
+    ghost of_connections: { said.connections ≡ map connections_carried (placed uses.now.names.tree.now).declarations } by { Prim.hlevel props },
 }
 
 // What implementations say, and their types.
-fn own_in(alloc: Global, names: &Names<'_>) -> Result<Items<Timed>, NoMemory>
-    ensures { IfOk result (λ own. own ≡ map (spec.own_timed (placed names.now.tree.now)) (placed names.now.tree.now).declarations) }
+fn own_in(alloc: Global, uses: &Uses<'_>) -> Result<Items<Timed>, NoMemory>
+    ensures { IfOk result (λ own. own ≡ map (spec.own_timed (placed uses.now.names.tree.now)) (placed uses.now.names.tree.now).declarations) }
 {
-    let types = all_of_types(alloc, names.tree)?;
-    all_own(alloc, names, types.as_slice())
+    let types = all_of_types(alloc, uses.names.tree)?;
+    all_own(alloc, uses, types.as_slice())
 }
 
-// What the lists of a package with these names say.
-fn said_in(alloc: Global, names: &Names<'_>) -> Result<Said, NoMemory>
-    ensures own { IfOk result (λ said. said.own ≡ map (spec.own_timed (placed names.now.tree.now)) (placed names.now.tree.now).declarations) }
-    ensures subs { IfOk result (λ said. said.subs ≡ map (spec.subs_timed (placed names.now.tree.now)) (placed names.now.tree.now).declarations) }
-    ensures connections { IfOk result (λ said. said.connections ≡ map connections_carried (placed names.now.tree.now).declarations) }
+// What the lists of a package say.
+fn said_in(alloc: Global, uses: &Uses<'_>) -> Result<Said, NoMemory>
+    ensures own { IfOk result (λ said. said.own ≡ map (spec.own_timed (placed uses.now.names.tree.now)) (placed uses.now.names.tree.now).declarations) }
+    ensures subs { IfOk result (λ said. said.subs ≡ map (spec.subs_timed (placed uses.now.names.tree.now)) (placed uses.now.names.tree.now).declarations) }
+    ensures connections { IfOk result (λ said. said.connections ≡ map connections_carried (placed uses.now.names.tree.now).declarations) }
 {
-    let connections = all_of_connections(alloc, names.tree)?;
-    let own = own_in(alloc, names)?;
-    let subs = all_of_subs(alloc, names, own.as_slice())?;
+    let connections = all_of_connections(alloc, uses.names.tree)?;
+    let own = own_in(alloc, uses)?;
+    let subs = all_of_subs(alloc, uses, own.as_slice())?;
     Ok(Said {
         own,
         subs,
@@ -65,31 +65,31 @@ fn said_in(alloc: Global, names: &Names<'_>) -> Result<Said, NoMemory>
 }
 
 impl<'t> Properties<'t> {
-    /// What the lists of a package with these names say.
-    pub fn of(alloc: Global, names: Names<'t>) -> Result<Properties<'t>, NoMemory>
-        ensures { IfOk result (λ properties. properties.names.tree.now ≡ names.entry.tree.now) }
+    /// What the lists of a package say.
+    pub fn of(alloc: Global, uses: &'t Uses<'t>) -> Result<Properties<'t>, NoMemory>
+        ensures { IfOk result (λ properties. properties.uses.now.names.tree.now ≡ uses.now.names.tree.now) }
     {
-        let said = said_in(alloc, &names)?;
-        Ok(Properties { names, said })
+        let said = said_in(alloc, uses)?;
+        Ok(Properties { uses, said })
     }
 
     /// What is said of the root.
     pub fn of_root(&self, root: usize) -> Timed
-        ensures { result ≡ timed_by (root_lists (placed self.now.names.tree.now) root) }
+        ensures { result ≡ timed_by (root_lists (placed self.now.uses.now.names.tree.now) root) }
     {
         numbered(self.said.own.as_slice(), Some(root))
     }
 
     /// What is said at a subcomponent.
     pub fn of_sub(&self, sub: SubAt) -> Timed
-        ensures { result ≡ timed_by (lists_at (placed self.now.names.tree.now) sub) }
+        ensures { result ≡ timed_by (lists_at (placed self.now.uses.now.names.tree.now) sub) }
     {
         numbered_in(self.said.subs.as_slice(), sub.declaration, sub.sub)
     }
 
     /// What is said of a component below the root, by the nearest place on the way there.
     pub fn along(&self, root: usize, subs: &[SubAt]) -> Timed
-        ensures { result ≡ timed_by (lists_along (placed self.now.names.tree.now) root subs.now) }
+        ensures { result ≡ timed_by (lists_along (placed self.now.uses.now.names.tree.now) root subs.now) }
     {
         let mut nearest = self.of_root(root);
         for sub in subs {
@@ -101,7 +101,7 @@ impl<'t> Properties<'t> {
     /// What is said of a component by its own places alone: the subcomponent that it is, its
     /// implementation and its type.
     pub fn of_component(&self, subs: &[SubAt]) -> Timed
-        ensures { result ≡ timed_by (sub_lists (placed self.now.names.tree.now) (innermost (placed self.now.names.tree.now) subs.now)) }
+        ensures { result ≡ timed_by (sub_lists (placed self.now.uses.now.names.tree.now) (innermost (placed self.now.uses.now.names.tree.now) subs.now)) }
     {
         match subs.last() {
             Some(sub) => self.of_sub(*sub),
@@ -112,7 +112,7 @@ impl<'t> Properties<'t> {
     /// What a connection says of the chains that it carries.
     pub fn of_connection(&self, declaration: usize, connection: usize) -> Option<Carried>
         ensures { result ≡ option_map (λ c. carried_by c.properties)
-            (slice_get (connections_of (implementation_at (placed self.now.names.tree.now) declaration)) connection) }
+            (slice_get (connections_of (implementation_at (placed self.now.uses.now.names.tree.now) declaration)) connection) }
     {
         carried_at(self.said.connections.as_slice(), declaration, connection)
     }

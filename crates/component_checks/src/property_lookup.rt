@@ -1,20 +1,19 @@
 //! Where a property is looked up.
-ghost use Rattle.std.specs.Prelude.{◌≡◌, ◌&&◌, IfOk, Some, option_map, option_copied};
+ghost use Rattle.std.specs.Prelude.{◌≡◌, ◌&&◌, option_map, option_copied};
 ghost use Rattle.aadl_tree.specs.proof.Maps.{kept_place};
 ghost use Rattle.aadl_tree.specs.proof.PackageViews.{placed};
 ghost use Rattle.aadl_tree.specs.proof.ValueViews.{association_view, associations_view};
-ghost use Rattle.aadl_tree.specs.proof.Views.{implementation_view, subcomponent_view};
+ghost use Rattle.aadl_tree.specs.proof.Views.{subcomponent_view};
 ghost use Rattle.aadl_names.specs.Properties.{name_of, counts, is_named, association_named};
+ghost use Rattle.aadl_names.specs.Resolving.{type_numbered};
+ghost use Rattle.aadl_uses.specs.proof.Types.{type_number_at};
 ghost use Rattle.component_checks.specs.PropertyLookup as spec;
 
-use aadl_names::numbered::subcomponent_at;
-pub use aadl_names::numbered::{implementation_at, target_of, type_of};
-use aadl_names::{Names, Property};
-use aadl_tree::{Association, Implementation, PackageTree, Subcomponent};
-use aadl_uses::SubAt;
-use name_faults::spellings::is_spelled;
-use pals_base::NoMemory;
-use std::alloc::Global;
+use aadl_names::Property;
+use aadl_names::name_comparison::is_spelled;
+use aadl_names::numbered::{subcomponent_at, type_numbered};
+use aadl_tree::{Association, PackageTree, Subcomponent};
+use aadl_uses::{SubAt, Uses};
 
 /// The subcomponent of two numbers: its declaration's, and its own there.
 pub fn sub_of<'t>(tree: &'t PackageTree, sub: SubAt) -> Option<&'t Subcomponent>
@@ -45,38 +44,32 @@ pub fn property_in(list: &[Association], property: Property) -> Option<&Associat
     None
 }
 
-// A property of an implementation: its own, or its type's.
-fn own_property<'t>(
-    alloc: Global,
-    names: &Names<'t>,
-    x: &'t Implementation,
-    property: Property,
-) -> Result<Option<&'t Association>, NoMemory>
-    ensures { IfOk result (λ found. option_map (association_view kept_place) (option_copied found)
-        ≡ spec.first_in property (spec.own_lists (placed names.now.tree.now) (Some (implementation_view kept_place x.now)))) }
+// A property of the type of an implementation, by the implementation's number.
+fn type_property<'t>(uses: &Uses<'t>, number: usize, property: Property) -> Option<&'t Association>
+    ensures { option_map (association_view kept_place) (option_copied result)
+        ≡ spec.first_in property (spec.type_lists (type_numbered (placed uses.now.names.tree.now) (type_number_at (placed uses.now.names.tree.now) number))) }
 {
-    if let Some(found) = property_in(x.properties.as_slice(), property) {
-        return Ok(Some(found));
-    }
-    match type_of(alloc, names, x)? {
-        Some(of_type) => Ok(property_in(of_type.properties.as_slice(), property)),
-        None => Ok(None),
+    match type_numbered(uses.names.tree, uses.type_number(number)) {
+        Some(of_type) => property_in(of_type.properties.as_slice(), property),
+        None => None,
     }
 }
 
-/// A property of the root.
+/// A property of the root: its implementation's, or its type's.
 pub fn root_property<'t>(
-    alloc: Global,
-    names: &Names<'t>,
+    uses: &Uses<'t>,
     root: usize,
     property: Property,
-) -> Result<Option<&'t Association>, NoMemory>
-    ensures { IfOk result (λ found. option_map (association_view kept_place) (option_copied found)
-        ≡ spec.first_in property (spec.root_lists (placed names.now.tree.now) root)) }
+) -> Option<&'t Association>
+    ensures { option_map (association_view kept_place) (option_copied result)
+        ≡ spec.first_in property (spec.root_lists (placed uses.now.names.tree.now) root) }
 {
-    match implementation_at(names.tree, root) {
-        Some(x) => own_property(alloc, names, x, property),
-        None => Ok(None),
+    let Some(x) = uses.implementation(root) else {
+        return None;
+    };
+    match property_in(x.properties.as_slice(), property) {
+        Some(found) => Some(found),
+        None => type_property(uses, root, property),
     }
 }
 

@@ -1,20 +1,20 @@
 //! What is wrong with the root.
-ghost use Rattle.std.specs.Prelude.{◌≡◌, ◌≤◌, ◌++◌, IfOk, OnOk, option_map, option_copied};
-ghost use Rattle.std.specs.Option.{option_and_then};
+ghost use Rattle.std.specs.Prelude.{◌≡◌, ◌≤◌, ◌++◌, OnOk, option_map, option_copied};
 ghost use Rattle.pals_base.specs.declared.limits.TheConstants.{RATE};
 ghost use Rattle.aadl_tree.specs.proof.Maps.{kept_place};
 ghost use Rattle.aadl_tree.specs.proof.PackageViews.{placed};
 ghost use Rattle.aadl_tree.specs.proof.ValueViews.{association_view};
-ghost use Rattle.component_checks.specs.Numbers.{within_hour};
 ghost use Rattle.component_checks.specs.Roots as spec;
-ghost use Rattle.component_checks.specs.Times.{time_at};
 
-use crate::property_lookup::{implementation_at, root_property};
-use crate::threads::add_named;
+use crate::properties::Properties;
+use crate::property_lookup::root_property;
+use crate::threads::{add_named, root_period};
 use crate::times::{range_within, shown, time_within};
 use crate::{add_bound_findings, gamma_by};
-use aadl_names::{Names, Property};
+use aadl_names::Property;
+use aadl_names::numbered::implementation_at;
 use aadl_tree::{Association, PackageTree};
+use aadl_uses::Uses;
 use annex_resolve::Violation;
 use annex_resolve::violation::{GAMMA_MISSING, GAMMA_ORDER, NO_PERIOD};
 use pals_base::{Gamma, Items, Nanos, NoMemory};
@@ -22,39 +22,34 @@ use std::alloc::Global;
 
 // The skew of the root.
 #[tactic(auto, using(crate::proofs::Hours::skew_twice))]
-fn root_skew(alloc: Global, names: &Names<'_>, root: usize) -> Result<Option<Nanos>, NoMemory>
-    ensures { IfOk result (λ skew. skew ≡ spec.root_skew (placed names.now.tree.now) root) }
+fn root_skew(uses: &Uses<'_>, root: usize) -> Option<Nanos>
+    ensures { result ≡ spec.root_skew (placed uses.now.names.tree.now) root }
 {
-    match root_property(alloc, names, root, Property::Skew)? {
-        Some(found) => Ok(crate::skew_of(time_within(&found.value))),
-        None => Ok(None),
+    match root_property(uses, root, Property::Skew) {
+        Some(found) => crate::skew_of(time_within(&found.value)),
+        None => None,
     }
 }
 
 // A range of the root.
 #[tactic(auto, using(crate::proofs::Hours::range_twice))]
-fn root_range(
-    alloc: Global,
-    names: &Names<'_>,
-    root: usize,
-    property: Property,
-) -> Result<Option<(Nanos, Nanos)>, NoMemory>
-    ensures { IfOk result (λ range. range ≡ spec.root_range (placed names.now.tree.now) root property) }
+fn root_range(uses: &Uses<'_>, root: usize, property: Property) -> Option<(Nanos, Nanos)>
+    ensures { result ≡ spec.root_range (placed uses.now.names.tree.now) root property }
 {
-    match root_property(alloc, names, root, property)? {
-        Some(found) => Ok(crate::range_of(range_within(&found.value))),
-        None => Ok(None),
+    match root_property(uses, root, property) {
+        Some(found) => crate::range_of(range_within(&found.value)),
+        None => None,
     }
 }
 
 /// The bounds of the root, where none of the three is missing or refused.
-pub fn root_gamma(alloc: Global, names: &Names<'_>, root: usize) -> Result<Option<Gamma>, NoMemory>
-    ensures { IfOk result (λ gamma. gamma ≡ spec.root_gamma (placed names.now.tree.now) root) }
+pub fn root_gamma(uses: &Uses<'_>, root: usize) -> Option<Gamma>
+    ensures { result ≡ spec.root_gamma (placed uses.now.names.tree.now) root }
 {
-    let skew = root_skew(alloc, names, root)?;
-    let execution = root_range(alloc, names, root, Property::Execution)?;
-    let network = root_range(alloc, names, root, Property::Network)?;
-    Ok(gamma_by(skew, execution, network))
+    let skew = root_skew(uses, root);
+    let execution = root_range(uses, root, Property::Execution);
+    let network = root_range(uses, root, Property::Network);
+    gamma_by(skew, execution, network)
 }
 
 // Where the root's name stands.
@@ -70,47 +65,47 @@ fn root_place(tree: &PackageTree, root: usize) -> usize
 // Adds the finding that the root lacks a property.
 fn add_missing(
     alloc: Global,
-    names: &Names<'_>,
+    uses: &Uses<'_>,
     root: usize,
     number: u32,
     details: &str,
     property: Property,
     found: &mut Items<Violation>,
 ) -> Result<(), NoMemory>
-    ensures { OnOk result (found.new ≡ found.old ++ spec.missing (placed names.now.tree.now) root number details.now property) }
+    ensures { OnOk result (found.new ≡ found.old ++ spec.missing (placed uses.now.names.tree.now) root number details.now property) }
 {
-    let at = root_place(names.tree, root);
-    let given = root_property(alloc, names, root, property)?;
+    let at = root_place(uses.names.tree, root);
+    let given = root_property(uses, root, property);
     add_named(alloc, found, given.is_none(), at, number, details)
 }
 
 // Adds the finding that the root lacks one of the bounds.
 fn add_missing_bound(
     alloc: Global,
-    names: &Names<'_>,
+    uses: &Uses<'_>,
     root: usize,
     property: Property,
     found: &mut Items<Violation>,
 ) -> Result<(), NoMemory>
-    ensures { OnOk result (found.new ≡ found.old ++ spec.missing_bound (placed names.now.tree.now) root property) }
+    ensures { OnOk result (found.new ≡ found.old ++ spec.missing_bound (placed uses.now.names.tree.now) root property) }
 {
     let number = GAMMA_MISSING;
-    add_missing(alloc, names, root, number, shown(property), property, found)
+    add_missing(alloc, uses, root, number, shown(property), property, found)
 }
 
 // Adds the findings that the root lacks its period or bounds.
 fn add_missing_findings(
     alloc: Global,
-    names: &Names<'_>,
+    uses: &Uses<'_>,
     root: usize,
     found: &mut Items<Violation>,
 ) -> Result<(), NoMemory>
-    ensures { OnOk result (found.new ≡ found.old ++ spec.missing_findings (placed names.now.tree.now) root) }
+    ensures { OnOk result (found.new ≡ found.old ++ spec.missing_findings (placed uses.now.names.tree.now) root) }
 {
-    add_missing(alloc, names, root, NO_PERIOD, "", Property::Period, found)?;
-    add_missing_bound(alloc, names, root, Property::Skew, found)?;
-    add_missing_bound(alloc, names, root, Property::Execution, found)?;
-    add_missing_bound(alloc, names, root, Property::Network, found)
+    add_missing(alloc, uses, root, NO_PERIOD, "", Property::Period, found)?;
+    add_missing_bound(alloc, uses, root, Property::Skew, found)?;
+    add_missing_bound(alloc, uses, root, Property::Execution, found)?;
+    add_missing_bound(alloc, uses, root, Property::Network, found)
 }
 
 // Adds the finding that a skew is 0.
@@ -170,17 +165,17 @@ fn add_reversed_range(
 // Adds the findings that the skew is 0, or a range reversed.
 fn add_order_findings(
     alloc: Global,
-    names: &Names<'_>,
+    uses: &Uses<'_>,
     root: usize,
     found: &mut Items<Violation>,
 ) -> Result<(), NoMemory>
-    ensures { OnOk result (found.new ≡ found.old ++ spec.order_findings (placed names.now.tree.now) root) }
+    ensures { OnOk result (found.new ≡ found.old ++ spec.order_findings (placed uses.now.names.tree.now) root) }
 {
-    let skew = root_property(alloc, names, root, Property::Skew)?;
+    let skew = root_property(uses, root, Property::Skew);
     add_zero_skew(alloc, skew, found)?;
-    let execution = root_property(alloc, names, root, Property::Execution)?;
+    let execution = root_property(uses, root, Property::Execution);
     add_reversed_range(alloc, Property::Execution, execution, found)?;
-    let network = root_property(alloc, names, root, Property::Network)?;
+    let network = root_property(uses, root, Property::Network);
     add_reversed_range(alloc, Property::Network, network, found)
 }
 
@@ -194,31 +189,23 @@ fn place_of(given: Option<&Association>) -> usize
     }
 }
 
-// The time that is given, where it is at most an hour.
-fn time_at(given: Option<&Association>) -> Option<Nanos>
-    ensures { result ≡ option_and_then within_hour (time_at (option_map (association_view kept_place) (option_copied given.entry))) }
-{
-    match given {
-        Some(given) => time_within(&given.value),
-        None => None,
-    }
-}
-
 /// Adds what is wrong with the root, where `rate` is the greatest rate of its components: its period or
 /// a bound is missing, the skew is 0, a range is reversed, the period is below the bound.
 pub fn add_root_findings(
     alloc: Global,
-    names: &Names<'_>,
+    properties: &Properties<'_>,
     root: usize,
     rate: u32,
     found: &mut Items<Violation>,
 ) -> Result<(), NoMemory>
     requires { rate ≤ RATE }
-    ensures { OnOk result (found.new ≡ found.old ++ spec.root_findings (placed names.now.tree.now) root rate) }
+    ensures { OnOk result (found.new ≡ found.old ++ spec.root_findings (placed properties.now.uses.now.names.tree.now) root rate) }
 {
-    add_missing_findings(alloc, names, root, found)?;
-    add_order_findings(alloc, names, root, found)?;
-    let given = root_property(alloc, names, root, Property::Period)?;
-    let gamma = root_gamma(alloc, names, root)?;
-    add_bound_findings(alloc, found, place_of(given), time_at(given), gamma, rate)
+    let uses = properties.uses;
+    add_missing_findings(alloc, uses, root, found)?;
+    add_order_findings(alloc, uses, root, found)?;
+    let at = place_of(root_property(uses, root, Property::Period));
+    let period = root_period(properties, root);
+    let gamma = root_gamma(uses, root);
+    add_bound_findings(alloc, found, at, period, gamma, rate)
 }

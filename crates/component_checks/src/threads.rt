@@ -16,7 +16,7 @@ use std::alloc::Global;
 
 /// The period of the root in nanoseconds; none where it is missing or above an hour.
 pub fn root_period(properties: &Properties<'_>, root: usize) -> Option<Nanos>
-    ensures { result ≡ spec.root_period (placed properties.now.names.tree.now) root }
+    ensures { result ≡ spec.root_period (placed properties.now.uses.now.names.tree.now) root }
 {
     properties.of_root(root).period.flatten()
 }
@@ -24,14 +24,14 @@ pub fn root_period(properties: &Properties<'_>, root: usize) -> Option<Nanos>
 /// The period of a component in nanoseconds, from the nearest place that gives one; none where it is
 /// missing or above an hour.
 pub fn own_period(properties: &Properties<'_>, root: usize, subs: &[SubAt]) -> Option<Nanos>
-    ensures { result ≡ spec.own_period (placed properties.now.names.tree.now) root subs.now }
+    ensures { result ≡ spec.own_period (placed properties.now.uses.now.names.tree.now) root subs.now }
 {
     properties.along(root, subs).period.flatten()
 }
 
 /// How many steps a component makes in a round, where it may make as many.
 pub fn thread_rate(properties: &Properties<'_>, root: usize, thread: &ThreadAt) -> Option<u32>
-    ensures { result ≡ spec.thread_rate (placed properties.now.names.tree.now) root thread.now }
+    ensures { result ≡ spec.thread_rate (placed properties.now.uses.now.names.tree.now) root thread.now }
 {
     let whole = root_period(properties, root);
     let own = own_period(properties, root, thread.subs.as_slice());
@@ -59,7 +59,7 @@ pub fn greatest_rate(rates: &[Option<u32>]) -> u32
 
 // Whether a component's dispatch is periodic.
 fn is_periodic(properties: &Properties<'_>, subs: &[SubAt]) -> bool
-    ensures { result ≡ spec.is_periodic (placed properties.now.names.tree.now) subs.now }
+    ensures { result ≡ spec.is_periodic (placed properties.now.uses.now.names.tree.now) subs.now }
 {
     properties.of_component(subs).periodic.unwrap_or(false)
 }
@@ -104,9 +104,10 @@ pub fn add_thread_findings(
     thread: &ThreadAt,
     found: &mut Items<Violation>,
 ) -> Result<(), NoMemory>
-    ensures { OnOk result (found.new ≡ found.old ++ spec.thread_findings (placed properties.now.names.tree.now) root thread.now) }
+    ensures { OnOk result (found.new ≡ found.old ++ spec.thread_findings (placed properties.now.uses.now.names.tree.now) root thread.now) }
 {
-    let at = thread_place(properties.names.tree, thread);
+    let uses = properties.uses;
+    let at = thread_place(uses.names.tree, thread);
     let subs = thread.subs.as_slice();
     let wrong = !is_periodic(properties, subs);
     let path = &thread.path;

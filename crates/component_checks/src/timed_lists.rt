@@ -2,12 +2,15 @@
 ghost use Rattle.std.specs.Prelude.{◌≡◌, IfOk, map};
 ghost use Rattle.aadl_tree.specs.proof.Maps.{kept_place};
 ghost use Rattle.aadl_tree.specs.proof.PackageViews.{placed};
-ghost use Rattle.aadl_tree.specs.proof.Views.{declaration_view, subcomponent_view};
+ghost use Rattle.aadl_tree.specs.proof.Views.{declaration_view};
+ghost use Rattle.aadl_names.specs.Resolving.{implementation_at, subcomponents_of};
+ghost use Rattle.component_checks.specs.PropertyLookup.{lists_at, root_lists};
 ghost use Rattle.component_checks.specs.proof.Timed as spec;
+ghost use Rattle.component_checks.specs.proof.Timed.{timed_by};
 
 use crate::timed::Timed;
-use aadl_names::Names;
-use aadl_tree::{Declaration, PackageTree, Subcomponent};
+use aadl_tree::{Declaration, PackageTree};
+use aadl_uses::{SubAt, Uses};
 use pals_base::{Items, NoMemory};
 use std::alloc::Global;
 
@@ -55,98 +58,72 @@ pub fn all_of_types(alloc: Global, tree: &PackageTree) -> Result<Items<Timed>, N
     Ok(types)
 }
 
-// What an implementation says, and its type.
-fn own_of(
-    alloc: Global,
-    names: &Names<'_>,
-    types: &[Timed],
-    declaration: &Declaration,
-) -> Result<Timed, NoMemory>
-    requires { types.now ≡ map spec.type_timed (placed names.now.tree.now).declarations }
-    ensures { IfOk result (λ timed. timed ≡ spec.own_timed (placed names.now.tree.now) (declaration_view kept_place declaration.now)) }
+// What the implementation of a number says, and its type.
+fn own_of(alloc: Global, uses: &Uses<'_>, types: &[Timed], number: usize) -> Result<Timed, NoMemory>
+    requires { types.now ≡ map spec.type_timed (placed uses.now.names.tree.now).declarations }
+    ensures { IfOk result (λ timed. timed ≡ timed_by (root_lists (placed uses.now.names.tree.now) number)) }
 {
-    match declaration {
-        Declaration::Type(_) => Ok(Timed::none()),
-        Declaration::Implementation(x) => {
-            let of_type = names.type_number(alloc, &x.name.component_type)?;
-            let own = Timed::of(alloc, x.properties.as_slice())?;
-            Ok(own.or(numbered(types, of_type)))
-        }
-    }
+    let Some(x) = uses.implementation(number) else {
+        return Ok(Timed::none());
+    };
+    let own = Timed::of(alloc, x.properties.as_slice())?;
+    Ok(own.or(numbered(types, uses.type_number(number))))
 }
 
 /// What the implementations of a package say, and their types, by their numbers.
-pub fn all_own(alloc: Global, names: &Names<'_>, types: &[Timed]) -> Result<Items<Timed>, NoMemory>
-    requires { types.now ≡ map spec.type_timed (placed names.now.tree.now).declarations }
-    ensures { IfOk result (λ own. own ≡ map (spec.own_timed (placed names.now.tree.now)) (placed names.now.tree.now).declarations) }
+pub fn all_own(alloc: Global, uses: &Uses<'_>, types: &[Timed]) -> Result<Items<Timed>, NoMemory>
+    requires { types.now ≡ map spec.type_timed (placed uses.now.names.tree.now).declarations }
+    ensures { IfOk result (λ own. own ≡ map (spec.own_timed (placed uses.now.names.tree.now)) (placed uses.now.names.tree.now).declarations) }
 {
     let mut own = Items::new(alloc);
-    for declaration in &names.tree.declarations {
-        own.push(own_of(alloc, names, types, declaration)?)?;
+    for number in 0..uses.len() {
+        own.push(own_of(alloc, uses, types, number)?)?;
     }
     Ok(own)
 }
 
 // What a subcomponent says, its implementation and that one's type.
-fn sub_of(
-    alloc: Global,
-    names: &Names<'_>,
-    own: &[Timed],
-    sub: &Subcomponent,
-) -> Result<Timed, NoMemory>
-    requires { own.now ≡ map (spec.own_timed (placed names.now.tree.now)) (placed names.now.tree.now).declarations }
-    ensures { IfOk result (λ timed. timed ≡ spec.sub_timed (placed names.now.tree.now) (subcomponent_view kept_place sub.now)) }
+fn sub_of(alloc: Global, uses: &Uses<'_>, own: &[Timed], at: SubAt) -> Result<Timed, NoMemory>
+    requires { own.now ≡ map (spec.own_timed (placed uses.now.names.tree.now)) (placed uses.now.names.tree.now).declarations }
+    ensures { IfOk result (λ timed. timed ≡ timed_by (lists_at (placed uses.now.names.tree.now) at)) }
 {
-    let target = names.referred(alloc, &sub.classifier)?;
+    let Some(sub) = uses.subcomponent(at.declaration, at.sub) else {
+        return Ok(Timed::none());
+    };
     let said = Timed::of(alloc, sub.properties.as_slice())?;
-    Ok(said.or(numbered(own, target)))
+    Ok(said.or(numbered(own, uses.below(at.declaration, at.sub))))
 }
 
-// What subcomponents say, in order.
+// What the subcomponents of the declaration of a number say, in order.
 fn subs_of(
     alloc: Global,
-    names: &Names<'_>,
+    uses: &Uses<'_>,
     own: &[Timed],
-    subs: &[Subcomponent],
+    declaration: usize,
 ) -> Result<Items<Timed>, NoMemory>
-    requires { own.now ≡ map (spec.own_timed (placed names.now.tree.now)) (placed names.now.tree.now).declarations }
-    ensures { IfOk result (λ timed. timed ≡ map (spec.sub_timed (placed names.now.tree.now)) (map (subcomponent_view kept_place) subs.now)) }
+    requires { own.now ≡ map (spec.own_timed (placed uses.now.names.tree.now)) (placed uses.now.names.tree.now).declarations }
+    ensures { IfOk result (λ timed. timed ≡ map (spec.sub_timed (placed uses.now.names.tree.now))
+        (subcomponents_of (implementation_at (placed uses.now.names.tree.now) declaration))) }
 {
     let mut timed = Items::new(alloc);
-    for sub in subs {
-        timed.push(sub_of(alloc, names, own, sub)?)?;
+    for sub in 0..uses.targets(declaration).len() {
+        timed.push(sub_of(alloc, uses, own, SubAt { declaration, sub })?)?;
     }
     Ok(timed)
-}
-
-// What the subcomponents of a declaration say.
-fn subs_in(
-    alloc: Global,
-    names: &Names<'_>,
-    own: &[Timed],
-    declaration: &Declaration,
-) -> Result<Items<Timed>, NoMemory>
-    requires { own.now ≡ map (spec.own_timed (placed names.now.tree.now)) (placed names.now.tree.now).declarations }
-    ensures { IfOk result (λ timed. timed ≡ spec.subs_timed (placed names.now.tree.now) (declaration_view kept_place declaration.now)) }
-{
-    match declaration {
-        Declaration::Type(_) => Ok(Items::new(alloc)),
-        Declaration::Implementation(x) => subs_of(alloc, names, own, x.subcomponents.as_slice()),
-    }
 }
 
 /// What the subcomponents of a package say, by the numbers of their declarations and their own there.
 pub fn all_of_subs(
     alloc: Global,
-    names: &Names<'_>,
+    uses: &Uses<'_>,
     own: &[Timed],
 ) -> Result<Items<Items<Timed>>, NoMemory>
-    requires { own.now ≡ map (spec.own_timed (placed names.now.tree.now)) (placed names.now.tree.now).declarations }
-    ensures { IfOk result (λ subs. subs ≡ map (spec.subs_timed (placed names.now.tree.now)) (placed names.now.tree.now).declarations) }
+    requires { own.now ≡ map (spec.own_timed (placed uses.now.names.tree.now)) (placed uses.now.names.tree.now).declarations }
+    ensures { IfOk result (λ subs. subs ≡ map (spec.subs_timed (placed uses.now.names.tree.now)) (placed uses.now.names.tree.now).declarations) }
 {
     let mut subs = Items::new(alloc);
-    for declaration in &names.tree.declarations {
-        subs.push(subs_in(alloc, names, own, declaration)?)?;
+    for declaration in 0..uses.len() {
+        subs.push(subs_of(alloc, uses, own, declaration)?)?;
     }
     Ok(subs)
 }

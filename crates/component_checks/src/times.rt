@@ -9,12 +9,12 @@ ghost use Rattle.aadl_names.specs.Properties as properties;
 ghost use Rattle.component_checks.specs.Numbers.{within_hour, range_within};
 ghost use Rattle.component_checks.specs.Times as spec;
 
+use aadl_names::name_comparison::is_spelled;
+use aadl_names::units::unit_of;
 use aadl_names::{Holder, Property};
 use aadl_tree::{Association, Figure, Identifier, Quantity, Sign, Value};
 use annex_resolve::Violation;
 use annex_resolve::violation::NUMBER_TOO_BIG;
-use name_faults::shapes::unit_of;
-use name_faults::spellings::is_spelled;
 use pals_base::limits::HOUR;
 use pals_base::{Items, Nanos, NoMemory, Text};
 use std::alloc::Global;

@@ -10,11 +10,11 @@ use Rattle.aadl_names.specs.proof.Found.{found}
 use Rattle.aadl_names.specs.Resolving.{implementation_at, connections_of}
 use Rattle.aadl_uses.specs.proof.Uses.{containment, FirstIn}
 use Rattle.aadl_uses.specs.Uses.{IsInUse}
-use Rattle.aadl_chains.specs.declared.connections.Wire.{Wire}
-use Rattle.aadl_chains.specs.Firsts.{IsSecond, target_in}
-use Rattle.aadl_chains.specs.proof.Firsts.{is_before, first_into}
-use Rattle.aadl_chains.specs.Wiring.{wire_of, wires_of, wires_at}
-use Rattle.aadl_chains.proofs.Tables.{is_second-tells, no_second}
+use Rattle.aadl_uses.specs.declared.connections.Wire.{Wire}
+use Rattle.aadl_uses.specs.Firsts.{IsSecond, target_in}
+use Rattle.aadl_uses.specs.proof.Firsts.{is_before, first_into}
+use Rattle.aadl_uses.specs.Wiring.{wire_of, wires_of, wires_at}
+use Rattle.aadl_uses.proofs.Tables.{is_second-tells, no_second}
 use Rattle.aadl_uses.specs.proof.Orders.{IsOrder}
 use Rattle.aadl_uses.proofs.Searches.{contains_none, contains_at, at_contains}
 use Rattle.aadl_chains.specs.proof.Outside.{opposite, LeadsFrom, leads_from}

@@ -11,7 +11,7 @@ use Rattle.aadl_uses.specs.Uses.{standing}
 use Rattle.aadl_uses.specs.proof.Uses.{containment}
 use Rattle.aadl_uses.specs.Threads.{IsThreadAt}
 use Rattle.aadl_uses.specs.proof.Threads.{is_thread_in}
-use Rattle.aadl_chains.specs.proof.Wiring.{into}
+use Rattle.aadl_uses.specs.proof.Wiring.{into}
 use Rattle.aadl_uses.specs.proof.Orders.{IsOrder}
 use Rattle.aadl_chains.specs.proof.Inside.{is_thread_at, is_in_at}
 use Rattle.aadl_chains.specs.Chains.{Port, Place, Leads, IsStart}

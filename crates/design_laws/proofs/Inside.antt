@@ -3,8 +3,8 @@ use Rattle.std.proofs.Common.{◌≡◌, ℕ, zero, suc, ◌+◌, ◌<◌, ◌�
 use Rattle.aadl_tree.specs.declared.declarations.Direction.{Direction}
 use Rattle.aadl_tree.specs.Declarations.{PackageTree}
 use Rattle.aadl_uses.specs.proof.Uses.{containment}
-use Rattle.aadl_chains.specs.declared.connections.Wire.{Wire}
-use Rattle.aadl_chains.specs.Wiring.{wires_at}
+use Rattle.aadl_uses.specs.declared.connections.Wire.{Wire}
+use Rattle.aadl_uses.specs.Wiring.{wires_at}
 use Rattle.aadl_uses.specs.proof.Orders.{IsOrder}
 use Rattle.aadl_uses.proofs.Searches.{contains_at}
 use Rattle.aadl_chains.specs.declared.ports.PortAt.{PortAt}

@@ -9,9 +9,9 @@ use Rattle.aadl_names.specs.declared.fault.FlatFault.TheVariants.{TwoSources}
 use Rattle.aadl_names.specs.declared.site.Site.{Site}
 use Rattle.aadl_names.specs.Resolving.{implementation_at, connections_of}
 use Rattle.aadl_uses.specs.Uses.{IsInUse}
-use Rattle.aadl_chains.specs.declared.connections.Wire.{Wire}
-use Rattle.aadl_chains.specs.Wiring.{wire_of, wires_of, wires_at}
-use Rattle.aadl_chains.specs.Firsts.{target_in}
+use Rattle.aadl_uses.specs.declared.connections.Wire.{Wire}
+use Rattle.aadl_uses.specs.Wiring.{wire_of, wires_of, wires_at}
+use Rattle.aadl_uses.specs.Firsts.{target_in}
 use Rattle.aadl_chains.specs.Chains.{Port, Place, Leads, IsStart, IsSecondEnd}
 use Rattle.aadl_chains.proofs.Declared.{declared}
 use Rattle.aadl_chains.specs.proof.Walked.{IsSound}

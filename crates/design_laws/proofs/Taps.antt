@@ -7,7 +7,7 @@ use Rattle.aadl_names.specs.declared.site.Site.TheVariants.{Own, Inner}
 use Rattle.aadl_names.specs.Resolving.{implementation_at, ports_at}
 use Rattle.aadl_uses.specs.proof.Uses.{containment}
 use Rattle.aadl_uses.specs.Threads.{Lists}
-use Rattle.aadl_chains.specs.proof.Wiring.{into}
+use Rattle.aadl_uses.specs.proof.Wiring.{into}
 use Rattle.aadl_uses.specs.proof.Orders.{IsOrder}
 use Rattle.aadl_chains.specs.proof.Inside.{is_thread_at, is_in_at}
 use Rattle.aadl_chains.specs.Chains.{Port, Leads}

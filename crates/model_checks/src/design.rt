@@ -7,12 +7,12 @@ ghost use Rattle.model_checks.specs.proof.Limits.{IsWithinLimits};
 ghost use Rattle.model_checks.specs.proof.Refused.{HasNoDesign};
 
 use aadl_instance::{Chain, ChainEnd, Instance, ThreadAt};
-use aadl_names::Names;
+use aadl_uses::Uses;
 use component_checks::Properties;
 use component_checks::roots::root_gamma;
 use component_checks::threads::{root_period, thread_rate};
 use model_violations::carriers::carrier_of;
-use model_violations::ports::component_of;
+use model_violations::ports::component_number;
 use model_violations::{ignored_names, resolve_implementation};
 use pals_base::{Adaptor, Behaviour, Items, NoMemory, TryClone};
 use pals_model::{Component, DesignParts, Feed, Link, Tap};
@@ -21,18 +21,18 @@ use std::alloc::Global;
 // The behaviour of a thread, if it has one.
 fn behaviour(
     alloc: Global,
-    names: &Names<'_>,
+    uses: &Uses<'_>,
     thread: &ThreadAt,
 ) -> Result<Option<Behaviour>, NoMemory>
-    requires limits { IsWithinLimits (placed names.now.tree.now) thread.now }
-    requires rules { spec.HasRules (placed names.now.tree.now) thread.now }
-    ensures { IfOk result (λ found. found ≡ spec.thread_behaviour (placed names.now.tree.now) thread.now) }
+    requires limits { IsWithinLimits (placed uses.now.names.tree.now) thread.now }
+    requires rules { spec.HasRules (placed uses.now.names.tree.now) thread.now }
+    ensures { IfOk result (λ found. found ≡ spec.thread_behaviour (placed uses.now.names.tree.now) thread.now) }
 {
     let mut found = Items::new(alloc);
-    let Some(x) = component_of(alloc, names, thread)? else {
+    let Some(number) = component_number(uses, thread) else {
         return Ok(None);
     };
-    let Some(parts) = resolve_implementation(alloc, names, x, &mut found)? else {
+    let Some(parts) = resolve_implementation(alloc, uses, number, &mut found)? else {
         return Ok(None);
     };
     Ok(Some(Behaviour::new(parts)))
@@ -45,14 +45,14 @@ fn component(
     root: usize,
     thread: &ThreadAt,
 ) -> Result<Option<Component>, NoMemory>
-    requires limits { IsWithinLimits (placed properties.now.names.tree.now) thread.now }
-    requires rules { spec.HasRules (placed properties.now.names.tree.now) thread.now }
-    ensures { IfOk result (λ found. found ≡ spec.component_in (placed properties.now.names.tree.now) root thread.now) }
+    requires limits { IsWithinLimits (placed properties.now.uses.now.names.tree.now) thread.now }
+    requires rules { spec.HasRules (placed properties.now.uses.now.names.tree.now) thread.now }
+    ensures { IfOk result (λ found. found ≡ spec.component_in (placed properties.now.uses.now.names.tree.now) root thread.now) }
 {
     let Some(rate) = thread_rate(properties, root, thread) else {
         return Ok(None);
     };
-    let Some(behaviour) = behaviour(alloc, &properties.names, thread)? else {
+    let Some(behaviour) = behaviour(alloc, properties.uses, thread)? else {
         return Ok(None);
     };
     Ok(Some(Component {
@@ -69,9 +69,9 @@ fn components(
     root: usize,
     threads: &[ThreadAt],
 ) -> Result<Option<Items<Component>>, NoMemory>
-    requires limits { All (IsWithinLimits (placed properties.now.names.tree.now)) threads.now }
-    requires rules { All (spec.HasRules (placed properties.now.names.tree.now)) threads.now }
-    ensures { IfOk result (λ found. found ≡ spec.all_of (map (spec.component_in (placed properties.now.names.tree.now) root) threads.now)) }
+    requires limits { All (IsWithinLimits (placed properties.now.uses.now.names.tree.now)) threads.now }
+    requires rules { All (spec.HasRules (placed properties.now.uses.now.names.tree.now)) threads.now }
+    ensures { IfOk result (λ found. found ≡ spec.all_of (map (spec.component_in (placed properties.now.uses.now.names.tree.now) root) threads.now)) }
 {
     let mut components = Items::new(alloc);
     for thread in threads {
@@ -85,7 +85,7 @@ fn components(
 
 // The adaptor of a chain.
 fn adaptor(properties: &Properties<'_>, chain: &Chain) -> Option<Adaptor>
-    ensures { result ≡ spec.chain_adaptor (placed properties.now.names.tree.now) chain.now }
+    ensures { result ≡ spec.chain_adaptor (placed properties.now.uses.now.names.tree.now) chain.now }
 {
     match carrier_of(properties, chain.carrier) {
         Some((_, said)) => said.adaptor.flatten(),
@@ -95,7 +95,7 @@ fn adaptor(properties: &Properties<'_>, chain: &Chain) -> Option<Adaptor>
 
 // The link of a chain, if it runs between threads.
 fn link(properties: &Properties<'_>, chain: &Chain) -> Option<Link>
-    ensures { result ≡ spec.link_in (placed properties.now.names.tree.now) chain.now }
+    ensures { result ≡ spec.link_in (placed properties.now.uses.now.names.tree.now) chain.now }
 {
     let ChainEnd::Thread {
         node: source,
@@ -126,7 +126,7 @@ fn links(
     properties: &Properties<'_>,
     chains: &[Chain],
 ) -> Result<Option<Items<Link>>, NoMemory>
-    ensures { IfOk result (λ found. found ≡ spec.all_of (map (spec.link_in (placed properties.now.names.tree.now)) chains.now)) }
+    ensures { IfOk result (λ found. found ≡ spec.all_of (map (spec.link_in (placed properties.now.uses.now.names.tree.now)) chains.now)) }
 {
     let mut links = Items::new(alloc);
     for chain in chains {
@@ -140,7 +140,7 @@ fn links(
 
 // The feed of a chain, if it runs from the root to a thread.
 fn feed(alloc: Global, properties: &Properties<'_>, chain: &Chain) -> Result<Option<Feed>, NoMemory>
-    ensures { IfOk result (λ found. found ≡ spec.feed_in (placed properties.now.names.tree.now) chain.now) }
+    ensures { IfOk result (λ found. found ≡ spec.feed_in (placed properties.now.uses.now.names.tree.now) chain.now) }
 {
     let ChainEnd::Root { name } = &chain.from else {
         return Ok(None);
@@ -166,7 +166,7 @@ fn feeds(
     properties: &Properties<'_>,
     chains: &[Chain],
 ) -> Result<Option<Items<Feed>>, NoMemory>
-    ensures { IfOk result (λ found. found ≡ spec.all_of (map (spec.feed_in (placed properties.now.names.tree.now)) chains.now)) }
+    ensures { IfOk result (λ found. found ≡ spec.all_of (map (spec.feed_in (placed properties.now.uses.now.names.tree.now)) chains.now)) }
 {
     let mut feeds = Items::new(alloc);
     for chain in chains {
@@ -220,17 +220,17 @@ pub fn design_parts(
     properties: &Properties<'_>,
     instance: &Instance<'_>,
 ) -> Result<Option<DesignParts>, NoMemory>
-    requires names { properties.now.names.tree.now ≡ instance.now.tree.now }
-    requires rules { All (spec.HasRules (placed instance.now.tree.now)) instance.now.threads }
-    ensures { IfOk result (λ found. MatchOption found (HasNoDesign (placed instance.now.tree.now) (shown instance.now))
-        (λ design. spec.IsDesignOf (placed instance.now.tree.now) (shown instance.now) design)) }
+    requires names { properties.now.uses.now.names.tree.now ≡ instance.now.wires.uses.names.tree.now }
+    requires rules { All (spec.HasRules (placed instance.now.wires.uses.names.tree.now)) instance.now.threads }
+    ensures { IfOk result (λ found. MatchOption found (HasNoDesign (placed instance.now.wires.uses.names.tree.now) (shown instance.now))
+        (λ design. spec.IsDesignOf (placed instance.now.wires.uses.names.tree.now) (shown instance.now) design)) }
 {
     let root = instance.root;
-    let names = &properties.names;
+    let uses = properties.uses;
     let Some(period) = root_period(properties, root) else {
         return Ok(None);
     };
-    let Some(gamma) = root_gamma(alloc, names, root)? else {
+    let Some(gamma) = root_gamma(uses, root) else {
         return Ok(None);
     };
     let Some(components) = components(alloc, properties, root, instance.threads.as_slice())? else {
@@ -252,6 +252,6 @@ pub fn design_parts(
         links,
         feeds,
         taps,
-        ignored: ignored_names(alloc, names, root)?,
+        ignored: ignored_names(alloc, uses, root)?,
     }))
 }

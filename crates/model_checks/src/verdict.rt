@@ -8,7 +8,6 @@ ghost use Rattle.model_checks.specs.proof.Refused.{IsRefused};
 
 use crate::design::design_parts;
 use aadl_instance::Instance;
-use aadl_names::Names;
 use annex_resolve::Violation;
 use component_checks::Properties;
 use design_laws::designs::{designs_are_there, designs_keep_their_rules};
@@ -45,9 +44,9 @@ fn accepted(
     properties: &Properties<'_>,
     instance: &Instance<'_>,
 ) -> Result<Design, NoMemory>
-    requires names { properties.now.names.tree.now ≡ instance.now.tree.now }
-    requires none { AreViolations (placed instance.now.tree.now) (shown instance.now) [] }
-    ensures { IfOk result (λ design. IsDesignOf (placed instance.now.tree.now) (shown instance.now) design) }
+    requires names { properties.now.uses.now.names.tree.now ≡ instance.now.wires.uses.names.tree.now }
+    requires none { AreViolations (placed instance.now.wires.uses.names.tree.now) (shown instance.now) [] }
+    ensures { IfOk result (λ design. IsDesignOf (placed instance.now.wires.uses.names.tree.now) (shown instance.now) design) }
 {
     texts_name();
     no_violations_are_no_findings();
@@ -62,12 +61,11 @@ fn accepted(
 
 /// The design of an instance, or all that is wrong with it.
 pub fn check(alloc: Global, instance: &Instance<'_>) -> Result<Design, CheckFault>
-    ensures accepted { IfOk result (λ _. AreViolations (placed instance.now.tree.now) (shown instance.now) []) }
-    ensures design { IfOk result (λ design. IsDesignOf (placed instance.now.tree.now) (shown instance.now) design) }
-    ensures refused { IfErr result (λ fault. IsRefused (placed instance.now.tree.now) (shown instance.now) fault) }
+    ensures accepted { IfOk result (λ _. AreViolations (placed instance.now.wires.uses.names.tree.now) (shown instance.now) []) }
+    ensures design { IfOk result (λ design. IsDesignOf (placed instance.now.wires.uses.names.tree.now) (shown instance.now) design) }
+    ensures refused { IfErr result (λ fault. IsRefused (placed instance.now.wires.uses.names.tree.now) (shown instance.now) fault) }
 {
-    let names = Names::of(alloc, instance.tree)?;
-    let properties = Properties::of(alloc, names)?;
+    let properties = Properties::of(alloc, &instance.wires.uses)?;
     let found = violations_by(alloc, &properties, instance)?;
     if !found.is_empty() {
         return Err(CheckFault::Violations(found));

@@ -1,70 +1,42 @@
--- The type of the port at an end of a connection, by what was looked up before.
-use Rattle.std.proofs.Common.{◌≡◌, ◌∙◌, ℕ, List, Option, Some, None, Result, Ok, Err, IfOk, slice_get, option_map, refl, sym, ap}
+-- The types of the ports that a connection joins, by the numbers of what is declared.
+use Rattle.std.proofs.Common.{◌≡◌, ◌∙◌, ℕ, Option, Some, None, slice_get, option_map, refl, sym, ap}
 use Rattle.std.specs.Option.{option_and_then}
-use Rattle.std.proofs.lemmas.Option.{none-some, same_Some}
-use Rattle.aadl_tree.specs.Names.{Identifier}
-use Rattle.aadl_tree.specs.Declarations.{Subcomponent, ConnectionEnd, Implementation, Declaration, type, implementation, PackageTree}
-use Rattle.aadl_names.specs.proof.Members.{member_of}
+use Rattle.std.proofs.lemmas.Option.{same_Some, slice_get-map}
+use Rattle.aadl_tree.specs.Declarations.{Subcomponent, Connection, Implementation, PackageTree}
 use Rattle.aadl_names.specs.declared.site.Site.TheVariants.{Own, Inner}
-use Rattle.aadl_names.specs.Resolving.{implementation_in, implementation_at, subcomponents_of, referred, target_of, port_named, sub_named}
-use Rattle.aadl_names.specs.Resolving.{ports_at, inner_ports, inner_site, site_by, site}
+use Rattle.aadl_names.specs.Resolving.{features_of, implementation_at, subcomponents_of, referred, target_of, type_number, type_numbered}
+use Rattle.aadl_uses.specs.declared.connections.Wire.{Wire}
 use Rattle.aadl_uses.specs.Uses.{below}
-use Rattle.model_violations.specs.Connections.{kind_named, site_kind, kind_at}
-
-pub if_ok : {T E : Type 0} (P Q : T → Type 0) (r : Result T E) → ((x : T) → P x → Q x) → IfOk r P → IfOk r Q
-if_ok P Q (Ok x) f h = f x h
-if_ok P Q (Err e) f h = tt
+use Rattle.aadl_uses.specs.Wiring.{wire_of, wires_of, wires_at}
+use Rattle.aadl_uses.specs.proof.Types.{type_number_at}
+use Rattle.model_violations.specs.Connections.{kind_numbered, site_kind}
+use Rattle.model_violations.specs.proof.Connections.{IsConnection}
 
 twice : {A B C : Type 0} (f : A → Option B) (g : B → Option C) (o : Option A)
     → option_and_then g (option_and_then f o) ≡ option_and_then (λ a. option_and_then g (f a)) o
 twice f g None = refl
 twice f g (Some a) = refl
 
-mapped : {A B C : Type 0} (f : A → B) (g : B → Option C) (o : Option A) → option_and_then g (option_map f o) ≡ option_and_then (λ a. g (f a)) o
-mapped f g None = refl
-mapped f g (Some a) = refl
+-- what a subcomponent names, by the numbers of both
+pub target_below : (tree : PackageTree ℕ) (n s : ℕ)
+    → option_and_then (implementation_at tree) (below tree n s) ≡ option_and_then (target_of tree) (slice_get (subcomponents_of (implementation_at tree n)) s)
+target_below tree n s = twice (λ (sub : Subcomponent ℕ). referred tree sub.classifier) (implementation_at tree) (slice_get (subcomponents_of (implementation_at tree n)) s)
 
-member_is : (name : List ℕ) (x : Implementation ℕ) (o : Option (Declaration ℕ)) → implementation_in o ≡ Some x
-    → member_of o name ≡ sub_named x.subcomponents name
-member_is name x None e = absurd (none-some x e)
-member_is name x (Some (type y)) e = absurd (none-some x e)
-member_is name x (Some (implementation y)) e = ap (λ (z : Implementation ℕ). sub_named z.subcomponents name) (same_Some y x e)
+-- ---- the type of a port, own or of a subcomponent
+module _ (tree : PackageTree ℕ) (n : ℕ) (x : Implementation ℕ) (is : implementation_at tree n ≡ Some x) where
+  pub own_kind : (p : ℕ) → kind_numbered (features_of (type_numbered tree (type_number_at tree n))) p ≡ site_kind tree x (Own p)
+  own_kind p = ap (λ o. kind_numbered (features_of (type_numbered tree (option_and_then (type_number tree) o))) p) is
 
-module _ (tree : PackageTree ℕ) (n : ℕ) (x : Implementation ℕ) (end : ConnectionEnd ℕ) (is : implementation_at tree n ≡ Some x) where
-  -- what an end with one word, and one with two, names
-  one : end.second ≡ None → site tree x end ≡ option_map Own (port_named (ports_at tree (Some x)) end.first.spelling)
-  unfolding site
-  one none = ap (site_by tree x end.first) none
+  pub inner_kind : (s p : ℕ) → kind_numbered (features_of (type_numbered tree (option_and_then (type_number_at tree) (below tree n s)))) p ≡ site_kind tree x (Inner s p)
+  inner_kind s p =
+      ap (λ o. kind_numbered (features_of (type_numbered tree o)) p)
+      (sym (twice (implementation_at tree) (type_number tree) (below tree n s))
+      ∙ ap (option_and_then (type_number tree)) (target_below tree n s ∙ ap (λ o. option_and_then (target_of tree) (slice_get (subcomponents_of o) s)) is))
 
-  two : (port : Identifier ℕ) → end.second ≡ Some port
-      → site tree x end ≡ option_and_then (inner_site tree x port.spelling) (sub_named x.subcomponents end.first.spelling)
-  unfolding site
-  two port some = ap (site_by tree x end.first) some
+-- ---- a connection of a declaration joins what its ends name
+pub wire_is : (tree : PackageTree ℕ) (n i : ℕ) (x : Implementation ℕ) (c : Connection ℕ) → IsConnection tree n i x c → slice_get (wires_at tree n) i ≡ Some (wire_of tree x c)
+wire_is tree n i x c is =
+    ap (λ o. slice_get (wires_of tree o) i) is.declared ∙ slice_get-map (wire_of tree x) x.connections i ∙ ap (option_map (wire_of tree x)) is.listed
 
-  pub own_is : end.second ≡ None → kind_named (ports_at tree (implementation_at tree n)) end.first.spelling ≡ kind_at tree x end
-  own_is none =
-      ap (λ o. kind_named (ports_at tree o) end.first.spelling) is
-      ∙ sym (ap (option_and_then (site_kind tree x)) (one none) ∙ mapped Own (site_kind tree x) (port_named (ports_at tree (Some x)) end.first.spelling))
-
-  stands_below : (s : ℕ) → option_and_then (implementation_at tree) (below tree n s) ≡ option_and_then (target_of tree) (slice_get x.subcomponents s)
-  stands_below s =
-      ap (λ o. option_and_then (implementation_at tree) (option_and_then (λ (sub : Subcomponent ℕ). referred tree sub.classifier) (slice_get (subcomponents_of o) s))) is
-      ∙ twice (λ (sub : Subcomponent ℕ). referred tree sub.classifier) (implementation_at tree) (slice_get x.subcomponents s)
-
-  -- the member that the first of two words names
-  member : (named : Option ℕ) → member_of (slice_get tree.declarations n) end.first.spelling ≡ named → sub_named x.subcomponents end.first.spelling ≡ named
-  member named found = sym (member_is end.first.spelling x (slice_get tree.declarations n) is) ∙ found
-
-  kind_of_two : (port : Identifier ℕ) (named : Option ℕ) → end.second ≡ Some port → member_of (slice_get tree.declarations n) end.first.spelling ≡ named
-      → kind_at tree x end ≡ option_and_then (site_kind tree x) (option_and_then (inner_site tree x port.spelling) named)
-  kind_of_two port named some found =
-      ap (option_and_then (site_kind tree x)) (two port some ∙ ap (option_and_then (inner_site tree x port.spelling)) (member named found))
-
-  pub inner_is : (port : Identifier ℕ) (s : ℕ) → end.second ≡ Some port → member_of (slice_get tree.declarations n) end.first.spelling ≡ Some s
-      → kind_named (ports_at tree (option_and_then (implementation_at tree) (below tree n s))) port.spelling ≡ kind_at tree x end
-  inner_is port s some found =
-      ap (λ o. kind_named (ports_at tree o) port.spelling) (stands_below s)
-      ∙ sym (kind_of_two port (Some s) some found ∙ mapped (Inner s) (site_kind tree x) (port_named (inner_ports tree x s) port.spelling))
-
-  pub none_is : (port : Identifier ℕ) → end.second ≡ Some port → member_of (slice_get tree.declarations n) end.first.spelling ≡ None → None ≡ kind_at tree x end
-  none_is port some none = sym (kind_of_two port None some none)
+pub joined : (tree : PackageTree ℕ) (n i : ℕ) (x : Implementation ℕ) (c : Connection ℕ) (w : Wire) → IsConnection tree n i x c → slice_get (wires_at tree n) i ≡ Some w → w ≡ wire_of tree x c
+joined tree n i x c w is found = same_Some w (wire_of tree x c) (sym found ∙ wire_is tree n i x c is)

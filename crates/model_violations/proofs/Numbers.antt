@@ -1,5 +1,5 @@
 -- Numbers that are among some.
-use Rattle.std.proofs.Common.{◌≡◌, ◌↔◌, ℕ, ◌+◌, ◌<◌, nat_eq, Bool, true, false, cond, ◌&&◌, ◌||◌, List, [], ◌∷◌, ◌++◌, length, map, take, get_or, refl, sym, ap, ◌∙◌, arith}
+use Rattle.std.proofs.Common.{◌≡◌, ◌↔◌, ℕ, ◌+◌, ◌<◌, nat_eq, Bool, true, false, cond, ◌&&◌, ◌||◌, List, [], ◌∷◌, ◌++◌, length, take, Option, Some, slice_get, refl, sym, ap, ◌∙◌, arith}
 use Rattle.std.specs.Prelude.{Contains}
 use Rattle.std.specs.Cmp.{nat_eq_equiv}
 use Rattle.std.specs.List.{list_any, enumerate_from}
@@ -9,7 +9,7 @@ use Rattle.std.proofs.lemmas.Map.Views.{Contains-from_any, list_any-from_Contain
 use Rattle.indexmap.specs.IndexSet.{insert_key}
 use Rattle.aadl_tree.specs.Declarations.{PackageTree}
 use Rattle.aadl_uses.specs.Uses.{IsInUse}
-use Rattle.component_checks.proofs.Numbered.{numbers_next}
+use Rattle.component_checks.proofs.Numbered.{next_numbered, standing_at}
 use Rattle.model_violations.specs.Use.{has, IsUse}
 
 same_number : (n m : ℕ) → nat_eq n m ≡ true → n ≡ m
@@ -38,13 +38,14 @@ or_untested a b c fails = sym (ap (λ t. a || (t && c)) fails ∙ or_nothing a)
 pub or_tested : (a b c d : Bool) → b ≡ true → d ≡ (a || c) → d ≡ (a || (b && c))
 or_tested a b c d passes is = is ∙ sym (ap (λ t. a || (t && c)) passes)
 
--- what one more of numbered things adds to a test of them
-pub one_more_passes : {A B : Type 0} (p : ℕ × B → Bool) (v : A → B) (xs : List A) (i : ℕ) (x : A) (old new : Bool) → i < length xs → x ≡ get_or xs i x
-    → old ≡ list_any p (enumerate_from 0 (map v (take i xs))) → new ≡ (old || p (i, v x)) → new ≡ list_any p (enumerate_from 0 (map v (take (i + 1) xs)))
-one_more_passes p v xs i x old new within is before added =
-    let front = enumerate_from 0 (map v (take i xs)) in
-    added ∙ ap (λ b. b || p (i, v x)) before ∙ ap (λ b. list_any p front || b) (sym (or_nothing (p (i, v x)))) ∙ sym (list_any-append p front ((i, v x) ∷ []))
-    ∙ ap (list_any p) (sym (numbers_next v xs i x within is))
+-- what one more of numbered things, looked up by its number, adds to a test of them
+pub one_more_passes : {A : Type 0} (p : ℕ × A → Bool) (g : Option A → Bool) (xs : List A) (i : ℕ) (old new : Bool) → ((x : A) → g (Some x) ≡ p (i, x)) → i < length xs
+    → old ≡ list_any p (enumerate_from 0 (take i xs)) → new ≡ (old || g (slice_get xs i)) → new ≡ list_any p (enumerate_from 0 (take (i + 1) xs))
+one_more_passes p g xs i old new same within before added =
+    let at = standing_at xs i within in
+    let front = enumerate_from 0 (take i xs) in
+    added ∙ ap (λ b. b || g (slice_get xs i)) before ∙ ap (λ b. list_any p front || b) (ap g at.there ∙ same at.value ∙ sym (or_nothing (p (i, at.value))))
+    ∙ sym (list_any-append p front ((i, at.value) ∷ [])) ∙ ap (list_any p) (sym (next_numbered xs i at.value within at.is))
 
 -- ---- where the numbers are those in use, the test for them is the test for what is in use
 pub is_use : (tree : PackageTree ℕ) (root : ℕ) (ks : List ℕ) → ((n : ℕ) → Contains ks n ↔ IsInUse tree root n) → IsUse tree root (has ks)

@@ -4,7 +4,7 @@ use Rattle.aadl_tree.specs.Annexes.{AnnexTree}
 use Rattle.aadl_tree.specs.Declarations.{Feature, Implementation, PackageTree}
 use Rattle.aadl_names.specs.Resolving.{ports_of}
 use Rattle.model_violations.specs.declared.declared.Declared.{Declared}
-use Rattle.model_violations.specs.Values.{ins_in, outs_in, variables_of, values_by, scope_by, values_of, scope_of}
+use Rattle.model_violations.specs.Values.{ins_in, outs_in, variables_of}
 
 -- what is made of these lists is made of the implementation's own
 pub of_lists : {X : Type 0} (made : List Declared → List Declared → List Declared → X) (tree : PackageTree ℕ) (x : Implementation ℕ) (annex : AnnexTree ℕ) (ports : List (Feature ℕ)) (ins outs variables : List Declared)

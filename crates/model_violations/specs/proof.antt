@@ -1,4 +1,5 @@
 -- What the theorem of the program does not rest on: definitions of contracts below it, of laws, and of proofs.
 pub mod Ignored
-pub mod Known
+pub mod Connections
+pub mod Chains
 pub mod Violations

@@ -7,8 +7,8 @@ ghost use Rattle.component_checks.specs.proof.Carried.{carried_by};
 ghost use Rattle.model_violations.specs.Carriers as spec;
 
 use aadl_instance::ConnAt;
+use aadl_names::numbered::implementation_at;
 use aadl_tree::{Connection, PackageTree};
-use component_checks::property_lookup::implementation_at;
 use component_checks::{Carried, Properties};
 use indexmap::IndexSet;
 use pals_base::NoMemory;
@@ -32,10 +32,11 @@ pub fn carrier_of<'t>(
     place: ConnAt,
 ) -> Option<(&'t Connection, Carried)>
     ensures connection { option_map (λ carrier. connection_view kept_place carrier.0.now) result
-        ≡ spec.connection_of (placed properties.now.names.tree.now) place }
+        ≡ spec.connection_of (placed properties.now.uses.now.names.tree.now) place }
     ensures carried { IfSome result (λ carrier. carrier.1 ≡ carried_by (connection_view kept_place carrier.0.now).properties) }
 {
-    let connection = connection_of(properties.names.tree, place)?;
+    let uses = properties.uses;
+    let connection = connection_of(uses.names.tree, place)?;
     let carried = properties.of_connection(place.declaration, place.connection)?;
     Some((connection, carried))
 }

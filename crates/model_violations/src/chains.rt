@@ -1,15 +1,14 @@
 //! What is wrong with links, feeds and taps.
-ghost use Rattle.std.specs.Prelude.{◌≡◌, ◌<◌, ◌++◌, ℕ, OnOk, Some, slice_get};
+ghost use Rattle.std.specs.Prelude.{◌≡◌, ◌<◌, ◌++◌, ℕ, OnOk, Some};
 ghost use Rattle.aadl_tree.specs.proof.Maps.{kept_place};
-ghost use Rattle.aadl_tree.specs.proof.PackageViews.{placed};
 ghost use Rattle.aadl_tree.specs.proof.Views.{connection_view};
 ghost use Rattle.component_checks.specs.proof.Carried.{carried_by};
 ghost use Rattle.model_violations.specs.Chains as spec;
+ghost use Rattle.model_violations.specs.proof.Chains.{tree_of, ArePositive};
 
 use crate::carriers::carrier_of;
 use crate::ports::{end_kind, end_name, end_rate};
 use aadl_instance::{Chain, ThreadAt};
-use aadl_names::Names;
 use aadl_tree::Connection;
 use annex_resolve::Violation;
 use annex_resolve::violation::{NOT_DELAYED, STRAY_ADAPTOR};
@@ -17,6 +16,15 @@ use component_checks::threads::add_named;
 use component_checks::{Carried, Carrier, Properties};
 use pals_base::{Adaptor, Items, NoMemory};
 use std::alloc::Global;
+
+/// The threads of an instance, with their rates, where they may make as many steps, and with what the
+/// lists of their package say.
+#[derive(Drop)]
+pub struct RatedThreads<'t> {
+    pub properties: &'t Properties<'t>,
+    pub threads: &'t [ThreadAt],
+    pub rates: &'t [Option<u32>],
+}
 
 // Whether nothing can be wrong between two rates, whatever is named and carried: one of them is missing,
 // or they agree, and there is no adaptor.
@@ -57,29 +65,29 @@ fn add_rated(
 // Adds what is wrong with the adaptor of a link or a feed that a connection carries.
 fn add_adaptor_findings(
     alloc: Global,
-    names: &Names<'_>,
-    threads: &[ThreadAt],
-    rates: &[Option<u32>],
+    rated: &RatedThreads<'_>,
     chain: &Chain,
     connection: &Connection,
     said: Carried,
     found: &mut Items<Violation>,
 ) -> Result<(), NoMemory>
-    requires rates { (n k : ℕ) → slice_get rates.now n ≡ Some (Some k) → 0 < k }
+    requires rates { ArePositive rated.now.rates.now }
     requires said { said ≡ carried_by (connection_view kept_place connection.now).properties }
     ensures { OnOk result (found.new ≡ found.old
-        ++ spec.adaptor_findings (placed names.now.tree.now) threads.now rates.now chain.now (connection_view kept_place connection.now)) }
+        ++ spec.adaptor_findings (tree_of rated.now) rated.now.threads.now rated.now.rates.now chain.now (connection_view kept_place connection.now)) }
 {
-    let source = end_rate(rates, &chain.from);
-    let target = end_rate(rates, &chain.to);
+    let source = end_rate(rated.rates, &chain.from);
+    let target = end_rate(rated.rates, &chain.to);
     if is_plain(said.adaptor, source, target) {
         return Ok(());
     }
+    let properties = rated.properties;
+    let uses = properties.uses;
     let carrier = Carrier {
         at: connection.name.at,
-        name: end_name(alloc, names, threads, &chain.to)?,
+        name: end_name(alloc, uses, rated.threads, &chain.to)?,
         adaptor: said.adaptor,
-        kind: end_kind(alloc, names, threads, &chain.to)?,
+        kind: end_kind(uses, rated.threads, &chain.to),
     };
     add_rated(alloc, &carrier, source, target, found)
 }
@@ -87,8 +95,7 @@ fn add_adaptor_findings(
 // Adds the finding that a link's carrier is not delayed.
 fn add_timing_findings(
     alloc: Global,
-    names: &Names<'_>,
-    threads: &[ThreadAt],
+    rated: &RatedThreads<'_>,
     chain: &Chain,
     connection: &Connection,
     said: Carried,
@@ -96,12 +103,13 @@ fn add_timing_findings(
 ) -> Result<(), NoMemory>
     requires { said ≡ carried_by (connection_view kept_place connection.now).properties }
     ensures { OnOk result (found.new ≡ found.old
-        ++ spec.timing_findings (placed names.now.tree.now) threads.now chain.now (connection_view kept_place connection.now)) }
+        ++ spec.timing_findings (tree_of rated.now) rated.now.threads.now chain.now (connection_view kept_place connection.now)) }
 {
     if said.delayed {
         return Ok(());
     }
-    let details = end_name(alloc, names, threads, &chain.to)?;
+    let properties = rated.properties;
+    let details = end_name(alloc, properties.uses, rated.threads, &chain.to)?;
     found.push(Violation {
         at: connection.name.at,
         number: NOT_DELAYED,
@@ -109,45 +117,39 @@ fn add_timing_findings(
     })
 }
 
-/// Adds what is wrong with a link, over the threads and their rates: its carrier is not delayed, the
-/// rates don't divide, an adaptor is missing, stray or not allowed.
+/// Adds what is wrong with a link: its carrier is not delayed, the rates don't divide, an adaptor is
+/// missing, stray or not allowed.
 pub fn add_link_findings(
     alloc: Global,
-    properties: &Properties<'_>,
-    threads: &[ThreadAt],
-    rates: &[Option<u32>],
+    rated: &RatedThreads<'_>,
     link: &Chain,
     found: &mut Items<Violation>,
 ) -> Result<(), NoMemory>
-    requires { (n k : ℕ) → slice_get rates.now n ≡ Some (Some k) → 0 < k }
+    requires { ArePositive rated.now.rates.now }
     ensures { OnOk result (found.new ≡ found.old
-        ++ spec.link_findings (placed properties.now.names.tree.now) threads.now rates.now link.now) }
+        ++ spec.link_findings (tree_of rated.now) rated.now.threads.now rated.now.rates.now link.now) }
 {
-    let names = &properties.names;
-    let Some((connection, said)) = carrier_of(properties, link.carrier) else {
+    let Some((connection, said)) = carrier_of(rated.properties, link.carrier) else {
         return Ok(());
     };
-    add_timing_findings(alloc, names, threads, link, connection, said, found)?;
-    add_adaptor_findings(alloc, names, threads, rates, link, connection, said, found)
+    add_timing_findings(alloc, rated, link, connection, said, found)?;
+    add_adaptor_findings(alloc, rated, link, connection, said, found)
 }
 
 /// Adds what is wrong with a feed: the adaptor between the root's rate, which is 1, and the thread's.
 pub fn add_feed_findings(
     alloc: Global,
-    properties: &Properties<'_>,
-    threads: &[ThreadAt],
-    rates: &[Option<u32>],
+    rated: &RatedThreads<'_>,
     feed: &Chain,
     found: &mut Items<Violation>,
 ) -> Result<(), NoMemory>
-    requires { (n k : ℕ) → slice_get rates.now n ≡ Some (Some k) → 0 < k }
+    requires { ArePositive rated.now.rates.now }
     ensures { OnOk result (found.new ≡ found.old
-        ++ spec.feed_findings (placed properties.now.names.tree.now) threads.now rates.now feed.now) }
+        ++ spec.feed_findings (tree_of rated.now) rated.now.threads.now rated.now.rates.now feed.now) }
 {
-    let names = &properties.names;
-    match carrier_of(properties, feed.carrier) {
+    match carrier_of(rated.properties, feed.carrier) {
         Some((connection, said)) => {
-            add_adaptor_findings(alloc, names, threads, rates, feed, connection, said, found)
+            add_adaptor_findings(alloc, rated, feed, connection, said, found)
         }
         None => Ok(()),
     }
@@ -157,18 +159,18 @@ pub fn add_feed_findings(
 #[tactic(auto, using(crate::proofs::Mapped::has_mapped))]
 pub fn add_tap_findings(
     alloc: Global,
-    properties: &Properties<'_>,
-    threads: &[ThreadAt],
+    rated: &RatedThreads<'_>,
     tap: &Chain,
     found: &mut Items<Violation>,
 ) -> Result<(), NoMemory>
     ensures { OnOk result (found.new ≡ found.old
-        ++ spec.tap_findings (placed properties.now.names.tree.now) threads.now tap.now) }
+        ++ spec.tap_findings (tree_of rated.now) rated.now.threads.now tap.now) }
 {
+    let properties = rated.properties;
     let Some((connection, said)) = carrier_of(properties, tap.carrier) else {
         return Ok(());
     };
-    let name = end_name(alloc, &properties.names, threads, &tap.to)?;
+    let name = end_name(alloc, properties.uses, rated.threads, &tap.to)?;
     add_named(
         alloc,
         found,

@@ -1,25 +1,24 @@
 //! What is wrong with the connections of an implementation, whatever they carry.
-ghost use Rattle.std.specs.Prelude.{◌≡◌, ◌||◌, ◌++◌, ℕ, IfOk, OnOk, Some, option_map, option_copied, slice_get, string_bytes};
+ghost use Rattle.std.specs.Prelude.{◌≡◌, ◌||◌, ◌++◌, ℕ, OnOk, Some, option_map, slice_get};
 ghost use Rattle.std.specs.Option.{option_and_then};
 ghost use Rattle.aadl_tree.specs.proof.Maps.{kept_place};
 ghost use Rattle.aadl_tree.specs.Declarations as trees;
 ghost use Rattle.aadl_tree.specs.Declarations.{implementation};
 ghost use Rattle.aadl_tree.specs.proof.NameViews.{identifier_view};
 ghost use Rattle.aadl_tree.specs.proof.PackageViews.{placed};
-ghost use Rattle.aadl_tree.specs.proof.Views.{connection_view, end_view, feature_view, implementation_view};
-ghost use Rattle.aadl_names.specs.Resolving.{features_of, implementation_at, ports_at, type_numbered};
-ghost use Rattle.aadl_uses.specs.Uses.{below};
+ghost use Rattle.aadl_tree.specs.proof.Views.{connection_view, implementation_view};
+ghost use Rattle.aadl_names.specs.Resolving.{features_of, implementation_at, type_numbered};
+ghost use Rattle.aadl_uses.specs.Wiring.{wire_of};
 ghost use Rattle.component_checks.specs.proof.Carried.{carried_by};
 ghost use Rattle.model_violations.specs.Carriers.{carries};
 ghost use Rattle.model_violations.specs.Connections as spec;
-ghost use Rattle.model_violations.specs.proof.Known.{tree_of, IsKnown};
+ghost use Rattle.model_violations.specs.proof.Connections.{IsConnection};
 
 use crate::carriers::Carriers;
-use crate::known::{Known, type_at, type_below};
-use aadl_names::Names;
-use aadl_names::connection_ends::port_number;
+use aadl_names::Site;
 use aadl_names::numbered::type_numbered;
-use aadl_tree::{Connection, ConnectionEnd, Feature, Identifier, Implementation, PackageTree};
+use aadl_tree::{Connection, Identifier, Implementation, PackageTree};
+use aadl_uses::{Uses, Wire, Wires};
 use annex_resolve::violation::{DELAYED_ROOT, STRAY_ADAPTOR};
 use annex_resolve::{Violation, expect};
 use component_checks::Carried;
@@ -28,90 +27,49 @@ use component_checks::types::kind_in;
 use pals_base::{Items, Kind, NoMemory};
 use std::alloc::Global;
 
-// A port of the type of a number.
-fn port_at<'t>(tree: &'t PackageTree, of_type: Option<usize>, port: usize) -> Option<&'t Feature>
-    ensures { option_map (feature_view kept_place) (option_copied result)
-        ≡ slice_get (features_of (type_numbered (placed tree.now) of_type)) port }
+// The type of a port of the type of a number.
+fn kind_numbered(tree: &PackageTree, of_type: Option<usize>, port: usize) -> Option<Kind>
+    ensures { result ≡ spec.kind_numbered (features_of (type_numbered (placed tree.now) of_type)) port }
 {
-    match type_numbered(tree, of_type) {
-        Some(of_type) => of_type.features.get(port),
+    let of_type = type_numbered(tree, of_type)?;
+    let port = of_type.features.get(port)?;
+    kind_in(&port.data_type)
+}
+
+// The type of a port of the implementation of a number, or of one of its subcomponents.
+fn site_kind(uses: &Uses<'_>, number: usize, site: Site) -> Option<Kind>
+    ensures { (x : trees.Implementation ℕ) → implementation_at (placed uses.now.names.tree.now) number ≡ Some x
+        → result ≡ spec.site_kind (placed uses.now.names.tree.now) x site }
+{
+    let tree = uses.names.tree;
+    match site {
+        Site::Own(port) => kind_numbered(tree, uses.type_number(number), port),
+        Site::Inner(sub, port) => kind_numbered(tree, uses.type_below(number, sub), port),
+    }
+}
+
+// The type of the port at an end of a connection, if that is declared.
+fn kind_at(uses: &Uses<'_>, number: usize, end: Option<Site>) -> Option<Kind>
+    ensures { (x : trees.Implementation ℕ) → implementation_at (placed uses.now.names.tree.now) number ≡ Some x
+        → result ≡ option_and_then (spec.site_kind (placed uses.now.names.tree.now) x) end }
+{
+    match end {
+        Some(site) => site_kind(uses, number, site),
         None => None,
     }
 }
 
-// The type of the port of a name, among those of the type of a number.
-fn kind_named(
-    alloc: Global,
-    names: &Names<'_>,
-    of_type: Option<usize>,
-    name: &Identifier,
-) -> Result<Option<Kind>, NoMemory>
-    ensures { IfOk result (λ kind. kind
-        ≡ spec.kind_named (features_of (type_numbered (placed names.now.tree.now) of_type)) (string_bytes name.now.spelling)) }
+// What a connection joins, by its declaration's number and its own there.
+fn wire_at(wires: &Wires<'_>, number: usize, at: usize) -> Wire
+    ensures { (x : trees.Implementation ℕ) (c : trees.Connection ℕ) → IsConnection (placed wires.now.uses.names.tree.now) number at x c
+        → result ≡ wire_of (placed wires.now.uses.names.tree.now) x c }
 {
-    let Some(number) = port_number(alloc, names, of_type, name.spelling.as_str())? else {
-        return Ok(None);
-    };
-    match port_at(names.tree, of_type, number) {
-        Some(port) => Ok(kind_in(&port.data_type)),
-        None => Ok(None),
-    }
-}
-
-// The type of an own port.
-fn own_kind(
-    alloc: Global,
-    known: &Known<'_>,
-    number: usize,
-    name: &Identifier,
-) -> Result<Option<Kind>, NoMemory>
-    requires { IsKnown known.now }
-    ensures { IfOk result (λ kind. kind
-        ≡ spec.kind_named (ports_at (tree_of known.now) (implementation_at (tree_of known.now) number)) (string_bytes name.now.spelling)) }
-{
-    let of_type = type_at(known, number);
-    let kind = kind_named(alloc, known.names, of_type, name)?;
-    Ok(kind)
-}
-
-// The type of the port of a subcomponent.
-fn inner_kind(
-    alloc: Global,
-    known: &Known<'_>,
-    number: usize,
-    sub: usize,
-    name: &Identifier,
-) -> Result<Option<Kind>, NoMemory>
-    requires { IsKnown known.now }
-    ensures { IfOk result (λ kind. kind
-        ≡ spec.kind_named (ports_at (tree_of known.now) (option_and_then (implementation_at (tree_of known.now)) (below (tree_of known.now) number sub)))
-        (string_bytes name.now.spelling)) }
-{
-    let of_type = type_below(known, number, sub);
-    let kind = kind_named(alloc, known.names, of_type, name)?;
-    Ok(kind)
-}
-
-// The type of the port at an end of a connection of the implementation of a number.
-fn kind_at(
-    alloc: Global,
-    known: &Known<'_>,
-    number: usize,
-    end: &ConnectionEnd,
-) -> Result<Option<Kind>, NoMemory>
-    requires { IsKnown known.now }
-    ensures { IfOk result (λ kind. (x : trees.Implementation ℕ) → implementation_at (tree_of known.now) number ≡ Some x
-        → kind ≡ spec.kind_at (tree_of known.now) x (end_view kept_place end.now)) }
-{
-    let Some(port) = &end.second else {
-        return own_kind(alloc, known, number, &end.first);
-    };
-    match known
-        .names
-        .member(alloc, number, end.first.spelling.as_str())?
-    {
-        Some(sub) => inner_kind(alloc, known, number, sub, port),
-        None => Ok(None),
+    match wires.wires(number).get(at) {
+        Some(wire) => *wire,
+        None => Wire {
+            source: None,
+            target: None,
+        },
     }
 }
 
@@ -132,21 +90,22 @@ fn joins_own(connection: &Connection) -> bool
     is_own(&connection.source.second) || is_own(&connection.target.second)
 }
 
-// Adds the finding that the ends of a connection of the implementation of a number are of different
-// types.
+// Adds the finding that the ends of a connection of two numbers are of different types.
 fn add_ends_findings(
     alloc: Global,
-    known: &Known<'_>,
+    wires: &Wires<'_>,
     number: usize,
+    at: usize,
     connection: &Connection,
     found: &mut Items<Violation>,
 ) -> Result<(), NoMemory>
-    requires { IsKnown known.now }
-    ensures { OnOk result ((x : trees.Implementation ℕ) → implementation_at (tree_of known.now) number ≡ Some x
-        → found.new ≡ found.old ++ spec.ends_findings (tree_of known.now) x (connection_view kept_place connection.now)) }
+    ensures { OnOk result ((x : trees.Implementation ℕ)
+        → IsConnection (placed wires.now.uses.names.tree.now) number at x (connection_view kept_place connection.now)
+        → found.new ≡ found.old ++ spec.ends_findings (placed wires.now.uses.names.tree.now) x (connection_view kept_place connection.now)) }
 {
-    let source = kind_at(alloc, known, number, &connection.source)?;
-    let target = kind_at(alloc, known, number, &connection.target)?;
+    let wire = wire_at(wires, number, at);
+    let source = kind_at(&wires.uses, number, wire.source);
+    let target = kind_at(&wires.uses, number, wire.target);
     expect(alloc, found, connection.name.at, source, target)?;
     Ok(())
 }
@@ -194,21 +153,22 @@ fn add_adaptor_findings(
     )
 }
 
-// Adds what is wrong with a connection of the implementation of a number.
+// Adds what is wrong with the connection of two numbers.
 fn add_connection_findings(
     alloc: Global,
-    known: &Known<'_>,
+    wires: &Wires<'_>,
     carriers: &Carriers,
     number: usize,
     at: usize,
     connection: &Connection,
     found: &mut Items<Violation>,
 ) -> Result<(), NoMemory>
-    requires { IsKnown known.now }
-    ensures { OnOk result ((x : trees.Implementation ℕ) → implementation_at (tree_of known.now) number ≡ Some x → found.new ≡ found.old
-        ++ spec.connection_findings (tree_of known.now) (carries carriers.now) number x (at, connection_view kept_place connection.now)) }
+    ensures { OnOk result ((x : trees.Implementation ℕ)
+        → IsConnection (placed wires.now.uses.names.tree.now) number at x (connection_view kept_place connection.now)
+        → found.new ≡ found.old ++ spec.connection_findings (placed wires.now.uses.names.tree.now) (carries carriers.now) number x
+        (at, connection_view kept_place connection.now)) }
 {
-    add_ends_findings(alloc, known, number, connection, found)?;
+    add_ends_findings(alloc, wires, number, at, connection, found)?;
     let said = Carried::of(alloc, connection.properties.as_slice())?;
     add_delay_findings(alloc, connection, said, found)?;
     add_adaptor_findings(alloc, carriers.has(number, at), connection, said, found)?;
@@ -219,19 +179,18 @@ fn add_connection_findings(
 /// a delay at an own port, an adaptor on what carries no chain.
 pub fn add_connections_findings(
     alloc: Global,
-    known: &Known<'_>,
+    wires: &Wires<'_>,
     carriers: &Carriers,
     number: usize,
     x: &Implementation,
     found: &mut Items<Violation>,
 ) -> Result<(), NoMemory>
-    requires known { IsKnown known.now }
-    requires number { slice_get (tree_of known.now).declarations number ≡ Some (implementation (implementation_view kept_place x.now)) }
+    requires { slice_get (placed wires.now.uses.names.tree.now).declarations number ≡ Some (implementation (implementation_view kept_place x.now)) }
     ensures { OnOk result (found.new ≡ found.old
-        ++ spec.connections_findings (tree_of known.now) (carries carriers.now) number (implementation_view kept_place x.now)) }
+        ++ spec.connections_findings (placed wires.now.uses.names.tree.now) (carries carriers.now) number (implementation_view kept_place x.now)) }
 {
     for (at, connection) in x.connections.iter().enumerate() {
-        add_connection_findings(alloc, known, carriers, number, at, connection, found)?;
+        add_connection_findings(alloc, wires, carriers, number, at, connection, found)?;
     }
     Ok(())
 }

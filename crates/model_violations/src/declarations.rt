@@ -1,25 +1,23 @@
 //! What is wrong with the declarations that are in use.
-ghost use Rattle.std.specs.Prelude.{◌≡◌, ◌++◌, true, IfOk, OnOk, Some, slice_get, map, flat_map};
+ghost use Rattle.std.specs.Prelude.{◌≡◌, ◌++◌, true, OnOk, Some, slice_get, map, flat_map};
 ghost use Rattle.aadl_tree.specs.proof.Maps.{kept_place};
 ghost use Rattle.aadl_tree.specs.proof.PackageViews.{placed};
 ghost use Rattle.aadl_tree.specs.Declarations.{implementation};
 ghost use Rattle.aadl_tree.specs.proof.Views.{declaration_view, implementation_view, subcomponent_view, type_view};
-ghost use Rattle.aadl_names.specs.Resolving.{is_thread};
+ghost use Rattle.aadl_names.specs.Resolving.{implementation_at, is_thread};
 ghost use Rattle.model_violations.specs.Threads.{IsSmall};
 ghost use Rattle.model_violations.specs.Ignored.{is_root_type};
 ghost use Rattle.model_violations.specs.Carriers.{carries};
 ghost use Rattle.model_violations.specs.Use.{has};
 ghost use Rattle.model_violations.specs.Declarations as spec;
-ghost use Rattle.model_violations.specs.proof.Known.{tree_of, IsKnown};
 
 use crate::carriers::Carriers;
 use crate::connections::add_connections_findings;
-use crate::ignored::root_type;
 use crate::ignored_declarations::is_number;
-use crate::known::Known;
 use crate::resolve_implementation;
-use aadl_names::{Holder, Names};
+use aadl_names::Holder;
 use aadl_tree::{Category, Declaration, Implementation, Subcomponent, TypeDeclaration};
+use aadl_uses::{Uses, Wires};
 use annex_resolve::Violation;
 use component_checks::times::add_list_big;
 use component_checks::types::add_port_findings;
@@ -28,33 +26,26 @@ use pals_base::{Items, NoMemory};
 use std::alloc::Global;
 
 // Whether a type is the root's.
-fn is_root_type(
-    alloc: Global,
-    names: &Names<'_>,
-    root: usize,
-    number: usize,
-) -> Result<bool, NoMemory>
-    ensures { IfOk result (λ is. is ≡ is_root_type (placed names.now.tree.now) root number) }
+fn is_root_type(uses: &Uses<'_>, root: usize, number: usize) -> bool
+    ensures { result ≡ is_root_type (placed uses.now.names.tree.now) root number }
 {
-    let of_root = root_type(alloc, names, root)?;
-    Ok(is_number(number, of_root))
+    is_number(number, uses.type_number(root))
 }
 
 // Adds what is wrong with the type of a number.
 fn add_type_findings(
     alloc: Global,
-    names: &Names<'_>,
+    uses: &Uses<'_>,
     root: usize,
     number: usize,
     x: &TypeDeclaration,
     found: &mut Items<Violation>,
 ) -> Result<(), NoMemory>
     ensures { OnOk result (found.new ≡ found.old
-        ++ spec.type_findings (is_root_type (placed names.now.tree.now) root number) (type_view kept_place x.now)) }
+        ++ spec.type_findings (is_root_type (placed uses.now.names.tree.now) root number) (type_view kept_place x.now)) }
 {
-    let of_root = is_root_type(alloc, names, root, number)?;
     add_port_findings(alloc, x.features.as_slice(), found)?;
-    let holder = Holder::Declaration(x.category, of_root);
+    let holder = Holder::Declaration(x.category, is_root_type(uses, root, number));
     add_list_big(alloc, holder, x.properties.as_slice(), found)
 }
 
@@ -73,19 +64,21 @@ fn add_subs_findings(
     Ok(())
 }
 
-// Adds what is wrong with the behaviour of an implementation, if it is a thread's.
+// Adds what is wrong with the behaviour of the implementation of a number, if it is a thread's.
 fn add_thread_findings(
     alloc: Global,
-    names: &Names<'_>,
+    uses: &Uses<'_>,
+    number: usize,
     x: &Implementation,
     found: &mut Items<Violation>,
 ) -> Result<(), NoMemory>
-    requires { is_thread x.now.category ≡ true → IsSmall (placed names.now.tree.now) (implementation_view kept_place x.now) }
-    ensures { OnOk result (found.new ≡ found.old ++ spec.thread_findings (placed names.now.tree.now) (implementation_view kept_place x.now)) }
+    requires number { implementation_at (placed uses.now.names.tree.now) number ≡ Some (implementation_view kept_place x.now) }
+    requires small { is_thread x.now.category ≡ true → IsSmall (placed uses.now.names.tree.now) (implementation_view kept_place x.now) }
+    ensures { OnOk result (found.new ≡ found.old ++ spec.thread_findings (placed uses.now.names.tree.now) (implementation_view kept_place x.now)) }
 {
     match x.category {
         Category::Thread => {
-            let _behaviour = resolve_implementation(alloc, names, x, found)?;
+            let _behaviour = resolve_implementation(alloc, uses, number, found)?;
             Ok(())
         }
         Category::System | Category::Process => Ok(()),
@@ -95,30 +88,29 @@ fn add_thread_findings(
 // Adds what is wrong with the implementation of a number.
 fn add_implementation_findings(
     alloc: Global,
-    known: &Known<'_>,
+    wires: &Wires<'_>,
     root: usize,
     carriers: &Carriers,
     number: usize,
     x: &Implementation,
     found: &mut Items<Violation>,
 ) -> Result<(), NoMemory>
-    requires known { IsKnown known.now }
-    requires number { slice_get (tree_of known.now).declarations number ≡ Some (implementation (implementation_view kept_place x.now)) }
-    requires small { is_thread x.now.category ≡ true → IsSmall (tree_of known.now) (implementation_view kept_place x.now) }
+    requires number { slice_get (placed wires.now.uses.names.tree.now).declarations number ≡ Some (implementation (implementation_view kept_place x.now)) }
+    requires small { is_thread x.now.category ≡ true → IsSmall (placed wires.now.uses.names.tree.now) (implementation_view kept_place x.now) }
     ensures { OnOk result (found.new ≡ found.old
-        ++ spec.implementation_findings (tree_of known.now) root (carries carriers.now) number (implementation_view kept_place x.now)) }
+        ++ spec.implementation_findings (placed wires.now.uses.names.tree.now) root (carries carriers.now) number (implementation_view kept_place x.now)) }
 {
     let holder = Holder::Declaration(x.category, number == root);
     add_list_big(alloc, holder, x.properties.as_slice(), found)?;
     add_subs_findings(alloc, x.subcomponents.as_slice(), found)?;
-    add_connections_findings(alloc, known, carriers, number, x, found)?;
-    add_thread_findings(alloc, known.names, x, found)
+    add_connections_findings(alloc, wires, carriers, number, x, found)?;
+    add_thread_findings(alloc, &wires.uses, number, x, found)
 }
 
 // Adds what is wrong with the declaration of a number, where it is in use.
 fn add_declaration_findings(
     alloc: Global,
-    known: &Known<'_>,
+    wires: &Wires<'_>,
     root: usize,
     used: &IndexSet<usize>,
     types: &IndexSet<usize>,
@@ -127,24 +119,23 @@ fn add_declaration_findings(
     declaration: &Declaration,
     found: &mut Items<Violation>,
 ) -> Result<(), NoMemory>
-    requires known { IsKnown known.now }
-    requires number { slice_get (tree_of known.now).declarations number ≡ Some (declaration_view kept_place declaration.now) }
-    requires small { spec.AreSmall (tree_of known.now) (has used.now.keys) }
+    requires number { slice_get (placed wires.now.uses.names.tree.now).declarations number ≡ Some (declaration_view kept_place declaration.now) }
+    requires small { spec.AreSmall (placed wires.now.uses.names.tree.now) (has used.now.keys) }
     ensures { OnOk result (found.new ≡ found.old
-        ++ spec.declaration_findings (tree_of known.now) root (has used.now.keys) (has types.now.keys) (carries carriers.now)
+        ++ spec.declaration_findings (placed wires.now.uses.names.tree.now) root (has used.now.keys) (has types.now.keys) (carries carriers.now)
         (number, declaration_view kept_place declaration.now)) }
 {
     match declaration {
         Declaration::Type(x) => {
             if types.contains(&number) {
-                add_type_findings(alloc, known.names, root, number, x, found)
+                add_type_findings(alloc, &wires.uses, root, number, x, found)
             } else {
                 Ok(())
             }
         }
         Declaration::Implementation(x) => {
             if used.contains(&number) {
-                add_implementation_findings(alloc, known, root, carriers, number, x, found)
+                add_implementation_findings(alloc, wires, root, carriers, number, x, found)
             } else {
                 Ok(())
             }
@@ -156,22 +147,21 @@ fn add_declaration_findings(
 /// where the connections carry chains.
 pub fn add_declarations_findings(
     alloc: Global,
-    known: &Known<'_>,
+    wires: &Wires<'_>,
     root: usize,
     used: &IndexSet<usize>,
     types: &IndexSet<usize>,
     carriers: &Carriers,
     found: &mut Items<Violation>,
 ) -> Result<(), NoMemory>
-    requires known { IsKnown known.now }
-    requires small { spec.AreSmall (tree_of known.now) (has used.now.keys) }
+    requires { spec.AreSmall (placed wires.now.uses.names.tree.now) (has used.now.keys) }
     ensures { OnOk result (found.new ≡ found.old
-        ++ spec.declarations_findings (tree_of known.now) root (has used.now.keys) (has types.now.keys) (carries carriers.now)) }
+        ++ spec.declarations_findings (placed wires.now.uses.names.tree.now) root (has used.now.keys) (has types.now.keys) (carries carriers.now)) }
 {
-    for (number, declaration) in known.names.tree.declarations.iter().enumerate() {
+    for (number, declaration) in wires.uses.names.tree.declarations.iter().enumerate() {
         add_declaration_findings(
             alloc,
-            known,
+            wires,
             root,
             used,
             types,

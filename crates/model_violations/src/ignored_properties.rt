@@ -11,9 +11,9 @@ ghost use Rattle.aadl_names.specs.Spelling.{spelled_name};
 ghost use Rattle.model_violations.specs.Ignored as spec;
 
 use aadl_names::Holder;
+use aadl_names::name_comparison::is_spelled;
 use aadl_names::spelling::spelled_name;
 use aadl_tree::{Annex, AnnexContent, Association, Name, VariableDeclaration};
-use name_faults::spellings::is_spelled;
 use pals_base::{Items, NoMemory, Text};
 use std::alloc::Global;
 

@@ -10,7 +10,6 @@ pub mod declared;
 pub mod ignored;
 pub mod ignored_declarations;
 pub mod ignored_properties;
-pub mod known;
 pub mod list;
 pub mod order;
 pub mod ports;

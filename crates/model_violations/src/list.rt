@@ -1,21 +1,19 @@
 //! The list of all that is wrong with an instance.
-ghost use Rattle.std.specs.Prelude.{◌≡◌, ◌<◌, ◌++◌, ◌||◌, ℕ, IfOk, OnOk, Some, map, flat_map, slice_get};
+ghost use Rattle.std.specs.Prelude.{◌≡◌, ◌++◌, ◌||◌, ℕ, IfOk, OnOk, map, flat_map};
 ghost use Rattle.aadl_tree.specs.proof.PackageViews.{placed};
 ghost use Rattle.component_checks.specs.Threads as threads_spec;
 ghost use Rattle.model_violations.specs.Carriers.{carries};
 ghost use Rattle.model_violations.specs.Chains.{link_findings, feed_findings, tap_findings};
 ghost use Rattle.model_violations.specs.Violations as spec;
+ghost use Rattle.model_violations.specs.proof.Chains.{tree_of, ArePositive};
 ghost use Rattle.model_violations.specs.proof.Violations as inner;
 
 use crate::carriers::Carriers;
-use crate::chains::{add_feed_findings, add_link_findings, add_tap_findings};
+use crate::chains::{RatedThreads, add_feed_findings, add_link_findings, add_tap_findings};
 use crate::declarations::add_declarations_findings;
-use crate::known::{Known, types_of};
 use crate::order::in_order;
 use crate::usage::{types_used, used_below};
 use aadl_instance::{Chain, Instance, ThreadAt};
-use aadl_names::Names;
-use aadl_uses::Uses;
 use annex_resolve::Violation;
 use component_checks::Properties;
 use component_checks::roots::add_root_findings;
@@ -30,7 +28,7 @@ fn rates_of(
     root: usize,
     threads: &[ThreadAt],
 ) -> Result<Items<Option<u32>>, NoMemory>
-    ensures { IfOk result (λ rates. rates ≡ map (threads_spec.thread_rate (placed properties.now.names.tree.now) root) threads.now) }
+    ensures { IfOk result (λ rates. rates ≡ map (threads_spec.thread_rate (placed properties.now.uses.now.names.tree.now) root) threads.now) }
 {
     let mut rates = Items::new(alloc);
     for thread in threads {
@@ -47,7 +45,8 @@ fn add_threads_findings(
     threads: &[ThreadAt],
     found: &mut Items<Violation>,
 ) -> Result<(), NoMemory>
-    ensures { OnOk result (found.new ≡ found.old ++ flat_map (threads_spec.thread_findings (placed properties.now.names.tree.now) root) threads.now) }
+    ensures { OnOk result (found.new ≡ found.old
+        ++ flat_map (threads_spec.thread_findings (placed properties.now.uses.now.names.tree.now) root) threads.now) }
 {
     for thread in threads {
         add_thread_findings(alloc, properties, root, thread, found)?;
@@ -76,20 +75,18 @@ fn carriers_of(alloc: Global, instance: &Instance<'_>) -> Result<Carriers, NoMem
     Ok(carriers)
 }
 
-// Adds what is wrong with links, over the rates of the threads.
+// Adds what is wrong with links.
 fn add_links_findings(
     alloc: Global,
-    properties: &Properties<'_>,
-    threads: &[ThreadAt],
-    rates: &[Option<u32>],
+    rated: &RatedThreads<'_>,
     links: &[Chain],
     found: &mut Items<Violation>,
 ) -> Result<(), NoMemory>
-    requires { (n k : ℕ) → slice_get rates.now n ≡ Some (Some k) → 0 < k }
-    ensures { OnOk result (found.new ≡ found.old ++ flat_map (link_findings (placed properties.now.names.tree.now) threads.now rates.now) links.now) }
+    requires { ArePositive rated.now.rates.now }
+    ensures { OnOk result (found.new ≡ found.old ++ flat_map (link_findings (tree_of rated.now) rated.now.threads.now rated.now.rates.now) links.now) }
 {
     for link in links {
-        add_link_findings(alloc, properties, threads, rates, link, found)?;
+        add_link_findings(alloc, rated, link, found)?;
     }
     Ok(())
 }
@@ -97,17 +94,15 @@ fn add_links_findings(
 // Adds what is wrong with feeds.
 fn add_feeds_findings(
     alloc: Global,
-    properties: &Properties<'_>,
-    threads: &[ThreadAt],
-    rates: &[Option<u32>],
+    rated: &RatedThreads<'_>,
     feeds: &[Chain],
     found: &mut Items<Violation>,
 ) -> Result<(), NoMemory>
-    requires { (n k : ℕ) → slice_get rates.now n ≡ Some (Some k) → 0 < k }
-    ensures { OnOk result (found.new ≡ found.old ++ flat_map (feed_findings (placed properties.now.names.tree.now) threads.now rates.now) feeds.now) }
+    requires { ArePositive rated.now.rates.now }
+    ensures { OnOk result (found.new ≡ found.old ++ flat_map (feed_findings (tree_of rated.now) rated.now.threads.now rated.now.rates.now) feeds.now) }
 {
     for feed in feeds {
-        add_feed_findings(alloc, properties, threads, rates, feed, found)?;
+        add_feed_findings(alloc, rated, feed, found)?;
     }
     Ok(())
 }
@@ -115,15 +110,14 @@ fn add_feeds_findings(
 // Adds what is wrong with taps.
 fn add_taps_findings(
     alloc: Global,
-    properties: &Properties<'_>,
-    threads: &[ThreadAt],
+    rated: &RatedThreads<'_>,
     taps: &[Chain],
     found: &mut Items<Violation>,
 ) -> Result<(), NoMemory>
-    ensures { OnOk result (found.new ≡ found.old ++ flat_map (tap_findings (placed properties.now.names.tree.now) threads.now) taps.now) }
+    ensures { OnOk result (found.new ≡ found.old ++ flat_map (tap_findings (tree_of rated.now) rated.now.threads.now) taps.now) }
 {
     for tap in taps {
-        add_tap_findings(alloc, properties, threads, tap, found)?;
+        add_tap_findings(alloc, rated, tap, found)?;
     }
     Ok(())
 }
@@ -136,52 +130,34 @@ fn add_chain_findings(
     rates: &[Option<u32>],
     found: &mut Items<Violation>,
 ) -> Result<(), NoMemory>
-    requires { (n k : ℕ) → slice_get rates.now n ≡ Some (Some k) → 0 < k }
+    requires { ArePositive rates.now }
     ensures { OnOk result (found.new ≡ found.old
-        ++ spec.chain_findings (placed properties.now.names.tree.now) (inner.shown instance.now) rates.now) }
+        ++ spec.chain_findings (placed properties.now.uses.now.names.tree.now) (inner.shown instance.now) rates.now) }
 {
-    let threads = instance.threads.as_slice();
-    add_links_findings(
-        alloc,
+    let rated = RatedThreads {
         properties,
-        threads,
+        threads: instance.threads.as_slice(),
         rates,
-        instance.links.as_slice(),
-        found,
-    )?;
-    add_feeds_findings(
-        alloc,
-        properties,
-        threads,
-        rates,
-        instance.feeds.as_slice(),
-        found,
-    )?;
-    add_taps_findings(alloc, properties, threads, instance.taps.as_slice(), found)
+    };
+    add_links_findings(alloc, &rated, instance.links.as_slice(), found)?;
+    add_feeds_findings(alloc, &rated, instance.feeds.as_slice(), found)?;
+    add_taps_findings(alloc, &rated, instance.taps.as_slice(), found)
 }
 
 // Adds what is wrong with the declarations that are in use.
 fn add_used_findings(
     alloc: Global,
-    names: &Names<'_>,
     instance: &Instance<'_>,
     found: &mut Items<Violation>,
 ) -> Result<(), NoMemory>
-    requires { names.now.tree.now ≡ instance.now.tree.now }
-    ensures { OnOk result (inner.AddUsed (placed names.now.tree.now) (inner.shown instance.now) found.old found.new) }
+    ensures { OnOk result (inner.AddUsed (placed instance.now.wires.uses.names.tree.now) (inner.shown instance.now) found.old found.new) }
 {
+    let wires = &instance.wires;
     let root = instance.root;
-    let uses = Uses::of(alloc, names)?;
-    let own_types = types_of(alloc, names, names.tree.declarations.as_slice())?;
-    let known = Known {
-        names,
-        uses: &uses,
-        types: own_types.as_slice(),
-    };
-    let used = used_below(alloc, &uses, root)?;
-    let types = types_used(alloc, names, &used)?;
+    let used = used_below(alloc, &wires.uses, root)?;
+    let types = types_used(alloc, &wires.uses, &used)?;
     let carriers = carriers_of(alloc, instance)?;
-    add_declarations_findings(alloc, &known, root, &used, &types, &carriers, found)?;
+    add_declarations_findings(alloc, wires, root, &used, &types, &carriers, found)?;
     Ok(())
 }
 
@@ -191,19 +167,18 @@ fn findings_of(
     properties: &Properties<'_>,
     instance: &Instance<'_>,
 ) -> Result<Items<Violation>, NoMemory>
-    requires { properties.now.names.tree.now ≡ instance.now.tree.now }
-    ensures { IfOk result (λ list. inner.AreFindings (placed instance.now.tree.now) (inner.shown instance.now) list) }
+    requires { properties.now.uses.now.names.tree.now ≡ instance.now.wires.uses.names.tree.now }
+    ensures { IfOk result (λ list. inner.AreFindings (placed instance.now.wires.uses.names.tree.now) (inner.shown instance.now) list) }
 {
     let mut found = Items::new(alloc);
-    let names = &properties.names;
     let root = instance.root;
     let threads = instance.threads.as_slice();
     let rates = rates_of(alloc, properties, root, threads)?;
     let greatest = greatest_rate(rates.as_slice());
-    add_root_findings(alloc, names, root, greatest, &mut found)?;
+    add_root_findings(alloc, properties, root, greatest, &mut found)?;
     add_threads_findings(alloc, properties, root, threads, &mut found)?;
     add_chain_findings(alloc, properties, instance, rates.as_slice(), &mut found)?;
-    add_used_findings(alloc, names, instance, &mut found)?;
+    add_used_findings(alloc, instance, &mut found)?;
     Ok(found)
 }
 
@@ -214,8 +189,8 @@ pub fn violations_by(
     properties: &Properties<'_>,
     instance: &Instance<'_>,
 ) -> Result<Items<Violation>, NoMemory>
-    requires { properties.now.names.tree.now ≡ instance.now.tree.now }
-    ensures { IfOk result (λ list. spec.AreViolations (placed instance.now.tree.now) (inner.shown instance.now) list) }
+    requires { properties.now.uses.now.names.tree.now ≡ instance.now.wires.uses.names.tree.now }
+    ensures { IfOk result (λ list. spec.AreViolations (placed instance.now.wires.uses.names.tree.now) (inner.shown instance.now) list) }
 {
     let found = findings_of(alloc, properties, instance)?;
     let list = in_order(found)?;
@@ -224,9 +199,8 @@ pub fn violations_by(
 
 /// All that is wrong with an instance, in order of place, then of number.
 pub fn violations(alloc: Global, instance: &Instance<'_>) -> Result<Items<Violation>, NoMemory>
-    ensures { IfOk result (λ list. spec.AreViolations (placed instance.now.tree.now) (inner.shown instance.now) list) }
+    ensures { IfOk result (λ list. spec.AreViolations (placed instance.now.wires.uses.names.tree.now) (inner.shown instance.now) list) }
 {
-    let names = Names::of(alloc, instance.tree)?;
-    let properties = Properties::of(alloc, names)?;
+    let properties = Properties::of(alloc, &instance.wires.uses)?;
     violations_by(alloc, &properties, instance)
 }

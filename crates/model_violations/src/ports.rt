@@ -1,31 +1,40 @@
 //! The ports at which chains end.
 ghost use Rattle.std.specs.Prelude.{◌≡◌, ◌<◌, ℕ, IfOk, Some, filter, map, option_map, option_copied, slice_get};
+ghost use Rattle.std.specs.Option.{option_and_then};
 ghost use Rattle.aadl_tree.specs.proof.Maps.{kept_place};
 ghost use Rattle.aadl_tree.specs.proof.PackageViews.{placed};
-ghost use Rattle.aadl_tree.specs.proof.Views.{feature_view, implementation_view};
+ghost use Rattle.aadl_tree.specs.proof.Views.{feature_view};
+ghost use Rattle.aadl_names.specs.Resolving.{implementation_at, ports_at};
 ghost use Rattle.component_checks.specs.Types.{is_in};
 ghost use Rattle.model_violations.specs.Ports as spec;
 
 use aadl_instance::{ChainEnd, ThreadAt};
-use aadl_names::Names;
-use aadl_tree::{Feature, Implementation};
-use component_checks::property_lookup::{innermost, target_of, type_of};
+use aadl_names::numbered::type_numbered;
+use aadl_tree::Feature;
+use aadl_uses::Uses;
 use component_checks::types::{is_in, kind_in};
 use pals_base::{Kind, NoMemory, NodeNo, Text, TryClone};
 use std::alloc::Global;
 
-/// The implementation of a thread.
-pub fn component_of<'t>(
-    alloc: Global,
-    names: &Names<'t>,
-    thread: &ThreadAt,
-) -> Result<Option<&'t Implementation>, NoMemory>
-    ensures { IfOk result (λ found. option_map (implementation_view kept_place) (option_copied found)
-        ≡ spec.component_of (placed names.now.tree.now) thread.now) }
+/// The number of the implementation of a thread.
+#[tactic(auto, using(crate::proofs::Ends::target_below))]
+pub fn component_number(uses: &Uses<'_>, thread: &ThreadAt) -> Option<usize>
+    ensures { option_and_then (implementation_at (placed uses.now.names.tree.now)) result ≡ spec.component_of (placed uses.now.names.tree.now) thread.now }
 {
-    match innermost(names.tree, thread.subs.as_slice()) {
-        Some(sub) => target_of(alloc, names, sub),
-        None => Ok(None),
+    match thread.subs.as_slice().last() {
+        Some(sub) => uses.below(sub.declaration, sub.sub),
+        None => None,
+    }
+}
+
+/// The ports of the implementation of a number.
+pub fn ports_at<'t>(uses: &Uses<'t>, number: usize) -> &'t [Feature]
+    ensures { map (feature_view kept_place) result.now
+        ≡ ports_at (placed uses.now.names.tree.now) (implementation_at (placed uses.now.names.tree.now) number) }
+{
+    match type_numbered(uses.names.tree, uses.type_number(number)) {
+        Some(of_type) => of_type.features.as_slice(),
+        None => &[],
     }
 }
 
@@ -47,36 +56,28 @@ fn in_port(ports: &[Feature], number: usize) -> Option<&Feature>
 }
 
 /// An in port of a thread.
-pub fn thread_in<'t>(
-    alloc: Global,
-    names: &Names<'t>,
-    thread: &ThreadAt,
-    number: u32,
-) -> Result<Option<&'t Feature>, NoMemory>
-    ensures { IfOk result (λ found. option_map (feature_view kept_place) (option_copied found)
-        ≡ slice_get (spec.ins_of (placed names.now.tree.now) thread.now) number) }
+pub fn thread_in<'t>(uses: &Uses<'t>, thread: &ThreadAt, number: u32) -> Option<&'t Feature>
+    ensures { option_map (feature_view kept_place) (option_copied result)
+        ≡ slice_get (spec.ins_of (placed uses.now.names.tree.now) thread.now) number }
 {
-    let Some(component) = component_of(alloc, names, thread)? else {
-        return Ok(None);
-    };
-    match type_of(alloc, names, component)? {
-        Some(of_type) => Ok(in_port(of_type.features.as_slice(), number as usize)),
-        None => Ok(None),
+    match component_number(uses, thread) {
+        Some(component) => in_port(ports_at(uses, component), number as usize),
+        None => None,
     }
 }
 
 // The name of an in port: its thread's path, a `.`, and its own.
 fn thread_port_name(
     alloc: Global,
-    names: &Names<'_>,
+    uses: &Uses<'_>,
     thread: &ThreadAt,
     number: u32,
 ) -> Result<Text, NoMemory>
-    ensures { IfOk result (λ name. name ≡ spec.thread_port_name (placed names.now.tree.now) (Some thread.now) number) }
+    ensures { IfOk result (λ name. name ≡ spec.thread_port_name (placed uses.now.names.tree.now) (Some thread.now) number) }
 {
     let mut name = String::from_str(alloc, thread.path.as_str())?;
     name.push_str(".")?;
-    if let Some(port) = thread_in(alloc, names, thread, number)? {
+    if let Some(port) = thread_in(uses, thread, number) {
         name.push_str(port.name.spelling.as_str())?;
     }
     Ok(Text::new(name))
@@ -85,15 +86,15 @@ fn thread_port_name(
 /// The name that findings give to the end of a chain.
 pub fn end_name(
     alloc: Global,
-    names: &Names<'_>,
+    uses: &Uses<'_>,
     threads: &[ThreadAt],
     end: &ChainEnd,
 ) -> Result<Text, NoMemory>
-    ensures { IfOk result (λ name. name ≡ spec.end_name (placed names.now.tree.now) threads.now end.now) }
+    ensures { IfOk result (λ name. name ≡ spec.end_name (placed uses.now.names.tree.now) threads.now end.now) }
 {
     match end {
         ChainEnd::Thread { node, port } => match threads.get(node.0 as usize) {
-            Some(thread) => thread_port_name(alloc, names, thread, *port),
+            Some(thread) => thread_port_name(alloc, uses, thread, *port),
             None => Ok(Text::new(String::new(alloc))),
         },
         ChainEnd::Root { name } => name.try_clone(alloc),
@@ -101,23 +102,18 @@ pub fn end_name(
 }
 
 /// The type of the end of a chain; none where it is neither Integer nor Boolean, or the root's.
-pub fn end_kind(
-    alloc: Global,
-    names: &Names<'_>,
-    threads: &[ThreadAt],
-    end: &ChainEnd,
-) -> Result<Option<Kind>, NoMemory>
-    ensures { IfOk result (λ kind. kind ≡ spec.end_kind (placed names.now.tree.now) threads.now end.now) }
+pub fn end_kind(uses: &Uses<'_>, threads: &[ThreadAt], end: &ChainEnd) -> Option<Kind>
+    ensures { result ≡ spec.end_kind (placed uses.now.names.tree.now) threads.now end.now }
 {
     let ChainEnd::Thread { node, port } = end else {
-        return Ok(None);
+        return None;
     };
     let Some(thread) = threads.get(node.0 as usize) else {
-        return Ok(None);
+        return None;
     };
-    match thread_in(alloc, names, thread, *port)? {
-        Some(port) => Ok(kind_in(&port.data_type)),
-        None => Ok(None),
+    match thread_in(uses, thread, *port) {
+        Some(port) => kind_in(&port.data_type),
+        None => None,
     }
 }
 

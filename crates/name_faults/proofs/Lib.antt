@@ -9,5 +9,4 @@ pub mod FirstBehaviours
 pub mod Annexes
 pub mod NameUses
 pub mod Numbered
-pub mod Pieces
-pub mod EndSites
+pub mod Stands

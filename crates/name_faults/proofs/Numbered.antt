@@ -24,3 +24,10 @@ pub numbered : {A B : Type 0} (view : A → B) (xs : List A) (i : ℕ) (x : A) �
 numbered view [] i x within is = absurd (omega arith)
 numbered view (y ∷ xs) zero x within is = ap (λ z. Some (view z)) (sym is)
 numbered view (y ∷ xs) (suc i) x within is = numbered view xs i x (omega arith) is
+
+-- what is made of each thing, at a number
+pub made_of : {A B C : Type 0} (view : A → B) (make : B → C) (xs : List A) (i : ℕ) (x : A) (y : C) → i < length xs → x ≡ get_or xs i x
+    → ((d : C) → y ≡ get_or (map make (map view xs)) i d) → y ≡ make (view x)
+made_of view make [] i x y within is at = absurd (omega arith)
+made_of view make (z ∷ xs) zero x y within is at = at y ∙ ap (λ z. make (view z)) (sym is)
+made_of view make (z ∷ xs) (suc i) x y within is at = made_of view make xs i x y (omega arith) is at

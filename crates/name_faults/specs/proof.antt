@@ -3,5 +3,5 @@ pub mod Scopes
 pub mod Marks
 pub mod PortNames
 pub mod Expected
-pub mod Spellings
-pub mod EndScopes
+pub mod Standing
+pub mod Joined

@@ -8,7 +8,7 @@ ghost use Rattle.aadl_tree.specs.proof.Maps.{kept_place};
 ghost use Rattle.aadl_names.specs.proof.Found.{found};
 ghost use Rattle.aadl_names.specs.proof.Tables.{value_of};
 ghost use Rattle.aadl_names.specs.Behaviours.{behaviours};
-ghost use Rattle.aadl_names.specs.Resolving.{ports_of, type_numbered};
+ghost use Rattle.aadl_names.specs.Resolving.{ports_of, type_number, type_numbered};
 ghost use Rattle.aadl_names.specs.PackageFaults as spec;
 ghost use Rattle.name_faults.specs.proof.Scopes.{known_by};
 ghost use Rattle.name_faults.specs.proof.Expected.{annex_uses, still_expected};
@@ -16,17 +16,16 @@ ghost use Rattle.name_faults.specs.proof.Expected.{annex_uses, still_expected};
 use crate::categories::is_thread;
 use crate::parts::transitions_in;
 use crate::{Scope, check_transitions, state_names, variable_roles};
-use aadl_names::connection_ends::type_number;
 use aadl_names::numbered::type_numbered;
-use aadl_names::{Finder, Names, Role, Table};
-use aadl_tree::{Annex, AnnexContent, AnnexTree, Implementation};
+use aadl_names::{Finder, Role, Table};
+use aadl_tree::{Annex, AnnexContent, AnnexTree, Implementation, PackageTree};
 use std::alloc::{AllocError, Global};
 
 // Whether what a type declares goes before what an implementation declares.
-fn comes_first(names: &Names<'_>, of_type: Option<usize>, x: &Implementation) -> bool
-    ensures { result ≡ spec.comes_first (type_numbered (placed names.now.tree.now) of_type) (implementation_view kept_place x.now) }
+fn comes_first(tree: &PackageTree, of_type: Option<usize>, x: &Implementation) -> bool
+    ensures { result ≡ spec.comes_first (type_numbered (placed tree.now) of_type) (implementation_view kept_place x.now) }
 {
-    match type_numbered(names.tree, of_type) {
+    match type_numbered(tree, of_type) {
         Some(declaration) => declaration.at < x.at,
         None => true,
     }
@@ -51,41 +50,44 @@ fn scope_of<'t>(
 // Finds how a behaviour of an implementation uses names wrongly.
 fn check_behaviour(
     finder: &mut Finder,
-    names: &Names<'_>,
+    tree: &PackageTree,
+    of_type: Option<usize>,
     roles: &Table<Role>,
     x: &Implementation,
     behaviour: &AnnexTree,
 ) -> Result<(), AllocError>
-    requires { (name : List ℕ) → value_of roles.now name ≡ spec.port_roles (ports_of (placed names.now.tree.now) (implementation_view kept_place x.now)) name }
+    requires of_type { of_type ≡ type_number (placed tree.now) (implementation_view kept_place x.now) }
+    requires roles { (name : List ℕ) → value_of roles.now name ≡ spec.port_roles (ports_of (placed tree.now) (implementation_view kept_place x.now)) name }
     ensures { OnOk result (finder.new ≡ found finder.old
-        (spec.behaviour_faults (placed names.now.tree.now) (implementation_view kept_place x.now) (annex_tree_view kept_place behaviour.now))) }
+        (spec.behaviour_faults (placed tree.now) (implementation_view kept_place x.now) (annex_tree_view kept_place behaviour.now))) }
 {
     let alloc = finder.alloc();
     let variables = variable_roles(alloc, behaviour)?;
     let states = state_names(alloc, behaviour)?;
-    let of_type = type_number(alloc, names, x)?;
-    let scope = scope_of(alloc, comes_first(names, of_type, x), roles, &variables);
+    let scope = scope_of(alloc, comes_first(tree, of_type, x), roles, &variables);
     check_transitions(finder, &states, &scope, transitions_in(behaviour))
 }
 
 // Finds what is wrong with an annex, where a behaviour is expected or is one too many.
 fn check_annex(
     finder: &mut Finder,
-    names: &Names<'_>,
+    tree: &PackageTree,
+    of_type: Option<usize>,
     roles: &Table<Role>,
     x: &Implementation,
     expected: bool,
     annex: &Annex,
 ) -> Result<(), AllocError>
-    requires { (name : List ℕ) → value_of roles.now name ≡ spec.port_roles (ports_of (placed names.now.tree.now) (implementation_view kept_place x.now)) name }
+    requires of_type { of_type ≡ type_number (placed tree.now) (implementation_view kept_place x.now) }
+    requires roles { (name : List ℕ) → value_of roles.now name ≡ spec.port_roles (ports_of (placed tree.now) (implementation_view kept_place x.now)) name }
     ensures { OnOk result (finder.new ≡ found finder.old
-        (annex_uses (placed names.now.tree.now) (implementation_view kept_place x.now) expected (annex_view kept_place annex.now))) }
+        (annex_uses (placed tree.now) (implementation_view kept_place x.now) expected (annex_view kept_place annex.now))) }
 {
     match &annex.content {
         AnnexContent::Unread(_) => Ok(()),
         AnnexContent::Behaviour(behaviour) => {
             if expected {
-                check_behaviour(finder, names, roles, x, behaviour)
+                check_behaviour(finder, tree, of_type, roles, x, behaviour)
             } else {
                 finder.wrong_if(true, annex.at);
                 Ok(())
@@ -108,17 +110,19 @@ fn still_expected(expected: bool, annex: &Annex) -> bool
 /// that is one too many.
 pub fn check_behaviours(
     finder: &mut Finder,
-    names: &Names<'_>,
+    tree: &PackageTree,
+    of_type: Option<usize>,
     roles: &Table<Role>,
     x: &Implementation,
 ) -> Result<(), AllocError>
-    requires { (name : List ℕ) → value_of roles.now name ≡ spec.port_roles (ports_of (placed names.now.tree.now) (implementation_view kept_place x.now)) name }
+    requires of_type { of_type ≡ type_number (placed tree.now) (implementation_view kept_place x.now) }
+    requires roles { (name : List ℕ) → value_of roles.now name ≡ spec.port_roles (ports_of (placed tree.now) (implementation_view kept_place x.now)) name }
     ensures { OnOk result (finder.new ≡ found finder.old
-        (spec.annex_faults (placed names.now.tree.now) (implementation_view kept_place x.now) (behaviours (implementation_view kept_place x.now).annexes))) }
+        (spec.annex_faults (placed tree.now) (implementation_view kept_place x.now) (behaviours (implementation_view kept_place x.now).annexes))) }
 {
     let mut expected = is_thread(x.category);
     for annex in &x.annexes {
-        check_annex(finder, names, roles, x, expected, annex)?;
+        check_annex(finder, tree, of_type, roles, x, expected, annex)?;
         expected = still_expected(expected, annex);
     }
     Ok(())

@@ -1,26 +1,23 @@
-//! What is wrong with the names in subcomponents and connections.
+//! What is wrong with the names in subcomponents, and with the properties of ports.
 #![tactic(auto, using(aadl_names::proofs::Finds::found_append))]
 
-ghost use Rattle.std.specs.Prelude.{◌≡◌, Some, OnOk, slice_get, map, flat_map};
-ghost use Rattle.aadl_tree.specs.Declarations.{implementation};
+ghost use Rattle.std.specs.Prelude.{◌≡◌, OnOk, map, flat_map, option_map, option_copied};
+ghost use Rattle.std.specs.Option.{option_and_then};
 ghost use Rattle.aadl_tree.specs.proof.PackageViews.{placed};
 ghost use Rattle.aadl_tree.specs.proof.NameViews.{reference_view};
-ghost use Rattle.aadl_tree.specs.proof.Views.{feature_view, implementation_view, subcomponent_view, connection_view, end_view};
+ghost use Rattle.aadl_tree.specs.proof.Views.{feature_view, implementation_view, subcomponent_view};
 ghost use Rattle.aadl_tree.specs.proof.Maps.{kept_place};
 ghost use Rattle.aadl_names.specs.proof.Found.{found};
+ghost use Rattle.aadl_names.specs.Resolving.{implementation_at, referred};
 ghost use Rattle.aadl_names.specs.PackageFaults as spec;
-ghost use Rattle.name_faults.specs.proof.EndScopes.{tree_of, implementation_of, IsKnown};
+ghost use Rattle.name_faults.specs.proof.Standing.{StandsAt};
 
 use crate::check_properties;
-use crate::end_scope::{EndScope, site, sub_types};
-use aadl_names::connection_ends::type_number;
-use aadl_names::numbered::target_of;
-use aadl_names::spelling::{spelled_end, spelled_reference};
-use aadl_names::{Finder, Holder, Names, Site};
-use aadl_tree::{
-    Category, Connection, ConnectionEnd, Direction, Feature, Implementation, Reference,
-    Subcomponent,
-};
+use aadl_names::numbered::implementation_at;
+use aadl_names::spelling::spelled_reference;
+use aadl_names::{Finder, Holder};
+use aadl_tree::{Category, Feature, Implementation, PackageTree, Reference, Subcomponent};
+use aadl_uses::Uses;
 use std::alloc::AllocError;
 
 /// Where the first word of a reference stands.
@@ -51,26 +48,11 @@ fn may_contain(outer: Category, inner: Category) -> bool
     }
 }
 
-// Finds that a subcomponent names no implementation, or one of another category.
-fn check_target(
-    finder: &mut Finder,
-    names: &Names<'_>,
-    sub: &Subcomponent,
-) -> Result<(), AllocError>
-    ensures { OnOk result (finder.new ≡ found finder.old
-        (spec.names_faults (placed names.now.tree.now) (subcomponent_view kept_place sub.now)
-        (subcomponent_view kept_place sub.now).classifier.implementation)) }
+// The implementation of a number, if there is one.
+fn implementation_of(tree: &PackageTree, number: Option<usize>) -> Option<&Implementation>
+    ensures { option_map (implementation_view kept_place) (option_copied result) ≡ option_and_then (implementation_at (placed tree.now)) number }
 {
-    let at = sub.name.at;
-    let Some(_implementation) = &sub.classifier.implementation else {
-        finder.wrong_if(true, at);
-        return Ok(());
-    };
-    let Some(target) = target_of(finder.alloc(), names, sub)? else {
-        return unknown_target(finder, &sub.classifier);
-    };
-    finder.wrong_if(!same_category(target.category, sub.category), at);
-    Ok(())
+    implementation_at(tree, number?)
 }
 
 fn unknown_target(finder: &mut Finder, reference: &Reference) -> Result<(), AllocError>
@@ -80,18 +62,60 @@ fn unknown_target(finder: &mut Finder, reference: &Reference) -> Result<(), Allo
     finder.unknown(name.as_str(), reference_at(reference))
 }
 
-/// Finds what is wrong with a subcomponent of a component of the category.
-pub fn check_subcomponent(
+// Finds that the implementation of a subcomponent is not declared, or of another category.
+fn check_declared(
     finder: &mut Finder,
-    names: &Names<'_>,
-    category: Category,
+    implementation: Option<&Implementation>,
     sub: &Subcomponent,
 ) -> Result<(), AllocError>
     ensures { OnOk result (finder.new ≡ found finder.old
-        (spec.subcomponent_faults (placed names.now.tree.now) category (subcomponent_view kept_place sub.now))) }
+        (spec.target_faults (subcomponent_view kept_place sub.now) (option_map (implementation_view kept_place) (option_copied implementation.entry)))) }
+{
+    match implementation {
+        Some(x) => {
+            finder.wrong_if(!same_category(x.category, sub.category), sub.name.at);
+            Ok(())
+        }
+        None => unknown_target(finder, &sub.classifier),
+    }
+}
+
+// Finds that a subcomponent names no implementation, none that is declared, or one of another
+// category.
+fn check_target(
+    finder: &mut Finder,
+    tree: &PackageTree,
+    target: Option<usize>,
+    sub: &Subcomponent,
+) -> Result<(), AllocError>
+    requires { target ≡ referred (placed tree.now) (subcomponent_view kept_place sub.now).classifier }
+    ensures { OnOk result (finder.new ≡ found finder.old
+        (spec.names_faults (placed tree.now) (subcomponent_view kept_place sub.now)
+        (subcomponent_view kept_place sub.now).classifier.implementation)) }
+{
+    match &sub.classifier.implementation {
+        Some(_) => check_declared(finder, implementation_of(tree, target), sub),
+        None => {
+            finder.wrong_if(true, sub.name.at);
+            Ok(())
+        }
+    }
+}
+
+// Finds what is wrong with a subcomponent of a component of the category.
+fn check_subcomponent(
+    finder: &mut Finder,
+    tree: &PackageTree,
+    category: Category,
+    target: Option<usize>,
+    sub: &Subcomponent,
+) -> Result<(), AllocError>
+    requires { target ≡ referred (placed tree.now) (subcomponent_view kept_place sub.now).classifier }
+    ensures { OnOk result (finder.new ≡ found finder.old
+        (spec.subcomponent_faults (placed tree.now) category (subcomponent_view kept_place sub.now))) }
 {
     finder.wrong_if(!may_contain(category, sub.category), sub.name.at);
-    check_target(finder, names, sub)?;
+    check_target(finder, tree, target, sub)?;
     check_properties(
         finder,
         Holder::Subcomponent(sub.category),
@@ -99,158 +123,22 @@ pub fn check_subcomponent(
     )
 }
 
-// Whether a port goes in.
-fn goes_in(direction: Option<Direction>) -> bool
-    ensures { result ≡ spec.goes_in direction }
-{
-    match direction {
-        Some(Direction::In) => true,
-        Some(Direction::Out) => false,
-        None => false,
-    }
-}
-
-// Whether a connection may come out of a port.
-fn may_leave(site: Site, direction: Option<Direction>) -> bool
-    ensures { result ≡ spec.may_leave (site, direction) }
-{
-    match site {
-        Site::Own(_) => goes_in(direction),
-        Site::Inner(_, _) => !goes_in(direction),
-    }
-}
-
-fn check_source(
-    finder: &mut Finder,
-    end: &ConnectionEnd,
-    at: usize,
-    port: Option<(Site, Option<Direction>)>,
-) -> Result<(), AllocError>
-    ensures { OnOk result (finder.new ≡ found finder.old (spec.end_faults spec.may_leave (end_view kept_place end.now) at port)) }
-{
-    match port {
-        Some((site, direction)) => {
-            finder.wrong_if(!may_leave(site, direction), at);
-            Ok(())
-        }
-        None => unknown_end(finder, end),
-    }
-}
-
-fn check_target_end(
-    finder: &mut Finder,
-    end: &ConnectionEnd,
-    at: usize,
-    port: Option<(Site, Option<Direction>)>,
-) -> Result<(), AllocError>
-    ensures { OnOk result (finder.new ≡ found finder.old (spec.end_faults spec.may_enter (end_view kept_place end.now) at port)) }
-{
-    match port {
-        Some((site, direction)) => {
-            let may_enter = !may_leave(site, direction);
-            finder.wrong_if(!may_enter, at);
-            Ok(())
-        }
-        None => unknown_end(finder, end),
-    }
-}
-
-fn unknown_end(finder: &mut Finder, end: &ConnectionEnd) -> Result<(), AllocError>
-    ensures { OnOk result (finder.new ≡ found finder.old (spec.unknown_end (end_view kept_place end.now))) }
-{
-    let name = spelled_end(finder.alloc(), end)?;
-    finder.unknown(name.as_str(), end.first.at)
-}
-
-fn is_own(port: Option<(Site, Option<Direction>)>) -> bool
-    ensures { result ≡ spec.is_own port }
-{
-    match port {
-        Some((Site::Own(_), _)) => true,
-        Some((Site::Inner(_, _), _)) => false,
-        None => false,
-    }
-}
-
-// Finds what is wrong with a connection of an implementation.
-fn check_connection(
-    finder: &mut Finder,
-    scope: &EndScope<'_>,
-    connection: &Connection,
-) -> Result<(), AllocError>
-    requires { IsKnown scope.now }
-    ensures { OnOk result (finder.new ≡ found finder.old
-        (spec.connection_faults (tree_of scope.now) (implementation_of scope.now) (connection_view kept_place connection.now))) }
-{
-    let alloc = finder.alloc();
-    let at = connection.name.at;
-    let source = site(alloc, scope, &connection.source)?;
-    let target = site(alloc, scope, &connection.target)?;
-    check_source(finder, &connection.source, at, source)?;
-    check_target_end(finder, &connection.target, at, target)?;
-    finder.wrong_if(is_own(source) && is_own(target), at);
-    check_properties(finder, Holder::Connection, connection.properties.as_slice())
-}
-
-// Finds what is wrong with connections of an implementation.
-fn check_connection_list(
-    finder: &mut Finder,
-    scope: &EndScope<'_>,
-    connections: &[Connection],
-) -> Result<(), AllocError>
-    requires { IsKnown scope.now }
-    ensures { OnOk result (finder.new ≡ found finder.old
-        (flat_map (spec.connection_faults (tree_of scope.now) (implementation_of scope.now)) (map (connection_view kept_place) connections.now))) }
-{
-    for connection in connections {
-        check_connection(finder, scope, connection)?;
-    }
-    Ok(())
-}
-
-/// Finds what is wrong with the subcomponents of a component of the category.
+/// Finds what is wrong with the subcomponents of the implementation of a number.
 pub fn check_subcomponents(
     finder: &mut Finder,
-    names: &Names<'_>,
-    category: Category,
-    subs: &[Subcomponent],
-) -> Result<(), AllocError>
-    ensures { OnOk result (finder.new ≡ found finder.old
-        (flat_map (spec.subcomponent_faults (placed names.now.tree.now) category) (map (subcomponent_view kept_place) subs.now))) }
-{
-    for sub in subs {
-        check_subcomponent(finder, names, category, sub)?;
-    }
-    Ok(())
-}
-
-/// Finds what is wrong with connections of the implementation of a number.
-pub fn check_connections(
-    finder: &mut Finder,
-    names: &Names<'_>,
+    uses: &Uses<'_>,
     number: usize,
     x: &Implementation,
-    connections: &[Connection],
 ) -> Result<(), AllocError>
-    requires { slice_get (placed names.now.tree.now).declarations number ≡ Some (implementation (implementation_view kept_place x.now)) }
+    requires { StandsAt (placed uses.now.names.tree.now) number (implementation_view kept_place x.now) }
     ensures { OnOk result (finder.new ≡ found finder.old
-        (flat_map (spec.connection_faults (placed names.now.tree.now) (implementation_view kept_place x.now))
-        (map (connection_view kept_place) connections.now))) }
+        (flat_map (spec.subcomponent_faults (placed uses.now.names.tree.now) x.now.category) (implementation_view kept_place x.now).subcomponents)) }
 {
-    if connections.is_empty() {
-        return Ok(());
+    let tree = uses.names.tree;
+    for (place, sub) in x.subcomponents.iter().enumerate() {
+        check_subcomponent(finder, tree, x.category, uses.below(number, place), sub)?;
     }
-    let alloc = finder.alloc();
-    let own_type = type_number(alloc, names, x)?;
-    let sub_types = sub_types(alloc, names, x.subcomponents.as_slice())?;
-    let scope = EndScope {
-        names,
-        number,
-        implementation: x,
-        own_type,
-        sub_types: sub_types.as_slice(),
-    };
-    check_connection_list(finder, &scope, connections)
+    Ok(())
 }
 
 // Finds what is wrong with the properties of a port.

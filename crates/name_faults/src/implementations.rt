@@ -1,51 +1,54 @@
 //! What is wrong with the names in implementations, except what their behaviours do with names.
 #![tactic(auto, using(aadl_names::proofs::Finds::found_append))]
 
-ghost use Rattle.std.specs.Prelude.{◌≡◌, Some, IfOk, OnOk, slice_get};
-ghost use Rattle.aadl_tree.specs.Declarations.{implementation};
+ghost use Rattle.std.specs.Prelude.{◌≡◌, OnOk};
 ghost use Rattle.aadl_tree.specs.proof.PackageViews.{placed};
 ghost use Rattle.aadl_tree.specs.proof.Views.{implementation_view};
 ghost use Rattle.aadl_tree.specs.proof.Maps.{kept_place};
 ghost use Rattle.aadl_names.specs.proof.Found.{found};
-ghost use Rattle.aadl_names.specs.Resolving.{type_of};
+ghost use Rattle.aadl_names.specs.Resolving.{type_number, type_numbered};
 ghost use Rattle.aadl_names.specs.PackageFaults as spec;
+ghost use Rattle.name_faults.specs.proof.Standing.{StandsAt};
 
 use crate::check_properties;
-use crate::components::{check_connections, check_subcomponents, same_category};
+use crate::components::{check_subcomponents, same_category};
+use crate::connections::check_connections;
 use crate::types::check_variables;
-use aadl_names::numbered::type_of;
+use aadl_names::numbered::type_numbered;
 use aadl_names::spelling::spelled_implementation;
-use aadl_names::{Finder, Holder, Names};
-use aadl_tree::Implementation;
-use std::alloc::{AllocError, Global};
+use aadl_names::{Finder, Holder};
+use aadl_tree::{Category, Implementation, PackageTree};
+use aadl_uses::Wires;
+use std::alloc::AllocError;
 
-// Whether an implementation has a type, which is of its own category.
-fn has_type(alloc: Global, names: &Names<'_>, x: &Implementation) -> Result<bool, AllocError>
-    ensures { IfOk result (λ has. has ≡ spec.has_type x.now.category (type_of (placed names.now.tree.now) (implementation_view kept_place x.now))) }
+// Whether the type of a number is there, and of the category.
+fn has_type(tree: &PackageTree, of_type: Option<usize>, category: Category) -> bool
+    ensures { result ≡ spec.has_type category (type_numbered (placed tree.now) of_type) }
 {
-    match type_of(alloc, names, x)? {
-        Some(declaration) => Ok(same_category(declaration.category, x.category)),
-        None => Ok(false),
+    match type_numbered(tree, of_type) {
+        Some(declaration) => same_category(declaration.category, category),
+        None => false,
     }
 }
 
 // Finds another name at the end, and that the type is not there or of another category.
 fn check_heading(
     finder: &mut Finder,
-    names: &Names<'_>,
+    tree: &PackageTree,
+    of_type: Option<usize>,
     x: &Implementation,
 ) -> Result<(), AllocError>
-    ensures { OnOk result (finder.new ≡ found finder.old (spec.heading_faults (placed names.now.tree.now) (implementation_view kept_place x.now))) }
+    requires { of_type ≡ type_number (placed tree.now) (implementation_view kept_place x.now) }
+    ensures { OnOk result (finder.new ≡ found finder.old (spec.heading_faults (placed tree.now) (implementation_view kept_place x.now))) }
 {
     let alloc = finder.alloc();
     let name = spelled_implementation(alloc, &x.name)?;
     let end_name = spelled_implementation(alloc, &x.end_name)?;
-    let has_type = has_type(alloc, names, x)?;
     finder.wrong_if(
         !end_name.as_str().eq_ignore_ascii_case(name.as_str()),
         x.end_name.component_type.at,
     );
-    finder.wrong_if(!has_type, x.at);
+    finder.wrong_if(!has_type(tree, of_type, x.category), x.at);
     Ok(())
 }
 
@@ -53,17 +56,19 @@ fn check_heading(
 /// does with names.
 pub fn check_outside_behaviours(
     finder: &mut Finder,
-    names: &Names<'_>,
+    wires: &Wires<'_>,
     number: usize,
     of_root: bool,
     x: &Implementation,
 ) -> Result<(), AllocError>
-    requires { slice_get (placed names.now.tree.now).declarations number ≡ Some (implementation (implementation_view kept_place x.now)) }
-    ensures { OnOk result (finder.new ≡ found finder.old (spec.outer_faults (placed names.now.tree.now) of_root (implementation_view kept_place x.now))) }
+    requires { StandsAt (placed wires.now.uses.names.tree.now) number (implementation_view kept_place x.now) }
+    ensures { OnOk result (finder.new ≡ found finder.old
+        (spec.outer_faults (placed wires.now.uses.names.tree.now) of_root (implementation_view kept_place x.now))) }
 {
-    check_heading(finder, names, x)?;
-    check_subcomponents(finder, names, x.category, x.subcomponents.as_slice())?;
-    check_connections(finder, names, number, x, x.connections.as_slice())?;
+    let tree = wires.uses.names.tree;
+    check_heading(finder, tree, wires.uses.type_number(number), x)?;
+    check_subcomponents(finder, &wires.uses, number, x)?;
+    check_connections(finder, wires, number, x)?;
     check_properties(
         finder,
         Holder::Declaration(x.category, of_root),

@@ -1,26 +1,27 @@
 //! The first name that is wrong in a package.
-ghost use Rattle.std.specs.Prelude.{◌≡◌, IfOk};
+ghost use Rattle.std.specs.Prelude.{IfOk};
 ghost use Rattle.aadl_tree.specs.proof.PackageViews.{placed};
 ghost use Rattle.aadl_names.specs.Findings.{FirstOf};
 ghost use Rattle.aadl_names.specs.PackageFaults.{package_faults};
 
 use crate::declarations::check_declarations;
 use crate::{all_port_names, check_spaces};
-use aadl_names::{Finder, FlatFault, Names};
+use aadl_names::{Finder, FlatFault};
+use aadl_uses::Wires;
 use std::alloc::{AllocError, Global};
 
 /// The first of all that is wrong with the names of a package, where the root's implementation has a
 /// number; none where nothing is.
 pub fn first_name_fault(
     alloc: Global,
-    names: &Names<'_>,
+    wires: &Wires<'_>,
     root: usize,
 ) -> Result<Option<FlatFault>, AllocError>
-    ensures { IfOk result (FirstOf (package_faults (placed names.now.tree.now) root)) }
+    ensures { IfOk result (FirstOf (package_faults (placed wires.now.uses.names.tree.now) root)) }
 {
     let mut finder = Finder::new(alloc);
-    let all = all_port_names(alloc, names.tree)?;
-    check_declarations(&mut finder, names, &all, root)?;
-    check_spaces(&mut finder, names, &all)?;
+    let all = all_port_names(alloc, wires.uses.names.tree)?;
+    check_declarations(&mut finder, wires, &all, root)?;
+    check_spaces(&mut finder, &wires.uses, &all)?;
     Ok(finder.finish())
 }

@@ -18,7 +18,7 @@ use crate::port_names::{AllPortNames, PortNames};
 use aadl_names::earliest::earliest_of;
 use aadl_names::numbered::type_numbered;
 use aadl_names::twice::check_twice;
-use aadl_names::{Entry, Finder, FlatFault, Names, Role, Table};
+use aadl_names::{Entry, Finder, FlatFault, Role, Table};
 use aadl_tree::{Declaration, Direction, Feature, PackageTree};
 use pals_base::Items;
 use std::alloc::{AllocError, Global};
@@ -112,10 +112,10 @@ pub fn names_at(all: &AllPortNames, of_type: Option<usize>) -> &PortNames
 }
 
 /// The ports of the type of a number.
-pub fn ports_at<'t>(names: &Names<'t>, of_type: Option<usize>) -> &'t [Feature]
-    ensures { map (feature_view kept_place) result.now ≡ features_of (type_numbered (placed names.now.tree.now) of_type) }
+pub fn ports_at(tree: &PackageTree, of_type: Option<usize>) -> &[Feature]
+    ensures { map (feature_view kept_place) result.now ≡ features_of (type_numbered (placed tree.now) of_type) }
 {
-    match type_numbered(names.tree, of_type) {
+    match type_numbered(tree, of_type) {
         Some(x) => x.features.as_slice(),
         None => &[],
     }

@@ -15,7 +15,7 @@ ghost use Rattle.aadl_names.specs.Spelling as spelling;
 ghost use Rattle.aadl_names.specs.Twice.{twice};
 
 use crate::shapes::has_shape;
-use crate::spellings::is_spelled;
+use aadl_names::name_comparison::is_spelled;
 use aadl_names::spelling::spelled_name;
 use aadl_names::twice::check_twice;
 use aadl_names::{Entry, Finder, Holder};

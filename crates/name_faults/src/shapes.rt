@@ -10,28 +10,8 @@ ghost use Rattle.aadl_names.specs.Properties as spec;
 
 use crate::digits::is_number;
 use aadl_names::Property;
+use aadl_names::units::unit_of;
 use aadl_tree::{Figure, Identifier, Quantity, Sign, Value};
-
-/// A unit of time in nanoseconds.
-pub fn unit_of(name: &str) -> Option<u64>
-    ensures { result ≡ spec.unit_of name.now }
-{
-    if name.eq_ignore_ascii_case("ns") {
-        Some(1)
-    } else if name.eq_ignore_ascii_case("us") {
-        Some(1_000)
-    } else if name.eq_ignore_ascii_case("ms") {
-        Some(1_000_000)
-    } else if name.eq_ignore_ascii_case("sec") {
-        Some(1_000_000_000)
-    } else if name.eq_ignore_ascii_case("min") {
-        Some(60_000_000_000)
-    } else if name.eq_ignore_ascii_case("hr") {
-        Some(3_600_000_000_000)
-    } else {
-        None
-    }
-}
 
 // Whether it is a unit of time.
 fn is_unit(unit: &Option<Identifier>) -> bool

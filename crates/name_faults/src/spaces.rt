@@ -1,12 +1,13 @@
 //! What is declared twice in a package.
 #![tactic(auto, using(aadl_names::proofs::Finds::found_append))]
 
-ghost use Rattle.std.specs.Prelude.{◌≡◌, OnOk, map, option_map};
+ghost use Rattle.std.specs.Prelude.{◌≡◌, Some, OnOk, map, option_map, slice_get};
 ghost use Rattle.aadl_tree.specs.proof.PackageViews.{placed};
 ghost use Rattle.aadl_tree.specs.proof.Views.{annex_tree_view, annex_view, implementation_view, declaration_view};
 ghost use Rattle.aadl_tree.specs.proof.Maps.{kept_place};
 ghost use Rattle.aadl_names.specs.proof.Found.{found};
 ghost use Rattle.aadl_names.specs.Behaviours.{behaviours};
+ghost use Rattle.aadl_names.specs.Resolving.{type_number};
 ghost use Rattle.aadl_names.specs.proof.DeclaredTwice as spec;
 ghost use Rattle.aadl_names.specs.Behaviours.{first_behaviour};
 ghost use Rattle.name_faults.specs.proof.PortNames.{AreAllNamesOf};
@@ -18,30 +19,31 @@ use crate::entries::{
 };
 use crate::port_names::AllPortNames;
 use crate::ports::{names_at, ports_at};
-use aadl_names::connection_ends::type_number;
+use aadl_names::Finder;
 use aadl_names::twice::check_twice;
-use aadl_names::{Finder, Names};
-use aadl_tree::{Annex, AnnexContent, AnnexTree, Declaration, Implementation};
+use aadl_tree::{Annex, AnnexContent, AnnexTree, Declaration, Implementation, PackageTree};
+use aadl_uses::Uses;
 use std::alloc::AllocError;
 
 // Finds two of one name among the ports and variables of a behaviour, and among its states.
 fn check_in_behaviour(
     finder: &mut Finder,
-    names: &Names<'_>,
+    tree: &PackageTree,
     all: &AllPortNames,
+    of_type: Option<usize>,
     x: &Implementation,
     behaviour: &AnnexTree,
 ) -> Result<(), AllocError>
-    requires { AreAllNamesOf (placed names.now.tree.now) all.now }
+    requires all { AreAllNamesOf (placed tree.now) all.now }
+    requires of_type { of_type ≡ type_number (placed tree.now) (implementation_view kept_place x.now) }
     ensures { OnOk result (finder.new ≡ found finder.old
-        (spec.beside_in_behaviour (placed names.now.tree.now) (implementation_view kept_place x.now) (annex_tree_view kept_place behaviour.now))) }
+        (spec.beside_in_behaviour (placed tree.now) (implementation_view kept_place x.now) (annex_tree_view kept_place behaviour.now))) }
 {
     let alloc = finder.alloc();
-    let of_type = type_number(alloc, names, x)?;
     let variables = variable_entries(alloc, behaviour)?;
     check_beside(
         finder,
-        ports_at(names, of_type),
+        ports_at(tree, of_type),
         names_at(all, of_type),
         variables.as_slice(),
     )?;
@@ -66,19 +68,21 @@ pub fn first_behaviour(annexes: &[Annex]) -> Option<&AnnexTree>
 // implementation, and among its states.
 fn check_in_first(
     finder: &mut Finder,
-    names: &Names<'_>,
+    tree: &PackageTree,
     all: &AllPortNames,
+    of_type: Option<usize>,
     x: &Implementation,
 ) -> Result<(), AllocError>
-    requires { AreAllNamesOf (placed names.now.tree.now) all.now }
+    requires all { AreAllNamesOf (placed tree.now) all.now }
+    requires of_type { of_type ≡ type_number (placed tree.now) (implementation_view kept_place x.now) }
     ensures { OnOk result (finder.new ≡ found finder.old
-        (spec.beside_in_first (placed names.now.tree.now) (implementation_view kept_place x.now) (behaviours (implementation_view kept_place x.now).annexes))) }
+        (spec.beside_in_first (placed tree.now) (implementation_view kept_place x.now) (behaviours (implementation_view kept_place x.now).annexes))) }
 {
     let Some(behaviour) = first_behaviour(x.annexes.as_slice()) else {
         return Ok(());
     };
     if is_thread(x.category) {
-        check_in_behaviour(finder, names, all, x, behaviour)
+        check_in_behaviour(finder, tree, all, of_type, x, behaviour)
     } else {
         Ok(())
     }
@@ -87,38 +91,43 @@ fn check_in_first(
 // Finds two of one name in an implementation.
 fn check_in_implementation(
     finder: &mut Finder,
-    names: &Names<'_>,
+    tree: &PackageTree,
     all: &AllPortNames,
+    of_type: Option<usize>,
     x: &Implementation,
 ) -> Result<(), AllocError>
-    requires { AreAllNamesOf (placed names.now.tree.now) all.now }
+    requires all { AreAllNamesOf (placed tree.now) all.now }
+    requires of_type { of_type ≡ type_number (placed tree.now) (implementation_view kept_place x.now) }
     ensures { OnOk result (finder.new ≡ found finder.old
-        (spec.beside_in_implementation (placed names.now.tree.now) (implementation_view kept_place x.now))) }
+        (spec.beside_in_implementation (placed tree.now) (implementation_view kept_place x.now))) }
 {
     let alloc = finder.alloc();
-    let of_type = type_number(alloc, names, x)?;
     let members = member_entries(alloc, x)?;
     check_beside(
         finder,
-        ports_at(names, of_type),
+        ports_at(tree, of_type),
         names_at(all, of_type),
         members.as_slice(),
     )?;
-    check_in_first(finder, names, all, x)
+    check_in_first(finder, tree, all, of_type, x)
 }
 
 fn check_in(
     finder: &mut Finder,
-    names: &Names<'_>,
+    uses: &Uses<'_>,
     all: &AllPortNames,
+    number: usize,
     declaration: &Declaration,
 ) -> Result<(), AllocError>
-    requires { AreAllNamesOf (placed names.now.tree.now) all.now }
-    ensures { OnOk result (finder.new ≡ found finder.old (spec.beside_in (placed names.now.tree.now) (declaration_view kept_place declaration.now))) }
+    requires all { AreAllNamesOf (placed uses.now.names.tree.now) all.now }
+    requires number { slice_get (placed uses.now.names.tree.now).declarations number ≡ Some (declaration_view kept_place declaration.now) }
+    ensures { OnOk result (finder.new ≡ found finder.old (spec.beside_in (placed uses.now.names.tree.now) (declaration_view kept_place declaration.now))) }
 {
     match declaration {
         Declaration::Type(_) => Ok(()),
-        Declaration::Implementation(x) => check_in_implementation(finder, names, all, x),
+        Declaration::Implementation(x) => {
+            check_in_implementation(finder, uses.names.tree, all, uses.type_number(number), x)
+        }
     }
 }
 
@@ -126,19 +135,19 @@ fn check_in(
 #[tactic(auto, unfolding(aadl_names::specs::proof::DeclaredTwice::beside_names))]
 pub fn check_spaces(
     finder: &mut Finder,
-    names: &Names<'_>,
+    uses: &Uses<'_>,
     all: &AllPortNames,
 ) -> Result<(), AllocError>
-    requires { AreAllNamesOf (placed names.now.tree.now) all.now }
-    ensures { OnOk result (finder.new ≡ found finder.old (spec.beside_names (placed names.now.tree.now))) }
+    requires { AreAllNamesOf (placed uses.now.names.tree.now) all.now }
+    ensures { OnOk result (finder.new ≡ found finder.old (spec.beside_names (placed uses.now.names.tree.now))) }
 {
     let alloc = finder.alloc();
-    let types = type_entries(alloc, names.tree)?;
+    let types = type_entries(alloc, uses.names.tree)?;
     check_twice(finder, types.as_slice())?;
-    let implementations = implementation_entries(alloc, names.tree)?;
+    let implementations = implementation_entries(alloc, uses.names.tree)?;
     check_twice(finder, implementations.as_slice())?;
-    for declaration in &names.tree.declarations {
-        check_in(finder, names, all, declaration)?;
+    for (number, declaration) in uses.names.tree.declarations.iter().enumerate() {
+        check_in(finder, uses, all, number, declaration)?;
     }
     Ok(())
 }

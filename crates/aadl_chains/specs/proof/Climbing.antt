@@ -4,7 +4,7 @@ use Rattle.aadl_tree.specs.Declarations.{PackageTree}
 use Rattle.aadl_names.specs.declared.site.Site.{Site}
 use Rattle.aadl_names.specs.declared.site.Site.TheVariants.{Own, Inner}
 use Rattle.aadl_uses.specs.Uses.{below}
-use Rattle.aadl_chains.specs.proof.Wiring.{into}
+use Rattle.aadl_uses.specs.proof.Wiring.{into}
 use Rattle.aadl_chains.specs.proof.Inside.{is_in_at}
 use Rattle.aadl_chains.specs.declared.walks.Begin.{Begin}
 use Rattle.aadl_chains.specs.declared.walks.Route.{Route}

@@ -8,8 +8,8 @@ use Rattle.aadl_names.specs.Resolving.{implementation_at, ports_at, direction_in
 use Rattle.aadl_names.specs.PackageFaults.{goes_in}
 use Rattle.aadl_uses.specs.Uses.{below}
 use Rattle.aadl_uses.specs.proof.Threads.{is_thread_in}
-use Rattle.aadl_chains.specs.declared.connections.Wire.{Wire}
-use Rattle.aadl_chains.specs.Wiring.{wires_at}
+use Rattle.aadl_uses.specs.declared.connections.Wire.{Wire}
+use Rattle.aadl_uses.specs.Wiring.{wires_at}
 use Rattle.aadl_chains.specs.declared.ports.PortAt.{PortAt}
 use Rattle.aadl_chains.specs.proof.Ports.{has}
 use Rattle.aadl_tree.specs.declared.declarations.Direction.TheVariants as directions

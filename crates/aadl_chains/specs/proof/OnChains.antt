@@ -2,7 +2,7 @@
 use Rattle.std.specs.Prelude.{◌≡◌, ℕ, Some}
 use Rattle.aadl_tree.specs.Declarations.{PackageTree}
 use Rattle.aadl_names.specs.declared.site.Site.{Site}
-use Rattle.aadl_chains.specs.declared.connections.Wire.{Wire}
+use Rattle.aadl_uses.specs.declared.connections.Wire.{Wire}
 use Rattle.aadl_chains.specs.proof.Inside.{IsInside}
 use Rattle.aadl_chains.specs.proof.Outside.{LeadsFrom, IsOutside}
 use Rattle.aadl_chains.specs.declared.ways.Ways.{Ways}

@@ -5,8 +5,8 @@ use Rattle.aadl_tree.specs.Declarations.{PackageTree}
 use Rattle.aadl_names.specs.declared.site.Site.{Site}
 use Rattle.aadl_names.specs.declared.site.Site.TheVariants.{Own, Inner}
 use Rattle.aadl_uses.specs.Uses.{below, IsInUse}
-use Rattle.aadl_chains.specs.declared.connections.Wire.{Wire}
-use Rattle.aadl_chains.specs.Wiring.{wires_at}
+use Rattle.aadl_uses.specs.declared.connections.Wire.{Wire}
+use Rattle.aadl_uses.specs.Wiring.{wires_at}
 use Rattle.aadl_chains.specs.declared.ports.PortAt.{PortAt}
 use Rattle.aadl_chains.specs.proof.Ports.{has}
 use Rattle.aadl_chains.specs.proof.Inside.{inner_end, outer_end, Reaches, ReachesIn, port_at, reaches_in}

@@ -5,9 +5,9 @@ use Rattle.std.specs.Option.{option_map_or}
 use Rattle.aadl_tree.specs.Declarations.{PackageTree}
 use Rattle.aadl_names.specs.declared.site.Site.TheVariants.{Own, Inner}
 use Rattle.aadl_uses.specs.Uses.{below}
-use Rattle.aadl_chains.specs.declared.connections.Wire.{Wire}
-use Rattle.aadl_chains.specs.Wiring.{wires_at}
-use Rattle.aadl_chains.specs.proof.Wiring.{first_into_at}
+use Rattle.aadl_uses.specs.declared.connections.Wire.{Wire}
+use Rattle.aadl_uses.specs.Wiring.{wires_at}
+use Rattle.aadl_uses.specs.proof.Wiring.{first_into_at}
 use Rattle.aadl_chains.specs.declared.ports.PortAt.{PortAt}
 use Rattle.aadl_chains.specs.proof.Ports.{same_port}
 use Rattle.aadl_chains.specs.proof.Inside.{is_thread_at, is_in_at, ReachesIn, port_at}

@@ -5,9 +5,9 @@ use Rattle.aadl_names.specs.declared.site.Site.{Site}
 use Rattle.aadl_names.specs.declared.site.Site.TheVariants.{Own, Inner}
 use Rattle.aadl_uses.specs.Uses.{standing, IsInUse}
 use Rattle.aadl_uses.specs.Threads.{IsThreadAt}
-use Rattle.aadl_chains.specs.Firsts.{target_in}
-use Rattle.aadl_chains.specs.Wiring.{wires_at}
-use Rattle.aadl_chains.specs.proof.Wiring.{into}
+use Rattle.aadl_uses.specs.Firsts.{target_in}
+use Rattle.aadl_uses.specs.Wiring.{wires_at}
+use Rattle.aadl_uses.specs.proof.Wiring.{into}
 use Rattle.aadl_chains.specs.Chains.{Port, is_in}
 
 -- a connection between two subcomponents of the component at a path, and the port from which it comes

@@ -12,7 +12,7 @@ use Rattle.aadl_instance.specs.proof.Numbers.{AreNumbers}
 use Rattle.aadl_instance.specs.proof.Passed.{paths_of, IsSettled, AreShown, AreInto, AreTapsTo}
 
 abbrev pub tree_of : Network → PackageTree ℕ
-tree_of network = placed network.wires.now.uses.tree.now
+tree_of network = placed network.wires.now.uses.names.tree.now
 
 -- the paths of its threads, the innermost subcomponent first
 abbrev pub paths_in : Network → List (List ℕ)

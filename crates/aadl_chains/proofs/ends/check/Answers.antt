@@ -8,7 +8,7 @@ use Rattle.aadl_chains.proofs.ends.check.Goals as goal
 
 pub returns-in-Some : goal.returns-in-Some
 returns-in-Some c =
-    let tree = placed c.args.wires.now.uses.tree.now in
+    let tree = placed c.args.wires.now.uses.names.tree.now in
     on_ok c.report.result
     (λ e. both_found tree c.args.ways.now.root c.args.number c.args.at (connection_view kept_place c.in-Some.connection.now) c.args.wire (sym c.in-Some.ensures)
     c.requires.wire c.has-is_on_way.result c.is_second-is_second.result c.args.finder.now c.report.new.finder c.has-is_on_way.ensures
@@ -17,4 +17,4 @@ returns-in-Some c =
 
 pub returns-in-None : goal.returns-in-None
 returns-in-None c =
-    nothing_at (placed c.args.wires.now.uses.tree.now) c.args.ways.now.root c.args.number c.args.at c.args.finder.now (sym c.in-None.ensures)
+    nothing_at (placed c.args.wires.now.uses.names.tree.now) c.args.ways.now.root c.args.number c.args.at c.args.finder.now (sym c.in-None.ensures)

@@ -9,13 +9,13 @@ use Rattle.aadl_chains.proofs.ends.first_end_fault.Goals as goal
 
 pub loop-at-init : goal.loop-at-init
 loop-at-init c =
-    let tree = placed c.args.wires.now.uses.tree.now in
+    let tree = placed c.args.wires.now.uses.names.tree.now in
     let keys = c.args.used.now.keys in
     subst (FindsAll (FoundAmong tree c.in_ok-ways.ways.root keys 0) None) (sym c.new-finder.ensures) (among_none tree c.in_ok-ways.ways.root keys None)
 
 pub loop-at-preserved : goal.loop-at-preserved
 loop-at-preserved c =
-    let tree = placed c.args.wires.now.uses.tree.now in
+    let tree = placed c.args.wires.now.uses.names.tree.now in
     let root = c.in_ok-ways.ways.root in
     let keys = c.args.used.now.keys in
     let at = c.loop-at.at in
@@ -30,7 +30,7 @@ loop-at-preserved c =
 
 pub returns : goal.returns
 returns c =
-    let tree = placed c.args.wires.now.uses.tree.now in
+    let tree = placed c.args.wires.now.uses.names.tree.now in
     let root = c.args.root in
     let keys = c.args.used.now.keys in
     let finder = c.loop-at.finder in

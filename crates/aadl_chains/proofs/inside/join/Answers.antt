@@ -7,7 +7,7 @@ use Rattle.aadl_chains.proofs.inside.join.Goals as goal
 
 pub returns-in-Some : goal.returns-in-Some
 returns-in-Some c =
-    let tree = placed c.args.wires.now.uses.tree.now in
+    let tree = placed c.args.wires.now.uses.names.tree.now in
     on_ok c.add.result
     (λ e. subst (IsJoined tree c.args.direction c.args.number c.args.wire c.args.ports.now) (sym e)
     (one_joined tree c.args.direction c.args.ports.now c.args.number c.in-Some.port c.args.wire (sym c.joined.ensures ∙ c.in-Some.is)))
@@ -15,4 +15,4 @@ returns-in-Some c =
 
 pub returns-in-None : goal.returns-in-None
 returns-in-None c =
-    none_joined (placed c.args.wires.now.uses.tree.now) c.args.direction c.args.ports.now c.args.number c.args.wire (sym c.joined.ensures ∙ c.in-None.is)
+    none_joined (placed c.args.wires.now.uses.names.tree.now) c.args.direction c.args.ports.now c.args.number c.args.wire (sym c.joined.ensures ∙ c.in-None.is)

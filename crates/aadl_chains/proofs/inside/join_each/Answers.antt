@@ -2,17 +2,17 @@ use Rattle.std.proofs.Common.{◌≡◌, ◌∙◌, ap, arith, get_or, length, s
 use Rattle.std.proofs.lemmas.Option.{slice_get-get_or}
 use Rattle.aadl_tree.specs.proof.PackageViews.{placed}
 use Rattle.aadl_uses.proofs.Searches.{contains_at}
-use Rattle.aadl_chains.specs.declared.connections.Wire.{Wire}
-use Rattle.aadl_chains.specs.Wiring.{wires_at}
+use Rattle.aadl_uses.specs.declared.connections.Wire.{Wire}
+use Rattle.aadl_uses.specs.Wiring.{wires_at}
 use Rattle.aadl_chains.proofs.Joining.{none_yet, one_more, all_joined}
 use Rattle.aadl_chains.proofs.inside.join_each.Goals as goal
 
 pub loop-wire-init : goal.loop-wire-init
-loop-wire-init c = none_yet (placed c.args.wires.now.uses.tree.now) c.args.direction c.args.number c.args.ports.now
+loop-wire-init c = none_yet (placed c.args.wires.now.uses.names.tree.now) c.args.direction c.args.number c.args.ports.now
 
 pub loop-wire-preserved : goal.loop-wire-preserved
 loop-wire-preserved c =
-    let tree = placed c.args.wires.now.uses.tree.now in
+    let tree = placed c.args.wires.now.uses.names.tree.now in
     let n = c.args.number in
     let i = c.loop-wire.wire-index in
     let items = c.wires-wire-items.result.now in
@@ -25,6 +25,6 @@ loop-wire-preserved c =
 
 pub returns : goal.returns
 returns c =
-    let tree = placed c.args.wires.now.uses.tree.now in
+    let tree = placed c.args.wires.now.uses.names.tree.now in
     let same = ap (λ (l : List Wire). length l) c.wires-wire-items.ensures in
     all_joined tree c.args.direction c.args.number c.loop-wire.wire-index c.args.ports.now c.loop-wire.ports (omega arith) c.loop-wire.invariant

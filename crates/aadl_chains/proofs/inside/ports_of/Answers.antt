@@ -6,12 +6,12 @@ use Rattle.aadl_chains.proofs.inside.ports_of.Goals as goal
 
 pub loop-at-init : goal.loop-at-init
 loop-at-init c =
-    let tree = placed c.args.wires.now.uses.tree.now in
+    let tree = placed c.args.wires.now.uses.names.tree.now in
     subst (FrontInside tree c.args.direction c.args.order.now.keys 0) (sym c.new-ports.ensures) (no_front tree c.args.direction c.args.order.now.keys)
 
 pub loop-at-preserved : goal.loop-at-preserved
 loop-at-preserved c =
-    let tree = placed c.args.wires.now.uses.tree.now in
+    let tree = placed c.args.wires.now.uses.names.tree.now in
     let d = c.args.direction in
     let keys = c.args.order.now.keys in
     let at = c.loop-at.at in
@@ -26,5 +26,5 @@ loop-at-preserved c =
 
 pub returns : goal.returns
 returns c =
-    front_all (placed c.args.wires.now.uses.tree.now) c.args.direction c.args.order.now.keys c.loop-at.at c.loop-at.ports c.requires (omega arith)
+    front_all (placed c.args.wires.now.uses.names.tree.now) c.args.direction c.args.order.now.keys c.loop-at.at c.loop-at.ports c.requires (omega arith)
     c.loop-at.invariant

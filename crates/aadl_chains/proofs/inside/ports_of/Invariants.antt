@@ -3,4 +3,4 @@ use Rattle.aadl_chains.proofs.Ordered.{FrontInside}
 use Rattle.aadl_chains.proofs.inside.ports_of.Given as goal
 
 abbrev pub invariant-loop-at : goal.invariant-loop-at
-invariant-loop-at l = FrontInside (placed l.wires.uses.tree.now) l.direction l.order.keys l.at l.ports
+invariant-loop-at l = FrontInside (placed l.wires.uses.names.tree.now) l.direction l.order.keys l.at l.ports

@@ -11,7 +11,7 @@ use Rattle.aadl_chains.proofs.links.has_too_many_links.Goals as goal
 
 pub returns : goal.returns
 returns c =
-    let tree = placed c.args.wires.now.uses.tree.now in
+    let tree = placed c.args.wires.now.uses.names.tree.now in
     let size = length-map tree.declarations (targets_in tree) in
     let least = c.requires.root in
     let counted = c.in_ok-counts.ensures c.args.root (omega (arith, size, least)) in

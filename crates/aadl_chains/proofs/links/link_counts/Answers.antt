@@ -15,19 +15,19 @@ use Rattle.aadl_chains.proofs.links.link_counts.Goals as goal
 pub links_below-count-requires-clause-takes : goal.links_below-count-requires-clause-takes
 links_below-count-requires-clause-takes c =
     let keys = c.args.order.now.keys in
-    known_below (placed c.args.wires.now.uses.tree.now) c.args.limit keys c.requires.order.sequence c.loop-at.at c.in-Some.number.now _
+    known_below (placed c.args.wires.now.uses.names.tree.now) c.args.limit keys c.requires.order.sequence c.loop-at.at c.in-Some.number.now _
     (sym c.in-Some.ensures.key) (λ k m lt e. c.in_ok-takes.ensures m (contains_at keys k m e))
 
 pub links_below-count-requires-clause-counts : goal.links_below-count-requires-clause-counts
 links_below-count-requires-clause-counts c = λ s m e.
-    let tree = placed c.args.wires.now.uses.tree.now in
+    let tree = placed c.args.wires.now.uses.names.tree.now in
     subst (λ (xs : List ℕ). IsNumber c.args.limit (EndsLink tree m) (get_or xs m 0)) (sym c.as_slice.ensures.value)
     (front_known (λ n. IsNumber c.args.limit (EndsLink tree n)) 0 (containment tree) c.args.order.now.keys c.loop-at.at c.loop-at.counts.items
     c.loop-at.invariant c.in-Some.number.now c.requires.order.sequence (sym c.in-Some.ensures.key) s m (below-same tree c.in-Some.number.now s ∙ e))
 
 pub loop-at-init : goal.loop-at-init
 loop-at-init c =
-    let tree = placed c.args.wires.now.uses.tree.now in
+    let tree = placed c.args.wires.now.uses.names.tree.now in
     no_front (λ n. IsNumber c.args.limit (EndsLink tree n)) 0 (containment tree) c.args.order.now.keys c.in_ok-counts.counts.items
     (c.in_ok-counts.ensures ∙ (c.len.ensures ∙ sym (length-map tree.declarations (targets_in tree))))
 
@@ -39,7 +39,7 @@ put-requires c =
 
 pub loop-at-preserved : goal.loop-at-preserved
 loop-at-preserved c =
-    let tree = placed c.args.wires.now.uses.tree.now in
+    let tree = placed c.args.wires.now.uses.names.tree.now in
     let g = containment tree in
     let right : ℕ → ℕ → Type 0 = λ n. IsNumber c.args.limit (EndsLink tree n) in
     let keys = c.args.order.now.keys in
@@ -58,6 +58,6 @@ loop-at-preserved c =
 
 pub returns : goal.returns
 returns c =
-    let tree = placed c.args.wires.now.uses.tree.now in
+    let tree = placed c.args.wires.now.uses.names.tree.now in
     front_all (λ n. IsNumber c.args.limit (EndsLink tree n)) 0 (containment tree) c.args.order.now.keys c.loop-at.at c.loop-at.counts.items c.loop-at.invariant
     c.requires.order (omega arith)

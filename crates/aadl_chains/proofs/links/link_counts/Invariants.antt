@@ -6,6 +6,6 @@ use Rattle.aadl_chains.specs.proof.PortCounts.{EndsLink}
 use Rattle.aadl_chains.proofs.links.link_counts.Given as goal
 
 abbrev pub invariant-loop-at : goal.invariant-loop-at
-invariant-loop-at l = FrontOf (λ n. IsNumber l.limit (EndsLink (placed l.wires.uses.tree.now) n)) 0 (containment
-    (placed l.wires.uses.tree.now)) l.order.keys l.at
+invariant-loop-at l = FrontOf (λ n. IsNumber l.limit (EndsLink (placed l.wires.uses.names.tree.now) n)) 0 (containment
+    (placed l.wires.uses.names.tree.now)) l.order.keys l.at
     l.counts.items

@@ -7,7 +7,7 @@ use Rattle.aadl_chains.proofs.outside.lead.Goals as goal
 
 pub returns-in-Some : goal.returns-in-Some
 returns-in-Some c =
-    let tree = placed c.args.wires.now.uses.tree.now in
+    let tree = placed c.args.wires.now.uses.names.tree.now in
     let root = c.args.side.root in
     let d = c.args.side.direction in
     let inside = c.args.inside.now.ports in
@@ -18,5 +18,5 @@ returns-in-Some c =
 
 pub returns-in-None : goal.returns-in-None
 returns-in-None c =
-    none_led (placed c.args.wires.now.uses.tree.now) c.args.side.root c.args.side.direction c.args.inside.now.ports c.requires.inside c.args.ports.now
+    none_led (placed c.args.wires.now.uses.names.tree.now) c.args.side.root c.args.side.direction c.args.inside.now.ports c.requires.inside c.args.ports.now
     c.args.number c.args.wire (sym c.led.ensures ∙ c.in-None.is)

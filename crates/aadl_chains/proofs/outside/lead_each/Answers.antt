@@ -1,17 +1,17 @@
 use Rattle.std.proofs.Common.{◌≡◌, ◌∙◌, ap, arith, get_or, length, slice_get, sym, Some, None, List}
 use Rattle.std.proofs.lemmas.Option.{slice_get-get_or}
 use Rattle.aadl_tree.specs.proof.PackageViews.{placed}
-use Rattle.aadl_chains.specs.declared.connections.Wire.{Wire}
-use Rattle.aadl_chains.specs.Wiring.{wires_at}
+use Rattle.aadl_uses.specs.declared.connections.Wire.{Wire}
+use Rattle.aadl_uses.specs.Wiring.{wires_at}
 use Rattle.aadl_chains.proofs.Leading.{none_yet, one_more, all_led}
 use Rattle.aadl_chains.proofs.outside.lead_each.Goals as goal
 
 pub loop-wire-init : goal.loop-wire-init
-loop-wire-init c = none_yet (placed c.args.wires.now.uses.tree.now) c.args.side.root c.args.side.direction c.args.number c.args.ports.now
+loop-wire-init c = none_yet (placed c.args.wires.now.uses.names.tree.now) c.args.side.root c.args.side.direction c.args.number c.args.ports.now
 
 pub loop-wire-preserved : goal.loop-wire-preserved
 loop-wire-preserved c =
-    let tree = placed c.args.wires.now.uses.tree.now in
+    let tree = placed c.args.wires.now.uses.names.tree.now in
     let n = c.args.number in
     let i = c.loop-wire.wire-index in
     let items = c.wires-wire-items.result.now in
@@ -24,7 +24,7 @@ loop-wire-preserved c =
 
 pub returns : goal.returns
 returns c =
-    let tree = placed c.args.wires.now.uses.tree.now in
+    let tree = placed c.args.wires.now.uses.names.tree.now in
     let same = ap (λ (l : List Wire). length l) c.wires-wire-items.ensures in
     all_led tree c.args.side.root c.args.side.direction c.args.inside.now.ports c.requires.inside c.args.number c.loop-wire.wire-index c.args.ports.now
     c.loop-wire.ports (omega arith) c.loop-wire.invariant

@@ -6,13 +6,13 @@ use Rattle.aadl_chains.proofs.outside.ports_of.Goals as goal
 
 pub loop-at-init : goal.loop-at-init
 loop-at-init c =
-    let tree = placed c.args.wires.now.uses.tree.now in
+    let tree = placed c.args.wires.now.uses.names.tree.now in
     let keys = c.args.order.now.keys in
     subst (BackLed tree c.args.side.root c.args.side.direction keys 0) (sym c.new-ports.ensures) (no_back tree c.args.side.root c.args.side.direction keys)
 
 pub loop-at-preserved : goal.loop-at-preserved
 loop-at-preserved c =
-    let tree = placed c.args.wires.now.uses.tree.now in
+    let tree = placed c.args.wires.now.uses.names.tree.now in
     let root = c.args.side.root in
     let d = c.args.side.direction in
     let keys = c.args.order.now.keys in
@@ -29,5 +29,5 @@ loop-at-preserved c =
 
 pub returns : goal.returns
 returns c =
-    back_all (placed c.args.wires.now.uses.tree.now) c.args.side.root c.args.side.direction c.args.order.now.keys c.requires.order c.loop-at.at c.loop-at.ports
+    back_all (placed c.args.wires.now.uses.names.tree.now) c.args.side.root c.args.side.direction c.args.order.now.keys c.requires.order c.loop-at.at c.loop-at.ports
     c.loop-at.invariant (omega arith)

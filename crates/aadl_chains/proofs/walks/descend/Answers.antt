@@ -9,18 +9,18 @@ use Rattle.aadl_chains.proofs.walks.descend.Goals as goal
 pub down-init : goal.down-init
 down-init c = (
   c.requires.out,
-  λ root one stands. descend_first (placed c.args.wires.now.uses.tree.now) root c.requires.declared one c.args.path.items c.args.number
+  λ root one stands. descend_first (placed c.args.wires.now.uses.names.tree.now) root c.requires.declared one c.args.path.items c.args.number
       c.args.port stands c.requires.out,
 )
 
 pub down-smaller : goal.down-smaller
 down-smaller c =
-    rank_falls (placed c.args.wires.now.uses.tree.now) c.args.order.now.keys c.requires.order c.down.here c.in-Some.lower.sub c.in-Some.lower.number
+    rank_falls (placed c.args.wires.now.uses.names.tree.now) c.args.order.now.keys c.requires.order c.down.here c.in-Some.lower.sub c.in-Some.lower.number
     c.in-Some.ensures.2
 
 pub down-preserved : goal.down-preserved
 down-preserved c =
-    let tree = placed c.args.wires.now.uses.tree.now in
+    let tree = placed c.args.wires.now.uses.names.tree.now in
     let end : Port = record { path = reverse c.args.path.items; port = c.args.port } in
     let lower = c.in-Some.lower in (
       c.in-Some.ensures.3,
@@ -33,12 +33,12 @@ down-preserved c =
 pub returns-in-None : goal.returns-in-None
 returns-in-None c = λ root one stands.
     let end : Port = record { path = reverse c.args.path.items; port = c.args.port } in
-    descend_none (placed c.args.wires.now.uses.tree.now) root c.requires.declared one end c.down.way.items c.down.here c.down.out
+    descend_none (placed c.args.wires.now.uses.names.tree.now) root c.requires.declared one end c.down.way.items c.down.here c.down.out
     (sym c.is_thread.ensures ∙ c.down-test.true) c.in-None.ensures (c.down.invariant.1 root one stands)
 
 pub returns : goal.returns
 returns c = λ root one stands.
-    let tree = placed c.args.wires.now.uses.tree.now in
+    let tree = placed c.args.wires.now.uses.names.tree.now in
     let end : Port = record { path = reverse c.args.path.items; port = c.args.port } in
     let thread = sym c.is_thread.ensures ∙ c.down-test.false in
     let d = c.down.invariant.1 root one stands in

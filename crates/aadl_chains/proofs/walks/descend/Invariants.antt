@@ -9,10 +9,10 @@ use Rattle.aadl_chains.proofs.walks.descend.Given as goal
 
 abbrev pub invariant-down : goal.invariant-down
 invariant-down l =
-    (is_in_at (placed l.wires.uses.tree.now) l.here l.out ≡ false)
-    × ((root : ℕ) → OneEach (placed l.wires.uses.tree.now) root
-    → uses.standing (placed l.wires.uses.tree.now) root (reverse l.fn.path.items) ≡ Some l.fn.number
-    → Descending (placed l.wires.uses.tree.now) root (record { path = reverse l.fn.path.items; port = l.fn.port }) l.way.items l.here l.out)
+    (is_in_at (placed l.wires.uses.names.tree.now) l.here l.out ≡ false)
+    × ((root : ℕ) → OneEach (placed l.wires.uses.names.tree.now) root
+    → uses.standing (placed l.wires.uses.names.tree.now) root (reverse l.fn.path.items) ≡ Some l.fn.number
+    → Descending (placed l.wires.uses.names.tree.now) root (record { path = reverse l.fn.path.items; port = l.fn.port }) l.way.items l.here l.out)
 
 abbrev pub decreases-down : goal.decreases-down
 decreases-down l = rank l.order.keys l.here

@@ -10,13 +10,13 @@ use Rattle.aadl_chains.proofs.walks.trace_over.Goals as goal
 
 pub lower_of-lower-requires : goal.lower_of-lower-requires
 lower_of-lower-requires c =
-    let f = crossing_from (placed c.args.wires.now.uses.tree.now) c.args.root c.requires.declared (reverse c.args.path.now) c.args.port
+    let f = crossing_from (placed c.args.wires.now.uses.names.tree.now) c.args.root c.requires.declared (reverse c.args.path.now) c.args.port
     (crossing c.args.path.now c.args.crossed) c.requires.climbs in
     (c.args.crossed.sub, c.args.crossed.port, f.number, refl, f.names, f.goes_out)
 
 pub returns : goal.returns
 returns c =
-    let tree = placed c.args.wires.now.uses.tree.now in
+    let tree = placed c.args.wires.now.uses.names.tree.now in
     let to : Port = record { path = reverse c.args.path.now; port = c.args.port } in
     let way = c.in_ok-way.way.items in
     let turned = ap reverse c.in_ok-way.ensures ∙ reverse-append (take c.args.crossed.depth c.args.path.now) (c.args.crossed.sub ∷ []) in

@@ -14,7 +14,7 @@ use Rattle.aadl_instance.proofs.build.add_chain.Goals as goal
 pub trace_back-requires-clause-thread : goal.trace_back-requires-clause-thread
 trace_back-requires-clause-thread c =
     let net = c.args.network.now in
-    let tree = placed net.wires.now.uses.tree.now in
+    let tree = placed net.wires.now.uses.names.tree.now in
     let path = reverse c.args.node.now.path.now in (
       thread_listed tree net.root (paths_of net.threads.now) c.requires.ready.settled.threads c.args.node.now.number.0 path c.requires.node.numbered,
       is_in-at tree net.root (port path c.args.port) c.args.node.now.declaration c.requires.node.stands ∙ c.requires.goes_in,
@@ -23,7 +23,7 @@ trace_back-requires-clause-thread c =
 pub node_end-to-requires-clause-port : goal.node_end-to-requires-clause-port
 node_end-to-requires-clause-port c =
     let net = c.args.network.now in
-    let tree = placed net.wires.now.uses.tree.now in
+    let tree = placed net.wires.now.uses.names.tree.now in
     let path = reverse c.args.node.now.path.now in
     in_within (ports_at tree (component_at tree net.root path)) c.args.port
     (is_in-at tree net.root (port path c.args.port) c.args.node.now.declaration c.requires.node.stands ∙ c.requires.goes_in)
@@ -31,14 +31,14 @@ node_end-to-requires-clause-port c =
 pub chain_by-requires-clause-begins : goal.chain_by-requires-clause-begins
 chain_by-requires-clause-begins c =
     let net = c.args.network.now in
-    let tree = placed net.wires.now.uses.tree.now in
+    let tree = placed net.wires.now.uses.names.tree.now in
     let to = port (reverse c.args.node.now.path.now) c.args.port in
     route_begins tree net.root to c.in-Some.route (subst (Traces tree net.root to) c.in-Some.is c.in_ok-route.ensures)
 
 pub returns-in_ok-chain-in-Some : goal.returns-in_ok-chain-in-Some
 returns-in_ok-chain-in-Some c =
     let net = c.args.network.now in
-    let tree = placed net.wires.now.uses.tree.now in
+    let tree = placed net.wires.now.uses.names.tree.now in
     let paths = paths_of net.threads.now in
     let path = reverse c.args.node.now.path.now in
     let to = port path c.args.port in
@@ -55,7 +55,7 @@ returns-in_ok-chain-in-Some c =
 pub returns-in-None : goal.returns-in-None
 returns-in-None c = λ into.
     let net = c.args.network.now in
-    let tree = placed net.wires.now.uses.tree.now in
+    let tree = placed net.wires.now.uses.names.tree.now in
     let path = reverse c.args.node.now.path.now in
     none_added tree net.root c.requires.ready.settled.no_thread (paths_of net.threads.now) c.requires.ready.settled.threads.in_order
     c.args.node.now.number.0 c.args.port path c.requires.node.numbered c.args.incoming.now

@@ -9,7 +9,7 @@ use Rattle.aadl_instance.proofs.build.add_port.Goals as goal
 pub returns-else-is_in : goal.returns-else-is_in
 returns-else-is_in c = λ into.
     let net = c.args.network.now in
-    let tree = placed net.wires.now.uses.tree.now in
+    let tree = placed net.wires.now.uses.names.tree.now in
     let paths = paths_of net.threads.now in
     let path = reverse c.args.node.now.path.now in
     out_added tree net.root c.requires.ready.settled.no_thread paths c.requires.ready.settled.threads.in_order c.args.node.now.number.0 c.args.port path c.requires.node.numbered

@@ -10,21 +10,21 @@ use Rattle.aadl_instance.proofs.build.add_tap.Goals as goal
 pub returns-then-is_in : goal.returns-then-is_in
 returns-then-is_in c =
     let net = c.args.network.now in
-    let tree = placed net.wires.now.uses.tree.now in
+    let tree = placed net.wires.now.uses.names.tree.now in
     in_tap tree net.root (paths_of net.threads.now) c.args.port c.requires.ready.settled.no_thread c.args.taps.now
     (is_in-at tree net.root (port [] c.args.port) net.root refl ∙ (sym c.is_in.ensures ∙ c.if-is_in.true))
 
 pub chain_by-requires-clause-begins : goal.chain_by-requires-clause-begins
 chain_by-requires-clause-begins c =
     let net = c.args.network.now in
-    let tree = placed net.wires.now.uses.tree.now in
+    let tree = placed net.wires.now.uses.names.tree.now in
     let to = port [] c.args.port in
     tap_begins tree net.root to c.in-Some.route (subst (TracesTap tree net.root to) c.in-Some.is c.in_ok-route.ensures)
 
 pub returns-in_ok-chain_by-in-Some : goal.returns-in_ok-chain_by-in-Some
 returns-in_ok-chain_by-in-Some c =
     let net = c.args.network.now in
-    let tree = placed net.wires.now.uses.tree.now in
+    let tree = placed net.wires.now.uses.names.tree.now in
     let paths = paths_of net.threads.now in
     let to = port [] c.args.port in
     let route = c.in-Some.route in
@@ -38,6 +38,6 @@ returns-in_ok-chain_by-in-Some c =
 pub returns-in-None : goal.returns-in-None
 returns-in-None c =
     let net = c.args.network.now in
-    let tree = placed net.wires.now.uses.tree.now in
+    let tree = placed net.wires.now.uses.names.tree.now in
     no_tap tree net.root (paths_of net.threads.now) c.args.port c.args.taps.now
     (subst (TracesTap tree net.root (port [] c.args.port)) c.in-None.is c.in_ok-route.ensures)

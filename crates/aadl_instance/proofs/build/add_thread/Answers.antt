@@ -12,7 +12,7 @@ use Rattle.aadl_instance.proofs.build.add_thread.Goals as goal
 pub unreachable-requires : goal.unreachable-requires
 unreachable-requires c =
     let net = c.args.network.now in
-    let tree = placed net.wires.now.uses.tree.now in
+    let tree = placed net.wires.now.uses.names.tree.now in
     let path = reverse c.args.path.now in
     let there = stands tree net.root path
     (thread_listed tree net.root (paths_of net.threads.now) c.requires.ready.settled.threads c.args.number.0 path c.requires.thread) in
@@ -21,7 +21,7 @@ unreachable-requires c =
 pub returns : goal.returns
 returns c = λ into.
     let net = c.args.network.now in
-    let tree = placed net.wires.now.uses.tree.now in
+    let tree = placed net.wires.now.uses.names.tree.now in
     let size = sym (length-map c.ports-port-end.result.now (feature_view kept_place)) ∙ ap length c.ports-port-end.ensures in
     let past = c.loop-port-test.false in
     let all : length (ports_at tree (implementation_at tree c.in-Some.declaration)) ≤ c.loop-port.port = omega arith in

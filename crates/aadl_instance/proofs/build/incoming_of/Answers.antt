@@ -9,7 +9,7 @@ use Rattle.aadl_instance.proofs.build.incoming_of.Goals as goal
 pub loop-number-init : goal.loop-number-init
 loop-number-init c =
     let net = c.args.network.now in
-    into_start (placed net.wires.now.uses.tree.now) net.root (paths_of net.threads.now) c.requires.settled.no_thread
+    into_start (placed net.wires.now.uses.names.tree.now) net.root (paths_of net.threads.now) c.requires.settled.no_thread
     (record { links = c.new.result; feeds = c.new-2.result })
     c.new.ensures c.new-2.ensures
 
@@ -24,7 +24,7 @@ loop-number-preserved c = c.in_ok-add_thread.ensures c.loop-number.invariant
 pub returns-clause-links : goal.returns-clause-links
 returns-clause-links c =
     let net = c.args.network.now in
-    let tree = placed net.wires.now.uses.tree.now in
+    let tree = placed net.wires.now.uses.names.tree.now in
     let size = length-map net.threads.now (λ path. reverse path.items) in
     let past = c.loop-number-test.false in
     let all : length (paths_of net.threads.now) ≤ c.loop-number.number = omega arith in
@@ -34,7 +34,7 @@ returns-clause-links c =
 pub returns-clause-feeds : goal.returns-clause-feeds
 returns-clause-feeds c =
     let net = c.args.network.now in
-    let tree = placed net.wires.now.uses.tree.now in
+    let tree = placed net.wires.now.uses.names.tree.now in
     let size = length-map net.threads.now (λ path. reverse path.items) in
     let past = c.loop-number-test.false in
     let all : length (paths_of net.threads.now) ≤ c.loop-number.number = omega arith in

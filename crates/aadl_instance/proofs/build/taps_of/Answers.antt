@@ -11,14 +11,14 @@ use Rattle.aadl_instance.proofs.build.taps_of.Goals as goal
 pub loop-port-init : goal.loop-port-init
 loop-port-init c =
     let net = c.args.network.now in
-    let tree = placed net.wires.now.uses.tree.now in
+    let tree = placed net.wires.now.uses.names.tree.now in
     let paths = paths_of net.threads.now in
     subst (AreTapsTo tree net.root paths 0) (sym c.new-taps.ensures) (taps_none tree net.root paths)
 
 pub returns : goal.returns
 returns c =
     let net = c.args.network.now in
-    let tree = placed net.wires.now.uses.tree.now in
+    let tree = placed net.wires.now.uses.names.tree.now in
     let size = sym (length-map c.ports-port-end.result.now (feature_view kept_place)) ∙ ap length c.ports-port-end.ensures in
     let past = c.loop-port-test.false in
     let all : length (ports_at tree (implementation_at tree net.root)) ≤ c.loop-port.port = omega arith in

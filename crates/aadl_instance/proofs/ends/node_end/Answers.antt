@@ -12,7 +12,7 @@ use Rattle.aadl_instance.proofs.ends.node_end.Goals as goal
 pub overflow_cast-result : goal.overflow_cast-result
 overflow_cast-result c =
     let net = c.args.network.now in
-    let tree = placed net.wires.now.uses.tree.now in
+    let tree = placed net.wires.now.uses.names.tree.now in
     let node = c.args.node.now in
     let path = reverse node.path.now in
     let within : c.args.port < length (ports_at tree (implementation_at tree node.declaration)) =
@@ -27,7 +27,7 @@ overflow_cast-result c =
 pub returns : goal.returns
 returns c =
     let net = c.args.network.now in
-    let tree = placed net.wires.now.uses.tree.now in
+    let tree = placed net.wires.now.uses.names.tree.now in
     let paths = paths_of net.threads.now in
     let node = c.args.node.now in
     let path = reverse node.path.now in

@@ -14,7 +14,7 @@ use Rattle.aadl_instance.proofs.paths.has_too_long_path.Goals as goal
 
 pub returns : goal.returns
 returns c =
-    let tree = placed c.args.uses.now.tree.now in
+    let tree = placed c.args.uses.now.names.tree.now in
     let root = c.args.root in
     let found = c.in_ok-found.found.items in
     let rows = ap length c.containment.ensures in

@@ -4,4 +4,4 @@ use Rattle.aadl_uses.specs.proof.Recursion.{IsFirstOf}
 use Rattle.aadl_uses.proofs.recursion.first_of.Given as goal
 
 abbrev pub invariant-loop-suspect : goal.invariant-loop-suspect
-invariant-loop-suspect l = IsFirstOf (placed l.uses.tree.now) (take l.suspect-index l.suspects) l.first
+invariant-loop-suspect l = IsFirstOf (placed l.uses.names.tree.now) (take l.suspect-index l.suspects) l.first

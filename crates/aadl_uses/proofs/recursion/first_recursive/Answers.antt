@@ -6,7 +6,7 @@ use Rattle.aadl_uses.proofs.recursion.first_recursive.Goals as goal
 
 pub returns : goal.returns
 returns c =
-    ok_first c.first_of.result (placed c.args.uses.now.tree.now) c.as_slice.result.now
+    ok_first c.first_of.result (placed c.args.uses.now.names.tree.now) c.as_slice.result.now
     (λ n s back. subst (λ (l : List (ℕ × ℕ)). Contains l (n, s)) (sym c.as_slice.ensures.value)
     (c.in_ok-suspects.ensures n s (subst (λ (g : Graph). LeadsBack g n s) (sym c.containment.ensures) back)))
     c.first_of.ensures

@@ -10,11 +10,11 @@ use Rattle.aadl_uses.proofs.Cycles.{sooner_new}
 use Rattle.aadl_uses.proofs.recursion.sooner.Goals as goal
 
 pub leads_back-requires : goal.leads_back-requires
-leads_back-requires c = subst (λ (g : Graph). IsWithin g) (sym c.containment.ensures) (within (placed c.args.uses.now.tree.now))
+leads_back-requires c = subst (λ (g : Graph). IsWithin g) (sym c.containment.ensures) (within (placed c.args.uses.now.names.tree.now))
 
 pub returns : goal.returns
 returns c =
-    let tree = placed c.args.uses.now.tree.now in
+    let tree = placed c.args.uses.now.names.tree.now in
     let n = c.args.within in
     let s = c.args.sub in
     let sub = subcomponent_view kept_place c.in-Some.declared.now in

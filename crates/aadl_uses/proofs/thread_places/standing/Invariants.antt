@@ -4,4 +4,4 @@ use Rattle.aadl_uses.specs.Uses.{standing}
 use Rattle.aadl_uses.proofs.thread_places.standing.Given as goal
 
 abbrev pub invariant-loop-sub : goal.invariant-loop-sub
-invariant-loop-sub l = standing (placed l.uses.tree.now) l.root (reverse (take l.sub-index l.path)) ≡ Some l.here
+invariant-loop-sub l = standing (placed l.uses.names.tree.now) l.root (reverse (take l.sub-index l.path)) ≡ Some l.here

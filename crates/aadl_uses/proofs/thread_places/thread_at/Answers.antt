@@ -10,21 +10,21 @@ use Rattle.aadl_uses.proofs.thread_places.thread_at.Goals as goal
 
 pub unreachable-requires : goal.unreachable-requires
 unreachable-requires c =
-    let tree = placed c.args.uses.now.tree.now in
+    let tree = placed c.args.uses.now.names.tree.now in
     let s = get_or c.args.path.now c.loop-at.at 0 in
     leads (standing tree c.args.root (reverse c.args.path.now)) c.requires
     (next_none tree c.args.root c.args.path.now c.loop-at.at s c.loop-at.here c.loop-at-test.true refl c.loop-at.invariant.stands (sym (none_below tree c.loop-at.here s (sym c.in_default.ensures))))
 
 pub unreachable-requires-in_default-below : goal.unreachable-requires-in_default-below
 unreachable-requires-in_default-below c =
-    let tree = placed c.args.uses.now.tree.now in
+    let tree = placed c.args.uses.now.names.tree.now in
     let s = get_or c.args.path.now c.loop-at.at 0 in
     leads (standing tree c.args.root (reverse c.args.path.now)) c.requires
     (next_none tree c.args.root c.args.path.now c.loop-at.at s c.loop-at.here c.loop-at-test.true refl c.loop-at.invariant.stands c.in_default-below.ensures)
 
 pub loop-at-preserved : goal.loop-at-preserved
 loop-at-preserved c =
-    let tree = placed c.args.uses.now.tree.now in
+    let tree = placed c.args.uses.now.names.tree.now in
     let root = c.args.root in
     let path = c.args.path.now in
     let i = c.loop-at.at in

@@ -3,4 +3,4 @@ use Rattle.aadl_uses.proofs.Ways.{Along}
 use Rattle.aadl_uses.proofs.thread_places.thread_at.Given as goal
 
 abbrev pub invariant-loop-at : goal.invariant-loop-at
-invariant-loop-at l = Along (placed l.uses.tree.now) l.root l.path l.at l.here l.names.bytes.items l.subs
+invariant-loop-at l = Along (placed l.uses.names.tree.now) l.root l.path l.at l.here l.names.bytes.items l.subs

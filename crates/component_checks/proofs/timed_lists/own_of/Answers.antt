@@ -1,15 +1,17 @@
-use Rattle.std.proofs.Common.{[], ◌∷◌, ◌∙◌, sym, ap}
+use Rattle.std.proofs.Common.{[], ◌∷◌, ◌∙◌, ap}
 use Rattle.aadl_tree.specs.proof.Maps.{kept_place}
 use Rattle.aadl_tree.specs.proof.PackageViews.{placed}
 use Rattle.aadl_tree.specs.proof.ValueViews.{associations_view}
-use Rattle.aadl_tree.specs.proof.Views.{declaration_view, implementation_view}
-use Rattle.component_checks.specs.proof.Timed.{own_timed, timed_by}
+use Rattle.aadl_tree.specs.proof.Views.{implementation_view}
+use Rattle.component_checks.specs.PropertyLookup.{own_lists}
+use Rattle.component_checks.specs.proof.Timed.{timed_by}
 use Rattle.component_checks.proofs.Saying.{own_is}
 use Rattle.component_checks.proofs.timed_lists.own_of.Goals as goal
 
-pub returns-in_ok-own-in-Implementation : goal.returns-in_ok-own-in-Implementation
-returns-in_ok-own-in-Implementation c =
-    let tree = placed c.args.names.now.tree.now in
-    own_is tree (implementation_view kept_place c.in-Implementation.x) _ _ _ _ _ c.requires c.in_ok-of_type-in-Implementation.ensures
-    (c.in_ok-own-in-Implementation.ensures ∙ ap (λ l. timed_by (associations_view kept_place l ∷ [])) c.as_slice.ensures.value) c.numbered.ensures c.or.ensures
-    ∙ ap (λ d. own_timed tree (declaration_view kept_place d)) (sym c.in-Implementation.is)
+pub returns-in_default : goal.returns-in_default
+returns-in_default c = c.none.ensures ∙ ap (λ o. timed_by (own_lists (placed c.args.uses.now.names.tree.now) o)) c.in_default.ensures
+
+pub returns : goal.returns
+returns c =
+    own_is (placed c.args.uses.now.names.tree.now) c.args.number (implementation_view kept_place c.in-Some.x.now) _ _ _ _ _ c.requires c.in-Some.ensures c.type_number.ensures
+    (c.in_ok-own.ensures ∙ ap (λ l. timed_by (associations_view kept_place l ∷ [])) c.as_slice.ensures.value) c.numbered.ensures c.or.ensures

@@ -1,9 +1,9 @@
 use Rattle.std.proofs.Common.{◌≡◌, map, take}
 use Rattle.aadl_tree.specs.proof.PackageViews.{placed}
-use Rattle.aadl_tree.specs.proof.Maps.{kept_place}
-use Rattle.aadl_tree.specs.proof.Views.{subcomponent_view}
+use Rattle.aadl_names.specs.Resolving.{implementation_at, subcomponents_of}
 use Rattle.component_checks.specs.proof.Timed.{sub_timed}
 use Rattle.component_checks.proofs.timed_lists.subs_of.Given as goal
 
 abbrev pub invariant-loop-sub : goal.invariant-loop-sub
-invariant-loop-sub l = l.timed ≡ map (sub_timed (placed l.names.tree.now)) (map (subcomponent_view kept_place) (take l.sub-index l.subs))
+invariant-loop-sub l =
+    l.timed ≡ map (sub_timed (placed l.uses.names.tree.now)) (take l.sub (subcomponents_of (implementation_at (placed l.uses.names.tree.now) l.declaration)))

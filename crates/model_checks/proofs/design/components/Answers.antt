@@ -7,14 +7,14 @@ use Rattle.model_checks.proofs.design.components.Goals as goal
 
 pub component-requires-clause-rules : goal.component-requires-clause-rules
 component-requires-clause-rules c =
-    let rules = HasRules (placed c.args.properties.now.names.tree.now) in
+    let rules = HasRules (placed c.args.properties.now.uses.now.names.tree.now) in
     subst rules (sym c.thread-item.is) (All-get_or rules c.args.threads.now c.loop-thread.thread-index c.thread-item.result c.loop-thread-test.true c.requires.rules)
 
 pub loop-thread-preserved : goal.loop-thread-preserved
 loop-thread-preserved c =
-    one_more (component_in (placed c.args.properties.now.names.tree.now) c.args.root) c.args.threads.now c.loop-thread.thread-index c.thread-item.result c.loop-thread.components _ c.in-Some.component c.loop-thread-test.true c.thread-item.is c.loop-thread.invariant
+    one_more (component_in (placed c.args.properties.now.uses.now.names.tree.now) c.args.root) c.args.threads.now c.loop-thread.thread-index c.thread-item.result c.loop-thread.components _ c.in-Some.component c.loop-thread-test.true c.thread-item.is c.loop-thread.invariant
     (sym c.in-Some.is ∙ c.in_ok-component.ensures) c.in_ok-push.ensures.ok
 
 pub returns-in_default : goal.returns-in_default
 returns-in_default c =
-    one_missing (component_in (placed c.args.properties.now.names.tree.now) c.args.root) c.args.threads.now c.loop-thread.thread-index c.thread-item.result c.loop-thread-test.true c.thread-item.is (sym c.in_default.is ∙ c.in_ok-component.ensures)
+    one_missing (component_in (placed c.args.properties.now.uses.now.names.tree.now) c.args.root) c.args.threads.now c.loop-thread.thread-index c.thread-item.result c.loop-thread-test.true c.thread-item.is (sym c.in_default.is ∙ c.in_ok-component.ensures)

@@ -4,4 +4,4 @@ use Rattle.design_laws.specs.Designs.{all_of, component_in}
 use Rattle.model_checks.proofs.design.components.Given as goal
 
 abbrev pub invariant-loop-thread : goal.invariant-loop-thread
-invariant-loop-thread l = Some l.components ≡ all_of (map (component_in (placed l.properties.names.tree.now) l.root) (take l.thread-index l.threads))
+invariant-loop-thread l = Some l.components ≡ all_of (map (component_in (placed l.properties.uses.now.names.tree.now) l.root) (take l.thread-index l.threads))

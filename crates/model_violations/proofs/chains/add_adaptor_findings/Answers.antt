@@ -1,19 +1,19 @@
 use Rattle.std.proofs.Common.{◌∙◌, sym, ap}
 use Rattle.std.specs.Prelude.{option_map}
 use Rattle.aadl_tree.specs.proof.Maps.{kept_place}
-use Rattle.aadl_tree.specs.proof.PackageViews.{placed}
 use Rattle.aadl_tree.specs.proof.Views.{connection_view}
 use Rattle.component_checks.specs.Rates.{adaptor_named}
 use Rattle.model_violations.specs.Carriers.{adaptor_text}
 use Rattle.model_violations.specs.Ports.{end_name, end_kind, end_rate}
+use Rattle.model_violations.specs.proof.Chains.{tree_of}
 use Rattle.model_violations.proofs.Plain.{nothing_added}
 use Rattle.model_violations.proofs.chains.add_adaptor_findings.Goals as goal
 
 pub returns-then-is_plain : goal.returns-then-is_plain
 returns-then-is_plain c =
-    let tree = placed c.args.names.now.tree.now in
-    let threads = c.args.threads.now in
-    let rates = c.args.rates.now in
+    let tree = tree_of c.args.rated.now in
+    let threads = c.args.rated.now.threads.now in
+    let rates = c.args.rated.now.rates.now in
     let chain = c.args.chain.now in
     let carrier = connection_view kept_place c.args.connection.now in
     nothing_added carrier.name.at (end_name tree threads chain.to) c.args.said.adaptor (option_map adaptor_named (adaptor_text carrier)) (end_kind tree threads chain.to)

@@ -3,11 +3,11 @@ use Rattle.std.specs.Prelude.{flat_map}
 use Rattle.std.specs.List.{enumerate_from}
 use Rattle.aadl_tree.specs.proof.Views.{connection_view, implementation_view}
 use Rattle.aadl_tree.specs.proof.Maps.{kept_place}
+use Rattle.aadl_tree.specs.proof.PackageViews.{placed}
 use Rattle.model_violations.specs.Carriers.{carries}
 use Rattle.model_violations.specs.Connections.{connection_findings}
-use Rattle.model_violations.specs.proof.Known.{tree_of}
 use Rattle.model_violations.proofs.connections.add_connections_findings.Given as goal
 
 abbrev pub invariant-loop-at : goal.invariant-loop-at
 invariant-loop-at l =
-    l.found ≡ l.fn.found ++ flat_map (connection_findings (tree_of l.known) (carries l.carriers) l.number (implementation_view kept_place l.x)) (enumerate_from 0 (map (connection_view kept_place) (take l.at l.x.connections.items)))
+    l.found ≡ l.fn.found ++ flat_map (connection_findings (placed l.wires.uses.names.tree.now) (carries l.carriers) l.number (implementation_view kept_place l.x)) (enumerate_from 0 (map (connection_view kept_place) (take l.at l.x.connections.items)))

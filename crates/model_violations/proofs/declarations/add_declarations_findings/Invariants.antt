@@ -3,12 +3,12 @@ use Rattle.std.specs.Prelude.{flat_map}
 use Rattle.std.specs.List.{enumerate_from}
 use Rattle.aadl_tree.specs.proof.Views.{declaration_view}
 use Rattle.aadl_tree.specs.proof.Maps.{kept_place}
+use Rattle.aadl_tree.specs.proof.PackageViews.{placed}
 use Rattle.model_violations.specs.Carriers.{carries}
 use Rattle.model_violations.specs.Use.{has}
 use Rattle.model_violations.specs.Declarations.{declaration_findings}
-use Rattle.model_violations.specs.proof.Known.{tree_of}
 use Rattle.model_violations.proofs.declarations.add_declarations_findings.Given as goal
 
 abbrev pub invariant-loop-number : goal.invariant-loop-number
 invariant-loop-number l =
-    l.found ≡ l.fn.found ++ flat_map (declaration_findings (tree_of l.known) l.root (has l.used.keys) (has l.types.keys) (carries l.carriers)) (enumerate_from 0 (map (declaration_view kept_place) (take l.number l.known.names.now.tree.now.declarations.items)))
+    l.found ≡ l.fn.found ++ flat_map (declaration_findings (placed l.wires.uses.names.tree.now) l.root (has l.used.keys) (has l.types.keys) (carries l.carriers)) (enumerate_from 0 (map (declaration_view kept_place) (take l.number l.wires.uses.names.tree.now.declarations.items)))

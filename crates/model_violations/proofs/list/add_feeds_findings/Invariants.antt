@@ -1,8 +1,8 @@
 use Rattle.std.proofs.Common.{◌≡◌, ◌++◌, take}
 use Rattle.std.specs.Prelude.{flat_map}
-use Rattle.aadl_tree.specs.proof.PackageViews.{placed}
 use Rattle.model_violations.specs.Chains.{feed_findings}
+use Rattle.model_violations.specs.proof.Chains.{tree_of}
 use Rattle.model_violations.proofs.list.add_feeds_findings.Given as goal
 
 abbrev pub invariant-loop-feed : goal.invariant-loop-feed
-invariant-loop-feed l = l.found ≡ l.fn.found ++ flat_map (feed_findings (placed l.properties.names.tree.now) l.threads l.rates) (take l.feed-index l.feeds)
+invariant-loop-feed l = l.found ≡ l.fn.found ++ flat_map (feed_findings (tree_of l.rated) l.rated.threads.now l.rated.rates.now) (take l.feed-index l.feeds)

@@ -2,26 +2,26 @@ use Rattle.std.proofs.Common.{◌∙◌, ◌++◌, map, subst, sym, ap}
 use Rattle.std.specs.Prelude.{flat_map}
 use Rattle.aadl_tree.specs.proof.PackageViews.{placed}
 use Rattle.component_checks.specs.Threads.{thread_rate, greatest_rate, thread_findings}
-use Rattle.model_violations.specs.proof.Violations.{shown, AreFindings}
+use Rattle.model_violations.specs.proof.Violations.{shown, AddUsed, AreFindings}
 use Rattle.model_violations.proofs.Rates.{rates_positive, greatest_fits}
 use Rattle.model_violations.proofs.Found.{all_found}
 use Rattle.model_violations.proofs.list.findings_of.Goals as goal
 
 pub add_root_findings-requires : goal.add_root_findings-requires
 add_root_findings-requires c =
-    greatest_fits (placed c.args.properties.now.names.tree.now) c.args.instance.now.root c.as_slice-threads.result.now c.as_slice.result.now c.greatest_rate-greatest.result (c.as_slice.ensures.value ∙ c.in_ok-rates.ensures)
+    greatest_fits (placed c.args.properties.now.uses.now.names.tree.now) c.args.instance.now.root c.as_slice-threads.result.now c.as_slice.result.now c.greatest_rate-greatest.result (c.as_slice.ensures.value ∙ c.in_ok-rates.ensures)
     c.greatest_rate-greatest.ensures
 
 pub add_chain_findings-requires : goal.add_chain_findings-requires
 add_chain_findings-requires c =
-    rates_positive (placed c.args.properties.now.names.tree.now) c.args.instance.now.root c.as_slice-threads.result.now c.as_slice-2.result.now (c.as_slice-2.ensures.value ∙ c.in_ok-rates.ensures)
+    rates_positive (placed c.args.properties.now.uses.now.names.tree.now) c.args.instance.now.root c.as_slice-threads.result.now c.as_slice-2.result.now (c.as_slice-2.ensures.value ∙ c.in_ok-rates.ensures)
 
 pub returns : goal.returns
 returns c =
-    let tree = placed c.args.properties.now.names.tree.now in
+    let tree = placed c.args.properties.now.uses.now.names.tree.now in
     let root = c.args.instance.now.root in
     let threads = c.as_slice-threads.ensures.value in
-    let others = c.in_ok-add_used_findings.ensures in
+    let others = subst (λ t. AddUsed (placed t) (shown c.args.instance.now) c.add_chain_findings.new.found c.add_used_findings.new.found) (sym c.requires) c.in_ok-add_used_findings.ensures in
     subst (λ t. AreFindings (placed t) (shown c.args.instance.now) c.add_used_findings.new.found) c.requires
     (record {
       used = others.used;

@@ -1,4 +1,4 @@
-use Rattle.std.proofs.Common.{◌∙◌, sym, ap}
+use Rattle.std.proofs.Common.{◌∙◌, sym}
 use Rattle.aadl_tree.specs.proof.Maps.{kept_place}
 use Rattle.aadl_tree.specs.proof.Views.{annex_view}
 use Rattle.aadl_names.specs.Behaviours.{behaviour_in}

@@ -1,14 +1,25 @@
-use Rattle.std.proofs.Common.{◌<◌, ◌∙◌, length, get_or, ap, arith}
+use Rattle.std.proofs.Common.{◌∙◌, ◌&&◌, ap, refl, arith}
+use Rattle.std.specs.List.{list_any, enumerate_from}
+use Rattle.std.specs.Option.{option_and_then}
+use Rattle.std.proofs.lemmas.List.{take_all}
 use Rattle.aadl_tree.specs.proof.PackageViews.{placed}
-use Rattle.aadl_tree.specs.proof.Views.{declaration_view}
-use Rattle.aadl_tree.specs.proof.Maps.{kept_place}
+use Rattle.aadl_names.specs.Resolving.{implementation_in, type_number}
+use Rattle.model_violations.specs.Ignored.{is_number}
 use Rattle.model_violations.specs.Use.{has, uses_type}
 use Rattle.model_violations.proofs.Numbers.{one_more_passes}
 use Rattle.model_violations.proofs.usage.types_used.Goals as goal
 
 pub loop-number-preserved : goal.loop-number-preserved
-loop-number-preserved c =
-    let items = c.args.names.now.tree.now.declarations.items in
-    let within : c.loop-number.number < length items = omega (arith, ap length c.deref-declaration-items.ensures.value) in
-    λ n. one_more_passes (uses_type (placed c.args.names.now.tree.now) (has c.args.used.now.keys) n) (declaration_view kept_place) items c.loop-number.number c.declaration-item.result _ _ within
-    (c.declaration-item.is ∙ ap (λ l. get_or l c.loop-number.number c.declaration-item.result) c.deref-declaration-items.ensures.value) (c.loop-number.invariant n) (c.in_ok-add_own_type.ensures n)
+loop-number-preserved c = λ n.
+    let tree = placed c.args.uses.now.names.tree.now in
+    let used = has c.args.used.now.keys in
+    let size = c.len-number-end.ensures in
+    one_more_passes (uses_type tree used n) (λ d. used c.loop-number.number && is_number n (option_and_then (type_number tree) (implementation_in d))) tree.declarations c.loop-number.number _ _ (λ d. refl)
+    (omega (arith, size, c.loop-number-test.true)) (c.loop-number.invariant n) (c.in_ok-add_type_of.ensures n)
+
+pub returns : goal.returns
+returns c = λ n.
+    let tree = placed c.args.uses.now.names.tree.now in
+    let size = c.len-number-end.ensures in
+    c.loop-number.invariant n
+    ∙ ap (λ l. list_any (uses_type tree (has c.args.used.now.keys) n) (enumerate_from 0 l)) (take_all c.loop-number.number tree.declarations (omega (arith, size, c.loop-number-test.false)))

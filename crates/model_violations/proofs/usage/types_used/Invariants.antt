@@ -1,11 +1,10 @@
-use Rattle.std.proofs.Common.{◌≡◌, ℕ, map, take}
+use Rattle.std.proofs.Common.{◌≡◌, ℕ, take}
 use Rattle.std.specs.List.{list_any, enumerate_from}
 use Rattle.aadl_tree.specs.proof.PackageViews.{placed}
-use Rattle.aadl_tree.specs.proof.Views.{declaration_view}
-use Rattle.aadl_tree.specs.proof.Maps.{kept_place}
 use Rattle.model_violations.specs.Use.{has, uses_type}
 use Rattle.model_violations.proofs.usage.types_used.Given as goal
 
 abbrev pub invariant-loop-number : goal.invariant-loop-number
 invariant-loop-number l =
-    (n : ℕ) → has l.types.keys n ≡ list_any (uses_type (placed l.names.tree.now) (has l.used.keys) n) (enumerate_from 0 (map (declaration_view kept_place) (take l.number l.names.tree.now.declarations.items)))
+    (n : ℕ) → has l.types.keys n
+    ≡ list_any (uses_type (placed l.uses.names.tree.now) (has l.used.keys) n) (enumerate_from 0 (take l.number (placed l.uses.names.tree.now).declarations))

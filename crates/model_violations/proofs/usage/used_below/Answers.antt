@@ -3,4 +3,4 @@ use Rattle.model_violations.proofs.Numbers.{is_use}
 use Rattle.model_violations.proofs.usage.used_below.Goals as goal
 
 pub returns : goal.returns
-returns c = is_use (placed c.args.uses.now.tree.now) c.args.root c.in_ok-used.used.keys c.in_ok-used.ensures
+returns c = is_use (placed c.args.uses.now.names.tree.now) c.args.root c.in_ok-used.used.keys c.in_ok-used.ensures

@@ -1,4 +1,4 @@
-use Rattle.std.proofs.Common.{◌≡◌, ◌∙◌, ◌∷◌, [], ◌++◌, sym, ap}
+use Rattle.std.proofs.Common.{◌∙◌, ◌∷◌, [], ◌++◌, ap}
 use Rattle.model_violations.specs.Values.{variable_entry}
 use Rattle.component_checks.proofs.Numbered.{entries_next}
 use Rattle.model_violations.proofs.values.add_vars.Goals as goal

@@ -12,13 +12,13 @@ use Rattle.name_faults.proofs.behaviours.check_behaviour.Goals as goal
 pub returns : goal.returns
 unfolding behaviour_faults
 returns c =
-    let tree = placed c.args.names.now.tree.now in
+    let tree = placed c.args.tree.now in
     let x = implementation_view kept_place c.args.x.now in
     closed c.check_transitions.result c.check_transitions.new.finder _ _
     (ap (found c.args.finder.now) (same_uses _ _ _ _ _ _
     (for_all _ _ c.in_ok-states.ensures)
     (c.scope_of-scope.ensures
-    ∙ same_order _ _ _ _ _ _ (c.comes_first.ensures ∙ ap (λ n. comes_first (type_numbered tree n) x) c.in_ok-of_type.ensures) (for_all _ _ c.requires)
+    ∙ same_order _ _ _ _ _ _ (c.comes_first.ensures ∙ ap (λ n. comes_first (type_numbered tree n) x) c.requires.of_type) (for_all _ _ c.requires.roles)
     (for_all _ _ c.in_ok-variables.ensures))
     c.transitions_in.ensures))
     c.check_transitions.ensures

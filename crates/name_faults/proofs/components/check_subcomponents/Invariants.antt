@@ -4,11 +4,12 @@ use Rattle.aadl_tree.specs.proof.PackageViews.{placed}
 use Rattle.aadl_tree.specs.proof.Views.{subcomponent_view}
 use Rattle.aadl_tree.specs.proof.Maps.{kept_place}
 use Rattle.aadl_names.specs.proof.Found.{found}
-use Rattle.aadl_names.specs.PackageFaults as spec
+use Rattle.aadl_names.specs.PackageFaults.{subcomponent_faults}
 use Rattle.name_faults.proofs.components.check_subcomponents.Given as goal
 
 -- what is left is still to be looked at
-abbrev pub invariant-loop-sub : goal.invariant-loop-sub
-invariant-loop-sub l =
-    found l.initial.finder (flat_map (spec.subcomponent_faults (placed l.names.tree.now) l.category) (map (subcomponent_view kept_place) l.subs))
-    ≡ found l.finder (flat_map (spec.subcomponent_faults (placed l.names.tree.now) l.category) (map (subcomponent_view kept_place) (drop l.sub-index l.subs)))
+abbrev pub invariant-loop-place : goal.invariant-loop-place
+invariant-loop-place l =
+    found l.initial.finder (flat_map (subcomponent_faults (placed l.uses.names.tree.now) l.x.category) (map (subcomponent_view kept_place) l.sub-items))
+    ≡ found l.finder (flat_map (subcomponent_faults (placed l.uses.names.tree.now) l.x.category)
+    (map (subcomponent_view kept_place) (drop l.place l.sub-items)))

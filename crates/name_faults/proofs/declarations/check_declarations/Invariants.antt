@@ -10,7 +10,7 @@ use Rattle.name_faults.proofs.declarations.check_declarations.Given as goal
 -- what is left is still to be looked at
 abbrev pub invariant-loop-number : goal.invariant-loop-number
 invariant-loop-number l =
-    found l.initial.finder (flat_map (declaration_faults (placed l.names.tree.now) l.root)
+    found l.initial.finder (flat_map (declaration_faults (placed l.wires.uses.names.tree.now) l.root)
     (enumerate_from 0 (map (declaration_view kept_place) l.declaration-items)))
-    ≡ found l.finder (flat_map (declaration_faults (placed l.names.tree.now) l.root)
+    ≡ found l.finder (flat_map (declaration_faults (placed l.wires.uses.names.tree.now) l.root)
     (enumerate_from l.number (map (declaration_view kept_place) (drop l.number l.declaration-items))))

@@ -9,7 +9,7 @@ use Rattle.name_faults.proofs.package.first_name_fault.Goals as goal
 
 pub returns : goal.returns
 returns c =
-    let tree = placed c.args.names.now.tree.now in
+    let tree = placed c.args.wires.now.uses.names.tree.now in
     first_fault tree c.args.root c.finish.result
     (c.finish.ensures ∙ (c.in_ok-check_spaces.ensures
     ∙ (ap (λ o. found o (beside_names tree)) (c.in_ok-check_declarations.ensures ∙ ap (λ o. found o (wrong_names tree c.args.root)) c.new-finder.ensures)

@@ -8,7 +8,7 @@ use Rattle.aadl_names.specs.proof.DeclaredTwice.{beside_in}
 use Rattle.name_faults.proofs.spaces.check_spaces.Given as goal
 
 -- what is left is still to be looked at
-abbrev pub invariant-loop-declaration : goal.invariant-loop-declaration
-invariant-loop-declaration l =
-    found l.initial.finder (flat_map (beside_in (placed l.names.tree.now)) (map (declaration_view kept_place) l.declaration-items))
-    ≡ found l.finder (flat_map (beside_in (placed l.names.tree.now)) (map (declaration_view kept_place) (drop l.declaration-index l.declaration-items)))
+abbrev pub invariant-loop-number : goal.invariant-loop-number
+invariant-loop-number l =
+    found l.initial.finder (flat_map (beside_in (placed l.uses.names.tree.now)) (map (declaration_view kept_place) l.declaration-items))
+    ≡ found l.finder (flat_map (beside_in (placed l.uses.names.tree.now)) (map (declaration_view kept_place) (drop l.number l.declaration-items)))

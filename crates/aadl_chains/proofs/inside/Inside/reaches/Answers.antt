@@ -6,7 +6,7 @@ use Rattle.aadl_chains.proofs.inside.Inside.reaches.Goals as goal
 
 pub returns : goal.returns
 returns c =
-    let tree = placed c.args.wires.now.uses.tree.now in
+    let tree = placed c.args.wires.now.uses.names.tree.now in
     let d = c.args.self.now.direction in
     let ports = c.args.self.now.ports in
     let is = c.reaches_in.ensures ∙ ap (λ o. reaches_in ports tree d o c.args.port) c.below.ensures in (

@@ -5,7 +5,7 @@ use Rattle.aadl_chains.proofs.outside.Outside.leads.Goals as goal
 
 pub returns : goal.returns
 returns c =
-    let tree = placed c.args.wires.now.uses.tree.now in
+    let tree = placed c.args.wires.now.uses.names.tree.now in
     let root = c.args.self.now.side.root in
     let d = c.args.self.now.side.direction in
     let inside = c.args.inside.now.ports in

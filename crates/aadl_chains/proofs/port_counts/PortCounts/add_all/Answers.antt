@@ -1,8 +1,8 @@
 use Rattle.std.proofs.Common.{◌≡◌, ◌∙◌, ap, arith, get_or, length, slice_get, sym, Some, None, List}
 use Rattle.std.proofs.lemmas.Option.{slice_get-get_or}
 use Rattle.aadl_tree.specs.proof.PackageViews.{placed}
-use Rattle.aadl_chains.specs.declared.connections.Wire.{Wire}
-use Rattle.aadl_chains.specs.Wiring.{wires_at}
+use Rattle.aadl_uses.specs.declared.connections.Wire.{Wire}
+use Rattle.aadl_uses.specs.Wiring.{wires_at}
 use Rattle.aadl_chains.proofs.WalkTables.{none_front, front_more, front_added}
 use Rattle.aadl_chains.proofs.port_counts.PortCounts.add_all.Goals as goal
 
@@ -13,11 +13,11 @@ add-requires-clause-wire c =
     ∙ slice_get-get_or items c.loop-at.at (record { source = None; target = None }) (omega arith)
 
 pub loop-at-init : goal.loop-at-init
-loop-at-init c = none_front (placed c.args.wires.now.uses.tree.now) c.args.limit c.args.number c.args.self.now
+loop-at-init c = none_front (placed c.args.wires.now.uses.names.tree.now) c.args.limit c.args.number c.args.self.now
 
 pub loop-at-preserved : goal.loop-at-preserved
 loop-at-preserved c =
-    let tree = placed c.args.wires.now.uses.tree.now in
+    let tree = placed c.args.wires.now.uses.names.tree.now in
     let n = c.args.number in
     let i = c.loop-at.at in
     let items = c.wires-wire-items.result.now in
@@ -30,4 +30,4 @@ loop-at-preserved c =
 pub returns : goal.returns
 returns c =
     let same = ap (λ (l : List Wire). length l) c.wires-wire-items.ensures in
-    front_added (placed c.args.wires.now.uses.tree.now) c.args.limit c.args.number c.loop-at.at c.args.self.now c.loop-at.self (omega arith) c.loop-at.invariant
+    front_added (placed c.args.wires.now.uses.names.tree.now) c.args.limit c.args.number c.loop-at.at c.args.self.now c.loop-at.self (omega arith) c.loop-at.invariant

@@ -3,4 +3,4 @@ use Rattle.aadl_chains.proofs.WalkTables.{FrontTaken}
 use Rattle.aadl_chains.proofs.port_counts.PortCounts.add_all.Given as goal
 
 abbrev pub invariant-loop-at : goal.invariant-loop-at
-invariant-loop-at l = FrontTaken (placed l.wires.uses.tree.now) l.limit l.number l.at l.initial.self l.self
+invariant-loop-at l = FrontTaken (placed l.wires.uses.names.tree.now) l.limit l.number l.at l.initial.self l.self

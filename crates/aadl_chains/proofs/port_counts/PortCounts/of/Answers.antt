@@ -6,7 +6,7 @@ use Rattle.aadl_chains.proofs.port_counts.PortCounts.of.Goals as goal
 
 pub loop-at-preserved : goal.loop-at-preserved
 loop-at-preserved c =
-    let tree = placed c.args.wires.now.uses.tree.now in
+    let tree = placed c.args.wires.now.uses.names.tree.now in
     let limit = c.args.limit in
     let keys = c.args.order.now.keys in
     let at = c.loop-at.at in
@@ -21,5 +21,5 @@ loop-at-preserved c =
 
 pub returns : goal.returns
 returns c =
-    table_all (placed c.args.wires.now.uses.tree.now) c.args.limit c.args.order.now.keys c.requires.order.sequence c.loop-at.at c.loop-at.takes (omega arith)
+    table_all (placed c.args.wires.now.uses.names.tree.now) c.args.limit c.args.order.now.keys c.requires.order.sequence c.loop-at.at c.loop-at.takes (omega arith)
     c.loop-at.invariant

@@ -3,4 +3,4 @@ use Rattle.aadl_chains.proofs.WalkTables.{FrontTable}
 use Rattle.aadl_chains.proofs.port_counts.PortCounts.of.Given as goal
 
 abbrev pub invariant-loop-at : goal.invariant-loop-at
-invariant-loop-at l = FrontTable (placed l.wires.uses.tree.now) l.limit l.order.keys l.at l.takes
+invariant-loop-at l = FrontTable (placed l.wires.uses.names.tree.now) l.limit l.order.keys l.at l.takes

@@ -8,7 +8,7 @@ use Rattle.aadl_chains.proofs.ways.Ways.goes_on.Goals as goal
 
 pub returns-in-Some : goal.returns-in-Some
 returns-in-Some c =
-    let tree = placed c.args.wires.now.uses.tree.now in
+    let tree = placed c.args.wires.now.uses.names.tree.now in
     let root = c.args.self.now.root in
     let n = c.args.number in
     let comes = c.leads-comes.result in
@@ -19,4 +19,4 @@ returns-in-Some c =
     (subst (λ (x : Side). IsTrue goes ↔ LeadsFrom tree x.root x.direction n c.in-Some.target) c.requires.ways.led_side c.leads-goes.ensures))
 
 pub returns-in-None : goal.returns-in-None
-returns-in-None c = no_target (placed c.args.wires.now.uses.tree.now) c.args.self.now.root c.args.number c.args.wire c.in-None.is
+returns-in-None c = no_target (placed c.args.wires.now.uses.names.tree.now) c.args.self.now.root c.args.number c.args.wire c.in-None.is

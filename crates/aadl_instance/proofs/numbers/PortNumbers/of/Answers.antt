@@ -8,7 +8,7 @@ use Rattle.aadl_instance.proofs.numbers.PortNumbers.of.Goals as goal
 
 pub loop-number-preserved : goal.loop-number-preserved
 loop-number-preserved c =
-    let tree = placed c.args.wires.now.uses.tree.now in
+    let tree = placed c.args.wires.now.uses.names.tree.now in
     let n = c.loop-number.number in
     let row = c.in_ok-row.row in
     let size = c.loop-number.invariant.0 in
@@ -21,7 +21,7 @@ loop-number-preserved c =
 
 pub returns : goal.returns
 returns c =
-    let tree = placed c.args.wires.now.uses.tree.now in
+    let tree = placed c.args.wires.now.uses.names.tree.now in
     let past = c.loop-number-test.false in
     let size = c.len-number-end.ensures in
     let all : length tree.declarations ≤ c.loop-number.number = omega arith in

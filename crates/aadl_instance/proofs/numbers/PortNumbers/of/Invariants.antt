@@ -8,4 +8,4 @@ use Rattle.aadl_instance.proofs.numbers.PortNumbers.of.Given as goal
 abbrev pub invariant-loop-number : goal.invariant-loop-number
 invariant-loop-number l =
     (length l.numbers ≡ l.number)
-    × ((n : ℕ) → n < l.number → AreAmong (ports_at (placed l.wires.uses.tree.now) (implementation_at (placed l.wires.uses.tree.now) n)) (get_or l.numbers n []))
+    × ((n : ℕ) → n < l.number → AreAmong (ports_at (placed l.wires.uses.names.tree.now) (implementation_at (placed l.wires.uses.names.tree.now) n)) (get_or l.numbers n []))

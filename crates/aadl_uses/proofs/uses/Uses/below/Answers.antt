@@ -6,4 +6,4 @@ use Rattle.aadl_uses.proofs.uses.Uses.below.Goals as goal
 
 pub returns : goal.returns
 returns c = c.below.ensures ∙ (ap (λ (g : Graph). below_in g c.args.number c.args.sub) c.args.self.now.of_subs
-    ∙ below-same (placed c.args.self.now.tree.now) c.args.number c.args.sub)
+    ∙ below-same (placed c.args.self.now.names.tree.now) c.args.number c.args.sub)

@@ -7,7 +7,7 @@ use Rattle.aadl_uses.proofs.uses.Uses.has_too_many_threads.Goals as goal
 
 pub returns : goal.returns
 returns c =
-    let tree = placed c.args.self.now.tree.now in
+    let tree = placed c.args.self.now.names.tree.now in
     let root = c.args.root in
     tells COMPONENTS c.count_at-count.result
     (more_threads tree root COMPONENTS c.count_at-count.result

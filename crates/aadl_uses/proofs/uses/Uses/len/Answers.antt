@@ -6,5 +6,5 @@ use Rattle.aadl_uses.proofs.uses.Uses.len.Goals as goal
 
 pub returns : goal.returns
 returns c =
-    let tree = placed c.args.self.now.tree.now in
+    let tree = placed c.args.self.now.names.tree.now in
     c.len.ensures ∙ (ap length c.args.self.now.of_subs ∙ length-map tree.declarations (targets_in tree))

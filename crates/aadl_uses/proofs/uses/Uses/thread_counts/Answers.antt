@@ -10,5 +10,5 @@ counts_below-requires c = subst (λ (g : Graph). IsOrder g c.args.order.now.keys
 
 pub returns : goal.returns
 returns c =
-    ok_counts (λ v. v.items) c.counts_below.result (placed c.args.self.now.tree.now) c.args.limit c.args.self.now.graph c.as_slice.result.now c.args.self.now.of_subs
+    ok_counts (λ v. v.items) c.counts_below.result (placed c.args.self.now.names.tree.now) c.args.limit c.args.self.now.graph c.as_slice.result.now c.args.self.now.of_subs
     (c.as_slice.ensures.value ∙ c.in_ok-marks.ensures) c.counts_below.ensures

@@ -1,9 +1,0 @@
-use Rattle.std.proofs.Common.{◌≡◌, map, take}
-use Rattle.aadl_tree.specs.proof.PackageViews.{placed}
-use Rattle.aadl_tree.specs.proof.Maps.{kept_place}
-use Rattle.aadl_tree.specs.proof.Views.{declaration_view}
-use Rattle.aadl_chains.specs.proof.Wiring.{type_in}
-use Rattle.aadl_chains.proofs.wiring.types_of.Given as goal
-
-abbrev pub invariant-loop-declaration : goal.invariant-loop-declaration
-invariant-loop-declaration l = l.types ≡ map (type_in (placed l.names.tree.now)) (map (declaration_view kept_place) (take l.declaration-index l.declarations))

@@ -1,0 +1,49 @@
+//! Names, compared with texts piece by piece.
+ghost use Rattle.std.specs.Prelude.{◌≡◌, ◌++◌, ℕ, List, codes, string_bytes};
+ghost use Rattle.aadl_tree.specs.Names.{same_name};
+ghost use Rattle.aadl_tree.specs.proof.Maps.{kept_place};
+ghost use Rattle.aadl_tree.specs.proof.NameViews.{name_view};
+ghost use Rattle.aadl_names.specs.Spelling.{spelled_name};
+ghost use Rattle.aadl_names.specs.proof.Spellings.{goes_on};
+
+use aadl_tree::{Identifier, Name};
+
+// What is left of a text behind a word with which it begins, whatever the case of letters.
+#[tactic(auto, using(crate::proofs::Pieces::too_short, crate::proofs::Pieces::cut_behind, crate::proofs::Pieces::cut_elsewhere))]
+fn behind<'a>(text: &'a [u8], word: &[u8]) -> Option<&'a [u8]>
+    ensures { (more : List ℕ) → same_name (word.now ++ more) text.now ≡ goes_on more result }
+{
+    if text.len() < word.len() {
+        return None;
+    }
+    let (front, rest) = text.split_at(word.len());
+    if front.eq_ignore_ascii_case(word) {
+        Some(rest)
+    } else {
+        None
+    }
+}
+
+// What is left of a text behind `::` and a word.
+fn behind_scope<'a>(text: &'a [u8], word: &Identifier) -> Option<&'a [u8]>
+    ensures { (more : List ℕ) → same_name ((codes "::" ++ string_bytes word.now.spelling) ++ more) text.now ≡ goes_on more result }
+{
+    let rest = behind(text, b"::")?;
+    behind(rest, word.spelling.as_bytes())
+}
+
+/// Whether a name is this one.
+pub fn is_spelled(name: &Name, text: &str) -> bool
+    ensures { result ≡ same_name (spelled_name (name_view kept_place name.now)) text.now }
+{
+    let Some(mut rest) = behind(text.as_bytes(), name.first.spelling.as_bytes()) else {
+        return false;
+    };
+    for word in &name.rest {
+        match behind_scope(rest, word) {
+            Some(more) => rest = more,
+            None => return false,
+        }
+    }
+    rest.is_empty()
+}

@@ -1,0 +1,27 @@
+-- The wires of a declaration, and where the one into a port comes from.
+use Rattle.std.specs.Prelude.{ℕ, List, Option, Some, None, slice_get}
+use Rattle.std.specs.Option.{option_and_then, option_map_or}
+use Rattle.aadl_tree.specs.Declarations.{Implementation, Declaration, PackageTree}
+use Rattle.aadl_names.specs.declared.site.Site.{Site}
+use Rattle.aadl_names.specs.Resolving.{implementation_in, implementation_at, type_number}
+use Rattle.aadl_uses.specs.declared.connections.Wire.{Wire}
+use Rattle.aadl_uses.specs.proof.Firsts.{first_into}
+use Rattle.aadl_uses.specs.Wiring.{wires_of, wires_at}
+
+abbrev pub wires_in : PackageTree ℕ → Declaration ℕ → List Wire
+wires_in tree d = wires_of tree (implementation_in (Some d))
+
+-- the number of the first connection of a declaration into a port
+abbrev pub first_into_at : PackageTree ℕ → ℕ → Site → Option ℕ
+first_into_at tree n target = first_into (wires_at tree n) target
+
+-- where a connection comes from, with its number
+abbrev pub with_source : ℕ → Wire → Option (ℕ × Site)
+with_source number wire = option_map_or (λ source. Some (number, source)) wire.source None
+
+abbrev pub sourced : List Wire → ℕ → Option (ℕ × Site)
+sourced wires number = option_and_then (with_source number) (slice_get wires number)
+
+-- the first connection of a declaration into a port, and where it comes from
+abbrev pub into : PackageTree ℕ → ℕ → Site → Option (ℕ × Site)
+into tree n target = option_and_then (sourced (wires_at tree n)) (first_into_at tree n target)

@@ -1,0 +1,154 @@
+//! What is wrong with the names in connections.
+#![tactic(auto, using(aadl_names::proofs::Finds::found_append))]
+
+ghost use Rattle.std.specs.Prelude.{◌≡◌, ℕ, OnOk, flat_map, option_map};
+ghost use Rattle.aadl_tree.specs.Declarations as trees;
+ghost use Rattle.aadl_tree.specs.proof.PackageViews.{placed};
+ghost use Rattle.aadl_tree.specs.proof.Views.{implementation_view, connection_view, end_view};
+ghost use Rattle.aadl_tree.specs.proof.Maps.{kept_place};
+ghost use Rattle.aadl_names.specs.proof.Found.{found};
+ghost use Rattle.aadl_names.specs.Resolving as resolving;
+ghost use Rattle.aadl_names.specs.PackageFaults as spec;
+ghost use Rattle.name_faults.specs.proof.Standing.{StandsAt};
+ghost use Rattle.name_faults.specs.proof.Joined.{joined_faults};
+
+use crate::check_properties;
+use aadl_names::connection_ends::port_direction;
+use aadl_names::spelling::spelled_end;
+use aadl_names::{Finder, Holder, Site};
+use aadl_tree::{Connection, ConnectionEnd, Direction, Implementation};
+use aadl_uses::{Uses, Wires};
+use std::alloc::AllocError;
+
+// Which way a port goes that the implementation of a number knows.
+fn direction_of(uses: &Uses<'_>, number: usize, site: Site) -> Option<Direction>
+    ensures { (x : trees.Implementation ℕ) → StandsAt (placed uses.now.names.tree.now) number x
+        → result ≡ resolving.direction_of (placed uses.now.names.tree.now) x site }
+{
+    match site {
+        Site::Own(port) => port_direction(&uses.names, uses.type_number(number), port),
+        Site::Inner(sub, port) => port_direction(&uses.names, uses.type_below(number, sub), port),
+    }
+}
+
+// A port that the implementation of a number knows, and which way it goes.
+fn with_direction(
+    uses: &Uses<'_>,
+    number: usize,
+    site: Option<Site>,
+) -> Option<(Site, Option<Direction>)>
+    ensures { (x : trees.Implementation ℕ) → StandsAt (placed uses.now.names.tree.now) number x
+        → result ≡ option_map (resolving.with_direction (placed uses.now.names.tree.now) x) site }
+{
+    let site = site?;
+    Some((site, direction_of(uses, number, site)))
+}
+
+// Whether a port goes in.
+fn goes_in(direction: Option<Direction>) -> bool
+    ensures { result ≡ spec.goes_in direction }
+{
+    match direction {
+        Some(Direction::In) => true,
+        Some(Direction::Out) => false,
+        None => false,
+    }
+}
+
+// Whether a connection may come out of a port.
+fn may_leave(site: Site, direction: Option<Direction>) -> bool
+    ensures { result ≡ spec.may_leave (site, direction) }
+{
+    match site {
+        Site::Own(_) => goes_in(direction),
+        Site::Inner(_, _) => !goes_in(direction),
+    }
+}
+
+fn check_source(
+    finder: &mut Finder,
+    end: &ConnectionEnd,
+    at: usize,
+    port: Option<(Site, Option<Direction>)>,
+) -> Result<(), AllocError>
+    ensures { OnOk result (finder.new ≡ found finder.old (spec.end_faults spec.may_leave (end_view kept_place end.now) at port)) }
+{
+    match port {
+        Some((site, direction)) => {
+            finder.wrong_if(!may_leave(site, direction), at);
+            Ok(())
+        }
+        None => unknown_end(finder, end),
+    }
+}
+
+fn check_target(
+    finder: &mut Finder,
+    end: &ConnectionEnd,
+    at: usize,
+    port: Option<(Site, Option<Direction>)>,
+) -> Result<(), AllocError>
+    ensures { OnOk result (finder.new ≡ found finder.old (spec.end_faults spec.may_enter (end_view kept_place end.now) at port)) }
+{
+    match port {
+        Some((site, direction)) => {
+            let may_enter = !may_leave(site, direction);
+            finder.wrong_if(!may_enter, at);
+            Ok(())
+        }
+        None => unknown_end(finder, end),
+    }
+}
+
+fn unknown_end(finder: &mut Finder, end: &ConnectionEnd) -> Result<(), AllocError>
+    ensures { OnOk result (finder.new ≡ found finder.old (spec.unknown_end (end_view kept_place end.now))) }
+{
+    let name = spelled_end(finder.alloc(), end)?;
+    finder.unknown(name.as_str(), end.first.at)
+}
+
+fn is_own(port: Option<(Site, Option<Direction>)>) -> bool
+    ensures { result ≡ spec.is_own port }
+{
+    match port {
+        Some((Site::Own(_), _)) => true,
+        Some((Site::Inner(_, _), _)) => false,
+        None => false,
+    }
+}
+
+// Finds what is wrong with a connection that joins these ports.
+fn check_connection(
+    finder: &mut Finder,
+    source: Option<(Site, Option<Direction>)>,
+    target: Option<(Site, Option<Direction>)>,
+    connection: &Connection,
+) -> Result<(), AllocError>
+    ensures { OnOk result (finder.new ≡ found finder.old (joined_faults (connection_view kept_place connection.now) source target)) }
+{
+    let at = connection.name.at;
+    check_source(finder, &connection.source, at, source)?;
+    check_target(finder, &connection.target, at, target)?;
+    finder.wrong_if(is_own(source) && is_own(target), at);
+    check_properties(finder, Holder::Connection, connection.properties.as_slice())
+}
+
+/// Finds what is wrong with the connections of the implementation of a number.
+pub fn check_connections(
+    finder: &mut Finder,
+    wires: &Wires<'_>,
+    number: usize,
+    x: &Implementation,
+) -> Result<(), AllocError>
+    requires { StandsAt (placed wires.now.uses.names.tree.now) number (implementation_view kept_place x.now) }
+    ensures { OnOk result (finder.new ≡ found finder.old
+        (flat_map (spec.connection_faults (placed wires.now.uses.names.tree.now) (implementation_view kept_place x.now))
+        (implementation_view kept_place x.now).connections)) }
+{
+    for (connection, wire) in x.connections.iter().zip(wires.wires(number)) {
+        let source = with_direction(&wires.uses, number, wire.source);
+        let target = with_direction(&wires.uses, number, wire.target);
+        check_connection(finder, source, target, connection)?;
+    }
+    Ok(())
+}
