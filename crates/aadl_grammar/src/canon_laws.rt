@@ -12,7 +12,8 @@ ghost use Rattle.aadl_grammar.specs.proof.Reads.{HasTree};
 /// for its places, and no other. The text does not depend on the places of the tree.
 pub fn canonical_text_is_read_back()
     ensures of_text { (text : List ℕ) (tree : PackageTree ℕ) → IsTreeOf text tree → HasTree (canon tree) (package_to no_place tree) }
-    ensures only { (text : List ℕ) (tree again : PackageTree ℕ) → IsTreeOf text tree → IsTreeOf (canon tree) again → package_to no_place again ≡ package_to no_place tree }
+    ensures only { (text : List ℕ) (tree again : PackageTree ℕ)
+        → IsTreeOf text tree → IsTreeOf (canon tree) again → package_to no_place again ≡ package_to no_place tree }
     ensures of_tree { (tree : SourceTree) → ∥ HasTree (canon (meaning tree)) (meaning tree) ∥₁ }
     ensures places { (tree : PackageTree ℕ) → canon (package_to no_place tree) ≡ canon tree }
 {}

@@ -23,15 +23,18 @@ pub fn one_terminal_decides()
 /// Each opener makes the nesting deeper by one, that of a guard and that of an annex too, and each
 /// closer takes one back.
 pub fn openers_are_counted()
-    ensures openers { map (λ m. nesting 0 (mark m ∷ [])) (k.ParenOpen ∷ k.BracketOpen ∷ k.BraceOpen ∷ k.AnnexOpen ∷ k.GuardOpen ∷ k.If ∷ []) ≡ 1 ∷ 1 ∷ 1 ∷ 1 ∷ 1 ∷ 1 ∷ [] }
-    ensures closers { map (λ m. nesting 1 (mark m ∷ [])) (k.ParenClose ∷ k.BracketClose ∷ k.BraceClose ∷ k.AnnexClose ∷ k.GuardClose ∷ []) ≡ 0 ∷ 0 ∷ 0 ∷ 0 ∷ 0 ∷ [] }
+    ensures openers { map (λ m. nesting 0 (mark m ∷ [])) (k.ParenOpen ∷ k.BracketOpen ∷ k.BraceOpen ∷ k.AnnexOpen ∷ k.GuardOpen ∷ k.If ∷ [])
+        ≡ 1 ∷ 1 ∷ 1 ∷ 1 ∷ 1 ∷ 1 ∷ [] }
+    ensures closers { map (λ m. nesting 1 (mark m ∷ [])) (k.ParenClose ∷ k.BracketClose ∷ k.BraceClose ∷ k.AnnexClose ∷ k.GuardClose ∷ [])
+        ≡ 0 ∷ 0 ∷ 0 ∷ 0 ∷ 0 ∷ [] }
 {}
 
 /// The machine finishes on just the texts of packages that are not nested too deep. It stops with a
 /// fault just where no text goes on, and for depth just at the opener that makes the nesting too
 /// deep. So of each list of terminals one of the three holds, at one place.
 pub fn fate_of_package()
-    ensures finished { (end : ℕ) (spots : List Spot) → (fate 0 end whole_package spots ≡ finished) ↔ (IsPackage (kinds_of spots) × IsShallow 0 (kinds_of spots)) }
+    ensures finished { (end : ℕ) (spots : List Spot)
+        → (fate 0 end whole_package spots ≡ finished) ↔ (IsPackage (kinds_of spots) × IsShallow 0 (kinds_of spots)) }
     ensures syntax { (end : ℕ) (spots : List Spot) (at : ℕ) → (fate 0 end whole_package spots ≡ syntax_at at) ↔ FailsAt IsPackage 0 end spots at }
     ensures deep { (end : ℕ) (spots : List Spot) (at : ℕ) → (fate 0 end whole_package spots ≡ deep_at at) ↔ DeepAt IsPackage 0 spots at }
 {}
@@ -40,7 +43,8 @@ pub fn fate_of_package()
 /// by itself, with its opener open around it. It stops with a fault just where no text goes on, and
 /// for depth just at the opener that makes the nesting too deep.
 pub fn fate_of_behaviour()
-    ensures finished { (end : ℕ) (spots : List Spot) → (fate 1 end annex_body spots ≡ finished) ↔ (IsBehaviour (kinds_of spots) × IsShallow 1 (kinds_of spots)) }
+    ensures finished { (end : ℕ) (spots : List Spot)
+        → (fate 1 end annex_body spots ≡ finished) ↔ (IsBehaviour (kinds_of spots) × IsShallow 1 (kinds_of spots)) }
     ensures syntax { (end : ℕ) (spots : List Spot) (at : ℕ) → (fate 1 end annex_body spots ≡ syntax_at at) ↔ FailsAt IsBehaviour 1 end spots at }
     ensures deep { (end : ℕ) (spots : List Spot) (at : ℕ) → (fate 1 end annex_body spots ≡ deep_at at) ↔ DeepAt IsBehaviour 1 spots at }
 {}
@@ -50,8 +54,10 @@ pub fn fate_of_behaviour()
 pub fn a_text_has_one_tree()
     ensures package { (ks : List Kind) (t u : PackageTree (Unit {0})) → Spells (package_parts t) ks [] → Spells (package_parts u) ks [] → t ≡ u }
     ensures behaviour { (ks : List Kind) (t u : AnnexTree (Unit {0})) → Spells (annex_tree_parts t) ks [] → Spells (annex_tree_parts u) ks [] → t ≡ u }
-    ensures kept_of_package { (ks : List Kind) (t u : PackageTree ℕ) → Spells (package_parts t) ks [] → Spells (package_parts u) ks [] → kept (package_parts t) ≡ kept (package_parts u) }
-    ensures kept_of_behaviour { (ks : List Kind) (t u : AnnexTree ℕ) → Spells (annex_tree_parts t) ks [] → Spells (annex_tree_parts u) ks [] → kept (annex_tree_parts t) ≡ kept (annex_tree_parts u) }
+    ensures kept_of_package { (ks : List Kind) (t u : PackageTree ℕ)
+        → Spells (package_parts t) ks [] → Spells (package_parts u) ks [] → kept (package_parts t) ≡ kept (package_parts u) }
+    ensures kept_of_behaviour { (ks : List Kind) (t u : AnnexTree ℕ)
+        → Spells (annex_tree_parts t) ks [] → Spells (annex_tree_parts u) ks [] → kept (annex_tree_parts t) ≡ kept (annex_tree_parts u) }
 {}
 
 /// The tokens of a text are written by one package, or one behaviour, at most, with its places. And
@@ -60,7 +66,8 @@ pub fn a_text_has_one_tree()
 pub fn one_tree_with_places()
     ensures package { (ss : List Spot) (t u : PackageTree ℕ) → Written (package_parts t) ss [] → Written (package_parts u) ss [] → t ≡ u }
     ensures behaviour { (ss : List Spot) (t u : AnnexTree ℕ) → Written (annex_tree_parts t) ss [] → Written (annex_tree_parts u) ss [] → t ≡ u }
-    ensures moved { (t : PackageTree ℕ) (ss ts : List Spot) → Written (package_parts t) ss [] → Rising ss → kinds_of ts ≡ kept (package_parts t) → SamePackage t ts }
+    ensures moved { (t : PackageTree ℕ) (ss ts : List Spot)
+        → Written (package_parts t) ss [] → Rising ss → kinds_of ts ≡ kept (package_parts t) → SamePackage t ts }
 {}
 
 /// The machine on a transition of the two counters, on `x := ;` and on the text's end, on a small

@@ -100,7 +100,8 @@ impl Reader<'_> {
 
     /// The string that comes first, and the number behind it.
     pub fn quoted(&self, at: usize) -> Result<Option<(Vec<u8>, usize)>, ParseFault>
-        ensures ok { IfOk result (λ o. MatchOption o (Misses a_quoted (here self.now at)) (λ x. At (quoted x.0.items) (here self.now at) (here self.now x.1))) }
+        ensures ok { IfOk result (λ o. MatchOption o (Misses a_quoted (here self.now at))
+            (λ x. At (quoted x.0.items) (here self.now at) (here self.now x.1))) }
         ensures err { IfErr result (λ e. e ≡ Memory) }
     {
         let Some((terminal, next)) = self.first(at) else {
@@ -117,7 +118,8 @@ impl Reader<'_> {
 
     /// The annex of another language that comes first, and the number behind it.
     pub fn unread(&self, at: usize) -> Result<Option<(Vec<u8>, usize)>, ParseFault>
-        ensures ok { IfOk result (λ o. MatchOption o (Misses an_unread (here self.now at)) (λ x. At (unread x.0.items) (here self.now at) (here self.now x.1))) }
+        ensures ok { IfOk result (λ o. MatchOption o (Misses an_unread (here self.now at))
+            (λ x. At (unread x.0.items) (here self.now at) (here self.now x.1))) }
         ensures err { IfErr result (λ e. e ≡ Memory) }
     {
         let Some((terminal, next)) = self.first(at) else {

@@ -25,7 +25,8 @@ pub fn has_too_long_path(
 ) -> Result<bool, NoMemory>
     requires order { IsOrder (containment (placed uses.now.names.tree.now)) order.now.keys }
     requires root { root < length (placed uses.now.names.tree.now).declarations }
-    ensures { IfOk result (λ over. IsTrue over ↔ ThreadWith (placed uses.now.names.tree.now) root (λ x path. PATH_BYTES < length (spelled_path (placed uses.now.names.tree.now) root path))) }
+    ensures { IfOk result (λ over. IsTrue over
+        ↔ ThreadWith (placed uses.now.names.tree.now) root (λ x path. PATH_BYTES < length (spelled_path (placed uses.now.names.tree.now) root path))) }
 {
     let marks = uses.thread_marks(alloc)?;
     let weights = name_weights(alloc, uses.names.tree.declarations.as_slice())?;

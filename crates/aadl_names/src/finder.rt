@@ -71,17 +71,6 @@ impl Finder {
         Ok(())
     }
 
-    /// The subcomponent leads back to the implementation in which it stands.
-    pub fn recursive(&mut self, name: &str, at: usize) -> Result<(), AllocError>
-        ensures { OnOk result (self.new ≡ found self.old (faults.Recursive name.now at ∷ [])) }
-    {
-        if self.is_first(at, 5) {
-            let name = Text::from_str(self.alloc, name)?;
-            self.first = Some(FlatFault::Recursive { name, at });
-        }
-        Ok(())
-    }
-
     /// The connection is on no chain.
     pub fn dead_end(&mut self, name: &str, at: usize) -> Result<(), AllocError>
         ensures { OnOk result (self.new ≡ found self.old (faults.DeadEnd name.now at ∷ [])) }

@@ -195,7 +195,8 @@ fn implementations_of(
     alloc: Global,
     declarations: &[Declaration],
 ) -> Result<Table<usize>, AllocError>
-    ensures { IfOk result (λ table. (name : List ℕ) → value_of table name ≡ first_number (is_implementation name) (map (declaration_view kept_place) declarations.now)) }
+    ensures { IfOk result (λ table. (name : List ℕ)
+        → value_of table name ≡ first_number (is_implementation name) (map (declaration_view kept_place) declarations.now)) }
 {
     let mut table = Table::new(alloc);
     for (number, declaration) in declarations.iter().enumerate() {

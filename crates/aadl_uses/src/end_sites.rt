@@ -63,7 +63,9 @@ fn inner_site(
     name: &Identifier,
 ) -> Result<Option<Site>, AllocError>
     ensures { IfOk result (λ port. port ≡ option_map (Inner sub)
-        (port_named (ports_at (placed uses.now.names.tree.now) (option_and_then (implementation_at (placed uses.now.names.tree.now)) (below (placed uses.now.names.tree.now) number sub)))
+        (port_named
+        (ports_at (placed uses.now.names.tree.now)
+        (option_and_then (implementation_at (placed uses.now.names.tree.now)) (below (placed uses.now.names.tree.now) number sub)))
         (string_bytes name.now.spelling))) }
 {
     let of_type = uses.type_below(number, sub);

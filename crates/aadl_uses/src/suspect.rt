@@ -74,7 +74,8 @@ fn rises_from(graph: &Containment, levels: &[usize], number: usize) -> bool
 
 // Whether some declaration contains one of a greater level.
 fn rises(graph: &Containment, levels: &[usize]) -> bool
-    ensures { result ≡ false → (n : ℕ) → n < length graph.now → list_any (spec.is_above levels.now (spec.level_in levels.now n)) (targets_in graph.now n) ≡ false }
+    ensures { result ≡ false
+        → (n : ℕ) → n < length graph.now → list_any (spec.is_above levels.now (spec.level_in levels.now n)) (targets_in graph.now n) ≡ false }
 {
     for number in 0..graph.len() {
         if rises_from(graph, levels, number) {

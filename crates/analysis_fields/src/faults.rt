@@ -168,7 +168,8 @@ fn ends_of(
     place: Place<'_>,
     parts: &FaultParts<'_>,
 ) -> Result<FaultEnds, ScenarioFault>
-    ensures { Answers (ends_of names.now replicas.now (place_text place.entry) parts.now.path.now parts.now.name.now (view parts.now.replica.now)) result }
+    ensures { Answers (ends_of names.now replicas.now (place_text place.entry) parts.now.path.now parts.now.name.now
+        (view parts.now.replica.now)) result }
 {
     let source = replica_at(alloc, names, replicas, place, parts.path)?;
     let replica = whole(alloc, place, 1, REPLICAS, parts.replica)?;
@@ -208,7 +209,8 @@ fn fault_behind(
     ends: FaultEnds,
     parts: &FaultParts<'_>,
 ) -> Result<RoundFault, ScenarioFault>
-    ensures { Answers (fault_behind names.now replicas.now (place_text place.entry) ends (view parts.now.target.now) (view parts.now.round.now) (map view parts.now.values.now)) result }
+    ensures { Answers (fault_behind names.now replicas.now (place_text place.entry) ends
+        (view parts.now.target.now) (view parts.now.round.now) (map view parts.now.values.now)) result }
 {
     let kind = kind_at(names, ends.link);
     let copies = copies_at(names, replicas, ends.link);
@@ -239,7 +241,8 @@ fn fault_of(
     place: Place<'_>,
     parts: &FaultParts<'_>,
 ) -> Result<RoundFault, ScenarioFault>
-    ensures { Answers (fault_of names.now replicas.now (place_text place.entry) parts.now.path.now parts.now.name.now (view parts.now.replica.now) (view parts.now.target.now) (view parts.now.round.now) (map view parts.now.values.now)) result }
+    ensures { Answers (fault_of names.now replicas.now (place_text place.entry) parts.now.path.now parts.now.name.now
+        (view parts.now.replica.now) (view parts.now.target.now) (view parts.now.round.now) (map view parts.now.values.now)) result }
 {
     let ends = ends_of(alloc, names, replicas, place, parts)?;
     fault_behind(alloc, names, replicas, place, ends, parts)

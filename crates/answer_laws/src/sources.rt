@@ -20,7 +20,8 @@ pub fn calls_answer_their_bytes()
         → seen.before.left ≡ Some left
         → seen.before.faults < 2 ^ 64 - 1 → seen.after.faults ≡ seen.before.faults → BUNDLE_BYTES < length left
         → IsAnswer (Some command) seen status text → (status ≡ 12) × (text ≡ too_long_line) }
-    ensures failed { (command : Command) (seen : Reading) (status : ℕ) (text : List ℕ) → reads_source command ≡ true → (seen.after.faults ≡ seen.before.faults → ⊥)
+    ensures failed { (command : Command) (seen : Reading) (status : ℕ) (text : List ℕ)
+        → reads_source command ≡ true → (seen.after.faults ≡ seen.before.faults → ⊥)
         → IsAnswer (Some command) seen status text → (status ≡ 9) × (text ≡ read_fault_line) }
 {}
 

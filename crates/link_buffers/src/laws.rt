@@ -10,7 +10,8 @@ ghost use Rattle.link_buffers.specs.proof.Queues.{is_entry, with_entry, without_
 /// The oldest copy of a round is of that round, and none before it is. The others are what stands
 /// before it and after it. Where there is none, no copy is of that round, and all are left.
 pub fn oldest_copy_is_first()
-    ensures some { (round : ℕ) (copies : List FlightCopy) (copy : FlightCopy) → oldest round copies ≡ Some copy → IsFirst (is_of round) copies copy (without_oldest round copies) }
+    ensures some { (round : ℕ) (copies : List FlightCopy) (copy : FlightCopy)
+        → oldest round copies ≡ Some copy → IsFirst (is_of round) copies copy (without_oldest round copies) }
     ensures none { (round : ℕ) (copies : List FlightCopy) → oldest round copies ≡ None → All (λ copy. is_of round copy ≡ false) copies }
     ensures left { (round : ℕ) (copies : List FlightCopy) → oldest round copies ≡ None → without_oldest round copies ≡ copies }
 {}
@@ -24,6 +25,8 @@ pub fn least_is_in_the_list()
 /// An entry that is added stands there once more, and each other as often as before. One that is
 /// taken out stood there once more.
 pub fn entries_are_counted()
-    ensures with { (entry other : DueEntry) (entries : List DueEntry) → count_by (is_entry other) (with_entry entry entries) ≡ count_by (is_entry other) (entry ∷ entries) }
-    ensures without { (entry other : DueEntry) (entries : List DueEntry) → Contains entries entry → count_by (is_entry other) (entry ∷ without_entry entry entries) ≡ count_by (is_entry other) entries }
+    ensures with { (entry other : DueEntry) (entries : List DueEntry)
+        → count_by (is_entry other) (with_entry entry entries) ≡ count_by (is_entry other) (entry ∷ entries) }
+    ensures without { (entry other : DueEntry) (entries : List DueEntry)
+        → Contains entries entry → count_by (is_entry other) (entry ∷ without_entry entry entries) ≡ count_by (is_entry other) entries }
 {}

@@ -13,7 +13,7 @@ use component_checks::Properties;
 use design_laws::designs::{designs_are_there, designs_keep_their_rules};
 use design_laws::names::texts_name;
 use design_laws::threads::{behaviours_keep_their_rules, no_violations_are_no_findings};
-use model_violations::list::violations_by;
+use model_violations::violations;
 use pals_base::{Items, NoMemory};
 use pals_model::Design;
 use std::alloc::{AllocError, Global};
@@ -66,7 +66,7 @@ pub fn check(alloc: Global, instance: &Instance<'_>) -> Result<Design, CheckFaul
     ensures refused { IfErr result (λ fault. IsRefused (placed instance.now.wires.uses.names.tree.now) (shown instance.now) fault) }
 {
     let properties = Properties::of(alloc, &instance.wires.uses)?;
-    let found = violations_by(alloc, &properties, instance)?;
+    let found = violations(alloc, &properties, instance)?;
     if !found.is_empty() {
         return Err(CheckFault::Violations(found));
     }

@@ -184,7 +184,7 @@ fn findings_of(
 
 /// All that is wrong with an instance, in order of place, then of number, by what the lists of its
 /// package say.
-pub fn violations_by(
+pub fn violations(
     alloc: Global,
     properties: &Properties<'_>,
     instance: &Instance<'_>,
@@ -195,12 +195,4 @@ pub fn violations_by(
     let found = findings_of(alloc, properties, instance)?;
     let list = in_order(found)?;
     Ok(list)
-}
-
-/// All that is wrong with an instance, in order of place, then of number.
-pub fn violations(alloc: Global, instance: &Instance<'_>) -> Result<Items<Violation>, NoMemory>
-    ensures { IfOk result (λ list. spec.AreViolations (placed instance.now.wires.uses.names.tree.now) (inner.shown instance.now) list) }
-{
-    let properties = Properties::of(alloc, &instance.wires.uses)?;
-    violations_by(alloc, &properties, instance)
 }

@@ -115,7 +115,8 @@ impl Locked {
 
     /// Whether no node of the calling thread may go on any more.
     pub fn caller_is_over(&self) -> bool
-        ensures { IsTrue result → (node : ℕ) → IsOpen self.now.course node → (seat_at self.now.sleepers.seats node).of_caller ≡ true → IsDone self.now.course node }
+        ensures { IsTrue result
+            → (node : ℕ) → IsOpen self.now.course node → (seat_at self.now.sleepers.seats node).of_caller ≡ true → IsDone self.now.course node }
     {
         self.sleepers.caller_is_over(&self.course)
     }

@@ -1,7 +1,7 @@
 //! Names: words, and paths of words.
 ghost use Rattle.std.specs.Prelude.{◌≡◌, ◌≢◌, ◌++◌, ◌↔◌, IsTrue, All, AllPairs, OnOk, map};
 ghost use Rattle.std.specs.List.{list_all};
-ghost use Rattle.pals_base.specs.Names.{is_letter, is_word_byte, is_led_by_letter, is_word, is_path};
+ghost use Rattle.pals_base.specs.Names.{is_letter, is_word_byte, is_led_by_letter, is_word};
 
 use crate::behaviour::{Named, StateDecl, VarDecl};
 use crate::copy::TryClone;
@@ -67,13 +67,6 @@ pub fn is_word(name: &[u8]) -> bool
     ensures { result ≡ is_word name.now }
 {
     name.len() <= NAME_BYTES && is_led_by_letter(name) && has_word_bytes(name)
-}
-
-/// Whether a path is words with a `.` between each two.
-pub fn is_path(path: &[u8]) -> bool
-    ensures { result ≡ is_path path.now }
-{
-    path.split(|byte| *byte == b'.').all(|word| is_word(word))
 }
 
 /// Whether each of these has a word for a name.

@@ -1,7 +1,7 @@
 //! Tuples: the values of a port over the steps of a round.
 ghost use Rattle.std.specs.Prelude.{◌≡◌, IfOk, replicate, slice_index_or};
 ghost use Rattle.pals_base.specs.declared.values.Port.TheVariants.{Absent};
-ghost use Rattle.pals_base.specs.Steps.{column, columns, cut};
+ghost use Rattle.pals_base.specs.Steps.{column, cut};
 
 use crate::items::Items;
 use crate::values::{NoMemory, Port, Tuple};
@@ -47,16 +47,4 @@ pub fn column(alloc: Global, at: usize, tuples: &[Tuple]) -> Result<Tuple, NoMem
         places.push(place(tuple.as_slice(), at))?;
     }
     Ok(places)
-}
-
-/// The first `count` columns of the tuples.
-#[tactic(auto, using(crate::proofs::Upwards::map_upwards_more))]
-pub fn columns(alloc: Global, count: usize, tuples: &[Tuple]) -> Result<Items<Tuple>, NoMemory>
-    ensures { IfOk result (λ cs. cs ≡ columns count tuples.now) }
-{
-    let mut all = Items::new(alloc);
-    for at in 0..count {
-        all.push(column(alloc, at, tuples)?)?;
-    }
-    Ok(all)
 }

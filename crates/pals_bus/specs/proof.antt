@@ -7,6 +7,7 @@ pub mod Answers
 pub mod Queues
 pub mod Due
 pub mod Sending
+pub mod Messages
 pub mod LinksFrom
 pub mod Codes
 pub mod Meeting

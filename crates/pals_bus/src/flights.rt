@@ -1,16 +1,15 @@
 //! Messages that a send puts into flight and that leave it, the queues of those that become due, and
 //! room for them.
-ghost use Rattle.std.specs.Prelude.{◌≡◌, ◌+◌, ◌<◌, ◌≤◌, length, filter, All, OnOk, IfSome, option_map, slice_index_or, slice_set};
+ghost use Rattle.std.specs.Prelude.{◌≡◌, ◌+◌, ◌<◌, ◌≤◌, length, filter, All, OnOk, IfSome, option_map, slice_set};
 ghost use Rattle.std.specs.Arc.{arc_value};
 ghost use Rattle.pals_base.specs.declared.limits.TheConstants.{HOUR, READING};
 ghost use Rattle.pals_model.specs.Delays.{AreDelays};
-ghost use Rattle.pals_model.specs.Flights.{oldest, without_oldest};
+ghost use Rattle.pals_model.specs.Flights.{oldest};
 ghost use Rattle.pals_model.specs.Rules.{IsDesign};
 ghost use Rattle.pals_bus.specs.proof.Keeping.{Keeps, copies_in};
-ghost use Rattle.bus_machine.specs.States.{link_at};
-ghost use Rattle.pals_bus.specs.proof.Absent.{no_flight, no_queue};
 ghost use Rattle.pals_bus.specs.proof.Queues.{AreQueues, AreQueuesAmid, HasQueueRoomOn, NoLessQueueRoom, entries_in, with_due, without_due};
-ghost use Rattle.pals_bus.specs.proof.Sending.{is_from, HasRoomFor, HasRoomOn, NoLessRoom, with_copy, AreSent};
+ghost use Rattle.pals_bus.specs.proof.Sending.{is_from, HasRoomFor, HasRoomOn, NoLessRoom, with_copy};
+ghost use Rattle.pals_bus.specs.proof.Messages.{IsRoundSent, flight_on, target_of, queue_to, queues_with, copies_without};
 ghost use Rattle.pals_bus.specs.proof.LinksFrom.{AreOutgoing};
 
 use crate::fields::Fields;
@@ -73,7 +72,7 @@ impl Fields {
         requires room { HasRoomFor node.0 (length (arc_value self.old.design).links) (arc_value self.old.design).links self.old.flights }
         requires queues { AreQueuesAmid node.0 0 (arc_value self.old.design).links self.old.nodes self.old.flights self.old.queues }
         requires messages { length messages ≡ length (filter (is_from node.0) (arc_value self.old.design).links) }
-        ensures sent { AreSent node.0 (arc_value self.old.design).links self.old.delays round reading messages (length (arc_value self.old.design).links) self.old.flights self.new.flights }
+        ensures sent { IsRoundSent self.old node.0 round reading messages self.new.flights }
         ensures queues { AreQueues (arc_value self.old.design).links self.old.nodes self.new.flights self.new.queues }
         ensures others { self.new ≡ record self.old { flights = self.new.flights; queues = self.new.queues } }
     {
@@ -95,8 +94,8 @@ impl Fields {
     pub fn take_message(&mut self, link: LinkNo, round: u32) -> Option<Tuple>
         requires keeps { Keeps self.old }
         requires link { link.0 < length (arc_value self.old.design).links }
-        ensures taken { result ≡ option_map (λ copy. copy.tuple) (oldest round (slice_index_or self.old.flights link.0 no_flight).copies) }
-        ensures copies { copies_in self.new.flights ≡ slice_set (copies_in self.old.flights) link.0 (without_oldest round (slice_index_or self.old.flights link.0 no_flight).copies) }
+        ensures taken { result ≡ option_map (λ copy. copy.tuple) (oldest round (flight_on self.old link).copies) }
+        ensures copies { copies_in self.new.flights ≡ copies_without self.old link round }
         ensures queues { AreQueues (arc_value self.old.design).links self.old.nodes self.new.flights self.new.queues }
         ensures room { NoLessRoom self.old.flights self.new.flights }
         ensures others { self.new ≡ record self.old { flights = self.new.flights; queues = self.new.queues } }
@@ -115,11 +114,11 @@ impl Fields {
     pub fn add_message(&mut self, link: LinkNo, copy: FlightCopy)
         requires link { link.0 < length self.old.flights }
         requires number { link.0 < length (arc_value self.old.design).links }
-        requires target { (link_at (arc_value self.old.design) link.0).target.0 < length self.old.queues }
-        requires room { 1 ≤ (slice_index_or self.old.flights link.0 no_flight).spare }
-        requires queue { 1 ≤ (slice_index_or self.old.queues (link_at (arc_value self.old.design) link.0).target.0 no_queue).spare }
-        ensures flights { self.new.flights ≡ slice_set self.old.flights link.0 (with_copy (slice_index_or self.old.flights link.0 no_flight) copy) }
-        ensures queues { self.new.queues ≡ slice_set self.old.queues (link_at (arc_value self.old.design) link.0).target.0 (with_due (slice_index_or self.old.queues (link_at (arc_value self.old.design) link.0).target.0 no_queue) copy.due link copy.round) }
+        requires target { target_of self.old link < length self.old.queues }
+        requires room { 1 ≤ (flight_on self.old link).spare }
+        requires queue { 1 ≤ (queue_to self.old link).spare }
+        ensures flights { self.new.flights ≡ slice_set self.old.flights link.0 (with_copy (flight_on self.old link) copy) }
+        ensures queues { self.new.queues ≡ queues_with self.old link copy }
         ensures others { self.new ≡ record self.old { flights = self.new.flights; queues = self.new.queues } }
     {
         let target = self.design.links()[link.0 as usize].target;

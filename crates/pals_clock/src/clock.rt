@@ -102,7 +102,8 @@ impl ListClock {
 // How many readings stand before the first that is at least the target, or none where all are below
 // it.
 fn passed_over(readings: &[Nanos], target: Nanos) -> Option<usize>
-    ensures { MatchOption result (All (λ reading. reading < target) readings.now) (λ n. (n < length readings.now) × (target ≤ slice_index readings.now n) × (reached readings.now target ≡ drop n readings.now)) }
+    ensures { MatchOption result (All (λ reading. reading < target) readings.now)
+        (λ n. (n < length readings.now) × (target ≤ slice_index readings.now n) × (reached readings.now target ≡ drop n readings.now)) }
 {
     readings.iter().position(|&reading| target <= reading)
 }

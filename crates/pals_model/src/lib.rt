@@ -9,7 +9,6 @@ pub mod laws;
 pub mod links;
 pub mod parts;
 pub mod rounds;
-mod rules;
 mod same;
 pub mod sources;
 

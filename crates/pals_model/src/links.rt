@@ -1,23 +1,10 @@
-//! The links of one component, by their numbers.
+//! The links from a component, by their numbers.
 ghost use Rattle.std.specs.Prelude.{◌≡◌, IfOk, map};
-ghost use Rattle.pals_model.specs.Inputs.{links_into, links_from};
+ghost use Rattle.pals_model.specs.Inputs.{links_from};
 
 use crate::design::Design;
 use pals_base::{Items, LinkNo, NoMemory, NodeNo};
 use std::alloc::Global;
-
-/// The numbers of the links into a component, in their order.
-pub fn links_into(alloc: Global, design: &Design, node: NodeNo) -> Result<Items<LinkNo>, NoMemory>
-    ensures { IfOk result (λ numbers. map (λ link. link.0) numbers ≡ links_into design.now node.0) }
-{
-    let mut numbers = Items::new(alloc);
-    for (number, link) in design.links().iter().enumerate() {
-        if link.target == node {
-            numbers.push(LinkNo(number as u32))?;
-        }
-    }
-    Ok(numbers)
-}
 
 /// The numbers of the links from a component, in their order.
 pub fn links_from(alloc: Global, design: &Design, node: NodeNo) -> Result<Items<LinkNo>, NoMemory>

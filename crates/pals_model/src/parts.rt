@@ -1,11 +1,10 @@
 //! What the parts of a design say of its components and ports, by their numbers.
 ghost use Rattle.std.specs.Prelude.{◌≡◌, fold, max, slice_get, option_copied};
 ghost use Rattle.pals_model.specs.Inputs.{rate_of};
-ghost use Rattle.pals_model.specs.Ports.{ins_in, outs_in, kind_of, in_kind, out_kind};
-ghost use Rattle.pals_model.specs.Rules.{port_place, greatest_rate};
+ghost use Rattle.pals_model.specs.Ports.{kind_of, in_kind, out_kind};
+ghost use Rattle.pals_model.specs.Rules.{greatest_rate};
 
-use crate::design::{Component, DesignParts, Feed, Link};
-use pals_base::limits::PORTS;
+use crate::design::{Component, DesignParts};
 use pals_base::{Kind, Named, NodeNo};
 
 impl DesignParts {
@@ -23,26 +22,6 @@ impl DesignParts {
         match self.component(node) {
             None => 1,
             Some(component) => component.rate,
-        }
-    }
-
-    /// How many in ports a component has.
-    pub fn in_count(&self, node: NodeNo) -> usize
-        ensures { result ≡ ins_in (slice_get self.now.components node.0) }
-    {
-        match self.component(node) {
-            None => 0,
-            Some(component) => component.behaviour.ins().len(),
-        }
-    }
-
-    /// How many out ports a component has.
-    pub fn out_count(&self, node: NodeNo) -> usize
-        ensures { result ≡ outs_in (slice_get self.now.components node.0) }
-    {
-        match self.component(node) {
-            None => 0,
-            Some(component) => component.behaviour.outs().len(),
         }
     }
 
@@ -74,27 +53,6 @@ pub fn greatest_rate(components: &[Component]) -> u32
     components
         .iter()
         .fold(1, |greatest, component| greatest.max(component.rate))
-}
-
-/// The place of the in port that a link goes to among the in ports of all components, which have at
-/// most 64 each.
-pub fn place_of_link(link: &Link) -> u64
-    ensures { result ≡ port_place link.now.target.0 link.now.in_port }
-{
-    port_place(link.target, link.in_port)
-}
-
-/// The place of the in port that a feed goes to, as that of a link.
-pub fn place_of_feed(feed: &Feed) -> u64
-    ensures { result ≡ port_place feed.now.target.0 feed.now.in_port }
-{
-    port_place(feed.target, feed.in_port)
-}
-
-fn port_place(node: NodeNo, port: u32) -> u64
-    ensures { result ≡ port_place node.0 port }
-{
-    PORTS as u64 * u64::from(node.0) + u64::from(port)
 }
 
 fn kind_of(port: Option<&Named>) -> Kind

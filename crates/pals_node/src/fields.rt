@@ -1,17 +1,17 @@
 //! The fields of a node, and what each event does with them.
-ghost use Rattle.std.specs.Prelude.{◌≡◌, ◌+◌, ◌<◌, ◌≤◌, ◌++◌, ◌∷◌, IfOk, OnOk, OnErr, length, map, replicate, vec_len, vec_capacity, if◌then◌else◌, Some, None, slice_index_or, nat_eq, true, false, [], All, List, Option};
+ghost use Rattle.std.specs.Prelude.{◌≡◌, ◌+◌, ◌<◌, ◌≤◌, ◌++◌, ◌∷◌, IfOk, OnOk, OnErr, length, replicate, vec_len, vec_capacity, if◌then◌else◌, Some, None, nat_eq, true, false, [], All, Option};
 ghost use Rattle.std.specs.Arc.{arc_value};
 ghost use Rattle.pals_base.specs.declared.limits.TheConstants.{ROUNDS};
 ghost use Rattle.pals_base.specs.declared.values.Port.{Port};
 ghost use Rattle.pals_base.specs.declared.values.Port.TheVariants.{Absent};
 ghost use Rattle.pals_base.specs.Fire.{HasShape};
 ghost use Rattle.pals_runs.specs.declared.journal.Phase.TheVariants.{Running};
-ghost use Rattle.bus_machine.specs.NodeEvents.{started, stepped, finished, sent_from, messages_from, may_send, part_left};
-ghost use Rattle.pals_node.specs.proof.Values.{job_at, job_value, opening_value, with_state};
+ghost use Rattle.bus_machine.specs.NodeEvents.{started, sent_from, messages_from, may_send, part_left};
+ghost use Rattle.pals_node.specs.proof.Values.{job_at, opening_value, with_state};
 ghost use Rattle.pals_node.specs.proof.Memories.{HasMemory};
-ghost use Rattle.pals_node.specs.proof.Rounds.{empty_part, IsBegun};
+ghost use Rattle.pals_node.specs.proof.Rounds.{empty_part, IsBegun, first_job_of, begun_with};
 ghost use Rattle.bus_machine.specs.Nodes.{at_rest, vectors_of};
-ghost use Rattle.pals_node.specs.proof.Keeping.{Keeps, IsProgram, PhaseKeeps, HasRound, HasPartRoom, IsPartRoom, AreTuples, IsStepMade, value_of, state_of, ended_at};
+ghost use Rattle.pals_node.specs.proof.Keeping.{Keeps, IsProgram, PhaseKeeps, HasRound, HasPartRoom, IsPartRoom, AreTuples, IsStepMade, value_of, state_of, finished_value, ended_at};
 
 use crate::buffers::{absent_tuples, write_places, write_ports};
 use crate::inputs::{empty_all, empty_slots, round_vectors};
@@ -130,7 +130,7 @@ impl Fields {
     // Begins a round with what its start reserved. It takes no memory.
     fn begin(&mut self, room: RoundRoom)
         requires count { self.old.count < ROUNDS }
-        ensures { self.new ≡ record self.old { count = self.old.count + 1; phase = Running 0; slots = map (λ (_ : Option (List Port)). None) self.old.slots; vectors = room.vectors; outs = room.outs; sent = false; next_part = Some room.part; messages = Some room.messages } }
+        ensures { self.new ≡ begun_with self.old room }
     {
         let RoundRoom {
             vectors,
@@ -152,7 +152,7 @@ impl Fields {
     pub fn run_step(&mut self, step: u32)
         requires keeps { Keeps self.old }
         requires runs { self.old.phase ≡ Running step }
-        ensures value { value_of self.new ≡ with_state (value_of self.old) (finished (arc_value self.old.plan).plan self.old.rounds step (state_of self.old)) }
+        ensures value { value_of self.new ≡ finished_value self.old step }
         ensures keeps { Keeps self.new }
     {
         let inputs = self.vectors[step as usize].as_slice();
@@ -171,7 +171,7 @@ impl Fields {
         requires keeps { Keeps self.old }
         requires runs { self.old.phase ≡ Running step }
         requires job { done ≡ job_at (value_of self.old) step }
-        ensures value { value_of self.new ≡ with_state (value_of self.old) (finished (arc_value self.old.plan).plan self.old.rounds step (state_of self.old)) }
+        ensures value { value_of self.new ≡ finished_value self.old step }
         ensures keeps { Keeps self.new }
     {
         let memory = done.give_result(&mut self.frame, &mut self.row);
@@ -272,7 +272,7 @@ fn begun(
     requires frame { HasShape (arc_value plan.now).plan.behaviour frame.now }
     requires spare { HasMemory (arc_value plan.now).code spare }
     ensures room { IfOk result (λ made. IsBegun (arc_value plan.now).plan env.now slots.now made.0) }
-    ensures job { IfOk result (λ made. made.1 ≡ job_value (arc_value plan.now) round 0 frame.now (slice_index_or (vectors_of (arc_value plan.now).plan env.now slots.now) 0 [])) }
+    ensures job { IfOk result (λ made. made.1 ≡ first_job_of (arc_value plan.now) round frame.now env.now slots.now) }
 {
     let (vectors, job) = first_job(alloc, plan, round, env, slots, frame, spare)?;
     let room = round_room(alloc, &plan.plan, vectors)?;
@@ -303,7 +303,7 @@ fn first_job(
     requires frame { HasShape (arc_value plan.now).plan.behaviour frame.now }
     requires spare { HasMemory (arc_value plan.now).code spare }
     ensures vectors { IfOk result (λ found. found.0 ≡ vectors_of (arc_value plan.now).plan env.now slots.now) }
-    ensures job { IfOk result (λ found. found.1 ≡ job_value (arc_value plan.now) round 0 frame.now (slice_index_or (vectors_of (arc_value plan.now).plan env.now slots.now) 0 [])) }
+    ensures job { IfOk result (λ found. found.1 ≡ first_job_of (arc_value plan.now) round frame.now env.now slots.now) }
 {
     let vectors = round_vectors(alloc, &plan.plan, env, slots)?;
     let job = Job::new(alloc, plan, round, 0, frame, &vectors[0], spare)?;

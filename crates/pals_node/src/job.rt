@@ -65,7 +65,8 @@ impl Model for Done {
 
     ghost view = { λ d. job_value (arc_value d.plan) d.round d.step d.frame d.inputs };
 
-    ghost invariant = { λ d. IsResult (job_value (arc_value d.plan) d.round d.step d.frame d.inputs) (record { frame = d.result; outs = d.outs.items }) × IsRoomOf (arc_value d.plan).code d.room };
+    ghost invariant = { λ d. IsResult (job_value (arc_value d.plan) d.round d.step d.frame d.inputs) (record { frame = d.result; outs = d.outs.items })
+        × IsRoomOf (arc_value d.plan).code d.room };
 }
 
 impl Job {

@@ -39,7 +39,8 @@ pub fn next_in_round(plan: &Plan, round: u32, steps: u32, sent: bool) -> Next
     requires plan { IsPlan plan.now }
     requires round { round < ROUNDS }
     requires steps { steps < plan.now.rate }
-    ensures { result ≡ (let a = next_action plan.now (record { round = round; steps = steps; sent = sent }) in record { action = a; target = target plan.now a }) }
+    ensures { result ≡ (let a = next_action plan.now (record { round = round; steps = steps; sent = sent })
+        in record { action = a; target = target plan.now a }) }
 {
     if send_is_next(plan, round, steps, sent) {
         return next_send(plan, round);

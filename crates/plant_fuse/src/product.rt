@@ -49,7 +49,12 @@ impl Model for FuseProduct {
     ghost use Rattle.sync_product.specs.proof.Ready.{HasRoom};
     ghost use Rattle.plant_fuse.specs.proof.Ready.{IsReady};
 
-    ghost view = { λ p. record { design = arc_value p.design; pairs = p.tables.pairs; configuration = record { frames = frames_of p.parts; messages = p.messages }; parts = p.parts } };
+    ghost view = { λ p. record {
+      design = arc_value p.design;
+      pairs = p.tables.pairs;
+      configuration = record { frames = frames_of p.parts; messages = p.messages };
+      parts = p.parts;
+    } };
 
     ghost invariant = { λ p.
         IsReady (arc_value p.design) p.tables p.stages.items

@@ -23,24 +23,20 @@ use Rattle.scenario_values.specs.Values.{whole}
 use Rattle.scenario_values.proofs.Passing.{read_as, ok_same, ok_bind, ok_only_if, whole_within}
 use Rattle.scenario_json.specs.Cells.{cells_of}
 use Rattle.scenario_json.specs.Inputs.{inputs_in, delays_in}
-use Rattle.scenario_json.specs.Traces.{trace_in}
 use Rattle.scenario_json.specs.Clocks.{clocks_in}
-use Rattle.scenario_json.specs.Events.{events_in}
 use Rattle.scenario_json.specs.proof.RunFacts.{AreInputsOf, AreDelaysOf, AreClocksFor}
 use Rattle.scenario_json.proofs.RunFacts.{no_inputs_keep, inputs_keep, least_delays_keep, delays_keep, clocks_keep}
 use Rattle.analysis_fields.specs.proof.AnalysisFacts.{IsFaultOf, IsProcessorOf}
 use Rattle.analysis_fields.specs.declared.faults.RoundFault.{RoundFault}
 use Rattle.analysis_fields.specs.declared.processors.Processor.{Processor}
-use Rattle.analysis_fields.specs.Properties.{properties_in}
 use Rattle.analysis_fields.specs.PropertyValues.{PropertyValue}
-use Rattle.analysis_fields.specs.Replicas.{replicas_in, faults_in}
-use Rattle.analysis_fields.specs.Plants.{plants_in}
+use Rattle.analysis_fields.specs.Replicas.{faults_in}
 use Rattle.analysis_fields.specs.Processors.{processors_in}
 use Rattle.analysis_fields.proofs.FaultFacts.{faults_keep}
 use Rattle.analysis_fields.proofs.ProcessorFacts.{processors_keep}
 use Rattle.scenario_json.specs.declared.scenario.Scenario.{Scenario}
 use Rattle.scenario_json.specs.proof.Facts.{IsScenarioOf}
-use Rattle.scenario_json.specs.Scenarios.{field, small_enough, needs_events, needs_trace, needs_properties, needs_processors, rounds_in, fields_in}
+use Rattle.scenario_json.specs.Scenarios.{field, small_enough, needs_processors, rounds_in, inputs_field, events_field, clocks_field, delays_field, trace_field, properties_field, replicas_field, faults_field, plants_field, processors_field, fields_in}
 
 -- a field that is there keeps what its reader keeps, and one that is not there what stands in its place keeps
 field_keeps : {A : Type 0} (P : A → Type 0) (name : List ℕ) (needed : Bool) (otherwise : A) (read : Data → Result A ScenarioFault) (found : Option Data) (a : A) → P otherwise → ((d : Data) → read d ≡ Ok a → P a) → field name needed otherwise read found ≡ Ok a → P a
@@ -72,42 +68,6 @@ by_bind : {A B : Type 0} (m : Result A ScenarioFault) (go : A → Result B Scena
 by_bind (Ok a) go b Q e next = next a refl e
 by_bind (Err fault) go b Q e next = absurd (cc)
 
-abbrev no_inputs : DesignParts → List (List Port)
-no_inputs design = replicate (length (root_inputs design)) []
-
-abbrev no_delays : DesignParts → List (List ℕ)
-no_delays design = replicate (length design.links) (design.gamma.mu_min ∷ [])
-
-abbrev processors_of : Data → DesignParts → Command → Result (List Processor) ScenarioFault
-processors_of d design command = field (codes "processors") (needs_processors command) [] (processors_in design) (get (codes "processors") d)
-
-abbrev plants_of : Data → DesignParts → Result (List Pair) ScenarioFault
-plants_of d design = field (codes "plants") false [] (plants_in design) (get (codes "plants") d)
-
-abbrev faults_of : Data → DesignParts → List NodeNo → Result (List RoundFault) ScenarioFault
-faults_of d design replicas = field (codes "faults") false [] (faults_in design replicas) (get (codes "faults") d)
-
-abbrev replicas_of : Data → DesignParts → Result (List NodeNo) ScenarioFault
-replicas_of d design = field (codes "replicas") false [] (replicas_in design) (get (codes "replicas") d)
-
-abbrev properties_of : Data → DesignParts → Command → Result (List PropertyValue) ScenarioFault
-properties_of d design command = field (codes "properties") (needs_properties command) [] (properties_in design) (get (codes "properties") d)
-
-abbrev trace_of : Data → Command → Result (List (List ℕ)) ScenarioFault
-trace_of d command = field (codes "trace") (needs_trace command) [] trace_in (get (codes "trace") d)
-
-abbrev delays_of : Data → DesignParts → Result (List (List ℕ)) ScenarioFault
-delays_of d design = field (codes "delays") false (no_delays design) (delays_in design) (get (codes "delays") d)
-
-abbrev clocks_of : Data → DesignParts → Result Clocks ScenarioFault
-clocks_of d design = field (codes "clocks") false Meet (clocks_in design) (get (codes "clocks") d)
-
-abbrev events_of : Data → DesignParts → Command → Result (List Event) ScenarioFault
-events_of d design command = field (codes "events") (needs_events command) [] (events_in design command) (get (codes "events") d)
-
-abbrev inputs_of : Data → DesignParts → Result (List (List Port)) ScenarioFault
-inputs_of d design = field (codes "inputs") false (no_inputs design) (inputs_in design) (get (codes "inputs") d)
-
 -- what is read before a field
 record Read : Type 0 where
   rounds : ℕ
@@ -134,18 +94,18 @@ made x replicas faults plants processors = record {
 }
 
 abbrev from_plants : Data → DesignParts → Command → Read → List NodeNo → List RoundFault → Result Scenario ScenarioFault
-from_plants d design command x r f = plants_of d design >>= λ pl. processors_of d design command >>= λ pr. Ok (made x r f pl pr)
+from_plants d design command x r f = plants_field design d >>= λ pl. processors_field design command d >>= λ pr. Ok (made x r f pl pr)
 
 abbrev from_replicas : Data → DesignParts → Command → Read → Result Scenario ScenarioFault
-from_replicas d design command x = replicas_of d design >>= λ r. faults_of d design r >>= λ f. from_plants d design command x r f
+from_replicas d design command x = replicas_field design d >>= λ r. faults_field design r d >>= λ f. from_plants d design command x r f
 
 abbrev from_trace : Data → DesignParts → Command → ℕ → List (List Port) → List Event → Clocks → List (List ℕ) → Result Scenario ScenarioFault
 from_trace d design command n i v c l =
-    trace_of d command >>= λ t. properties_of d design command >>= λ p.
+    trace_field command d >>= λ t. properties_field design command d >>= λ p.
     from_replicas d design command (record { rounds = n; inputs = i; events = v; clocks = c; delays = l; trace = t; properties = p })
 
 abbrev from_clocks : Data → DesignParts → Command → ℕ → List (List Port) → List Event → Result Scenario ScenarioFault
-from_clocks d design command n i v = clocks_of d design >>= λ c. delays_of d design >>= λ l. from_trace d design command n i v c l
+from_clocks d design command n i v = clocks_field design d >>= λ c. delays_field design d >>= λ l. from_trace d design command n i v c l
 
 -- what is kept by then
 record Keeps (design : DesignParts) (x : Read) : Type 0 where
@@ -168,43 +128,43 @@ all_kept design x r f pl pr s keeps faults processors e =
 
 plants_on : (d : Data) (design : DesignParts) (command : Command) (s : Scenario) (x : Read) (r : List NodeNo) (f : List RoundFault) → Keeps design x → All (IsFaultOf design r) f → from_plants d design command x r f ≡ Ok s → IsScenarioOf design s
 plants_on d design command s x r f keeps faults e =
-    by_bind (plants_of d design) (λ pl. processors_of d design command >>= λ pr. Ok (made x r f pl pr)) s (IsScenarioOf design s) e (λ pl is_pl rest.
-    by_bind (processors_of d design command) (λ pr. Ok (made x r f pl pr)) s (IsScenarioOf design s) rest (λ pr is_pr last.
+    by_bind (plants_field design d) (λ pl. processors_field design command d >>= λ pr. Ok (made x r f pl pr)) s (IsScenarioOf design s) e (λ pl is_pl rest.
+    by_bind (processors_field design command d) (λ pr. Ok (made x r f pl pr)) s (IsScenarioOf design s) rest (λ pr is_pr last.
     all_kept design x r f pl pr s keeps faults
     (field_keeps (λ ps. All (IsProcessorOf design) ps) (codes "processors") (needs_processors command) [] (processors_in design) (get (codes "processors") d) pr (All-nil (IsProcessorOf design)) (λ y read. processors_keep design y pr read) is_pr)
     last))
 
 replicas_on : (d : Data) (design : DesignParts) (command : Command) (s : Scenario) (x : Read) → Keeps design x → from_replicas d design command x ≡ Ok s → IsScenarioOf design s
 replicas_on d design command s x keeps e =
-    by_bind (replicas_of d design) (λ r. faults_of d design r >>= λ f. from_plants d design command x r f) s (IsScenarioOf design s) e (λ r is_r rest.
-    by_bind (faults_of d design r) (λ f. from_plants d design command x r f) s (IsScenarioOf design s) rest (λ f is_f last.
+    by_bind (replicas_field design d) (λ r. faults_field design r d >>= λ f. from_plants d design command x r f) s (IsScenarioOf design s) e (λ r is_r rest.
+    by_bind (faults_field design r d) (λ f. from_plants d design command x r f) s (IsScenarioOf design s) rest (λ f is_f last.
     plants_on d design command s x r f keeps
     (field_keeps (λ fs. All (IsFaultOf design r) fs) (codes "faults") false [] (faults_in design r) (get (codes "faults") d) f (All-nil (IsFaultOf design r)) (λ y read. faults_keep design r y f read) is_f)
     last))
 
 trace_on : (d : Data) (design : DesignParts) (command : Command) (s : Scenario) (n : ℕ) (i : List (List Port)) (v : List Event) (c : Clocks) (l : List (List ℕ)) → AreRounds design n → AreInputsOf design i → AreClocksFor design c → AreDelaysOf design l → from_trace d design command n i v c l ≡ Ok s → IsScenarioOf design s
 trace_on d design command s n i v c l rounds inputs clocks delays e =
-    by_bind (trace_of d command) (λ t. properties_of d design command >>= λ p. from_replicas d design command (record { rounds = n; inputs = i; events = v; clocks = c; delays = l; trace = t; properties = p })) s (IsScenarioOf design s) e (λ t is_t rest.
-    by_bind (properties_of d design command) (λ p. from_replicas d design command (record { rounds = n; inputs = i; events = v; clocks = c; delays = l; trace = t; properties = p })) s (IsScenarioOf design s) rest (λ p is_p last.
+    by_bind (trace_field command d) (λ t. properties_field design command d >>= λ p. from_replicas d design command (record { rounds = n; inputs = i; events = v; clocks = c; delays = l; trace = t; properties = p })) s (IsScenarioOf design s) e (λ t is_t rest.
+    by_bind (properties_field design command d) (λ p. from_replicas d design command (record { rounds = n; inputs = i; events = v; clocks = c; delays = l; trace = t; properties = p })) s (IsScenarioOf design s) rest (λ p is_p last.
     replicas_on d design command s (record { rounds = n; inputs = i; events = v; clocks = c; delays = l; trace = t; properties = p }) (record { rounds_are = rounds; inputs_are = inputs; clocks_are = clocks; delays_are = delays }) last))
 
 clocks_on : (d : Data) (design : DesignParts) (command : Command) (s : Scenario) (n : ℕ) (i : List (List Port)) (v : List Event) → design.gamma.mu_min ≤ HOUR → AreRounds design n → AreInputsOf design i → from_clocks d design command n i v ≡ Ok s → IsScenarioOf design s
 clocks_on d design command s n i v quick rounds inputs e =
-    by_bind (clocks_of d design) (λ c. delays_of d design >>= λ l. from_trace d design command n i v c l) s (IsScenarioOf design s) e (λ c is_c rest.
-    by_bind (delays_of d design) (λ l. from_trace d design command n i v c l) s (IsScenarioOf design s) rest (λ l is_l last.
+    by_bind (clocks_field design d) (λ c. delays_field design d >>= λ l. from_trace d design command n i v c l) s (IsScenarioOf design s) e (λ c is_c rest.
+    by_bind (delays_field design d) (λ l. from_trace d design command n i v c l) s (IsScenarioOf design s) rest (λ l is_l last.
     trace_on d design command s n i v c l rounds inputs
     (field_keeps (AreClocksFor design) (codes "clocks") false Meet (clocks_in design) (get (codes "clocks") d) c tt (λ y read. clocks_keep design y c read) is_c)
-    (field_keeps (AreDelaysOf design) (codes "delays") false (no_delays design) (delays_in design) (get (codes "delays") d) l (least_delays_keep design quick) (λ y read. delays_keep design y l quick read) is_l)
+    (field_keeps (AreDelaysOf design) (codes "delays") false (replicate (length design.links) (design.gamma.mu_min ∷ [])) (delays_in design) (get (codes "delays") d) l (least_delays_keep design quick) (λ y read. delays_keep design y l quick read) is_l)
     last))
 
 fields_keep : (d : Data) (design : DesignParts) (command : Command) (s : Scenario) → design.gamma.mu_min ≤ HOUR → fields_in d design command ≡ Ok s → IsScenarioOf design s
 unfolding fields_in
 fields_keep d design command s quick e =
-    by_bind (rounds_in design d) (λ n. inputs_of d design >>= λ i. events_of d design command >>= λ v. from_clocks d design command n i v) s (IsScenarioOf design s) e (λ n is_n rest.
-    by_bind (inputs_of d design) (λ i. events_of d design command >>= λ v. from_clocks d design command n i v) s (IsScenarioOf design s) rest (λ i is_i more.
-    by_bind (events_of d design command) (λ v. from_clocks d design command n i v) s (IsScenarioOf design s) more (λ v is_v last.
+    by_bind (rounds_in design d) (λ n. inputs_field design d >>= λ i. events_field design command d >>= λ v. from_clocks d design command n i v) s (IsScenarioOf design s) e (λ n is_n rest.
+    by_bind (inputs_field design d) (λ i. events_field design command d >>= λ v. from_clocks d design command n i v) s (IsScenarioOf design s) rest (λ i is_i more.
+    by_bind (events_field design command d) (λ v. from_clocks d design command n i v) s (IsScenarioOf design s) more (λ v is_v last.
     clocks_on d design command s n i v quick (rounds_keep design d n is_n)
-    (field_keeps (AreInputsOf design) (codes "inputs") false (no_inputs design) (inputs_in design) (get (codes "inputs") d) i (no_inputs_keep design) (λ y read. inputs_keep design y i read) is_i)
+    (field_keeps (AreInputsOf design) (codes "inputs") false (replicate (length (root_inputs design)) []) (inputs_in design) (get (codes "inputs") d) i (no_inputs_keep design) (λ y read. inputs_keep design y i read) is_i)
     last)))
 
 -- a scenario that a call answers, over tables of the design's names, is one of the design

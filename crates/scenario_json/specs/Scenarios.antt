@@ -5,11 +5,16 @@ use Rattle.serde_json.specs.Data.{Data}
 use Rattle.serde_json.specs.Find.{get}
 use Rattle.serde_json.specs.Read.{read}
 use Rattle.pals_base.specs.declared.limits.TheConstants.{ROUNDS, CELLS}
+use Rattle.pals_base.specs.declared.values.NodeNo.{NodeNo}
+use Rattle.pals_base.specs.declared.values.Port.{Port}
+use Rattle.pals_clock.specs.declared.clock.Clocks.{Clocks}
 use Rattle.pals_clock.specs.declared.clock.Clocks.TheVariants.{Meet}
 use Rattle.pals_model.specs.declared.design.DesignParts.{DesignParts}
 use Rattle.pals_model.specs.Inputs.{root_inputs}
 use Rattle.pals_runs.specs.declared.commands.Command.{Command}
 use Rattle.pals_runs.specs.declared.commands.Command.TheVariants.{World, Audit, Watch, Budget}
+use Rattle.pals_runs.specs.declared.events.Event.{Event}
+use Rattle.pals_runs.specs.declared.pairs.Pair.{Pair}
 use Rattle.scenario_values.specs.declared.fault.ScenarioFault.{ScenarioFault}
 use Rattle.scenario_values.specs.declared.fault.ScenarioFault.TheVariants.{NotJson, Field, Unknown, TooBig, Memory}
 use Rattle.scenario_json.specs.declared.scenario.Scenario.{Scenario}
@@ -20,6 +25,9 @@ use Rattle.scenario_json.specs.Inputs.{inputs_in, delays_in}
 use Rattle.scenario_json.specs.Traces.{trace_in}
 use Rattle.scenario_json.specs.Clocks.{clocks_in}
 use Rattle.scenario_json.specs.Events.{events_in}
+use Rattle.analysis_fields.specs.declared.faults.RoundFault.{RoundFault}
+use Rattle.analysis_fields.specs.declared.processors.Processor.{Processor}
+use Rattle.analysis_fields.specs.PropertyValues.{PropertyValue}
 use Rattle.analysis_fields.specs.Properties.{properties_in}
 use Rattle.analysis_fields.specs.Replicas.{replicas_in, faults_in}
 use Rattle.analysis_fields.specs.Plants.{plants_in}
@@ -70,20 +78,54 @@ rounds_in design d =
     field (codes "rounds") true 0 (whole (codes "rounds") 1 ROUNDS) (get (codes "rounds") d) >>= λ rounds.
     small_enough (cells_of design rounds) (Ok rounds)
 
+-- ---- the other fields, each by its name
+-- none for each root input, where they are absent
+abbrev pub inputs_field : DesignParts → Data → Result (List (List Port)) ScenarioFault
+inputs_field design d = field (codes "inputs") false (replicate (length (root_inputs design)) []) (inputs_in design) (get (codes "inputs") d)
+
+abbrev pub events_field : DesignParts → Command → Data → Result (List Event) ScenarioFault
+events_field design command d = field (codes "events") (needs_events command) [] (events_in design command) (get (codes "events") d)
+
+-- clocks that meet, where they are absent
+abbrev pub clocks_field : DesignParts → Data → Result Clocks ScenarioFault
+clocks_field design d = field (codes "clocks") false Meet (clocks_in design) (get (codes "clocks") d)
+
+-- the least delay for each link, where they are absent
+abbrev pub delays_field : DesignParts → Data → Result (List (List ℕ)) ScenarioFault
+delays_field design d = field (codes "delays") false (replicate (length design.links) (design.gamma.mu_min ∷ [])) (delays_in design) (get (codes "delays") d)
+
+abbrev pub trace_field : Command → Data → Result (List (List ℕ)) ScenarioFault
+trace_field command d = field (codes "trace") (needs_trace command) [] trace_in (get (codes "trace") d)
+
+abbrev pub properties_field : DesignParts → Command → Data → Result (List PropertyValue) ScenarioFault
+properties_field design command d = field (codes "properties") (needs_properties command) [] (properties_in design) (get (codes "properties") d)
+
+abbrev pub replicas_field : DesignParts → Data → Result (List NodeNo) ScenarioFault
+replicas_field design d = field (codes "replicas") false [] (replicas_in design) (get (codes "replicas") d)
+
+abbrev pub faults_field : DesignParts → List NodeNo → Data → Result (List RoundFault) ScenarioFault
+faults_field design replicas d = field (codes "faults") false [] (faults_in design replicas) (get (codes "faults") d)
+
+abbrev pub plants_field : DesignParts → Data → Result (List Pair) ScenarioFault
+plants_field design d = field (codes "plants") false [] (plants_in design) (get (codes "plants") d)
+
+abbrev pub processors_field : DesignParts → Command → Data → Result (List Processor) ScenarioFault
+processors_field design command d = field (codes "processors") (needs_processors command) [] (processors_in design) (get (codes "processors") d)
+
 -- ---- the whole
 unfoldable pub fields_in : Data → DesignParts → Command → Result Scenario ScenarioFault
 fields_in d design command =
     rounds_in design d >>= λ rounds.
-    field (codes "inputs") false (replicate (length (root_inputs design)) []) (inputs_in design) (get (codes "inputs") d) >>= λ inputs.
-    field (codes "events") (needs_events command) [] (events_in design command) (get (codes "events") d) >>= λ events.
-    field (codes "clocks") false Meet (clocks_in design) (get (codes "clocks") d) >>= λ clocks.
-    field (codes "delays") false (replicate (length design.links) (design.gamma.mu_min ∷ [])) (delays_in design) (get (codes "delays") d) >>= λ delays.
-    field (codes "trace") (needs_trace command) [] trace_in (get (codes "trace") d) >>= λ trace.
-    field (codes "properties") (needs_properties command) [] (properties_in design) (get (codes "properties") d) >>= λ properties.
-    field (codes "replicas") false [] (replicas_in design) (get (codes "replicas") d) >>= λ replicas.
-    field (codes "faults") false [] (faults_in design replicas) (get (codes "faults") d) >>= λ faults.
-    field (codes "plants") false [] (plants_in design) (get (codes "plants") d) >>= λ plants.
-    field (codes "processors") (needs_processors command) [] (processors_in design) (get (codes "processors") d) >>= λ processors.
+    inputs_field design d >>= λ inputs.
+    events_field design command d >>= λ events.
+    clocks_field design d >>= λ clocks.
+    delays_field design d >>= λ delays.
+    trace_field command d >>= λ trace.
+    properties_field design command d >>= λ properties.
+    replicas_field design d >>= λ replicas.
+    faults_field design replicas d >>= λ faults.
+    plants_field design d >>= λ plants.
+    processors_field design command d >>= λ processors.
     Ok (record {
       rounds = rounds;
       env = record { lists = inputs };

@@ -1,9 +1,7 @@
 //! A whole scenario, field by field.
-ghost use Rattle.std.specs.Prelude.{◌≡◌, [], ◌∷◌, codes, false, find, length, map, not, option_map, replicate, IfOk};
-ghost use Rattle.serde_json.specs.Find.{get};
+ghost use Rattle.std.specs.Prelude.{◌≡◌, find, map, not, option_map, IfOk};
 ghost use Rattle.serde_json.specs.View.{view};
 ghost use Rattle.pals_clock.specs.declared.clock.Clocks.TheVariants.{Meet};
-ghost use Rattle.pals_model.specs.Inputs.{root_inputs};
 ghost use Rattle.scenario_values.specs.Outcomes.{Answers};
 ghost use Rattle.scenario_values.specs.Values.{entry_of};
 ghost use Rattle.scenario_json.specs.Inputs.{inputs_in, delays_in};
@@ -15,7 +13,7 @@ ghost use Rattle.analysis_fields.specs.Replicas.{replicas_in, faults_in};
 ghost use Rattle.analysis_fields.specs.Plants.{plants_in};
 ghost use Rattle.analysis_fields.specs.Processors.{processors_in};
 ghost use Rattle.scenario_json.specs.proof.Facts.{IsScenarioOf};
-ghost use Rattle.scenario_json.specs.Scenarios.{is_field, field, needs_events, needs_trace, needs_properties, needs_processors, rounds_in, fields_in, scen, IsAnswer};
+ghost use Rattle.scenario_json.specs.Scenarios.{is_field, needs_events, needs_trace, needs_properties, needs_processors, rounds_in, inputs_field, events_field, clocks_field, delays_field, trace_field, properties_field, replicas_field, faults_field, plants_field, processors_field, fields_in, scen, IsAnswer};
 
 use crate::scenario::Scenario;
 use crate::{
@@ -110,7 +108,7 @@ fn rounds_in(alloc: Global, design: &Design, value: &Value) -> Result<u32, Scena
 }
 
 fn inputs_in(alloc: Global, names: &Names<'_>, value: &Value) -> Result<Items<Tuple>, ScenarioFault>
-    ensures { Answers (field (codes "inputs") false (replicate (length (root_inputs names.now)) []) (inputs_in names.now) (get (codes "inputs") (view value.now))) result }
+    ensures { Answers (inputs_field names.now (view value.now)) result }
 {
     match value.get("inputs") {
         Some(inputs) => read_inputs(alloc, names, inputs),
@@ -124,7 +122,7 @@ fn events_in(
     command: &Command,
     value: &Value,
 ) -> Result<Items<Event>, ScenarioFault>
-    ensures { Answers (field (codes "events") (needs_events command.now) [] (events_in names.now command.now) (get (codes "events") (view value.now))) result }
+    ensures { Answers (events_field names.now command.now (view value.now)) result }
 {
     let Some(events) = value.get("events") else {
         if needs_events(command) {
@@ -136,7 +134,7 @@ fn events_in(
 }
 
 fn clocks_in(alloc: Global, names: &Names<'_>, value: &Value) -> Result<Clocks, ScenarioFault>
-    ensures { Answers (field (codes "clocks") false Meet (clocks_in names.now) (get (codes "clocks") (view value.now))) result }
+    ensures { Answers (clocks_field names.now (view value.now)) result }
 {
     match value.get("clocks") {
         Some(clocks) => read_clocks(alloc, names, clocks),
@@ -149,7 +147,7 @@ fn delays_in(
     names: &Names<'_>,
     value: &Value,
 ) -> Result<Items<Items<Nanos>>, ScenarioFault>
-    ensures { Answers (field (codes "delays") false (replicate (length names.now.links) (names.now.gamma.mu_min ∷ [])) (delays_in names.now) (get (codes "delays") (view value.now))) result }
+    ensures { Answers (delays_field names.now (view value.now)) result }
 {
     match value.get("delays") {
         Some(delays) => read_delays(alloc, names, delays),
@@ -158,7 +156,7 @@ fn delays_in(
 }
 
 fn trace_in(alloc: Global, command: &Command, value: &Value) -> Result<Items<Text>, ScenarioFault>
-    ensures { Answers (field (codes "trace") (needs_trace command.now) [] trace_in (get (codes "trace") (view value.now))) result }
+    ensures { Answers (trace_field command.now (view value.now)) result }
 {
     let Some(trace) = value.get("trace") else {
         if needs_trace(command) {
@@ -175,7 +173,7 @@ fn properties_in(
     command: &Command,
     value: &Value,
 ) -> Result<Items<Property>, ScenarioFault>
-    ensures { Answers (field (codes "properties") (needs_properties command.now) [] (properties_in names.now) (get (codes "properties") (view value.now))) result }
+    ensures { Answers (properties_field names.now command.now (view value.now)) result }
 {
     let Some(properties) = value.get("properties") else {
         if needs_properties(command) {
@@ -191,7 +189,7 @@ fn replicas_in(
     names: &Names<'_>,
     value: &Value,
 ) -> Result<Items<NodeNo>, ScenarioFault>
-    ensures { Answers (field (codes "replicas") false [] (replicas_in names.now) (get (codes "replicas") (view value.now))) result }
+    ensures { Answers (replicas_field names.now (view value.now)) result }
 {
     match value.get("replicas") {
         Some(replicas) => read_replicas(alloc, names, replicas),
@@ -205,7 +203,7 @@ fn faults_in(
     replicas: &[NodeNo],
     value: &Value,
 ) -> Result<Items<RoundFault>, ScenarioFault>
-    ensures { Answers (field (codes "faults") false [] (faults_in names.now replicas.now) (get (codes "faults") (view value.now))) result }
+    ensures { Answers (faults_field names.now replicas.now (view value.now)) result }
 {
     match value.get("faults") {
         Some(faults) => read_faults(alloc, names, replicas, faults),
@@ -214,7 +212,7 @@ fn faults_in(
 }
 
 fn plants_in(alloc: Global, names: &Names<'_>, value: &Value) -> Result<Items<Pair>, ScenarioFault>
-    ensures { Answers (field (codes "plants") false [] (plants_in names.now) (get (codes "plants") (view value.now))) result }
+    ensures { Answers (plants_field names.now (view value.now)) result }
 {
     match value.get("plants") {
         Some(plants) => read_plants(alloc, names, plants),
@@ -228,7 +226,7 @@ fn processors_in(
     command: &Command,
     value: &Value,
 ) -> Result<Items<Processor>, ScenarioFault>
-    ensures { Answers (field (codes "processors") (needs_processors command.now) [] (processors_in names.now) (get (codes "processors") (view value.now))) result }
+    ensures { Answers (processors_field names.now command.now (view value.now)) result }
 {
     let Some(processors) = value.get("processors") else {
         if needs_processors(command) {

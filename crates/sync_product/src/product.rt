@@ -44,7 +44,11 @@ impl Model for Product {
     ghost use Rattle.sync_product.specs.proof.Rounds.{frames_of};
     ghost use Rattle.sync_product.specs.proof.Ready.{IsReady, HasRoom};
 
-    ghost view = { λ p. record { design = arc_value p.design; configuration = record { frames = frames_of p.parts; messages = p.messages }; parts = p.parts } };
+    ghost view = { λ p. record {
+      design = arc_value p.design;
+      configuration = record { frames = frames_of p.parts; messages = p.messages };
+      parts = p.parts;
+    } };
 
     ghost invariant = { λ p.
         IsReady (arc_value p.design) p.sources p.taps p.stages.items

@@ -46,5 +46,6 @@ pub fn arithmetic_traps()
 
 /// A chain goes from the left: 9 - 4 - 3 is 2.
 pub fn chain_goes_from_left()
-    ensures { (frame : Frame) (fresh : List Bool) → eval (Chain (Literal (pos 9)) (Then Sub (Literal (pos 4)) (Then Sub (Literal (pos 3)) NoMore))) frame fresh ≡ Ok (pos 2) }
+    ensures { (frame : Frame) (fresh : List Bool)
+        → eval (Chain (Literal (pos 9)) (Then Sub (Literal (pos 4)) (Then Sub (Literal (pos 3)) NoMore))) frame fresh ≡ Ok (pos 2) }
 {}

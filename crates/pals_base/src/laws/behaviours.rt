@@ -11,7 +11,8 @@ ghost use Rattle.pals_base.specs.Rules.{IsBehaviour, IsWay};
 pub fn each_step_ends()
     ensures start { (b : BehaviourParts) → IsBehaviour b → HasShape b (initial b) }
     ensures step { (b : BehaviourParts) (frame : Frame) (inputs : List Port) → IsBehaviour b → HasShape b frame → HasShape b (fire b frame inputs).frame }
-    ensures outs { (b : BehaviourParts) (frame : Frame) (inputs : List Port) → IsBehaviour b → HasShape b frame → length (fire b frame inputs).outs ≡ length b.outs }
+    ensures outs { (b : BehaviourParts) (frame : Frame) (inputs : List Port)
+        → IsBehaviour b → HasShape b frame → length (fire b frame inputs).outs ≡ length b.outs }
 {}
 
 /// A way through states that are not complete has fewer transitions than there are states.

@@ -7,6 +7,7 @@ ghost use Rattle.pals_base.specs.Picks.{picks};
 /// first targets have the first picks.
 pub fn picks_follow_targets()
     ensures never_fall { (readings targets : List ℕ) → IsNonDecreasing readings → IsNonDecreasing (picks readings targets) }
-    ensures at_least { (readings targets : List ℕ) (at : ℕ) → at < length (picks readings targets) → slice_index targets at ≤ slice_index (picks readings targets) at }
+    ensures at_least { (readings targets : List ℕ) (at : ℕ)
+        → at < length (picks readings targets) → slice_index targets at ≤ slice_index (picks readings targets) at }
     ensures first { (readings targets : List ℕ) (count : ℕ) → take count (picks readings targets) ≡ picks readings (take count targets) }
 {}

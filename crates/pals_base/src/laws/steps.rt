@@ -11,9 +11,12 @@ ghost use Rattle.pals_base.specs.declared.values.Port.TheVariants.{Absent};
 /// Steps go one after another: no step looks ahead, and later steps go on from the frame that the
 /// earlier ones leave.
 pub fn steps_one_after_another()
-    ensures first { (b : BehaviourParts) (frame : Frame) (vectors : List (List Port)) (count : ℕ) → take count (outputs b frame vectors) ≡ outputs b frame (take count vectors) }
-    ensures later_frame { (b : BehaviourParts) (frame : Frame) (xs ys : List (List Port)) → frame_after b frame (xs ++ ys) ≡ frame_after b (frame_after b frame xs) ys }
-    ensures later_outputs { (b : BehaviourParts) (frame : Frame) (xs ys : List (List Port)) → outputs b frame (xs ++ ys) ≡ outputs b frame xs ++ outputs b (frame_after b frame xs) ys }
+    ensures first { (b : BehaviourParts) (frame : Frame) (vectors : List (List Port)) (count : ℕ)
+        → take count (outputs b frame vectors) ≡ outputs b frame (take count vectors) }
+    ensures later_frame { (b : BehaviourParts) (frame : Frame) (xs ys : List (List Port))
+        → frame_after b frame (xs ++ ys) ≡ frame_after b (frame_after b frame xs) ys }
+    ensures later_outputs { (b : BehaviourParts) (frame : Frame) (xs ys : List (List Port))
+        → outputs b frame (xs ++ ys) ≡ outputs b frame xs ++ outputs b (frame_after b frame xs) ys }
 {}
 
 /// A halted frame stays: every further step only holds its inputs, and no out port has a value.

@@ -16,9 +16,9 @@ use Rattle.step_vm.specs.proof.Rooms.{Capacity, IsRoomOf}
 use Rattle.bus_machine.specs.declared.plan.Plan.{Plan}
 use Rattle.pals_base.specs.Steps.{with_places}
 use Rattle.bus_machine.specs.Nodes.{NodeState}
-use Rattle.bus_machine.specs.NodeEvents.{finished_with}
+use Rattle.bus_machine.specs.NodeEvents.{finished, finished_with}
 use Rattle.pals_node.specs.declared.fields.Fields.{Fields}
-use Rattle.pals_node.specs.proof.Values.{Program, NodeValue}
+use Rattle.pals_node.specs.proof.Values.{Program, NodeValue, with_state}
 use Rattle.pals_node.specs.proof.Memories.{HasMemory}
 
 -- the numbers of a plan are in range, and its ports are the behaviour's
@@ -118,6 +118,10 @@ abbrev pub value_of : Fields → NodeValue
 value_of f = record { program = arc_value f.plan; rounds = f.rounds; state = state_of f }
 
 -- ---- the end of a step
+-- a node whose step is finished
+abbrev pub finished_value : Fields → ℕ → NodeValue
+finished_value f step = with_state (value_of f) (finished (arc_value f.plan).plan f.rounds step (state_of f))
+
 -- a step of a round is made: its frame and its row of outputs stand in the fields
 pub record IsStepMade (f : Fields) (step : ℕ) : Type 0 where
   pub plan : IsPlan (arc_value f.plan).plan

@@ -1,7 +1,7 @@
 use Rattle.std.proofs.Common.{subst}
 use Rattle.std.specs.List.Sorted.{IsStableBy}
 use Rattle.model_violations.specs.Violations.{goes_before}
-use Rattle.model_violations.proofs.list.violations_by.Goals as goal
+use Rattle.model_violations.proofs.list.violations.Goals as goal
 
 pub returns : goal.returns
 returns c =
