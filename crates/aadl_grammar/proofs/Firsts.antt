@@ -1,11 +1,11 @@
 -- The first terminal, by its number; and words as texts.
-use Rattle.std.proofs.Common.{◌≡◌, ℕ, zero, suc, ◌+◌, ◌<◌, ◌≤◌, true, false, Bool, ◌∙◌, sym, ap, subst, List, [], ◌∷◌, ◌++◌, length, get_or, drop, map, refl, arith, add-one, drop-cons, ◌&&◌, ◌||◌}
-use Rattle.std.specs.List.{list_all, All, AllPass}
-use Rattle.std.specs.Char.{is_ascii_alphabetic, is_ascii_digit}
+use Rattle.std.proofs.Common.{◌≡◌, ℕ, zero, suc, ◌+◌, ◌<◌, ◌≤◌, true, false, Bool, ◌∙◌, sym, ap, List, [], ◌∷◌, ◌++◌, length, get_or, drop, refl, arith, add-one, drop-cons, ◌&&◌}
+use Rattle.std.specs.List.{list_all, All}
+use Rattle.std.specs.Char.{is_ascii_alphabetic}
 use Rattle.std.proofs.lemmas.List.{get_or_past}
-use Rattle.std.specs.Prelude.{nat_le, nat_lt, ◌==◌, Result, Ok, Err}
+use Rattle.std.specs.Prelude.{nat_le, nat_lt, Result, Ok, Err}
 use Rattle.std.specs.Result.{MatchResult, IsOk}
-use Rattle.std.specs.Str.{IsUtf8, IsAscii}
+use Rattle.std.specs.Str.{IsUtf8}
 use Rattle.std.proofs.lemmas.Str.{IsUtf8-from_ascii}
 use Rattle.std.proofs.lemmas.Bool.Decides.{nat_tests}
 use Rattle.std.proofs.lemmas.List.Sums.{AllPass-from_list_all}

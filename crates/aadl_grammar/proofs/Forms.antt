@@ -1,7 +1,7 @@
 -- Two forms of guards, each by a check of the table's rows.
 use Rattle.std.proofs.Common.{◌≡◌, ℕ, Bool, true, false, not, ◌&&◌, ◌||◌, ◌==◌, ◌∙◌, ap, refl, List, [], ◌∷◌, inl, inr}
 use Rattle.aadl_tree.specs.proof.Marks.{mark_number}
-use Rattle.aadl_grammar.specs.proof.Symbols.{Class, Symbol, Row}
+use Rattle.aadl_grammar.specs.proof.Symbols.{Symbol, Row}
 use Rattle.aadl_grammar.specs.proof.Symbols as s
 use Rattle.aadl_grammar.specs.proof.Table.{rows, can_omit}
 use Rattle.aadl_grammar.specs.proof.Machine.{class_number}

@@ -6,11 +6,10 @@ use Rattle.std.proofs.lemmas.Bool.{or_cases, or_parts, false_from_ne_true}
 use Rattle.aadl_tree.specs.declared.mark.Mark.{Mark}
 use Rattle.aadl_tree.specs.proof.Marks.{mark_number}
 use Rattle.aadl_tree.specs.Kinds.{Kind, mark, word, Spot}
-use Rattle.aadl_tree.specs.Parts.{Part}
 use Rattle.aadl_tree.specs.Names.{Identifier}
 use Rattle.aadl_tree.specs.declared.limits.TheConstants.{GREATEST_NESTING}
 use Rattle.aadl_tree.specs.Grammar.{place}
-use Rattle.aadl_grammar.specs.proof.Symbols.{Class, the, Symbol, Row}
+use Rattle.aadl_grammar.specs.proof.Symbols.{the, Symbol, Row}
 use Rattle.aadl_grammar.specs.proof.Symbols as s
 use Rattle.aadl_grammar.specs.proof.Table.{on, behind, rows, can_omit}
 use Rattle.aadl_grammar.specs.proof.Machine.{Stack, Move, takes, omitted, refuses, kind_number, class_number, fits, move_by, move, depth, Fate, syntax_at, deep_at, fate}
@@ -20,7 +19,7 @@ use Rattle.aadl_grammar.proofs.Fates.Steps.{move_at, fate_by, fate_is, fate_take
 use Rattle.aadl_grammar.specs.declared.reader.Reader.{Reader}
 use Rattle.aadl_grammar.specs.declared.fault.ParseFault.{ParseFault}
 use Rattle.aadl_grammar.specs.declared.fault.ParseFault.TheVariants.{Memory, Syntax, TooDeep}
-use Rattle.aadl_grammar.specs.proof.Reading.{here, spot, At, AtMark, AtWord, Misses, MissAll, IsMarked, FailsAs, RunsTo, Parses}
+use Rattle.aadl_grammar.specs.proof.Reading.{spot, At, AtMark, AtWord, Misses, MissAll, IsMarked, FailsAs, RunsTo}
 
 -- the symbol takes the first terminal
 pub takes_row : (outer end : ℕ) (x : Symbol) (below : Stack) {kind : Kind} {ss rest : List Spot} {f : List Symbol} → At kind ss rest → move x kind ≡ takes f → outer + depth (f ++ below) ≤ GREATEST_NESTING

@@ -1,5 +1,5 @@
 //! Laws of the machine. Each function does nothing; its contract is proved.
-ghost use Rattle.std.specs.Prelude.{◌≡◌, ◌↔◌, ◌+◌, ℕ, List, [], ◌∷◌, map, false};
+ghost use Rattle.std.specs.Prelude.{◌≡◌, ◌↔◌, ◌+◌, ℕ, List, [], ◌∷◌, map};
 ghost use Rattle.aadl_tree.specs.declared.limits.TheConstants.{GREATEST_NESTING};
 ghost use Rattle.aadl_tree.specs.Kinds.{Kind, mark, Spot, kinds_of};
 ghost use Rattle.aadl_tree.specs.declared.mark.Mark.TheVariants as k;

@@ -1,5 +1,5 @@
 //! Names and references.
-ghost use Rattle.std.specs.Prelude.{ℕ, List, [], ◌∷◌, map, flat_map, option_map};
+ghost use Rattle.std.specs.Prelude.{[], ◌∷◌, map, flat_map, option_map};
 ghost use Rattle.aadl_tree.specs.declared.mark.Mark.TheVariants as k;
 ghost use Rattle.aadl_tree.specs.Parts.{behind, parts_if};
 ghost use Rattle.aadl_tree.specs.Names.{identifier_parts, name_parts, path_parts, identifiers_parts, reference_parts};

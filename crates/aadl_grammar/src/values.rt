@@ -1,5 +1,5 @@
 //! Properties and their values.
-ghost use Rattle.std.specs.Prelude.{◌≡◌, ℕ, [], ◌∷◌, ◌++◌, flat_map, map, option_map, MatchOption};
+ghost use Rattle.std.specs.Prelude.{[], ◌∷◌, ◌++◌, flat_map, map, option_map};
 ghost use Rattle.aadl_tree.specs.declared.mark.Mark.TheVariants as k;
 ghost use Rattle.aadl_tree.specs.Parts.{behind, parts_if, plain};
 ghost use Rattle.aadl_tree.specs.Names.{identifier_parts, path_parts, reference_parts};
@@ -9,7 +9,7 @@ ghost use Rattle.aadl_tree.specs.proof.ValueViews.{figure_view, quantity_view, v
 ghost use Rattle.aadl_tree.specs.proof.Maps.{kept_place};
 ghost use Rattle.aadl_grammar.specs.proof.Symbols as s;
 ghost use Rattle.aadl_grammar.specs.proof.Table.{on};
-ghost use Rattle.aadl_grammar.specs.proof.Reading.{here, AtMark, MissAll, Parses, AnyRoom, Room};
+ghost use Rattle.aadl_grammar.specs.proof.Reading.{here, MissAll, Parses, AnyRoom, Room};
 
 use crate::fault::ParseFault;
 use crate::names::{name, path, reference};

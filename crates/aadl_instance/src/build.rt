@@ -64,7 +64,7 @@ fn add_thread(
         path,
         declaration,
     };
-    for port in 0..network.wires.ports(declaration).len() {
+    for port in 0..network.wires.uses.ports(declaration).len() {
         add_port(alloc, incoming, network, &node, port)?;
     }
     Ok(())
@@ -134,7 +134,7 @@ pub fn taps_of(alloc: Global, network: &Network<'_>) -> Result<Items<Chain>, All
     ensures { IfOk result (λ taps. Shows network.now IsTap PortBefore taps) }
 {
     let mut taps = Items::new(alloc);
-    for port in 0..network.wires.ports(network.root).len() {
+    for port in 0..network.wires.uses.ports(network.root).len() {
         add_tap(alloc, &mut taps, network, port)?;
     }
     Ok(taps)

@@ -56,7 +56,7 @@ pub fn root_end(alloc: Global, network: &Network<'_>, port: usize) -> Result<Cha
     ensures { IfOk result (λ end. end ≡ end_in (tree_of network.now) network.now.root (paths_in network.now)
         (record { path = []; port = port })) }
 {
-    let feature = &network.wires.ports(network.root)[port];
+    let feature = &network.wires.uses.ports(network.root)[port];
     Ok(ChainEnd::Root {
         name: Text::from_str(alloc, feature.name.spelling.as_str())?,
     })

@@ -38,7 +38,7 @@ impl PortNumbers {
             rows: Vec::new(alloc),
         };
         for number in 0..wires.uses.len() {
-            let row = row_of(alloc, wires.ports(number))?;
+            let row = row_of(alloc, wires.uses.ports(number))?;
             numbers.push(row)?;
         }
         Ok(numbers)

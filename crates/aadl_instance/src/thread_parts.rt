@@ -63,7 +63,7 @@ fn count_up_to(wires: &Wires<'_>, number: usize, part: Part, limit: usize) -> us
     ensures { result ≡ min limit (spec.count_at (placed wires.now.uses.names.tree.now) number part) }
 {
     match part {
-        Part::Ports => limit.min(wires.ports(number).len()),
+        Part::Ports => limit.min(wires.uses.ports(number).len()),
         Part::Variables => match wires.uses.implementation(number) {
             Some(x) => variables_up_to(x, limit),
             None => 0,

@@ -1,6 +1,6 @@
 //! What stands at the front of a text, rule by rule.
 
-ghost use Rattle.std.specs.Prelude.{ℕ, ◌≡◌, ◌+◌, ◌<◌, ◌≤◌, length};
+ghost use Rattle.std.specs.Prelude.{◌≡◌, ◌+◌, ◌<◌, ◌≤◌, length};
 ghost use Rattle.aadl_lex.specs.Rules as spec;
 ghost use Rattle.aadl_lex.specs.Rules.{IsWithin};
 

@@ -1,6 +1,6 @@
 //! How far the pieces at the front of a text reach.
 
-ghost use Rattle.std.specs.Prelude.{ℕ, ◌≡◌, ◌==◌, ◌+◌, ◌<◌, ◌≤◌, length, slice_index, nat_eq, Some, None, IfSome, if◌then◌else◌, nat_le, pos};
+ghost use Rattle.std.specs.Prelude.{◌≡◌, ◌==◌, ◌+◌, ◌<◌, ◌≤◌, length, slice_index, nat_eq, Some, None, IfSome, if◌then◌else◌, nat_le, pos};
 ghost use Rattle.std.specs.Char.{is_ascii_digit};
 ghost use Rattle.std.specs.List.{starts_with, list_any};
 ghost use Rattle.aadl_lex.specs.Rules as spec;

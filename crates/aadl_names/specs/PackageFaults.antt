@@ -153,12 +153,16 @@ end_faults may end at (Some port) = wrong_if (not (may port)) at
 abbrev pub sited : PackageTree ℕ → Implementation ℕ → ConnectionEnd ℕ → Option (Site × Option Direction)
 sited tree x end = option_map (with_direction tree x) (site tree x end)
 
-abbrev pub connection_faults : PackageTree ℕ → Implementation ℕ → Connection ℕ → List FlatFault
-connection_faults tree x c =
-    end_faults may_leave c.source c.name.at (sited tree x c.source)
-    ++ end_faults may_enter c.target c.name.at (sited tree x c.target)
-    ++ wrong_if (is_own (sited tree x c.source) && is_own (sited tree x c.target)) c.name.at
+-- of a connection that joins these ports
+abbrev pub joined_faults : Connection ℕ → Option (Site × Option Direction) → Option (Site × Option Direction) → List FlatFault
+joined_faults c source target =
+    end_faults may_leave c.source c.name.at source
+    ++ end_faults may_enter c.target c.name.at target
+    ++ wrong_if (is_own source && is_own target) c.name.at
     ++ list_faults holders.Connection c.properties
+
+abbrev pub connection_faults : PackageTree ℕ → Implementation ℕ → Connection ℕ → List FlatFault
+connection_faults tree x c = joined_faults c (sited tree x c.source) (sited tree x c.target)
 
 -- ---- declarations
 abbrev pub has_type : Category → Option (TypeDeclaration ℕ) → Bool

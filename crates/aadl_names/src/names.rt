@@ -181,7 +181,8 @@ fn add_implementation(
 
 // The numbers of the types by their names.
 fn types_of(alloc: Global, declarations: &[Declaration]) -> Result<Table<usize>, AllocError>
-    ensures { IfOk result (λ table. (name : List ℕ) → value_of table name ≡ first_number (is_type name) (map (declaration_view kept_place) declarations.now)) }
+    ensures { IfOk result (λ table. (name : List ℕ) → value_of table name
+        ≡ first_number (is_type name) (map (declaration_view kept_place) declarations.now)) }
 {
     let mut table = Table::new(alloc);
     for (number, declaration) in declarations.iter().enumerate() {

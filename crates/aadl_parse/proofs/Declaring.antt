@@ -1,8 +1,7 @@
 -- Declarations have a terminal at least, and what a category does.
-use Rattle.std.proofs.Common.{◌≡◌, ℕ, ◌<◌, List, [], ◌∷◌, length, refl}
+use Rattle.std.proofs.Common.{◌≡◌, ◌<◌, List, [], ◌∷◌, length, refl}
 use Rattle.aadl_tree.specs.declared.declarations.Category.{Category}
 use Rattle.aadl_tree.specs.declared.declarations.Category.TheVariants as categories
-use Rattle.aadl_tree.specs.declared.declarations.Direction.{Direction}
 use Rattle.aadl_tree.specs.declared.declarations.Feature.{Feature}
 use Rattle.aadl_tree.specs.declared.declarations.Subcomponent.{Subcomponent}
 use Rattle.aadl_tree.specs.declared.declarations.Connection.{Connection}

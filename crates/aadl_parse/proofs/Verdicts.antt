@@ -1,6 +1,6 @@
 -- What the machine's fate of a package says of its text.
 use Rattle.std.proofs.Common.{◌≡◌, sym, ℕ, ◌-◌, ◌<◌, ◌∙◌, ap, subst, refl, List, [], ◌∷◌, length, drop, arith, zero, suc}
-use Rattle.std.specs.Prelude.{◌≢◌, false, IfErr, Result, Ok, Err}
+use Rattle.std.specs.Prelude.{◌≢◌, IfErr, Result, Ok, Err}
 use Rattle.std.specs.Result.{IsErrAnd}
 use Rattle.aadl_lex.specs.declared.token.Token.{Token}
 use Rattle.aadl_lex.specs.Tokens.{AreTokensOf}
@@ -10,9 +10,9 @@ use Rattle.aadl_tree.specs.Kinds.{Spot, spots, kinds_of}
 use Rattle.aadl_tree.specs.Parts.{Written}
 use Rattle.aadl_tree.specs.Declarations.{PackageTree, package_parts}
 use Rattle.aadl_tree.specs.Grammar.{IsPackage, IsShallow, FailsAt, DeepAt, place}
-use Rattle.aadl_tree.specs.Given.{IsTreeOf, StopsAt, NestsAt}
+use Rattle.aadl_tree.specs.Given.{IsTreeOf}
 use Rattle.aadl_grammar.specs.proof.Symbols as s
-use Rattle.aadl_grammar.specs.proof.Machine.{finished, fate, syntax_at}
+use Rattle.aadl_grammar.specs.proof.Machine.{fate, syntax_at}
 use Rattle.aadl_grammar.proofs.Fates.Answers.{answers_text, answers_fault, answers_depth}
 use Rattle.aadl_grammar.proofs.Fates.Exclusive.{fails_once, fails_not_deep, deep_once}
 use Rattle.aadl_grammar.proofs.Fates.Verdict.{fails_no_text, deep_not_shallow}

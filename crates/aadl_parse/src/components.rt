@@ -1,5 +1,5 @@
 //! Features, subcomponents, connections, and the sections that have them.
-ghost use Rattle.std.specs.Prelude.{ℕ, [], ◌∷◌, ◌++◌, flat_map, map, option_map, MatchOption};
+ghost use Rattle.std.specs.Prelude.{[], ◌∷◌, flat_map, map, option_map, MatchOption};
 ghost use Rattle.aadl_tree.specs.declared.mark.Mark.TheVariants as k;
 ghost use Rattle.aadl_tree.specs.Parts.{plain, parts_if, feature_section, subcomponent_section, connection_section, property_section};
 ghost use Rattle.aadl_tree.specs.Names.{reference_parts};

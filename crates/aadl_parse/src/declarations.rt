@@ -1,5 +1,5 @@
 //! Types, implementations, and the package that has them.
-ghost use Rattle.std.specs.Prelude.{ℕ, ◌≡◌, [], ◌∷◌, ◌++◌, flat_map, map};
+ghost use Rattle.std.specs.Prelude.{◌≡◌, [], ◌∷◌, flat_map, map};
 ghost use Rattle.aadl_tree.specs.declared.mark.Mark.TheVariants as k;
 ghost use Rattle.aadl_tree.specs.Kinds.{mark};
 ghost use Rattle.aadl_tree.specs.Parts.{token, behind};

@@ -1,7 +1,7 @@
 //! Types, implementations, and what they declare.
 #![tactic(auto, using(crate::proofs::Appends::printed_append))]
 
-ghost use Rattle.std.specs.Prelude.{◌≡◌, OnOk};
+ghost use Rattle.std.specs.Prelude.{◌≡◌};
 ghost use Rattle.aadl_tree.specs.Declarations.{category_mark, direction_mark};
 
 use crate::items::{Print, print_all, print_behind, print_chain, print_option, print_section};

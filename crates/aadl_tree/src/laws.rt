@@ -1,14 +1,12 @@
 //! Laws of the grammar's definitions. Each function does nothing; its contract is proved.
-ghost use Rattle.std.specs.Prelude.{◌≡◌, ◌↔◌, ℕ, List, [], ◌∷◌, ◌++◌, Option, Some, None, codes, true, false, map, IsTrue, is_some};
+ghost use Rattle.std.specs.Prelude.{◌≡◌, ◌↔◌, ℕ, List, [], ◌∷◌, ◌++◌, Some, None, codes, true, false, map, IsTrue, is_some};
 ghost use Rattle.aadl_lex.specs.proof.Spelled.{IsSymbol};
 ghost use Rattle.aadl_lex.specs.Tokens.{AreTokensOf};
-ghost use Rattle.aadl_tree.specs.declared.mark.Mark.{Mark};
 ghost use Rattle.aadl_tree.specs.declared.mark.Mark.TheVariants as k;
 ghost use Rattle.aadl_tree.specs.Marks.{mark_text, keywords_inside, keywords_outside, symbols, keyword_of, symbol_of};
 ghost use Rattle.aadl_tree.specs.Kinds.{Kind, word, mark, Spot, spots, kinds_of};
 ghost use Rattle.aadl_tree.specs.Parts.{Part, Spells, Written, kept};
 ghost use Rattle.aadl_tree.specs.Annexes.{transition_parts};
-ghost use Rattle.aadl_tree.specs.Declarations.{PackageTree};
 ghost use Rattle.aadl_tree.specs.declared.package.PackageTree.{PackageTree as SourceTree};
 ghost use Rattle.aadl_tree.specs.proof.Maps.{package_to, no_place};
 ghost use Rattle.aadl_tree.specs.proof.PackageViews.{package_view, placed, meaning};

@@ -1,5 +1,5 @@
 //! What stands below a declaration.
-ghost use Rattle.std.specs.Prelude.{◌≡◌, ◌<◌, ◌↔◌, ℕ, length, IfOk, OnOk, Contains};
+ghost use Rattle.std.specs.Prelude.{◌<◌, ◌↔◌, ℕ, length, IfOk, OnOk, Contains};
 ghost use Rattle.aadl_uses.specs.proof.Graphs.{AreAdded, IsReached, IsWithin};
 
 use crate::graph::Containment;

@@ -1,5 +1,5 @@
 //! The connections of one declaration, found by the ports into which they go.
-ghost use Rattle.std.specs.Prelude.{◌≡◌, ◌↔◌, ℕ, None, Some, IfOk, OnOk, IsTrue, if◌then◌else◌};
+ghost use Rattle.std.specs.Prelude.{◌≡◌, ◌↔◌, None, Some, IfOk, OnOk, IsTrue, if◌then◌else◌};
 ghost use Rattle.std.specs.Option.{option_or};
 ghost use Rattle.aadl_names.specs.declared.site.Site.{Site};
 ghost use Rattle.aadl_uses.specs.proof.PortNumbers.{is_site, number_of};

@@ -12,7 +12,7 @@ pub struct Containment {
 
 impl Model for Containment {
     ghost use Rattle.std.specs.Prelude.{map};
-    ghost use Rattle.aadl_uses.specs.proof.Graphs.{Graph, IsWithin};
+    ghost use Rattle.aadl_uses.specs.proof.Graphs.{Graph};
 
     ghost Value = { Graph };
 

@@ -1,5 +1,5 @@
 //! How heavy the heaviest paths to marked declarations are.
-ghost use Rattle.std.specs.Prelude.{◌≡◌, ◌+◌, ◌<◌, ◌++◌, ◌∷◌, [], ℕ, None, false, length, max, map, min, option_map, slice_index_or, slice_set, IfOk, OnOk};
+ghost use Rattle.std.specs.Prelude.{◌≡◌, ◌+◌, ◌<◌, ◌++◌, ◌∷◌, [], ℕ, None, false, length, map, min, option_map, slice_index_or, slice_set, IfOk, OnOk};
 ghost use Rattle.aadl_uses.specs.proof.Orders.{IsOrder};
 ghost use Rattle.aadl_uses.specs.proof.Weights as spec;
 ghost use Rattle.aadl_uses.specs.proof.Weights.{IsHeaviest, AreWeighed};
@@ -66,7 +66,8 @@ pub fn heaviest_below(
     limit: usize,
 ) -> Result<Vec<Option<usize>>, AllocError>
     requires { IsOrder graph.now order.now.keys }
-    ensures { IfOk result (λ found. (n : ℕ) → n < length graph.now → IsHeaviest limit graph.now marks.now weights.now n (slice_index_or found.items n None)) }
+    ensures { IfOk result (λ found. (n : ℕ) → n < length graph.now
+        → IsHeaviest limit graph.now marks.now weights.now n (slice_index_or found.items n None)) }
 {
     let mut found = nothing(alloc, graph.len())?;
     for at in 0..order.len() {

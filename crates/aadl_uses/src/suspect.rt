@@ -1,7 +1,7 @@
 //! Subcomponents that lead back to where they stand.
 ghost use Rattle.std.specs.Prelude.{◌≡◌, ◌<◌, ◌↔◌, ℕ, length, false, true, IsTrue, IfOk, OnOk, Contains};
 ghost use Rattle.std.specs.List.{list_any};
-ghost use Rattle.aadl_uses.specs.proof.Graphs.{below_in, targets_in, IsWithin, LeadsBack};
+ghost use Rattle.aadl_uses.specs.proof.Graphs.{targets_in, IsWithin, LeadsBack};
 ghost use Rattle.aadl_uses.specs.proof.Suspects as spec;
 ghost use Rattle.aadl_uses.specs.proof.Suspects.{AreSuspected};
 

@@ -3,11 +3,11 @@ ghost use Rattle.std.specs.Prelude.{◌≡◌, ◌↔◌, ◌<◌, ℕ, IfOk, Is
 ghost use Rattle.std.specs.Option.{option_and_then};
 ghost use Rattle.std.proofs.Props.{props};
 ghost use Rattle.aadl_tree.specs.proof.PackageViews.{placed};
-ghost use Rattle.aadl_tree.specs.proof.Views.{declaration_view, implementation_view, subcomponent_view};
+ghost use Rattle.aadl_tree.specs.proof.Views.{declaration_view, feature_view, implementation_view, subcomponent_view};
 ghost use Rattle.aadl_tree.specs.proof.Maps.{kept_place};
 ghost use Rattle.aadl_names.specs.declared.fault.FlatFault.{FlatFault};
 ghost use Rattle.aadl_names.specs.Resolving as resolving;
-ghost use Rattle.aadl_names.specs.Resolving.{implementation_at, referred};
+ghost use Rattle.aadl_names.specs.Resolving.{implementation_at, ports_at, referred};
 ghost use Rattle.aadl_uses.specs.proof.Uses as spec;
 ghost use Rattle.aadl_uses.specs.proof.Uses.{targets_in};
 ghost use Rattle.aadl_uses.specs.proof.Types.{type_in, type_number_at};
@@ -20,8 +20,8 @@ ghost use Rattle.pals_base.specs.declared.limits.TheConstants.{COMPONENTS};
 use crate::types::types_of;
 use crate::{Containment, counts_below, order, reached};
 use aadl_names::Names;
-use aadl_names::numbered::{implementation_at, subcomponent_at};
-use aadl_tree::{Category, Declaration, Implementation, PackageTree, Subcomponent};
+use aadl_names::numbered::{implementation_at, subcomponent_at, type_numbered};
+use aadl_tree::{Category, Declaration, Feature, Implementation, PackageTree, Subcomponent};
 use indexmap::IndexSet;
 use pals_base::Items;
 use pals_base::limits::COMPONENTS;
@@ -146,6 +146,17 @@ impl<'t> Uses<'t> {
         match self.types.get(number) {
             Some(of_type) => *of_type,
             None => None,
+        }
+    }
+
+    /// The ports of an implementation.
+    pub fn ports(&self, number: usize) -> &'t [Feature]
+        ensures { map (feature_view kept_place) result.now
+            ≡ ports_at (placed self.now.names.tree.now) (implementation_at (placed self.now.names.tree.now) number) }
+    {
+        match type_numbered(self.names.tree, self.type_number(number)) {
+            Some(of_type) => of_type.features.as_slice(),
+            None => &[],
         }
     }
 

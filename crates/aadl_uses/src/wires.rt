@@ -2,7 +2,7 @@
 ghost use Rattle.std.specs.Prelude.{◌≡◌, ◌↔◌, IfOk, IsTrue, map, option_map, option_copied, slice_get};
 ghost use Rattle.std.proofs.Props.{props};
 ghost use Rattle.aadl_tree.specs.proof.PackageViews.{placed};
-ghost use Rattle.aadl_tree.specs.proof.Views.{connection_view, feature_view};
+ghost use Rattle.aadl_tree.specs.proof.Views.{connection_view};
 ghost use Rattle.aadl_tree.specs.proof.Maps.{kept_place};
 ghost use Rattle.aadl_names.specs.Resolving.{implementation_at, connections_of, ports_at, direction_in};
 ghost use Rattle.aadl_names.specs.PackageFaults as faults;
@@ -15,7 +15,7 @@ use crate::connections::{Connections, Wire};
 use crate::uses::Uses;
 use crate::wiring::wiring_of;
 use aadl_names::Site;
-use aadl_tree::{Connection, Declaration, Direction, Feature};
+use aadl_tree::{Connection, Direction};
 use pals_base::Items;
 use std::alloc::{AllocError, Global};
 
@@ -90,27 +90,12 @@ impl<'t> Wires<'t> {
         }
     }
 
-    /// The ports of an implementation.
-    pub fn ports(&self, number: usize) -> &'t [Feature]
-        ensures { map (feature_view kept_place) result.now
-            ≡ ports_at (placed self.now.uses.names.tree.now) (implementation_at (placed self.now.uses.names.tree.now) number) }
-    {
-        let Some(of_type) = self.uses.type_number(number) else {
-            return &[];
-        };
-        match self.uses.names.tree.declarations.get(of_type) {
-            Some(Declaration::Type(x)) => x.features.as_slice(),
-            Some(Declaration::Implementation(_)) => &[],
-            None => &[],
-        }
-    }
-
     /// Whether a port of an implementation goes in.
     pub fn is_in(&self, number: usize, port: usize) -> bool
         ensures { result ≡ faults.goes_in (direction_in (ports_at (placed self.now.uses.names.tree.now)
             (implementation_at (placed self.now.uses.names.tree.now) number)) port) }
     {
-        match self.ports(number).get(port) {
+        match self.uses.ports(number).get(port) {
             Some(port) => goes_in(port.direction),
             None => false,
         }

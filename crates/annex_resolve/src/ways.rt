@@ -1,5 +1,5 @@
 //! The ways that lead from a state.
-ghost use Rattle.std.specs.Prelude.{◌≡◌, IfOk, option_map, option_copied, length, filter, map, nat_eq};
+ghost use Rattle.std.specs.Prelude.{◌≡◌, IfOk, option_map, option_copied, filter, map, nat_eq};
 ghost use Rattle.std.specs.List.{list_any};
 ghost use Rattle.pals_base.specs.Rules.{dispatch_count};
 ghost use Rattle.aadl_tree.specs.proof.Maps.{kept_place};

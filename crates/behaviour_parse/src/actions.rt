@@ -1,8 +1,6 @@
 //! Actions.
-ghost use Rattle.std.specs.Prelude.{ℕ, ◌≡◌, [], ◌∷◌, ◌++◌, MatchBool, option_map};
+ghost use Rattle.std.specs.Prelude.{◌≡◌, [], ◌∷◌, ◌++◌, MatchBool, option_map};
 ghost use Rattle.aadl_tree.specs.declared.mark.Mark.TheVariants as k;
-ghost use Rattle.aadl_tree.specs.Parts.{plain, parts_if, may, last_semicolon};
-ghost use Rattle.aadl_tree.specs.Names.{identifier_parts, reference_parts};
 ghost use Rattle.aadl_tree.specs.Actions.{loop, action_parts, actions_parts, elsifs_parts, otherwise_parts, block_parts, test_parts, bound_parts};
 ghost use Rattle.aadl_tree.specs.proof.NameViews.{identifier_view, reference_view};
 ghost use Rattle.aadl_tree.specs.proof.ExpressionViews.{expression_view};

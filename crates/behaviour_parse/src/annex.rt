@@ -1,5 +1,5 @@
 //! What a behaviour annex declares.
-ghost use Rattle.std.specs.Prelude.{ℕ, ◌≡◌, [], ◌∷◌, ◌++◌, flat_map, map, option_map};
+ghost use Rattle.std.specs.Prelude.{◌≡◌, [], ◌∷◌, ◌++◌, flat_map, map, option_map};
 ghost use Rattle.aadl_tree.specs.declared.mark.Mark.TheVariants as k;
 ghost use Rattle.aadl_tree.specs.Parts.{plain, behind, parts_if};
 ghost use Rattle.aadl_tree.specs.Names.{identifier_parts};

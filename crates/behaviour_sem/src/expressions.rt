@@ -1,5 +1,5 @@
 //! The values of expressions.
-ghost use Rattle.std.specs.Prelude.{◌≡◌, ℤ, pos, map, slice_index_or, false, not};
+ghost use Rattle.std.specs.Prelude.{◌≡◌, pos, map, slice_index_or, false};
 ghost use Rattle.pals_base.specs.Expressions.{eval, eval_rest, applied, is_true, truth};
 ghost use Rattle.pals_base.specs.Fire.{is_present};
 ghost use Rattle.pals_base.specs.proof.Seen.{tree_of, operands_along};

@@ -1,5 +1,5 @@
 //! Common divisors and multiples.
-ghost use Rattle.std.specs.Prelude.{ℕ, ◌*◌, ◌^◌, ◌<◌};
+ghost use Rattle.std.specs.Prelude.{◌*◌, ◌^◌, ◌<◌};
 ghost use Rattle.bound_checker.specs.proof.Divisors.{IsGreatestDivisor, IsLeastCommon};
 
 // The greatest number that divides both, by Euclid.

@@ -1,7 +1,6 @@
 //! What is wrong with periods.
 ghost use Rattle.std.specs.Prelude.{◌≡◌, ◌≤◌, ◌++◌, IfOk, OnOk};
 ghost use Rattle.std.specs.Option.{ForSome};
-ghost use Rattle.std.specs.Fmt.{decimal};
 ghost use Rattle.pals_base.specs.declared.limits.TheConstants.{RATE};
 ghost use Rattle.bound_checker.specs.proof.Limits.{IsWithinHour};
 ghost use Rattle.component_checks.specs.Rates.{and_number, period_findings, bound_findings};

@@ -29,7 +29,8 @@ pub fn no_findings_leave_time()
 
 /// Where nothing is found on the period of a component, it has a rate.
 pub fn no_findings_make_a_rate()
-    ensures { (at : ℕ) (path : List ℕ) (t p : ℕ) → 1 ≤ t → period_findings at path (Some t) (Some p) ≡ [] → (k : ℕ) × (rate_of (Some t) (Some p) ≡ Some k) }
+    ensures { (at : ℕ) (path : List ℕ) (t p : ℕ) → 1 ≤ t → period_findings at path (Some t) (Some p) ≡ []
+        → (k : ℕ) × (rate_of (Some t) (Some p) ≡ Some k) }
 {}
 
 /// Where nothing is found on the adaptor between two rates, one of them divides the other, and the

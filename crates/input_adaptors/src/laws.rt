@@ -1,5 +1,5 @@
 //! What holds of every adaptor. Each law is the contract of a function that does nothing.
-ghost use Rattle.std.specs.Prelude.{◌≡◌, ◌≢◌, ℕ, ◌+◌, ◌*◌, ◌/◌, ◌<◌, ◌≤◌, ℤ, ◌≤ℤ◌, List, length, flat_map, slice_get, All, Contains, IsTrue, Option};
+ghost use Rattle.std.specs.Prelude.{◌≡◌, ◌≢◌, ℕ, ◌+◌, ◌*◌, ◌/◌, ◌<◌, ◌≤◌, ℤ, List, length, flat_map, slice_get, All, Contains, IsTrue, Option};
 ghost use Rattle.pals_base.specs.declared.values.Port.{Port};
 ghost use Rattle.pals_base.specs.declared.values.Port.TheVariants.{Absent, Present};
 ghost use Rattle.pals_base.specs.declared.values.Adaptor.{Adaptor};

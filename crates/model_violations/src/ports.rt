@@ -4,12 +4,11 @@ ghost use Rattle.std.specs.Option.{option_and_then};
 ghost use Rattle.aadl_tree.specs.proof.Maps.{kept_place};
 ghost use Rattle.aadl_tree.specs.proof.PackageViews.{placed};
 ghost use Rattle.aadl_tree.specs.proof.Views.{feature_view};
-ghost use Rattle.aadl_names.specs.Resolving.{implementation_at, ports_at};
+ghost use Rattle.aadl_names.specs.Resolving.{implementation_at};
 ghost use Rattle.component_checks.specs.Types.{is_in};
 ghost use Rattle.model_violations.specs.Ports as spec;
 
 use aadl_instance::{ChainEnd, ThreadAt};
-use aadl_names::numbered::type_numbered;
 use aadl_tree::Feature;
 use aadl_uses::Uses;
 use component_checks::types::{is_in, kind_in};
@@ -24,17 +23,6 @@ pub fn component_number(uses: &Uses<'_>, thread: &ThreadAt) -> Option<usize>
     match thread.subs.as_slice().last() {
         Some(sub) => uses.below(sub.declaration, sub.sub),
         None => None,
-    }
-}
-
-/// The ports of the implementation of a number.
-pub fn ports_at<'t>(uses: &Uses<'t>, number: usize) -> &'t [Feature]
-    ensures { map (feature_view kept_place) result.now
-        ≡ ports_at (placed uses.now.names.tree.now) (implementation_at (placed uses.now.names.tree.now) number) }
-{
-    match type_numbered(uses.names.tree, uses.type_number(number)) {
-        Some(of_type) => of_type.features.as_slice(),
-        None => &[],
     }
 }
 
@@ -61,7 +49,7 @@ pub fn thread_in<'t>(uses: &Uses<'t>, thread: &ThreadAt, number: u32) -> Option<
         ≡ slice_get (spec.ins_of (placed uses.now.names.tree.now) thread.now) number }
 {
     match component_number(uses, thread) {
-        Some(component) => in_port(ports_at(uses, component), number as usize),
+        Some(component) => in_port(uses.ports(component), number as usize),
         None => None,
     }
 }

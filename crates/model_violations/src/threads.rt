@@ -12,7 +12,6 @@ ghost use Rattle.model_violations.specs.Threads as spec;
 ghost use Rattle.model_violations.specs.Values.{variables_of, values_of, scope_of};
 
 use crate::declared::{ins_in, outs_in};
-use crate::ports::ports_at;
 use crate::values::setting_by;
 use crate::variables::variables_of;
 use aadl_tree::{Annex, AnnexContent, AnnexTree, Implementation};
@@ -62,7 +61,7 @@ fn setting_of(
     ensures scope { IfOk result (λ setting. setting.1
         ≡ scope_of (placed uses.now.names.tree.now) (implementation_view kept_place x.now) (annex_tree_view kept_place annex.now)) }
 {
-    let ports = ports_at(uses, number);
+    let ports = uses.ports(number);
     let ins = ins_in(alloc, ports)?;
     let outs = outs_in(alloc, ports)?;
     let variables = variables_of(alloc, annex)?;

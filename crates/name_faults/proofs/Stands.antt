@@ -9,13 +9,12 @@ use Rattle.aadl_names.specs.declared.site.Site.TheVariants.{Own, Inner}
 use Rattle.aadl_names.specs.Resolving.{implementation_in, implementation_at, subcomponents_of, type_number, type_numbered, referred, target_of}
 use Rattle.aadl_names.specs.Resolving.{features_of, direction_in, direction_of, with_direction}
 use Rattle.aadl_names.specs.proof.Found.{found}
-use Rattle.aadl_names.specs.PackageFaults.{root_type, sited, connection_faults}
+use Rattle.aadl_names.specs.PackageFaults.{root_type, sited, joined_faults, connection_faults}
 use Rattle.aadl_uses.specs.declared.connections.Wire.{Wire}
 use Rattle.aadl_uses.specs.Uses.{below}
 use Rattle.aadl_uses.specs.Wiring.{wire_of, wires_of, wires_at}
 use Rattle.aadl_uses.specs.proof.Types.{type_number_by, type_number_at}
 use Rattle.name_faults.specs.proof.Standing.{StandsAt}
-use Rattle.name_faults.specs.proof.Joined.{joined_faults}
 
 pub of_root : (tree : PackageTree ℕ) (x : Option (Implementation ℕ)) → type_number_by tree x ≡ root_type tree x
 of_root tree None = refl

@@ -4,4 +4,3 @@ pub mod Marks
 pub mod PortNames
 pub mod Expected
 pub mod Standing
-pub mod Joined

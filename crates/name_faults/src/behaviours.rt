@@ -1,7 +1,7 @@
 //! What is wrong with the behaviours of an implementation.
 #![tactic(auto, using(aadl_names::proofs::Finds::found_append))]
 
-ghost use Rattle.std.specs.Prelude.{◌≡◌, ℕ, List, OnOk};
+ghost use Rattle.std.specs.Prelude.{◌≡◌, OnOk};
 ghost use Rattle.aadl_tree.specs.proof.PackageViews.{placed};
 ghost use Rattle.aadl_tree.specs.proof.Views.{annex_tree_view, annex_view, implementation_view};
 ghost use Rattle.aadl_tree.specs.proof.Maps.{kept_place};
@@ -11,6 +11,7 @@ ghost use Rattle.aadl_names.specs.Behaviours.{behaviours};
 ghost use Rattle.aadl_names.specs.Resolving.{ports_of, type_number, type_numbered};
 ghost use Rattle.aadl_names.specs.PackageFaults as spec;
 ghost use Rattle.name_faults.specs.proof.Scopes.{known_by};
+ghost use Rattle.name_faults.specs.proof.PortNames.{HasRolesOf};
 ghost use Rattle.name_faults.specs.proof.Expected.{annex_uses, still_expected};
 
 use crate::categories::is_thread;
@@ -57,7 +58,7 @@ fn check_behaviour(
     behaviour: &AnnexTree,
 ) -> Result<(), AllocError>
     requires of_type { of_type ≡ type_number (placed tree.now) (implementation_view kept_place x.now) }
-    requires roles { (name : List ℕ) → value_of roles.now name ≡ spec.port_roles (ports_of (placed tree.now) (implementation_view kept_place x.now)) name }
+    requires roles { HasRolesOf (ports_of (placed tree.now) (implementation_view kept_place x.now)) roles.now }
     ensures { OnOk result (finder.new ≡ found finder.old
         (spec.behaviour_faults (placed tree.now) (implementation_view kept_place x.now) (annex_tree_view kept_place behaviour.now))) }
 {
@@ -79,7 +80,7 @@ fn check_annex(
     annex: &Annex,
 ) -> Result<(), AllocError>
     requires of_type { of_type ≡ type_number (placed tree.now) (implementation_view kept_place x.now) }
-    requires roles { (name : List ℕ) → value_of roles.now name ≡ spec.port_roles (ports_of (placed tree.now) (implementation_view kept_place x.now)) name }
+    requires roles { HasRolesOf (ports_of (placed tree.now) (implementation_view kept_place x.now)) roles.now }
     ensures { OnOk result (finder.new ≡ found finder.old
         (annex_uses (placed tree.now) (implementation_view kept_place x.now) expected (annex_view kept_place annex.now))) }
 {
@@ -116,7 +117,7 @@ pub fn check_behaviours(
     x: &Implementation,
 ) -> Result<(), AllocError>
     requires of_type { of_type ≡ type_number (placed tree.now) (implementation_view kept_place x.now) }
-    requires roles { (name : List ℕ) → value_of roles.now name ≡ spec.port_roles (ports_of (placed tree.now) (implementation_view kept_place x.now)) name }
+    requires roles { HasRolesOf (ports_of (placed tree.now) (implementation_view kept_place x.now)) roles.now }
     ensures { OnOk result (finder.new ≡ found finder.old
         (spec.annex_faults (placed tree.now) (implementation_view kept_place x.now) (behaviours (implementation_view kept_place x.now).annexes))) }
 {

@@ -10,7 +10,6 @@ ghost use Rattle.aadl_names.specs.proof.Found.{found};
 ghost use Rattle.aadl_names.specs.Resolving as resolving;
 ghost use Rattle.aadl_names.specs.PackageFaults as spec;
 ghost use Rattle.name_faults.specs.proof.Standing.{StandsAt};
-ghost use Rattle.name_faults.specs.proof.Joined.{joined_faults};
 
 use crate::check_properties;
 use aadl_names::connection_ends::port_direction;
@@ -124,7 +123,7 @@ fn check_connection(
     target: Option<(Site, Option<Direction>)>,
     connection: &Connection,
 ) -> Result<(), AllocError>
-    ensures { OnOk result (finder.new ≡ found finder.old (joined_faults (connection_view kept_place connection.now) source target)) }
+    ensures { OnOk result (finder.new ≡ found finder.old (spec.joined_faults (connection_view kept_place connection.now) source target)) }
 {
     let at = connection.name.at;
     check_source(finder, &connection.source, at, source)?;

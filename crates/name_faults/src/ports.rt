@@ -11,7 +11,7 @@ ghost use Rattle.aadl_names.specs.Twice.{twice};
 ghost use Rattle.aadl_names.specs.Spaces.{port_entries};
 ghost use Rattle.aadl_names.specs.Resolving.{features_of, type_in, type_numbered};
 ghost use Rattle.aadl_names.specs.PackageFaults.{role_in, port_roles};
-ghost use Rattle.name_faults.specs.proof.PortNames.{AreNamesOf, AreAllNamesOf, names_at};
+ghost use Rattle.name_faults.specs.proof.PortNames.{AreNamesOf, AreAllNamesOf, HasRolesOf, names_at};
 
 use crate::entries::port_entries;
 use crate::port_names::{AllPortNames, PortNames};
@@ -44,7 +44,7 @@ fn add_role(alloc: Global, roles: &mut Table<Role>, port: &Feature) -> Result<()
 
 // What the names of ports stand for.
 fn port_roles(alloc: Global, ports: &[Feature]) -> Result<Table<Role>, AllocError>
-    ensures { IfOk result (λ table. (name : List ℕ) → value_of table name ≡ port_roles (map (feature_view kept_place) ports.now) name) }
+    ensures { IfOk result (λ table. HasRolesOf (map (feature_view kept_place) ports.now) table) }
 {
     let mut roles = Table::new(alloc);
     for port in ports {

@@ -17,7 +17,8 @@ use std::alloc::{AllocError, Global};
 
 /// What the names of a behaviour's variables stand for.
 pub fn variable_roles(alloc: Global, behaviour: &AnnexTree) -> Result<Table<Role>, AllocError>
-    ensures { IfOk result (λ table. (name : List ℕ) → value_of table name ≡ variable_roles (variables_of (annex_tree_view kept_place behaviour.now)) name) }
+    ensures { IfOk result (λ table. (name : List ℕ) → value_of table name
+        ≡ variable_roles (variables_of (annex_tree_view kept_place behaviour.now)) name) }
 {
     let mut table = Table::new(alloc);
     for declaration in variables_in(behaviour) {
@@ -28,7 +29,8 @@ pub fn variable_roles(alloc: Global, behaviour: &AnnexTree) -> Result<Table<Role
 
 /// The names of a behaviour's states.
 pub fn state_names(alloc: Global, behaviour: &AnnexTree) -> Result<Table<()>, AllocError>
-    ensures { IfOk result (λ table. (name : List ℕ) → is_marked (value_of table name) ≡ is_among (states_of (annex_tree_view kept_place behaviour.now)) name) }
+    ensures { IfOk result (λ table. (name : List ℕ) → is_marked (value_of table name)
+        ≡ is_among (states_of (annex_tree_view kept_place behaviour.now)) name) }
 {
     let mut table = Table::new(alloc);
     for declaration in states_in(behaviour) {

@@ -1,13 +1,8 @@
 -- Seats, and what holds of nodes so far.
-use Rattle.std.proofs.Common.{◌≡◌, inl, inr, ℕ, zero, suc, ◌+◌, ◌<◌, Bool, true, false, List, [], ◌∷◌, length, slice_get, None, refl, sym, ap, ◌∙◌, subst, arith}
-use Rattle.std.specs.Prelude.{slice_set, slice_index_or}
-use Rattle.std.proofs.lemmas.Bool.{cases_eq, cases_lt}
-use Rattle.std.proofs.lemmas.Grind.{get_or-set_at}
-use Rattle.std.proofs.lemmas.List.{length-set, get_or-set_other, get_or_past, set_past}
-use Rattle.node_threads.specs.declared.wakes.Wakes.{Wakes}
+use Rattle.std.proofs.Common.{◌≡◌, inl, inr, ℕ, zero, suc, ◌+◌, ◌<◌, List, [], ◌∷◌, slice_get, None, refl, sym, subst, arith}
+use Rattle.std.proofs.lemmas.Bool.{cases_eq}
 use Rattle.node_threads.specs.declared.sleepers.Seat.{Seat}
-use Rattle.node_threads.specs.declared.sleepers.Sleepers.{Sleepers}
-use Rattle.node_threads.specs.proof.Sleepers.{seat_at, free_seat, with_seat, is_rung, with_rung, IsRoused, Rouses}
+use Rattle.node_threads.specs.proof.Sleepers.{seat_at, free_seat}
 
 -- past the last seat
 pub none_seat : (seats : List Seat) (node : ℕ) → None ≡ slice_get seats node → seat_at seats node ≡ free_seat

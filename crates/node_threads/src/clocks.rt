@@ -1,5 +1,5 @@
 //! The clocks of a run's nodes: what they show, and lists of which nothing is picked.
-ghost use Rattle.std.specs.Prelude.{◌≡◌, ◌+◌, List, length, map, All, IsTrue, IfOk, OnErr, true};
+ghost use Rattle.std.specs.Prelude.{◌≡◌, List, map, All, IsTrue, IfOk, OnErr, true};
 ghost use Rattle.std.specs.List.Sorted.{IsNonDecreasing};
 ghost use Rattle.pals_clock.specs.Clock.{ClockState, unpicked};
 ghost use Rattle.pals_clock.specs.declared.clock.Clocks.TheVariants.{Lists};

@@ -243,7 +243,8 @@ impl Sleepers {
 
     /// Whether the hour has reached the target of a node that is not done.
     pub fn is_at_hour(&self, course: &Course, node: NodeNo) -> bool
-        ensures { result ≡ false → node.0 < length course.now.bus.run.design.components → IsAbove course.now.bus.run course.now.bus.state self.now.hour node.0 }
+        ensures { result ≡ false → node.0 < length course.now.bus.run.design.components
+            → IsAbove course.now.bus.run course.now.bus.state self.now.hour node.0 }
     {
         match course.target(node) {
             None => false,

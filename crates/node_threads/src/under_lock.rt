@@ -1,6 +1,6 @@
 //! What a node does while it has the lock. Each call is an event of the bus machine, or notes how the part
 //! of a node ended.
-ghost use Rattle.std.specs.Prelude.{◌≡◌, ◌<◌, ◌≤◌, ℕ, length, OnOk, Some};
+ghost use Rattle.std.specs.Prelude.{◌<◌, ◌≤◌, length, OnOk, Some};
 ghost use Rattle.pals_base.specs.declared.limits.TheConstants.{READING};
 ghost use Rattle.bus_machine.specs.Machine.{Start, Step, Send};
 ghost use Rattle.node_threads.specs.proof.Courses.{Stays, IsOpen, IsNext, IsReady, EndsAt, IsToStartIn, IsAwaitedIn, Allows};

@@ -1,7 +1,5 @@
 //! What a node with a list waits for before a start.
-ghost use Rattle.std.specs.Prelude.{◌≡◌, ◌⊎◌, ◌<◌, ◌≤◌, length, false, IsTrue, List, slice_index_or};
-ghost use Rattle.pals_clock.specs.Clock.{ClockState};
-ghost use Rattle.pals_clock.specs.declared.clock.Clocks.TheVariants.{Lists};
+ghost use Rattle.std.specs.Prelude.{◌≡◌, ◌<◌, ◌≤◌, length, false, IsTrue};
 ghost use Rattle.bus_machine.specs.States.{link_at, node_at};
 ghost use Rattle.bus_machine.specs.Stops.{sent_rounds};
 ghost use Rattle.node_threads.specs.proof.Courses.{HasSent, IsWaiting, IsAwaitedIn, IsSentOn};

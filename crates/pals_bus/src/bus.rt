@@ -1,5 +1,5 @@
 //! The bus, and what it shows.
-ghost use Rattle.std.specs.Prelude.{◌≡◌, ◌<◌, ◌≤◌, ◌↔◌, IsTrue, true, length, IfOk, slice_get, option_copied, Some, None};
+ghost use Rattle.std.specs.Prelude.{◌≡◌, ◌<◌, ◌≤◌, ◌↔◌, IsTrue, true, length, IfOk, slice_get, option_copied, None};
 ghost use Rattle.std.specs.Arc.{arc_value};
 ghost use Rattle.pals_base.specs.declared.limits.TheConstants.{ROUNDS};
 ghost use Rattle.pals_model.specs.Delays.{AreDelays};

@@ -1,5 +1,5 @@
 //! All messages that are due to a node.
-ghost use Rattle.std.specs.Prelude.{◌≡◌, ◌<◌, ◌↔◌, length, IsTrue, IfErr, OnOk};
+ghost use Rattle.std.specs.Prelude.{◌<◌, ◌↔◌, length, IsTrue, IfErr, OnOk};
 ghost use Rattle.pals_bus.specs.proof.Due.{TakesAllDue, DueEnds, HasDue};
 
 use crate::DueEnd;

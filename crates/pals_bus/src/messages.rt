@@ -1,5 +1,5 @@
 //! The events of messages, on the fields of a bus.
-ghost use Rattle.std.specs.Prelude.{◌≡◌, ℕ, ◌+◌, ◌<◌, ◌≤◌, ◌++◌, length, sum_by, IfOk, IfErr, IfSome, IfNone, OnOk, OnErr, Some, None, false, slice_index_or, vec_capacity};
+ghost use Rattle.std.specs.Prelude.{◌≡◌, ◌+◌, ◌<◌, ◌≤◌, ◌++◌, length, sum_by, IfOk, IfErr, IfSome, IfNone, OnOk, OnErr, Some, None, false, slice_index_or, vec_capacity};
 ghost use Rattle.std.specs.Arc.{arc_value};
 ghost use Rattle.bus_machine.specs.Machine.{Arrive, Drop, Repeat, arrival, early_stop};
 ghost use Rattle.bus_machine.specs.Replay.{stop_entry};

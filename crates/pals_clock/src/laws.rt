@@ -11,7 +11,8 @@ pub fn picks_go_step_by_step()
     ensures pick { (left targets : List ℕ) (target reading : ℕ) → slice_get (reached left target) 0 ≡ Some reading
         → picks left (target ∷ targets) ≡ reading ∷ picks (reached left target) targets }
     ensures ended { (left targets : List ℕ) (target : ℕ) → All (λ reading. reading < target) left → picks left (target ∷ targets) ≡ [] }
-    ensures stays_ended { (left : List ℕ) (target later : ℕ) → target ≤ later → All (λ reading. reading < target) left → All (λ reading. reading < later) left }
+    ensures stays_ended { (left : List ℕ) (target later : ℕ) → target ≤ later
+        → All (λ reading. reading < target) left → All (λ reading. reading < later) left }
 {}
 
 /// The picks for further targets follow those that were made, from what these left.

@@ -1,6 +1,5 @@
 //! What a run is given and what it leaves, round by round.
-ghost use Rattle.std.specs.Prelude.{◌≡◌, ◌<◌, ◌≤◌, [], length, map, All, slice_index_or};
-ghost use Rattle.pals_base.specs.declared.values.Port.TheVariants.{Absent};
+ghost use Rattle.std.specs.Prelude.{◌≡◌, ◌<◌, [], length, map};
 ghost use Rattle.pals_model.specs.Inputs.{values_at};
 ghost use Rattle.pals_model.specs.Delays.{delay_in, delay_of};
 

@@ -1,7 +1,6 @@
 //! What comes next in a round, and the reading that it waits for.
-ghost use Rattle.std.specs.Prelude.{◌≡◌, ◌<◌, ◌≤◌, ◌-◌, IfSome};
-ghost use Rattle.std.specs.Option.{option_map};
-ghost use Rattle.pals_base.specs.declared.limits.TheConstants.{READING, ROUNDS};
+ghost use Rattle.std.specs.Prelude.{◌≡◌, ◌<◌, ◌-◌};
+ghost use Rattle.pals_base.specs.declared.limits.TheConstants.{ROUNDS};
 ghost use Rattle.bus_machine.specs.Targets.{target, next_action, send_is_next};
 ghost use Rattle.pals_node.specs.proof.Keeping.{IsPlan};
 

@@ -2,7 +2,7 @@
 ghost use Rattle.std.specs.Prelude.{◌≡◌, ◌++◌, ℕ, List, OnOk, OnErr};
 ghost use Rattle.pals_model.specs.RoundTexts.{text_of};
 ghost use Rattle.pals_report.specs.proof.Appended.{BeginsWith};
-ghost use Rattle.pals_report.specs.CheckReports.{check_lines, IsShortest, IsCheckReport};
+ghost use Rattle.pals_report.specs.CheckReports.{check_lines, IsCheckReport};
 
 use crate::lines::{add_components, add_feeds, add_ignored_names, add_links, add_taps};
 use crate::periods::{add_periods, rates};

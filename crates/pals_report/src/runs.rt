@@ -42,7 +42,7 @@ fn rule_word(rule: TraceRule) -> &'static [u8]
     }
 }
 
-// The line of a sound trace with so many rows.
+// The line of a sound trace with this number of rows.
 fn add_sound(
     out: &mut Vec<u8>,
     design: &DesignParts,

@@ -1,22 +1,22 @@
 -- Without pairs the report is that of the composition.
-use Rattle.std.proofs.Common.{◌≡◌, ◌∙◌, ◌++◌, ℕ, zero, suc, ◌+◌, ◌*◌, ◌<◌, ◌≤◌, Bool, true, false, nat_eq, List, [], ◌∷◌, length, map, take, Option, Some, None, slice_get, slice_index_or, All, refl, sym, ap, ap₂, subst, arith}
+use Rattle.std.proofs.Common.{◌≡◌, ◌∙◌, ◌++◌, ℕ, suc, ◌+◌, ◌*◌, ◌<◌, ◌≤◌, Bool, true, false, nat_eq, List, [], ◌∷◌, length, map, take, Option, Some, slice_get, slice_index_or, All, refl, sym, ap, ap₂, subst, arith}
 use Rattle.std.specs.Prelude.{filter, flat_map, if◌then◌else◌}
 use Rattle.std.specs.List.{enumerate_from}
 use Rattle.std.proofs.lemmas.Bool.{eqb-true}
 use Rattle.std.proofs.lemmas.Nat.{mul-le}
 use Rattle.std.proofs.lemmas.List.Elements.{All-head, All-tail}
-use Rattle.std.proofs.lemmas.Option.{slice_get_cases, get_or_from_slice_get}
+use Rattle.std.proofs.lemmas.Option.{get_or_from_slice_get}
 use Rattle.pals_base.specs.declared.values.Port.{Port}
 use Rattle.pals_base.specs.declared.values.Frame.{Frame}
 use Rattle.pals_base.specs.Fire.{initial}
-use Rattle.pals_base.specs.Steps.{Stepped, frame_after, column, upwards}
+use Rattle.pals_base.specs.Steps.{Stepped, frame_after, column}
 use Rattle.pals_base.proofs.Steps.{slice_get-columns}
 use Rattle.pals_model.specs.declared.design.Component.{Component}
 use Rattle.pals_model.specs.declared.design.Tap.{Tap}
 use Rattle.pals_model.specs.declared.design.DesignParts.{DesignParts}
 use Rattle.pals_model.specs.declared.rounds.Env.{Env}
 use Rattle.pals_model.specs.declared.rounds.Part.{Part}
-use Rattle.pals_model.specs.Composition.{comp, state, part, steps_of_round, tuple_in, tuple_of, taps_of}
+use Rattle.pals_model.specs.Composition.{comp, state, part, steps_of_round, tuple_in, tuple_of}
 use Rattle.pals_model.specs.proof.Laws.{own_steps}
 use Rattle.pals_model.specs.Ports.{outs_in}
 use Rattle.pals_model.specs.Rules.{IsDesign, IsTap}
@@ -24,7 +24,7 @@ use Rattle.pals_model.specs.RoundTexts.{text_of, round_line, part_lines, tap_lin
 use Rattle.pals_model.proofs.CompositionLaws.{steps_of_round-at}
 use Rattle.pals_model.proofs.ShapeLaws.{component_at}
 use Rattle.sync_product.proofs.Tables.{numbered-at}
-use Rattle.plant_fuse.specs.Fused.{Inputs, inputs_to, round_tuple, frame_before, IsFused}
+use Rattle.plant_fuse.specs.Fused.{Inputs, round_tuple, frame_before, IsFused}
 use Rattle.plant_fuse.specs.Texts.{fused_part, fused_parts, fused_lines}
 use Rattle.plant_fuse.specs.proof.Laws.{ReportWithoutPairs}
 use Rattle.plant_fuse.proofs.Prefixes.{take_upwards}

@@ -1,34 +1,33 @@
 -- Where a fused product stands after a round.
-use Rattle.std.proofs.Common.{◌≡◌, ◌∙◌, ◌⊎◌, inl, inr, ℕ, zero, suc, ◌+◌, ◌-◌, ◌<◌, ◌≤◌, Bool, true, false, nat_eq, List, [], ◌∷◌, length, map, Option, Some, None, slice_get, slice_index_or, refl, sym, ap, ap₂, subst, arith}
-use Rattle.std.specs.Prelude.{if◌then◌else◌, filter}
-use Rattle.std.specs.List.{enumerate_from}
-use Rattle.std.proofs.lemmas.Bool.{eqb-true, cases_Bool}
-use Rattle.std.proofs.lemmas.List.{length-map, get_or-map}
-use Rattle.std.proofs.lemmas.Option.{slice_get-get_or, slice_get_within, slice_get_past, get_or_from_slice_get, slice_get_cases, same_Some}
+use Rattle.std.proofs.Common.{◌≡◌, ◌∙◌, inl, inr, ℕ, zero, suc, ◌-◌, ◌<◌, ◌≤◌, Bool, true, false, nat_eq, List, [], ◌∷◌, length, map, Option, Some, None, slice_get, slice_index_or, refl, sym, ap, ap₂, subst, arith}
+use Rattle.std.specs.Prelude.{if◌then◌else◌}
+use Rattle.std.proofs.lemmas.Bool.{eqb-true}
+use Rattle.std.proofs.lemmas.List.{length-map}
+use Rattle.std.proofs.lemmas.Option.{get_or_from_slice_get, slice_get_cases, same_Some}
 use Rattle.pals_base.specs.declared.values.Port.{Port}
 use Rattle.pals_base.specs.declared.values.Port.TheVariants.{Absent}
 use Rattle.pals_base.specs.declared.values.Frame.{Frame}
 use Rattle.pals_base.specs.declared.values.NodeNo.{NodeNo}
-use Rattle.pals_base.specs.Steps.{outputs, frame_after, column, columns, upwards}
+use Rattle.pals_base.specs.Steps.{outputs, frame_after, column, upwards}
 use Rattle.pals_model.specs.declared.design.Component.{Component}
 use Rattle.pals_model.specs.declared.design.Link.{Link}
 use Rattle.pals_model.specs.declared.design.DesignParts.{DesignParts}
 use Rattle.pals_model.specs.declared.rounds.Part.{Part}
 use Rattle.pals_model.specs.declared.sources.PortSource.{PortSource}
 use Rattle.pals_model.specs.declared.sources.PortSource.TheVariants as source
-use Rattle.pals_model.specs.Inputs.{rate_of, rate_in, source_of, sources_of, reading}
+use Rattle.pals_model.specs.Inputs.{rate_of, rate_in, source_of, sources_of}
 use Rattle.pals_model.specs.Composition.{Configuration, no_frame}
 use Rattle.pals_runs.specs.declared.pairs.Pair.{Pair}
 use Rattle.sync_product.specs.declared.reads.RoundInputs.{RoundInputs}
 use Rattle.sync_product.specs.declared.stage.Stage.{Stage}
 use Rattle.sync_product.specs.proof.Sizes.{tap_ports}
-use Rattle.sync_product.specs.proof.Rounds.{brought, vectors, frames_of}
+use Rattle.sync_product.specs.proof.Rounds.{brought, vectors}
 use Rattle.plant_fuse.specs.Fused.{is_back, is_forth, ArePairs, Inputs, inputs_to}
 use Rattle.plant_fuse.specs.proof.Partners.{partner_of}
 use Rattle.plant_fuse.specs.proof.Rounds as rounds
 use Rattle.plant_fuse.specs.proof.Rounds.{Left, frame_at, outputs_from, place_at, left_in, left_before_by, link_by, read_by, vector_by, round_vector, IsFusedRound}
-use Rattle.plant_fuse.specs.proof.Sides.{Seat, Work, from_partner, from_link, side_value, side_vector, row_at, row_before, plant_vector, controller_vector}
-use Rattle.plant_fuse.specs.proof.Runs.{seat, rows_of, part_of_work, HasWork, IsRun, AreRun}
+use Rattle.plant_fuse.specs.proof.Sides.{Work, from_partner, from_link, side_value, row_at, row_before, plant_vector, controller_vector}
+use Rattle.plant_fuse.specs.proof.Runs.{seat, rows_of, HasWork, IsRun, AreRun}
 use Rattle.plant_fuse.proofs.Numbered.{map_map, map_upwards_same, table, table_at, table_same}
 use Rattle.plant_fuse.proofs.Inside.{read_from_target}
 use Rattle.plant_fuse.proofs.Partnering.{some_stands, pair_at, to_plant_forth, to_plant_back, to_controller_back, to_controller_forth, to_alone_back, to_alone_forth}

@@ -1,15 +1,15 @@
 -- One step more of a plant and its controller.
-use Rattle.std.proofs.Common.{◌≡◌, ◌∙◌, ℕ, zero, suc, ◌+◌, ◌<◌, ◌≤◌, List, [], ◌∷◌, ◌++◌, length, map, take, Option, Some, None, slice_index_or, refl, sym, ap, ap₂, subst, arith}
+use Rattle.std.proofs.Common.{◌≡◌, ◌∙◌, ℕ, zero, suc, ◌+◌, ◌≤◌, List, [], ◌∷◌, ◌++◌, length, map, take, Option, Some, refl, sym, ap, ap₂, subst, arith}
 use Rattle.std.proofs.lemmas.List.{get_or_append_left, get_or_push, get_or-take}
 use Rattle.pals_base.specs.declared.values.Port.{Port}
 use Rattle.pals_base.specs.declared.values.Frame.{Frame}
 use Rattle.pals_base.specs.declared.behaviour.BehaviourParts.{BehaviourParts}
 use Rattle.pals_base.specs.Fire.{fire}
-use Rattle.pals_base.specs.Steps.{outputs, frame_after, upwards}
+use Rattle.pals_base.specs.Steps.{outputs, upwards}
 use Rattle.pals_base.proofs.Upwards.{map_upwards_more}
 use Rattle.pals_base.proofs.Steps.{frame_after-append, outputs-append}
 use Rattle.sync_product.specs.declared.reads.RoundInputs.{RoundInputs}
-use Rattle.plant_fuse.specs.proof.Sides.{Seat, Work, side_vector, row_at, row_before, plant_vector, controller_vector, IsMade, work, AreMade}
+use Rattle.plant_fuse.specs.proof.Sides.{Seat, Work, side_vector, row_before, plant_vector, controller_vector, IsMade, work, AreMade}
 use Rattle.plant_fuse.proofs.Numbered.{map_upwards_same}
 
 -- ---- rows so far

@@ -1,7 +1,6 @@
 -- States that follow one another stand where the solution does.
-use Rattle.std.proofs.Common.{◌≡◌, ◌∙◌, ◌⊎◌, inl, inr, ℕ, zero, suc, ◌<◌, List, refl, sym, ap, ap₂, subst, arith}
+use Rattle.std.proofs.Common.{◌≡◌, ◌∙◌, inl, inr, ℕ, zero, suc, ◌<◌, List, sym, ap, ap₂, subst, arith}
 use Rattle.std.proofs.lemmas.Bool.{cases_lt}
-use Rattle.pals_base.specs.declared.values.Port.{Port}
 use Rattle.pals_model.specs.declared.design.DesignParts.{DesignParts}
 use Rattle.pals_model.specs.declared.rounds.Env.{Env}
 use Rattle.pals_model.specs.Inputs.{values_at}
@@ -11,7 +10,7 @@ use Rattle.pals_runs.specs.declared.pairs.Pair.{Pair}
 use Rattle.plant_fuse.specs.Fused.{ArePairs, Inputs, IsFused}
 use Rattle.plant_fuse.specs.proof.Fused.{first_rounds, fused}
 use Rattle.plant_fuse.specs.proof.Rounds.{IsFusedRound, after_round, last_round}
-use Rattle.plant_fuse.specs.proof.State.{FuseState, begun, parts_after, advanced, IsAdvanced, AreStates}
+use Rattle.plant_fuse.specs.proof.State.{FuseState, begun, parts_after, IsAdvanced, AreStates}
 use Rattle.plant_fuse.specs.Texts.{fused_parts}
 use Rattle.plant_fuse.specs.proof.Laws.{StatesFollow}
 use Rattle.plant_fuse.proofs.Solutions.{solution_is_one}

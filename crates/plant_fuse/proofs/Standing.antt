@@ -1,6 +1,6 @@
 -- What stands behind a round is what its equations leave.
-use Rattle.std.proofs.Common.{◌≡◌, ◌∙◌, ◌⊎◌, inl, inr, ℕ, ◌+◌, ◌<◌, ◌≤◌, Bool, true, false, List, [], ◌∷◌, length, map, Option, Some, None, slice_get, slice_index_or, All, refl, sym, ap, ap₂, subst, arith}
-use Rattle.std.specs.Prelude.{if◌then◌else◌, filter, nat_eq}
+use Rattle.std.proofs.Common.{◌≡◌, ◌∙◌, ◌⊎◌, inl, inr, ℕ, ◌+◌, Bool, true, false, List, [], ◌∷◌, length, map, Some, slice_get, slice_index_or, All, refl, sym, ap, ap₂, arith}
+use Rattle.std.specs.Prelude.{if◌then◌else◌}
 use Rattle.std.specs.List.{enumerate_from}
 use Rattle.std.proofs.lemmas.Bool.{cases_Bool}
 use Rattle.std.proofs.lemmas.List.{length-map}
@@ -10,7 +10,7 @@ use Rattle.pals_base.specs.declared.values.Port.{Port}
 use Rattle.pals_base.specs.declared.values.Port.TheVariants.{Absent}
 use Rattle.pals_base.specs.declared.values.Frame.{Frame}
 use Rattle.pals_base.specs.Bound.{sent_steps}
-use Rattle.pals_base.specs.Steps.{outputs, frame_after, column, cut, upwards}
+use Rattle.pals_base.specs.Steps.{frame_after, column, cut, upwards}
 use Rattle.pals_model.specs.declared.design.Component.{Component}
 use Rattle.pals_model.specs.declared.design.Link.{Link}
 use Rattle.pals_model.specs.declared.design.Tap.{Tap}
@@ -23,16 +23,16 @@ use Rattle.pals_model.proofs.ShapeLaws.{component_at, length-outputs}
 use Rattle.pals_runs.specs.declared.pairs.Pair.{Pair}
 use Rattle.sync_product.specs.declared.reads.RoundInputs.{RoundInputs}
 use Rattle.sync_product.specs.declared.stage.Stage.{Stage}
-use Rattle.sync_product.specs.proof.Sizes.{StageSize, tap_ports, stage_size, stage_size_of, stage_sizes}
+use Rattle.sync_product.specs.proof.Sizes.{StageSize, stage_size, stage_size_of, stage_sizes}
 use Rattle.sync_product.specs.proof.Rounds.{frames_of}
 use Rattle.sync_product.proofs.Columns.{cut_whole, length-column}
 use Rattle.sync_product.proofs.Tables.{length-numbered, numbered-at, mapped-at, sized_at}
 use Rattle.plant_fuse.specs.Fused.{is_back, is_forth, ArePairs, Inputs, inputs_to}
 use Rattle.plant_fuse.specs.proof.Partners.{partner_of, is_inside}
-use Rattle.plant_fuse.specs.proof.Messages.{sent_count, sent_from, sent_on}
+use Rattle.plant_fuse.specs.proof.Messages.{sent_from, sent_on}
 use Rattle.plant_fuse.specs.proof.Rounds.{frame_at, place_at, left_in, tuple_from, tuple_in, message_in, after_round}
 use Rattle.plant_fuse.specs.proof.Runs.{rows_of, AreRun}
-use Rattle.plant_fuse.specs.proof.State.{FuseState, part_after, parts_after, advanced, IsAdvanced}
+use Rattle.plant_fuse.specs.proof.State.{FuseState, part_after, parts_after, IsAdvanced}
 use Rattle.plant_fuse.proofs.Numbered.{map_map, map_each, length_map_upwards}
 use Rattle.plant_fuse.proofs.Alone.{by_place}
 use Rattle.plant_fuse.proofs.Counts.{count_of_stages}

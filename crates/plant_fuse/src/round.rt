@@ -1,5 +1,5 @@
 //! The steps of all components in a round.
-ghost use Rattle.std.specs.Prelude.{◌≡◌, ◌<◌, None, OnOk, length, map};
+ghost use Rattle.std.specs.Prelude.{◌≡◌, ◌<◌, OnOk, length, map};
 ghost use Rattle.sync_product.specs.proof.Sizes.{part_size, part_sizes, stage_size, stage_sizes};
 ghost use Rattle.sync_product.specs.proof.Rounds.{frames_of};
 ghost use Rattle.plant_fuse.specs.Fused.{IsPair, ArePairs};

@@ -19,7 +19,7 @@ rising_at_least xs (suc k) rising within =
     let step : slice_index xs k < slice_index xs (suc k) = subst (λ j. slice_index xs k < slice_index xs j) (add-one k) (rising k (omega arith)) in
     omega (arith, before, step)
 
--- rising numbers below a number are at most so many
+-- there are at most m rising numbers below m
 pub rising_few : (xs : List ℕ) (m : ℕ) → IsStrictlyIncreasing xs → All (λ n. n < m) xs → length xs ≤ m
 rising_few xs m rising below =
     elim (cases_lt m (length xs)) [

@@ -169,7 +169,7 @@ abbrev pub stop_lines : Option Stop → ℕ
 stop_lines None = 0
 stop_lines (Some why) = 1
 
--- so many lines take as much from what is left; the one of a stop takes nothing
+-- each line takes at least one from what is left; the one of a stop takes nothing
 abbrev pub Lessens : Run → BusState → BusState → ℕ → Type 0
 Lessens run s t lines = lines + work_left run t ≤ work_left run s + stop_lines t.stop
 

@@ -1,5 +1,5 @@
 //! Monitors of several formulas, side by side.
-ghost use Rattle.std.specs.Prelude.{◌≡◌, ◌+◌, ◌++◌, ◌∷◌, [], ℕ, List, length, false, not, position, slice_index_or, option_map};
+ghost use Rattle.std.specs.Prelude.{◌≡◌, ◌+◌, ◌++◌, ◌∷◌, [], List, length, false, not, position, slice_index_or, option_map};
 ghost use Rattle.std.specs.Prelude.{OnOk, OnErr};
 ghost use Rattle.pals_base.specs.declared.values.Frame.{Frame};
 ghost use Rattle.pals_model.specs.declared.design.DesignParts.{DesignParts};

@@ -1,5 +1,5 @@
 //! The text of a run.
-ghost use Rattle.std.specs.Prelude.{◌≡◌, ◌≢◌, ◌≤◌, ◌++◌, [], ℕ, List, length, map, if◌then◌else◌, None, Some, IfOk, slice_get};
+ghost use Rattle.std.specs.Prelude.{◌≡◌, ◌≢◌, ◌≤◌, ◌++◌, [], ℕ, length, if◌then◌else◌, None, Some, IfOk, slice_get};
 ghost use Rattle.pals_base.specs.declared.limits.TheConstants.{COMPONENTS};
 ghost use Rattle.pals_model.specs.RoundTexts.{line_end, text_of};
 ghost use Rattle.pals_clock.specs.declared.clock.Clocks.{Clocks};
@@ -10,7 +10,7 @@ ghost use Rattle.node_threads.specs.proof.Courses.{AreClocksOf};
 ghost use Rattle.node_threads.specs.declared.ends.NodeEnd.TheVariants as ended;
 ghost use Rattle.run_laws.specs.proof.Sound.{AreReadings};
 ghost use Rattle.run_texts.specs.RunTexts.{TellsRun};
-ghost use Rattle.run_texts.specs.proof.Ends.{TellsEnd, AreFirst, journal_lines};
+ghost use Rattle.run_texts.specs.proof.Ends.{TellsEnd, journal_lines};
 
 use crate::ends::first_ended;
 use loose_world::{add_finished_by_all, add_journal};

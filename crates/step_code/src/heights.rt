@@ -1,5 +1,5 @@
 //! The heights of the stack.
-ghost use Rattle.std.specs.Prelude.{◌≡◌, ◌≤◌, ◌<◌, ◌↔◌, length, option_to_list, IfOk, IsTrue, Some};
+ghost use Rattle.std.specs.Prelude.{◌≤◌, ◌<◌, ◌↔◌, length, option_to_list, IfOk, IsTrue, Some};
 ghost use Rattle.step_code.specs.Paths.{onward};
 ghost use Rattle.step_code.specs.proof.Checks.{AreHeights, Clashes, AreThere, AreSet, Passed};
 ghost use Rattle.pals_base.specs.declared.limits.TheConstants.{INSTRUCTIONS};

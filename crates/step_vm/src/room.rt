@@ -1,5 +1,5 @@
 //! The room that the steps of a code need.
-ghost use Rattle.std.specs.Prelude.{◌≡◌, IfOk};
+ghost use Rattle.std.specs.Prelude.{IfOk};
 ghost use Rattle.step_vm.specs.proof.Rooms.{IsRoomOf};
 
 use crate::stack::Stack;

@@ -1,5 +1,5 @@
 //! The steps of all components in a round.
-ghost use Rattle.std.specs.Prelude.{◌≡◌, OnOk, length, map};
+ghost use Rattle.std.specs.Prelude.{◌≡◌, OnOk, map};
 ghost use Rattle.pals_model.specs.Inputs.{all_sources};
 ghost use Rattle.sync_product.specs.proof.Sizes.{part_size, stage_size, part_sizes, stage_sizes, all_taps};
 ghost use Rattle.sync_product.specs.proof.Rounds.{AreStepped, frames_of};

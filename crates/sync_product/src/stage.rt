@@ -1,8 +1,8 @@
 //! The steps that one component makes in a round.
 ghost use Rattle.std.specs.Prelude.{◌≡◌, ◌<◌, [], IfOk, OnOk, length, map, vec_len, slice_index_or, slice_set};
 ghost use Rattle.pals_base.specs.Fire.{fire};
-ghost use Rattle.pals_base.specs.Steps.{frame_after, outputs, column, columns};
-ghost use Rattle.sync_product.specs.proof.Rounds.{brought, vectors};
+ghost use Rattle.pals_base.specs.Steps.{frame_after, outputs, column};
+ghost use Rattle.sync_product.specs.proof.Rounds.{vectors};
 ghost use Rattle.sync_product.specs.proof.Sizes.{frame_size, part_size, stage_size, frame_size_of, part_size_of, stage_size_of};
 
 use crate::reads::{RoundInputs, write_inputs};

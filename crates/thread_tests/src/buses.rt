@@ -1,6 +1,5 @@
 //! A bus before its first event, its run in threads, and what comes out of it.
-ghost use Rattle.std.specs.Prelude.{◌≡◌, ◌≤◌, IsTrue, IfOk, length};
-ghost use Rattle.pals_base.specs.declared.limits.TheConstants.{ROUNDS};
+ghost use Rattle.std.specs.Prelude.{IsTrue, IfOk, length};
 ghost use Rattle.pals_model.specs.Delays.{AreDelays};
 ghost use Rattle.node_threads.specs.proof.Courses.{AreClocksOf};
 

@@ -1,12 +1,12 @@
 -- At most one copy is in flight on a link: of the last round that its target has started, or of the next one.
-use Rattle.std.proofs.Common.{◌≡◌, ◌⊎◌, inl, inr, ℕ, suc, ◌+◌, ◌-◌, ◌<◌, ◌≤◌, nat_eq, Bool, true, false, cond, List, [], ◌∷◌, length, map, Option, Some, None, refl, ap, ◌∙◌, sym, subst, arith}
+use Rattle.std.proofs.Common.{◌≡◌, ◌⊎◌, inl, inr, ℕ, suc, ◌+◌, ◌-◌, ◌<◌, ◌≤◌, Bool, true, cond, List, [], ◌∷◌, length, map, Option, Some, None, refl, ap, ◌∙◌, sym, subst, arith}
 use Rattle.std.specs.Prelude.{is_some, if◌then◌else◌}
 use Rattle.std.proofs.lemmas.Bool.{cases_order, cases_lt, cases_eq, eq-eqb, ne_eqb}
 use Rattle.std.proofs.lemmas.List.Sums.{sum_by-cons}
 use Rattle.pals_base.specs.declared.limits.TheConstants.{READING, ROUNDS}
 use Rattle.pals_base.specs.Bound.{alarm}
 use Rattle.pals_model.specs.declared.flight.FlightCopy.{FlightCopy}
-use Rattle.pals_model.specs.Flights.{is_of, oldest}
+use Rattle.pals_model.specs.Flights.{is_of}
 use Rattle.pals_runs.specs.declared.events.EventFault.{EventFault}
 use Rattle.pals_runs.specs.declared.events.Which.TheVariants as which
 use Rattle.bus_machine.specs.NodeEvents.{slot_at}

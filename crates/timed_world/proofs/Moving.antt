@@ -1,6 +1,6 @@
 -- What an event without a fault leaves of a world: the world after it, which keeps what every world keeps.
 use Rattle.std.proofs.Common.{◌≡◌, ℕ, ◌<◌, ◌≤◌, true, false, List, [], ◌∷◌, ◌++◌, length, Option, Some, None, refl, ap, ap₂, ◌∙◌, sym, subst, arith}
-use Rattle.std.specs.Prelude.{Bool, slice_index_or, slice_set, if◌then◌else◌}
+use Rattle.std.specs.Prelude.{Bool, slice_index_or, slice_set}
 use Rattle.std.proofs.lemmas.List.{get_or_default}
 use Rattle.pals_base.specs.declared.limits.TheConstants.{ROUNDS}
 use Rattle.pals_base.specs.declared.values.NodeNo.{NodeNo}
@@ -13,7 +13,7 @@ use Rattle.bus_machine.specs.States.{Run, BusState, node_at}
 use Rattle.bus_machine.specs.Machine.{BusEvent, Start, Step, Finish, Send, Arrive}
 use Rattle.bus_machine.specs.proof.Laws.{IsRunOf}
 use Rattle.pals_bus.specs.Values.{BusValue, Happens}
-use Rattle.timed_laws.specs.Worlds.{World, reading_at, sendings, bus_event, moved, is_held, is_last_sent, world_after}
+use Rattle.timed_laws.specs.Worlds.{World, reading_at, sendings, bus_event, moved, is_held, is_last_sent}
 use Rattle.timed_laws.specs.Faults.{fault_of}
 use Rattle.timed_laws.specs.proof.Kept.{KeepsTime}
 use Rattle.timed_laws.proofs.Faults.{starts_in_time}

@@ -18,7 +18,7 @@ use Rattle.timed_laws.proofs.Nodes.{deadline_is, phase_agrees, rounds_at_most, s
 use Rattle.timed_laws.proofs.Numbers.{times_are_readings}
 use Rattle.timed_world.specs.declared.standing.Standing.{Standing}
 use Rattle.timed_world.specs.proof.Values.{WorldValue, KeepsWorld, world_of}
-use Rattle.timed_world.specs.proof.Standings.{IsSound, RunsStep, standing_of, phase_last, send_last, last_time}
+use Rattle.timed_world.specs.proof.Standings.{IsSound, standing_of, phase_last, send_last, last_time}
 
 -- ---- a moment is at most the time, if there is a last time
 some_lesser : (a : ℕ) (b : Option ℕ) → is_some (lesser (Some a) b) ≡ true

@@ -1,5 +1,5 @@
 //! The clock that an entry reads.
-ghost use Rattle.std.specs.Prelude.{◌≡◌, ◌<◌, ℕ, List, length, option_map, IfSome};
+ghost use Rattle.std.specs.Prelude.{◌≡◌, ◌<◌, length, option_map, IfSome};
 ghost use Rattle.trace_laws.specs.TraceLines.{timed, has_reading};
 ghost use Rattle.trace_laws.specs.TraceRules.{falls};
 ghost use Rattle.trace_laws.specs.Traces.{noted};

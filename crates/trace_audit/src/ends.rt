@@ -11,7 +11,7 @@ use pals_base::NodeNo;
 use pals_bus::Bus;
 use pals_runs::{Phase, TraceRule};
 
-/// The rule that is broken at the end, where the report has so many rows, or none.
+/// The rule that is broken at the end, behind a report with this number of rows; none where the end is sound.
 pub fn end_rule(replay: &Replay, rows: usize) -> Option<TraceRule>
     ensures { result ≡ end_broken replay.now.bus.run rows (audit_in replay.now) }
 {

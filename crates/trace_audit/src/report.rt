@@ -15,7 +15,7 @@ use std::sync::Arc;
 /// How the report of a trace ends.
 #[derive(Clone, Copy)]
 pub enum ReportEnd {
-    /// It is so many lines, in whole rows.
+    /// It has this number of lines, in whole rows.
     Whole(usize),
     /// The line of this index is not the composition's, or the last row ends before it.
     Wrong(usize),

@@ -115,7 +115,7 @@ fn audit_behind(
     audit_journal(replay, &names, trace, size, size / row_size(design))
 }
 
-// The verdict on the lines from an index on, behind a report of so many rows.
+// The verdict on the lines from an index on, behind a report that has this number of rows.
 fn audit_journal(
     replay: &mut Replay,
     names: &Names<'_>,

@@ -121,7 +121,7 @@ vnext design replicated values faults v = record {
   received = for_receivers design replicated (λ l target. receives_on design replicated values faults v l target (slice_get design.links l));
 }
 
--- after so many rounds, with the faults of each round
+-- after a number of rounds, with the faults of each round
 unfoldable pub vcomp : DesignParts → Env → List Bool → (ℕ → List VoteFault) → ℕ → Voted
 vcomp design env replicated faults zero = vopening design replicated
 vcomp design env replicated faults (suc round) =

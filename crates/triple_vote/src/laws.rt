@@ -34,7 +34,7 @@ pub fn no_replicas_are_composition()
     ensures { NoReplicasAreComposition }
 {}
 
-/// What contracts see after so many rounds is what *votes* has.
+/// What contracts see after each number of rounds is what *votes* has.
 pub fn states_stand_at_votes()
     ensures stands { StandsAtVotes }
     ensures shown { ShowsVotes }

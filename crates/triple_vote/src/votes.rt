@@ -1,5 +1,5 @@
 //! Votes.
-ghost use Rattle.std.specs.Prelude.{◌≡◌, length, if◌then◌else◌};
+ghost use Rattle.std.specs.Prelude.{◌≡◌, length};
 ghost use Rattle.triple_vote.specs.Votes.{same_port, vote, votes};
 
 use pals_base::tuples::place;

@@ -1,6 +1,6 @@
 -- The courses of a design do what its schedule says.
-use Rattle.std.proofs.Common.{◌≡◌, ℕ, zero, suc, ◌+◌, ◌*◌, ◌<◌, ◌≤◌, max, nat_eq, Bool, true, false, List, [], ◌∷◌, ◌++◌, length, map, Option, Some, None, All, cond, refl, sym, ap, ap₂, ◌∙◌, subst, arith}
-use Rattle.std.specs.Prelude.{flat_map, position, if◌then◌else◌}
+use Rattle.std.proofs.Common.{◌≡◌, ℕ, zero, suc, ◌+◌, ◌*◌, ◌<◌, ◌≤◌, nat_eq, Bool, true, false, List, [], ◌∷◌, ◌++◌, length, map, Some, All, cond, refl, sym, ap, ap₂, ◌∙◌, arith}
+use Rattle.std.specs.Prelude.{flat_map, if◌then◌else◌}
 use Rattle.std.specs.List.{position_from}
 use Rattle.std.proofs.lemmas.Iterator.Adapters.{position_from-zero}
 use Rattle.std.proofs.lemmas.List.Concat.{flat_map-append}
@@ -20,7 +20,7 @@ use Rattle.timed_laws.specs.Worlds.{world_run}
 use Rattle.timed_laws.proofs.Links.{rule_of}
 use Rattle.world_gen.specs.declared.courses.Course.{Course}
 use Rattle.world_gen.specs.proof.Schedules.{step_time, finish_time, send_time, arrive_time, which, event_of, all_of, step_count, begins, starts_at, finishes_at, sends_at, arrivals_at, finishes, earlier_finishes, present_finishes, events_at}
-use Rattle.world_gen.specs.proof.Courses.{IsCourse, time_of, deed_event, course_events, events_of, begin_course, finish_course, send_course, arrive_course, each_of, begin_courses, finish_courses, send_courses, arrive_courses, earlier_courses, present_courses, timetable}
+use Rattle.world_gen.specs.proof.Courses.{IsCourse, time_of, course_events, events_of, begin_course, finish_course, send_course, arrive_course, each_of, begin_courses, finish_courses, send_courses, arrive_courses, earlier_courses, present_courses, timetable}
 use Rattle.world_gen.proofs.Numbered.{numbered_all}
 use Rattle.world_gen.proofs.ScheduleTimes.{whole, some_rate, some_step, step_at, send_before}
 

@@ -1,5 +1,5 @@
 -- What a component of a ring does is a behaviour.
-use Rattle.std.proofs.Common.{◌≡◌, ◌≢◌, ◌∙◌, ℕ, zero, suc, List, [], ◌∷◌, All, AllPairs, Contains, cond, refl, sym, ap, ap₂, subst, arith}
+use Rattle.std.proofs.Common.{◌≡◌, ◌≢◌, ◌∙◌, ℕ, zero, suc, List, [], ◌∷◌, AllPairs, Contains, cond, refl, sym, ap, ap₂, subst, arith}
 use Rattle.std.specs.Prelude.{bytes_eq, codes, false}
 use Rattle.std.proofs.lemmas.Bool.{ne_eqb, true≢false}
 use Rattle.std.proofs.lemmas.List.Elements.{All-nil, All-cons}

@@ -1,5 +1,5 @@
 -- Rings are designs, and what two small ones come to.
-use Rattle.std.proofs.Common.{◌≡◌, ◌≢◌, ℕ, zero, suc, ◌+◌, ◌*◌, ◌%◌, ◌<◌, ◌≤◌, max, Bool, true, nat_le, ◌&&◌, List, [], ◌∷◌, ◌++◌, length, map, fold, slice_get, Option, Some, All, AllPairs, IsTrue, refl, sym, ap, ap₂, ◌∙◌, subst, subst₂, arith}
+use Rattle.std.proofs.Common.{◌≡◌, ◌≢◌, ℕ, zero, suc, ◌%◌, ◌<◌, ◌≤◌, max, Bool, true, nat_le, ◌&&◌, List, [], ◌∷◌, length, fold, slice_get, Some, All, IsTrue, refl, sym, ap, ap₂, ◌∙◌, subst, subst₂, arith}
 use Rattle.std.specs.List.{list_all}
 use Rattle.std.specs.Fmt.{decimal, digits}
 use Rattle.std.proofs.lemmas.Bool.{and_parts, leb-true}
@@ -18,7 +18,7 @@ use Rattle.pals_model.specs.declared.design.Tap.{Tap}
 use Rattle.pals_model.specs.declared.design.DesignParts.{DesignParts}
 use Rattle.pals_model.specs.Inputs.{rate_of, rate_in, feed}
 use Rattle.pals_model.specs.Ports.{ins_in, outs_in, in_kind, out_kind}
-use Rattle.pals_model.specs.Composition.{comp, part, msg, state}
+use Rattle.pals_model.specs.Composition.{comp, state}
 use Rattle.pals_model.specs.Rules.{IsComponent, IsSource, IsTarget, IsLink, IsFeed, IsTap, IsApart, AgreeInKind, LinkPrecedes, FeedPrecedes, greatest_rate, IsDesign}
 use Rattle.pals_model.proofs.Lookups.{at_element}
 use Rattle.pals_model.proofs.Words.{all_pass}

@@ -9,12 +9,11 @@ use Rattle.std.proofs.lemmas.Bool.{cases_lt, false≢true}
 use Rattle.pals_base.specs.declared.values.Trap.{Trap}
 use Rattle.pals_base.specs.declared.values.Frame.{Frame}
 use Rattle.pals_base.specs.declared.values.Port.{Port}
-use Rattle.pals_base.specs.declared.behaviour.BehaviourParts.{BehaviourParts}
 use Rattle.pals_base.specs.Expressions.{eval, on_value}
 use Rattle.pals_base.specs.Arithmetic.{modulus_of}
-use Rattle.pals_base.specs.Actions.{Effect, act, acts, with_vars}
+use Rattle.pals_base.specs.Actions.{Effect, acts, with_vars}
 use Rattle.pals_base.specs.Tree.{Edge, Emit, Variable, Do, Nothing, Actions}
-use Rattle.pals_base.specs.Fire.{Fired, holding, is_present, silence, is_dispatch, is_complete, along, settled, dispatched, reaction, outcome, unless_halted, fire, initial}
+use Rattle.pals_base.specs.Fire.{Fired, holding, is_present, silence, is_dispatch, is_complete, along, settled, dispatched, reaction, unless_halted, fire, initial}
 use Rattle.pals_base.specs.Steps.{Stepped, frame_after, steps, upwards}
 use Rattle.pals_base.proofs.Division.{modulus_of-is}
 use Rattle.pals_model.specs.declared.design.Component.{Component}

@@ -1,8 +1,8 @@
 //! Courses: what is done over and over in a schedule, at equal distances in time. All times are
 //! nanoseconds.
-ghost use Rattle.std.specs.Prelude.{◌≡◌, ◌<◌, ◌≤◌, IfSome, option_map, IsTrue};
+ghost use Rattle.std.specs.Prelude.{◌≡◌, ◌<◌, IfSome, option_map};
 ghost use Rattle.world_gen.specs.proof.Schedules.{which};
-ghost use Rattle.world_gen.specs.proof.Courses.{HasSteps, deed_event, IsCourse, time_of, next_of, course_events};
+ghost use Rattle.world_gen.specs.proof.Courses.{HasSteps, deed_event, IsCourse, time_of, next_of};
 
 use pals_base::{LinkNo, Nanos, NodeNo};
 use pals_runs::Event;

@@ -9,7 +9,7 @@ use Rattle.aadl_tree.specs.declared.declarations.Category.{Category}
 use Rattle.aadl_tree.specs.declared.declarations.Direction.{Direction}
 use Rattle.aadl_tree.specs.declared.actions.Bound.{Bound}
 use Rattle.aadl_tree.specs.Kinds.{Kind, word, whole, real, quoted, unread, mark}
-use Rattle.aadl_tree.specs.Parts.{Part, token, may, Spells, plain, marked_if, parts_if}
+use Rattle.aadl_tree.specs.Parts.{Part, token, may, plain, marked_if, parts_if}
 use Rattle.aadl_tree.specs.Parts as p
 use Rattle.aadl_tree.specs.Names as n
 use Rattle.aadl_tree.specs.Values as v
@@ -17,7 +17,7 @@ use Rattle.aadl_tree.specs.Expressions as e
 use Rattle.aadl_tree.specs.Actions as a
 use Rattle.aadl_tree.specs.Annexes as x
 use Rattle.aadl_tree.specs.Declarations as d
-use Rattle.aadl_grammar.specs.proof.Symbols.{Class, a_word, a_whole, a_real, a_quoted, an_unread, the, Symbol, Row}
+use Rattle.aadl_grammar.specs.proof.Symbols.{Class, a_word, a_whole, a_real, a_quoted, an_unread, the, Symbol}
 use Rattle.aadl_grammar.specs.proof.Symbols as s
 
 abbrev pub U : Type 0

@@ -4,7 +4,7 @@ use Rattle.std.proofs.lemmas.Bool.{eqb-true}
 use Rattle.aadl_tree.specs.declared.mark.Mark.TheVariants as k
 use Rattle.aadl_tree.specs.Kinds.{Kind, mark}
 use Rattle.aadl_tree.specs.Grammar.{opened, is_end}
-use Rattle.aadl_grammar.specs.proof.Symbols.{Class, the, Symbol, Row}
+use Rattle.aadl_grammar.specs.proof.Symbols.{the, Symbol, Row}
 use Rattle.aadl_grammar.specs.proof.Symbols as s
 use Rattle.aadl_grammar.specs.proof.Table.{rows, can_omit}
 use Rattle.aadl_grammar.specs.proof.Machine.{Stack, Move, takes, omitted, refuses, class_number, kind_number, fits, move, chosen, step, closes, depth}

@@ -6,12 +6,11 @@ use Rattle.aadl_tree.specs.declared.declarations.Category.{Category}
 use Rattle.aadl_tree.specs.declared.declarations.Category.TheVariants as categories
 use Rattle.aadl_tree.specs.declared.declarations.Direction.TheVariants as directions
 use Rattle.aadl_tree.specs.Kinds.{Kind, mark}
-use Rattle.aadl_tree.specs.Parts.{Part, token, may, Spells, plain, marked_if, parts_if}
+use Rattle.aadl_tree.specs.Parts.{token, Spells}
 use Rattle.aadl_tree.specs.Parts as p
 use Rattle.aadl_tree.specs.Names as n
 use Rattle.aadl_tree.specs.Values as v
 use Rattle.aadl_tree.specs.Declarations as d
-use Rattle.aadl_grammar.specs.proof.Symbols.{Class, a_word, a_whole, a_real, a_quoted, an_unread, the, Symbol, Row}
 use Rattle.aadl_grammar.specs.proof.Symbols as s
 use Rattle.aadl_grammar.specs.proof.Table.{rows}
 use Rattle.aadl_grammar.proofs.Derived.Trees.{U, Rest, type_rest, implementation_rest, declaration_of, rest_parts, parts}

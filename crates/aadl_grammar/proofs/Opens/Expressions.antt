@@ -10,7 +10,6 @@ use Rattle.aadl_tree.specs.declared.expressions.MultiplyOperator.TheVariants as 
 use Rattle.aadl_tree.specs.Kinds.{Kind}
 use Rattle.aadl_tree.specs.Parts.{Spells}
 use Rattle.aadl_tree.specs.Expressions as e
-use Rattle.aadl_grammar.specs.proof.Symbols.{Class, a_word, a_whole, a_real, a_quoted, an_unread, the, Symbol, Row}
 use Rattle.aadl_grammar.specs.proof.Symbols as s
 use Rattle.aadl_grammar.specs.proof.Table.{rows}
 use Rattle.aadl_grammar.proofs.Derived.Trees.{U, parts}

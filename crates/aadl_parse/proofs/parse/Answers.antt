@@ -1,4 +1,4 @@
-use Rattle.std.proofs.Common.{◌≡◌, ◌∙◌, List, subst, sym, ap, refl, arith, [], length}
+use Rattle.std.proofs.Common.{◌∙◌, List, subst, sym, ap, refl, arith, [], length}
 use Rattle.std.specs.List.{All}
 use Rattle.aadl_lex.specs.declared.token.Token.{Token}
 use Rattle.aadl_lex.specs.proof.Spelled.{IsWordAt}

@@ -1,9 +1,9 @@
 -- The wires of a declaration, and where the one into a port comes from.
 use Rattle.std.specs.Prelude.{ℕ, List, Option, Some, None, slice_get}
 use Rattle.std.specs.Option.{option_and_then, option_map_or}
-use Rattle.aadl_tree.specs.Declarations.{Implementation, Declaration, PackageTree}
+use Rattle.aadl_tree.specs.Declarations.{Declaration, PackageTree}
 use Rattle.aadl_names.specs.declared.site.Site.{Site}
-use Rattle.aadl_names.specs.Resolving.{implementation_in, implementation_at, type_number}
+use Rattle.aadl_names.specs.Resolving.{implementation_in}
 use Rattle.aadl_uses.specs.declared.connections.Wire.{Wire}
 use Rattle.aadl_uses.specs.proof.Firsts.{first_into}
 use Rattle.aadl_uses.specs.Wiring.{wires_of, wires_at}

@@ -1,6 +1,7 @@
 -- What is known of the ports of types.
 use Rattle.std.specs.Prelude.{◌≡◌, ℕ, List, Option, Some, None, slice_index_or}
 use Rattle.aadl_tree.specs.Declarations.{Feature, PackageTree}
+use Rattle.aadl_names.specs.declared.role.Role.{Role}
 use Rattle.aadl_names.specs.proof.Tables.{value_of}
 use Rattle.aadl_names.specs.proof.Found.{found}
 use Rattle.aadl_names.specs.Twice.{twice}
@@ -11,9 +12,13 @@ use Rattle.aadl_names.specs.PackageFaults.{port_roles}
 use Rattle.name_faults.specs.declared.port_names.PortNames.{PortNames}
 use Rattle.name_faults.specs.declared.port_names.AllPortNames.{AllPortNames}
 
+-- a table in which each name stands for what it stands for among the ports
+abbrev pub HasRolesOf : List (Feature ℕ) → List (List ℕ × Role) → Type 0
+HasRolesOf ports roles = (name : List ℕ) → value_of roles name ≡ port_roles ports name
+
 -- these are the names of the ports
 pub record AreNamesOf (ports : List (Feature ℕ)) (names : PortNames) : Type 0 where
-  pub roles : (name : List ℕ) → value_of names.roles name ≡ port_roles ports name
+  pub roles : HasRolesOf ports names.roles
   pub earliest : (name : List ℕ) → value_of names.earliest name ≡ earliest name 0 (port_entries ports)
   pub again : names.again ≡ found None (twice (port_entries ports))
 

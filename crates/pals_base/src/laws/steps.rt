@@ -1,5 +1,5 @@
 //! Laws of several steps of a behaviour.
-ghost use Rattle.std.specs.Prelude.{◌≡◌, ◌<◌, ℕ, List, [], ◌∷◌, ◌++◌, length, take, replicate, fold, Option, Some};
+ghost use Rattle.std.specs.Prelude.{◌≡◌, ◌<◌, ℕ, List, [], ◌∷◌, ◌++◌, length, take, replicate, fold, Some};
 ghost use Rattle.pals_base.specs.declared.values.Trap.{Trap};
 ghost use Rattle.pals_base.specs.declared.values.Frame.{Frame};
 ghost use Rattle.pals_base.specs.declared.values.Port.{Port};

@@ -1,7 +1,7 @@
 //! Whether the right transitions leave each state, and each step comes to its end.
-ghost use Rattle.std.specs.Prelude.{◌≡◌, ◌||◌, ◌+◌, IfOk, length, map, filter, nat_eq, slice_get, option_copied};
+ghost use Rattle.std.specs.Prelude.{◌≡◌, ◌||◌, ◌+◌, IfOk, length, map, filter, nat_eq, option_copied};
 ghost use Rattle.std.specs.List.{list_all};
-ghost use Rattle.pals_base.specs.Fire.{completes, is_complete, leaving};
+ghost use Rattle.pals_base.specs.Fire.{completes, is_complete};
 ghost use Rattle.pals_base.specs.Steps.{upwards};
 ghost use Rattle.pals_base.specs.proof.Settling.{settles, marked, settles_next};
 ghost use Rattle.pals_base.specs.Rules.{dispatch_count, ends_unguarded, has_ways};

@@ -99,7 +99,7 @@ abbrev pub last_round : DesignParts → ℕ → Inputs → Inputs
 last_round design rounds ins =
     map (λ numbered. drop (rounds * numbered.1.rate) (inputs_to ins numbered.0)) (enumerate_from 0 design.components)
 
--- configurations that follow one another by so many rounds of these equations, from the opening on
+-- configurations that follow one another through a number of rounds of these equations, from the opening on
 pub record AreRounds (design : DesignParts) (pairs : List Pair) (env : Env) (rounds : ℕ) (at : ℕ → Configuration) (vectors : ℕ → Inputs) : Type 0 where
   pub begins : at 0 ≡ opening design
   pub reads : (round : ℕ) → round < rounds → IsFusedRound design pairs (values_at env round) (at round) (vectors round)

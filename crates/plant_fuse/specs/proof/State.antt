@@ -67,7 +67,7 @@ pub record IsAdvanced (old : FuseState) (values : List Port) (new : FuseState) :
   pub reads : IsFusedRound old.design old.pairs values old.configuration vectors
   pub leaves : new ≡ advanced old vectors
 
--- states that follow one another by so many rounds of an environment, from the first on
+-- states that follow one another through the first rounds of an environment
 pub record AreStates (design : DesignParts) (pairs : List Pair) (env : Env) (rounds : ℕ) (at : ℕ → FuseState) : Type 0 where
   pub begins : at 0 ≡ begun design pairs
   pub goes_on : (round : ℕ) → round < rounds → IsAdvanced (at round) (values_at env round) (at (suc round))

@@ -42,7 +42,7 @@ abbrev pub most_lines : Run → ℕ
 most_lines run =
     run.rounds * (sum_by (λ (c : Component). 2 * c.rate + 1) run.design.components + length run.design.links) + 1
 
--- so many lines a journal has at most, in whatever order the nodes act
+-- the most lines that a journal has, in whatever order the nodes act
 abbrev pub JournalsEnd : Type 0
 JournalsEnd = InRuns (λ run clocks journal s. length journal ≤ most_lines run)
 

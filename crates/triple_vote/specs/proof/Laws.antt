@@ -89,7 +89,7 @@ NoReplicasAreComposition =
     (design : DesignParts) (env : Env) (replicated : List Bool) (faults : ℕ → List VoteFault) (rounds : ℕ) → IsDesign design
     → ((node : ℕ) → is_replicated replicated node ≡ false) → vcomp design env replicated faults rounds ≡ alone (comp design env rounds)
 
--- ---- what contracts see after so many rounds
+-- ---- what contracts see after a number of rounds
 pub record StandsAt (design : DesignParts) (env : Env) (replicated : List Bool) (faults : ℕ → List VoteFault) (rounds : ℕ) : Type 0 where
   pub design_is : (vstate_after design env replicated faults rounds).design ≡ design
   pub replicated_is : (vstate_after design env replicated faults rounds).replicated ≡ replicated

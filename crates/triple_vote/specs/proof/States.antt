@@ -50,7 +50,7 @@ vadvanced s values faults = record {
   shown = map (vshown_by s.design s.replicated values s.voted) s.design.taps;
 }
 
--- after so many rounds of an environment, with the faults of each round
+-- after a number of rounds of an environment, with the faults of each round
 abbrev pub vstate_after : DesignParts → Env → List Bool → (ℕ → List VoteFault) → ℕ → VotedState
 vstate_after design env replicated faults zero = vbegun design replicated
 vstate_after design env replicated faults (suc round) = vadvanced (vstate_after design env replicated faults round) (values_at env round) (faults round)

@@ -1,4 +1,4 @@
-use Rattle.std.proofs.Common.{◌∙◌, ◌∷◌, [], arith, refl}
+use Rattle.std.proofs.Common.{◌∙◌, arith, refl}
 use Rattle.aadl_grammar.specs.proof.Symbols as s
 use Rattle.aadl_grammar.specs.proof.Machine.{move, depth}
 use Rattle.aadl_grammar.specs.proof.Reading.{here}

@@ -9,7 +9,7 @@ use Rattle.aadl_tree.specs.proof.Maps.{kept_place}
 use Rattle.aadl_grammar.proofs.Qualified.{qualified}
 use Rattle.aadl_tree.specs.declared.mark.Mark.TheVariants as k
 use Rattle.aadl_grammar.specs.proof.Symbols as s
-use Rattle.aadl_grammar.specs.proof.Machine.{move, depth, syntax_at, deep_at}
+use Rattle.aadl_grammar.specs.proof.Machine.{move, depth}
 use Rattle.aadl_grammar.proofs.names.reference.Goals as goal
 
 pub returns-in_err-type_name : goal.returns-in_err-type_name

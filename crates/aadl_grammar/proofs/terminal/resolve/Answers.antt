@@ -1,7 +1,5 @@
-use Rattle.std.proofs.Common.{◌≡◌, ◌∙◌, sym, ap, subst, arith, rules, List}
+use Rattle.std.proofs.Common.{arith, rules}
 use Rattle.std.proofs.lemmas.Grind.{common_steps}
-use Rattle.aadl_grammar.specs.declared.terminal.Terminal.{Terminal}
-use Rattle.aadl_grammar.specs.proof.Terminals.{AreWords}
 use Rattle.aadl_grammar.proofs.Firsts.{words_push}
 use Rattle.aadl_grammar.proofs.terminal.resolve.Goals as goal
 

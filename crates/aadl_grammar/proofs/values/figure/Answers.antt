@@ -9,7 +9,7 @@ use Rattle.aadl_tree.specs.Kinds.{whole}
 use Rattle.aadl_tree.specs.Parts.{token}
 use Rattle.aadl_tree.specs.declared.mark.Mark.TheVariants as k
 use Rattle.aadl_grammar.specs.proof.Symbols as s
-use Rattle.aadl_grammar.specs.proof.Machine.{move, depth, syntax_at, deep_at}
+use Rattle.aadl_grammar.specs.proof.Machine.{move, depth, syntax_at}
 use Rattle.aadl_grammar.proofs.values.figure.Goals as goal
 
 pub returns-in-Some : goal.returns-in-Some

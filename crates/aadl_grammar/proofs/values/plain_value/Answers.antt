@@ -8,7 +8,7 @@ use Rattle.aadl_tree.proofs.ValueViews.{view-Text, view-Named, view-Number}
 use Rattle.aadl_grammar.proofs.Lists.{value_own, starts_at}
 use Rattle.aadl_tree.specs.declared.mark.Mark.TheVariants as k
 use Rattle.aadl_grammar.specs.proof.Symbols as s
-use Rattle.aadl_grammar.specs.proof.Machine.{move, depth, syntax_at, deep_at}
+use Rattle.aadl_grammar.specs.proof.Machine.{move, depth}
 use Rattle.aadl_grammar.proofs.values.plain_value.Goals as goal
 
 pub returns-in-Some : goal.returns-in-Some

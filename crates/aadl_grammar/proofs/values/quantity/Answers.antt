@@ -6,7 +6,7 @@ use Rattle.aadl_grammar.specs.proof.Table.{on}
 use Rattle.aadl_grammar.proofs.Signs.{sign_quantity}
 use Rattle.aadl_tree.specs.declared.mark.Mark.TheVariants as k
 use Rattle.aadl_grammar.specs.proof.Symbols as s
-use Rattle.aadl_grammar.specs.proof.Machine.{move, depth, syntax_at, deep_at}
+use Rattle.aadl_grammar.specs.proof.Machine.{move, depth}
 use Rattle.aadl_grammar.proofs.values.quantity.Goals as goal
 
 pub returns-in_err-figure : goal.returns-in_err-figure

@@ -4,7 +4,7 @@ use Rattle.aadl_grammar.proofs.Rows.{takes_row, omits_unless, along, exits, no_r
 use Rattle.aadl_grammar.proofs.Written.{nothing, marked}
 use Rattle.aadl_tree.specs.declared.mark.Mark.TheVariants as k
 use Rattle.aadl_grammar.specs.proof.Symbols as s
-use Rattle.aadl_grammar.specs.proof.Machine.{move, depth, syntax_at, deep_at}
+use Rattle.aadl_grammar.specs.proof.Machine.{move, depth}
 use Rattle.aadl_grammar.proofs.values.upper.Goals as goal
 
 pub returns-in_default : goal.returns-in_default

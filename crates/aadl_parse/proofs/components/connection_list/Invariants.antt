@@ -1,4 +1,4 @@
-use Rattle.std.proofs.Common.{◌≡◌, ℕ, ◌+◌, ◌≤◌, ◌∷◌, length, map}
+use Rattle.std.proofs.Common.{◌≡◌, ℕ, ◌+◌, ◌∷◌, length, map}
 use Rattle.std.specs.Prelude.{flat_map}
 use Rattle.aadl_tree.specs.Declarations.{connection_parts}
 use Rattle.aadl_tree.specs.proof.Views.{connection_view}

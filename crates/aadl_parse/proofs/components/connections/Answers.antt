@@ -11,7 +11,7 @@ use Rattle.aadl_grammar.specs.proof.Table.{on}
 use Rattle.aadl_parse.proofs.Sections.{no_section, empty}
 use Rattle.aadl_tree.specs.declared.mark.Mark.TheVariants as k
 use Rattle.aadl_grammar.specs.proof.Symbols as s
-use Rattle.aadl_grammar.specs.proof.Machine.{move, depth, syntax_at, deep_at}
+use Rattle.aadl_grammar.specs.proof.Machine.{move, depth}
 use Rattle.aadl_parse.proofs.components.connections.Goals as goal
 
 pub returns-in_default : goal.returns-in_default

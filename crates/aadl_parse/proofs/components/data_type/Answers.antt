@@ -5,7 +5,7 @@ use Rattle.aadl_grammar.proofs.Written.{nothing}
 use Rattle.aadl_grammar.proofs.Lists.{starts_at}
 use Rattle.aadl_tree.specs.declared.mark.Mark.TheVariants as k
 use Rattle.aadl_grammar.specs.proof.Symbols as s
-use Rattle.aadl_grammar.specs.proof.Machine.{move, depth, syntax_at, deep_at}
+use Rattle.aadl_grammar.specs.proof.Machine.{move, depth}
 use Rattle.aadl_parse.proofs.components.data_type.Goals as goal
 
 pub returns-then-not-is_word : goal.returns-then-not-is_word

@@ -9,7 +9,7 @@ use Rattle.aadl_grammar.proofs.Lists.{starts_at}
 use Rattle.aadl_parse.proofs.Declaring.{subcomponent_begun}
 use Rattle.aadl_tree.specs.declared.mark.Mark.TheVariants as k
 use Rattle.aadl_grammar.specs.proof.Symbols as s
-use Rattle.aadl_grammar.specs.proof.Machine.{move, depth, syntax_at, deep_at}
+use Rattle.aadl_grammar.specs.proof.Machine.{move, depth}
 use Rattle.aadl_parse.proofs.components.subcomponent_list.Goals as goal
 
 pub returns-in_err-next : goal.returns-in_err-next

@@ -4,7 +4,7 @@ use Rattle.aadl_grammar.proofs.Rows.{takes_row, refuses_unless, along, exits, no
 use Rattle.aadl_grammar.proofs.Written.{then, marked, named}
 use Rattle.aadl_tree.specs.declared.mark.Mark.TheVariants as k
 use Rattle.aadl_grammar.specs.proof.Symbols as s
-use Rattle.aadl_grammar.specs.proof.Machine.{move, depth, syntax_at, deep_at}
+use Rattle.aadl_grammar.specs.proof.Machine.{move, depth, syntax_at}
 use Rattle.aadl_parse.proofs.declarations.after_category.Goals as goal
 
 pub returns-in_err-name : goal.returns-in_err-name

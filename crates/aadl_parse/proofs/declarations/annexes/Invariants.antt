@@ -1,6 +1,5 @@
-use Rattle.std.proofs.Common.{◌≡◌, ℕ, ◌+◌, ◌≤◌, ◌∷◌, length, map}
+use Rattle.std.proofs.Common.{◌≡◌, ℕ, ◌+◌, ◌∷◌, length, map}
 use Rattle.std.specs.Prelude.{flat_map}
-use Rattle.aadl_tree.specs.Parts.{behind}
 use Rattle.aadl_tree.specs.Annexes.{annex_parts}
 use Rattle.aadl_tree.specs.proof.Views.{annex_view}
 use Rattle.aadl_tree.specs.proof.Maps.{kept_place}

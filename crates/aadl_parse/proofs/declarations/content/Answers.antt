@@ -4,7 +4,7 @@ use Rattle.aadl_grammar.proofs.Rows.{takes_row, deep_row, refuses_unless, along,
 use Rattle.aadl_grammar.proofs.Written.{nothing, then, marked, told}
 use Rattle.aadl_tree.specs.declared.mark.Mark.TheVariants as k
 use Rattle.aadl_grammar.specs.proof.Symbols as s
-use Rattle.aadl_grammar.specs.proof.Machine.{move, depth, syntax_at, deep_at}
+use Rattle.aadl_grammar.specs.proof.Machine.{move, depth, syntax_at}
 use Rattle.aadl_parse.proofs.declarations.content.Goals as goal
 
 pub returns-in-Some : goal.returns-in-Some

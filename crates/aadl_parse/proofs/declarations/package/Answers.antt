@@ -4,7 +4,7 @@ use Rattle.aadl_grammar.proofs.Rows.{begins_as, along, exits, no_reads}
 use Rattle.aadl_grammar.proofs.Written.{then, marked}
 use Rattle.aadl_tree.specs.declared.mark.Mark.TheVariants as k
 use Rattle.aadl_grammar.specs.proof.Symbols as s
-use Rattle.aadl_grammar.specs.proof.Machine.{move, depth, syntax_at, deep_at}
+use Rattle.aadl_grammar.specs.proof.Machine.{move, depth}
 use Rattle.aadl_parse.proofs.declarations.package.Goals as goal
 
 pub returns-in_err-keyword : goal.returns-in_err-keyword

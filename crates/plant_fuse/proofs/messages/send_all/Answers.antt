@@ -5,7 +5,7 @@ use Rattle.pals_base.specs.declared.values.Port.{Port}
 use Rattle.pals_model.specs.declared.design.DesignParts.{DesignParts}
 use Rattle.pals_model.specs.declared.design.Link.{Link}
 use Rattle.pals_model.specs.Inputs.{rate_of}
-use Rattle.pals_model.specs.Rules.{IsDesign, IsLink}
+use Rattle.pals_model.specs.Rules.{IsLink}
 use Rattle.pals_model.proofs.Lookups.{at_element}
 use Rattle.sync_product.specs.proof.Sizes.{message_sizes}
 use Rattle.sync_product.proofs.Filling.{filled_more, same_sizes}

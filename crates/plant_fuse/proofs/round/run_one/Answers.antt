@@ -1,4 +1,4 @@
-use Rattle.std.proofs.Common.{◌≡◌, ◌∙◌, ℕ, ◌<◌, ap, length, map, set, arith}
+use Rattle.std.proofs.Common.{◌<◌, length, arith}
 use Rattle.sync_product.specs.proof.Sizes.{part_size, stage_size}
 use Rattle.sync_product.proofs.Filling.{same_sizes}
 use Rattle.plant_fuse.proofs.Counts.{count_of_parts, count_of_stages}

@@ -1,14 +1,11 @@
-use Rattle.std.proofs.Common.{◌≡◌, ◌≢◌, ◌∙◌, ℕ, ◌<◌, List, Some, slice_get, slice_index_or, length, map, set, refl, sym, ap, arith}
+use Rattle.std.proofs.Common.{◌≡◌, ◌≢◌, ◌∙◌, ◌<◌, List, Some, slice_get, slice_index_or, length, refl, sym, ap, arith}
 use Rattle.std.specs.Option.{option_map}
 use Rattle.std.proofs.lemmas.List.{length-set}
 use Rattle.std.proofs.lemmas.Option.{slice_get-map}
-use Rattle.pals_model.specs.declared.design.DesignParts.{DesignParts}
-use Rattle.pals_model.specs.declared.rounds.Part.{Part}
 use Rattle.pals_runs.specs.declared.pairs.Pair.{Pair}
 use Rattle.sync_product.specs.declared.stage.Stage.{Stage}
 use Rattle.sync_product.specs.proof.Rounds.{frames_of}
-use Rattle.sync_product.specs.proof.Sizes.{part_size, part_sizes, stage_size, stage_sizes}
-use Rattle.plant_fuse.specs.Fused.{IsPair}
+use Rattle.sync_product.specs.proof.Sizes.{part_size, stage_size}
 use Rattle.plant_fuse.specs.proof.Runs.{IsRun, StayBeside}
 use Rattle.plant_fuse.specs.proof.Sides.{AreSidesRun}
 use Rattle.plant_fuse.specs.declared.sides.Side.{Side}

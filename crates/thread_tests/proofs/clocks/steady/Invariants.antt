@@ -1,4 +1,4 @@
-use Rattle.std.proofs.Common.{ℕ, ◌*◌, ◌≤◌, All}
+use Rattle.std.proofs.Common.{◌*◌, ◌≤◌, All}
 use Rattle.std.specs.List.Sorted.{IsNonDecreasing}
 use Rattle.thread_tests.proofs.clocks.steady.Given as goal
 

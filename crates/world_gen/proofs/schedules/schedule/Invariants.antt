@@ -1,4 +1,4 @@
-use Rattle.std.proofs.Common.{ℕ, ◌+◌, ◌-◌, ◌≤◌}
+use Rattle.std.proofs.Common.{◌+◌, ◌-◌, ◌≤◌}
 use Rattle.pals_base.specs.declared.limits.TheConstants.{READING}
 use Rattle.world_gen.proofs.ScheduleSoFar.{IsSoFar}
 use Rattle.world_gen.proofs.schedules.schedule.Given as goal

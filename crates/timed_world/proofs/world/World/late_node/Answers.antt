@@ -1,4 +1,4 @@
-use Rattle.std.proofs.Common.{◌≡◌, ℕ, ◌+◌, ◌<◌, length, Option, sym, ◌∙◌, arith}
+use Rattle.std.proofs.Common.{ℕ, ◌+◌, ◌<◌, length, Option, sym, ◌∙◌, arith}
 use Rattle.pals_runs.specs.declared.events.EventFault.{EventFault}
 use Rattle.timed_laws.specs.Faults.{node_past}
 use Rattle.timed_world.specs.proof.Values.{world_of}

@@ -1,5 +1,4 @@
-use Rattle.std.proofs.Common.{◌≡◌, ap, ◌∙◌, sym, subst}
-use Rattle.pals_base.specs.declared.values.Gamma.{Gamma}
+use Rattle.std.proofs.Common.{◌≡◌, ap, ◌∙◌}
 use Rattle.pals_runs.specs.declared.events.Which.TheVariants as which
 use Rattle.pals_model.specs.declared.design.DesignParts.{DesignParts}
 use Rattle.timed_laws.specs.Faults.{past}

@@ -1,4 +1,4 @@
-use Rattle.std.proofs.Common.{◌≡◌, ap, sym, ◌∙◌, subst}
+use Rattle.std.proofs.Common.{ap, sym, ◌∙◌, subst}
 use Rattle.pals_runs.specs.declared.events.Event.TheVariants as event
 use Rattle.pals_bus.specs.Values.{BusValue}
 use Rattle.timed_laws.proofs.Faults.{starts_in_time}
