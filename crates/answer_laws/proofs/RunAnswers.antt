@@ -13,8 +13,8 @@ use Rattle.scenario_json.specs.Scenarios.{fields_in, scen, Means}
 use Rattle.scenario_laws.specs.proof.Facts.{ScenariosSuit}
 use Rattle.bus_machine.specs.proof.Laws.{IsRunOf}
 use Rattle.bus_machine.specs.States.{finished_by_all}
-use Rattle.trace_laws.specs.Reports.{lines_of}
-use Rattle.trace_laws.specs.Traces.{verdict}
+use Rattle.run_laws.specs.Reports.{lines_of}
+use Rattle.run_laws.specs.Traces.{verdict}
 use Rattle.run_laws.proofs.Stops.{told as stop_is_last}
 use Rattle.run_laws.specs.proof.InTime.{InTime, NoneStops, BoundsAreInTime, EndsAreOne, AllPicked, PickedAreDone}
 use Rattle.run_texts.specs.RunTexts.{journal_text}

@@ -6,9 +6,9 @@ use Rattle.pals_runs.specs.declared.events.Event.{Event}
 use Rattle.pals_runs.specs.declared.events.EventFault.{EventFault}
 use Rattle.bus_machine.specs.States.{Run}
 use Rattle.bus_machine.specs.WorldTexts.{worldtext}
-use Rattle.timed_laws.specs.Worlds.{World, opening_world, world_after}
-use Rattle.timed_laws.specs.Faults.{fault_of, IsWithin}
-use Rattle.timed_laws.specs.EventLists.{world_left}
+use Rattle.run_laws.specs.Worlds.{World, opening_world, world_after}
+use Rattle.run_laws.specs.Faults.{fault_of, IsWithin}
+use Rattle.run_laws.specs.EventLists.{world_left}
 use Rattle.pals_report.specs.EventFaults.{event_fault_line}
 use Rattle.world_texts.specs.WorldTexts.{IsToldWorld}
 use Rattle.pals_top.specs.declared.status.TheConstants.{DONE, SCENARIO_REFUSED}

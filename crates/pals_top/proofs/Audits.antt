@@ -4,7 +4,7 @@ use Rattle.std.specs.Prelude.{Result, Ok, Err, IfOk}
 use Rattle.pals_model.specs.declared.design.DesignParts.{DesignParts}
 use Rattle.pals_runs.specs.declared.verdicts.Verdict.{Verdict}
 use Rattle.scenario_json.specs.declared.scenario.Scenario.{Scenario}
-use Rattle.trace_laws.specs.Traces.{verdict}
+use Rattle.run_laws.specs.Traces.{verdict}
 use Rattle.pals_top.specs.declared.answer.Answer.{Answer}
 use Rattle.pals_top.specs.Audit.{SaysVerdict, IsAudited}
 use Rattle.pals_top.specs.Loose.{run_of}

@@ -6,7 +6,7 @@ use Rattle.pals_report.specs.Runs.{verdict_line}
 use Rattle.pals_runs.specs.declared.verdicts.Verdict.{Verdict}
 use Rattle.pals_runs.specs.declared.verdicts.Verdict.TheVariants.{Sound, Wrong}
 use Rattle.scenario_json.specs.declared.scenario.Scenario.{Scenario}
-use Rattle.trace_laws.specs.Traces.{verdict}
+use Rattle.run_laws.specs.Traces.{verdict}
 use Rattle.pals_top.specs.declared.status.TheConstants.{DONE, NOT_SO}
 use Rattle.pals_top.specs.Loose.{run_of}
 

@@ -15,7 +15,7 @@ use std::sync::Wait;
 use std::thread::Threads;
 use std::{fs, io};
 
-const FILES: [&str; 12] = [
+const FILES: [&str; 13] = [
     "commands",
     "checks",
     "refused_texts",
@@ -28,6 +28,7 @@ const FILES: [&str; 12] = [
     "left_out",
     "runs",
     "audits",
+    "examples",
 ];
 
 // The status of the answer to a case, and its text.

@@ -36,12 +36,12 @@ use Rattle.bus_machine.specs.Machine.{BusEvent, Start, Step, Finish, Send, Arriv
 use Rattle.bus_machine.specs.Replay.{entries, start_entry, stop_entry}
 use Rattle.bus_machine.specs.declared.action.Action.TheVariants as action
 use Rattle.bus_machine.specs.Targets.{target}
-use Rattle.trace_laws.specs.TraceLines.{Timed, timed, has_reading, event_of}
-use Rattle.trace_laws.specs.TraceRules.{same_result, is_in_order, falls, reading_of, too_early, is_due, is_before, waits, is_line_of, first_entry, tells_stop, broken}
-use Rattle.trace_laws.specs.Traces.{Audit, opening_audit, noted, second_entry, audit_event, audit_after, line_broken, is_done, wrong_or, journal_verdict}
+use Rattle.run_laws.specs.TraceLines.{Timed, timed, has_reading, event_of}
+use Rattle.run_laws.specs.TraceRules.{same_result, is_in_order, falls, reading_of, too_early, is_due, is_before, waits, is_line_of, first_entry, tells_stop, broken}
+use Rattle.run_laws.specs.Traces.{Audit, opening_audit, noted, second_entry, audit_event, audit_after, line_broken, is_done, wrong_or, journal_verdict}
 use Rattle.bus_machine.specs.proof.Laws.{IsRunOf}
-use Rattle.trace_laws.specs.proof.EntryLines.{IsEntryIn}
-use Rattle.trace_laws.proofs.Entries.{lines_tell_entries}
+use Rattle.run_laws.specs.proof.EntryLines.{IsEntryIn}
+use Rattle.run_laws.proofs.Entries.{lines_tell_entries}
 use Rattle.run_laws.specs.Shown.{last_of, latest}
 use Rattle.pals_clock.specs.declared.clock.Clocks.{Clocks}
 use Rattle.pals_clock.specs.declared.clock.Clocks.TheVariants.{Lists}

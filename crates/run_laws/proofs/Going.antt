@@ -22,7 +22,7 @@ use Rattle.bus_machine.specs.Machine.{BusEvent, Start, Step, Finish, Send, Arriv
 use Rattle.bus_machine.specs.Targets.{Progress, send_is_next, next_in}
 use Rattle.bus_machine.specs.Agreement.{PhaseAgrees}
 use Rattle.bus_machine.specs.proof.Laws.{IsRunOf}
-use Rattle.trace_laws.specs.TraceRules.{is_due}
+use Rattle.run_laws.specs.TraceRules.{is_due}
 use Rattle.pals_clock.specs.declared.clock.Clocks.{Clocks}
 use Rattle.run_laws.specs.Runs.{Does, IsAwaited, KeepsTo, Runs, next_start}
 use Rattle.run_laws.specs.proof.Locked.{IsDueAt}

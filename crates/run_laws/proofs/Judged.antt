@@ -13,9 +13,9 @@ use Rattle.pals_runs.specs.declared.verdicts.TraceRule.TheVariants as rule
 use Rattle.pals_runs.specs.declared.verdicts.Verdict.TheVariants.{Sound}
 use Rattle.pals_runs.specs.Journal.{entry_line}
 use Rattle.bus_machine.specs.States.{Run, BusState, flight_at}
-use Rattle.trace_laws.specs.Traces.{Audit, audit_after, line_broken, end_broken, wrong_or, entry_or, journal_verdict}
-use Rattle.trace_laws.specs.TraceLines.{told}
-use Rattle.trace_laws.specs.TraceRules.{is_due, has_due, is_before}
+use Rattle.run_laws.specs.Traces.{Audit, audit_after, line_broken, end_broken, wrong_or, entry_or, journal_verdict}
+use Rattle.run_laws.specs.TraceLines.{told}
+use Rattle.run_laws.specs.TraceRules.{is_due, has_due, is_before}
 
 -- ---- lines that break none
 abbrev pub BreakNone : Run → Audit → List JournalEntry → Type 0

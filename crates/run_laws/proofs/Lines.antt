@@ -24,7 +24,7 @@ use Rattle.bus_machine.specs.Replay.{entries, start_entry, stop_entry}
 use Rattle.bus_machine.specs.declared.action.Action.{Action}
 use Rattle.bus_machine.specs.declared.action.Action.TheVariants as action
 use Rattle.bus_machine.specs.Targets.{actions, target, targets}
-use Rattle.trace_laws.specs.TraceLines.{Timed, timed}
+use Rattle.run_laws.specs.TraceLines.{Timed, timed}
 use Rattle.bus_machine.specs.proof.Laws.{IsRunOf}
 use Rattle.run_laws.specs.Shown.{start_in, starts, act_in, acts}
 use Rattle.pals_clock.specs.declared.clock.Clocks.{Clocks}

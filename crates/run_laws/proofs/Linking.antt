@@ -32,7 +32,7 @@ use Rattle.bus_machine.specs.States.{Run, BusState, opening, node_at, no_node, f
 use Rattle.bus_machine.specs.Stops.{missing_link, sent_rounds}
 use Rattle.bus_machine.specs.Machine.{BusEvent, Start, Step, Finish, Send, Arrive, Drop, Repeat, is_allowed, after, after_start, after_send, after_arrive, on_step, arrival, early_stop, flight_after_send}
 use Rattle.bus_machine.specs.declared.plan.Input.{Input}
-use Rattle.trace_laws.specs.TraceRules.{is_due}
+use Rattle.run_laws.specs.TraceRules.{is_due}
 use Rattle.bus_machine.specs.Replay.{entries, start_entry, stop_entry}
 use Rattle.bus_machine.specs.Agreement.{Agrees}
 use Rattle.bus_machine.specs.proof.Laws.{IsRunOf}

@@ -27,7 +27,7 @@ use Rattle.bus_machine.specs.Machine.{BusEvent, Start, Step, Finish, Send, Arriv
 use Rattle.bus_machine.specs.Replay.{entries, start_entry, stop_entry}
 use Rattle.bus_machine.specs.declared.action.Action.{Action}
 use Rattle.bus_machine.specs.Targets.{target}
-use Rattle.trace_laws.specs.TraceLines.{timed}
+use Rattle.run_laws.specs.TraceLines.{timed}
 use Rattle.run_laws.specs.Shown.{last_of, latest}
 use Rattle.run_laws.specs.Turns.{upcoming}
 use Rattle.pals_clock.specs.declared.clock.Clocks.{Clocks}

@@ -19,7 +19,7 @@ use Rattle.bus_machine.specs.Machine.{BusEvent, Start, Step, Finish, Send, Arriv
 use Rattle.bus_machine.specs.Replay.{entries, start_entry, stop_entry}
 use Rattle.bus_machine.specs.proof.Laws.{IsRunOf}
 use Rattle.bus_machine.specs.declared.action.Action.{Action}
-use Rattle.trace_laws.specs.TraceLines.{Timed, timed}
+use Rattle.run_laws.specs.TraceLines.{Timed, timed}
 use Rattle.run_laws.specs.Shown.{latest}
 use Rattle.pals_clock.specs.declared.clock.Clocks.{Clocks}
 use Rattle.pals_clock.specs.declared.clock.Clocks.TheVariants.{Lists}

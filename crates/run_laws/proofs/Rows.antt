@@ -18,7 +18,7 @@ use Rattle.bus_machine.specs.States.{Run, BusState, opening, node_at, flight_at,
 use Rattle.bus_machine.specs.Machine.{Start, Finish, Send, after}
 use Rattle.bus_machine.specs.proof.Rows.{a, b}
 use Rattle.bus_machine.specs.declared.action.Action.TheVariants as action
-use Rattle.trace_laws.specs.TraceRules.{is_due}
+use Rattle.run_laws.specs.TraceRules.{is_due}
 use Rattle.pals_clock.specs.declared.clock.Clocks.TheVariants.{Meet, Lists}
 use Rattle.run_laws.specs.Runs.{clock_at, target_of, IsLeast, HasEnded, NoneDue, IsAwaited, Runs, opens, picks_for, goes_on}
 use Rattle.run_laws.specs.proof.Rows.{counters_for, SomeMeetingEnds, SomeListEnds}

@@ -16,11 +16,11 @@ use Rattle.pals_runs.specs.Journal.{entry_line}
 use Rattle.bus_machine.specs.Nodes.{NodeState}
 use Rattle.bus_machine.specs.States.{Run, BusState, finished_by_all, no_node}
 use Rattle.bus_machine.specs.Agreement.{Agrees}
-use Rattle.trace_laws.specs.proof.EntryLines.{IsEntryIn}
-use Rattle.trace_laws.specs.Traces.{is_done, wrong_or}
-use Rattle.trace_laws.proofs.Forms.{lines_have_forms, entries_have_lines}
-use Rattle.trace_laws.proofs.ReportEnds.{FirstHasForm, behind_report}
-use Rattle.trace_laws.proofs.Texts.{texts_have_lines}
+use Rattle.run_laws.specs.proof.EntryLines.{IsEntryIn}
+use Rattle.run_laws.specs.Traces.{is_done, wrong_or}
+use Rattle.run_laws.proofs.Forms.{lines_have_forms, entries_have_lines}
+use Rattle.run_laws.proofs.ReportEnds.{FirstHasForm, behind_report}
+use Rattle.run_laws.proofs.Texts.{texts_have_lines}
 use Rattle.run_laws.specs.Meetings.{AllDone}
 use Rattle.run_laws.specs.proof.Sound.{IsOver, trace_of, RunsAreSound, TracesAreTexts}
 use Rattle.run_laws.proofs.Audits.{ends_at, journal_ends}

@@ -41,7 +41,7 @@ use Rattle.bus_machine.specs.Agreement.{PhaseAgrees, Agrees}
 use Rattle.bus_machine.specs.proof.Laws.{IsRunOf}
 use Rattle.bus_machine.specs.declared.action.Action.TheVariants as action
 use Rattle.bus_machine.specs.Targets.{Progress, target, send_is_next, next_action}
-use Rattle.trace_laws.specs.TraceRules.{is_due}
+use Rattle.run_laws.specs.TraceRules.{is_due}
 use Rattle.bus_machine.proofs.Lists.{oldest_is_one}
 use Rattle.run_laws.specs.Shown.{send_in, sends}
 use Rattle.run_laws.specs.Turns.{upcoming}

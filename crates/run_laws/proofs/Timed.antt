@@ -12,7 +12,7 @@ use Rattle.pals_model.specs.declared.flight.FlightCopy.{FlightCopy}
 use Rattle.pals_model.specs.Flights.{is_of, oldest, without_oldest}
 use Rattle.pals_runs.specs.declared.journal.Arrived.{Arrived}
 use Rattle.pals_runs.specs.declared.journal.Arrived.TheVariants.{Kept, Ignored, Early}
-use Rattle.trace_laws.specs.TraceRules.{is_due}
+use Rattle.run_laws.specs.TraceRules.{is_due}
 use Rattle.bus_machine.proofs.Lists.{All-without_oldest, oldest_is_one}
 use Rattle.run_laws.specs.proof.Timing.{LinkView, due_of, one_if, copies, Whereabouts, in_flight, in_slot, was_taken, came_early, IsDueCopy, SlotWasDue, IsTimed}
 

@@ -8,3 +8,12 @@ pub mod Meetings
 pub mod Bounds
 pub mod Clauses
 pub mod proof
+pub mod LineForms
+pub mod TraceLines
+pub mod TraceRules
+pub mod Traces
+pub mod Reports
+pub mod Worlds
+pub mod Deadlines
+pub mod Faults
+pub mod EventLists

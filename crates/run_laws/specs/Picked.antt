@@ -10,7 +10,7 @@ use Rattle.bus_machine.specs.declared.action.Action.{Action}
 use Rattle.bus_machine.specs.Plans.{plan_of}
 use Rattle.bus_machine.specs.States.{Run, link_at}
 use Rattle.bus_machine.specs.Targets.{actions, targets, target}
-use Rattle.trace_laws.specs.TraceLines.{Timed, timed}
+use Rattle.run_laws.specs.TraceLines.{Timed, timed}
 use Rattle.run_laws.specs.Shown.{starts, acts}
 use Rattle.run_laws.specs.Runs.{clock_at}
 use Rattle.pals_runs.specs.declared.journal.Stop.TheVariants as stop

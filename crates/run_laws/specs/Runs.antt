@@ -19,7 +19,7 @@ use Rattle.bus_machine.specs.Machine.{BusEvent, Start, Step, Finish, Send, Arriv
 use Rattle.bus_machine.specs.Replay.{entries}
 use Rattle.bus_machine.specs.declared.action.Action.{Action}
 use Rattle.bus_machine.specs.Targets.{target, action_of}
-use Rattle.trace_laws.specs.TraceRules.{is_due}
+use Rattle.run_laws.specs.TraceRules.{is_due}
 use Rattle.run_laws.specs.Turns.{upcoming}
 use Rattle.bus_machine.specs.declared.action.Action.TheVariants as action
 

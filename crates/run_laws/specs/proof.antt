@@ -13,3 +13,9 @@ pub mod Clauses
 pub mod Sound
 pub mod Ending
 pub mod InTime
+pub mod EntryLines
+pub mod Reports
+pub mod TraceRows
+pub mod WorldRows
+pub mod Kept
+pub mod Laws

@@ -11,8 +11,8 @@ use Rattle.pals_runs.specs.Journal.{entry_line}
 use Rattle.bus_machine.specs.proof.Laws.{IsRunOf}
 use Rattle.bus_machine.specs.States.{Run, BusState, finished_by_all}
 use Rattle.loose_world.proofs.Turns.{text_more}
-use Rattle.trace_laws.specs.Reports.{lines_of}
-use Rattle.trace_laws.specs.Traces.{verdict}
+use Rattle.run_laws.specs.Reports.{lines_of}
+use Rattle.run_laws.specs.Traces.{verdict}
 use Rattle.run_laws.specs.Meetings.{AllDone}
 use Rattle.run_laws.specs.Runs.{Runs, lists_in}
 use Rattle.run_laws.specs.proof.Sound.{AreReadings, trace_of}

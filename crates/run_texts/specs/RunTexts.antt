@@ -12,8 +12,8 @@ use Rattle.pals_runs.specs.Journal.{entry_line}
 use Rattle.bus_machine.specs.Plans.{plan_of}
 use Rattle.bus_machine.specs.States.{Run, BusState, node_at, finished_by_all}
 use Rattle.bus_machine.specs.Targets.{target}
-use Rattle.trace_laws.specs.Reports.{lines_of}
-use Rattle.trace_laws.specs.Traces.{verdict}
+use Rattle.run_laws.specs.Reports.{lines_of}
+use Rattle.run_laws.specs.Traces.{verdict}
 use Rattle.run_laws.specs.Clauses.{KeepsClauses}
 use Rattle.run_laws.specs.Timely.{AllAtEnd}
 use Rattle.run_laws.specs.Meetings.{AllDone}

@@ -14,14 +14,14 @@ use Rattle.bus_machine.specs.LinkEvents.{is_in_flight}
 use Rattle.bus_machine.specs.States.{Run, node_at, flight_at, link_at}
 use Rattle.bus_machine.specs.Stops.{sent_rounds, rounds_sent_on}
 use Rattle.bus_machine.specs.proof.Laws.{IsRunOf}
-use Rattle.timed_laws.specs.Worlds.{World, flight_since}
-use Rattle.timed_laws.specs.Deadlines.{message_deadline}
-use Rattle.timed_laws.specs.Faults.{or_else, first_of, past, copy_past, link_past}
-use Rattle.timed_laws.specs.proof.Kept.{KeepsTime, copies}
-use Rattle.timed_laws.proofs.Times.{alarm_next, alarm_more, arrives_before}
-use Rattle.timed_laws.proofs.Nodes.{fits_at, counts_close}
-use Rattle.timed_laws.proofs.Links.{under_way, in_flight_counts, counts_in_flight, rule_of, sent_most}
-use Rattle.timed_laws.proofs.Numbers.{times_are_readings}
+use Rattle.run_laws.specs.Worlds.{World, flight_since}
+use Rattle.run_laws.specs.Deadlines.{message_deadline}
+use Rattle.run_laws.specs.Faults.{or_else, first_of, past, copy_past, link_past}
+use Rattle.run_laws.specs.proof.Kept.{KeepsTime, copies}
+use Rattle.run_laws.proofs.WorldTimes.{alarm_next, alarm_more, arrives_before}
+use Rattle.run_laws.proofs.Nodes.{fits_at, counts_close}
+use Rattle.run_laws.proofs.Links.{under_way, in_flight_counts, counts_in_flight, rule_of, sent_most}
+use Rattle.run_laws.proofs.WorldNumbers.{times_are_readings}
 use Rattle.timed_world.specs.proof.Passes.{flying_past}
 use Rattle.timed_world.proofs.Rows.{goes_past, has_found}
 

@@ -3,9 +3,9 @@ use Rattle.std.proofs.Common.{◌≡◌, ◌+◌, List, [], ◌∷◌, ◌++◌,
 use Rattle.pals_runs.specs.declared.events.Event.{Event}
 use Rattle.bus_machine.specs.States.{Run}
 use Rattle.pals_bus.specs.Values.{BusValue}
-use Rattle.timed_laws.specs.Worlds.{World, world_after}
-use Rattle.timed_laws.specs.Faults.{fault_of, IsWithin}
-use Rattle.timed_laws.specs.EventLists.{world_left}
+use Rattle.run_laws.specs.Worlds.{World, world_after}
+use Rattle.run_laws.specs.Faults.{fault_of, IsWithin}
+use Rattle.run_laws.specs.EventLists.{world_left}
 use Rattle.timed_world.specs.proof.Values.{WorldValue, world_of, Moves}
 use Rattle.timed_world.specs.proof.EventLists.{Leads}
 use Rattle.timed_world.proofs.Moving.{bus_stays}

@@ -15,8 +15,8 @@ use Rattle.pals_model.specs.Rules.{IsDesign, IsGamma}
 use Rattle.step_code.specs.declared.instr.CodeParts.{CodeParts}
 use Rattle.bus_machine.specs.proof.Laws.{IsRunOf}
 use Rattle.pals_bus.specs.Values.{BusValue}
-use Rattle.timed_laws.specs.Worlds.{world_run}
-use Rattle.timed_laws.proofs.Openings.{opening_keeps_time}
+use Rattle.run_laws.specs.Worlds.{world_run}
+use Rattle.run_laws.proofs.Openings.{opening_keeps_time}
 use Rattle.timed_world.specs.proof.Values.{WorldValue, KeepsWorld, opening_value}
 
 -- ---- the delays

@@ -17,11 +17,11 @@ use Rattle.pals_bus.specs.declared.refusals.BusStartEnd.TheVariants as bus_start
 use Rattle.pals_bus.specs.Values.{BusValue}
 use Rattle.pals_bus.specs.proof.Answers.{BusStartEnds}
 use Rattle.pals_bus.proofs.LooseSteps.{busy_waits_not}
-use Rattle.timed_laws.specs.Worlds.{reading_at}
-use Rattle.timed_laws.proofs.Faults.{starts_in_time, sends_in_time}
-use Rattle.timed_laws.proofs.Nodes.{may_is}
-use Rattle.timed_laws.proofs.Numbers.{times_are_readings}
-use Rattle.timed_laws.proofs.Worlds.{event_keeps_time}
+use Rattle.run_laws.specs.Worlds.{reading_at}
+use Rattle.run_laws.proofs.Faults.{starts_in_time, sends_in_time}
+use Rattle.run_laws.proofs.Nodes.{may_is}
+use Rattle.run_laws.proofs.WorldNumbers.{times_are_readings}
+use Rattle.run_laws.proofs.Worlds.{event_keeps_time}
 use Rattle.timed_world.specs.proof.Values.{WorldValue, world_of, KeepsWorld}
 use Rattle.timed_world.proofs.Moving.{IsFine, Reads}
 

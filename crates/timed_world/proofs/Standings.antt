@@ -11,11 +11,11 @@ use Rattle.bus_machine.specs.Plans.{plan_of, component_at}
 use Rattle.bus_machine.specs.States.{Run, node_at}
 use Rattle.bus_machine.specs.Agreement.{PhaseAgrees}
 use Rattle.bus_machine.specs.proof.Laws.{IsRunOf}
-use Rattle.timed_laws.specs.Worlds.{World, since_at, ready_at}
-use Rattle.timed_laws.specs.Deadlines.{node_deadline, phase_deadline, lesser}
-use Rattle.timed_laws.specs.proof.Kept.{IsInTime, KeepsTime}
-use Rattle.timed_laws.proofs.Nodes.{deadline_is, phase_agrees, rounds_at_most, send_last as of_send, phase_last as of_phase}
-use Rattle.timed_laws.proofs.Numbers.{times_are_readings}
+use Rattle.run_laws.specs.Worlds.{World, since_at, ready_at}
+use Rattle.run_laws.specs.Deadlines.{node_deadline, phase_deadline, lesser}
+use Rattle.run_laws.specs.proof.Kept.{IsInTime, KeepsTime}
+use Rattle.run_laws.proofs.Nodes.{deadline_is, phase_agrees, rounds_at_most, send_last as of_send, phase_last as of_phase}
+use Rattle.run_laws.proofs.WorldNumbers.{times_are_readings}
 use Rattle.timed_world.specs.declared.standing.Standing.{Standing}
 use Rattle.timed_world.specs.proof.Values.{WorldValue, KeepsWorld, world_of}
 use Rattle.timed_world.specs.proof.Standings.{IsSound, standing_of, phase_last, send_last, last_time}

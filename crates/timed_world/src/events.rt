@@ -5,7 +5,7 @@ ghost use Rattle.pals_runs.specs.declared.events.EventFault.TheVariants as fault
 ghost use Rattle.pals_bus.specs.declared.refusals.BusStartEnd.TheVariants as bus_start;
 ghost use Rattle.pals_bus.specs.declared.refusals.BusStepEnd.TheVariants as bus_step;
 ghost use Rattle.pals_bus.specs.declared.refusals.LinkEnd.TheVariants as link_end;
-ghost use Rattle.timed_laws.specs.Faults.{fault_of};
+ghost use Rattle.run_laws.specs.Faults.{fault_of};
 ghost use Rattle.timed_world.specs.proof.Values.{Moves, world_of};
 
 use crate::world::World;

@@ -1,7 +1,7 @@
 //! Why a world refuses an event.
 ghost use Rattle.std.specs.Prelude.{◌≡◌, ◌<◌, length, true};
 ghost use Rattle.pals_runs.specs.declared.events.Event.TheVariants as event;
-ghost use Rattle.timed_laws.specs.Faults.{fault_of, event_fault, is_named};
+ghost use Rattle.run_laws.specs.Faults.{fault_of, event_fault, is_named};
 ghost use Rattle.timed_world.specs.proof.Values.{world_of};
 
 use crate::standing::too_soon;

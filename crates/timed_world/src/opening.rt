@@ -2,7 +2,7 @@
 ghost use Rattle.std.specs.Prelude.{◌≡◌, IfOk, [], ◌∷◌, length, map};
 ghost use Rattle.pals_model.specs.Delays.{AreDelays};
 ghost use Rattle.pals_model.specs.Rules.{IsDesign};
-ghost use Rattle.timed_laws.specs.Worlds.{zeros};
+ghost use Rattle.run_laws.specs.Worlds.{zeros};
 
 use pals_base::{Items, Nanos, NoMemory};
 use pals_model::{Delays, Design};

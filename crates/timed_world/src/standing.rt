@@ -4,9 +4,9 @@ ghost use Rattle.pals_base.specs.declared.limits.TheConstants.{HOUR};
 ghost use Rattle.pals_runs.specs.declared.events.EventFault.TheVariants as fault;
 ghost use Rattle.pals_node.specs.proof.Keeping.{IsPlan};
 ghost use Rattle.bus_machine.specs.NodeEvents.{running_step};
-ghost use Rattle.timed_laws.specs.Deadlines.{last_before, lesser};
-ghost use Rattle.timed_laws.specs.Faults.{found_if, past};
-ghost use Rattle.timed_laws.specs.Worlds.{is_last_sent, is_held};
+ghost use Rattle.run_laws.specs.Deadlines.{last_before, lesser};
+ghost use Rattle.run_laws.specs.Faults.{found_if, past};
+ghost use Rattle.run_laws.specs.Worlds.{is_last_sent, is_held};
 
 use bus_machine::Plan;
 use output_backoff::release_at;

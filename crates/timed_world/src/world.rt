@@ -6,8 +6,8 @@ ghost use Rattle.bus_machine.specs.proof.Laws.{IsRunOf};
 ghost use Rattle.bus_machine.specs.Plans.{plan_of};
 ghost use Rattle.pals_node.specs.proof.Keeping.{IsPlan};
 ghost use Rattle.pals_bus.specs.proof.Values.{AreCodes};
-ghost use Rattle.timed_laws.specs.proof.Kept.{KeepsTime};
-ghost use Rattle.timed_laws.specs.Worlds.{flight_since};
+ghost use Rattle.run_laws.specs.proof.Kept.{KeepsTime};
+ghost use Rattle.run_laws.specs.Worlds.{flight_since};
 ghost use Rattle.timed_world.specs.proof.Standings.{IsSound, standing_of};
 ghost use Rattle.timed_world.specs.proof.Values.{opening_value, world_of};
 

@@ -4,7 +4,7 @@ use Rattle.std.specs.List.{list_any, enumerate_from}
 use Rattle.std.proofs.lemmas.Bool.{eq-eqb, eqb-true, false≢true}
 use Rattle.pals_model.specs.declared.design.Link.{Link}
 use Rattle.bus_machine.specs.States.{flight_at}
-use Rattle.trace_laws.specs.TraceRules.{is_due, has_due}
+use Rattle.run_laws.specs.TraceRules.{is_due, has_due}
 use Rattle.pals_bus.specs.proof.Due.{HasDue}
 use Rattle.pals_bus.specs.Values.{BusValue}
 

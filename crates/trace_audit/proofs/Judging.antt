@@ -7,8 +7,8 @@ use Rattle.pals_runs.specs.declared.verdicts.TraceRule.{TraceRule}
 use Rattle.pals_runs.specs.declared.verdicts.Verdict.{Verdict}
 use Rattle.pals_runs.specs.declared.verdicts.Verdict.TheVariants.{Sound, Wrong}
 use Rattle.bus_machine.specs.States.{Run}
-use Rattle.trace_laws.specs.TraceLines.{told}
-use Rattle.trace_laws.specs.Traces.{Audit, audit_after, end_broken, entry_or, journal_verdict, line_broken, opening_audit, report_size, row_size, trace_verdict, verdict, wrong_or, wrong_row}
+use Rattle.run_laws.specs.TraceLines.{told}
+use Rattle.run_laws.specs.Traces.{Audit, audit_after, end_broken, entry_or, journal_verdict, line_broken, opening_audit, report_size, row_size, trace_verdict, verdict, wrong_or, wrong_row}
 use Rattle.trace_audit.specs.declared.replay.Replay.{Replay}
 use Rattle.trace_audit.specs.proof.Replays.{Follows, IsReplay, audit_in}
 

@@ -5,7 +5,7 @@ use Rattle.std.specs.List.{list_all}
 use Rattle.std.proofs.lemmas.List.{drop_all, drop_more}
 use Rattle.bus_machine.specs.Nodes.{NodeState}
 use Rattle.bus_machine.specs.States.{BusState, no_node, node_at}
-use Rattle.trace_laws.specs.Traces.{is_done}
+use Rattle.run_laws.specs.Traces.{is_done}
 
 abbrev pub are_done : List NodeState → Bool
 are_done nodes = list_all (λ (n : NodeState). is_done n.phase) nodes

@@ -18,9 +18,9 @@ use Rattle.bus_machine.specs.NodeEvents.{is_waiting, next_step, running_step}
 use Rattle.bus_machine.specs.States.{Run, BusState, node_at}
 use Rattle.bus_machine.specs.Machine.{BusEvent, Step, arrival, early_stop}
 use Rattle.bus_machine.specs.Replay.{entries, stop_entry}
-use Rattle.trace_laws.specs.TraceLines.{event_of, timed}
-use Rattle.trace_laws.specs.TraceRules.{broken, falls, first_entry, fits, is_in_order, same_result, tells_stop, too_early, waits}
-use Rattle.trace_laws.specs.Traces.{second_entry}
+use Rattle.run_laws.specs.TraceLines.{event_of, timed}
+use Rattle.run_laws.specs.TraceRules.{broken, falls, first_entry, fits, is_in_order, same_result, tells_stop, too_early, waits}
+use Rattle.run_laws.specs.Traces.{second_entry}
 use Rattle.pals_node.specs.proof.Answers.{is_busy}
 use Rattle.trace_audit.specs.proof.FirstRules.{first_rule}
 use Rattle.trace_audit.specs.proof.Owing.{owed_by, stop_of}

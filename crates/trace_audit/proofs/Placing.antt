@@ -18,7 +18,7 @@ use Rattle.pals_model.specs.RoundTexts.{component_line, part_lines, tap_lines, c
 use Rattle.pals_model.specs.Rules.{IsDesign}
 use Rattle.pals_model.proofs.LineLaws.{row_has_lines}
 use Rattle.bus_machine.proofs.Lists.{length-numbered}
-use Rattle.trace_laws.specs.Traces.{row_size, line_at}
+use Rattle.run_laws.specs.Traces.{row_size, line_at}
 use Rattle.trace_audit.specs.proof.Rows.{rows_begun, left_at}
 
 -- ---- rounds

@@ -6,8 +6,8 @@ use Rattle.std.proofs.lemmas.Iterator.Adapters.{position_from-zero}
 use Rattle.std.proofs.lemmas.List.{drop_all, drop_more, length-take-le}
 use Rattle.pals_model.specs.declared.design.DesignParts.{DesignParts}
 use Rattle.pals_model.specs.declared.rounds.Env.{Env}
-use Rattle.trace_laws.specs.LineForms.{form_of}
-use Rattle.trace_laws.specs.Traces.{report_size, row_size, line_at}
+use Rattle.run_laws.specs.LineForms.{form_of}
+use Rattle.run_laws.specs.Traces.{report_size, row_size, line_at}
 use Rattle.trace_audit.specs.declared.report.ReportEnd.{ReportEnd}
 use Rattle.trace_audit.specs.declared.report.ReportEnd.TheVariants.{Whole, Wrong}
 use Rattle.trace_audit.specs.proof.Reports.{ReportEnds, end_at, index_of}

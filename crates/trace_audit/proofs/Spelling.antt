@@ -3,7 +3,7 @@ use Rattle.std.proofs.Common.{◌≡◌, ◌∙◌, ℕ, ◌+◌, ◌-◌, ◌*�
 use Rattle.std.specs.Prelude.{fold, slice_index_or}
 use Rattle.std.proofs.lemmas.List.{take_more, take-append-drop}
 use Rattle.std.proofs.lemmas.List.Sums.{fold-append}
-use Rattle.trace_laws.specs.LineForms.{spelled}
+use Rattle.run_laws.specs.LineForms.{spelled}
 
 abbrev with_digit : ℕ → ℕ → ℕ
 with_digit n digit = n * 10 + (digit - 48)

@@ -9,7 +9,7 @@ use Rattle.std.proofs.lemmas.List.Elements.{All-from_get_or}
 use Rattle.std.proofs.lemmas.List.Splits.{length-slice_split, slice_split_none, slice_split_at}
 use Rattle.std.proofs.lemmas.Str.Pattern.{IsSplitOnceResult, split_parts}
 use denote.Ref.{Bor}
-use Rattle.trace_laws.specs.LineForms.{Form, at_end, words_of}
+use Rattle.run_laws.specs.LineForms.{Form, at_end, words_of}
 use Rattle.trace_audit.specs.proof.Words.{is_space}
 
 -- ---- the space on either side

@@ -23,10 +23,10 @@ use Rattle.bus_machine.specs.States.{Run, BusState, node_at}
 use Rattle.bus_machine.specs.Stops.{link_into, missing_link}
 use Rattle.bus_machine.specs.Machine.{Start, missed_stop}
 use Rattle.bus_machine.specs.Replay.{start_entry}
-use Rattle.trace_laws.specs.proof.EntryLines.{IsEntryIn, IsReading}
-use Rattle.trace_laws.specs.TraceLines.{event_of}
-use Rattle.trace_laws.specs.TraceRules.{is_line_of}
-use Rattle.trace_laws.proofs.Entries.{lines_differ}
+use Rattle.run_laws.specs.proof.EntryLines.{IsEntryIn, IsReading}
+use Rattle.run_laws.specs.TraceLines.{event_of}
+use Rattle.run_laws.specs.TraceRules.{is_line_of}
+use Rattle.run_laws.proofs.Entries.{lines_differ}
 
 -- an entry tells another's line exactly where it is that entry
 pub line_is : (design : DesignParts) (e x : JournalEntry) (r : Bool) → (entry_line design e ≡ entry_line design x → e ≡ x) → (IsTrue r ↔ (x ≡ e)) → is_line_of design e (Some x) ≡ r

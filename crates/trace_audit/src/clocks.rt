@@ -1,10 +1,10 @@
 //! The clock that an entry reads.
 ghost use Rattle.std.specs.Prelude.{◌≡◌, ◌<◌, length, option_map, IfSome};
-ghost use Rattle.trace_laws.specs.TraceLines.{timed, has_reading};
-ghost use Rattle.trace_laws.specs.TraceRules.{falls};
-ghost use Rattle.trace_laws.specs.Traces.{noted};
+ghost use Rattle.run_laws.specs.TraceLines.{timed, has_reading};
+ghost use Rattle.run_laws.specs.TraceRules.{falls};
+ghost use Rattle.run_laws.specs.Traces.{noted};
 ghost use Rattle.bus_machine.specs.States.{link_at};
-ghost use Rattle.trace_laws.specs.proof.EntryLines.{IsEntryIn};
+ghost use Rattle.run_laws.specs.proof.EntryLines.{IsEntryIn};
 ghost use Rattle.trace_audit.specs.proof.Clocks.{timed_of, read_at};
 
 use pals_base::{LinkNo, Nanos, NodeNo};

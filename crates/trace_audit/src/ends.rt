@@ -3,7 +3,7 @@ ghost use Rattle.std.specs.Prelude.{◌≡◌};
 ghost use Rattle.std.specs.List.{list_all};
 ghost use Rattle.bus_machine.specs.Nodes.{NodeState};
 ghost use Rattle.bus_machine.specs.States.{finished_by_all};
-ghost use Rattle.trace_laws.specs.Traces.{end_broken, is_done};
+ghost use Rattle.run_laws.specs.Traces.{end_broken, is_done};
 ghost use Rattle.trace_audit.specs.proof.Replays.{audit_in};
 
 use crate::replay::Replay;

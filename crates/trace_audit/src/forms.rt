@@ -1,7 +1,7 @@
 //! The forms of journal lines.
 ghost use Rattle.std.specs.Prelude.{◌≡◌, ℕ, List, Option, is_some, option_and_then};
 ghost use Rattle.pals_runs.specs.declared.journal.Arrived.{Arrived};
-ghost use Rattle.trace_laws.specs.LineForms as lines;
+ghost use Rattle.run_laws.specs.LineForms as lines;
 ghost use Rattle.trace_audit.specs.proof.Words.{words_in};
 ghost use Rattle.trace_audit.specs.proof.Forms.{form_shown, shown};
 

@@ -3,7 +3,7 @@ ghost use Rattle.std.specs.Prelude.{◌≡◌, ◌≤◌, ◌<◌, ◌++◌, ◌
 ghost use Rattle.pals_model.specs.proof.Laws.Lines.{IsLine};
 ghost use Rattle.pals_model.specs.RoundTexts.{is_line_feed};
 ghost use Rattle.pals_model.specs.Rules.{IsDesign};
-ghost use Rattle.trace_laws.specs.Traces.{row_size};
+ghost use Rattle.run_laws.specs.Traces.{row_size};
 ghost use Rattle.trace_audit.specs.proof.Lines.{HasLeft};
 
 use pals_model::Design;

@@ -1,7 +1,7 @@
 //! The numbers of a line.
 ghost use Rattle.std.specs.Prelude.{◌≡◌, ◌<◌, ◌≤◌, IfSome, IfNone};
 ghost use Rattle.pals_base.specs.declared.limits.TheConstants.{READING};
-ghost use Rattle.trace_laws.specs.LineForms.{spelled, number_up_to, round_in, reading_in};
+ghost use Rattle.run_laws.specs.LineForms.{spelled, number_up_to, round_in, reading_in};
 
 use itoa::Buffer;
 use pals_base::Nanos;

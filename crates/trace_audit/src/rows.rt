@@ -3,7 +3,7 @@ ghost use Rattle.std.specs.Prelude.{◌≡◌, ◌<◌, ◌+◌, ◌/◌, ◌^�
 ghost use Rattle.std.specs.Arc.{arc_value};
 ghost use Rattle.pals_model.specs.RoundTexts.{composed_lines};
 ghost use Rattle.pals_model.specs.Rules.{IsDesign};
-ghost use Rattle.trace_laws.specs.Traces.{line_at, row_size};
+ghost use Rattle.run_laws.specs.Traces.{line_at, row_size};
 ghost use Rattle.trace_audit.specs.proof.Lines.{HasLeft};
 ghost use Rattle.trace_audit.specs.proof.Rows.{AreRows, IsAtLine, left_at};
 

@@ -1,7 +1,7 @@
 //! The words of a line.
 ghost use Rattle.std.specs.Prelude.{◌≡◌};
 ghost use Rattle.std.specs.List.{list_all, slice_split};
-ghost use Rattle.trace_laws.specs.LineForms.{is_there, words_of};
+ghost use Rattle.run_laws.specs.LineForms.{is_there, words_of};
 ghost use Rattle.trace_audit.specs.proof.Words.{is_space, words_in, put_back};
 
 /// The words of a line that are not read yet: parted by exactly one space each.

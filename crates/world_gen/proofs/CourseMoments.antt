@@ -6,7 +6,7 @@ use Rattle.std.proofs.lemmas.Bool.{cases_lt}
 use Rattle.std.proofs.lemmas.Nat.{mul-le}
 use Rattle.pals_base.specs.declared.limits.TheConstants.{READING}
 use Rattle.pals_runs.specs.declared.events.Event.{Event}
-use Rattle.timed_laws.specs.Deadlines.{lesser}
+use Rattle.run_laws.specs.Deadlines.{lesser}
 use Rattle.world_gen.specs.declared.courses.Course.{Course}
 use Rattle.world_gen.specs.proof.Schedules.{which, event_of}
 use Rattle.world_gen.specs.proof.Courses.{IsCourse, time_of, next_of, deed_event, course_events, events_of, next_moment}

@@ -9,7 +9,7 @@ use Rattle.std.proofs.lemmas.Option.{get_or_from_slice_get}
 use Rattle.pals_base.specs.Steps.{upwards}
 use Rattle.pals_model.proofs.Lookups.{first_at, found_at}
 use Rattle.bus_machine.proofs.Lists.{none_found}
-use Rattle.timed_laws.proofs.Lists.{upwards_at}
+use Rattle.run_laws.proofs.Lists.{upwards_at}
 use Rattle.world_gen.specs.declared.courses.Course.{Course}
 use Rattle.world_gen.specs.proof.Schedules.{which}
 use Rattle.world_gen.specs.proof.Courses.{time_of, next_of}

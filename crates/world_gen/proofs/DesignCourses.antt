@@ -16,8 +16,8 @@ use Rattle.pals_runs.specs.declared.events.Event.TheVariants as event
 use Rattle.bus_machine.specs.Plans.{plan_of}
 use Rattle.bus_machine.specs.States.{Run, link_at}
 use Rattle.bus_machine.specs.proof.Laws.{IsRunOf}
-use Rattle.timed_laws.specs.Worlds.{world_run}
-use Rattle.timed_laws.proofs.Links.{rule_of}
+use Rattle.run_laws.specs.Worlds.{world_run}
+use Rattle.run_laws.proofs.Links.{rule_of}
 use Rattle.world_gen.specs.declared.courses.Course.{Course}
 use Rattle.world_gen.specs.proof.Schedules.{step_time, finish_time, send_time, arrive_time, which, event_of, all_of, step_count, begins, starts_at, finishes_at, sends_at, arrivals_at, finishes, earlier_finishes, present_finishes, events_at}
 use Rattle.world_gen.specs.proof.Courses.{IsCourse, time_of, course_events, events_of, begin_course, finish_course, send_course, arrive_course, each_of, begin_courses, finish_courses, send_courses, arrive_courses, earlier_courses, present_courses, timetable}

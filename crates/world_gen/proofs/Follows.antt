@@ -13,12 +13,12 @@ use Rattle.bus_machine.specs.NodeEvents.{may_send}
 use Rattle.pals_base.specs.Steps.{upwards}
 use Rattle.bus_machine.specs.States.{Run, BusState, node_at, flight_at, link_at, with_node}
 use Rattle.bus_machine.specs.Stops.{sent_rounds, rounds_sent_on}
-use Rattle.timed_laws.specs.Worlds.{World, reading_at, since_at, ready_at, sendings, world_after}
-use Rattle.timed_laws.specs.Faults.{fault_of, IsWithin}
-use Rattle.timed_laws.specs.proof.Kept.{copies, KeepsTime}
-use Rattle.timed_laws.specs.EventLists.{world_left}
+use Rattle.run_laws.specs.Worlds.{World, reading_at, since_at, ready_at, sendings, world_after}
+use Rattle.run_laws.specs.Faults.{fault_of, IsWithin}
+use Rattle.run_laws.specs.proof.Kept.{copies, KeepsTime}
+use Rattle.run_laws.specs.EventLists.{world_left}
 use Rattle.world_gen.specs.proof.Schedules.{step_time, finish_time, send_time, arrive_time, step_count, event_of, all_of}
-use Rattle.timed_laws.proofs.Changes.{same_at, changed, ChangesAt}
+use Rattle.run_laws.proofs.Changes.{same_at, changed, ChangesAt}
 use Rattle.world_gen.proofs.ScheduleTimes.{Made}
 
 -- ---- how many steps a node has begun, and how many it has finished, through all rounds

@@ -20,10 +20,10 @@ use Rattle.bus_machine.specs.LinkEvents.{is_in_flight}
 use Rattle.bus_machine.specs.Alarms.{start_alarm, step_alarm, release_alarm}
 use Rattle.bus_machine.specs.States.{Run, node_at, flight_at}
 use Rattle.bus_machine.specs.Machine.{Start, Step, Finish, Send}
-use Rattle.timed_laws.specs.Worlds.{World, reading_at, since_at, flight_since}
-use Rattle.timed_laws.specs.Deadlines.{node_deadline, message_deadline}
-use Rattle.timed_laws.specs.Faults.{fault_of, event_fault, is_named, found_if, or_else, first_of, wrong_phase, no_message, not_due, too_soon, clock_back, clock_apart, apart, past, node_past, copy_past, link_past}
-use Rattle.timed_laws.specs.proof.Kept.{IsInTime}
+use Rattle.run_laws.specs.Worlds.{World, reading_at, since_at, flight_since}
+use Rattle.run_laws.specs.Deadlines.{node_deadline, message_deadline}
+use Rattle.run_laws.specs.Faults.{fault_of, event_fault, is_named, found_if, or_else, first_of, wrong_phase, no_message, not_due, too_soon, clock_back, clock_apart, apart, past, node_past, copy_past, link_past}
+use Rattle.run_laws.specs.proof.Kept.{IsInTime}
 
 pub found_none : (b : Bool) (why : EventFault) → b ≡ false → found_if b why ≡ None
 found_none b why is = ap (λ (x : Bool). found_if x why) is

@@ -5,7 +5,7 @@ use Rattle.std.proofs.lemmas.List.{length-map}
 use Rattle.std.proofs.lemmas.Option.{slice_get-map, get_or_from_slice_get}
 use Rattle.pals_base.specs.Steps.{upwards}
 use Rattle.pals_base.proofs.Upwards.{map_upwards_more}
-use Rattle.timed_laws.proofs.Lists.{upwards_at}
+use Rattle.run_laws.proofs.Lists.{upwards_at}
 
 length-upwards : (from n : ℕ) → length (upwards from n) ≡ n
 length-upwards from zero = refl

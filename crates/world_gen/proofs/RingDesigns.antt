@@ -22,7 +22,7 @@ use Rattle.pals_model.specs.Composition.{comp, state}
 use Rattle.pals_model.specs.Rules.{IsComponent, IsSource, IsTarget, IsLink, IsFeed, IsTap, IsApart, AgreeInKind, LinkPrecedes, FeedPrecedes, greatest_rate, IsDesign}
 use Rattle.pals_model.proofs.Lookups.{at_element}
 use Rattle.pals_model.proofs.Words.{all_pass}
-use Rattle.timed_laws.proofs.Lists.{upwards_at}
+use Rattle.run_laws.proofs.Lists.{upwards_at}
 use Rattle.world_gen.specs.Rings.{ring_rate, ring_path, rate_by, ring_adaptor, before_in, ring_component, ring_link, ring_bounds, ring}
 use Rattle.world_gen.specs.proof.RingLaws.{RingsAreDesigns, RingsAddUp}
 use Rattle.world_gen.proofs.Numbered.{length-numbered, numbered_get, numbered_all, numbered_pairs}

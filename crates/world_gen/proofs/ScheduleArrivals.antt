@@ -13,17 +13,17 @@ use Rattle.bus_machine.specs.NodeEvents.{slot_at}
 use Rattle.bus_machine.specs.States.{Run, BusState, node_at, flight_at, link_at}
 use Rattle.bus_machine.specs.Stops.{rounds_sent_on}
 use Rattle.bus_machine.specs.proof.Laws.{IsRunOf}
-use Rattle.timed_laws.specs.Worlds.{World, since_at, ready_at, sendings, flight_since, world_after}
-use Rattle.timed_laws.specs.Faults.{fault_of}
+use Rattle.run_laws.specs.Worlds.{World, since_at, ready_at, sendings, flight_since, world_after}
+use Rattle.run_laws.specs.Faults.{fault_of}
 use Rattle.bus_machine.proofs.States.{node_set, node_stays}
-use Rattle.timed_laws.specs.proof.Kept.{copies, one_if}
+use Rattle.run_laws.specs.proof.Kept.{copies, one_if}
 use Rattle.world_gen.specs.proof.Schedules.{send_time, arrive_time, which}
-use Rattle.timed_laws.proofs.Lists.{count_without, found_passes}
-use Rattle.timed_laws.proofs.Links.{rule_of, under_way, counts_in_flight, one_of_true, one_of_false}
-use Rattle.timed_laws.proofs.Faults.{ArrivesInTime, arrives_in_time}
+use Rattle.run_laws.proofs.Lists.{count_without, found_passes}
+use Rattle.run_laws.proofs.Links.{rule_of, under_way, counts_in_flight, one_of_true, one_of_false}
+use Rattle.run_laws.proofs.Faults.{ArrivesInTime, arrives_in_time}
 use Rattle.world_gen.proofs.NoFaults.{arrival_is_fine}
-use Rattle.timed_laws.proofs.Arrivals.{the_oldest}
-use Rattle.timed_laws.proofs.Arrivals as arrive
+use Rattle.run_laws.proofs.Arrivals.{the_oldest}
+use Rattle.run_laws.proofs.Arrivals as arrive
 use Rattle.world_gen.proofs.ScheduleTimes.{which_is, sends_rise}
 use Rattle.world_gen.proofs.Follows.{NodeFollows, LinkFollows, Follows, nodes_follow, follows_put}
 

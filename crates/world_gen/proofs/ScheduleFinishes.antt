@@ -16,15 +16,15 @@ use Rattle.bus_machine.specs.Nodes.{NodeState, round_of}
 use Rattle.bus_machine.specs.NodeEvents.{running_step, may_send}
 use Rattle.bus_machine.specs.States.{Run, node_at, with_node}
 use Rattle.bus_machine.specs.proof.Laws.{IsRunOf}
-use Rattle.timed_laws.specs.Worlds.{World, since_at, ready_at, sendings, moved, world_after}
-use Rattle.timed_laws.specs.Faults.{fault_of}
+use Rattle.run_laws.specs.Worlds.{World, since_at, ready_at, sendings, moved, world_after}
+use Rattle.run_laws.specs.Faults.{fault_of}
 use Rattle.bus_machine.proofs.States.{node_set, node_stays}
 use Rattle.world_gen.specs.proof.Schedules.{step_time, finish_time, send_time, which, step_count}
-use Rattle.timed_laws.proofs.Faults.{FinishesInTime, finishes_in_time}
+use Rattle.run_laws.proofs.Faults.{FinishesInTime, finishes_in_time}
 use Rattle.world_gen.proofs.NoFaults.{finish_is_fine}
-use Rattle.timed_laws.proofs.Changes.{moved_here, moved_other}
-use Rattle.timed_laws.proofs.Finishes.{Ends, goes_on, holds, waits_next, is_done, not_running}
-use Rattle.timed_laws.proofs.Finishes as finish
+use Rattle.run_laws.proofs.Changes.{moved_here, moved_other}
+use Rattle.run_laws.proofs.Finishes.{Ends, goes_on, holds, waits_next, is_done, not_running}
+use Rattle.run_laws.proofs.Finishes as finish
 use Rattle.world_gen.proofs.ScheduleTimes.{Made, which_is, which_next, made_next, step_is, finishes_rise}
 use Rattle.world_gen.proofs.Follows.{begun_by, ended_by, NodeFollows, Follows, follows_again, follows_put, links_follow}
 

@@ -13,8 +13,8 @@ use Rattle.bus_machine.specs.States.{Run, link_at}
 use Rattle.bus_machine.specs.proof.Laws.{IsRunOf}
 use Rattle.world_gen.specs.proof.Laws.{MomentsExist, MomentsAreOne}
 use Rattle.world_gen.specs.proof.Schedules.{step_time, finish_time, send_time, arrive_time, which, event_of, all_of, step_count, begins, starts_at, finishes_at, sends_at, arrivals_at, finishes, earlier_finishes, present_finishes, events_at, AreMoments}
-use Rattle.timed_laws.proofs.Times.{alarm_more}
-use Rattle.timed_laws.proofs.Links.{rule_of}
+use Rattle.run_laws.proofs.WorldTimes.{alarm_more}
+use Rattle.run_laws.proofs.Links.{rule_of}
 use Rattle.world_gen.proofs.ScheduleTimes.{fit, whole, which_is, step_at, least_step}
 
 -- ---- behind the last round nothing comes

@@ -13,13 +13,13 @@ use Rattle.bus_machine.specs.States.{Run, node_at, flight_at, link_at}
 use Rattle.bus_machine.specs.Stops.{sent_rounds, rounds_sent_on}
 use Rattle.bus_machine.specs.Agreement.{PhaseAgrees}
 use Rattle.bus_machine.specs.proof.Laws.{IsRunOf}
-use Rattle.timed_laws.specs.Worlds.{World, opening_world, since_at, ready_at, sendings, world_after}
-use Rattle.timed_laws.specs.EventLists.{world_left}
+use Rattle.run_laws.specs.Worlds.{World, opening_world, since_at, ready_at, sendings, world_after}
+use Rattle.run_laws.specs.EventLists.{world_left}
 use Rattle.world_gen.specs.proof.Laws.{SchedulesAreWhole}
 use Rattle.world_gen.specs.proof.Schedules.{step_time, finish_time, send_time, arrive_time, which, all_of, step_count, begins, starts_at, finishes_at, sends_at, arrivals_at, finishes, events_at, AreMoments, schedule_at}
-use Rattle.timed_laws.proofs.Nodes.{phase_agrees, rounds_at_most}
-use Rattle.timed_laws.proofs.Links.{rule_of}
-use Rattle.timed_laws.proofs.Openings.{opening_keeps_time, opens_at, zero_at, nothing_sent, nothing_flies, not_running}
+use Rattle.run_laws.proofs.Nodes.{phase_agrees, rounds_at_most}
+use Rattle.run_laws.proofs.Links.{rule_of}
+use Rattle.run_laws.proofs.Openings.{opening_keeps_time, opens_at, zero_at, nothing_sent, nothing_flies, not_running}
 use Rattle.world_gen.proofs.ScheduleTimes.{Made, which_none, some_rate, some_step, least_step}
 use Rattle.world_gen.proofs.Follows.{begun_by, ended_by, NodeFollows, Follows, Runs, runs_none, runs_on, runs_all, runs_event, bump, bump_done, bump_left, bump_other}
 use Rattle.world_gen.proofs.ScheduleQuiet.{is_quiet, follows_same, none_starts, none_ends, none_sends, none_arrives}

@@ -20,16 +20,16 @@ use Rattle.bus_machine.specs.States.{Run, node_at, flight_at, link_at}
 use Rattle.bus_machine.specs.Stops.{sent_rounds, rounds_sent_on}
 use Rattle.bus_machine.specs.Agreement.{PhaseAgrees}
 use Rattle.bus_machine.specs.proof.Laws.{IsRunOf}
-use Rattle.timed_laws.specs.Deadlines.{last_before, node_deadline, message_deadline}
-use Rattle.timed_laws.specs.Worlds.{World, reading_at, since_at, ready_at, sendings, world_after}
-use Rattle.timed_laws.specs.Faults.{fault_of}
+use Rattle.run_laws.specs.Deadlines.{last_before, node_deadline, message_deadline}
+use Rattle.run_laws.specs.Worlds.{World, reading_at, since_at, ready_at, sendings, world_after}
+use Rattle.run_laws.specs.Faults.{fault_of}
 use Rattle.bus_machine.proofs.Nodes.{MaySend, may_send_of}
-use Rattle.timed_laws.specs.proof.Kept.{IsInTime, copies}
+use Rattle.run_laws.specs.proof.Kept.{IsInTime, copies}
 use Rattle.world_gen.specs.proof.Schedules.{step_time, finish_time, send_time, arrive_time, step_count, events_at}
-use Rattle.timed_laws.proofs.Nodes.{may_is, component_is, phase_agrees, rounds_at_most, both_in_time, sends_in_time, phase_last, send_last, deadline_is}
-use Rattle.timed_laws.proofs.Links.{rule_of, one_of_true, under_way, sent_most}
+use Rattle.run_laws.proofs.Nodes.{may_is, component_is, phase_agrees, rounds_at_most, both_in_time, sends_in_time, phase_last, send_last, deadline_is}
+use Rattle.run_laws.proofs.Links.{rule_of, one_of_true, under_way, sent_most}
 use Rattle.world_gen.proofs.NoFaults.{pass_is_fine, replicate_at}
-use Rattle.timed_laws.proofs.Passes.{passes_in_time, pass_keeps_time}
+use Rattle.run_laws.proofs.Passes.{passes_in_time, pass_keeps_time}
 use Rattle.world_gen.proofs.ScheduleTimes.{Made, made_later, which_none, step_is, some_rate}
 use Rattle.world_gen.proofs.ScheduleQuiet.{IsQuiet, is_quiet}
 use Rattle.world_gen.proofs.Follows.{begun_by, ended_by, NodeFollows, Follows}

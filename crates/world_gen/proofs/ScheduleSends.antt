@@ -20,19 +20,19 @@ use Rattle.bus_machine.specs.States.{Run, node_at, flight_at, link_at}
 use Rattle.bus_machine.specs.Stops.{sent_rounds, rounds_sent_on}
 use Rattle.bus_machine.specs.Agreement.{PhaseAgrees}
 use Rattle.bus_machine.specs.proof.Laws.{IsRunOf}
-use Rattle.timed_laws.specs.Worlds.{World, since_at, ready_at, sendings, moved, is_held, world_after}
-use Rattle.timed_laws.specs.Faults.{fault_of}
+use Rattle.run_laws.specs.Worlds.{World, since_at, ready_at, sendings, moved, is_held, world_after}
+use Rattle.run_laws.specs.Faults.{fault_of}
 use Rattle.bus_machine.proofs.States.{node_set, node_stays}
-use Rattle.timed_laws.specs.proof.Kept.{copies, one_if}
+use Rattle.run_laws.specs.proof.Kept.{copies, one_if}
 use Rattle.world_gen.specs.proof.Schedules.{step_time, finish_time, send_time, arrive_time, which, step_count}
-use Rattle.timed_laws.proofs.Lists.{count_more}
-use Rattle.timed_laws.proofs.Nodes.{fits_at, may_be, phase_agrees, rounds_at_most}
-use Rattle.timed_laws.proofs.Links.{one_of_true}
-use Rattle.timed_laws.proofs.Faults.{SendsInTime, sends_in_time}
+use Rattle.run_laws.proofs.Lists.{count_more}
+use Rattle.run_laws.proofs.Nodes.{fits_at, may_be, phase_agrees, rounds_at_most}
+use Rattle.run_laws.proofs.Links.{one_of_true}
+use Rattle.run_laws.proofs.Faults.{SendsInTime, sends_in_time}
 use Rattle.world_gen.proofs.NoFaults.{send_is_fine}
-use Rattle.timed_laws.proofs.Changes.{moved_here, moved_other}
-use Rattle.timed_laws.proofs.Sends.{runs_before, one_is}
-use Rattle.timed_laws.proofs.Sends as send
+use Rattle.run_laws.proofs.Changes.{moved_here, moved_other}
+use Rattle.run_laws.proofs.Sends.{runs_before, one_is}
+use Rattle.run_laws.proofs.Sends as send
 use Rattle.world_gen.proofs.ScheduleTimes.{Made, which_is, which_next, made_next, step_is, sends_rise, send_after, some_rate}
 use Rattle.world_gen.proofs.Follows.{begun_by, ended_by, NodeFollows, LinkFollows, Follows, follows_again, follows_put}
 

@@ -8,7 +8,7 @@ use Rattle.pals_model.specs.declared.rounds.Env.{Env}
 use Rattle.pals_model.specs.Rules.{IsDesign}
 use Rattle.pals_runs.specs.declared.events.Event.{Event}
 use Rattle.pals_runs.specs.declared.events.Event.TheVariants as event
-use Rattle.timed_laws.specs.Worlds.{world_run}
+use Rattle.run_laws.specs.Worlds.{world_run}
 use Rattle.world_gen.specs.declared.courses.Course.{Course}
 use Rattle.world_gen.specs.proof.Laws.{IsWhole}
 use Rattle.world_gen.specs.proof.Schedules.{events_at, AreMoments, schedule_at, IsScheduleOf}

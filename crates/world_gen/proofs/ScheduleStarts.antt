@@ -20,15 +20,15 @@ use Rattle.bus_machine.specs.States.{Run, node_at, with_node}
 use Rattle.bus_machine.specs.Stops.{sent_rounds}
 use Rattle.bus_machine.specs.Agreement.{PhaseAgrees}
 use Rattle.bus_machine.specs.proof.Laws.{IsRunOf}
-use Rattle.timed_laws.specs.Worlds.{World, reading_at, since_at, ready_at, sendings, world_after}
-use Rattle.timed_laws.specs.Faults.{fault_of}
+use Rattle.run_laws.specs.Worlds.{World, reading_at, since_at, ready_at, sendings, world_after}
+use Rattle.run_laws.specs.Faults.{fault_of}
 use Rattle.bus_machine.proofs.States.{node_set, node_stays}
 use Rattle.world_gen.specs.proof.Schedules.{step_time, finish_time, send_time, which, step_count, begins}
-use Rattle.timed_laws.proofs.Nodes.{fits_at, phase_agrees, rounds_at_most}
-use Rattle.timed_laws.proofs.Faults.{StartsInTime, starts_in_time, StepsInTime, steps_in_time}
+use Rattle.run_laws.proofs.Nodes.{fits_at, phase_agrees, rounds_at_most}
+use Rattle.run_laws.proofs.Faults.{StartsInTime, starts_in_time, StepsInTime, steps_in_time}
 use Rattle.world_gen.proofs.NoFaults.{start_is_fine, step_is_fine}
-use Rattle.timed_laws.proofs.Starts as start
-use Rattle.timed_laws.proofs.StepsOn as on
+use Rattle.run_laws.proofs.Starts as start
+use Rattle.run_laws.proofs.StepsOn as on
 use Rattle.world_gen.proofs.ScheduleTimes.{Made, which_is, which_next, made_next, step_is, steps_rise, next_step_after, send_before, some_rate}
 use Rattle.world_gen.proofs.Follows.{begun_by, ended_by, NodeFollows, Follows, follows_again, follows_put, links_follow}
 

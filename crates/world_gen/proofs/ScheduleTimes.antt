@@ -11,8 +11,8 @@ use Rattle.bus_machine.specs.States.{Run}
 use Rattle.bus_machine.specs.proof.Laws.{IsRunOf}
 use Rattle.bus_machine.proofs.Lists.{none_found}
 use Rattle.world_gen.specs.proof.Schedules.{step_time, finish_time, send_time, which}
-use Rattle.timed_laws.proofs.Lists.{upwards_at}
-use Rattle.timed_laws.proofs.Nodes.{FitsAt, fits_at, component_is}
+use Rattle.run_laws.proofs.Lists.{upwards_at}
+use Rattle.run_laws.proofs.Nodes.{FitsAt, fits_at, component_is}
 
 -- ---- which one
 pub upwards_is : (from n k x : ℕ) → slice_get (upwards from n) k ≡ Some x → (x ≡ from + k) × (k < n)

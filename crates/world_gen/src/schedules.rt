@@ -3,7 +3,7 @@
 ghost use Rattle.std.specs.Prelude.{◌≡◌, ◌≤◌, ◌++◌, All, IfOk, OnOk, replicate};
 ghost use Rattle.pals_base.specs.declared.limits.TheConstants.{ROUNDS};
 ghost use Rattle.pals_model.specs.declared.rounds.Env.{Env};
-ghost use Rattle.timed_laws.specs.Worlds.{world_run};
+ghost use Rattle.run_laws.specs.Worlds.{world_run};
 ghost use Rattle.world_gen.specs.proof.Schedules.{IsScheduleOf};
 ghost use Rattle.world_gen.specs.proof.Laws.{IsWhole};
 ghost use Rattle.world_gen.specs.proof.Courses.{IsCourse, moment_events};

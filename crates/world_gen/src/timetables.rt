@@ -1,7 +1,7 @@
 //! The courses of a design, and what they do moment by moment. All times are nanoseconds.
 ghost use Rattle.std.specs.Prelude.{◌≡◌, ◌<◌, ◌≤◌, ◌++◌, length, All, IfOk, OnOk};
 ghost use Rattle.pals_base.specs.declared.limits.TheConstants.{ROUNDS};
-ghost use Rattle.timed_laws.specs.Deadlines.{lesser};
+ghost use Rattle.run_laws.specs.Deadlines.{lesser};
 ghost use Rattle.world_gen.specs.proof.Schedules.{send_time};
 ghost use Rattle.world_gen.specs.proof.Courses.{IsCourse, begin_course, finish_course, send_course, arrive_course, begin_courses, finish_courses, send_courses, arrive_courses, timetable, next_moment, events_of};
 

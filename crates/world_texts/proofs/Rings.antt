@@ -24,7 +24,7 @@ use Rattle.bus_machine.specs.Nodes.{NodeState}
 use Rattle.bus_machine.specs.States.{Run, node_at}
 use Rattle.bus_machine.specs.Agreement.{PhaseAgrees, Agrees}
 use Rattle.pals_bus.specs.Values.{BusValue}
-use Rattle.timed_laws.specs.Worlds.{World, world_run}
+use Rattle.run_laws.specs.Worlds.{World, world_run}
 use Rattle.timed_world.specs.proof.Values.{WorldValue, opening_value}
 use Rattle.timed_world.specs.proof.EventLists.{Leads}
 use Rattle.design_codes.specs.Causes.{length_of, IsFirstTooLong}

@@ -16,9 +16,9 @@ use Rattle.bus_machine.specs.Machine.{Start, Step, Finish, Send, Arrive, Drop, R
 use Rattle.bus_machine.specs.proof.Laws.{IsRunOf}
 use Rattle.pals_bus.specs.Values.{BusValue}
 use Rattle.pals_bus.specs.Loose.{IsNamedIn}
-use Rattle.timed_laws.specs.Worlds.{World, reading_at}
-use Rattle.timed_laws.specs.Faults.{fault_of, event_fault, is_named, IsWithin}
-use Rattle.timed_laws.specs.EventLists.{world_left}
+use Rattle.run_laws.specs.Worlds.{World, reading_at}
+use Rattle.run_laws.specs.Faults.{fault_of, event_fault, is_named, IsWithin}
+use Rattle.run_laws.specs.EventLists.{world_left}
 use Rattle.loose_world.specs.proof.Finished.{finished_lines}
 use Rattle.loose_world.specs.Worlds.{InTurn, told_by}
 use Rattle.loose_world.specs.proof.Histories.{Undergoes}

@@ -7,7 +7,7 @@ use Rattle.pals_model.specs.RoundTexts.{text_of}
 use Rattle.pals_runs.specs.declared.journal.Phase.TheVariants.{Done}
 use Rattle.pals_runs.specs.Journal.{spaced}
 use Rattle.bus_machine.specs.States.{node_at}
-use Rattle.timed_laws.specs.Worlds.{world_run}
+use Rattle.run_laws.specs.Worlds.{world_run}
 use Rattle.pals_bus.specs.Values.{BusValue}
 use Rattle.world_gen.specs.Rings.{ring, ring_sum}
 

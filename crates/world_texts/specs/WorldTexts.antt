@@ -4,9 +4,9 @@ use Rattle.pals_runs.specs.declared.events.Event.{Event}
 use Rattle.pals_runs.specs.declared.events.EventFault.{EventFault}
 use Rattle.bus_machine.specs.States.{Run}
 use Rattle.bus_machine.specs.WorldTexts.{worldtext}
-use Rattle.timed_laws.specs.Worlds.{opening_world}
-use Rattle.timed_laws.specs.Faults.{fault_of, IsWithin}
-use Rattle.timed_laws.specs.EventLists.{world_left}
+use Rattle.run_laws.specs.Worlds.{opening_world}
+use Rattle.run_laws.specs.Faults.{fault_of, IsWithin}
+use Rattle.run_laws.specs.EventLists.{world_left}
 
 -- ---- from the opening of a run on
 -- the events are within the bounds, and the text is that of their world

@@ -4,7 +4,7 @@ ghost use Rattle.std.specs.Prelude.{◌≡◌, ◌≤◌, ◌++◌, length, IfOk
 ghost use Rattle.pals_base.specs.declared.limits.TheConstants.{ROUNDS, LIST_ITEMS};
 ghost use Rattle.pals_model.specs.RoundTexts.{text_of};
 ghost use Rattle.pals_bus.specs.proof.Values.{AreCodes};
-ghost use Rattle.timed_laws.specs.Worlds.{world_run};
+ghost use Rattle.run_laws.specs.Worlds.{world_run};
 ghost use Rattle.loose_world.specs.proof.Finished.{finished_lines};
 ghost use Rattle.loose_world.specs.Sent.{AreOutLinks};
 ghost use Rattle.world_texts.specs.proof.WorldTexts.{IsOpening, TellsEvents, TellsWorld};

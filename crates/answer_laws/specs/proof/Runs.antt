@@ -10,8 +10,8 @@ use Rattle.pals_runs.specs.declared.verdicts.Verdict.TheVariants.{Sound}
 use Rattle.design_codes.specs.Causes.{AreShort}
 use Rattle.scenario_json.specs.declared.scenario.Scenario.{Scenario}
 use Rattle.bus_machine.specs.States.{Run}
-use Rattle.trace_laws.specs.Reports.{lines_of}
-use Rattle.trace_laws.specs.Traces.{verdict}
+use Rattle.run_laws.specs.Reports.{lines_of}
+use Rattle.run_laws.specs.Traces.{verdict}
 use Rattle.run_laws.specs.proof.InTime.{InTime, AllPicked}
 use Rattle.run_laws.specs.Meetings.{DelaysFit}
 use Rattle.run_texts.specs.RunTexts.{journal_text}

@@ -3,7 +3,7 @@ use Rattle.std.specs.Prelude.{◌≡◌, ℕ, ◌≤◌, List, [], ◌∷◌, �
 use Rattle.std.specs.Option.{unwrap_or}
 use Rattle.pals_runs.specs.declared.journal.JournalEntry.{JournalEntry}
 use Rattle.bus_machine.specs.States.{Run}
-use Rattle.trace_laws.specs.TraceLines.{Timed, timed}
+use Rattle.run_laws.specs.TraceLines.{Timed, timed}
 use Rattle.run_laws.specs.Shown.{latest}
 use Rattle.run_laws.specs.Runs.{target_of}
 use Rattle.run_laws.specs.proof.Each.{InRuns, InMeetings}

@@ -13,7 +13,7 @@ use Rattle.bus_machine.specs.States.{Run, BusState, node_at, flight_at}
 use Rattle.bus_machine.specs.Machine.{BusEvent, Arrive, IsStep}
 use Rattle.bus_machine.specs.Replay.{Replays}
 use Rattle.bus_machine.specs.Targets.{target}
-use Rattle.trace_laws.specs.TraceRules.{is_due}
+use Rattle.run_laws.specs.TraceRules.{is_due}
 use Rattle.run_laws.specs.Turns.{upcoming}
 use Rattle.pals_clock.specs.declared.clock.Clocks.{Clocks}
 use Rattle.pals_clock.specs.declared.clock.Clocks.TheVariants.{Lists}

@@ -8,8 +8,8 @@ use Rattle.pals_runs.specs.declared.journal.JournalEntry.{JournalEntry}
 use Rattle.pals_runs.specs.declared.verdicts.Verdict.TheVariants.{Sound}
 use Rattle.pals_runs.specs.Journal.{entry_line}
 use Rattle.bus_machine.specs.States.{Run, BusState, finished_by_all}
-use Rattle.trace_laws.specs.Reports.{lines_of}
-use Rattle.trace_laws.specs.Traces.{verdict}
+use Rattle.run_laws.specs.Reports.{lines_of}
+use Rattle.run_laws.specs.Traces.{verdict}
 use Rattle.run_laws.specs.proof.Each.{InRuns}
 use Rattle.run_laws.specs.Meetings.{AllDone}
 use Rattle.run_laws.specs.Runs.{clock_at}

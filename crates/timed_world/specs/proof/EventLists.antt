@@ -2,8 +2,8 @@
 use Rattle.std.specs.Prelude.{◌≡◌, ℕ, ◌≤◌, List, length, take, Some, slice_get}
 use Rattle.pals_runs.specs.declared.events.Event.{Event}
 use Rattle.pals_runs.specs.declared.events.EventFault.{EventFault}
-use Rattle.timed_laws.specs.Faults.{fault_of, IsWithin}
-use Rattle.timed_laws.specs.EventLists.{world_left}
+use Rattle.run_laws.specs.Faults.{fault_of, IsWithin}
+use Rattle.run_laws.specs.EventLists.{world_left}
 use Rattle.timed_world.specs.proof.Values.{WorldValue, world_of}
 use Rattle.timed_world.specs.declared.event_list.WorldEnd.{WorldEnd}
 use Rattle.timed_world.specs.declared.event_list.WorldEnd.TheVariants as end

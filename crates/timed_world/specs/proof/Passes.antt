@@ -3,9 +3,9 @@ use Rattle.std.specs.Prelude.{ℕ, if◌then◌else◌, Option, Some, None}
 use Rattle.pals_runs.specs.declared.events.EventFault.{EventFault}
 use Rattle.bus_machine.specs.LinkEvents.{is_in_flight}
 use Rattle.bus_machine.specs.States.{Run, flight_at}
-use Rattle.timed_laws.specs.Worlds.{World}
-use Rattle.timed_laws.specs.Deadlines.{message_deadline}
-use Rattle.timed_laws.specs.Faults.{past}
+use Rattle.run_laws.specs.Worlds.{World}
+use Rattle.run_laws.specs.Deadlines.{message_deadline}
+use Rattle.run_laws.specs.Faults.{past}
 use Rattle.pals_runs.specs.declared.events.Which.TheVariants as which
 
 -- it is in flight beyond its last allowed time

@@ -11,9 +11,9 @@ use Rattle.bus_machine.specs.declared.plan.Plan.{Plan}
 use Rattle.bus_machine.specs.Nodes.{finished_steps}
 use Rattle.bus_machine.specs.NodeEvents.{is_waiting, next_step, running_step}
 use Rattle.bus_machine.specs.States.{node_at}
-use Rattle.timed_laws.specs.Worlds.{World, reading_at, since_at, ready_at}
-use Rattle.timed_laws.specs.Deadlines.{last_before, lesser}
-use Rattle.timed_laws.specs.Faults.{found_if, or_else}
+use Rattle.run_laws.specs.Worlds.{World, reading_at, since_at, ready_at}
+use Rattle.run_laws.specs.Deadlines.{last_before, lesser}
+use Rattle.run_laws.specs.Faults.{found_if, or_else}
 use Rattle.timed_world.specs.declared.standing.Standing.{Standing}
 use Rattle.pals_runs.specs.declared.events.EventFault.TheVariants as fault
 use Rattle.pals_runs.specs.declared.events.Which.TheVariants as which

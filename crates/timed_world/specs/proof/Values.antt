@@ -10,8 +10,8 @@ use Rattle.bus_machine.specs.Machine.{BusEvent}
 use Rattle.bus_machine.specs.proof.Laws.{IsRunOf}
 use Rattle.pals_bus.specs.Values.{BusValue, Happens}
 use Rattle.pals_bus.specs.proof.Values.{opening_bus}
-use Rattle.timed_laws.specs.Worlds.{World, world_run, zeros, bus_event, world_after}
-use Rattle.timed_laws.specs.proof.Kept.{KeepsTime}
+use Rattle.run_laws.specs.Worlds.{World, world_run, zeros, bus_event, world_after}
+use Rattle.run_laws.specs.proof.Kept.{KeepsTime}
 
 -- those of nodes in order, as in the definition of worlds
 pub record WorldValue : Type 0 where

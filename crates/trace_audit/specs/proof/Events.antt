@@ -3,8 +3,8 @@ use Rattle.std.specs.Prelude.{◌≡◌, ℕ, true, false, if◌then◌else◌, 
 use Rattle.pals_base.specs.declared.values.NodeNo.{NodeNo}
 use Rattle.pals_runs.specs.declared.journal.JournalEntry.{JournalEntry}
 use Rattle.bus_machine.specs.Machine.{BusEvent, Start}
-use Rattle.trace_laws.specs.TraceLines.{timed, event_of}
-use Rattle.trace_laws.specs.TraceRules.{alarm_at, fits, has_due, is_before, too_early, waits}
+use Rattle.run_laws.specs.TraceLines.{timed, event_of}
+use Rattle.run_laws.specs.TraceRules.{alarm_at, fits, has_due, is_before, too_early, waits}
 use Rattle.pals_bus.specs.Values.{BusValue, Happens}
 use Rattle.trace_audit.specs.proof.Clocks.{read_at}
 use Rattle.pals_runs.specs.declared.verdicts.TraceRule.TheVariants as rule

@@ -4,7 +4,7 @@ use Rattle.trace_audit.specs.declared.forms.NodeForm.{NodeForm}
 use Rattle.trace_audit.specs.declared.forms.LinkForm.{LinkForm}
 use Rattle.trace_audit.specs.declared.forms.Form.{Form}
 use Rattle.trace_audit.specs.declared.forms.Form.TheVariants.{OfNode, OfLink}
-use Rattle.trace_laws.specs.LineForms as line
+use Rattle.run_laws.specs.LineForms as line
 use Rattle.trace_audit.specs.declared.forms.NodeForm.TheVariants as node
 use Rattle.trace_audit.specs.declared.forms.LinkForm.TheVariants as link
 

@@ -1,9 +1,9 @@
 -- What the code keeps of an audit.
 use Rattle.std.specs.Prelude.{◌≡◌, ◌<◌, true, false, length, Option, option_map, IfSome}
 use Rattle.pals_runs.specs.declared.journal.JournalEntry.{JournalEntry}
-use Rattle.trace_laws.specs.proof.EntryLines.{IsEntryIn}
-use Rattle.trace_laws.specs.TraceLines.{has_reading, timed}
-use Rattle.trace_laws.specs.Traces.{Audit, audit_after}
+use Rattle.run_laws.specs.proof.EntryLines.{IsEntryIn}
+use Rattle.run_laws.specs.TraceLines.{has_reading, timed}
+use Rattle.run_laws.specs.Traces.{Audit, audit_after}
 use Rattle.trace_audit.specs.declared.clocks.ClockReading.{ClockReading}
 use Rattle.trace_audit.specs.declared.replay.Replay.{Replay}
 use Rattle.trace_audit.specs.proof.Clocks.{timed_of}

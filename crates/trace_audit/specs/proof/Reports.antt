@@ -2,7 +2,7 @@
 use Rattle.std.specs.Prelude.{◌≡◌, ℕ, ◌%◌, nat_eq, if◌then◌else◌, List, take, Some, None}
 use Rattle.pals_model.specs.declared.design.DesignParts.{DesignParts}
 use Rattle.pals_model.specs.declared.rounds.Env.{Env}
-use Rattle.trace_laws.specs.Traces.{report_size, wrong_row}
+use Rattle.run_laws.specs.Traces.{report_size, wrong_row}
 use Rattle.trace_audit.specs.declared.report.ReportEnd.{ReportEnd}
 use Rattle.trace_audit.specs.declared.report.ReportEnd.TheVariants.{Whole, Wrong}
 

@@ -5,7 +5,7 @@ use Rattle.pals_model.specs.declared.rounds.Env.{Env}
 use Rattle.pals_model.specs.RoundTexts.{composed_lines}
 use Rattle.pals_report.specs.proof.TapPlaces.{tap_places}
 use Rattle.sync_product.specs.proof.State.{state_after}
-use Rattle.trace_laws.specs.Traces.{row_size}
+use Rattle.run_laws.specs.Traces.{row_size}
 use Rattle.trace_audit.specs.declared.rows.Rows.{Rows}
 use Rattle.trace_audit.specs.proof.Lines.{HasLeft}
 

@@ -1,7 +1,7 @@
 -- The words of a line that are not read yet.
 use Rattle.std.specs.Prelude.{ℕ, nat_eq, Bool, List, [], ◌∷◌, Option, Some, None}
 use denote.Ref.{Bor}
-use Rattle.trace_laws.specs.LineForms.{words_of}
+use Rattle.run_laws.specs.LineForms.{words_of}
 
 abbrev pub words_in : Option (Bor (List ℕ)) → List (List ℕ)
 words_in None = []

@@ -7,7 +7,7 @@ use Rattle.pals_base.specs.Steps.{upwards}
 use Rattle.pals_model.specs.declared.design.DesignParts.{DesignParts}
 use Rattle.pals_runs.specs.declared.events.Event.{Event}
 use Rattle.bus_machine.specs.Plans.{plan_of}
-use Rattle.timed_laws.specs.Deadlines.{lesser}
+use Rattle.run_laws.specs.Deadlines.{lesser}
 use Rattle.world_gen.specs.declared.courses.Deed.{Deed}
 use Rattle.world_gen.specs.declared.courses.Deed.TheVariants.{Begin, Finish, Send, Arrive}
 use Rattle.world_gen.specs.declared.courses.Course.{Course}

@@ -5,9 +5,9 @@ use Rattle.pals_runs.specs.declared.journal.Phase.TheVariants.{Done}
 use Rattle.pals_runs.specs.declared.events.Event.{Event}
 use Rattle.bus_machine.specs.States.{Run, node_at}
 use Rattle.bus_machine.specs.proof.Laws.{IsRunOf}
-use Rattle.timed_laws.specs.Worlds.{opening_world}
-use Rattle.timed_laws.specs.Faults.{IsWithin}
-use Rattle.timed_laws.specs.EventLists.{world_left}
+use Rattle.run_laws.specs.Worlds.{opening_world}
+use Rattle.run_laws.specs.Faults.{IsWithin}
+use Rattle.run_laws.specs.EventLists.{world_left}
 use Rattle.world_gen.specs.proof.Schedules.{AreMoments, schedule_at}
 
 -- a schedule is within the bounds, and ends with all rounds finished and sent

@@ -8,7 +8,7 @@ use Rattle.pals_runs.specs.declared.journal.Phase.TheVariants.{Done}
 use Rattle.bus_machine.specs.States.{Run, BusState, node_at}
 use Rattle.bus_machine.specs.Stops.{rounds_sent_on}
 use Rattle.bus_machine.specs.Agreement.{Agrees}
-use Rattle.timed_laws.specs.Worlds.{world_run}
+use Rattle.run_laws.specs.Worlds.{world_run}
 use Rattle.world_gen.specs.Rings.{ring, ring_number, ring_sum}
 
 -- each ring of two components or more is a design

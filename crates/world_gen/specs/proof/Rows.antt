@@ -7,9 +7,9 @@ use Rattle.pals_model.specs.Inputs.{no_env}
 use Rattle.pals_runs.specs.declared.events.Event.{Event}
 use Rattle.pals_runs.specs.declared.events.Event.TheVariants.{Pass, Start, Step, Finish, Send, Arrive}
 use Rattle.bus_machine.specs.States.{Run}
-use Rattle.timed_laws.specs.Worlds.{world_run}
+use Rattle.run_laws.specs.Worlds.{world_run}
 use Rattle.bus_machine.specs.proof.Rows.{a, b, to_a, to_b}
-use Rattle.timed_laws.specs.proof.WorldRows.{counters_world, refused}
+use Rattle.run_laws.specs.proof.WorldRows.{counters_world, refused}
 use Rattle.world_gen.specs.proof.Schedules.{schedule_at}
 use Rattle.pals_runs.specs.declared.events.EventFault.TheVariants as fault
 use Rattle.pals_runs.specs.declared.events.Which.TheVariants as which

@@ -4,7 +4,7 @@ use Rattle.pals_model.specs.RoundTexts.{text_of}
 use Rattle.pals_runs.specs.declared.events.Event.{Event}
 use Rattle.bus_machine.specs.States.{Run}
 use Rattle.pals_bus.specs.proof.Values.{opening_bus}
-use Rattle.timed_laws.specs.Worlds.{opening_world}
+use Rattle.run_laws.specs.Worlds.{opening_world}
 use Rattle.loose_world.specs.Worlds.{InTurn}
 use Rattle.loose_world.specs.proof.Histories.{Undergoes}
 use Rattle.timed_world.specs.declared.event_list.WorldEnd.{WorldEnd}

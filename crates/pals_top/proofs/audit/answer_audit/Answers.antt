@@ -1,5 +1,5 @@
 use Rattle.std.proofs.Common.{rules, ◌≡◌}
-use Rattle.trace_laws.specs.Traces.{verdict}
+use Rattle.run_laws.specs.Traces.{verdict}
 use Rattle.pals_top.specs.Loose.{run_of}
 use Rattle.pals_top.proofs.Audits.{audited}
 use Rattle.pals_top.proofs.audit.answer_audit.Goals as goal

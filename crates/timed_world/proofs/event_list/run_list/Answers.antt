@@ -1,7 +1,7 @@
 use Rattle.std.proofs.Common.{◌≡◌, List, [], ◌∷◌, ◌++◌, take, None, ap, ◌∙◌, sym, subst}
 use Rattle.std.proofs.lemmas.List.{take_more}
 use Rattle.pals_runs.specs.declared.events.Event.{Event}
-use Rattle.timed_laws.specs.Faults.{fault_of}
+use Rattle.run_laws.specs.Faults.{fault_of}
 use Rattle.timed_world.specs.proof.Values.{world_of}
 use Rattle.timed_world.specs.proof.EventLists.{Leads}
 use Rattle.timed_world.proofs.Leads.{leads_more}

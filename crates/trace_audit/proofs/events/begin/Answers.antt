@@ -2,7 +2,7 @@ use Rattle.std.proofs.Common.{◌≡◌, Some, None, cond, true, sym, ap, ◌∙
 use Rattle.pals_runs.specs.declared.verdicts.TraceRule.TheVariants as rule
 use Rattle.bus_machine.specs.NodeEvents.{is_waiting}
 use Rattle.bus_machine.specs.Machine.{Start}
-use Rattle.trace_laws.specs.TraceRules.{alarm_at, falls}
+use Rattle.run_laws.specs.TraceRules.{alarm_at, falls}
 use Rattle.pals_node.specs.proof.Answers.{is_early}
 use Rattle.pals_bus.specs.proof.Answers.{BusStartEnds}
 use Rattle.trace_audit.proofs.Breaking.{early_breaks}

@@ -1,5 +1,5 @@
 use Rattle.std.specs.Prelude.{◌≡◌, take}
-use Rattle.trace_laws.specs.LineForms.{spelled}
+use Rattle.run_laws.specs.LineForms.{spelled}
 use Rattle.trace_audit.proofs.numerals.spelled.Given as goal
 
 -- what the digits before this one spell

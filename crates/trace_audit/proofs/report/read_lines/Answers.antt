@@ -2,8 +2,8 @@ use Rattle.std.proofs.Common.{◌≡◌, ◌+◌, ◌≤◌, true, false, length
 use Rattle.std.specs.Prelude.{bytes_eq, is_some}
 use Rattle.pals_model.specs.declared.design.DesignParts.{DesignParts}
 use Rattle.pals_model.specs.declared.rounds.Env.{Env}
-use Rattle.trace_laws.specs.LineForms.{form_of}
-use Rattle.trace_laws.specs.Traces.{line_at, row_size}
+use Rattle.run_laws.specs.LineForms.{form_of}
+use Rattle.run_laws.specs.Traces.{line_at, row_size}
 use Rattle.trace_audit.specs.declared.report.ReportEnd.TheVariants.{Wrong}
 use Rattle.trace_audit.specs.proof.Reports.{end_at, index_of}
 use Rattle.trace_audit.specs.proof.Rows.{IsAtLine}

@@ -1,5 +1,5 @@
 use Rattle.std.proofs.Common.{sym}
-use Rattle.trace_laws.proofs.Entries.{lines_differ}
+use Rattle.run_laws.proofs.Entries.{lines_differ}
 use Rattle.trace_audit.proofs.Telling.{line_is}
 use Rattle.trace_audit.proofs.rules.is_line_of.Goals as goal
 

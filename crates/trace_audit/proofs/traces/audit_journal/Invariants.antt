@@ -1,5 +1,5 @@
 use Rattle.std.proofs.Common.{◌≡◌, drop}
-use Rattle.trace_laws.specs.Traces.{journal_verdict}
+use Rattle.run_laws.specs.Traces.{journal_verdict}
 use Rattle.trace_audit.specs.proof.Replays.{IsReplay, audit_in}
 use Rattle.trace_audit.proofs.traces.audit_journal.Given as goal
 

@@ -4,7 +4,7 @@ use Rattle.std.specs.Arc.{arc_value}
 use Rattle.pals_model.specs.declared.design.DesignParts.{DesignParts}
 use Rattle.pals_runs.specs.declared.verdicts.Verdict.{Verdict}
 use Rattle.bus_machine.specs.States.{Run}
-use Rattle.trace_laws.specs.Traces.{opening_audit, row_size}
+use Rattle.run_laws.specs.Traces.{opening_audit, row_size}
 use Rattle.trace_audit.proofs.Judging.{judged_whole}
 use Rattle.trace_audit.proofs.traces.audit_whole.Goals as goal
 

@@ -3,7 +3,7 @@ use Rattle.std.proofs.lemmas.List.{get_or_default}
 use Rattle.pals_model.specs.RoundTexts.{text_of}
 use Rattle.pals_runs.specs.declared.events.Event.{Event}
 use Rattle.pals_bus.specs.Values.{BusValue}
-use Rattle.timed_laws.specs.Faults.{fault_of}
+use Rattle.run_laws.specs.Faults.{fault_of}
 use Rattle.loose_world.specs.Worlds.{told_by}
 use Rattle.timed_world.specs.proof.Values.{world_of, Moves}
 use Rattle.world_texts.proofs.WorldTexts.{telling_more}

@@ -4,7 +4,7 @@ use Rattle.bus_machine.specs.declared.plan.Plan.{Plan}
 use Rattle.bus_machine.specs.Plans.{plan_of}
 use Rattle.bus_machine.specs.NodeEvents.{running_step}
 use Rattle.bus_machine.specs.States.{node_at}
-use Rattle.timed_laws.specs.Worlds.{is_last_sent}
+use Rattle.run_laws.specs.Worlds.{is_last_sent}
 use Rattle.timed_world.specs.declared.standing.Standing.{Standing}
 use Rattle.timed_world.specs.proof.Values.{WorldValue}
 use Rattle.timed_world.proofs.Moving.{IsFine, ends_sent, moves_on, stays_put, ended, moves_keep}

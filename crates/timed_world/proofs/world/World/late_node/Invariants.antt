@@ -1,5 +1,5 @@
 use Rattle.std.proofs.Common.{◌≡◌, length}
-use Rattle.timed_laws.specs.Faults.{node_past}
+use Rattle.run_laws.specs.Faults.{node_past}
 use Rattle.timed_world.specs.proof.Values.{world_of}
 use Rattle.timed_world.proofs.Rows.{numbers_left}
 use Rattle.timed_world.proofs.world.World.late_node.Given as goal

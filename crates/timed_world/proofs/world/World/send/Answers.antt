@@ -1,8 +1,8 @@
 use Rattle.std.proofs.Common.{◌≡◌, true, false, ap, ◌∙◌, sym, subst}
 use Rattle.pals_runs.specs.declared.events.Event.TheVariants as event
 use Rattle.bus_machine.specs.States.{node_at}
-use Rattle.timed_laws.specs.Worlds.{is_held}
-use Rattle.timed_laws.proofs.Faults.{sends_in_time}
+use Rattle.run_laws.specs.Worlds.{is_held}
+use Rattle.run_laws.proofs.Faults.{sends_in_time}
 use Rattle.timed_world.specs.declared.standing.Standing.{Standing}
 use Rattle.timed_world.specs.proof.Values.{WorldValue, world_of}
 use Rattle.timed_world.proofs.Moving.{IsFine, reads, moves_on, stays_put, sent, moves_keep}

@@ -1,7 +1,7 @@
 use Rattle.std.proofs.Common.{ap, sym, ◌∙◌, subst}
 use Rattle.pals_runs.specs.declared.events.Event.TheVariants as event
 use Rattle.pals_bus.specs.Values.{BusValue}
-use Rattle.timed_laws.proofs.Faults.{starts_in_time}
+use Rattle.run_laws.proofs.Faults.{starts_in_time}
 use Rattle.timed_world.specs.proof.Values.{WorldValue, KeepsWorld, Moves, world_of}
 use Rattle.timed_world.proofs.Moving.{IsFine, reads, begun, moves_keep}
 use Rattle.timed_world.proofs.Refusals.{start_only}

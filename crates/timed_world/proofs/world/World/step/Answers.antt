@@ -1,6 +1,6 @@
 use Rattle.std.proofs.Common.{sym, subst}
 use Rattle.pals_runs.specs.declared.events.Event.TheVariants as event
-use Rattle.timed_laws.proofs.Faults.{steps_in_time}
+use Rattle.run_laws.proofs.Faults.{steps_in_time}
 use Rattle.timed_world.specs.proof.Values.{WorldValue, world_of}
 use Rattle.timed_world.proofs.Moving.{IsFine, reads, stepped, moves_keep}
 use Rattle.timed_world.proofs.world.World.step.Goals as goal

@@ -1,6 +1,6 @@
 use Rattle.std.proofs.Common.{sym, ap, ◌∙◌, subst}
 use Rattle.sync_product.specs.proof.State.{state_after}
-use Rattle.trace_laws.specs.Traces.{line_at}
+use Rattle.run_laws.specs.Traces.{line_at}
 use Rattle.trace_audit.specs.proof.Lines.{HasLeft}
 use Rattle.trace_audit.proofs.Placing.{begun_after, left_behind, left_is, left_next, line_is_one}
 use Rattle.trace_audit.proofs.rows.Rows.is_line.Goals as goal

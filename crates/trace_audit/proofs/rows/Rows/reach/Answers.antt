@@ -1,5 +1,5 @@
 use Rattle.std.proofs.Common.{◌≡◌, ◌/◌, ◌%◌, sym, ap, ◌∙◌, subst}
-use Rattle.trace_laws.specs.Traces.{row_size}
+use Rattle.run_laws.specs.Traces.{row_size}
 use Rattle.trace_audit.specs.proof.Rows.{AreRows}
 use Rattle.trace_audit.proofs.Placing.{begun_first, begun_later}
 use Rattle.trace_audit.proofs.rows.Rows.reach.Goals as goal

@@ -1,0 +1,11 @@
+-- The rows of traces, computed.
+use Rattle.std.proofs.Common.{refl}
+use Rattle.std.specs.Fmt.{digits}
+use Rattle.pals_base.specs.Fire.{fire}
+use Rattle.pals_model.specs.Inputs.{feed}
+use Rattle.pals_model.specs.Composition.{comp, part}
+use Rattle.run_laws.specs.proof.TraceRows.{TracesAreJudged}
+
+pub traces_are_judged : TracesAreJudged
+unfolding digits fire comp part feed
+traces_are_judged = record { sound = refl; row = refl; release = refl; unfinished = refl }

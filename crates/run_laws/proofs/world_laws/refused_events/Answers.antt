@@ -1,0 +1,5 @@
+use Rattle.run_laws.proofs.WorldRows.{events_are_refused, arrives_too_soon}
+use Rattle.run_laws.proofs.world_laws.refused_events.Goals as goal
+
+pub returns : goal.returns
+returns c = record { table = events_are_refused; too_soon = arrives_too_soon }

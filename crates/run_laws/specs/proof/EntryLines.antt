@@ -1,0 +1,78 @@
+-- What the line of a journal's entry tells.
+use Rattle.std.specs.Prelude.{◌≡◌, ℕ, ◌<◌, ◌≤◌, List, length, Option, Some, None, IfSome}
+use Rattle.pals_base.specs.declared.limits.TheConstants.{ROUNDS, READING}
+use Rattle.pals_model.specs.declared.design.DesignParts.{DesignParts}
+use Rattle.pals_model.specs.proof.Laws.Lines.{IsLine}
+use Rattle.pals_model.specs.Rules.{IsDesign}
+use Rattle.pals_runs.specs.declared.journal.Stop.{Stop}
+use Rattle.pals_runs.specs.declared.journal.JournalEntry.{JournalEntry}
+use Rattle.pals_runs.specs.Journal.{node_word, link_word, entry_line}
+use Rattle.run_laws.specs.LineForms.{Form, ArriveLine, StartLine, StepLine, FinishLine, SendLine, DropLine, RepeatLine, EarlyLine, MissedLine, form_of}
+use Rattle.run_laws.specs.TraceLines.{told}
+use Rattle.pals_runs.specs.declared.journal.Stop.TheVariants as stop
+use Rattle.pals_runs.specs.declared.journal.JournalEntry.TheVariants as entry
+
+-- ---- the entries of a design: of a node or a link that is there, with numbers within their limits
+abbrev pub IsReading : Option ℕ → Type 0
+IsReading reading = IfSome reading (λ at. at ≤ READING)
+
+abbrev pub IsOfNode : DesignParts → ℕ → ℕ → Option ℕ → Type 0
+IsOfNode design node round reading = (node < length design.components) × (round ≤ ROUNDS) × IsReading reading
+
+abbrev pub IsOfLink : DesignParts → ℕ → ℕ → Option ℕ → Type 0
+IsOfLink design link round reading = (link < length design.links) × (round ≤ ROUNDS) × IsReading reading
+
+abbrev pub IsStopIn : DesignParts → Stop → Type 0
+IsStopIn design (stop.Missed link round reading cause) = IsOfLink design link.0 round reading
+IsStopIn design (stop.Early link round reading) = IsOfLink design link.0 round reading
+
+abbrev pub IsEntryIn : DesignParts → JournalEntry → Type 0
+IsEntryIn design (entry.Arrive link round reading result) = IsOfLink design link.0 round reading
+IsEntryIn design (entry.Start node round reading) = IsOfNode design node.0 round reading
+IsEntryIn design (entry.Step node round step reading) = IsOfNode design node.0 round reading × (step ≤ ROUNDS)
+IsEntryIn design (entry.Finish node round) = IsOfNode design node.0 round None
+IsEntryIn design (entry.Send node round reading) = IsOfNode design node.0 round reading
+IsEntryIn design (entry.Drop link round) = IsOfLink design link.0 round None
+IsEntryIn design (entry.Repeat link round) = IsOfLink design link.0 round None
+IsEntryIn design (entry.Stopped why) = IsStopIn design why
+
+-- ---- the form of an entry, with the name that its line has
+abbrev pub stop_form : DesignParts → Stop → Form
+stop_form design (stop.Missed link round reading cause) = MissedLine (link_word design link.0) round reading cause
+stop_form design (stop.Early link round reading) = EarlyLine (link_word design link.0) round reading
+
+abbrev pub entry_form : DesignParts → JournalEntry → Form
+entry_form design (entry.Arrive link round reading result) = ArriveLine (link_word design link.0) round reading result
+entry_form design (entry.Start node round reading) = StartLine (node_word design node.0) round reading
+entry_form design (entry.Step node round step reading) = StepLine (node_word design node.0) round step reading
+entry_form design (entry.Finish node round) = FinishLine (node_word design node.0) round
+entry_form design (entry.Send node round reading) = SendLine (node_word design node.0) round reading
+entry_form design (entry.Drop link round) = DropLine (link_word design link.0) round
+entry_form design (entry.Repeat link round) = RepeatLine (link_word design link.0) round
+entry_form design (entry.Stopped why) = stop_form design why
+
+-- ---- the laws
+-- of each entry of a design
+abbrev pub OfEntries : (DesignParts → JournalEntry → Type 0) → Type 0
+OfEntries P = (design : DesignParts) (e : JournalEntry) → IsDesign design → IsEntryIn design e → P design e
+
+-- its line has no line feed inside
+abbrev pub EntriesHaveLines : Type 0
+EntriesHaveLines = OfEntries (λ design e. IsLine (entry_line design e))
+
+-- and has its form
+abbrev pub LinesHaveForms : Type 0
+LinesHaveForms = OfEntries (λ design e. form_of (entry_line design e) ≡ Some (entry_form design e))
+
+-- so its line tells it
+abbrev pub LinesTellEntries : Type 0
+LinesTellEntries = OfEntries (λ design e. told design (entry_line design e) ≡ Some e)
+
+-- and no other entry has that line
+abbrev pub LinesDiffer : Type 0
+LinesDiffer = OfEntries (λ design e.
+    (other : JournalEntry) → IsEntryIn design other → entry_line design e ≡ entry_line design other → e ≡ other)
+
+-- and each line that tells an entry tells one of the design
+abbrev pub ToldAreIn : Type 0
+ToldAreIn = (design : DesignParts) (line : List ℕ) (e : JournalEntry) → told design line ≡ Some e → IsEntryIn design e

@@ -1,0 +1,43 @@
+//! What a world within the bounds keeps. Each law is the contract of a function that does nothing.
+ghost use Rattle.run_laws.specs.proof.Laws.{OpeningKeepsTime, EventKeepsTime, ArrivalsAreKept, CountsAreClose, MessagesStandOnce, TimesAreReadings, ListsAreTimely, ListsKeepArrivals};
+ghost use Rattle.run_laws.specs.proof.WorldRows.{EventsAreRefused, ArrivesTooSoon, EarliestSender, LatestSender};
+
+/// No clock is off by the skew, nothing is past its last allowed time, and each message that was sent
+/// is in one place: so it is at the opening, and each event within the bounds keeps it.
+pub fn time_is_kept()
+    ensures opening { OpeningKeepsTime }
+    ensures event { EventKeepsTime }
+{}
+
+/// Where a world keeps it, each message that was sent is in flight, in its slot or taken, one that
+/// arrives is kept, and no node is two rounds ahead of another.
+pub fn messages_are_kept()
+    ensures once { MessagesStandOnce }
+    ensures arrivals { ArrivalsAreKept }
+    ensures counts { CountsAreClose }
+{}
+
+/// What a world computes with stays in range: last allowed times, and the readings of nodes that are not
+/// done.
+pub fn times_are_readings()
+    ensures { TimesAreReadings }
+{}
+
+/// After each event of a list within the bounds no stop stands, the bus agrees with the composition,
+/// no node is two rounds ahead, and each arrival was kept.
+pub fn lists_are_timely()
+    ensures timely { ListsAreTimely }
+    ensures arrivals { ListsKeepArrivals }
+{}
+
+/// Events that a world of two counters refuses, each with its cause.
+pub fn refused_events()
+    ensures table { EventsAreRefused }
+    ensures too_soon { ArrivesTooSoon }
+{}
+
+/// Two worlds of two counters at the ends of their bounds, and the texts that they leave.
+pub fn worlds_at_their_bounds()
+    ensures earliest { EarliestSender }
+    ensures latest { LatestSender }
+{}

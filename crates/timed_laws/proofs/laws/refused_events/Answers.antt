@@ -1,5 +1,0 @@
-use Rattle.timed_laws.proofs.WorldRows.{events_are_refused, arrives_too_soon}
-use Rattle.timed_laws.proofs.laws.refused_events.Goals as goal
-
-pub returns : goal.returns
-returns c = record { table = events_are_refused; too_soon = arrives_too_soon }

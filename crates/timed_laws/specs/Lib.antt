@@ -1,5 +1,0 @@
-pub mod Worlds
-pub mod Deadlines
-pub mod Faults
-pub mod EventLists
-pub mod proof

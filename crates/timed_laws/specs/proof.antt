@@ -1,4 +1,0 @@
--- What the theorem of the program does not rest on: definitions of contracts below it, of laws, and of proofs.
-pub mod WorldRows
-pub mod Kept
-pub mod Laws

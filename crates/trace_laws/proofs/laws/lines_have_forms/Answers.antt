@@ -1,5 +1,0 @@
-use Rattle.trace_laws.proofs.Forms.{lines_have_forms, entries_have_lines}
-use Rattle.trace_laws.proofs.laws.lines_have_forms.Goals as goal
-
-pub returns : goal.returns
-returns c = record { lines = entries_have_lines; forms = lines_have_forms }

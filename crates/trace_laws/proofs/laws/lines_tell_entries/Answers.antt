@@ -1,6 +1,0 @@
-use Rattle.trace_laws.proofs.Entries.{lines_tell_entries, lines_differ}
-use Rattle.trace_laws.proofs.Told.{told_are_in}
-use Rattle.trace_laws.proofs.laws.lines_tell_entries.Goals as goal
-
-pub returns : goal.returns
-returns c = record { told = lines_tell_entries; differ = lines_differ; within = told_are_in }
