@@ -2,7 +2,6 @@
 ghost use Rattle.std.specs.Prelude.{◌≡◌, ◌↔◌, false, IfOk, OnOk, IsTrue};
 ghost use Rattle.aadl_tree.specs.proof.PackageViews.{placed};
 ghost use Rattle.aadl_uses.specs.proof.Uses.{containment};
-ghost use Rattle.aadl_uses.specs.Uses.{below};
 ghost use Rattle.aadl_uses.specs.proof.Orders.{IsOrder};
 ghost use Rattle.aadl_chains.specs.proof.Inside as spec;
 ghost use Rattle.aadl_chains.specs.proof.Inside.{ReachesIn, IsInside, IsJoined, AreJoined};

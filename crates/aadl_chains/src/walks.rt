@@ -4,7 +4,6 @@ ghost use Rattle.aadl_tree.specs.proof.PackageViews.{placed};
 ghost use Rattle.aadl_names.specs.declared.site.Site.TheVariants.{Own};
 ghost use Rattle.aadl_uses.specs.Uses as uses;
 ghost use Rattle.aadl_uses.specs.proof.Uses as inner;
-ghost use Rattle.aadl_uses.specs.proof.Wiring.{into};
 ghost use Rattle.aadl_uses.specs.proof.Orders.{IsOrder};
 ghost use Rattle.aadl_chains.specs.proof.Inside.{is_thread_at, is_in_at};
 ghost use Rattle.aadl_chains.specs.proof.Sound.{AreDeclared};

@@ -1,5 +1,5 @@
 -- What the machine's fate of a package says of its text.
-use Rattle.std.proofs.Common.{◌≡◌, sym, ℕ, ◌-◌, ◌<◌, ◌∙◌, ap, subst, refl, List, [], ◌∷◌, length, drop, arith, zero, suc}
+use Rattle.std.proofs.Common.{◌≡◌, sym, ℕ, ◌<◌, ◌∙◌, ap, subst, refl, List, [], ◌∷◌, length, drop, arith, zero, suc}
 use Rattle.std.specs.Prelude.{◌≢◌, IfErr, Result, Ok, Err}
 use Rattle.std.specs.Result.{IsErrAnd}
 use Rattle.aadl_lex.specs.declared.token.Token.{Token}

@@ -7,7 +7,7 @@ use Rattle.pals_runs.specs.declared.journal.Cause.TheVariants.{NotSent}
 use Rattle.pals_runs.specs.declared.journal.Stop.{Stop}
 use Rattle.bus_machine.specs.Plans.{plan_of}
 use Rattle.bus_machine.specs.States.{Run, BusState, node_at, link_at}
-use Rattle.bus_machine.specs.Targets.{targets, target}
+use Rattle.bus_machine.specs.Targets.{targets}
 use Rattle.run_laws.specs.Runs.{HasEnded}
 use Rattle.run_laws.specs.Picked.{picks_of, IsPickFor}
 use Rattle.run_laws.specs.Each.{EachNode}

@@ -1,5 +1,5 @@
 //! The order of the blocks of states.
-ghost use Rattle.std.specs.Prelude.{◌≡◌, IfOk, OnOk, not, false};
+ghost use Rattle.std.specs.Prelude.{◌≡◌, IfOk, OnOk, false};
 ghost use Rattle.step_compiler.specs.proof.Order.{is_placed, next_state, block_order, with_next, awaited_marks, states_outside};
 ghost use Rattle.step_compiler.specs.LaidOut.{complete_states};
 

@@ -1,7 +1,6 @@
 -- What the rows of each symbol build.
 use Rattle.std.proofs.Common.{true, false, [], ◌∷◌, inl, inr}
 use Rattle.aadl_tree.specs.Actions as a
-use Rattle.aadl_grammar.specs.proof.Symbols.{the}
 use Rattle.aadl_grammar.specs.proof.Symbols as s
 use Rattle.aadl_grammar.specs.proof.Table.{rows}
 use Rattle.aadl_grammar.proofs.Derived.Trees.{act, more_of}

@@ -3,7 +3,7 @@ use Rattle.std.proofs.Common.{Bool, true, false, [], None}
 use Rattle.aadl_tree.specs.Values as v
 use Rattle.aadl_tree.specs.Expressions as e
 use Rattle.aadl_tree.specs.Actions as a
-use Rattle.aadl_grammar.specs.proof.Symbols.{the, Symbol}
+use Rattle.aadl_grammar.specs.proof.Symbols.{Symbol}
 use Rattle.aadl_grammar.specs.proof.Symbols as s
 use Rattle.aadl_grammar.specs.proof.Table.{rows, can_omit}
 use Rattle.aadl_grammar.proofs.Derived.Trees.{U, TreeOf}

@@ -5,7 +5,6 @@ use Rattle.aadl_tree.specs.declared.expressions.LogicOperator.TheVariants as log
 use Rattle.aadl_tree.specs.declared.expressions.RelationOperator.TheVariants as compare
 use Rattle.aadl_tree.specs.declared.expressions.MultiplyOperator.TheVariants as multiply
 use Rattle.aadl_tree.specs.Expressions as e
-use Rattle.aadl_grammar.specs.proof.Symbols.{the}
 use Rattle.aadl_grammar.specs.proof.Symbols as s
 use Rattle.aadl_grammar.specs.proof.Table.{rows}
 use Rattle.aadl_grammar.proofs.Derived.Trees.{id, relation_of, and_join, or_join}

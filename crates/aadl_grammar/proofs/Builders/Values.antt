@@ -4,7 +4,6 @@ use Rattle.aadl_tree.specs.declared.mark.Mark.{Mark}
 use Rattle.aadl_tree.specs.declared.expressions.Sign.TheVariants as signs
 use Rattle.aadl_tree.specs.declared.values.AssociationOperator.TheVariants as operators
 use Rattle.aadl_tree.specs.Values as v
-use Rattle.aadl_grammar.specs.proof.Symbols.{the}
 use Rattle.aadl_grammar.specs.proof.Symbols as s
 use Rattle.aadl_grammar.specs.proof.Table.{rows}
 use Rattle.aadl_grammar.proofs.Derived.Trees.{id}

@@ -10,7 +10,6 @@ use Rattle.aadl_tree.specs.Parts as p
 use Rattle.aadl_tree.specs.Names as n
 use Rattle.aadl_tree.specs.Values as v
 use Rattle.aadl_tree.specs.Declarations as d
-use Rattle.aadl_grammar.specs.proof.Symbols.{the}
 use Rattle.aadl_grammar.specs.proof.Symbols as s
 use Rattle.aadl_grammar.specs.proof.Table.{rows}
 use Rattle.aadl_grammar.proofs.Derived.Trees.{U, Rest, type_rest, implementation_rest, declaration_of, rest_parts, section_rest}

@@ -6,7 +6,6 @@ use Rattle.aadl_tree.specs.declared.expressions.RelationOperator.{RelationOperat
 use Rattle.aadl_tree.specs.Kinds.{Kind, mark}
 use Rattle.aadl_tree.specs.Parts.{Spells}
 use Rattle.aadl_tree.specs.Expressions as e
-use Rattle.aadl_grammar.specs.proof.Symbols.{the}
 use Rattle.aadl_grammar.specs.proof.Symbols as s
 use Rattle.aadl_grammar.specs.proof.Table.{rows}
 use Rattle.aadl_grammar.proofs.Derived.Trees.{U, compared_parts, relation_of, after_parts, and_join, or_join}

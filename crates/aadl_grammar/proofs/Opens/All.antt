@@ -2,7 +2,7 @@
 use Rattle.std.proofs.Common.{◌≡◌, ◌⊎◌, Bool, true, false, refl, List, inl}
 use Rattle.aadl_tree.specs.Kinds.{Kind}
 use Rattle.aadl_tree.specs.Parts.{Spells}
-use Rattle.aadl_grammar.specs.proof.Symbols.{the, Symbol}
+use Rattle.aadl_grammar.specs.proof.Symbols.{Symbol}
 use Rattle.aadl_grammar.specs.proof.Symbols as s
 use Rattle.aadl_grammar.specs.proof.Table.{rows, can_omit}
 use Rattle.aadl_grammar.proofs.Derived.Trees.{U, TreeOf, parts}

@@ -5,7 +5,6 @@ use Rattle.aadl_grammar.proofs.Written.{nothing, then, marked, respelled}
 use Rattle.aadl_tree.specs.Values.{applies_parts}
 use Rattle.aadl_tree.specs.proof.NameViews.{path_view}
 use Rattle.aadl_tree.specs.proof.Maps.{kept_place}
-use Rattle.aadl_tree.specs.declared.mark.Mark.TheVariants as k
 use Rattle.aadl_grammar.specs.proof.Symbols as s
 use Rattle.aadl_grammar.specs.proof.Machine.{move, depth}
 use Rattle.aadl_grammar.proofs.values.applies.Goals as goal

@@ -7,7 +7,6 @@ use Rattle.aadl_grammar.proofs.Written.{nothing, told, respelled}
 use Rattle.std.proofs.Common.{rules, to_z-of_z}
 use Rattle.aadl_tree.specs.Kinds.{whole}
 use Rattle.aadl_tree.specs.Parts.{token}
-use Rattle.aadl_tree.specs.declared.mark.Mark.TheVariants as k
 use Rattle.aadl_grammar.specs.proof.Symbols as s
 use Rattle.aadl_grammar.specs.proof.Machine.{move, depth, syntax_at}
 use Rattle.aadl_grammar.proofs.values.figure.Goals as goal

@@ -6,7 +6,6 @@ use Rattle.aadl_tree.specs.Values.{value_parts}
 use Rattle.aadl_tree.specs.proof.Maps.{kept_place}
 use Rattle.aadl_tree.proofs.ValueViews.{view-Text, view-Named, view-Number}
 use Rattle.aadl_grammar.proofs.Lists.{value_own, starts_at}
-use Rattle.aadl_tree.specs.declared.mark.Mark.TheVariants as k
 use Rattle.aadl_grammar.specs.proof.Symbols as s
 use Rattle.aadl_grammar.specs.proof.Machine.{move, depth}
 use Rattle.aadl_grammar.proofs.values.plain_value.Goals as goal

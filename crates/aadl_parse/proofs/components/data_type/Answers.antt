@@ -3,7 +3,6 @@ use Rattle.aadl_grammar.specs.proof.Reading.{here}
 use Rattle.aadl_grammar.proofs.Rows.{omits_unless, enters_as, along, exits, no_reads}
 use Rattle.aadl_grammar.proofs.Written.{nothing}
 use Rattle.aadl_grammar.proofs.Lists.{starts_at}
-use Rattle.aadl_tree.specs.declared.mark.Mark.TheVariants as k
 use Rattle.aadl_grammar.specs.proof.Symbols as s
 use Rattle.aadl_grammar.specs.proof.Machine.{move, depth}
 use Rattle.aadl_parse.proofs.components.data_type.Goals as goal

@@ -3,7 +3,6 @@ use Rattle.aadl_grammar.specs.proof.Reading.{here}
 use Rattle.aadl_grammar.proofs.Rows.{takes_row, refuses_unless}
 use Rattle.aadl_grammar.proofs.Written.{nothing, marked}
 use Rattle.aadl_parse.proofs.Declaring.{category_moves}
-use Rattle.aadl_tree.specs.declared.mark.Mark.TheVariants as k
 use Rattle.aadl_grammar.specs.proof.Symbols as s
 use Rattle.aadl_grammar.specs.proof.Machine.{move, depth, syntax_at}
 use Rattle.aadl_parse.proofs.components.expect_category.Goals as goal

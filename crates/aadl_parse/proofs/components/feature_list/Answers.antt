@@ -7,7 +7,6 @@ use Rattle.aadl_tree.specs.proof.Views.{feature_view}
 use Rattle.aadl_tree.specs.proof.Maps.{kept_place}
 use Rattle.aadl_grammar.proofs.Lists.{starts_at}
 use Rattle.aadl_parse.proofs.Declaring.{feature_begun}
-use Rattle.aadl_tree.specs.declared.mark.Mark.TheVariants as k
 use Rattle.aadl_grammar.specs.proof.Symbols as s
 use Rattle.aadl_grammar.specs.proof.Machine.{move, depth}
 use Rattle.aadl_parse.proofs.components.feature_list.Goals as goal

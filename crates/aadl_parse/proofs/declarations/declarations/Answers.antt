@@ -6,7 +6,6 @@ use Rattle.aadl_tree.specs.Declarations.{declaration_parts}
 use Rattle.aadl_tree.specs.proof.Views.{declaration_view}
 use Rattle.aadl_tree.specs.proof.Maps.{kept_place}
 use Rattle.aadl_parse.proofs.Declaring.{declaration_moves}
-use Rattle.aadl_tree.specs.declared.mark.Mark.TheVariants as k
 use Rattle.aadl_grammar.specs.proof.Symbols as s
 use Rattle.aadl_grammar.specs.proof.Machine.{move, depth}
 use Rattle.aadl_parse.proofs.declarations.declarations.Goals as goal
