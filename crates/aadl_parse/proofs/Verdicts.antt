@@ -26,7 +26,7 @@ use Rattle.aadl_grammar.specs.proof.Terminals.{spots_of}
 use Rattle.aadl_grammar.specs.proof.Reading.{FailsAs, Reads}
 use Rattle.aadl_parse.specs.declared.fault.TextFault.{TextFault}
 use Rattle.aadl_parse.specs.declared.fault.TextFault.TheVariants.{Lex, Memory, Syntax, TooDeep}
-use Rattle.aadl_parse.specs.Texts.{IsOnlyTreeOf, IsFaultOfText, of_parse}
+use Rattle.aadl_parse.specs.ParsedText.{IsOnlyTreeOf, IsFaultOfText, of_parse}
 
 faults : (text : List ℕ) (tokens : List Token) → AreTokensOf text tokens → (e : ParseFault) → FailsAs (fate 0 (length text) (s.a_package ∷ []) (spots text tokens)) e → IsFaultOfText text (of_parse e)
 faults text tokens l parsing.Memory f = l.utf8

@@ -9,7 +9,7 @@ ghost use Rattle.aadl_tree.specs.Declarations.{PackageTree as Tree};
 ghost use Rattle.aadl_tree.specs.Given.{IsTreeOf};
 ghost use Rattle.aadl_tree.specs.proof.PackageViews.{placed};
 ghost use Rattle.aadl_parse.specs.declared.fault.TextFault.{TextFault};
-ghost use Rattle.aadl_parse.specs.Texts.{IsOnlyTreeOf, IsFaultOfText};
+ghost use Rattle.aadl_parse.specs.ParsedText.{IsOnlyTreeOf, IsFaultOfText};
 
 mod components;
 mod declarations;

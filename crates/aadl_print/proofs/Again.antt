@@ -12,7 +12,7 @@ use Rattle.aadl_tree.proofs.Ties.Declarations.{package_tied}
 use Rattle.aadl_grammar.proofs.Reading.{canon_of, reads_back, only_so}
 use Rattle.aadl_parse.specs.declared.fault.TextFault.{TextFault}
 use Rattle.aadl_parse.specs.declared.fault.TextFault.TheVariants.{Memory}
-use Rattle.aadl_parse.specs.Texts.{IsFaultOfText}
+use Rattle.aadl_parse.specs.ParsedText.{IsFaultOfText}
 use Rattle.aadl_parse.proofs.Verdicts.{tree_or_fault}
 
 -- the canonical text does not hang on places

@@ -12,7 +12,7 @@ use Rattle.pals_base.proofs.Upwards.{map_upwards_more}
 use Rattle.pals_runs.specs.declared.pairs.VoteFault.{VoteFault}
 use Rattle.analysis_fields.specs.declared.faults.RoundFault.{RoundFault}
 use Rattle.analysis_fields.specs.Replicas.{is_among}
-use Rattle.triple_vote.specs.Texts.{replica_name}
+use Rattle.triple_vote.specs.VotedText.{replica_name}
 use Rattle.triple_vote.proofs.Tables.{length-upwards, table-at}
 use Rattle.analysis_texts.specs.Voted.{faults_of}
 use Rattle.analysis_texts.specs.proof.Voted.{filed}

@@ -10,7 +10,7 @@ use Rattle.pals_runs.specs.declared.pairs.Pair.{Pair}
 use Rattle.plant_fuse.specs.proof.Ends.{IsFirstBad}
 use Rattle.plant_fuse.specs.Fused.{ArePairs, Inputs, IsFused}
 use Rattle.plant_fuse.specs.proof.State.{FuseState, begun, IsAdvanced}
-use Rattle.plant_fuse.specs.Texts.{freport, IsFusedReport}
+use Rattle.plant_fuse.specs.FusedText.{freport, IsFusedReport}
 use Rattle.plant_fuse.proofs.Solutions.{solution_exists}
 use Rattle.plant_fuse.proofs.Following.{StandsAt, begins, stands_next, leaves_parts}
 use Rattle.plant_fuse.proofs.Partnering.{pair_at, others_apart}

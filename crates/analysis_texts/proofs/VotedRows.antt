@@ -11,7 +11,7 @@ use Rattle.pals_model.specs.RoundTexts.{line_end, text_of, round_line, component
 use Rattle.pals_runs.specs.declared.pairs.VoteFault.{VoteFault}
 use Rattle.triple_vote.specs.Replicas.{Voted, is_replicated, copies_of, frame_at, vcomp, vshown}
 use Rattle.triple_vote.specs.proof.States.{VotedState, vadvanced}
-use Rattle.triple_vote.specs.Texts.{replica_name, shown_line, vrow_lines, voted_lines, vreport}
+use Rattle.triple_vote.specs.VotedText.{replica_name, shown_line, vrow_lines, voted_lines, vreport}
 use Rattle.analysis_texts.specs.proof.Voted.{all_lines}
 use Rattle.analysis_texts.proofs.Blocks.{text_of-append, line_before}
 use Rattle.analysis_texts.proofs.Rounds.{rows_more}

@@ -11,9 +11,9 @@ use Rattle.pals_runs.specs.Formula.{Formula}
 use Rattle.pals_runs.specs.Journal.{spaced}
 use Rattle.analysis_fields.specs.PropertyValues.{PropertyValue}
 use Rattle.run_monitor.specs.Monitors.{holds}
-use Rattle.run_monitor.specs.Texts.{names_of, formulas_of, verdict_line, watched_lines, violation_text, last_line, watched_rows, watch_text}
+use Rattle.run_monitor.specs.WatchText.{names_of, formulas_of, verdict_line, watched_lines, violation_text, last_line, watched_rows, watch_text}
 use Rattle.run_monitor.specs.Violations.{history, verdicts, violation, is_violated}
-use Rattle.run_monitor.specs.proof.Lists.{MonitorsState, HasWatched}
+use Rattle.run_monitor.specs.proof.MonitorStates.{MonitorsState, HasWatched}
 use Rattle.run_monitor.specs.declared.violation.Violation.{Violation}
 use Rattle.run_monitor.proofs.Violations.{violated_is_first, others_hold}
 use Rattle.run_monitor.proofs.Texts.{rows_go_on}

@@ -2,7 +2,7 @@
 use Rattle.std.specs.Prelude.{ℕ, codes, decimal, Bool, List, [], ◌∷◌}
 use Rattle.pals_runs.specs.Journal.{spaced}
 use Rattle.analysis_fields.specs.declared.processors.Processor.{Processor as Described}
-use Rattle.round_budget.specs.Texts.{Processor, fit_word}
+use Rattle.round_budget.specs.BudgetText.{Processor, fit_word}
 use Rattle.round_budget.specs.Budgets.{numbers}
 
 abbrev pub processor_of : Described → Processor

@@ -5,7 +5,7 @@ ghost use Rattle.pals_model.specs.RoundTexts.{text_of, row_lines};
 ghost use Rattle.pals_report.specs.proof.TapPlaces.{tap_places};
 ghost use Rattle.plant_fuse.specs.Fused.{ArePairs};
 ghost use Rattle.plant_fuse.specs.proof.State.{begun, IsAdvanced};
-ghost use Rattle.plant_fuse.specs.Texts.{IsFusedReport};
+ghost use Rattle.plant_fuse.specs.FusedText.{IsFusedReport};
 
 use pals_base::{Items, NoMemory, Port};
 use pals_model::{Design, Env};

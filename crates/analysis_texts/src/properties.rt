@@ -6,9 +6,9 @@ ghost use Rattle.pals_model.specs.Composition.{comp};
 ghost use Rattle.pals_model.specs.Inputs.{values_at};
 ghost use Rattle.pals_model.specs.RoundTexts.{text_of, line_end};
 ghost use Rattle.run_monitor.specs.Violations.{history, verdicts, is_violated};
-ghost use Rattle.run_monitor.specs.Texts.{names_of, verdict_line, watched_lines, violation_text, last_line, watch_text};
+ghost use Rattle.run_monitor.specs.WatchText.{names_of, verdict_line, watched_lines, violation_text, last_line, watch_text};
 ghost use Rattle.pals_runs.specs.Formula.{Formula};
-ghost use Rattle.run_monitor.specs.proof.Lists.{said_by, HasWatched, WatchesRound};
+ghost use Rattle.run_monitor.specs.proof.MonitorStates.{said_by, HasWatched, WatchesRound};
 ghost use Rattle.analysis_texts.specs.Watched.{named, formulas};
 
 use analysis_fields::Property;

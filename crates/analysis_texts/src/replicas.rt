@@ -9,7 +9,7 @@ ghost use Rattle.analysis_fields.specs.proof.AnalysisFacts.{IsFaultOf};
 ghost use Rattle.triple_vote.specs.proof.Laws.{IsFault};
 ghost use Rattle.triple_vote.specs.Replicas.{is_replicated, frame_at, vopening};
 ghost use Rattle.triple_vote.specs.proof.States.{vbegun};
-ghost use Rattle.triple_vote.specs.Texts.{replica_lines, shown_line, vrow_lines, vreport};
+ghost use Rattle.triple_vote.specs.VotedText.{replica_lines, shown_line, vrow_lines, vreport};
 ghost use Rattle.analysis_texts.specs.Voted.{replicated_in, faults_of};
 ghost use Rattle.analysis_texts.specs.proof.Voted.{names_of, all_names, all_lines};
 

@@ -16,9 +16,9 @@ use Rattle.analysis_fields.specs.Replicas.{is_among, source_in as field_source}
 use Rattle.scenario_json.specs.declared.scenario.Scenario.{Scenario}
 use Rattle.triple_vote.specs.proof.Laws.{IsFault, AreFaults, AreOutvoted, ReportIsThrice, ThriceWithoutReplicas}
 use Rattle.triple_vote.specs.Replicas.{is_replicated, source_in as vote_source}
-use Rattle.triple_vote.specs.Texts.{thrice}
+use Rattle.triple_vote.specs.VotedText.{thrice}
 use Rattle.plant_fuse.specs.proof.Laws.{ReportWithoutPairs}
-use Rattle.plant_fuse.specs.Texts.{IsFusedReport}
+use Rattle.plant_fuse.specs.FusedText.{IsFusedReport}
 use Rattle.analysis_texts.specs.Voted.{replicated_in, faults_of}
 use Rattle.pals_top.specs.declared.analysis.Analysis.{Analysis}
 use Rattle.pals_top.specs.declared.analysis.Analysis.TheVariants.{Vote, Fuse}

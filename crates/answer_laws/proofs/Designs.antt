@@ -4,7 +4,7 @@ use Rattle.pals_model.specs.declared.design.DesignParts.{DesignParts}
 use Rattle.pals_model.specs.RoundTexts.{line_end, text_of}
 use Rattle.aadl_tree.specs.Declarations.{PackageTree}
 use Rattle.aadl_tree.specs.Given.{IsTreeOf}
-use Rattle.aadl_parse.specs.Texts.{IsFaultOfText}
+use Rattle.aadl_parse.specs.ParsedText.{IsFaultOfText}
 use Rattle.aadl_parse.proofs.Verdicts.{only_tree, one_text_fault, tree_or_fault}
 use Rattle.aadl_instance.specs.Flat.{Parts}
 use Rattle.annex_resolve.specs.declared.violation.Violation.{Violation}

@@ -2,7 +2,7 @@
 use Rattle.std.proofs.Common.{◌≡◌, ◌⊎◌, inl, inr, ℕ, List, ◌++◌, refl}
 use Rattle.aadl_parse.specs.declared.fault.TextFault.{TextFault}
 use Rattle.aadl_parse.specs.declared.fault.TextFault.TheVariants.{Lex, Syntax, TooDeep, Memory}
-use Rattle.aadl_parse.specs.Texts.{IsFaultOfText}
+use Rattle.aadl_parse.specs.ParsedText.{IsFaultOfText}
 use Rattle.pals_model.specs.RoundTexts.{line_end}
 use Rattle.pals_report.specs.TextFaults.{text_fault_line, no_divider_line}
 use Rattle.bundle_designs.specs.Bundles.{IsSplit, HasNoDivider}

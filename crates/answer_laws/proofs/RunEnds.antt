@@ -16,7 +16,7 @@ use Rattle.bus_machine.specs.States.{Run, BusState, node_at, no_node}
 use Rattle.run_laws.specs.Timely.{AllAtEnd}
 use Rattle.run_laws.specs.proof.InTime.{InTime, NoneStops, EndsFirst, EndsAreOne, AllPicked, PickedAreDone}
 use Rattle.run_laws.specs.Meetings.{AllDone}
-use Rattle.run_laws.specs.Turns.{upcoming}
+use Rattle.run_laws.specs.NodeActions.{upcoming}
 use Rattle.run_laws.proofs.InTime.{done_or_ended, one_first}
 use Rattle.run_texts.specs.RunTexts.{Course, IsCompletedRun, IsStoppedRun, IsEndedRun, EndsAt}
 use Rattle.answer_laws.specs.proof.Runs.{ShowsRounds}

@@ -3,7 +3,7 @@
 ghost use Rattle.std.specs.Prelude.{◌≡◌, ◌↔◌, ◌<◌, ◌≤◌, ◌-◌, ◌^◌, ℕ, List, Some, true, length};
 ghost use Rattle.pals_base.specs.declared.limits.TheConstants.{BUNDLE_BYTES};
 ghost use Rattle.pals_runs.specs.declared.commands.Command.{Command};
-ghost use Rattle.pals_top.specs.Texts.{read_fault_line, too_long_line};
+ghost use Rattle.pals_top.specs.AnswerTexts.{read_fault_line, too_long_line};
 ghost use Rattle.pals_top.specs.Answers.{reads_source, IsCommandAnswer, IsAnswer};
 ghost use Rattle.pals_top.specs.Outside.{Reading};
 

@@ -23,7 +23,7 @@ use Rattle.bus_machine.specs.States.{node_at}
 use Rattle.bus_machine.specs.Targets.{target, action_in, next_in}
 use Rattle.pals_bus.specs.Values.{BusValue}
 use Rattle.pals_bus.specs.proof.Meeting.{target_in, HasEnded as HasStopped, GoesAt}
-use Rattle.run_laws.specs.Turns.{upcoming}
+use Rattle.run_laws.specs.NodeActions.{upcoming}
 use Rattle.run_laws.specs.Runs.{clock_at, no_clock, Shows, Does}
 use Rattle.run_laws.proofs.Picking.{runs_agree}
 use Rattle.node_threads.specs.declared.ends.Note.{Note}

@@ -17,7 +17,7 @@ use Rattle.bus_machine.specs.States.{Run, BusState, node_at}
 use Rattle.bus_machine.specs.Targets.{target, send_is_next, next_in}
 use Rattle.pals_node.specs.proof.Keeping.{IsPlan}
 use Rattle.pals_node.proofs.Plans.{plan_keeps}
-use Rattle.run_laws.specs.Turns.{upcoming}
+use Rattle.run_laws.specs.NodeActions.{upcoming}
 use Rattle.run_laws.proofs.Picking.{node_agrees}
 
 -- the numbers of an action

@@ -16,7 +16,7 @@ use Rattle.bus_machine.specs.States.{node_at}
 use Rattle.bus_machine.specs.Machine.{BusEvent, IsStep}
 use Rattle.bus_machine.specs.Targets.{target}
 use Rattle.pals_bus.specs.Values.{BusValue, Happens}
-use Rattle.run_laws.specs.Turns.{upcoming}
+use Rattle.run_laws.specs.NodeActions.{upcoming}
 use Rattle.run_laws.specs.Runs.{clock_at, no_clock, left_for, KeepsTo, Runs, picks_for, goes_on}
 use Rattle.run_laws.proofs.Ended.{stays_ended, waits_for}
 use Rattle.node_threads.specs.declared.ends.Note.{Note}

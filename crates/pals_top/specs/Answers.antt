@@ -4,7 +4,7 @@ use Rattle.pals_runs.specs.declared.commands.Command.{Command}
 use Rattle.pals_runs.specs.declared.commands.Command.TheVariants.{Print, Check, Sync, World, Run, Audit, Ring, Watch, Vote, Fuse, Budget}
 use Rattle.pals_top.specs.declared.status.TheConstants.{USAGE}
 use Rattle.pals_top.specs.Outside.{Reading, HasRead, IsReadFault}
-use Rattle.pals_top.specs.Texts.{usage_line}
+use Rattle.pals_top.specs.AnswerTexts.{usage_line}
 use Rattle.pals_top.specs.Print.{IsPrintAnswer}
 use Rattle.pals_top.specs.Check.{IsCheckAnswer}
 use Rattle.pals_top.specs.Ring.{IsRingAnswer}

@@ -5,7 +5,7 @@ use Rattle.step_compiler.specs.LaidOut.{AreLaidOut}
 use Rattle.pals_model.specs.declared.design.DesignParts.{DesignParts}
 use Rattle.scenario_json.specs.declared.scenario.Scenario.{Scenario}
 use Rattle.design_codes.specs.Behaviours.{behaviours}
-use Rattle.round_budget.specs.Texts.{Processor, some_is_over, budget_text}
+use Rattle.round_budget.specs.BudgetText.{Processor, some_is_over, budget_text}
 use Rattle.analysis_texts.specs.Budgeted.{processor_of}
 use Rattle.pals_top.specs.declared.status.TheConstants.{DONE, NOT_SO}
 

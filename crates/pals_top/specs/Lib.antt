@@ -9,7 +9,7 @@ pub mod Print
 pub mod Refusals
 pub mod Ring
 pub mod Scenarios
-pub mod Texts
+pub mod AnswerTexts
 pub mod Watch
 pub mod Vote
 pub mod Fuse

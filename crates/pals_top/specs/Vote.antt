@@ -2,7 +2,7 @@
 use Rattle.std.specs.Prelude.{◌≡◌, ℕ, List}
 use Rattle.pals_model.specs.declared.design.DesignParts.{DesignParts}
 use Rattle.scenario_json.specs.declared.scenario.Scenario.{Scenario}
-use Rattle.triple_vote.specs.Texts.{vreport}
+use Rattle.triple_vote.specs.VotedText.{vreport}
 use Rattle.analysis_texts.specs.Voted.{replicated_in, faults_of}
 use Rattle.pals_top.specs.declared.status.TheConstants.{DONE}
 

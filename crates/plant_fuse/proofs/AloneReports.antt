@@ -25,7 +25,7 @@ use Rattle.pals_model.proofs.CompositionLaws.{steps_of_round-at}
 use Rattle.pals_model.proofs.ShapeLaws.{component_at}
 use Rattle.sync_product.proofs.Tables.{numbered-at}
 use Rattle.plant_fuse.specs.Fused.{Inputs, round_tuple, frame_before, IsFused}
-use Rattle.plant_fuse.specs.Texts.{fused_part, fused_parts, fused_lines}
+use Rattle.plant_fuse.specs.FusedText.{fused_part, fused_parts, fused_lines}
 use Rattle.plant_fuse.specs.proof.Laws.{ReportWithoutPairs}
 use Rattle.plant_fuse.proofs.Prefixes.{take_upwards}
 use Rattle.plant_fuse.proofs.Alone as alone

@@ -11,7 +11,7 @@ use Rattle.plant_fuse.specs.Fused.{ArePairs, Inputs, IsFused}
 use Rattle.plant_fuse.specs.proof.Fused.{first_rounds, fused}
 use Rattle.plant_fuse.specs.proof.Rounds.{IsFusedRound, after_round, last_round}
 use Rattle.plant_fuse.specs.proof.State.{FuseState, begun, parts_after, IsAdvanced, AreStates}
-use Rattle.plant_fuse.specs.Texts.{fused_parts}
+use Rattle.plant_fuse.specs.FusedText.{fused_parts}
 use Rattle.plant_fuse.specs.proof.Laws.{StatesFollow}
 use Rattle.plant_fuse.proofs.Solutions.{solution_is_one}
 use Rattle.plant_fuse.proofs.Prefixes.{solution_goes_on}

@@ -18,7 +18,7 @@ use Rattle.pals_runs.specs.declared.pairs.Pair.{Pair}
 use Rattle.plant_fuse.specs.Fused.{ArePairs, Inputs, inputs_to, round_tuple, frame_before, IsFused}
 use Rattle.plant_fuse.specs.proof.Rounds.{tuple_from}
 use Rattle.plant_fuse.specs.proof.State.{part_after, parts_after}
-use Rattle.plant_fuse.specs.Texts.{fused_part, fused_parts}
+use Rattle.plant_fuse.specs.FusedText.{fused_part, fused_parts}
 use Rattle.plant_fuse.proofs.Numbered.{map_each, table_at, table_same}
 use Rattle.plant_fuse.proofs.Causes.{same_tuple}
 use Rattle.plant_fuse.proofs.Prefixes.{begun, agree}

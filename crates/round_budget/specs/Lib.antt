@@ -1,3 +1,3 @@
 pub mod Budgets
-pub mod Texts
+pub mod BudgetText
 pub mod proof

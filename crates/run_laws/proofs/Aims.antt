@@ -19,7 +19,7 @@ use Rattle.bus_machine.specs.States.{Run}
 use Rattle.bus_machine.specs.proof.Laws.{IsRunOf}
 use Rattle.bus_machine.specs.declared.action.Action.TheVariants as action
 use Rattle.bus_machine.specs.Targets.{Progress, target, send_is_next, next_action, progress_after, action_in, next_in}
-use Rattle.run_laws.specs.Turns.{turn, progress_in, upcoming, Follows}
+use Rattle.run_laws.specs.NodeActions.{turn, progress_in, upcoming, Follows}
 use Rattle.run_laws.proofs.Follows.{turn_acts, turn_brings}
 
 -- ---- what is known of a plan's times

@@ -10,7 +10,7 @@ use Rattle.pals_clock.proofs.Reaching.{picks_append}
 use Rattle.bus_machine.specs.declared.plan.Plan.{Plan}
 use Rattle.bus_machine.specs.Nodes.{NodeState}
 use Rattle.bus_machine.specs.Targets.{targets}
-use Rattle.run_laws.specs.Turns.{Follows}
+use Rattle.run_laws.specs.NodeActions.{Follows}
 use Rattle.run_laws.specs.proof.Picked.{IsPicked}
 
 -- ---- where a clock stands

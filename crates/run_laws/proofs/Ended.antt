@@ -17,7 +17,7 @@ use Rattle.bus_machine.specs.Machine.{BusEvent, Start, Step, Finish, Send, Arriv
 use Rattle.bus_machine.specs.declared.action.Action.{Action}
 use Rattle.bus_machine.specs.Targets.{target, next_in}
 use Rattle.bus_machine.proofs.States.{node_stays}
-use Rattle.run_laws.specs.Turns.{upcoming}
+use Rattle.run_laws.specs.NodeActions.{upcoming}
 use Rattle.pals_clock.specs.declared.clock.Clocks.TheVariants.{Lists}
 use Rattle.run_laws.specs.Runs.{clock_at, HasEnded, Does, KeepsTo}
 use Rattle.run_laws.proofs.Clocks.{stands}

@@ -26,7 +26,7 @@ use Rattle.bus_machine.specs.Agreement.{PhaseAgrees, Agrees}
 use Rattle.bus_machine.specs.proof.Laws.{IsRunOf}
 use Rattle.pals_clock.specs.declared.clock.Clocks.{Clocks}
 use Rattle.pals_clock.specs.declared.clock.Clocks.TheVariants.{Meet, Lists}
-use Rattle.run_laws.specs.Turns.{upcoming}
+use Rattle.run_laws.specs.NodeActions.{upcoming}
 use Rattle.run_laws.specs.Runs.{no_clock, clock_at, lists_in, left_for, target_of, HasEnded, Picks, Runs, opens, picks_for, goes_on}
 use Rattle.run_laws.specs.Meetings.{AllDone}
 use Rattle.run_laws.specs.Timely.{IsOver, AllOver}

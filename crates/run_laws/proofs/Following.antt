@@ -18,7 +18,7 @@ use Rattle.bus_machine.specs.Agreement.{PhaseAgrees, Agrees}
 use Rattle.bus_machine.specs.proof.Laws.{IsRunOf}
 use Rattle.bus_machine.specs.declared.action.Action.TheVariants as action
 use Rattle.bus_machine.proofs.States.{node_stays}
-use Rattle.run_laws.specs.Turns.{Follows}
+use Rattle.run_laws.specs.NodeActions.{Follows}
 use Rattle.pals_clock.specs.declared.clock.Clocks.{Clocks}
 use Rattle.pals_clock.specs.declared.clock.Clocks.TheVariants.{Lists}
 use Rattle.run_laws.specs.Runs.{Does, KeepsTo, Runs, opens, picks_for, goes_on}

@@ -15,7 +15,7 @@ use Rattle.bus_machine.specs.NodeEvents.{started, stepped, finished, sent_from, 
 use Rattle.bus_machine.specs.declared.action.Action.{Action}
 use Rattle.bus_machine.specs.declared.action.Action.TheVariants as action
 use Rattle.bus_machine.specs.Targets.{Progress, actions, target, send_is_next, next_action, progress_after, targets, next_in}
-use Rattle.run_laws.specs.Turns.{Turn, turn, progress_in, upcoming, Follows}
+use Rattle.run_laws.specs.NodeActions.{Turn, turn, progress_in, upcoming, Follows}
 use Rattle.run_laws.proofs.Turns.{IsPlan, turn_next, sized, size, bit, action_at, target_at}
 
 -- ---- the next action

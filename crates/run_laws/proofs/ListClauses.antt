@@ -22,7 +22,7 @@ use Rattle.bus_machine.specs.declared.action.Action.{Action}
 use Rattle.bus_machine.specs.declared.action.Action.TheVariants as action
 use Rattle.bus_machine.specs.Targets.{targets, target}
 use Rattle.run_laws.specs.Shown.{sends, acts}
-use Rattle.run_laws.specs.Turns.{turn, progress_in, Follows}
+use Rattle.run_laws.specs.NodeActions.{turn, progress_in, Follows}
 use Rattle.pals_clock.specs.declared.clock.Clocks.TheVariants.{Lists}
 use Rattle.run_laws.specs.Runs.{clock_at, HasEnded, Runs}
 use Rattle.run_laws.specs.proof.Timing.{due_of}

@@ -40,7 +40,7 @@ use Rattle.bus_machine.specs.Targets.{target, targets, next_in}
 use Rattle.bus_machine.proofs.States.{node_stays}
 use Rattle.bus_machine.proofs.Arrivals.{replay_agrees}
 use Rattle.run_laws.specs.Shown.{listed, if_at, act_in, acts}
-use Rattle.run_laws.specs.Turns.{upcoming, Follows}
+use Rattle.run_laws.specs.NodeActions.{upcoming, Follows}
 use Rattle.pals_clock.specs.declared.clock.Clocks.{Clocks}
 use Rattle.pals_clock.specs.declared.clock.Clocks.TheVariants.{Meet, Lists}
 use Rattle.run_laws.specs.Runs.{no_clock, clock_at, Does, Begins, Takes, KeepsTo, Picks, AreFresh, Begin, Runs, opens, picks_for, goes_on}

@@ -11,7 +11,7 @@ use Rattle.bus_machine.specs.Stops.{sent_rounds}
 use Rattle.bus_machine.specs.declared.action.Action.{Action}
 use Rattle.bus_machine.specs.declared.action.Action.TheVariants as action
 use Rattle.bus_machine.specs.Targets.{Progress, send_is_next, next_action, progress_after, actions}
-use Rattle.run_laws.specs.Turns.{turn, progress_in, Follows}
+use Rattle.run_laws.specs.NodeActions.{turn, progress_in, Follows}
 use Rattle.run_laws.proofs.Turns.{IsPlan, bit, size, sized, action_at, length-actions, sent_if, unsent_if}
 use Rattle.run_laws.proofs.Follows.{turn_acts, turn_brings, is_at_most}
 

@@ -29,7 +29,7 @@ use Rattle.bus_machine.specs.declared.action.Action.{Action}
 use Rattle.bus_machine.specs.Targets.{target}
 use Rattle.run_laws.specs.TraceLines.{timed}
 use Rattle.run_laws.specs.Shown.{last_of, latest}
-use Rattle.run_laws.specs.Turns.{upcoming}
+use Rattle.run_laws.specs.NodeActions.{upcoming}
 use Rattle.pals_clock.specs.declared.clock.Clocks.{Clocks}
 use Rattle.pals_clock.specs.declared.clock.Clocks.TheVariants.{Meet, Lists}
 use Rattle.run_laws.specs.Runs.{no_clock, clock_at, Shows, Does, KeepsTo, Picks, Begin, Runs, opens, picks_for, goes_on}

@@ -44,7 +44,7 @@ use Rattle.bus_machine.specs.Targets.{Progress, target, send_is_next, next_actio
 use Rattle.run_laws.specs.TraceRules.{is_due}
 use Rattle.bus_machine.proofs.Lists.{oldest_is_one}
 use Rattle.run_laws.specs.Shown.{send_in, sends}
-use Rattle.run_laws.specs.Turns.{upcoming}
+use Rattle.run_laws.specs.NodeActions.{upcoming}
 use Rattle.pals_clock.specs.declared.clock.Clocks.{Clocks}
 use Rattle.pals_clock.specs.declared.clock.Clocks.TheVariants.{Meet, Lists}
 use Rattle.run_laws.specs.Runs.{no_clock, clock_at, IsLeast, Shows, HasEnded, IsAwaited, Begins, Takes, KeepsTo, Picks, Runs, opens, picks_for, goes_on}

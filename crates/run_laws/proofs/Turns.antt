@@ -9,7 +9,7 @@ use Rattle.bus_machine.specs.declared.plan.Plan.{Plan}
 use Rattle.bus_machine.specs.declared.action.Action.{Action}
 use Rattle.bus_machine.specs.declared.action.Action.TheVariants as action
 use Rattle.bus_machine.specs.Targets.{Progress, target, send_is_next, next_action, progress_after, actions_from, actions, targets}
-use Rattle.run_laws.specs.Turns.{Turn, first_turn, next_turn, turns, turn}
+use Rattle.run_laws.specs.NodeActions.{Turn, first_turn, next_turn, turns, turn}
 
 -- ---- one turn after another
 turns_next : (plan : Plan) (n : ℕ) (t : Turn) → turns plan (suc n) t ≡ next_turn plan (turns plan n t)

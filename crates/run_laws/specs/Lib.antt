@@ -1,5 +1,5 @@
 pub mod Shown
-pub mod Turns
+pub mod NodeActions
 pub mod Runs
 pub mod Each
 pub mod Picked

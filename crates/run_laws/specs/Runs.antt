@@ -20,7 +20,7 @@ use Rattle.bus_machine.specs.Replay.{entries}
 use Rattle.bus_machine.specs.declared.action.Action.{Action}
 use Rattle.bus_machine.specs.Targets.{target, action_of}
 use Rattle.run_laws.specs.TraceRules.{is_due}
-use Rattle.run_laws.specs.Turns.{upcoming}
+use Rattle.run_laws.specs.NodeActions.{upcoming}
 use Rattle.bus_machine.specs.declared.action.Action.TheVariants as action
 
 -- ---- clocks

@@ -15,7 +15,7 @@ use Rattle.run_monitor.specs.declared.violation.Violation.{Violation}
 use Rattle.run_monitor.specs.Monitors.{holds}
 use Rattle.run_monitor.specs.Violations.{history, verdicts}
 use Rattle.run_monitor.specs.proof.States.{MonitorState, whole, said, StandsFor, IsNew, GoesOn}
-use Rattle.run_monitor.specs.proof.Lists.{MonitorsState, HasWatched, WatchesOn, WatchesRound, EachGoesOn}
+use Rattle.run_monitor.specs.proof.MonitorStates.{MonitorsState, HasWatched, WatchesOn, WatchesRound, EachGoesOn}
 use Rattle.run_monitor.proofs.Violations.{violation-more}
 use Rattle.run_monitor.proofs.Watching.{history_goes_on, history_has_rounds}
 

@@ -10,7 +10,7 @@ use Rattle.pals_model.specs.RoundTexts.{line_end, text_of, round_line}
 use Rattle.pals_runs.specs.Formula.{Formula}
 use Rattle.run_monitor.specs.Monitors.{holds}
 use Rattle.run_monitor.specs.Violations.{history}
-use Rattle.run_monitor.specs.Texts.{verdict_line, watched_lines}
+use Rattle.run_monitor.specs.WatchText.{verdict_line, watched_lines}
 use Rattle.run_monitor.specs.proof.Laws.{RowsGoOn}
 use Rattle.run_monitor.proofs.Histories.{past_stays}
 use Rattle.run_monitor.proofs.Watching.{history_goes_on, history_has_rounds}

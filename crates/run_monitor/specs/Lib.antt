@@ -1,5 +1,5 @@
 pub mod Times
 pub mod Monitors
 pub mod Violations
-pub mod Texts
+pub mod WatchText
 pub mod proof

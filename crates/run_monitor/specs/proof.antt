@@ -6,4 +6,4 @@ pub mod Rows
 pub mod Flat
 pub mod Bits
 pub mod States
-pub mod Lists
+pub mod MonitorStates

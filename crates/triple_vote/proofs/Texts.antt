@@ -17,7 +17,7 @@ use Rattle.pals_model.specs.Composition.{state, steps_of_round, tuple_of, taps_o
 use Rattle.pals_model.specs.RoundTexts.{text_of, round_line, component_line, tap_line, part_lines, tap_lines, taps_before, composed_lines}
 use Rattle.pals_model.proofs.CompositionLaws.{state_goes_on, part_from_steps}
 use Rattle.triple_vote.specs.Replicas.{is_replicated, copies_of, frame_at, vcomp, vshown}
-use Rattle.triple_vote.specs.Texts.{replica_name, replica_lines, shown_line, vrow_lines, voted_lines, thrice_lines}
+use Rattle.triple_vote.specs.VotedText.{replica_name, replica_lines, shown_line, vrow_lines, voted_lines, thrice_lines}
 use Rattle.triple_vote.specs.proof.Laws.{ReportIsThrice, ThriceWithoutReplicas}
 use Rattle.triple_vote.proofs.Composed.{replicas_are_states, taps_show_tuples}
 

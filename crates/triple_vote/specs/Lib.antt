@@ -1,4 +1,4 @@
 pub mod Votes
 pub mod Replicas
-pub mod Texts
+pub mod VotedText
 pub mod proof

@@ -7,7 +7,7 @@ use Rattle.pals_model.specs.declared.design.Component.{Component}
 use Rattle.pals_runs.specs.declared.pairs.VoteFault.{VoteFault}
 use Rattle.analysis_fields.specs.declared.faults.RoundFault.{RoundFault}
 use Rattle.triple_vote.specs.Replicas.{is_replicated}
-use Rattle.triple_vote.specs.Texts.{replica_name, replica_lines}
+use Rattle.triple_vote.specs.VotedText.{replica_name, replica_lines}
 
 -- one more fault, behind those of its round, if a table of the first rounds has it
 abbrev pub filed : List (List VoteFault) → RoundFault → List (List VoteFault)

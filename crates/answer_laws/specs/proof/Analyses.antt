@@ -4,7 +4,7 @@ use Rattle.pals_model.specs.declared.design.DesignParts.{DesignParts}
 use Rattle.pals_model.specs.RoundTexts.{report}
 use Rattle.scenario_json.specs.declared.scenario.Scenario.{Scenario}
 use Rattle.triple_vote.specs.proof.Laws.{AreOutvoted}
-use Rattle.triple_vote.specs.Texts.{thrice}
+use Rattle.triple_vote.specs.VotedText.{thrice}
 use Rattle.analysis_texts.specs.Voted.{replicated_in, faults_of}
 use Rattle.pals_top.specs.declared.analysis.Analysis.TheVariants.{Vote, Fuse}
 use Rattle.pals_top.specs.Scenarios.{HasScenario}

@@ -14,7 +14,7 @@ use Rattle.pals_model.specs.RoundTexts.{report}
 use Rattle.plant_fuse.specs.Fused.{ArePairs, Inputs, left_by, frame_before, IsFused}
 use Rattle.plant_fuse.specs.proof.Fused.{made_at, first_rounds, fused}
 use Rattle.plant_fuse.specs.proof.State.{FuseState, AreStates}
-use Rattle.plant_fuse.specs.Texts.{fused_parts, IsFusedReport}
+use Rattle.plant_fuse.specs.FusedText.{fused_parts, IsFusedReport}
 
 -- the equations have a solution for each number of rounds
 abbrev pub SolutionExists : Type 0

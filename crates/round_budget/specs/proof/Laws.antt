@@ -10,7 +10,7 @@ use Rattle.pals_model.specs.declared.design.DesignParts.{DesignParts}
 use Rattle.pals_model.specs.declared.rounds.Env.{Env}
 use Rattle.pals_model.specs.Rules.{IsDesign}
 use Rattle.step_compiler.specs.LaidOut.{AreLaidOut}
-use Rattle.round_budget.specs.Texts.{Processor, some_is_over, budget_text}
+use Rattle.round_budget.specs.BudgetText.{Processor, some_is_over, budget_text}
 use Rattle.round_budget.specs.Budgets.{Release, Served, releases, precedes, budget, most_of, by_most, total, timetable}
 use Rattle.round_budget.specs.proof.Budgets.{response, by_exec, line_in_round}
 

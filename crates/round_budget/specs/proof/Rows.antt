@@ -6,7 +6,7 @@ use Rattle.step_code.specs.proof.Examples.{surface}
 use Rattle.step_compiler.specs.proof.Blocks.{compiled}
 use Rattle.pals_model.specs.declared.design.Component.{Component}
 use Rattle.round_budget.specs.Budgets.{Line, total, fits, timetable}
-use Rattle.round_budget.specs.Texts.{Processor, some_is_over, budget_lines}
+use Rattle.round_budget.specs.BudgetText.{Processor, some_is_over, budget_lines}
 use Rattle.round_budget.specs.proof.Turn.{turn}
 
 -- sum := l + r + t; cmd!(goal)

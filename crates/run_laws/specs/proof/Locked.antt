@@ -14,7 +14,7 @@ use Rattle.bus_machine.specs.Machine.{BusEvent, Arrive, IsStep}
 use Rattle.bus_machine.specs.Replay.{Replays}
 use Rattle.bus_machine.specs.Targets.{target}
 use Rattle.run_laws.specs.TraceRules.{is_due}
-use Rattle.run_laws.specs.Turns.{upcoming}
+use Rattle.run_laws.specs.NodeActions.{upcoming}
 use Rattle.pals_clock.specs.declared.clock.Clocks.{Clocks}
 use Rattle.pals_clock.specs.declared.clock.Clocks.TheVariants.{Lists}
 use Rattle.run_laws.specs.Runs.{clock_at, Does, HasEnded, IsAwaited, Picks, KeepsTo, left_for, next_start}

@@ -8,7 +8,7 @@ use Rattle.bus_machine.specs.Nodes.{NodeState}
 use Rattle.bus_machine.specs.States.{node_at}
 use Rattle.bus_machine.specs.Targets.{targets}
 use Rattle.run_laws.specs.Shown.{acts}
-use Rattle.run_laws.specs.Turns.{Follows}
+use Rattle.run_laws.specs.NodeActions.{Follows}
 use Rattle.run_laws.specs.Runs.{clock_at}
 use Rattle.run_laws.specs.proof.Each.{InListRuns}
 use Rattle.run_laws.specs.Each.{EachNode}

@@ -9,7 +9,7 @@ use Rattle.pals_runs.specs.Formula.{Formula, Previous, Once, Historically, Since
 use Rattle.run_monitor.specs.Monitors.{holds}
 use Rattle.run_monitor.specs.proof.Further.{further, bits_after}
 use Rattle.run_monitor.specs.Violations.{history}
-use Rattle.run_monitor.specs.Texts.{watched_lines, watched_rows}
+use Rattle.run_monitor.specs.WatchText.{watched_lines, watched_rows}
 
 abbrev pub Holds : Formula → List (List Frame) → ℕ → Type 0
 Holds f h n = IsTrue (holds f h n)

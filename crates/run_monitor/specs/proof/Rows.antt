@@ -8,7 +8,7 @@ use Rattle.pals_runs.specs.declared.forms.Compare.TheVariants.{Eq, Lt, Gt}
 use Rattle.pals_runs.specs.Formula.{Formula, Var, Not, Or, Previous, Historically, Since}
 use Rattle.run_monitor.specs.Monitors.{holds}
 use Rattle.run_monitor.specs.Violations.{history, is_violated}
-use Rattle.run_monitor.specs.Texts.{formulas_of, watch_text}
+use Rattle.run_monitor.specs.WatchText.{formulas_of, watch_text}
 
 -- what a formula says at each of the rounds
 abbrev pub watched : Formula → List Bool

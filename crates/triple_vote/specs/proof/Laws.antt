@@ -14,7 +14,7 @@ use Rattle.pals_runs.specs.declared.pairs.VoteFault.{VoteFault}
 use Rattle.pals_model.specs.RoundTexts.{report}
 use Rattle.triple_vote.specs.Votes.{vote}
 use Rattle.triple_vote.specs.Replicas.{source_in, is_replicated, copies_of, Voted, frame_at, received_at, vcomp, vshown}
-use Rattle.triple_vote.specs.Texts.{vreport, thrice}
+use Rattle.triple_vote.specs.VotedText.{vreport, thrice}
 use Rattle.triple_vote.specs.proof.States.{vstate_after}
 
 -- ---- the vote of three: what two agree on wins, and where no two agree it is absent

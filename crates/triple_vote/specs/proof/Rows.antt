@@ -8,7 +8,7 @@ use Rattle.pals_model.specs.Inputs.{no_env}
 use Rattle.pals_runs.specs.declared.pairs.VoteFault.{VoteFault}
 use Rattle.pals_model.specs.RoundTexts.{line_end}
 use Rattle.triple_vote.specs.Replicas.{Voted, vcomp}
-use Rattle.triple_vote.specs.Texts.{vreport}
+use Rattle.triple_vote.specs.VotedText.{vreport}
 use Rattle.triple_vote.specs.proof.Laws.{AreFaults, NameOneEach, AreOutvoted}
 
 -- a replica of p.a sends 100 on p.b.i

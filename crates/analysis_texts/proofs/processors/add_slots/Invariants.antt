@@ -1,6 +1,6 @@
 use Rattle.std.proofs.Common.{◌≡◌, ◌++◌, map, take}
 use Rattle.pals_model.specs.RoundTexts.{text_of}
-use Rattle.round_budget.specs.Texts.{slot_line}
+use Rattle.round_budget.specs.BudgetText.{slot_line}
 use Rattle.round_budget.specs.proof.Values.{line_value}
 use Rattle.round_budget.specs.declared.serving.Line.{Line}
 use Rattle.analysis_texts.proofs.processors.add_slots.Given as goal

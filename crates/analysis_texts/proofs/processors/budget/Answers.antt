@@ -4,7 +4,7 @@ use Rattle.std.proofs.lemmas.List.{take_all}
 use Rattle.std.proofs.lemmas.List.Folds.{flat_map-map}
 use Rattle.pals_model.specs.RoundTexts.{text_of}
 use Rattle.analysis_fields.specs.declared.processors.Processor.{Processor}
-use Rattle.round_budget.specs.Texts.{Processor as Served, fits_on, processor_lines}
+use Rattle.round_budget.specs.BudgetText.{Processor as Served, fits_on, processor_lines}
 use Rattle.analysis_texts.specs.Budgeted.{processor_of}
 use Rattle.analysis_texts.proofs.Blocks.{blocks_all}
 use Rattle.analysis_texts.proofs.Mapped.{list_any-map}

@@ -3,7 +3,7 @@ use Rattle.std.specs.Prelude.{slice_index_or}
 use Rattle.pals_model.specs.RoundTexts.{line_end}
 use Rattle.pals_runs.specs.Journal.{spaced}
 use Rattle.analysis_fields.specs.PropertyValues.{PropertyValue}
-use Rattle.run_monitor.specs.Texts.{names_of, violation_text, last_line}
+use Rattle.run_monitor.specs.WatchText.{names_of, violation_text, last_line}
 use Rattle.analysis_texts.specs.Watched.{named}
 use Rattle.analysis_texts.proofs.WatchedLines.{name_at, last_words}
 use Rattle.analysis_texts.proofs.properties.add_end.Goals as goal

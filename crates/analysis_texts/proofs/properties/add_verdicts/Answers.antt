@@ -3,7 +3,7 @@ use Rattle.std.specs.Prelude.{slice_index_or}
 use Rattle.pals_model.specs.RoundTexts.{line_end}
 use Rattle.pals_report.proofs.WordLines.{lines_turn, lines_all}
 use Rattle.run_monitor.specs.Monitors.{holds}
-use Rattle.run_monitor.specs.Texts.{verdict_line}
+use Rattle.run_monitor.specs.WatchText.{verdict_line}
 use Rattle.analysis_texts.proofs.WatchedLines.{verdict_at, verdict_of, round_and_verdicts}
 use Rattle.analysis_texts.proofs.properties.add_verdicts.Goals as goal
 

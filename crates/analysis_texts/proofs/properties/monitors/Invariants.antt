@@ -1,5 +1,5 @@
 use Rattle.std.proofs.Common.{[], take}
-use Rattle.run_monitor.specs.proof.Lists.{HasWatched}
+use Rattle.run_monitor.specs.proof.MonitorStates.{HasWatched}
 use Rattle.analysis_texts.specs.Watched.{formulas}
 use Rattle.analysis_texts.proofs.properties.monitors.Given as goal
 

@@ -2,8 +2,8 @@ use Rattle.std.proofs.Common.{rules, refl, ◌≡◌, ◌<◌, ◌+◌, ◌++◌
 use Rattle.pals_model.specs.Composition.{comp}
 use Rattle.pals_model.specs.Inputs.{values_at}
 use Rattle.pals_model.specs.RoundTexts.{text_of}
-use Rattle.run_monitor.specs.proof.Lists.{HasWatched}
-use Rattle.run_monitor.specs.Texts.{watched_lines, watched_rows}
+use Rattle.run_monitor.specs.proof.MonitorStates.{HasWatched}
+use Rattle.run_monitor.specs.WatchText.{watched_lines, watched_rows}
 use Rattle.run_monitor.specs.Violations.{history, violation, is_violated}
 use Rattle.analysis_texts.specs.Watched.{named, formulas}
 use Rattle.analysis_texts.proofs.Rounds.{written_whole, length_values_at}

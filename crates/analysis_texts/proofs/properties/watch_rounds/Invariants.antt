@@ -1,7 +1,7 @@
 use Rattle.std.proofs.Common.{◌≡◌, length}
 use Rattle.pals_model.specs.Composition.{comp}
-use Rattle.run_monitor.specs.proof.Lists.{HasWatched}
-use Rattle.run_monitor.specs.Texts.{watched_rows}
+use Rattle.run_monitor.specs.proof.MonitorStates.{HasWatched}
+use Rattle.run_monitor.specs.WatchText.{watched_rows}
 use Rattle.run_monitor.specs.Violations.{history}
 use Rattle.analysis_texts.specs.Watched.{named, formulas}
 use Rattle.analysis_texts.proofs.properties.watch_rounds.Given as goal

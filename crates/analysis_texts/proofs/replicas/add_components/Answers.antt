@@ -4,7 +4,7 @@ use Rattle.pals_model.specs.declared.design.Component.{Component}
 use Rattle.pals_model.specs.declared.design.DesignParts.{DesignParts}
 use Rattle.pals_model.specs.RoundTexts.{text_of}
 use Rattle.triple_vote.specs.Replicas.{is_replicated, frame_at}
-use Rattle.triple_vote.specs.Texts.{replica_lines}
+use Rattle.triple_vote.specs.VotedText.{replica_lines}
 use Rattle.sync_product.proofs.Tables.{entry_at, item_at, length-numbered, numbered-at}
 use Rattle.pals_report.proofs.RowLines.{lines_turn}
 use Rattle.analysis_texts.specs.proof.Voted.{names_of, all_names, all_lines}

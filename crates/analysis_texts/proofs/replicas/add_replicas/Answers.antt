@@ -5,7 +5,7 @@ use Rattle.pals_base.specs.declared.behaviour.BehaviourParts.{BehaviourParts}
 use Rattle.pals_base.specs.declared.values.Frame.{Frame}
 use Rattle.pals_model.specs.RoundTexts.{line_end, text_of, component_line}
 use Rattle.triple_vote.specs.Replicas.{is_replicated, copies_of, frame_at}
-use Rattle.triple_vote.specs.Texts.{replica_name}
+use Rattle.triple_vote.specs.VotedText.{replica_name}
 use Rattle.triple_vote.proofs.Tables.{table-at}
 use Rattle.analysis_texts.specs.proof.Voted.{names_of}
 use Rattle.analysis_texts.proofs.Blocks.{counted_turn}

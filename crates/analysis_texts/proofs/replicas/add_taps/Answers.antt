@@ -4,7 +4,7 @@ use Rattle.std.proofs.lemmas.List.{get_or-map}
 use Rattle.pals_model.specs.Ports.{out_kind}
 use Rattle.pals_model.specs.RoundTexts.{line_end, tap_line}
 use Rattle.pals_report.proofs.WordLines.{lines_turn, lines_all}
-use Rattle.triple_vote.specs.Texts.{shown_line}
+use Rattle.triple_vote.specs.VotedText.{shown_line}
 use Rattle.analysis_texts.proofs.replicas.add_taps.Goals as goal
 
 pub loop-number-preserved : goal.loop-number-preserved

@@ -2,7 +2,7 @@ use Rattle.std.proofs.Common.{◌≡◌, ◌++◌, List, map, take}
 use Rattle.pals_base.specs.declared.values.Port.{Port}
 use Rattle.pals_model.specs.declared.design.Tap.{Tap}
 use Rattle.pals_model.specs.RoundTexts.{text_of}
-use Rattle.triple_vote.specs.Texts.{shown_line}
+use Rattle.triple_vote.specs.VotedText.{shown_line}
 use Rattle.analysis_texts.proofs.replicas.add_taps.Given as goal
 
 -- the lines so far, whatever the ports show

@@ -7,7 +7,7 @@ use Rattle.pals_runs.specs.declared.pairs.VoteFault.{VoteFault}
 use Rattle.triple_vote.specs.proof.Laws.{IsFault}
 use Rattle.triple_vote.specs.Replicas.{vcomp, vshown_by}
 use Rattle.triple_vote.specs.proof.States.{VotedState, vadvanced}
-use Rattle.triple_vote.specs.Texts.{vreport}
+use Rattle.triple_vote.specs.VotedText.{vreport}
 use Rattle.triple_vote.proofs.Tables.{table-at}
 use Rattle.analysis_texts.specs.proof.Voted.{all_names}
 use Rattle.analysis_texts.proofs.Rounds.{written_whole, length_values_at}

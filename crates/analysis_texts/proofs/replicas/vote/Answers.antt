@@ -2,7 +2,7 @@ use Rattle.std.proofs.Common.{◌≡◌, ◌∙◌, All, IfOk, sym, ap, subst}
 use Rattle.pals_model.specs.declared.design.DesignParts.{DesignParts}
 use Rattle.analysis_fields.specs.proof.AnalysisFacts.{IsFaultOf}
 use Rattle.triple_vote.specs.proof.States.{VotedState, vbegun}
-use Rattle.triple_vote.specs.Texts.{vreport}
+use Rattle.triple_vote.specs.VotedText.{vreport}
 use Rattle.analysis_texts.specs.Voted.{replicated_in, faults_of}
 use Rattle.analysis_texts.proofs.replicas.vote.Goals as goal
 

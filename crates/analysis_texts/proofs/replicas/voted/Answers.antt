@@ -4,7 +4,7 @@ use Rattle.pals_base.specs.Steps.{upwards}
 use Rattle.pals_model.specs.declared.design.DesignParts.{DesignParts}
 use Rattle.triple_vote.specs.Replicas.{vopening}
 use Rattle.triple_vote.specs.proof.States.{VotedState}
-use Rattle.triple_vote.specs.Texts.{vreport}
+use Rattle.triple_vote.specs.VotedText.{vreport}
 use Rattle.analysis_texts.specs.Voted.{replicated_in, faults_of}
 use Rattle.analysis_texts.specs.proof.Voted.{all_names}
 use Rattle.analysis_texts.proofs.Filing.{length-table}

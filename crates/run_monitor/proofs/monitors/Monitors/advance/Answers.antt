@@ -4,7 +4,7 @@ use Rattle.std.specs.Option.{option_or}
 use Rattle.run_monitor.specs.proof.Bits.{row_of}
 use Rattle.run_monitor.specs.Violations.{history}
 use Rattle.run_monitor.specs.proof.States.{MonitorState, said}
-use Rattle.run_monitor.specs.proof.Lists.{MonitorsState, HasWatched}
+use Rattle.run_monitor.specs.proof.MonitorStates.{MonitorsState, HasWatched}
 use Rattle.run_monitor.proofs.Watching.{history_has_rounds}
 use Rattle.run_monitor.proofs.Several.{at_round, false_in, watch_on, watch_round}
 use Rattle.run_monitor.proofs.monitors.Monitors.advance.Goals as goal
