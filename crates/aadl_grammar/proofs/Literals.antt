@@ -18,7 +18,7 @@ use Rattle.aadl_lex.specs.proof.Spelled.{IsReal, IsString, IsUnread}
 use Rattle.aadl_lex.proofs.Closes.{unread_ends}
 use Rattle.aadl_lex.proofs.Scans.{more_by, decimal_cons}
 use Rattle.aadl_lex.proofs.Basics.{both_left, both_right}
-use Rattle.aadl_grammar.proofs.FirstTokens.{stops, run_all, Visible, fourth}
+use Rattle.aadl_grammar.proofs.FirstTokens.{stops, run_all, Visible, not_blank, not_comment, fourth}
 
 pub at_seam : (w rest : List ℕ) → get_or (w ++ rest) (length w) 0 ≡ get_or rest 0 0
 at_seam [] rest = refl
