@@ -57,7 +57,6 @@ pub enum Op {
 /// An expression, with its names resolved to numbers. A number of a variable at or past the number
 /// of variables is a loop variable of a loop round the place, the outermost first.
 #[cycle(expr)]
-#[derive(Drop)]
 pub enum Expr {
     Literal(i64),
     Variable(u32),
@@ -72,6 +71,23 @@ pub enum Expr {
     },
 }
 
+// By hand, so that letting it go is one call in the crates above, and is proved once.
+impl Drop for Expr {
+    #[cycle(expr_drop)]
+    fn drop(self) {
+        match self {
+            Expr::Literal(_) => {}
+            Expr::Variable(_) => {}
+            Expr::Port(_) => {}
+            Expr::Fresh(_) => {}
+            Expr::Neg(_) => {}
+            Expr::Abs(_) => {}
+            Expr::Not(_) => {}
+            Expr::Chain { first: _, rest: _ } => {}
+        }
+    }
+}
+
 /// A later operand of a chain. A chain is evaluated from left to right.
 #[cycle(expr)]
 #[derive(Drop)]
@@ -82,7 +98,6 @@ pub struct Operand {
 
 /// An action of a transition.
 #[cycle(act)]
-#[derive(Drop)]
 pub enum Act {
     /// Sets a variable.
     Assign {
@@ -105,6 +120,29 @@ pub enum Act {
         high: i64,
         body: Vec<Act>,
     },
+}
+
+// By hand, so that letting it go is one call in the crates above, and is proved once.
+impl Drop for Act {
+    #[cycle(act_drop)]
+    fn drop(self) {
+        match self {
+            Act::Assign {
+                variable: _,
+                value: _,
+            } => {}
+            Act::Emit { port: _, value: _ } => {}
+            Act::If {
+                branches: _,
+                otherwise: _,
+            } => {}
+            Act::For {
+                low: _,
+                high: _,
+                body: _,
+            } => {}
+        }
+    }
 }
 
 /// A branch of an `if`.
@@ -148,7 +186,6 @@ impl Model for Transition {
 
 /// The parts of a behaviour: its ports, variables and states, the number of its initial state, and
 /// the transitions in the text's order.
-#[derive(Drop)]
 pub struct BehaviourParts {
     pub ins: Items<Named>,
     pub outs: Items<Named>,
@@ -158,12 +195,31 @@ pub struct BehaviourParts {
     pub transitions: Items<Transition>,
 }
 
+// By hand, so that letting it go is one call in the crates above, and is proved once.
+impl Drop for BehaviourParts {
+    fn drop(self) {
+        let BehaviourParts {
+            ins: _,
+            outs: _,
+            vars: _,
+            states: _,
+            initial: _,
+            transitions: _,
+        } = self;
+    }
+}
+
 /// What a thread does, which contracts see as its parts. It is well typed and its loops are short;
 /// one transition at the dispatch leaves each complete state, and from every other state a step can
 /// go on and comes to a complete one, so that each step ends.
-#[derive(Drop)]
 pub struct Behaviour {
     parts: BehaviourParts,
+}
+
+impl Drop for Behaviour {
+    fn drop(self) {
+        let Behaviour { parts: _ } = self;
+    }
 }
 
 impl Model for Behaviour {

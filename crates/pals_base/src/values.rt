@@ -35,12 +35,23 @@ pub enum Trap {
 
 /// What a component keeps from one step to the next: the number of its state, its variables, the
 /// last value that each in port brought, and the trap that halted it, if one did.
-#[derive(Drop)]
 pub struct Frame {
     pub state: u32,
     pub vars: Items<i64>,
     pub held: Items<i64>,
     pub halt: Option<Trap>,
+}
+
+// By hand, so that letting it go is one call in the crates above.
+impl Drop for Frame {
+    fn drop(self) {
+        let Frame {
+            state: _,
+            vars: _,
+            held: _,
+            halt: _,
+        } = self;
+    }
 }
 
 /// The bounds of a system, in nanoseconds: how far a clock may be from the time (less than `eps`),

@@ -6,11 +6,16 @@ use std::marker::Model;
 
 /// A thread of the flattened design: its path from the root, how many steps it makes in a round,
 /// and what it does.
-#[derive(Drop)]
 pub struct Component {
     pub path: Text,
     pub rate: u32,
     pub behaviour: Behaviour,
+}
+
+impl Drop for Component {
+    fn drop(self) {
+        let Component { path: _, rate: _, behaviour: _ } = self;
+    }
 }
 
 /// A delayed connection from an out port to an in port. Ports are numbered in the order of
@@ -44,7 +49,6 @@ pub struct Tap {
 /// The parts of a design. The period and the bounds are in nanoseconds. Components stand in
 /// depth-first order of declaration, links and feeds in order of target and in port, taps in order
 /// of the root out ports; `ignored` are the names of properties that mean nothing here.
-#[derive(Drop)]
 pub struct DesignParts {
     pub period: Nanos,
     pub gamma: Gamma,
@@ -55,10 +59,22 @@ pub struct DesignParts {
     pub ignored: Items<Text>,
 }
 
+// By hand, so that letting it go is one call in the crates above, and is proved once.
+impl Drop for DesignParts {
+    fn drop(self) {
+        let DesignParts { period: _, gamma: _, components: _, links: _, feeds: _, taps: _, ignored: _ } = self;
+    }
+}
+
 /// A design, which contracts see as its parts.
-#[derive(Drop)]
 pub struct Design {
     parts: DesignParts,
+}
+
+impl Drop for Design {
+    fn drop(self) {
+        let Design { parts: _ } = self;
+    }
 }
 
 impl Model for Design {

@@ -27,10 +27,15 @@ impl Env {
 }
 
 /// What one component leaves after a round: its frame, and the whole tuple of each of its taps.
-#[derive(Drop)]
 pub struct Part {
     pub frame: Frame,
     pub outs: Items<Tuple>,
+}
+
+impl Drop for Part {
+    fn drop(self) {
+        let Part { frame: _, outs: _ } = self;
+    }
 }
 
 impl Part {
