@@ -4,7 +4,6 @@ use pals_base::Adaptor::{self, At, Average, First, Last, Latest, Max, Min, Repea
 use pals_base::Port::{self, Absent, Present};
 use pals_base::{NoMemory, Tuple};
 use std::alloc::Global;
-use std::test::Fail;
 
 const SEVEN: Port = Present(7);
 
@@ -80,10 +79,12 @@ fn is_adapted(alloc: Global, case: &Case) -> Result<bool, NoMemory> {
     Ok(adapt(alloc, adaptor, p, q, &tuple)?.as_slice() == wanted)
 }
 
-#[test]
-fn adapted_tuples(rt: HostRuntime) -> Result<(), Fail> {
+/// Whether each tuple goes over to the places that it should.
+pub fn are_adapted(alloc: Global) -> Result<bool, NoMemory> {
     for case in &CASES {
-        assert!(rt; is_adapted(rt.alloc(), case)?, "{case:?}");
+        if !is_adapted(alloc, case)? {
+            return Ok(false);
+        }
     }
-    Ok(())
+    Ok(true)
 }

@@ -46,41 +46,58 @@ const AT_ONCE: Gamma = Gamma {
     mu_max: 0,
 };
 
-#[test]
-fn usual_periods(rt: HostRuntime) {
-    assert_eq!(rt; backoff(&USUAL), 1_000_000);
-    assert_eq!(rt; least_period(&USUAL, 4), 12_000_000);
-    assert_eq!(rt; least_period(&USUAL, 1), 9_000_000);
-    assert!(rt; meets(&USUAL, 9_000_000, 1));
-    assert!(rt; !meets(&USUAL, 8_999_999, 1));
+/// Whether periods are held to the bound, at its very end.
+pub fn are_usual_periods() -> bool {
+    let found = [
+        backoff(&USUAL),
+        least_period(&USUAL, 4),
+        least_period(&USUAL, 1),
+    ];
+    found == [1_000_000, 12_000_000, 9_000_000]
+        && meets(&USUAL, 9_000_000, 1)
+        && !meets(&USUAL, 8_999_999, 1)
 }
 
-#[test]
-fn slow_periods(rt: HostRuntime) {
-    assert_eq!(rt; least_period(&SLOW_STEPS, 4), 24_000_000);
-    assert_eq!(rt; backoff(&SLOW_NETWORK), 0);
-    assert_eq!(rt; least_period(&SLOW_NETWORK, 1), 6_000_000);
+/// The same where steps or messages are slow.
+pub fn are_slow_periods() -> bool {
+    let found = [
+        least_period(&SLOW_STEPS, 4),
+        backoff(&SLOW_NETWORK),
+        least_period(&SLOW_NETWORK, 1),
+    ];
+    found == [24_000_000, 0, 6_000_000]
 }
 
-#[test]
-fn least_multiples(rt: HostRuntime) {
-    assert_eq!(rt; least_multiple(&USUAL, &[]), Some(9_000_000));
-    assert_eq!(rt; least_multiple(&USUAL, &[1, 7]), Some(21_000_000));
-    assert_eq!(rt; least_multiple(&USUAL, &[1, 1, 2, 4]), Some(12_000_000));
-    assert_eq!(rt; least_multiple(&USUAL, &[7, 9]), Some(27_000_036));
+/// Whether the least period that all rates divide is found.
+pub fn are_least_multiples() -> bool {
+    let found = [
+        least_multiple(&USUAL, &[]),
+        least_multiple(&USUAL, &[1, 7]),
+        least_multiple(&USUAL, &[1, 1, 2, 4]),
+        least_multiple(&USUAL, &[7, 9]),
+    ];
+    found
+        == [
+            Some(9_000_000),
+            Some(21_000_000),
+            Some(12_000_000),
+            Some(27_000_036),
+        ]
 }
 
-#[test]
-fn least_multiples_at_the_ends(rt: HostRuntime) {
-    assert_eq!(rt; least_multiple(&HOUR, &[1, 7]), None);
-    assert_eq!(rt; least_multiple(&AT_ONCE, &[7, 9]), Some(0));
+/// The same at the ends: past an hour there is none, and with bounds of 0 it is 0.
+pub fn are_least_multiples_at_the_ends() -> bool {
+    let found = [
+        least_multiple(&HOUR, &[1, 7]),
+        least_multiple(&AT_ONCE, &[7, 9]),
+    ];
+    found == [None, Some(0)]
 }
 
-// Their least common multiple is above 2^64.
-#[test]
-fn rates_without_a_common_period(rt: HostRuntime) {
+/// Whether rates whose least common multiple is above 2^64 have no common period.
+pub fn have_no_common_period() -> bool {
     let rates = [
         64, 63, 61, 59, 55, 53, 47, 43, 41, 37, 31, 29, 23, 19, 17, 13,
     ];
-    assert_eq!(rt; least_multiple(&USUAL, &rates), None);
+    least_multiple(&USUAL, &rates).is_none()
 }

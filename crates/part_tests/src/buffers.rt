@@ -2,7 +2,6 @@
 use link_buffers::{DueEntry, DueQueue, Flight, Slot};
 use pals_base::{Items, LinkNo, NoMemory, Port, Tuple};
 use std::alloc::Global;
-use std::test::Fail;
 
 // A message of one value.
 fn message(alloc: Global, value: i64) -> Result<Tuple, NoMemory> {
@@ -25,15 +24,15 @@ fn entry(due: u64, link: u32, round: u32) -> DueEntry {
     }
 }
 
-#[test]
-fn full_slot_keeps_its_message(rt: HostRuntime) -> Result<(), Fail> {
+/// Whether a full slot keeps its message and hands the new one back.
+pub fn full_slot_keeps_its_message(alloc: Global) -> Result<bool, NoMemory> {
+    let first = message(alloc, 1)?;
+    let second = message(alloc, 2)?;
     let mut slot = Slot::new();
-    assert_eq!(rt; value(slot.slot_put(message(rt.alloc(), 1)?)), None);
-    assert_eq!(rt; value(slot.slot_put(message(rt.alloc(), 2)?)), Some(2));
-    assert!(rt; slot.is_full());
-    assert_eq!(rt; value(slot.slot_take()), Some(1));
-    assert!(rt; !slot.is_full());
-    Ok(())
+    let put = [value(slot.slot_put(first)), value(slot.slot_put(second))];
+    let was_full = slot.is_full();
+    let taken = value(slot.slot_take());
+    Ok(put == [None, Some(2)] && was_full && taken == Some(1) && !slot.is_full())
 }
 
 // Three copies, of the rounds 0, 1 and 0.
@@ -66,33 +65,44 @@ fn taken(flight: &mut Flight, rounds: [u32; 4]) -> [Option<i64>; 4] {
     values
 }
 
-#[test]
-fn flight_of_three_copies(rt: HostRuntime) -> Result<(), Fail> {
-    let mut flight = three_copies(rt.alloc())?;
-    assert_eq!(rt; dues(&flight), [None, Some(1), Some(0)]);
-    assert_eq!(rt;
-        taken(&mut flight, [1, 0, 0, 0]),
-        [Some(11), Some(10), Some(12), None]
-    );
-    assert!(rt; flight.flight_oldest(1).is_none());
-    Ok(())
+/// Whether a flight of three copies knows which are due, and gives each once.
+pub fn flight_gives_its_copies(alloc: Global) -> Result<bool, NoMemory> {
+    let mut flight = three_copies(alloc)?;
+    let dues = dues(&flight);
+    let values = taken(&mut flight, [1, 0, 0, 0]);
+    Ok(
+        dues == [None, Some(1), Some(0)]
+            && values == [Some(11), Some(10), Some(12), None]
+            && flight.flight_oldest(1).is_none(),
+    )
 }
 
-#[test]
-fn queue_in_order_of_due_readings(rt: HostRuntime) -> Result<(), Fail> {
-    let mut queue = DueQueue::new(rt.alloc())?;
+// A queue of three entries.
+fn three_entries(alloc: Global) -> Result<DueQueue, NoMemory> {
+    let mut queue = DueQueue::new(alloc)?;
     queue.reserve(4)?;
     queue.add(entry(9, 0, 2));
     queue.add(entry(5, 1, 0));
     queue.add(entry(3, 2, 1));
-    assert_eq!(rt; queue.due_count(5), 2);
+    Ok(queue)
+}
+
+/// Whether a queue is in order of due readings and keeps equal entries apart.
+pub fn queue_is_in_order_of_due_readings(alloc: Global) -> Result<bool, NoMemory> {
+    let mut queue = three_entries(alloc)?;
+    let few = queue.due_count(5);
     queue.add(entry(5, 1, 0));
-    assert_eq!(rt; queue.due_count(5), 3);
-    assert_eq!(rt; queue.get(0), Some(entry(3, 2, 1)));
-    assert!(rt; queue.remove(entry(5, 1, 0)));
-    assert!(rt; queue.remove(entry(5, 1, 0)));
-    assert!(rt; !queue.remove(entry(5, 1, 0)));
-    assert_eq!(rt; queue.get(1), Some(entry(9, 0, 2)));
-    assert_eq!(rt; queue.get(2), None);
-    Ok(())
+    let more = queue.due_count(5);
+    let first = queue.get(0);
+    let removed = [
+        queue.remove(entry(5, 1, 0)),
+        queue.remove(entry(5, 1, 0)),
+        queue.remove(entry(5, 1, 0)),
+    ];
+    let left = [first, queue.get(1), queue.get(2)];
+    Ok(
+        [few, more] == [2, 3]
+            && removed == [true, true, false]
+            && left == [Some(entry(3, 2, 1)), Some(entry(9, 0, 2)), None],
+    )
 }

@@ -2,7 +2,6 @@
 use pals_base::{Items, NoMemory};
 use pals_clock::{ClockEnd, ListClock};
 use std::alloc::Global;
-use std::test::Fail;
 
 // A node's clock in a run of two rounds, in nanoseconds.
 fn clock(alloc: Global) -> Result<ListClock, NoMemory> {
@@ -10,23 +9,24 @@ fn clock(alloc: Global) -> Result<ListClock, NoMemory> {
     Ok(ListClock::new(readings))
 }
 
-#[test]
-fn fresh_clock_has_no_pick(rt: HostRuntime) -> Result<(), Fail> {
-    let mut clock = clock(rt.alloc())?;
-    assert_eq!(rt; clock.wait_for(9500000), Ok(10000000));
-    let mut fresh = clock.fresh(rt.alloc())?;
-    assert!(rt; fresh.same_list(&clock));
-    assert_eq!(rt; fresh.wait_for(9000000), Ok(9000000));
-    assert_eq!(rt; clock.wait_for(9000000), Ok(10000000));
-    Ok(())
+/// Whether a fresh clock of a list has the list, and picks from its first reading on.
+pub fn fresh_clock_has_no_pick(alloc: Global) -> Result<bool, NoMemory> {
+    let mut clock = clock(alloc)?;
+    let first = clock.wait_for(9500000);
+    let mut fresh = clock.fresh(alloc)?;
+    let is_same = fresh.same_list(&clock);
+    let picks = [first, fresh.wait_for(9000000), clock.wait_for(9000000)];
+    Ok(is_same && picks == [Ok(10000000), Ok(9000000), Ok(10000000)])
 }
 
-#[test]
-fn refused_clock_stands_where_it_stood(rt: HostRuntime) -> Result<(), Fail> {
-    let mut clock = clock(rt.alloc())?;
-    assert_eq!(rt; clock.wait_for(18000000), Ok(18000000));
-    assert_eq!(rt; clock.wait_for(19000001), Err(ClockEnd));
-    assert_eq!(rt; clock.wait_for(18000000), Ok(18000000));
-    assert_eq!(rt; clock.wait_for(18000001), Ok(19000000));
-    Ok(())
+/// Whether a clock stays where it stood where no reading is left for a wait.
+pub fn refused_clock_stands_where_it_stood(alloc: Global) -> Result<bool, NoMemory> {
+    let mut clock = clock(alloc)?;
+    let picks = [
+        clock.wait_for(18000000),
+        clock.wait_for(19000001),
+        clock.wait_for(18000000),
+        clock.wait_for(18000001),
+    ];
+    Ok(picks == [Ok(18000000), Err(ClockEnd), Ok(18000000), Ok(19000000)])
 }

@@ -7,7 +7,6 @@ use pals_io::{
 use std::alloc::{AllocError, Global};
 use std::io;
 use std::io::{ErrorKind, Read, Write};
-use std::test::Fail;
 
 // Gives or takes two bytes, then fails, then gives or takes two bytes more.
 #[derive(Drop)]
@@ -70,22 +69,15 @@ fn end_of<S: Source>(alloc: Global, source: &mut S, most: usize) -> Option<ReadE
     read_all(alloc, source, most).err()
 }
 
-#[test]
-fn reads_from_memory(rt: HostRuntime) -> Result<(), Fail> {
-    let mut source = source(rt.alloc(), b"abcdefg", 3, &[2, 5])?;
+/// Whether a source of bytes gives them piece by piece, and fails where it is told to.
+pub fn reads_from_memory(alloc: Global) -> Result<bool, AllocError> {
+    let mut source = source(alloc, b"abcdefg", 3, &[2, 5])?;
     let mut buf = [0u8; 4];
-    for (call, want) in [
-        (1, Ok(3)),
-        (2, Err(Failed)),
-        (3, Ok(3)),
-        (4, Ok(1)),
-        (5, Err(Failed)),
-        (6, Ok(0)),
-    ] {
-        assert_eq!(rt; source.read(&mut buf), want, "call {call}");
+    let mut is_right = true;
+    for want in [Ok(3), Err(Failed), Ok(3), Ok(1), Err(Failed), Ok(0)] {
+        is_right = is_right && source.read(&mut buf) == want;
     }
-    assert_eq!(rt; buf, *b"gef\0");
-    Ok(())
+    Ok(is_right && buf == *b"gef\0")
 }
 
 // A sink whose second call fails.
@@ -94,24 +86,22 @@ fn sink(alloc: Global) -> Result<MemSink, AllocError> {
     MemSink::new(alloc, 16, 8, failing)
 }
 
-#[test]
-fn writes_to_memory(rt: HostRuntime) -> Result<(), Fail> {
-    let mut sink = sink(rt.alloc())?;
-    assert!(rt; write_all(&mut sink, b"round 0\nround 1\n").is_err());
-    assert!(rt; sink.taken() == b"round 0\n".as_slice());
-    assert!(rt; write_all(&mut sink, b"round 1\n").is_ok());
-    assert!(rt; sink.taken() == b"round 0\nround 1\n".as_slice());
-    assert!(rt; write_all(&mut sink, b".").is_err());
-    Ok(())
+/// Whether a sink keeps what it took before a call that failed, and goes on behind it.
+pub fn writes_to_memory(alloc: Global) -> Result<bool, AllocError> {
+    let mut sink = sink(alloc)?;
+    let first = write_all(&mut sink, b"round 0\nround 1\n").is_err();
+    let is_half = sink.taken() == b"round 0\n".as_slice();
+    let second = write_all(&mut sink, b"round 1\n").is_ok();
+    let is_whole = sink.taken() == b"round 0\nround 1\n".as_slice();
+    Ok(first && is_half && second && is_whole && write_all(&mut sink, b".").is_err())
 }
 
-#[test]
-fn writes_to_a_small_memory(rt: HostRuntime) -> Result<(), Fail> {
-    let mut sink = MemSink::new(rt.alloc(), 5, 3, Vec::new(rt.alloc()))?;
-    assert!(rt; write_all(&mut sink, b"").is_ok());
-    assert!(rt; write_all(&mut sink, b"abcdefg").is_err());
-    assert!(rt; sink.taken() == b"abcde".as_slice());
-    Ok(())
+/// Whether a small sink takes what it has room for.
+pub fn writes_to_a_small_memory(alloc: Global) -> Result<bool, AllocError> {
+    let mut sink = MemSink::new(alloc, 5, 3, Vec::new(alloc))?;
+    let nothing = write_all(&mut sink, b"").is_ok();
+    let more = write_all(&mut sink, b"abcdefg").is_err();
+    Ok(nothing && more && sink.taken() == b"abcde".as_slice())
 }
 
 // How many of `count` sevens are read, at most 1000 a call.
@@ -121,46 +111,54 @@ fn sevens_read(alloc: Global, count: usize, most: usize) -> Result<usize, ReadEn
     Ok(read_all(alloc, &mut source, most)?.len())
 }
 
-#[test]
-fn reads_to_the_end(rt: HostRuntime) {
-    for (count, most, want) in [
-        (0, 0, Ok(0)),
-        (1, 0, Err(ReadEnd::TooLong)),
-        (70_000, 70_000, Ok(70_000)),
-        (70_001, 70_000, Err(ReadEnd::TooLong)),
-        (70_000, usize::MAX, Ok(70_000)),
-    ] {
-        let read = sevens_read(rt.alloc(), count, most);
-        assert!(rt; read == want, "{count} bytes, at most {most}");
-    }
+/// Whether all is read up to the end, and nothing past the limit.
+pub fn reads_to_the_end(alloc: Global) -> bool {
+    let read = [
+        sevens_read(alloc, 0, 0),
+        sevens_read(alloc, 1, 0),
+        sevens_read(alloc, 70_000, 70_000),
+        sevens_read(alloc, 70_001, 70_000),
+        sevens_read(alloc, 70_000, usize::MAX),
+    ];
+    read == [
+        Ok(0),
+        Err(ReadEnd::TooLong),
+        Ok(70_000),
+        Err(ReadEnd::TooLong),
+        Ok(70_000),
+    ]
 }
 
-#[test]
-fn reads_on_behind_a_fault(rt: HostRuntime) -> Result<(), Fail> {
-    let mut source = source(rt.alloc(), b"abc", 1, &[1])?;
-    assert!(rt; end_of(rt.alloc(), &mut source, 3) == Some(ReadEnd::ReadFault));
-    assert!(rt; gives(rt.alloc(), &mut source, 3, b"abc"));
-    Ok(())
+/// Whether a source that failed gives all its bytes to who asks again.
+pub fn reads_on_behind_a_fault(alloc: Global) -> Result<bool, AllocError> {
+    let mut source = source(alloc, b"abc", 1, &[1])?;
+    let end = end_of(alloc, &mut source, 3);
+    Ok(end == Some(ReadEnd::ReadFault) && gives(alloc, &mut source, 3, b"abc"))
 }
 
-#[test]
-fn reads_from_std(rt: HostRuntime) {
-    let mut source = ReadSource::new(b"abc".as_slice());
-    assert!(rt; gives(rt.alloc(), &mut source, 3, b"abc"));
-    let mut source = ReadSource::new(Faulty { calls: 0 });
-    assert!(rt; end_of(rt.alloc(), &mut source, 9) == Some(ReadEnd::ReadFault));
-    assert!(rt; gives(rt.alloc(), &mut source, 9, b"xx"));
+/// Whether the readers of the standard library are read.
+pub fn reads_from_std(alloc: Global) -> bool {
+    let mut whole = ReadSource::new(b"abc".as_slice());
+    let mut faulty = ReadSource::new(Faulty { calls: 0 });
+    gives(alloc, &mut whole, 3, b"abc")
+        && end_of(alloc, &mut faulty, 9) == Some(ReadEnd::ReadFault)
+        && gives(alloc, &mut faulty, 9, b"xx")
 }
 
-#[test]
-fn writes_to_std(rt: HostRuntime) {
-    let mut sink = WriteSink::new(Faulty { calls: 0 });
-    assert!(rt; write_all(&mut sink, b"abcd").is_err());
-    assert!(rt; write_all(&mut sink, b"cd").is_ok());
+// Whether the bytes that find no room are refused and the others written.
+fn fills_a_slice() -> bool {
     let mut short = [0u8; 2];
-    assert!(rt; write_all(&mut WriteSink::new(short.as_mut_slice()), b"abc").is_err());
-    assert!(rt; short == *b"ab");
-    let mut written = Vec::new(rt.alloc());
-    assert!(rt; write_all(&mut WriteSink::new(&mut written), b"abc").is_ok());
-    assert!(rt; written.as_slice() == b"abc".as_slice());
+    let is_refused = write_all(&mut WriteSink::new(short.as_mut_slice()), b"abc").is_err();
+    is_refused && short == *b"ab"
+}
+
+/// Whether the writers of the standard library are written to.
+pub fn writes_to_std(alloc: Global) -> bool {
+    let mut sink = WriteSink::new(Faulty { calls: 0 });
+    let is_refused = write_all(&mut sink, b"abcd").is_err();
+    let is_taken = write_all(&mut sink, b"cd").is_ok();
+    let mut written = Vec::new(alloc);
+    let is_written = write_all(&mut WriteSink::new(&mut written), b"abc").is_ok();
+    let is_whole = is_written && written.as_slice() == b"abc".as_slice();
+    is_refused && is_taken && fills_a_slice() && is_whole
 }
