@@ -45,6 +45,3 @@ fn command_words(rt: &(impl Env + AllocGlobal)) -> Result<Vec<Text>, NoMemory> {
     }
     Ok(words)
 }
-
-#[cfg(test)]
-mod tests;
