@@ -5,7 +5,6 @@ use crate::names::{Identifier, Reference};
 
 /// What a transition does.
 #[cycle(action)]
-#[derive(Drop)]
 pub enum Action {
     /// `id ":=" expression`
     Assign {
@@ -23,17 +22,37 @@ pub enum Action {
     For(Box<Loop>),
 }
 
+impl Drop for Action {
+    #[cycle(action_drop)]
+    fn drop(self) {
+        match self {
+            Action::Assign {
+                target: _,
+                value: _,
+            } => {}
+            Action::Send { port: _, value: _ } => {}
+            Action::If(_) => {}
+            Action::For(_) => {}
+        }
+    }
+}
+
 /// Actions one after another, with `;` between them.
 #[cycle(action)]
-#[derive(Drop)]
 pub struct Actions {
     pub first: Action,
     pub rest: Vec<Action>,
 }
 
+impl Drop for Actions {
+    #[cycle(action_drop)]
+    fn drop(self) {
+        let Actions { first: _, rest: _ } = self;
+    }
+}
+
 /// `"if" "(" expression ")" actions { "elsif" "(" expression ")" actions } [ "else" actions ] "end" "if"`
 #[cycle(action)]
-#[derive(Drop)]
 pub struct Choice {
     pub test: Expression,
     pub actions: Actions,
@@ -41,17 +60,37 @@ pub struct Choice {
     pub otherwise: Option<Box<Actions>>,
 }
 
+impl Drop for Choice {
+    #[cycle(action_drop)]
+    fn drop(self) {
+        let Choice {
+            test: _,
+            actions: _,
+            elsifs: _,
+            otherwise: _,
+        } = self;
+    }
+}
+
 /// `"elsif" "(" expression ")" actions`
 #[cycle(action)]
-#[derive(Drop)]
 pub struct Elsif {
     pub test: Expression,
     pub actions: Actions,
 }
 
+impl Drop for Elsif {
+    #[cycle(action_drop)]
+    fn drop(self) {
+        let Elsif {
+            test: _,
+            actions: _,
+        } = self;
+    }
+}
+
 /// `"for" "(" id ":" reference "in" bound ".." bound ")" block`
 #[cycle(action)]
-#[derive(Drop)]
 pub struct Loop {
     /// Where `for` stands.
     pub at: usize,
@@ -60,6 +99,20 @@ pub struct Loop {
     pub low: Bound,
     pub high: Bound,
     pub body: Block,
+}
+
+impl Drop for Loop {
+    #[cycle(action_drop)]
+    fn drop(self) {
+        let Loop {
+            at: _,
+            variable: _,
+            data_type: _,
+            low: _,
+            high: _,
+            body: _,
+        } = self;
+    }
 }
 
 /// `"{" [ actions ] "}"`

@@ -6,7 +6,6 @@ use crate::names::{Identifier, Identifiers, Reference};
 use crate::values::Association;
 
 /// `"annex" id ( unread | "{**" behaviour "**}" ) ";"`
-#[derive(Drop)]
 pub struct Annex {
     /// Where `annex` stands.
     pub at: usize,
@@ -14,8 +13,17 @@ pub struct Annex {
     pub content: AnnexContent,
 }
 
+impl Drop for Annex {
+    fn drop(self) {
+        let Annex {
+            at: _,
+            language: _,
+            content: _,
+        } = self;
+    }
+}
+
 /// What stands in an annex.
-#[derive(Drop)]
 pub enum AnnexContent {
     /// An annex of another language, byte for byte from its `{**` to its `**}`.
     Unread(Vec<u8>),
@@ -23,32 +31,67 @@ pub enum AnnexContent {
     Behaviour(AnnexTree),
 }
 
+impl Drop for AnnexContent {
+    fn drop(self) {
+        match self {
+            AnnexContent::Unread(_) => {}
+            AnnexContent::Behaviour(_) => {}
+        }
+    }
+}
+
 /// A behaviour: `[ "variables" { variable } ] [ "states" { state } ] [ "transitions" { transition } ]`.
-#[derive(Drop)]
 pub struct AnnexTree {
     pub variables: Option<Vec<VariableDeclaration>>,
     pub states: Option<Vec<StateDeclaration>>,
     pub transitions: Option<Vec<Transition>>,
 }
 
+impl Drop for AnnexTree {
+    fn drop(self) {
+        let AnnexTree {
+            variables: _,
+            states: _,
+            transitions: _,
+        } = self;
+    }
+}
+
 /// `id { "," id } ":" reference [ properties ] ";"`
-#[derive(Drop)]
 pub struct VariableDeclaration {
     pub names: Identifiers,
     pub data_type: Reference,
     pub properties: Vec<Association>,
 }
 
+impl Drop for VariableDeclaration {
+    fn drop(self) {
+        let VariableDeclaration {
+            names: _,
+            data_type: _,
+            properties: _,
+        } = self;
+    }
+}
+
 /// `id { "," id } ":" [ "initial" ] [ "complete" ] "state" ";"`
-#[derive(Drop)]
 pub struct StateDeclaration {
     pub names: Identifiers,
     pub initial: bool,
     pub complete: bool,
 }
 
+impl Drop for StateDeclaration {
+    fn drop(self) {
+        let StateDeclaration {
+            names: _,
+            initial: _,
+            complete: _,
+        } = self;
+    }
+}
+
 /// `[ id ":" ] id "-[" [ guard ] "]->" id [ block ] ";"`
-#[derive(Drop)]
 pub struct Transition {
     /// It has no meaning.
     pub label: Option<Identifier>,
@@ -58,8 +101,19 @@ pub struct Transition {
     pub effect: Option<Block>,
 }
 
+impl Drop for Transition {
+    fn drop(self) {
+        let Transition {
+            label: _,
+            source: _,
+            guard: _,
+            target: _,
+            effect: _,
+        } = self;
+    }
+}
+
 /// When a transition is taken.
-#[derive(Drop)]
 pub enum Guard {
     /// `"on" "dispatch"`
     Dispatch,
@@ -67,4 +121,14 @@ pub enum Guard {
     Otherwise,
     /// Where the expression is true.
     When(Expression),
+}
+
+impl Drop for Guard {
+    fn drop(self) {
+        match self {
+            Guard::Dispatch => {}
+            Guard::Otherwise => {}
+            Guard::When(_) => {}
+        }
+    }
 }

@@ -20,21 +20,33 @@ pub enum Direction {
 }
 
 /// `"with" name { "," name } ";"`
-#[derive(Drop)]
 pub struct With {
     pub first: Name,
     pub rest: Vec<Name>,
 }
 
+impl Drop for With {
+    fn drop(self) {
+        let With { first: _, rest: _ } = self;
+    }
+}
+
 /// A type or an implementation.
-#[derive(Drop)]
 pub enum Declaration {
     Type(TypeDeclaration),
     Implementation(Implementation),
 }
 
+impl Drop for Declaration {
+    fn drop(self) {
+        match self {
+            Declaration::Type(_) => {}
+            Declaration::Implementation(_) => {}
+        }
+    }
+}
+
 /// `category id [ features ] [ properties ] { annex } "end" id ";"`
-#[derive(Drop)]
 pub struct TypeDeclaration {
     /// Where the category stands.
     pub at: usize,
@@ -46,9 +58,22 @@ pub struct TypeDeclaration {
     pub end_name: Identifier,
 }
 
+impl Drop for TypeDeclaration {
+    fn drop(self) {
+        let TypeDeclaration {
+            at: _,
+            category: _,
+            name: _,
+            features: _,
+            properties: _,
+            annexes: _,
+            end_name: _,
+        } = self;
+    }
+}
+
 /// `category "implementation" id "." id [ subcomponents ] [ connections ] [ properties ] { annex }
 /// "end" id "." id ";"`
-#[derive(Drop)]
 pub struct Implementation {
     /// Where the category stands.
     pub at: usize,
@@ -61,15 +86,37 @@ pub struct Implementation {
     pub end_name: ImplementationName,
 }
 
+impl Drop for Implementation {
+    fn drop(self) {
+        let Implementation {
+            at: _,
+            category: _,
+            name: _,
+            subcomponents: _,
+            connections: _,
+            properties: _,
+            annexes: _,
+            end_name: _,
+        } = self;
+    }
+}
+
 /// The name of an implementation, behind its type: `id "." id`.
-#[derive(Drop)]
 pub struct ImplementationName {
     pub component_type: Identifier,
     pub implementation: Identifier,
 }
 
+impl Drop for ImplementationName {
+    fn drop(self) {
+        let ImplementationName {
+            component_type: _,
+            implementation: _,
+        } = self;
+    }
+}
+
 /// A port: `id ":" ( "in" | "out" ) "data" "port" [ reference ] [ properties ] ";"`.
-#[derive(Drop)]
 pub struct Feature {
     pub name: Identifier,
     pub direction: Direction,
@@ -77,8 +124,18 @@ pub struct Feature {
     pub properties: Vec<Association>,
 }
 
+impl Drop for Feature {
+    fn drop(self) {
+        let Feature {
+            name: _,
+            direction: _,
+            data_type: _,
+            properties: _,
+        } = self;
+    }
+}
+
 /// `id ":" category reference [ properties ] ";"`
-#[derive(Drop)]
 pub struct Subcomponent {
     pub name: Identifier,
     pub category: Category,
@@ -86,8 +143,18 @@ pub struct Subcomponent {
     pub properties: Vec<Association>,
 }
 
+impl Drop for Subcomponent {
+    fn drop(self) {
+        let Subcomponent {
+            name: _,
+            category: _,
+            classifier: _,
+            properties: _,
+        } = self;
+    }
+}
+
 /// `id ":" "port" end "->" end [ properties ] ";"`
-#[derive(Drop)]
 pub struct Connection {
     pub name: Identifier,
     pub source: ConnectionEnd,
@@ -95,9 +162,28 @@ pub struct Connection {
     pub properties: Vec<Association>,
 }
 
+impl Drop for Connection {
+    fn drop(self) {
+        let Connection {
+            name: _,
+            source: _,
+            target: _,
+            properties: _,
+        } = self;
+    }
+}
+
 /// An own port, or a subcomponent and its port: `id [ "." id ]`.
-#[derive(Drop)]
 pub struct ConnectionEnd {
     pub first: Identifier,
     pub second: Option<Identifier>,
+}
+
+impl Drop for ConnectionEnd {
+    fn drop(self) {
+        let ConnectionEnd {
+            first: _,
+            second: _,
+        } = self;
+    }
 }

@@ -41,18 +41,30 @@ pub enum MultiplyOperator {
 
 /// Relations with `and`, `or`, `xor`, `and then` or `or else` between them.
 #[cycle(expression)]
-#[derive(Drop)]
 pub struct Expression {
     pub first: Relation,
     pub rest: Vec<(LogicOperator, Relation)>,
 }
 
+impl Drop for Expression {
+    #[cycle(expression_drop)]
+    fn drop(self) {
+        let Expression { first: _, rest: _ } = self;
+    }
+}
+
 /// A sum, or two that are compared.
 #[cycle(expression)]
-#[derive(Drop)]
 pub struct Relation {
     pub left: Sum,
     pub right: Option<Box<(RelationOperator, Sum)>>,
+}
+
+impl Drop for Relation {
+    #[cycle(expression_drop)]
+    fn drop(self) {
+        let Relation { left: _, right: _ } = self;
+    }
 }
 
 /// The sign before a sum's first term. Its place has 32 bits, so that it takes 8 bytes.
@@ -65,33 +77,58 @@ pub struct LeadingSign {
 
 /// Terms with `+` or `-` between them. A sign at the front is the first term's.
 #[cycle(expression)]
-#[derive(Drop)]
 pub struct Sum {
     pub sign: Option<LeadingSign>,
     pub first: Term,
     pub rest: Vec<(Sign, Term)>,
 }
 
+impl Drop for Sum {
+    #[cycle(expression_drop)]
+    fn drop(self) {
+        let Sum {
+            sign: _,
+            first: _,
+            rest: _,
+        } = self;
+    }
+}
+
 /// Factors with `*`, `/`, `mod` or `rem` between them.
 #[cycle(expression)]
-#[derive(Drop)]
 pub struct Term {
     pub first: Factor,
     pub rest: Vec<(MultiplyOperator, Factor)>,
 }
 
+impl Drop for Term {
+    #[cycle(expression_drop)]
+    fn drop(self) {
+        let Term { first: _, rest: _ } = self;
+    }
+}
+
 /// An operand, with `abs`, `not` or nothing before it; `at` is the keyword's place.
 #[cycle(expression)]
-#[derive(Drop)]
 pub enum Factor {
     Abs { at: usize, operand: Box<Primary> },
     Not { at: usize, operand: Box<Primary> },
     Plain(Primary),
 }
 
+impl Drop for Factor {
+    #[cycle(expression_drop)]
+    fn drop(self) {
+        match self {
+            Factor::Abs { at: _, operand: _ } => {}
+            Factor::Not { at: _, operand: _ } => {}
+            Factor::Plain(_) => {}
+        }
+    }
+}
+
 /// An operand; `at` is the place of its first token.
 #[cycle(expression)]
-#[derive(Drop)]
 pub enum Primary {
     /// A whole number.
     Whole { at: usize, value: i64 },
@@ -101,4 +138,16 @@ pub enum Primary {
     Named { name: Identifier, fresh: bool },
     /// An expression in parentheses.
     Group { at: usize, inner: Box<Expression> },
+}
+
+impl Drop for Primary {
+    #[cycle(expression_drop)]
+    fn drop(self) {
+        match self {
+            Primary::Whole { at: _, value: _ } => {}
+            Primary::Truth { at: _, value: _ } => {}
+            Primary::Named { name: _, fresh: _ } => {}
+            Primary::Group { at: _, inner: _ } => {}
+        }
+    }
 }

@@ -3,6 +3,8 @@
 //! A text is a package of types and implementations, whose behaviour annexes have a grammar of
 //! their own. The trees here keep what a text means and where its parts stand. What the canonical
 //! text leaves out (comments, sections of `none;`, a `;` behind the last action) is in no tree.
+//!
+//! Trees of several lists have a `drop` of their own: to let one go is one call where it was held.
 #![tactic(auto)]
 
 pub mod actions;

@@ -13,28 +13,42 @@ pub struct Identifier {
 }
 
 /// A name of words with `::` between them: `id { "::" id }`.
-#[derive(Drop)]
 pub struct Name {
     pub first: Identifier,
     pub rest: Vec<Identifier>,
 }
 
+impl Drop for Name {
+    fn drop(self) {
+        let Name { first: _, rest: _ } = self;
+    }
+}
+
 /// A way through components: `id { "." id }`.
-#[derive(Drop)]
 pub struct Path {
     pub first: Identifier,
     pub rest: Vec<Identifier>,
 }
 
+impl Drop for Path {
+    fn drop(self) {
+        let Path { first: _, rest: _ } = self;
+    }
+}
+
 /// Names that are declared together: `id { "," id }`.
-#[derive(Drop)]
 pub struct Identifiers {
     pub first: Identifier,
     pub rest: Vec<Identifier>,
 }
 
+impl Drop for Identifiers {
+    fn drop(self) {
+        let Identifiers { first: _, rest: _ } = self;
+    }
+}
+
 /// A reference to a type or an implementation: `{ id "::" } id [ "." id ]`.
-#[derive(Drop)]
 pub struct Reference {
     /// The names of the type's package, where they stand before it.
     pub qualifiers: Vec<Identifier>,
@@ -42,4 +56,14 @@ pub struct Reference {
     pub type_name: Identifier,
     /// The implementation of the type.
     pub implementation: Option<Identifier>,
+}
+
+impl Drop for Reference {
+    fn drop(self) {
+        let Reference {
+            qualifiers: _,
+            type_name: _,
+            implementation: _,
+        } = self;
+    }
 }

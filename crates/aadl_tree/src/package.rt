@@ -10,7 +10,6 @@ use crate::names::Name;
 
 /// `"package" name "public" { with } { declaration } "end" name ";"`, as the grammar gives it for
 /// some text within the greatest nesting.
-#[derive(Drop)]
 pub struct PackageTree {
     pub name: Name,
     pub withs: Vec<With>,
@@ -23,4 +22,15 @@ pub struct PackageTree {
       declarations = map (declaration_view kept_place) declarations.items;
       end_name = name_view kept_place end_name;
     }) ∥₁ },
+}
+
+impl Drop for PackageTree {
+    fn drop(self) {
+        let PackageTree {
+            name: _,
+            withs: _,
+            declarations: _,
+            end_name: _,
+        } = self;
+    }
 }

@@ -15,7 +15,6 @@ pub enum AssociationOperator {
 /// A property with its value:
 /// `name ( "=>" | "+=>" ) [ "constant" ] value [ "applies" "to" path { "," path } ] ";"`.
 #[cycle(value)]
-#[derive(Drop)]
 pub struct Association {
     pub name: Name,
     pub operator: AssociationOperator,
@@ -26,9 +25,21 @@ pub struct Association {
     pub applies_to: Vec<Path>,
 }
 
+impl Drop for Association {
+    #[cycle(value_drop)]
+    fn drop(self) {
+        let Association {
+            name: _,
+            operator: _,
+            constant: _,
+            value: _,
+            applies_to: _,
+        } = self;
+    }
+}
+
 /// The value of a property.
 #[cycle(value)]
-#[derive(Drop)]
 pub enum Value {
     /// `"(" [ value { "," value } ] ")"`
     List(Vec<Value>),
@@ -49,11 +60,31 @@ pub enum Value {
     },
 }
 
+impl Drop for Value {
+    #[cycle(value_drop)]
+    fn drop(self) {
+        match self {
+            Value::List(_) => {}
+            Value::Record(_) => {}
+            Value::Text(_) => {}
+            Value::Reference(_) => {}
+            Value::Classifier(_) => {}
+            Value::Named(_) => {}
+            Value::Number { low: _, high: _ } => {}
+        }
+    }
+}
+
 /// A number with its unit: `number [ id ]`.
-#[derive(Drop)]
 pub struct Quantity {
     pub number: Number,
     pub unit: Option<Identifier>,
+}
+
+impl Drop for Quantity {
+    fn drop(self) {
+        let Quantity { number: _, unit: _ } = self;
+    }
 }
 
 /// A number: `[ "+" | "-" ] ( whole | real )`.
