@@ -7,7 +7,7 @@ use thiserror::Error;
 
 /// The first fault of a package with a root: each `at` is a byte offset in its text, and each name is
 /// spelled as there.
-#[derive(Drop, Error)]
+#[derive(Error)]
 pub enum FlatFault {
     /// No system implementation has the root's name.
     #[error("NoRoot")]
@@ -36,6 +36,22 @@ pub enum FlatFault {
     /// There was not enough memory.
     #[error("Memory")]
     Memory,
+}
+
+impl Drop for FlatFault {
+    fn drop(self) {
+        match self {
+            FlatFault::NoRoot => {}
+            FlatFault::Unknown { name: _, at: _ } => {}
+            FlatFault::Twice { name: _, at: _ } => {}
+            FlatFault::WrongKind { at: _ } => {}
+            FlatFault::Recursive { name: _, at: _ } => {}
+            FlatFault::DeadEnd { name: _, at: _ } => {}
+            FlatFault::TwoSources { name: _, at: _ } => {}
+            FlatFault::TooMany { what: _ } => {}
+            FlatFault::Memory => {}
+        }
+    }
 }
 
 impl FlatFault {

@@ -21,7 +21,6 @@ use pals_base::Items;
 use std::alloc::{AllocError, Global};
 
 /// A package with its names.
-#[derive(Drop)]
 pub struct Names<'t> {
     /// The package.
     pub tree: &'t PackageTree,
@@ -34,6 +33,17 @@ pub struct Names<'t> {
         ≡ first_number (is_implementation name) (placed tree.now).declarations } by { Prim.hlevel props },
     ghost of_members: { (number : ℕ) (name : List ℕ) → value_of (slice_index_or members number []) name
         ≡ member_of (slice_get (placed tree.now).declarations number) name } by { Prim.hlevel props },
+}
+
+impl Drop for Names<'_> {
+    fn drop(self) {
+        let Names {
+            tree: _,
+            types: _,
+            implementations: _,
+            members: _,
+        } = self;
+    }
 }
 
 impl<'t> Names<'t> {

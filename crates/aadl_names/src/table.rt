@@ -9,9 +9,14 @@ use std::alloc::{AllocError, Global};
 use std::marker::Model;
 
 /// Values of names. Contracts see the names, with their capitals made small, and their values.
-#[derive(Drop)]
 pub struct Table<V: Copy> {
     values: IndexMap<Vec<u8>, V>,
+}
+
+impl<V: Copy> Drop for Table<V> {
+    fn drop(self) {
+        let Table { values: _ } = self;
+    }
 }
 
 impl<V: Copy> Model for Table<V> {
