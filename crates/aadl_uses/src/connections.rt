@@ -20,11 +20,19 @@ pub struct Wire {
 }
 
 /// The connections of a declaration. Contracts see their list.
-#[derive(Drop)]
 pub struct Connections {
     wires: Items<Wire>,
     // of those that go into one port, the first
     firsts: IndexMap<Site, usize>,
+}
+
+impl Drop for Connections {
+    fn drop(self) {
+        let Connections {
+            wires: _,
+            firsts: _,
+        } = self;
+    }
 }
 
 impl Model for Connections {

@@ -9,12 +9,17 @@ use pals_base::{Items, NoMemory, Text};
 use std::alloc::Global;
 
 /// A thread below a root. Numbers count in the text's order, from 0.
-#[derive(Drop)]
 pub struct ThreadAt {
     /// The names of the subcomponents on the way to it, with a `.` between each two.
     pub path: Text,
     /// The subcomponents on the way to it, the outermost first; the last one is the thread's own.
     pub subs: Items<SubAt>,
+}
+
+impl Drop for ThreadAt {
+    fn drop(self) {
+        let ThreadAt { path: _, subs: _ } = self;
+    }
 }
 
 /// A subcomponent: the number of the declaration in which it stands, and its own number there.

@@ -29,7 +29,6 @@ use std::alloc::{AllocError, Global};
 
 /// A package with the implementations that its subcomponents name, and with the types of its
 /// implementations, all by their numbers.
-#[derive(Drop)]
 pub struct Uses<'t> {
     /// The package with its names.
     pub names: Names<'t>,
@@ -37,6 +36,16 @@ pub struct Uses<'t> {
     types: Items<Option<usize>>,
     ghost of_subs: { graph ≡ spec.containment (placed names.tree.now) } by { Prim.hlevel props },
     ghost of_types: { types ≡ map (type_in (placed names.tree.now)) (placed names.tree.now).declarations } by { Prim.hlevel props },
+}
+
+impl Drop for Uses<'_> {
+    fn drop(self) {
+        let Uses {
+            names: _,
+            graph: _,
+            types: _,
+        } = self;
+    }
 }
 
 impl<'t> Uses<'t> {

@@ -20,12 +20,20 @@ use pals_base::Items;
 use std::alloc::{AllocError, Global};
 
 /// A package with the ports of its implementations, and its connections.
-#[derive(Drop)]
 pub struct Wires<'t> {
     /// What the subcomponents of the package name.
     pub uses: Uses<'t>,
     connections: Items<Connections>,
     ghost of_connections: { connections ≡ map (wires_in (placed uses.names.tree.now)) (placed uses.names.tree.now).declarations } by { Prim.hlevel props },
+}
+
+impl Drop for Wires<'_> {
+    fn drop(self) {
+        let Wires {
+            uses: _,
+            connections: _,
+        } = self;
+    }
 }
 
 impl<'t> Wires<'t> {
