@@ -20,7 +20,6 @@ use std::sync::Arc;
 /// The composition of a design after some rounds: its configuration, and what each component left
 /// in the last round. Contracts see these beside the design. It has its memory twice: a round is
 /// made in the other half, and becomes what stands at its end.
-#[derive(Drop)]
 pub struct Product {
     alloc: Global,
     design: Arc<Design>,
@@ -31,6 +30,23 @@ pub struct Product {
     messages: Items<Tuple>,
     next_parts: Items<Part>,
     next_messages: Items<Tuple>,
+}
+
+// By hand, so that a product let go is one call, which the crates above cite.
+impl Drop for Product {
+    fn drop(self) {
+        let Product {
+            alloc: _,
+            design: _,
+            sources: _,
+            taps: _,
+            stages: _,
+            parts: _,
+            messages: _,
+            next_parts: _,
+            next_messages: _,
+        } = self;
+    }
 }
 
 impl Model for Product {

@@ -16,13 +16,24 @@ use std::mem::swap;
 
 /// The room in which one component makes its steps: the inputs and outputs of a step, the frame
 /// before it, the outputs of each step of the round, and how many of the steps are sent.
-#[derive(Drop)]
 pub struct Stage {
     pub inputs: Tuple,
     pub outs: Vec<Port>,
     pub before: Frame,
     pub rows: Items<Tuple>,
     pub sent: usize,
+}
+
+impl Drop for Stage {
+    fn drop(self) {
+        let Stage {
+            inputs: _,
+            outs: _,
+            before: _,
+            rows: _,
+            sent: _,
+        } = self;
+    }
 }
 
 impl Stage {
