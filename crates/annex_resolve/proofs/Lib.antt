@@ -5,5 +5,6 @@ pub mod Names
 pub mod Acting
 pub mod CycleWays
 pub mod Tables
+pub mod Leading
 pub mod Listing
 pub mod Wholes

@@ -1,12 +1,12 @@
 //! Which states are on a cycle of states that are not complete. A table tells which states a way leads
 //! to; state after state is let in between its ends.
-ghost use Rattle.std.specs.Prelude.{◌≡◌, ◌<◌, ◌+◌, IfOk, length, filter, map, nat_eq};
-ghost use Rattle.std.specs.List.{list_any};
+ghost use Rattle.std.specs.Prelude.{◌≡◌, ◌<◌, ◌+◌, IfOk, false, length, map, replicate};
 ghost use Rattle.pals_base.specs.Fire.{is_complete};
 ghost use Rattle.pals_base.specs.Steps.{upwards};
-ghost use Rattle.annex_resolve.specs.CycleRules.{leads, reaches, is_on_cycle};
+ghost use Rattle.annex_resolve.specs.CycleRules.{reaches, is_on_cycle};
+ghost use Rattle.annex_resolve.specs.proof.Tables.{marked};
 
-use pals_base::{BehaviourParts, Items, NoMemory, Transition};
+use pals_base::{BehaviourParts, Items, NoMemory};
 use std::alloc::{AllocError, Global};
 
 // Whether a step ends in a state. A number of no state is such an end.
@@ -19,21 +19,28 @@ pub(crate) fn is_complete(parts: &BehaviourParts, state: usize) -> bool
     }
 }
 
-// Whether a transition goes from one state to another.
-fn goes(transitions: &[Transition], source: usize, target: usize) -> bool
-    ensures { result ≡ list_any (λ e. nat_eq e.target target) (filter (λ e. nat_eq e.source source) transitions.now) }
+// The rows of a table of so many states, none of which is reached.
+#[tactic(auto, using(std::proofs::lemmas::List::replicate_more))]
+fn empty_rows(alloc: Global, count: usize) -> Result<Items<Items<bool>>, NoMemory>
+    ensures { IfOk result (λ rows. rows ≡ replicate count (replicate count false)) }
 {
-    transitions
-        .iter()
-        .filter(|transition| transition.source as usize == source)
-        .any(|transition| transition.target as usize == target)
+    let mut rows = Items::new(alloc);
+    for _state in 0..count {
+        rows.push(Items::from_vec(vec![in alloc; false; count]?))?;
+    }
+    Ok(rows)
 }
 
-// Whether a transition leads from a state that is not complete to another.
-fn leads(parts: &BehaviourParts, source: usize, target: usize) -> bool
-    ensures { result ≡ leads parts.now source target }
+// Marks that one state reaches another. A number of no state marks nothing.
+fn mark(rows: &mut Items<Items<bool>>, source: usize, target: usize)
+    ensures { rows.new ≡ marked rows.old source target }
 {
-    !is_complete(parts, source) && goes(parts.transitions.as_slice(), source, target)
+    if source < rows.len() {
+        let row = &mut rows[source];
+        if target < row.len() {
+            row.set(target, true);
+        }
+    }
 }
 
 /// For each state, which states a way leads to that has none but states below `between` between its
@@ -47,31 +54,18 @@ pub struct Table {
 impl Table {
     ghost use Rattle.annex_resolve.specs.proof.Tables.{row_of, IsTable, cell};
 
-    // Where the transitions of a state lead.
-    #[tactic(auto, using(pals_base::proofs::Upwards::map_upwards_more))]
-    fn first_row(
-        alloc: Global,
-        parts: &BehaviourParts,
-        state: usize,
-    ) -> Result<Items<bool>, NoMemory>
-        ensures { IfOk result (λ row. row ≡ row_of 0 parts.now state) }
-    {
-        let mut row = Items::new(alloc);
-        for target in 0..parts.states.len() {
-            row.push(leads(parts, state, target))?;
-        }
-        Ok(row)
-    }
-
     // The table of single transitions.
-    #[tactic(auto, using(pals_base::proofs::Upwards::map_upwards_more))]
     fn first(alloc: Global, parts: &BehaviourParts) -> Result<Table, NoMemory>
         ensures table { IfOk result (λ table. IsTable parts.now table) }
         ensures between { IfOk result (λ table. table.between ≡ 0) }
     {
-        let mut rows = Items::new(alloc);
-        for state in 0..parts.states.len() {
-            rows.push(Table::first_row(alloc, parts, state)?)?;
+        let mut rows = empty_rows(alloc, parts.states.len())?;
+        let transitions = parts.transitions.as_slice();
+        for transition in transitions {
+            let source = transition.source as usize;
+            if !is_complete(parts, source) {
+                mark(&mut rows, source, transition.target as usize);
+            }
         }
         Ok(Table { rows, between: 0 })
     }

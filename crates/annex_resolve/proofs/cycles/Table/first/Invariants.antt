@@ -1,7 +1,7 @@
-use Rattle.std.proofs.Common.{◌≡◌, map}
-use Rattle.pals_base.specs.Steps.{upwards}
-use Rattle.annex_resolve.specs.proof.Tables.{row_of}
+use Rattle.std.proofs.Common.{◌≡◌, take}
+use Rattle.annex_resolve.specs.proof.Tables.{table_by}
 use Rattle.annex_resolve.proofs.cycles.Table.first.Given as goal
 
-abbrev pub invariant-loop-state : goal.invariant-loop-state
-invariant-loop-state l = l.rows ≡ map (row_of 0 l.parts) (upwards 0 l.state)
+-- the table of the first transitions
+abbrev pub invariant-loop-transition : goal.invariant-loop-transition
+invariant-loop-transition l = l.rows ≡ table_by l.parts (take l.transition-index l.transitions)
