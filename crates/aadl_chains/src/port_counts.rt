@@ -20,9 +20,14 @@ use std::marker::Model;
 
 /// The in ports of implementations that are no threads, with the number of threads' in ports to which
 /// connections lead from them. Contracts see the entries.
-#[derive(Drop)]
 pub struct PortCounts {
     numbers: IndexMap<PortAt, usize>,
+}
+
+impl Drop for PortCounts {
+    fn drop(self) {
+        let PortCounts { numbers: _ } = self;
+    }
 }
 
 impl Model for PortCounts {

@@ -12,9 +12,14 @@ pub struct PortAt {
 }
 
 /// A set of ports. Contracts see them in a list.
-#[derive(Drop)]
 pub struct Ports {
     ports: IndexSet<PortAt>,
+}
+
+impl Drop for Ports {
+    fn drop(self) {
+        let Ports { ports: _ } = self;
+    }
 }
 
 impl Model for Ports {

@@ -14,7 +14,6 @@ use indexmap::IndexSet;
 use std::alloc::{AllocError, Global};
 
 /// The ports that connections join to threads below, and to threads or the root outside.
-#[derive(Drop)]
 pub struct Ways {
     /// The number of the root.
     pub root: usize,
@@ -26,6 +25,18 @@ pub struct Ways {
     pub fed: Outside,
     /// Out ports from which something outside takes.
     pub led: Outside,
+}
+
+impl Drop for Ways {
+    fn drop(self) {
+        let Ways {
+            root: _,
+            gives: _,
+            takes: _,
+            fed: _,
+            led: _,
+        } = self;
+    }
 }
 
 impl Ways {
