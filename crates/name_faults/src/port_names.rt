@@ -4,7 +4,6 @@ use aadl_names::{FlatFault, Role, Spot, Table};
 use pals_base::Items;
 
 /// What the ports of one type are called: what is asked of them for each of its implementations.
-#[derive(Drop)]
 pub struct PortNames {
     /// What each name stands for.
     pub roles: Table<Role>,
@@ -14,11 +13,29 @@ pub struct PortNames {
     pub again: Option<FlatFault>,
 }
 
+impl Drop for PortNames {
+    fn drop(self) {
+        let PortNames {
+            roles: _,
+            earliest: _,
+            again: _,
+        } = self;
+    }
+}
+
 /// What the ports of all types are called.
-#[derive(Drop)]
 pub struct AllPortNames {
     /// The names of the ports of each declaration, by its number.
     pub of_declarations: Items<PortNames>,
     /// The names of no ports.
     pub none: PortNames,
+}
+
+impl Drop for AllPortNames {
+    fn drop(self) {
+        let AllPortNames {
+            of_declarations: _,
+            none: _,
+        } = self;
+    }
 }
