@@ -232,7 +232,7 @@ actions-returns-then-not-begins_action t c = record {
   runs = λ outer below h. c.loop-behind.invariant.runs outer below (omega arith)
       ∙ takes_row outer c.args.reader.now.end s.mores (below) c.in-Some.ensures refl (omega arith)
       ∙ omits_unless outer c.args.reader.now.end s.after_semicolon (below) (here c.args.reader.now c.in-Some.behind) refl (rw c.if-not-begins_action.true at c.begins_action.ensures);
-  reads = respelled (ap actions_parts (sym (view-actions kept_place c.loop-behind.first-1 c.loop-behind.others))) (ended (action_parts (action_view kept_place c.loop-behind.first-1)) (mores_parts (mores_view kept_place c.loop-behind.others.items)) c.loop-behind.invariant.reads c.in-Some.ensures);
+  reads = respelled (ap actions_parts (sym (view-actions kept_place c.in_ok-first.first c.loop-behind.others))) (ended (action_parts (action_view kept_place c.in_ok-first.first)) (mores_parts (mores_view kept_place c.loop-behind.others.items)) c.loop-behind.invariant.reads c.in-Some.ensures);
 }
 
 pub actions-returns-in_err-next : goal.actions-returns-in_err-next
@@ -253,7 +253,7 @@ actions-loop-behind-preserved t c = record {
       ∙ begins_from outer c.args.reader.now.end below (rw c.if-not-begins_action.false at c.begins_action.ensures)
       ∙ begins_as outer c.args.reader.now.end s.actions s.action (s.mores ∷ []) (below) (here c.args.reader.now c.in-Some.behind) refl refl refl
       ∙ c.in_ok-next.ensures.runs outer (s.mores ∷ below) (omega arith);
-  reads = mores_push (action_parts (action_view kept_place c.loop-behind.first-1)) c.loop-behind.others.items c.push_exact.new.list.items c.in_ok-next.next c.in_ok-push_exact.ensures c.loop-behind.invariant.reads (marked c.in-Some.ensures c.in_ok-next.ensures.reads);
+  reads = mores_push (action_parts (action_view kept_place c.in_ok-first.first)) c.loop-behind.others.items c.push_exact.new.list.items c.in_ok-next.next c.in_ok-push_exact.ensures c.loop-behind.invariant.reads (marked c.in-Some.ensures c.in_ok-next.ensures.reads);
 }
 
 pub actions-loop-behind-smaller : goal.actions-loop-behind-smaller
@@ -265,7 +265,7 @@ unfolding move depth
 actions-returns t c = record {
   runs = λ outer below h. c.loop-behind.invariant.runs outer below (omega arith)
       ∙ omits_unless outer c.args.reader.now.end s.mores (below) (here c.args.reader.now c.loop-behind.rest) refl (c.in_default.ensures, tt);
-  reads = respelled (ap actions_parts (sym (view-actions kept_place c.loop-behind.first-1 c.loop-behind.others))) (not_ended (action_parts (action_view kept_place c.loop-behind.first-1)) (mores_parts (mores_view kept_place c.loop-behind.others.items)) c.loop-behind.invariant.reads);
+  reads = respelled (ap actions_parts (sym (view-actions kept_place c.in_ok-first.first c.loop-behind.others))) (not_ended (action_parts (action_view kept_place c.in_ok-first.first)) (mores_parts (mores_view kept_place c.loop-behind.others.items)) c.loop-behind.invariant.reads);
 }
 
 pub block-returns-in_default : goal.block-returns-in_default

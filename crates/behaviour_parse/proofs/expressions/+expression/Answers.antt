@@ -168,7 +168,7 @@ term-loop-operator-preserved t c = record {
   runs = λ outer below h. c.loop-operator.invariant.runs outer below (omega arith)
       ∙ takes_row outer c.args.reader.now.end s.factors (below) c.in-Some.ensures (multiplies c.in-Some.operator) (omega arith)
       ∙ c.in_ok-operand.ensures.runs outer (s.factors ∷ below) (omega arith);
-  reads = factors_push (factor_parts (factor_view kept_place c.loop-operator.first-1)) c.loop-operator.others.items c.push_exact.new.list.items c.in-Some.operator c.in_ok-operand.operand c.in_ok-push_exact.ensures c.loop-operator.invariant.reads (marked c.in-Some.ensures c.in_ok-operand.ensures.reads);
+  reads = factors_push (factor_parts (factor_view kept_place c.in_ok-first.first)) c.loop-operator.others.items c.push_exact.new.list.items c.in-Some.operator c.in_ok-operand.operand c.in_ok-push_exact.ensures c.loop-operator.invariant.reads (marked c.in-Some.ensures c.in_ok-operand.ensures.reads);
 }
 
 pub term-loop-operator-smaller : goal.term-loop-operator-smaller
@@ -180,7 +180,7 @@ unfolding move depth
 term-returns t c = record {
   runs = λ outer below h. c.loop-operator.invariant.runs outer below (omega arith)
       ∙ omits_unless outer c.args.reader.now.end s.factors (below) (here c.args.reader.now c.loop-operator.rest) refl (c.in_default.ensures);
-  reads = respelled (ap term_parts (sym (view-term kept_place c.loop-operator.first-1 c.loop-operator.others))) c.loop-operator.invariant.reads;
+  reads = respelled (ap term_parts (sym (view-term kept_place c.in_ok-first.first c.loop-operator.others))) c.loop-operator.invariant.reads;
 }
 
 pub terms-returns-in_err-first : goal.terms-returns-in_err-first
