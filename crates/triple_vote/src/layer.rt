@@ -17,13 +17,25 @@ use sync_product::stage::Stage;
 /// The replicas of one number: which components have one, their frames after the last round, room for
 /// those of the next, and what they make in a round: a message for each link, and the whole tuple for
 /// each root out port. What stands where a component has no such replica means nothing.
-#[derive(Drop)]
 pub struct Layer {
     pub there: Items<bool>,
     pub parts: Items<Part>,
     pub next: Items<Part>,
     pub sent: Items<Tuple>,
     pub shown: Items<Tuple>,
+}
+
+// By hand, so that a layer let go is one call.
+impl Drop for Layer {
+    fn drop(self) {
+        let Layer {
+            there: _,
+            parts: _,
+            next: _,
+            sent: _,
+            shown: _,
+        } = self;
+    }
 }
 
 impl Layer {

@@ -23,7 +23,6 @@ use sync_product::stage::Stage;
 /// The composition of a design with three replicas of some components, after some rounds: the frame of
 /// each replica, what each received on each link in the last round, and what each root out port showed
 /// in it.
-#[derive(Drop)]
 pub struct VoteProduct {
     alloc: Global,
     design: Arc<Design>,
@@ -33,6 +32,22 @@ pub struct VoteProduct {
     layers: Vec<Layer>,
     heard: Vec<Items<Tuple>>,
     shown: Items<Tuple>,
+}
+
+// By hand, so that a product let go is one call, which the crates above cite.
+impl Drop for VoteProduct {
+    fn drop(self) {
+        let VoteProduct {
+            alloc: _,
+            design: _,
+            replicated: _,
+            sources: _,
+            stages: _,
+            layers: _,
+            heard: _,
+            shown: _,
+        } = self;
+    }
 }
 
 impl Model for VoteProduct {
