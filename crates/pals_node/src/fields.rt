@@ -29,7 +29,6 @@ use step_vm::Room;
 
 /// What a node stands at, the room for its steps, what its last start reserved, and the memory of the
 /// last job that came back.
-#[derive(Drop)]
 pub struct Fields {
     pub alloc: Global,
     pub plan: Arc<NodePlan>,
@@ -47,6 +46,30 @@ pub struct Fields {
     pub room: Room,
     pub row: Vec<Port>,
     pub spare: Option<Memory>,
+}
+
+// By hand, so that a node let go is one call, which the crates above cite.
+impl Drop for Fields {
+    fn drop(self) {
+        let Fields {
+            alloc: _,
+            plan: _,
+            rounds: _,
+            count: _,
+            phase: _,
+            frame: _,
+            slots: _,
+            vectors: _,
+            outs: _,
+            sent: _,
+            parts: _,
+            next_part: _,
+            messages: _,
+            room: _,
+            row: _,
+            spare: _,
+        } = self;
+    }
 }
 
 impl Fields {

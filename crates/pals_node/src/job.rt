@@ -18,7 +18,6 @@ use step_vm::Room;
 
 /// The job of one step: the inputs, the frame that it goes on from, and all the room that it needs.
 /// Contracts see its step and its code.
-#[derive(Drop)]
 pub struct Job {
     plan: Arc<NodePlan>,
     round: u32,
@@ -28,6 +27,22 @@ pub struct Job {
     result: Frame,
     outs: Vec<Port>,
     room: Room,
+}
+
+// By hand, so that a job let go is one call, which the crates above cite.
+impl Drop for Job {
+    fn drop(self) {
+        let Job {
+            plan: _,
+            round: _,
+            step: _,
+            frame: _,
+            inputs: _,
+            result: _,
+            outs: _,
+            room: _,
+        } = self;
+    }
 }
 
 impl Model for Job {
@@ -44,7 +59,6 @@ impl Model for Job {
 }
 
 /// A job that is done: what its code left. Contracts see the job.
-#[derive(Drop)]
 pub struct Done {
     plan: Arc<NodePlan>,
     round: u32,
@@ -54,6 +68,21 @@ pub struct Done {
     result: Frame,
     outs: Vec<Port>,
     room: Room,
+}
+
+impl Drop for Done {
+    fn drop(self) {
+        let Done {
+            plan: _,
+            round: _,
+            step: _,
+            frame: _,
+            inputs: _,
+            result: _,
+            outs: _,
+            room: _,
+        } = self;
+    }
 }
 
 impl Model for Done {
@@ -86,8 +115,8 @@ impl Job {
         requires spare { HasMemory (arc_value plan.now).code spare }
         ensures { IfOk result (λ job. job ≡ job_value (arc_value plan.now) round step frame.now inputs.now) }
     {
-        let memory = memory_for(alloc, &plan.code, frame, inputs, spare)?;
         let plan = Arc::try_clone(plan)?;
+        let memory = memory_for(alloc, &plan.code, frame, inputs, spare)?;
         let Memory {
             frame,
             inputs,
@@ -203,12 +232,14 @@ impl Done {
         ensures memory { IsLeft self last.old row.old.items result }
     {
         let Done {
+            plan: _,
+            round: _,
+            step: _,
             frame,
             inputs,
             mut result,
             mut outs,
             room,
-            ..
         } = self;
         swap(last, &mut result);
         swap(row, &mut outs);

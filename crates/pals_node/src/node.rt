@@ -27,9 +27,14 @@ use std::sync::Arc;
 
 /// A node of a run. Contracts see its plan with its code, the number of rounds, and what it stands
 /// at. A refused call leaves it as it was.
-#[derive(Drop)]
 pub struct Node {
     fields: Fields,
+}
+
+impl Drop for Node {
+    fn drop(self) {
+        let Node { fields: _ } = self;
+    }
 }
 
 impl Model for Node {

@@ -16,10 +16,15 @@ use std::marker::Model;
 use step_code::Code;
 
 /// The plan of one node with the code of its component, which means the component's behaviour.
-#[derive(Drop)]
 pub struct NodePlan {
     pub(crate) plan: Plan,
     pub(crate) code: Code,
+}
+
+impl Drop for NodePlan {
+    fn drop(self) {
+        let NodePlan { plan: _, code: _ } = self;
+    }
 }
 
 impl Model for NodePlan {
@@ -79,11 +84,11 @@ fn plan_for(
     let rate = component.rate;
     Ok(Plan {
         node,
-        behaviour: component.behaviour.try_clone(alloc)?,
         rate,
         inputs: inputs_of(alloc, design, node)?,
         out_links: out_ports(alloc, design, node)?,
         taps: tap_ports(alloc, design, node)?,
+        behaviour: component.behaviour.try_clone(alloc)?,
         period,
         step_period: step_period(period, rate),
         sent_steps: gamma.sent_steps(period, rate),
