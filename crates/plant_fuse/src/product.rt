@@ -25,7 +25,6 @@ use sync_product::stage::Stage;
 /// The fused composition of a design and its pairs after some rounds: its configuration, and what each
 /// component left in the last round. Contracts see these beside the design and the pairs. It has its
 /// memory twice: a round is made in the other half, and becomes what stands at its end.
-#[derive(Drop)]
 pub struct FuseProduct {
     alloc: Global,
     design: Arc<Design>,
@@ -35,6 +34,22 @@ pub struct FuseProduct {
     messages: Items<Tuple>,
     next_parts: Items<Part>,
     next_messages: Items<Tuple>,
+}
+
+// By hand, so that a product let go is one call, which the crates above cite.
+impl Drop for FuseProduct {
+    fn drop(self) {
+        let FuseProduct {
+            alloc: _,
+            design: _,
+            tables: _,
+            stages: _,
+            parts: _,
+            messages: _,
+            next_parts: _,
+            next_messages: _,
+        } = self;
+    }
 }
 
 impl Model for FuseProduct {

@@ -12,12 +12,22 @@ use sync_product::taps::all_taps;
 
 /// The pairs; for each component the other one of its pair, if it stands in one; where its in ports
 /// read from; and which of its out ports root out ports show.
-#[derive(Drop)]
 pub struct Tables {
     pub pairs: Items<Pair>,
     pub partners: Items<Option<NodeNo>>,
     pub sources: Items<Items<PortSource>>,
     pub taps: Items<Items<u32>>,
+}
+
+impl Drop for Tables {
+    fn drop(self) {
+        let Tables {
+            pairs: _,
+            partners: _,
+            sources: _,
+            taps: _,
+        } = self;
+    }
 }
 
 impl Tables {
