@@ -20,11 +20,20 @@ use std::alloc::Global;
 
 /// A processor: its name, which is a word, how long it takes for an instruction, in nanoseconds, and
 /// the components that it serves, in rising order.
-#[derive(Drop)]
 pub struct Processor {
     pub name: Text,
     pub nanos: Nanos,
     pub components: Items<NodeNo>,
+}
+
+impl Drop for Processor {
+    fn drop(self) {
+        let Processor {
+            name: _,
+            nanos: _,
+            components: _,
+        } = self;
+    }
 }
 
 // Puts one more component on the processor of this number. The owners are, for each component, the

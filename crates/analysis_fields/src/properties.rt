@@ -21,10 +21,15 @@ use std::marker::Model;
 
 /// A property of a monitor: its name, which is a word, and its formula. Contracts see the formula as
 /// a plain tree.
-#[derive(Drop)]
 pub struct Property {
     pub name: Text,
     pub form: Form,
+}
+
+impl Drop for Property {
+    fn drop(self) {
+        let Property { name: _, form: _ } = self;
+    }
 }
 
 impl Model for Property {
