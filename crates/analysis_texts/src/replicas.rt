@@ -26,8 +26,7 @@ use triple_vote::VoteProduct;
 
 /// The report of the composition of a design in which some components have three replicas each, whose
 /// messages are voted on: the rows of the first rounds, with these faults of replicas. The time of a round
-/// is in line with its lines, and with its faults times the messages of replicas, since each message looks
-/// for its fault.
+/// is in line with its lines, the messages of replicas and its faults.
 pub fn vote(
     alloc: Global,
     design: Design,

@@ -15,7 +15,7 @@ pub mod Voting
 pub mod Layering
 pub mod Sizing
 pub mod Sending
-pub mod Finding
+pub mod Firsts
 pub mod Gathering
 pub mod Starting
 pub mod Advancing

@@ -4,3 +4,4 @@ pub mod Laws
 pub mod Rows
 pub mod Layers
 pub mod Triples
+pub mod Firsts

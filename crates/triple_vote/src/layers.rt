@@ -3,6 +3,7 @@ ghost use Rattle.std.specs.Prelude.{◌≡◌, All, IfOk, OnOk, length, map, rep
 ghost use Rattle.pals_model.specs.Inputs.{all_sources};
 ghost use Rattle.pals_model.specs.Composition.{opening};
 ghost use Rattle.sync_product.specs.proof.Sizes.{stage_size, stage_sizes};
+ghost use Rattle.triple_vote.specs.proof.Firsts.{AreFirst};
 ghost use Rattle.triple_vote.specs.proof.Laws.{IsFault};
 ghost use Rattle.triple_vote.specs.proof.Triples.{AreThree, AreOpened, AreMade, StayPut, AreHeard, AllReceived, AreTurned};
 
@@ -76,22 +77,32 @@ pub fn run_each(
     Ok(())
 }
 
-/// Writes what the replicas of each layer receive.
+/// Writes what the replicas of each layer receive. The table has the first fault at each place.
 pub fn receive_each(
     design: &Design,
     replicated: &[bool],
     faults: &[VoteFault],
+    places: &[Option<usize>],
     layers: &[Layer],
     heard: &mut Vec<Items<Tuple>>,
 )
     requires layers { AreThree design.now layers.now }
     requires faults { All (IsFault design.now) faults.now }
+    requires places { AreFirst faults.now (length design.now.links) places.now }
     requires heard { AreHeard design.now heard.old.items }
     ensures received { AllReceived design.now replicated.now faults.now layers.now heard.new.items }
     ensures heard { AreHeard design.now heard.new.items }
 {
     for at in 0..heard.len() {
-        receive_all(design, replicated, faults, layers, at, &mut heard[at]);
+        receive_all(
+            design,
+            replicated,
+            faults,
+            places,
+            layers,
+            at,
+            &mut heard[at],
+        );
     }
 }
 

@@ -2,6 +2,7 @@
 //! fault, all that is received, and each replica's state, is that of the composition without replicas.
 #![tactic(auto)]
 
+mod first_faults;
 pub mod laws;
 mod layer;
 mod layers;

@@ -6,6 +6,7 @@ ghost use Rattle.triple_vote.specs.Replicas.{copies_of, frame_at, received_at};
 ghost use Rattle.triple_vote.specs.proof.Laws.{IsFault};
 ghost use Rattle.triple_vote.specs.proof.States.{vbegun, vadvanced};
 
+use crate::first_faults::first_faults;
 use crate::layer::Layer;
 use crate::layers::{opening_heard, opening_layers, receive_each, run_each, turn_each};
 use crate::opening::opening_shown;
@@ -103,12 +104,15 @@ impl VoteProduct {
     /// `Product::advance` of `sync_product` takes them. Where a replica has a fault towards a reader, the
     /// reader gets the fault's values in place of the replica's own, and of two faults in one place the
     /// first. If there is not enough memory, nothing changes. After the first two rounds it takes memory
-    /// only where a loop runs that did not run before.
+    /// only where a loop runs that did not run before, and for the places of faults where there are some.
+    /// Its time is in line with the design and the faults.
     pub fn advance(&mut self, values: &[Port], faults: &[VoteFault]) -> Result<(), NoMemory>
         requires { All (IsFault self.old.design) faults.now }
         ensures ok { OnOk result (self.new ≡ vadvanced self.old values.now faults.now) }
         ensures err { OnErr result (self.new ≡ self.old) }
     {
+        let links = self.design.links().len();
+        let places = first_faults(self.alloc, faults, links)?;
         run_each(
             self.alloc,
             &self.design,
@@ -120,7 +124,15 @@ impl VoteProduct {
         )?;
         let replicated = self.replicated.as_slice();
         let layers = self.layers.as_slice();
-        receive_each(&self.design, replicated, faults, layers, &mut self.heard);
+        let places = places.as_slice();
+        receive_each(
+            &self.design,
+            replicated,
+            faults,
+            places,
+            layers,
+            &mut self.heard,
+        );
         show_each(&self.design, replicated, layers, &mut self.shown);
         turn_each(&mut self.layers);
         Ok(())

@@ -1,11 +1,13 @@
 //! What replicas receive.
-ghost use Rattle.std.specs.Prelude.{◌≡◌, ◌<◌, ◌^◌, All, find, length};
+ghost use Rattle.std.specs.Prelude.{◌≡◌, ◌<◌, ◌^◌, All, Option, length, slice_index_or};
 ghost use Rattle.sync_product.specs.proof.Sizes.{message_sizes};
-ghost use Rattle.triple_vote.specs.Replicas.{is_fault, fault_or};
+ghost use Rattle.triple_vote.specs.Replicas.{fault_or};
+ghost use Rattle.triple_vote.specs.proof.Firsts.{fault_at, AreFirstOn, AreFirst};
 ghost use Rattle.triple_vote.specs.proof.Layers.{lengths};
 ghost use Rattle.triple_vote.specs.proof.Laws.{IsFault};
 ghost use Rattle.triple_vote.specs.proof.Triples.{AreThree, sent_in, tuple_of, received_of, AreReceived, AreOfSize, FaultsFit};
 
+use crate::first_faults::place;
 use crate::layer::Layer;
 use crate::rounds::{is_there, tuple_at};
 use crate::votes::vote_into;
@@ -13,29 +15,23 @@ use pals_base::{Items, Port, Tuple};
 use pals_model::Design;
 use pals_runs::VoteFault;
 
-// Whether a fault is of this link, of this replica of its source, and towards this one of its target.
-fn is_fault(fault: &VoteFault, link: u32, replica: u32, target: u32) -> bool
-    ensures { result ≡ is_fault link replica target fault.now }
-{
-    fault.link.0 == link && (fault.replica == replica && fault.target_replica == target)
-}
-
-// What a replica sends: the tuple of the fault where one is listed, and else its own.
+// What a replica sends to a reader: the tuple of the first fault at their place, where the table of first
+// faults has one, and else its own.
 fn sent_to<'a>(
     faults: &'a [VoteFault],
-    link: u32,
-    replica: u32,
-    target: u32,
+    places: &[Option<usize>],
+    place: usize,
     own: &'a [Port],
 ) -> &'a [Port]
-    ensures { result.now ≡ fault_or (find (is_fault link replica target) faults.entry.now) own.entry.now }
+    ensures { result.now ≡ fault_or (fault_at faults.entry.now (slice_index_or places.now place Option.None)) own.entry.now }
 {
-    for fault in faults {
-        if is_fault(fault, link, replica, target) {
-            return fault.values.as_slice();
-        }
+    let Some(Some(number)) = places.get(place) else {
+        return own;
+    };
+    match faults.get(*number) {
+        Some(fault) => fault.values.as_slice(),
+        None => own,
     }
-    own
 }
 
 // What the replicas of a number made for a link, nothing past the end.
@@ -52,6 +48,7 @@ fn sent_at(layers: &[Layer], replica: usize, number: usize) -> &[Port]
 // the message of a source that is there once.
 fn receive(
     faults: &[VoteFault],
+    places: &[Option<usize>],
     layers: &[Layer],
     number: usize,
     three: bool,
@@ -62,6 +59,7 @@ fn receive(
     requires at { at < 3 }
     requires sent { AreOfSize (sent_in layers.now) number (length to.old) }
     requires faults { FaultsFit faults.now number (length to.old) }
+    requires places { AreFirstOn faults.now number places.now }
     ensures { to.new ≡ received_of three faults.now (sent_in layers.now) number at }
 {
     let link = number as u32;
@@ -70,20 +68,22 @@ fn receive(
     if three {
         let second = sent_at(layers, 1, number);
         let third = sent_at(layers, 2, number);
-        let x = sent_to(faults, link, 1, target, first);
-        let y = sent_to(faults, link, 2, target, second);
-        let z = sent_to(faults, link, 3, target, third);
+        let x = sent_to(faults, places, place(link, 1, target), first);
+        let y = sent_to(faults, places, place(link, 2, target), second);
+        let z = sent_to(faults, places, place(link, 3, target), third);
         vote_into(to, x, y, z);
     } else {
         to.copy_from_slice(first);
     }
 }
 
-/// Writes what the replicas at a place receive on each link, from what all replicas made.
+/// Writes what the replicas at a place receive on each link, from what all replicas made. The table has
+/// the first fault at each place.
 pub fn receive_all(
     design: &Design,
     replicated: &[bool],
     faults: &[VoteFault],
+    places: &[Option<usize>],
     layers: &[Layer],
     at: usize,
     heard: &mut Items<Tuple>,
@@ -91,6 +91,7 @@ pub fn receive_all(
     requires at { at < 3 }
     requires layers { AreThree design.now layers.now }
     requires faults { All (IsFault design.now) faults.now }
+    requires places { AreFirst faults.now (length design.now.links) places.now }
     requires heard { lengths heard.old ≡ message_sizes design.now }
     ensures received { AreReceived design.now replicated.now faults.now layers.now at heard.new }
     ensures sizes { lengths heard.new ≡ message_sizes design.now }
@@ -102,6 +103,6 @@ pub fn receive_all(
         }
         let three = is_there(replicated, link.source);
         let tuple = &mut heard[number];
-        receive(faults, layers, number, three, at, tuple);
+        receive(faults, places, layers, number, three, at, tuple);
     }
 }

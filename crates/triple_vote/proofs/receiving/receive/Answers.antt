@@ -1,29 +1,37 @@
 use Rattle.std.proofs.Common.{◌∙◌, ◌+◌, length, refl, sym, ap, arith}
 use Rattle.triple_vote.specs.proof.Triples.{sent_in, received_of}
+use Rattle.triple_vote.proofs.Firsts.{sent_first}
 use Rattle.triple_vote.proofs.Gathering.{sent_size, received_three}
 use Rattle.triple_vote.proofs.receiving.receive.Goals as goal
 
 pub vote_into-requires-clause-to : goal.vote_into-requires-clause-to
 vote_into-requires-clause-to c =
-    let sent = sent_in c.args.layers.now in
-    sym (sent_size c.args.faults.now sent c.args.number c.args.at (c.args.at + 1) (length c.args.to.now) refl c.requires.sent c.requires.faults 0 1
-    c.sent_at-first.result.now c.sent_to-x.result.now c.sent_at-first.ensures c.sent_to-x.ensures (omega arith))
+    let x = sent_first c.args.faults.now c.args.places.now c.args.number 0 (c.args.at + 1) c.args.at c.place.result c.sent_at-first.result.now c.sent_to-x.result.now
+        c.requires.places (omega arith) c.requires.at refl c.place.ensures c.sent_to-x.ensures in
+    sym (sent_size c.args.faults.now (sent_in c.args.layers.now) c.args.number c.args.at (c.args.at + 1) (length c.args.to.now) refl c.requires.sent c.requires.faults 0 1
+    c.sent_at-first.result.now c.sent_to-x.result.now c.sent_at-first.ensures x (omega arith))
 
 pub vote_into-requires-clause-y : goal.vote_into-requires-clause-y
 vote_into-requires-clause-y c =
-    let sent = sent_in c.args.layers.now in
-    sent_size c.args.faults.now sent c.args.number c.args.at (c.args.at + 1) (length c.args.to.now) refl c.requires.sent c.requires.faults 1 2
-    c.sent_at-second.result.now c.sent_to-y.result.now c.sent_at-second.ensures c.sent_to-y.ensures (omega arith)
-    ∙ sym (sent_size c.args.faults.now sent c.args.number c.args.at (c.args.at + 1) (length c.args.to.now) refl c.requires.sent c.requires.faults 0 1
-    c.sent_at-first.result.now c.sent_to-x.result.now c.sent_at-first.ensures c.sent_to-x.ensures (omega arith))
+    let x = sent_first c.args.faults.now c.args.places.now c.args.number 0 (c.args.at + 1) c.args.at c.place.result c.sent_at-first.result.now c.sent_to-x.result.now
+        c.requires.places (omega arith) c.requires.at refl c.place.ensures c.sent_to-x.ensures in
+    let y = sent_first c.args.faults.now c.args.places.now c.args.number 1 (c.args.at + 1) c.args.at c.place-2.result c.sent_at-second.result.now c.sent_to-y.result.now
+        c.requires.places (omega arith) c.requires.at refl c.place-2.ensures c.sent_to-y.ensures in
+    sent_size c.args.faults.now (sent_in c.args.layers.now) c.args.number c.args.at (c.args.at + 1) (length c.args.to.now) refl c.requires.sent c.requires.faults 1 2
+    c.sent_at-second.result.now c.sent_to-y.result.now c.sent_at-second.ensures y (omega arith)
+    ∙ sym (sent_size c.args.faults.now (sent_in c.args.layers.now) c.args.number c.args.at (c.args.at + 1) (length c.args.to.now) refl c.requires.sent c.requires.faults 0 1
+    c.sent_at-first.result.now c.sent_to-x.result.now c.sent_at-first.ensures x (omega arith))
 
 pub vote_into-requires-clause-z : goal.vote_into-requires-clause-z
 vote_into-requires-clause-z c =
-    let sent = sent_in c.args.layers.now in
-    sent_size c.args.faults.now sent c.args.number c.args.at (c.args.at + 1) (length c.args.to.now) refl c.requires.sent c.requires.faults 2 3
-    c.sent_at-third.result.now c.sent_to-z.result.now c.sent_at-third.ensures c.sent_to-z.ensures (omega arith)
-    ∙ sym (sent_size c.args.faults.now sent c.args.number c.args.at (c.args.at + 1) (length c.args.to.now) refl c.requires.sent c.requires.faults 0 1
-    c.sent_at-first.result.now c.sent_to-x.result.now c.sent_at-first.ensures c.sent_to-x.ensures (omega arith))
+    let x = sent_first c.args.faults.now c.args.places.now c.args.number 0 (c.args.at + 1) c.args.at c.place.result c.sent_at-first.result.now c.sent_to-x.result.now
+        c.requires.places (omega arith) c.requires.at refl c.place.ensures c.sent_to-x.ensures in
+    let z = sent_first c.args.faults.now c.args.places.now c.args.number 2 (c.args.at + 1) c.args.at c.place-3.result c.sent_at-third.result.now c.sent_to-z.result.now
+        c.requires.places (omega arith) c.requires.at refl c.place-3.ensures c.sent_to-z.ensures in
+    sent_size c.args.faults.now (sent_in c.args.layers.now) c.args.number c.args.at (c.args.at + 1) (length c.args.to.now) refl c.requires.sent c.requires.faults 2 3
+    c.sent_at-third.result.now c.sent_to-z.result.now c.sent_at-third.ensures z (omega arith)
+    ∙ sym (sent_size c.args.faults.now (sent_in c.args.layers.now) c.args.number c.args.at (c.args.at + 1) (length c.args.to.now) refl c.requires.sent c.requires.faults 0 1
+    c.sent_at-first.result.now c.sent_to-x.result.now c.sent_at-first.ensures x (omega arith))
 
 pub copy_from_slice-requires : goal.copy_from_slice-requires
 copy_from_slice-requires c = sym (ap length c.sent_at-first.ensures ∙ c.requires.sent 0 (omega arith))
@@ -32,10 +40,15 @@ pub returns-then-three : goal.returns-then-three
 returns-then-three c =
     let faults = c.args.faults.now in
     let sent = sent_in c.args.layers.now in
+    let x = sent_first c.args.faults.now c.args.places.now c.args.number 0 (c.args.at + 1) c.args.at c.place.result c.sent_at-first.result.now c.sent_to-x.result.now
+        c.requires.places (omega arith) c.requires.at refl c.place.ensures c.sent_to-x.ensures in
+    let y = sent_first c.args.faults.now c.args.places.now c.args.number 1 (c.args.at + 1) c.args.at c.place-2.result c.sent_at-second.result.now c.sent_to-y.result.now
+        c.requires.places (omega arith) c.requires.at refl c.place-2.ensures c.sent_to-y.ensures in
+    let z = sent_first c.args.faults.now c.args.places.now c.args.number 2 (c.args.at + 1) c.args.at c.place-3.result c.sent_at-third.result.now c.sent_to-z.result.now
+        c.requires.places (omega arith) c.requires.at refl c.place-3.ensures c.sent_to-z.ensures in
     received_three faults sent c.args.number c.args.at (c.args.at + 1) (length c.args.to.now) refl c.requires.sent c.requires.faults
     c.sent_at-first.result.now c.sent_at-second.result.now c.sent_at-third.result.now c.sent_to-x.result.now c.sent_to-y.result.now c.sent_to-z.result.now
-    c.vote_into.new.to c.sent_at-first.ensures c.sent_at-second.ensures c.sent_at-third.ensures c.sent_to-x.ensures c.sent_to-y.ensures c.sent_to-z.ensures
-    c.vote_into.ensures
+    c.vote_into.new.to c.sent_at-first.ensures c.sent_at-second.ensures c.sent_at-third.ensures x y z c.vote_into.ensures
     ∙ sym (ap (λ b. received_of b faults sent c.args.number c.args.at) c.if-three.true)
 
 pub returns-else-three : goal.returns-else-three

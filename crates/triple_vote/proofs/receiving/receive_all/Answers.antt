@@ -25,6 +25,10 @@ receive-requires-clause-faults c =
     c.loop-number.invariant.sizes c.links-link-items.result.now c.loop-number.number no_link c.index_mut-tuple.result.now c.links-link-items.ensures.value
     c.loop-number-test.true c.index_mut-tuple.ensures.value
 
+pub receive-requires-clause-places : goal.receive-requires-clause-places
+receive-requires-clause-places c =
+    c.requires.places c.loop-number.number (omega (arith, ap length c.links-link-items.ensures.value, c.loop-number-test.true))
+
 pub loop-number-preserved-then-not-is_there : goal.loop-number-preserved-then-not-is_there
 loop-number-preserved-then-not-is_there c =
     let layers = c.args.layers.now in
