@@ -56,8 +56,8 @@ fn instance_of<'t>(alloc: Global, checked: Checked<'t>) -> Result<Instance<'t>, 
     let incoming = incoming_of(alloc, &network)?;
     let taps = taps_of(alloc, &network)?;
     Ok(Instance {
-        wires: checked.wires,
         root: checked.root,
+        wires: checked.into_wires(),
         threads,
         links: incoming.links,
         feeds: incoming.feeds,

@@ -8,7 +8,6 @@ use pals_base::Items;
 
 /// The instance of a package below one root. Its type keeps that the package has no fault, and that
 /// these are all threads, links, feeds and taps, each once, in their order.
-#[derive(Drop)]
 pub struct Instance<'t> {
     /// The package with its connections, as its names were looked up.
     pub wires: Wires<'t>,
@@ -23,4 +22,17 @@ pub struct Instance<'t> {
     /// The chains from threads to the root's out ports, in order of these ports' declaration.
     pub taps: Items<Chain>,
     pub ghost flat: { ∥ IsInstance (placed wires.uses.names.tree.now) root threads links feeds taps ∥₁ },
+}
+
+impl Drop for Instance<'_> {
+    fn drop(self) {
+        let Instance {
+            wires: _,
+            root: _,
+            threads: _,
+            links: _,
+            feeds: _,
+            taps: _,
+        } = self;
+    }
 }

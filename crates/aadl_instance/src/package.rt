@@ -23,7 +23,6 @@ use pals_base::Text;
 use std::alloc::{AllocError, Global};
 
 /// A package that has no fault below a root.
-#[derive(Drop)]
 pub struct Checked<'t> {
     /// Its connections.
     pub wires: Wires<'t>,
@@ -33,6 +32,34 @@ pub struct Checked<'t> {
     pub used: IndexSet<usize>,
     /// The number of the root's implementation.
     pub root: usize,
+}
+
+impl Drop for Checked<'_> {
+    fn drop(self) {
+        let Checked {
+            wires: _,
+            order: _,
+            used: _,
+            root: _,
+        } = self;
+    }
+}
+
+impl<'t> Checked<'t> {
+    ghost use Rattle.std.specs.Prelude.{◌≡◌};
+
+    /// Its connections alone.
+    pub fn into_wires(self) -> Wires<'t>
+        ensures { result ≡ self.entry.wires }
+    {
+        let Checked {
+            wires,
+            order: _,
+            used: _,
+            root: _,
+        } = self;
+        wires
+    }
 }
 
 /// A package with the root of a name, where it has no fault, or else its first fault.

@@ -3,13 +3,22 @@
 use pals_base::{Items, NodeNo, Text};
 
 /// Connections, one behind the other, from where a message begins to where it ends.
-#[derive(Drop)]
 pub struct Chain {
     pub from: ChainEnd,
     pub to: ChainEnd,
     /// The connection whose properties are the chain's: the one between two subcomponents, or, of a
     /// feed or a tap, the one in the root's implementation.
     pub carrier: ConnAt,
+}
+
+impl Drop for Chain {
+    fn drop(self) {
+        let Chain {
+            from: _,
+            to: _,
+            carrier: _,
+        } = self;
+    }
 }
 
 /// Where a chain begins or ends.

@@ -1,5 +1,7 @@
-use Rattle.std.proofs.Common.{◌∙◌}
+use Rattle.std.proofs.Common.{◌∙◌, subst, sym}
 use Rattle.aadl_tree.specs.proof.PackageViews.{placed}
+use Rattle.aadl_uses.specs.declared.wires.Wires.{Wires}
+use Rattle.aadl_instance.specs.Instances.{IsInstance}
 use Rattle.aadl_instance.specs.proof.Passed.{paths_of}
 use Rattle.aadl_instance.proofs.Settled.{all_listed, all_stand, settled, instance_is, threads_same}
 use Rattle.aadl_instance.proofs.flattening.instance_of.Goals as goal
@@ -48,4 +50,9 @@ invariant_of-result c =
     c.in_ok-incoming.incoming.links c.in_ok-incoming.incoming.feeds c.in_ok-taps.taps c.requires.name.1
     (c.in_ok-threads.ensures ∙ threads_same tree checked.root c.from.result.now) c.in_ok-incoming.ensures.links c.in_ok-incoming.ensures.feeds
     c.in_ok-taps.ensures in
-    record { flat = ∣ whole.0 ∣₁ }
+    record {
+      flat = subst
+          (λ (w : Wires). ∥ IsInstance (placed w.uses.names.tree.now) checked.root c.in_ok-threads.threads c.in_ok-incoming.incoming.links
+          c.in_ok-incoming.incoming.feeds c.in_ok-taps.taps ∥₁)
+          (sym c.into_wires.ensures) ∣ whole.0 ∣₁;
+    }
