@@ -29,7 +29,6 @@ struct Said {
 }
 
 /// A package with what is looked up of it, and what its lists of properties say.
-#[derive(Drop)]
 pub struct Properties<'t> {
     /// The package with what is looked up of it.
     pub uses: &'t Uses<'t>,
@@ -38,6 +37,12 @@ pub struct Properties<'t> {
     ghost of_subs: { said.subs
         ≡ map (spec.subs_timed (placed uses.now.names.tree.now)) (placed uses.now.names.tree.now).declarations } by { Prim.hlevel props },
     ghost of_connections: { said.connections ≡ map connections_carried (placed uses.now.names.tree.now).declarations } by { Prim.hlevel props },
+}
+
+impl Drop for Properties<'_> {
+    fn drop(self) {
+        let Properties { uses: _, said: _ } = self;
+    }
 }
 
 // What implementations say, and their types.
