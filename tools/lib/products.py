@@ -8,6 +8,8 @@ Product = namedtuple("Product", ["commands", "most", "write"])
 MANY = 10**9
 COMPONENTS = 256
 PROPERTIES = 64
+# Where threads are multiplied by something else, so much of that comes with each thread.
+PER_THREAD = 256
 PLACES = 9
 
 COUNTER = """thread Counter
@@ -87,16 +89,16 @@ def on_processors(paths):
 
 
 def actions(number):
-    """One step of many actions, in all threads."""
-    counter = COUNTER.replace("o!(x)", "o!(x)" + "; x := i" * number)
-    all_threads = ["p.a", *(f"p.t{n}" for n in range(COMPONENTS - 1))]
-    return package(counter, subs=threads(COMPONENTS - 1), scenario=on_processors([all_threads]))
+    """One step of many actions, in many threads."""
+    counter = COUNTER.replace("o!(x)", "o!(x)" + "; x := i" * (PER_THREAD * number))
+    all_threads = ["p.a", *(f"p.t{n}" for n in range(number))]
+    return package(counter, subs=threads(number), scenario=on_processors([all_threads]))
 
 
 def transitions(number):
-    """One thread with many transitions, and as many threads of it as there may be."""
-    counter = put(COUNTER, "transitions\n", " s -[x > 0]-> s;\n" * number)
-    return package(counter, subs=threads(COMPONENTS - 1))
+    """One thread with many transitions, and many threads of it."""
+    counter = put(COUNTER, "transitions\n", " s -[x > 0]-> s;\n" * (PER_THREAD * number))
+    return package(counter, subs=threads(number))
 
 
 def chain(number):
@@ -170,13 +172,13 @@ def notes(number):
 
 def root_notes(number):
     """Properties of the root, above all threads."""
-    return package(subs=threads(COMPONENTS - 1), root=notes(number))
+    return package(subs=threads(number), root=notes(PER_THREAD * number))
 
 
 def thread_notes(number):
     """Properties of a thread's type, below all threads."""
-    counter = put(COUNTER, " Dispatch_Protocol => Periodic;\n", notes(number))
-    return package(counter, subs=threads(COMPONENTS - 1))
+    counter = put(COUNTER, " Dispatch_Protocol => Periodic;\n", notes(PER_THREAD * number))
+    return package(counter, subs=threads(number))
 
 
 def ring(links):
@@ -242,8 +244,8 @@ def plants(number):
 PRODUCTS = {
     "ports x implementations": Product(["check"], MANY, implementations),
     "types x names": Product(["check"], MANY, types),
-    "actions x threads": Product(["check", "sync", "budget"], MANY, actions),
-    "transitions x threads": Product(["check", "sync"], MANY, transitions),
+    "actions x threads": Product(["check", "sync", "budget"], COMPONENTS - 1, actions),
+    "transitions x threads": Product(["check", "sync"], COMPONENTS - 1, transitions),
     "states x transitions": Product(["check"], MANY, chain),
     "states x names": Product(["check"], MANY, states),
     "variables x names": Product(["check"], MANY, variables),
@@ -252,8 +254,8 @@ PRODUCTS = {
     "ports x connections": Product(["check"], MANY, connected_ports),
     "subcomponents x connections": Product(["check"], MANY, connected_threads),
     "systems x systems": Product(["check"], MANY, systems),
-    "properties x components": Product(["check"], MANY, root_notes),
-    "properties x threads": Product(["check"], MANY, thread_notes),
+    "properties x components": Product(["check"], COMPONENTS - 1, root_notes),
+    "properties x threads": Product(["check"], COMPONENTS - 1, thread_notes),
     "links x components": Product(["check", "sync", "run", "vote"], 4080, linked),
     "faults x links": Product(["vote"], 4080 * PLACES, faults),
     "formulas x properties": Product(["watch"], 300 * PROPERTIES, formulas),
