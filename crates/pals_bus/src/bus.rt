@@ -26,9 +26,14 @@ use step_code::Code;
 /// The bus of a run. Contracts see what the run is of, the codes of its nodes, the state of the bus
 /// machine, and the journal. The journal replays to the state, so the nodes, slots and flights agree
 /// with the composition. A refused call leaves it as it was.
-#[derive(Drop)]
 pub struct Bus {
     pub(crate) fields: Fields,
+}
+
+impl Drop for Bus {
+    fn drop(self) {
+        let Bus { fields: _ } = self;
+    }
 }
 
 impl Model for Bus {

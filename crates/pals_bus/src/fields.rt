@@ -22,7 +22,6 @@ use std::sync::Arc;
 
 /// What a bus is of, the links from each node, its nodes and flights, the queue of each node's messages
 /// that become due, its journal, and room for the values of a round.
-#[derive(Drop)]
 pub struct Fields {
     pub alloc: Global,
     pub design: Arc<Design>,
@@ -38,6 +37,28 @@ pub struct Fields {
     pub stop: Option<Stop>,
     pub journal: Vec<JournalEntry>,
     pub values: Vec<Port>,
+}
+
+// By hand, so that a bus let go is one call, which the crates above cite.
+impl Drop for Fields {
+    fn drop(self) {
+        let Fields {
+            alloc: _,
+            design: _,
+            outgoing: _,
+            env: _,
+            rounds: _,
+            delays: _,
+            meeting: _,
+            closed: _,
+            nodes: _,
+            flights: _,
+            queues: _,
+            stop: _,
+            journal: _,
+            values: _,
+        } = self;
+    }
 }
 
 impl Fields {

@@ -14,10 +14,18 @@ use std::marker::Model;
 use std::ops::Index;
 
 /// The nodes of a run, in order, and their targets. Contracts see them as a list.
-#[derive(Drop)]
 pub struct NodeList {
     nodes: Items<Node>,
     targets: TargetList,
+}
+
+impl Drop for NodeList {
+    fn drop(self) {
+        let NodeList {
+            nodes: _,
+            targets: _,
+        } = self;
+    }
 }
 
 impl Model for NodeList {

@@ -14,10 +14,7 @@ use Rattle.pals_bus.proofs.NodeChanges.{codes}
 use Rattle.pals_bus.proofs.bus.Bus.fresh.Goals as goal
 
 pub invariant_of-result : goal.invariant_of-result
-invariant_of-result c = c.nodes.invariant
-
-pub invariant_of-result-2 : goal.invariant_of-result-2
-invariant_of-result-2 c =
+invariant_of-result c =
     let f = c.self.inside.fields in
     let g : Fields = record {
       alloc = c.args.alloc;
@@ -28,7 +25,7 @@ invariant_of-result-2 c =
       delays = c.in_ok-try_clone-3.field-0;
       meeting = f.meeting;
       closed = false;
-      nodes = c.nodes.inside.nodes;
+      nodes = c.in_ok-nodes.nodes;
       flights = c.in_ok-empty_flights.field-0;
       queues = c.queues.inside.items.items;
       stop = None;
@@ -69,7 +66,7 @@ returns c =
       delays = c.in_ok-try_clone-3.field-0;
       meeting = f.meeting;
       closed = false;
-      nodes = c.nodes.inside.nodes;
+      nodes = c.in_ok-nodes.nodes;
       flights = c.in_ok-empty_flights.field-0;
       queues = c.queues.inside.items.items;
       stop = None;
