@@ -43,9 +43,14 @@ pub fn carrier_of<'t>(
 
 /// The connections that carry chains. Contracts see the numbers of each: its declaration's, and its
 /// own there.
-#[derive(Drop)]
 pub struct Carriers {
     places: IndexSet<(usize, usize)>,
+}
+
+impl Drop for Carriers {
+    fn drop(self) {
+        let Carriers { places: _ } = self;
+    }
 }
 
 impl Model for Carriers {
