@@ -6,7 +6,7 @@ use Rattle.triple_vote.proofs.first_faults.first_faults.Goals as goal
 
 pub returns-then-is_empty : goal.returns-then-is_empty
 returns-then-is_empty c =
-    first_of_none c.args.faults.now c.args.links c.new.result 
+    first_of_none c.args.faults.now c.args.links c.new.result
     (nil_from_length c.args.faults.now (eqb-true (length c.args.faults.now) 0 (sym c.is_empty.ensures ∙ c.if-is_empty.true))) c.new.ensures
 
 pub put_fault-requires : goal.put_fault-requires
