@@ -14,7 +14,11 @@ pub struct Component {
 
 impl Drop for Component {
     fn drop(self) {
-        let Component { path: _, rate: _, behaviour: _ } = self;
+        let Component {
+            path: _,
+            rate: _,
+            behaviour: _,
+        } = self;
     }
 }
 
@@ -62,7 +66,15 @@ pub struct DesignParts {
 // By hand, so that letting it go is one call in the crates above, and is proved once.
 impl Drop for DesignParts {
     fn drop(self) {
-        let DesignParts { period: _, gamma: _, components: _, links: _, feeds: _, taps: _, ignored: _ } = self;
+        let DesignParts {
+            period: _,
+            gamma: _,
+            components: _,
+            links: _,
+            feeds: _,
+            taps: _,
+            ignored: _,
+        } = self;
     }
 }
 
