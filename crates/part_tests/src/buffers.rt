@@ -80,7 +80,7 @@ pub fn flight_gives_its_copies(alloc: Global) -> Result<bool, NoMemory> {
 // A queue of three entries.
 fn three_entries(alloc: Global) -> Result<DueQueue, NoMemory> {
     let mut queue = DueQueue::new(alloc)?;
-    queue.reserve(4)?;
+    queue.reserve(3)?;
     queue.add(entry(9, 0, 2));
     queue.add(entry(5, 1, 0));
     queue.add(entry(3, 2, 1));
@@ -91,6 +91,7 @@ fn three_entries(alloc: Global) -> Result<DueQueue, NoMemory> {
 pub fn queue_is_in_order_of_due_readings(alloc: Global) -> Result<bool, NoMemory> {
     let mut queue = three_entries(alloc)?;
     let few = queue.due_count(5);
+    queue.reserve(1)?;
     queue.add(entry(5, 1, 0));
     let more = queue.due_count(5);
     let first = queue.get(0);
