@@ -1,33 +1,41 @@
-"""What kind an answer is, and the status that the program gives with it."""
+"""The forms of the program's answers."""
 
 import re
 
-FINDING = re.compile(r"(?P<line>\d+):(?P<column>\d+) (?P<number>\d+) (?P<name>\w+)(?: (?P<details>.*))?")
+NUMBER = r"[0-9]{1,40}"
+FINDING = re.compile(rf"(?P<line>{NUMBER}):(?P<column>{NUMBER}) (?P<number>{NUMBER}) (?P<name>\w+)(?: "
+                     rf"(?P<details>.*))?")
 FAULT = re.compile(
-    r"flat (?P<number>\d+) (?P<name>\w+)(?: (?P<what>(?!\d+:)\S+))?(?: (?P<line>\d+):(?P<column>\d+))?"
+    rf"flat (?P<number>{NUMBER}) (?P<name>\w+)(?: (?P<what>(?!\d+:)\S+))?(?: (?P<line>{NUMBER}):(?P<column>{NUMBER}))?"
 )
-STOP = re.compile(r"stop (early) (\S+) (\d+) (\S+)|stop missed (\S+) (\d+) (\S+) (not-sent|in-transit|lost)")
-# First words of answers that are a refusal or a verdict in one line, with their status.
-FIRST_WORDS = {"usage:": 2, "text": 3, "flat": 4, "scenario": 5, "event": 5, "clock": 7, "code": 13, "wrong": 1}
-WHOLE_LINES = {"read fault": 9, "too long": 12}
-
-
-def status_of(lines):
-    """The status of an answer, as far as its text tells it. One that is cut short (10) is taken for what it begins as,
-    and an empty one for that of a world in which no round is finished (0), though memory may have run out (11)."""
-    if not lines:
-        return 0
-    first, final = lines[0], lines[-1]
-    if first in WHOLE_LINES:
-        return WHOLE_LINES[first]
-    if FINDING.fullmatch(first):
-        return 4
-    if first.split(" ")[0] in FIRST_WORDS:
-        return FIRST_WORDS[first.split(" ")[0]]
-    if STOP.fullmatch(final):
-        return 6
-    if first.startswith("processor "):
-        return 1 if any(line.startswith("processor ") and line.endswith(" over") for line in lines) else 0
-    if re.fullmatch(r"watch rounds \d+ first \w+ \d+", final):
-        return 1
-    return 0
+STOP = re.compile(rf"stop (early) (\S+) ({NUMBER}) ({NUMBER}|_)|stop missed (\S+) ({NUMBER}) ({NUMBER}|_) "
+                  rf"(not-sent|in-transit|lost)")
+TEXT = re.compile(rf"text (?P<line>{NUMBER}):(?P<column>{NUMBER}) (?P<name>\w+)")
+SCENARIO = re.compile(r"(?s)scenario (?P<name>[A-Z]\w+)(?: (?P<what>.*))?")
+EVENT = re.compile(rf"event (?P<index>{NUMBER}) (?P<name>\w+)(?P<details>(?: \S+)*)")
+CLOCK = re.compile(rf"clock ended (?P<path>\S+) (?P<target>{NUMBER})")
+WRONG = re.compile(rf"wrong (?P<index>{NUMBER}) (?P<rule>\w+)")
+CODE = re.compile(rf"code (?P<path>\S+) (?P<number>{NUMBER})")
+SOUND = re.compile(rf"sound rounds {NUMBER} stop (?:none|\S+ {NUMBER})")
+RING = re.compile(rf"ring {NUMBER} rounds {NUMBER} messages {NUMBER} sum -?{NUMBER}")
+WATCHED = re.compile(rf"watch rounds (?P<rounds>{NUMBER}) first (?P<name>\w+)(?: (?P<round>{NUMBER}))?")
+PROCESSOR = re.compile(rf"processor (?P<name>\w+) sum (?P<sum>{NUMBER}) of (?P<most>{NUMBER}) (?P<fits>fits|over)")
+CHECK_LINE = re.compile(
+    rf"accepted|(?:period|least|backoff) {NUMBER}|shortest (?:{NUMBER}|none)|component \S+ rate {NUMBER}|"
+    rf"(?:link|input|output) \S+ -> \S+(?: \S.*)?|ignored \S+"
+)
+# Answers of one line that are a refusal or a verdict: the kind of each, its form, and its status.
+ONE_LINE = [
+    ("text", TEXT, 3),
+    ("fault", FAULT, 4),
+    ("scenario", SCENARIO, 5),
+    ("event", EVENT, 5),
+    ("clock", CLOCK, 7),
+    ("wrong", WRONG, 1),
+    ("code", CODE, 13),
+    ("usage", re.compile(r"usage: pals .*"), 2),
+    ("unread", re.compile(r"read fault"), 9),
+    ("unread", re.compile(r"too long"), 12),
+    ("sound", SOUND, 0),
+    ("ring", RING, 0),
+]

@@ -18,6 +18,26 @@ def read(path):
         raise Refused(f"{path}: {error.strerror}") from error
 
 
+def without_mark(data):
+    """The bytes without a byte order mark before them."""
+    return data[len(BYTE_ORDER_MARK) :] if data.startswith(BYTE_ORDER_MARK) else data
+
+
+def join(path, model, scenario):
+    """The bundle of a design and a scenario: byte order marks are taken off, and a line end that is missing added."""
+    model, scenario = without_mark(model), without_mark(scenario)
+    found = divider_at(model + b"\n")
+    if found:
+        line = model.count(b"\n", 0, found[0]) + 1
+        raise Refused(f"{path}:{line}:1: a line %%% would end the design here; take it out, or write it otherwise")
+    if model and not model.endswith(b"\n"):
+        model += b"\n"
+    bundle = model + DIVIDER + b"\n" + scenario
+    if len(bundle) > MOST_BYTES:
+        raise Refused(f"{path}: the bundle would have {len(bundle):,} bytes; it may have {MOST_BYTES:,}")
+    return bundle
+
+
 def divider_at(data):
     """Where the first line begins that is exactly %%%, and where the next one does; or None."""
     start = 0
@@ -32,10 +52,10 @@ def divider_at(data):
 
 
 class Bundle:
-    """A bundle with its file's name, its two parts, and the places in it."""
+    """A bundle with its two parts, the places in it, and the file or the two files that it is made of."""
 
-    def __init__(self, path, data):
-        self.path = path
+    def __init__(self, path, data, scenario_path=None):
+        self.path, self.scenario_path = path, scenario_path
         self.data = data
         found = divider_at(data)
         self.has_divider = found is not None
@@ -62,6 +82,13 @@ class Bundle:
             low, high = (middle, high) if self.starts[middle] <= offset else (low, middle)
         return low + 1, offset - self.starts[low] + 1
 
+    def file_and_line(self, number):
+        """The file that has a line of the bundle, and the line's number there."""
+        first = self.place(self.scenario_start)[0]
+        if self.scenario_path is None or number < first:
+            return self.path, number
+        return self.scenario_path, number - first + 1
+
     def line(self, number):
         """The text of a line, from 1, without its end."""
         if not 1 <= number <= len(self.starts):
@@ -71,6 +98,8 @@ class Bundle:
         return self.data[start : len(self.data) if end < 0 else end].rstrip(b"\r")
 
 
-def bundle_of(path):
-    """The bundle in a file."""
-    return Bundle(path, read(path))
+def bundle_of(path, scenario_path=None):
+    """The bundle in a file, or that of a design and a scenario in two."""
+    if scenario_path is None:
+        return Bundle(path, read(path))
+    return Bundle(path, join(path, read(path), read(scenario_path)), scenario_path)

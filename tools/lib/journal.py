@@ -5,7 +5,7 @@ import re
 from collections import defaultdict, namedtuple
 
 from . import sentences
-from .answers import STOP
+from .answers import NUMBER, STOP
 from .bundles import Refused
 
 # What happened: the kind of event, its path or link, its round, its step, where it stands on the axis (`at`), what came
@@ -14,12 +14,12 @@ Event = namedtuple("Event", "kind what round step at result note")
 # What ended a run: where on the axis, the lane or link, its round, what to say, and whether a message is missing there.
 End = namedtuple("End", "at what round text missing")
 
-READING = r"(?P<reading>\d+|_)"
+READING, ROUND = rf"(?P<reading>{NUMBER}|_)", rf"(?P<round>{NUMBER})"
 LINES = [
-    re.compile(rf"(?P<kind>arrive) (?P<what>\S+) (?P<round>\d+) {READING} (?P<result>kept|ignored|early)"),
-    re.compile(rf"(?P<kind>step) (?P<what>\S+) (?P<round>\d+) (?P<step>\d+) {READING}"),
-    re.compile(rf"(?P<kind>start|send) (?P<what>\S+) (?P<round>\d+) {READING}"),
-    re.compile(r"(?P<kind>finish|drop|repeat) (?P<what>\S+) (?P<round>\d+)"),
+    re.compile(rf"(?P<kind>arrive) (?P<what>\S+) {ROUND} {READING} (?P<result>kept|ignored|early)"),
+    re.compile(rf"(?P<kind>step) (?P<what>\S+) {ROUND} (?P<step>{NUMBER}) {READING}"),
+    re.compile(rf"(?P<kind>start|send) (?P<what>\S+) {ROUND} {READING}"),
+    re.compile(rf"(?P<kind>finish|drop|repeat) (?P<what>\S+) {ROUND}"),
 ]
 
 # What stands behind the first word of an event.
@@ -56,11 +56,10 @@ def parsed(line):
 
 def from_journal(lines):
     """The run of an answer with a journal."""
-    journal = [line for line in lines if parsed(line) or STOP.fullmatch(line)]
-    timed = any((parsed(line) or {}).get("reading", "_") != "_" for line in journal)
+    journal = [(line, found) for line, found in zip(lines, map(parsed, lines)) if found or STOP.fullmatch(line)]
+    timed = any(found.get("reading", "_") != "_" for _, found in journal if found)
     run, reading, steps = Run("readings" if timed else "events"), 0, defaultdict(int)
-    for index, line in enumerate(journal):
-        found = parsed(line)
+    for index, (line, found) in enumerate(journal):
         if found is None:
             run.end = stop_of(line, index + 1, reading, timed)
             break

@@ -1,152 +1,232 @@
-"""What tools need of a design: its components, where its links come from, and its period. No rule is checked here."""
+"""The design below one root: its threads, what comes into their ports, its rates and its bounds. No rule is checked."""
 
 from collections import namedtuple
 
-from .tokens import tokens_of
+from .bundles import Refused
+from .grammar import package_of
+from .names import choice
+from .tree import property_of
 
-Part = namedtuple("Part", "name category ref offset")
-Connection = namedtuple("Connection", "source target offset")
 UNITS = {"ns": 1, "us": 10**3, "ms": 10**6, "sec": 10**9, "min": 60 * 10**9, "hr": 3600 * 10**9}
 # A design has 256 threads at most, with paths of 128 bytes; beyond this many components nothing is looked at.
 MOST_PLACES = 32_768
-SECTIONS = {"subcomponents", "connections", "properties", "annex", "end", "features"}
+# A thread: its path, its subcomponent, its implementation and type (None where they are not declared), and its period.
+Thread = namedtuple("Thread", "path part impl type period")
+# What comes into an in port of a thread, or into a root out port: the thread or None for the root, its port, the
+# connection that carries it, and the adaptor.
+Source = namedtuple("Source", "thread port carrier adaptor")
+# The bounds of a platform, in nanoseconds.
+Bounds = namedtuple("Bounds", "skew shortest longest fastest slowest")
 
 
-class Implementation:
-    """A component implementation: its parts, its connections and its own period."""
+class Declared:
+    """The types and implementations of a package, by their names in lower case; of two of one name the first."""
 
-    def __init__(self, category, name, offset):
-        self.category, self.name, self.offset = category, name, offset
-        self.parts, self.connections, self.period = [], [], None
+    def __init__(self, package):
+        self.package = package
+        self.types, self.impls = {}, {}
+        for kind in package.types:
+            self.types.setdefault(kind.name.text.lower(), kind)
+        for impl in package.impls:
+            self.impls.setdefault(impl.name.text.lower(), impl)
 
+    def impl_of(self, ref):
+        """The implementation that a reference names, or None."""
+        return self.impls.get(ref.text.lower().rpartition("::")[2])
 
-def implementations(design):
-    """The implementations of a design's text, by their names in lower case."""
-    tokens = tokens_of(design)
-    words = [token.text.decode("utf-8", "replace") for token in tokens]
-    low = [word.lower() for word in words]
-    found, at = {}, 0
-    while at + 4 < len(tokens):
-        if low[at] in ("system", "process", "thread") and low[at + 1] == "implementation":
-            made = Implementation(low[at], "".join(words[at + 2 : at + 5]), tokens[at + 2].offset)
-            at = read_sections(made, tokens, words, low, at + 5)
-            found.setdefault(made.name.lower(), made)
-        else:
-            at += 1
-    return found
+    def type_of(self, impl):
+        """The type of an implementation, or None."""
+        return self.types.get(impl.name.text.lower().partition(".")[0]) if impl else None
 
+    def ports_of(self, impl):
+        """The ports of an implementation."""
+        kind = self.type_of(impl)
+        return kind.ports if kind else []
 
-def read_sections(made, tokens, words, low, at):
-    """Reads an implementation up to its end, and gives the place behind the word."""
-    section = ""
-    while at < len(tokens) and low[at] != "end":
-        if low[at] in SECTIONS:
-            section = low[at]
-            at = past_annex(low, at) if section == "annex" else at + 1
-            continue
-        end = statement_end(low, at)
-        if section == "subcomponents":
-            add_part(made, tokens, words, at, end)
-        elif section == "connections" and "->" in words[at:end]:
-            add_connection(made, tokens, words, at, end)
-        elif section == "properties" and low[at] == "period":
-            made.period = time_of(words[at:end])
-        at = end + 1
-    return at + 1
+    def systems(self):
+        """The implementations that may be a root."""
+        return [impl for impl in self.package.impls if impl.category == "system"]
 
+    def roots(self):
+        """The system implementations that no other one has inside; all of them where there is none such."""
+        inner = {impl and impl.name.text.lower() for made in self.package.impls for impl in self.parts_of(made)}
+        tops = [impl for impl in self.systems() if impl.name.text.lower() not in inner]
+        return tops or self.systems()
 
-def past_annex(low, at):
-    """Behind an annex, which may have the word `end` in it."""
-    while at < len(low) and not low[at].endswith("**}"):
-        at += 1
-    return at + 1
-
-
-def statement_end(low, at):
-    """The `;` that ends a statement, which may have some inside of braces."""
-    depth = 0
-    while at < len(low) and not (low[at] == ";" and depth == 0):
-        depth += (low[at] == "{") - (low[at] == "}")
-        at += 1
-    return at
-
-
-def add_part(made, tokens, words, at, end):
-    """Adds a subcomponent: `name : category ref`."""
-    brace = words.index("{", at, end) if "{" in words[at:end] else end
-    ref = "".join(words[at + 3 : brace]).split("::")[-1]
-    if at + 2 < end and words[at + 1] == ":":
-        made.parts.append(Part(words[at], words[at + 2].lower(), ref, tokens[at].offset))
-
-
-def add_connection(made, tokens, words, at, end):
-    """Adds a connection: `name : port end -> end`."""
-    arrow = words.index("->", at, end)
-    brace = words.index("{", arrow, end) if "{" in words[arrow:end] else end
-    source, target = "".join(words[at + 3 : arrow]), "".join(words[arrow + 1 : brace])
-    made.connections.append(Connection(source, target, tokens[at].offset))
-
-
-def time_of(words):
-    """The nanoseconds of `Period => 9 ms`, or None."""
-    if len(words) == 4 and words[2].replace("_", "").isdigit() and words[3].lower() in UNITS:
-        return int(words[2].replace("_", "")) * UNITS[words[3].lower()]
-    return None
+    def parts_of(self, impl):
+        """The implementations of the subcomponents of one."""
+        return [self.impl_of(part.ref) for part in impl.parts]
 
 
 class Model:
-    """The design below one root: its threads, and the source of each link."""
+    """The design below one root."""
 
-    def __init__(self, all_made, root):
-        self.all_made, self.root = all_made, root
-        self.threads, self.places, self.wires, self.targets = [], {}, {}, {}
-        self.walk(root, (), set())
+    def __init__(self, declared, root):
+        self.declared, self.root = declared, root
+        self.by_path, self.places, self.wires = {}, {}, {}
+        periods = [time_of(property_of(level.props, "Period")) for level in (root, declared.type_of(root)) if level]
+        self.period = next((period for period in periods if period is not None), None)
+        self.walk(root, (), self.period, frozenset())
 
-    def walk(self, made, path, above):
-        """Collects threads and wires below an implementation. A circle is not entered, nor more than a design may have."""
-        if made.name.lower() in above or len(self.places) > MOST_PLACES:
+    def walk(self, made, path, period, above):
+        """Collects threads and connections. A circle is not entered, nor more than a design may have."""
+        if made.name.text.lower() in above or len(self.places) > MOST_PLACES:
             return
         for wire in made.connections:
-            self.wires[full(path, wire.target)] = full(path, wire.source)
-            node, _, port = ".".join(path + (wire.target,)).rpartition(".")
-            self.targets.setdefault(node.lower(), []).append(port)
+            self.wires.setdefault(full(path, wire.target), (full(path, wire.source), wire, not path))
         for part in made.parts:
-            below = path + (part.name,)
-            self.places[".".join(below).lower()] = part.offset
+            below, impl = path + (part.name.text,), self.declared.impl_of(part.ref)
+            self.places.setdefault(".".join(below).lower(), part.name.offset)
+            own = self.own_period(part, impl, period)
             if part.category == "thread":
-                self.threads.append(".".join(below))
-            elif part.ref.lower() in self.all_made:
-                self.walk(self.all_made[part.ref.lower()], below, above | {made.name.lower()})
+                thread = Thread(".".join(below), part, impl, self.declared.type_of(impl), own)
+                self.by_path.setdefault(thread.path.lower(), thread)
+            elif impl:
+                self.walk(impl, below, own, above | {made.name.text.lower()})
+
+    def own_period(self, part, impl, period):
+        """The period of a component: its own, or else that of what is round it."""
+        levels = [part, impl, self.declared.type_of(impl)]
+        own = (time_of(property_of(level.props, "Period")) for level in levels if level)
+        return next((found for found in own if found is not None), period)
+
+    @property
+    def threads(self):
+        """The paths of the threads, in the order of the design."""
+        return [thread.path for thread in self.by_path.values()]
+
+    def rate(self, thread):
+        """How many steps a thread makes in a round, or None where that is no whole number."""
+        if not self.period or not thread.period or self.period % thread.period:
+            return None
+        return self.period // thread.period
+
+    @property
+    def bounds(self):
+        """The bounds of the platform, or None where one is missing."""
+        levels = [level for level in (self.root, self.declared.type_of(self.root)) if level]
+
+        def given(name):
+            values = (property_of(level.props, f"PALS_Profile::{name}") for level in levels)
+            return next((value for value in values if value), None)
+
+        skew, execution, network = time_of(given("Skew")), range_of(given("Execution")), range_of(given("Network"))
+        return Bounds(skew, *execution, *network) if skew and execution and network else None
+
+    def steps_sent(self, rate):
+        """How many of the steps of a thread end in time for its message, or None where that cannot be told."""
+        if not self.bounds or not self.period or not rate:
+            return None
+        left = self.period - self.bounds.slowest - 2 * self.bounds.skew - self.bounds.longest
+        return min(rate, 1 + max(left, 0) // max(self.period // rate, 1))
+
+    def came_from(self, end):
+        """What comes into a port: `PATH.PORT`, or the name of a root out port. None where nothing does."""
+        at, carrier, carries = end.lower(), None, False
+        for _ in range(len(self.wires) + 1):
+            if at not in self.wires:
+                return self.root_source(at, carrier)
+            at, wire, in_root = self.wires[at]
+            between = "." in wire.source.text and "." in wire.target.text
+            if carrier is None or between or (in_root and not carries):
+                carrier, carries = wire, between
+            path, _, port = at.rpartition(".")
+            if path in self.by_path:
+                return Source(self.by_path[path], spelled(self.by_path[path], port), carrier, adaptor_of(carrier))
+        return None
+
+    def root_source(self, at, carrier):
+        """A root in port, where a way back ends at one."""
+        names = {port.name.text.lower() for port in self.root_ports("in")}
+        return Source(None, at, carrier, adaptor_of(carrier)) if carrier and at in names else None
+
+    def in_ports(self):
+        """Each in port of a thread, with its thread."""
+        for thread in self.by_path.values():
+            for port in ports_of(thread, "in"):
+                yield thread, port
+
+    def root_ports(self, direction):
+        """The ports of the root that go in or out."""
+        return [port for port in self.declared.ports_of(self.root) if port.direction == direction]
 
     def links(self):
-        """The links between threads."""
-        ends = [f"{path}.{port}" for path in self.threads for port in self.ports_below(path)]
+        """The links between threads, by what they go to."""
+        ends = [f"{thread.path}.{port.name.text}" for thread, port in self.in_ports()]
         return {end for end in ends if self.source(end)}
 
-    def ports_below(self, path):
-        """The ports of a thread that connections go to, as the connections spell them."""
-        return self.targets.get(path.lower(), [])
-
     def source(self, link):
-        """The path of the thread that sends on a link, which is named by the in port that it goes to; or None."""
-        known, at = {path.lower(): path for path in self.threads}, link.lower()
-        for _ in range(len(self.wires) + 1):
-            at = self.wires.get(at)
-            if at is None:
-                return None
-            if at.rpartition(".")[0] in known:
-                return known[at.rpartition(".")[0]]
-        return None
+        """The path of the thread that sends on a link, or None."""
+        found = self.came_from(link)
+        return found.thread.path if found and found.thread else None
+
+
+def ports_of(thread, direction):
+    """The ports of a thread that go in or out."""
+    return [port for port in thread.type.ports if port.direction == direction] if thread.type else []
+
+
+def spelled(thread, name):
+    """The name of a port of a thread, as its type spells it."""
+    names = [port.name.text for port in thread.type.ports] if thread.type else []
+    return next((it for it in names if it.lower() == name), name)
 
 
 def full(path, end):
     """An end of a connection, with the path of what has it."""
-    return ".".join(path + (end,)).lower()
+    return ".".join(path + (end.text,)).lower()
 
 
-def model_of(design, wanted=()):
-    """The design below the first system implementation that has all wanted paths; or None."""
-    all_made = implementations(design)
-    models = [Model(all_made, made) for made in all_made.values() if made.category == "system"]
+def adaptor_of(wire):
+    """The text of the adaptor of a connection, or None."""
+    value = property_of(wire.props, "PALS_Profile::Input_Adaptor")
+    return value.text if value and value.kind == "string" else None
+
+
+def time_of(value):
+    """The nanoseconds of `9 ms`, or None."""
+    if value is None or value.kind != "number":
+        return None
+    kind, unit = value.parts
+    digits = value.text.replace("_", "")
+    if kind != "whole" or not digits.isdigit() or len(digits) > 19 or unit.lower() not in UNITS:
+        return None
+    return int(digits) * UNITS[unit.lower()]
+
+
+def range_of(value):
+    """The two ends of `0 ms .. 3 ms`, or None."""
+    if value is None or value.kind != "range":
+        return None
+    ends = tuple(map(time_of, value.parts))
+    return None if None in ends else ends
+
+
+def declared_in(design):
+    """What a design's text declares, or None where it is none of the language."""
+    package = package_of(design)
+    return Declared(package) if package else None
+
+
+def model_of(design, wanted=(), root=None):
+    """The design below the root of a name, or below the system implementation that has all wanted paths and the most
+    threads; or None."""
+    declared = declared_in(design)
+    if declared is None:
+        return None
+    named = [made for made in declared.systems() if root is None or made.name.text.lower() == root.lower()]
+    models = [Model(declared, made) for made in named]
     fitting = [model for model in models if {path.lower() for path in wanted} <= set(model.places)]
     return max(fitting, key=lambda model: len(model.threads), default=None)
+
+
+def root_of(declared, name):
+    """The root that a name names, or the only one."""
+    roots = [it for it in declared.systems() if it.name.text.lower() == name.lower()] if name else declared.roots()
+    names = [it.name.text for it in (roots or declared.systems())]
+    if not roots:
+        raise Refused(f"there is no system implementation {name or ''}".rstrip() + (f": take {choice(names)}" if names
+                                                                                    else ""))
+    if len(roots) > 1:
+        raise Refused(f"which root is meant? Say --root {choice(names)}")
+    return roots[0]

@@ -1,6 +1,10 @@
-"""Properties that mean something, and the likely name of one that does not."""
+"""Properties that mean something, those that do not, and the likely name of one that does not."""
 
-from .tokens import tokens_of
+from collections import namedtuple
+
+from .grammar import package_of
+from .names import is_near
+from .tree import behaviour_of
 
 PLACES = {
     "Period": "types, implementations and subcomponents",
@@ -12,20 +16,67 @@ PLACES = {
     "PALS_Profile::Network": "the root's implementation and its type",
     "Data_Model::Initial_Value": "variables of a behaviour",
 }
+BOUNDS = {f"pals_profile::{name}" for name in ("skew", "execution", "network")}
+# A property that means nothing: its name, its place, why, and whether another name was likely meant.
+Ignored = namedtuple("Ignored", "name offset why misspelt")
+
+
+def lists_of(package, roots=()):
+    """Each list of properties of a package, with the names in lower case that mean something in it. Of the
+    implementations and types in `roots` the bounds count."""
+    for kind in package.types:
+        dispatch = {"dispatch_protocol"} if kind.category == "thread" else set()
+        yield kind.props, {"period"} | dispatch | (BOUNDS if kind in roots else set())
+        for port in kind.ports:
+            yield port.props, set()
+    for impl in package.impls:
+        yield from lists_in(impl, BOUNDS if impl in roots else set())
+
+
+def lists_in(impl, bounds):
+    """The lists of properties of an implementation."""
+    dispatch = {"dispatch_protocol"}
+    yield impl.props, {"period"} | bounds | (dispatch if impl.category == "thread" else set())
+    for part in impl.parts:
+        yield part.props, {"period"} | (dispatch if part.category == "thread" else set())
+    for wire in impl.connections:
+        yield wire.props, {"timing", "pals_profile::input_adaptor"}
+    behaviour = behaviour_of(impl)
+    seen = []
+    for variable in behaviour.variables if behaviour else []:
+        if variable.props not in seen:
+            seen.append(variable.props)
+            yield variable.props, {"data_model::initial_value"}
+
+
+def ignored(package, roots):
+    """The properties that mean nothing where they stand: those first for which another name was likely meant."""
+    found = []
+    for props, known in lists_of(package, roots):
+        for prop in props:
+            if prop.applies or prop.name.text.lower() not in known:
+                meant = likely(prop.name.text) is not None
+                found.append(Ignored(prop.name.text, prop.name.offset, why_ignored(prop.name.text, prop.applies),
+                                     meant))
+    return sorted(found, key=lambda it: (not it.misspelt, it.offset))
 
 
 def associations(design):
-    """The names in front of `=>` and `+=>` in a design, each with its place."""
-    tokens, found = tokens_of(design), []
-    for at, token in enumerate(tokens):
-        if token.text not in (b"=>", b"+=>"):
-            continue
-        first = at - 1
-        while first >= 2 and tokens[first - 1].text == b"::":
-            first -= 2
-        name = b"".join(it.text for it in tokens[max(first, 0) : at]).decode("utf-8", "replace")
-        found.append((name, tokens[max(first, 0)].offset))
-    return found
+    """The names of the properties of a design's text, each with its place; none where it is none of the language."""
+    package = package_of(design)
+    return [(prop.name.text, prop.name.offset) for props, _ in lists_of(package) for prop in props] if package else []
+
+
+def why_ignored(name, applies=False):
+    """Why a property means nothing."""
+    known = {it.lower(): it for it in PLACES}.get(name.lower())
+    if known and applies:
+        return f"this {known} is ignored, since it has applies to: give it at what it is for"
+    if known:
+        return f"this {known} is ignored: it counts at {PLACES[known]}, and not here"
+    if likely(name):
+        return f"{name} is ignored; {likely(name)} is likely meant"
+    return f"{name} is ignored: it means nothing here"
 
 
 def likely(name):
@@ -42,13 +93,3 @@ def likely(name):
 def last(name):
     """The last word of a name, in lower case."""
     return name.lower().rpartition("::")[2]
-
-
-def is_near(one, two):
-    """Whether two words are equal, but for one letter that is missing, added, another, or two that are swapped."""
-    if abs(len(one) - len(two)) > 1:
-        return False
-    at = next((i for i, (a, b) in enumerate(zip(one, two)) if a != b), min(len(one), len(two)))
-    rest, other = one[at:], two[at:]
-    swapped = rest[1:2] + rest[:1] + rest[2:]
-    return rest[1:] == other[1:] or rest[1:] == other or rest == other[1:] or swapped == other

@@ -3,7 +3,7 @@
 import re
 from collections import namedtuple
 
-from .answers import STOP
+from .answers import NUMBER, STOP, WATCHED
 from .bundles import Refused
 from .journal import parsed
 
@@ -13,15 +13,15 @@ Component = namedtuple("Component", "path state values")
 Sent = namedtuple("Sent", "link round places")
 Slot = namedtuple("Slot", "processor path step begin done")
 
-PLACES = r"\(((?:-?\d+|true|false|_)(?:,(?:-?\d+|true|false|_))*)\)"
-ROUND = re.compile(r"round (\d+)")
-COMPONENT = re.compile(r"([^\s=]+\.[^\s=]+) ([\w()-]+)((?: \w+=(?:-?\d+|true|false))*)")
+VALUE = rf"(?:-?{NUMBER}|true|false)"
+PLACES = rf"\(((?:{VALUE}|_)(?:,(?:{VALUE}|_))*)\)"
+ROUND = re.compile(rf"round ({NUMBER})")
+COMPONENT = re.compile(rf"([^\s=]+\.[^\s=]+) (halted\((?:overflow|zero-divisor)\)|\w+)((?: \w+={VALUE})*)")
 OUT = re.compile(rf"out (\w+) {PLACES}")
-SENT = re.compile(rf"sent (\S+) (\d+) {PLACES}")
+SENT = re.compile(rf"sent (\S+) ({NUMBER}) {PLACES}")
 VERDICT = re.compile(r"(\w+) (true|false)")
-LAST_VERDICT = re.compile(r"watch rounds \d+ first (?:\w+ \d+|none)")
-PROCESSOR = re.compile(r"processor (\w+) sum \d+ of \d+ (?:fits|over)")
-SLOT = re.compile(r"slot (\S+) (\d+) (\d+) (\d+)")
+PROCESSOR = re.compile(rf"processor (\w+) sum {NUMBER} of {NUMBER} (?:fits|over)")
+SLOT = re.compile(rf"slot (\S+) ({NUMBER}) ({NUMBER}) ({NUMBER})")
 
 
 class Report:
@@ -43,7 +43,7 @@ class Report:
             found = next(((take, match) for shape, take in takers for match in [shape.fullmatch(line)] if match), None)
             if found:
                 found[0](*found[1].groups())
-            elif not (parsed(line) or STOP.fullmatch(line) or LAST_VERDICT.fullmatch(line)):
+            elif not (parsed(line) or STOP.fullmatch(line) or WATCHED.fullmatch(line)):
                 raise Refused(f"this line is of no report: {line[:60]}")
 
     def take_round(self, number):

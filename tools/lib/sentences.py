@@ -73,7 +73,8 @@ EVENT_FAULTS = {
     "WrongPhase": "$1 cannot do this now",
     "NoSuchMessage": "no message of round $2 is in flight to $1",
     "NotDue": "$1 may do this once its clock reads $2ms, and it reads $3ms",
-    "PastDeadline": ("time passes $2ms, the last one for what $1 is to do", "time passes $3ms, the last one at which the "
+    "PastDeadline": ("time passes $2ms, the last one for what $1 is to do",
+                     "time passes $3ms, the last one at which the "
                      "message of round $2 may arrive at $1"),
     "TooSoon": ("the step of $1 may finish from $2ms on", "the message of round $2 may arrive at $1 from $3ms on"),
 }
@@ -93,7 +94,8 @@ CLOCK_ENDED = "the clock of $1 has no reading left that is $2ms or more, which $
 TRACE_RULES = {
     "row": "the rows of the composition do not go on like this",
     "text": "this is no line of a journal, it names nothing of the design, or it has no reading",
-    "order": "this does not come now: the event is not allowed here, or its round, its step or its result is another one",
+    "order": "this does not come now: the event is not allowed here, or its round, its step or its result is another "
+    "one",
     "reading": "the clock of this node has read more before",
     "alarm": "this comes too soon: the clock of the node reads less than the alarm",
     "release": "this is sent too soon: the clock of the node reads less than the release",

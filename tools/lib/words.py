@@ -1,11 +1,15 @@
 """Words that are no names: keywords of a behaviour annex, and what AADL has and this subset leaves out."""
 
-import re
-
+BEHAVIOUR = "behavior_specification"
 # Keywords inside of a behaviour annex, with those of properties.
 ANNEX = frozenset(
     "abs and applies classifier complete constant dispatch else elsif end false fresh for if in initial mod not on or "
     "otherwise reference rem state states then to transitions true variables xor".split()
+)
+# Keywords outside of behaviour annexes.
+DECLARATIONS = frozenset(
+    "annex applies classifier connections constant data end features implementation in none out package port process "
+    "properties public reference subcomponents system thread to with".split()
 )
 # Words that begin what AADL or its annex has, and this subset leaves out.
 LEFT_OUT = frozenset(
@@ -13,16 +17,3 @@ LEFT_OUT = frozenset(
     "modes parameter private processor property prototypes provides renames requires stop subprogram timeout virtual "
     "while".split()
 )
-WORD = re.compile(rb"[A-Za-z][A-Za-z0-9_]*")
-
-
-def hint(text, offset):
-    """What is likely wrong where a text is refused at a word; empty where nothing is known of it."""
-    match = WORD.match(text, offset)
-    word = match.group().decode().lower() if match else ""
-    inside = text.rfind(b"{**", 0, offset) > text.rfind(b"**}", 0, offset)
-    if inside and word in ANNEX:
-        return f"{word} is a keyword inside of a behaviour annex, and no name"
-    if word in LEFT_OUT:
-        return f"this subset of AADL may have no {word} here: docs/language.md says what it leaves out"
-    return ""

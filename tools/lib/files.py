@@ -1,0 +1,89 @@
+"""Runs the program on a design and a scenario in files, and explains its answer."""
+
+import contextlib
+import os
+import subprocess
+import sys
+
+from .bundles import BYTE_ORDER_MARK, Refused, bundle_of
+from .command import Misused
+from .explaining import explain
+from .model import declared_in
+from .names import choice
+from .page import TOP
+
+ENDINGS = (".aadl", ".json", ".pals")
+
+
+def is_file(word):
+    """Whether a word of a command line is a file, and no word of the program."""
+    return word.endswith(ENDINGS) or "/" in word
+
+
+class Asked:
+    """What is asked of the program: its words, and the files of the bundle."""
+
+    def __init__(self, words):
+        self.files = [word for word in words if is_file(word)]
+        self.words = [word for word in words if not is_file(word)]
+        if len(self.files) == 2 and self.files[0].endswith(".json"):
+            self.files.reverse()
+        if not self.words or len(self.files) not in (1, 2):
+            raise Misused
+        self.bundle = bundle_of(*self.files)
+        self.add_root()
+
+    def add_root(self):
+        """Adds the root where the words have none: the one system implementation that no other one contains."""
+        options = [word for word in self.words if word.startswith("--")]
+        if self.words[0] == "print" or len(self.words) > 1 + len(options):
+            return
+        declared = declared_in(self.bundle.design)
+        roots = [impl.name.text for impl in declared.roots()] if declared else []
+        if len(roots) > 1:
+            raise Refused(f"which root is meant? Say ./pals {self.words[0]} ROOT .. with {choice(roots)}")
+        # Of a text that is refused, or without a system, the program says so whatever the root.
+        self.words.append(roots[0] if roots else "Root.impl")
+
+    def data(self):
+        """The bytes that the program reads."""
+        data = self.bundle.data
+        whole = self.bundle.has_divider or len(self.files) == 2 or not self.files[0].endswith(".aadl")
+        if whole:
+            return data
+        data = data[len(BYTE_ORDER_MARK) :] if data.startswith(BYTE_ORDER_MARK) else data
+        return data + (b"" if data.endswith(b"\n") else b"\n") + b"%%%\n"
+
+    def run(self):
+        """The status and the bytes of the program."""
+        try:
+            ran = subprocess.run([os.path.join(TOP, "pals"), *self.words], input=self.data(), stdout=subprocess.PIPE,
+                                 check=False)
+        except OSError as error:
+            raise Refused(f"./pals: {error.strerror}") from error
+        return (ran.returncode if ran.returncode >= 0 else 128 - ran.returncode), ran.stdout
+
+    def explain(self, text):
+        """Writes the remarks on an answer to standard error."""
+        command = " ".join(word for word in self.words[:2] if word == self.words[0] or word == "--loose")
+        with contextlib.redirect_stdout(sys.stderr):
+            explain(self.bundle, text.decode("utf-8", "replace"), command, passes=False)
+
+
+def on_terminal():
+    """Whether remarks are wanted: where standard error is a terminal."""
+    return sys.stderr is not None and sys.stderr.isatty()
+
+
+def ask(words, explains):
+    """Runs the program, writes its bytes, explains them where that is wanted, and gives its status."""
+    asked = Asked(words)
+    status, text = asked.run()
+    sys.stdout.buffer.write(text)
+    sys.stdout.flush()
+    if explains:
+        try:
+            asked.explain(text)
+        except Refused as why:
+            print(f"pals: {why}", file=sys.stderr)
+    return status

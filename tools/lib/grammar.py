@@ -1,0 +1,208 @@
+"""Reads a design's text into its tree, or finds the first token that cannot stand there, and which ones could."""
+
+from . import tree
+from .cursor import NAME, WHOLE, Fault
+from .declarations import Declarations
+from .tokens import word_of
+
+LOGICAL = ("and", "or", "xor")
+COMPARING = ("=", "!=", "<", "<=", ">", ">=")
+MULTIPLYING = ("*", "/", "mod", "rem")
+
+
+class Grammar(Declarations):
+    """The whole language: declarations, and behaviours with their variables, states, transitions and actions."""
+
+    def body(self):
+        """The body of a behaviour annex."""
+        variables, states, transitions = [], [], []
+        if self.may("variables"):
+            while self.sees(NAME):
+                variables.extend(self.variables())
+        if self.may("states"):
+            while self.sees(NAME):
+                states.extend(self.states())
+        if self.may("transitions"):
+            while self.sees(NAME):
+                transitions.append(self.transition())
+        return tree.Behaviour(variables, states, transitions)
+
+    def names(self):
+        """Names with commas between them."""
+        found = [self.name()]
+        while self.may(","):
+            found.append(self.name())
+        return found
+
+    def variables(self):
+        """Variables of one declaration."""
+        names = self.names()
+        self.take(":")
+        ref = self.reference()
+        props = self.braces()
+        self.take(";")
+        return [tree.Variable(name, ref, props) for name in names]
+
+    def states(self):
+        """States of one declaration."""
+        names = self.names()
+        self.take(":")
+        initial, complete = bool(self.may("initial")), bool(self.may("complete"))
+        self.take("state")
+        self.take(";")
+        return [tree.State(name, initial, complete) for name in names]
+
+    def transition(self):
+        """A transition, with its label or without."""
+        offset, source = self.offset(), self.name()
+        if self.may(":"):
+            source = self.name()
+        self.take("-[")
+        self.enter()
+        guard = self.guard()
+        self.take("]->")
+        self.leave()
+        target, acts = self.name(), []
+        if self.sees("{"):
+            acts = self.block()
+        self.take(";")
+        return tree.Transition(source, target, guard, acts, offset)
+
+    def guard(self):
+        """What a transition waits for."""
+        if self.may("on"):
+            self.take("dispatch")
+            return "dispatch"
+        if self.may("otherwise"):
+            return "otherwise"
+        if self.sees("]->"):
+            return "none"
+        return self.expression()
+
+    def block(self):
+        """Actions in braces."""
+        self.next()
+        self.enter()
+        found = [] if self.sees("}") else self.acts()
+        self.take("}")
+        self.leave()
+        return found
+
+    def acts(self):
+        """Actions, with `;` between them and perhaps behind them."""
+        found = [self.act()]
+        while self.may(";") and self.sees(NAME, "if", "for"):
+            found.append(self.act())
+        return found
+
+    def act(self):
+        """One action."""
+        here = self.sees(NAME, "if", "for")
+        if here == "if":
+            return self.choice()
+        if here == "for":
+            return self.loop()
+        target = self.name()
+        if self.may("!"):
+            return tree.Send(target, self.bracketed(self.expression))
+        self.take(":=")
+        return tree.Assign(target, self.expression())
+
+    def choice(self):
+        """`if` to `end if`."""
+        self.next()
+        self.enter()
+        branches, otherwise = [(self.bracketed(self.expression), self.acts())], []
+        while self.may("elsif"):
+            condition = self.bracketed(self.expression)
+            branches.append((condition, self.acts()))
+        if self.may("else"):
+            otherwise = self.acts()
+        self.take("end")
+        self.take("if")
+        self.leave()
+        return tree.If(branches, otherwise)
+
+    def loop(self):
+        """A loop."""
+        self.next()
+        self.take("(")
+        self.enter()
+        variable = self.name()
+        self.take(":")
+        self.reference()
+        self.take("in")
+        self.whole()
+        self.take("..")
+        self.whole()
+        self.take(")")
+        self.leave()
+        if not self.sees("{"):
+            self.take("{")
+        return tree.For(variable, self.block())
+
+    def whole(self):
+        """A whole number with its sign."""
+        self.may("-")
+        self.take(WHOLE)
+
+    def expression(self):
+        """An expression with its logical operators."""
+        offset, reads, chains, words = self.offset(), [], [], []
+        self.relation(reads, chains)
+        while self.sees(*LOGICAL):
+            word = word_of(self.next()).lower()
+            second = {"and": "then", "or": "else"}.get(word)
+            if second and self.may(second):
+                word = f"{word} {second}"
+            words.append(word)
+            self.relation(reads, chains)
+        return tree.Expr(reads, [tree.Chain(words, offset)] + chains if words else chains, offset)
+
+    def relation(self, reads, chains):
+        """A comparison, or a sum alone."""
+        self.sum(reads, chains)
+        if self.may(*COMPARING):
+            self.sum(reads, chains)
+
+    def sum(self, reads, chains):
+        """Terms that are added."""
+        self.may("+", "-")
+        self.term(reads, chains)
+        while self.may("+", "-"):
+            self.term(reads, chains)
+
+    def term(self, reads, chains):
+        """Factors that are multiplied."""
+        self.factor(reads, chains)
+        while self.may(*MULTIPLYING):
+            self.factor(reads, chains)
+
+    def factor(self, reads, chains):
+        """What stands alone, or behind `abs` or `not`."""
+        self.may("abs", "not")
+        if self.may(WHOLE, "true", "false"):
+            return
+        if self.sees("("):
+            inner = self.bracketed(self.expression)
+            reads.extend(inner.reads)
+            chains.extend(inner.chains)
+            return
+        name = self.name()
+        fresh = bool(self.may("'"))
+        if fresh:
+            self.take("fresh")
+        reads.append(tree.Read(name, fresh))
+
+
+def read(text):
+    """The tree of a text; it stops with a fault."""
+    return Grammar(text).package()
+
+
+def package_of(text):
+    """The tree of a text, or None where it is none of the language."""
+    try:
+        return read(text)
+    except Fault:
+        return None

@@ -1,0 +1,34 @@
+"""Remarks on a bundle: a place, what is to be said of it, the line with a caret, and further lines."""
+
+import re
+
+# How many bytes of a line are shown.
+MOST_SHOWN = 160
+# Characters that a terminal would obey, and those that change the direction of writing; tabs are let through.
+CONTROL = re.compile("[\x00-\x08\x0a-\x1f\x7f-\x9f\u200b-\u200f\u2028-\u202e\u2060-\u2069\ufeff]")
+
+
+def visible(text):
+    """A text in which no character means anything to a terminal."""
+    return CONTROL.sub(lambda it: f"\\x{ord(it[0]):02x}" if ord(it[0]) < 256 else f"\\u{ord(it[0]):04x}", text)
+
+
+def show(bundle, place, what, *more):
+    """Writes one remark."""
+    line, column = place
+    path, number = bundle.file_and_line(line)
+    print(visible(f"{path}:{number}:{column}: {what}"))
+    text = bundle.line(line)
+    if text:
+        start = max(column - MOST_SHOWN // 2, 0) if len(text) > MOST_SHOWN else 0
+        before = visible(text[start : column - 1].decode("utf-8", "replace"))
+        print(f"    {visible(text[start : start + MOST_SHOWN].decode('utf-8', 'replace'))}")
+        print("    " + re.sub(r"[^\t]", " ", before) + "^")
+    for it in more:
+        if it:
+            print(visible(f"    {it}"))
+
+
+def show_found(bundle, found):
+    """Writes a finding on what is accepted."""
+    show(bundle, bundle.place(found.offset), f"{found.what} ({found.rule})", *found.more)

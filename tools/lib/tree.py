@@ -1,0 +1,69 @@
+"""What a design's text declares: the trees that the grammar gives. Offsets are those of bytes, from 0."""
+
+from collections import namedtuple
+
+# A word with its place.
+Name = namedtuple("Name", "text offset")
+# A package: its name, its types and implementations in text order, and the name behind its `end`.
+Package = namedtuple("Package", "name types impls end")
+Type = namedtuple("Type", "category name offset ports props annexes end")
+Impl = namedtuple("Impl", "category name offset parts connections props annexes end")
+Port = namedtuple("Port", "name direction ref props")
+Part = namedtuple("Part", "name category ref props")
+Connection = namedtuple("Connection", "name source target props")
+# A property: its name, its value, whether it has `applies to`. A value has a kind and, by it, a text or parts.
+Property = namedtuple("Property", "name value applies")
+Value = namedtuple("Value", "kind text parts")
+# An annex, with its behaviour where it is one.
+Annex = namedtuple("Annex", "offset name behaviour")
+Behaviour = namedtuple("Behaviour", "variables states transitions")
+Variable = namedtuple("Variable", "name ref props")
+State = namedtuple("State", "name initial complete")
+# A transition: its guard is dispatch, otherwise, none, or an expression.
+Transition = namedtuple("Transition", "source target guard acts offset")
+Assign = namedtuple("Assign", "target value")
+Send = namedtuple("Send", "target value")
+# Branches are pairs of a condition and actions.
+If = namedtuple("If", "branches otherwise")
+For = namedtuple("For", "variable body")
+# An expression: the names that it reads, and its chains of logical operators, those in brackets included.
+Expr = namedtuple("Expr", "reads chains offset")
+Read = namedtuple("Read", "name fresh")
+# The operators of one chain, in order.
+Chain = namedtuple("Chain", "words offset")
+
+
+def acts_in(acts):
+    """All actions of a list, those inside of others included, each before what it has inside."""
+    for act in acts:
+        yield act
+        if isinstance(act, If):
+            for _, inner in act.branches:
+                yield from acts_in(inner)
+            yield from acts_in(act.otherwise)
+        elif isinstance(act, For):
+            yield from acts_in(act.body)
+
+
+def exprs_in(transition):
+    """All expressions of a transition: its guard, and what its actions have."""
+    if isinstance(transition.guard, Expr):
+        yield transition.guard
+    for act in acts_in(transition.acts):
+        if isinstance(act, (Assign, Send)):
+            yield act.value
+        elif isinstance(act, If):
+            yield from (condition for condition, _ in act.branches)
+
+
+def behaviour_of(impl):
+    """The behaviour of an implementation, or None."""
+    return next((annex.behaviour for annex in impl.annexes if annex.behaviour), None)
+
+
+def property_of(props, name):
+    """The value of a property in a list, or None: the names without regard to case, and without `applies to`."""
+    for prop in props:
+        if prop.name.text.lower() == name.lower() and not prop.applies:
+            return prop.value
+    return None
