@@ -1,0 +1,46 @@
+"""Writes what an answer of the program says, where it is in the bundle."""
+
+import sys
+
+from . import explain_accepted, explain_refused, explain_runs
+from .bundles import Refused, divider_at
+from .kinds import Answer
+from .show import visible
+
+SHOW = {
+    "text": explain_refused.show_text,
+    "fault": explain_refused.show_fault,
+    "findings": explain_refused.show_findings,
+    "scenario": explain_refused.show_scenario,
+    "event": explain_runs.show_event,
+    "stop": explain_runs.show_stop,
+    "clock": explain_runs.show_ended,
+    "wrong": explain_runs.show_wrong,
+    "code": explain_runs.show_code,
+    "check": explain_accepted.show_check,
+    "watch": explain_accepted.show_watch,
+    "budget": explain_accepted.show_budget,
+}
+# Answers that are passed on.
+PASSED = {"check", "rows", "watch", "budget", "sound", "ring", "design"}
+# Commands whose answer may be empty: a world in which no round is finished, and nothing is sent.
+MAY_BE_EMPTY = {"world", "world --loose"}
+
+
+def explain(bundle, text, command, passes=True):
+    """Writes the remarks on an answer, behind itself where it is passed on, and gives its status."""
+    found = Answer(text)
+    if found.kind == "empty" and command not in MAY_BE_EMPTY:
+        raise Refused("an empty answer: nothing was checked; was the program given the bundle, and did it run?")
+    if found.kind is None and divider_at(text.encode("utf-8", "replace")):
+        raise Refused("this is a bundle, and no answer: nothing was checked; hand it to ./pals first")
+    if found.kind is None:
+        first = found.lines[0] if found.lines else ""
+        raise Refused(f"this is no answer of the program: nothing was checked; it begins with: {visible(first[:60])}")
+    if passes and found.kind in PASSED:
+        sys.stdout.write(text if text.endswith("\n") else text + "\n")
+    if found.kind in SHOW:
+        SHOW[found.kind](bundle, found)
+    elif found.kind in ("usage", "unread"):
+        print(f"{visible(bundle.path)}:1:1: {visible(found.lines[0])}")
+    return found.status

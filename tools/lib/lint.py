@@ -1,0 +1,61 @@
+"""What is accepted and likely not meant, with its place and what to do about it."""
+
+import json
+
+from . import lint_behaviours, lint_timing
+from .found import Found
+from .properties import ignored
+
+# Each rule, and what it finds.
+RULES = {
+    "dead-link": "a link whose adaptor reads steps that are never sent",
+    "thin-adaptor": "an adaptor that has fewer values than it seems to have, as a step of its source is not sent",
+    "unsent-steps": "a component that sends fewer steps than it makes",
+    "no-source": "a port that nothing comes into",
+    "no-input": "a root in port for which the scenario has no value",
+    "unread-port": "a port that nothing takes, or that no step reads",
+    "unset-port": "an out port that no step sends on",
+    "unread-variable": "a variable that no step reads, and no property of the scenario",
+    "unset-variable": "a variable that no step sets",
+    "unreached-state": "a state that no way leads to",
+    "untaken-transition": "a transition that is never taken",
+    "mixed-operators": "`and`, `or` and `xor` beside each other without brackets",
+    "misspelt-property": "a property that means nothing, and is near to one that does",
+    "ignored-property": "a property that means nothing where it stands",
+}
+
+
+def lint(model, scenario=None):
+    """All findings of a design below its root: misspelt properties first, then the others by their place."""
+    found = [*properties(model), *lint_timing.find(model, scenario), *lint_behaviours.find(model, watched(scenario))]
+    return sorted(found, key=lambda it: (it.rule != "misspelt-property", it.offset, list(RULES).index(it.rule)))
+
+
+def properties(model):
+    """The properties that mean nothing."""
+    roots = [level for level in (model.root, model.declared.type_of(model.root)) if level]
+    for prop in ignored(model.declared.package, roots):
+        rule = "misspelt-property" if prop.misspelt else "ignored-property"
+        yield Found(rule, prop.name, prop.offset, prop.why, "see docs/language.md, Properties")
+
+
+def watched(scenario):
+    """The variables that the properties of a scenario look at, as pairs of a path and a name, in lower case."""
+    found, todo = set(), [scenario.get("properties")] if isinstance(scenario, dict) else []
+    while todo:
+        value = todo.pop()
+        if isinstance(value, dict):
+            todo.extend(value.values())
+        elif isinstance(value, list):
+            if len(value) == 5 and value[0] == "var" and all(isinstance(it, str) for it in value[1:3]):
+                found.add((value[1].lower(), value[2].lower()))
+            todo.extend(it for it in value if isinstance(it, list))
+    return found
+
+
+def scenario_of(text):
+    """The value of a scenario's text, or None where it is none that can be read."""
+    try:
+        return json.loads(text.decode("utf-8")) if text.strip() else None
+    except (ValueError, RecursionError):
+        return None
