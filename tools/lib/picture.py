@@ -1,70 +1,54 @@
 """A run as a picture (SVG): a lane for each node, a bar for each step, an arrow for each message."""
 
 from collections import defaultdict
-from xml.sax.saxutils import escape
 
 from .journal import node_of
+from .picture_style import LAYERS, LEGEND, heads, style_of
+from .svg import DARK, LIGHT, Sheet, ticks, wide
 from .times import in_ms
 
-LANE, BAR, TOP, LEFT_PAD, RIGHT_PAD, PER_EVENT, TIME_WIDTH = 64, 22, 58, 24, 40, 46, 1000
-# With more rounds than this no alarms are drawn.
-MOST_ALARMS = 100
-COLOURS = ("#9ec5e8", "#f5cf8e")
-STYLE = """
-text {font: 12px sans-serif; fill: #222}
-.small {font-size: 10px; fill: #555}
-.lane {stroke: #ccc}
-.grid {stroke: #bbb; stroke-dasharray: 2 3}
-.bar {stroke: #456; stroke-width: .7}
-.open {stroke-dasharray: 3 2}
-.message {stroke: #2b6a30; stroke-width: 1.3; fill: none; marker-end: url(#head)}
-.ignored {stroke: #999; stroke-width: 1.3; fill: none; marker-end: url(#grey)}
-.flight {stroke: #2b6a30; stroke-width: 1.3; fill: none; stroke-dasharray: 5 3}
-.send {fill: #2b6a30}
-.wrong {stroke: #c22; stroke-width: 1.8; fill: none}
-.end {font-weight: bold; fill: #c22}
-"""
-HEADS = "".join(
-    f'<marker id="{name}" viewBox="0 0 8 8" refX="7" refY="4" markerWidth="7" markerHeight="7" orient="auto">'
-    f'<path d="M0 0 L8 4 L0 8 z" fill="{fill}"/></marker>'
-    for name, fill in (("head", "#2b6a30"), ("grey", "#999"))
-)
+LEFT_PAD, RIGHT_PAD, LEAST_WIDTH, MOST_WIDTH = 24, 40, 1000, 6000
+# The height of a lane, of all lanes together about, and the width of an event and of a round, in pixels.
+LANE, LEAST_LANE, LANES, PER_EVENT, PER_ROUND = 64, 15, 1000, 46, 90
+# A round with fewer pixels than this is drawn too small to be read.
+SMALL_ROUND = 60
 
 
 class Picture:
     """Draws one run."""
 
     def __init__(self, run, title):
-        self.run, self.title, self.parts = run, title, []
-        self.left = LEFT_PAD + 7 * max((len(lane) for lane in run.lanes), default=0) + 10
-        self.row = {lane: number for number, lane in enumerate(run.lanes)}
+        self.run, self.title = run, title
+        self.row = {lane: order for order, lane in enumerate(run.lanes)}
+        self.lane = max(min(LANE, LANES / max(len(run.lanes), 1)), LEAST_LANE)
+        self.high = max(self.lane * 0.36, 5)
         moments = [event.at for event in run.events] + ([run.end.at] if run.end else [])
         self.first, self.last = min(moments, default=0), max(moments, default=1)
         self.span = max(self.last - self.first, 1)
-        self.width = PER_EVENT * (self.span + 1) if run.axis == "events" else TIME_WIDTH
-        self.bottom = TOP + LANE * len(run.lanes)
+        self.rounds = sorted({event.round for event in run.events})
+        self.left = LEFT_PAD + max(7 * max((len(lane) for lane in run.lanes), default=0), 68) + 10
+        self.width = self.width_of(len(self.rounds))
+        self.per_round = self.width / max(len(self.rounds), 1)
+        thick = min(1.3, self.per_round / 60, self.lane / 25)
+        self.sheet = Sheet("timeline", style_of(thick), LAYERS)
+        self.sheet.defs = heads()
+        self.top = 94 + (18 if run.end else 0)
+        self.bottom = self.top + self.lane * len(run.lanes)
+        self.senders = {event.what for event in run.events if event.kind == "send"}
+        self.sources, self.ways = {}, {}
+
+    def width_of(self, rounds):
+        """How wide the lanes are: longer runs are drawn wider, up to a limit."""
+        wished = min(max(PER_ROUND * rounds, LEAST_WIDTH), MOST_WIDTH)
+        return min(PER_EVENT * (self.span + 1), max(wished, PER_EVENT * 40)) if self.run.axis == "events" else wished
 
     def x(self, at):
         """Where a moment stands."""
-        return round(self.left + 14 + (at - self.first) * (self.width - 28) / self.span, 1)
+        return self.left + 14 + (at - self.first) * (self.width - 28) / self.span
 
     def y(self, lane):
         """The middle of a lane."""
-        return TOP + LANE * self.row.get(lane, 0) + LANE // 2
-
-    def add(self, shape, note=""):
-        """Adds a shape, with words that show where a pointer rests on it."""
-        tip = f"<title>{escape(note)}</title>" if note else ""
-        self.parts.append(shape.replace("/>", f">{tip}</{shape[1:].split(' ')[0]}>") if tip else shape)
-
-    def text(self, x, y, words, kind="", anchor="start"):
-        """Adds words."""
-        self.parts.append(f'<text x="{x}" y="{y}" class="{kind}" text-anchor="{anchor}">{escape(words)}</text>')
-
-    def line(self, kind, points, note=""):
-        """Adds a straight line through points."""
-        path = " L".join(f"{round(x, 1)} {round(y, 1)}" for x, y in points)
-        self.add(f'<path class="{kind}" d="M{path}"/>', note)
+        return self.top + self.lane * (self.row.get(lane, 0) + 0.5)
 
     def draw(self):
         """The whole picture."""
@@ -74,36 +58,70 @@ class Picture:
         self.draw_messages()
         if self.run.end:
             self.draw_end()
-        return self.whole()
+        said = wide(self.run.end.text) if self.run.end else 0
+        width = self.left + max(self.width, said, self.draw_heading()) + RIGHT_PAD
+        if self.is_wide():
+            width += wide(max(self.run.lanes, key=len, default=""))
+        return self.sheet.whole(width, self.bottom + 46, self.title)
+
+    def is_wide(self):
+        """Whether the names of the lanes stand on the right too."""
+        return self.width > 1.5 * LEAST_WIDTH
 
     def draw_lanes(self):
         """A line and a name for each node."""
+        right = self.left + self.width
         for lane in self.run.lanes:
-            self.line("lane", [(self.left, self.y(lane)), (self.left + self.width, self.y(lane))])
-            self.text(self.left - 8, self.y(lane) + 4, lane, anchor="end")
+            y = self.y(lane)
+            self.sheet.line("lane", [(self.left, y), (right, y)])
+            self.sheet.text(self.left - 8, y + 4, lane, anchor="end")
+            if self.is_wide():
+                self.sheet.text(right + 8, y + 4, lane)
 
     def draw_axis(self):
-        """The rounds' grid and what the axis counts."""
-        if self.run.axis == "events":
-            for at in sorted({event.at for event in self.run.events}):
-                self.text(self.x(at), self.bottom + 14, str(at - 1), "small", "middle")
-            self.text(self.left - 8, self.bottom + 14, "event", "small", "end")
-            return
-        self.text(self.left - 8, self.bottom + 14, "time" if self.run.axis == "time" else "reading", "small", "end")
-        for at in ticks(self.first, self.last):
-            self.text(self.x(at), self.bottom + 14, in_ms(at), "small", "middle")
-        self.draw_grid()
+        """What the axis counts, above and below, and the rounds' grid."""
+        above, below = self.top - 10, self.bottom + 14
+        events = self.run.axis == "events"
+        word = "event" if events else "time" if self.run.axis == "time" else "reading"
+        most = max(9, int(self.width / 130))
+        moments = ticks(self.first, self.last, most)
+        if events:
+            # Events are counted from 0, and their places from 1.
+            moments = [at + 1 for at in ticks(self.first - 1, self.last - 1, max(int(self.width / 40), 1))]
+        for y in (above, below):
+            self.sheet.text(self.left - 8, y, word, "small", "end")
+            for at in moments:
+                self.sheet.text(self.x(at), y, str(at - 1) if events else in_ms(at), "small", "middle", rank=3)
+        self.draw_grid("round" if events else "alarm of round")
 
-    def draw_grid(self):
-        """A line at the alarm of each round."""
+    def draw_grid(self, word):
+        """A line at the alarm of each round; where the events are counted, at its first start."""
+        marks = self.starts() if self.run.axis == "events" else self.alarms()
+        apart = self.per_round > wide(f"{word} 99", True) + 8
+        for at, order in marks:
+            x = self.x(at)
+            self.sheet.line("grid", [(x, self.top - 6), (x, self.bottom)], f"{word} {order}")
+            for y in (self.top - 24, self.bottom + 28):
+                self.sheet.text(x, y, f"{word} {order}" if apart else str(order), "small", "middle", rank=2)
+        if marks and not apart:
+            for y in (self.top - 24, self.bottom + 28):
+                self.sheet.text(self.left - 8, y, word, "small", "end")
+
+    def alarms(self):
+        """The alarms of the rounds that are drawn, each with its round."""
         period = self.run.period
-        if not period or self.span / period > MOST_ALARMS:
-            return
-        for number in range(max(self.first // period - 1, 0), self.last // period):
-            at = (number + 1) * period
-            if self.first <= at <= self.last:
-                self.line("grid", [(self.x(at), TOP - 6), (self.x(at), self.bottom)], f"alarm of round {number}")
-                self.text(self.x(at), TOP - 10, f"alarm of round {number}", "small", "middle")
+        if not period or self.span / period > 4 * max(len(self.rounds), 1) + 4:
+            return []
+        numbers = range(max(self.first // period - 1, 0), self.last // period)
+        return [((order + 1) * period, order) for order in numbers if self.first <= (order + 1) * period <= self.last]
+
+    def starts(self):
+        """The first start of each round, where there are several."""
+        first = {}
+        for event in self.run.events:
+            if event.kind == "start":
+                first.setdefault(event.round, event.at)
+        return [(at, order) for order, at in sorted(first.items())] if len(first) > 1 else []
 
     def draw_bars(self):
         """A bar for each step, from its start to its finish."""
@@ -112,24 +130,21 @@ class Picture:
             if event.kind in ("start", "step"):
                 running[event.what] = event
             elif event.kind == "finish" and event.what in running:
-                self.bar(running.pop(event.what), event.at, "bar")
+                self.bar(running.pop(event.what), event.at)
         for event in running.values():
-            self.bar(event, self.last, "bar open")
+            self.bar(event, self.last, "open")
 
-    def bar(self, event, until, kind):
+    def bar(self, event, until, kind=""):
         """The bar of one step."""
-        x, width = self.x(event.at), max(self.x(until) - self.x(event.at), 3)
-        y = self.y(event.what) - BAR // 2
-        self.add(
-            f'<rect class="{kind}" x="{x}" y="{y}" width="{round(width, 1)}" height="{BAR}" '
-            f'fill="{COLOURS[event.round % 2]}"/>',
-            f"{event.what}, round {event.round}, step {event.step}: {self.moment(event.at)} to {self.moment(until)}",
-        )
+        x, y = self.x(event.at), self.y(event.what)
+        width = max(self.x(until) - x, min(3, self.per_round / 20))
+        note = f"{event.what}, round {event.round}, step {event.step}: {self.moment(event.at)} to {self.moment(until)}"
+        self.sheet.box(f"bar b{event.round % len(LIGHT)}", (x, y - self.high / 2), (width, self.high), note, kind)
         name = f"round {event.round}" if event.kind == "start" else f"step {event.step}"
-        if width > 44:
-            self.text(x + 4, y + 15, name, "small")
-        elif event.kind == "start":
-            self.text(x + 5, y - 4, name, "small")
+        if width > 44 and self.high >= 11:
+            self.sheet.text(x + 4, y + 4, name, "inner", rank=4)
+        elif event.kind == "start" and width < 12 and self.lane >= 32 and self.per_round > 150:
+            self.sheet.text(x + 5, y - self.high / 2 + 7, name, "small", rank=4)
 
     def moment(self, at):
         """A moment in words."""
@@ -138,46 +153,49 @@ class Picture:
     def draw_messages(self):
         """An arrow for each message that arrived, a cross for each that was lost, and what is still in flight."""
         sends, copies = {}, defaultdict(int)
+        radius = min(3.5, self.high / 5)
         for event in self.run.events:
             if event.kind == "send":
                 sends[event.what, event.round] = event
-                self.send_mark(event)
-        links = self.links()
+                self.sheet.dot("send", (self.x(event.at), self.y(event.what)), radius, event.note)
         for event in self.run.events:
             if event.kind == "repeat":
                 copies[event.what, event.round] += 1
-                self.text(self.x(event.at), self.between(event.what)[1], "+1 copy", "small", "middle")
+                self.sheet.text(self.x(event.at), self.between(event.what)[1], "+1 copy", "small", "middle", rank=1)
             elif event.kind in ("arrive", "drop"):
                 copies[event.what, event.round] -= 1
-                self.message(event, sends.get((links.get(event.what), event.round)))
-        for link, source in links.items():
-            for (sender, number), send in sends.items():
-                if sender == source and copies[link, number] + 1 > 0:
-                    self.in_flight(link, number, send)
+                self.message(event, sends.get((self.source(event.what), event.round)))
+        sent = defaultdict(list)
+        for (sender, order), send in sends.items():
+            sent[sender].append((order, send))
+        for link in self.links():
+            for order, send in sent[self.source(link)]:
+                if copies[link, order] + 1 > 0:
+                    self.in_flight(link, order, send)
 
     def links(self):
-        """The links of the run, each with its source, where that is known."""
+        """The links of the run."""
         seen = {event.what for event in self.run.events if event.kind in ("arrive", "drop", "repeat")} | self.run.links
         if self.run.end and self.run.end.missing:
             seen.add(self.run.end.what)
-        return {link: self.run.source(link) or self.guess(link) for link in sorted(seen)}
+        return sorted(seen)
 
-    def guess(self, link):
-        """The source of a link, where no design tells it: the one other node that has sent; or None."""
-        others = {event.what for event in self.run.events if event.kind == "send"} - {node_of(link)}
-        return others.pop() if len(others) == 1 else None
-
-    def send_mark(self, event):
-        """A dot where a node sends."""
-        self.add(f'<circle class="send" cx="{self.x(event.at)}" cy="{self.y(event.what)}" r="3.5"/>', event.note)
+    def source(self, link):
+        """The source of a link; where no design tells it, the one other node that has sent; or None."""
+        if link not in self.sources:
+            others = self.senders - {node_of(link)}
+            self.sources[link] = self.run.source(link) or (min(others) if len(others) == 1 else None)
+        return self.sources[link]
 
     def between(self, link):
-        """The rows between which a message goes: where it leaves, its middle, and where it arrives."""
-        source = self.run.source(link) or self.guess(link)
-        start, end = self.y(source or node_of(link)), self.y(node_of(link))
-        side = BAR // 2 if end >= start else -BAR // 2
-        leaves = start if source else end - LANE // 2
-        return leaves, (leaves + end - side) / 2, end - side
+        """The heights between which a message goes: where it leaves, its middle, and where it arrives."""
+        if link not in self.ways:
+            source, end = self.source(link), self.y(node_of(link))
+            start = self.y(source or node_of(link))
+            side = self.high / 2 if end >= start else -self.high / 2
+            leaves = start if source else end - self.lane / 2
+            self.ways[link] = leaves, (leaves + end - side) / 2, end - side
+        return self.ways[link]
 
     def message(self, event, send):
         """A message that arrives, or is lost."""
@@ -185,53 +203,72 @@ class Picture:
         x = self.x(event.at)
         start = (self.x(send.at) if send else x, leaves)
         if event.kind == "drop":
-            self.line("flight", [start, (x, middle)], event.note)
+            self.sheet.line("flight", [start, (x, middle)], event.note)
             self.cross(x, middle, event.note)
-            self.text(x + 8, middle + 4, "lost", "small")
+            self.sheet.text(x + 8, middle + 4, "lost", "red small", rank=1)
             return
-        kind = {"ignored": "ignored", "early": "wrong"}.get(event.result, "message")
-        self.line(kind, [start, (x, arrives)], event.note)
-        if event.result != "kept":
-            self.text(x + 4, (middle + arrives) / 2, event.result or "", "small")
+        if event.result == "early":
+            self.sheet.line("wrong", [start, (x, arrives)], event.note, "early")
+            self.sheet.dot("ring", (x, arrives), 9, event.note)
+            self.sheet.text(x + 12, (middle + arrives) / 2, "early", "red small", rank=1)
+            return
+        ignored = event.result == "ignored"
+        layer = "ignored" if ignored else f"message r{event.round % len(DARK)}"
+        self.sheet.line(layer, [start, (x, arrives)], event.note)
+        if ignored:
+            self.sheet.text(x + 4, (middle + arrives) / 2, "ignored", "small", rank=3)
 
-    def in_flight(self, link, number, send):
+    def in_flight(self, link, order, send):
         """A message that has not arrived."""
         leaves, middle, arrives = self.between(link)
         end = self.run.end
-        late = end is not None and end.missing and end.what == link and end.round == number
-        goal = arrives if late else middle
-        self.line("flight", [(self.x(send.at), leaves), (self.x(self.last), goal)], f"in flight: {link} {number}")
+        missed = end is not None and end.missing and end.what == link and end.round == order
+        goal = (self.x(end.at if missed else self.last), arrives if missed else middle)
+        note = f"{'missed' if missed else 'in flight'}: {link} {order}"
+        self.sheet.line("missing" if missed else "flight", [(self.x(send.at), leaves), goal], note)
+        if missed:
+            self.sheet.text(goal[0] - 12, (middle + arrives) / 2, "missed", "red small", "end", rank=1)
 
     def cross(self, x, y, note):
         """A cross."""
-        self.line("wrong", [(x - 5, y - 5), (x + 5, y + 5)], note)
-        self.line("wrong", [(x - 5, y + 5), (x + 5, y - 5)], note)
+        self.sheet.line("wrong", [(x - 5, y - 5), (x + 5, y + 5)], note)
+        self.sheet.line("wrong", [(x - 5, y + 5), (x + 5, y - 5)], note)
 
     def draw_end(self):
         """The stop of the run, or the event that is refused."""
         end, x = self.run.end, self.x(self.run.end.at)
         lane = next((it for it in (end.what, node_of(end.what or "")) if it in self.row), None)
-        top, bottom = (self.y(lane) - LANE // 2 + 6, self.y(lane) + LANE // 2 - 6) if lane else (TOP, self.bottom)
-        self.line("wrong", [(x, top), (x, bottom)], end.text)
-        self.cross(x, self.y(lane) if lane else TOP, end.text)
-        self.text(self.left, self.bottom + 34, end.text, "end")
+        half = max(self.lane / 2 - 6, 8)
+        top, bottom = (self.y(lane) - half, self.y(lane) + half) if lane else (self.top, self.bottom)
+        self.sheet.line("wrong", [(x, top), (x, bottom)], end.text)
+        self.cross(x, self.y(lane) if lane else self.top, end.text)
+        if lane:
+            self.sheet.dot("ring", (x, self.y(lane)), max(half, 9), end.text)
+        self.sheet.text(LEFT_PAD, self.top - 48, end.text, "red")
 
-    def whole(self):
-        """The text of the picture."""
-        said = 7 * len(self.run.end.text) if self.run.end else 0
-        width, height = self.left + max(self.width, said) + RIGHT_PAD, self.bottom + 44
-        words = f"{self.title}. Bars are steps, arrows messages"
-        parts = "\n".join(self.parts)
-        return (
-            f'<svg xmlns="http://www.w3.org/2000/svg" width="{width}" height="{height}" '
-            f'viewBox="0 0 {width} {height}">\n<style>{STYLE}</style>\n<defs>{HEADS}</defs>\n'
-            f'<rect width="100%" height="100%" fill="#fff"/>\n<text x="{LEFT_PAD}" y="24">{escape(words)}</text>\n'
-            f"{parts}\n</svg>\n"
-        )
+    def draw_heading(self):
+        """The title, a word where some rounds alone would be drawn larger, and the legend; gives their width."""
+        title = self.title
+        if self.per_round < SMALL_ROUND and len(self.rounds) > 1:
+            first = self.rounds[0]
+            title += f". {len(self.rounds)} rounds are small: --rounds {first}..{first + 19} draws 20 larger"
+        self.sheet.text(LEFT_PAD, 24, title, "title")
+        return max(1.15 * wide(title), self.draw_legend(46)) - self.left
 
-
-def ticks(first, last):
-    """Some round numbers from the first to the last."""
-    steps = (digit * 10**zeros for zeros in range(20) for digit in (1, 2, 5))
-    step = next(it for it in steps if (last - first) / it <= 9)
-    return range(-(-first // step) * step, last + 1, step)
+    def draw_legend(self, y):
+        """What the shapes mean, of those that there are; gives where it ends."""
+        x = LEFT_PAD
+        for layers, words in LEGEND:
+            there = [layer for layer in layers if self.sheet.layers[layer]]
+            for layer in there:
+                if layer.startswith("bar"):
+                    self.sheet.box(layer, (x, y - 9), (16, 10))
+                elif layer == "send":
+                    self.sheet.dot(layer, (x + 8, y - 4), 3.5)
+                else:
+                    self.sheet.line(layer, [(x, y - 4), (x + 18, y - 4)])
+                x += 21
+            if there:
+                self.sheet.text(x + 4, y, words, "small")
+                x += wide(words, True) + 20
+        return x

@@ -1,0 +1,51 @@
+"""The run that an answer tells of, with what its bundle adds."""
+
+import re
+
+from .answers import STOP
+from .bundles import Refused
+from .journal import from_events, from_journal, from_trace, parsed
+from .model import model_of
+
+AXES = {"events": "one event after the other", "readings": "by the readings of the clocks", "time": "by the time"}
+
+
+def run_of(text, bundle):
+    """The run that an answer tells of."""
+    lines = text.split("\n")
+    if any(parsed(line) or STOP.fullmatch(line) for line in lines):
+        found = from_journal(lines)
+    elif bundle is None:
+        raise Refused("the answer has no journal; with its bundle the events of the scenario can be drawn")
+    elif re.fullmatch(r"sound rounds \d+ stop (none|\S+ \d+)\n?|wrong \d+ \w+\n?", text):
+        found = from_trace(bundle.scenario, text)
+    elif re.match(r"(text|flat|scenario|clock|code|accepted|processor|ring|usage:|\d+:\d+) ?", text):
+        raise Refused("the answer is of no run")
+    else:
+        found = from_events(bundle.scenario, text)
+    if bundle is not None:
+        add_design(found, bundle)
+    return found
+
+
+def add_design(drawn, bundle):
+    """Adds what the design tells: the order of its nodes, the sources of links, and the period."""
+    model = model_of(bundle.design, drawn.lanes)
+    if model is None:
+        return
+    shown = set(drawn.lanes) | {model.source(event.what) for event in drawn.events if event.kind == "arrive"}
+    drawn.lanes = [path for path in model.threads if path in shown]
+    drawn.links, drawn.source, drawn.period = model.links(), model.source, model.period
+
+
+def cut(drawn, rounds):
+    """Leaves the events of some rounds alone."""
+    first, final = rounds
+    there = {event.round for event in drawn.events}
+    drawn.events = [event for event in drawn.events if first <= event.round <= final]
+    if not drawn.events:
+        most = f"0 to {max(there)}" if there else "none"
+        raise Refused(f"nothing happened in the rounds {first} to {final}: the run has {most}")
+    end = drawn.end
+    if end and end.round is not None and not first <= end.round <= final:
+        drawn.end = None

@@ -1,0 +1,190 @@
+"""Variables, states and outputs over rounds as a picture (SVG): a strip for each, and one for each property."""
+
+import fnmatch
+from collections import namedtuple
+
+from .bundles import Refused
+from .names import choice, near_names
+from .svg import DARK, LIGHT, WRONG, Sheet, ticks, wide
+
+# What is plotted: its name, its kind (number, truth, state or verdict), and its pieces. A piece is where it begins and
+# ends, in rounds, and its value.
+Signal = namedtuple("Signal", "name kind pieces")
+Piece = namedtuple("Piece", "begin end value")
+
+HEIGHTS = {"number": 58, "truth": 26, "state": 22, "verdict": 20}
+LEAST_WIDTH, MOST_WIDTH, PER_ROUND, TOP, GAP = 700, 5000, 7, 60, 8
+STYLE = f"""
+.grid {{stroke: #ddd}}
+.frame {{stroke: #bbb; fill: none}}
+.steps {{stroke: {DARK[0]}; stroke-width: 1.5; fill: none}}
+.truth {{fill: {LIGHT[0]}; stroke: {DARK[0]}; stroke-width: .7}}
+.state {{stroke: #456; stroke-width: .5}}
+{''.join(f'.s{turn} {{fill: {colour}}} ' + chr(10) for turn, colour in enumerate(LIGHT))}
+.halted {{fill: #f6c6cd; stroke: {WRONG}; stroke-width: 1}}
+.holds {{stroke: #1d7a55; stroke-width: 3}}
+.fails {{fill: {WRONG}}}
+"""
+
+
+def signals_of(report):
+    """What the rows of a report have, in their order: states, variables and outputs."""
+    found = {}
+    for row in report.rows:
+        for component in row.components:
+            add(found, component.path, row.number, [component.state], "state")
+            for name, value in component.values.items():
+                add(found, f"{component.path}.{name}", row.number, [value], kind_of(value))
+        for name, places in row.outs:
+            for value in places:
+                add(found, f"out {name}", row.number, [], kind_of(value))
+            add(found, f"out {name}", row.number, places, "unknown")
+    return [Signal(name, kind if kind != "unknown" else "truth", pieces) for name, (kind, pieces) in found.items()]
+
+
+def kind_of(value):
+    """The kind of a value; an absent one may be of either."""
+    return "unknown" if value == "_" else "truth" if value in ("true", "false") else "number"
+
+
+def add(found, name, at, places, kind):
+    """Adds the values of a round, which share it evenly. One of a known kind makes the whole of that kind."""
+    known, pieces = found.setdefault(name, [kind, []])
+    found[name][0] = kind if known == "unknown" else known
+    for order, value in enumerate(places):
+        if value != "_":
+            pieces.append(Piece(at + order / len(places), at + (order + 1) / len(places), value))
+
+
+def verdicts_of(report):
+    """The verdicts of a report, each property as pieces."""
+    found = {}
+    for row, verdicts in zip(report.rows, report.verdicts):
+        for name, value in verdicts.items():
+            found.setdefault(name, []).append(Piece(row.number, row.number + 1, value))
+    return [Signal(name, "verdict", pieces) for name, pieces in found.items()]
+
+
+def chosen(signals, names):
+    """The signals of some names: a name, a component with all that it has, or with `*` for any letters."""
+    if not names:
+        return signals
+    taken = []
+    for name in names:
+        known = [it for it in signals if it.name in (name, f"out {name}") or it.name.startswith(f"{name}.")
+                 or fnmatch.fnmatchcase(it.name, name)]
+        if not known:
+            near = near_names(name, [it.name for it in signals]) or [it.name for it in signals[:6]]
+            raise Refused(f"nothing is named {name}; there is {choice(near)}" if near else f"nothing is named {name}")
+        taken.extend(it for it in known if it not in taken)
+    return taken
+
+
+def merged(pieces):
+    """Pieces of one value that follow one another, as one."""
+    found = []
+    for piece in pieces:
+        if found and found[-1].value == piece.value and abs(found[-1].end - piece.begin) < 1e-9:
+            found[-1] = found[-1]._replace(end=piece.end)
+        else:
+            found.append(piece)
+    return found
+
+
+class Plot:
+    """Draws signals over rounds."""
+
+    def __init__(self, signals, title):
+        self.signals, self.title = signals, title
+        ends = [end for signal in signals for piece in (signal.pieces[:1] + signal.pieces[-1:]) for end in piece[:2]]
+        self.first, self.last = int(min(ends, default=0)), max(ends, default=1)
+        rounds = max(self.last - self.first, 1)
+        self.width = min(max(LEAST_WIDTH, PER_ROUND * rounds), MOST_WIDTH)
+        self.left = 24 + max([wide(signal.name) for signal in signals] + [40]) + 96
+        self.scale = self.width / rounds
+        self.sheet = Sheet("plot", STYLE, ["grid", "frame", "state", "truth", "halted", "holds", "fails", "steps"])
+
+    def x(self, at):
+        """Where a time, in rounds, stands."""
+        return self.left + (at - self.first) * self.scale
+
+    def draw(self):
+        """The whole picture."""
+        self.sheet.text(24, 24, self.title, "title")
+        bottom = TOP
+        for signal in self.signals:
+            height = HEIGHTS[signal.kind]
+            self.sheet.text(24, bottom + height / 2 + 4, signal.name)
+            self.sheet.box("frame", (self.left, bottom), (self.width, height))
+            getattr(self, f"draw_{signal.kind}")(signal, bottom, height)
+            bottom += height + GAP
+        self.draw_axis(bottom - GAP)
+        return self.sheet.whole(max(self.left + self.width + 40, wide(self.title) * 1.2 + 24), bottom + 24, self.title)
+
+    def draw_axis(self, bottom):
+        """The numbers of rounds, above and below, each at its round's beginning."""
+        for y in (TOP - 8, bottom + 16):
+            self.sheet.text(self.left - 50, y, "round", "small", "end")
+        for at in ticks(self.first, max(int(self.last) - 1, self.first), max(int(self.width / 50), 1)):
+            self.sheet.line("grid", [(self.x(at), TOP - 4), (self.x(at), bottom + 4)])
+            for y in (TOP - 8, bottom + 16):
+                self.sheet.text(self.x(at), y, str(at), "small", "middle", rank=2)
+
+    def draw_number(self, signal, top, height):
+        """Numbers as steps, with the least and the greatest at the left."""
+        values = [int(piece.value) for piece in signal.pieces]
+        least, most = min(values), max(values)
+        span, low, high = max(most - least, 1), top + height - 7, top + 7
+        self.sheet.text(self.left - 5, (high if least != most else (low + high) / 2) + 4, str(most), "small", "end")
+        if least != most:
+            self.sheet.text(self.left - 5, low + 3, str(least), "small", "end")
+        path, until = [], None
+        for piece in merged(signal.pieces):
+            y = low - (int(piece.value) - least) * (low - high) / span if least != most else (low + high) / 2
+            begin, end = self.x(piece.begin), self.x(piece.end)
+            path.append(f"{'V' if until == begin else f'M{begin:.1f} '}{y:.1f} H{end:.1f}")
+            until = end
+            if end - begin > wide(piece.value, True):
+                below = y - 3 if y > high + 9 else y + 11
+                self.sheet.text((begin + end) / 2, below, piece.value, "small", "middle", rank=4)
+        note = f"{signal.name}: from {least} to {most}"
+        self.sheet.path("steps", " ".join(path), note)
+
+    def draw_truth(self, signal, top, height):
+        """Truth values: a bar where it is true, a line where it is false."""
+        for piece in merged(signal.pieces):
+            size = height - 10 if piece.value == "true" else 2
+            corner = (self.x(piece.begin), top + height - 5 - size)
+            self.sheet.box("truth", corner, (self.x(piece.end) - corner[0], size), self.note(signal, piece))
+
+    def draw_state(self, signal, top, height):
+        """States, each in a colour; a component that is halted stays so."""
+        names = list(dict.fromkeys(piece.value for piece in signal.pieces))
+        for piece in merged(signal.pieces):
+            halted = piece.value.startswith("halted(")
+            corner = (self.x(piece.begin), top + 3)
+            size = (self.x(piece.end) - corner[0], height - 6)
+            turn = names.index(piece.value) % len(LIGHT)
+            kind = "" if halted else f"s{turn}"
+            self.sheet.box("halted" if halted else "state", corner, size, self.note(signal, piece), kind)
+            if size[0] > wide(piece.value, True) + 4 or halted:
+                self.sheet.text(corner[0] + 3, top + height / 2 + 4, piece.value, "inner red" if halted else "inner",
+                                rank=1 if halted else 4)
+
+    def draw_verdict(self, signal, top, height):
+        """A property: a line where it holds, a block where it is false."""
+        pieces = merged(signal.pieces)
+        for piece in pieces:
+            begin, end, middle = self.x(piece.begin), self.x(piece.end), top + height / 2
+            if piece.value == "true":
+                self.sheet.line("holds", [(begin, middle), (end, middle)], self.note(signal, piece))
+            else:
+                self.sheet.box("fails", (begin, top + 3), (max(end - begin, 2), height - 6), self.note(signal, piece))
+        first = next((piece for piece in pieces if piece.value == "false"), None)
+        said = f"false first: {int(first.begin)}" if first else "always true"
+        self.sheet.text(self.left - 5, top + height / 2 + 4, said, "small red" if first else "small", "end")
+
+    def note(self, signal, piece):
+        """A piece in words."""
+        first, last = int(piece.begin), int(-(-piece.end // 1)) - 1
+        return f"{signal.name}, round {first}{f' to {last}' if last > first else ''}: {piece.value}"
