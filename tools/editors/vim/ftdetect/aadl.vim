@@ -1,0 +1,2 @@
+" Designs and bundles.
+autocmd BufRead,BufNewFile *.aadl,*.pals setfiletype aadl
