@@ -1,0 +1,147 @@
+"""AADL as people have it, and what editors know of the language."""
+
+import json
+import os
+import random
+import re
+import tempfile
+
+from lib import words
+from lib.bundles import join, read
+from lib.model import Model, declared_in
+from lib.properties import PLACES
+from tests.common import EXAMPLES, HERE, TOP, built, examples, expect, tool
+from tests.test_scenarios import answered
+
+OSATE = [os.path.join(HERE, "tests", "osate", name) for name in ("Vehicle_Types.aadl", "Vehicle.aadl")]
+EDITORS = os.path.join(HERE, "editors")
+# What is told of the two packages: the file, the line, and words of it.
+TOLD = [
+    ("Vehicle_Types", 2, "the property set Vehicle_Properties is left out"),
+    ("Vehicle_Types", 40, "net is no data port (bus access)"),
+    ("Vehicle_Types", 42, "the flows of Wheel_Sensor are left out"),
+    ("Vehicle", 9, "wanted is an event data port, and is taken as a data port"),
+    ("Vehicle", 11, "the type of view, Vehicle_Types::Picture, is none of the language"),
+    ("Vehicle", 12, "alarm is no data port (event port)"),
+    ("Vehicle", 30, "the property Priority of Cruise.gentle means nothing here"),
+    ("Vehicle", 66, "is given PALS_Profile::Execution, 0 ms to 2 ms"),
+    ("Vehicle", 66, "has no PALS_Profile::Network"),
+    ("Vehicle", 69, "wheel is a device"),
+    ("Vehicle", 71, "the processor cpu is left out"),
+    ("Vehicle", 72, "the bus can is left out"),
+    ("Vehicle", 75, "the Timing of s is left out"),
+    ("Vehicle", 77, "the connection b1 joins no ports"),
+    ("Vehicle", 80, "the flows of Car.impl are left out"),
+    ("Vehicle", 82, "the modes of Car.impl are left out"),
+    ("Vehicle", 86, "Actual_Connection_Binding"),
+]
+
+
+def imported(*texts, root=None):
+    """The design and the scenario of some texts, with what was told and the status."""
+    with tempfile.TemporaryDirectory() as folder:
+        paths = []
+        for number, text in enumerate(texts):
+            paths.append(os.path.join(folder, f"{number}.aadl"))
+            with open(paths[-1], "wb") as file:
+                file.write(text if isinstance(text, bytes) else text.encode())
+        made = os.path.join(folder, "s.json")
+        named = ["--root", root] if root else []
+        status, text, said = tool("import", *named, "--scenario", made, *paths)
+        scenario = json.loads(read(made)) if os.path.isfile(made) else None
+    return status, text, said, scenario
+
+
+def test_packages_are_imported_at_once():
+    """Two packages with all that people write: the design that is left, and one list of all that is dropped."""
+    status, text, said, scenario = imported(*map(read, OSATE))
+    expect(status, 1, said)
+    for name, line, what in TOLD:
+        number = ("Vehicle_Types", "Vehicle").index(name)
+        found = [it for it in said.split("\n") if f"{number}.aadl:{line}:" in it and what in it]
+        expect(len(found), 1, f"{what} of {name}:{line} in\n{said}")
+    model = Model(declared_in(text), declared_in(text).roots()[0])
+    expect(model.threads, ["control.filter", "control.cruise"], "threads")
+    expect([model.rate(it) for it in model.by_path.values()], [2, 1], "rates, of which one is applied from above")
+    expect(sorted(it.name.text for it in model.root_ports("in")), ["wanted", "wheel_speed"], "inputs")
+    expect([it.name.text for it in model.root_ports("out")], ["engine_throttle"], "outputs")
+    expect(model.came_from("control.cruise.speed").adaptor, "last", "an adaptor that is applied to a connection")
+    expect(b"Picture" in text or b"alarm" in text, False, "what is dropped")
+    expect(scenario["processors"]["cpu"]["components"], ["control.filter", "control.cruise"], "a binding")
+
+
+def test_imported_designs_are_accepted():
+    """With the bound that is told to be missing the program accepts what was imported, and has a timetable for it."""
+    _, text, _, scenario = imported(*map(read, OSATE))
+    text = text.replace(b"  PALS_Profile::Skew", b"  PALS_Profile::Network => 1 ms .. 4 ms;\n  PALS_Profile::Skew")
+    given = json.dumps(scenario).encode()
+    status, report = answered(["check", "Car.impl"], text, given)
+    expect((status, report.startswith("accepted\n")), (0, True), report)
+    expect(answered(["budget", "Car.impl"], text, given)[0], 0, "the timetable")
+
+
+def test_own_designs_stay_as_they_are():
+    """What is of the language already is imported whole: check says the same of it."""
+    for name in sorted(os.listdir(EXAMPLES)):
+        if not name.endswith(".aadl") or name == "PALS_Profile.aadl":
+            continue
+        design = read(os.path.join(EXAMPLES, name))
+        root = declared_in(design).roots()[0].name.text
+        status, text, said, _ = imported(design, root=root)
+        expect(status, 0, f"{name}: {said}")
+        found = [Model(declared_in(it), next(one for one in declared_in(it).systems() if one.name.text == root))
+                 for it in (design, text)]
+        expect(found[1].threads, found[0].threads, f"threads of {name}")
+        expect(found[1].links(), found[0].links(), f"links of {name}")
+        expect(found[1].bounds, found[0].bounds, f"bounds of {name}")
+
+
+def test_checked_alike():
+    """The program reports the same of a design and of what is imported of it."""
+    built()
+    for row in examples():
+        if not row[1].endswith(".aadl"):
+            continue
+        design = read(os.path.join(TOP, row[1]))
+        root = declared_in(design).roots()[0].name.text
+        reports = [answered(["check", root], it, b"{}") for it in (design, imported(design, root=root)[1])]
+        plain = [(status, re.sub(r"(?m)^ignored .*\n", "", text)) for status, text in reports]
+        expect(plain[1], plain[0], row[1])
+
+
+def test_nothing_stumbles():
+    """Texts that are cut and changed are imported, or refused at a place."""
+    chance, texts = random.Random(3), [read(path).decode() for path in OSATE]
+    for _ in range(150):
+        parts = re.findall(r"\w+|\s+|[^\w\s]+", "".join(texts))
+        for _ in range(chance.randrange(1, 4)):
+            at = chance.randrange(len(parts))
+            parts[at : at + chance.randrange(2)] = [chance.choice([*parts[:200], "end", ";", "{", "\x1b", "->", ""])]
+        status, text, said, _ = imported("".join(parts))
+        expect(status in (0, 1), True, said)
+        expect("\x1b" in said, False, said)
+        expect(bool(text) or said.count("\n") == 1, True, said)
+    loop = "package A public system S end S; system implementation S.i subcomponents s: system S.i; t: thread T.i;"
+    text = f"{loop} end S.i; thread T end T; thread implementation T.i end T.i; end A;"
+    status, _, said, _ = imported(text, root="S.i")
+    expect((status, "has itself inside" in said), (1, True), said)
+    text = text.replace("s: system S.i;", "")
+    expect("which root is meant" in imported(text, text.replace(" A", " B"))[2], True, "two roots")
+
+
+def test_editors_know_the_language():
+    """The editors' grammars have the keywords and the properties of the language, and their matchers find places."""
+    vscode = json.loads(read(os.path.join(EDITORS, "vscode", "package.json")))
+    pattern = vscode["contributes"]["problemMatchers"][0]["pattern"]
+    found = re.match(pattern["regexp"], "/a b/two.pals:38:2: the period, 8 ms, is below the least")
+    expect(found.groups(), ("/a b/two.pals", "38", "2", "the period, 8 ms, is below the least"), "a matcher")
+    expect(re.match(pattern["regexp"], "    take 9 ms or more: 1:2: 3"), None, "no place")
+    for path in ("vscode/syntaxes/aadl.tmLanguage.json", "vim/syntax/aadl.vim"):
+        text = read(os.path.join(EDITORS, path)).decode()
+        there = {word.lower() for word in re.findall(r"[A-Za-z_]+", text)}
+        wanted = set(words.ANNEX) | set(words.DECLARATIONS) | {name.lower().rpartition("::")[2] for name in PLACES}
+        expect(sorted(wanted - there), [], f"words that {path} lacks")
+    grammar = json.loads(read(os.path.join(EDITORS, "vscode", "syntaxes", "aadl.tmLanguage.json")))
+    for shape in re.findall(r'"(?:match|begin|end)": "((?:[^"\\]|\\.)*)"', json.dumps(grammar)):
+        re.compile(json.loads(f'"{shape}"'))
+    expect(join("a", b"x\n", b"{}").split(b"\n")[1], b"%%%", "the divider of bundles")

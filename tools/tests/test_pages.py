@@ -1,0 +1,74 @@
+"""What the pages show, and where definitions stand."""
+
+import glob
+import os
+import re
+import subprocess
+import tempfile
+
+from lib.bundles import read
+from tests.common import TOP, WITHIN, blocks, expect, page
+
+
+def says(name, words):
+    """Stops where a page does not say something, however its lines are broken."""
+    expect(words in " ".join(page(name).split()), True, f"{name} says: {words}")
+
+
+def test_pages_show_what_the_tools_write():
+    """Each console block of the pages is what its commands write."""
+    count = 0
+    for name in ("docs/tools.md", "docs/misleading.md"):
+        for block in (text for kind, text in blocks(name) if kind == "console"):
+            with tempfile.TemporaryDirectory() as folder:
+                for part in ("tools", "examples", "docs", "pals"):
+                    os.symlink(os.path.join(TOP, part), os.path.join(folder, part))
+                for command, wanted in re.findall(r"\$ (.*)\n((?:(?!\$ ).*\n)*)", block):
+                    how = {"shell": True, "cwd": folder, "stdout": subprocess.PIPE, "timeout": WITHIN}
+                    ran = subprocess.run(command, stderr=subprocess.STDOUT, check=False, **how)
+                    expect(ran.stdout.decode(), wanted, f"{name}: {command}")
+                    count += 1
+    expect(count >= 8, True, f"{count} commands in the pages")
+
+
+def test_definitions_are_told_by_their_folder():
+    """No definition on which the theorem rests uses one of a folder `proof`, nor does the theorem."""
+    files = [it for it in glob.glob(f"{TOP}/crates/*/specs/**/*.antt", recursive=True) if not it.endswith("/Lib.antt")]
+    rests = [it for it in files if "/specs/proof" not in it]
+    for name in rests:
+        expect(b".specs.proof." in read(name), False, f"a definition of proofs, used in {name}")
+    clauses = page("crates/pals_top/src/program.rt").partition("pub fn pals<")[2].partition("\n{")[0]
+    inner = re.findall(r"\.specs\.proof\.\w+\.\{(.*)\}", page("crates/pals_top/src/program.rt"))
+    for name in (name for names in inner for name in names.split(", ")):
+        expect(re.search(rf"\b{name}\b", clauses), None, f"{name} in the theorem")
+    lines = [line.strip() for name in rests for line in read(name).decode().split("\n") if line.strip()]
+    comments = sum(line.startswith("--") for line in lines)
+    told = sum(not line.startswith(("--", "use ")) for line in lines)
+    says("docs/definitions.md", f"{len(rests)} of them, with {told:,} lines of definitions and {comments:,} of comments")
+    inside = len(glob.glob(f"{TOP}/crates/*/specs/proof/**/*.antt", recursive=True))
+    says("docs/definitions.md", f"those definitions, {inside} files")
+    says("docs/assurance.md", f"{len(rests)} short files")
+
+
+def test_pages_count_right():
+    """What pages say of how much there is."""
+    edits = len(glob.glob(f"{TOP}/crates/*/must-fail/*.edit"))
+    tried = len({os.path.dirname(name) for name in glob.glob(f"{TOP}/crates/*/must-fail/*.edit")})
+    says("README.md", f"and {edits} wrong bodies")
+    says("docs/proved.md", f"there are {edits} wrong edits")
+    says("docs/DECISIONS.md", f"So they are {edits}, in {tried} crates")
+    says("docs/library.md", f"over {len(glob.glob(f'{TOP}/crates/*/src'))} crates")
+
+
+def test_pages_quote_what_stands():
+    """The theorem's signature, and the names of clauses and laws that a page sends its reader to."""
+    program = page("crates/pals_top/src/program.rt")
+    signature = program[program.index("pub fn pals<") : program.index(" -> u8\n") + len(" -> u8\n")]
+    expect(signature in page("docs/theorem.md"), True, "the signature of pals in docs/theorem.md")
+    count = 0
+    for line in page("docs/theorem.md").split("\n"):
+        for names, path in re.findall(r"((?:`\w+`(?:, | and )?)+)[^`(]*\(`(\w+/[\w/]+\.\w+)`\)", line):
+            for name in re.findall(r"`(\w+)`", names):
+                expect(re.search(rf"\b{name}\b", page(f"crates/{path}")) is not None, True, f"{name} in {path}")
+                count += 1
+    expect(count >= 20, True, f"{count} names of clauses and laws")

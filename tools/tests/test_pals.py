@@ -1,0 +1,328 @@
+"""The command ./pals, with programs and a command rt that only say what they are."""
+
+import gzip
+import hashlib
+import os
+import platform
+import pty
+import re
+import shutil
+import subprocess
+import sys
+import tempfile
+import threading
+import time
+
+from lib.bundles import read
+from tests.common import TOP, WITHIN, examples, expect, page, script, tool
+
+
+def small_tree(folder):
+    """A repository with ./pals, a program that stands, and a command rt, which both say what they are."""
+    for name in ("pals", "crates.txt"):
+        shutil.copy(os.path.join(TOP, name), folder)
+    os.makedirs(os.path.join(folder, "docs"))
+    shutil.copy(os.path.join(TOP, "docs", "commands.txt"), os.path.join(folder, "docs"))
+    for crate in ("pals_cli", "pals_base", "case_files"):
+        os.makedirs(os.path.join(folder, "crates", crate, "src"))
+        with open(os.path.join(folder, "crates", crate, "src", "lib.rt"), "w", encoding="utf-8") as file:
+            file.write("//! Nothing.\n")
+    os.makedirs(os.path.join(folder, "crates", "pals_cli", "out"))
+    script(os.path.join(folder, "crates", "pals_cli", "out", "pals_cli"), 'echo "built $*"; cat; exit 5')
+    script(os.path.join(folder, "bin", "rt"), 'echo "rt $*"; cat; exit 6')
+    age_all(folder)
+
+
+def age_all(folder):
+    """Makes all sources old, and the program a little newer."""
+    for part in ("pals_cli/src", "pals_base/src", "case_files/src", "../crates.txt"):
+        age(folder, part, 0)
+    for crate in ("pals_cli", "pals_base", "case_files"):
+        age(folder, f"{crate}/src/lib.rt", 0)
+    age(folder, "pals_cli/out/pals_cli", 1)
+
+
+def pals(folder, *words, path=None):
+    """Runs ./pals of a small tree."""
+    env = {**os.environ, "PATH": path or f"{folder}/bin:{os.environ['PATH']}"}
+    how = {"input": b"bundle\n", "stdout": subprocess.PIPE, "stderr": subprocess.PIPE, "timeout": WITHIN}
+    ran = subprocess.run([f"{folder}/pals", *words], env=env, **how)
+    return ran.returncode, ran.stdout.decode(), ran.stderr.decode()
+
+
+def age(folder, name, seconds):
+    """Sets the time of a file, in seconds since long ago."""
+    path = os.path.join(folder, "crates", name)
+    os.utime(path, (10**9 + seconds, 10**9 + seconds))
+
+
+def test_hostile_tools_make_what_they_say():
+    """Big bundles are as long as they may be, and the rows that memory is refused to are there."""
+    for kind, size, divided in (("no divider", 2**24, False), ("one byte too many", 2**24 + 1, False),
+                                ("one comment", 2**24, True)):
+        status, made, _ = tool("big_bundles", "--write", kind)
+        expect((status, size - 1024 < len(made) <= size), (0, True), kind)
+        expect(b"\n%%%\n" in made, divided, f"a divider in {kind}")
+    for name in ("big_bundles", "fail_alloc"):
+        expect(tool(name, "no such thing")[0], 2, f"{name} of nothing")
+
+
+
+def test_pals_hands_on():
+    """Words, standard input and the status go through, to the built program or to rt try."""
+    with tempfile.TemporaryDirectory() as folder:
+        small_tree(folder)
+        built = (5, "built sync A b.impl\nbundle\n", "")
+        expect(pals(folder, "sync", "A b.impl"), built, "a program that is built")
+        age(folder, "case_files/src/lib.rt", 2)
+        expect(pals(folder, "sync", "A b.impl"), built, "a newer source that the program does not stand on")
+        age(folder, "pals_base/src/lib.rt", 2)
+        status, text, said = pals(folder, "sync", "A b.impl")
+        expect((status, text), (6, "rt try -- sync A b.impl\nbundle\n"), "a newer source")
+        expect("crates/pals_base/src/lib.rt is newer" in said and "unproved" in said, True, said)
+        os.remove(os.path.join(folder, "crates", "pals_cli", "out", "pals_cli"))
+        status, text, said = pals(folder, "print")
+        expect((status, text), (6, "rt try -- print\nbundle\n"), "no program that is built")
+        expect("no program is built" in said and "./pals build" in said, True, said)
+        os.remove(os.path.join(folder, "bin", "rt"))
+        if not shutil.which("rt", path="/usr/bin:/bin"):
+            expect(pals(folder, "print", path="/usr/bin:/bin")[0], 127, "neither a program nor rt")
+
+
+def test_pals_helps():
+    """Each form of the usage line that runs has its page in short, and each section of the page is shown."""
+    sections = re.findall(r"(?m)^# (.+)$", page("docs/commands.txt"))
+    for name in [*sections[1:], ""]:
+        ran = subprocess.run([f"{TOP}/pals", "help", *name.split()], stdout=subprocess.PIPE, timeout=WITHIN)
+        expect((ran.returncode, bool(ran.stdout.strip())), (0, True), f"./pals help {name}")
+    forms = re.findall(r"^\| `pals ([a-z]+(?: --loose)?)", page("docs/formats.md"), re.MULTILINE)
+    expect(set(forms) - set(sections), set(), "forms without a page in short")
+    tried = set(re.findall(r"examples/\w+\.pals", page("docs/commands.txt")))
+    expect(tried - {row[0] for row in examples()}, set(), "bundles to try that are no examples")
+    for words, status, wanted in (("help nothing", 2, 'no command "nothing";'), ("help run --trace", 0, ""),
+                                  ("help chekc", 2, "check is likely meant"),
+                                  ("help world --loose --fast", 0, "")):
+        ran = subprocess.run([f"{TOP}/pals", *words.split()], stdout=subprocess.PIPE, stderr=subprocess.PIPE,
+                             timeout=WITHIN)
+        expect((ran.returncode, wanted in ran.stderr.decode(), bool(ran.stdout)), (status, True, not status),
+               f"./pals {words}")
+
+
+def test_pals_tells_the_likely_word():
+    """A word that is no command is named with the likely one, and handed on to the program where one is built."""
+    with tempfile.TemporaryDirectory() as folder:
+        small_tree(folder)
+        for word, near in (("chekc", "check"), ("sinc", "sync"), ("Watch", "watch"), ("budgets", "budget"),
+                           ("frobnicate", None)):
+            status, text, said = pals(folder, word, "A.b")
+            expect((status, text), (5, f"built {word} A.b\nbundle\n"), f"./pals {word}")
+            expect((f"{near} is likely meant" in said) == (near is not None) and "there is no command" in said, True,
+                   said)
+        os.remove(f"{folder}/crates/pals_cli/out/pals_cli")
+        expect(pals(folder, "chekc", "A.b")[:2], (2, ""), "a word that is none, and no program")
+        expect(pals(folder)[0], 2, "no word, and no program")
+
+
+def test_pals_finds_old_programs_in_any_folder():
+    """A source that is newer is found whatever letters the path has, and a folder is no program."""
+    with tempfile.TemporaryDirectory() as outer:
+        for name in ("plain", "a b", "it's \"so\"", "-n", "line\nend", "ends\n", "ü\\x"):
+            folder = os.path.join(outer, name)
+            os.makedirs(folder)
+            small_tree(folder)
+            expect(pals(folder, "print")[:2], (5, "built print\nbundle\n"), f"a program in {name!r}")
+            age(folder, "pals_base/src/lib.rt", 2)
+            status, text, said = pals(folder, "print")
+            expect((status, text), (6, "rt try -- print\nbundle\n"), f"an old program in {name!r}")
+            expect("crates/pals_base/src/lib.rt is newer" in said, True, said)
+        age_all(folder)
+        os.remove(f"{folder}/crates/pals_cli/out/pals_cli")
+        os.makedirs(f"{folder}/crates/pals_cli/out/pals_cli")
+        expect(pals(folder, "print")[:2], (6, "rt try -- print\nbundle\n"), "a folder in place of the program")
+
+
+def carry(folder, text='echo "carried $*"; cat; exit 4', machine=None):
+    """Puts a program into prebuilt/ of a small tree, made of the sources that stand there."""
+    data = f"#!/bin/sh\n{text}\n".encode()
+    sources = pals(folder, "--sources")[1].strip()
+    os.makedirs(f"{folder}/prebuilt", exist_ok=True)
+    with open(f"{folder}/prebuilt/pals.gz", "wb") as file:
+        file.write(gzip.compress(data))
+    with open(f"{folder}/prebuilt/SUMS", "w", encoding="utf-8") as file:
+        machine = machine or f"{platform.system()}-{platform.machine()}"
+        file.write(f"machine {machine}\nsources {sources}\nprogram {hashlib.sha256(data).hexdigest()}\n")
+
+
+def test_pals_answers_with_what_is_carried():
+    """Where nothing is built the program of prebuilt/ answers, told of once, as long as the sources are its own."""
+    with tempfile.TemporaryDirectory() as folder:
+        small_tree(folder)
+        os.remove(f"{folder}/crates/pals_cli/out/pals_cli")
+        carry(folder)
+        answer = (4, "carried sync A.b\nbundle\n")
+        ran = pals(folder, "sync", "A.b", path="/usr/bin:/bin")
+        expect((ran[:2], "proved elsewhere" in ran[2]), (answer, True), "a program that is carried, without rt")
+        expect(pals(folder, "sync", "A.b"), (*answer, ""), "it is told of once")
+        expect("of prebuilt/, proved elsewhere" in pals(folder, "--version")[1], True, "the version")
+        os.utime(f"{folder}/crates/pals_base/src/lib.rt")
+        expect(pals(folder, "sync", "A.b")[:2], answer, "a source that is newer, and the same")
+        with open(f"{folder}/crates/case_files/src/lib.rt", "a", encoding="utf-8") as file:
+            file.write("// more\n")
+        expect(pals(folder, "sync", "A.b")[:2], answer, "a source that the program does not stand on")
+        with open(f"{folder}/crates/pals_base/src/lib.rt", "a", encoding="utf-8") as file:
+            file.write("// more\n")
+        expect(pals(folder, "sync", "A.b")[:2], (6, "rt try -- sync A.b\nbundle\n"), "other sources")
+        expect("not built" in pals(folder, "--version")[1], True, "the version of other sources")
+
+
+def test_pals_takes_no_other_program():
+    """A carried program of another machine, with other bytes than its sum, or broken, is left alone."""
+    with tempfile.TemporaryDirectory() as folder:
+        small_tree(folder)
+        os.remove(f"{folder}/crates/pals_cli/out/pals_cli")
+        other = (6, "rt try -- print\nbundle\n")
+        carry(folder, machine="Plan9-mips")
+        expect(pals(folder, "print")[:2], other, "another machine")
+        carry(folder)
+        with open(f"{folder}/prebuilt/pals.gz", "wb") as file:
+            file.write(gzip.compress(b"#!/bin/sh\necho worse\n"))
+        ran = pals(folder, "print")
+        expect((ran[:2], "is not the program" in ran[2]), (other, True), "other bytes")
+        with open(f"{folder}/prebuilt/pals.gz", "wb") as file:
+            file.write(b"no gzip")
+        expect(pals(folder, "print")[:2], other, "no gzip")
+        expect(os.listdir(f"{folder}/prebuilt/out"), [], "what is left of it")
+
+
+def test_release_makes_what_pals_takes():
+    """tools/release makes prebuilt/ of the program that is built, the same bytes each time, and of no old one."""
+    with tempfile.TemporaryDirectory() as folder:
+        small_tree(folder)
+        shutil.copytree(os.path.join(TOP, "tools"), f"{folder}/tools",
+                        ignore=shutil.ignore_patterns("tests", "__pycache__"))
+        release = [sys.executable, f"{folder}/tools/release"]
+        how = {"stdout": subprocess.PIPE, "stderr": subprocess.PIPE, "timeout": WITHIN, "check": False}
+        expect(subprocess.run(release, **how).returncode, 0, "a release")
+        first = [read(f"{folder}/prebuilt/{name}") for name in ("pals.gz", "SUMS")]
+        expect(subprocess.run([*release, "--check"], **how).returncode, 0, "a release that is of this program")
+        expect(subprocess.run(release, **how).returncode, 0, "a release again")
+        expect([read(f"{folder}/prebuilt/{name}") for name in ("pals.gz", "SUMS")], first, "the same bytes")
+        os.rename(f"{folder}/crates/pals_cli/out/pals_cli", f"{folder}/kept")
+        expect(pals(folder, "print", path="/usr/bin:/bin")[:2], (5, "built print\nbundle\n"), "the released program")
+        expect(subprocess.run(release, **how).returncode, 1, "a release of nothing")
+        os.rename(f"{folder}/kept", f"{folder}/crates/pals_cli/out/pals_cli")
+        age(folder, "pals_base/src/lib.rt", 2)
+        expect(subprocess.run(release, **how).returncode, 1, "a release of an old program")
+
+
+def test_pals_tells_how_long_it_compiles():
+    """While rt compiles there is a line each ten seconds (here sleep is short), and none of it stays."""
+    with tempfile.TemporaryDirectory() as folder:
+        small_tree(folder)
+        os.remove(f"{folder}/crates/pals_cli/out/pals_cli")
+        script(f"{folder}/bin/sleep", "/bin/sleep 0.2")
+        script(f"{folder}/bin/rt", 'cat; /bin/sleep 1; exit 3')
+        status, text, said = pals(folder, "print")
+        expect((status, text), (3, "bundle\n"), "the answer")
+        expect("pals: compiling, 10 seconds so far\npals: compiling, 20 seconds so far\n" in said, True, said)
+
+
+def in_terminal(words, folder, given=None):
+    """Runs words with a terminal for standard error, and for standard input where none is given: the status, what was
+    written to standard output, and what the terminal showed."""
+    ours, theirs = pty.openpty()
+    if given is None:
+        os.write(ours, b"\x04")
+    shown = []
+
+    def take():
+        while True:
+            try:
+                data = os.read(ours, 4096)
+            except OSError:
+                return
+            if not data:
+                return
+            shown.append(data)
+
+    reader = threading.Thread(target=take)
+    env = {**os.environ, "PATH": f"{folder}/bin:{os.environ['PATH']}"}
+    stdin = theirs if given is None else subprocess.PIPE
+    with subprocess.Popen(words, cwd=folder, env=env, stdin=stdin, stdout=subprocess.PIPE, stderr=theirs) as run:
+        os.close(theirs)
+        reader.start()
+        text, _ = run.communicate(given, timeout=WITHIN)
+    reader.join()
+    os.close(ours)
+    return run.returncode, text.decode(), b"".join(shown).decode().replace("\r\n", "\n")
+
+
+def with_files(folder, answer):
+    """A small tree with the tools, a program that gives one answer, and the two counters in files."""
+    small_tree(folder)
+    shutil.copytree(os.path.join(TOP, "tools"), f"{folder}/tools",
+                    ignore=shutil.ignore_patterns("tests", "__pycache__"))
+    shutil.copy(os.path.join(TOP, "docs", "checks.md"), f"{folder}/docs")
+    for name in ("two_counters.aadl", "two_counters.json", "two_counters.pals"):
+        shutil.copy(os.path.join(TOP, "examples", name), folder)
+    script(f"{folder}/crates/pals_cli/out/pals_cli", answer)
+    age_all(folder)
+
+
+def test_pals_takes_files():
+    """Of files ./pals makes the bundle, and finds the root; bytes and status are the program's."""
+    joined = tool("bundle", "examples/two_counters.aadl", "examples/two_counters.json")[1].decode()
+    with tempfile.TemporaryDirectory() as folder:
+        with_files(folder, 'echo "built $*"; cat; exit 5')
+        two = (f"{folder}/two_counters.aadl", f"{folder}/two_counters.json")
+        for words, wanted in ((("sync", *two), "sync Top.impl"), (("sync", "Tip.impl", *two), "sync Tip.impl"),
+                              (("sync", *two[::-1]), "sync Top.impl"),
+                              (("world", "--loose", *two), "world --loose Top.impl"), (("print", *two), "print")):
+            expect(pals(folder, *words), (5, f"built {wanted}\n{joined}", ""), f"./pals {words[:2]}")
+        status, text, said = pals(folder, "check", two[0])
+        expect((status, text.endswith("end Two;\n%%%\n"), said), (5, True, ""), "a design alone")
+        status, text, said = pals(folder, "sync", f"{folder}/two_counters.pals")
+        expect((status, text.count("%%%")), (5, 1), "a bundle")
+        expect(pals(folder, "sync", "no.aadl")[0], 1, "a file that is not there")
+        expect(pals(folder, "sync", *two, two[0])[0], 2, "three files")
+
+
+def test_pals_explains_on_a_terminal():
+    """On a terminal the answer is explained at its place in the user's file; standard output is the program's."""
+    with tempfile.TemporaryDirectory() as folder:
+        with_files(folder, "cat >/dev/null; echo 'scenario OutOfRange rounds'; exit 5")
+        words = [f"{folder}/pals", "sync", "two_counters.aadl", "two_counters.json"]
+        status, text, shown = in_terminal(words, folder, b"")
+        expect((status, text), (5, "scenario OutOfRange rounds\n"), "the program's answer")
+        expect(shown.startswith("two_counters.json:1:2: rounds are from 1 to 100,000\n"), True, shown)
+        script(f"{folder}/crates/pals_cli/out/pals_cli", "cat >/dev/null; exit 0")
+        age_all(folder)
+        status, text, shown = in_terminal(words, folder, b"")
+        expect((status, text, "nothing was checked" in shown), (0, "", True), "an empty answer")
+
+
+def test_pals_says_what_it_waits_for():
+    """Without a bundle on a terminal ./pals says what it waits for."""
+    with tempfile.TemporaryDirectory() as folder:
+        small_tree(folder)
+        status, text, shown = in_terminal([f"{folder}/pals", "check", "Top.impl"], folder)
+        expect((status, text.startswith("built check Top.impl\n"), "waiting for a bundle on standard input" in shown),
+               (5, True, True), shown)
+
+
+def test_files_are_watched():
+    """At each save there is a new answer, with the time before it."""
+    with tempfile.TemporaryDirectory() as folder:
+        with_files(folder, "cat >/dev/null; echo 'text 1:1 Syntax'; exit 3")
+        words = [f"{folder}/pals", "watch-files", "--times", "2", "check", "two_counters.aadl"]
+        how = {"stdin": subprocess.DEVNULL, "stdout": subprocess.PIPE, "stderr": subprocess.PIPE, "cwd": folder}
+        with subprocess.Popen(words, **how) as run:
+            begun = time.monotonic()
+            while run.poll() is None and time.monotonic() - begun < WITHIN:
+                time.sleep(0.3)
+                with open(f"{folder}/two_counters.aadl", "a", encoding="utf-8") as file:
+                    file.write("-- more\n")
+            text, said = run.communicate(timeout=WITHIN)
+        expect((run.returncode, text), (3, b"text 1:1 Syntax\n" * 2), "answers")
+        expect(len(re.findall(rb"(?m)^\d\d:\d\d:\d\d pals check two_counters.aadl$", said)), 2, said.decode())
+        expect(said.count(b"two_counters.aadl:1:1: "), 2, said.decode())
