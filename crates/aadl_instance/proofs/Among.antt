@@ -1,6 +1,6 @@
 -- The numbers of ports among those that go as they do, as they are counted.
 use Rattle.std.proofs.Common.{◌≡◌, ◌⊎◌, inl, inr, ℕ, ◌+◌, ◌<◌, ◌≤◌, Bool, true, false, cond, List, [], ◌∷◌, ◌++◌, length, map, take}
-use Rattle.std.proofs.Common.{get_or, slice_get, count_by, None, refl, sym, ap, subst, ◌∙◌, arith}
+use Rattle.std.proofs.Common.{get_or, slice_get, count_by, Some, None, refl, sym, ap, subst, ◌∙◌, arith}
 use Rattle.std.proofs.lemmas.Bool.{cases_lt}
 use Rattle.std.proofs.lemmas.List.{length-map, length-take-le, get_or_append_left, get_or_push}
 use Rattle.std.proofs.lemmas.List.Sums.{count_by-le-length, count_by_more_yes, count_by_more_no}
@@ -11,7 +11,7 @@ use Rattle.aadl_tree.specs.declared.declarations.Feature as source
 use Rattle.aadl_tree.specs.Declarations.{Feature, PackageTree}
 use Rattle.aadl_tree.specs.proof.Maps.{kept_place}
 use Rattle.aadl_tree.specs.proof.Views.{feature_view}
-use Rattle.aadl_names.specs.Resolving.{implementation_at, implementation_in, ports_at}
+use Rattle.aadl_names.specs.Resolving.{type_in, type_numbered, features_of}
 use Rattle.aadl_instance.specs.Instances.{same_direction, goes_as, number_among}
 use Rattle.aadl_instance.specs.proof.Numbers.{AreAmong, AreNumbers, seen, with_port}
 use Rattle.aadl_instance.specs.declared.numbers.Seen.{Seen}
@@ -73,16 +73,17 @@ pub row_whole : (ports : List source.Feature) (i : ℕ) (row : List ℕ) → len
     → ((k : ℕ) → k < i → get_or row k 0 ≡ number_among (map (feature_view kept_place) ports) k) → AreAmong (map (feature_view kept_place) ports) row
 row_whole ports i row all each port lt = let size = length-map ports (feature_view kept_place) in each port (omega (arith, size, lt, all))
 
--- ---- declarations
+-- ---- types
 pub rows_whole : (tree : PackageTree ℕ) (count : ℕ) (rows : List (List ℕ)) → length tree.declarations ≤ count
-    → ((n : ℕ) → n < count → AreAmong (ports_at tree (implementation_at tree n)) (get_or rows n [])) → AreNumbers tree rows
-rows_whole tree count rows all each n port lt = by (cases_lt n count)
+    → ((n : ℕ) → n < count → AreAmong (features_of (type_numbered tree (Some n))) (get_or rows n [])) → AreNumbers tree rows
+rows_whole tree count rows all each None port lt = absurd (omega (arith, lt))
+rows_whole tree count rows all each (Some n) port lt = by (cases_lt n count)
   where
-    by : (n < count) ⊎ (count ≤ n) → get_or (get_or rows n []) port 0 ≡ number_among (ports_at tree (implementation_at tree n)) port
+    by : (n < count) ⊎ (count ≤ n) → get_or (get_or rows n []) port 0 ≡ number_among (features_of (type_numbered tree (Some n))) port
     by (inl less) = each n less port lt
     by (inr le) =
         let past = slice_get_past tree.declarations n (omega arith) in
-        let none : port < length (ports_at tree (implementation_in None)) = subst (λ o. port < length (ports_at tree (implementation_in o))) past lt in
+        let none : port < length (features_of (type_in None)) = subst (λ o. port < length (features_of (type_in o))) past lt in
         absurd (omega (arith, none))
 
 -- a number is no greater than its port's

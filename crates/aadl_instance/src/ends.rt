@@ -89,7 +89,8 @@ pub fn node_end(network: &Network<'_>, node: &Node<'_>, port: usize) -> ChainEnd
     ensures { result ≡ end_in (tree_of network.now) network.now.root (paths_in network.now)
         (record { path = reverse node.now.path.now; port = port }) }
 {
-    let among = network.numbers.get(node.declaration, port);
+    let of_type = network.wires.uses.type_number(node.declaration);
+    let among = network.numbers.get(of_type, port);
     ChainEnd::Thread {
         node: node.number,
         port: among as u32,

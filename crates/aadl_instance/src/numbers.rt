@@ -7,11 +7,12 @@ ghost use Rattle.aadl_instance.specs.proof.Numbers.{AreAmong, AreNumbers};
 
 use aadl_tree::{Direction, Feature};
 use aadl_uses::Wires;
+use name_faults::ports::ports_at;
 use std::alloc::{AllocError, Global};
 use std::marker::Model;
 
-/// For each declaration, by its number, how many ports before each of its ports go as this one does. Contracts see the
-/// lists of these.
+/// For each type, by the number of its declaration, how many ports before each of its ports go as this one does. A type
+/// of many ports may have many implementations, so these have none of their own. Contracts see the lists of these.
 #[derive(Drop)]
 pub struct PortNumbers {
     rows: Vec<Vec<usize>>,
@@ -30,7 +31,7 @@ impl PortNumbers {
     ghost use Rattle.aadl_tree.specs.proof.PackageViews.{placed};
     ghost use Rattle.aadl_instance.specs.proof.Numbers.{number_in, AreNumbers};
 
-    /// Those of the implementations of a package.
+    /// Those of the types of a package.
     pub fn of(alloc: Global, wires: &Wires<'_>) -> Result<PortNumbers, AllocError>
         ensures { IfOk result (λ numbers. AreNumbers (placed wires.now.uses.names.tree.now) numbers) }
     {
@@ -38,7 +39,7 @@ impl PortNumbers {
             rows: Vec::new(alloc),
         };
         for number in 0..wires.uses.len() {
-            let row = row_of(alloc, wires.uses.ports(number))?;
+            let row = row_of(alloc, ports_at(wires.uses.names.tree, Some(number)))?;
             numbers.push(row)?;
         }
         Ok(numbers)
@@ -52,18 +53,21 @@ impl PortNumbers {
         Ok(())
     }
 
-    /// The number of a port of a declaration.
-    pub fn get(&self, declaration: usize, port: usize) -> usize
-        ensures { result ≡ number_in self.now declaration port }
+    /// The number of a port of the type of a number.
+    pub fn get(&self, of_type: Option<usize>, port: usize) -> usize
+        ensures { result ≡ number_in self.now of_type port }
     {
-        match self.rows.get(declaration) {
+        let Some(number) = of_type else {
+            return 0;
+        };
+        match self.rows.get(number) {
             Some(row) => row.get(port).copied().unwrap_or(0),
             None => 0,
         }
     }
 }
 
-// The numbers of the ports of a declaration.
+// The numbers of the ports of a type.
 fn row_of(alloc: Global, ports: &[Feature]) -> Result<Vec<usize>, AllocError>
     ensures { IfOk result (λ row. AreAmong (map (feature_view kept_place) ports.now) row.items) }
 {

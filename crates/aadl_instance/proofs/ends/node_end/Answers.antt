@@ -2,7 +2,9 @@ use Rattle.std.proofs.Common.{◌<◌, ◌∙◌, sym, ap, arith, length, revers
 use Rattle.aadl_tree.specs.proof.PackageViews.{placed}
 use Rattle.aadl_names.specs.Resolving.{implementation_at, ports_at}
 use Rattle.aadl_instance.specs.declared.parts.ChainEnd.TheVariants.{Thread}
+use Rattle.aadl_uses.specs.proof.Types.{type_number_at}
 use Rattle.aadl_instance.specs.Instances.{node_at, number_among}
+use Rattle.aadl_instance.specs.proof.Numbers.{number_in}
 use Rattle.aadl_instance.specs.proof.Passed.{paths_of}
 use Rattle.aadl_instance.proofs.Among.{few_before}
 use Rattle.aadl_instance.proofs.Passing.{thread_listed}
@@ -21,7 +23,8 @@ overflow_cast-result c =
     (thread_listed tree net.root (paths_of net.threads.now) c.requires.ready.settled.threads node.number.0 path c.requires.node.numbered)
     c.requires.ready.settled.few_ports in
     let before = few_before (ports_at tree (implementation_at tree node.declaration)) c.args.port (omega (arith, within)) in
-    let number = c.get-among.ensures ∙ c.requires.ready.numbers node.declaration c.args.port within in
+    let number = c.get-among.ensures ∙ (ap (λ o. number_in net.numbers.now o c.args.port) c.type_number-of_type.ensures
+    ∙ c.requires.ready.numbers (type_number_at tree node.declaration) c.args.port within) in
     omega (arith, within, few, before, number)
 
 pub returns : goal.returns
@@ -35,7 +38,8 @@ returns c =
     let within : c.args.port < length (ports_at tree (implementation_at tree node.declaration)) =
     subst (λ o. c.args.port < length (ports_at tree o)) stands c.requires.port in
     ap (λ n. Thread n c.get-among.result) (sym (node_is paths node.number path c.requires.ready.settled.threads.in_order c.requires.node.numbered))
-    ∙ (ap (Thread (node_at paths path)) (c.get-among.ensures ∙ (c.requires.ready.numbers node.declaration c.args.port within
+    ∙ (ap (Thread (node_at paths path)) (c.get-among.ensures ∙ (ap (λ o. number_in net.numbers.now o c.args.port) c.type_number-of_type.ensures
+    ∙ c.requires.ready.numbers (type_number_at tree node.declaration) c.args.port within
     ∙ ap (λ o. number_among (ports_at tree o) c.args.port) (sym stands)))
     ∙ thread_shown tree net.root paths path c.args.port c.requires.ready.settled.no_thread
     (thread_listed tree net.root paths c.requires.ready.settled.threads node.number.0 path c.requires.node.numbered))

@@ -1,7 +1,7 @@
-use Rattle.std.proofs.Common.{◌<◌, ◌≤◌, ◌∙◌, ℕ, ◌+◌, [], ap, arith, get_or, length, subst, sym}
+use Rattle.std.proofs.Common.{◌<◌, ◌≤◌, ◌∙◌, ℕ, ◌+◌, [], Some, ap, arith, get_or, length, subst, sym}
 use Rattle.std.proofs.lemmas.List.{length_push}
 use Rattle.aadl_tree.specs.proof.PackageViews.{placed}
-use Rattle.aadl_names.specs.Resolving.{implementation_at, ports_at}
+use Rattle.aadl_names.specs.Resolving.{features_of, type_numbered}
 use Rattle.aadl_instance.specs.proof.Numbers.{AreAmong}
 use Rattle.aadl_instance.proofs.Among.{more_at, rows_whole}
 use Rattle.aadl_instance.proofs.numbers.PortNumbers.of.Goals as goal
@@ -13,10 +13,10 @@ loop-number-preserved c =
     let row = c.in_ok-row.row in
     let size = c.loop-number.invariant.0 in
     let pushed = c.in_ok-push.ensures in
-    let here = subst (λ l. AreAmong l row.items) c.ports.ensures c.in_ok-row.ensures in (
+    let here = subst (λ l. AreAmong l row.items) c.ports_at.ensures c.in_ok-row.ensures in (
       ap length pushed ∙ (length_push c.loop-number.numbers row.items ∙ ap (λ k. k + 1) size),
-      subst (λ l. (k : ℕ) → k < n + 1 → AreAmong (ports_at tree (implementation_at tree k)) (get_or l k [])) (sym pushed)
-          (more_at (λ k l. AreAmong (ports_at tree (implementation_at tree k)) l) c.loop-number.numbers row.items [] n size c.loop-number.invariant.1 here),
+      subst (λ l. (k : ℕ) → k < n + 1 → AreAmong (features_of (type_numbered tree (Some k))) (get_or l k [])) (sym pushed)
+          (more_at (λ k l. AreAmong (features_of (type_numbered tree (Some k))) l) c.loop-number.numbers row.items [] n size c.loop-number.invariant.1 here),
     )
 
 pub returns : goal.returns

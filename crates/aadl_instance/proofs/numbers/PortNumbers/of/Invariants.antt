@@ -1,6 +1,6 @@
-use Rattle.std.proofs.Common.{◌≡◌, ◌<◌, ℕ, [], get_or, length}
+use Rattle.std.proofs.Common.{◌≡◌, ◌<◌, ℕ, [], Some, get_or, length}
 use Rattle.aadl_tree.specs.proof.PackageViews.{placed}
-use Rattle.aadl_names.specs.Resolving.{implementation_at, ports_at}
+use Rattle.aadl_names.specs.Resolving.{features_of, type_numbered}
 use Rattle.aadl_instance.specs.proof.Numbers.{AreAmong}
 use Rattle.aadl_instance.proofs.numbers.PortNumbers.of.Given as goal
 
@@ -8,4 +8,4 @@ use Rattle.aadl_instance.proofs.numbers.PortNumbers.of.Given as goal
 abbrev pub invariant-loop-number : goal.invariant-loop-number
 invariant-loop-number l =
     (length l.numbers ≡ l.number)
-    × ((n : ℕ) → n < l.number → AreAmong (ports_at (placed l.wires.uses.names.tree.now) (implementation_at (placed l.wires.uses.names.tree.now) n)) (get_or l.numbers n []))
+    × ((n : ℕ) → n < l.number → AreAmong (features_of (type_numbered (placed l.wires.uses.names.tree.now) (Some n))) (get_or l.numbers n []))
