@@ -1,7 +1,7 @@
 -- A course may go to other threads: what it is made of is data that it owns, and what lies under an `Arc` may be shared.
 use denote.Param.Send.{IsSend, IsSync, sendable, struct_send, recorded_send}
 use denote.Struct.Declared as S
-use Rattle.std.proofs.Crossing.{Box-send, Box-sync, Vec-send, Vec-sync, Arc-send, crosses}
+use Rattle.std.proofs.Crossing.{Box-send, Box-sync, Vec-send, Vec-sync, Arc-send, Arc-sync, crosses}
 use Rattle.pals_base.proofs.behaviour.Expr.TheLaws.TheKnot.{send-Expr, sync-Expr}
 use Rattle.pals_base.proofs.behaviour.Act.TheLaws.TheKnot.{send-Act, sync-Act}
 use Rattle.pals_base.proofs.items.Items.TheSendSync.{the_send as items_send, the_sync as items_sync}
@@ -91,10 +91,10 @@ behaviour_parts_sync : IsSync behaviour_parts.row
 behaviour_parts_sync = search (sendable, transition_sync, items_sync, named_sync, variable_sync, state_sync) depth 20
 
 behaviour_send : IsSend behaviour.row
-behaviour_send = search (sendable, behaviour_parts_send) depth 20
+behaviour_send = search (sendable, Arc-send, behaviour_parts_send, behaviour_parts_sync) depth 20
 
 behaviour_sync : IsSync behaviour.row
-behaviour_sync = search (sendable, behaviour_parts_sync) depth 20
+behaviour_sync = search (sendable, Arc-sync, behaviour_parts_send, behaviour_parts_sync) depth 20
 
 -- ---- a design
 component_send : IsSend component.row

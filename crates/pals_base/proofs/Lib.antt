@@ -1,6 +1,5 @@
 pub mod Pairs
 pub mod Trees
-pub mod Copies
 pub mod Steps
 pub mod Loops
 pub mod Division

@@ -1,7 +1,11 @@
 //! Behaviours of threads: typed machines whose steps are trees of actions and expressions.
+use crate::copy::TryClone;
 use crate::items::Items;
 use crate::text::Text;
+use crate::values::NoMemory;
+use std::alloc::Global;
 use std::marker::Model;
+use std::sync::Arc;
 
 /// The type of a port or a variable.
 #[derive(Clone, Copy, PartialEq)]
@@ -211,9 +215,10 @@ impl Drop for BehaviourParts {
 
 /// What a thread does, which contracts see as its parts. It is well typed and its loops are short;
 /// one transition at the dispatch leaves each complete state, and from every other state a step can
-/// go on and comes to a complete one, so that each step ends.
+/// go on and comes to a complete one, so that each step ends. It never changes, so one behaviour may
+/// be that of many threads, and its parts are kept once.
 pub struct Behaviour {
-    parts: BehaviourParts,
+    parts: Arc<BehaviourParts>,
 }
 
 impl Drop for Behaviour {
@@ -231,23 +236,27 @@ impl Model for Behaviour {
 
     ghost coded = { the_row.coded };
 
-    ghost view = { λ behaviour. behaviour.parts };
+    ghost use Rattle.std.specs.Arc.{arc_value};
+
+    ghost view = { λ behaviour. arc_value behaviour.parts };
 
     ghost use Rattle.pals_base.specs.Rules.{IsBehaviour};
 
-    ghost invariant = { λ behaviour. IsBehaviour behaviour.parts };
+    ghost invariant = { λ behaviour. IsBehaviour (arc_value behaviour.parts) };
 }
 
 impl Behaviour {
-    ghost use Rattle.std.specs.Prelude.{◌≡◌, length};
+    ghost use Rattle.std.specs.Prelude.{◌≡◌, IfOk, length};
     ghost use Rattle.pals_base.specs.Rules.{IsBehaviour};
 
-    /// The behaviour of these parts. It takes no memory.
-    pub fn new(parts: BehaviourParts) -> Behaviour
+    /// The behaviour of these parts.
+    pub fn new(alloc: Global, parts: BehaviourParts) -> Result<Behaviour, NoMemory>
         requires { IsBehaviour parts }
-        ensures { result ≡ parts }
+        ensures { IfOk result (λ behaviour. behaviour ≡ parts) }
     {
-        Behaviour { parts }
+        Ok(Behaviour {
+            parts: Arc::new(alloc, parts)?,
+        })
     }
 
     /// All parts at once.
@@ -303,5 +312,14 @@ impl Behaviour {
         ensures len { length result.now ≡ length self.now.transitions }
     {
         self.parts.transitions.as_slice()
+    }
+}
+
+// A copy has the same parts, which are counted once more: it takes no memory.
+impl TryClone for Behaviour {
+    fn try_clone(&self, _alloc: Global) -> Result<Behaviour, NoMemory> {
+        Ok(Behaviour {
+            parts: Arc::try_clone(&self.parts)?,
+        })
     }
 }

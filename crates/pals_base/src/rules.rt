@@ -140,7 +140,7 @@ impl Behaviour {
         ensures none { IfOk result (λ found. found ≡ Option.None → ¬ IsBehaviour parts) }
     {
         if parts.is_behaviour(alloc)? {
-            Ok(Some(Behaviour::new(parts)))
+            Ok(Some(Behaviour::new(alloc, parts)?))
         } else {
             Ok(None)
         }

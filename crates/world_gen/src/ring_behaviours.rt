@@ -147,12 +147,13 @@ fn only<T: Drop>(alloc: Global, item: T) -> Result<Items<T>, NoMemory>
 pub fn ring_behaviour(alloc: Global) -> Result<Behaviour, NoMemory>
     ensures { IfOk result (λ behaviour. behaviour ≡ ring_behaviour) }
 {
-    Ok(Behaviour::new(BehaviourParts {
+    let parts = BehaviourParts {
         ins: ports(alloc, "i")?,
         outs: ports(alloc, "o")?,
         vars: variables(alloc)?,
         states: states(alloc)?,
         initial: 0,
         transitions: transitions(alloc)?,
-    }))
+    };
+    Ok(Behaviour::new(alloc, parts)?)
 }
