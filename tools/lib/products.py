@@ -82,17 +82,18 @@ def implementations(number):
     return package(others=f"thread Spare\nfeatures\n{ports(number)}end Spare;\n{rest}")
 
 
-def on_processors(paths):
-    """A scenario with a processor for each of these lists of components."""
+def on_processors(paths, **others):
+    """A scenario with a processor for each of these lists of components, and with other fields."""
     listed = {f"c{n}": {"nanos": 1, "components": components} for n, components in enumerate(paths)}
-    return json.dumps({"rounds": 1, "processors": listed}, separators=(",", ":"))
+    return json.dumps({"rounds": 1, "processors": listed, **others}, separators=(",", ":"))
 
 
 def actions(number):
     """One step of many actions, in many threads."""
     counter = COUNTER.replace("o!(x)", "o!(x)" + "; x := i" * (PER_THREAD * number))
     all_threads = ["p.a", *(f"p.t{n}" for n in range(number))]
-    return package(counter, subs=threads(number), scenario=on_processors([all_threads]))
+    scenario = on_processors([all_threads], properties={"halts": ["halted", "p.a"]})
+    return package(counter, subs=threads(number), scenario=scenario)
 
 
 def transitions(number):
@@ -244,7 +245,7 @@ def plants(number):
 PRODUCTS = {
     "ports x implementations": Product(["check"], MANY, implementations),
     "types x names": Product(["check"], MANY, types),
-    "actions x threads": Product(["check", "sync", "budget"], COMPONENTS - 1, actions),
+    "actions x threads": Product(["check", "sync", "watch", "vote", "fuse", "budget"], COMPONENTS - 1, actions),
     "transitions x threads": Product(["check", "sync"], COMPONENTS - 1, transitions),
     "states x transitions": Product(["check"], MANY, chain),
     "states x names": Product(["check"], MANY, states),

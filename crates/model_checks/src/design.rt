@@ -1,58 +1,42 @@
 //! The design of an instance.
-ghost use Rattle.std.specs.Prelude.{◌≡◌, IfOk, All, MatchOption, map};
+ghost use Rattle.std.specs.Prelude.{◌≡◌, IfOk, OnOk, All, MatchOption, map};
 ghost use Rattle.aadl_tree.specs.proof.PackageViews.{placed};
 ghost use Rattle.model_violations.specs.proof.Violations.{shown};
 ghost use Rattle.design_laws.specs.Designs as spec;
+ghost use Rattle.model_checks.specs.proof.Kept.{AreKept};
 ghost use Rattle.model_checks.specs.proof.Limits.{IsWithinLimits};
 ghost use Rattle.model_checks.specs.proof.Refused.{HasNoDesign};
 
+use crate::behaviours::behaviour;
 use aadl_instance::{Chain, ChainEnd, Instance, ThreadAt};
-use aadl_uses::Uses;
 use component_checks::Properties;
 use component_checks::roots::root_gamma;
 use component_checks::threads::{root_period, thread_rate};
+use indexmap::IndexMap;
 use model_violations::carriers::carrier_of;
-use model_violations::ports::component_number;
-use model_violations::{ignored_names, resolve_implementation};
+use model_violations::ignored_names;
 use pals_base::{Adaptor, Behaviour, Items, NoMemory, TryClone};
 use pals_model::{Component, DesignParts, Feed, Link, Tap};
 use std::alloc::Global;
 
-// The behaviour of a thread, if it has one.
-fn behaviour(
-    alloc: Global,
-    uses: &Uses<'_>,
-    thread: &ThreadAt,
-) -> Result<Option<Behaviour>, NoMemory>
-    requires limits { IsWithinLimits (placed uses.now.names.tree.now) thread.now }
-    requires rules { spec.HasRules (placed uses.now.names.tree.now) thread.now }
-    ensures { IfOk result (λ found. found ≡ spec.thread_behaviour (placed uses.now.names.tree.now) thread.now) }
-{
-    let mut found = Items::new(alloc);
-    let Some(number) = component_number(uses, thread) else {
-        return Ok(None);
-    };
-    let Some(parts) = resolve_implementation(alloc, uses, number, &mut found)? else {
-        return Ok(None);
-    };
-    Ok(Some(Behaviour::new(parts)))
-}
-
-// A component, if nothing of it is refused.
+// A component, if nothing of it is refused, with the behaviours that are kept for the threads to come.
 fn component(
     alloc: Global,
     properties: &Properties<'_>,
+    kept: &mut IndexMap<usize, Behaviour>,
     root: usize,
     thread: &ThreadAt,
 ) -> Result<Option<Component>, NoMemory>
     requires limits { IsWithinLimits (placed properties.now.uses.now.names.tree.now) thread.now }
     requires rules { spec.HasRules (placed properties.now.uses.now.names.tree.now) thread.now }
-    ensures { IfOk result (λ found. found ≡ spec.component_in (placed properties.now.uses.now.names.tree.now) root thread.now) }
+    requires kept { AreKept (placed properties.now.uses.now.names.tree.now) kept.old.entries }
+    ensures value { IfOk result (λ found. found ≡ spec.component_in (placed properties.now.uses.now.names.tree.now) root thread.now) }
+    ensures kept { OnOk result (AreKept (placed properties.now.uses.now.names.tree.now) kept.new.entries) }
 {
     let Some(rate) = thread_rate(properties, root, thread) else {
         return Ok(None);
     };
-    let Some(behaviour) = behaviour(alloc, properties.uses, thread)? else {
+    let Some(behaviour) = behaviour(alloc, properties.uses, kept, thread)? else {
         return Ok(None);
     };
     Ok(Some(Component {
@@ -74,8 +58,9 @@ fn components(
     ensures { IfOk result (λ found. found ≡ spec.all_of (map (spec.component_in (placed properties.now.uses.now.names.tree.now) root) threads.now)) }
 {
     let mut components = Items::new(alloc);
+    let mut kept = IndexMap::new(alloc);
     for thread in threads {
-        let Some(component) = component(alloc, properties, root, thread)? else {
+        let Some(component) = component(alloc, properties, &mut kept, root, thread)? else {
             return Ok(None);
         };
         components.push(component)?;
