@@ -13,3 +13,9 @@ pub mod Copies
 pub mod RootInputLaws
 pub mod StepLaws
 pub mod LineLaws
+pub mod KindLists
+pub mod KindsOfExpressions
+pub mod KindsOfActions
+pub mod KindsOfSteps
+pub mod KindsOfAdaptors
+pub mod KindsOfRounds

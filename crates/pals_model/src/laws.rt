@@ -3,6 +3,7 @@
 ghost use Rattle.pals_model.specs.proof.Laws.{OneFrameEach, OneMessageEach, StateBegins, LinksBeginAbsent, StateGoesOn, MessageFromSource, PartFromSteps, RunsAlone, DependsOnPast};
 ghost use Rattle.pals_model.specs.proof.Counters.{CountersCount};
 
+mod kinds;
 mod lines;
 mod names;
 mod root_inputs;
@@ -10,6 +11,7 @@ mod shapes;
 mod sources;
 mod steps;
 
+pub use kinds::{rounds_keep_kinds, steps_keep_kinds};
 pub use lines::{lines_have_no_line_feed, texts_split_into_lines};
 pub use names::{components_have_paths, in_ports_have_names, links_have_names};
 pub use root_inputs::{feeds_have_roots, root_inputs_are_feeds};

@@ -1,4 +1,5 @@
 -- Laws of the composition, at every design and environment.
+pub mod Kinds
 pub mod Lines
 pub mod Names
 pub mod RootInputs
