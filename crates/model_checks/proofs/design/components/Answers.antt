@@ -21,10 +21,10 @@ component-requires-clause-kept c = c.loop-thread.invariant.1
 
 pub loop-thread-preserved : goal.loop-thread-preserved
 loop-thread-preserved c = (
-      one_more (component_in (placed c.args.properties.now.uses.now.names.tree.now) c.args.root) c.args.threads.now c.loop-thread.thread-index c.thread-item.result c.loop-thread.components _ c.in-Some.component c.loop-thread-test.true c.thread-item.is c.loop-thread.invariant.0
+  one_more (component_in (placed c.args.properties.now.uses.now.names.tree.now) c.args.root) c.args.threads.now c.loop-thread.thread-index c.thread-item.result c.loop-thread.components _ c.in-Some.component c.loop-thread-test.true c.thread-item.is c.loop-thread.invariant.0
       (sym c.in-Some.is ∙ c.in_ok-component.ensures.value) c.in_ok-push.ensures.ok,
-      c.in_ok-component.ensures.kept,
-    )
+  c.in_ok-component.ensures.kept,
+)
 
 pub returns-in_default : goal.returns-in_default
 returns-in_default c =
