@@ -12,7 +12,8 @@ use Rattle.pals_runs.specs.declared.journal.JournalEntry.{JournalEntry}
 use Rattle.pals_runs.specs.declared.journal.JournalEntry.TheVariants as entry
 use Rattle.pals_runs.specs.Journal.{node_word, link_word}
 use Rattle.run_laws.specs.TraceLines.{of_node, of_link, entry_of, told}
-use Rattle.run_laws.specs.proof.EntryLines.{IsOfNode, IsOfLink, IsStopIn, IsEntryIn, stop_form, entry_form, LinesTellEntries, LinesDiffer}
+use Rattle.run_laws.specs.proof.EntryLines.{stop_form, entry_form, LinesTellEntries, LinesDiffer}
+use Rattle.run_laws.specs.Entries.{IsOfNode, IsOfLink, IsStopIn, IsEntryIn}
 use Rattle.run_laws.proofs.Names.{node_found, link_found}
 use Rattle.run_laws.proofs.Forms.{lines_have_forms}
 

@@ -16,7 +16,8 @@ use Rattle.pals_runs.specs.declared.journal.JournalEntry.{JournalEntry}
 use Rattle.pals_runs.specs.declared.journal.JournalEntry.TheVariants as entry
 use Rattle.pals_runs.specs.Journal.{node_word, link_word, reading_word, arrived_word, cause_word, spaced, stop_words, entry_words}
 use Rattle.run_laws.specs.LineForms.{Form, ArriveLine, StartLine, StepLine, FinishLine, SendLine, DropLine, RepeatLine, EarlyLine, MissedLine, is_there, form_of_words, form_of, named, read, at_end, with_result, with_cause, with_step}
-use Rattle.run_laws.specs.proof.EntryLines.{IsReading, IsOfNode, IsOfLink, IsStopIn, IsEntryIn, stop_form, entry_form, LinesHaveForms, EntriesHaveLines}
+use Rattle.run_laws.specs.proof.EntryLines.{stop_form, entry_form, LinesHaveForms, EntriesHaveLines}
+use Rattle.run_laws.specs.Entries.{IsReading, IsOfNode, IsOfLink, IsStopIn, IsEntryIn}
 use Rattle.run_laws.proofs.Words.{is_plain, ArePlain, end, before, words_are, all_there, is_one_line}
 use Rattle.run_laws.proofs.LineNumbers.{round_is, reading_is, round_plain, reading_plain}
 use Rattle.run_laws.proofs.Names.{node_plain, link_plain}

@@ -26,8 +26,15 @@ pub mod MeetingLines
 pub mod Rising
 pub mod Due
 pub mod Judged
-pub mod Audits
 pub mod Ranges
+pub mod EntrySpelling
+pub mod SoundRows
+pub mod BrokenTests
+pub mod SoundEntries
+pub mod SoundHistories
+pub mod HistoryReplay
+pub mod HistoryVerdicts
+pub mod RunHistories
 pub mod Sound
 pub mod Searching
 pub mod Sums

@@ -34,7 +34,7 @@ use Rattle.bus_machine.specs.declared.action.Action.{Action}
 use Rattle.bus_machine.specs.declared.action.Action.TheVariants as action
 use Rattle.bus_machine.specs.Targets.{Progress, target, targets, send_is_next, next_action, next_in}
 use Rattle.bus_machine.proofs.Lists.{oldest_is_one}
-use Rattle.run_laws.specs.proof.EntryLines.{IsReading, IsOfLink, IsEntryIn}
+use Rattle.run_laws.specs.Entries.{IsReading, IsOfLink, IsEntryIn}
 use Rattle.pals_clock.specs.declared.clock.Clocks.{Clocks}
 use Rattle.pals_clock.specs.declared.clock.Clocks.TheVariants.{Meet, Lists}
 use Rattle.run_laws.specs.Runs.{clock_at, Does, Takes, KeepsTo, Runs, opens, picks_for, goes_on}

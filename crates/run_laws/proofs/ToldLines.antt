@@ -20,7 +20,8 @@ use Rattle.pals_runs.specs.declared.journal.JournalEntry.{JournalEntry}
 use Rattle.pals_runs.specs.declared.journal.JournalEntry.TheVariants as entry
 use Rattle.run_laws.specs.LineForms.{Form, ArriveLine, StartLine, StepLine, FinishLine, SendLine, DropLine, RepeatLine, EarlyLine, MissedLine, is, is_there, spelled, number_up_to, round_in, reading_in, arrived_in, cause_in, named, at_end, read, with_result, with_cause, with_step, arrive_line, start_line, step_line, finish_line, send_line, drop_line, repeat_line, early_line, missed_line, stop_line, form_of_words, words_of, form_of}
 use Rattle.run_laws.specs.TraceLines.{of_node, of_link, entry_of, told}
-use Rattle.run_laws.specs.proof.EntryLines.{IsReading, IsEntryIn, ToldAreIn}
+use Rattle.run_laws.specs.proof.EntryLines.{ToldAreIn}
+use Rattle.run_laws.specs.Entries.{IsReading, IsEntryIn}
 
 -- ---- numbers
 number_by : (same less : Bool) (most n m : ℕ) → nat_le n most ≡ less → cond (same && less) (Some n) None ≡ Some m → m ≤ most

@@ -12,6 +12,8 @@ pub mod LineForms
 pub mod TraceLines
 pub mod TraceRules
 pub mod Traces
+pub mod Entries
+pub mod Histories
 pub mod Reports
 pub mod Worlds
 pub mod Deadlines

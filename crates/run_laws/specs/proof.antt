@@ -11,6 +11,7 @@ pub mod Locked
 pub mod Rows
 pub mod Clauses
 pub mod Sound
+pub mod SoundTraces
 pub mod Ending
 pub mod InTime
 pub mod EntryLines

@@ -4,6 +4,7 @@
 //! arrives is kept, and no node is two rounds ahead of another. Definitions and their laws alone.
 #![tactic(auto)]
 
+pub mod history_laws;
 pub mod laws;
 pub mod replay;
 pub mod trace_laws;

@@ -15,7 +15,8 @@ use Rattle.run_laws.specs.Reports.{lines_of}
 use Rattle.run_laws.specs.Traces.{verdict}
 use Rattle.run_laws.specs.Meetings.{AllDone}
 use Rattle.run_laws.specs.Runs.{Runs, lists_in}
-use Rattle.run_laws.specs.proof.Sound.{AreReadings, trace_of}
+use Rattle.run_laws.specs.proof.Sound.{AreReadings}
+use Rattle.run_laws.specs.Histories.{trace_of}
 use Rattle.run_laws.proofs.InTime.{readings_same}
 use Rattle.run_laws.proofs.Kept.{clauses_are_kept}
 use Rattle.run_laws.proofs.Sound.{runs_are_sound, traces_are_texts}

@@ -11,7 +11,7 @@ use Rattle.pals_runs.specs.declared.verdicts.TraceRule.TheVariants as rule
 use Rattle.bus_machine.specs.Nodes.{NodeState}
 use Rattle.bus_machine.specs.States.{Run, BusState, opening}
 use Rattle.bus_machine.specs.Machine.{BusEvent, after}
-use Rattle.run_laws.specs.proof.EntryLines.{IsEntryIn}
+use Rattle.run_laws.specs.Entries.{IsEntryIn}
 use Rattle.run_laws.specs.TraceLines.{Timed, event_of, has_reading, timed}
 use Rattle.run_laws.specs.TraceRules.{broken, is_line_of}
 use Rattle.run_laws.specs.Traces.{Audit, audit_after, audit_event, line_broken, noted}

@@ -23,7 +23,7 @@ use Rattle.bus_machine.specs.States.{Run, BusState, node_at}
 use Rattle.bus_machine.specs.Stops.{link_into, missing_link}
 use Rattle.bus_machine.specs.Machine.{Start, missed_stop}
 use Rattle.bus_machine.specs.Replay.{start_entry}
-use Rattle.run_laws.specs.proof.EntryLines.{IsEntryIn, IsReading}
+use Rattle.run_laws.specs.Entries.{IsEntryIn, IsReading}
 use Rattle.run_laws.specs.TraceLines.{event_of}
 use Rattle.run_laws.specs.TraceRules.{is_line_of}
 use Rattle.run_laws.proofs.Entries.{lines_differ}

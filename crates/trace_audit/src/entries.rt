@@ -2,7 +2,7 @@
 ghost use Rattle.std.specs.Prelude.{◌≡◌, ◌<◌, length, Some, None, Ok, true, IfOk};
 ghost use Rattle.pals_runs.specs.declared.journal.Stop.TheVariants as stop;
 ghost use Rattle.pals_runs.specs.declared.journal.JournalEntry.TheVariants as entry;
-ghost use Rattle.run_laws.specs.proof.EntryLines.{IsEntryIn};
+ghost use Rattle.run_laws.specs.Entries.{IsEntryIn};
 ghost use Rattle.run_laws.specs.TraceLines.{has_reading, timed};
 ghost use Rattle.run_laws.specs.TraceRules.{broken};
 ghost use Rattle.trace_audit.specs.proof.Events.{IsReady, IsRedone};

@@ -1,7 +1,7 @@
 //! A run that is done again, line by line.
 ghost use Rattle.std.specs.Prelude.{◌≡◌, ◌<◌, Option, Some, None, Ok, false, IfOk, IfSome};
 ghost use Rattle.bus_machine.specs.States.{opening};
-ghost use Rattle.run_laws.specs.proof.EntryLines.{IsEntryIn};
+ghost use Rattle.run_laws.specs.Entries.{IsEntryIn};
 ghost use Rattle.run_laws.specs.TraceLines.{has_reading};
 ghost use Rattle.run_laws.specs.Traces.{opening_audit, line_broken};
 ghost use Rattle.trace_audit.specs.proof.Owing.{owed_by};

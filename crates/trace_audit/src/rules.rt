@@ -2,7 +2,7 @@
 ghost use Rattle.std.specs.Prelude.{◌≡◌, ◌++◌, ◌∷◌, ◌↔◌, [], Bool, List, Some, None, true, IsTrue, false, option_copied};
 ghost use Rattle.std.specs.Option.{option_map_or};
 ghost use Rattle.pals_runs.specs.declared.journal.JournalEntry.{JournalEntry};
-ghost use Rattle.run_laws.specs.proof.EntryLines.{IsEntryIn};
+ghost use Rattle.run_laws.specs.Entries.{IsEntryIn};
 ghost use Rattle.run_laws.specs.TraceRules.{is_due, is_line_of};
 ghost use Rattle.trace_audit.specs.proof.FirstRules.{first_rule};
 

@@ -1,40 +1,16 @@
 -- What the line of a journal's entry tells.
-use Rattle.std.specs.Prelude.{◌≡◌, ℕ, ◌<◌, ◌≤◌, List, length, Option, Some, None, IfSome}
-use Rattle.pals_base.specs.declared.limits.TheConstants.{ROUNDS, READING}
+use Rattle.std.specs.Prelude.{◌≡◌, List, ℕ, Some}
 use Rattle.pals_model.specs.declared.design.DesignParts.{DesignParts}
 use Rattle.pals_model.specs.proof.Laws.Lines.{IsLine}
 use Rattle.pals_model.specs.Rules.{IsDesign}
 use Rattle.pals_runs.specs.declared.journal.Stop.{Stop}
 use Rattle.pals_runs.specs.declared.journal.JournalEntry.{JournalEntry}
 use Rattle.pals_runs.specs.Journal.{node_word, link_word, entry_line}
+use Rattle.run_laws.specs.Entries.{IsEntryIn}
 use Rattle.run_laws.specs.LineForms.{Form, ArriveLine, StartLine, StepLine, FinishLine, SendLine, DropLine, RepeatLine, EarlyLine, MissedLine, form_of}
 use Rattle.run_laws.specs.TraceLines.{told}
 use Rattle.pals_runs.specs.declared.journal.Stop.TheVariants as stop
 use Rattle.pals_runs.specs.declared.journal.JournalEntry.TheVariants as entry
-
--- ---- the entries of a design: of a node or a link that is there, with numbers within their limits
-abbrev pub IsReading : Option ℕ → Type 0
-IsReading reading = IfSome reading (λ at. at ≤ READING)
-
-abbrev pub IsOfNode : DesignParts → ℕ → ℕ → Option ℕ → Type 0
-IsOfNode design node round reading = (node < length design.components) × (round ≤ ROUNDS) × IsReading reading
-
-abbrev pub IsOfLink : DesignParts → ℕ → ℕ → Option ℕ → Type 0
-IsOfLink design link round reading = (link < length design.links) × (round ≤ ROUNDS) × IsReading reading
-
-abbrev pub IsStopIn : DesignParts → Stop → Type 0
-IsStopIn design (stop.Missed link round reading cause) = IsOfLink design link.0 round reading
-IsStopIn design (stop.Early link round reading) = IsOfLink design link.0 round reading
-
-abbrev pub IsEntryIn : DesignParts → JournalEntry → Type 0
-IsEntryIn design (entry.Arrive link round reading result) = IsOfLink design link.0 round reading
-IsEntryIn design (entry.Start node round reading) = IsOfNode design node.0 round reading
-IsEntryIn design (entry.Step node round step reading) = IsOfNode design node.0 round reading × (step ≤ ROUNDS)
-IsEntryIn design (entry.Finish node round) = IsOfNode design node.0 round None
-IsEntryIn design (entry.Send node round reading) = IsOfNode design node.0 round reading
-IsEntryIn design (entry.Drop link round) = IsOfLink design link.0 round None
-IsEntryIn design (entry.Repeat link round) = IsOfLink design link.0 round None
-IsEntryIn design (entry.Stopped why) = IsStopIn design why
 
 -- ---- the form of an entry, with the name that its line has
 abbrev pub stop_form : DesignParts → Stop → Form

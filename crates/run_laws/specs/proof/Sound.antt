@@ -1,30 +1,21 @@
 -- What the verdict says of the trace of a run: the report of the rounds that all nodes have finished, and then the journal.
-use Rattle.std.specs.Prelude.{◌≡◌, ◌≢◌, ◌⊎◌, ℕ, ◌≤◌, List, ◌++◌, map, All, None}
+use Rattle.std.specs.Prelude.{◌≡◌, ℕ, ◌≤◌, All}
 use Rattle.pals_base.specs.declared.limits.TheConstants.{ROUNDS, READING}
 use Rattle.pals_clock.specs.declared.clock.Clocks.{Clocks}
 use Rattle.pals_clock.specs.declared.clock.Clocks.TheVariants.{Meet, Lists}
-use Rattle.pals_model.specs.RoundTexts.{text_of, report_lines}
-use Rattle.pals_runs.specs.declared.journal.JournalEntry.{JournalEntry}
+use Rattle.pals_model.specs.RoundTexts.{text_of}
 use Rattle.pals_runs.specs.declared.verdicts.Verdict.TheVariants.{Sound}
-use Rattle.pals_runs.specs.Journal.{entry_line}
-use Rattle.bus_machine.specs.States.{Run, BusState, finished_by_all}
+use Rattle.bus_machine.specs.States.{finished_by_all}
 use Rattle.run_laws.specs.Reports.{lines_of}
 use Rattle.run_laws.specs.Traces.{verdict}
 use Rattle.run_laws.specs.proof.Each.{InRuns}
-use Rattle.run_laws.specs.Meetings.{AllDone}
+use Rattle.run_laws.specs.Histories.{IsOver, trace_of}
 use Rattle.run_laws.specs.Runs.{clock_at}
 
 -- no reading of a list is greater than a reading may be
 abbrev pub AreReadings : Clocks → Type 0
 AreReadings Meet = Unit {0}
 AreReadings (Lists clocks) = (node : ℕ) → All (λ reading. reading ≤ READING) (clock_at clocks node).readings
-
--- a stop stands, or all nodes are done
-abbrev pub IsOver : Run → BusState → Type 0
-IsOver run s = (s.stop ≢ None) ⊎ AllDone run s
-
-abbrev pub trace_of : Run → List JournalEntry → BusState → List (List ℕ)
-trace_of run journal s = report_lines run.design run.env (finished_by_all run s) ++ map (entry_line run.design) journal
 
 -- the trace of a run that is over is sound
 abbrev pub RunsAreSound : Type 0

@@ -1,7 +1,7 @@
 -- What the code keeps of an audit.
 use Rattle.std.specs.Prelude.{◌≡◌, ◌<◌, true, false, length, Option, option_map, IfSome}
 use Rattle.pals_runs.specs.declared.journal.JournalEntry.{JournalEntry}
-use Rattle.run_laws.specs.proof.EntryLines.{IsEntryIn}
+use Rattle.run_laws.specs.Entries.{IsEntryIn}
 use Rattle.run_laws.specs.TraceLines.{has_reading, timed}
 use Rattle.run_laws.specs.Traces.{Audit, audit_after}
 use Rattle.trace_audit.specs.declared.clocks.ClockReading.{ClockReading}

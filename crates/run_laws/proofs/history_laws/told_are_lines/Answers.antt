@@ -1,0 +1,5 @@
+use Rattle.run_laws.proofs.EntrySpelling.{told_is_line}
+use Rattle.run_laws.proofs.history_laws.told_are_lines.Goals as goal
+
+pub returns : goal.returns
+returns c = told_is_line
