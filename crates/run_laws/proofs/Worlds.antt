@@ -1,5 +1,5 @@
 -- Each event without a fault keeps the time; so does each list within the bounds.
-use Rattle.std.proofs.Common.{List, [], ◌∷◌, ◌++◌, sym}
+use Rattle.std.proofs.Common.{List, [], ◌∷◌, ◌++◌, sym, subst}
 use Rattle.std.proofs.lemmas.Option.{none-some}
 use Rattle.pals_runs.specs.declared.events.Event.{Event}
 use Rattle.pals_runs.specs.declared.events.Event.TheVariants as event
@@ -10,7 +10,7 @@ use Rattle.run_laws.specs.Worlds.{World, opening_world, world_after}
 use Rattle.run_laws.specs.Faults.{IsWithin}
 use Rattle.run_laws.specs.proof.Kept.{KeepsTime}
 use Rattle.run_laws.specs.EventLists.{world_left}
-use Rattle.run_laws.specs.proof.Laws.{EventKeepsTime, ArrivalsAreKept, CountsAreClose, ListsAreTimely, ListsKeepArrivals}
+use Rattle.run_laws.specs.proof.Laws.{EventKeepsTime, ArrivalsAreKept, CountsAreClose, ListsAreTimely, ListsKeepArrivals, ListsGoRight}
 use Rattle.run_laws.proofs.Nodes.{counts_close}
 use Rattle.run_laws.proofs.Faults.{named, starts_in_time, steps_in_time, finishes_in_time, sends_in_time, arrives_in_time}
 use Rattle.run_laws.proofs.Passes.{passes_in_time, pass_keeps_time}
@@ -55,3 +55,9 @@ pub lists_keep_arrivals : ListsKeepArrivals
 lists_keep_arrivals run before later link round rules within =
     let left = left_keeps run (opening_world run) before (event.Arrive link round ∷ later) rules (opening_keeps_time run rules) within in
     arrivals_are_kept run (world_left run (opening_world run) before) link round rules left.0 left.1.0
+
+pub lists_go_right : ListsGoRight
+lists_go_right run events rules within = record {
+  timely = λ before later is. lists_are_timely run before later rules (subst (IsWithin run (opening_world run)) is within);
+  kept = λ before later link round is. lists_keep_arrivals run before later link round rules (subst (IsWithin run (opening_world run)) is within);
+}

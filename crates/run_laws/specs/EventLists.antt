@@ -1,9 +1,27 @@
--- What a list of events leaves of a world.
-use Rattle.std.specs.Prelude.{List, [], ◌∷◌}
+-- What a list of events leaves of a world, and what it is for it to go right.
+use Rattle.std.specs.Prelude.{◌≡◌, ℕ, suc, ◌<◌, ◌≤◌, List, [], ◌∷◌, ◌++◌, length, None}
+use Rattle.pals_base.specs.declared.values.LinkNo.{LinkNo}
+use Rattle.pals_runs.specs.declared.journal.Arrived.TheVariants.{Kept}
 use Rattle.pals_runs.specs.declared.events.Event.{Event}
-use Rattle.bus_machine.specs.States.{Run}
-use Rattle.run_laws.specs.Worlds.{World, world_after}
+use Rattle.bus_machine.specs.States.{Run, node_at}
+use Rattle.bus_machine.specs.Machine.{arrival}
+use Rattle.bus_machine.specs.Agreement.{Agrees}
+use Rattle.run_laws.specs.Worlds.{World, opening_world, world_after}
+use Rattle.pals_runs.specs.declared.events.Event.TheVariants as event
 
 abbrev pub world_left : Run → World → List Event → World
 world_left run w [] = w
 world_left run w (e ∷ events) = world_left run (world_after run w e) events
+
+-- no stop stands, the nodes agree with the composition, and no node has started two rounds more than another
+pub record IsTimely (run : Run) (w : World) : Type 0 where
+  pub no_stop : w.bus.stop ≡ None
+  pub agrees : Agrees run w.bus
+  pub close : (one other : ℕ) → one < length run.design.components → other < length run.design.components
+      → (node_at w.bus one).count ≤ suc (node_at w.bus other).count
+
+-- from the opening on it stands so after each first part of these events, and each message that arrives is kept
+pub record GoRight (run : Run) (events : List Event) : Type 0 where
+  pub timely : (before later : List Event) → events ≡ before ++ later → IsTimely run (world_left run (opening_world run) before)
+  pub kept : (before later : List Event) (link : LinkNo) (round : ℕ) → events ≡ before ++ event.Arrive link round ∷ later
+      → arrival run (world_left run (opening_world run) before).bus link round ≡ Kept

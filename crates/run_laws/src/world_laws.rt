@@ -1,5 +1,5 @@
 //! What a world within the bounds keeps. Each law is the contract of a function that does nothing.
-ghost use Rattle.run_laws.specs.proof.Laws.{OpeningKeepsTime, EventKeepsTime, ArrivalsAreKept, CountsAreClose, MessagesStandOnce, TimesAreReadings, ListsAreTimely, ListsKeepArrivals};
+ghost use Rattle.run_laws.specs.proof.Laws.{OpeningKeepsTime, EventKeepsTime, ArrivalsAreKept, CountsAreClose, MessagesStandOnce, TimesAreReadings, ListsGoRight};
 ghost use Rattle.run_laws.specs.proof.WorldRows.{EventsAreRefused, ArrivesTooSoon, EarliestSender, LatestSender};
 
 /// No clock is off by the skew, nothing is past its last allowed time, and each message that was sent
@@ -25,9 +25,8 @@ pub fn times_are_readings()
 
 /// After each event of a list within the bounds no stop stands, the bus agrees with the composition,
 /// no node is two rounds ahead, and each arrival was kept.
-pub fn lists_are_timely()
-    ensures timely { ListsAreTimely }
-    ensures arrivals { ListsKeepArrivals }
+pub fn lists_go_right()
+    ensures { ListsGoRight }
 {}
 
 /// Events that a world of two counters refuses, each with its cause.

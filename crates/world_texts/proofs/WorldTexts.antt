@@ -19,6 +19,7 @@ use Rattle.pals_bus.specs.Loose.{IsNamedIn}
 use Rattle.run_laws.specs.Worlds.{World, reading_at}
 use Rattle.run_laws.specs.Faults.{fault_of, event_fault, is_named, IsWithin}
 use Rattle.run_laws.specs.EventLists.{world_left}
+use Rattle.run_laws.proofs.Worlds.{lists_go_right}
 use Rattle.loose_world.specs.proof.Finished.{finished_lines}
 use Rattle.loose_world.specs.Worlds.{InTurn, told_by}
 use Rattle.loose_world.specs.proof.Histories.{Undergoes}
@@ -92,12 +93,15 @@ world_told old new events sent text opening rules telling is =
     let run = old.bus.run in
     let same : new.bus.run ≡ run = ap (λ (b : BusValue). b.run) telling.leads.others in
     let undergone = subst (λ (b : BusValue). InTurn Undergoes b events new.bus telling.lines) opening.bus telling.undergone in
+    let within = subst (λ (w : World). IsWithin run w events) opening.world telling.leads.within in
+    let of_run = subst IsRunOf same rules in
     record {
-      within = subst (λ (w : World). IsWithin run w events) opening.world telling.leads.within;
+      within = within;
+      right = lists_go_right run events of_run within;
       text_is =
           is
           ∙ ap (λ (xs : List ℕ). text_of (finished_lines new.bus) ++ xs) telling.told
-          ∙ world_is_told run events new.bus telling.lines (subst IsRunOf same rules) (record { programs = old.bus.codes; undergone = undergone });
+          ∙ world_is_told run events new.bus telling.lines of_run (record { programs = old.bus.codes; undergone = undergone });
     }
 
 pub fault_told : (old new : WorldValue) (events : List Event) (index : ℕ) (fault : EventFault) → IsOpening old → EndsAt old events index fault new

@@ -6,12 +6,13 @@ use Rattle.bus_machine.specs.States.{Run}
 use Rattle.bus_machine.specs.WorldTexts.{worldtext}
 use Rattle.run_laws.specs.Worlds.{opening_world}
 use Rattle.run_laws.specs.Faults.{fault_of, IsWithin}
-use Rattle.run_laws.specs.EventLists.{world_left}
+use Rattle.run_laws.specs.EventLists.{GoRight, world_left}
 
 -- ---- from the opening of a run on
--- the events are within the bounds, and the text is that of their world
+-- the events are within the bounds, and so they go right; the text is that of their world
 pub record IsToldWorld (run : Run) (events : List Event) (text : List ℕ) : Type 0 where
   pub within : IsWithin run (opening_world run) events
+  pub right : GoRight run events
   pub text_is : text ≡ worldtext run.design run.env events
 
 -- the event of this index has this fault, and those before it are within the bounds

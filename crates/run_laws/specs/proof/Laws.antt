@@ -10,13 +10,12 @@ use Rattle.bus_machine.specs.NodeEvents.{slot_at}
 use Rattle.bus_machine.specs.States.{Run, node_at, flight_at, link_at}
 use Rattle.bus_machine.specs.Stops.{rounds_sent_on}
 use Rattle.bus_machine.specs.Machine.{arrival}
-use Rattle.bus_machine.specs.Agreement.{Agrees}
 use Rattle.bus_machine.specs.proof.Laws.{IsRunOf}
 use Rattle.run_laws.specs.Worlds.{World, reading_at, opening_world, world_after}
 use Rattle.run_laws.specs.Deadlines.{node_deadline, message_deadline}
 use Rattle.run_laws.specs.Faults.{fault_of, IsWithin}
 use Rattle.run_laws.specs.proof.Kept.{Flies, IsInSlot, IsTaken, IsNowhere, KeepsTime}
-use Rattle.run_laws.specs.EventLists.{world_left}
+use Rattle.run_laws.specs.EventLists.{IsTimely, GoRight, world_left}
 use Rattle.pals_runs.specs.declared.events.Event.TheVariants as event
 
 -- ---- one event
@@ -61,13 +60,6 @@ abbrev pub TimesAreReadings : Type 0
 TimesAreReadings = (run : Run) (w : World) → IsRunOf run → run.rounds ≤ ROUNDS → KeepsTime run w → AreReadings run w
 
 -- ---- a list of events
--- what stands after it
-pub record IsTimely (run : Run) (w : World) : Type 0 where
-  pub no_stop : w.bus.stop ≡ None
-  pub agrees : Agrees run w.bus
-  pub close : (one other : ℕ) → one < length run.design.components → other < length run.design.components
-      → (node_at w.bus one).count ≤ suc (node_at w.bus other).count
-
 abbrev pub ListsAreTimely : Type 0
 ListsAreTimely = (run : Run) (before later : List Event) → IsRunOf run → IsWithin run (opening_world run) (before ++ later)
     → IsTimely run (world_left run (opening_world run) before)
@@ -76,3 +68,7 @@ abbrev pub ListsKeepArrivals : Type 0
 ListsKeepArrivals = (run : Run) (before later : List Event) (link : LinkNo) (round : ℕ) → IsRunOf run
     → IsWithin run (opening_world run) (before ++ event.Arrive link round ∷ later)
     → arrival run (world_left run (opening_world run) before).bus link round ≡ Kept
+
+-- a list within the bounds goes right
+abbrev pub ListsGoRight : Type 0
+ListsGoRight = (run : Run) (events : List Event) → IsRunOf run → IsWithin run (opening_world run) events → GoRight run events
