@@ -15,6 +15,8 @@ use Rattle.pals_top.specs.Analyses.{Makes as analyses}
 use Rattle.pals_top.specs.Executions.{Makes as executes}
 use Rattle.pals_top.specs.proof.Executions.{HasEvents}
 use Rattle.pals_top.specs.Worlds.{world_of}
+use Rattle.pals_top.proofs.Audits.{audit_of}
+use Rattle.pals_top.proofs.LooseWorlds.{rules_of}
 use Rattle.answer_laws.proofs.ExistingLaws.{ExistenceLaws}
 use Rattle.answer_laws.proofs.ExistingLayouts.{has_codes}
 use Rattle.answer_laws.proofs.ExistingRuns.{run_answer}
@@ -51,14 +53,14 @@ module _ (fused : ReportExists) where
 abbrev pub IsMadeByExecution : Execution → DesignParts → Scenario → Type 0
 IsMadeByExecution what design scenario = (status : ℕ) × (text : List ℕ) × executes what design scenario status text
 
-by_timed_world : (design : DesignParts) (scenario : Scenario) → IsMadeByExecution TimedWorld design scenario
-by_timed_world design scenario = answered (world_of design scenario) scenario.events
+by_timed_world : (design : DesignParts) (scenario : Scenario) → IsDesign design → IsScenarioOf design scenario → IsMadeByExecution TimedWorld design scenario
+by_timed_world design scenario rules suits = answered (world_of design scenario) (record { design = rules; rounds = suits.long.0 }) scenario.events
 
 by_loose_world : (design : DesignParts) (scenario : Scenario) → AreLooseEvents design scenario.events → IsMadeByExecution LooseWorld design scenario
 by_loose_world design scenario loose = world_answer design scenario loose.each
 
-by_audit : (design : DesignParts) (scenario : Scenario) → IsMadeByExecution Audit design scenario
-by_audit design scenario = (_, _, (refl, refl))
+by_audit : (design : DesignParts) (scenario : Scenario) → IsDesign design → IsScenarioOf design scenario → IsMadeByExecution Audit design scenario
+by_audit design scenario rules suits = (_, _, audit_of design scenario _ _ (rules_of design scenario rules suits) (refl, refl))
 
 module _ (laws : ExistenceLaws) where
   by_budget : (design : DesignParts) (scenario : Scenario) → IsDesign design → IsMadeByExecution Budget design scenario
@@ -68,8 +70,8 @@ module _ (laws : ExistenceLaws) where
 
   pub by_execution : (what : Execution) (design : DesignParts) (scenario : Scenario) → IsDesign design → IsScenarioOf design scenario → HasEvents what design scenario
       → IsMadeByExecution what design scenario
-  by_execution TimedWorld design scenario rules suits events = by_timed_world design scenario
+  by_execution TimedWorld design scenario rules suits events = by_timed_world design scenario rules suits
   by_execution LooseWorld design scenario rules suits events = by_loose_world design scenario events
   by_execution (Run trace) design scenario rules suits events = run_answer laws.ends laws.ends_named design scenario trace rules suits
-  by_execution Audit design scenario rules suits events = by_audit design scenario
+  by_execution Audit design scenario rules suits events = by_audit design scenario rules suits
   by_execution Budget design scenario rules suits events = by_budget design scenario rules

@@ -60,7 +60,7 @@ one_execution laws TimedWorld root not_run design scenario s t a b x y = one_tim
 one_execution laws LooseWorld root not_run design scenario s t a b x y =
     one_world laws.one_end design scenario s t a b (end_of design scenario s a x) (end_of design scenario t b y)
 one_execution laws (Run trace) root not_run design scenario s t a b x y = absurd (true≢false not_run)
-one_execution laws Audit root not_run design scenario s t a b x y = by_equations s t _ a b _ x y
+one_execution laws Audit root not_run design scenario s t a b x y = by_equations s t _ a b _ x.judged y.judged
 one_execution laws Budget root not_run design scenario s t a b x y = (
   x.status_is
       ∙ (ap (λ (over : Bool). if over then 1 else 0) (laws.one_verdict design (behaviours design) x.programs y.programs (processors_of scenario) x.laid_out y.laid_out)
@@ -81,7 +81,7 @@ execution_status LooseWorld design scenario s a (inr (inr x)) = let e : s ≡ 5 
 execution_status (Run trace) design scenario s a (inl x) = let e : s ≡ 0 = x.0 in inl (omega arith)
 execution_status (Run trace) design scenario s a (inr (inl x)) = let e : s ≡ 6 = x.0 in inr (omega arith, omega arith)
 execution_status (Run trace) design scenario s a (inr (inr x)) = let e : s ≡ 7 = x.0 in inr (omega arith, omega arith)
-execution_status Audit design scenario s a x = let small = verdict_is_small s _ x.0 in inl (omega (arith, small))
+execution_status Audit design scenario s a x = let small = verdict_is_small s _ x.judged.0 in inl (omega (arith, small))
 execution_status Budget design scenario s a x = let small = judged_is_small s _ x.status_is in inl (omega (arith, small))
 
 -- a run refuses no scenario

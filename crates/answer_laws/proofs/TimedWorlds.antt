@@ -6,6 +6,8 @@ use Rattle.pals_runs.specs.declared.events.Event.{Event}
 use Rattle.pals_runs.specs.declared.events.EventFault.{EventFault}
 use Rattle.bus_machine.specs.States.{Run}
 use Rattle.bus_machine.specs.WorldTexts.{worldtext}
+use Rattle.bus_machine.specs.proof.Laws.{IsRunOf}
+use Rattle.run_laws.proofs.Worlds.{lists_go_right}
 use Rattle.run_laws.specs.Worlds.{World, opening_world, world_after}
 use Rattle.run_laws.specs.Faults.{fault_of, IsWithin}
 use Rattle.run_laws.specs.EventLists.{world_left}
@@ -79,9 +81,10 @@ module _ (run : Run) where
   ends w [] = inl tt
   ends w (e ∷ events) = ends_by w e events (fault_of run w e) refl (ends (world_after run w e) events)
 
-  answered_by : (events : List Event) → Ends (opening_world run) events → (status : ℕ) × (text : List ℕ) × IsTimed events status text
-  answered_by events (inl within) = (DONE, worldtext run.design run.env events, inl (refl, record { within = within; text_is = refl }))
-  answered_by events (inr x) = (
+  answered_by : (events : List Event) → IsRunOf run → Ends (opening_world run) events → (status : ℕ) × (text : List ℕ) × IsTimed events status text
+  answered_by events rules (inl within) =
+      (DONE, worldtext run.design run.env events, inl (refl, record { within = within; right = lists_go_right run events rules within; text_is = refl }))
+  answered_by events rules (inr x) = (
     SCENARIO_REFUSED,
     event_fault_line run.design x.0 x.1 ++ line_end,
     inr (
@@ -95,5 +98,5 @@ module _ (run : Run) where
     ),
   )
 
-  pub answered : (events : List Event) → (status : ℕ) × (text : List ℕ) × IsTimed events status text
-  answered events = answered_by events (ends (opening_world run) events)
+  pub answered : IsRunOf run → (events : List Event) → (status : ℕ) × (text : List ℕ) × IsTimed events status text
+  answered rules events = answered_by events rules (ends (opening_world run) events)

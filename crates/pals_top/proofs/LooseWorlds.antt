@@ -43,7 +43,7 @@ all_run s t (e ∷ events) lines happen = all_run happen.0 t events happen.1 hap
 stop_run : (s t : BusValue) (events : List Event) (why : Stop) (lines : List (List ℕ)) → StopsAt s events why t lines → t.run ≡ s.run
 stop_run s t events why lines stops = one_run stops.before t stops.event stops.last ∙ all_run s stops.before (take stops.index events) lines stops.happen
 
-rules_of : (design : DesignParts) (scenario : Scenario) → IsDesign design → IsScenarioOf design scenario → IsRunOf (run_of design scenario)
+pub rules_of : (design : DesignParts) (scenario : Scenario) → IsDesign design → IsScenarioOf design scenario → IsRunOf (run_of design scenario)
 rules_of design scenario rules kept = record { design = rules; rounds = kept.long.0 }
 
 -- ---- answers

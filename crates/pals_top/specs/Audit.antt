@@ -1,11 +1,13 @@
 -- What `audit` makes of a design and a scenario.
-use Rattle.std.specs.Prelude.{◌≡◌, ℕ, Bool, true, false, List, ◌++◌, if◌then◌else◌}
+use Rattle.std.specs.Prelude.{◌≡◌, ◌↔◌, ℕ, Bool, true, false, List, ◌++◌, Option, if◌then◌else◌}
 use Rattle.pals_model.specs.declared.design.DesignParts.{DesignParts}
 use Rattle.pals_model.specs.RoundTexts.{line_end}
 use Rattle.pals_report.specs.Runs.{verdict_line}
+use Rattle.pals_runs.specs.declared.journal.Stop.{Stop}
 use Rattle.pals_runs.specs.declared.verdicts.Verdict.{Verdict}
 use Rattle.pals_runs.specs.declared.verdicts.Verdict.TheVariants.{Sound, Wrong}
 use Rattle.scenario_json.specs.declared.scenario.Scenario.{Scenario}
+use Rattle.run_laws.specs.Histories.{IsTraceOf}
 use Rattle.run_laws.specs.Traces.{verdict}
 use Rattle.pals_top.specs.declared.status.TheConstants.{DONE, NOT_SO}
 use Rattle.pals_top.specs.Loose.{run_of}
@@ -14,9 +16,18 @@ abbrev pub is_sound : Verdict → Bool
 is_sound (Sound rounds stop) = true
 is_sound (Wrong index rule) = false
 
--- the verdict on the scenario's trace; not so where it is wrong
+-- the status and the text of a verdict; not so where it is wrong
 abbrev pub SaysVerdict : DesignParts → Verdict → ℕ → List ℕ → Type 0
 SaysVerdict design v status text = (status ≡ (if is_sound v then DONE else NOT_SO)) × (text ≡ verdict_line design v ++ line_end)
 
-abbrev pub IsAudited : DesignParts → Scenario → ℕ → List ℕ → Type 0
-IsAudited design scenario status text = SaysVerdict design (verdict (run_of design scenario) scenario.trace) status text
+-- the trace is that of a history which is over, and the text names its rounds and its stop
+pub record SaysTrace (design : DesignParts) (scenario : Scenario) (text : List ℕ) : Type 0 where
+  pub rounds : ℕ
+  pub stop : Option Stop
+  pub is_trace : IsTraceOf (run_of design scenario) scenario.trace rounds stop
+  pub text_is : text ≡ verdict_line design (Sound rounds stop) ++ line_end
+
+-- the verdict on the scenario's trace; it is sound exactly where the trace is that of a history which is over
+pub record IsAudited (design : DesignParts) (scenario : Scenario) (status : ℕ) (text : List ℕ) : Type 0 where
+  pub judged : SaysVerdict design (verdict (run_of design scenario) scenario.trace) status text
+  pub sound : (status ≡ DONE) ↔ SaysTrace design scenario text

@@ -7,6 +7,7 @@ ghost use Rattle.pals_top.specs.Audit.{IsAudited, SaysVerdict, is_sound};
 ghost use Rattle.pals_top.specs.proof.Statuses.{status_of, text_of};
 
 use crate::answer::Answer;
+use crate::loose::keeps_rules;
 use pals_base::{Items, NoMemory};
 use pals_model::Design;
 use pals_report::add_verdict;
@@ -29,6 +30,7 @@ pub fn answer_audit(
     requires few { length scenario.trace ≤ LIST_ITEMS }
     ensures { IfOk result (λ answer. IsAudited design scenario (status_of answer) (text_of answer)) }
 {
+    keeps_rules(&design);
     let Scenario {
         rounds,
         env,

@@ -107,8 +107,8 @@ fn answer_end(alloc: Global, bus: &Bus, end: &LooseEnd, sent: &[u8]) -> Result<A
     }
 }
 
-// Every design keeps its rules.
-fn keeps_rules(design: &Design)
+/// Every design keeps its rules.
+pub fn keeps_rules(design: &Design)
     ensures { IsDesign design.now }
 {
     let _parts = design.parts();
