@@ -1,7 +1,7 @@
 mod Analyses
 mod Executions
 mod Forms
-mod LooseWorlds
+pub mod LooseWorlds
 mod Refusals
 mod Scenarios
 pub mod Audits
