@@ -54,7 +54,7 @@ target_within run number link rules is = (at_element (IsLink run.design) run.des
 -- ---- with a meeting
 meeting_cause : (run : Run) (journal : List JournalEntry) (s : BusState) (number round : ℕ) (reading : Option ℕ) (cause : Cause) → IsRunOf run → Runs run Meet journal s
     → (x : StopsAt run Meet s number reading) → (node_at s x.link.target.0).count ≡ round + 1 → CauseFits run Meet s x.link.source.0 (due_of (delay_of run.delays number) (sends x.link.source.0 journal) round) x.at cause
-    → IsLate run number round × (cause ≡ InTransit)
+    → IsLate run number round × (cause ≡ InTransit) × (reading ≡ Some (alarm run.design.period (round + 1)))
 meeting_cause run journal s number round reading NotSent rules runs x next fits = absurd fits.1
 meeting_cause run journal s number round reading Lost rules runs x next fits = absurd fits
 meeting_cause run journal s number round reading InTransit rules runs x next fits =
@@ -73,11 +73,12 @@ meeting_cause run journal s number round reading InTransit rules runs x next fit
         late = subst (λ (l : Link). run.design.period < (plan_of run.design l.source.0).release_offset + delay_of run.delays number round) (sym (link_is run number x.link x.is_link)) over;
       },
       refl,
+      x.reading_is ∙ ap Some here,
     )
 
 meeting_early : (run : Run) (journal : List JournalEntry) (s : BusState) (number round : ℕ) (reading : Option ℕ) → IsRunOf run → Runs run Meet journal s
     → (x : StopsAt run Meet s number reading) → (node_at s x.link.target.0).count ≤ round → (d : ℕ) → due_of (delay_of run.delays number) (sends x.link.source.0 journal) round ≡ Some d → d ≤ x.at
-    → (plan_of run.design (link_at run.design number).source.0).release_offset + delay_of run.delays number round ≡ 0
+    → ((plan_of run.design (link_at run.design number).source.0).release_offset + delay_of run.delays number round ≡ 0) × (reading ≡ Some (alarm run.design.period round))
 meeting_early run journal s number round reading rules runs x early d due most =
     let sent = sent_of (delay_of run.delays number) (sends x.link.source.0 journal) round d due in
     let at = (all_times_fit run Meet journal s x.link.source.0 rules runs (source_within run number x.link rules x.is_link)).sends_fit round sent.0 sent.1 in
@@ -86,7 +87,10 @@ meeting_early run journal s number round reading rules runs x early d due most =
     let here = x.shown in
     let is_due = sent.2 in
     let none : plan.release_offset + delay_of run.delays number round ≡ 0 = omega arith in
-    subst (λ (l : Link). (plan_of run.design l.source.0).release_offset + delay_of run.delays number round ≡ 0) (sym (link_is run number x.link x.is_link)) none
+    let own : x.at ≡ alarm run.design.period round = omega arith in (
+      subst (λ (l : Link). (plan_of run.design l.source.0).release_offset + delay_of run.delays number round ≡ 0) (sym (link_is run number x.link x.is_link)) none,
+      x.reading_is ∙ ap Some own,
+    )
 
 meeting_by : (run : Run) (journal : List JournalEntry) (s : BusState) (why : Option Stop) → IsRunOf run → Runs run Meet journal s → StopFits run Meet journal s why → IfSome why (MeetingStop run)
 meeting_by run journal s None rules runs fits = tt
@@ -161,7 +165,7 @@ no_stop_by run (Some (stop.Early link round reading)) rules delays within is =
     let fits = delays link.0 round is.1 in
     let early = b.early in
     let skew = rules.design.gamma.skew.0 in
-    absurd (omega (arith, fits.0, is.0))
+    absurd (omega (arith, fits.0, is.0.0))
 
 stop_within : (run : Run) (journal : List JournalEntry) (s : BusState) (why : Option Stop) → StopFits run Meet journal s why → IfSome why (MeetingStop run) → IfSome why (λ w. MeetingStop run w × (link_of w < length run.design.links))
 stop_within run journal s None fits is = tt

@@ -64,11 +64,13 @@ lists_none : (run : Run) (later clocks : List ClockState) (journal : List Journa
 lists_none run later clocks journal s None same in_time fits is = refl
 lists_none run later clocks journal s (Some (stop.Missed link round reading cause)) same in_time fits is =
     let t = in_time link.0 (slice_get_within run.design.links link.0 fits.0.link fits.0.is_link) round in
-    absurd (is.0 (timely_same run later clocks link.0 round same t.0))
+    absurd (is.late (timely_same run later clocks link.0 round same t.0))
 lists_none run later clocks journal s (Some (stop.Early link round reading)) same in_time fits is =
     let t = in_time link.0 (slice_get_within run.design.links link.0 fits.0.link fits.0.is_link) round in
-    let after' = t.1 is.0 is.2 is.1 is.3 (pick_same run later clocks same _ _ is.2 is.4) (pick_same run later clocks same _ _ is.1 is.5) in
-    let due = is.6 in
+    let stands = is.stands in
+    let begins = (node_at s (link_at run.design link.0).target.0).count in
+    let after' = t.1 begins stands.start is.send is.not_before (pick_same run later clocks same _ _ stands.start stands.is_pick) (pick_same run later clocks same _ _ is.send is.sent) in
+    let due = is.due in
     absurd (omega (arith, after', due))
 
 sent_most : (b : Bool) (count rounds : ℕ) → count ≤ rounds → cond b count (count - 1) ≤ rounds
@@ -94,7 +96,7 @@ meeting_none run journal s (Some (stop.Missed link round reading cause)) rules r
 meeting_none run journal s (Some (stop.Early link round reading)) rules runs in_time fits is =
     let x = fits.0 in
     let after' = (in_time link.0 (slice_get_within run.design.links link.0 x.link x.is_link) round).1 (early_within run journal s link.0 round fits.2.0 x.link rules runs x.is_link fits.2.1) in
-    absurd (omega (arith, after', is))
+    absurd (omega (arith, after', is.0))
 
 pub none_stops : NoneStops
 none_stops run Meet journal s rules runs Meet same in_time = meeting_none run journal s s.stop rules runs in_time (stops_fit run Meet journal s rules runs) (meetings_stop run journal s rules runs)

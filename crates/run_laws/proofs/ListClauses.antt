@@ -1,6 +1,6 @@
 -- What runs with list clocks tell of the picks of their lists.
 use Rattle.std.proofs.Common.{◌≡◌, inl, inr, ℕ, suc, ◌+◌, ◌-◌, ◌*◌, ◌<◌, ◌≤◌, true, List, [], ◌∷◌, length, slice_get, Option, Some, None, refl, sym, ap, ◌∙◌, subst, arith, length-append}
-use Rattle.std.specs.Prelude.{IfSome}
+use Rattle.std.specs.Prelude.{◌≢◌, IfSome}
 use Rattle.std.proofs.lemmas.Option.{same_Some, slice_get_within, slice_get-get_or}
 use Rattle.pals_base.specs.Picks.{reached, picked, picks}
 use Rattle.pals_clock.specs.Clock.{ClockState}
@@ -128,6 +128,11 @@ none_by run clocks journal s number round l at NotSent rules runs is fits same s
 none_by run clocks journal s number round l at InTransit rules runs is fits same send x = absurd (cc)
 none_by run clocks journal s number round l at Lost rules runs is fits same send x = absurd (cc)
 
+none_lost : (run : Run) (clocks : List ClockState) (s : BusState) (node : ℕ) (due : Option ℕ) (at : ℕ) (cause : Cause) → CauseFits run (Lists clocks) s node due at cause → cause ≢ Lost
+none_lost run clocks s node due at NotSent fits = λ is. absurd (cc)
+none_lost run clocks s node due at InTransit fits = λ is. absurd (cc)
+none_lost run clocks s node due at Lost fits = λ is. fits
+
 stop_by : (run : Run) (clocks : List ClockState) (journal : List JournalEntry) (s : BusState) (why : Option Stop) → IsRunOf run → Runs run (Lists clocks) journal s → s.stop ≡ why → StopFits run (Lists clocks) journal s why → IfSome why (ListStop run clocks s)
 stop_by run clocks journal s None rules runs is fits = tt
 stop_by run clocks journal s (Some (stop.Missed link round reading cause)) rules runs is fits =
@@ -136,14 +141,18 @@ stop_by run clocks journal s (Some (stop.Missed link round reading cause)) rules
     let picked' : StopAt run clocks s link.0 reading = subst (λ (w : Option Stop). StopPicked run (Lists clocks) s w) is (stop_picked run (Lists clocks) journal s rules runs) in
     let at_same : x.at ≡ picked'.0 = same_Some _ _ (sym x.reading_is ∙ picked'.1) in
     let next : (node_at s (link_at run.design link.0).target.0).count ≡ round + 1 = ap (λ (l : Link). (node_at s l.target.0).count) here ∙ fits.1 in
-    let begins = x.begins in (
-      (λ timely.
+    let start : IsPickFor run clocks (link_at run.design link.0).target.0 (action.Start (round + 1)) picked'.0 = subst (λ c. IsPickFor run clocks (link_at run.design link.0).target.0 (action.Start c) picked'.0) next picked'.2 in
+    let begins = x.begins in
+    record {
+      stands = record { start = picked'.0; reading_is = picked'.1; is_pick = start };
+      late = λ timely.
           let count = fits.1 in
-          let t = timely picked'.0 (omega arith) (subst (λ c. IsPickFor run clocks (link_at run.design link.0).target.0 (action.Start c) picked'.0) next picked'.2) in
+          let t = timely picked'.0 (omega arith) start in
           let most = t.2 in
-          late_by run clocks journal s link.0 round x.link x.at cause rules runs x.is_link fits.2 t.0 (subst (λ (l : Link). IsPickFor run clocks l.source.0 (action.Send round) t.0) here t.1) (omega arith)),
-      (λ unsent at y. none_by run clocks journal s link.0 round x.link x.at cause rules runs x.is_link fits.2 unsent at (subst (λ (l : Link). IsPickFor run clocks l.source.0 (action.Send round) at) here y)),
-    )
+          late_by run clocks journal s link.0 round x.link x.at cause rules runs x.is_link fits.2 t.0 (subst (λ (l : Link). IsPickFor run clocks l.source.0 (action.Send round) t.0) here t.1) (omega arith);
+      not_lost = none_lost run clocks s x.link.source.0 (due_of (delay_of run.delays link.0) (sends x.link.source.0 journal) round) x.at cause fits.2;
+      unsent = λ unsent at y. none_by run clocks journal s link.0 round x.link x.at cause rules runs x.is_link fits.2 unsent at (subst (λ (l : Link). IsPickFor run clocks l.source.0 (action.Send round) at) here y);
+    }
 stop_by run clocks journal s (Some (stop.Early link round reading)) rules runs is fits =
     let x = fits.0 in
     let here = link_is run link.0 x.link x.is_link in
@@ -151,15 +160,14 @@ stop_by run clocks journal s (Some (stop.Early link round reading)) rules runs i
     let at_same : x.at ≡ picked'.0 = same_Some _ _ (sym x.reading_is ∙ picked'.1) in
     let sent = sent_of (delay_of run.delays link.0) (sends x.link.source.0 journal) round fits.2.0 fits.2.1 in
     let due = sent.2 in
-    let most = fits.2.2 in (
-      (node_at s (link_at run.design link.0).target.0).count,
-      sent.0,
-      picked'.0,
-      subst (λ (l : Link). (node_at s l.target.0).count ≤ round) (sym here) fits.1,
-      picked'.2,
-      subst (λ (l : Link). IsPickFor run clocks l.source.0 (action.Send round) sent.0) (sym here) ((both_chosen run (Lists clocks) journal s x.link.source.0 rules runs).1 round sent.0 sent.1),
-      omega arith,
-    )
+    let most = fits.2.2 in
+    record {
+      stands = record { start = picked'.0; reading_is = picked'.1; is_pick = picked'.2 };
+      not_before = subst (λ (l : Link). (node_at s l.target.0).count ≤ round) (sym here) fits.1;
+      send = sent.0;
+      sent = subst (λ (l : Link). IsPickFor run clocks l.source.0 (action.Send round) sent.0) (sym here) ((both_chosen run (Lists clocks) journal s x.link.source.0 rules runs).1 round sent.0 sent.1);
+      due = omega arith;
+    }
 
 pub lists_stop : ListsStop
 lists_stop run clocks journal s rules runs = stop_by run clocks journal s s.stop rules runs refl (stops_fit run (Lists clocks) journal s rules runs)

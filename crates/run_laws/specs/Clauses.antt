@@ -24,7 +24,7 @@ pub record KeepsLists (run : Run) (clocks : List ClockState) (journal : List Jou
   pub readings : EachNode run (λ node. IsPrefix (acts node journal) (picks_of run clocks node))
   -- an arrival and a stop show the pick for the start that they belong to
   pub lines : LinesAre run clocks [] journal
-  -- a stop comes only of a message that is not in time, or that is due at an earlier start
+  -- a stop comes only of a message that is not in time, or that is due by a start before the one that it is for
   pub stop : IfSome s.stop (ListStop run clocks s)
   -- where each node is done or has come to its list's end, each round of each link is in time
   pub timely : AllOver run clocks s → EachLink run (λ number. (round : ℕ) → IsTimely run clocks number round)
@@ -38,7 +38,7 @@ pub record KeepsLists (run : Run) (clocks : List ClockState) (journal : List Jou
 pub record KeepsMeetings (run : Run) (journal : List JournalEntry) (s : BusState) : Type 0 where
   -- each line shows its target
   pub lines : ShowTargets run [] journal
-  -- a message that is missed is late, and one that comes early has no delay and is sent at its alarm
+  -- a message that is missed is late and in transit, and one that comes early has no delay and is sent at its alarm
   pub stop : IfSome s.stop (MeetingStop run)
   -- where all nodes are done, no round of a link is late
   pub timely : AllDone run s → (number round : ℕ) → IsLate run number round → ⊥

@@ -51,11 +51,14 @@ pub record IsLate (run : Run) (number round : ℕ) : Type 0 where
 abbrev pub AllDone : Run → BusState → Type 0
 AllDone run s = EachNode run (λ node. (node_at s node).phase ≡ Done)
 
--- a message that is missed is late, and in transit; one that comes early has no delay, and is sent at its alarm
+-- a message that is missed, at the alarm of the round after its own, is late, and in transit; one that comes early, at the alarm of its
+-- own round, has no delay, and is sent at that alarm
 abbrev pub MeetingStop : Run → Stop → Type 0
-MeetingStop run (stop.Missed link round reading cause) = IsLate run link.0 round × (cause ≡ InTransit)
+MeetingStop run (stop.Missed link round reading cause) =
+    IsLate run link.0 round × (cause ≡ InTransit) × (reading ≡ Some (alarm run.design.period (round + 1)))
 MeetingStop run (stop.Early link round reading) =
-    (plan_of run.design (link_at run.design link.0).source.0).release_offset + delay_of run.delays link.0 round ≡ 0
+    ((plan_of run.design (link_at run.design link.0).source.0).release_offset + delay_of run.delays link.0 round ≡ 0)
+    × (reading ≡ Some (alarm run.design.period round))
 
 -- each delay is between the least and the greatest of the bounds
 abbrev pub DelaysFit : Run → Type 0

@@ -1,5 +1,5 @@
 -- With list clocks: the picks of a node's list, and what a journal shows of them.
-use Rattle.std.specs.Prelude.{◌≡◌, ℕ, ◌+◌, ◌≤◌, List, [], ◌∷◌, ◌++◌, length, Option, Some, None, slice_get}
+use Rattle.std.specs.Prelude.{◌≡◌, ℕ, ◌≤◌, List, [], ◌∷◌, ◌++◌, length, Option, Some, None, slice_get}
 use Rattle.pals_base.specs.Picks.{picks}
 use Rattle.pals_clock.specs.Clock.{ClockState}
 use Rattle.pals_model.specs.declared.design.DesignParts.{DesignParts}
