@@ -38,7 +38,7 @@ use Rattle.run_laws.specs.TraceRules.{same_result, is_in_order, falls, is_before
 use Rattle.run_laws.specs.Traces.{Audit, opening_audit, noted, second_entry, audit_event, audit_after, line_broken, is_done, wrong_or, verdict}
 use Rattle.run_laws.specs.Meetings.{AllDone}
 use Rattle.run_laws.specs.Entries.{IsEntryIn}
-use Rattle.run_laws.specs.Histories.{IsOver}
+use Rattle.run_laws.specs.Histories.{IsStoppedOrDone}
 use Rattle.run_laws.proofs.Entries.{lines_tell_entries}
 use Rattle.run_laws.proofs.Forms.{lines_have_forms}
 use Rattle.run_laws.proofs.Missing.{missed_link}
@@ -307,7 +307,7 @@ over_by None done (inl stands) = absurd (stands refl)
 over_by None done (inr all) = ap not all
 over_by (Some why) done over = refl
 
-over_is : (run : Run) (s : BusState) → length s.nodes ≡ length run.design.components → IsOver run s → (is_none s.stop && not (list_all (λ (n : NodeState). is_done n.phase) s.nodes)) ≡ false
+over_is : (run : Run) (s : BusState) → length s.nodes ≡ length run.design.components → IsStoppedOrDone run s → (is_none s.stop && not (list_all (λ (n : NodeState). is_done n.phase) s.nodes)) ≡ false
 over_is run s many (inl stands) = over_by s.stop (list_all (λ (n : NodeState). is_done n.phase) s.nodes) (inl stands)
 over_is run s many (inr done) = over_by s.stop (list_all (λ (n : NodeState). is_done n.phase) s.nodes) (inr (tests_done run s many done))
 

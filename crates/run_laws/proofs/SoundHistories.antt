@@ -34,7 +34,7 @@ use Rattle.run_laws.specs.TraceLines.{Timed, told, timed, has_reading}
 use Rattle.run_laws.specs.TraceRules.{is_line_of, reading_of, broken}
 use Rattle.run_laws.specs.Traces.{report_size, row_size, wrong_row, Audit, opening_audit, noted, second_entry, audit_event, audit_after, line_broken, is_done, end_broken, wrong_or, entry_or, journal_verdict, trace_verdict}
 use Rattle.run_laws.specs.Entries.{IsEntryIn}
-use Rattle.run_laws.specs.Histories.{IsOver}
+use Rattle.run_laws.specs.Histories.{IsStoppedOrDone}
 use Rattle.run_laws.proofs.Entries.{lines_differ}
 use Rattle.run_laws.proofs.ToldLines.{told_are_in}
 use Rattle.run_laws.specs.Histories.{History, opens, goes_on, IsTraceOf}
@@ -185,7 +185,7 @@ done_at [] k all = refl
 done_at (n ∷ ns) zero all = done_phase n.phase (and_parts (is_done n.phase) (list_all (λ (m : NodeState). is_done m.phase) ns) all).0
 done_at (n ∷ ns) (suc k) all = done_at ns k (and_parts (is_done n.phase) (list_all (λ (m : NodeState). is_done m.phase) ns) all).1
 
-over_or : (run : Run) (s : BusState) → (s.stop ≢ None) ⊎ (list_all (λ (n : NodeState). is_done n.phase) s.nodes ≡ true) → IsOver run s
+over_or : (run : Run) (s : BusState) → (s.stop ≢ None) ⊎ (list_all (λ (n : NodeState). is_done n.phase) s.nodes ≡ true) → IsStoppedOrDone run s
 over_or run s (inl stands) = inl stands
 over_or run s (inr all) = inr (λ node within. done_at s.nodes node all)
 
@@ -197,7 +197,7 @@ record IsRest (run : Run) (rows : ℕ) (front : List JournalEntry) (lines : List
   lines_are : lines ≡ map (entry_line run.design) journal
   of_design : All (IsEntryIn run.design) journal
   history : History run (front ++ journal) state
-  over : IsOver run state
+  over : IsStoppedOrDone run state
   rounds_are : rounds ≡ finished_by_all run state
   rows_are : rows ≡ rounds
   stop_is : why ≡ state.stop

@@ -10,7 +10,7 @@ use Rattle.run_laws.specs.Worlds.{World, opening_world, world_after}
 use Rattle.run_laws.specs.Faults.{IsWithin}
 use Rattle.run_laws.specs.proof.Kept.{KeepsTime}
 use Rattle.run_laws.specs.EventLists.{world_left}
-use Rattle.run_laws.specs.proof.Laws.{EventKeepsTime, ArrivalsAreKept, CountsAreClose, ListsAreTimely, ListsKeepArrivals, ListsGoRight}
+use Rattle.run_laws.specs.proof.Laws.{EventKeepsTime, ArrivalsAreKept, CountsAreClose, ListsAreInStep, ListsKeepArrivals, ListsGoRight}
 use Rattle.run_laws.proofs.Nodes.{counts_close}
 use Rattle.run_laws.proofs.Faults.{named, starts_in_time, steps_in_time, finishes_in_time, sends_in_time, arrives_in_time}
 use Rattle.run_laws.proofs.Passes.{passes_in_time, pass_keeps_time}
@@ -45,8 +45,8 @@ left_keeps : (run : Run) (w : World) (before later : List Event) → IsRunOf run
 left_keeps run w [] later rules keeps within = (keeps, within)
 left_keeps run w (e ∷ before) later rules keeps within = left_keeps run (world_after run w e) before later rules (event_keeps_time run w e rules keeps within.0) within.1
 
-pub lists_are_timely : ListsAreTimely
-lists_are_timely run before later rules within =
+pub lists_are_in_step : ListsAreInStep
+lists_are_in_step run before later rules within =
     let w = world_left run (opening_world run) before in
     let keeps = (left_keeps run (opening_world run) before later rules (opening_keeps_time run rules) within).0 in
     record { no_stop = keeps.going; agrees = keeps.agrees; close = counts_close run w rules keeps }
@@ -58,6 +58,6 @@ lists_keep_arrivals run before later link round rules within =
 
 pub lists_go_right : ListsGoRight
 lists_go_right run events rules within = record {
-  timely = λ before later is. lists_are_timely run before later rules (subst (IsWithin run (opening_world run)) is within);
+  in_step = λ before later is. lists_are_in_step run before later rules (subst (IsWithin run (opening_world run)) is within);
   kept = λ before later link round is. lists_keep_arrivals run before later link round rules (subst (IsWithin run (opening_world run)) is within);
 }

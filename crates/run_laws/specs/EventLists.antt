@@ -14,7 +14,7 @@ world_left run w [] = w
 world_left run w (e ∷ events) = world_left run (world_after run w e) events
 
 -- no stop stands, the nodes agree with the composition, and no node has started two rounds more than another
-pub record IsTimely (run : Run) (w : World) : Type 0 where
+pub record IsInStep (run : Run) (w : World) : Type 0 where
   pub no_stop : w.bus.stop ≡ None
   pub agrees : Agrees run w.bus
   pub close : (one other : ℕ) → one < length run.design.components → other < length run.design.components
@@ -22,6 +22,6 @@ pub record IsTimely (run : Run) (w : World) : Type 0 where
 
 -- from the opening on it stands so after each first part of these events, and each message that arrives is kept
 pub record GoRight (run : Run) (events : List Event) : Type 0 where
-  pub timely : (before later : List Event) → events ≡ before ++ later → IsTimely run (world_left run (opening_world run) before)
+  pub in_step : (before later : List Event) → events ≡ before ++ later → IsInStep run (world_left run (opening_world run) before)
   pub kept : (before later : List Event) (link : LinkNo) (round : ℕ) → events ≡ before ++ event.Arrive link round ∷ later
       → arrival run (world_left run (opening_world run) before).bus link round ≡ Kept

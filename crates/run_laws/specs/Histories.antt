@@ -64,8 +64,8 @@ pub data History (run : Run) : List JournalEntry → BusState → Type 0 where
 
 -- ---- traces
 -- a stop stands, or all nodes are done
-abbrev pub IsOver : Run → BusState → Type 0
-IsOver run s = (s.stop ≢ None) ⊎ AllDone run s
+abbrev pub IsStoppedOrDone : Run → BusState → Type 0
+IsStoppedOrDone run s = (s.stop ≢ None) ⊎ AllDone run s
 
 -- the report of the rounds that all nodes have finished, and then the lines of the journal
 abbrev pub trace_of : Run → List JournalEntry → BusState → List (List ℕ)
@@ -79,6 +79,6 @@ pub record IsTraceOf (run : Run) (lines : List (List ℕ)) (rounds : ℕ) (stop 
   pub lines_are : lines ≡ trace_of run journal state
   pub of_design : All (IsEntryIn run.design) journal
   pub history : History run journal state
-  pub over : IsOver run state
+  pub over : IsStoppedOrDone run state
   pub rounds_are : rounds ≡ finished_by_all run state
   pub stop_is : stop ≡ state.stop

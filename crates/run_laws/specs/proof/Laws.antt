@@ -15,7 +15,7 @@ use Rattle.run_laws.specs.Worlds.{World, reading_at, opening_world, world_after}
 use Rattle.run_laws.specs.Deadlines.{node_deadline, message_deadline}
 use Rattle.run_laws.specs.Faults.{fault_of, IsWithin}
 use Rattle.run_laws.specs.proof.Kept.{Flies, IsInSlot, IsTaken, IsNowhere, KeepsTime}
-use Rattle.run_laws.specs.EventLists.{IsTimely, GoRight, world_left}
+use Rattle.run_laws.specs.EventLists.{IsInStep, GoRight, world_left}
 use Rattle.pals_runs.specs.declared.events.Event.TheVariants as event
 
 -- ---- one event
@@ -60,9 +60,9 @@ abbrev pub TimesAreReadings : Type 0
 TimesAreReadings = (run : Run) (w : World) → IsRunOf run → run.rounds ≤ ROUNDS → KeepsTime run w → AreReadings run w
 
 -- ---- a list of events
-abbrev pub ListsAreTimely : Type 0
-ListsAreTimely = (run : Run) (before later : List Event) → IsRunOf run → IsWithin run (opening_world run) (before ++ later)
-    → IsTimely run (world_left run (opening_world run) before)
+abbrev pub ListsAreInStep : Type 0
+ListsAreInStep = (run : Run) (before later : List Event) → IsRunOf run → IsWithin run (opening_world run) (before ++ later)
+    → IsInStep run (world_left run (opening_world run) before)
 
 abbrev pub ListsKeepArrivals : Type 0
 ListsKeepArrivals = (run : Run) (before later : List Event) (link : LinkNo) (round : ℕ) → IsRunOf run

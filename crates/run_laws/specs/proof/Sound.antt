@@ -9,7 +9,7 @@ use Rattle.bus_machine.specs.States.{finished_by_all}
 use Rattle.run_laws.specs.Reports.{lines_of}
 use Rattle.run_laws.specs.Traces.{verdict}
 use Rattle.run_laws.specs.proof.Each.{InRuns}
-use Rattle.run_laws.specs.Histories.{IsOver, trace_of}
+use Rattle.run_laws.specs.Histories.{IsStoppedOrDone, trace_of}
 use Rattle.run_laws.specs.Runs.{clock_at}
 
 -- no reading of a list is greater than a reading may be
@@ -19,7 +19,7 @@ AreReadings (Lists clocks) = (node : ℕ) → All (λ reading. reading ≤ READI
 
 -- the trace of a run that is over is sound
 abbrev pub RunsAreSound : Type 0
-RunsAreSound = InRuns (λ run clocks journal s. run.rounds ≤ ROUNDS → AreReadings clocks → IsOver run s
+RunsAreSound = InRuns (λ run clocks journal s. run.rounds ≤ ROUNDS → AreReadings clocks → IsStoppedOrDone run s
     → verdict run (trace_of run journal s) ≡ Sound (finished_by_all run s) s.stop)
 
 -- the text of the trace of a run has the trace's lines

@@ -16,7 +16,7 @@ use Rattle.run_laws.specs.Traces.{verdict}
 use Rattle.run_laws.specs.proof.Each.{InRuns}
 use Rattle.run_laws.specs.proof.Hours.{LinesRise}
 use Rattle.run_laws.specs.proof.Sound.{AreReadings}
-use Rattle.run_laws.specs.Histories.{History, IsOver, IsTraceOf, trace_of}
+use Rattle.run_laws.specs.Histories.{History, IsStoppedOrDone, IsTraceOf, trace_of}
 use Rattle.pals_runs.specs.declared.journal.Stop.TheVariants as stop
 use Rattle.pals_runs.specs.declared.journal.JournalEntry.TheVariants as entry
 
@@ -75,7 +75,7 @@ RunsAreHistories = InRuns (λ run clocks journal s. History run journal s)
 
 -- the trace of each run of nodes that keep to their clocks is one, where the run is over
 abbrev pub RunsAreTraces : Type 0
-RunsAreTraces = InRuns (λ run clocks journal s. run.rounds ≤ ROUNDS → AreReadings clocks → IsOver run s
+RunsAreTraces = InRuns (λ run clocks journal s. run.rounds ≤ ROUNDS → AreReadings clocks → IsStoppedOrDone run s
     → IsTraceOf run (trace_of run journal s) (finished_by_all run s) s.stop)
 
 -- ---- lines
