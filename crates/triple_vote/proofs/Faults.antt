@@ -9,7 +9,8 @@ use Rattle.pals_model.specs.Inputs.{rate_of}
 use Rattle.pals_runs.specs.declared.pairs.VoteFault.{VoteFault}
 use Rattle.triple_vote.specs.Votes.{votes}
 use Rattle.triple_vote.specs.Replicas.{source_in, is_fault, fault_or, vote_of}
-use Rattle.triple_vote.specs.proof.Laws.{IsFault, AreFaults, AreOutvoted, OneNamedIsOutvoted}
+use Rattle.triple_vote.specs.Outvoted.{AreOutvoted}
+use Rattle.triple_vote.specs.proof.Laws.{IsFault, AreFaults, OneNamedIsOutvoted}
 use Rattle.triple_vote.proofs.Agreeing.{votes-first_two, votes-outer_two, votes-last_two}
 use Rattle.triple_vote.proofs.Tables.{found}
 

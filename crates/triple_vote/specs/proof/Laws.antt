@@ -15,6 +15,7 @@ use Rattle.pals_model.specs.RoundTexts.{report}
 use Rattle.triple_vote.specs.Votes.{vote}
 use Rattle.triple_vote.specs.Replicas.{source_in, is_replicated, copies_of, Voted, frame_at, received_at, vcomp, vshown}
 use Rattle.triple_vote.specs.VotedText.{vreport, thrice}
+use Rattle.triple_vote.specs.Outvoted.{AreOutvoted}
 use Rattle.triple_vote.specs.proof.States.{vstate_after}
 
 -- ---- the vote of three: what two agree on wins, and where no two agree it is absent
@@ -37,12 +38,7 @@ AreFaults design faults = (round : ℕ) → All (IsFault design) (faults round)
 abbrev pub NameOneEach : (ℕ → List VoteFault) → Type 0
 NameOneEach faults = (m n : ℕ) (f g : VoteFault) → Contains (faults m) f → Contains (faults n) g → f.source.0 ≡ g.source.0 → f.replica ≡ g.replica
 
--- it is enough that no two replicas are at fault towards one reader in one round
-abbrev pub AreOutvoted : (ℕ → List VoteFault) → Type 0
-AreOutvoted faults =
-    (round : ℕ) (f g : VoteFault) → Contains (faults round) f → Contains (faults round) g
-    → f.link.0 ≡ g.link.0 → f.target_replica ≡ g.target_replica → f.replica ≡ g.replica
-
+-- where it is so, no two replicas are at fault towards one reader in one round
 abbrev pub OneNamedIsOutvoted : Type 0
 OneNamedIsOutvoted = (design : DesignParts) (faults : ℕ → List VoteFault) → AreFaults design faults → NameOneEach faults → AreOutvoted faults
 

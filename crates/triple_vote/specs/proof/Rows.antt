@@ -9,7 +9,8 @@ use Rattle.pals_runs.specs.declared.pairs.VoteFault.{VoteFault}
 use Rattle.pals_model.specs.RoundTexts.{line_end}
 use Rattle.triple_vote.specs.Replicas.{Voted, vcomp}
 use Rattle.triple_vote.specs.VotedText.{vreport}
-use Rattle.triple_vote.specs.proof.Laws.{AreFaults, NameOneEach, AreOutvoted}
+use Rattle.triple_vote.specs.Outvoted.{AreOutvoted}
+use Rattle.triple_vote.specs.proof.Laws.{AreFaults, NameOneEach}
 
 -- a replica of p.a sends 100 on p.b.i
 abbrev pub liar : ℕ → VoteFault
