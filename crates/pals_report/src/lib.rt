@@ -31,6 +31,7 @@ pub use cursor::Cursor;
 pub use design_report::add_check;
 pub use entries::add_entry;
 pub use event_faults::add_event_fault;
+pub use lines::{add_feeds, add_links, add_taps};
 pub use package_faults::add_flat_fault;
 pub use parts::RoundParts;
 pub use report::{add_frame, add_part, add_round, add_row, add_shown, add_tap};

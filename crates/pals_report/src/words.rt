@@ -22,6 +22,8 @@ pub enum Word<'a> {
     Wide(u128),
     /// A number in decimal, with `-` where it is negative.
     Signed(i64),
+    /// The name of a loop's slot: `#` and its number among the slots of loops.
+    LoopSlot(u64),
     /// The name of an in port: a path, `.` and a name.
     Port(&'a [u8], &'a [u8]),
     /// A tuple of values of one type.
@@ -38,6 +40,10 @@ fn add_word(out: &mut Vec<u8>, word: Word<'_>) -> Result<(), NoMemory>
         Word::Number(number) => out.extend_from_slice(Buffer::new().format(number).as_bytes()),
         Word::Wide(number) => out.extend_from_slice(Buffer::new().format(number).as_bytes()),
         Word::Signed(number) => out.extend_from_slice(Buffer::new().format(number).as_bytes()),
+        Word::LoopSlot(number) => {
+            out.extend_from_slice(b"#")?;
+            out.extend_from_slice(Buffer::new().format(number).as_bytes())
+        }
         Word::Port(path, name) => {
             out.extend_from_slice(path)?;
             out.extend_from_slice(b".")?;

@@ -3,12 +3,13 @@ use Rattle.std.specs.Prelude.{ℕ, codes, decimal, List, ◌++◌}
 use Rattle.std.specs.Fmt.{signed_decimal}
 use Rattle.pals_model.specs.RoundTexts.{tuple_text}
 use Rattle.pals_report.specs.declared.words.Word.{Word}
-use Rattle.pals_report.specs.declared.words.Word.TheVariants.{Bytes, Number, Wide, Signed, Port, Tuple}
+use Rattle.pals_report.specs.declared.words.Word.TheVariants.{Bytes, Number, Wide, Signed, LoopSlot, Port, Tuple}
 
 abbrev pub word_text : Word → List ℕ
 word_text (Bytes bytes) = bytes.now
 word_text (Number number) = decimal number
 word_text (Wide number) = decimal number
 word_text (Signed number) = signed_decimal number
+word_text (LoopSlot number) = codes "#" ++ decimal number
 word_text (Port path name) = path.now ++ codes "." ++ name.now
 word_text (Tuple kind tuple) = tuple_text kind tuple.now

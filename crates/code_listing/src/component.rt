@@ -1,0 +1,182 @@
+//! The lines on a component: its rate, what it declares, its states and its code.
+ghost use Rattle.std.specs.Prelude.{◌≡◌, ◌++◌, map, OnOk, OnErr};
+ghost use Rattle.pals_model.specs.RoundTexts.{line_end, text_of};
+ghost use Rattle.pals_report.specs.proof.Appended.{BeginsWith};
+ghost use Rattle.pals_report.specs.proof.Words.{word_text};
+ghost use Rattle.code_listing.specs.Listings.{kind_word, number_line, initial_line, rate_lines, port_line, variable_line, declared_lines, state_line, state_lines, code_lines, component_lines};
+
+use crate::instr::add_instrs;
+use crate::names::state_word;
+use pals_base::{BehaviourParts, Kind, Named, NoMemory, StateDecl, VarDecl};
+use pals_model::{Component, DesignParts};
+use pals_report::{Word, add_line};
+use step_code::{Code, most};
+
+/// Adds the lines of a component of a design with its code.
+pub fn add_component(
+    out: &mut Vec<u8>,
+    design: &DesignParts,
+    component: &Component,
+    code: &Code,
+) -> Result<(), NoMemory>
+    ensures ok { OnOk result (out.new.items
+        ≡ out.old.items ++ text_of (component_lines design.now component.now code.now)) }
+    ensures err { OnErr result (BeginsWith out.new.items out.old.items) }
+{
+    let behaviour = component.behaviour.parts();
+    add_rate(out, design, component)?;
+    add_declared(out, behaviour)?;
+    add_code(out, behaviour, code)
+}
+
+// Its path, its rate, how many of its steps a message carries, and when it may send.
+fn add_rate(out: &mut Vec<u8>, design: &DesignParts, component: &Component) -> Result<(), NoMemory>
+    ensures ok { OnOk result
+        (out.new.items ≡ out.old.items ++ text_of (rate_lines design.now component.now)) }
+    ensures err { OnErr result (BeginsWith out.new.items out.old.items) }
+{
+    let rate = component.rate;
+    let sent = design.gamma.sent_steps(design.period, rate);
+    let release = design.gamma.release_offset(design.period, rate);
+    let path = component.path.as_bytes();
+    add_line(out, &[Word::Bytes(b"component"), Word::Bytes(path)])?;
+    add_number(out, b"rate", u128::from(rate))?;
+    add_number(out, b"sent", u128::from(sent))?;
+    add_number(out, b"release", release)
+}
+
+// Its ports and variables.
+fn add_declared(out: &mut Vec<u8>, behaviour: &BehaviourParts) -> Result<(), NoMemory>
+    ensures ok { OnOk result
+        (out.new.items ≡ out.old.items ++ text_of (declared_lines behaviour.now)) }
+    ensures err { OnErr result (BeginsWith out.new.items out.old.items) }
+{
+    add_ports(out, b"in", behaviour.ins.as_slice())?;
+    add_ports(out, b"out", behaviour.outs.as_slice())?;
+    add_variables(out, behaviour.vars.as_slice())
+}
+
+// Its slots for loops, its states, how many instructions a step takes at most, and all of them.
+fn add_code(out: &mut Vec<u8>, behaviour: &BehaviourParts, code: &Code) -> Result<(), NoMemory>
+    ensures ok { OnOk result
+        (out.new.items ≡ out.old.items ++ text_of (code_lines behaviour.now code.now)) }
+    ensures err { OnErr result (BeginsWith out.new.items out.old.items) }
+{
+    let parts = code.parts();
+    let instrs = parts.instrs.as_slice();
+    add_number(out, b"loops", u128::from(parts.loops))?;
+    add_states(out, behaviour.states.as_slice(), parts.entries.as_slice())?;
+    add_initial(out, behaviour)?;
+    add_number(out, b"most", u128::from(most(code)))?;
+    add_number(out, b"code", instrs.len() as u128)?;
+    add_instrs(out, behaviour, instrs)
+}
+
+// A line of a word and a number.
+fn add_number(out: &mut Vec<u8>, word: &[u8], number: u128) -> Result<(), NoMemory>
+    ensures ok { OnOk result
+        (out.new.items ≡ out.old.items ++ number_line word.now number ++ line_end) }
+    ensures err { OnErr result (out.new.items ≡ out.old.items) }
+{
+    let indent = Word::Bytes(b"");
+    add_line(out, &[indent, Word::Bytes(word), Word::Wide(number)])
+}
+
+fn kind_word(kind: Kind) -> Word<'static>
+    ensures { word_text result ≡ kind_word kind }
+{
+    match kind {
+        Kind::Integer => Word::Bytes(b"Integer"),
+        Kind::Boolean => Word::Bytes(b"Boolean"),
+    }
+}
+
+fn add_port(out: &mut Vec<u8>, word: &[u8], port: &Named) -> Result<(), NoMemory>
+    ensures ok { OnOk result
+        (out.new.items ≡ out.old.items ++ port_line word.now port.now ++ line_end) }
+    ensures err { OnErr result (out.new.items ≡ out.old.items) }
+{
+    let indent = Word::Bytes(b"");
+    let name = Word::Bytes(port.name.as_bytes());
+    add_line(
+        out,
+        &[indent, Word::Bytes(word), name, kind_word(port.kind)],
+    )
+}
+
+fn add_ports(out: &mut Vec<u8>, word: &[u8], ports: &[Named]) -> Result<(), NoMemory>
+    ensures ok { OnOk result
+        (out.new.items ≡ out.old.items ++ text_of (map (port_line word.now) ports.now)) }
+    ensures err { OnErr result (BeginsWith out.new.items out.old.items) }
+{
+    for port in ports {
+        add_port(out, word, port)?;
+    }
+    Ok(())
+}
+
+fn add_variable(out: &mut Vec<u8>, variable: &VarDecl) -> Result<(), NoMemory>
+    ensures ok { OnOk result
+        (out.new.items ≡ out.old.items ++ variable_line variable.now ++ line_end) }
+    ensures err { OnErr result (out.new.items ≡ out.old.items) }
+{
+    let indent = Word::Bytes(b"");
+    let name = Word::Bytes(variable.name.as_bytes());
+    let kind = kind_word(variable.kind);
+    let first = Word::Signed(variable.first);
+    add_line(out, &[indent, Word::Bytes(b"var"), name, kind, first])
+}
+
+fn add_variables(out: &mut Vec<u8>, variables: &[VarDecl]) -> Result<(), NoMemory>
+    ensures ok { OnOk result
+        (out.new.items ≡ out.old.items ++ text_of (map variable_line variables.now)) }
+    ensures err { OnErr result (BeginsWith out.new.items out.old.items) }
+{
+    for variable in variables {
+        add_variable(out, variable)?;
+    }
+    Ok(())
+}
+
+// A state, and where the steps of a complete one begin.
+fn add_state(out: &mut Vec<u8>, state: &StateDecl, entry: Option<u32>) -> Result<(), NoMemory>
+    ensures ok { OnOk result
+        (out.new.items ≡ out.old.items ++ state_line state.now entry ++ line_end) }
+    ensures err { OnErr result (out.new.items ≡ out.old.items) }
+{
+    let indent = Word::Bytes(b"");
+    let first = Word::Bytes(b"state");
+    let name = Word::Bytes(state.name.as_bytes());
+    match entry {
+        None => add_line(out, &[indent, first, name, Word::Bytes(b"passing")]),
+        Some(place) => {
+            let place = Word::Number(u64::from(place));
+            add_line(out, &[indent, first, name, Word::Bytes(b"entry"), place])
+        }
+    }
+}
+
+fn add_states(
+    out: &mut Vec<u8>,
+    states: &[StateDecl],
+    entries: &[Option<u32>],
+) -> Result<(), NoMemory>
+    ensures ok { OnOk result
+        (out.new.items ≡ out.old.items ++ text_of (state_lines states.now entries.now)) }
+    ensures err { OnErr result (BeginsWith out.new.items out.old.items) }
+{
+    for (state, entry) in states.iter().zip(entries) {
+        add_state(out, state, *entry)?;
+    }
+    Ok(())
+}
+
+fn add_initial(out: &mut Vec<u8>, behaviour: &BehaviourParts) -> Result<(), NoMemory>
+    ensures ok { OnOk result
+        (out.new.items ≡ out.old.items ++ initial_line behaviour.now ++ line_end) }
+    ensures err { OnErr result (out.new.items ≡ out.old.items) }
+{
+    let indent = Word::Bytes(b"");
+    let state = state_word(behaviour.states.as_slice(), behaviour.initial);
+    add_line(out, &[indent, Word::Bytes(b"initial"), state])
+}

@@ -1,0 +1,34 @@
+//! The lines on a design: its period and its bounds.
+ghost use Rattle.std.specs.Prelude.{◌≡◌, ◌++◌, OnOk, OnErr};
+ghost use Rattle.pals_model.specs.RoundTexts.{line_end, text_of};
+ghost use Rattle.pals_report.specs.proof.Appended.{BeginsWith};
+ghost use Rattle.code_listing.specs.Listings.{range_line, design_lines};
+
+use pals_base::{Nanos, NoMemory};
+use pals_model::DesignParts;
+use pals_report::{Word, add_line};
+
+/// Adds the line that begins a listing, and those of the period and the bounds, in nanoseconds.
+pub fn add_bounds(out: &mut Vec<u8>, design: &DesignParts) -> Result<(), NoMemory>
+    ensures ok { OnOk result (out.new.items ≡ out.old.items ++ text_of (design_lines design.now)) }
+    ensures err { OnErr result (BeginsWith out.new.items out.old.items) }
+{
+    let gamma = &design.gamma;
+    add_line(out, &[Word::Bytes(b"pals-code"), Word::Number(1)])?;
+    add_line(out, &[Word::Bytes(b"period"), Word::Number(design.period)])?;
+    add_line(out, &[Word::Bytes(b"skew"), Word::Number(gamma.eps)])?;
+    add_range(out, b"execution", gamma.alpha_min, gamma.alpha_max)?;
+    add_range(out, b"network", gamma.mu_min, gamma.mu_max)
+}
+
+// The line of what takes at least, and at most, so long.
+fn add_range(out: &mut Vec<u8>, word: &[u8], least: Nanos, most: Nanos) -> Result<(), NoMemory>
+    ensures ok { OnOk result
+        (out.new.items ≡ out.old.items ++ range_line word.now least most ++ line_end) }
+    ensures err { OnErr result (out.new.items ≡ out.old.items) }
+{
+    add_line(
+        out,
+        &[Word::Bytes(word), Word::Number(least), Word::Number(most)],
+    )
+}

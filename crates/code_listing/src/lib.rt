@@ -1,0 +1,10 @@
+//! The listing of a design's step code: all that its nodes need to run, as a text.
+#![tactic(auto)]
+
+mod component;
+mod design;
+mod instr;
+mod listing;
+mod names;
+
+pub use listing::add_listing;

@@ -1,0 +1,57 @@
+//! The answer to a bundle.
+ghost use Rattle.std.specs.Prelude.{◌≡◌, ◌++◌, ℕ, List, IfOk};
+ghost use Rattle.pals_model.specs.RoundTexts.{line_end};
+ghost use Rattle.bundle_designs.specs.Accepted.{IsAccepted};
+ghost use Rattle.pals_code.specs.declared.status.TheConstants.{CODE_TOO_LONG};
+ghost use Rattle.pals_code.specs.Bundles.{code_fault_line, IsListingAnswer};
+ghost use Rattle.pals_code.specs.proof.Statuses.{status_of, text_of, Says};
+
+use crate::answer::Answer;
+use bundle_designs::accept;
+use code_listing::add_listing;
+use design_codes::{CodesEnd, compile_all};
+use pals_base::{NoMemory, NodeNo, Text};
+use pals_model::Design;
+use pals_report::add_code_fault;
+use std::alloc::{AllocError, Global};
+
+/// The answer to a bundle: the listing of the step code of its design below the root. What stands
+/// behind the divider is not looked at.
+pub fn answer_bundle(alloc: Global, bundle: &[u8], root: &Text) -> Result<Answer, NoMemory>
+    ensures { IfOk result (λ answer. IsListingAnswer root.now bundle.now (status_of answer) (text_of answer)) }
+{
+    match accept(alloc, bundle, root) {
+        Ok(accepted) => answer_design(alloc, &accepted.design),
+        Err(refusal) => Answer::refused(refusal),
+    }
+}
+
+// The answer to a bundle that means this design.
+fn answer_design(alloc: Global, design: &Design) -> Result<Answer, NoMemory>
+    ensures { (root : List ℕ) (bundle : List ℕ) (scenario : List ℕ) → IsAccepted root bundle design.now scenario
+        → IfOk result (λ answer. IsListingAnswer root bundle (status_of answer) (text_of answer)) }
+{
+    match compile_all(alloc, design) {
+        Ok(codes) => {
+            let mut listing = Vec::new(alloc);
+            add_listing(&mut listing, design, codes.as_slice())?;
+            Ok(Answer::Done(listing))
+        }
+        Err(CodesEnd::TooLong { node, length }) => code_too_long(alloc, design, node, length),
+        Err(CodesEnd::Memory) => Err(AllocError),
+    }
+}
+
+// The answer to a design with a component whose code is too long.
+fn code_too_long(
+    alloc: Global,
+    design: &Design,
+    node: NodeNo,
+    length: u64,
+) -> Result<Answer, NoMemory>
+    ensures { IfOk result (Says CODE_TOO_LONG (code_fault_line design.now node.0 length ++ line_end)) }
+{
+    let mut line = Vec::new(alloc);
+    add_code_fault(&mut line, design, node, length)?;
+    Ok(Answer::CodeTooLong(line))
+}
