@@ -17,8 +17,9 @@ use Rattle.pals_model.specs.declared.design.DesignParts.{DesignParts}
 use Rattle.pals_model.specs.declared.rounds.Env.{Env}
 use Rattle.pals_model.specs.Rules.{IsDesign}
 use Rattle.round_budget.specs.Budgets.{Release, Served, releases, in_order, precedes, serve, most_of, most_in, by_most}
-use Rattle.round_budget.specs.proof.Budgets.{response, made_in, frame_before, inputs_at, by_exec}
-use Rattle.round_budget.specs.proof.Laws.{AreMembers, IsWithinBudget, AreAtMost, EachIsServed, ServedOnce, ServedInOrder, NoneBeginsEarly, OneAtATime, ResponsesFit, MostResponsesFit, ExecResponsesFit, RoundsAreApart}
+use Rattle.round_budget.specs.Responses.{response, AreAtMost}
+use Rattle.round_budget.specs.proof.Budgets.{made_in, frame_before, inputs_at, by_exec}
+use Rattle.round_budget.specs.proof.Laws.{AreMembers, IsWithinBudget, EachIsServed, ServedOnce, ServedInOrder, NoneBeginsEarly, OneAtATime, ResponsesFit, MostResponsesFit, ExecResponsesFit, RoundsAreApart}
 use Rattle.round_budget.proofs.Elements.{every_weaker, every_both, Pairs, pairs_weaker, pairs_both, all_pairs_from, Member, member_of, contains_of}
 use Rattle.round_budget.proofs.Orders.{NotAfter, every_in_order, pairs_in_order, sorted_in_order, length_in_order, member_in_order, in_order_member, strict_numbers}
 use Rattle.round_budget.proofs.Weights.{one_le}

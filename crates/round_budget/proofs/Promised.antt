@@ -7,7 +7,8 @@ use Rattle.pals_model.specs.declared.design.DesignParts.{DesignParts}
 use Rattle.pals_model.specs.Rules.{IsDesign}
 use Rattle.round_budget.specs.proof.Laws.{AreMembers, IsWithinBudget}
 use Rattle.round_budget.specs.Budgets.{total, fits}
-use Rattle.round_budget.proofs.BudgetLaws.{most_responses_fit, exec_responses_fit}
+use Rattle.round_budget.specs.Responses.{RespondInTime}
+use Rattle.round_budget.proofs.BudgetLaws.{responses_fit, most_responses_fit, exec_responses_fit, rounds_are_apart}
 use Rattle.round_budget.proofs.Repeating.{timetable_repeats}
 use Rattle.round_budget.specs.proof.Promises.{AllRespond, TimetableIsEach}
 
@@ -28,3 +29,11 @@ all_respond design codes nanos members sound some budgeted = record {
 pub timetable_is_each : (design : DesignParts) (codes : List CodeParts) (nanos : ℕ) (members : List ℕ) → IsDesign design
     → IsWithinBudget design codes nanos members → TimetableIsEach design codes nanos members
 timetable_is_each design codes nanos members sound budgeted rounds = timetable_repeats design codes nanos members rounds sound budgeted
+
+-- whatever the steps make up to the weights of their codes
+pub respond_in_time : (design : DesignParts) (codes : List CodeParts) (nanos : ℕ) (members : List ℕ) → IsDesign design
+    → IsWithinBudget design codes nanos members → RespondInTime design codes nanos members
+respond_in_time design codes nanos members sound budgeted rounds count most = record {
+  responses = responses_fit design codes nanos members rounds count sound budgeted most;
+  rounds = rounds_are_apart design codes nanos members rounds count sound budgeted most;
+}

@@ -1,3 +1,4 @@
 pub mod Budgets
 pub mod BudgetText
+pub mod Responses
 pub mod proof

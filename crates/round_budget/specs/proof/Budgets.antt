@@ -1,5 +1,5 @@
 -- What one processor makes, step by step, and the lines of a round in any order.
-use Rattle.std.specs.Prelude.{ℕ, ◌-◌, List, [], Option, Some, None, slice_get, slice_index_or}
+use Rattle.std.specs.Prelude.{ℕ, List, [], Option, Some, None, slice_get, slice_index_or}
 use Rattle.pals_base.specs.declared.values.Frame.{Frame}
 use Rattle.pals_base.specs.declared.values.Port.{Port}
 use Rattle.pals_base.specs.Bound.{alarm}
@@ -11,10 +11,6 @@ use Rattle.pals_model.specs.declared.rounds.Env.{Env}
 use Rattle.pals_model.specs.Inputs.{feed}
 use Rattle.pals_model.specs.Composition.{comp, no_frame, own_steps_so_far}
 use Rattle.round_budget.specs.Budgets.{Served, Release, Line, line_from}
-
--- how long after its release a step is done
-abbrev pub response : Served → ℕ
-response s = s.done - s.release.time
 
 abbrev pub frame_before : DesignParts → Env → Release → Option Component → Frame
 frame_before design env x None = no_frame

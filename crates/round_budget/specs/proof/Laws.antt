@@ -11,8 +11,9 @@ use Rattle.pals_model.specs.declared.rounds.Env.{Env}
 use Rattle.pals_model.specs.Rules.{IsDesign}
 use Rattle.step_compiler.specs.LaidOut.{AreLaidOut}
 use Rattle.round_budget.specs.BudgetText.{Processor, some_is_over, budget_text}
-use Rattle.round_budget.specs.Budgets.{Release, Served, releases, precedes, budget, most_of, by_most, total, timetable}
-use Rattle.round_budget.specs.proof.Budgets.{response, by_exec, line_in_round}
+use Rattle.round_budget.specs.Budgets.{Release, Served, releases, precedes, budget, by_most, total, timetable}
+use Rattle.round_budget.specs.Responses.{response, AreAtMost}
+use Rattle.round_budget.specs.proof.Budgets.{by_exec, line_in_round}
 
 -- the members of a processor: components of the design, rising
 pub record AreMembers (design : DesignParts) (members : List ℕ) : Type 0 where
@@ -51,10 +52,6 @@ OneAtATime = (design : DesignParts) (members : List ℕ) (rounds nanos : ℕ) (c
     AllPairs (λ s t. s.done ≤ t.begin) (budget design members rounds nanos count)
 
 -- ---- responses
--- counts of at most what the codes weigh
-abbrev pub AreAtMost : List CodeParts → List ℕ → (Release → ℕ) → Type 0
-AreAtMost codes members count = (x : Release) → Contains members x.node → count x ≤ most_of codes x.node
-
 -- each step is done by the longest execution after its release, whatever it takes up to the weight of its code
 abbrev pub ResponsesFit : Type 0
 ResponsesFit =

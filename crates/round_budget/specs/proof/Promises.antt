@@ -5,7 +5,8 @@ use Rattle.step_code.specs.declared.instr.CodeParts.{CodeParts}
 use Rattle.pals_model.specs.declared.design.DesignParts.{DesignParts}
 use Rattle.pals_model.specs.declared.rounds.Env.{Env}
 use Rattle.round_budget.specs.Budgets.{budget, by_most, total, fits, timetable}
-use Rattle.round_budget.specs.proof.Budgets.{response, by_exec, line_in_round}
+use Rattle.round_budget.specs.Responses.{response}
+use Rattle.round_budget.specs.proof.Budgets.{by_exec, line_in_round}
 use Rattle.round_budget.specs.declared.timetables.BudgetEnd.{BudgetEnd}
 use Rattle.round_budget.specs.declared.timetables.BudgetEnd.TheVariants.{Over, Memory}
 
