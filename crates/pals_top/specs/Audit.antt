@@ -20,14 +20,9 @@ is_sound (Wrong index rule) = false
 abbrev pub SaysVerdict : DesignParts → Verdict → ℕ → List ℕ → Type 0
 SaysVerdict design v status text = (status ≡ (if is_sound v then DONE else NOT_SO)) × (text ≡ verdict_line design v ++ line_end)
 
--- the trace is that of a history which is over, and the text names its rounds and its stop
-pub record SaysTrace (design : DesignParts) (scenario : Scenario) (text : List ℕ) : Type 0 where
-  pub rounds : ℕ
-  pub stop : Option Stop
-  pub is_trace : IsTraceOf (run_of design scenario) scenario.trace rounds stop
-  pub text_is : text ≡ verdict_line design (Sound rounds stop) ++ line_end
-
--- the verdict on the scenario's trace; it is sound exactly where the trace is that of a history which is over
+-- the verdict on the scenario's trace. It is sound, with a number of rounds and a stop, exactly where the trace is that of a history
+-- which is over: all nodes have finished so many rounds, and it stands at that stop
 pub record IsAudited (design : DesignParts) (scenario : Scenario) (status : ℕ) (text : List ℕ) : Type 0 where
   pub judged : SaysVerdict design (verdict (run_of design scenario) scenario.trace) status text
-  pub sound : (status ≡ DONE) ↔ SaysTrace design scenario text
+  pub sound : (rounds : ℕ) (stop : Option Stop)
+      → (verdict (run_of design scenario) scenario.trace ≡ Sound rounds stop) ↔ IsTraceOf (run_of design scenario) scenario.trace rounds stop
