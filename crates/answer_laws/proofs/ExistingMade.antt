@@ -16,6 +16,7 @@ use Rattle.pals_top.specs.Executions.{Makes as executes}
 use Rattle.pals_top.specs.proof.Executions.{HasEvents}
 use Rattle.pals_top.specs.Worlds.{world_of}
 use Rattle.pals_top.proofs.Audits.{audit_of}
+use Rattle.pals_top.proofs.Budgets.{all_in_time}
 use Rattle.pals_top.proofs.LooseWorlds.{rules_of}
 use Rattle.answer_laws.proofs.ExistingLaws.{ExistenceLaws}
 use Rattle.answer_laws.proofs.ExistingLayouts.{has_codes}
@@ -63,10 +64,11 @@ by_audit : (design : DesignParts) (scenario : Scenario) → IsDesign design → 
 by_audit design scenario rules suits = (_, _, audit_of design scenario _ _ (rules_of design scenario rules suits) (refl, refl))
 
 module _ (laws : ExistenceLaws) where
-  by_budget : (design : DesignParts) (scenario : Scenario) → IsDesign design → IsMadeByExecution Budget design scenario
-  by_budget design scenario rules =
+  by_budget : (design : DesignParts) (scenario : Scenario) → IsDesign design → IsScenarioOf design scenario → IsMadeByExecution Budget design scenario
+  by_budget design scenario rules suits =
       let codes = has_codes laws.layout design rules in
-      (_, _, record { programs = codes.0; laid_out = codes.1; status_is = refl; text_is = refl })
+      let in_time = all_in_time design codes.0 scenario rules suits in
+      (_, _, record { programs = codes.0; laid_out = codes.1; status_is = refl; text_is = refl; in_time = in_time })
 
   pub by_execution : (what : Execution) (design : DesignParts) (scenario : Scenario) → IsDesign design → IsScenarioOf design scenario → HasEvents what design scenario
       → IsMadeByExecution what design scenario
@@ -74,4 +76,4 @@ module _ (laws : ExistenceLaws) where
   by_execution LooseWorld design scenario rules suits events = by_loose_world design scenario events
   by_execution (Run trace) design scenario rules suits events = run_answer laws.ends laws.ends_named design scenario trace rules suits
   by_execution Audit design scenario rules suits events = by_audit design scenario rules suits
-  by_execution Budget design scenario rules suits events = by_budget design scenario rules
+  by_execution Budget design scenario rules suits events = by_budget design scenario rules suits

@@ -5,3 +5,4 @@ pub mod LooseWorlds
 mod Refusals
 mod Scenarios
 pub mod Audits
+pub mod Budgets

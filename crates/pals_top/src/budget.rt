@@ -8,6 +8,7 @@ ghost use Rattle.pals_top.specs.Budget.{IsBudgeted};
 ghost use Rattle.pals_top.specs.proof.Statuses.{status_of, text_of};
 
 use crate::answer::Answer;
+use crate::loose::keeps_rules;
 use analysis_texts::budget;
 use pals_base::NoMemory;
 use pals_model::Design;
@@ -27,6 +28,7 @@ pub fn answer_budget(
     requires kept { IsScenarioOf design.now scenario.now }
     ensures { IfOk result (λ answer. IsBudgeted design.now scenario.now (status_of answer) (text_of answer)) }
 {
+    keeps_rules(design);
     let budgets = budget(alloc, design, codes, scenario.processors.as_slice())?;
     Ok(Answer::judged(budgets.text, !budgets.over))
 }
