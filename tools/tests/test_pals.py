@@ -175,6 +175,22 @@ def test_pals_answers_with_what_is_carried():
         expect("not built" in pals(folder, "--version")[1], True, "the version of other sources")
 
 
+def test_each_source_counts():
+    """The sum of the sources is another one with any change in a crate that the program stands on, and with no other."""
+    with tempfile.TemporaryDirectory() as folder:
+        small_tree(folder)
+        first = pals(folder, "--sources")[1]
+        for crate, counts in (("pals_cli", True), ("pals_base", True), ("case_files", False)):
+            path = f"{folder}/crates/{crate}/src/lib.rt"
+            kept = read(path)
+            with open(path, "ab") as file:
+                file.write(b"// more\n")
+            expect(pals(folder, "--sources")[1] != first, counts, f"a change in {crate}")
+            with open(path, "wb") as file:
+                file.write(kept)
+        expect(pals(folder, "--sources")[1], first, "the sum of the same sources")
+
+
 def test_pals_takes_no_other_program():
     """A carried program of another machine, with other bytes than its sum, or broken, is left alone."""
     with tempfile.TemporaryDirectory() as folder:
