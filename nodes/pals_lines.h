@@ -1,0 +1,46 @@
+/* Records of a node as lines of a trace. Nothing is called and no memory is taken. A node that has no room for text may
+   hand its records on as they are, and have lines made of them elsewhere. */
+#ifndef PALS_LINES_H
+#define PALS_LINES_H
+#include "pals_node.h"
+
+/* A variable, and a root out port with the out port that it shows; `number` counts the root's out ports. */
+typedef struct {
+    const char *name;
+    bool boolean;
+} pals_variable;
+
+typedef struct {
+    const char *name;
+    uint32_t port;
+    bool boolean;
+    uint32_t number;
+} pals_tap;
+
+/* What lines need of a component beside what its node needs. */
+typedef struct pals_names {
+    const char *const *states;
+    const pals_variable *variables;
+    uint32_t taps;
+    const pals_tap *tap;
+    int32_t (*state)(const void *frame, int32_t *halt);
+    int64_t (*value)(const void *frame, uint32_t variable);
+} pals_names;
+
+/* The bytes of a line at most: a path, a state and 64 variables, each with a name of 64 bytes and 20 digits; and the
+   zero byte behind it. */
+enum { PALS_LINE = 8192 };
+
+/* Each call puts a line into `to`, without a line end and with a zero byte behind it, and gives its length. */
+
+/* A record but PALS_ROW; `link` is the name of its link, PATH.PORT of the in port that it goes to. The cause of a
+   missed message is left out, since no node knows it. */
+uint32_t pals_line(char to[PALS_LINE], const pals_node *node, const pals_record *record, const char *link);
+
+/* What a round has left: PATH STATE NAME=VALUE .. */
+uint32_t pals_row(char to[PALS_LINE], const pals_node *node);
+
+/* What a root out port shows of a round: out NAME (VALUE,..) */
+uint32_t pals_out(char to[PALS_LINE], const pals_node *node, const pals_tap *tap);
+
+#endif

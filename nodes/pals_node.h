@@ -1,0 +1,153 @@
+/* One node: it runs one component of a design by its own clock, and tells what it does.
+
+   A node's loop is:   reading = clock;
+                       for each message that has come: pals_arrive(node, link, round, values, count, reading);
+                       wake = pals_poll(node, reading);
+                       sleep until the clock reads wake, or a message comes.
+   The clock is read before messages are looked for, and this one reading goes to all calls of the turn.
+
+   All readings are of the node's own clock, in nanoseconds. A reading that is below the one before counts as that one.
+   No memory is taken; nothing is called but the component's code and the hooks; nothing is recursive. */
+#ifndef PALS_NODE_H
+#define PALS_NODE_H
+#include "pals_adaptor.h"
+
+/* The reading that never comes, and the last alarm that there is: 2^59 ns, 18 years. */
+#define PALS_NEVER INT64_MAX
+#define PALS_LAST_ALARM ((int64_t)1 << 59)
+
+/* The most ports that a component has, and the greatest rate. */
+enum { PALS_MOST_PORTS = 64, PALS_MOST_RATE = 64 };
+
+/* A link that a node sends on, and the out port whose values it takes. */
+typedef struct {
+    uint32_t number;
+    uint32_t port;
+} pals_target;
+
+/* A component, as its listing has it. Times are in nanoseconds. */
+typedef struct {
+    const char *path;
+    uint32_t rate;            /* k: how many steps a round has */
+    uint32_t sent;            /* k': how many of them a message carries */
+    int64_t period;           /* T */
+    int64_t step_period;      /* P */
+    int64_t release;          /* c: the alarm and this are the reading from which on a round is sent */
+    uint32_t ins;
+    uint32_t outs;
+    uint32_t vars;
+    uint32_t links;
+    uint32_t inputs;
+    uint32_t targets;
+    const pals_source *link;  /* in the order of the component's in ports */
+    const pals_source *input;
+    const pals_target *target;
+    void (*init)(void *frame);
+    int32_t (*step)(void *frame, const pals_value in[], pals_value out[]);
+    const struct pals_names *names; /* for pals_lines alone, and may be NULL */
+} pals_component;
+
+/* What a node does: it waits for a round, a step of one is begun, it is between two steps, all steps of a round are
+   finished and it is not sent, all rounds are done, or the node has stopped. */
+typedef enum { PALS_WAITING, PALS_RUNNING, PALS_BETWEEN, PALS_HOLDING, PALS_DONE, PALS_STOPPED } pals_phase;
+
+/* What a call answers: it is done; or why it is not, and then nothing has changed, but that PALS_MISSED stops. */
+typedef enum {
+    PALS_OK,
+    PALS_NOT_YET,      /* the reading is below the alarm, or the release */
+    PALS_MISSED,       /* a start: the message of the round before is not there. The node has stopped */
+    PALS_BUSY,         /* a start: a round is in hand */
+    PALS_OVER,         /* a start: all rounds are done, or the node has stopped */
+    PALS_NOT_BETWEEN,  /* a step: the node is not between two steps */
+    PALS_NOT_RUNNING,  /* a finish: no step is begun */
+    PALS_NOT_FINISHED  /* a send: no round is to be sent, or too few of its steps are finished */
+} pals_answer;
+
+/* What becomes of a message: it waits for the next start; it is a second copy, or too late to matter; it came
+   before its round was started, and the node has stopped; or it is no message of this node, or comes behind a stop. */
+typedef enum { PALS_KEPT, PALS_IGNORED, PALS_EARLY, PALS_REFUSED } pals_arrived;
+
+/* What a node does next. */
+typedef enum { PALS_NOTHING, PALS_START, PALS_STEP, PALS_FINISH, PALS_SEND } pals_action;
+
+/* What stands in a record. PALS_ROW is behind the last finish of a round: the frame and the outs are then what the
+   round has left. */
+typedef enum {
+    PALS_STARTED, PALS_STEPPED, PALS_FINISHED, PALS_SENT, PALS_ARRIVED, PALS_ROW, PALS_STOP_EARLY, PALS_STOP_MISSED
+} pals_event;
+
+/* A record: a line of a trace. */
+typedef struct {
+    pals_event event;
+    uint32_t link;        /* of an arrival and of a stop */
+    uint64_t round;       /* in these, the round of the message */
+    uint32_t step;        /* of PALS_STEPPED */
+    int64_t reading;      /* none in PALS_FINISHED and PALS_ROW */
+    pals_arrived arrived; /* of PALS_ARRIVED */
+} pals_record;
+
+typedef struct pals_node pals_node;
+
+/* What a node needs of what is round it. `user` is what pals_open was given. */
+typedef struct {
+    /* Puts a message on its way. It has `count` values; those of steps behind k' are absent. */
+    void (*send)(void *user, uint32_t link, uint64_t round, const pals_value values[], uint32_t count);
+    /* The value of an in port of the root in a round: called once, at the start of the round. */
+    pals_value (*read)(void *user, uint32_t input, uint64_t round);
+    /* Takes a record; it is gone when the call ends. */
+    void (*record)(void *user, const pals_node *node, const pals_record *record);
+} pals_hooks;
+
+/* The memory of a node, in the lengths that its component needs. */
+typedef struct {
+    void *frame;
+    pals_value *slots;  /* the rates of all its links together */
+    bool *full;         /* one for each link */
+    pals_value *ins;    /* rate * ins, step by step */
+    pals_value *outs;   /* outs * rate, port by port */
+} pals_memory;
+
+struct pals_node {
+    const pals_component *of;
+    const pals_hooks *hooks;
+    void *user;
+    pals_memory memory;
+    uint64_t rounds;   /* how many it makes; 0: no end */
+    uint64_t count;    /* how many it has started */
+    uint32_t steps;    /* how many of the round in hand are finished */
+    pals_phase phase;
+    bool sent;         /* whether round count - 1 is sent; true before the first */
+    int64_t alarm;     /* of round count */
+    int64_t reading;   /* the last one */
+};
+
+/* A node before its first round. */
+void pals_open(pals_node *node, const pals_component *of, const pals_memory *memory, const pals_hooks *hooks,
+               void *user, uint64_t rounds);
+
+/* A message of a round has come on a link. It is refused where the link is none to this node, where it has another
+   number of values, where a Boolean is neither 0 nor 1, and where the node has stopped. */
+pals_arrived pals_arrive(pals_node *node, uint32_t link, uint64_t round, const pals_value values[], uint32_t count,
+                         int64_t reading);
+
+/* Begins the next round: takes the messages of the round before, reads the inputs, and begins step 0. */
+pals_answer pals_start(pals_node *node, int64_t reading);
+
+/* Begins the next step of the round in hand. */
+pals_answer pals_step(pals_node *node, int64_t reading);
+
+/* Runs the code of the step that is begun, and so finishes it. */
+pals_answer pals_finish(pals_node *node);
+
+/* Sends the round in hand: one message for each link from the node. */
+pals_answer pals_send(pals_node *node, int64_t reading);
+
+/* What the node does next, and from which reading on; PALS_NOTHING and PALS_NEVER where it is done or has stopped. */
+pals_action pals_next(const pals_node *node, int64_t *from);
+
+/* Does by these calls what the node may do at this reading, and gives the reading that the next action waits for, or
+   PALS_NEVER. It begins no round behind another action: then it gives a reading that has come already, and messages
+   have to be looked for before the next call. */
+int64_t pals_poll(pals_node *node, int64_t reading);
+
+#endif
