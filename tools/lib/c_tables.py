@@ -1,0 +1,176 @@
+"""C of what nodes need of a design: a table and the memory for each component, and the design as a whole."""
+
+from .c_step import HEAD, c_name
+from .listing import name_of_link
+
+
+def flag(kind):
+    """Whether a kind is that of Booleans, in C."""
+    return "true" if kind == "Boolean" else "false"
+
+
+def table(kind, name, rows):
+    """A table, or nothing where it has no rows."""
+    return [f"static const {kind} {name}[] = {{", *(f"    {row}," for row in rows), "};"] if rows else []
+
+
+def adaptor(text, source, target):
+    """The place and the name of an adaptor between two rates."""
+    group = max(source, target) // min(source, target)
+    word, _, place = (text or "same").partition(" ")
+    places = {"first": 1, "last": group, "at": int(place or 0)}
+    return f"{places[word] - 1}, PALS_AT" if word in places else f"0, PALS_{word.upper()}"
+
+
+class Tables:
+    """The C of the tables of one design."""
+
+    def __init__(self, design):
+        self.design = design
+        self.inputs = list(dict.fromkeys(it.name for it in design.inputs))
+
+    def links_to(self, number):
+        """The links to a component, with their numbers."""
+        return [(at, it) for at, it in enumerate(self.design.links) if it.target[0] == number]
+
+    def rate(self, number):
+        """The rate of a component."""
+        return self.design.components[number].rate
+
+    def kind_of(self, end):
+        """The kind of an in port."""
+        return self.design.components[end[0]].ins[end[1]].kind
+
+    def node_header(self, number):
+        """The header of a component's node."""
+        component, name = self.design.components[number], c_name(self.design.components[number].path)
+        rates = [self.rate(link.source[0]) for _, link in self.links_to(number)]
+        slots, links = max(1, sum(rates)), max(1, len(rates))
+        ins, outs = (max(1, component.rate * len(ports)) for ports in (component.ins, component.outs))
+        return "\n".join([
+            f"{HEAD}#ifndef PALS_{name.upper()}_NODE_H", f"#define PALS_{name.upper()}_NODE_H",
+            f'#include "{name}.h"', '#include "pals_lines.h"', '#include "pals_node.h"', "",
+            f"extern const pals_component {name}_component;", "",
+            f"/* All that the node of {component.path} keeps. */", "typedef struct {", "    pals_node node;",
+            f"    {name}_frame frame;", f"    pals_value slots[{slots}];", f"    bool full[{links}];",
+            f"    pals_value ins[{ins}];", f"    pals_value outs[{outs}];", f"}} {name}_node;", "",
+            "/* The node before its first round, of a run of `rounds` rounds; 0: no end. */",
+            f"pals_node *{name}_open({name}_node *of, const pals_hooks *hooks, void *user, uint64_t rounds);", "",
+            "#endif", ""])
+
+    def rows(self, number):
+        """The tables of a component: the kind, the name and the rows of each."""
+        component, rate = self.design.components[number], self.rate(number)
+        links = [(at, link, self.rate(link.source[0])) for at, link in self.links_to(number)]
+        inputs = [it for it in self.design.inputs if it.target[0] == number]
+        targets = [(at, it) for at, it in enumerate(self.design.links) if it.source[0] == number]
+        taps = [(at, it) for at, it in enumerate(self.design.outputs) if it.source[0] == number]
+        return {
+            "links": ("pals_source", [
+                f"{{{at}, {it.target[1]}, {sent}, {adaptor(it.adaptor, sent, rate)}, {flag(self.kind_of(it.target))}}}"
+                for at, it, sent in links]),
+            "inputs": ("pals_source", [
+                f"{{{self.inputs.index(it.name)}, {it.target[1]}, 1, {adaptor(it.adaptor, 1, rate)}, "
+                f"{flag(self.kind_of(it.target))}}}" for it in inputs]),
+            "targets": ("pals_target", [f"{{{at}, {it.source[1]}}}" for at, it in targets]),
+            "taps": ("pals_tap", [f'{{"{it.name}", {it.source[1]}, {flag(component.outs[it.source[1]].kind)}, {at}}}'
+                                  for at, it in taps]),
+            "states": ("char *const", [f'"{it.name}"' for it in component.states]),
+            "variables": ("pals_variable", [f'{{"{it.name}", {flag(it.kind)}}}' for it in component.variables]),
+        }
+
+    def node_source(self, number):
+        """The source of a component's node."""
+        component, rows = self.design.components[number], self.rows(number)
+        name, period = c_name(component.path), self.design.period
+        tables = [line for word, (kind, lines) in rows.items() for line in table(kind, f"{name}_{word}", lines)]
+        at = {word: f"{name}_{word}" if lines else "NULL" for word, (_, lines) in rows.items()}
+        many = {word: len(lines) for word, (_, lines) in rows.items()}
+        return "\n".join([
+            f'{HEAD}#include "{name}_node.h"', "#include <stddef.h>", "", *tables, "", *accessors(component),
+            f"static const pals_names {name}_names = {{",
+            f"    {at['states']}, {at['variables']}, {many['taps']}, {at['taps']},",
+            f"    {name}_state_of, {name}_value_of", "};", "",
+            f"const pals_component {name}_component = {{",
+            f'    "{component.path}", {component.rate}, {component.sent},',
+            f"    INT64_C({period}), INT64_C({period // component.rate}), INT64_C({component.release}),",
+            f"    {len(component.ins)}, {len(component.outs)}, {len(component.variables)},",
+            f"    {many['links']}, {many['inputs']}, {many['targets']},",
+            f"    {at['links']}, {at['inputs']}, {at['targets']},",
+            f"    {name}_init_of, {name}_step_of, &{name}_names", "};", "",
+            f"pals_node *{name}_open({name}_node *of, const pals_hooks *hooks, void *user, uint64_t rounds)", "{",
+            "    const pals_memory memory = {&of->frame, of->slots, of->full, of->ins, of->outs};",
+            f"    pals_open(&of->node, &{name}_component, &memory, hooks, user, rounds);", "    return &of->node;", "}",
+            ""])
+
+    def design_source(self):
+        """The source of the whole design."""
+        design, names = self.design, [c_name(it.path) for it in self.design.components]
+        links = [f'{{"{name_of_link(design, it)}", {it.source[0]}, {it.target[0]}}}' for it in design.links]
+        kinds = {it.name: self.kind_of(it.target) for it in design.inputs}
+        inputs = [f'{{"{name}", {flag(kinds[name])}}}' for name in self.inputs]
+        return "\n".join([
+            f'{HEAD}#include "design.h"', *(f'#include "{name}_node.h"' for name in names), "#include <stddef.h>", "",
+            f"const uint32_t pals_nodes = {len(names)}, pals_links = {len(links)};",
+            f"const uint32_t pals_inputs = {len(inputs)}, pals_outputs = {len(design.outputs)};",
+            f"const int64_t pals_skew = {design.skew};",
+            f"const int64_t pals_execution_least = {design.execution[0]}, pals_execution_most = {design.execution[1]};",
+            f"const int64_t pals_network_least = {design.network[0]}, pals_network_most = {design.network[1]};",
+            "const pals_component *const pals_component_of[] = {", *(f"    &{name}_component," for name in names), "};",
+            "const pals_link pals_link_of[] = {", *(f"    {row}," for row in links or ["{NULL, 0, 0}"]), "};",
+            "const pals_input pals_input_of[] = {", *(f"    {row}," for row in inputs or ["{NULL, false}"]), "};",
+            *(f"static {name}_node node_of_{name};" for name in names), "",
+            "pals_node *pals_open_node(uint32_t number, const pals_hooks *hooks, void *user, uint64_t rounds)", "{",
+            "    switch (number) {",
+            *(f"    case {at}: return {name}_open(&node_of_{name}, hooks, user, rounds);"
+              for at, name in enumerate(names)),
+            "    default: return NULL;", "    }", "}", ""])
+
+
+DESIGN_HEADER = f"""{HEAD}#ifndef PALS_DESIGN_H
+#define PALS_DESIGN_H
+#include "pals_lines.h"
+#include "pals_node.h"
+
+/* A link, named by the in port that it goes to, with the numbers of the nodes at its ends; an in port of the root. */
+typedef struct {{
+    const char *name;
+    uint32_t source;
+    uint32_t target;
+}} pals_link;
+
+typedef struct {{
+    const char *name;
+    bool boolean;
+}} pals_input;
+
+extern const uint32_t pals_nodes, pals_links, pals_inputs, pals_outputs;
+extern const pals_component *const pals_component_of[];
+extern const pals_link pals_link_of[];
+extern const pals_input pals_input_of[];
+
+/* The bounds of the platform, in nanoseconds. */
+extern const int64_t pals_skew;
+extern const int64_t pals_execution_least, pals_execution_most, pals_network_least, pals_network_most;
+
+/* The node of the component of a number, in memory of its own; NULL where there is none. */
+pals_node *pals_open_node(uint32_t number, const pals_hooks *hooks, void *user, uint64_t rounds);
+
+#endif
+"""
+
+
+def accessors(component):
+    """What stands between a component's own calls and those that any node makes."""
+    name = c_name(component.path)
+    own, shown = f"({name}_frame *)frame", f"((const {name}_frame *)frame)"
+    values = [f"    case {at}: return {shown}->v_{it.name};" for at, it in enumerate(component.variables)]
+    of_variables = ["    switch (variable) {", *values, "    default: return 0;", "    }"]
+    return [
+        f"static void {name}_init_of(void *frame)", "{", f"    {name}_init({own});", "}", "",
+        f"static int32_t {name}_step_of(void *frame, const pals_value in[], pals_value out[])", "{",
+        f"    return {name}_step({own}, in, out);", "}", "",
+        f"static int32_t {name}_state_of(const void *frame, int32_t *halt)", "{",
+        f"    *halt = {shown}->halt;", f"    return {shown}->state;", "}", "",
+        f"static int64_t {name}_value_of(const void *frame, uint32_t variable)", "{",
+        *(of_variables if values else ["    (void)frame;", "    (void)variable;", "    return 0;"]), "}", ""]
