@@ -1,9 +1,9 @@
 #!/usr/bin/env python3
 """Tries the tools, ./pals, and where definitions stand: tools/test.py [WORD ..]
 
-It tries those whose names have one of the words, or all. It runs in some seconds and ends with status 0 exactly where
-all is as it should be. Where the program is built it is tried with the tools; elsewhere these tests say that they are
-left out. --write-pictures makes the pictures of the docs anew.
+It tries those whose names have one of the words, or all, and ends with status 0 exactly where all is as it should be.
+Without the built programs or a C compiler it takes a minute, and tests that need them say that they are left out; with
+them it takes some minutes more. --more makes long tests longer. --write-pictures makes the pictures of the docs anew.
 """
 
 import glob

@@ -88,9 +88,9 @@ def value(random, kind):
     return random.choice((-1, 1)) * random.choice(EDGES) if random.random() < 0.05 else random.randint(-5, 9)
 
 
-def scenario(random, design, rounds):
-    """A scenario of a design, without delays."""
-    inputs = {name: [value(random, kind) for _ in range(random.randint(0, rounds))] for name, kind, *_ in design.inputs}
+def scenario(random, kinds, rounds):
+    """A scenario without delays, by the kinds of the root's in ports."""
+    inputs = {name: [value(random, kind) for _ in range(random.randint(0, rounds))] for name, kind in kinds.items()}
     return {"rounds": rounds, "inputs": inputs}
 
 

@@ -13,8 +13,8 @@ HERE = os.path.dirname(os.path.dirname(os.path.abspath(__file__)))
 TOP = os.path.dirname(HERE)
 EXAMPLES = os.path.join(TOP, "examples")
 RULE = re.compile(r"\| `(\S+\.pals)` \| `(\S+)` \| `(\S+)` \| `([^`]+)` \| `(\S+)` \| (\d+) \|")
-# The program that the gate built; PALS_PROGRAM names another one.
-PROGRAM = os.environ.get("PALS_PROGRAM") or os.path.join(TOP, "crates", "pals_cli", "out", "pals_cli")
+# What names other programs than those that the gate built.
+PROGRAMS = {"pals_cli": "PALS_PROGRAM", "pals_code": "PALS_CODE_PROGRAM"}
 # The seconds that a command may take at most, on a machine that has other work.
 WITHIN = 600
 
@@ -51,11 +51,12 @@ def tool(name, *words, given=b"", folder=TOP):
     return status, written, said
 
 
-def built():
-    """The built program, where it stands."""
-    if not os.path.isfile(PROGRAM):
-        raise Skipped("no program is built; ./pals build builds it")
-    return PROGRAM
+def built(name="pals_cli"):
+    """A built program, where it stands."""
+    path = os.environ.get(PROGRAMS[name]) or os.path.join(TOP, "crates", name, "out", name)
+    if not os.path.isfile(path):
+        raise Skipped(f"{name} is not built; ./pals build builds it")
+    return path
 
 
 def page(name):

@@ -3,14 +3,14 @@
 import json
 import os
 import random
-import subprocess
 import tempfile
 
 from lib.bundles import Bundle, Refused
 from lib.joining import Joined
 from lib.nodes_of import nodes_of
 from lib.records import before, read_record
-from tests.common import TOP, WITHIN, built, expect, page, tool
+from tests.common import TOP, expect, page, tool
+from tests.nodes import MORE, audited
 
 # Two rounds of the two counters. The message of p.a is taken at the very reading of p.b's start, behind it.
 A = """start p.a 0 9000000
@@ -33,17 +33,8 @@ finish p.b 1
 row 1 p.b s x=3
 send p.b 1 19000000
 """
-# How many orders of these lines are tried, of the 350 that keep each node's own, and each arrival behind its send.
-TRIED = 200
-
-
-def audited(text, scenario, trace):
-    """The status and the text of an audit of a trace."""
-    given = {name: value for name, value in scenario.items() if name in ("rounds", "inputs")}
-    given = json.dumps({**given, "delays": trace.delays, "trace": trace.lines()})
-    how = {"input": f"{text}%%%\n{given}".encode(), "stdout": subprocess.PIPE, "timeout": WITHIN, "check": False}
-    ran = subprocess.run([built(), "audit", "Top.impl"], **how)
-    return ran.returncode, ran.stdout.decode()
+# How many orders of these lines keep each node's own, and each arrival behind its send.
+ALL_ORDERS = 350
 
 
 def counters():
@@ -80,7 +71,7 @@ def test_sends_as_late_as_may_be():
     trace, given, source, orders = joined(A, B), {"rounds": 2}, random.Random(7), set()
     expect(audited(text, given, trace), (0, "sound rounds 2 stop none\n"), "the joined trace")
     expect(trace.delays, {"p.a.i": [1000000, 4000000], "p.b.i": [0, 4000000]}, "the delays")
-    while len(orders) < TRIED:
+    while len(orders) < (ALL_ORDERS if MORE else 200):
         trace.journal = any_order(source, joined(A, B).journal, nodes)
         lines = trace.lines()
         if tuple(lines) in orders:

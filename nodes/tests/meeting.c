@@ -1,0 +1,93 @@
+/* All nodes of a design in one process, with clocks that meet: all readings are one, and it goes from one target to the
+   next. Messages take the delays of the scenario, and a node looks for them before a start alone. So it does what
+   `pals run` does without `clocks`. It writes `PATH LINE` for each line that a node records, up to the first stop. */
+#include <stdio.h>
+#include "design.h"
+#include "messages.h"
+#include "records.h"
+#include "scenario.h"
+
+enum { MOST_NODES = 256 };
+
+static pals_node *nodes[MOST_NODES];
+static messages flying;
+static bool stopped;
+
+static void on_send(void *user, uint32_t link, uint64_t round, const pals_value values[], uint32_t count)
+{
+    const pals_node *node = nodes[pals_link_of[link].source];
+    const int64_t due = node->reading + scenario_delay(link, round, pals_network_least);
+    const message sent = message_of(due, link, round, values, count);
+    (void)user;
+    messages_add(&flying, &sent);
+}
+
+static void on_record(void *user, const pals_node *node, const pals_record *record)
+{
+    char prefix[256];
+    (void)user;
+    (void)snprintf(prefix, sizeof prefix, "%s ", node->of->path);
+    records_write(stdout, prefix, node, record);
+    stopped = stopped || (record->event == PALS_STOP_EARLY) || (record->event == PALS_STOP_MISSED);
+}
+
+static const pals_hooks HOOKS = {on_send, scenario_input, on_record};
+
+/* Hands to a node what is due on one link. */
+static void take_link(pals_node *node, uint32_t link, int64_t reading)
+{
+    for (uint32_t i = 0; (i < flying.count) && !stopped;) {
+        if ((flying.of[i].link == link) && (flying.of[i].arrives <= reading)) {
+            const message m = messages_take(&flying, i);
+            (void)pals_arrive(node, m.link, m.round, m.values, m.count, reading);
+        } else {
+            i++;
+        }
+    }
+}
+
+/* The least reading that a node waits for. */
+static int64_t next_reading(void)
+{
+    int64_t least = PALS_NEVER;
+    for (uint32_t j = 0; j < pals_nodes; j++) {
+        int64_t from = PALS_NEVER;
+        (void)pals_next(nodes[j], &from);
+        least = (from < least) ? from : least;
+    }
+    return least;
+}
+
+/* One action of a node, if it has come. */
+static void act(uint32_t number, int64_t reading)
+{
+    int64_t from = PALS_NEVER;
+    const pals_action action = pals_next(nodes[number], &from);
+    if ((action == PALS_NOTHING) || (from > reading)) {
+        return;
+    }
+    for (uint32_t l = 0; (action == PALS_START) && (l < pals_links); l++) {
+        if (pals_link_of[l].target == number) {
+            take_link(nodes[number], l, reading);
+        }
+    }
+    if (!stopped) {
+        (void)pals_poll(nodes[number], reading);
+    }
+}
+
+int main(void)
+{
+    if (!scenario_read() || (pals_nodes > MOST_NODES)) {
+        return 2;
+    }
+    for (uint32_t j = 0; j < pals_nodes; j++) {
+        nodes[j] = pals_open_node(j, &HOOKS, NULL, scenario_rounds());
+    }
+    for (int64_t reading = next_reading(); (reading != PALS_NEVER) && !stopped; reading = next_reading()) {
+        for (uint32_t j = 0; (j < pals_nodes) && !stopped; j++) {
+            act(j, reading);
+        }
+    }
+    return 0;
+}
