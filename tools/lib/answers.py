@@ -33,7 +33,7 @@ ONE_LINE = [
     ("clock", CLOCK, 7),
     ("wrong", WRONG, 1),
     ("code", CODE, 13),
-    ("usage", re.compile(r"usage: pals .*"), 2),
+    ("usage", re.compile(r"usage: pals(?:_code)? .*"), 2),
     ("unread", re.compile(r"read fault"), 9),
     ("unread", re.compile(r"too long"), 12),
     ("sound", SOUND, 0),

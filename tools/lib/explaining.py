@@ -22,7 +22,7 @@ SHOW = {
     "budget": explain_accepted.show_budget,
 }
 # Answers that are passed on.
-PASSED = {"check", "rows", "watch", "budget", "sound", "ring", "design"}
+PASSED = {"check", "rows", "watch", "budget", "sound", "ring", "design", "listing"}
 # Commands whose answer may be empty: a world in which no round is finished, and nothing is sent.
 MAY_BE_EMPTY = {"world", "world --loose"}
 

@@ -5,6 +5,7 @@ import re
 from .answers import CHECK_LINE, FINDING, ONE_LINE, PROCESSOR, STOP, WATCHED
 from .bundles import Refused
 from .grammar import package_of
+from .listing import FORM, read_listing
 from .rows import Report
 
 # An annex that is printed as it stands.
@@ -31,6 +32,8 @@ class Answer:
             return "findings", 4
         if self.lines[0] == "accepted":
             return ("check", 0) if all(map(CHECK_LINE.fullmatch, self.lines)) else (None, 1)
+        if self.lines[0] == FORM:
+            return ("listing", 0) if is_listing(self.text) else (None, 1)
         if self.lines[0].startswith("package "):
             return ("design", 0) if is_canonical(self.text) else (None, 1)
         return self.report()
@@ -51,6 +54,15 @@ def is_report(text):
     """Whether each line is one of a report or of a journal."""
     try:
         Report(text)
+    except Refused:
+        return False
+    return True
+
+
+def is_listing(text):
+    """Whether a text is a listing of step code."""
+    try:
+        read_listing(text)
     except Refused:
         return False
     return True

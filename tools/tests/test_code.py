@@ -6,7 +6,7 @@ import tempfile
 
 from lib.bundles import Refused
 from lib.listing import read_listing
-from tests.common import expect, page, tool
+from tests.common import expect, explained, page, tool
 from tests.nodes import (CHECKED, HOST, MORE, OWN, c_of, compiled, compilers, design_nodes, folder, joined, listing_of,
                          object_of, pals, program_of)
 
@@ -81,6 +81,15 @@ def test_code2c_refuses_what_the_verifier_refuses():
             expect((status, wanted in said, os.listdir(where)), (1, True, []), f"{other}: {said}")
     status, _, said = tool("code2c", folder(), given=text.replace(" release 1000000", " release 1", 1).encode())
     expect((status, "line 9 of the listing" in said), (1, True), said)
+
+
+def test_explain_passes_listings_on():
+    """A listing is an answer that is passed on whole; half of one is no answer."""
+    text = page("examples/two_counters.listing")
+    bundle = page("examples/two_counters.pals").encode()
+    expect(explained(bundle, text), (0, text), "a listing")
+    expect(explained(bundle, text[:300]), (1, ""), "half a listing")
+    expect(explained(bundle, "usage: pals_code ROOT\n")[0], 2, "the usage line")
 
 
 def test_c_compiles_without_a_word():

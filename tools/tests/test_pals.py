@@ -23,7 +23,7 @@ def small_tree(folder):
         shutil.copy(os.path.join(TOP, name), folder)
     os.makedirs(os.path.join(folder, "docs"))
     shutil.copy(os.path.join(TOP, "docs", "commands.txt"), os.path.join(folder, "docs"))
-    for crate in ("pals_cli", "pals_base", "case_files"):
+    for crate in ("pals_cli", "pals_code", "pals_base", "case_files"):
         os.makedirs(os.path.join(folder, "crates", crate, "src"))
         with open(os.path.join(folder, "crates", crate, "src", "lib.rt"), "w", encoding="utf-8") as file:
             file.write("//! Nothing.\n")
@@ -35,10 +35,10 @@ def small_tree(folder):
 
 def age_all(folder):
     """Makes all sources old, and the program a little newer."""
-    for part in ("pals_cli/src", "pals_base/src", "case_files/src", "../crates.txt"):
-        age(folder, part, 0)
-    for crate in ("pals_cli", "pals_base", "case_files"):
+    for crate in ("pals_cli", "pals_code", "pals_base", "case_files"):
+        age(folder, f"{crate}/src", 0)
         age(folder, f"{crate}/src/lib.rt", 0)
+    age(folder, "../crates.txt", 0)
     age(folder, "pals_cli/out/pals_cli", 1)
 
 
@@ -142,15 +142,17 @@ def test_pals_finds_old_programs_in_any_folder():
 
 
 def carry(folder, text='echo "carried $*"; cat; exit 4', machine=None):
-    """Puts a program into prebuilt/ of a small tree, made of the sources that stand there."""
-    data = f"#!/bin/sh\n{text}\n".encode()
-    sources = pals(folder, "--sources")[1].strip()
+    """Puts two programs into prebuilt/ of a small tree, made of the sources that stand there."""
+    lines = [f"machine {machine or f'{platform.system()}-{platform.machine()}'}"]
     os.makedirs(f"{folder}/prebuilt", exist_ok=True)
-    with open(f"{folder}/prebuilt/pals.gz", "wb") as file:
-        file.write(gzip.compress(data))
+    for name, words, sums in (("pals", [], ""), ("pals_code", ["code"], "code_")):
+        data = f"#!/bin/sh\n# {name}\n{text}\n".encode()
+        with open(f"{folder}/prebuilt/{name}.gz", "wb") as file:
+            file.write(gzip.compress(data))
+        lines += [f"{sums}sources {pals(folder, '--sources', *words)[1].strip()}",
+                  f"{sums}program {hashlib.sha256(data).hexdigest()}"]
     with open(f"{folder}/prebuilt/SUMS", "w", encoding="utf-8") as file:
-        machine = machine or f"{platform.system()}-{platform.machine()}"
-        file.write(f"machine {machine}\nsources {sources}\nprogram {hashlib.sha256(data).hexdigest()}\n")
+        file.write("\n".join(lines) + "\n")
 
 
 def test_pals_answers_with_what_is_carried():
@@ -173,6 +175,29 @@ def test_pals_answers_with_what_is_carried():
             file.write("// more\n")
         expect(pals(folder, "sync", "A.b")[:2], (6, "rt try -- sync A.b\nbundle\n"), "other sources")
         expect("not built" in pals(folder, "--version")[1], True, "the version of other sources")
+
+
+def test_code_is_a_program_of_its_own():
+    """Of `code` the program is pals_code, built or carried; where it is neither, one line says so."""
+    with tempfile.TemporaryDirectory() as folder:
+        small_tree(folder)
+        missing = "pals: code: crates/pals_code/out/pals_code writes listings, and no program is built: ./pals build " \
+                  "builds it\n"
+        expect(pals(folder, "code", "A.b"), (127, "", missing), "no program")
+        expect(pals(folder, "--version", "code")[1].endswith(", not built\n"), True, "the version of no program")
+        script(f"{folder}/crates/pals_code/out/pals_code", 'echo "listed $*"; cat; exit 3')
+        age(folder, "pals_code/out/pals_code", 1)
+        listed = (3, "listed A.b\nbundle\n", "")
+        expect(pals(folder, "code", "A.b"), listed, "a program that is built")
+        expect(pals(folder, "--version", "code")[1].endswith("built and proved here\n"), True, "its version")
+        expect(pals(folder, "check", "A.b")[:2], (5, "built check A.b\nbundle\n"), "another command")
+        age(folder, "pals_code/src/lib.rt", 2)
+        status, text, said = pals(folder, "code", "A.b")
+        expect((status, text, "crates/pals_code/src/lib.rt is newer" in said), (127, "", True), said)
+        os.remove(f"{folder}/crates/pals_code/out/pals_code")
+        carry(folder)
+        status, text, said = pals(folder, "code", "A.b")
+        expect((status, text, "proved elsewhere" in said), (4, "carried A.b\nbundle\n", True), said)
 
 
 def test_each_source_counts():
@@ -223,6 +248,13 @@ def test_release_makes_what_pals_takes():
         expect(subprocess.run([*release, "--check"], **how).returncode, 0, "a release that is of this program")
         expect(subprocess.run(release, **how).returncode, 0, "a release again")
         expect([read(f"{folder}/prebuilt/{name}") for name in ("pals.gz", "SUMS")], first, "the same bytes")
+        expect(os.path.exists(f"{folder}/prebuilt/pals_code.gz"), False, "a program that is not built")
+        script(f"{folder}/crates/pals_code/out/pals_code", 'echo "listed $*"')
+        age(folder, "pals_code/out/pals_code", 1)
+        expect(subprocess.run([*release, "--check"], **how).returncode, 1, "a release without a program that is built")
+        expect(subprocess.run(release, **how).returncode, 0, "a release of two programs")
+        os.rename(f"{folder}/crates/pals_code/out/pals_code", f"{folder}/kept_code")
+        expect(pals(folder, "code", "A.b", path="/usr/bin:/bin")[:2], (0, "listed A.b\n"), "the released pals_code")
         os.rename(f"{folder}/crates/pals_cli/out/pals_cli", f"{folder}/kept")
         expect(pals(folder, "print", path="/usr/bin:/bin")[:2], (5, "built print\nbundle\n"), "the released program")
         expect(subprocess.run(release, **how).returncode, 1, "a release of nothing")
