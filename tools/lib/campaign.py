@@ -13,10 +13,12 @@ from .answers import WATCHED
 from .bundles import DIVIDER, Refused
 from .program import ask_program
 from .ranges import same
+from .rows import rounds_in
 
 # What a campaign is of: the program, the root, the design, the scenario without inputs, the ports with their values,
-# the rounds, the seed, and how a scenario is judged: by `watch`, or by the rows of another design or of a command.
-Plan = namedtuple("Plan", "program root design scenario ports rounds seed against expected")
+# the rounds, the seed, and how a scenario is judged: by `watch`, or by the rows of another design, of a command, or of a
+# file, by their rounds.
+Plan = namedtuple("Plan", "program root design scenario ports rounds seed against expected rows")
 # A scenario that is false: what is false of it, and its first false round.
 Falsified = namedtuple("Falsified", "name round")
 
@@ -67,7 +69,7 @@ def made_of(plan, inputs, rounds):
 def judge(plan, inputs, rounds):
     """What is false of a scenario, or None."""
     scenario = json.dumps(made_of(plan, inputs, rounds)).encode()
-    if plan.against is not None or plan.expected is not None:
+    if any(it is not None for it in (plan.against, plan.expected, plan.rows)):
         return compare(plan, scenario)
     status, text = ask_program(plan.program, ["watch", plan.root], joined(plan.design, scenario))
     last = text.rstrip("\n").rpartition("\n")[2]
@@ -83,18 +85,31 @@ def joined(design, scenario):
 
 
 def compare(plan, scenario):
-    """The first round whose row is another one with the other design, or with the command; or None."""
-    rows, words = [], ["sync", plan.root]
-    other = (plan.program, words, plan.against) if plan.expected is None else (plan.expected, [], plan.design)
-    for program, words, design in ((plan.program, words, plan.design), other):
-        status, text = ask_program(program, words, joined(design, scenario))
-        if status:
-            raise Refused(f"{' '.join([program, *words])} ended with {status}: {text[:120].strip()}")
-        rows.append(text.split("round ")[1:])
-    for number, (one, two) in enumerate(itertools.zip_longest(*rows)):
-        if one != two:
-            return Falsified("the row", number)
-    return None
+    """The first round whose row is another one with the other design, by the command or in the file; or None."""
+    words = ["sync", plan.root]
+    found = rows_by(plan.program, words, joined(plan.design, scenario))
+    if plan.rows is not None:
+        pairs = zip(found, plan.rows)
+        return first_false(not set(wanted) <= set(lines) for lines, wanted in pairs)
+    if plan.expected is not None:
+        wanted = rows_by(plan.expected, [], joined(plan.design, scenario))
+    else:
+        wanted = rows_by(plan.program, words, joined(plan.against, scenario))
+    return first_false(one != two for one, two in itertools.zip_longest(found, wanted))
+
+
+def rows_by(program, words, bundle):
+    """The lines of each round of what a program writes of a bundle."""
+    status, text = ask_program(program, words, bundle)
+    if status:
+        raise Refused(f"{' '.join([program, *words])} ended with {status}: {text[:120].strip()}")
+    return rounds_in(text)
+
+
+def first_false(differ):
+    """What is false where the row of some round differs, or None."""
+    number = next((at for at, it in enumerate(differ) if it), None)
+    return None if number is None else Falsified("the row", number)
 
 
 def try_chunk(numbers):

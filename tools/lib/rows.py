@@ -24,6 +24,20 @@ PROCESSOR = re.compile(rf"processor (\w+) sum {NUMBER} of {NUMBER} (?:fits|over)
 SLOT = re.compile(rf"slot (\S+) ({NUMBER}) ({NUMBER}) ({NUMBER})")
 
 
+def rounds_in(text):
+    """The lines of each round of a text that has rows alone, from round 0 on."""
+    found = []
+    for line in filter(None, text.split("\n")):
+        match = ROUND.fullmatch(line)
+        if match and int(match[1]) == len(found):
+            found.append([])
+        elif match or not found or not (COMPONENT.fullmatch(line) or OUT.fullmatch(line)):
+            raise Refused(f"this line is of no row, or stands in another round: {line[:60]}")
+        else:
+            found[-1].append(line)
+    return found
+
+
 class Report:
     """What an answer has: rows, messages, verdicts by round, and slots."""
 

@@ -26,7 +26,7 @@ sys.exit(bool(first))
 ROWS = """#!/usr/bin/env python3
 import json, sys
 found = json.loads(sys.stdin.read().partition("\\n%%%\\n")[2])
-beats = found["inputs"]["beat"]
+beats = found["inputs"].get("beat", [])
 for at in range(found["rounds"]):
     print(f"round {{at}}\\np.a s x={{at + int({extra})}}")
 """
@@ -171,6 +171,23 @@ def test_campaigns_compare_rows():
         expect("the row is false first in round 2" in said, True, said)
         status, text, said = campaign(files.path("one"), "--expect", files.path("one"), "--count", "10")
         expect((status, text), (0, ""), said)
+
+
+def test_campaigns_compare_with_a_file():
+    """Rows of a file hold for the scenario as it stands, or for all that some inputs take; lines may be left out."""
+    rows = "".join(f"round {at}\np.a s x={at}\n" for at in range(12))
+    with Files(one=ROWS.format(extra="(at == 2 and beats[1:3] == [True, True])"), all_rows=rows,
+               no_lines="".join(f"round {at}\n" for at in range(12)), less_rows=rows.replace("x=4", "x=5"),
+               short_rows=rows.partition("round 9")[0], bad_rows=rows.replace("round 3", "round 4")) as files:
+        os.chmod(files.path("one"), stat.S_IRWXU)
+        for name, words, wanted, said in (
+                ("all_rows", [], 0, "1 of 1 scenarios"), ("no_lines", [], 0, "none is false"),
+                ("less_rows", [], 1, "the row is false first in round 4"), ("short_rows", [], 1, "say --rounds 9"),
+                ("short_rows", ["--rounds", "9"], 0, "none is false"), ("bad_rows", [], 1, "no row"),
+                ("all_rows", ["--input", "beat=true"], 1, "false first in round 2"),
+                ("all_rows", ["--expect", files.path("one")], 2, "take one of")):
+            status, _, heard = campaign(files.path("one"), "--rows", files.path(name), *words)
+            expect((status, said in heard), (wanted, True), f"--rows {name} {words}: {heard}")
 
 
 def test_campaigns_find_a_planted_mistake():
