@@ -16,8 +16,8 @@ from .ranges import same
 from .rows import rounds_in
 
 # What a campaign is of: the program, the root, the design, the scenario without inputs, the ports with their values,
-# the rounds, the seed, and how a scenario is judged: by `watch`, or by the rows of another design, of a command, or of a
-# file, by their rounds.
+# the rounds, the seed, and how a scenario is judged: by `watch`, or by the rows of another design, of a command, or of
+# a file, by their rounds.
 Plan = namedtuple("Plan", "program root design scenario ports rounds seed against expected rows")
 # A scenario that is false: what is false of it, and its first false round.
 Falsified = namedtuple("Falsified", "name round")

@@ -4,11 +4,12 @@ import heapq
 from collections import defaultdict, namedtuple
 
 from .bundles import Refused
+from .clocks import Clock
 from .names import choice
 
-# The numbers that a world goes by: the offset of each node's clock, how long each step takes, by its path, round and
-# step, and how long each message takes, by its link and round. In nanoseconds.
-Times = namedtuple("Times", "offset execution delay")
+# What a world goes by: the clock of each node, how long each step takes, by its path, round and step, and how long each
+# message takes, by its link and round. In nanoseconds.
+Times = namedtuple("Times", "clock execution delay")
 # A bound that is broken: its name, what it is of, and the round.
 Broken = namedtuple("Broken", "name what round")
 
@@ -35,6 +36,7 @@ class World:
         if not all(self.rate.values()):
             raise Refused("a component has no rate; ./pals check tells which")
         self.sent = {path: model.steps_sent(rate) for path, rate in self.rate.items()}
+        self.clocks = {path: self.clock_of(path) for path in self.nodes}
         self.links = defaultdict(list)
         for link in sorted(model.links()):
             self.links[model.source(link)].append(link)
@@ -48,7 +50,7 @@ class World:
         while self.due:
             at, _, _, kind, what, number, step = heapq.heappop(self.due)
             if at != now:
-                found.append(["pass", at, [max(at + self.offset(path), 0) for path in self.nodes]])
+                found.append(["pass", at, [self.clocks[path].reading(at) for path in self.nodes]])
                 now = at
             found.append([kind, what, number] if kind == "arrive" else [kind, what])
             self.happen(at, kind, what, number, step)
@@ -63,14 +65,14 @@ class World:
         """By how much a bound is broken here: a nanosecond, or nothing."""
         return int(self.broken == Broken(name, what, number))
 
-    def offset(self, path):
-        """How far the clock of a node is ahead of the time."""
+    def clock_of(self, path):
+        """The clock of a node; one that breaks its bound is ahead by the skew."""
         broken = self.broken is not None and self.broken[:2] == ("skew", path)
-        return self.bounds.skew if broken else self.times.offset(path)
+        return Clock(self.bounds.skew, 0, self.bounds.skew + 1) if broken else self.times.clock(path)
 
     def alarm(self, path, number, step=0):
         """The first time at which the clock of a node reads the alarm of a step."""
-        return (number + 1) * self.period + step * (self.period // self.rate[path]) - self.offset(path)
+        return self.clocks[path].first((number + 1) * self.period + step * (self.period // self.rate[path]))
 
     def start_of(self, path, number):
         """When a node starts a round."""
@@ -114,7 +116,8 @@ class World:
         """The first time at which the clock of a node reads the release of a round."""
         backoff = max(2 * self.bounds.skew - self.bounds.fastest, 0)
         offset = max(backoff, (self.sent[path] - 1) * (self.period // self.rate[path]))
-        return self.alarm(path, number) + offset - self.breaks("early-send", path, number)
+        target = (number + 1) * self.period + offset
+        return self.clocks[path].first(target) - self.breaks("early-send", path, number)
 
 
 def broken_of(word, model):

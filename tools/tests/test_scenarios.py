@@ -7,6 +7,7 @@ import subprocess
 import tempfile
 
 from lib.bundles import join, read
+from lib.clocks import Clock
 from lib.ranges import nanos_of, values_of
 from tests.common import EXAMPLES, TOP, WITHIN, built, expect, tool
 
@@ -91,10 +92,27 @@ def test_worlds_have_all_rounds():
     expect(worlds("--random", "--seed", "7"), worlds("--random", "--seed", "7"), "a seed")
     for words, said in ((["--delay", "*=5ms"], "--break"), (["--clock", "p.x=1"], "p.m"),
                         (["--break", "slow:p.x"], "p.m.t"), (["--break", "short:p.m"], "nothing to break"),
-                        (["--break", "x:y"], "skew")):
+                        (["--break", "x:y"], "skew"), (["--drift", "p.m=1s"], "less than a second")):
         status, _, heard = worlds(*words)
         expect((status, said in heard), (1, True), f"world {words}: {heard}")
     expect(worlds("--clock", "p.m")[0], 2, "no range")
+
+
+def test_clocks_drift_within_the_skew():
+    """A clock never goes back, is never off by the skew, turns at its ends, and reads a target first when it says."""
+    for offset, drift, skew in ((0, 0, 5), (3, 10**8, 5), (-4, -(10**9 - 1), 5), (0, 7, 1), (9, 10**9 - 1, 10)):
+        clock = Clock(offset, drift, skew)
+        expect(clock.offset(0), offset, "the offset at the beginning")
+        offsets = [clock.offset(at) for at in range(300)]
+        expect(max(map(abs, offsets)) < skew, True, f"the offsets of {offset, drift, skew}")
+        expect(all(one <= two + 1 for one, two in zip(offsets, offsets[1:])), True, "a clock goes back")
+        for target in range(skew, 200):
+            first = next(at for at in range(-skew, 300) if at + clock.offset(at) >= target)
+            expect(clock.first(target), first, f"when {offset, drift, skew} reads {target}")
+    events = json.loads(worlds("--drift", "p.m=20ms", rounds=9)[1])["events"]
+    ahead = [event[2][0] - event[1] for event in events if event[0] == "pass"]
+    expect(ahead[0] < 400_000 < 990_000 < max(ahead) < 1_000_000, True, "a clock that gains")
+    expect(ahead[-1] < max(ahead), True, "it turns")
 
 
 def test_worlds_are_accepted():
@@ -102,6 +120,7 @@ def test_worlds_are_accepted():
     design = read(TURN)
     expect(answered(["check", "Top.impl"], design, b"{}")[0], 0, "the design")
     for words in ([], *(["--random", "--seed", str(seed)] for seed in range(10)),
+                  *(["--random", "--seed", str(seed), "--drift", "p.*=-50ms..50ms"] for seed in range(5)),
                   ["--clock", "p.m=999999", "--clock", "p.[lrt]=-999999", "--execution", "*=3ms", "--delay", "*=4ms"]):
         status, text = answered(["world", "Top.impl"], design, worlds(*words)[1])
         expect((status, text.count("sent ")), (0, 24), f"world {words}: {text[:80]}")
