@@ -1,7 +1,5 @@
 #include "pals_adaptor.h"
 
-static const pals_value ABSENT = {0, false};
-
 /* The exact sum of the present values, divided by their number and cut towards zero. Each value is n * q + r: neither
    the sum of all q nor that of all r leaves 64 bits. */
 static pals_value average(const pals_value group[], uint32_t length)
@@ -13,7 +11,7 @@ static pals_value average(const pals_value group[], uint32_t length)
         n += group[i].present ? 1 : 0;
     }
     if (n == 0) {
-        return ABSENT;
+        return PALS_ABSENT;
     }
     for (uint32_t i = 0; i < length; i++) {
         if (group[i].present) {
@@ -43,7 +41,7 @@ static bool is_chosen(pals_adaptor adaptor, int64_t number, int64_t before)
 /* One value of a group of values. */
 static pals_value one_of(const pals_source *source, const pals_value group[], uint32_t length)
 {
-    pals_value chosen = ABSENT;
+    pals_value chosen = PALS_ABSENT;
     if (source->adaptor == PALS_AT) {
         return group[source->place];
     }
@@ -69,5 +67,5 @@ pals_value pals_read(const pals_source *source, uint32_t rate, uint32_t step, co
     }
     const uint32_t length = rate / source->rate;
     const bool reads = (source->adaptor == PALS_REPEAT) || ((step % length) == source->place);
-    return reads ? message[step / length] : ABSENT;
+    return reads ? message[step / length] : PALS_ABSENT;
 }

@@ -17,13 +17,14 @@ static void put(text *line, const char *words)
 
 static void put_number(text *line, uint64_t number)
 {
+    static const char DIGITS[] = "0123456789";
     char digits[21];
     uint32_t at = 20;
     uint64_t left = number;
     digits[at] = '\0';
     do {
         at -= 1U;
-        digits[at] = (char)('0' + (int)(left % 10U));
+        digits[at] = DIGITS[left % 10U];
         left /= 10U;
     } while (left != 0U);
     put(line, &digits[at]);

@@ -1,7 +1,5 @@
 #include "pals_node.h"
 
-static const pals_value ABSENT = {0, false};
-
 /* ---------------------------------------------------------------------------------------------------- records */
 
 static void record(const pals_node *node, pals_event event, uint32_t link, uint64_t round, pals_arrived arrived)
@@ -154,7 +152,7 @@ static void take_ins(pals_node *node)
     const pals_component *of = node->of;
     const pals_value *slot = node->memory.slots;
     for (uint32_t i = 0; i < (of->rate * of->ins); i++) {
-        node->memory.ins[i] = ABSENT;
+        node->memory.ins[i] = PALS_ABSENT;
     }
     for (uint32_t l = 0; l < of->links; l++) {
         if (node->count > 0U) {
@@ -189,7 +187,7 @@ pals_answer pals_start(pals_node *node, int64_t reading)
     }
     take_ins(node);
     for (uint32_t i = 0; i < (of->outs * of->rate); i++) {
-        node->memory.outs[i] = ABSENT;
+        node->memory.outs[i] = PALS_ABSENT;
     }
     node->count += 1U;
     node->alarm += of->period;
@@ -260,7 +258,7 @@ pals_answer pals_send(pals_node *node, int64_t reading)
     record_own(node, PALS_SENT);
     for (uint32_t t = 0; t < of->targets; t++) {
         for (uint32_t i = 0; i < of->rate; i++) {
-            values[i] = (i < of->sent) ? node->memory.outs[(of->target[t].port * of->rate) + i] : ABSENT;
+            values[i] = (i < of->sent) ? node->memory.outs[(of->target[t].port * of->rate) + i] : PALS_ABSENT;
         }
         node->hooks->send(node->user, of->target[t].number, node->count - 1U, values, of->rate);
     }
@@ -288,6 +286,8 @@ pals_action pals_next(const pals_node *node, int64_t *from)
     case PALS_HOLDING:
         *from = release(node);
         return PALS_SEND;
+    case PALS_DONE:
+    case PALS_STOPPED:
     default:
         *from = PALS_NEVER;
         return PALS_NOTHING;
@@ -310,6 +310,7 @@ static void act(pals_node *node, pals_action action)
     case PALS_SEND:
         (void)pals_send(node, node->reading);
         break;
+    case PALS_NOTHING:
     default:
         break;
     }

@@ -14,7 +14,7 @@
 
 /* The reading that never comes, and the last alarm that there is: 2^59 ns, 18 years. */
 #define PALS_NEVER INT64_MAX
-#define PALS_LAST_ALARM ((int64_t)1 << 59)
+#define PALS_LAST_ALARM INT64_C(576460752303423488)
 
 /* The most ports that a component has, and the greatest rate. */
 enum { PALS_MOST_PORTS = 64, PALS_MOST_RATE = 64 };

@@ -11,6 +11,9 @@ typedef struct {
     bool present;
 } pals_value;
 
+/* Nothing is present. */
+#define PALS_ABSENT ((pals_value){0, false})
+
 /* Why a component is halted. PALS_BAD_STATE is that of a frame whose state is none that a step begins in: it was not
    made by the component's own calls. */
 enum { PALS_GOES = 0, PALS_OVERFLOW = 1, PALS_ZERO_DIVISOR = 2, PALS_BAD_STATE = 3 };

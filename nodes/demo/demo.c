@@ -150,7 +150,7 @@ static void sleep_until(inbox *in, int64_t time)
     }
 }
 
-static void run_node(uint32_t number, const char *folder)
+_Noreturn static void run_node(uint32_t number, const char *folder)
 {
     static inbox in;
     static pals_component hasty;

@@ -118,8 +118,11 @@ static void act(uint32_t number)
     case PALS_FINISH:
         (void)pals_finish(node);
         break;
-    default:
+    case PALS_SEND:
         (void)pals_send(node, clock_of(number));
+        break;
+    case PALS_NOTHING:
+    default:
         break;
     }
     set_wake(number);

@@ -3,6 +3,9 @@
 from .c_step import HEAD, c_name
 from .listing import name_of_link
 
+# The bounds of the platform, in the order of a listing.
+BOUNDS = ("skew", "execution_least", "execution_most", "network_least", "network_most")
+
 
 def flag(kind):
     """Whether a kind is that of Booleans, in C."""
@@ -109,18 +112,19 @@ class Tables:
         links = [f'{{"{name_of_link(design, it)}", {it.source[0]}, {it.target[0]}}}' for it in design.links]
         kinds = {it.name: self.kind_of(it.target) for it in design.inputs}
         inputs = [f'{{"{name}", {flag(kinds[name])}}}' for name in self.inputs]
+        counts = {"nodes": names, "links": links, "inputs": inputs, "outputs": design.outputs}
+        numbers = [("uint32_t", name, len(found)) for name, found in counts.items()]
+        times = (design.skew, *design.execution, *design.network)
+        numbers += [("int64_t", *it) for it in zip(BOUNDS, times)]
         return "\n".join([
             f'{HEAD}#include "design.h"', *(f'#include "{name}_node.h"' for name in names), "#include <stddef.h>", "",
-            f"const uint32_t pals_nodes = {len(names)}, pals_links = {len(links)};",
-            f"const uint32_t pals_inputs = {len(inputs)}, pals_outputs = {len(design.outputs)};",
-            f"const int64_t pals_skew = {design.skew};",
-            f"const int64_t pals_execution_least = {design.execution[0]}, pals_execution_most = {design.execution[1]};",
-            f"const int64_t pals_network_least = {design.network[0]}, pals_network_most = {design.network[1]};",
+            *(f"const {kind} pals_{name} = {number};" for kind, name, number in numbers),
             "const pals_component *const pals_component_of[] = {", *(f"    &{name}_component," for name in names), "};",
             "const pals_link pals_link_of[] = {", *(f"    {row}," for row in links or ["{NULL, 0, 0}"]), "};",
             "const pals_input pals_input_of[] = {", *(f"    {row}," for row in inputs or ["{NULL, false}"]), "};",
-            *(f"static {name}_node node_of_{name};" for name in names), "",
+            "",
             "pals_node *pals_open_node(uint32_t number, const pals_hooks *hooks, void *user, uint64_t rounds)", "{",
+            *(f"    static {name}_node node_of_{name};" for name in names),
             "    switch (number) {",
             *(f"    case {at}: return {name}_open(&node_of_{name}, hooks, user, rounds);"
               for at, name in enumerate(names)),
@@ -144,14 +148,20 @@ typedef struct {{
     bool boolean;
 }} pals_input;
 
-extern const uint32_t pals_nodes, pals_links, pals_inputs, pals_outputs;
+extern const uint32_t pals_nodes;
+extern const uint32_t pals_links;
+extern const uint32_t pals_inputs;
+extern const uint32_t pals_outputs;
 extern const pals_component *const pals_component_of[];
 extern const pals_link pals_link_of[];
 extern const pals_input pals_input_of[];
 
 /* The bounds of the platform, in nanoseconds. */
 extern const int64_t pals_skew;
-extern const int64_t pals_execution_least, pals_execution_most, pals_network_least, pals_network_most;
+extern const int64_t pals_execution_least;
+extern const int64_t pals_execution_most;
+extern const int64_t pals_network_least;
+extern const int64_t pals_network_most;
 
 /* The node of the component of a number, in memory of its own; NULL where there is none. */
 pals_node *pals_open_node(uint32_t number, const pals_hooks *hooks, void *user, uint64_t rounds);
