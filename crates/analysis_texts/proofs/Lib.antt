@@ -6,3 +6,4 @@ pub mod Filing
 pub mod VotedRows
 pub mod VotedFaults
 pub mod FusedRows
+pub mod Outvoted

@@ -1,7 +1,7 @@
 //! The rounds of plants without delay.
-ghost use Rattle.std.specs.Prelude.{◌≡◌, ◌++◌, IfOk, OnOk, slice_get};
+ghost use Rattle.std.specs.Prelude.{◌≡◌, ◌++◌, [], IfOk, OnOk, slice_get};
 ghost use Rattle.pals_model.specs.Rules.{IsDesign};
-ghost use Rattle.pals_model.specs.RoundTexts.{text_of, row_lines};
+ghost use Rattle.pals_model.specs.RoundTexts.{text_of, row_lines, report};
 ghost use Rattle.pals_report.specs.proof.TapPlaces.{tap_places};
 ghost use Rattle.plant_fuse.specs.Fused.{ArePairs};
 ghost use Rattle.plant_fuse.specs.proof.State.{begun, IsAdvanced};
@@ -16,7 +16,7 @@ use std::alloc::{AllocError, Global};
 use std::sync::Arc;
 
 /// The report of the fused composition of a design, for pairs that can be fused: the rows of the first
-/// rounds.
+/// rounds. Without pairs they are the composition's.
 pub fn fuse(
     alloc: Global,
     design: Design,
@@ -25,7 +25,8 @@ pub fn fuse(
     pairs: &[Pair],
 ) -> Result<Vec<u8>, NoMemory>
     requires { ArePairs design pairs.now }
-    ensures { IfOk result (λ text. IsFusedReport design pairs.now env.now rounds text.items) }
+    ensures fused { IfOk result (λ text. IsFusedReport design pairs.now env.now rounds text.items) }
+    ensures alone { IfOk result (λ text. pairs.now ≡ [] → text.items ≡ report design env.now rounds) }
 {
     let places = TapPlaces::new(alloc, &design)?;
     let mut product = begin(alloc, design, pairs)?;

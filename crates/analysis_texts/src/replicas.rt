@@ -1,15 +1,17 @@
 //! The rounds of a design in which some components have replicas.
-ghost use Rattle.std.specs.Prelude.{◌≡◌, ◌++◌, ◌<◌, ◌^◌, ℕ, List, All, length, map, IfOk, OnOk};
+ghost use Rattle.std.specs.Prelude.{◌≡◌, ◌++◌, ◌<◌, ◌^◌, ℕ, List, [], All, length, map, IfOk, OnOk};
 ghost use Rattle.pals_base.specs.Steps.{upwards};
 ghost use Rattle.pals_base.specs.declared.values.Port.{Port};
 ghost use Rattle.pals_model.specs.declared.design.Tap.{Tap};
-ghost use Rattle.pals_model.specs.RoundTexts.{text_of};
+ghost use Rattle.pals_model.specs.Rules.{IsDesign};
+ghost use Rattle.pals_model.specs.RoundTexts.{text_of, report};
 ghost use Rattle.pals_runs.specs.declared.pairs.VoteFault.{VoteFault};
 ghost use Rattle.analysis_fields.specs.proof.AnalysisFacts.{IsFaultOf};
 ghost use Rattle.triple_vote.specs.proof.Laws.{IsFault};
 ghost use Rattle.triple_vote.specs.Replicas.{is_replicated, frame_at, vopening};
 ghost use Rattle.triple_vote.specs.proof.States.{vbegun};
-ghost use Rattle.triple_vote.specs.VotedText.{replica_lines, shown_line, vrow_lines, vreport};
+ghost use Rattle.triple_vote.specs.VotedText.{replica_lines, shown_line, vrow_lines, vreport, thrice};
+ghost use Rattle.triple_vote.specs.Outvoted.{AreOutvoted};
 ghost use Rattle.analysis_texts.specs.Voted.{replicated_in, faults_of};
 ghost use Rattle.analysis_texts.specs.proof.Voted.{names_of, all_names, all_lines};
 
@@ -25,8 +27,10 @@ use std::sync::Arc;
 use triple_vote::VoteProduct;
 
 /// The report of the composition of a design in which some components have three replicas each, whose
-/// messages are voted on: the rows of the first rounds, with these faults of replicas. The time of a round
-/// is in line with its lines, the messages of replicas and its faults.
+/// messages are voted on: the rows of the first rounds, with these faults of replicas. Where no two replicas
+/// are at fault towards one reader in one round, they are the composition's, with each line of a replicated
+/// component three times; without replicas they are the composition's. The time of a round is in line with
+/// its lines, the messages of replicas and its faults.
 pub fn vote(
     alloc: Global,
     design: Design,
@@ -36,8 +40,11 @@ pub fn vote(
     faults: Items<RoundFault>,
 ) -> Result<Vec<u8>, NoMemory>
     requires { All (IsFaultOf design replicas.now) faults }
-    ensures { IfOk result (λ text. text.items
+    ensures rows { IfOk result (λ text. text.items
         ≡ vreport design env.now (replicated_in design replicas.now) (faults_of faults) rounds) }
+    ensures outvoted { IfOk result (λ text. AreOutvoted (faults_of faults)
+        → text.items ≡ thrice design env.now (replicated_in design replicas.now) rounds) }
+    ensures alone { IfOk result (λ text. replicas.now ≡ [] → text.items ≡ report design env.now rounds) }
 {
     let mut product = product_of(alloc, design, replicas)?;
     voted(alloc, &mut product, env, rounds, replicas, faults)
@@ -45,7 +52,8 @@ pub fn vote(
 
 // A product of a design, before the first round, with three replicas of each of some components.
 fn product_of(alloc: Global, design: Design, replicas: &[NodeNo]) -> Result<VoteProduct, NoMemory>
-    ensures { IfOk result (λ product. product ≡ vbegun design (replicated_in design replicas.now)) }
+    ensures begun { IfOk result (λ product. product ≡ vbegun design (replicated_in design replicas.now)) }
+    ensures rules { OnOk result (IsDesign design) }
 {
     let replicated = replicated(alloc, design.components().len(), replicas)?;
     VoteProduct::new(alloc, Arc::new(alloc, design)?, replicated)

@@ -15,8 +15,8 @@ new-requires-2 c =
     ap length c.in_ok-replicated.ensures ∙ length-table (is_among c.args.replicas.now) (length c.components.result.now) ∙ ap length c.components.ensures.value
     ∙ ap (λ (d : DesignParts). length d.components) (sym c.in_ok-new.ensures.ok)
 
-pub returns : goal.returns
-returns c =
+pub returns-clause-begun : goal.returns-clause-begun
+returns-clause-begun c =
     let design = c.args.design in
     let replicas = c.args.replicas.now in
     let held = arc_value c.in_ok-new.field-0 in

@@ -1,15 +1,19 @@
-use Rattle.std.proofs.Common.{◌≡◌, ◌∙◌, All, IfOk, sym, ap, subst}
+use Rattle.std.proofs.Common.{◌≡◌, ◌∙◌, [], All, IfOk, sym, ap, subst}
+use Rattle.std.proofs.lemmas.Result.{IfOk-weaker}
 use Rattle.pals_model.specs.declared.design.DesignParts.{DesignParts}
+use Rattle.pals_model.specs.RoundTexts.{report}
 use Rattle.analysis_fields.specs.proof.AnalysisFacts.{IsFaultOf}
 use Rattle.triple_vote.specs.proof.States.{VotedState, vbegun}
-use Rattle.triple_vote.specs.VotedText.{vreport}
+use Rattle.triple_vote.specs.VotedText.{vreport, thrice}
+use Rattle.triple_vote.specs.Outvoted.{AreOutvoted}
 use Rattle.analysis_texts.specs.Voted.{replicated_in, faults_of}
+use Rattle.analysis_texts.proofs.Outvoted.{rows_outvoted, rows_alone}
 use Rattle.analysis_texts.proofs.replicas.vote.Goals as goal
 
 pub voted-requires : goal.voted-requires
 voted-requires c =
     let replicas = c.args.replicas.now in
-    let made = c.in_ok-product.ensures in
+    let made = c.in_ok-product.ensures.begun in
     let same = ap (λ (s : VotedState). s.design) made in
     record {
       product = made ∙ ap (λ (d : DesignParts). vbegun d (replicated_in d replicas)) (sym same);
@@ -18,6 +22,23 @@ voted-requires c =
 
 pub returns : goal.returns
 returns c =
+    let design = c.args.design in
+    let env = c.args.env.now in
+    let rounds = c.args.rounds in
     let replicas = c.args.replicas.now in
-    subst (λ (d : DesignParts). IfOk c.voted.result (λ text. text.items ≡ vreport d c.args.env.now (replicated_in d replicas) (faults_of c.args.faults) c.args.rounds))
-    (ap (λ (s : VotedState). s.design) c.in_ok-product.ensures) c.voted.ensures
+    let faults = c.args.faults in
+    let rules = c.in_ok-product.ensures.rules in
+    let rows : IfOk c.voted.result (λ text. text.items ≡ vreport design env (replicated_in design replicas) (faults_of faults) rounds) =
+    subst (λ (d : DesignParts). IfOk c.voted.result (λ text. text.items ≡ vreport d env (replicated_in d replicas) (faults_of faults) rounds))
+    (ap (λ (s : VotedState). s.design) c.in_ok-product.ensures.begun) c.voted.ensures in
+    record {
+      rows = rows;
+      outvoted =
+          IfOk-weaker c.voted.result (λ text. text.items ≡ vreport design env (replicated_in design replicas) (faults_of faults) rounds)
+          (λ text. AreOutvoted (faults_of faults) → text.items ≡ thrice design env (replicated_in design replicas) rounds)
+          (λ text is fits. is ∙ rows_outvoted design env replicas faults rounds rules c.requires fits) rows;
+      alone =
+          IfOk-weaker c.voted.result (λ text. text.items ≡ vreport design env (replicated_in design replicas) (faults_of faults) rounds)
+          (λ text. replicas ≡ [] → text.items ≡ report design env rounds)
+          (λ text is none. is ∙ rows_alone design env replicas faults rounds rules c.requires none) rows;
+    }
