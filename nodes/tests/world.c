@@ -58,7 +58,8 @@ static int64_t time_for(uint32_t number, int64_t target)
     return later(random_in(first, later(first, target + pals_skew - 1)), now);
 }
 
-/* Sets when a node does its next action, and which. A step that is begun ends when it is done, or a send comes first. */
+/* Sets when a node does its next action, and which. A step that is begun ends when it is done, or a send comes
+   first. */
 static void set_wake(uint32_t number)
 {
     int64_t target = PALS_NEVER;

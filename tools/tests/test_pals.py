@@ -201,7 +201,7 @@ def test_code_is_a_program_of_its_own():
 
 
 def test_each_source_counts():
-    """The sum of the sources is another one with any change in a crate that the program stands on, and with no other."""
+    """The sum of the sources is another one with any change in a crate that the program stands on, and no other."""
     with tempfile.TemporaryDirectory() as folder:
         small_tree(folder)
         first = pals(folder, "--sources")[1]
