@@ -20,7 +20,7 @@ use Rattle.pals_top.specs.declared.execution.Execution.TheVariants as execution
 use Rattle.pals_top.specs.Analyses.{command_of, Makes, IsAnalysed, IsAnalysisAnswer}
 use Rattle.pals_top.specs.Executions.{command_of as execution_command, IsExecutionAnswer}
 use Rattle.pals_top.specs.Answers.{IsCommandAnswer}
-use Rattle.answer_laws.specs.proof.Runs.{is_run}
+use Rattle.pals_top.specs.proof.Code.{is_run}
 use Rattle.answer_laws.proofs.Laws.{OneDesign, OneFault, AnalysisLaws, ExecutionLaws}
 use Rattle.answer_laws.proofs.Designs.{one_tree, read_or_refused, one_refused_text, one_accepted, accepted_or_refused, package_or_text, one_refused_package}
 use Rattle.answer_laws.proofs.Meanings.{one_report}

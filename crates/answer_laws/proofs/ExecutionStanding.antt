@@ -6,7 +6,7 @@ use Rattle.pals_top.specs.declared.execution.Execution.{Execution}
 use Rattle.pals_top.specs.declared.execution.Execution.TheVariants.{TimedWorld, LooseWorld, Run, Audit, Budget}
 use Rattle.pals_top.specs.Executions.{command_of, IsScenarioRefusedIn, IsExecuted, IsExecutionAnswer}
 use Rattle.answer_laws.specs.proof.Meanings.{HasTree, MeansDesign, MeansScenario, HasLongCode, LacksScenario, GivesStatus}
-use Rattle.answer_laws.specs.proof.Runs.{is_run}
+use Rattle.pals_top.specs.proof.Code.{is_run}
 use Rattle.answer_laws.proofs.Laws.{OneDesign, ExecutionLaws}
 use Rattle.answer_laws.proofs.Standing.{no_tree, no_design, refused_tree, has_tree}
 use Rattle.answer_laws.proofs.Scenarios.{meant_or_refused}

@@ -11,7 +11,7 @@ use Rattle.bundle_designs.specs.Accepted.{IsAccepted}
 use Rattle.pals_top.specs.declared.execution.Execution.{Execution}
 use Rattle.pals_top.specs.Executions.{command_of, Makes, IsExecuted, IsScenarioRefusedIn, IsCodeTooLong, code_fault_line}
 use Rattle.answer_laws.specs.proof.Meanings.{HasLongCode}
-use Rattle.answer_laws.specs.proof.Runs.{is_run}
+use Rattle.pals_top.specs.proof.Code.{is_run}
 use Rattle.answer_laws.proofs.Laws.{OneDesign, ExecutionLaws}
 use Rattle.answer_laws.proofs.Designs.{one_accepted}
 use Rattle.answer_laws.proofs.Scenarios.{one_meaning, one_scenario_fault, meant_or_refused}

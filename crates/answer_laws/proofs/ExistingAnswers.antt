@@ -21,7 +21,7 @@ use Rattle.pals_top.specs.Executions.{command_of as execution_command, code_faul
 use Rattle.pals_top.specs.proof.Executions.{HasEvents}
 use Rattle.scenario_laws.specs.proof.Meanings.{HasScenario, HasFault}
 use Rattle.answer_laws.specs.proof.Meanings.{HasTree}
-use Rattle.answer_laws.specs.proof.Runs.{is_run}
+use Rattle.pals_top.specs.proof.Code.{is_run}
 use Rattle.answer_laws.specs.proof.Exists.{IsAnswerTo, HasAnswer, HasOneAnswer}
 use Rattle.answer_laws.proofs.ExistingLaws.{ExistenceLaws}
 use Rattle.answer_laws.proofs.ExistingTexts.{IsRefused, tree_or_refused}
@@ -70,7 +70,8 @@ module _ (laws : ExistenceLaws) (what : Analysis) (root bundle : List ℕ) where
       → HasAnalysisAnswer what root bundle
   by_scenario d (inl (scenario, means)) =
       let pairs = laws.pairs d.bytes (analysis_command what root) d.design scenario means in
-      let made = by_analysis laws.fused what d.design scenario d.rules pairs in (
+      let suits = laws.suit d.bytes (analysis_command what root) d.design scenario d.rules means in
+      let made = by_analysis laws.fused what d.design scenario d.rules suits pairs in (
         made.0,
         made.1,
         inr (inr (record {

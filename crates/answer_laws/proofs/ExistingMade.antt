@@ -1,12 +1,16 @@
 -- Each command makes a status and a text of a design and its scenario: one lemma for each command.
-use Rattle.std.proofs.Common.{ℕ, List, refl}
+use Rattle.std.proofs.Common.{ℕ, List, refl, subst}
 use Rattle.pals_model.specs.declared.design.DesignParts.{DesignParts}
 use Rattle.pals_model.specs.Rules.{IsDesign}
 use Rattle.scenario_json.specs.declared.scenario.Scenario.{Scenario}
 use Rattle.scenario_json.specs.proof.Facts.{IsScenarioOf}
 use Rattle.scenario_laws.specs.proof.Events.{AreLooseEvents}
 use Rattle.plant_fuse.specs.Fused.{ArePairs}
+use Rattle.pals_runs.specs.declared.pairs.Pair.{Pair}
+use Rattle.plant_fuse.specs.FusedText.{IsFusedReport}
 use Rattle.plant_fuse.specs.proof.Laws.{ReportExists}
+use Rattle.plant_fuse.proofs.AloneReports.{report_without_pairs}
+use Rattle.analysis_texts.proofs.Outvoted.{rows_outvoted, rows_alone}
 use Rattle.pals_top.specs.declared.analysis.Analysis.{Analysis}
 use Rattle.pals_top.specs.declared.analysis.Analysis.TheVariants.{Sync, Watch, Vote, Fuse}
 use Rattle.pals_top.specs.declared.execution.Execution.{Execution}
@@ -34,21 +38,39 @@ by_sync design scenario = (_, _, (refl, refl))
 by_watch : (design : DesignParts) (scenario : Scenario) → IsMadeByAnalysis Watch design scenario
 by_watch design scenario = (_, _, record { status_is = refl; text_is = refl })
 
-by_vote : (design : DesignParts) (scenario : Scenario) → IsMadeByAnalysis Vote design scenario
-by_vote design scenario = (_, _, record { status_is = refl; text_is = refl })
+by_vote : (design : DesignParts) (scenario : Scenario) → IsDesign design → IsScenarioOf design scenario → IsMadeByAnalysis Vote design scenario
+by_vote design scenario rules suits = (
+  _,
+  _,
+  record {
+    status_is = refl;
+    text_is = refl;
+    outvoted = rows_outvoted design scenario.env scenario.replicas scenario.faults scenario.rounds rules suits.fault;
+    alone = rows_alone design scenario.env scenario.replicas scenario.faults scenario.rounds rules suits.fault;
+  },
+)
 
 module _ (fused : ReportExists) where
   by_fuse : (design : DesignParts) (scenario : Scenario) → IsDesign design → ArePairs design scenario.plants → IsMadeByAnalysis Fuse design scenario
   by_fuse design scenario rules pairs =
-      let there = fused design scenario.plants scenario.env scenario.rounds rules pairs in
-      (_, there.0, record { status_is = refl; report = there.1 })
+      let there = fused design scenario.plants scenario.env scenario.rounds rules pairs in (
+        _,
+        there.0,
+        record {
+          status_is = refl;
+          report = there.1;
+          alone = λ none.
+              report_without_pairs design scenario.env scenario.rounds there.0 rules
+              (subst (λ (ps : List Pair). IsFusedReport design ps scenario.env scenario.rounds there.0) none there.1);
+        },
+      )
 
-  pub by_analysis : (what : Analysis) (design : DesignParts) (scenario : Scenario) → IsDesign design → ArePairs design scenario.plants
-      → IsMadeByAnalysis what design scenario
-  by_analysis Sync design scenario rules pairs = by_sync design scenario
-  by_analysis Watch design scenario rules pairs = by_watch design scenario
-  by_analysis Vote design scenario rules pairs = by_vote design scenario
-  by_analysis Fuse design scenario rules pairs = by_fuse design scenario rules pairs
+  pub by_analysis : (what : Analysis) (design : DesignParts) (scenario : Scenario) → IsDesign design → IsScenarioOf design scenario
+      → ArePairs design scenario.plants → IsMadeByAnalysis what design scenario
+  by_analysis Sync design scenario rules suits pairs = by_sync design scenario
+  by_analysis Watch design scenario rules suits pairs = by_watch design scenario
+  by_analysis Vote design scenario rules suits pairs = by_vote design scenario rules suits
+  by_analysis Fuse design scenario rules suits pairs = by_fuse design scenario rules pairs
 
 -- ---- executions
 abbrev pub IsMadeByExecution : Execution → DesignParts → Scenario → Type 0

@@ -8,7 +8,6 @@ pub mod TimedWorlds
 pub mod Made
 pub mod Executions
 pub mod Commands
-pub mod Analysed
 pub mod Calls
 pub mod Ways
 pub mod Standing

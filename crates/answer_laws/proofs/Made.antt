@@ -15,7 +15,7 @@ use Rattle.pals_top.specs.Analyses.{Makes as analyses}
 use Rattle.pals_top.specs.Executions.{command_of, Makes as executes}
 use Rattle.design_codes.specs.Behaviours.{behaviours}
 use Rattle.pals_top.specs.Budget.{processors_of}
-use Rattle.answer_laws.specs.proof.Runs.{is_run}
+use Rattle.pals_top.specs.proof.Code.{is_run}
 use Rattle.answer_laws.proofs.Laws.{ExecutionLaws}
 use Rattle.pals_top.specs.Worlds.{world_of}
 use Rattle.answer_laws.proofs.TimedWorlds.{one_timed}

@@ -1,5 +1,4 @@
 -- What the theorem of the program does not rest on: definitions of contracts below it, of laws, and of proofs.
-pub mod Analyses
 pub mod Meanings
 pub mod Runs
 pub mod Exists

@@ -3,7 +3,6 @@
 #![tactic(auto)]
 
 pub mod accepted;
-pub mod analyses;
 pub mod answers;
 pub mod bundles;
 pub mod existence;

@@ -1,4 +1,5 @@
 mod Analyses
+mod Endings
 mod Executions
 mod Forms
 pub mod LooseWorlds

@@ -1,14 +1,12 @@
 //! The command `world --loose`: what a list of events without time leaves.
-ghost use Rattle.std.specs.Prelude.{◌≡◌, ◌≤◌, ℕ, List, [], ◌++◌, false, map, length, None, IfOk};
-ghost use Rattle.pals_base.specs.declared.limits.TheConstants.{ROUNDS};
-ghost use Rattle.pals_model.specs.Delays.{AreDelays};
+ghost use Rattle.std.specs.Prelude.{◌≡◌, ℕ, List, [], ◌++◌, false, map, None, IfOk};
 ghost use Rattle.loose_world.specs.declared.events.LooseEnd.{LooseEnd};
 ghost use Rattle.loose_world.specs.Worlds.{Tells};
 ghost use Rattle.loose_world.specs.Sent.{AreOutLinks};
 ghost use Rattle.pals_model.specs.Rules.{IsDesign};
 ghost use Rattle.pals_model.specs.RoundTexts.{line_end, text_of as lines_text};
 ghost use Rattle.pals_runs.specs.Journal.{entry_line};
-ghost use Rattle.pals_bus.specs.proof.Values.{AreCodes, opening_bus};
+ghost use Rattle.pals_bus.specs.proof.Values.{AreCodes};
 ghost use Rattle.scenario_json.specs.proof.Facts.{IsScenarioOf};
 ghost use Rattle.pals_report.specs.EventFaults.{event_fault_line};
 ghost use Rattle.loose_world.specs.proof.Finished.{finished_lines, common_lines};
@@ -19,16 +17,16 @@ ghost use Rattle.pals_top.specs.proof.Code.{status_at, text_at};
 ghost use Rattle.pals_top.specs.proof.Statuses.{status_of, text_of, Says};
 
 use crate::answer::Answer;
+use crate::opening::opened;
 use loose_world::world_laws::{events_are_steps, texts_are_told};
 use loose_world::{LooseEnd, OutLinks, add_finished, add_finished_by_all, add_journal, run_loose};
 use pals_base::{Items, NoMemory};
 use pals_bus::Bus;
-use pals_model::{Delays, Design, Env};
+use pals_model::Design;
 use pals_report::add_event_fault;
 use pals_runs::{Event, EventFault};
 use scenario_json::Scenario;
 use std::alloc::Global;
-use std::sync::Arc;
 use step_code::Code;
 
 /// What the events of a scenario give, from the opening of its run on.
@@ -56,25 +54,6 @@ pub fn answer_loose(
     } = scenario;
     let mut bus = opened(alloc, design, codes, env, rounds, delays, false)?;
     answer_events(alloc, &mut bus, events.as_slice(), &links)
-}
-
-/// The bus of a run before its first event.
-pub fn opened(
-    alloc: Global,
-    design: Design,
-    codes: Items<Code>,
-    env: Env,
-    rounds: u32,
-    delays: Delays,
-    meeting: bool,
-) -> Result<Bus, NoMemory>
-    requires codes { AreCodes design codes }
-    requires rounds { (1 ≤ rounds) × (rounds ≤ ROUNDS) }
-    requires delays { AreDelays (length design.links) delays }
-    ensures { IfOk result (λ bus. bus ≡ opening_bus (record { design = design; env = env; rounds = rounds; delays = delays }) codes meeting) }
-{
-    let design = Arc::new(alloc, design)?;
-    Bus::new(alloc, design, codes, env, rounds, delays, meeting)
 }
 
 // What the events leave.

@@ -1,17 +1,19 @@
 //! The one call that does all the program does.
-ghost use Rattle.std.specs.Prelude.{◌≡◌, ◌≢◌, ℕ, true, List, IfOk, OnErr, IsSome};
+ghost use Rattle.std.specs.Prelude.{◌≡◌, ◌≢◌, ℕ, true, false, List, IfOk, OnErr, IsSome};
 ghost use Rattle.pals_io.specs.Stream.{GivesWithin, after_taking, TakesPart};
-ghost use Rattle.pals_runs.specs.declared.commands.Command.{Command};
 ghost use Rattle.pals_top.specs.Words.{form, HasForm};
 ghost use Rattle.pals_top.specs.Outside.{reading};
-ghost use Rattle.pals_top.specs.Answers.{reads_source, IsAnswer, IsSourceAnswer, IsCommandAnswer};
-ghost use Rattle.pals_top.specs.proof.Statuses.{status_of, text_of};
+ghost use Rattle.pals_top.specs.Answers.{reads_source, IsAnswer, IsFormAnswer, IsSourceAnswer, IsCommandAnswer};
+ghost use Rattle.pals_top.specs.proof.Code.{is_run};
+ghost use Rattle.pals_top.specs.proof.Statuses.{status_of, text_of, IsWritten};
 
 use crate::analysis::{Analysis, answer_analysis};
 use crate::answer::Answer;
 use crate::check::answer_check;
 use crate::execution::{Execution, answer_execution};
+use crate::host::Host;
 use crate::print::answer_print;
+use crate::run::answer_run;
 use crate::status::{NO_MEMORY, WRITE_FAULT};
 use crate::words::{WordsEnd, read_words};
 use node_threads::{Gate, Starter};
@@ -26,7 +28,7 @@ use world_texts::tell_ring;
 
 /// Does what the words say with the bytes of the source, writes the answer's text to the sink and
 /// returns its status. A run's nodes go in threads where the starter admits them, and the gate is told of
-/// their jobs; it may wait for locks and for the threads to end.
+/// their jobs; it may wait for locks and for the threads to end. No other command is given the runtime.
 ///
 /// 0: what the command asks for was written. 1: it was written, and something in it is not so: a trace
 /// is wrong, a property is false at some round, or a processor has more to do than fits. 2: the words are
@@ -58,7 +60,27 @@ pub fn pals<R: Threads + Wait + Sync, S: Source, K: Sink, W: Starter, G: Gate + 
         × GivesWithin (S.shown source.old) (S.shown source.new) BUNDLE_BYTES
         × (sink.new ≡ sink.old) }
 {
-    let Ok(answer) = answer_to(rt, alloc, words, source, starter, gate) else {
+    match read_words(alloc, words) {
+        Ok(Command::Run { root, trace }) => {
+            let host = Host {
+                runtime: rt,
+                starter,
+                gate,
+            };
+            write_answer(sink, answer_run(host, alloc, source, root, trace))
+        }
+        Ok(command) => write_answer(sink, answer_command(alloc, command, source)),
+        Err(WordsEnd::Usage) => write_answer(sink, Ok(Answer::Usage)),
+        Err(WordsEnd::Memory) => NO_MEMORY,
+    }
+}
+
+// Writes the text of an answer, if there was memory to make one. The result is the program's status.
+fn write_answer<K: Sink>(sink: &mut K, answer: Result<Answer, NoMemory>) -> u8
+    ensures written { IfOk answer (IsWritten (K.shown sink.old) (K.shown sink.new) result) }
+    ensures nothing { OnErr answer ((result ≡ NO_MEMORY) × (sink.new ≡ sink.old)) }
+{
+    let Ok(answer) = answer else {
         return NO_MEMORY;
     };
     match write_all(sink, answer.text()) {
@@ -67,45 +89,37 @@ pub fn pals<R: Threads + Wait + Sync, S: Source, K: Sink, W: Starter, G: Gate + 
     }
 }
 
-// The answer, its whole text made.
-fn answer_to<R: Threads + Wait + Sync, S: Source, W: Starter, G: Gate + Sync>(
-    rt: &R,
-    alloc: Global,
-    words: &[Text],
-    source: &mut S,
-    starter: &mut W,
-    gate: &G,
-) -> Result<Answer, NoMemory>
-    ensures ok { IfOk result (λ answer. IsAnswer (form words.now) (reading (S.shown source.old) (S.shown source.new)) (status_of answer) (text_of answer)) }
-    ensures err { OnErr result (IsSome (form words.now) × GivesWithin (S.shown source.old) (S.shown source.new) BUNDLE_BYTES) }
-{
-    let command = match read_words(alloc, words) {
-        Ok(command) => command,
-        Err(WordsEnd::Usage) => return Ok(Answer::Usage),
-        Err(WordsEnd::Memory) => return Err(AllocError),
-    };
-    if let Command::Ring { nodes, rounds } = command {
-        return Ok(Answer::Done(tell_ring(alloc, nodes, rounds)?));
-    }
-    answer_source(rt, alloc, command, source, starter, gate)
-}
-
-// The command's answer to the bytes of a source.
-fn answer_source<R: Threads + Wait + Sync, S: Source, W: Starter, G: Gate + Sync>(
-    rt: &R,
+// The answer of a command that is no run.
+fn answer_command<S: Source>(
     alloc: Global,
     command: Command,
     source: &mut S,
-    starter: &mut W,
-    gate: &G,
 ) -> Result<Answer, NoMemory>
     requires form { HasForm command }
+    requires alone { is_run command ≡ false }
+    ensures ok { IfOk result (λ answer. IsFormAnswer command (reading (S.shown source.old) (S.shown source.new)) (status_of answer) (text_of answer)) }
+    ensures err { OnErr result (GivesWithin (S.shown source.old) (S.shown source.new) BUNDLE_BYTES) }
+{
+    if let Command::Ring { nodes, rounds } = command {
+        return Ok(Answer::Done(tell_ring(alloc, nodes, rounds)?));
+    }
+    answer_source(alloc, command, source)
+}
+
+// The command's answer to the bytes of a source.
+fn answer_source<S: Source>(
+    alloc: Global,
+    command: Command,
+    source: &mut S,
+) -> Result<Answer, NoMemory>
+    requires form { HasForm command }
+    requires alone { is_run command ≡ false }
     requires reads { reads_source command ≡ true }
     ensures ok { IfOk result (λ answer. IsSourceAnswer command (reading (S.shown source.old) (S.shown source.new)) (status_of answer) (text_of answer)) }
     ensures err { OnErr result (GivesWithin (S.shown source.old) (S.shown source.new) BUNDLE_BYTES) }
 {
     match read_all(alloc, source, BUNDLE_BYTES) {
-        Ok(bundle) => answer_bundle(rt, alloc, command, bundle.as_slice(), starter, gate),
+        Ok(bundle) => answer_bundle(alloc, command, bundle.as_slice()),
         Err(ReadEnd::ReadFault) => Ok(Answer::ReadFault),
         Err(ReadEnd::TooLong) => Ok(Answer::TooLong),
         Err(ReadEnd::Memory) => Err(AllocError),
@@ -113,15 +127,9 @@ fn answer_source<R: Threads + Wait + Sync, S: Source, W: Starter, G: Gate + Sync
 }
 
 // The command's answer to a bundle.
-fn answer_bundle<R: Threads + Wait + Sync, W: Starter, G: Gate + Sync>(
-    rt: &R,
-    alloc: Global,
-    command: Command,
-    bundle: &[u8],
-    starter: &mut W,
-    gate: &G,
-) -> Result<Answer, NoMemory>
+fn answer_bundle(alloc: Global, command: Command, bundle: &[u8]) -> Result<Answer, NoMemory>
     requires form { HasForm command }
+    requires alone { is_run command ≡ false }
     requires reads { reads_source command ≡ true }
     ensures { IfOk result (λ answer. IsCommandAnswer command bundle.now (status_of answer) (text_of answer)) }
 {
@@ -133,44 +141,13 @@ fn answer_bundle<R: Threads + Wait + Sync, W: Starter, G: Gate + Sync>(
         Command::Vote { root } => answer_analysis(alloc, bundle, root, Analysis::Vote),
         Command::Fuse { root } => answer_analysis(alloc, bundle, root, Analysis::Fuse),
         Command::World { root, loose: false } => {
-            answer_execution(
-                rt,
-                alloc,
-                bundle,
-                root,
-                Execution::TimedWorld,
-                starter,
-                gate,
-            )
+            answer_execution(alloc, bundle, root, Execution::TimedWorld)
         }
         Command::World { root, loose: true } => {
-            answer_execution(
-                rt,
-                alloc,
-                bundle,
-                root,
-                Execution::LooseWorld,
-                starter,
-                gate,
-            )
+            answer_execution(alloc, bundle, root, Execution::LooseWorld)
         }
-        Command::Run { root, trace } => {
-            answer_execution(
-                rt,
-                alloc,
-                bundle,
-                root,
-                Execution::Run { trace },
-                starter,
-                gate,
-            )
-        }
-        Command::Audit { root } => {
-            answer_execution(rt, alloc, bundle, root, Execution::Audit, starter, gate)
-        }
-        Command::Budget { root } => {
-            answer_execution(rt, alloc, bundle, root, Execution::Budget, starter, gate)
-        }
-        Command::Ring { .. } => unreachable!(),
+        Command::Audit { root } => answer_execution(alloc, bundle, root, Execution::Audit),
+        Command::Budget { root } => answer_execution(alloc, bundle, root, Execution::Budget),
+        Command::Run { .. } | Command::Ring { .. } => unreachable!(),
     }
 }

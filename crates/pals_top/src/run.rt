@@ -1,38 +1,88 @@
-//! The command `run`: the nodes in threads.
+//! The command `run`: the nodes in threads. It is the one command that is given the program's host.
+ghost use Rattle.std.specs.Prelude.{IfOk, OnErr};
 ghost use Rattle.pals_bus.specs.proof.Values.{AreCodes};
-ghost use Rattle.std.specs.Prelude.{IfOk};
+ghost use Rattle.pals_io.specs.Stream.{GivesWithin};
+ghost use Rattle.pals_runs.specs.declared.commands.Command.TheVariants as command;
 ghost use Rattle.scenario_json.specs.proof.Facts.{IsScenarioOf};
+ghost use Rattle.pals_top.specs.declared.execution.Execution.TheVariants as execution;
+ghost use Rattle.pals_top.specs.Answers.{IsSourceAnswer};
+ghost use Rattle.pals_top.specs.Executions.{IsExecutionAnswer};
+ghost use Rattle.pals_top.specs.Outside.{reading};
 ghost use Rattle.pals_top.specs.Run.{IsRunAnswer};
 ghost use Rattle.pals_top.specs.proof.Statuses.{status_of, text_of};
 
 use crate::answer::Answer;
-use crate::loose::opened;
+use crate::coded::{Coded, Meaning, meaning_of};
+use crate::execution::Execution;
+use crate::host::Host;
+use crate::opening::opened;
 use node_threads::{Gate, Starter};
-use pals_base::{Items, NoMemory};
+use pals_base::limits::BUNDLE_BYTES;
+use pals_base::{NoMemory, Text};
 use pals_clock::Clocks;
-use pals_model::Design;
+use pals_io::{ReadEnd, Source, read_all};
 use run_texts::{ToldRun, tell_run};
 use scenario_json::Scenario;
-use std::alloc::Global;
+use std::alloc::{AllocError, Global};
 use std::sync::Wait;
 use std::thread::Threads;
-use step_code::Code;
 
-/// What comes of the nodes of a design in threads, each by its clock of the scenario.
-pub fn answer_run<R: Threads + Wait + Sync, W: Starter, G: Gate + Sync>(
-    rt: &R,
+/// The answer of `run` to the bytes of a source, with the journal where a trace is wanted.
+pub fn answer_run<R: Threads + Wait + Sync, S: Source, W: Starter, G: Gate + Sync>(
+    host: Host<'_, R, W, G>,
     alloc: Global,
-    design: Design,
-    codes: Items<Code>,
-    scenario: Scenario,
+    source: &mut S,
+    root: Text,
     trace: bool,
-    starter: &mut W,
-    gate: &G,
 ) -> Result<Answer, NoMemory>
-    requires codes { AreCodes design codes }
-    requires kept { IsScenarioOf design scenario }
-    ensures { IfOk result (λ answer. IsRunAnswer design scenario trace (status_of answer) (text_of answer)) }
+    ensures ok { IfOk result (λ answer. IsSourceAnswer (command.Run root trace) (reading (S.shown source.old) (S.shown source.new)) (status_of answer) (text_of answer)) }
+    ensures err { OnErr result (GivesWithin (S.shown source.old) (S.shown source.new) BUNDLE_BYTES) }
 {
+    match read_all(alloc, source, BUNDLE_BYTES) {
+        Ok(bundle) => run_bundle(host, alloc, bundle.as_slice(), root, trace),
+        Err(ReadEnd::ReadFault) => Ok(Answer::ReadFault),
+        Err(ReadEnd::TooLong) => Ok(Answer::TooLong),
+        Err(ReadEnd::Memory) => Err(AllocError),
+    }
+}
+
+// The answer of `run` to a bundle.
+fn run_bundle<R: Threads + Wait + Sync, W: Starter, G: Gate + Sync>(
+    host: Host<'_, R, W, G>,
+    alloc: Global,
+    bundle: &[u8],
+    root: Text,
+    trace: bool,
+) -> Result<Answer, NoMemory>
+    ensures { IfOk result (λ answer. IsExecutionAnswer (execution.Run trace) root bundle.now (status_of answer) (text_of answer)) }
+{
+    match meaning_of(alloc, bundle, root, Execution::Run { trace })? {
+        Meaning::Coded(coded) => run_nodes(host, alloc, coded, trace),
+        Meaning::Refused(answer) => Ok(answer),
+    }
+}
+
+// What comes of the nodes of a design in threads, each by its clock of the scenario.
+fn run_nodes<R: Threads + Wait + Sync, W: Starter, G: Gate + Sync>(
+    host: Host<'_, R, W, G>,
+    alloc: Global,
+    coded: Coded,
+    trace: bool,
+) -> Result<Answer, NoMemory>
+    requires codes { AreCodes coded.design coded.codes }
+    requires kept { IsScenarioOf coded.design coded.scenario }
+    ensures { IfOk result (λ answer. IsRunAnswer coded.design coded.scenario trace (status_of answer) (text_of answer)) }
+{
+    let Host {
+        runtime,
+        starter,
+        gate,
+    } = host;
+    let Coded {
+        design,
+        codes,
+        scenario,
+    } = coded;
     let Scenario {
         rounds,
         env,
@@ -42,7 +92,7 @@ pub fn answer_run<R: Threads + Wait + Sync, W: Starter, G: Gate + Sync>(
     } = scenario;
     let meeting = matches!(clocks, Clocks::Meet);
     let bus = opened(alloc, design, codes, env, rounds, delays, meeting)?;
-    match tell_run(rt, alloc, bus, clocks, trace, starter, gate)? {
+    match tell_run(runtime, alloc, bus, clocks, trace, starter, gate)? {
         ToldRun::Completed(text) => Ok(Answer::Done(text)),
         ToldRun::Stopped(text) => Ok(Answer::Stopped(text)),
         ToldRun::ClockEnded(text) => Ok(Answer::ClockEnded(text)),

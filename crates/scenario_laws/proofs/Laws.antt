@@ -1,6 +1,5 @@
 -- What the fields of a scenario keep that was read.
-use Rattle.std.proofs.Common.{ℕ, ◌≤◌, true, false, List, [], length, codes, Ok, All, refl, sym, arith}
-use Rattle.std.proofs.lemmas.List.Elements.{All-nil}
+use Rattle.std.proofs.Common.{ℕ, ◌≤◌, true, false, List, [], length, codes, Ok, refl, sym, arith}
 use Rattle.std.proofs.lemmas.Bool.{false≢true}
 use Rattle.serde_json.specs.Find.{get}
 use Rattle.pals_base.specs.declared.limits.TheConstants.{LIST_ITEMS}
@@ -9,10 +8,7 @@ use Rattle.pals_model.specs.Rules.{IsDesign}
 use Rattle.pals_runs.specs.declared.commands.Command.{Command}
 use Rattle.scenario_json.specs.Events.{events_in}
 use Rattle.scenario_json.specs.Traces.{trace_in}
-use Rattle.analysis_fields.specs.proof.AnalysisFacts.{IsFaultOf}
-use Rattle.analysis_fields.specs.Replicas.{faults_in}
 use Rattle.analysis_fields.specs.Plants.{plants_in}
-use Rattle.analysis_fields.proofs.FaultFacts.{faults_keep}
 use Rattle.scenario_json.specs.declared.scenario.Scenario.{Scenario}
 use Rattle.scenario_json.specs.proof.Facts.{IsScenarioOf}
 use Rattle.scenario_json.specs.Scenarios.{needs_events, needs_trace, Means}
@@ -44,13 +40,6 @@ events_are_loose bytes root design s means =
     let read = means_read bytes design (loosely root) s means in
     field_keeps (codes "events") true [] (events_in design (loosely root)) (get (codes "events") read.0) (AreLooseEvents design)
     (λ free. absurd (false≢true (sym free))) (events_loose design root) s.events read.1.events
-
-pub faults_are_of_replicas : (bytes : List ℕ) (command : Command) (design : DesignParts) (s : Scenario) → Means bytes design command (Ok s)
-    → All (IsFaultOf design s.replicas) s.faults
-faults_are_of_replicas bytes command design s means =
-    let read = means_read bytes design command s means in
-    field_keeps (codes "faults") false [] (faults_in design s.replicas) (get (codes "faults") read.0) (λ fs. All (IsFaultOf design s.replicas) fs)
-    (λ free. All-nil (IsFaultOf design s.replicas)) (faults_keep design s.replicas) s.faults read.1.faults
 
 pub pairs_can_be_fused : (bytes : List ℕ) (command : Command) (design : DesignParts) (s : Scenario) → Means bytes design command (Ok s)
     → ArePairs design s.plants

@@ -1,6 +1,5 @@
 -- What the theorem of the program does not rest on: definitions of contracts below it, of laws, and of proofs.
 pub mod Events
 pub mod Facts
-pub mod Faults
 pub mod Meanings
 pub mod Plants

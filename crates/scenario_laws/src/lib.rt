@@ -4,6 +4,5 @@
 
 pub mod events;
 pub mod facts;
-pub mod faults;
 pub mod meanings;
 pub mod plants;

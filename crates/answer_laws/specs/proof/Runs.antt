@@ -3,7 +3,6 @@ use Rattle.std.specs.Prelude.{◌≡◌, ◌≢◌, ◌⊎◌, ℕ, Bool, true, 
 use Rattle.pals_clock.specs.declared.clock.Clocks.TheVariants.{Meet}
 use Rattle.pals_model.specs.declared.design.DesignParts.{DesignParts}
 use Rattle.pals_model.specs.RoundTexts.{report}
-use Rattle.pals_runs.specs.declared.commands.Command.{Command}
 use Rattle.pals_runs.specs.declared.journal.JournalEntry.{JournalEntry}
 use Rattle.pals_runs.specs.declared.journal.Stop.{Stop}
 use Rattle.pals_runs.specs.declared.verdicts.Verdict.TheVariants.{Sound}
@@ -24,10 +23,6 @@ use Rattle.pals_runs.specs.declared.commands.Command.TheVariants as command
 use Rattle.pals_runs.specs.declared.journal.JournalEntry.TheVariants as entry
 use Rattle.pals_top.specs.declared.analysis.Analysis.TheVariants as analysis
 use Rattle.pals_top.specs.declared.execution.Execution.TheVariants as execution
-
-abbrev pub is_run : Command → Bool
-is_run (command.Run root trace) = true
-is_run command = false
 
 -- the statuses of a run: all nodes are done, a stop stands, or a list has ended
 abbrev pub IsRunStatus : ℕ → Type 0

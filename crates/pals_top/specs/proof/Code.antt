@@ -1,7 +1,8 @@
 -- What private functions of the code answer. The theorem cites none of it.
-use Rattle.std.specs.Prelude.{ℕ, List, [], ◌∷◌, ◌++◌, ◌&&◌, map, if◌then◌else◌, Option, None}
+use Rattle.std.specs.Prelude.{ℕ, Bool, true, false, List, [], ◌∷◌, ◌++◌, ◌&&◌, map, if◌then◌else◌, Option, None}
 use Rattle.pals_model.specs.RoundTexts.{line_end, text_of}
 use Rattle.pals_runs.specs.declared.commands.Command.{Command}
+use Rattle.pals_runs.specs.declared.commands.Command.TheVariants.{Run}
 use Rattle.pals_runs.specs.Journal.{entry_line}
 use Rattle.pals_bus.specs.Values.{BusValue}
 use Rattle.loose_world.specs.declared.events.LooseEnd.{LooseEnd}
@@ -14,6 +15,11 @@ use Rattle.loose_world.specs.declared.events.LooseEnd.TheVariants as end
 -- a word with a root and one flag
 abbrev pub flagged_form : List ℕ → List ℕ → List ℕ → Option Command
 flagged_form flag word root = if is_plain word && is_plain root then form_by (word ∷ root ∷ []) (flag ∷ []) else None
+
+-- the one command that is given the program's host
+abbrev pub is_run : Command → Bool
+is_run (Run root trace) = true
+is_run command = false
 
 -- ---- what is written at the end of a world, behind the lines of what was sent
 abbrev pub status_at : LooseEnd → ℕ

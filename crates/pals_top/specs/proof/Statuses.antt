@@ -1,8 +1,9 @@
 -- The status and the text of an answer.
-use Rattle.std.specs.Prelude.{◌≡◌, ℕ, List}
+use Rattle.std.specs.Prelude.{◌≡◌, ℕ, List, ◌⊎◌}
+use Rattle.pals_io.specs.Stream.{SinkView, after_taking, TakesPart}
 use Rattle.pals_top.specs.declared.answer.Answer.{Answer}
 use Rattle.pals_top.specs.declared.answer.Answer.TheVariants.{Done, NotSo, Usage, TextRefused, DesignRefused, ScenarioRefused, Stopped, ClockEnded, CodeTooLong, ReadFault, TooLong}
-use Rattle.pals_top.specs.declared.status.TheConstants.{DONE, NOT_SO, USAGE, TEXT_REFUSED, DESIGN_REFUSED, SCENARIO_REFUSED, STOPPED, CLOCK_ENDED, CODE_TOO_LONG, READ_FAULT, TOO_LONG}
+use Rattle.pals_top.specs.declared.status.TheConstants.{DONE, NOT_SO, USAGE, TEXT_REFUSED, DESIGN_REFUSED, SCENARIO_REFUSED, STOPPED, CLOCK_ENDED, CODE_TOO_LONG, READ_FAULT, WRITE_FAULT, TOO_LONG}
 use Rattle.pals_top.specs.AnswerTexts.{usage_line, read_fault_line, too_long_line}
 
 abbrev pub status_of : Answer → ℕ
@@ -34,3 +35,9 @@ text_of TooLong = too_long_line
 -- it has this status and this text
 abbrev pub Says : ℕ → List ℕ → Answer → Type 0
 Says status text answer = (status_of answer ≡ status) × (text_of answer ≡ text)
+
+-- a sink took its whole text, and the call ends with its status; or the sink failed, and took a part of the text
+abbrev pub IsWritten : SinkView → SinkView → ℕ → Answer → Type 0
+IsWritten before after status answer =
+    ((status ≡ status_of answer) × (after ≡ after_taking before (text_of answer)))
+    ⊎ ((status ≡ WRITE_FAULT) × TakesPart before after (text_of answer))

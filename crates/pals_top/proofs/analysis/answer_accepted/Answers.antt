@@ -4,7 +4,7 @@ use Rattle.scenario_values.specs.declared.fault.ScenarioFault.TheVariants.{Memor
 use Rattle.scenario_json.specs.Scenarios.{Means}
 use Rattle.pals_top.specs.Analyses.{command_of}
 use Rattle.pals_top.proofs.Analyses.{refused, analysed}
-use Rattle.pals_top.proofs.Scenarios.{says_fault}
+use Rattle.pals_top.proofs.Scenarios.{faults_said}
 use Rattle.pals_top.proofs.analysis.answer_accepted.Goals as goal
 
 pub analyse-requires-clause-pairs : goal.analyse-requires-clause-pairs
@@ -26,5 +26,5 @@ returns-in-Err c bundle accepted =
     let means : c.in-Err.fault ≢ Memory → Means bytes design (command_of c.args.what c.args.root) (Err c.in-Err.fault) =
     λ named. subst (λ (k : Command). Means bytes design k (Err c.in-Err.fault)) c.command-command.ensures (c.in-Err.ensures.answer named) in
     refused c.args.what c.args.root bundle design c.refused_scenario.result
-    (says_fault c.args.root bundle design bytes (command_of c.args.what c.args.root) c.in-Err.fault c.refused_scenario.result accepted means
+    (faults_said c.args.root bundle design bytes (command_of c.args.what c.args.root) c.in-Err.fault c.refused_scenario.result accepted means
     c.refused_scenario.ensures.status c.refused_scenario.ensures.text c.refused_scenario.ensures.named)

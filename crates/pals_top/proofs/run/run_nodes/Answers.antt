@@ -1,4 +1,4 @@
-use Rattle.pals_top.proofs.run.answer_run.Goals as goal
+use Rattle.pals_top.proofs.run.run_nodes.Goals as goal
 
 pub opened-requires-clause-delays : goal.opened-requires-clause-delays
 opened-requires-clause-delays g c = record {

@@ -1,0 +1,5 @@
+use Rattle.std.proofs.Common.{rules}
+use Rattle.pals_top.proofs.analysis.answer_watch.Goals as goal
+
+pub returns : goal.returns
+returns c = search rules

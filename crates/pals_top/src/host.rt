@@ -1,0 +1,10 @@
+//! What a run in threads needs of the program's host, and no other command does.
+
+/// The runtime, which starts threads and may wait for them and for locks; the starter, which admits
+/// nodes to threads of their own; and the gate, which is told of their jobs.
+#[derive(Drop)]
+pub struct Host<'h, R, W, G> {
+    pub runtime: &'h R,
+    pub starter: &'h mut W,
+    pub gate: &'h G,
+}
