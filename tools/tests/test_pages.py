@@ -9,10 +9,18 @@ import tempfile
 from lib.bundles import read
 from tests.common import TOP, WITHIN, blocks, expect, page
 
+LISTINGS = ("code_listing", "pals_code")
+
 
 def says(name, words):
     """Stops where a page does not say something, however its lines are broken."""
     expect(words in " ".join(page(name).split()), True, f"{name} says: {words}")
+
+
+def of_pals(pattern):
+    """The files of a pattern, but for those of the program that writes listings, which has definitions of its own."""
+    found = glob.glob(pattern, recursive=True)
+    return [it for it in found if os.path.relpath(it, f"{TOP}/crates").split(os.sep)[0] not in LISTINGS]
 
 
 def test_pages_show_what_the_tools_write():
@@ -33,7 +41,7 @@ def test_pages_show_what_the_tools_write():
 
 def test_definitions_are_told_by_their_folder():
     """No definition on which the theorem rests uses one of a folder `proof`, nor does the theorem."""
-    files = [it for it in glob.glob(f"{TOP}/crates/*/specs/**/*.antt", recursive=True) if not it.endswith("/Lib.antt")]
+    files = [it for it in of_pals(f"{TOP}/crates/*/specs/**/*.antt") if not it.endswith("/Lib.antt")]
     rests = [it for it in files if "/specs/proof" not in it]
     for name in rests:
         expect(b".specs.proof." in read(name), False, f"a definition of proofs, used in {name}")
@@ -45,7 +53,7 @@ def test_definitions_are_told_by_their_folder():
     comments = sum(line.startswith("--") for line in lines)
     told = sum(not line.startswith(("--", "use ")) for line in lines)
     says("docs/definitions.md", f"{len(rests)} of them, with {told:,} lines of definitions and {comments:,} of comments")
-    inside = len(glob.glob(f"{TOP}/crates/*/specs/proof/**/*.antt", recursive=True))
+    inside = len(of_pals(f"{TOP}/crates/*/specs/proof/**/*.antt"))
     says("docs/definitions.md", f"those definitions, {inside} files")
     says("docs/assurance.md", f"{len(rests)} short files")
 
