@@ -91,7 +91,7 @@ fn kind_word(kind: Kind) -> Word<'static>
     }
 }
 
-fn add_port(out: &mut Vec<u8>, word: &[u8], port: &Named) -> Result<(), NoMemory>
+fn add_port<'a>(out: &mut Vec<u8>, word: &'a [u8], port: &'a Named) -> Result<(), NoMemory>
     ensures ok { OnOk result
         (out.new.items ≡ out.old.items ++ port_line word.now port.now ++ line_end) }
     ensures err { OnErr result (out.new.items ≡ out.old.items) }

@@ -111,20 +111,20 @@ fn add_instr(
 }
 
 // The line of an instruction on a slot, a port or a state: its number and its name.
-fn add_numbered(
+fn add_numbered<'a>(
     out: &mut Vec<u8>,
-    place: Word<'_>,
-    mnemonic: Word<'_>,
+    place: Word<'a>,
+    operation: Word<'a>,
     number: u32,
-    name: Word<'_>,
+    name: Word<'a>,
 ) -> Result<(), NoMemory>
     ensures ok { OnOk result (out.new.items ≡ out.old.items
-        ++ spaced ([] ∷ [] ∷ word_text place ∷ word_text mnemonic ∷ decimal number ∷ word_text name ∷ []) ++ line_end) }
+        ++ spaced ([] ∷ [] ∷ word_text place.entry ∷ word_text operation.entry ∷ decimal number ∷ word_text name.entry ∷ []) ++ line_end) }
     ensures err { OnErr result (out.new.items ≡ out.old.items) }
 {
     let indent = Word::Bytes(b"");
     let number = Word::Number(u64::from(number));
-    add_line(out, &[indent, indent, place, mnemonic, number, name])
+    add_line(out, &[indent, indent, place, operation, number, name])
 }
 
 /// Adds a line for each instruction of a behaviour's code.

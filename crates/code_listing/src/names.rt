@@ -5,7 +5,7 @@ ghost use Rattle.pals_model.specs.RoundTexts.{state_name};
 ghost use Rattle.pals_report.specs.proof.Words.{word_text};
 ghost use Rattle.code_listing.specs.Listings.{slot_name};
 
-use pals_base::{Kind, Named, StateDecl, VarDecl};
+use pals_base::{Named, StateDecl, VarDecl};
 use pals_report::Word;
 
 /// The name of a port, empty where there is none.

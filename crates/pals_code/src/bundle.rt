@@ -1,8 +1,9 @@
 //! The answer to a bundle.
-ghost use Rattle.std.specs.Prelude.{◌≡◌, ◌++◌, ℕ, List, IfOk};
+ghost use Rattle.std.specs.Prelude.{◌++◌, ℕ, List, IfOk};
 ghost use Rattle.pals_model.specs.RoundTexts.{line_end};
 ghost use Rattle.bundle_designs.specs.Accepted.{IsAccepted};
-ghost use Rattle.pals_code.specs.declared.status.TheConstants.{CODE_TOO_LONG};
+ghost use Rattle.code_listing.specs.Listings.{listing};
+ghost use Rattle.pals_code.specs.declared.status.TheConstants.{CODE_TOO_LONG, DONE};
 ghost use Rattle.pals_code.specs.Bundles.{code_fault_line, IsListingAnswer};
 ghost use Rattle.pals_code.specs.proof.Statuses.{status_of, text_of, Says};
 
@@ -14,6 +15,7 @@ use pals_base::{NoMemory, NodeNo, Text};
 use pals_model::Design;
 use pals_report::add_code_fault;
 use std::alloc::{AllocError, Global};
+use step_code::Code;
 
 /// The answer to a bundle: the listing of the step code of its design below the root. What stands
 /// behind the divider is not looked at.
@@ -32,14 +34,19 @@ fn answer_design(alloc: Global, design: &Design) -> Result<Answer, NoMemory>
         → IfOk result (λ answer. IsListingAnswer root bundle (status_of answer) (text_of answer)) }
 {
     match compile_all(alloc, design) {
-        Ok(codes) => {
-            let mut listing = Vec::new(alloc);
-            add_listing(&mut listing, design, codes.as_slice())?;
-            Ok(Answer::Done(listing))
-        }
+        Ok(codes) => list(alloc, design, codes.as_slice()),
         Err(CodesEnd::TooLong { node, length }) => code_too_long(alloc, design, node, length),
         Err(CodesEnd::Memory) => Err(AllocError),
     }
+}
+
+// The answer to a design with its codes.
+fn list(alloc: Global, design: &Design, codes: &[Code]) -> Result<Answer, NoMemory>
+    ensures { IfOk result (Says DONE (listing design.now codes.now)) }
+{
+    let mut text = Vec::new(alloc);
+    add_listing(&mut text, design, codes)?;
+    Ok(Answer::Done(text))
 }
 
 // The answer to a design with a component whose code is too long.
