@@ -1,7 +1,7 @@
 -- What `fuse` makes of a design and a scenario.
 use Rattle.std.specs.Prelude.{◌≡◌, ℕ, List, []}
 use Rattle.pals_model.specs.declared.design.DesignParts.{DesignParts}
-use Rattle.pals_model.specs.RoundTexts.{report}
+use Rattle.pals_model.specs.RoundTexts.{report as sync_report}
 use Rattle.scenario_json.specs.declared.scenario.Scenario.{Scenario}
 use Rattle.plant_fuse.specs.FusedText.{IsFusedReport}
 use Rattle.pals_top.specs.declared.status.TheConstants.{DONE}
@@ -11,4 +11,4 @@ pub record IsFusedAnswer (design : DesignParts) (scenario : Scenario) (status : 
   pub status_is : status ≡ DONE
   pub report : IsFusedReport design scenario.plants scenario.env scenario.rounds text
   -- without plants they are the composition's, as `sync` writes them
-  pub alone : scenario.plants ≡ [] → text ≡ report design scenario.env scenario.rounds
+  pub alone : scenario.plants ≡ [] → text ≡ sync_report design scenario.env scenario.rounds

@@ -1,0 +1,12 @@
+use Rattle.std.proofs.Common.{subst}
+use Rattle.pals_top.specs.declared.execution.Execution.TheVariants.{Run}
+use Rattle.pals_top.specs.proof.Executions.{IsMeaning}
+use Rattle.pals_top.specs.proof.Statuses.{status_of, text_of}
+use Rattle.pals_top.proofs.Executions.{refused}
+use Rattle.pals_top.proofs.run.run_bundle.Goals as goal
+
+pub returns-in-Refused : goal.returns-in-Refused
+returns-in-Refused g c =
+    let what = Run c.args.trace in
+    refused what c.args.root c.args.bundle.now (status_of c.in-Refused.answer) (text_of c.in-Refused.answer)
+    (subst (IsMeaning what c.args.root c.args.bundle.now) c.in-Refused.is c.in_ok-coded.ensures)
