@@ -16,6 +16,8 @@ pub mod Reading
 pub mod BundleStatuses
 pub mod RunEnds
 pub mod RunAnswers
+mod GivenValues
+mod FittingRounds
 mod ExistingLaws
 mod ExistingTexts
 mod ExistingDesigns

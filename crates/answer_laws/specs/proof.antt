@@ -2,3 +2,4 @@
 pub mod Meanings
 pub mod Runs
 pub mod Exists
+pub mod Kinds

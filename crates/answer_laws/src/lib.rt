@@ -1,11 +1,12 @@
 //! Why a bundle has one answer: what it means is one, and the cases of an answer exclude each other. And what holds of the several
-//! answers of a run.
+//! answers of a run, and of the values that rounds have.
 #![tactic(auto)]
 
 pub mod accepted;
 pub mod answers;
 pub mod bundles;
 pub mod existence;
+pub mod kinds;
 pub mod runs;
 pub mod sources;
 pub mod statuses;

@@ -1,0 +1,12 @@
+use Rattle.answer_laws.proofs.FittingRounds.{scenarios_fit, states_of_scenarios_fit, messages_of_scenarios_fit, parts_of_scenarios_fit}
+use Rattle.answer_laws.proofs.kinds.booleans_are_two_values.Goals as goal
+
+pub returns : goal.returns
+returns c =
+    let rules = c.accepted_designs_keep_their_rules.ensures.rules in
+    record {
+      given = scenarios_fit;
+      states = states_of_scenarios_fit rules;
+      messages = messages_of_scenarios_fit rules;
+      parts = parts_of_scenarios_fit rules;
+    }
