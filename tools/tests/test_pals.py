@@ -214,6 +214,12 @@ def test_each_source_counts():
             with open(path, "wb") as file:
                 file.write(kept)
         expect(pals(folder, "--sources")[1], first, "the sum of the same sources")
+        path = f"{folder}/crates.txt"
+        kept = read(path).decode()
+        for line, counts in (("case_files:", False), ("pals_base:", True)):
+            with open(path, "w", encoding="utf-8") as file:
+                file.write(kept.replace(f"\n{line}", f"\n{line} itoa", 1))
+            expect(pals(folder, "--sources")[1] != first, counts, f"a change in the line of {line}")
 
 
 def test_pals_takes_no_other_program():
