@@ -2,10 +2,11 @@
 
 import re
 
-from lib.bundles import Bundle
+from lib.bundles import Bundle, Refused
 from lib.lint import RULES
 from lib.model import model_of
-from tests.common import examples, expect, on_bundle, page, tool
+from lib.program import program_at
+from tests.common import Skipped, examples, expect, on_bundle, page, tool
 
 # A train's supervision: the odometer makes four steps in a round of 20 ms, and sends the first three.
 TRAIN = """package Train public
@@ -64,12 +65,14 @@ end Top.impl;
 end Train;
 """
 GIVEN = '%%%\n{"rounds": 2, "inputs": {"limit": [2]}}\n'
+NOT_ACCEPTED = "lint: b.pals: the design is not accepted; ./pals check tells why\n"
 
 
-def found(design, *words, scenario=GIVEN):
-    """The findings of lint on a design, as lines and rules; and its status."""
+def found(design, *words, scenario=GIVEN, refused=False):
+    """The findings of lint on a design, as lines and rules; and its status. Of one that is refused lint says so, where
+    the program stands."""
     status, text, said = on_bundle("lint", (design + scenario).encode(), *words)
-    expect(said, "", "what lint says")
+    expect(said in ("", NOT_ACCEPTED if refused else ""), True, f"what lint says: {said}")
     return status, re.findall(r"(?m)^b\.pals:(\d+):\d+: .* \((\S+)\)$", text), text
 
 
@@ -130,11 +133,24 @@ def test_each_rule_finds_its_own():
     for name, old, new, wanted in CHANGES:
         design = base.replace(*WITH_VARIABLE) if name == "unset" else base
         scenario = new if old is None else GIVEN
-        _, rules, text = found(design if old is None else design.replace(old, new), scenario=scenario)
+        design = design if old is None else design.replace(old, new)
+        _, rules, text = found(design, scenario=scenario, refused=name == "no source")
         rules = [rule for _, rule in rules if rule != "unsent-steps"]
         expect(rules, wanted, f"{name}\n{text}")
         seen |= set(rules)
     expect(seen, set(RULES), "rules that are tried")
+
+
+def test_a_design_that_is_refused_is_no_clean_one():
+    """Where the program stands, lint ends with 1 for a design that it refuses, though nothing else is found."""
+    try:
+        program_at()
+    except Refused as why:
+        raise Skipped(str(why)) from why
+    design = TRAIN.replace("Timing => Delayed; ", "").replace('"last"', '"latest"')
+    words = ["--quiet", "unsent-steps", "--quiet", "thin-adaptor"]
+    expect(found(design, *words, refused=True)[:2], (1, []), "a link without its Timing")
+    expect(found(TRAIN.replace('"last"', '"latest"'), *words)[:2], (0, []), "the same with it")
 
 
 def test_what_is_meant_is_quiet():
