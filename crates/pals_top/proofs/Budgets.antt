@@ -17,7 +17,7 @@ served_in_time : (design : DesignParts) (programs : List CodeParts) (p : Process
     → FitsInTime design programs (processor_of p)
 served_in_time design programs p rules of fits =
     let described = processor_of p in
-    respond_in_time design programs described.nanos described.members rules
+    respond_in_time design programs described.nanos described.members rules of.time.0
     (budgeted_by design programs described.nanos described.members (nodes_are_members design p.components of.within of.rising) fits)
 
 pub all_in_time : (design : DesignParts) (programs : List CodeParts) (scenario : Scenario) → IsDesign design → IsScenarioOf design scenario

@@ -17,8 +17,7 @@ use Rattle.pals_model.specs.declared.design.DesignParts.{DesignParts}
 use Rattle.pals_model.specs.declared.rounds.Env.{Env}
 use Rattle.pals_model.specs.Rules.{IsDesign}
 use Rattle.round_budget.specs.Budgets.{Release, Served, releases, in_order, precedes, serve, most_of, most_in, by_most}
-use Rattle.round_budget.specs.Responses.{response, AreAtMost}
-use Rattle.round_budget.specs.proof.Budgets.{made_in, frame_before, inputs_at, by_exec}
+use Rattle.round_budget.specs.Responses.{response, AreAtMost, made_in, frame_before, inputs_at, by_exec}
 use Rattle.round_budget.specs.proof.Laws.{AreMembers, IsWithinBudget, EachIsServed, ServedOnce, ServedInOrder, NoneBeginsEarly, OneAtATime, ResponsesFit, MostResponsesFit, ExecResponsesFit, RoundsAreApart}
 use Rattle.round_budget.proofs.Elements.{every_weaker, every_both, Pairs, pairs_weaker, pairs_both, all_pairs_from, Member, member_of, contains_of}
 use Rattle.round_budget.proofs.Orders.{NotAfter, every_in_order, pairs_in_order, sorted_in_order, length_in_order, member_in_order, in_order_member, strict_numbers}
@@ -198,7 +197,7 @@ at_least_once n a some =
     let more : 1 * a ≤ n * a = mul-le 1 a n a some (omega arith) in
     omega (arith, more)
 
-exec_at_most : (design : DesignParts) (codes : List CodeParts) (nanos : ℕ) (members : List ℕ) (env : Env) → IsDesign design → 1 ≤ nanos
+pub exec_at_most : (design : DesignParts) (codes : List CodeParts) (nanos : ℕ) (members : List ℕ) (env : Env) → IsDesign design → 1 ≤ nanos
     → IsWithinBudget design codes nanos members → AreAtMost codes members (by_exec design env codes)
 exec_at_most design codes nanos members env sound some budgeted x among =
     let one = one_le (λ m. nanos * most_of codes m) x.node members (member_of members x.node among) in

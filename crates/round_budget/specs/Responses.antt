@@ -1,9 +1,16 @@
 -- When the steps of a processor are done, whatever numbers of instructions they make.
-use Rattle.std.specs.Prelude.{ℕ, suc, ◌-◌, ◌≤◌, List, All}
+use Rattle.std.specs.Prelude.{ℕ, suc, ◌-◌, ◌≤◌, List, [], All, Option, Some, None, slice_get, slice_index_or}
 use Rattle.std.specs.List.{Contains}
+use Rattle.pals_base.specs.declared.values.Frame.{Frame}
+use Rattle.pals_base.specs.declared.values.Port.{Port}
 use Rattle.pals_base.specs.Bound.{alarm}
 use Rattle.step_code.specs.declared.instr.CodeParts.{CodeParts}
+use Rattle.step_code.specs.Made.{made}
+use Rattle.pals_model.specs.declared.design.Component.{Component}
 use Rattle.pals_model.specs.declared.design.DesignParts.{DesignParts}
+use Rattle.pals_model.specs.declared.rounds.Env.{Env}
+use Rattle.pals_model.specs.Inputs.{feed}
+use Rattle.pals_model.specs.Composition.{comp, no_frame, own_steps_so_far}
 use Rattle.round_budget.specs.Budgets.{Release, Served, budget, most_of}
 
 -- how long after its release a step is done
@@ -19,7 +26,28 @@ pub record AreInTime (design : DesignParts) (served : List Served) : Type 0 wher
 abbrev pub AreAtMost : List CodeParts → List ℕ → (Release → ℕ) → Type 0
 AreAtMost codes members count = (x : Release) → Contains members x.node → count x ≤ most_of codes x.node
 
--- so the steps of a processor are in time, in any number of rounds, whatever numbers of instructions they make
-abbrev pub RespondInTime : DesignParts → List CodeParts → ℕ → List ℕ → Type 0
-RespondInTime design codes nanos members =
-    (rounds : ℕ) (count : Release → ℕ) → AreAtMost codes members count → AreInTime design (budget design members rounds nanos count)
+-- ---- the instructions that a code makes in a step of the composition
+abbrev pub frame_before : DesignParts → Env → Release → Option Component → Frame
+frame_before design env x None = no_frame
+frame_before design env x (Some c) = (own_steps_so_far design env x.node x.round c x.step).frame
+
+-- the inputs of the step in the composition
+abbrev pub inputs_at : DesignParts → Env → Release → List Port
+inputs_at design env x =
+    slice_index_or (feed design env (comp design env x.round).messages x.node x.round) x.step []
+
+abbrev pub made_in : Option CodeParts → Frame → List Port → ℕ
+made_in None frame inputs = 0
+made_in (Some c) frame inputs = made c frame inputs
+
+-- those that the component's code makes in that step of the composition
+abbrev pub by_exec : DesignParts → Env → List CodeParts → Release → ℕ
+by_exec design env codes x =
+    made_in (slice_get codes x.node) (frame_before design env x (slice_get design.components x.node)) (inputs_at design env x)
+
+-- ---- so the steps of a processor are in time, in any number of rounds
+pub record RespondInTime (design : DesignParts) (codes : List CodeParts) (nanos : ℕ) (members : List ℕ) : Type 0 where
+  -- whatever numbers of instructions they make up to the weights of their codes
+  pub weighed : (rounds : ℕ) (count : Release → ℕ) → AreAtMost codes members count → AreInTime design (budget design members rounds nanos count)
+  -- and where they make those that their codes make in the composition, in every environment
+  pub executed : (env : Env) (rounds : ℕ) → AreInTime design (budget design members rounds nanos (by_exec design env codes))

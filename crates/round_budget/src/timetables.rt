@@ -4,8 +4,9 @@ ghost use Rattle.pals_base.specs.declared.limits.TheConstants.{HOUR};
 ghost use Rattle.round_budget.specs.Budgets.{timetable, total, fits};
 ghost use Rattle.round_budget.specs.proof.Laws.{AreMembers};
 ghost use Rattle.round_budget.specs.Budgets.{numbers};
+ghost use Rattle.round_budget.specs.Responses.{RespondInTime};
 ghost use Rattle.round_budget.specs.proof.Values.{AreLines};
-ghost use Rattle.round_budget.specs.proof.Promises.{IsEnd, AllRespond, TimetableIsEach};
+ghost use Rattle.round_budget.specs.proof.Promises.{IsEnd, TimetableIsEach};
 
 use crate::releases::ordered_releases;
 use crate::serving::{Line, serve};
@@ -41,7 +42,7 @@ pub fn timetable(
     ensures ok { IfOk result (λ lines. AreLines lines.items (timetable design.now codes.now nanos (numbers members.now))) }
     ensures fits { OnOk result (fits design.now.gamma (total nanos codes.now (numbers members.now)) ≡ true) }
     ensures end { IfErr result (λ end. IsEnd design.now codes.now nanos (numbers members.now) end) }
-    ensures in_time { OnOk result (AllRespond design.now codes.now nanos (numbers members.now)) }
+    ensures in_time { OnOk result (RespondInTime design.now codes.now nanos (numbers members.now)) }
     ensures each_round { OnOk result (TimetableIsEach design.now codes.now nanos (numbers members.now)) }
 {
     let gamma = design.gamma();

@@ -12,7 +12,7 @@ use Rattle.pals_base.specs.Expressions.{is_true, applied}
 use Rattle.pals_base.specs.Actions.{count_of}
 use Rattle.step_code.specs.declared.instr.Instr.{Instr}
 use Rattle.step_code.specs.declared.instr.Instr.TheVariants.{Push, Load, Store, Port, Fresh, Neg, Abs, Not, Add, Sub, Mul, Quot, Mod, Rem, Eq, Ne, Lt, Le, Gt, Ge, And, Or, Xor, Jump, JumpZero, LoopStart, LoopNext, Emit, End}
-use Rattle.step_code.specs.proof.Step.{Next, Goes, Ends, Traps, Sticks, Senses, on_top, on_found, on_result, on_two, step}
+use Rattle.step_code.specs.Step.{Next, Goes, Ends, Traps, Sticks, Senses, on_top, on_found, on_result, on_two, step}
 use Rattle.step_code.specs.declared.loops.Loop.{Loop}
 use Rattle.step_code.specs.Loops.{turns_of, around}
 use Rattle.step_code.specs.Paths.{onward, leads, product, greatest, weight_at, heaviest}

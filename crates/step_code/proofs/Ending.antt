@@ -11,7 +11,8 @@ use Rattle.step_code.specs.declared.instr.Instr.{Instr}
 use Rattle.step_code.specs.declared.instr.CodeParts.{CodeParts}
 use Rattle.step_code.specs.Loops.{around}
 use Rattle.step_code.specs.Paths.{heaviest, entry_weight, weight}
-use Rattle.step_code.specs.proof.Exec.{Outcome, Ended, Trapped, Stuck, Unfinished, silent, senses, slots_of, left, run_from, from_entry, unless_halted, exec, Leaves, has_entry, FitsCode, Sized}
+use Rattle.step_code.specs.proof.Exec.{Outcome, Ended, Trapped, Stuck, Unfinished, left, run_from, from_entry, unless_halted, exec, Leaves, has_entry, FitsCode, Sized}
+use Rattle.step_code.specs.Made.{silent, senses, slots_of}
 use Rattle.step_code.specs.proof.Heights.{Member}
 use Rattle.step_code.specs.proof.Rules.{IsVerified}
 use Rattle.step_code.proofs.Nested.{IsOver}

@@ -10,10 +10,10 @@ use Rattle.step_code.specs.declared.instr.Instr.{Instr}
 use Rattle.step_code.specs.declared.instr.CodeParts.{CodeParts}
 use Rattle.step_code.specs.Loops.{turns_of}
 use Rattle.step_code.specs.Paths.{leads, product, greatest, weight_at, heaviest, entry_weight, weight}
-use Rattle.step_code.specs.proof.Step.{Next, Goes, Ends, Traps, Sticks, Senses, step}
-use Rattle.step_code.specs.proof.Exec.{then_count, count}
+use Rattle.step_code.specs.Step.{Next, Goes, Ends, Traps, Sticks, Senses, step}
+use Rattle.step_code.specs.Made.{then_count, count, made_from, unless_halted, made}
 use Rattle.step_code.specs.proof.Heights.{Member}
-use Rattle.step_code.specs.proof.Walks.{IsPath, path_weight, made_from, unless_halted, made}
+use Rattle.step_code.specs.proof.Walks.{IsPath, path_weight}
 use Rattle.step_code.specs.proof.Rules.{IsVerified}
 use Rattle.step_code.proofs.Weighing.{GoesOn, goes_on}
 use Rattle.step_code.proofs.Verified.{verified_entry}

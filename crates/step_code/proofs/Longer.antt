@@ -3,8 +3,9 @@ use Rattle.std.proofs.Common.{◌≡◌, ◌∙◌, ℕ, zero, suc, ◌+◌, ◌
 use Rattle.std.specs.Prelude.{slice_get}
 use Rattle.pals_base.specs.declared.values.Port.{Port as Value}
 use Rattle.step_code.specs.declared.instr.Instr.{Instr}
-use Rattle.step_code.specs.proof.Step.{Next, Goes, Ends, Traps, Sticks, Senses, step}
-use Rattle.step_code.specs.proof.Exec.{then_run, run, then_count, count}
+use Rattle.step_code.specs.Step.{Next, Goes, Ends, Traps, Sticks, Senses, step}
+use Rattle.step_code.specs.proof.Exec.{then_run, run}
+use Rattle.step_code.specs.Made.{then_count, count}
 use Rattle.step_code.proofs.Nested.{IsOver}
 
 abbrev Same : List Instr → Senses → ℕ → ℕ → List ℤ → List ℤ → List Value → Type 0

@@ -1,5 +1,4 @@
 -- What the theorem of the program does not rest on: definitions of contracts below it, of laws, and of proofs.
-pub mod Step
 pub mod Innermost
 pub mod Exec
 pub mod Heights

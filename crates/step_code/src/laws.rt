@@ -8,7 +8,8 @@ ghost use Rattle.step_code.specs.declared.instr.CodeParts.{CodeParts};
 ghost use Rattle.step_code.specs.Paths.{weight_of};
 ghost use Rattle.step_code.specs.proof.Exec.{FitsCode, exec, Leaves};
 ghost use Rattle.step_code.specs.proof.Heights.{Member};
-ghost use Rattle.step_code.specs.proof.Walks.{IsPath, path_weight, made};
+ghost use Rattle.step_code.specs.proof.Walks.{IsPath, path_weight};
+ghost use Rattle.step_code.specs.Made.{made};
 ghost use Rattle.step_code.specs.proof.Rules.{IsVerified};
 ghost use Rattle.step_code.specs.proof.Examples.{counter, at_four, surface, nested};
 

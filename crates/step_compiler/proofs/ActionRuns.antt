@@ -16,7 +16,7 @@ use Rattle.pals_base.proofs.Loops.{no_numbers}
 use Rattle.pals_base.specs.Tree.{Expression, Action, Assign, Emit, If, For, Actions, Nothing, Do, Branches, NoBranch, Where}
 use Rattle.step_code.specs.declared.instr.Instr.{Instr}
 use Rattle.step_code.specs.declared.instr.Instr.TheVariants as code
-use Rattle.step_code.specs.proof.Step.{Goes, Senses, on_found, step}
+use Rattle.step_code.specs.Step.{Goes, Senses, on_found, step}
 use Rattle.step_code.specs.Lengths.{length_of, length_act, length_acts, length_branches}
 use Rattle.step_compiler.specs.Layout.{code_of, code_act, code_acts, code_branches}
 use Rattle.step_compiler.proofs.Standing.{HasAt, has_front, has_back, code-length, act-length, acts-length, branches-length}

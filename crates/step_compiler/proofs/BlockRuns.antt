@@ -14,7 +14,7 @@ use Rattle.pals_base.specs.Rules.{is_always}
 use Rattle.pals_base.specs.proof.Settling.{settles}
 use Rattle.step_code.specs.declared.instr.Instr.{Instr}
 use Rattle.step_code.specs.declared.instr.Instr.TheVariants as code
-use Rattle.step_code.specs.proof.Step.{Senses, step}
+use Rattle.step_code.specs.Step.{Senses, step}
 use Rattle.step_code.specs.proof.Exec.{Ended, then_run, run}
 use Rattle.step_code.specs.Lengths.{length_of, length_acts, length_trigger, length_edge}
 use Rattle.step_compiler.specs.Layout.{code_of, code_acts}

@@ -11,7 +11,7 @@ use Rattle.pals_base.specs.Expressions.{is_true, truth, applied, combined, on_va
 use Rattle.pals_base.specs.Tree.{Expression, Literal, Variable, PortValue, Fresh, Neg, Abs, Not, Chain, Operands, NoMore, Then}
 use Rattle.step_code.specs.declared.instr.Instr.{Instr}
 use Rattle.step_code.specs.declared.instr.Instr.TheVariants as code
-use Rattle.step_code.specs.proof.Step.{Goes, Traps, Senses, on_found, on_result, on_two, step}
+use Rattle.step_code.specs.Step.{Goes, Traps, Senses, on_found, on_result, on_two, step}
 use Rattle.step_code.specs.proof.Exec.{Outcome, Trapped, then_run, run}
 use Rattle.step_code.specs.Lengths.{operand_length, length_of, length_rest}
 use Rattle.step_compiler.specs.Layout.{operator, operand_code, code_of, code_rest}

@@ -22,9 +22,10 @@ use Rattle.pals_base.proofs.Settling.{rule_at}
 use Rattle.pals_base.proofs.Ways.{settled_unless_cycle}
 use Rattle.step_code.specs.declared.instr.Instr.{Instr}
 use Rattle.step_code.specs.declared.instr.CodeParts.{CodeParts}
-use Rattle.step_code.specs.proof.Step.{Senses}
+use Rattle.step_code.specs.Step.{Senses}
 use Rattle.step_code.specs.Paths.{weight_of}
-use Rattle.step_code.specs.proof.Exec.{Outcome, run, silent, left, senses, run_from, from_entry, unless_halted, exec, Leaves, has_entry}
+use Rattle.step_code.specs.proof.Exec.{Outcome, run, left, run_from, from_entry, unless_halted, exec, Leaves, has_entry}
+use Rattle.step_code.specs.Made.{silent, senses}
 use Rattle.step_code.specs.proof.Heights.{Member}
 use Rattle.step_code.specs.proof.Rules.{IsVerified}
 use Rattle.step_code.specs.proof.Means.{Means}

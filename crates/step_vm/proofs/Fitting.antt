@@ -13,8 +13,9 @@ use Rattle.pals_base.specs.Fire.{Fired, holding}
 use Rattle.step_code.specs.declared.instr.Instr.{Instr}
 use Rattle.step_code.specs.declared.instr.Instr.TheVariants.{Push, Load, Store, Port, Fresh, Neg, Abs, Not, Add, Sub, Mul, Quot, Mod, Rem, Eq, Ne, Lt, Le, Gt, Ge, And, Or, Xor, Jump, JumpZero, LoopStart, LoopNext, Emit, End}
 use Rattle.step_code.specs.declared.instr.CodeParts.{CodeParts}
-use Rattle.step_code.specs.proof.Step.{Next, Goes, Ends, Traps, Sticks, Senses, on_top, on_found, on_result, on_two, step}
-use Rattle.step_code.specs.proof.Exec.{Outcome, Ended, Trapped, Stuck, Unfinished, then_run, run, silent, left, senses, slots_of, from_entry, unless_halted, exec, Leaves, has_entry, FitsCode}
+use Rattle.step_code.specs.Step.{Next, Goes, Ends, Traps, Sticks, Senses, on_top, on_found, on_result, on_two, step}
+use Rattle.step_code.specs.proof.Exec.{Outcome, Ended, Trapped, Stuck, Unfinished, then_run, run, left, from_entry, unless_halted, exec, Leaves, has_entry, FitsCode}
+use Rattle.step_code.specs.Made.{silent, senses, slots_of}
 use Rattle.step_code.specs.proof.Rules.{finds, misses_slot, on_some, BadSlot, IsVerified}
 use Rattle.step_code.proofs.Refusals.{untrue, not_false}
 use Rattle.step_code.proofs.Ending.{length-holding, begins}

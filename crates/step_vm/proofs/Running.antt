@@ -10,8 +10,9 @@ use Rattle.step_code.specs.declared.instr.Instr.{Instr}
 use Rattle.step_code.specs.declared.instr.CodeParts.{CodeParts}
 use Rattle.pals_base.specs.declared.limits.TheConstants.{INSTRUCTIONS}
 use Rattle.step_code.specs.Paths.{weight}
-use Rattle.step_code.specs.proof.Step.{Next, Goes, Ends, Traps, step}
-use Rattle.step_code.specs.proof.Exec.{Outcome, Ended, Trapped, Rest, then_run, run, count, senses}
+use Rattle.step_code.specs.Step.{Next, Goes, Ends, Traps, step}
+use Rattle.step_code.specs.proof.Exec.{Outcome, Ended, Trapped, Rest, then_run, run}
+use Rattle.step_code.specs.Made.{count, senses}
 use Rattle.step_code.specs.proof.Heights.{takes, Fed, Member}
 use Rattle.step_code.specs.proof.Rules.{IsVerified}
 use Rattle.step_code.proofs.Nested.{IsOver}

@@ -1,7 +1,8 @@
 //! Steps of code.
 ghost use Rattle.std.specs.Prelude.{◌≡◌, ◌≤◌, ◌-◌, ◌++◌, [], length, take, replicate, pos, Some, true, slice_get, ◌+◌};
 ghost use Rattle.pals_base.specs.Fire.{holding};
-ghost use Rattle.step_code.specs.proof.Exec.{FitsCode, Sized, Leaves, exec, has_entry, left, run_from, silent};
+ghost use Rattle.step_code.specs.proof.Exec.{FitsCode, Sized, Leaves, exec, has_entry, left, run_from};
+ghost use Rattle.step_code.specs.Made.{silent};
 ghost use Rattle.step_code.specs.proof.Heights.{Member};
 ghost use Rattle.step_code.specs.proof.Rules.{IsVerified};
 ghost use Rattle.step_vm.specs.proof.Stacks.{stack_of};

@@ -12,8 +12,8 @@ use Rattle.pals_model.specs.Rules.{IsDesign}
 use Rattle.step_compiler.specs.LaidOut.{AreLaidOut}
 use Rattle.round_budget.specs.BudgetText.{Processor, some_is_over, budget_text}
 use Rattle.round_budget.specs.Budgets.{Release, Served, releases, precedes, budget, by_most, total, timetable}
-use Rattle.round_budget.specs.Responses.{response, AreAtMost}
-use Rattle.round_budget.specs.proof.Budgets.{by_exec, line_in_round}
+use Rattle.round_budget.specs.Responses.{response, AreAtMost, by_exec}
+use Rattle.round_budget.specs.proof.Budgets.{line_in_round}
 
 -- the members of a processor: components of the design, rising
 pub record AreMembers (design : DesignParts) (members : List ℕ) : Type 0 where

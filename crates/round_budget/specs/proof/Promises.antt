@@ -1,12 +1,10 @@
 -- What a timetable promises.
-use Rattle.std.specs.Prelude.{◌≡◌, ℕ, ◌≤◌, true, false, List, map, flat_map, All}
+use Rattle.std.specs.Prelude.{◌≡◌, ℕ, true, false, List, map, flat_map}
 use Rattle.pals_base.specs.Steps.{upwards}
 use Rattle.step_code.specs.declared.instr.CodeParts.{CodeParts}
 use Rattle.pals_model.specs.declared.design.DesignParts.{DesignParts}
-use Rattle.pals_model.specs.declared.rounds.Env.{Env}
 use Rattle.round_budget.specs.Budgets.{budget, by_most, total, fits, timetable}
-use Rattle.round_budget.specs.Responses.{response}
-use Rattle.round_budget.specs.proof.Budgets.{by_exec, line_in_round}
+use Rattle.round_budget.specs.proof.Budgets.{line_in_round}
 use Rattle.round_budget.specs.declared.timetables.BudgetEnd.{BudgetEnd}
 use Rattle.round_budget.specs.declared.timetables.BudgetEnd.TheVariants.{Over, Memory}
 
@@ -14,14 +12,6 @@ use Rattle.round_budget.specs.declared.timetables.BudgetEnd.TheVariants.{Over, M
 abbrev pub IsEnd : DesignParts → List CodeParts → ℕ → List ℕ → BudgetEnd → Type 0
 IsEnd design codes nanos members (Over sum) = (sum ≡ total nanos codes members) × (fits design.gamma sum ≡ false)
 IsEnd design codes nanos members Memory = fits design.gamma (total nanos codes members) ≡ true
-
--- in every environment and any number of rounds each step is done within the longest execution after its
--- release, by the most instructions of its code, and by those that the code makes in the composition
-pub record AllRespond (design : DesignParts) (codes : List CodeParts) (nanos : ℕ) (members : List ℕ) : Type 0 where
-  pub most : (rounds : ℕ) →
-      All (λ s. response s ≤ design.gamma.alpha_max) (budget design members rounds nanos (by_most codes))
-  pub exec : (env : Env) (rounds : ℕ) →
-      All (λ s. response s ≤ design.gamma.alpha_max) (budget design members rounds nanos (by_exec design env codes))
 
 -- what is served in any number of rounds, each step counted from its round's alarm, is the timetable round by round
 abbrev pub TimetableIsEach : DesignParts → List CodeParts → ℕ → List ℕ → Type 0

@@ -1,14 +1,14 @@
 -- Runs of code, and what a step of code leaves.
-use Rattle.std.specs.Prelude.{◌≡◌, ℕ, zero, suc, ℤ, pos, Bool, true, false, List, [], ◌++◌, length, map, take, replicate, Option, Some, None, slice_get}
+use Rattle.std.specs.Prelude.{◌≡◌, ℕ, zero, suc, ℤ, Bool, true, false, List, [], length, take, Option, Some, None, slice_get}
 use Rattle.pals_base.specs.declared.values.Trap.{Trap}
 use Rattle.pals_base.specs.declared.values.Frame.{Frame}
 use Rattle.pals_base.specs.declared.values.Port.{Port}
-use Rattle.pals_base.specs.declared.values.Port.TheVariants.{Absent}
-use Rattle.pals_base.specs.Fire.{Fired, holding, is_present}
+use Rattle.pals_base.specs.Fire.{Fired, holding}
 use Rattle.step_code.specs.declared.instr.Instr.{Instr}
 use Rattle.step_code.specs.declared.instr.CodeParts.{CodeParts}
-use Rattle.step_code.specs.proof.Step.{Next, Goes, Ends, Traps, Sticks, Senses, step}
+use Rattle.step_code.specs.Step.{Next, Goes, Ends, Traps, Sticks, Senses, step}
 use Rattle.step_code.specs.Paths.{weight_of}
+use Rattle.step_code.specs.Made.{silent, senses, slots_of}
 
 -- how a run ends
 pub data Outcome : Type 0 where
@@ -31,17 +31,6 @@ abbrev pub run : List Instr → Senses → ℕ → Rest
 run code s zero place stack slots outs = Unfinished
 run code s (suc n) place stack slots outs = then_run (step (slice_get code place) s place stack slots outs) (run code s n)
 
--- how many of them there are, the last one counted too
-abbrev pub then_count : Next → (ℕ → List ℤ → List ℤ → List Port → ℕ) → ℕ
-then_count (Goes place stack slots outs) rest = rest place stack slots outs
-then_count (Ends state slots outs) rest = 0
-then_count (Traps trap) rest = 0
-then_count Sticks rest = 0
-
-abbrev pub count : List Instr → Senses → ℕ → ℕ → List ℤ → List ℤ → List Port → ℕ
-count code s zero place stack slots outs = 0
-count code s (suc n) place stack slots outs = suc (then_count (step (slice_get code place) s place stack slots outs) (count code s n))
-
 -- ---- a step of a node
 -- what a step of code leaves, unless it is stuck or unfinished
 pub data Executed : Type 0 where
@@ -49,21 +38,11 @@ pub data Executed : Type 0 where
   IsStuck : Executed
   IsUnfinished : Executed
 
-abbrev pub silent : CodeParts → List Port
-silent c = replicate c.outs Absent
-
 abbrev pub left : CodeParts → Frame → Outcome → Executed
 left c held (Ended state slots outs) = Leaves (record { frame = record held { state = state; vars = take c.vars slots }; outs = outs })
 left c held (Trapped trap) = Leaves (record { frame = record held { halt = Some trap }; outs = silent c })
 left c held Stuck = IsStuck
 left c held Unfinished = IsUnfinished
-
-abbrev pub senses : List ℤ → List Port → Senses
-senses held inputs = record { held = held; fresh = map is_present inputs }
-
--- the slots at the start: the variables, and 0 for each loop
-abbrev pub slots_of : CodeParts → List ℤ → List ℤ
-slots_of c vars = vars ++ replicate c.loops (pos 0)
 
 -- from a place on, within the code's weight
 abbrev pub run_from : CodeParts → Frame → List Port → ℕ → Outcome

@@ -3,10 +3,11 @@ use Rattle.std.specs.Prelude.{◌≡◌, ℕ, ℤ, List, [], ◌∷◌, Some, le
 use Rattle.pals_base.specs.declared.values.Frame.{Frame}
 use Rattle.pals_base.specs.declared.values.Port.{Port}
 use Rattle.pals_base.specs.declared.values.Port.TheVariants.{Absent}
-use Rattle.step_code.specs.proof.Step.{Next, Goes, Ends, Traps, step, on_result, on_two}
+use Rattle.step_code.specs.Step.{Next, Goes, Ends, Traps, step, on_result, on_two}
 use Rattle.step_vm.specs.declared.machine.Onward.{Onward}
 use Rattle.step_vm.specs.declared.steps.Ended.{Ended}
-use Rattle.step_code.specs.proof.Exec.{Outcome, run, senses}
+use Rattle.step_code.specs.proof.Exec.{Outcome, run}
+use Rattle.step_code.specs.Made.{senses}
 use Rattle.step_code.specs.declared.instr.Instr.{Instr}
 use Rattle.step_code.specs.declared.instr.CodeParts.{CodeParts}
 use Rattle.step_code.specs.Paths.{weight_of}

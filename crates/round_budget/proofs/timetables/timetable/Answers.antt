@@ -5,7 +5,7 @@ use Rattle.pals_base.specs.declared.values.Gamma.{Gamma}
 use Rattle.round_budget.specs.Budgets.{total, fits}
 use Rattle.round_budget.specs.Budgets.{numbers}
 use Rattle.round_budget.proofs.Members.{rising_few}
-use Rattle.round_budget.proofs.Promised.{budgeted_by, all_respond, timetable_is_each}
+use Rattle.round_budget.proofs.Promised.{budgeted_by, respond_in_time, timetable_is_each}
 use Rattle.round_budget.proofs.timetables.timetable.Goals as goal
 
 pub total-total-requires-clause-count : goal.total-total-requires-clause-count
@@ -23,7 +23,7 @@ returns-in-Ok-clause-in_time c =
     let members = numbers c.args.members.now in
     let is : fits design.gamma (total nanos codes members) ≡ true =
     sym (ap₂ (λ (g : Gamma) (t : ℕ). fits g t) c.gamma-gamma.ensures.value c.total-total.ensures) ∙ sym c.fits.ensures ∙ c.if-not-fits.false in
-    all_respond design codes nanos members c.gamma-gamma.ensures.rules c.requires.nanos.0 (budgeted_by design codes nanos members c.requires.members is)
+    respond_in_time design codes nanos members c.gamma-gamma.ensures.rules c.requires.nanos.0 (budgeted_by design codes nanos members c.requires.members is)
 
 pub returns-in-Ok-clause-each_round : goal.returns-in-Ok-clause-each_round
 returns-in-Ok-clause-each_round c =

@@ -11,7 +11,7 @@ use Rattle.pals_base.specs.Fire.{is_present}
 use Rattle.pals_base.specs.Expressions.{is_true, truth}
 use Rattle.step_code.specs.declared.instr.Instr.{Instr}
 use Rattle.step_code.specs.declared.instr.Instr.TheVariants.{Store}
-use Rattle.step_code.specs.proof.Step.{Senses, step, on_top, on_found, on_result, Goes}
+use Rattle.step_code.specs.Step.{Senses, step, on_top, on_found, on_result, Goes}
 use Rattle.pals_base.specs.Arithmetic.{negation_of, magnitude_of}
 use Rattle.step_vm.specs.proof.Outcomes.{Met}
 use Rattle.step_vm.proofs.machine.advance.Goals as goal
