@@ -4,11 +4,24 @@ use Rattle.pals_model.specs.declared.design.DesignParts.{DesignParts}
 use Rattle.pals_model.specs.Rules.{IsDesign}
 use Rattle.pals_model.proofs.KindsOfRounds.{states_fit, messages_fit, parts_fit}
 use Rattle.bundle_designs.specs.Accepted.{IsAccepted}
-use Rattle.answer_laws.specs.proof.Kinds.{ScenariosFit, StatesOfScenariosFit, MessagesOfScenariosFit, PartsOfScenariosFit}
-use Rattle.answer_laws.proofs.GivenValues.{meant_by}
+use Rattle.analysis_texts.specs.Voted.{replicated_in, faults_of}
+use Rattle.scenario_laws.specs.proof.Plants.{PairsCanBeFused}
+use Rattle.kind_laws.proofs.Voting.{voted_fit, shown_fit}
+use Rattle.kind_laws.proofs.Fusing.{solutions_fit}
+use Rattle.kind_laws.proofs.Standing.{buses_fit}
+use Rattle.pals_top.specs.Loose.{run_of}
+use Rattle.answer_laws.specs.proof.Kinds.{ScenariosFit, StatesOfScenariosFit, MessagesOfScenariosFit, PartsOfScenariosFit, FaultsOfScenariosFit, VotesOfScenariosFit, ShownOfScenariosFit, FusedOfScenariosFit, BusesOfScenariosFit}
+use Rattle.answer_laws.proofs.GivenValues.{lists_to_env}
+use Rattle.answer_laws.proofs.GivenFaults.{each_round}
+use Rattle.answer_laws.proofs.GivenFields.{meant_by}
 
 pub scenarios_fit : ScenariosFit
-scenarios_fit root bundle command design scenario has = meant_by has.bytes design command scenario has.means
+scenarios_fit root bundle command design scenario has =
+    lists_to_env design scenario.env (meant_by has.bytes design command scenario has.means).inputs
+
+pub faults_of_scenarios_fit : FaultsOfScenariosFit
+faults_of_scenarios_fit root bundle command design scenario has =
+    each_round design scenario.faults (meant_by has.bytes design command scenario has.means).faults
 
 module _ (rules : (root bundle : List ℕ) (design : DesignParts) (scenario : List ℕ) → IsAccepted root bundle design scenario → IsDesign design) where
   pub states_of_scenarios_fit : StatesOfScenariosFit
@@ -25,3 +38,23 @@ module _ (rules : (root bundle : List ℕ) (design : DesignParts) (scenario : Li
   parts_of_scenarios_fit root bundle command design scenario has = λ node round c is_c.
       parts_fit design scenario.env node round c (rules root bundle design has.bytes has.accepted)
       (scenarios_fit root bundle command design scenario has) is_c
+
+  pub votes_of_scenarios_fit : VotesOfScenariosFit
+  votes_of_scenarios_fit root bundle command design scenario has = λ rounds.
+      voted_fit design scenario.env (replicated_in design scenario.replicas) (faults_of scenario.faults) rounds (rules root bundle design has.bytes has.accepted)
+      (scenarios_fit root bundle command design scenario has) (faults_of_scenarios_fit root bundle command design scenario has)
+
+  pub shown_of_scenarios_fit : ShownOfScenariosFit
+  shown_of_scenarios_fit root bundle command design scenario has = λ tap round.
+      shown_fit design scenario.env (replicated_in design scenario.replicas) (faults_of scenario.faults) tap round (rules root bundle design has.bytes has.accepted)
+      (scenarios_fit root bundle command design scenario has) (faults_of_scenarios_fit root bundle command design scenario has)
+
+  pub fused_of_scenarios_fit : PairsCanBeFused → FusedOfScenariosFit
+  fused_of_scenarios_fit fused root bundle command design scenario has = λ rounds ins solves.
+      solutions_fit design scenario.plants scenario.env rounds ins (rules root bundle design has.bytes has.accepted)
+      (fused has.bytes command design scenario has.means) (scenarios_fit root bundle command design scenario has) solves
+
+  pub buses_of_scenarios_fit : BusesOfScenariosFit
+  buses_of_scenarios_fit root bundle command design scenario has = λ s agrees.
+      buses_fit (run_of design scenario) s (rules root bundle design has.bytes has.accepted)
+      (scenarios_fit root bundle command design scenario has) agrees

@@ -1,11 +1,11 @@
--- For the law that Booleans of a scenario's runs are 0 or 1: the values that a scenario gives fit the kinds of its root in ports.
-use Rattle.std.proofs.Common.{◌≡◌, inl, inr, ℕ, zero, suc, Bool, true, false, cond, List, [], ◌∷◌, ◌++◌, length, replicate, slice_get, codes, decimal, Option, Some, None, Result, Ok, sym, ap, ◌∙◌, subst}
-use Rattle.std.specs.Prelude.{bytes_eq, position, slice_index_or, slice_set, is_some, find, not}
+-- For the law that Booleans of a scenario's runs are 0 or 1: the values that its inputs give fit the kinds of the root in ports.
+use Rattle.std.proofs.Common.{◌≡◌, ℕ, zero, suc, Bool, true, false, cond, List, [], ◌∷◌, ◌++◌, length, replicate, slice_get, codes, decimal, Option, Some, None, Ok, sym, ap, ◌∙◌, subst}
+use Rattle.std.specs.Prelude.{bytes_eq, position, slice_index_or, slice_set, is_some}
 use Rattle.std.proofs.lemmas.List.Elements.{All-nil, All-cons, All-append}
 use Rattle.std.proofs.lemmas.Option.{same_Some}
 use Rattle.std.proofs.lemmas.Slice.Eq.{bytes_eq-Decides}
 use Rattle.serde_json.specs.Data.{Data}
-use Rattle.serde_json.specs.Find.{as_null, as_bool, get}
+use Rattle.serde_json.specs.Find.{as_null, as_bool}
 use Rattle.pals_base.specs.declared.behaviour.Kind.{Kind}
 use Rattle.pals_base.specs.declared.behaviour.Kind.TheVariants.{Integer, Boolean}
 use Rattle.pals_base.specs.declared.values.Port.{Port}
@@ -16,24 +16,14 @@ use Rattle.pals_model.specs.declared.rounds.Env.{Env}
 use Rattle.pals_model.specs.Inputs.{root_inputs}
 use Rattle.pals_model.specs.Ports.{root_kind}
 use Rattle.pals_model.proofs.Lookups.{found_at}
-use Rattle.pals_clock.specs.declared.clock.Clocks.{Clocks}
-use Rattle.pals_runs.specs.declared.commands.Command.{Command}
-use Rattle.pals_runs.specs.declared.events.Event.{Event}
-use Rattle.pals_runs.specs.declared.pairs.Pair.{Pair}
-use Rattle.analysis_fields.specs.declared.faults.RoundFault.{RoundFault}
-use Rattle.analysis_fields.specs.declared.processors.Processor.{Processor}
-use Rattle.analysis_fields.specs.PropertyValues.{PropertyValue}
-use Rattle.pals_base.specs.declared.values.NodeNo.{NodeNo}
-use Rattle.scenario_values.specs.declared.fault.ScenarioFault.{ScenarioFault}
 use Rattle.scenario_values.specs.declared.fault.ScenarioFault.TheVariants.{WrongKind, Unknown}
 use Rattle.scenario_values.specs.Outcomes.{◌>>=◌, given, through}
 use Rattle.scenario_values.specs.FaultPlaces.{inside}
 use Rattle.scenario_values.specs.Values.{elements, entries, number, present, port_value}
 use Rattle.scenario_values.specs.Names.{root_at}
 use Rattle.scenario_values.proofs.Passing.{ok_same, ok_bind, ok_given, through_keeps}
-use Rattle.scenario_json.specs.declared.scenario.Scenario.{Scenario}
 use Rattle.scenario_json.specs.Inputs.{with_value, value_list, with_input, inputs_in}
-use Rattle.scenario_json.specs.Scenarios.{is_field, only_known, field, rounds_in, inputs_field, events_field, clocks_field, delays_field, trace_field, properties_field, replicas_field, faults_field, plants_field, processors_field, fields_in, scen, Means}
+use Rattle.scenario_json.specs.Scenarios.{field}
 use Rattle.pals_model.specs.proof.FittingValues.{PortFits, TupleFits, EnvFits}
 use Rattle.pals_model.proofs.KindLists.{index_fits, set_keeps}
 use Rattle.pals_model.proofs.KindsOfExpressions.{truth_fits}
@@ -53,7 +43,7 @@ value_by : (kind : Kind) (place : List ℕ) (d : Data) (v : Port) (none : Bool)
 value_by kind place d v true e = subst (PortFits kind) (ok_same Absent v e) tt
 value_by kind place d v false e = present_fits kind place d v e
 
-value_fits : (kind : Kind) (place : List ℕ) (d : Data) (v : Port) → port_value kind place d ≡ Ok v → PortFits kind v
+pub value_fits : (kind : Kind) (place : List ℕ) (d : Data) (v : Port) → port_value kind place d ≡ Ok v → PortFits kind v
 unfolding port_value
 value_fits kind place d v e = value_by kind place d v (is_some (as_null d)) e
 
@@ -72,7 +62,7 @@ list_fits kind place d values e =
     through_keeps (TupleFits kind) (with_value kind place) (λ so_far x more fits one. more_fit kind place so_far x more fits one) [] ds.0 values (All-nil (PortFits kind)) ds.2
 
 -- ---- the lists of all root in ports
-abbrev ListsFit : DesignParts → List (List Port) → Type 0
+abbrev pub ListsFit : DesignParts → List (List Port) → Type 0
 ListsFit design lists =
     (number : ℕ) (name : List ℕ) → slice_get (root_inputs design) number ≡ Some name → TupleFits (root_kind design name) (slice_index_or lists number [])
 
@@ -117,106 +107,15 @@ inputs_fit design d lists e =
     let members = ok_bind (entries (codes "inputs") d) (λ es. through (with_input design) first es) lists e in
     through_keeps (ListsFit design) (with_input design) (λ so_far entry more fit one. input_fits design so_far entry more fit one) first members.0 lists (no_inputs_fit design) members.2
 
-by_field : (design : DesignParts) (o : Option Data) (lists : List (List Port))
+pub inputs_field_fit : (design : DesignParts) (o : Option Data) (lists : List (List Port))
     → field (codes "inputs") false (replicate (length (root_inputs design)) []) (inputs_in design) o ≡ Ok lists
     → ListsFit design lists
-by_field design None lists e =
+inputs_field_fit design None lists e =
     subst (ListsFit design) (ok_same (replicate (length (root_inputs design)) []) lists e) (no_inputs_fit design)
-by_field design (Some d) lists e = inputs_fit design d lists e
+inputs_field_fit design (Some d) lists e = inputs_fit design d lists e
 
--- ---- the scenario
--- where a scenario is read, it keeps this
-record Keeps (r : Result Scenario ScenarioFault) (Q : Scenario → Type 0) : Type 0 where
-  kept : (s : Scenario) → r ≡ Ok s → Q s
-
-then_keeps : {A : Type 0} (m : Result A ScenarioFault) (go : A → Result Scenario ScenarioFault) (Q : Scenario → Type 0)
-    → ((a : A) → m ≡ Ok a → Keeps (go a) Q) → Keeps (m >>= go) Q
-then_keeps m go Q each = record { kept = λ s e. let a = ok_bind m go s e in (each a.0 a.1).kept s a.2 }
-
-made_keeps : (made : Scenario) (Q : Scenario → Type 0) → Q made → Keeps (Ok made) Q
-made_keeps made Q holds = record { kept = λ s e. subst Q (ok_same made s e) holds }
-
--- what is read from each field on, the last one first
-abbrev made : ℕ → List (List Port) → List Event → Clocks → List (List ℕ) → List (List ℕ) → List PropertyValue
-    → List NodeNo → List RoundFault → List Pair → List Processor → Scenario
-made n i v c l t p r f pl pr =
-    record { rounds = n; env = record { lists = i }; events = v; clocks = c; delays = record { lists = l }; trace = t; properties = p; replicas = r; faults = f; plants = pl; processors = pr }
-
-module _ (d : Data) (design : DesignParts) (command : Command) where
-  abbrev from_processors : ℕ → List (List Port) → List Event → Clocks → List (List ℕ) → List (List ℕ)
-      → List PropertyValue → List NodeNo → List RoundFault → List Pair → Result Scenario ScenarioFault
-  from_processors n i v c l t p r f pl = processors_field design command d >>= λ pr. Ok (made n i v c l t p r f pl pr)
-
-  abbrev from_plants : ℕ → List (List Port) → List Event → Clocks → List (List ℕ) → List (List ℕ) → List PropertyValue
-      → List NodeNo → List RoundFault → Result Scenario ScenarioFault
-  from_plants n i v c l t p r f = plants_field design d >>= λ pl. from_processors n i v c l t p r f pl
-
-  abbrev from_faults : ℕ → List (List Port) → List Event → Clocks → List (List ℕ) → List (List ℕ) → List PropertyValue
-      → List NodeNo → Result Scenario ScenarioFault
-  from_faults n i v c l t p r = faults_field design r d >>= λ f. from_plants n i v c l t p r f
-
-  abbrev from_replicas : ℕ → List (List Port) → List Event → Clocks → List (List ℕ) → List (List ℕ) → List PropertyValue
-      → Result Scenario ScenarioFault
-  from_replicas n i v c l t p = replicas_field design d >>= λ r. from_faults n i v c l t p r
-
-  abbrev from_properties : ℕ → List (List Port) → List Event → Clocks → List (List ℕ) → List (List ℕ)
-      → Result Scenario ScenarioFault
-  from_properties n i v c l t = properties_field design command d >>= λ p. from_replicas n i v c l t p
-
-  abbrev from_trace : ℕ → List (List Port) → List Event → Clocks → List (List ℕ) → Result Scenario ScenarioFault
-  from_trace n i v c l = trace_field command d >>= λ t. from_properties n i v c l t
-
-  abbrev from_delays : ℕ → List (List Port) → List Event → Clocks → Result Scenario ScenarioFault
-  from_delays n i v c = delays_field design d >>= λ l. from_trace n i v c l
-
-  abbrev from_clocks : ℕ → List (List Port) → List Event → Result Scenario ScenarioFault
-  from_clocks n i v = clocks_field design d >>= λ c. from_delays n i v c
-
-  abbrev from_events : ℕ → List (List Port) → Result Scenario ScenarioFault
-  from_events n i = events_field design command d >>= λ v. from_clocks n i v
-
-  abbrev from_inputs : ℕ → Result Scenario ScenarioFault
-  from_inputs n = inputs_field design d >>= λ i. from_events n i
-
-  abbrev from_rounds : Result Scenario ScenarioFault
-  from_rounds = rounds_in design d >>= λ n. from_inputs n
-
-  fields_fit : Keeps (fields_in d design command) (λ s. ListsFit design s.env.lists)
-  unfolding fields_in
-  fields_fit =
-      let Q : Scenario → Type 0 = (λ s. ListsFit design s.env.lists) in
-      then_keeps (rounds_in design d) (λ n. from_inputs n) Q (λ n x0.
-      then_keeps (inputs_field design d) (λ i. from_events n i) Q (λ i x1.
-      then_keeps (events_field design command d) (λ v. from_clocks n i v) Q (λ v x2.
-      then_keeps (clocks_field design d) (λ c. from_delays n i v c) Q (λ c x3.
-      then_keeps (delays_field design d) (λ l. from_trace n i v c l) Q (λ l x4.
-      then_keeps (trace_field command d) (λ t. from_properties n i v c l t) Q (λ t x5.
-      then_keeps (properties_field design command d) (λ p. from_replicas n i v c l t p) Q (λ p x6.
-      then_keeps (replicas_field design d) (λ r. from_faults n i v c l t p r) Q (λ r x7.
-      then_keeps (faults_field design r d) (λ f. from_plants n i v c l t p r f) Q (λ f x8.
-      then_keeps (plants_field design d) (λ pl. from_processors n i v c l t p r f pl) Q (λ pl x9.
-      then_keeps (processors_field design command d) (λ pr. Ok (made n i v c l t p r f pl pr)) Q (λ pr x10.
-      made_keeps (made n i v c l t p r f pl pr) Q (by_field design (get (codes "inputs") d) i x1))))))))))))
-
-known_keeps : (o : Option (List ℕ × Data)) (next : Result Scenario ScenarioFault) (Q : Scenario → Type 0) → Keeps next Q
-    → Keeps (only_known o next) Q
-known_keeps None next Q keeps = keeps
-known_keeps (Some entry) next Q keeps = record { kept = λ s e. absurd (cc) }
-
-scenario_fits : (d : Data) (design : DesignParts) (command : Command)
-    → Keeps (scen d design command) (λ s. ListsFit design s.env.lists)
-unfolding scen
-scenario_fits d design command =
-    then_keeps (entries (codes "scenario") d) (λ es. only_known (find (λ e. not (is_field e.0)) es) (fields_in d design command)) (λ s. ListsFit design s.env.lists)
-    (λ es x. known_keeps (find (λ e. not (is_field e.0)) es) (fields_in d design command) (λ s. ListsFit design s.env.lists) (fields_fit d design command))
-
-lists_to_env : (design : DesignParts) (env : Env) → ListsFit design env.lists → EnvFits design env
+-- ---- their environment
+pub lists_to_env : (design : DesignParts) (env : Env) → ListsFit design env.lists → EnvFits design env
 lists_to_env design env fit = λ round number name is.
     subst (PortFits (root_kind design name)) (sym (place_of_column env.lists round number))
     (index_fits (PortFits (root_kind design name)) (slice_index_or env.lists number []) round Absent (fit number name is) tt)
-
-pub meant_by : (bytes : List ℕ) (design : DesignParts) (command : Command) (scenario : Scenario)
-    → Means bytes design command (Ok scenario) → EnvFits design scenario.env
-meant_by bytes design command scenario (inl read) =
-    lists_to_env design scenario.env ((scenario_fits read.0 design command).kept scenario read.2)
-meant_by bytes design command scenario (inr none) = absurd (let no = none.1 in cc)

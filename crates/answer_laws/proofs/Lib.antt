@@ -17,6 +17,8 @@ pub mod BundleStatuses
 pub mod RunEnds
 pub mod RunAnswers
 mod GivenValues
+mod GivenFaults
+mod GivenFields
 mod FittingRounds
 mod ExistingLaws
 mod ExistingTexts

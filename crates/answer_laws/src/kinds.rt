@@ -1,16 +1,26 @@
 //! What values the rounds of a scenario have. Each law is the contract of a function that does nothing.
 ghost use Rattle.answer_laws.specs.proof.Kinds.{MessagesOfScenariosFit, PartsOfScenariosFit, ScenariosFit, StatesOfScenariosFit};
+ghost use Rattle.answer_laws.specs.proof.Kinds.{FaultsOfScenariosFit, ShownOfScenariosFit, VotesOfScenariosFit};
+ghost use Rattle.answer_laws.specs.proof.Kinds.{BusesOfScenariosFit, FusedOfScenariosFit};
 
 use crate::accepted::accepted_designs_keep_their_rules;
+use scenario_laws::plants::pairs_can_be_fused;
 
-/// Where a bundle means a design and a scenario, each Boolean of each round of the composition is 0 or 1:
-/// what the scenario gives, each variable, each held input, each place of a message and each output. So
-/// `true` and `false` in a report say all that there is.
+/// Where a bundle means a design and a scenario, each Boolean of each round is 0 or 1: what the scenario
+/// gives, for root in ports and as faults, each variable, each held input, each place of a message and
+/// each output, of the composition, of `vote` and of `fuse`, and in each state of the bus. So `true` and
+/// `false` in a report say all that there is.
 pub fn booleans_are_two_values()
     ensures given { ScenariosFit }
     ensures states { StatesOfScenariosFit }
     ensures messages { MessagesOfScenariosFit }
     ensures parts { PartsOfScenariosFit }
+    ensures faults { FaultsOfScenariosFit }
+    ensures votes { VotesOfScenariosFit }
+    ensures shown { ShownOfScenariosFit }
+    ensures fused { FusedOfScenariosFit }
+    ensures buses { BusesOfScenariosFit }
 {
     accepted_designs_keep_their_rules();
+    pairs_can_be_fused();
 }

@@ -1,4 +1,4 @@
-use Rattle.answer_laws.proofs.FittingRounds.{scenarios_fit, states_of_scenarios_fit, messages_of_scenarios_fit, parts_of_scenarios_fit}
+use Rattle.answer_laws.proofs.FittingRounds.{scenarios_fit, states_of_scenarios_fit, messages_of_scenarios_fit, parts_of_scenarios_fit, faults_of_scenarios_fit, votes_of_scenarios_fit, shown_of_scenarios_fit, fused_of_scenarios_fit, buses_of_scenarios_fit}
 use Rattle.answer_laws.proofs.kinds.booleans_are_two_values.Goals as goal
 
 pub returns : goal.returns
@@ -9,4 +9,9 @@ returns c =
       states = states_of_scenarios_fit rules;
       messages = messages_of_scenarios_fit rules;
       parts = parts_of_scenarios_fit rules;
+      faults = faults_of_scenarios_fit;
+      votes = votes_of_scenarios_fit rules;
+      shown = shown_of_scenarios_fit rules;
+      fused = fused_of_scenarios_fit rules c.pairs_can_be_fused.ensures;
+      buses = buses_of_scenarios_fit rules;
     }
