@@ -1,1 +1,12 @@
 pub mod Lines
+pub mod LineWords
+pub mod Spelled
+pub mod Runs
+pub mod PlainNames
+pub mod PortNames
+pub mod ToldInstrs
+pub mod ToldComponents
+pub mod ToldBlocks
+pub mod ToldLinks
+pub mod WholeLines
+pub mod ToldListings

@@ -1,13 +1,18 @@
 -- Texts to which lines are added.
-use Rattle.std.proofs.Common.{◌≡◌, Result, Ok, Err, OnOk, OnErr, ℕ, ◌+◌, ◌<◌, ◌≤◌, min, List, [], ◌∷◌, ◌++◌, length, take, get_or, sym, ap, ap₂, ◌∙◌, append_assoc, arith}
+use Rattle.std.proofs.Common.{◌≡◌, Result, Ok, Err, OnOk, OnErr, ℕ, ◌+◌, ◌<◌, ◌≤◌, min, List, [], ◌∷◌, ◌++◌, length, take, get_or, All, sym, ap, ap₂, ◌∙◌, subst, append_assoc, arith}
 use Rattle.std.specs.List.{flat_map, zip, enumerate_from}
 use Rattle.std.proofs.lemmas.List.{append-nil, take_all, take_more}
+use Rattle.std.proofs.lemmas.List.Elements.{All-more}
 use Rattle.std.proofs.lemmas.List.FromFn.{length-enumerate_from, get_or-enumerate_from}
 use Rattle.std.proofs.lemmas.Slice.Zip.{length-zip, get_or-zip}
 use Rattle.std.proofs.lemmas.Grind.{flat_map-append}
+use Rattle.pals_base.specs.declared.behaviour.BehaviourParts.{BehaviourParts}
 use Rattle.pals_model.specs.RoundTexts.{line_end, text_of}
 use Rattle.pals_report.specs.proof.Appended.{BeginsWith}
 use Rattle.pals_report.proofs.Begins.{last_on_err}
+use Rattle.step_code.specs.declared.instr.Instr.{Instr}
+use Rattle.step_code.specs.declared.instr.CodeParts.{CodeParts}
+use Rattle.code_listing.specs.Numbers.{NumberFits, InstrFits, EntriesFit, CodeFits}
 
 -- ---- lines behind others
 text_of-append : (first rest : List (List ℕ)) → text_of (first ++ rest) ≡ text_of first ++ text_of rest
@@ -87,3 +92,16 @@ numbered_at xs n x within is =
 
 pub numbered_end : {X : Type 0} (xs : List X) (n : ℕ) → length xs ≤ n → length (enumerate_from 0 xs) ≤ n
 numbered_end xs n behind = omega (arith, behind, length-enumerate_from 0 xs)
+
+-- ---- what holds of the items so far
+pub holds_turn : {X : Type 0} (P : X → Type 0) (xs : List X) (i : ℕ) (x : X) → i < length xs → x ≡ get_or xs i x → All P (take i xs) → P x → All P (take (i + 1) xs)
+holds_turn P xs i x within is before here = All-more P xs i x within before (subst P is here)
+
+pub holds_all : {X : Type 0} (P : X → Type 0) (xs : List X) (i : ℕ) → length xs ≤ i → All P (take i xs) → All P xs
+holds_all P xs i behind before = subst (All P) (take_all i xs behind) before
+
+-- the numbers of a code, behind its last call
+pub code_fits : {T E : Type 0} (r : Result T E) (b : BehaviourParts) (code : CodeParts) (instrs : List Instr) → NumberFits code.loops → EntriesFit b.states code.entries → instrs ≡ code.instrs
+    → OnOk r (All InstrFits instrs) → OnOk r (CodeFits b code)
+code_fits (Ok x) b code instrs loops entries is each = record { loops = loops; entries = entries; instrs = subst (All InstrFits) is each }
+code_fits (Err e) b code instrs loops entries is each = tt

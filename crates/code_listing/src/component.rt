@@ -1,9 +1,10 @@
 //! The lines on a component: its rate, what it declares, its states and its code.
-ghost use Rattle.std.specs.Prelude.{◌≡◌, ◌++◌, map, OnOk, OnErr};
+ghost use Rattle.std.specs.Prelude.{◌≡◌, ◌++◌, codes, map, All, OnOk, OnErr};
 ghost use Rattle.pals_model.specs.RoundTexts.{line_end, text_of};
 ghost use Rattle.pals_report.specs.proof.Appended.{BeginsWith};
 ghost use Rattle.pals_report.specs.proof.Words.{word_text};
 ghost use Rattle.code_listing.specs.Listings.{kind_word, number_line, initial_line, rate_lines, port_line, variable_line, declared_lines, state_line, state_lines, code_lines, component_lines};
+ghost use Rattle.code_listing.specs.Numbers.{NumberFits, FirstFits, EntryFits, EntriesFit, CodeFits, NumbersFit};
 
 use crate::instr::add_instrs;
 use crate::names::state_word;
@@ -22,6 +23,7 @@ pub fn add_component(
     ensures ok { OnOk result (out.new.items
         ≡ out.old.items ++ text_of (component_lines design.now component.now code.now)) }
     ensures err { OnErr result (BeginsWith out.new.items out.old.items) }
+    ensures fit { OnOk result (NumbersFit component.now.behaviour code.now) }
 {
     let behaviour = component.behaviour.parts();
     add_rate(out, design, component)?;
@@ -50,6 +52,7 @@ fn add_declared(out: &mut Vec<u8>, behaviour: &BehaviourParts) -> Result<(), NoM
     ensures ok { OnOk result
         (out.new.items ≡ out.old.items ++ text_of (declared_lines behaviour.now)) }
     ensures err { OnErr result (BeginsWith out.new.items out.old.items) }
+    ensures fit { OnOk result (All FirstFits behaviour.now.vars) }
 {
     add_ports(out, b"in", behaviour.ins.as_slice())?;
     add_ports(out, b"out", behaviour.outs.as_slice())?;
@@ -61,10 +64,11 @@ fn add_code(out: &mut Vec<u8>, behaviour: &BehaviourParts, code: &Code) -> Resul
     ensures ok { OnOk result
         (out.new.items ≡ out.old.items ++ text_of (code_lines behaviour.now code.now)) }
     ensures err { OnErr result (BeginsWith out.new.items out.old.items) }
+    ensures fit { OnOk result (CodeFits behaviour.now code.now) }
 {
     let parts = code.parts();
     let instrs = parts.instrs.as_slice();
-    add_number(out, b"loops", u128::from(parts.loops))?;
+    add_loops(out, parts.loops)?;
     add_states(out, behaviour.states.as_slice(), parts.entries.as_slice())?;
     add_initial(out, behaviour)?;
     add_number(out, b"most", u128::from(most(code)))?;
@@ -80,6 +84,16 @@ fn add_number(out: &mut Vec<u8>, word: &[u8], number: u128) -> Result<(), NoMemo
 {
     let indent = Word::Bytes(b"");
     add_line(out, &[indent, Word::Bytes(word), Word::Wide(number)])
+}
+
+// The line of a code's slots for loops.
+fn add_loops(out: &mut Vec<u8>, loops: u32) -> Result<(), NoMemory>
+    ensures ok { OnOk result
+        (out.new.items ≡ out.old.items ++ number_line (codes "loops") loops ++ line_end) }
+    ensures err { OnErr result (out.new.items ≡ out.old.items) }
+    ensures fit { NumberFits loops }
+{
+    add_number(out, b"loops", u128::from(loops))
 }
 
 fn kind_word(kind: Kind) -> Word<'static>
@@ -119,6 +133,7 @@ fn add_variable(out: &mut Vec<u8>, variable: &VarDecl) -> Result<(), NoMemory>
     ensures ok { OnOk result
         (out.new.items ≡ out.old.items ++ variable_line variable.now ++ line_end) }
     ensures err { OnErr result (out.new.items ≡ out.old.items) }
+    ensures fit { FirstFits variable.now }
 {
     let indent = Word::Bytes(b"");
     let name = Word::Bytes(variable.name.as_bytes());
@@ -131,6 +146,7 @@ fn add_variables(out: &mut Vec<u8>, variables: &[VarDecl]) -> Result<(), NoMemor
     ensures ok { OnOk result
         (out.new.items ≡ out.old.items ++ text_of (map variable_line variables.now)) }
     ensures err { OnErr result (BeginsWith out.new.items out.old.items) }
+    ensures fit { OnOk result (All FirstFits variables.now) }
 {
     for variable in variables {
         add_variable(out, variable)?;
@@ -143,6 +159,7 @@ fn add_state(out: &mut Vec<u8>, state: &StateDecl, entry: Option<u32>) -> Result
     ensures ok { OnOk result
         (out.new.items ≡ out.old.items ++ state_line state.now entry ++ line_end) }
     ensures err { OnErr result (out.new.items ≡ out.old.items) }
+    ensures fit { EntryFits entry }
 {
     let indent = Word::Bytes(b"");
     let first = Word::Bytes(b"state");
@@ -164,6 +181,7 @@ fn add_states(
     ensures ok { OnOk result
         (out.new.items ≡ out.old.items ++ text_of (state_lines states.now entries.now)) }
     ensures err { OnErr result (BeginsWith out.new.items out.old.items) }
+    ensures fit { OnOk result (EntriesFit states.now entries.now) }
 {
     for (state, entry) in states.iter().zip(entries) {
         add_state(out, state, *entry)?;

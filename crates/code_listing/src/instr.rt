@@ -1,10 +1,11 @@
 //! The lines of instructions.
-ghost use Rattle.std.specs.Prelude.{◌≡◌, [], ◌∷◌, ◌++◌, decimal, OnOk, OnErr};
+ghost use Rattle.std.specs.Prelude.{◌≡◌, [], ◌∷◌, ◌++◌, decimal, All, OnOk, OnErr};
 ghost use Rattle.pals_model.specs.RoundTexts.{line_end, text_of};
 ghost use Rattle.pals_runs.specs.Journal.{spaced};
 ghost use Rattle.pals_report.specs.proof.Appended.{BeginsWith};
 ghost use Rattle.pals_report.specs.proof.Words.{word_text};
 ghost use Rattle.code_listing.specs.Listings.{mnemonic, instr_line, instr_lines};
+ghost use Rattle.code_listing.specs.Numbers.{InstrFits};
 
 use crate::names::{port_word, slot_word, state_word};
 use pals_base::{BehaviourParts, NoMemory};
@@ -57,6 +58,7 @@ fn add_instr(
     ensures ok { OnOk result
         (out.new.items ≡ out.old.items ++ instr_line behaviour.now place instr ++ line_end) }
     ensures err { OnErr result (out.new.items ≡ out.old.items) }
+    ensures fit { InstrFits instr }
 {
     let indent = Word::Bytes(b"");
     let place = Word::Number(place as u64);
@@ -136,6 +138,7 @@ pub fn add_instrs(
     ensures ok { OnOk result
         (out.new.items ≡ out.old.items ++ text_of (instr_lines behaviour.now instrs.now)) }
     ensures err { OnErr result (BeginsWith out.new.items out.old.items) }
+    ensures fit { OnOk result (All InstrFits instrs.now) }
 {
     for (place, instr) in instrs.iter().enumerate() {
         add_instr(out, behaviour, place, *instr)?;

@@ -4,6 +4,7 @@
 mod component;
 mod design;
 mod instr;
+pub mod laws;
 mod listing;
 mod names;
 

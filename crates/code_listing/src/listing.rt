@@ -3,6 +3,7 @@ ghost use Rattle.std.specs.Prelude.{◌≡◌, ◌++◌, OnOk, OnErr};
 ghost use Rattle.pals_model.specs.RoundTexts.{text_of};
 ghost use Rattle.pals_report.specs.proof.Appended.{BeginsWith};
 ghost use Rattle.code_listing.specs.Listings.{lines_of_all, listing_lines, listing};
+ghost use Rattle.code_listing.specs.Numbers.{AllFit};
 
 use crate::component::add_component;
 use crate::design::add_bounds;
@@ -16,6 +17,7 @@ use step_code::Code;
 pub fn add_listing(out: &mut Vec<u8>, design: &Design, codes: &[Code]) -> Result<(), NoMemory>
     ensures ok { OnOk result (out.new.items ≡ out.old.items ++ listing design.now codes.now) }
     ensures err { OnErr result (out.new.items ≡ out.old.items) }
+    ensures fit { OnOk result (AllFit design.now.components codes.now) }
 {
     let start = out.len();
     let written = add_lines(out, design.parts(), codes);
@@ -27,6 +29,7 @@ fn add_lines(out: &mut Vec<u8>, design: &DesignParts, codes: &[Code]) -> Result<
     ensures ok { OnOk result
         (out.new.items ≡ out.old.items ++ text_of (listing_lines design.now codes.now)) }
     ensures err { OnErr result (BeginsWith out.new.items out.old.items) }
+    ensures fit { OnOk result (AllFit design.now.components codes.now) }
 {
     add_bounds(out, design)?;
     add_components(out, design, codes)?;
@@ -41,6 +44,7 @@ fn add_components(out: &mut Vec<u8>, design: &DesignParts, codes: &[Code]) -> Re
     ensures ok { OnOk result (out.new.items
         ≡ out.old.items ++ text_of (lines_of_all design.now design.now.components codes.now)) }
     ensures err { OnErr result (BeginsWith out.new.items out.old.items) }
+    ensures fit { OnOk result (AllFit design.now.components codes.now) }
 {
     for (component, code) in design.components.as_slice().iter().zip(codes) {
         add_component(out, design, component, code)?;

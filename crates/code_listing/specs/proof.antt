@@ -1,0 +1,2 @@
+-- Definitions of laws.
+pub mod Told
