@@ -32,23 +32,28 @@ set_table f g n at x here others =
     elim (cases_eq k at) [
       | inl same ↦
           ap (λ j. slice_index_or (slice_set old j x) k d) (sym same)
-          ∙ get_or-set_same old k x d (let wide = length-table f n in omega (arith, wide, below)) ∙ here (omega (arith, same, below)) ∙ ap g (sym same)
+          ∙ get_or-set_same old k x d (let wide = length-table f n in omega (arith, wide, below))
+          ∙ here (omega (arith, same, below)) ∙ ap g (sym same)
           ∙ sym (table-at g n k d below)
-      | inr apart ↦ get_or-set_other old at k x d apart ∙ table-at f n k d below ∙ others k apart ∙ sym (table-at g n k d below)
+      | inr apart ↦ get_or-set_other old at k x d apart ∙ table-at f n k d below ∙ others k apart
+          ∙ sym (table-at g n k d below)
     ])
 
 -- the same items at each place
 pub same_table : {A : Type 0} (f g : ℕ → A) (n : ℕ) → ((k : ℕ) → f k ≡ g k) → map f (upwards 0 n) ≡ map g (upwards 0 n)
 same_table f g n each =
     same_lists (map f (upwards 0 n)) (map g (upwards 0 n)) (length-table f n ∙ sym (length-table g n))
-    (λ k d within. let below : k < n = (let size = length-table f n in omega (arith, within, size)) in table-at f n k d below ∙ each k ∙ sym (table-at g n k d below))
+    (λ k d within. let below : k < n = (let size = length-table f n in omega (arith, within, size)) in
+    table-at f n k d below ∙ each k ∙ sym (table-at g n k d below))
 
 -- ---- faults
-filter_one : (f : RoundFault) (round : ℕ) (is : Bool) → nat_eq f.round round ≡ is → filter (λ (g : RoundFault). nat_eq g.round round) (f ∷ []) ≡ cond is (f ∷ []) []
+filter_one : (f : RoundFault) (round : ℕ) (is : Bool) → nat_eq f.round round ≡ is
+    → filter (λ (g : RoundFault). nat_eq g.round round) (f ∷ []) ≡ cond is (f ∷ []) []
 filter_one f round is e = ap (λ b. cond b (f ∷ []) []) e
 
 faults-more : (faults : List RoundFault) (f : RoundFault) (round : ℕ) (is : Bool) → nat_eq f.round round ≡ is
-    → faults_of (faults ++ f ∷ []) round ≡ faults_of faults round ++ map (λ (g : RoundFault). g.fault) (cond is (f ∷ []) [])
+    → faults_of (faults ++ f ∷ []) round
+    ≡ faults_of faults round ++ map (λ (g : RoundFault). g.fault) (cond is (f ∷ []) [])
 faults-more faults f round is e =
     let test = λ (g : RoundFault). nat_eq g.round round in
     ap (map (λ (g : RoundFault). g.fault)) (filter-append test faults (f ∷ []))
@@ -56,7 +61,8 @@ faults-more faults f round is e =
     ∙ ap (λ gs. faults_of faults round ++ map (λ (g : RoundFault). g.fault) gs) (filter_one f round is e)
 
 -- one more fault
-pub filed_more : (faults : List RoundFault) (f : RoundFault) (n : ℕ) (table : List (List VoteFault)) → table ≡ map (faults_of faults) (upwards 0 n)
+pub filed_more : (faults : List RoundFault) (f : RoundFault) (n : ℕ) (table : List (List VoteFault))
+    → table ≡ map (faults_of faults) (upwards 0 n)
     → filed table f ≡ map (faults_of (faults ++ f ∷ [])) (upwards 0 n)
 filed_more faults f n table is =
     let item = slice_index_or table f.round [] ++ f.fault ∷ [] in
@@ -66,7 +72,8 @@ filed_more faults f n table is =
     ap (λ (t : List (List VoteFault)). slice_index_or t f.round [] ++ f.fault ∷ []) is
     ∙ ap (λ (fs : List VoteFault). fs ++ f.fault ∷ []) (table-at (faults_of faults) n f.round [] below)
     ∙ sym (faults-more faults f f.round true (eq-eqb f.round f.round refl)))
-    (λ k apart. sym (faults-more faults f k false (ne_eqb f.round k (λ same. apart (sym same))) ∙ append-nil (faults_of faults k)))
+    (λ k apart. sym (faults-more faults f k false (ne_eqb f.round k (λ same. apart (sym same)))
+    ∙ append-nil (faults_of faults k)))
 
 -- ---- replicas
 among-more : (nodes : List NodeNo) (i : ℕ) (d : NodeNo) (node : ℕ) → i < length nodes
@@ -80,8 +87,11 @@ marked_more nodes i d n marks within are =
     let node = (slice_index_or nodes i d).0 in
     ap (λ ms. slice_set ms node true) are
     ∙ set_table (is_among (take i nodes)) (is_among (take (i + 1) nodes)) n node true
-    (λ below. sym (among-more nodes i d node within ∙ ap (λ b. is_among (take i nodes) node || b) (eq-eqb node node refl) ∙ or-true (is_among (take i nodes) node)))
-    (λ k apart. sym (among-more nodes i d k within ∙ ap (λ b. is_among (take i nodes) k || b) (ne_eqb node k (λ same. apart (sym same))) ∙ or-false (is_among (take i nodes) k)))
+    (λ below. sym (among-more nodes i d node within
+    ∙ ap (λ b. is_among (take i nodes) node || b) (eq-eqb node node refl) ∙ or-true (is_among (take i nodes) node)))
+    (λ k apart. sym (among-more nodes i d k within
+    ∙ ap (λ b. is_among (take i nodes) k || b) (ne_eqb node k (λ same. apart (sym same)))
+    ∙ or-false (is_among (take i nodes) k)))
 
 marks_from : (n from : ℕ) → replicate n false ≡ map (is_among []) (upwards from n)
 marks_from zero from = refl

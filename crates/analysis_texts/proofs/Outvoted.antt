@@ -37,13 +37,19 @@ none_replicated design node = get_or-map (is_among []) (upwards 0 (length design
 module _ (design : DesignParts) (env : Env) (replicas : List NodeNo) (faults : List RoundFault) (rounds : ℕ)
     (rules : IsDesign design) (keep : All (IsFaultOf design replicas) faults) where
   pub rows_outvoted : AreOutvoted (faults_of faults)
-      → vreport design env (replicated_in design replicas) (faults_of faults) rounds ≡ thrice design env (replicated_in design replicas) rounds
+      → vreport design env (replicated_in design replicas) (faults_of faults) rounds
+      ≡ thrice design env (replicated_in design replicas) rounds
   rows_outvoted outvoted =
-      report_is_thrice design env (replicated_in design replicas) (faults_of faults) rounds rules (λ round. faults_keep design replicas faults round keep) outvoted
+      report_is_thrice design env (replicated_in design replicas) (faults_of faults) rounds rules
+      (λ round. faults_keep design replicas faults round keep) outvoted
 
-  pub rows_alone : replicas ≡ [] → vreport design env (replicated_in design replicas) (faults_of faults) rounds ≡ report design env rounds
+  pub rows_alone : replicas ≡ []
+      → vreport design env (replicated_in design replicas) (faults_of faults) rounds ≡ report design env rounds
   rows_alone none =
-      let no_fault = no_faults design faults (subst (λ (rs : List NodeNo). All (IsFaultOf design rs) faults) none keep) in
+      let no_fault =
+      no_faults design faults (subst (λ (rs : List NodeNo). All (IsFaultOf design rs) faults) none keep) in
       let outvoted = subst (λ (fs : List RoundFault). AreOutvoted (faults_of fs)) (sym no_fault) none_outvoted in
-      let single = subst (λ (rs : List NodeNo). (node : ℕ) → is_replicated (replicated_in design rs) node ≡ false) (sym none) (none_replicated design) in
+      let single =
+      subst (λ (rs : List NodeNo). (node : ℕ) → is_replicated (replicated_in design rs) node ≡ false) (sym none)
+      (none_replicated design) in
       rows_outvoted outvoted ∙ thrice_without_replicas design env (replicated_in design replicas) rounds single

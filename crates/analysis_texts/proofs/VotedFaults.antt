@@ -19,17 +19,21 @@ same_source : (o : Option Link) → source_in o ≡ named_source o
 same_source None = refl
 same_source (Some link) = refl
 
-one_keeps : (design : DesignParts) (replicas : List NodeNo) (f : RoundFault) → IsFaultOf design replicas f → IsFault design f.fault
+one_keeps : (design : DesignParts) (replicas : List NodeNo) (f : RoundFault) → IsFaultOf design replicas f
+    → IsFault design f.fault
 one_keeps design replicas f keeps =
     record { source = same_source (slice_get design.links f.fault.link.0) ∙ keeps.source; values = keeps.count }
 
 -- those of a round
 kept_by : (design : DesignParts) (f : RoundFault) (rest : List RoundFault) (here : Bool) → IsFault design f.fault
-    → All (IsFault design) (map (λ (g : RoundFault). g.fault) rest) → All (IsFault design) (map (λ (g : RoundFault). g.fault) (cond here (f ∷ rest) rest))
-kept_by design f rest true keeps others = All-cons (IsFault design) f.fault (map (λ (g : RoundFault). g.fault) rest) keeps others
+    → All (IsFault design) (map (λ (g : RoundFault). g.fault) rest)
+    → All (IsFault design) (map (λ (g : RoundFault). g.fault) (cond here (f ∷ rest) rest))
+kept_by design f rest true keeps others =
+    All-cons (IsFault design) f.fault (map (λ (g : RoundFault). g.fault) rest) keeps others
 kept_by design f rest false keeps others = others
 
-pub faults_keep : (design : DesignParts) (replicas : List NodeNo) (faults : List RoundFault) (round : ℕ) → All (IsFaultOf design replicas) faults
+pub faults_keep : (design : DesignParts) (replicas : List NodeNo) (faults : List RoundFault) (round : ℕ)
+    → All (IsFaultOf design replicas) faults
     → All (IsFault design) (faults_of faults round)
 faults_keep design replicas [] round keep = All-nil (IsFault design)
 faults_keep design replicas (f ∷ faults) round keep =
@@ -38,8 +42,10 @@ faults_keep design replicas (f ∷ faults) round keep =
     (faults_keep design replicas faults round (All-tail (IsFaultOf design replicas) f faults keep))
 
 -- those of each round
-pub rounds_keep : (design : DesignParts) (replicas : List NodeNo) (faults : List RoundFault) (rounds : ℕ) (table : List (List VoteFault))
-    → All (IsFaultOf design replicas) faults → table ≡ map (faults_of faults) (upwards 0 rounds) → All (λ fs. All (IsFault design) fs) table
+pub rounds_keep : (design : DesignParts) (replicas : List NodeNo) (faults : List RoundFault) (rounds : ℕ)
+    (table : List (List VoteFault))
+    → All (IsFaultOf design replicas) faults → table ≡ map (faults_of faults) (upwards 0 rounds)
+    → All (λ fs. All (IsFault design) fs) table
 rounds_keep design replicas faults rounds table keep is =
     let each : List VoteFault → Type 0 = λ fs. All (IsFault design) fs in
     let listed = map (faults_of faults) (upwards 0 rounds) in

@@ -30,7 +30,8 @@ pub copies_few : (replicated : List Bool) (node : ℕ) → copies_of replicated 
 copies_few replicated node = few_of (is_replicated replicated node)
 
 -- ---- a row from its parts
-pub row_of_parts : (design : DesignParts) (replicated : List Bool) (frame : ℕ → ℕ → Frame) (shown : Tap → List Port) (round : ℕ) (t0 t1 t2 t3 : List ℕ)
+pub row_of_parts : (design : DesignParts) (replicated : List Bool) (frame : ℕ → ℕ → Frame) (shown : Tap → List Port)
+    (round : ℕ) (t0 t1 t2 t3 : List ℕ)
     → t1 ≡ t0 ++ round_line round ++ line_end → t2 ≡ t1 ++ text_of (all_lines replicated frame 0 design.components)
     → t3 ≡ t2 ++ text_of (map (shown_line design shown) design.taps)
     → t3 ≡ t0 ++ text_of (vrow_lines design replicated frame shown round)
@@ -42,34 +43,46 @@ row_of_parts design replicated frame shown round t0 t1 t2 t3 first second third 
     ∙ ap (λ t. t1 ++ t) (sym (text_of-append lines taps)))
 
 -- ---- one round further
-pub record HasVoted (design : DesignParts) (env : Env) (replicated : List Bool) (faults : ℕ → List VoteFault) (round : ℕ) (voted : Voted) (text : List ℕ) : Type 0 where
+pub record HasVoted (design : DesignParts) (env : Env) (replicated : List Bool) (faults : ℕ → List VoteFault)
+    (round : ℕ) (voted : Voted) (text : List ℕ) : Type 0 where
   pub stands : voted ≡ vcomp design env replicated faults round
   pub rows : text ≡ vreport design env replicated faults round
 
 -- a product that has made one more round, with the round's values and faults
-pub record MakesRound (design : DesignParts) (env : Env) (replicated : List Bool) (faults : ℕ → List VoteFault) (round : ℕ) (old new : VotedState) : Type 0 where
+pub record MakesRound (design : DesignParts) (env : Env) (replicated : List Bool) (faults : ℕ → List VoteFault)
+    (round : ℕ) (old new : VotedState) : Type 0 where
   pub design_is : old.design ≡ design
   pub replicated_is : old.replicated ≡ replicated
   pub voted_is : old.voted ≡ vcomp design env replicated faults round
   pub made : new ≡ vadvanced old (values_at env round) (faults round)
 
 -- it is the one that was made from what stood there
-made_from : (design : DesignParts) (env : Env) (replicated : List Bool) (faults : ℕ → List VoteFault) (round : ℕ) (old new : VotedState)
+made_from : (design : DesignParts) (env : Env) (replicated : List Bool) (faults : ℕ → List VoteFault) (round : ℕ)
+    (old new : VotedState)
     → MakesRound design env replicated faults round old new
-    → new ≡ vadvanced (record { design = design; replicated = replicated; voted = vcomp design env replicated faults round; shown = old.shown }) (values_at env round) (faults round)
+    → new ≡ vadvanced (record {
+      design = design;
+      replicated = replicated;
+      voted = vcomp design env replicated faults round;
+      shown = old.shown;
+    }) (values_at env round) (faults round)
 made_from design env replicated faults round old new h =
     let state = λ (d : DesignParts) (r : List Bool) (v : Voted).
-    vadvanced (record { design = d; replicated = r; voted = v; shown = old.shown }) (values_at env round) (faults round) in
+    vadvanced (record { design = d; replicated = r; voted = v; shown = old.shown }) (values_at env round)
+    (faults round) in
     h.made ∙ ap (λ d. state d old.replicated old.voted) h.design_is ∙ ap (λ r. state design r old.voted) h.replicated_is
     ∙ ap (state design replicated) h.voted_is
 
-pub stands_next : (design : DesignParts) (env : Env) (replicated : List Bool) (faults : ℕ → List VoteFault) (round : ℕ) (old new : VotedState)
+pub stands_next : (design : DesignParts) (env : Env) (replicated : List Bool) (faults : ℕ → List VoteFault) (round : ℕ)
+    (old new : VotedState)
     → MakesRound design env replicated faults round old new → new.voted ≡ vcomp design env replicated faults (suc round)
 unfolding vcomp
-stands_next design env replicated faults round old new h = ap (λ (s : VotedState). s.voted) (made_from design env replicated faults round old new h)
+stands_next design env replicated faults round old new h =
+    ap (λ (s : VotedState). s.voted) (made_from design env replicated faults round old new h)
 
 -- what its root out ports show
-pub shows_next : (design : DesignParts) (env : Env) (replicated : List Bool) (faults : ℕ → List VoteFault) (round : ℕ) (old new : VotedState)
+pub shows_next : (design : DesignParts) (env : Env) (replicated : List Bool) (faults : ℕ → List VoteFault) (round : ℕ)
+    (old new : VotedState)
     → MakesRound design env replicated faults round old new
     → new.shown ≡ map (λ tap. vshown design env replicated faults tap round) new.design.taps
 unfolding vshown
@@ -79,7 +92,8 @@ shows_next design env replicated faults round old new h =
     ∙ ap (λ (s : VotedState). map (λ tap. vshown design env replicated faults tap round) s.design.taps) (sym made)
 
 -- and the row of the round behind the text
-pub voted_more : (design : DesignParts) (env : Env) (replicated : List Bool) (faults : ℕ → List VoteFault) (round : ℕ) (old new : VotedState) (text longer : List ℕ)
+pub voted_more : (design : DesignParts) (env : Env) (replicated : List Bool) (faults : ℕ → List VoteFault) (round : ℕ)
+    (old new : VotedState) (text longer : List ℕ)
     → MakesRound design env replicated faults round old new → text ≡ vreport design env replicated faults round
     → ((shown : Tap → List Port) → new.shown ≡ map shown new.design.taps
     → longer ≡ text ++ text_of (vrow_lines new.design new.replicated (frame_at new.voted) shown round))
@@ -87,9 +101,12 @@ pub voted_more : (design : DesignParts) (env : Env) (replicated : List Bool) (fa
 voted_more design env replicated faults round old new text longer h rows row =
     let shown = λ (tap : Tap). vshown design env replicated faults tap round in
     let made = made_from design env replicated faults round old new h in
-    let line = λ (d : DesignParts) (r : List Bool) (v : Voted). text ++ text_of (vrow_lines d r (frame_at v) shown round) in
+    let line =
+    λ (d : DesignParts) (r : List Bool) (v : Voted). text ++ text_of (vrow_lines d r (frame_at v) shown round) in
     record {
-      stands = stands_next design env replicated faults round old new h ∙ ap (vcomp design env replicated faults) (sym (add-one round));
+      stands =
+          stands_next design env replicated faults round old new h
+          ∙ ap (vcomp design env replicated faults) (sym (add-one round));
       rows = row shown (shows_next design env replicated faults round old new h)
           ∙ ap (λ (s : VotedState). line s.design new.replicated new.voted) made
           ∙ ap (λ (s : VotedState). line design s.replicated new.voted) made

@@ -22,7 +22,8 @@ use Rattle.pals_model.proofs.Words.{IsWithout, all_pass, word_without, splits_at
 use Rattle.pals_report.specs.CheckReports.{out_port_name, source_name}
 
 -- ---- lists in which no name stands twice
-pub same_place : {X : Type 0} (name : X → List ℕ) (xs : List X) (i j : ℕ) (x y : X) → AllPairs (λ a b. name a ≢ name b) xs → slice_get xs i ≡ Some x → slice_get xs j ≡ Some y → name x ≡ name y → i ≡ j
+pub same_place : {X : Type 0} (name : X → List ℕ) (xs : List X) (i j : ℕ) (x y : X)
+    → AllPairs (λ a b. name a ≢ name b) xs → slice_get xs i ≡ Some x → slice_get xs j ≡ Some y → name x ≡ name y → i ≡ j
 same_place name xs i j x y apart is_x is_y same =
     elim (cases_lt i j) [
       | inl below ↦ absurd (pair_at (λ a b. name a ≢ name b) xs i j x y apart below is_x is_y same)
@@ -43,7 +44,8 @@ get_front [] ys k x is = absurd (cc)
 get_front (z ∷ xs) ys zero x is = is
 get_front (z ∷ xs) ys (suc k) x is = get_front xs ys k x is
 
-get_behind : {X : Type 0} (xs ys : List X) (k : ℕ) (x : X) → slice_get ys k ≡ Some x → slice_get (xs ++ ys) (length xs + k) ≡ Some x
+get_behind : {X : Type 0} (xs ys : List X) (k : ℕ) (x : X) → slice_get ys k ≡ Some x
+    → slice_get (xs ++ ys) (length xs + k) ≡ Some x
 get_behind [] ys k x is = let same : 0 + k ≡ k = omega arith in ap (slice_get ys) same ∙ is
 get_behind (z ∷ xs) ys k x is =
     let same : suc (length xs) + k ≡ suc (length xs + k) = omega arith in
@@ -54,11 +56,13 @@ front_once xs ys once i j name at_i at_j = once i j name (get_front xs ys i name
 
 rest_once : (xs ys : List (List ℕ)) → StandOnce (xs ++ ys) → StandOnce ys
 rest_once xs ys once i j name at_i at_j =
-    let same : length xs + i ≡ length xs + j = once (length xs + i) (length xs + j) name (get_behind xs ys i name at_i) (get_behind xs ys j name at_j) in
+    let same : length xs + i ≡ length xs + j =
+    once (length xs + i) (length xs + j) name (get_behind xs ys i name at_i) (get_behind xs ys j name at_j) in
     omega arith
 
 -- what a list of names of items has comes from an item
-pub from_map : {X Y : Type 0} (f : X → Y) (xs : List X) (k : ℕ) (y : Y) → slice_get (map f xs) k ≡ Some y → (x : X) × (slice_get xs k ≡ Some x) × (f x ≡ y)
+pub from_map : {X Y : Type 0} (f : X → Y) (xs : List X) (k : ℕ) (y : Y) → slice_get (map f xs) k ≡ Some y
+    → (x : X) × (slice_get xs k ≡ Some x) × (f x ≡ y)
 from_map f [] k y is = absurd (cc)
 from_map f (x ∷ xs) zero y is = (x, refl, same_Some (f x) y is)
 from_map f (x ∷ xs) (suc k) y is = from_map f xs k y is
@@ -93,23 +97,29 @@ named_or_not None = refl
 named_or_not (Some p) = refl
 
 named : (ports : List Named) (port : ℕ) → port_name (slice_get ports port) ≡ name_in (slice_get (names_of ports) port)
-named ports port = named_or_not (slice_get ports port) ∙ ap name_in (sym (slice_get-map (λ (p : Named). p.name) ports port))
+named ports port =
+    named_or_not (slice_get ports port) ∙ ap name_in (sym (slice_get-map (λ (p : Named). p.name) ports port))
 
-source_or_not : (o : Option Component) (port : ℕ) → out_port_name o port ≡ full_name (option_map (ported outs_of) o) port
+source_or_not : (o : Option Component) (port : ℕ)
+    → out_port_name o port ≡ full_name (option_map (ported outs_of) o) port
 source_or_not None port = refl
 source_or_not (Some c) port = ap (λ name. c.path ++ codes "." ++ name) (named c.behaviour.outs port)
 
-pub source_named : (design : DesignParts) (node port : ℕ) → source_name design node port ≡ full_name (slice_get (map (ported outs_of) design.components) node) port
+pub source_named : (design : DesignParts) (node port : ℕ)
+    → source_name design node port ≡ full_name (slice_get (map (ported outs_of) design.components) node) port
 source_named design node port =
-    source_or_not (slice_get design.components node) port ∙ ap (λ o. full_name o port) (sym (slice_get-map (ported outs_of) design.components node))
+    source_or_not (slice_get design.components node) port
+    ∙ ap (λ o. full_name o port) (sym (slice_get-map (ported outs_of) design.components node))
 
 target_or_not : (o : Option Component) (port : ℕ) → in_port_name o port ≡ full_name (option_map (ported ins_of) o) port
 target_or_not None port = refl
 target_or_not (Some c) port = ap (λ name. c.path ++ codes "." ++ name) (named c.behaviour.ins port)
 
-pub target_named : (design : DesignParts) (node port : ℕ) → target_name design node port ≡ full_name (slice_get (map (ported ins_of) design.components) node) port
+pub target_named : (design : DesignParts) (node port : ℕ)
+    → target_name design node port ≡ full_name (slice_get (map (ported ins_of) design.components) node) port
 target_named design node port =
-    target_or_not (slice_get design.components node) port ∙ ap (λ o. full_name o port) (sym (slice_get-map (ported ins_of) design.components node))
+    target_or_not (slice_get design.components node) port
+    ∙ ap (λ o. full_name o port) (sym (slice_get-map (ported ins_of) design.components node))
 
 -- ---- the names differ
 pub record AreApart (cs : List Ported) : Type 0 where
@@ -118,14 +128,18 @@ pub record AreApart (cs : List Ported) : Type 0 where
   pub words : (i : ℕ) (c : Ported) → slice_get cs i ≡ Some c → list_all is_word c.names ≡ true
 
 abbrev HaveNames : (BehaviourParts → List Named) → Type 0
-HaveNames ports = (b : BehaviourParts) → IsBehaviour b → StandOnce (names_of (ports b)) × (list_all is_word (names_of (ports b)) ≡ true)
+HaveNames ports =
+    (b : BehaviourParts) → IsBehaviour b
+    → StandOnce (names_of (ports b)) × (list_all is_word (names_of (ports b)) ≡ true)
 
 outs_have_names : HaveNames outs_of
 outs_have_names b rules =
     let ins = names_of b.ins in
     let outs = names_of b.outs in
     let vars = map (λ (v : VarDecl). v.name) b.vars in
-    let words = (and_parts (list_all is_word (ins ++ outs)) (list_all is_word vars) (sym (list_all-append is_word (ins ++ outs) vars) ∙ rules.names.values)).0 in (
+    let words =
+    (and_parts (list_all is_word (ins ++ outs)) (list_all is_word vars)
+    (sym (list_all-append is_word (ins ++ outs) vars) ∙ rules.names.values)).0 in (
       rest_once ins outs (front_once (ins ++ outs) vars (stand_once (value_names b) rules.names.values_differ)),
       (and_parts (list_all is_word ins) (list_all is_word outs) (sym (list_all-append is_word ins outs) ∙ words)).1,
     )
@@ -135,12 +149,15 @@ ins_have_names b rules =
     let ins = names_of b.ins in
     let outs = names_of b.outs in
     let vars = map (λ (v : VarDecl). v.name) b.vars in
-    let words = (and_parts (list_all is_word (ins ++ outs)) (list_all is_word vars) (sym (list_all-append is_word (ins ++ outs) vars) ∙ rules.names.values)).0 in (
+    let words =
+    (and_parts (list_all is_word (ins ++ outs)) (list_all is_word vars)
+    (sym (list_all-append is_word (ins ++ outs) vars) ∙ rules.names.values)).0 in (
       front_once ins outs (front_once (ins ++ outs) vars (stand_once (value_names b) rules.names.values_differ)),
       (and_parts (list_all is_word ins) (list_all is_word outs) (sym (list_all-append is_word ins outs) ∙ words)).0,
     )
 
-apart : (ports : BehaviourParts → List Named) → HaveNames ports → (design : DesignParts) → IsDesign design → AreApart (map (ported ports) design.components)
+apart : (ports : BehaviourParts → List Named) → HaveNames ports → (design : DesignParts) → IsDesign design
+    → AreApart (map (ported ports) design.components)
 apart ports have design rules = record {
   paths = λ i j c d is_c is_d same.
       let a = from_map (ported ports) design.components i c is_c in
@@ -152,7 +169,8 @@ apart ports have design rules = record {
       subst (λ (x : Ported). StandOnce x.names) a.2 (have a.0.behaviour (is_behaviour design i a.0 rules a.1)).0;
   words = λ i c is.
       let a = from_map (ported ports) design.components i c is in
-      subst (λ (x : Ported). list_all is_word x.names ≡ true) a.2 (have a.0.behaviour (is_behaviour design i a.0 rules a.1)).1;
+      subst (λ (x : Ported). list_all is_word x.names ≡ true) a.2
+      (have a.0.behaviour (is_behaviour design i a.0 rules a.1)).1;
 }
 
 pub outs_apart : (design : DesignParts) → IsDesign design → AreApart (map (ported outs_of) design.components)
@@ -168,14 +186,19 @@ pub record IsThere (cs : List Ported) (node port : ℕ) : Type 0 where
   pub at : slice_get cs node ≡ Some component
   pub named : slice_get component.names port ≡ Some name
 
-named_at : (ports : List Named) (port : ℕ) → port < length ports → (name : List ℕ) × (slice_get (names_of ports) port ≡ Some name)
+named_at : (ports : List Named) (port : ℕ) → port < length ports
+    → (name : List ℕ) × (slice_get (names_of ports) port ≡ Some name)
 named_at ports port within =
     elim (slice_get_cases ports port).1 [
-      | inl there ↦ (there.0.name, slice_get-map (λ (p : Named). p.name) ports port ∙ ap (option_map (λ (p : Named). p.name)) there.2)
+      | inl there ↦ (
+        there.0.name,
+        slice_get-map (λ (p : Named). p.name) ports port ∙ ap (option_map (λ (p : Named). p.name)) there.2,
+      )
       | inr past ↦ absurd (omega (arith, past.0))
     ]
 
-there : (ports : BehaviourParts → List Named) (design : DesignParts) (node port : ℕ) (c : Component) → slice_get design.components node ≡ Some c → port < length (ports c.behaviour)
+there : (ports : BehaviourParts → List Named) (design : DesignParts) (node port : ℕ) (c : Component)
+    → slice_get design.components node ≡ Some c → port < length (ports c.behaviour)
     → IsThere (map (ported ports) design.components) node port
 there ports design node port c is within =
     let name = named_at (ports c.behaviour) port within in record {
@@ -185,32 +208,43 @@ there ports design node port c is within =
       named = name.1;
     }
 
-pub source_there : (design : DesignParts) (node port : ℕ) → IsSource design node port → IsThere (map (ported outs_of) design.components) node port
+pub source_there : (design : DesignParts) (node port : ℕ) → IsSource design node port
+    → IsThere (map (ported outs_of) design.components) node port
 source_there design node port source =
     let c = component_at design node source.node_is in
     there outs_of design node port c.0 c.1 (subst (λ o. port < outs_in o) c.1 source.port_is)
 
-pub target_there : (design : DesignParts) (node port : ℕ) → IsTarget design node port → IsThere (map (ported ins_of) design.components) node port
+pub target_there : (design : DesignParts) (node port : ℕ) → IsTarget design node port
+    → IsThere (map (ported ins_of) design.components) node port
 target_there design node port target =
     let c = component_at design node target.node_is in
     there ins_of design node port c.0 c.1 (subst (λ o. port < ins_in o) c.1 target.port_is)
 
 -- ---- the law
-full_name-is : (cs : List Ported) (node port : ℕ) (t : IsThere cs node port) → full_name (slice_get cs node) port ≡ t.component.path ++ 46 ∷ t.name
+full_name-is : (cs : List Ported) (node port : ℕ) (t : IsThere cs node port)
+    → full_name (slice_get cs node) port ≡ t.component.path ++ 46 ∷ t.name
 full_name-is cs node port t =
-    ap (λ o. full_name o port) t.at ∙ ap (λ o. t.component.path ++ codes "." ++ name_in o) t.named ∙ append_assoc t.component.path (46 ∷ []) t.name
+    ap (λ o. full_name o port) t.at ∙ ap (λ o. t.component.path ++ codes "." ++ name_in o) t.named
+    ∙ append_assoc t.component.path (46 ∷ []) t.name
 
 without_dot : (cs : List Ported) (node port : ℕ) → AreApart cs → (t : IsThere cs node port) → IsWithout 46 t.name
 without_dot cs node port differ t =
-    word_without 46 t.name refl (at_element (λ w. is_word w ≡ true) t.component.names port t.name (all_pass is_word t.component.names (differ.words node t.component t.at)) t.named)
+    word_without 46 t.name refl
+    (at_element (λ w. is_word w ≡ true) t.component.names port t.name
+    (all_pass is_word t.component.names (differ.words node t.component t.at)) t.named)
 
-pub ports_told : (cs : List Ported) (node port other_node other_port : ℕ) → AreApart cs → IsThere cs node port → IsThere cs other_node other_port
-    → full_name (slice_get cs node) port ≡ full_name (slice_get cs other_node) other_port → (node ≡ other_node) × (port ≡ other_port)
+pub ports_told : (cs : List Ported) (node port other_node other_port : ℕ) → AreApart cs → IsThere cs node port
+    → IsThere cs other_node other_port
+    → full_name (slice_get cs node) port ≡ full_name (slice_get cs other_node) other_port
+    → (node ≡ other_node) × (port ≡ other_port)
 ports_told cs node port other_node other_port differ a b same =
-    let parts = splits_at_last 46 a.component.path a.name b.component.path b.name (without_dot cs node port differ a) (without_dot cs other_node other_port differ b)
+    let parts =
+    splits_at_last 46 a.component.path a.name b.component.path b.name (without_dot cs node port differ a)
+    (without_dot cs other_node other_port differ b)
     (sym (full_name-is cs node port a) ∙ same ∙ full_name-is cs other_node other_port b) in
     let node_same = differ.paths node other_node a.component b.component a.at b.at parts.0 in
     let both : Some a.component ≡ Some b.component = sym a.at ∙ ap (slice_get cs) node_same ∙ b.at in
     let one : a.component ≡ b.component = cc in
-    let named_b : slice_get a.component.names other_port ≡ Some a.name = ap (λ (c : Ported). slice_get c.names other_port) one ∙ b.named ∙ ap Some (sym parts.1) in
+    let named_b : slice_get a.component.names other_port ≡ Some a.name =
+    ap (λ (c : Ported). slice_get c.names other_port) one ∙ b.named ∙ ap Some (sym parts.1) in
     (node_same, differ.names node a.component a.at port other_port a.name a.named named_b)

@@ -18,7 +18,8 @@ spelled word = spelled_on 0 word
 
 pub spelled_is : (n : ℕ) → n < 2 ^ 64 → spelled (decimal n) ≡ n
 spelled_is n small =
-    digits_value-decimal (numerals_by_fold (AllDigits 10) tells_digits spelled_on (record { empty = λ m. refl; more = λ m c cs k. refl })) n small
+    digits_value-decimal (numerals_by_fold (AllDigits 10) tells_digits spelled_on
+    (record { empty = λ m. refl; more = λ m c cs k. refl })) n small
 
 -- ---- integers
 abbrev signed_by : Bool → ℕ → List ℕ → ℤ
@@ -30,7 +31,8 @@ abbrev pub signed_spelled : List ℕ → ℤ
 signed_spelled [] = pos 0
 signed_spelled (byte ∷ word) = signed_by (nat_eq byte 45) byte word
 
-by_digits : (word : List ℕ) (n : ℕ) → 0 < length word → AllDigits 10 word → spelled word ≡ n → signed_spelled word ≡ pos n
+by_digits : (word : List ℕ) (n : ℕ) → 0 < length word → AllDigits 10 word → spelled word ≡ n
+    → signed_spelled word ≡ pos n
 by_digits [] n some digits is = absurd (omega arith)
 by_digits (byte ∷ word) n some digits is =
     let range = digit_from_value byte digits.0 in

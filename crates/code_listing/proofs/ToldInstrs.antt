@@ -46,8 +46,10 @@ told_by name words =
     else if is name (codes "Xor") then instr.Xor
     else if is name (codes "Jump") then instr.Jump (number_at words 0)
     else if is name (codes "JumpZero") then instr.JumpZero (number_at words 0)
-    else if is name (codes "LoopStart") then instr.LoopStart (number_at words 0) (signed_spelled (slice_index_or words 2 [])) (signed_spelled (slice_index_or words 3 [])) (number_at words 4)
-    else if is name (codes "LoopNext") then instr.LoopNext (number_at words 0) (signed_spelled (slice_index_or words 2 [])) (number_at words 3)
+    else if is name (codes "LoopStart") then instr.LoopStart (number_at words 0)
+    (signed_spelled (slice_index_or words 2 [])) (signed_spelled (slice_index_or words 3 [])) (number_at words 4)
+    else if is name (codes "LoopNext") then instr.LoopNext (number_at words 0)
+    (signed_spelled (slice_index_or words 2 [])) (number_at words 3)
     else if is name (codes "Emit") then instr.Emit (number_at words 0)
     else instr.End (number_at words 0)
 
@@ -90,36 +92,53 @@ operands_plain b (instr.Port port) plain = (decimal_plain port, (port_plain b.in
 operands_plain b (instr.Fresh port) plain = (decimal_plain port, (port_plain b.ins port plain.ins, tt))
 operands_plain b (instr.Jump to) plain = (decimal_plain to, tt)
 operands_plain b (instr.JumpZero to) plain = (decimal_plain to, tt)
-operands_plain b (instr.LoopStart slot low high exit) plain =
-    (decimal_plain slot, (slot_plain b.vars slot plain.vars, (signed_plain low, (signed_plain high, (decimal_plain exit, tt)))))
-operands_plain b (instr.LoopNext slot high to) plain = (decimal_plain slot, (slot_plain b.vars slot plain.vars, (signed_plain high, (decimal_plain to, tt))))
+operands_plain b (instr.LoopStart slot low high exit) plain = (
+  decimal_plain slot,
+  (
+    slot_plain b.vars slot plain.vars,
+    (signed_plain low, (signed_plain high, (decimal_plain exit, tt))),
+  ),
+)
+operands_plain b (instr.LoopNext slot high to) plain =
+    (decimal_plain slot, (slot_plain b.vars slot plain.vars, (signed_plain high, (decimal_plain to, tt))))
 operands_plain b (instr.Emit port) plain = (decimal_plain port, (port_plain b.outs port plain.outs, tt))
 operands_plain b (instr.End state) plain = (decimal_plain state, (state_plain b.states state plain.states, tt))
 operands_plain b other plain = tt
 
-pub words_plain : (b : BehaviourParts) (place : ℕ) (i : Instr) → HasPlainNames b → ArePlain ([] ∷ [] ∷ decimal place ∷ mnemonic i ∷ operands b i)
+pub words_plain : (b : BehaviourParts) (place : ℕ) (i : Instr) → HasPlainNames b
+    → ArePlain ([] ∷ [] ∷ decimal place ∷ mnemonic i ∷ operands b i)
 words_plain b place i plain = (refl, (refl, (decimal_plain place, (mnemonic_plain i, operands_plain b i plain))))
 
 -- ---- lines
-instr_told : (b c : BehaviourParts) (place : ℕ) (i j : Instr) → HasPlainNames b → HasPlainNames c → InstrFits i → InstrFits j → instr_line b place i ≡ instr_line c place j → i ≡ j
+instr_told : (b c : BehaviourParts) (place : ℕ) (i j : Instr) → HasPlainNames b → HasPlainNames c → InstrFits i
+    → InstrFits j → instr_line b place i ≡ instr_line c place j → i ≡ j
 instr_told b c place i j plain plain_other bits bits_other same =
-    let words = same_words [] [] ([] ∷ decimal place ∷ mnemonic i ∷ operands b i) ([] ∷ decimal place ∷ mnemonic j ∷ operands c j)
+    let words =
+    same_words [] [] ([] ∷ decimal place ∷ mnemonic i ∷ operands b i)
+    ([] ∷ decimal place ∷ mnemonic j ∷ operands c j)
     (words_plain b place i plain) (words_plain c place j plain_other) same in
     let name : mnemonic i ≡ mnemonic j = cc in
     let behind : operands b i ≡ operands c j = cc in
     sym (told_is b i bits) ∙ ap₂ told_by name behind ∙ told_is c j bits_other
 
-numbered_told : (b c : BehaviourParts) (k : ℕ) (code other : List Instr) → HasPlainNames b → HasPlainNames c → All InstrFits code → All InstrFits other
-    → map (λ numbered. instr_line b numbered.0 numbered.1) (enumerate_from k code) ≡ map (λ numbered. instr_line c numbered.0 numbered.1) (enumerate_from k other) → code ≡ other
+numbered_told : (b c : BehaviourParts) (k : ℕ) (code other : List Instr) → HasPlainNames b → HasPlainNames c
+    → All InstrFits code → All InstrFits other
+    → map (λ numbered. instr_line b numbered.0 numbered.1) (enumerate_from k code)
+    ≡ map (λ numbered. instr_line c numbered.0 numbered.1) (enumerate_from k other) → code ≡ other
 numbered_told b c k [] [] plain plain_other bits bits_other same = refl
 numbered_told b c k [] (j ∷ other) plain plain_other bits bits_other same = absurd (cc)
 numbered_told b c k (i ∷ code) [] plain plain_other bits bits_other same = absurd (cc)
 numbered_told b c k (i ∷ code) (j ∷ other) plain plain_other bits bits_other same =
     let head : instr_line b k i ≡ instr_line c k j = cc in
-    let tail : map (λ numbered. instr_line b numbered.0 numbered.1) (enumerate_from (k + 1) code) ≡ map (λ numbered. instr_line c numbered.0 numbered.1) (enumerate_from (k + 1) other) = cc in
-    ap₂ (λ x xs. x ∷ xs) (instr_told b c k i j plain plain_other (All-head InstrFits i code bits) (All-head InstrFits j other bits_other) head)
-    (numbered_told b c (k + 1) code other plain plain_other (All-tail InstrFits i code bits) (All-tail InstrFits j other bits_other) tail)
+    let tail : map (λ numbered. instr_line b numbered.0 numbered.1) (enumerate_from (k + 1) code)
+    ≡ map (λ numbered. instr_line c numbered.0 numbered.1) (enumerate_from (k + 1) other) = cc in
+    ap₂ (λ x xs. x ∷ xs) (instr_told b c k i j plain plain_other (All-head InstrFits i code bits)
+    (All-head InstrFits j other bits_other) head)
+    (numbered_told b c (k + 1) code other plain plain_other (All-tail InstrFits i code bits)
+    (All-tail InstrFits j other bits_other) tail)
 
-pub instrs_told : (b c : BehaviourParts) (code other : List Instr) → HasPlainNames b → HasPlainNames c → All InstrFits code → All InstrFits other
+pub instrs_told : (b c : BehaviourParts) (code other : List Instr) → HasPlainNames b → HasPlainNames c
+    → All InstrFits code → All InstrFits other
     → instr_lines b code ≡ instr_lines c other → code ≡ other
-instrs_told b c code other plain plain_other bits bits_other same = numbered_told b c 0 code other plain plain_other bits bits_other same
+instrs_told b c code other plain plain_other bits bits_other same =
+    numbered_told b c 0 code other plain plain_other bits bits_other same

@@ -65,7 +65,9 @@ adaptor_plain (Some (At n)) = (refl, (decimal_plain n, tt))
 adaptor_plain (Some other) = (refl, tt)
 
 -- the place that an adaptor takes is no greater than a rate
-place_small : (spread : Bool) (n p q : ℕ) → p ≤ RATE → q ≤ RATE → (if spread then (nat_le 1 n && nat_le n (q / p)) else (nat_lt q p && (nat_le 1 n && nat_le n (p / q)))) ≡ true → n < 2 ^ 64
+place_small : (spread : Bool) (n p q : ℕ) → p ≤ RATE → q ≤ RATE
+    → (if spread then (nat_le 1 n && nat_le n (q / p)) else (nat_lt q p && (nat_le 1 n && nat_le n (p / q)))) ≡ true
+    → n < 2 ^ 64
 place_small true n p q small small_other allowed =
     let most : n ≤ q / p = leb-true n (q / p) (and_parts (nat_le 1 n) (nat_le n (q / p)) allowed).1 in
     omega (arith, most, div-le_self q p)
@@ -92,33 +94,46 @@ with_adaptor target None = append-nil target
 with_adaptor target (Some (At n)) = refl
 with_adaptor target (Some other) = refl
 
-arrow : (source target : List ℕ) (a : Option Adaptor) → ((source ++ codes " -> ") ++ target) ++ and_adaptor a ≡ spaced (source ∷ codes "->" ∷ target ∷ adaptor_words a)
+arrow : (source target : List ℕ) (a : Option Adaptor)
+    → ((source ++ codes " -> ") ++ target) ++ and_adaptor a ≡ spaced (source ∷ codes "->" ∷ target ∷ adaptor_words a)
 arrow source target a =
-    append_assoc (source ++ codes " -> ") target (and_adaptor a) ∙ append_assoc source (codes " -> ") (target ++ and_adaptor a)
+    append_assoc (source ++ codes " -> ") target (and_adaptor a)
+    ∙ append_assoc source (codes " -> ") (target ++ and_adaptor a)
     ∙ ap (λ t. source ++ (codes " -> " ++ t)) (with_adaptor target a)
 
 abbrev pub link_words : DesignParts → Link → List (List ℕ)
-link_words design link = source_name design link.source.0 link.out_port ∷ codes "->" ∷ link_name design link ∷ adaptor_words link.adaptor
+link_words design link =
+    source_name design link.source.0 link.out_port ∷ codes "->" ∷ link_name design link ∷ adaptor_words link.adaptor
 
-pub link_line-is : (design : DesignParts) (link : Link) → link_line design link ≡ spaced (codes "link" ∷ link_words design link)
-link_line-is design link = ap (λ t. codes "link " ++ t) (arrow (source_name design link.source.0 link.out_port) (link_name design link) link.adaptor)
+pub link_line-is : (design : DesignParts) (link : Link)
+    → link_line design link ≡ spaced (codes "link" ∷ link_words design link)
+link_line-is design link =
+    ap (λ t. codes "link " ++ t)
+    (arrow (source_name design link.source.0 link.out_port) (link_name design link) link.adaptor)
 
 abbrev pub feed_words : DesignParts → Feed → List (List ℕ)
-feed_words design feed = feed.name ∷ codes "->" ∷ target_name design feed.target.0 feed.in_port ∷ adaptor_words feed.adaptor
+feed_words design feed =
+    feed.name ∷ codes "->" ∷ target_name design feed.target.0 feed.in_port ∷ adaptor_words feed.adaptor
 
-pub feed_line-is : (design : DesignParts) (feed : Feed) → feed_line design feed ≡ spaced (codes "input" ∷ feed_words design feed)
-feed_line-is design feed = ap (λ t. codes "input " ++ t) (arrow feed.name (target_name design feed.target.0 feed.in_port) feed.adaptor)
+pub feed_line-is : (design : DesignParts) (feed : Feed)
+    → feed_line design feed ≡ spaced (codes "input" ∷ feed_words design feed)
+feed_line-is design feed =
+    ap (λ t. codes "input " ++ t) (arrow feed.name (target_name design feed.target.0 feed.in_port) feed.adaptor)
 
 abbrev pub tap_words : DesignParts → Tap → List (List ℕ)
 tap_words design tap = source_name design tap.source.0 tap.out_port ∷ codes "->" ∷ tap.name ∷ []
 
-pub tap_line-is : (design : DesignParts) (tap : Tap) → tap_line design tap ≡ spaced (codes "output" ∷ tap_words design tap)
-tap_line-is design tap = ap (λ t. codes "output " ++ t) (append_assoc (source_name design tap.source.0 tap.out_port) (codes " -> ") tap.name)
+pub tap_line-is : (design : DesignParts) (tap : Tap)
+    → tap_line design tap ≡ spaced (codes "output" ∷ tap_words design tap)
+tap_line-is design tap =
+    ap (λ t. codes "output " ++ t) (append_assoc (source_name design tap.source.0 tap.out_port) (codes " -> ") tap.name)
 
 -- ---- they are plain
-joined_plain : (path name : List ℕ) → is_plain path ≡ true → is_plain name ≡ true → is_plain (path ++ codes "." ++ name) ≡ true
+joined_plain : (path name : List ℕ) → is_plain path ≡ true → is_plain name ≡ true
+    → is_plain (path ++ codes "." ++ name) ≡ true
 joined_plain path name plain plain_name =
-    list_all-append _ (path ++ codes ".") name ∙ ap₂ (λ a b. a && b) (list_all-append _ path (codes ".") ∙ ap₂ (λ a b. a && b) plain refl) plain_name
+    list_all-append _ (path ++ codes ".") name
+    ∙ ap₂ (λ a b. a && b) (list_all-append _ path (codes ".") ∙ ap₂ (λ a b. a && b) plain refl) plain_name
 
 source_plain : (design : DesignParts) (node port : ℕ) → IsDesign design → is_plain (source_name design node port) ≡ true
 source_plain design node port rules = by (slice_get design.components node) refl
@@ -127,7 +142,8 @@ source_plain design node port rules = by (slice_get design.components node) refl
     by None is = refl
     by (Some c) is =
         let rule = at_element (IsComponent design.period) design.components node c rules.components.each is in
-        joined_plain c.path (port_name (slice_get c.behaviour.outs port)) (path_plain c.path rule.path) (port_plain c.behaviour.outs port (names_are_plain c.behaviour rule.behaviour).outs)
+        joined_plain c.path (port_name (slice_get c.behaviour.outs port)) (path_plain c.path rule.path)
+        (port_plain c.behaviour.outs port (names_are_plain c.behaviour rule.behaviour).outs)
 
 target_plain : (design : DesignParts) (node port : ℕ) → IsDesign design → is_plain (target_name design node port) ≡ true
 target_plain design node port rules = by (slice_get design.components node) refl
@@ -136,18 +152,33 @@ target_plain design node port rules = by (slice_get design.components node) refl
     by None is = refl
     by (Some c) is =
         let rule = at_element (IsComponent design.period) design.components node c rules.components.each is in
-        joined_plain c.path (port_name (slice_get c.behaviour.ins port)) (path_plain c.path rule.path) (port_plain c.behaviour.ins port (names_are_plain c.behaviour rule.behaviour).ins)
+        joined_plain c.path (port_name (slice_get c.behaviour.ins port)) (path_plain c.path rule.path)
+        (port_plain c.behaviour.ins port (names_are_plain c.behaviour rule.behaviour).ins)
 
-pub link_plain : (design : DesignParts) (link : Link) → IsDesign design → ArePlain (codes "link" ∷ link_words design link)
-link_plain design link rules =
-    (refl, (source_plain design link.source.0 link.out_port rules, (refl, (target_plain design link.target.0 link.in_port rules, adaptor_plain link.adaptor))))
+pub link_plain : (design : DesignParts) (link : Link) → IsDesign design
+    → ArePlain (codes "link" ∷ link_words design link)
+link_plain design link rules = (
+  refl,
+  (
+    source_plain design link.source.0 link.out_port rules,
+    (refl, (target_plain design link.target.0 link.in_port rules, adaptor_plain link.adaptor)),
+  ),
+)
 
-pub feed_plain : (design : DesignParts) (feed : Feed) → IsDesign design → IsFeed design feed → ArePlain (codes "input" ∷ feed_words design feed)
-feed_plain design feed rules rule =
-    (refl, (word_plain feed.name rule.name, (refl, (target_plain design feed.target.0 feed.in_port rules, adaptor_plain feed.adaptor))))
+pub feed_plain : (design : DesignParts) (feed : Feed) → IsDesign design → IsFeed design feed
+    → ArePlain (codes "input" ∷ feed_words design feed)
+feed_plain design feed rules rule = (
+  refl,
+  (
+    word_plain feed.name rule.name,
+    (refl, (target_plain design feed.target.0 feed.in_port rules, adaptor_plain feed.adaptor)),
+  ),
+)
 
-pub tap_plain : (design : DesignParts) (tap : Tap) → IsDesign design → IsTap design tap → ArePlain (codes "output" ∷ tap_words design tap)
-tap_plain design tap rules rule = (refl, (source_plain design tap.source.0 tap.out_port rules, (refl, (word_plain tap.name rule.name, tt))))
+pub tap_plain : (design : DesignParts) (tap : Tap) → IsDesign design → IsTap design tap
+    → ArePlain (codes "output" ∷ tap_words design tap)
+tap_plain design tap rules rule =
+    (refl, (source_plain design tap.source.0 tap.out_port rules, (refl, (word_plain tap.name rule.name, tt))))
 
 -- ---- the names that stand in two designs
 -- their components have the same paths and ports
@@ -157,57 +188,91 @@ pub record AreAlike (design other : DesignParts) : Type 0 where
   pub outs : map (ported outs_of) design.components ≡ map (ported outs_of) other.components
   pub ins : map (ported ins_of) design.components ≡ map (ported ins_of) other.components
 
-source_told : (design other : DesignParts) (node port other_node other_port : ℕ) → AreAlike design other → IsSource design node port → IsSource other other_node other_port
+source_told : (design other : DesignParts) (node port other_node other_port : ℕ) → AreAlike design other
+    → IsSource design node port → IsSource other other_node other_port
     → source_name design node port ≡ source_name other other_node other_port → (node ≡ other_node) × (port ≡ other_port)
 source_told design other node port other_node other_port alike source source_other same =
     let cs = map (ported outs_of) design.components in
     ports_told cs node port other_node other_port (outs_apart design alike.rules) (source_there design node port source)
-    (subst (λ ds. IsThere ds other_node other_port) (sym alike.outs) (source_there other other_node other_port source_other))
-    (sym (source_named design node port) ∙ same ∙ source_named other other_node other_port ∙ ap (λ ds. full_name (slice_get ds other_node) other_port) (sym alike.outs))
+    (subst (λ ds. IsThere ds other_node other_port) (sym alike.outs)
+    (source_there other other_node other_port source_other))
+    (sym (source_named design node port) ∙ same ∙ source_named other other_node other_port
+    ∙ ap (λ ds. full_name (slice_get ds other_node) other_port) (sym alike.outs))
 
-target_told : (design other : DesignParts) (node port other_node other_port : ℕ) → AreAlike design other → IsTarget design node port → IsTarget other other_node other_port
+target_told : (design other : DesignParts) (node port other_node other_port : ℕ) → AreAlike design other
+    → IsTarget design node port → IsTarget other other_node other_port
     → target_name design node port ≡ target_name other other_node other_port → (node ≡ other_node) × (port ≡ other_port)
 target_told design other node port other_node other_port alike target target_other same =
     let cs = map (ported ins_of) design.components in
     ports_told cs node port other_node other_port (ins_apart design alike.rules) (target_there design node port target)
-    (subst (λ ds. IsThere ds other_node other_port) (sym alike.ins) (target_there other other_node other_port target_other))
-    (sym (target_named design node port) ∙ same ∙ target_named other other_node other_port ∙ ap (λ ds. full_name (slice_get ds other_node) other_port) (sym alike.ins))
+    (subst (λ ds. IsThere ds other_node other_port) (sym alike.ins)
+    (target_there other other_node other_port target_other))
+    (sym (target_named design node port) ∙ same ∙ target_named other other_node other_port
+    ∙ ap (λ ds. full_name (slice_get ds other_node) other_port) (sym alike.ins))
 
 -- ---- the lines tell them
-pub link_told : (design other : DesignParts) → AreAlike design other → (x y : Link) → IsLink design x → IsLink other y → link_line design x ≡ link_line other y → x ≡ y
+pub link_told : (design other : DesignParts) → AreAlike design other → (x y : Link) → IsLink design x → IsLink other y
+    → link_line design x ≡ link_line other y → x ≡ y
 link_told design other alike x y rule rule_other same =
-    let words = same_words (codes "link") (codes "link") (link_words design x) (link_words other y) (link_plain design x alike.rules) (link_plain other y alike.rules_other)
+    let words =
+    same_words (codes "link") (codes "link") (link_words design x) (link_words other y)
+    (link_plain design x alike.rules) (link_plain other y alike.rules_other)
     (sym (link_line-is design x) ∙ same ∙ link_line-is other y) in
     let sources : source_name design x.source.0 x.out_port ≡ source_name other y.source.0 y.out_port = cc in
     let targets : link_name design x ≡ link_name other y = cc in
     let adaptors : adaptor_words x.adaptor ≡ adaptor_words y.adaptor = cc in
-    let source = source_told design other x.source.0 x.out_port y.source.0 y.out_port alike rule.source rule_other.source sources in
-    let target = target_told design other x.target.0 x.in_port y.target.0 y.in_port alike rule.target rule_other.target targets in
+    let source =
+    source_told design other x.source.0 x.out_port y.source.0 y.out_port alike rule.source
+    rule_other.source sources in
+    let target =
+    target_told design other x.target.0 x.in_port y.target.0 y.in_port alike rule.target
+    rule_other.target targets in
     let adaptor = adaptor_told x.adaptor y.adaptor
-    (small_if x.adaptor (rate_of design x.source.0) (rate_of design x.target.0) (rate_small design x.source.0 alike.rules) (rate_small design x.target.0 alike.rules) rule.allowed)
-    (small_if y.adaptor (rate_of other y.source.0) (rate_of other y.target.0) (rate_small other y.source.0 alike.rules_other) (rate_small other y.target.0 alike.rules_other) rule_other.allowed)
+    (small_if x.adaptor (rate_of design x.source.0) (rate_of design x.target.0)
+    (rate_small design x.source.0 alike.rules) (rate_small design x.target.0 alike.rules) rule.allowed)
+    (small_if y.adaptor (rate_of other y.source.0) (rate_of other y.target.0)
+    (rate_small other y.source.0 alike.rules_other) (rate_small other y.target.0 alike.rules_other)
+    rule_other.allowed)
     adaptors in
-    λ k. record { source = record { 0 = source.0 k }; out_port = source.1 k; target = record { 0 = target.0 k }; in_port = target.1 k; adaptor = adaptor k }
+    λ k. record {
+      source = record { 0 = source.0 k };
+      out_port = source.1 k;
+      target = record { 0 = target.0 k };
+      in_port = target.1 k;
+      adaptor = adaptor k;
+    }
 
-pub feed_told : (design other : DesignParts) → AreAlike design other → (x y : Feed) → IsFeed design x → IsFeed other y → feed_line design x ≡ feed_line other y → x ≡ y
+pub feed_told : (design other : DesignParts) → AreAlike design other → (x y : Feed) → IsFeed design x → IsFeed other y
+    → feed_line design x ≡ feed_line other y → x ≡ y
 feed_told design other alike x y rule rule_other same =
-    let words = same_words (codes "input") (codes "input") (feed_words design x) (feed_words other y) (feed_plain design x alike.rules rule) (feed_plain other y alike.rules_other rule_other)
+    let words =
+    same_words (codes "input") (codes "input") (feed_words design x) (feed_words other y)
+    (feed_plain design x alike.rules rule) (feed_plain other y alike.rules_other rule_other)
     (sym (feed_line-is design x) ∙ same ∙ feed_line-is other y) in
     let name : x.name ≡ y.name = cc in
     let targets : target_name design x.target.0 x.in_port ≡ target_name other y.target.0 y.in_port = cc in
     let adaptors : adaptor_words x.adaptor ≡ adaptor_words y.adaptor = cc in
-    let target = target_told design other x.target.0 x.in_port y.target.0 y.in_port alike rule.target rule_other.target targets in
+    let target =
+    target_told design other x.target.0 x.in_port y.target.0 y.in_port alike rule.target
+    rule_other.target targets in
     let adaptor = adaptor_told x.adaptor y.adaptor
-    (small_if x.adaptor 1 (rate_of design x.target.0) (omega arith) (rate_small design x.target.0 alike.rules) rule.allowed)
-    (small_if y.adaptor 1 (rate_of other y.target.0) (omega arith) (rate_small other y.target.0 alike.rules_other) rule_other.allowed)
+    (small_if x.adaptor 1 (rate_of design x.target.0) (omega arith) (rate_small design x.target.0 alike.rules)
+    rule.allowed)
+    (small_if y.adaptor 1 (rate_of other y.target.0) (omega arith) (rate_small other y.target.0 alike.rules_other)
+    rule_other.allowed)
     adaptors in
     λ k. record { name = name k; target = record { 0 = target.0 k }; in_port = target.1 k; adaptor = adaptor k }
 
-pub tap_told : (design other : DesignParts) → AreAlike design other → (x y : Tap) → IsTap design x → IsTap other y → tap_line design x ≡ tap_line other y → x ≡ y
+pub tap_told : (design other : DesignParts) → AreAlike design other → (x y : Tap) → IsTap design x → IsTap other y
+    → tap_line design x ≡ tap_line other y → x ≡ y
 tap_told design other alike x y rule rule_other same =
-    let words = same_words (codes "output") (codes "output") (tap_words design x) (tap_words other y) (tap_plain design x alike.rules rule) (tap_plain other y alike.rules_other rule_other)
+    let words =
+    same_words (codes "output") (codes "output") (tap_words design x) (tap_words other y)
+    (tap_plain design x alike.rules rule) (tap_plain other y alike.rules_other rule_other)
     (sym (tap_line-is design x) ∙ same ∙ tap_line-is other y) in
     let sources : source_name design x.source.0 x.out_port ≡ source_name other y.source.0 y.out_port = cc in
     let name : x.name ≡ y.name = cc in
-    let source = source_told design other x.source.0 x.out_port y.source.0 y.out_port alike rule.source rule_other.source sources in
+    let source =
+    source_told design other x.source.0 x.out_port y.source.0 y.out_port alike rule.source
+    rule_other.source sources in
     λ k. record { name = name k; source = record { 0 = source.0 k }; out_port = source.1 k }

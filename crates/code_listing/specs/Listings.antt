@@ -60,7 +60,8 @@ abbrev pub variable_line : VarDecl → List ℕ
 variable_line v = indented (codes "var" ∷ v.name ∷ kind_word v.kind ∷ signed_decimal v.first ∷ [])
 
 abbrev pub declared_lines : BehaviourParts → List (List ℕ)
-declared_lines b = map (port_line (codes "in")) b.ins ++ map (port_line (codes "out")) b.outs ++ map variable_line b.vars
+declared_lines b =
+    map (port_line (codes "in")) b.ins ++ map (port_line (codes "out")) b.outs ++ map variable_line b.vars
 
 -- ---- states: where the steps of a complete one begin; no step begins in another
 abbrev pub entry_words : Option ℕ → List (List ℕ)

@@ -21,7 +21,8 @@ InstrFits (instr.Port port) = NumberFits port
 InstrFits (instr.Fresh port) = NumberFits port
 InstrFits (instr.Jump to) = NumberFits to
 InstrFits (instr.JumpZero to) = NumberFits to
-InstrFits (instr.LoopStart slot low high exit) = NumberFits slot × IsTrue (fits low) × IsTrue (fits high) × NumberFits exit
+InstrFits (instr.LoopStart slot low high exit) =
+    NumberFits slot × IsTrue (fits low) × IsTrue (fits high) × NumberFits exit
 InstrFits (instr.LoopNext slot high to) = NumberFits slot × IsTrue (fits high) × NumberFits to
 InstrFits (instr.Emit port) = NumberFits port
 InstrFits (instr.End state) = NumberFits state

@@ -41,7 +41,8 @@ use Rattle.kind_laws.proofs.Lists.{upwards_all, upwards_at, places_all, either_f
 use Rattle.kind_laws.proofs.Readings.{MessagesFit, link_read, reading_fits}
 use Rattle.kind_laws.proofs.Stepping.{port_fits, output_fits, cut_fits}
 
-module _ (design : DesignParts) (pairs : List Pair) (env : Env) (ins : Inputs) (rules : IsDesign design) (are : ArePairs design pairs) (given : EnvFits design env) where
+module _ (design : DesignParts) (pairs : List Pair) (env : Env) (ins : Inputs) (rules : IsDesign design)
+    (are : ArePairs design pairs) (given : EnvFits design env) where
   -- the inputs of all steps below a rank fit
   abbrev FitBelow : ℕ → Type 0
   FitBelow m =
@@ -50,14 +51,18 @@ module _ (design : DesignParts) (pairs : List Pair) (env : Env) (ins : Inputs) (
 
   module _ (m : ℕ) (below_fit : FitBelow m) where
     -- ---- what is left
-    left_in : (node port step : ℕ) (o : Option Component) → slice_get design.components node ≡ o → rank design pairs node step < m
-        → PortFits (out_kind o port) (slice_index_or (slice_index_or (outputs_in o (inputs_to ins node)) step []) port Absent)
+    left_in : (node port step : ℕ) (o : Option Component) → slice_get design.components node ≡ o
+        → rank design pairs node step < m
+        → PortFits (out_kind o port)
+        (slice_index_or (slice_index_or (outputs_in o (inputs_to ins node)) step []) port Absent)
     left_in node port step None is low = tt
     left_in node port step (Some c) is low =
         let sound = is_behaviour design node c rules is in
         port_fits c.behaviour.outs (slice_index_or (outputs_in (Some c) (inputs_to ins node)) step []) port
-        (output_fits c.behaviour (initial c.behaviour) (inputs_to ins node) step sound (starts_well c.behaviour sound) (initial_fits c.behaviour sound)
-        (λ k upto. below_fit node k c is (let lower = rank_upto design pairs rules node k step upto in omega (arith, lower, low))))
+        (output_fits c.behaviour (initial c.behaviour) (inputs_to ins node) step sound (starts_well c.behaviour sound)
+        (initial_fits c.behaviour sound)
+        (λ k upto. below_fit node k c is
+        (let lower = rank_upto design pairs rules node k step upto in omega (arith, lower, low))))
 
     left_fits : (node port step : ℕ) → rank design pairs node step < m
         → PortFits (out_kind (slice_get design.components node) port) (left_by design ins node port step)
@@ -77,13 +82,15 @@ module _ (design : DesignParts) (pairs : List Pair) (env : Env) (ins : Inputs) (
         (λ i above within. left_fits node port (round * rate_of design node + i)
         (let low = rank_in_round design pairs rules node round i (omega (arith, within)) in omega (arith, low, past)))
 
-    message_fits : (round : ℕ) (link : Link) → (round + 1) * 128 ≤ m → TupleFits (link_kind design link) (message_on design pairs ins round link)
+    message_fits : (round : ℕ) (link : Link) → (round + 1) * 128 ≤ m
+        → TupleFits (link_kind design link) (message_on design pairs ins round link)
     message_fits round link past =
         let kind = link_kind design link in
         let tuple = round_tuple design ins link.source.0 link.out_port round in
         let sent = sent_steps design.gamma design.period (rate_of design link.source.0) in
         let fits = tuple_fits link.source.0 link.out_port round past in
-        either_fits (TupleFits kind) (is_back pairs link) tuple (if is_forth pairs link then tuple else cut sent tuple) fits
+        either_fits (TupleFits kind) (is_back pairs link) tuple
+        (if is_forth pairs link then tuple else cut sent tuple) fits
         (either_fits (TupleFits kind) (is_forth pairs link) tuple (cut sent tuple) fits (cut_fits kind sent tuple fits))
 
     messages_fit : (round : ℕ) → round * 128 ≤ m → MessagesFit design (messages_before design pairs ins round)
@@ -101,7 +108,8 @@ module _ (design : DesignParts) (pairs : List Pair) (env : Env) (ins : Inputs) (
         (message_fits round link (omega (arith, past)))
 
     -- ---- what a step of at most that rank reads
-    module _ (node : ℕ) (c : Component) (is_c : slice_get design.components node ≡ Some c) (step : ℕ) (low : rank design pairs node step ≤ m) where
+    module _ (node : ℕ) (c : Component) (is_c : slice_get design.components node ≡ Some c) (step : ℕ)
+        (low : rank design pairs node step ≤ m) where
       past_rounds : step / c.rate * 128 ≤ m
       past_rounds =
           let rate : rate_of design node ≡ c.rate = ap rate_in is_c in
@@ -109,16 +117,21 @@ module _ (design : DesignParts) (pairs : List Pair) (env : Env) (ins : Inputs) (
           subst (λ k. step / k * 128 ≤ m) rate (omega (arith, from, low))
 
       module _ (p : ℕ) (port : Named) (is_port : slice_get c.behaviour.ins p ≡ Some port) where
-        round_fits : (link feed : Option ℕ) → position (link_goes_to node p) design.links ≡ link → position (feed_goes_to node p) design.feeds ≡ feed
+        round_fits : (link feed : Option ℕ) → position (link_goes_to node p) design.links ≡ link
+            → position (feed_goes_to node p) design.feeds ≡ feed
             → PortFits port.kind (from_round design pairs env ins c.rate step (from_link link (from_feed design feed)))
         round_fits link feed is_link is_feed =
             let messages = messages_before design pairs ins (step / c.rate) in
-            let tuple = reading design (values_at env (step / c.rate)) messages c.rate (from_link link (from_feed design feed)) in
+            let tuple =
+            reading design (values_at env (step / c.rate)) messages c.rate
+            (from_link link (from_feed design feed)) in
             index_fits (PortFits port.kind) tuple (step % c.rate) Absent
-            (reading_fits design rules node p c port is_c is_port env (step / c.rate) messages given (messages_fit (step / c.rate) past_rounds)
+            (reading_fits design rules node p c port is_c is_port env (step / c.rate) messages given
+            (messages_fit (step / c.rate) past_rounds)
             link feed is_link is_feed) tt
 
-        on_fits : (number : ℕ) (link : Link) (back forth : Bool) → link.target.0 ≡ node → link_kind design link ≡ port.kind
+        on_fits : (number : ℕ) (link : Link) (back forth : Bool) → link.target.0 ≡ node
+            → link_kind design link ≡ port.kind
             → PortFits port.kind (from_round design pairs env ins c.rate step (source.Link number))
             → is_back pairs link ≡ back → is_forth pairs link ≡ forth
             → PortFits port.kind
@@ -141,7 +154,8 @@ module _ (design : DesignParts) (pairs : List Pair) (env : Env) (ins : Inputs) (
             (left_fits link.source.0 link.out_port step (omega (arith, lower, low)))
         on_fits number link false false target kind otherwise not_one nor_other = otherwise
 
-        value_fits : (link feed : Option ℕ) → position (link_goes_to node p) design.links ≡ link → position (feed_goes_to node p) design.feeds ≡ feed
+        value_fits : (link feed : Option ℕ) → position (link_goes_to node p) design.links ≡ link
+            → position (feed_goes_to node p) design.feeds ≡ feed
             → PortFits port.kind (value_read design pairs env ins c.rate step (from_link link (from_feed design feed)))
         value_fits (Some number) feed is_link is_feed =
             let read = link_read design rules node p c port is_c is_port number is_link in
@@ -163,7 +177,8 @@ module _ (design : DesignParts) (pairs : List Pair) (env : Env) (ins : Inputs) (
           ap (λ (values : List Port). slice_index_or values p Absent) (map_map from value (upwards 0 count))
           ∙ table-at (λ q. value (from q)) count p Absent (slice_get_within c.behaviour.ins p port is_port) in
           subst (PortFits port.kind) (sym here)
-          (value_fits p port is_port (position (link_goes_to node p) design.links) (position (feed_goes_to node p) design.feeds) refl refl)
+          (value_fits p port is_port (position (link_goes_to node p) design.links)
+          (position (feed_goes_to node p) design.feeds) refl refl)
 
   -- ---- all ranks
   module _ (rounds : ℕ) (solves : IsFused design pairs env rounds ins) where
@@ -181,21 +196,28 @@ module _ (design : DesignParts) (pairs : List Pair) (env : Env) (ins : Inputs) (
     fit_below zero node step c is_c low = absurd (omega (arith, low))
     fit_below (suc m) node step c is_c low = next_fit m (fit_below m) node step c is_c low
 
-    inputs_fit : (node : ℕ) (c : Component) → slice_get design.components node ≡ Some c → All (PortsFit c.behaviour.ins) (inputs_to ins node)
+    inputs_fit : (node : ℕ) (c : Component) → slice_get design.components node ≡ Some c
+        → All (PortsFit c.behaviour.ins) (inputs_to ins node)
     inputs_fit node c is_c =
         places_all (PortsFit c.behaviour.ins) (inputs_to ins node) []
         (λ step. fit_below (suc (rank design pairs node step)) node step c is_c (omega arith))
 
-    before_step : (node step : ℕ) (c : Component) → slice_get design.components node ≡ Some c → FrameFits c.behaviour (frame_before ins node c step)
+    before_step : (node step : ℕ) (c : Component) → slice_get design.components node ≡ Some c
+        → FrameFits c.behaviour (frame_before ins node c step)
     before_step node step c is_c =
         let sound = is_behaviour design node c rules is_c in
-        frames_fit c.behaviour (initial c.behaviour) (take step (inputs_to ins node)) sound (starts_well c.behaviour sound) (initial_fits c.behaviour sound)
+        frames_fit c.behaviour (initial c.behaviour) (take step (inputs_to ins node)) sound
+        (starts_well c.behaviour sound) (initial_fits c.behaviour sound)
         (All-take (PortsFit c.behaviour.ins) step (inputs_to ins node) (inputs_fit node c is_c))
 
-    all_left : (node port step : ℕ) → PortFits (out_kind (slice_get design.components node) port) (left_by design ins node port step)
-    all_left node port step = left_fits (suc (rank design pairs node step)) (fit_below (suc (rank design pairs node step))) node port step (omega arith)
+    all_left : (node port step : ℕ)
+        → PortFits (out_kind (slice_get design.components node) port) (left_by design ins node port step)
+    all_left node port step =
+        left_fits (suc (rank design pairs node step)) (fit_below (suc (rank design pairs node step))) node port step
+        (omega arith)
 
-    part_fits : (node round : ℕ) (c : Component) → slice_get design.components node ≡ Some c → PartFits design node c (fused_part design ins round node c)
+    part_fits : (node round : ℕ) (c : Component) → slice_get design.components node ≡ Some c
+        → PartFits design node c (fused_part design ins round node c)
     part_fits node round c is_c = record {
       frame = before_step node (suc round * c.rate) c is_c;
       outs = λ k tap is_tap.

@@ -11,10 +11,12 @@ upwards_all P f from (suc n) each =
     (upwards_all P f (suc from) n (λ k above below. each k (omega arith) (omega arith)))
 
 -- at a place of such a list, or past it
-pub upwards_at : {X : Type 0} (P : X → Type 0) (f : ℕ → X) (from n k place : ℕ) (d : X) → place ≡ from + k → P (f place) → P d
+pub upwards_at : {X : Type 0} (P : X → Type 0) (f : ℕ → X) (from n k place : ℕ) (d : X) → place ≡ from + k
+    → P (f place) → P d
     → P (slice_index_or (map f (upwards from n)) k d)
 upwards_at P f from zero k place d at fits none = none
-upwards_at P f from (suc n) zero place d at fits none = let same : place ≡ from = omega arith in subst (λ i. P (f i)) same fits
+upwards_at P f from (suc n) zero place d at fits none = let same : place ≡ from = omega arith in
+    subst (λ i. P (f i)) same fits
 upwards_at P f from (suc n) (suc k) place d at fits none = upwards_at P f (suc from) n k place d (omega arith) fits none
 
 -- what holds at each place, and of the default past the last

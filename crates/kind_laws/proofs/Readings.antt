@@ -33,10 +33,13 @@ MessagesFit design messages =
     → TupleFits (link_kind design link) (slice_index_or messages number [])
 
 -- ---- an in port
-module _ (design : DesignParts) (rules : IsDesign design) (node p : ℕ) (c : Component) (port : Named) (is_c : slice_get design.components node ≡ Some c) (is_port : slice_get c.behaviour.ins p ≡ Some port) where
-  kind_at : (target in_port : ℕ) → target ≡ node → in_port ≡ p → in_kind (slice_get design.components target) in_port ≡ port.kind
+module _ (design : DesignParts) (rules : IsDesign design) (node p : ℕ) (c : Component) (port : Named)
+    (is_c : slice_get design.components node ≡ Some c) (is_port : slice_get c.behaviour.ins p ≡ Some port) where
+  kind_at : (target in_port : ℕ) → target ≡ node → in_port ≡ p
+      → in_kind (slice_get design.components target) in_port ≡ port.kind
   kind_at target in_port to_node to_port =
-      ap₂ (λ t q. in_kind (slice_get design.components t) q) to_node to_port ∙ ap (λ o. in_kind o p) is_c ∙ ap kind_of is_port
+      ap₂ (λ t q. in_kind (slice_get design.components t) q) to_node to_port ∙ ap (λ o. in_kind o p) is_c
+      ∙ ap kind_of is_port
 
   -- the link that it reads is of its kind, and so is the adaptor
   pub record IsRead (number : ℕ) : Type 0 where
@@ -51,12 +54,20 @@ module _ (design : DesignParts) (rules : IsDesign design) (node p : ℕ) (c : Co
       let link : Link = at.0 in
       let goes = and_parts (nat_eq link.target.0 node) (nat_eq link.in_port p) at.2 in
       let rule = at_element (IsLink design) design.links number link rules.links.each at.1 in
-      let kind = kind_at link.target.0 link.in_port (eqb-true link.target.0 node goes.0) (eqb-true link.in_port p goes.1) in
-      record { link = link; link_is = at.1; kind = rule.kinds ∙ kind; suits = subst (λ k. IsTrue (suits_kind link.adaptor k)) kind rule.suits }
+      let kind =
+      kind_at link.target.0 link.in_port (eqb-true link.target.0 node goes.0) (eqb-true link.in_port p goes.1) in
+      record {
+        link = link;
+        link_is = at.1;
+        kind = rule.kinds ∙ kind;
+        suits = subst (λ k. IsTrue (suits_kind link.adaptor k)) kind rule.suits;
+      }
 
-  module _ (env : Env) (round : ℕ) (messages : List (List Port)) (given : EnvFits design env) (sent : MessagesFit design messages) where
+  module _ (env : Env) (round : ℕ) (messages : List (List Port)) (given : EnvFits design env)
+      (sent : MessagesFit design messages) where
     feed_fits : (number : ℕ) → position (feed_goes_to node p) design.feeds ≡ Some number
-        → TupleFits port.kind (read_feed (slice_index_or (values_at env round) (root_of design number) Absent) c.rate (slice_get design.feeds number))
+        → TupleFits port.kind (read_feed (slice_index_or (values_at env round) (root_of design number) Absent) c.rate
+        (slice_get design.feeds number))
     feed_fits number is =
         let at = found_at (feed_goes_to node p) design.feeds number is in
         let f = at.0 in
@@ -66,25 +77,32 @@ module _ (design : DesignParts) (rules : IsDesign design) (node p : ℕ) (c : Co
         let value = slice_index_or (values_at env round) (root_of design number) Absent in
         let own : root_kind design f.name ≡ port.kind = sym (feeds_have_root_kind design number f rules at.1) ∙ kind in
         let fits : PortFits port.kind value =
-        subst (λ k. PortFits k value) own (given round (root_of design number) f.name (feed_has_root design number f at.1)) in
-        let suits : IsTrue (suits_kind f.adaptor port.kind) = subst (λ k. IsTrue (suits_kind f.adaptor k)) kind rule.suits in
+        subst (λ k. PortFits k value) own
+        (given round (root_of design number) f.name (feed_has_root design number f at.1)) in
+        let suits : IsTrue (suits_kind f.adaptor port.kind) =
+        subst (λ k. IsTrue (suits_kind f.adaptor k)) kind rule.suits in
         subst (λ o. TupleFits port.kind (read_feed value c.rate o)) (sym at.1)
-        (adapt_fits port.kind f.adaptor 1 c.rate (value ∷ []) suits (All-cons (PortFits port.kind) value [] fits (All-nil (PortFits port.kind))))
+        (adapt_fits port.kind f.adaptor 1 c.rate (value ∷ []) suits
+        (All-cons (PortFits port.kind) value [] fits (All-nil (PortFits port.kind))))
 
     -- what it reads, where these are the link and the feed into it
-    pub reading_fits : (link feed : Option ℕ) → position (link_goes_to node p) design.links ≡ link → position (feed_goes_to node p) design.feeds ≡ feed
-        → TupleFits port.kind (reading design (values_at env round) messages c.rate (from_link link (from_feed design feed)))
+    pub reading_fits : (link feed : Option ℕ) → position (link_goes_to node p) design.links ≡ link
+        → position (feed_goes_to node p) design.feeds ≡ feed
+        → TupleFits port.kind (reading design (values_at env round) messages c.rate
+        (from_link link (from_feed design feed)))
     reading_fits (Some number) feed is_link is_feed =
         let read = link_read number is_link in
         let message = slice_index_or messages number [] in
-        let fits : TupleFits port.kind message = subst (λ k. TupleFits k message) read.kind (sent number read.link read.link_is) in
+        let fits : TupleFits port.kind message =
+        subst (λ k. TupleFits k message) read.kind (sent number read.link read.link_is) in
         subst (λ o. TupleFits port.kind (read_link design c.rate message o)) (sym read.link_is)
         (adapt_fits port.kind read.link.adaptor (rate_of design read.link.source.0) c.rate message read.suits fits)
     reading_fits None (Some number) is_link is_feed = feed_fits number is_feed
     reading_fits None None is_link is_feed = absent_fits port.kind c.rate
 
 -- ---- the vectors of a round
-pub vectors_fit : (design : DesignParts) (env : Env) (round : ℕ) (messages : List (List Port)) (node : ℕ) (c : Component)
+pub vectors_fit : (design : DesignParts) (env : Env) (round : ℕ) (messages : List (List Port)) (node : ℕ)
+    (c : Component)
     → IsDesign design → EnvFits design env → MessagesFit design messages → slice_get design.components node ≡ Some c
     → All (PortsFit c.behaviour.ins) (inputs_of design (values_at env round) messages node c)
 vectors_fit design env round messages node c rules given sent is_c =
@@ -101,4 +119,5 @@ vectors_fit design env round messages node c rules given sent is_c =
     subst (TupleFits port.kind) (sym here)
     (reading_fits design rules node p c port is_c is env round messages given sent
     (position (link_goes_to node p) design.links) (position (feed_goes_to node p) design.feeds) refl refl) in
-    subst (PortFits port.kind) (sym (place_of_column lists at p)) (index_fits (PortFits port.kind) (slice_index_or lists p []) at Absent fits tt))
+    subst (PortFits port.kind) (sym (place_of_column lists at p))
+    (index_fits (PortFits port.kind) (slice_index_or lists p []) at Absent fits tt))

@@ -34,7 +34,8 @@ use Rattle.kind_laws.proofs.Lists.{upwards_all}
 use Rattle.kind_laws.proofs.Readings.{MessagesFit, vectors_fit}
 
 -- what waits on a link before a round: nothing, or the message of the round before
-waiting_fit : (design : DesignParts) (env : Env) (round : ℕ) → IsDesign design → EnvFits design env → MessagesFit design (comp design env round).messages
+waiting_fit : (design : DesignParts) (env : Env) (round : ℕ) → IsDesign design → EnvFits design env
+    → MessagesFit design (comp design env round).messages
 unfolding msg
 waiting_fit design env zero rules given number link is =
     let kind = link_kind design link in
@@ -44,7 +45,8 @@ waiting_fit design env zero rules given number link is =
     (links_begin_absent design env) (All-nil (λ p. p ≡ Absent)))
 waiting_fit design env (suc round) rules given number link is = messages_fit design env number round link rules given is
 
-feed_fit : (design : DesignParts) (env : Env) (node round : ℕ) (c : Component) → IsDesign design → EnvFits design env → slice_get design.components node ≡ Some c
+feed_fit : (design : DesignParts) (env : Env) (node round : ℕ) (c : Component) → IsDesign design → EnvFits design env
+    → slice_get design.components node ≡ Some c
     → All (PortsFit c.behaviour.ins) (feed design env (comp design env round).messages node round)
 unfolding feed
 feed_fit design env node round c rules given is_c =
@@ -52,14 +54,16 @@ feed_fit design env node round c rules given is_c =
     subst (All (PortsFit c.behaviour.ins)) (sym (ap (inputs_in design (values_at env round) messages node) is_c))
     (vectors_fit design env round messages node c rules given (waiting_fit design env round rules given) is_c)
 
-module _ (run : Run) (s : BusState) (rules : IsDesign run.design) (given : EnvFits run.design run.env) (agrees : Agrees run s) where
+module _ (run : Run) (s : BusState) (rules : IsDesign run.design) (given : EnvFits run.design run.env)
+    (agrees : Agrees run s) where
   -- ---- nodes
   module _ (node : ℕ) (c : Component) (is_c : slice_get run.design.components node ≡ Some c) where
     abbrev n : NodeState
     n = node_at s node
 
     at_rest : IsAtRest run node n → FrameFits c.behaviour n.frame
-    at_rest rests = subst (FrameFits c.behaviour) (sym rests.frame) (states_fit run.design run.env node n.count c rules given is_c)
+    at_rest rests =
+        subst (FrameFits c.behaviour) (sym rests.frame) (states_fit run.design run.env node n.count c rules given is_c)
 
     under_way : (steps : ℕ) → IsUnderWay run node c n steps → FrameFits c.behaviour n.frame
     under_way steps way =
@@ -79,19 +83,24 @@ module _ (run : Run) (s : BusState) (rules : IsDesign run.design) (given : EnvFi
     frame_by Holding agrees' = under_way c.rate agrees'.under_way
     frame_by Done agrees' = at_rest agrees'.0
 
-    job_by : (phase : Phase) (job : Work) → PhaseAgrees run node c n phase → job_in (plan_of run.design node) n phase ≡ Some job → PortsFit c.behaviour.ins job.inputs
+    job_by : (phase : Phase) (job : Work) → PhaseAgrees run node c n phase
+        → job_in (plan_of run.design node) n phase ≡ Some job → PortsFit c.behaviour.ins job.inputs
     job_by Waiting job agrees' out = absurd (cc)
     job_by (Running step) job agrees' out =
         let round = agrees'.under_way.round in
         let vectors = feed run.design run.env (comp run.design run.env round).messages node round in
-        subst (λ (w : Work). PortsFit c.behaviour.ins w.inputs) (same_Some (job_of (plan_of run.design node) n step) job out)
-        (subst (λ (xs : List (List Port)). PortsFit c.behaviour.ins (slice_index_or xs step [])) (sym agrees'.under_way.vectors)
-        (index_fits (PortsFit c.behaviour.ins) vectors step [] (feed_fit run.design run.env node round c rules given is_c) (λ p port is. tt)))
+        subst (λ (w : Work). PortsFit c.behaviour.ins w.inputs)
+        (same_Some (job_of (plan_of run.design node) n step) job out)
+        (subst (λ (xs : List (List Port)). PortsFit c.behaviour.ins (slice_index_or xs step []))
+        (sym agrees'.under_way.vectors)
+        (index_fits (PortsFit c.behaviour.ins) vectors step []
+        (feed_fit run.design run.env node round c rules given is_c) (λ p port is. tt)))
     job_by (Between steps) job agrees' out = absurd (cc)
     job_by Holding job agrees' out = absurd (cc)
     job_by Done job agrees' out = absurd (cc)
 
-    parts_of : n.parts ≡ map (λ round. part run.design run.env node round) (upwards 0 (length n.parts)) → All (PartFits run.design node c) n.parts
+    parts_of : n.parts ≡ map (λ round. part run.design run.env node round) (upwards 0 (length n.parts))
+        → All (PartFits run.design node c) n.parts
     parts_of are =
         subst (All (PartFits run.design node c)) (sym are)
         (upwards_all (PartFits run.design node c) (λ round. part run.design run.env node round) 0 (length n.parts)
@@ -99,7 +108,8 @@ module _ (run : Run) (s : BusState) (rules : IsDesign run.design) (given : EnvFi
 
   -- ---- links
   module _ (number : ℕ) (link : Link) (is_link : slice_get run.design.links number ≡ Some link) where
-    slot_by : (count : ℕ) (o : Option (List Port)) (message : List Port) → SlotAgrees run number count o → o ≡ Some message → TupleFits (link_kind run.design link) message
+    slot_by : (count : ℕ) (o : Option (List Port)) (message : List Port) → SlotAgrees run number count o
+        → o ≡ Some message → TupleFits (link_kind run.design link) message
     slot_by count None message agrees' full = absurd (cc)
     slot_by count (Some tuple) message agrees' full =
         subst (TupleFits (link_kind run.design link)) (sym agrees'.2 ∙ same_Some tuple message full)
@@ -107,17 +117,24 @@ module _ (run : Run) (s : BusState) (rules : IsDesign run.design) (given : EnvFi
 
     flight_by : All (λ (copy : FlightCopy). TupleFits (link_kind run.design link) copy.tuple) (flight_at s number)
     flight_by =
-        All-weaker (IsCopy run number (rounds_sent_on run s number)) (λ (copy : FlightCopy). TupleFits (link_kind run.design link) copy.tuple)
-        (λ copy of. subst (TupleFits (link_kind run.design link)) (sym of.tuple) (messages_fit run.design run.env number copy.round link rules given is_link))
+        All-weaker (IsCopy run number (rounds_sent_on run s number))
+        (λ (copy : FlightCopy). TupleFits (link_kind run.design link) copy.tuple)
+        (λ copy of. subst (TupleFits (link_kind run.design link)) (sym of.tuple)
+        (messages_fit run.design run.env number copy.round link rules given is_link))
         (flight_at s number) (agrees.links number link is_link).flight
 
 pub buses_fit : BusesFit
 buses_fit run s rules given agrees = record {
-  frames = λ node c is_c. frame_by run s rules given agrees node c is_c (node_at s node).phase (agrees.nodes node c is_c).phase;
-  jobs = λ node c job is_c out. job_by run s rules given agrees node c is_c (node_at s node).phase job (agrees.nodes node c is_c).phase out;
+  frames =
+      λ node c is_c. frame_by run s rules given agrees node c is_c (node_at s node).phase
+      (agrees.nodes node c is_c).phase;
+  jobs =
+      λ node c job is_c out. job_by run s rules given agrees node c is_c (node_at s node).phase job
+      (agrees.nodes node c is_c).phase out;
   parts = λ node c is_c. parts_of run s rules given agrees node c is_c (agrees.nodes node c is_c).parts;
   slots = λ number link message is full.
       let n = node_at s link.target.0 in
-      slot_by run s rules given agrees number link is n.count (slot_at n link.in_port) message (agrees.links number link is).slot full;
+      slot_by run s rules given agrees number link is n.count (slot_at n link.in_port) message
+      (agrees.links number link is).slot full;
   flights = flight_by run s rules given agrees;
 }

@@ -27,7 +27,8 @@ any_number : (value : Port) → PortFits Integer value
 any_number Absent = tt
 any_number (Present v) = tt
 
-port_by : (ports : List Named) (values : List Port) (p : ℕ) (o : Option Named) → PortsFit ports values → slice_get ports p ≡ o
+port_by : (ports : List Named) (values : List Port) (p : ℕ) (o : Option Named) → PortsFit ports values
+    → slice_get ports p ≡ o
     → PortFits (kind_of o) (slice_index_or values p Absent)
 port_by ports values p None fits is = any_number (slice_index_or values p Absent)
 port_by ports values p (Some port) fits is = fits p port is
@@ -37,7 +38,8 @@ pub port_fits : (ports : List Named) (values : List Port) (p : ℕ) → PortsFit
 port_fits ports values p fits = port_by ports values p (slice_get ports p) fits refl
 
 -- ---- the outputs of a step, where all inputs up to it fit
-pub output_fits : (b : BehaviourParts) (frame : Frame) (vectors : List (List Port)) (step : ℕ) → IsBehaviour b → HasShape b frame
+pub output_fits : (b : BehaviourParts) (frame : Frame) (vectors : List (List Port)) (step : ℕ) → IsBehaviour b
+    → HasShape b frame
     → FrameFits b frame → ((k : ℕ) → k ≤ step → PortsFit b.ins (slice_index_or vectors k []))
     → PortsFit b.outs (slice_index_or (outputs b frame vectors) step [])
 output_fits b frame [] step rules shape fits each = λ p port is. tt
@@ -58,9 +60,11 @@ tuple_by b frame vectors port (Some named) all is =
     let rows = outputs b frame vectors in
     let here = table-at (λ at. column at rows) (length b.outs) port [] (slice_get_within b.outs port named is) in
     subst (TupleFits named.kind) (sym here)
-    (map_all (PortsFit b.outs) (PortFits named.kind) (λ (row : List Port). slice_index_or row port Absent) rows (λ row fits. fits port named is) all)
+    (map_all (PortsFit b.outs) (PortFits named.kind) (λ (row : List Port). slice_index_or row port Absent) rows
+    (λ row fits. fits port named is) all)
 
-pub tuple_fits : (b : BehaviourParts) (frame : Frame) (vectors : List (List Port)) (port : ℕ) → IsBehaviour b → HasShape b frame
+pub tuple_fits : (b : BehaviourParts) (frame : Frame) (vectors : List (List Port)) (port : ℕ) → IsBehaviour b
+    → HasShape b frame
     → FrameFits b frame → All (PortsFit b.ins) vectors
     → TupleFits (kind_of (slice_get b.outs port)) (slice_index_or (steps b frame vectors).tuples port [])
 tuple_fits b frame vectors port rules shape fits all =
@@ -68,5 +72,6 @@ tuple_fits b frame vectors port rules shape fits all =
 
 pub cut_fits : (kind : Kind) (n : ℕ) (tuple : List Port) → TupleFits kind tuple → TupleFits kind (cut n tuple)
 cut_fits kind n tuple fits =
-    All-append (PortFits kind) (take n tuple) (replicate (length tuple - n) Absent) (All-take (PortFits kind) n tuple fits)
+    All-append (PortFits kind) (take n tuple) (replicate (length tuple - n) Absent)
+    (All-take (PortFits kind) n tuple fits)
     (absent_fits kind (length tuple - n))

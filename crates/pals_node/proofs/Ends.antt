@@ -23,27 +23,43 @@ use Rattle.pals_node.proofs.Places.{length-with_places, places-with_places}
 use Rattle.pals_node.proofs.Programs.{fires, leaves_shape, leaves_outs}
 
 -- outputs with one more place have the sizes that they had
-pub outs_keep : (at count places : ℕ) (values : List Port) (tuples : List (List Port)) → AreTuples count places tuples → AreTuples count places (with_places at values tuples)
-outs_keep at count places values tuples are = record { count_is = length-with_places at values tuples ∙ are.count_is; places_are = places-with_places at places values tuples are.places_are }
+pub outs_keep : (at count places : ℕ) (values : List Port) (tuples : List (List Port)) → AreTuples count places tuples
+    → AreTuples count places (with_places at values tuples)
+outs_keep at count places values tuples are =
+    record {
+      count_is = length-with_places at values tuples ∙ are.count_is;
+      places_are = places-with_places at places values tuples are.places_are;
+    }
 
 -- between two rounds a node waits for the next one, or is done
-pub rests : (plan : Plan) (f : Fields) (b : Bool) → f.sent ≡ true → f.count ≤ f.rounds → nat_eq f.count f.rounds ≡ b → PhaseKeeps plan f (at_rest b)
+pub rests : (plan : Plan) (f : Fields) (b : Bool) → f.sent ≡ true → f.count ≤ f.rounds → nat_eq f.count f.rounds ≡ b
+    → PhaseKeeps plan f (at_rest b)
 rests plan f true sent most is = (sent, eqb-true f.count f.rounds is)
-rests plan f false sent most is = (sent, (let not_all = eqb-false f.count f.rounds is in elim (cases_lt f.count f.rounds) [ inl below ↦ below | inr past ↦ absurd (not_all (omega arith)) ]))
+rests plan f false sent most is = (
+  sent,
+  (let not_all = eqb-false f.count f.rounds is in
+      elim (cases_lt f.count f.rounds) [ inl below ↦ below | inr past ↦ absurd (not_all (omega arith)) ]),
+)
 
 -- the step of the job that is out is the machine's
-pub ends_as_finished : (plan : Plan) (f : Fields) (rounds step : ℕ) (result : Fired) → result ≡ fired plan step (state_of f) → finished_with plan rounds step (state_of f) result (with_places step result.outs f.outs) ≡ finished plan rounds step (state_of f)
-ends_as_finished plan f rounds step result is = ap (λ (r : Fired). finished_with plan rounds step (state_of f) r (with_places step r.outs f.outs)) is
+pub ends_as_finished : (plan : Plan) (f : Fields) (rounds step : ℕ) (result : Fired)
+    → result ≡ fired plan step (state_of f)
+    → finished_with plan rounds step (state_of f) result (with_places step result.outs f.outs)
+    ≡ finished plan rounds step (state_of f)
+ends_as_finished plan f rounds step result is =
+    ap (λ (r : Fired). finished_with plan rounds step (state_of f) r (with_places step r.outs f.outs)) is
 
 -- after the last step a round is at rest, or held until it is sent
-pub after_keeps : (plan : Plan) (f : Fields) (sent : Bool) → f.sent ≡ sent → f.count ≤ f.rounds → HasRound plan f → PhaseKeeps plan f (if sent then at_rest (nat_eq f.count f.rounds) else Holding)
+pub after_keeps : (plan : Plan) (f : Fields) (sent : Bool) → f.sent ≡ sent → f.count ≤ f.rounds → HasRound plan f
+    → PhaseKeeps plan f (if sent then at_rest (nat_eq f.count f.rounds) else Holding)
 after_keeps plan f true is most round = rests plan f (nat_eq f.count f.rounds) is most refl
 after_keeps plan f false is most round = (round, is)
 
 -- ---- a step that is made
 -- what the code left is what the machine's step leaves
 pub record IsMade (f : Fields) (step : ℕ) (frame : Frame) (outs : List Port) : Type 0 where
-  pub fired_is : (let made : Fired = record { frame = frame; outs = outs } in made) ≡ fired (arc_value f.plan).plan step (state_of f)
+  pub fired_is : (let made : Fired = record { frame = frame; outs = outs } in made)
+      ≡ fired (arc_value f.plan).plan step (state_of f)
   pub shape : HasShape (arc_value f.plan).plan.behaviour frame
   pub count_is : length outs ≡ length (arc_value f.plan).plan.behaviour.outs
 
@@ -52,14 +68,16 @@ pub runs_open : (f : Fields) (step : ℕ) → Keeps f → f.phase ≡ Running st
 runs_open f step keeps runs = subst (PhaseKeeps (arc_value f.plan).plan f) runs keeps.phase_keeps
 
 -- the inputs of that step
-pub inputs_size : (f : Fields) (step : ℕ) (d : List Port) → IsOpen (arc_value f.plan).plan f step → length (slice_index_or f.vectors step d) ≡ length (arc_value f.plan).plan.behaviour.ins
+pub inputs_size : (f : Fields) (step : ℕ) (d : List Port) → IsOpen (arc_value f.plan).plan f step
+    → length (slice_index_or f.vectors step d) ≡ length (arc_value f.plan).plan.behaviour.ins
 inputs_size f step d round =
     let count = round.round.vectors.count_is in
     let within = round.within in
     round.round.vectors.places_are step d (omega arith)
 
 pub makes : (f : Fields) (step : ℕ) (frame : Frame) (outs : List Port) → Keeps f → f.phase ≡ Running step
-    → exec (arc_value f.plan).code f.frame (slice_index_or f.vectors step []) ≡ Leaves (record { frame = frame; outs = outs }) → IsMade f step frame outs
+    → exec (arc_value f.plan).code f.frame (slice_index_or f.vectors step [])
+    ≡ Leaves (record { frame = frame; outs = outs }) → IsMade f step frame outs
 makes f step frame outs keeps runs left =
     let p = arc_value f.plan in
     let inputs = slice_index_or f.vectors step [] in
@@ -67,7 +85,9 @@ makes f step frame outs keeps runs left =
     let is = fires p f.frame inputs (record { frame = frame; outs = outs }) keeps.program keeps.frame size left in
     record {
       fired_is = is;
-      shape = subst (λ (r : Fired). HasShape p.plan.behaviour r.frame) (sym is) (leaves_shape p f.frame inputs keeps.program keeps.frame);
+      shape =
+          subst (λ (r : Fired). HasShape p.plan.behaviour r.frame) (sym is)
+          (leaves_shape p f.frame inputs keeps.program keeps.frame);
       count_is = ap (λ (r : Fired). length r.outs) is ∙ leaves_outs p f.frame inputs keeps.program keeps.frame;
     }
 
@@ -84,9 +104,16 @@ pub record KeepsRest (f : Fields) : Type 0 where
   pub row : length f.row.items ≡ (arc_value f.plan).code.outs
   pub spare : HasMemory (arc_value f.plan).code f.spare
 
-pub keeps_on : (old new : Fields) → KeepsRest old → new ≡ record old { phase = new.phase; outs = new.outs; parts = new.parts; next_part = new.next_part } → PhaseKeeps (arc_value old.plan).plan new new.phase → Keeps new
+pub keeps_on : (old new : Fields) → KeepsRest old
+    → new ≡ record old { phase = new.phase; outs = new.outs; parts = new.parts; next_part = new.next_part }
+    → PhaseKeeps (arc_value old.plan).plan new new.phase → Keeps new
 keeps_on old new rest same phase =
-    let all : Keeps (record old { phase = new.phase; outs = new.outs; parts = new.parts; next_part = new.next_part }) = record {
+    let all : Keeps (record old {
+      phase = new.phase;
+      outs = new.outs;
+      parts = new.parts;
+      next_part = new.next_part;
+    }) = record {
       program = rest.program;
       rounds = rest.rounds;
       count = rest.count;
@@ -101,12 +128,17 @@ keeps_on old new rest same phase =
     subst Keeps (sym same) all
 
 -- ---- the job that is out
-pub input_at : (f : Fields) (step : ℕ) (inputs : List Port) → IsOpen (arc_value f.plan).plan f step → inputs ≡ slice_index_or f.vectors step inputs → inputs ≡ slice_index_or f.vectors step []
+pub input_at : (f : Fields) (step : ℕ) (inputs : List Port) → IsOpen (arc_value f.plan).plan f step
+    → inputs ≡ slice_index_or f.vectors step inputs → inputs ≡ slice_index_or f.vectors step []
 input_at f step inputs round is =
     let count = round.round.vectors.count_is in
     let below = round.within in
-    is ∙ sym (get_or_from_slice_get f.vectors step (slice_index_or f.vectors step inputs) [] (slice_get-get_or f.vectors step inputs (omega arith)))
+    is ∙ sym (get_or_from_slice_get f.vectors step (slice_index_or f.vectors step inputs) []
+    (slice_get-get_or f.vectors step inputs (omega arith)))
 
-pub job_is : (f : Fields) (step : ℕ) (program : Program) (inputs : List Port) → IsOpen (arc_value f.plan).plan f step → program ≡ arc_value f.plan → inputs ≡ slice_index_or f.vectors step inputs
+pub job_is : (f : Fields) (step : ℕ) (program : Program) (inputs : List Port) → IsOpen (arc_value f.plan).plan f step
+    → program ≡ arc_value f.plan → inputs ≡ slice_index_or f.vectors step inputs
     → job_value program (f.count - 1) step f.frame inputs ≡ job_at (value_of f) step
-job_is f step program inputs round same is = ap₂ (λ (p : Program) (i : List Port). job_value p (f.count - 1) step f.frame i) same (input_at f step inputs round is)
+job_is f step program inputs round same is =
+    ap₂ (λ (p : Program) (i : List Port). job_value p (f.count - 1) step f.frame i) same
+    (input_at f step inputs round is)

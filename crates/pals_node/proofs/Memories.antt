@@ -15,13 +15,17 @@ use Rattle.pals_node.proofs.Ends.{runs_open, inputs_size}
 pub sizes : (p : Program) (frame : Frame) → IsProgram p → HasShape p.plan.behaviour frame → HasSizes p.code frame
 sizes p frame rules shape = record { vars = shape.vars ∙ sym rules.means.vars; held = shape.held ∙ sym rules.means.ins }
 
-pub memory_left : (f : Fields) (step : ℕ) (job : JobValue) (memory : Memory) → Keeps f → f.phase ≡ Running step → job ≡ job_at (value_of f) step → IsLeft job f.frame f.row.items memory → IsMemoryFor (arc_value f.plan).code memory
+pub memory_left : (f : Fields) (step : ℕ) (job : JobValue) (memory : Memory) → Keeps f → f.phase ≡ Running step
+    → job ≡ job_at (value_of f) step → IsLeft job f.frame f.row.items memory
+    → IsMemoryFor (arc_value f.plan).code memory
 memory_left f step job memory keeps runs is left =
     let p = arc_value f.plan in
     let fit = sizes p f.frame keeps.program keeps.frame in
     record {
       frame = subst (HasSizes p.code) (sym (left.frame_is ∙ ap (λ (j : JobValue). j.work.frame) is)) fit;
-      inputs = ap length (left.inputs_are ∙ ap (λ (j : JobValue). j.work.inputs) is) ∙ inputs_size f step [] (runs_open f step keeps runs) ∙ sym keeps.program.means.ins;
+      inputs =
+          ap length (left.inputs_are ∙ ap (λ (j : JobValue). j.work.inputs) is)
+          ∙ inputs_size f step [] (runs_open f step keeps runs) ∙ sym keeps.program.means.ins;
       result = subst (HasSizes p.code) (sym left.result_is) fit;
       outs = ap length left.outs_are ∙ keeps.row;
       room = subst (λ (j : JobValue). IsRoomOf j.code memory.room) is left.room_is;

@@ -34,42 +34,53 @@ some_sent : (g : Gamma) (t k : ℕ) → 1 ≤ k → 1 ≤ sent_steps g t k
 some_sent g t k some = le-min some (omega arith)
 
 -- the release offset of a design's component is at most its period
-pub design_offset_fits : (design : DesignParts) (k : ℕ) → IsDesign design → release_offset design.gamma design.period k ≤ design.period
+pub design_offset_fits : (design : DesignParts) (k : ℕ) → IsDesign design
+    → release_offset design.gamma design.period k ≤ design.period
 design_offset_fits design k rules =
     let g = design.gamma in
-    let bound : g.mu_max + 2 * g.eps + max (backoff g) g.alpha_max ≤ least_period g (greatest_rate design.components) = le-max_left (g.mu_max + 2 * g.eps + max (backoff g) g.alpha_max) (greatest_rate design.components * g.alpha_max) in
+    let bound : g.mu_max + 2 * g.eps + max (backoff g) g.alpha_max ≤ least_period g (greatest_rate design.components) =
+    le-max_left (g.mu_max + 2 * g.eps + max (backoff g) g.alpha_max)
+    (greatest_rate design.components * g.alpha_max) in
     let all = rules.bound in
     offset_fits g design.period k (omega arith)
 
 -- ---- ports
-link_ports : (design : DesignParts) (node : ℕ) → IsDesign design → node < length design.components → All (λ port. port < length (component_at design node).behaviour.outs) (plan_of design node).out_links
+link_ports : (design : DesignParts) (node : ℕ) → IsDesign design → node < length design.components
+    → All (λ port. port < length (component_at design node).behaviour.outs) (plan_of design node).out_links
 link_ports design node rules within =
     let c = component_at design node in
     let is_c = slice_get-get_or design.components node no_component within in
     All-map (λ port. port < length c.behaviour.outs) (λ (link : Link). link.out_port) (out_links_of design node)
     (λ k d below.
     let link = slice_index_or (out_links_of design node) k d in
-    let rule : IsLink design link = All-filter (λ (l : Link). nat_eq l.source.0 node) (IsLink design) design.links rules.links.each k d below in
-    let source : link.source.0 ≡ node = eqb-true link.source.0 node (filter_passes (λ (l : Link). nat_eq l.source.0 node) design.links k d below) in
+    let rule : IsLink design link =
+    All-filter (λ (l : Link). nat_eq l.source.0 node) (IsLink design) design.links rules.links.each k d below in
+    let source : link.source.0 ≡ node =
+    eqb-true link.source.0 node (filter_passes (λ (l : Link). nat_eq l.source.0 node) design.links k d below) in
     subst (λ o. link.out_port < outs_in o) (ap (slice_get design.components) source ∙ is_c) rule.source.port_is)
 
-tap_ports : (design : DesignParts) (node : ℕ) → IsDesign design → node < length design.components → All (λ port. port < length (component_at design node).behaviour.outs) (plan_of design node).taps
+tap_ports : (design : DesignParts) (node : ℕ) → IsDesign design → node < length design.components
+    → All (λ port. port < length (component_at design node).behaviour.outs) (plan_of design node).taps
 tap_ports design node rules within =
     let c = component_at design node in
     let is_c = slice_get-get_or design.components node no_component within in
     All-map (λ port. port < length c.behaviour.outs) (λ (tap : Tap). tap.out_port) (taps_of design node)
     (λ k d below.
     let tap = slice_index_or (taps_of design node) k d in
-    let rule : IsTap design tap = All-filter (λ (t : Tap). nat_eq t.source.0 node) (IsTap design) design.taps rules.taps.each k d below in
-    let source : tap.source.0 ≡ node = eqb-true tap.source.0 node (filter_passes (λ (t : Tap). nat_eq t.source.0 node) design.taps k d below) in
+    let rule : IsTap design tap =
+    All-filter (λ (t : Tap). nat_eq t.source.0 node) (IsTap design) design.taps rules.taps.each k d below in
+    let source : tap.source.0 ≡ node =
+    eqb-true tap.source.0 node (filter_passes (λ (t : Tap). nat_eq t.source.0 node) design.taps k d below) in
     subst (λ o. tap.out_port < outs_in o) (ap (slice_get design.components) source ∙ is_c) rule.source.port_is)
 
 -- ---- the plan
-pub plan_keeps : (design : DesignParts) (node : ℕ) → IsDesign design → node < length design.components → IsPlan (plan_of design node)
+pub plan_keeps : (design : DesignParts) (node : ℕ) → IsDesign design → node < length design.components
+    → IsPlan (plan_of design node)
 plan_keeps design node rules within =
     let c = component_at design node in
     let is_c = slice_get-get_or design.components node no_component within in
-    let rule : IsComponent design.period c = at_element (IsComponent design.period) design.components node c rules.components.each is_c in
+    let rule : IsComponent design.period c =
+    at_element (IsComponent design.period) design.components node c rules.components.each is_c in
     let offset = design_offset_fits design c.rate rules in
     let period = rules.period.1 in
     let steps : design.period / c.rate ≤ design.period = div-le_self design.period c.rate in

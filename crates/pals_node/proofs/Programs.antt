@@ -34,12 +34,17 @@ same_left : (a b : Fired) → Leaves a ≡ Leaves b → a ≡ b
 same_left a b same = cc
 
 -- the code leaves what the behaviour's step leaves
-pub fires : (p : Program) (frame : Frame) (inputs : List Port) (result : Fired) → IsProgram p → HasShape p.plan.behaviour frame → length inputs ≡ length p.plan.behaviour.ins → exec p.code frame inputs ≡ Leaves result → result ≡ fire p.plan.behaviour frame inputs
-fires p frame inputs result rules shape size left = same_left result (fire p.plan.behaviour frame inputs) (sym left ∙ rules.means.steps frame inputs shape size)
+pub fires : (p : Program) (frame : Frame) (inputs : List Port) (result : Fired) → IsProgram p
+    → HasShape p.plan.behaviour frame → length inputs ≡ length p.plan.behaviour.ins
+    → exec p.code frame inputs ≡ Leaves result → result ≡ fire p.plan.behaviour frame inputs
+fires p frame inputs result rules shape size left =
+    same_left result (fire p.plan.behaviour frame inputs) (sym left ∙ rules.means.steps frame inputs shape size)
 
 -- a step keeps the shape, and gives each out port a place
-pub leaves_shape : (p : Program) (frame : Frame) (inputs : List Port) → IsProgram p → HasShape p.plan.behaviour frame → HasShape p.plan.behaviour (fire p.plan.behaviour frame inputs).frame
+pub leaves_shape : (p : Program) (frame : Frame) (inputs : List Port) → IsProgram p → HasShape p.plan.behaviour frame
+    → HasShape p.plan.behaviour (fire p.plan.behaviour frame inputs).frame
 leaves_shape p frame inputs rules shape = (fires_well p.plan.behaviour frame inputs rules.plan.behaviour shape).0
 
-pub leaves_outs : (p : Program) (frame : Frame) (inputs : List Port) → IsProgram p → HasShape p.plan.behaviour frame → length (fire p.plan.behaviour frame inputs).outs ≡ length p.plan.behaviour.outs
+pub leaves_outs : (p : Program) (frame : Frame) (inputs : List Port) → IsProgram p → HasShape p.plan.behaviour frame
+    → length (fire p.plan.behaviour frame inputs).outs ≡ length p.plan.behaviour.outs
 leaves_outs p frame inputs rules shape = (fires_well p.plan.behaviour frame inputs rules.plan.behaviour shape).1

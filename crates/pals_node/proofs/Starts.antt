@@ -23,23 +23,33 @@ use Rattle.pals_node.proofs.Places.{no_message}
 
 -- ---- sizes
 pub absent_are : (count places : ℕ) → AreTuples count places (replicate count (replicate places Absent))
-absent_are count places = record { count_is = length-replicate count (replicate places Absent); places_are = All-replicate (λ tuple. length tuple ≡ places) count (replicate places Absent) (length-replicate places Absent) }
+absent_are count places =
+    record {
+      count_is = length-replicate count (replicate places Absent);
+      places_are = All-replicate (λ tuple. length tuple ≡ places) count (replicate places Absent)
+          (length-replicate places Absent);
+    }
 
 length-zip : {X Y : Type 0} (xs : List X) (ys : List Y) → length ys ≡ length xs → length (zip xs ys) ≡ length xs
 length-zip [] ys same = refl
 length-zip (x ∷ xs) [] same = absurd (omega arith)
 length-zip (x ∷ xs) (y ∷ ys) same = ap suc (length-zip xs ys (omega arith))
 
-pub vectors_are : (plan : Plan) (env : List Port) (slots : List (Option (List Port))) → IsPlan plan → length slots ≡ length plan.inputs → AreTuples plan.rate (length plan.behaviour.ins) (vectors_of plan env slots)
+pub vectors_are : (plan : Plan) (env : List Port) (slots : List (Option (List Port))) → IsPlan plan
+    → length slots ≡ length plan.inputs → AreTuples plan.rate (length plan.behaviour.ins) (vectors_of plan env slots)
 vectors_are plan env slots rules same =
     let tuples = map (λ (p : Input × Option (List Port)). brought plan.rate env p.0 p.1) (zip plan.inputs slots) in
-    let size : length tuples ≡ length plan.behaviour.ins = length-map (zip plan.inputs slots) _ ∙ length-zip plan.inputs slots same ∙ rules.inputs in
+    let size : length tuples ≡ length plan.behaviour.ins = length-map (zip plan.inputs slots) _
+    ∙ length-zip plan.inputs slots same ∙ rules.inputs in
     record {
       count_is = length-columns plan.rate tuples;
-      places_are = All-weaker (λ c. length c ≡ length tuples) (λ c. length c ≡ length plan.behaviour.ins) (λ c is. is ∙ size) (vectors_of plan env slots) (length-each_column plan.rate tuples);
+      places_are =
+          All-weaker (λ c. length c ≡ length tuples) (λ c. length c ≡ length plan.behaviour.ins) (λ c is. is ∙ size)
+          (vectors_of plan env slots) (length-each_column plan.rate tuples);
     }
 
-pub part_room : (plan : Plan) (part : Part) → part.frame ≡ initial plan.behaviour → part.outs ≡ replicate (length plan.taps) (replicate plan.rate Absent) → IsPartRoom plan part
+pub part_room : (plan : Plan) (part : Part) → part.frame ≡ initial plan.behaviour
+    → part.outs ≡ replicate (length plan.taps) (replicate plan.rate Absent) → IsPartRoom plan part
 part_room plan part frame outs = record {
   vars = ap (λ (f : Frame). length f.vars) frame ∙ length-map plan.behaviour.vars _;
   held = ap (λ (f : Frame). length f.held) frame ∙ length-replicate (length plan.behaviour.ins) _;
@@ -49,18 +59,35 @@ part_room plan part frame outs = record {
 -- ---- the value
 abbrev started_value : Fields → List (Option (List Port)) → List (List Port) → List (List Port) → List Part → NodeValue
 started_value f slots vectors outs parts =
-    with_state (value_of f) (record (state_of f) { count = f.count + 1; phase = Running 0; slots = slots; vectors = vectors; outs = outs; sent = false; parts = parts })
+    with_state (value_of f) (record (state_of f) {
+      count = f.count + 1;
+      phase = Running 0;
+      slots = slots;
+      vectors = vectors;
+      outs = outs;
+      sent = false;
+      parts = parts;
+    })
 
-pub starts_value : (f : Fields) (env : List Port) (vectors outs : List (List Port)) (parts : List Part) → vectors ≡ vectors_of (arc_value f.plan).plan env f.slots
-    → outs ≡ replicate (length (arc_value f.plan).plan.behaviour.outs) (replicate (arc_value f.plan).plan.rate Absent) → parts ≡ f.parts.items
-    → started_value f (map (λ (_ : Option (List Port)). no_message) f.slots) vectors outs parts ≡ with_state (value_of f) (started (arc_value f.plan).plan env (state_of f))
+pub starts_value : (f : Fields) (env : List Port) (vectors outs : List (List Port)) (parts : List Part)
+    → vectors ≡ vectors_of (arc_value f.plan).plan env f.slots
+    → outs ≡ replicate (length (arc_value f.plan).plan.behaviour.outs) (replicate (arc_value f.plan).plan.rate Absent)
+    → parts ≡ f.parts.items
+    → started_value f (map (λ (_ : Option (List Port)). no_message) f.slots) vectors outs parts
+    ≡ with_state (value_of f) (started (arc_value f.plan).plan env (state_of f))
 starts_value f env vectors outs parts is_vectors is_outs is_parts =
-    ap (λ v. started_value f (map (λ (_ : Option (List Port)). no_message) f.slots) v outs parts) is_vectors ∙ ap₂ (λ o p. started_value f (map (λ (_ : Option (List Port)). no_message) f.slots) (vectors_of (arc_value f.plan).plan env f.slots) o p) is_outs is_parts
+    ap (λ v. started_value f (map (λ (_ : Option (List Port)). no_message) f.slots) v outs parts) is_vectors
+    ∙ ap₂ (λ o p. started_value f (map (λ (_ : Option (List Port)). no_message) f.slots)
+    (vectors_of (arc_value f.plan).plan env f.slots) o p) is_outs is_parts
 
 -- the job of the first step
-pub first_job : (f : Fields) (vectors : List (List Port)) (inputs : List Port) → 0 < length vectors → inputs ≡ slice_index_or vectors 0 inputs
-    → job_value (arc_value f.plan) f.count 0 f.frame inputs ≡ job_value (arc_value f.plan) (f.count + 1 - 1) 0 f.frame (slice_index_or vectors 0 [])
+pub first_job : (f : Fields) (vectors : List (List Port)) (inputs : List Port) → 0 < length vectors
+    → inputs ≡ slice_index_or vectors 0 inputs
+    → job_value (arc_value f.plan) f.count 0 f.frame inputs
+    ≡ job_value (arc_value f.plan) (f.count + 1 - 1) 0 f.frame (slice_index_or vectors 0 [])
 first_job f vectors inputs some is =
     let round : f.count ≡ f.count + 1 - 1 = omega arith in
-    let input : inputs ≡ slice_index_or vectors 0 [] = is ∙ sym (get_or_from_slice_get vectors 0 (slice_index_or vectors 0 inputs) [] (slice_get-get_or vectors 0 inputs some)) in
+    let input : inputs ≡ slice_index_or vectors 0 [] = is
+    ∙ sym (get_or_from_slice_get vectors 0 (slice_index_or vectors 0 inputs) []
+    (slice_get-get_or vectors 0 inputs some)) in
     ap₂ (λ r i. job_value (arc_value f.plan) r 0 f.frame i) round input

@@ -8,15 +8,18 @@ use Rattle.round_budget.proofs.Elements.{every_weaker, every_both, Pairs, Member
 use Rattle.round_budget.proofs.Weights.{part, with_one, part_le, part_more}
 
 -- ---- what is served
-pub served_releases : (cost : Release → ℕ) (free : ℕ) (xs : List Release) → map (λ (s : Served). s.release) (serve cost free xs) ≡ xs
+pub served_releases : (cost : Release → ℕ) (free : ℕ) (xs : List Release)
+    → map (λ (s : Served). s.release) (serve cost free xs) ≡ xs
 served_releases cost free [] = refl
-served_releases cost free (x ∷ xs) = ap (λ (ys : List Release). x ∷ ys) (served_releases cost (begins free x + cost x) xs)
+served_releases cost free (x ∷ xs) =
+    ap (λ (ys : List Release). x ∷ ys) (served_releases cost (begins free x + cost x) xs)
 
 pub length_serve : (cost : Release → ℕ) (free : ℕ) (xs : List Release) → length (serve cost free xs) ≡ length xs
 length_serve cost free [] = refl
 length_serve cost free (x ∷ xs) = ap suc (length_serve cost (begins free x + cost x) xs)
 
-pub every_serve : (P : Release → Type 0) (cost : Release → ℕ) (free : ℕ) (xs : List Release) → Every P xs → Every (λ (s : Served). P s.release) (serve cost free xs)
+pub every_serve : (P : Release → Type 0) (cost : Release → ℕ) (free : ℕ) (xs : List Release) → Every P xs
+    → Every (λ (s : Served). P s.release) (serve cost free xs)
 every_serve P cost free [] all = tt
 every_serve P cost free (x ∷ xs) all = (all.0, every_serve P cost (begins free x + cost x) xs all.1)
 
@@ -35,16 +38,23 @@ none_early cost free (x ∷ xs) =
     let due : x.time ≤ max x.time free = omega arith in
     ((due, refl), none_early cost (begins free x + cost x) xs)
 
-none_before : (cost : Release → ℕ) (from free : ℕ) (xs : List Release) → from ≤ free → Every (λ (s : Served). from ≤ s.begin) (serve cost free xs)
+none_before : (cost : Release → ℕ) (from free : ℕ) (xs : List Release) → from ≤ free
+    → Every (λ (s : Served). from ≤ s.begin) (serve cost free xs)
 none_before cost from free [] below = tt
 none_before cost from free (x ∷ xs) below =
-    let here : from ≤ max x.time free = omega arith in
-    (here, none_before cost from (begins free x + cost x) xs (let later : from ≤ max x.time free + cost x = omega arith in later))
+    let here : from ≤ max x.time free = omega arith in (
+      here,
+      none_before cost from (begins free x + cost x) xs
+          (let later : from ≤ max x.time free + cost x = omega arith in later),
+    )
 
-pub one_at_a_time : (cost : Release → ℕ) (free : ℕ) (xs : List Release) → Pairs (λ (s t : Served). s.done ≤ t.begin) (serve cost free xs)
+pub one_at_a_time : (cost : Release → ℕ) (free : ℕ) (xs : List Release)
+    → Pairs (λ (s t : Served). s.done ≤ t.begin) (serve cost free xs)
 one_at_a_time cost free [] = tt
-one_at_a_time cost free (x ∷ xs) =
-    (none_before cost (begins free x + cost x) (begins free x + cost x) xs (omega arith), one_at_a_time cost (begins free x + cost x) xs)
+one_at_a_time cost free (x ∷ xs) = (
+  none_before cost (begins free x + cost x) (begins free x + cost x) xs (omega arith),
+  one_at_a_time cost (begins free x + cost x) xs,
+)
 
 -- ---- responses
 -- in order, and releases of one member are this far apart
@@ -81,7 +91,8 @@ module _ (gap : ℕ) (w : ℕ → ℕ) (members : List ℕ) (cost : Release → 
   }
 
   -- or the stretch goes on
-  onward : (start : ℕ) (used : ℕ → Bool) (x y : Release) → start ≤ x.time → IsApart gap x y → ComesLater gap start used y → ComesLater gap start (with_one x.node used) y
+  onward : (start : ℕ) (used : ℕ → Bool) (x y : Release) → start ≤ x.time → IsApart gap x y
+      → ComesLater gap start used y → ComesLater gap start (with_one x.node used) y
   onward start used x y first apart later = record {
     after = later.after;
     again = λ is. elim (or_true (nat_eq y.node x.node) (used y.node) is) [
@@ -90,12 +101,16 @@ module _ (gap : ℕ) (w : ℕ → ℕ) (members : List ℕ) (cost : Release → 
     ];
   }
 
-  not_used : (start free : ℕ) (used : ℕ → Bool) (x : Release) (b : Bool) → used x.node ≡ b → free ≤ start + gap → x.time < free → ComesLater gap start used x → used x.node ≡ false
-  not_used start free used x true is most busy later = absurd (let far = later.again is in omega (arith, far, most, busy))
+  not_used : (start free : ℕ) (used : ℕ → Bool) (x : Release) (b : Bool) → used x.node ≡ b → free ≤ start + gap
+      → x.time < free → ComesLater gap start used x → used x.node ≡ false
+  not_used start free used x true is most busy later =
+      absurd (let far = later.again is in omega (arith, far, most, busy))
   not_used start free used x false is most busy later = is
 
-  pub in_time : (start free : ℕ) (used : ℕ → Bool) (xs : List Release) → free ≤ start + part w used members → Every (ComesLater gap start used) xs
-      → Pairs (IsApart gap) xs → Every (IsWeighed w members cost) xs → Every (λ (s : Served). s.done ≤ s.release.time + gap) (serve cost free xs)
+  pub in_time : (start free : ℕ) (used : ℕ → Bool) (xs : List Release) → free ≤ start + part w used members
+      → Every (ComesLater gap start used) xs
+      → Pairs (IsApart gap) xs → Every (IsWeighed w members cost) xs
+      → Every (λ (s : Served). s.done ≤ s.release.time + gap) (serve cost free xs)
   in_time start free used [] most later apart weighed = tt
   in_time start free used (x ∷ xs) most later apart weighed =
       let here = weighed.0.cost_is in
@@ -106,16 +121,20 @@ module _ (gap : ℕ) (w : ℕ → ℕ) (members : List ℕ) (cost : Release → 
             let more = part_more w used x.node members weighed.0.member fresh in
             let whole = part_le w (with_one x.node used) members in
             let first = later.0.after in
-            let done_in : max x.time free + cost x ≤ start + part w (with_one x.node used) members = omega (arith, busy, most, more, here) in (
-              (let bound : max x.time free + cost x ≤ x.time + gap = omega (arith, done_in, whole, few, first) in bound),
+            let done_in : max x.time free + cost x ≤ start + part w (with_one x.node used) members =
+            omega (arith, busy, most, more, here) in (
+              (let bound : max x.time free + cost x ≤ x.time + gap =
+                  omega (arith, done_in, whole, few, first) in bound),
               in_time start (begins free x + cost x) (with_one x.node used) xs done_in
-                  (every_both (IsApart gap x) (ComesLater gap start used) (ComesLater gap start (with_one x.node used)) (λ y. onward start used x y first) xs apart.0 later.1)
+                  (every_both (IsApart gap x) (ComesLater gap start used) (ComesLater gap start (with_one x.node used))
+                  (λ y. onward start used x y first) xs apart.0 later.1)
                   apart.1 weighed.1,
             ))
         | inr idle ↦ (
             let more = part_more w none x.node members weighed.0.member refl in
             let whole = part_le w (with_one x.node none) members in
-            let done_in : max x.time free + cost x ≤ x.time + part w (with_one x.node none) members = omega (arith, idle, more, here) in (
+            let done_in : max x.time free + cost x ≤ x.time + part w (with_one x.node none) members =
+            omega (arith, idle, more, here) in (
               (let bound : max x.time free + cost x ≤ x.time + gap = omega (arith, done_in, whole, few) in bound),
               in_time x.time (begins free x + cost x) (with_one x.node none) xs done_in
                   (every_weaker (IsApart gap x) (ComesLater gap x.time (with_one x.node none)) (anew x) xs apart.0)
@@ -124,6 +143,9 @@ module _ (gap : ℕ) (w : ℕ → ℕ) (members : List ℕ) (cost : Release → 
       ]
 
   -- from an idle processor on
-  pub all_in_time : (xs : List Release) → Pairs (IsApart gap) xs → Every (IsWeighed w members cost) xs → Every (λ (s : Served). s.done ≤ s.release.time + gap) (serve cost 0 xs)
+  pub all_in_time : (xs : List Release) → Pairs (IsApart gap) xs → Every (IsWeighed w members cost) xs
+      → Every (λ (s : Served). s.done ≤ s.release.time + gap) (serve cost 0 xs)
   all_in_time xs apart weighed =
-      in_time 0 0 none xs (omega arith) (every_weaker (IsWeighed w members cost) (ComesLater gap 0 none) (λ y is. record { after = omega arith; again = λ other. absurd (cc) }) xs weighed) apart weighed
+      in_time 0 0 none xs (omega arith)
+      (every_weaker (IsWeighed w members cost) (ComesLater gap 0 none)
+      (λ y is. record { after = omega arith; again = λ other. absurd (cc) }) xs weighed) apart weighed

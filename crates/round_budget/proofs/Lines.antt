@@ -13,24 +13,29 @@ pub map_push : {X Y : Type 0} (f : X → Y) (xs : List X) (x : X) → map f (xs 
 map_push f [] x = refl
 map_push f (y ∷ ys) x = ap (λ zs. f y ∷ zs) (map_push f ys x)
 
-drop_next : (rs : List Release) (i : ℕ) (x d : Release) → i < length rs → x ≡ slice_index_or rs i d → drop i rs ≡ x ∷ drop (i + 1) rs
+drop_next : (rs : List Release) (i : ℕ) (x d : Release) → i < length rs → x ≡ slice_index_or rs i d
+    → drop i rs ≡ x ∷ drop (i + 1) rs
 drop_next rs i x d within is =
     drop-cons rs i d within ∙ ap₂ (λ (z : Release) (k : ℕ). z ∷ drop k rs) (sym is) (sym (add-one i))
 
 -- one more line is served
-pub serve_next : (cost : budgets.Release → ℕ) (start free after i : ℕ) (rs : List Release) (x d : Release) (lines : List Line) (y : Line) (whole : List budgets.Line)
+pub serve_next : (cost : budgets.Release → ℕ) (start free after i : ℕ) (rs : List Release) (x d : Release)
+    (lines : List Line) (y : Line) (whole : List budgets.Line)
     → i < length rs → x ≡ slice_index_or rs i d
     → line_from start (served_at cost free (release_value x)) ≡ line_value y
     → after ≡ begins free (release_value x) + cost (release_value x)
     → map line_value lines ++ map (line_from start) (serve cost free (map release_value (drop i rs))) ≡ whole
-    → map line_value (lines ++ y ∷ []) ++ map (line_from start) (serve cost after (map release_value (drop (i + 1) rs))) ≡ whole
+    → map line_value (lines ++ y ∷ [])
+    ++ map (line_from start) (serve cost after (map release_value (drop (i + 1) rs))) ≡ whole
 serve_next cost start free after i rs x d lines y whole within is line then before =
     let rest = map release_value (drop (i + 1) rs) in
     let served = map (line_from start) (serve cost after rest) in
     ap (λ l. l ++ served) (map_push line_value lines y)
     ∙ append_assoc (map line_value lines) (line_value y ∷ []) served
-    ∙ ap₂ (λ (l : budgets.Line) (t : ℕ). map line_value lines ++ (l ∷ map (line_from start) (serve cost t rest))) (sym line) then
-    ∙ ap (λ (l : List Release). map line_value lines ++ map (line_from start) (serve cost free (map release_value l))) (sym (drop_next rs i x d within is))
+    ∙ ap₂ (λ (l : budgets.Line) (t : ℕ). map line_value lines ++ (l ∷ map (line_from start) (serve cost t rest)))
+    (sym line) then
+    ∙ ap (λ (l : List Release). map line_value lines ++ map (line_from start) (serve cost free (map release_value l)))
+    (sym (drop_next rs i x d within is))
     ∙ before
 
 -- the sum with one more

@@ -49,10 +49,12 @@ pub strict_numbers : (t s n m : ℕ) → t ≤ s → (s ≤ t → n < m) → (na
 strict_numbers t s n m first second = grind (arith, nat_tests)
 
 not_after_before : (x y : Release) → precedes y x ≡ true → NotAfter y x
-not_after_before x y is = let both = before_numbers y.time x.time y.node x.node is in record { time = both.0; node = both.1 }
+not_after_before x y is = let both = before_numbers y.time x.time y.node x.node is in
+    record { time = both.0; node = both.1 }
 
 not_after_other : (x y : Release) → precedes y x ≡ false → NotAfter x y
-not_after_other x y is = let both = after_numbers y.time x.time y.node x.node is in record { time = both.0; node = both.1 }
+not_after_other x y is = let both = after_numbers y.time x.time y.node x.node is in
+    record { time = both.0; node = both.1 }
 
 not_after_both : (x y z : Release) → NotAfter x y → NotAfter y z → NotAfter x z
 not_after_both x y z first second = record {

@@ -15,16 +15,20 @@ use Rattle.round_budget.specs.proof.Promises.{TimetableIsEach}
 le_of_test : (n m : ℕ) → nat_le n m ≡ true → n ≤ m
 le_of_test n m is = grind (arith, nat_tests)
 
-pub budgeted_by : (design : DesignParts) (codes : List CodeParts) (nanos : ℕ) (members : List ℕ) → AreMembers design members
+pub budgeted_by : (design : DesignParts) (codes : List CodeParts) (nanos : ℕ) (members : List ℕ)
+    → AreMembers design members
     → fits design.gamma (total nanos codes members) ≡ true → IsWithinBudget design codes nanos members
-budgeted_by design codes nanos members are is = record { members_are = are; fits = le_of_test (total nanos codes members) design.gamma.alpha_max is }
+budgeted_by design codes nanos members are is =
+    record { members_are = are; fits = le_of_test (total nanos codes members) design.gamma.alpha_max is }
 
 pub timetable_is_each : (design : DesignParts) (codes : List CodeParts) (nanos : ℕ) (members : List ℕ) → IsDesign design
     → IsWithinBudget design codes nanos members → TimetableIsEach design codes nanos members
-timetable_is_each design codes nanos members sound budgeted rounds = timetable_repeats design codes nanos members rounds sound budgeted
+timetable_is_each design codes nanos members sound budgeted rounds =
+    timetable_repeats design codes nanos members rounds sound budgeted
 
 -- by numbers of instructions up to the weights of the codes, and so by those that they make
-pub respond_in_time : (design : DesignParts) (codes : List CodeParts) (nanos : ℕ) (members : List ℕ) → IsDesign design → 1 ≤ nanos
+pub respond_in_time : (design : DesignParts) (codes : List CodeParts) (nanos : ℕ) (members : List ℕ)
+    → IsDesign design → 1 ≤ nanos
     → IsWithinBudget design codes nanos members → RespondInTime design codes nanos members
 respond_in_time design codes nanos members sound some budgeted =
     let weighed : (rounds : ℕ) (count : Release → ℕ) → AreAtMost codes members count → AreInTime design (budget design members rounds nanos count) =
@@ -32,4 +36,8 @@ respond_in_time design codes nanos members sound some budgeted =
       responses = responses_fit design codes nanos members rounds count sound budgeted most;
       rounds = rounds_are_apart design codes nanos members rounds count sound budgeted most;
     } in
-    record { weighed = weighed; executed = λ env rounds. weighed rounds (by_exec design env codes) (exec_at_most design codes nanos members env sound some budgeted) }
+    record {
+      weighed = weighed;
+      executed = λ env rounds.
+          weighed rounds (by_exec design env codes) (exec_at_most design codes nanos members env sound some budgeted);
+    }

@@ -31,7 +31,8 @@ one : (b : Bool) → b ≡ true → bit b ≡ 1
 one true is = refl
 one false is = absurd (cc)
 
-same_numbers : (a b c d a' b' c' d' : ℕ) → (nat_eq a a' && (nat_eq b b' && (nat_eq c c' && nat_eq d d'))) ≡ true → (a ≡ a') × ((b ≡ b') × ((c ≡ c') × (d ≡ d')))
+same_numbers : (a b c d a' b' c' d' : ℕ) → (nat_eq a a' && (nat_eq b b' && (nat_eq c c' && nat_eq d d'))) ≡ true
+    → (a ≡ a') × ((b ≡ b') × ((c ≡ c') × (d ≡ d')))
 same_numbers a b c d a' b' c' d' is = grind (arith, nat_tests)
 
 itself_numbers : (a b c d : ℕ) → (nat_eq a a && (nat_eq b b && (nat_eq c c && nat_eq d d))) ≡ true
@@ -43,7 +44,8 @@ itself x = itself_numbers x.node x.round x.step x.time
 is_it : (x y : Release) → is_same x y ≡ true → x ≡ y
 is_it x y is =
     let all = same_numbers x.node x.round x.step x.time y.node y.round y.step y.time is in
-    let make : ℕ → ℕ → ℕ → ℕ → Release = λ node round step time. record { node = node; round = round; step = step; time = time } in
+    let make : ℕ → ℕ → ℕ → ℕ → Release =
+    λ node round step time. record { node = node; round = round; step = step; time = time } in
     ap (λ n. make n x.round x.step x.time) all.0
     ∙ ap (λ r. make y.node r x.step x.time) all.1.0
     ∙ ap (λ s. make y.node y.round s x.time) all.1.1.0
@@ -94,7 +96,8 @@ pub record IsBefore (x y : Release) : Type 0 where
 not_both : (x y : Release) → IsBefore x y → NotAfter y x → ⊥
 not_both x y before after = never_both y.time x.time y.node x.node after.time after.node before.time before.node
 
-first_is : (x y : Release) (xs ys : List Release) → Every (IsBefore x) xs → Every (NotAfter y) ys → (y ≡ x) ⊎ Member ys x → (x ≡ y) ⊎ Member xs y → x ≡ y
+first_is : (x y : Release) (xs ys : List Release) → Every (IsBefore x) xs → Every (NotAfter y) ys
+    → (y ≡ x) ⊎ Member ys x → (x ≡ y) ⊎ Member xs y → x ≡ y
 first_is x y xs ys before after (inl here) other = sym here
 first_is x y xs ys before after (inr later) (inl here) = here
 first_is x y xs ys before after (inr later) (inr other) =
@@ -115,7 +118,9 @@ only_one [] [] same before after = refl
 only_one [] (y ∷ ys) same before after = absurd (none_of y ys same)
 only_one (x ∷ xs) [] same before after = absurd (none_of x xs (λ f. sym (same f)))
 only_one (x ∷ xs) (y ∷ ys) same before after =
-    let first = first_is x y xs ys before.0 after.0 (member_same x (x ∷ xs) (y ∷ ys) same (inl refl)) (member_same y (y ∷ ys) (x ∷ xs) (λ f. sym (same f)) (inl refl)) in
+    let first =
+    first_is x y xs ys before.0 after.0 (member_same x (x ∷ xs) (y ∷ ys) same (inl refl))
+    (member_same y (y ∷ ys) (x ∷ xs) (λ f. sym (same f)) (inl refl)) in
     let rest : AreSame xs ys = less_one x xs ys (subst (λ (z : Release). AreSame (x ∷ xs) (z ∷ ys)) (sym first) same) in
     ap₂ (λ (z : Release) (zs : List Release). z ∷ zs) first (only_one xs ys rest before.1 after.1)
 
@@ -147,11 +152,13 @@ not_after_both x y z first second = record {
   node = λ same. (let a = first.node in let b = second.node in omega (arith, first.time, second.time, a, b, same));
 }
 
-lower_numbers : (a b n m : ℕ) (s t : Bool) → nat_lt a b ≡ s → (a == b) ≡ t → is_lt (ordering_then (cond s Less (cond t Equal Greater)) (nat_cmp n m)) ≡ false → (b ≤ a) × (a ≤ b → m ≤ n)
+lower_numbers : (a b n m : ℕ) (s t : Bool) → nat_lt a b ≡ s → (a == b) ≡ t
+    → is_lt (ordering_then (cond s Less (cond t Equal Greater)) (nat_cmp n m)) ≡ false → (b ≤ a) × (a ≤ b → m ≤ n)
 lower_numbers a b n m true t less same is = absurd (cc)
 lower_numbers a b n m false false less same is = grind (arith, nat_tests)
 lower_numbers a b n m false true less same is =
-    (elim (nat_lt n m) as (λ u. nat_lt n m ≡ u → is_lt (cond u Less (cond (n == m) Equal Greater)) ≡ false → (b ≤ a) × (a ≤ b → m ≤ n)) [
+    (elim (nat_lt n m) as (λ u. nat_lt n m ≡ u → is_lt (cond u Less (cond (n == m) Equal Greater)) ≡ false
+    → (b ≤ a) × (a ≤ b → m ≤ n)) [
       | true ↦ λ below other. absurd (cc)
       | false ↦ λ below other. grind (arith, nat_tests)
     ]) refl is
@@ -169,17 +176,25 @@ all_not_after [] sorted = tt
 all_not_after (x ∷ []) sorted = (tt, tt)
 all_not_after (x ∷ y ∷ rest) sorted =
     let at_one : 0 + 1 ≡ 1 = omega arith in
-    let here : lower y x ≡ false = subst (λ j. lower (slice_index_or (x ∷ y ∷ rest) j x) x ≡ false) at_one (sorted 0 x (omega arith) (omega arith)) in
+    let here : lower y x ≡ false =
+    subst (λ j. lower (slice_index_or (x ∷ y ∷ rest) j x) x ≡ false) at_one
+    (sorted 0 x (omega arith) (omega arith)) in
     let first = not_after x y here in
     let later = all_not_after (y ∷ rest) (λ k d low within.
     (let onward : suc k + 1 ≡ suc (k + 1) = omega arith in
-    subst (λ j. lower (slice_index_or (x ∷ y ∷ rest) j d) (slice_index_or (y ∷ rest) k d) ≡ false) onward (sorted (suc k) d (omega arith) (omega (arith, within))))) in (
-      (first, every_weaker (NotAfter (release_value y)) (NotAfter (release_value x)) (λ z. not_after_both (release_value x) (release_value y) z first) (map release_value rest) later.0),
+    subst (λ j. lower (slice_index_or (x ∷ y ∷ rest) j d) (slice_index_or (y ∷ rest) k d) ≡ false) onward
+    (sorted (suc k) d (omega arith) (omega (arith, within))))) in (
+      (
+        first,
+        every_weaker (NotAfter (release_value y)) (NotAfter (release_value x))
+            (λ z. not_after_both (release_value x) (release_value y) z first) (map release_value rest) later.0,
+      ),
       later,
     )
 
 -- ---- what is served stands in strict order
-every_unserved : (P : Release → Type 0) (cost : Release → ℕ) (free : ℕ) (xs : List Release) → Every (λ (s : Served). P s.release) (serve cost free xs) → Every P xs
+every_unserved : (P : Release → Type 0) (cost : Release → ℕ) (free : ℕ) (xs : List Release)
+    → Every (λ (s : Served). P s.release) (serve cost free xs) → Every P xs
 every_unserved P cost free [] all = tt
 every_unserved P cost free (x ∷ xs) all = (all.0, every_unserved P cost (begins free x + cost x) xs all.1)
 
@@ -189,9 +204,11 @@ before_numbers t s n m is = grind (arith, nat_tests)
 is_before : (x y : Release) → IsTrue (precedes x y) → IsBefore x y
 is_before x y is = let both = before_numbers x.time y.time x.node y.node is in record { time = both.0; node = both.1 }
 
-pub all_before : (cost : Release → ℕ) (free : ℕ) (xs : List Release) → Pairs (λ (s t : Served). IsTrue (precedes s.release t.release)) (serve cost free xs) → Pairs IsBefore xs
+pub all_before : (cost : Release → ℕ) (free : ℕ) (xs : List Release)
+    → Pairs (λ (s t : Served). IsTrue (precedes s.release t.release)) (serve cost free xs) → Pairs IsBefore xs
 all_before cost free [] all = tt
 all_before cost free (x ∷ xs) all = (
-  every_weaker (λ y. IsTrue (precedes x y)) (IsBefore x) (is_before x) xs (every_unserved (λ y. IsTrue (precedes x y)) cost (begins free x + cost x) xs all.0),
+  every_weaker (λ y. IsTrue (precedes x y)) (IsBefore x) (is_before x) xs
+      (every_unserved (λ y. IsTrue (precedes x y)) cost (begins free x + cost x) xs all.0),
   all_before cost (begins free x + cost x) xs all.1,
 )

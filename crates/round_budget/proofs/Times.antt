@@ -22,7 +22,8 @@ first_le : (from : ℕ) (cs : List Component) → from ≤ fold (λ k (c : Compo
 first_le from [] = omega arith
 first_le from (c ∷ cs) = let later = first_le (max from c.rate) cs in omega (arith, later)
 
-rate_le : (from : ℕ) (cs : List Component) (n : ℕ) (c : Component) → slice_get cs n ≡ Some c → c.rate ≤ fold (λ k (d : Component). max k d.rate) from cs
+rate_le : (from : ℕ) (cs : List Component) (n : ℕ) (c : Component) → slice_get cs n ≡ Some c
+    → c.rate ≤ fold (λ k (d : Component). max k d.rate) from cs
 rate_le from [] n c is = absurd (cc)
 rate_le from (d ∷ cs) zero c is =
     let same : d.rate ≡ c.rate = (let one : d ≡ c = cc in ap (λ (e : Component). e.rate) one) in
@@ -58,7 +59,8 @@ bound_of : (a b c t : ℕ) → max a b ≤ t → b ≤ t
 bound_of a b c t most = omega arith
 
 module _ (design : DesignParts) (sound : IsDesign design) where
-  pub rate_fits : (node : ℕ) → node < length design.components → IsRate design.period design.gamma.alpha_max (rate_of design node)
+  pub rate_fits : (node : ℕ) → node < length design.components
+      → IsRate design.period design.gamma.alpha_max (rate_of design node)
   rate_fits node within =
       let at = component_at design node within in
       let c : Component = at.0 in
@@ -68,9 +70,11 @@ module _ (design : DesignParts) (sound : IsDesign design) where
       let below : c.rate ≤ greatest_rate design.components = rate_le 1 design.components node c at.1 in
       let g = design.gamma in
       let bound : greatest_rate design.components * g.alpha_max ≤ design.period =
-      bound_of (g.mu_max + 2 * g.eps + max (backoff g) g.alpha_max) (greatest_rate design.components * g.alpha_max) 0 design.period sound.bound in
+      bound_of (g.mu_max + 2 * g.eps + max (backoff g) g.alpha_max) (greatest_rate design.components * g.alpha_max) 0
+      design.period sound.bound in
       subst (λ o. IsRate design.period design.gamma.alpha_max (rate_in o)) (sym at.1)
-      (rate_numbers design.period g.alpha_max c.rate (greatest_rate design.components) some real rules.divides below bound)
+      (rate_numbers design.period g.alpha_max c.rate (greatest_rate design.components) some real rules.divides
+      below bound)
 
 -- ---- products
 step_on : (i k p : ℕ) → i < k → i * p + p ≤ k * p
@@ -117,7 +121,8 @@ module _ (design : DesignParts) (members : List ℕ) (sound : IsDesign design) (
       members (recursion_from_All (Contains members) members (All-contains_itself members))
       (recursion_from_All (λ node. node < length design.components) members are.within)
 
-  release_is : (round node step : ℕ) → IsOne design members node → step < rate_of design node → IsRelease design members (release_of design round node step)
+  release_is : (round node step : ℕ) → IsOne design members node → step < rate_of design node
+      → IsRelease design members (release_of design round node step)
   release_is round node step one less =
       let fit = rate_fits design sound node one.within in
       let on = step_on step (rate_of design node) (gap_of design node) less in
@@ -142,25 +147,32 @@ module _ (design : DesignParts) (members : List ℕ) (sound : IsDesign design) (
   far_steps : (round node : ℕ) → Pairs (AreFar design) (releases_of design round node)
   far_steps round node =
       pairs_map (AreFar design) (release_of design round node) (upwards 0 (rate_of design node))
-      (pairs_upwards (λ i j. AreFar design (release_of design round node i) (release_of design round node j)) 0 (rate_of design node)
+      (pairs_upwards (λ i j. AreFar design (release_of design round node i) (release_of design round node j)) 0
+      (rate_of design node)
       (λ i j above less below.
       record { far = λ same. inl (let on = step_on i j (gap_of design node) less in omega (arith, on)) }))
 
   -- steps of two members
-  far_members : (round a b : ℕ) → a < b → Every (λ u. Every (AreFar design u) (releases_of design round b)) (releases_of design round a)
+  far_members : (round a b : ℕ) → a < b
+      → Every (λ u. Every (AreFar design u) (releases_of design round b)) (releases_of design round a)
   far_members round a b less =
-      every_map (λ u. Every (AreFar design u) (releases_of design round b)) (release_of design round a) (upwards 0 (rate_of design a))
-      (every_upwards (λ i. Every (AreFar design (release_of design round a i)) (releases_of design round b)) 0 (rate_of design a)
+      every_map (λ u. Every (AreFar design u) (releases_of design round b)) (release_of design round a)
+      (upwards 0 (rate_of design a))
+      (every_upwards (λ i. Every (AreFar design (release_of design round a i)) (releases_of design round b)) 0
+      (rate_of design a)
       (λ i low high.
       every_map (AreFar design (release_of design round a i)) (release_of design round b) (upwards 0 (rate_of design b))
-      (every_upwards (λ j. AreFar design (release_of design round a i) (release_of design round b j)) 0 (rate_of design b)
+      (every_upwards (λ j. AreFar design (release_of design round a i) (release_of design round b j)) 0
+      (rate_of design b)
       (λ j under over. record { far = λ same. absurd (omega (arith, same, less)) }))))
 
   far_round : (round : ℕ) → Pairs (AreFar design) (releases_in design members round)
   far_round round =
       pairs_flat_map (AreFar design) (releases_of design round) members
-      (every_weaker (IsOne design members) (λ node. Pairs (AreFar design) (releases_of design round node)) (λ node one. far_steps round node) members each_one)
-      (pairs_weaker (λ a b. a < b) (λ a b. Every (λ u. Every (AreFar design u) (releases_of design round b)) (releases_of design round a))
+      (every_weaker (IsOne design members) (λ node. Pairs (AreFar design) (releases_of design round node))
+      (λ node one. far_steps round node) members each_one)
+      (pairs_weaker (λ a b. a < b)
+      (λ a b. Every (λ u. Every (AreFar design u) (releases_of design round b)) (releases_of design round a))
       (λ a b less. far_members round a b less) members
       (pairs_from (λ a b. a < b) members (AllPairs-from_increasing members are.rising)))
 
@@ -177,15 +189,21 @@ module _ (design : DesignParts) (members : List ℕ) (sound : IsDesign design) (
       (λ node one.
       every_map (IsIn round) (release_of design round node) (upwards 0 (rate_of design node))
       (every_upwards (λ step. IsIn round (release_of design round node step)) 0 (rate_of design node)
-      (λ step low high. record { is_release = release_is round node step one (omega (arith, high)); begins = omega arith; round_is = refl })))
+      (λ step low high. record {
+        is_release = release_is round node step one (omega (arith, high));
+        begins = omega arith;
+        round_is = refl;
+      })))
       members each_one)
 
   far_apart : (r s : ℕ) (x y : Release) → r < s → IsIn r x → IsIn s y → AreFar design x y
   far_apart r s x y less first second = record {
     far = λ same. inl (
         let ends = first.is_release.ends in
-        let round : alarm design.period (suc x.round) ≡ alarm design.period (suc r) = ap (λ n. alarm design.period (suc n)) first.round_is in
-        let later : alarm design.period (suc r) ≤ alarm design.period s = alarm_upto design.period (suc r) s (omega arith) in
+        let round : alarm design.period (suc x.round) ≡ alarm design.period (suc r) =
+        ap (λ n. alarm design.period (suc n)) first.round_is in
+        let later : alarm design.period (suc r) ≤ alarm design.period s =
+        alarm_upto design.period (suc r) s (omega arith) in
         let starts = second.begins in
         omega (arith, ends, round, later, starts));
   }
@@ -193,15 +211,19 @@ module _ (design : DesignParts) (members : List ℕ) (sound : IsDesign design) (
       alarm_upto : (t a b : ℕ) → a ≤ b → alarm t a ≤ alarm t b
       alarm_upto t a b below = mul-le (a + 1) t (b + 1) t (omega arith) (omega arith)
 
-  far_rounds : (r s : ℕ) → r < s → Every (λ u. Every (AreFar design u) (releases_in design members s)) (releases_in design members r)
+  far_rounds : (r s : ℕ) → r < s
+      → Every (λ u. Every (AreFar design u) (releases_in design members s)) (releases_in design members r)
   far_rounds r s less =
       every_weaker (IsIn r) (λ u. Every (AreFar design u) (releases_in design members s))
-      (λ u first. every_weaker (IsIn s) (AreFar design u) (λ v second. far_apart r s u v less first second) (releases_in design members s) (in_round s))
+      (λ u first. every_weaker (IsIn s) (AreFar design u) (λ v second. far_apart r s u v less first second)
+      (releases_in design members s) (in_round s))
       (releases_in design members r) (in_round r)
 
   pub releases_are_far : (rounds : ℕ) → Pairs (AreFar design) (releases design members rounds)
   releases_are_far rounds =
       pairs_flat_map (AreFar design) (releases_in design members) (upwards 0 rounds)
-      (every_upwards (λ round. Pairs (AreFar design) (releases_in design members round)) 0 rounds (λ round above below. far_round round))
-      (pairs_upwards (λ r s. Every (λ u. Every (AreFar design u) (releases_in design members s)) (releases_in design members r)) 0 rounds
+      (every_upwards (λ round. Pairs (AreFar design) (releases_in design members round)) 0 rounds
+      (λ round above below. far_round round))
+      (pairs_upwards (λ r s. Every (λ u. Every (AreFar design u) (releases_in design members s))
+      (releases_in design members r)) 0 rounds
       (λ r s above less below. far_rounds r s less))

@@ -31,7 +31,8 @@ or_le true true n = omega arith
 or_le true false n = omega arith
 or_le false c n = omega arith
 
-kept_le : (w : ℕ → ℕ) (used : ℕ → Bool) (n : ℕ) (members : List ℕ) → part w used members ≤ part w (with_one n used) members
+kept_le : (w : ℕ → ℕ) (used : ℕ → Bool) (n : ℕ) (members : List ℕ)
+    → part w used members ≤ part w (with_one n used) members
 kept_le w used n [] = omega arith
 kept_le w used n (m ∷ ms) =
     let here = or_le (nat_eq m n) (used m) (w m) in
@@ -50,7 +51,8 @@ pub part_more : (w : ℕ → ℕ) (used : ℕ → Bool) (n : ℕ) (members : Lis
     → part w used members + w n ≤ part w (with_one n used) members
 part_more w used n [] among fresh = absurd among
 part_more w used n (m ∷ ms) (inl same) fresh =
-    let here : cond (used m) (w m) 0 + w m ≤ cond (nat_eq m n || used m) (w m) 0 = new_le (nat_eq m n) (used m) (w m) (eq-eqb m n same) (cc) in
+    let here : cond (used m) (w m) 0 + w m ≤ cond (nat_eq m n || used m) (w m) 0 =
+    new_le (nat_eq m n) (used m) (w m) (eq-eqb m n same) (cc) in
     let weight : w m ≡ w n = ap w same in
     let later = kept_le w used n ms in
     let a = sum_by-cons (λ k. cond (used k) (w k) 0) m ms in

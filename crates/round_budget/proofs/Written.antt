@@ -8,8 +8,10 @@ use Rattle.round_budget.specs.proof.Laws.{TextIsOne, VerdictIsOne}
 
 pub text_is_one : TextIsOne
 text_is_one design behaviours programs others processors laid other =
-    ap (λ (all : List CodeParts). budget_text design all processors) (laid_out_codes_are_one behaviours programs others laid other)
+    ap (λ (all : List CodeParts). budget_text design all processors)
+    (laid_out_codes_are_one behaviours programs others laid other)
 
 pub verdict_is_one : VerdictIsOne
 verdict_is_one design behaviours programs others processors laid other =
-    ap (λ (all : List CodeParts). some_is_over design all processors) (laid_out_codes_are_one behaviours programs others laid other)
+    ap (λ (all : List CodeParts). some_is_over design all processors)
+    (laid_out_codes_are_one behaviours programs others laid other)

@@ -106,7 +106,8 @@ pub record Line : Type 0 where
   pub done : ℕ
 
 abbrev pub line_from : ℕ → Served → Line
-line_from start s = record { node = s.release.node; step = s.release.step; begin = s.begin - start; done = s.done - start }
+line_from start s =
+    record { node = s.release.node; step = s.release.step; begin = s.begin - start; done = s.done - start }
 
 abbrev pub timetable : DesignParts → List CodeParts → ℕ → List ℕ → List Line
 timetable design codes nanos members =

@@ -43,11 +43,14 @@ made_in (Some c) frame inputs = made c frame inputs
 -- those that the component's code makes in that step of the composition
 abbrev pub by_exec : DesignParts → Env → List CodeParts → Release → ℕ
 by_exec design env codes x =
-    made_in (slice_get codes x.node) (frame_before design env x (slice_get design.components x.node)) (inputs_at design env x)
+    made_in (slice_get codes x.node) (frame_before design env x (slice_get design.components x.node))
+    (inputs_at design env x)
 
 -- ---- so the steps of a processor are in time, in any number of rounds
 pub record RespondInTime (design : DesignParts) (codes : List CodeParts) (nanos : ℕ) (members : List ℕ) : Type 0 where
   -- whatever numbers of instructions they make up to the weights of their codes
-  pub weighed : (rounds : ℕ) (count : Release → ℕ) → AreAtMost codes members count → AreInTime design (budget design members rounds nanos count)
+  pub weighed : (rounds : ℕ) (count : Release → ℕ) → AreAtMost codes members count
+      → AreInTime design (budget design members rounds nanos count)
   -- and where they make those that their codes make in the composition, in every environment
-  pub executed : (env : Env) (rounds : ℕ) → AreInTime design (budget design members rounds nanos (by_exec design env codes))
+  pub executed : (env : Env) (rounds : ℕ)
+      → AreInTime design (budget design members rounds nanos (by_exec design env codes))

@@ -24,7 +24,9 @@ pub record IsEnd (code : List Instr) (p : ℕ) : Type 0 where
 abbrev pub Clean : List Instr → ℕ → ℕ → Instr → Type 0
 Clean code vars p (Jump to) = Jumps code p to
 Clean code vars p (JumpZero to) = Jumps code p to × (p + 1 < length code)
-Clean code vars p (LoopStart slot low high exit) = Jumps code p exit × (p + 1 < length code) × ((l : Loop) × (loop_at code p ≡ Some l)) × (vars ≤ slot) × Free (around code p) slot
+Clean code vars p (LoopStart slot low high exit) =
+    Jumps code p exit × (p + 1 < length code) × ((l : Loop) × (loop_at code p ≡ Some l)) × (vars ≤ slot)
+    × Free (around code p) slot
 Clean code vars p (LoopNext slot high to) = (p + 1 < length code) × IsEnd code p
 Clean code vars p (Store x) = (p + 1 < length code) × (x < vars)
 Clean code vars p (End state) = Unit {0}

@@ -15,7 +15,8 @@ pub record AreEntered (n : ℕ) (entries heights : List (Option ℕ)) : Type 0 w
   pub held : (p : ℕ) → p < n → Member entries (Some p) → Holds heights p 0
 
 -- one more entry
-pub entered_in : (n p : ℕ) (es hs : List (Option ℕ)) → AreEntered n es hs → p < n → AreEntered n (es ++ Some p ∷ []) (slice_set hs p (Some 0))
+pub entered_in : (n p : ℕ) (es hs : List (Option ℕ)) → AreEntered n es hs → p < n
+    → AreEntered n (es ++ Some p ∷ []) (slice_set hs p (Some 0))
 entered_in n p es hs e within =
     let count = e.count in
     record {
@@ -25,7 +26,8 @@ entered_in n p es hs e within =
           (λ (same : Member (p ∷ []) q). ⊎_elim
           (λ (x : p ≡ q).
           let there = get_set_same hs p (Some 0) _ (slice_get-get_or hs p None (omega arith)) in
-          let twice : ◌≡◌ {A = Option (Option ℕ)} (Some (Some 0)) (Some (Some h)) = sym there ∙ ap (slice_get (slice_set hs p (Some 0))) x ∙ is in
+          let twice : ◌≡◌ {A = Option (Option ℕ)} (Some (Some 0)) (Some (Some h)) = sym there
+          ∙ ap (slice_get (slice_set hs p (Some 0))) x ∙ is in
           (member_right es (Some p ∷ []) (Some q) (inl (ap Some x)), cc))
           (λ none. absurd none) same)
           (λ (other : Member (p ∷ []) q → ⊥).
@@ -35,11 +37,15 @@ entered_in n p es hs e within =
       held = λ q small among.
           ⊎_elim
           (λ (same : Member (p ∷ []) q). ⊎_elim
-          (λ (x : p ≡ q). subst (λ k. Holds (slice_set hs p (Some 0)) k 0) x (get_set_same hs p (Some 0) _ (slice_get-get_or hs p None (omega arith))))
+          (λ (x : p ≡ q). subst (λ k. Holds (slice_set hs p (Some 0)) k 0) x
+          (get_set_same hs p (Some 0) _ (slice_get-get_or hs p None (omega arith))))
           (λ none. absurd none) same)
           (λ (other : Member (p ∷ []) q → ⊥).
           get_set_other hs p q (Some 0) (λ x. other (inl x))
-          ∙ ⊎_elim (λ (a : Member es (Some q)). e.held q small a) (λ (b : Member (Some p ∷ []) (Some q)). ⊎_elim (λ (x : Some p ≡ Some q). let y : p ≡ q = cc in absurd (other (inl y))) (λ none. absurd none) b) (member_either es (Some p ∷ []) (Some q) among))
+          ∙ ⊎_elim (λ (a : Member es (Some q)). e.held q small a)
+          (λ (b : Member (Some p ∷ []) (Some q)).
+          ⊎_elim (λ (x : Some p ≡ Some q). let y : p ≡ q = cc in absurd (other (inl y))) (λ none. absurd none)
+          b) (member_either es (Some p ∷ []) (Some q) among))
           (member_or_not (p ∷ []) q);
     }
 
@@ -49,7 +55,8 @@ entered_out n p es hs e beyond = record {
   given = λ q h is. let before = e.given q h is in (member_left es (Some p ∷ []) (Some q) before.0, before.1);
   held = λ q small among.
       ⊎_elim (λ (a : Member es (Some q)). e.held q small a)
-      (λ (b : Member (Some p ∷ []) (Some q)). ⊎_elim (λ (x : Some p ≡ Some q). let y : p ≡ q = cc in absurd (omega arith)) (λ none. absurd none) b)
+      (λ (b : Member (Some p ∷ []) (Some q)).
+      ⊎_elim (λ (x : Some p ≡ Some q). let y : p ≡ q = cc in absurd (omega arith)) (λ none. absurd none) b)
       (member_either es (Some p ∷ []) (Some q) among);
 }
 
@@ -58,13 +65,17 @@ entered_none n es hs e = record {
   count = e.count;
   given = λ q h is. let before = e.given q h is in (member_left es (None ∷ []) (Some q) before.0, before.1);
   held = λ q small among.
-      ⊎_elim (λ (a : Member es (Some q)). e.held q small a) (λ (b : Member (None ∷ []) (Some q)). ⊎_elim (λ (x : ◌≡◌ {A = Option ℕ} None (Some q)). cc) (λ none. absurd none) b)
+      ⊎_elim (λ (a : Member es (Some q)). e.held q small a)
+      (λ (b : Member (None ∷ []) (Some q)).
+      ⊎_elim (λ (x : ◌≡◌ {A = Option ℕ} None (Some q)). cc) (λ none. absurd none) b)
       (member_either es (None ∷ []) (Some q) among);
 }
 
 -- the entries so far, and one more
-pub entered_more : (n i : ℕ) (es all hs : List (Option ℕ)) (x : Option ℕ) → all ≡ es → i < length all → slice_index_or all i None ≡ x → AreEntered n (take i es ++ x ∷ []) hs → AreEntered n (take (i + 1) es) hs
+pub entered_more : (n i : ℕ) (es all hs : List (Option ℕ)) (x : Option ℕ) → all ≡ es → i < length all
+    → slice_index_or all i None ≡ x → AreEntered n (take i es ++ x ∷ []) hs → AreEntered n (take (i + 1) es) hs
 entered_more n i es all hs x same within is e =
     let size = ap length same in
-    let more : take (i + 1) es ≡ take i es ++ x ∷ [] = take_more es i None (omega arith) ∙ ap (λ y. take i es ++ y ∷ []) (ap (λ l. slice_index_or l i None) (sym same) ∙ is) in
+    let more : take (i + 1) es ≡ take i es ++ x ∷ [] = take_more es i None (omega arith)
+    ∙ ap (λ y. take i es ++ y ∷ []) (ap (λ l. slice_index_or l i None) (sym same) ∙ is) in
     subst (λ l. AreEntered n l hs) (sym more) e

@@ -26,7 +26,8 @@ left_true : (a b : Bool) → a ≡ true → (a || b) ≡ true
 left_true a b is = ap (λ x. x || b) is
 
 -- a bad entry is found first
-bad_first : (c : CodeParts) (e : ℕ) → length c.instrs ≤ INSTRUCTIONS → IsCleanBelow c e → is_bad_entry c.instrs c.entries e ≡ true → IsFirst c BadJump e
+bad_first : (c : CodeParts) (e : ℕ) → length c.instrs ≤ INSTRUCTIONS → IsCleanBelow c e
+    → is_bad_entry c.instrs c.entries e ≡ true → IsFirst c BadJump e
 bad_first c e short clean bad = record {
   short = short;
   here = left_true (is_bad_entry c.instrs c.entries e) (finds c (jumps_badly c.instrs e) e) bad;
@@ -34,8 +35,10 @@ bad_first c e short clean bad = record {
   earlier_rules = λ r less. none_sooner c e r less;
 }
 
-pub found_here : (c : CodeParts) (at : ℕ) (heights : List (Option ℕ)) (entry : Option ℕ) → length c.instrs ≤ INSTRUCTIONS → Looked c at heights entry → entry ≡ Some at → IsFirst c BadJump at
-found_here c at heights entry short looked is = bad_first c at short looked.clean (subst (IsLeast (is_bad_entry c.instrs c.entries)) is looked.least).0
+pub found_here : (c : CodeParts) (at : ℕ) (heights : List (Option ℕ)) (entry : Option ℕ)
+    → length c.instrs ≤ INSTRUCTIONS → Looked c at heights entry → entry ≡ Some at → IsFirst c BadJump at
+found_here c at heights entry short looked is =
+    bad_first c at short looked.clean (subst (IsLeast (is_bad_entry c.instrs c.entries)) is looked.least).0
 
 -- ---- an entry compared with a place
 eq_at : (o : Option ℕ) (at : ℕ) → option_eq eqb o (Some at) ≡ true → o ≡ Some at

@@ -21,35 +21,52 @@ member_right (z ∷ xs) ys x among = inr (member_right xs ys x among)
 
 pub member_either : {A : Type 0} (xs ys : List A) (x : A) → Member (xs ++ ys) x → Member xs x ⊎ Member ys x
 member_either [] ys x among = inr among
-member_either (z ∷ xs) ys x among = ⊎_elim (λ e. inl (inl e)) (λ later. ⊎_elim (λ a. inl (inr a)) (λ b. inr b) (member_either xs ys x later)) among
+member_either (z ∷ xs) ys x among =
+    ⊎_elim (λ e. inl (inl e)) (λ later. ⊎_elim (λ a. inl (inr a)) (λ b. inr b) (member_either xs ys x later)) among
 
 pub same_or_not : (p q : ℕ) → (p ≡ q) ⊎ (p ≡ q → ⊥)
-same_or_not p q = ⊎_elim (λ (less : p < q). inr (λ e. omega arith)) (λ (ge : q ≤ p). ⊎_elim (λ (less : q < p). inr (λ e. omega arith)) (λ (le : p ≤ q). inl (omega arith)) (cases_lt q p)) (cases_lt p q)
+same_or_not p q =
+    ⊎_elim (λ (less : p < q). inr (λ e. omega arith))
+    (λ (ge : q ≤ p). ⊎_elim (λ (less : q < p). inr (λ e. omega arith)) (λ (le : p ≤ q). inl (omega arith))
+    (cases_lt q p)) (cases_lt p q)
 
 pub member_or_not : (ps : List ℕ) (p : ℕ) → Member ps p ⊎ (Member ps p → ⊥)
 member_or_not [] p = inr (λ among. among)
 member_or_not (q ∷ ps) p =
     ⊎_elim
     (λ (e : q ≡ p). inl (inl e))
-    (λ (other : q ≡ p → ⊥). ⊎_elim (λ (a : Member ps p). inl (inr a)) (λ (none : Member ps p → ⊥). inr (λ among. ⊎_elim (λ e. other e) (λ later. none later) among)) (member_or_not ps p))
+    (λ (other : q ≡ p → ⊥). ⊎_elim (λ (a : Member ps p). inl (inr a))
+    (λ (none : Member ps p → ⊥). inr (λ among. ⊎_elim (λ e. other e) (λ later. none later) among))
+    (member_or_not ps p))
     (same_or_not q p)
 
 -- ---- one place set
 pub place_there : (n : ℕ) (o : Option ℕ) (p : ℕ) → o ≡ Some p → AreThere (option_to_list o) n → p < n
 place_there n o p is there = there.each p (subst (λ x. Member (option_to_list x) p) (sym is) (inl refl))
 
-pub is_set : (old : List (Option ℕ)) (o : Option ℕ) (p h : ℕ) → o ≡ Some p → AreThere (option_to_list o) (length old) → AreSet old (slice_set old p (Some h)) (option_to_list o) h
+pub is_set : (old : List (Option ℕ)) (o : Option ℕ) (p h : ℕ) → o ≡ Some p → AreThere (option_to_list o) (length old)
+    → AreSet old (slice_set old p (Some h)) (option_to_list o) h
 is_set old o p h is there =
     let within = place_there (length old) o p is there in
     subst (λ x. AreSet old (slice_set old p (Some h)) (option_to_list x) h) (sym is) (record {
-      given = λ q among. ⊎_elim (λ e. subst (λ k. Holds (slice_set old p (Some h)) k h) e (get_set_same old p (Some h) _ (slice_get-get_or old p None within))) (λ none. absurd none) among;
+      given =
+          λ q among. ⊎_elim (λ e. subst (λ k. Holds (slice_set old p (Some h)) k h) e
+          (get_set_same old p (Some h) _ (slice_get-get_or old p None within))) (λ none. absurd none) among;
       kept = λ q other. get_set_other old p q (Some h) (λ e. other (inl e));
       count = length-set old p (Some h);
     })
 
 -- ---- all that an instruction leads to
 pub there_jump : (p n : ℕ) (i : Instr) → AreThere (onward p (Some i)) n → AreThere (option_to_list (jump_of i)) n
-there_jump p n i there = record { each = λ q among. there.each q (member_left (option_to_list (jump_of i)) (option_to_list (next_of p i)) q among) }
+there_jump p n i there =
+    record {
+      each = λ q among.
+          there.each q (member_left (option_to_list (jump_of i)) (option_to_list (next_of p i)) q among);
+    }
 
 pub there_next : (p n : ℕ) (i : Instr) → AreThere (onward p (Some i)) n → AreThere (option_to_list (next_of p i)) n
-there_next p n i there = record { each = λ q among. there.each q (member_right (option_to_list (jump_of i)) (option_to_list (next_of p i)) q among) }
+there_next p n i there =
+    record {
+      each = λ q among.
+          there.each q (member_right (option_to_list (jump_of i)) (option_to_list (next_of p i)) q among);
+    }

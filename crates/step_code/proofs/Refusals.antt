@@ -31,11 +31,15 @@ pub record IsSound (c : CodeParts) (p : ℕ) (i : Instr) : Type 0 where
   pub forward : jumps_back c.instrs p i ≡ false
   pub slots : misses_slot c p i ≡ false
 
-pub is_sound : (c : CodeParts) (p : ℕ) (i : Instr) → ((r : Rule) → ¬ Finds c r p) → slice_get c.instrs p ≡ Some i → IsSound c p i
+pub is_sound : (c : CodeParts) (p : ℕ) (i : Instr) → ((r : Rule) → ¬ Finds c r p) → slice_get c.instrs p ≡ Some i
+    → IsSound c p i
 is_sound c p i none is =
     let here : (test : Instr → Bool) → finds c test p ≡ test i = λ test. ap (λ o. on_some o test) is in
     record {
-      jumps = sym (here (jumps_badly c.instrs p)) ∙ or_right (is_bad_entry c.instrs c.entries p) (finds c (jumps_badly c.instrs p) p) (untrue (is_bad_entry c.instrs c.entries p || finds c (jumps_badly c.instrs p) p) (none BadJump));
+      jumps =
+          sym (here (jumps_badly c.instrs p))
+          ∙ or_right (is_bad_entry c.instrs c.entries p) (finds c (jumps_badly c.instrs p) p)
+          (untrue (is_bad_entry c.instrs c.entries p || finds c (jumps_badly c.instrs p) p) (none BadJump));
       forward = sym (here (jumps_back c.instrs p)) ∙ untrue (finds c (jumps_back c.instrs p) p) (none BackJump);
       slots = sym (here (misses_slot c p)) ∙ untrue (finds c (misses_slot c p) p) (none BadSlot);
     }
@@ -47,7 +51,9 @@ pub record GoesWell (code : List Instr) (p to : ℕ) : Type 0 where
 
 pub goes_well : (code : List Instr) (p to : ℕ) → strays code p to ≡ false → GoesWell code p to
 goes_well code p to is =
-    let both = and_parts (nat_lt to (length code)) (stays code p to) (not_false (nat_lt to (length code) && stays code p to) is) in
+    let both =
+    and_parts (nat_lt to (length code)) (stays code p to)
+    (not_false (nat_lt to (length code) && stays code p to) is) in
     record { there = ltb-true to (length code) both.0; within = both.1 }
 
 pub clean_closed : (c : CodeParts) (p : ℕ) → IsCleanBelow c p → AreClosed c.instrs p

@@ -8,8 +8,10 @@ use Rattle.step_code.specs.proof.Heights.{takes, after, Member, Reaches, ways, F
 -- rule 2 finds nothing anywhere, nor does rule 3 with two instructions
 pub record IsLevel (code : List Instr) (entries : List (Option ℕ)) : Type 0 where
   pub enough : (n p h : ℕ) (i : Instr) → Reaches code entries n p h → slice_get code p ≡ Some i → takes i ≤ h
-  pub same : (n m p q h k t : ℕ) (i j : Instr) → Reaches code entries n p h → slice_get code p ≡ Some i → Member (ways p i) t
-      → Reaches code entries m q k → slice_get code q ≡ Some j → Member (onward q (Some j)) t → q < p → q < t → after k j ≡ after h i
+  pub same : (n m p q h k t : ℕ) (i j : Instr) → Reaches code entries n p h → slice_get code p ≡ Some i
+      → Member (ways p i) t
+      → Reaches code entries m q k → slice_get code q ≡ Some j → Member (onward q (Some j)) t → q < p → q < t
+      → after k j ≡ after h i
 
 pub record IsFed (code : List Instr) (slots ins outs : ℕ) : Type 0 where
   pub each : (p : ℕ) (i : Instr) → slice_get code p ≡ Some i → Fed slots ins outs i

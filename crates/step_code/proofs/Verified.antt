@@ -16,7 +16,9 @@ pub verified_closed : (c : CodeParts) (p : ℕ) → IsVerified c → AreClosed c
 verified_closed c p v = clean_closed c p (record { none = λ q r less. v.clean q r })
 
 good_entry : (c : CodeParts) (p : ℕ) → IsVerified c → is_bad_entry c.instrs c.entries p ≡ false
-good_entry c p v = or_left (is_bad_entry c.instrs c.entries p) (finds c (jumps_badly c.instrs p) p) (untrue (is_bad_entry c.instrs c.entries p || finds c (jumps_badly c.instrs p) p) (v.clean p BadJump))
+good_entry c p v =
+    or_left (is_bad_entry c.instrs c.entries p) (finds c (jumps_badly c.instrs p) p)
+    (untrue (is_bad_entry c.instrs c.entries p || finds c (jumps_badly c.instrs p) p) (v.clean p BadJump))
 
 pub verified_known : (c : CodeParts) (p : ℕ) (i : Instr) → IsVerified c → slice_get c.instrs p ≡ Some i → IsKnown c p i
 verified_known c p i v here = record { here = here; entry = good_entry c p v; sound = is_sound c p i (v.clean p) here }
@@ -33,7 +35,8 @@ member_entry : (entries : List (Option ℕ)) (e : ℕ) → Member entries (Some 
 member_entry [] e among = absurd among
 member_entry (x ∷ entries) e among =
     ⊎_elim
-    (λ (is : x ≡ Some e). ap (λ o. on_some o (nat_eq e) || is_entry entries e) is ∙ ap (λ b. b || is_entry entries e) (same_is e))
+    (λ (is : x ≡ Some e). ap (λ o. on_some o (nat_eq e) || is_entry entries e) is
+    ∙ ap (λ b. b || is_entry entries e) (same_is e))
     (λ later. or_true (on_some x (nat_eq e)) (is_entry entries e) (member_entry entries e later))
     among
 
@@ -50,6 +53,10 @@ second_false a b is both = sym (ap (λ x. x && b) is) ∙ both
 
 pub verified_entry : (c : CodeParts) (e : ℕ) → IsVerified c → Member c.entries (Some e) → EntersWell c.instrs e
 verified_entry c e v among =
-    let bad = second_false (is_entry c.entries e) (enters_badly c.instrs e) (member_entry c.entries e among) (good_entry c e v) in
-    let both = and_parts (nat_lt e (length c.instrs)) (is_none (around c.instrs e)) (not_false (nat_lt e (length c.instrs) && is_none (around c.instrs e)) bad) in
+    let bad =
+    second_false (is_entry c.entries e) (enters_badly c.instrs e) (member_entry c.entries e among)
+    (good_entry c e v) in
+    let both =
+    and_parts (nat_lt e (length c.instrs)) (is_none (around c.instrs e))
+    (not_false (nat_lt e (length c.instrs) && is_none (around c.instrs e)) bad) in
     record { there = ltb-true e (length c.instrs) both.0; outside = none_is (around c.instrs e) both.1 }

@@ -25,16 +25,19 @@ use Rattle.step_code.proofs.Verified.{verified_closed, verified_known, verified_
 -- ---- fuel
 map_same : (f g : ℕ → ℕ) (ts : List ℕ) → ((t : ℕ) → Member ts t → f t ≡ g t) → map f ts ≡ map g ts
 map_same f g [] same = refl
-map_same f g (t ∷ ts) same = ap (λ x. x ∷ map f ts) (same t (inl refl)) ∙ ap (λ xs. g t ∷ xs) (map_same f g ts (λ u among. same u (inr among)))
+map_same f g (t ∷ ts) same =
+    ap (λ x. x ∷ map f ts) (same t (inl refl)) ∙ ap (λ xs. g t ∷ xs) (map_same f g ts (λ u among. same u (inr among)))
 
 -- each instruction leads to later places
 pub record GoesOn (code : List Instr) : Type 0 where
   pub there : (p : ℕ) (t : ℕ) → Member (leads code p) t → t < length code
   pub later : (p : ℕ) (t : ℕ) → Member (leads code p) t → p < t
 
-lead_by : (c : CodeParts) (p t : ℕ) (o : Option Instr) → IsVerified c → slice_get c.instrs p ≡ o → Member (onward p o) t → (t < length c.instrs) × (p < t)
+lead_by : (c : CodeParts) (p t : ℕ) (o : Option Instr) → IsVerified c → slice_get c.instrs p ≡ o → Member (onward p o) t
+    → (t < length c.instrs) × (p < t)
 lead_by c p t None v is among = absurd among
-lead_by c p t (Some i) v is among = let known = verified_known c p i v is in ((known_there c p i known).each t among, (known_later c p i known).each t among)
+lead_by c p t (Some i) v is among = let known = verified_known c p i v is in
+    ((known_there c p i known).each t among, (known_later c p i known).each t among)
 
 pub goes_on : (c : CodeParts) → IsVerified c → GoesOn c.instrs
 goes_on c v = record {
@@ -43,7 +46,8 @@ goes_on c v = record {
 }
 
 -- more instructions than there are places change nothing
-pub same_fuel : (code : List Instr) (m n p : ℕ) → GoesOn code → p < length code → length code - p ≤ m → length code - p ≤ n → heaviest code m p ≡ heaviest code n p
+pub same_fuel : (code : List Instr) (m n p : ℕ) → GoesOn code → p < length code → length code - p ≤ m
+    → length code - p ≤ n → heaviest code m p ≡ heaviest code n p
 same_fuel code zero n p on within le le' = absurd (omega arith)
 same_fuel code (suc m) zero p on within le le' = absurd (omega arith)
 same_fuel code (suc m) (suc n) p on within le le' =
@@ -86,7 +90,9 @@ capped_by m a zero positive = ap (λ x. min (min a m * x) m) (let e : min 0 m �
 capped_by m zero b positive = ap (λ x. min (x * min b m) m) (let e : min 0 m ≡ 0 = omega arith in e) ∙ omega arith
 capped_by m (suc a) (suc b) positive =
     ⊎_elim
-    (λ (la : suc a < m). ⊎_elim (λ (lb : suc b < m). product_below m (suc a) (suc b) la lb) (λ (gb : m ≤ suc b). product_swapped m (suc a) (suc b) (product_beyond m (suc b) (suc a) gb (omega arith) positive)) (cases_lt (suc b) m))
+    (λ (la : suc a < m). ⊎_elim (λ (lb : suc b < m). product_below m (suc a) (suc b) la lb)
+    (λ (gb : m ≤ suc b). product_swapped m (suc a) (suc b)
+    (product_beyond m (suc b) (suc a) gb (omega arith) positive)) (cases_lt (suc b) m))
     (λ (ga : m ≤ suc a). product_beyond m (suc a) (suc b) ga (omega arith) positive)
     (cases_lt (suc a) m)
 
@@ -101,8 +107,10 @@ none_round (l ∷ ls) is = cc
 pub weight_outside : (code : List Instr) (p : ℕ) → innermost code p ≡ None → weight_at code p ≡ 1
 weight_outside code p is = ap (λ ls. product (map turns_of ls)) (none_round (around code p) is)
 
-pub weight_inside : (c : CodeParts) (p : ℕ) (l : Loop) → IsVerified c → p ≤ length c.instrs → innermost c.instrs p ≡ Some l → weight_at c.instrs p ≡ turns_of l * weight_at c.instrs l.start
-weight_inside c p l v small is = ap (λ ls. product (map turns_of ls)) (around_outer c.instrs p l small (verified_closed c p v) is)
+pub weight_inside : (c : CodeParts) (p : ℕ) (l : Loop) → IsVerified c → p ≤ length c.instrs
+    → innermost c.instrs p ≡ Some l → weight_at c.instrs p ≡ turns_of l * weight_at c.instrs l.start
+weight_inside c p l v small is =
+    ap (λ ls. product (map turns_of ls)) (around_outer c.instrs p l small (verified_closed c p v) is)
 
 pub starts_before : (code : List Instr) (p : ℕ) (l : Loop) → innermost code p ≡ Some l → l.start < p
 starts_before code p l is = (is_found code p (λ m. nat_lt p m.exit) l is).below
@@ -116,35 +124,43 @@ map-append : (f : ℕ → ℕ) (xs ys : List ℕ) → map f (xs ++ ys) ≡ map f
 map-append f [] ys = refl
 map-append f (x ∷ xs) ys = ap (λ l. f x ∷ l) (map-append f xs ys)
 
-pub greatest_both : (f : ℕ → ℕ) (xs ys : List ℕ) → greatest (map f (xs ++ ys)) ≡ max (greatest (map f xs)) (greatest (map f ys))
+pub greatest_both : (f : ℕ → ℕ) (xs ys : List ℕ)
+    → greatest (map f (xs ++ ys)) ≡ max (greatest (map f xs)) (greatest (map f ys))
 greatest_both f xs ys = ap greatest (map-append f xs ys) ∙ greatest-append (map f xs) (map f ys)
 
 map-map : (f g : ℕ → ℕ) (xs : List ℕ) → map f (map g xs) ≡ map (λ x. f (g x)) xs
 map-map f g [] = refl
 map-map f g (x ∷ xs) = ap (λ l. f (g x) ∷ l) (map-map f g xs)
 
-pub best_here : (c : CodeParts) (p : ℕ) (i : Instr) (best : List ℕ) (d : ℕ) → IsVerified c → slice_get c.instrs p ≡ Some i → p < length c.instrs → AreBest c.instrs (p + 1) best
-    → capped (capped (weight_at c.instrs p) + greatest (map (λ to. slice_index_or best to d) (onward p (Some i)))) ≡ capped (heaviest c.instrs (length c.instrs - p) p)
+pub best_here : (c : CodeParts) (p : ℕ) (i : Instr) (best : List ℕ) (d : ℕ) → IsVerified c
+    → slice_get c.instrs p ≡ Some i → p < length c.instrs → AreBest c.instrs (p + 1) best
+    → capped (capped (weight_at c.instrs p) + greatest (map (λ to. slice_index_or best to d) (onward p (Some i))))
+    ≡ capped (heaviest c.instrs (length c.instrs - p) p)
 best_here c p i best d v here within are =
     let on = goes_on c v in
     let code = c.instrs in
     let m = length code - p - 1 in
     let fuel : length code - p ≡ suc m = omega arith in
     let ways : leads code p ≡ onward p (Some i) = ap (onward p) here in
-    let each : map (λ to. slice_index_or best to d) (onward p (Some i)) ≡ map (λ to. capped (heaviest code m to)) (onward p (Some i)) =
+    let each : map (λ to. slice_index_or best to d) (onward p (Some i))
+    ≡ map (λ to. capped (heaviest code m to)) (onward p (Some i)) =
     map_same (λ to. slice_index_or best to d) (λ to. capped (heaviest code m to)) (onward p (Some i)) (λ t among.
     let among' = subst (λ ts. Member ts t) (sym ways) among in
     let there = on.there p t among' in
     let later = on.later p t among' in
     get_or_from_slice_get best t (capped (heaviest code (length code - t) t)) d (are.each t (omega arith) there)
     ∙ ap capped (same_fuel code (length code - t) m t on there (omega arith) (omega arith))) in
-    let all : greatest (map (λ to. slice_index_or best to d) (onward p (Some i))) ≡ capped (greatest (map (heaviest code m) (leads code p))) =
-    ap greatest each ∙ ap greatest (sym (map-map capped (heaviest code m) (onward p (Some i)))) ∙ sym (capped_greatest (map (heaviest code m) (onward p (Some i)))) ∙ ap (λ ts. capped (greatest (map (heaviest code m) ts))) (sym ways) in
+    let all : greatest (map (λ to. slice_index_or best to d) (onward p (Some i)))
+    ≡ capped (greatest (map (heaviest code m) (leads code p))) =
+    ap greatest each ∙ ap greatest (sym (map-map capped (heaviest code m) (onward p (Some i))))
+    ∙ sym (capped_greatest (map (heaviest code m) (onward p (Some i))))
+    ∙ ap (λ ts. capped (greatest (map (heaviest code m) ts))) (sym ways) in
     ap (λ x. capped (capped (weight_at code p) + x)) all
     ∙ capped_sum (weight_at code p) (greatest (map (heaviest code m) (leads code p)))
     ∙ ap (λ n. capped (heaviest code n p)) (sym fuel)
 
-pub set_best : (c : CodeParts) (p : ℕ) (best : List ℕ) (b : ℕ) → AreBest c.instrs (p + 1) best → p < length c.instrs → b ≡ capped (heaviest c.instrs (length c.instrs - p) p) → AreBest c.instrs p (slice_set best p b)
+pub set_best : (c : CodeParts) (p : ℕ) (best : List ℕ) (b : ℕ) → AreBest c.instrs (p + 1) best → p < length c.instrs
+    → b ≡ capped (heaviest c.instrs (length c.instrs - p) p) → AreBest c.instrs p (slice_set best p b)
 set_best c p best b are within is = record {
   count = length-set best p b ∙ are.count;
   each = λ q le small.
@@ -153,29 +169,42 @@ set_best c p best b are within is = record {
       (λ (ge : q ≤ p).
       let same : p ≡ q = omega arith in
       let n = are.count in
-      subst (λ k. slice_get (slice_set best p b) k ≡ Some (capped (heaviest c.instrs (length c.instrs - k) k))) same (get_set_same best p b _ (slice_get-get_or best p 0 (omega arith)) ∙ ap Some is))
+      subst (λ k. slice_get (slice_set best p b) k ≡ Some (capped (heaviest c.instrs (length c.instrs - k) k))) same
+      (get_set_same best p b _ (slice_get-get_or best p 0 (omega arith)) ∙ ap Some is))
       (cases_lt p q);
 }
 
 -- ---- entries
-pub entry_best : (c : CodeParts) (best : List ℕ) (e d : ℕ) → IsVerified c → AreBest c.instrs 0 best → Member c.entries (Some e) → (e < length best) × (slice_index_or best e d ≡ capped (heaviest c.instrs (length c.instrs) e))
+pub entry_best : (c : CodeParts) (best : List ℕ) (e d : ℕ) → IsVerified c → AreBest c.instrs 0 best
+    → Member c.entries (Some e)
+    → (e < length best) × (slice_index_or best e d ≡ capped (heaviest c.instrs (length c.instrs) e))
 entry_best c best e d v are among =
     let well = verified_entry c e v among in
     let there = well.there in
-    let n = are.count in
-    (omega arith, get_or_from_slice_get best e (capped (heaviest c.instrs (length c.instrs - e) e)) d (are.each e (omega arith) there) ∙ ap capped (same_fuel c.instrs (length c.instrs - e) (length c.instrs) e (goes_on c v) there (omega arith) (omega arith)))
+    let n = are.count in (
+      omega arith,
+      get_or_from_slice_get best e (capped (heaviest c.instrs (length c.instrs - e) e)) d
+          (are.each e (omega arith) there)
+          ∙ ap capped (same_fuel c.instrs (length c.instrs - e) (length c.instrs) e (goes_on c v) there (omega arith)
+          (omega arith)),
+    )
 
-map-entries : (code : List Instr) (es : List (Option ℕ)) (x : Option ℕ) → map (entry_weight code) (es ++ x ∷ []) ≡ map (entry_weight code) es ++ entry_weight code x ∷ []
+map-entries : (code : List Instr) (es : List (Option ℕ)) (x : Option ℕ)
+    → map (entry_weight code) (es ++ x ∷ []) ≡ map (entry_weight code) es ++ entry_weight code x ∷ []
 map-entries code [] x = refl
 map-entries code (e ∷ es) x = ap (λ l. entry_weight code e ∷ l) (map-entries code es x)
 
-pub weight_more : (code : List Instr) (es all : List (Option ℕ)) (i most w : ℕ) (x : Option ℕ) → all ≡ es → i < length all → slice_index_or all i None ≡ x
-    → most ≡ capped (weight code (take i es)) → w ≡ capped (entry_weight code x) → max most w ≡ capped (weight code (take (i + 1) es))
+pub weight_more : (code : List Instr) (es all : List (Option ℕ)) (i most w : ℕ) (x : Option ℕ) → all ≡ es
+    → i < length all → slice_index_or all i None ≡ x
+    → most ≡ capped (weight code (take i es)) → w ≡ capped (entry_weight code x)
+    → max most w ≡ capped (weight code (take (i + 1) es))
 weight_more code es all i most w x same within is before now =
     let size = ap length same in
-    let more : take (i + 1) es ≡ take i es ++ x ∷ [] = take_more es i None (omega arith) ∙ ap (λ y. take i es ++ y ∷ []) (ap (λ l. slice_index_or l i None) (sym same) ∙ is) in
+    let more : take (i + 1) es ≡ take i es ++ x ∷ [] = take_more es i None (omega arith)
+    ∙ ap (λ y. take i es ++ y ∷ []) (ap (λ l. slice_index_or l i None) (sym same) ∙ is) in
     let all' : weight code (take (i + 1) es) ≡ max (weight code (take i es)) (max (entry_weight code x) 0) =
-    ap (weight code) more ∙ ap greatest (map-entries code (take i es) x) ∙ greatest-append (map (entry_weight code) (take i es)) (entry_weight code x ∷ []) in
+    ap (weight code) more ∙ ap greatest (map-entries code (take i es) x)
+    ∙ greatest-append (map (entry_weight code) (take i es)) (entry_weight code x ∷ []) in
     omega arith
 
 member_by : (es : List (Option ℕ)) (i : ℕ) (x : Option ℕ) → i < length es → slice_index_or es i None ≡ x → Member es x
@@ -183,5 +212,6 @@ member_by [] i x within is = absurd (omega arith)
 member_by (e ∷ es) zero x within is = inl is
 member_by (e ∷ es) (suc i) x within is = inr (member_by es i x (omega arith) is)
 
-pub member_at : (es all : List (Option ℕ)) (i : ℕ) (x : Option ℕ) → all ≡ es → i < length all → slice_index_or all i None ≡ x → Member es x
+pub member_at : (es all : List (Option ℕ)) (i : ℕ) (x : Option ℕ) → all ≡ es → i < length all
+    → slice_index_or all i None ≡ x → Member es x
 member_at es all i x same within is = subst (λ l. Member l x) same (member_by all i x within is)

@@ -19,7 +19,8 @@ if_loop code l = if nat_lt 0 l.exit && closes l (slice_get code (l.exit - 1)) th
 
 -- the loop that starts at a place
 abbrev pub loop_from : List Instr → ℕ → Option Instr → Option Loop
-loop_from code place (Some (LoopStart slot low high exit)) = if_loop code (record { start = place; exit = exit; slot = slot; low = low; high = high })
+loop_from code place (Some (LoopStart slot low high exit)) =
+    if_loop code (record { start = place; exit = exit; slot = slot; low = low; high = high })
 loop_from code place other = None
 
 abbrev pub loop_at : List Instr → ℕ → Option Loop

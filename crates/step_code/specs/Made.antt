@@ -20,7 +20,8 @@ then_count Sticks rest = 0
 
 abbrev pub count : List Instr → Senses → ℕ → ℕ → List ℤ → List ℤ → List Port → ℕ
 count code s zero place stack slots outs = 0
-count code s (suc n) place stack slots outs = suc (then_count (step (slice_get code place) s place stack slots outs) (count code s n))
+count code s (suc n) place stack slots outs =
+    suc (then_count (step (slice_get code place) s place stack slots outs) (count code s n))
 
 -- ---- where a step begins
 abbrev pub silent : CodeParts → List Port
@@ -35,7 +36,8 @@ slots_of c vars = vars ++ replicate c.loops (pos 0)
 
 -- ---- a step
 abbrev pub made_from : CodeParts → Frame → List Port → Option (Option ℕ) → ℕ
-made_from c held inputs (Some (Some e)) = count c.instrs (senses held.held inputs) (weight_of c) e [] (slots_of c held.vars) (silent c)
+made_from c held inputs (Some (Some e)) =
+    count c.instrs (senses held.held inputs) (weight_of c) e [] (slots_of c held.vars) (silent c)
 made_from c held inputs (Some None) = 0
 made_from c held inputs None = 0
 

@@ -40,7 +40,8 @@ on_result (Err trap) go = Traps trap
 -- an operator on the two topmost numbers, the right one of which lies on top
 abbrev pub on_two : Op → ℕ → List ℤ → List ℤ → List Port → Next
 on_two o place stack slots outs =
-    on_top stack (λ b below. on_top below (λ a rest. on_result (applied o a b) (λ v. Goes (place + 1) (v ∷ rest) slots outs)))
+    on_top stack (λ b below.
+    on_top below (λ a rest. on_result (applied o a b) (λ v. Goes (place + 1) (v ∷ rest) slots outs)))
 
 -- a value pushed
 abbrev pub pushing : ℤ → ℕ → List ℤ → List ℤ → List Port → Next
@@ -49,14 +50,20 @@ pushing v place stack slots outs = Goes (place + 1) (v ∷ stack) slots outs
 abbrev pub step : Option Instr → Senses → ℕ → List ℤ → List ℤ → List Port → Next
 step None s place stack slots outs = Sticks
 step (Some (code.Push v)) s place stack slots outs = pushing v place stack slots outs
-step (Some (code.Load x)) s place stack slots outs = on_found (slice_get slots x) (λ v. pushing v place stack slots outs)
+step (Some (code.Load x)) s place stack slots outs =
+    on_found (slice_get slots x) (λ v. pushing v place stack slots outs)
 step (Some (code.Store x)) s place stack slots outs =
     on_found (slice_get slots x) (λ before. on_top stack (λ v rest. Goes (place + 1) rest (slice_set slots x v) outs))
-step (Some (code.Port p)) s place stack slots outs = on_found (slice_get s.held p) (λ v. pushing v place stack slots outs)
-step (Some (code.Fresh p)) s place stack slots outs = on_found (slice_get s.fresh p) (λ b. pushing (truth b) place stack slots outs)
-step (Some code.Neg) s place stack slots outs = on_top stack (λ a rest. on_result (negation_of a) (λ v. Goes (place + 1) (v ∷ rest) slots outs))
-step (Some code.Abs) s place stack slots outs = on_top stack (λ a rest. on_result (magnitude_of a) (λ v. Goes (place + 1) (v ∷ rest) slots outs))
-step (Some code.Not) s place stack slots outs = on_top stack (λ a rest. Goes (place + 1) (truth (not (is_true a)) ∷ rest) slots outs)
+step (Some (code.Port p)) s place stack slots outs =
+    on_found (slice_get s.held p) (λ v. pushing v place stack slots outs)
+step (Some (code.Fresh p)) s place stack slots outs =
+    on_found (slice_get s.fresh p) (λ b. pushing (truth b) place stack slots outs)
+step (Some code.Neg) s place stack slots outs =
+    on_top stack (λ a rest. on_result (negation_of a) (λ v. Goes (place + 1) (v ∷ rest) slots outs))
+step (Some code.Abs) s place stack slots outs =
+    on_top stack (λ a rest. on_result (magnitude_of a) (λ v. Goes (place + 1) (v ∷ rest) slots outs))
+step (Some code.Not) s place stack slots outs =
+    on_top stack (λ a rest. Goes (place + 1) (truth (not (is_true a)) ∷ rest) slots outs)
 step (Some code.Add) s place stack slots outs = on_two op.Add place stack slots outs
 step (Some code.Sub) s place stack slots outs = on_two op.Sub place stack slots outs
 step (Some code.Mul) s place stack slots outs = on_two op.Mul place stack slots outs
@@ -80,7 +87,9 @@ step (Some (code.LoopStart slot low high exit)) s place stack slots outs =
     else on_found (slice_get slots slot) (λ before. Goes (place + 1) stack (slice_set slots slot low) outs)
 step (Some (code.LoopNext slot high to)) s place stack slots outs =
     on_found (slice_get slots slot)
-    (λ v. if int_lt v high then Goes to stack (slice_set slots slot (v +ℤ pos 1)) outs else Goes (place + 1) stack slots outs)
+    (λ v. if int_lt v high then Goes to stack (slice_set slots slot (v +ℤ pos 1)) outs else Goes (place + 1)
+    stack slots outs)
 step (Some (code.Emit p)) s place stack slots outs =
-    on_found (slice_get outs p) (λ before. on_top stack (λ v rest. Goes (place + 1) rest slots (slice_set outs p (Present v))))
+    on_found (slice_get outs p)
+    (λ before. on_top stack (λ v rest. Goes (place + 1) rest slots (slice_set outs p (Present v))))
 step (Some (code.End state)) s place stack slots outs = Ends state slots outs

@@ -47,7 +47,9 @@ module _ (b : BehaviourParts) (order : List ℕ) (s : ℕ) where
       none : (e : Edge) → Contains b.transitions e → is_awaited b order s ≡ false → leads_from_outside order s e ≡ false
       none e among free =
           elim (cases_Bool (leads_from_outside order s e)) [
-            | inl leads ↦ absurd (true≢false (sym (list_any_at (leads_from_outside order s) b.transitions among.0 e among.1 (ap (leads_from_outside order s) among.2 ∙ leads)) ∙ free))
+            | inl leads ↦ absurd (true≢false
+                (sym (list_any_at (leads_from_outside order s) b.transitions among.0 e among.1
+                (ap (leads_from_outside order s) among.2 ∙ leads)) ∙ free))
             | inr leads_not ↦ leads_not
           ]
 
@@ -68,23 +70,29 @@ next_is b order s found =
     let x = found_is (may_follow b order) (length b.states) s found in
     record {
       may = follows b order s x.0 x.1;
-      lowest = λ other below known. true≢false (sym (may b order other known) ∙ find_least (may_follow b order) (length b.states) s other found below);
+      lowest =
+          λ other below known. true≢false
+          (sym (may b order other known) ∙ find_least (may_follow b order) (length b.states) s other found below);
     }
 
 -- ---- an order that grows
 record Grown (b : BehaviourParts) (order : List ℕ) : Type 0 where
   short : length (complete_states b) ≤ length order
   complete : take (length (complete_states b)) order ≡ complete_states b
-  others : (k state : ℕ) → length (complete_states b) ≤ k → slice_get order k ≡ Some state → IsNext b (take k order) state
+  others : (k state : ℕ) → length (complete_states b) ≤ k → slice_get order k ≡ Some state
+      → IsNext b (take k order) state
 
 grown_first : (b : BehaviourParts) → Grown b (complete_states b)
 grown_first b = record {
   short = omega arith;
   complete = take_all (length (complete_states b)) (complete_states b) (omega arith);
-  others = λ k state past is. absurd (let within = slice_get_within (complete_states b) k state is in omega (arith, within, past));
+  others =
+      λ k state past is. absurd
+      (let within = slice_get_within (complete_states b) k state is in omega (arith, within, past));
 }
 
-grown_more : (b : BehaviourParts) (order : List ℕ) (s : ℕ) → Grown b order → IsNext b order s → Grown b (order ++ s ∷ [])
+grown_more : (b : BehaviourParts) (order : List ℕ) (s : ℕ) → Grown b order → IsNext b order s
+    → Grown b (order ++ s ∷ [])
 grown_more b order s before next =
     let short = before.short in
     let size = length-append order (s ∷ []) in
@@ -94,18 +102,23 @@ grown_more b order s before next =
       others = others;
     }
   where
-    others : (k state : ℕ) → length (complete_states b) ≤ k → slice_get (order ++ s ∷ []) k ≡ Some state → IsNext b (take k (order ++ s ∷ [])) state
+    others : (k state : ℕ) → length (complete_states b) ≤ k → slice_get (order ++ s ∷ []) k ≡ Some state
+        → IsNext b (take k (order ++ s ∷ [])) state
     others k state past is =
         elim (cases_order k (length order)) [
           | inl last ↦ (
-              let here : Some s ≡ Some state = sym (get_seam order s) ∙ ap (slice_get (order ++ s ∷ [])) (sym last) ∙ is in
+              let here : Some s ≡ Some state = sym (get_seam order s)
+              ∙ ap (slice_get (order ++ s ∷ [])) (sym last) ∙ is in
               let same : s ≡ state = cc in
-              let front : take k (order ++ s ∷ []) ≡ order = take-append-le k order (s ∷ []) (omega (arith, last)) ∙ take_all k order (omega (arith, last)) in
+              let front : take k (order ++ s ∷ []) ≡ order = take-append-le k order (s ∷ []) (omega (arith, last))
+              ∙ take_all k order (omega (arith, last)) in
               subst (λ xs. IsNext b xs state) (sym front) (subst (IsNext b order) same next))
           | inr other ↦ elim other [
             | inl below ↦ (
-                let front : take k (order ++ s ∷ []) ≡ take k order = take-append-le k order (s ∷ []) (omega (arith, below)) in
-                subst (λ xs. IsNext b xs state) (sym front) (before.others k state past (sym (get_front order (s ∷ []) k below) ∙ is)))
+                let front : take k (order ++ s ∷ []) ≡ take k order =
+                take-append-le k order (s ∷ []) (omega (arith, below)) in
+                subst (λ xs. IsNext b xs state) (sym front)
+                (before.others k state past (sym (get_front order (s ∷ []) k below) ∙ is)))
             | inr beyond ↦ absurd (
                 let within = slice_get_within (order ++ s ∷ []) k state is in
                 let size = length-append order (s ∷ []) in
@@ -113,13 +126,15 @@ grown_more b order s before next =
           ]
         ]
 
-grown_with : (b : BehaviourParts) (order : List ℕ) (o : Option ℕ) → next_state b order ≡ o → Grown b order → Grown b (with_next order o)
+grown_with : (b : BehaviourParts) (order : List ℕ) (o : Option ℕ) → next_state b order ≡ o → Grown b order
+    → Grown b (with_next order o)
 grown_with b order None is before = before
 grown_with b order (Some s) is before = grown_more b order s before (next_is b order s is)
 
 grown : (b : BehaviourParts) (n : ℕ) (order : List ℕ) → Grown b order → Grown b (ordered n b order)
 grown b zero order before = before
-grown b (suc n) order before = grown b n (with_next order (next_state b order)) (grown_with b order (next_state b order) refl before)
+grown b (suc n) order before =
+    grown b n (with_next order (next_state b order)) (grown_with b order (next_state b order) refl before)
 
 pub blocks_are_ordered : (b : BehaviourParts) → IsBehaviour b → IsBlockOrder b (block_order b)
 blocks_are_ordered b rules =
@@ -136,7 +151,8 @@ module _ (b : BehaviourParts) (o p : List ℕ) (is_o : IsBlockOrder b o) (is_p :
   completes = length (complete_states b)
 
   -- none stands behind the end of the other
-  none_more : (x y : List ℕ) → IsBlockOrder b x → IsBlockOrder b y → (k t : ℕ) → completes ≤ k → take k x ≡ take k y → slice_get x k ≡ None → slice_get y k ≡ Some t → ⊥
+  none_more : (x y : List ℕ) → IsBlockOrder b x → IsBlockOrder b y → (k t : ℕ) → completes ≤ k → take k x ≡ take k y
+      → slice_get x k ≡ None → slice_get y k ≡ Some t → ⊥
   none_more x y is_x is_y k t past same ended there =
       let next = is_y.others k t past there in
       let whole : take k x ≡ x = take_all k x (ends_by x k ended) in
@@ -147,7 +163,8 @@ module _ (b : BehaviourParts) (o p : List ℕ) (is_o : IsBlockOrder b o) (is_p :
       ends_by (z ∷ xs) zero ended' = absurd (cc)
       ends_by (z ∷ xs) (suc n) ended' = let rest = ends_by xs n ended' in omega (arith, rest)
 
-  same_by : (k : ℕ) → completes ≤ k → take k o ≡ take k p → (x y : Option ℕ) → slice_get o k ≡ x → slice_get p k ≡ y → x ≡ y
+  same_by : (k : ℕ) → completes ≤ k → take k o ≡ take k p → (x y : Option ℕ) → slice_get o k ≡ x
+      → slice_get p k ≡ y → x ≡ y
   same_by k past same None None at_o at_p = refl
   same_by k past same None (Some t) at_o at_p = absurd (none_more o p is_o is_p k t past same at_o at_p)
   same_by k past same (Some s) None at_o at_p = absurd (none_more p o is_p is_o k s past (sym same) at_p at_o)
@@ -165,7 +182,8 @@ module _ (b : BehaviourParts) (o p : List ℕ) (is_o : IsBlockOrder b o) (is_p :
   same_get : (k : ℕ) → take k o ≡ take k p → slice_get o k ≡ slice_get p k
   same_get k same =
       elim (cases_lt k completes) [
-        | inl below ↦ sym (get_take completes o k below) ∙ ap (λ xs. slice_get xs k) (is_o.complete ∙ sym is_p.complete) ∙ get_take completes p k below
+        | inl below ↦ sym (get_take completes o k below) ∙ ap (λ xs. slice_get xs k) (is_o.complete ∙ sym is_p.complete)
+            ∙ get_take completes p k below
         | inr past ↦ same_by k past same (slice_get o k) (slice_get p k) refl refl
       ]
 

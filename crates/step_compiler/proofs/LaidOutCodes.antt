@@ -24,7 +24,8 @@ use Rattle.step_compiler.specs.proof.Laws.{HasLayout, LaidOutCodeIsOne, LaidOutC
 use Rattle.step_compiler.proofs.BlockOrders.{blocks_are_ordered, order_is_one}
 
 -- ---- starts count at states alone
-targets : (b : BehaviourParts) (es : List Edge) → list_all (is_edge b) es ≡ true → Every (λ (e : Edge). e.target < length b.states) es
+targets : (b : BehaviourParts) (es : List Edge) → list_all (is_edge b) es ≡ true
+    → Every (λ (e : Edge). e.target < length b.states) es
 targets b [] all = tt
 targets b (e ∷ es) all =
     let both = and_parts (is_edge b e) (list_all (is_edge b) es) all in
@@ -34,28 +35,36 @@ module _ (b : BehaviourParts) (f g : ℕ → ℕ) (same : (s : ℕ) → s < leng
   same_last : (target : ℕ) → target < length b.states → last_instr b f target ≡ last_instr b g target
   same_last target within = ap (λ place. last_instr b (λ _. place) target) (same target within)
 
-  same_edge : (complete : Bool) (e : Edge) (p : ℕ) → e.target < length b.states → edge_code b f complete e p ≡ edge_code b g complete e p
+  same_edge : (complete : Bool) (e : Edge) (p : ℕ) → e.target < length b.states
+      → edge_code b f complete e p ≡ edge_code b g complete e p
   same_edge complete e p within =
-      ap (λ (i : Instr). trigger_code e.trigger (past complete e p) p ++ (code_acts e.actions (length b.vars) (p + length_trigger e.trigger) ++ i ∷ [])) (same_last e.target within)
+      ap (λ (i : Instr). trigger_code e.trigger (past complete e p) p
+      ++ (code_acts e.actions (length b.vars) (p + length_trigger e.trigger) ++ i ∷ [])) (same_last e.target within)
 
-  same_block : (complete : Bool) (es : List Edge) (p : ℕ) → Every (λ (e : Edge). e.target < length b.states) es → block_code b f complete es p ≡ block_code b g complete es p
+  same_block : (complete : Bool) (es : List Edge) (p : ℕ) → Every (λ (e : Edge). e.target < length b.states) es
+      → block_code b f complete es p ≡ block_code b g complete es p
   same_block complete [] p within = refl
-  same_block complete (e ∷ es) p within = ap₂ (λ xs ys. xs ++ ys) (same_edge complete e p within.0) (same_block complete es (p + length_edge e) within.1)
+  same_block complete (e ∷ es) p within =
+      ap₂ (λ xs ys. xs ++ ys) (same_edge complete e p within.0) (same_block complete es (p + length_edge e) within.1)
 
   module _ (within : Every (λ (e : Edge). e.target < length b.states) b.transitions) where
     same_blocks : (order : List ℕ) (p : ℕ) → blocks_code b f order p ≡ blocks_code b g order p
     same_blocks [] p = refl
     same_blocks (s ∷ order) p =
         let kept = recursion_from_All (λ (e : Edge). e.target < length b.states) (leaving b s)
-        (All-filter (λ (e : Edge). nat_eq e.source s) (λ (e : Edge). e.target < length b.states) b.transitions (All-from_recursion (λ (e : Edge). e.target < length b.states) b.transitions within)) in
-        ap₂ (λ xs ys. xs ++ ys) (same_block (is_complete b s) (leaving b s) p kept) (same_blocks order (p + block_length b s))
+        (All-filter (λ (e : Edge). nat_eq e.source s) (λ (e : Edge). e.target < length b.states) b.transitions
+        (All-from_recursion (λ (e : Edge). e.target < length b.states) b.transitions within)) in
+        ap₂ (λ xs ys. xs ++ ys) (same_block (is_complete b s) (leaving b s) p kept)
+        (same_blocks order (p + block_length b s))
 
   same_entry : (s : ℕ) → s < length b.states → entry_of b f s ≡ entry_of b g s
   same_entry s within = ap (λ place. entry_of b (λ _. place) s) (same s within)
 
-  same_entries : (from n : ℕ) → from + n ≤ length b.states → map (entry_of b f) (upwards from n) ≡ map (entry_of b g) (upwards from n)
+  same_entries : (from n : ℕ) → from + n ≤ length b.states
+      → map (entry_of b f) (upwards from n) ≡ map (entry_of b g) (upwards from n)
   same_entries from zero most = refl
-  same_entries from (suc n) most = ap₂ (λ x xs. x ∷ xs) (same_entry from (omega arith)) (same_entries (suc from) n (omega arith))
+  same_entries from (suc n) most =
+      ap₂ (λ x xs. x ∷ xs) (same_entry from (omega arith)) (same_entries (suc from) n (omega arith))
 
 -- ---- the compiled code
 pub compiled_is_laid_out : (b : BehaviourParts) → IsBehaviour b → IsLaidOut b (compiled b)
@@ -65,8 +74,11 @@ compiled_is_laid_out b rules =
     record {
       order = block_order b;
       is_order = blocks_are_ordered b rules;
-      instrs = same_blocks b (in_list (block_starts b)) (start_of b (block_order b)) same (targets b b.transitions rules.edges) (block_order b) 0;
-      entries = same_entries b (in_list (block_starts b)) (start_of b (block_order b)) same 0 (length b.states) (omega arith);
+      instrs =
+          same_blocks b (in_list (block_starts b)) (start_of b (block_order b)) same
+          (targets b b.transitions rules.edges) (block_order b) 0;
+      entries =
+          same_entries b (in_list (block_starts b)) (start_of b (block_order b)) same 0 (length b.states) (omega arith);
       vars = refl;
       loops = refl;
       ins = refl;
@@ -80,16 +92,20 @@ has_layout b rules = (compiled b, compiled_is_laid_out b rules)
 pub laid_out_code_is_one : LaidOutCodeIsOne
 laid_out_code_is_one b code other is_one is_other =
     let order = order_is_one b is_one.order is_other.order is_one.is_order is_other.is_order in
-    let instrs : code.instrs ≡ other.instrs = is_one.instrs ∙ ap (λ o. blocks_code b (start_of b o) o 0) order ∙ sym is_other.instrs in
-    let entries : code.entries ≡ other.entries = is_one.entries ∙ ap (λ o. map (entry_of b (start_of b o)) (states_of b)) order ∙ sym is_other.entries in
+    let instrs : code.instrs ≡ other.instrs = is_one.instrs ∙ ap (λ o. blocks_code b (start_of b o) o 0) order
+    ∙ sym is_other.instrs in
+    let entries : code.entries ≡ other.entries = is_one.entries
+    ∙ ap (λ o. map (entry_of b (start_of b o)) (states_of b)) order ∙ sym is_other.entries in
     let vars : code.vars ≡ other.vars = is_one.vars ∙ sym is_other.vars in
     let loops : code.loops ≡ other.loops = is_one.loops ∙ sym is_other.loops in
     let ins : code.ins ≡ other.ins = is_one.ins ∙ sym is_other.ins in
     let outs : code.outs ≡ other.outs = is_one.outs ∙ sym is_other.outs in
     same_parts _ _ _ _ _ _ _ _ _ _ _ _ instrs entries vars loops ins outs
   where
-    same_parts : (is is' : List Instr) (es es' : List (Option ℕ)) (v v' l l' i i' o o' : ℕ) → is ≡ is' → es ≡ es' → v ≡ v' → l ≡ l' → i ≡ i' → o ≡ o'
-        → ◌≡◌ {A = CodeParts} (record { instrs = is; entries = es; vars = v; loops = l; ins = i; outs = o }) (record { instrs = is'; entries = es'; vars = v'; loops = l'; ins = i'; outs = o' })
+    same_parts : (is is' : List Instr) (es es' : List (Option ℕ)) (v v' l l' i i' o o' : ℕ) → is ≡ is' → es ≡ es'
+        → v ≡ v' → l ≡ l' → i ≡ i' → o ≡ o'
+        → ◌≡◌ {A = CodeParts} (record { instrs = is; entries = es; vars = v; loops = l; ins = i; outs = o })
+        (record { instrs = is'; entries = es'; vars = v'; loops = l'; ins = i'; outs = o' })
     same_parts is is' es es' v v' l l' i i' o o' a b' c d e f = cc
 
 -- ---- lists of codes
@@ -104,7 +120,8 @@ laid_out_codes_are_one (b ∷ bs) (c ∷ cs) (d ∷ ds) laid other =
     (laid_out_code_is_one b c d (laid.each 0 b c refl refl) (other.each 0 b d refl refl))
     (laid_out_codes_are_one bs cs ds (rest b c bs cs laid) (rest b d bs ds other))
   where
-    rest : (b : BehaviourParts) (c : CodeParts) (bs : List BehaviourParts) (cs : List CodeParts) → AreLaidOut (b ∷ bs) (c ∷ cs) → AreLaidOut bs cs
+    rest : (b : BehaviourParts) (c : CodeParts) (bs : List BehaviourParts) (cs : List CodeParts)
+        → AreLaidOut (b ∷ bs) (c ∷ cs) → AreLaidOut bs cs
     rest b c bs cs are = record {
       count = (let count = are.count in omega (arith, count));
       each = λ k a code at_b at_c. are.each (suc k) a code at_b at_c;

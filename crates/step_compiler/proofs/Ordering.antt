@@ -3,5 +3,6 @@ use Rattle.std.proofs.Common.{◌≡◌, ℕ, suc, ◌+◌, ◌-◌, ◌<◌, Li
 use Rattle.pals_base.specs.declared.behaviour.BehaviourParts.{BehaviourParts}
 use Rattle.step_compiler.specs.proof.Order.{next_state, with_next, ordered}
 
-pub next_round : (n i : ℕ) (b : BehaviourParts) (order : List ℕ) → i < n → ordered (n - (i + 1)) b (with_next order (next_state b order)) ≡ ordered (n - i) b order
+pub next_round : (n i : ℕ) (b : BehaviourParts) (order : List ℕ) → i < n
+    → ordered (n - (i + 1)) b (with_next order (next_state b order)) ≡ ordered (n - i) b order
 next_round n i b order within = let e : suc (n - (i + 1)) ≡ n - i = omega arith in ap (λ k. ordered k b order) e

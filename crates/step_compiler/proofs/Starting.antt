@@ -14,13 +14,17 @@ later P x xs all i d within = all (suc i) d (omega arith)
 capped_sum : (a b x y : ℕ) → a ≡ capped b → capped x ≡ capped y → capped (a + x) ≡ capped (b + y)
 capped_sum a b x y first rest = omega (arith, first, rest)
 
-by_test : (t : Bool) (a b x y : ℕ) → a ≡ capped b → capped x ≡ capped y → capped (if t then 0 else a + x) ≡ capped (if t then 0 else b + y)
+by_test : (t : Bool) (a b x y : ℕ) → a ≡ capped b → capped x ≡ capped y
+    → capped (if t then 0 else a + x) ≡ capped (if t then 0 else b + y)
 by_test true a b x y first rest = refl
 by_test false a b x y first rest = capped_sum a b x y first rest
 
-pub starts_capped : (b : BehaviourParts) (order : List ℕ) (s : ℕ) → All (λ t. t < length b.states) order → capped (start_in (map (capped_length b) (states_of b)) order s) ≡ capped (start_of b order s)
+pub starts_capped : (b : BehaviourParts) (order : List ℕ) (s : ℕ) → All (λ t. t < length b.states) order
+    → capped (start_in (map (capped_length b) (states_of b)) order s) ≡ capped (start_of b order s)
 starts_capped b [] s all = refl
 starts_capped b (t ∷ order) s all =
     let within : t < length b.states = all 0 t (omega arith) in
-    by_test (nat_eq t s) (slice_index_or (map (capped_length b) (states_of b)) t 0) (block_length b t) (start_in (map (capped_length b) (states_of b)) order s) (start_of b order s)
-    (listed (capped_length b) (length b.states) t 0 within) (starts_capped b order s (later (λ t. t < length b.states) t order all))
+    by_test (nat_eq t s) (slice_index_or (map (capped_length b) (states_of b)) t 0) (block_length b t)
+    (start_in (map (capped_length b) (states_of b)) order s) (start_of b order s)
+    (listed (capped_length b) (length b.states) t 0 within)
+    (starts_capped b order s (later (λ t. t < length b.states) t order all))

@@ -50,51 +50,71 @@ last_plain b starts target = by (is_complete b target)
     by true = refl
     by false = refl
 
-trigger_closed : (whole : List Instr) (t : Trigger) (to p : ℕ) → HasAt whole p (trigger_code t to p) → Closed whole p (p + length_trigger t)
+trigger_closed : (whole : List Instr) (t : Trigger) (to p : ℕ) → HasAt whole p (trigger_code t to p)
+    → Closed whole p (p + length_trigger t)
 trigger_closed whole Dispatch to p has = none_closed whole p (p + 0) (omega arith)
 trigger_closed whole Always to p has = none_closed whole p (p + 0) (omega arith)
 trigger_closed whole (When e) to p has =
     let r = p + length_of e in
     let here = (has_back whole p (length_of e) r (code_of e p) (code.JumpZero to ∷ []) (code-length e p) refl has).0 in
-    closed_both whole p r (p + (length_of e + 1)) (omega arith) (expr_closed whole e p r (has_front whole p (code_of e p) (code.JumpZero to ∷ []) has) refl) (one_closed whole r (p + (length_of e + 1)) (code.JumpZero to) here refl (omega arith))
+    closed_both whole p r (p + (length_of e + 1)) (omega arith)
+    (expr_closed whole e p r (has_front whole p (code_of e p) (code.JumpZero to ∷ []) has) refl)
+    (one_closed whole r (p + (length_of e + 1)) (code.JumpZero to) here refl (omega arith))
 
-edge_closed : (whole : List Instr) (b : BehaviourParts) (starts : ℕ → ℕ) (complete : Bool) (e : Edge) (p : ℕ) → HasAt whole p (edge_code b starts complete e p) → Closed whole p (p + length_edge e)
+edge_closed : (whole : List Instr) (b : BehaviourParts) (starts : ℕ → ℕ) (complete : Bool) (e : Edge) (p : ℕ)
+    → HasAt whole p (edge_code b starts complete e p) → Closed whole p (p + length_edge e)
 edge_closed whole b starts complete e p has =
     let t = length_trigger e.trigger in
     let m = length_acts e.actions in
     let guard = trigger_code e.trigger (past complete e p) p in
     let body = code_acts e.actions (length b.vars) (p + t) in
     let i = last_instr b starts e.target in
-    let back = has_back whole p t (p + t) guard (body ++ i ∷ []) (trigger-length e.trigger (past complete e p) p) refl has in
-    let here = (has_back whole (p + t) m (p + t + m) body (i ∷ []) (acts-length e.actions (length b.vars) (p + t)) refl back).0 in
-    closed_both whole p (p + t) (p + (t + m + 1)) (omega arith) (trigger_closed whole e.trigger (past complete e p) p (has_front whole p guard (body ++ i ∷ []) has))
-    (closed_both whole (p + t) (p + t + m) (p + (t + m + 1)) (omega arith) (acts_closed whole e.actions (length b.vars) (p + t) (p + t + m) (has_front whole (p + t) body (i ∷ []) back) refl)
+    let back =
+    has_back whole p t (p + t) guard (body ++ i ∷ []) (trigger-length e.trigger (past complete e p) p) refl has in
+    let here =
+    (has_back whole (p + t) m (p + t + m) body (i ∷ []) (acts-length e.actions (length b.vars) (p + t))
+    refl back).0 in
+    closed_both whole p (p + t) (p + (t + m + 1)) (omega arith)
+    (trigger_closed whole e.trigger (past complete e p) p (has_front whole p guard (body ++ i ∷ []) has))
+    (closed_both whole (p + t) (p + t + m) (p + (t + m + 1)) (omega arith)
+    (acts_closed whole e.actions (length b.vars) (p + t) (p + t + m)
+    (has_front whole (p + t) body (i ∷ []) back) refl)
     (one_closed whole (p + t + m) (p + (t + m + 1)) i here (last_plain b starts e.target) (omega arith)))
 
-block_closed : (whole : List Instr) (b : BehaviourParts) (starts : ℕ → ℕ) (complete : Bool) (es : List Edge) (p : ℕ) → HasAt whole p (block_code b starts complete es p) → Closed whole p (p + length_edges es)
+block_closed : (whole : List Instr) (b : BehaviourParts) (starts : ℕ → ℕ) (complete : Bool) (es : List Edge) (p : ℕ)
+    → HasAt whole p (block_code b starts complete es p) → Closed whole p (p + length_edges es)
 block_closed whole b starts complete [] p has = none_closed whole p (p + 0) (omega arith)
 block_closed whole b starts complete (e ∷ es) p has =
     let q = p + length_edge e in
     let part = edge_code b starts complete e p in
     let front = has_front whole p part (block_code b starts complete es q) has in
-    let back = has_back whole p (length_edge e) q part (block_code b starts complete es q) (edge-length b starts complete e p) refl has in
+    let back =
+    has_back whole p (length_edge e) q part (block_code b starts complete es q)
+    (edge-length b starts complete e p) refl has in
     let place : q + length_edges es ≡ p + (length_edge e + length_edges es) = omega arith in
-    subst (Closed whole p) place (closed_both whole p q (q + length_edges es) (omega arith) (edge_closed whole b starts complete e p front) (block_closed whole b starts complete es q back))
+    subst (Closed whole p) place
+    (closed_both whole p q (q + length_edges es) (omega arith) (edge_closed whole b starts complete e p front)
+    (block_closed whole b starts complete es q back))
 
 -- at a place no loop is under way, and the stack is empty
 pub record IsCalm (whole : List Instr) (p : ℕ) : Type 0 where
   pub closed : Closed whole 0 p
   pub level : height whole p ≡ 0
 
-calm_on : (whole : List Instr) (b : BehaviourParts) (starts : ℕ → ℕ) (complete : Bool) (es : List Edge) (p : ℕ) → HasAt whole p (block_code b starts complete es p) → IsCalm whole p → IsCalm whole (p + length_edges es)
+calm_on : (whole : List Instr) (b : BehaviourParts) (starts : ℕ → ℕ) (complete : Bool) (es : List Edge) (p : ℕ)
+    → HasAt whole p (block_code b starts complete es p) → IsCalm whole p → IsCalm whole (p + length_edges es)
 calm_on whole b starts complete es p has calm = record {
-  closed = closed_both whole 0 p (p + length_edges es) (omega arith) calm.closed (block_closed whole b starts complete es p has);
+  closed =
+      closed_both whole 0 p (p + length_edges es) (omega arith) calm.closed
+      (block_closed whole b starts complete es p has);
   level = block_height whole b starts complete es p has calm.level;
 }
 
-calm_edge : (whole : List Instr) (b : BehaviourParts) (starts : ℕ → ℕ) (complete : Bool) (e : Edge) (p : ℕ) → HasAt whole p (edge_code b starts complete e p) → IsCalm whole p → IsCalm whole (p + length_edge e)
+calm_edge : (whole : List Instr) (b : BehaviourParts) (starts : ℕ → ℕ) (complete : Bool) (e : Edge) (p : ℕ)
+    → HasAt whole p (edge_code b starts complete e p) → IsCalm whole p → IsCalm whole (p + length_edge e)
 calm_edge whole b starts complete e p has calm = record {
-  closed = closed_both whole 0 p (p + length_edge e) (omega arith) calm.closed (edge_closed whole b starts complete e p has);
+  closed =
+      closed_both whole 0 p (p + length_edge e) (omega arith) calm.closed (edge_closed whole b starts complete e p has);
   level = edge_height whole b starts complete e p has calm.level;
 }
 
@@ -108,19 +128,26 @@ calm_outer : (whole : List Instr) (p q : ℕ) → Closed whole 0 p → Outer who
 calm_outer whole p q closed = record { each = λ k l is before. inl (closed.each k l is (omega arith) before) }
 
 -- ---- where blocks begin
-calm_by : (whole : List Instr) (b : BehaviourParts) (starts : ℕ → ℕ) (order : List ℕ) (t s p : ℕ) (r : Bool) → IsCalm whole p → (r ≡ false → IsCalm whole (p + block_length b t + start_of b order s)) → IsCalm whole (p + (if r then 0 else block_length b t + start_of b order s))
+calm_by : (whole : List Instr) (b : BehaviourParts) (starts : ℕ → ℕ) (order : List ℕ) (t s p : ℕ) (r : Bool)
+    → IsCalm whole p → (r ≡ false → IsCalm whole (p + block_length b t + start_of b order s))
+    → IsCalm whole (p + (if r then 0 else block_length b t + start_of b order s))
 calm_by whole b starts order t s p true calm later = calm_at whole p (p + 0) (omega arith) calm
-calm_by whole b starts order t s p false calm later = calm_at whole (p + block_length b t + start_of b order s) (p + (block_length b t + start_of b order s)) (omega arith) (later refl)
+calm_by whole b starts order t s p false calm later =
+    calm_at whole (p + block_length b t + start_of b order s) (p + (block_length b t + start_of b order s))
+    (omega arith) (later refl)
 
-calm_start : (whole : List Instr) (b : BehaviourParts) (starts : ℕ → ℕ) (order : List ℕ) (s p : ℕ) → HasAt whole p (blocks_code b starts order p) → IsCalm whole p → IsCalm whole (p + start_of b order s)
+calm_start : (whole : List Instr) (b : BehaviourParts) (starts : ℕ → ℕ) (order : List ℕ) (s p : ℕ)
+    → HasAt whole p (blocks_code b starts order p) → IsCalm whole p → IsCalm whole (p + start_of b order s)
 calm_start whole b starts [] s p has calm = calm_at whole p (p + 0) (omega arith) calm
 calm_start whole b starts (t ∷ order) s p has calm =
     let part = block_code b starts (is_complete b t) (leaving b t) p in
     let q = p + block_length b t in
     calm_by whole b starts order t s p (nat_eq t s) calm
     (λ isnt. calm_start whole b starts order s q
-    (has_back whole p (block_length b t) q part (blocks_code b starts order q) (block-length b starts (is_complete b t) (leaving b t) p) refl has)
-    (calm_on whole b starts (is_complete b t) (leaving b t) p (has_front whole p part (blocks_code b starts order q) has) calm))
+    (has_back whole p (block_length b t) q part (blocks_code b starts order q)
+    (block-length b starts (is_complete b t) (leaving b t) p) refl has)
+    (calm_on whole b starts (is_complete b t) (leaving b t) p
+    (has_front whole p part (blocks_code b starts order q) has) calm))
 
 -- each place lies in a block
 pub record LiesIn (b : BehaviourParts) (order : List ℕ) (p k : ℕ) : Type 0 where
@@ -129,45 +156,70 @@ pub record LiesIn (b : BehaviourParts) (order : List ℕ) (p k : ℕ) : Type 0 w
   pub from : p + start_of b order state ≤ k
   pub before : k < p + start_of b order state + block_length b state
 
-lies_first : (b : BehaviourParts) (t : ℕ) (order : List ℕ) (p k : ℕ) (r : Bool) → nat_eq t t ≡ r → p ≤ k → k < p + block_length b t → (p + (if r then 0 else block_length b t + start_of b order t) ≤ k) × (k < p + (if r then 0 else block_length b t + start_of b order t) + block_length b t)
+lies_first : (b : BehaviourParts) (t : ℕ) (order : List ℕ) (p k : ℕ) (r : Bool) → nat_eq t t ≡ r → p ≤ k
+    → k < p + block_length b t
+    → (p + (if r then 0 else block_length b t + start_of b order t) ≤ k)
+    × (k < p + (if r then 0 else block_length b t + start_of b order t) + block_length b t)
 lies_first b t order p k true is from before = (omega arith, omega arith)
 lies_first b t order p k false is from before = absurd (grind arith)
 
-lies_later : (b : BehaviourParts) (t s : ℕ) (order : List ℕ) (p k : ℕ) (r : Bool) → nat_eq t s ≡ r → is_placed order t ≡ false → is_placed order s ≡ true → p + block_length b t + start_of b order s ≤ k → k < p + block_length b t + start_of b order s + block_length b s
-    → (p + (if r then 0 else block_length b t + start_of b order s) ≤ k) × (k < p + (if r then 0 else block_length b t + start_of b order s) + block_length b s)
-lies_later b t s order p k true is out placed from before = let same : t ≡ s = grind arith in absurd (true≢false (sym placed ∙ ap (is_placed order) (sym same) ∙ out))
+lies_later : (b : BehaviourParts) (t s : ℕ) (order : List ℕ) (p k : ℕ) (r : Bool) → nat_eq t s ≡ r
+    → is_placed order t ≡ false → is_placed order s ≡ true → p + block_length b t + start_of b order s ≤ k
+    → k < p + block_length b t + start_of b order s + block_length b s
+    → (p + (if r then 0 else block_length b t + start_of b order s) ≤ k)
+    × (k < p + (if r then 0 else block_length b t + start_of b order s) + block_length b s)
+lies_later b t s order p k true is out placed from before = let same : t ≡ s = grind arith in
+    absurd (true≢false (sym placed ∙ ap (is_placed order) (sym same) ∙ out))
 lies_later b t s order p k false is out placed from before = (omega arith, omega arith)
 
 or_second : (x y : Bool) → y ≡ true → (x || y) ≡ true
 or_second true y is = refl
 or_second false y is = is
 
-lies_in : (b : BehaviourParts) (order : List ℕ) (p k : ℕ) → AreOnce order → p ≤ k → k < p + order_length b order → LiesIn b order p k
+lies_in : (b : BehaviourParts) (order : List ℕ) (p k : ℕ) → AreOnce order → p ≤ k → k < p + order_length b order
+    → LiesIn b order p k
 lies_in b [] p k once from before = absurd (omega arith)
 lies_in b (t ∷ order) p k once from before =
     ⊎_elim
     (λ (early : k < p + block_length b t).
     let x = lies_first b t order p k (nat_eq t t) refl from early in
-    record { state = t; placed = ap (λ y. y || is_placed order t) (let same : nat_eq t t ≡ true = grind arith in same); from = x.0; before = x.1 })
+    record {
+      state = t;
+      placed = ap (λ y. y || is_placed order t) (let same : nat_eq t t ≡ true = grind arith in same);
+      from = x.0;
+      before = x.1;
+    })
     (λ (late : p + block_length b t ≤ k).
     let w = lies_in b order (p + block_length b t) k once.1 late (omega arith) in
     let x = lies_later b t w.state order p k (nat_eq t w.state) refl once.0 w.placed w.from w.before in
-    record { state = w.state; placed = or_second (nat_eq t w.state) (is_placed order w.state) w.placed; from = x.0; before = x.1 })
+    record {
+      state = w.state;
+      placed = or_second (nat_eq t w.state) (is_placed order w.state) w.placed;
+      from = x.0;
+      before = x.1;
+    })
     (cases_lt k (p + block_length b t))
 
 -- ---- members
-member_leaving : (es : List Edge) (s : ℕ) (e : Edge) → Member (filter (λ e. nat_eq e.source s) es) e → Member es e × (e.source ≡ s)
+member_leaving : (es : List Edge) (s : ℕ) (e : Edge) → Member (filter (λ e. nat_eq e.source s) es) e
+    → Member es e × (e.source ≡ s)
 member_leaving [] s e among = absurd among
 member_leaving (x ∷ es) s e among = by (nat_eq x.source s) refl among (λ later. member_leaving es s e later)
   where
-    by : (t : Bool) → nat_eq x.source s ≡ t → Member (if t then x ∷ filter (λ e. nat_eq e.source s) es else filter (λ e. nat_eq e.source s) es) e
-        → (Member (filter (λ e. nat_eq e.source s) es) e → Member es e × (e.source ≡ s)) → Member (x ∷ es) e × (e.source ≡ s)
-    by true is m later = ⊎_elim (λ (here : x ≡ e). let at : x.source ≡ s = grind arith in (inl here, sym (ap (λ (y : Edge). y.source) here) ∙ at)) (λ rest. let y = later rest in (inr y.0, y.1)) m
+    by : (t : Bool) → nat_eq x.source s ≡ t
+        → Member (if t then x ∷ filter (λ e. nat_eq e.source s) es else filter (λ e. nat_eq e.source s) es) e
+        → (Member (filter (λ e. nat_eq e.source s) es) e → Member es e × (e.source ≡ s))
+        → Member (x ∷ es) e × (e.source ≡ s)
+    by true is m later =
+        ⊎_elim (λ (here : x ≡ e). let at : x.source ≡ s = grind arith in
+        (inl here, sym (ap (λ (y : Edge). y.source) here) ∙ at)) (λ rest. let y = later rest in (inr y.0, y.1)) m
     by false is m later = let y = later m in (inr y.0, y.1)
 
 edge_depth : (es : List Edge) (e : Edge) → Member es e → depth_acts e.actions ≤ depth_edges es
 edge_depth [] e among = absurd among
-edge_depth (f ∷ es) e among = ⊎_elim (λ (is : f ≡ e). let same = ap (λ (x : Edge). depth_acts x.actions) is in omega arith) (λ later. let le = edge_depth es e later in omega arith) among
+edge_depth (f ∷ es) e among =
+    ⊎_elim (λ (is : f ≡ e). let same = ap (λ (x : Edge). depth_acts x.actions) is in omega arith)
+    (λ later. let le = edge_depth es e later in omega arith) among
 
 some_edges : (es : List Edge) → ends_unguarded es ≡ true → 0 < length_edges es
 some_edges [] is = absurd (false≢true is)
@@ -186,13 +238,16 @@ rest_open : (e : Edge) (es : List Edge) → LastOpen (e ∷ es) → LastOpen es
 rest_open e [] is = tt
 rest_open e (f ∷ es) is = is
 
-past_inside : (complete : Bool) (e : Edge) (es : List Edge) (p n : ℕ) → is_always e.trigger ≡ false → p + (length_edge e + length_edges es) ≤ n → (complete ≡ false → LastOpen (e ∷ es)) → past complete e p < n
+past_inside : (complete : Bool) (e : Edge) (es : List Edge) (p n : ℕ) → is_always e.trigger ≡ false
+    → p + (length_edge e + length_edges es) ≤ n → (complete ≡ false → LastOpen (e ∷ es)) → past complete e p < n
 past_inside true e es p n guarded most unguarded = omega arith
 past_inside false e [] p n guarded most unguarded = absurd (true≢false (sym (unguarded refl) ∙ guarded))
 past_inside false e (f ∷ es) p n guarded most unguarded = omega arith
 
 -- ---- the compiled code
-module _ (b : BehaviourParts) (c : CodeParts) (rules : IsBehaviour b) (instrs : c.instrs ≡ blocks_code b (in_list (block_starts b)) (block_order b) 0) (entries : c.entries ≡ map (entry_of b (in_list (block_starts b))) (states_of b))
+module _ (b : BehaviourParts) (c : CodeParts) (rules : IsBehaviour b)
+    (instrs : c.instrs ≡ blocks_code b (in_list (block_starts b)) (block_order b) 0)
+    (entries : c.entries ≡ map (entry_of b (in_list (block_starts b))) (states_of b))
     (fits : Matches c (sizes b)) (vars : c.vars ≡ length b.vars) where
   abbrev starts : ℕ → ℕ
   starts = in_list (block_starts b)
@@ -204,7 +259,8 @@ module _ (b : BehaviourParts) (c : CodeParts) (rules : IsBehaviour b) (instrs : 
   begins s within =
       let first : IsCalm c.instrs 0 = record { closed = none_closed c.instrs 0 0 (omega arith); level = refl } in
       let place : 0 + start_of b (block_order b) s ≡ starts s = (let e = start_is b s within in omega arith) in
-      calm_at c.instrs (0 + start_of b (block_order b) s) (starts s) place (calm_start c.instrs b starts (block_order b) s 0 (subst (HasAt c.instrs 0) instrs (whole_at c.instrs)) first)
+      calm_at c.instrs (0 + start_of b (block_order b) s) (starts s) place
+      (calm_start c.instrs b starts (block_order b) s 0 (subst (HasAt c.instrs 0) instrs (whole_at c.instrs)) first)
 
   ends : (s : ℕ) → s < length b.states → starts s + block_length b s ≤ length c.instrs
   ends s within =
@@ -219,16 +275,20 @@ module _ (b : BehaviourParts) (c : CodeParts) (rules : IsBehaviour b) (instrs : 
       ∙ ap (λ x. has_entry (Some (if x then Some (starts t + dispatch_offset (leaving b t)) else None))) complete
 
   -- the end of a transition
-  end_by : (complete : Bool) (e : Edge) (s q : ℕ) → is_complete b e.target ≡ complete → Member b.transitions e → e.source ≡ s → s < length b.states → e.target < length b.states → q < starts s + block_length b s → Closed c.instrs 0 q → height c.instrs q ≡ 0
-      → slice_get c.instrs q ≡ Some (if complete then code.End e.target else code.Jump (starts e.target)) → AreFine c q (q + 1)
-  end_by true e s q is among from within inside before closed level here = one_fine c q (q + 1) (code.End e.target) here refl (record {
-    jump = λ t jumps. cc;
-    next = λ goes. absurd (false≢true goes);
-    loop = refl;
-    slot = ap not (entry_there e.target inside is);
-    enough = omega arith;
-    level = λ t way. absurd way;
-  })
+  end_by : (complete : Bool) (e : Edge) (s q : ℕ) → is_complete b e.target ≡ complete → Member b.transitions e
+      → e.source ≡ s → s < length b.states → e.target < length b.states → q < starts s + block_length b s
+      → Closed c.instrs 0 q → height c.instrs q ≡ 0
+      → slice_get c.instrs q ≡ Some (if complete then code.End e.target else code.Jump (starts e.target))
+      → AreFine c q (q + 1)
+  end_by true e s q is among from within inside before closed level here =
+      one_fine c q (q + 1) (code.End e.target) here refl (record {
+        jump = λ t jumps. cc;
+        next = λ goes. absurd (false≢true goes);
+        loop = refl;
+        slot = ap not (entry_there e.target inside is);
+        enough = omega arith;
+        level = λ t way. absurd way;
+      })
   end_by false e s q is among from within inside before closed level here =
       let built = (order_full b rules).built in
       let far = (built.behind e among ((order_full b rules).all e.target inside) is).1 in
@@ -240,28 +300,44 @@ module _ (b : BehaviourParts) (c : CodeParts) (rules : IsBehaviour b) (instrs : 
       let most = ends e.target inside in
       let there = begins e.target inside in
       jump_fine c q (starts e.target) 0 here later (omega arith)
-      (jump_stays c.instrs q (starts e.target) later (calm_outer c.instrs q (starts e.target) closed) (record { each = λ k l opens at below. there.closed.each k l opens (omega arith) below })) level there.level
+      (jump_stays c.instrs q (starts e.target) later (calm_outer c.instrs q (starts e.target) closed)
+      (record { each = λ k l opens at below. there.closed.each k l opens (omega arith) below })) level there.level
 
   -- a guard
-  trigger_fine : (t : Trigger) (complete : Bool) (e : Edge) (p : ℕ) → e.trigger ≡ t → HasAt c.instrs p (edge_code b starts complete e p) → HasAt c.instrs p (trigger_code t (past complete e p) p) → IsCalm c.instrs p → SeesTrigger (sizes b) t
-      → height c.instrs (past complete e p) ≡ 0 → Closed c.instrs p (past complete e p) → (is_always t ≡ false → is_dispatch t ≡ false → past complete e p < length c.instrs) → p + length_trigger t < length c.instrs → p + length_trigger t ≤ past complete e p → AreFine c p (p + length_trigger t)
-  trigger_fine Dispatch complete e p is all has calm sees level closed inside on before = none_fine c p (p + 0) (omega arith)
-  trigger_fine Always complete e p is all has calm sees level closed inside on before = none_fine c p (p + 0) (omega arith)
+  trigger_fine : (t : Trigger) (complete : Bool) (e : Edge) (p : ℕ) → e.trigger ≡ t
+      → HasAt c.instrs p (edge_code b starts complete e p) → HasAt c.instrs p (trigger_code t (past complete e p) p)
+      → IsCalm c.instrs p → SeesTrigger (sizes b) t
+      → height c.instrs (past complete e p) ≡ 0 → Closed c.instrs p (past complete e p)
+      → (is_always t ≡ false → is_dispatch t ≡ false → past complete e p < length c.instrs)
+      → p + length_trigger t < length c.instrs → p + length_trigger t ≤ past complete e p
+      → AreFine c p (p + length_trigger t)
+  trigger_fine Dispatch complete e p is all has calm sees level closed inside on before =
+      none_fine c p (p + 0) (omega arith)
+  trigger_fine Always complete e p is all has calm sees level closed inside on before =
+      none_fine c p (p + 0) (omega arith)
   trigger_fine (When g) complete e p is all has calm sees level closed inside on before =
       let to = past complete e p in
       let r = p + length_of g in
       let front = has_front c.instrs p (code_of g p) (code.JumpZero to ∷ []) has in
-      let here = (has_back c.instrs p (length_of g) r (code_of g p) (code.JumpZero to ∷ []) (code-length g p) refl has).0 in
+      let here =
+      (has_back c.instrs p (length_of g) r (code_of g p) (code.JumpZero to ∷ []) (code-length g p) refl has).0 in
       let guard_closed = expr_closed c.instrs g p r front refl in
       let upto = closed_both c.instrs 0 p r (omega arith) calm.closed guard_closed in
       both_fine c p r (p + (length_of g + 1))
-      (value_fine c (sizes b) fits g p (length b.vars) front calm.level (calm_round c.instrs p (p + length_of g) (length b.vars) calm) (omega arith) (omega arith) sees)
+      (value_fine c (sizes b) fits g p (length b.vars) front calm.level
+      (calm_round c.instrs p (p + length_of g) (length b.vars) calm) (omega arith) (omega arith) sees)
       (fine_at c r (r + 1) (p + (length_of g + 1)) (omega arith)
-      (zero_fine c r to 0 here (omega arith) (inside refl refl) (jump_stays c.instrs r to (omega arith) (calm_outer c.instrs r to upto) (record { each = λ k l opens at below. closed.each k l opens (omega arith) below })) (omega arith) (expr_height c.instrs g p 0 front calm.level) level))
+      (zero_fine c r to 0 here (omega arith) (inside refl refl)
+      (jump_stays c.instrs r to (omega arith) (calm_outer c.instrs r to upto)
+      (record { each = λ k l opens at below. closed.each k l opens (omega arith) below })) (omega arith)
+      (expr_height c.instrs g p 0 front calm.level) level))
 
   -- a transition of a state
-  edge_fine : (complete : Bool) (e : Edge) (s p : ℕ) → Member b.transitions e → e.source ≡ s → s < length b.states → HasAt c.instrs p (edge_code b starts complete e p) → IsCalm c.instrs p → p + length_edge e ≤ starts s + block_length b s
-      → (is_always e.trigger ≡ false → is_dispatch e.trigger ≡ false → past complete e p < length c.instrs) → AreFine c p (p + length_edge e)
+  edge_fine : (complete : Bool) (e : Edge) (s p : ℕ) → Member b.transitions e → e.source ≡ s → s < length b.states
+      → HasAt c.instrs p (edge_code b starts complete e p) → IsCalm c.instrs p
+      → p + length_edge e ≤ starts s + block_length b s
+      → (is_always e.trigger ≡ false → is_dispatch e.trigger ≡ false → past complete e p < length c.instrs)
+      → AreFine c p (p + length_edge e)
   edge_fine complete e s p among from within has calm before inside =
       let edge = edge_has b e (all_member (is_edge b) b.transitions e rules.edges among) in
       let t = length_trigger e.trigger in
@@ -283,27 +359,40 @@ module _ (b : BehaviourParts) (c : CodeParts) (rules : IsBehaviour b) (instrs : 
       let guard_closed = trigger_closed c.instrs e.trigger to p front in
       let body_closed = acts_closed c.instrs e.actions n (p + t) q acted refl in
       let upto_body = closed_both c.instrs p (p + t) q (omega arith) guard_closed body_closed in
-      let calm_q : IsCalm c.instrs (p + t) = record { closed = closed_both c.instrs 0 p (p + t) (omega arith) calm.closed guard_closed; level = one } in
+      let calm_q : IsCalm c.instrs (p + t) =
+      record { closed = closed_both c.instrs 0 p (p + t) (omega arith) calm.closed guard_closed; level = one } in
       let room = edge_depth b.transitions e among in
       let sees = acts_seen e.actions b (sizes b) n 0 1 (fitting b) (omega arith) (omega arith) edge.sound in
       let behind = past_calm complete e p q all has calm (omega arith) (omega arith) two upto_body in
       both_fine c p (p + t) all
-      (trigger_fine e.trigger complete e p refl has front calm (trigger_seen e.trigger b (sizes b) (fitting b) edge.condition) behind.0 behind.1 inside (omega arith) (past_behind complete e p))
+      (trigger_fine e.trigger complete e p refl has front calm
+      (trigger_seen e.trigger b (sizes b) (fitting b) edge.condition) behind.0 behind.1 inside (omega arith)
+      (past_behind complete e p))
       (both_fine c (p + t) q all
-      (acts_fine c (sizes b) fits e.actions n (p + t) acted one (calm_round c.instrs (p + t) (p + t + m) n calm_q) sees (omega arith) (omega arith) (omega arith))
-      (fine_at c q (q + 1) all (omega arith) (end_by (is_complete b e.target) e s q refl among from within edge.target (omega arith) (closed_both c.instrs 0 p q (omega arith) calm.closed upto_body) two here)))
+      (acts_fine c (sizes b) fits e.actions n (p + t) acted one (calm_round c.instrs (p + t) (p + t + m) n calm_q) sees
+      (omega arith) (omega arith) (omega arith))
+      (fine_at c q (q + 1) all (omega arith)
+      (end_by (is_complete b e.target) e s q refl among from within edge.target (omega arith)
+      (closed_both c.instrs 0 p q (omega arith) calm.closed upto_body) two here)))
     where
-      past_calm : (complete : Bool) (e : Edge) (p q all : ℕ) → HasAt c.instrs p (edge_code b starts complete e p) → IsCalm c.instrs p → q ≡ p + length_edge e - 1 → all ≡ p + length_edge e → height c.instrs q ≡ 0 → Closed c.instrs p q
+      past_calm : (complete : Bool) (e : Edge) (p q all : ℕ) → HasAt c.instrs p (edge_code b starts complete e p)
+          → IsCalm c.instrs p → q ≡ p + length_edge e - 1 → all ≡ p + length_edge e → height c.instrs q ≡ 0
+          → Closed c.instrs p q
           → (height c.instrs (past complete e p) ≡ 0) × Closed c.instrs p (past complete e p)
-      past_calm true e p q all has calm q_is all_is level closed = (height_at c.instrs q (p + length_edge e - 1) 0 q_is level, subst (Closed c.instrs p) q_is closed)
-      past_calm false e p q all has calm q_is all_is level closed = (edge_height c.instrs b starts false e p has calm.level, edge_closed c.instrs b starts false e p has)
+      past_calm true e p q all has calm q_is all_is level closed =
+          (height_at c.instrs q (p + length_edge e - 1) 0 q_is level, subst (Closed c.instrs p) q_is closed)
+      past_calm false e p q all has calm q_is all_is level closed =
+          (edge_height c.instrs b starts false e p has calm.level, edge_closed c.instrs b starts false e p has)
 
       past_behind : (complete : Bool) (e : Edge) (p : ℕ) → p + length_trigger e.trigger ≤ past complete e p
       past_behind true e p = omega arith
       past_behind false e p = omega arith
 
   -- the transitions of a state, the last of which has no guard unless the state is complete
-  block_fine : (complete : Bool) (es : List Edge) (s p : ℕ) → ((e : Edge) → Member es e → Member b.transitions e × (e.source ≡ s)) → s < length b.states → HasAt c.instrs p (block_code b starts complete es p) → IsCalm c.instrs p → p + length_edges es ≡ starts s + block_length b s
+  block_fine : (complete : Bool) (es : List Edge) (s p : ℕ)
+      → ((e : Edge) → Member es e → Member b.transitions e × (e.source ≡ s)) → s < length b.states
+      → HasAt c.instrs p (block_code b starts complete es p) → IsCalm c.instrs p
+      → p + length_edges es ≡ starts s + block_length b s
       → (complete ≡ false → LastOpen es) → AreFine c p (p + length_edges es)
   block_fine complete [] s p members within has calm at unguarded = none_fine c p (p + 0) (omega arith)
   block_fine complete (e ∷ es) s p members within has calm at unguarded =
@@ -311,13 +400,18 @@ module _ (b : BehaviourParts) (c : CodeParts) (rules : IsBehaviour b) (instrs : 
       let all = p + (length_edge e + length_edges es) in
       let part = edge_code b starts complete e p in
       let front = has_front c.instrs p part (block_code b starts complete es q) has in
-      let back = has_back c.instrs p (length_edge e) q part (block_code b starts complete es q) (edge-length b starts complete e p) refl has in
+      let back =
+      has_back c.instrs p (length_edge e) q part (block_code b starts complete es q)
+      (edge-length b starts complete e p) refl has in
       let one = members e (inl refl) in
       let most = ends s within in
       both_fine c p q all
-      (edge_fine complete e s p one.0 one.1 within front calm (omega arith) (λ guarded going. past_inside complete e es p (length c.instrs) guarded (omega arith) unguarded))
+      (edge_fine complete e s p one.0 one.1 within front calm (omega arith)
+      (λ guarded going. past_inside complete e es p (length c.instrs) guarded (omega arith) unguarded))
       (fine_at c q (q + length_edges es) all (omega arith)
-      (block_fine complete es s q (λ f among. members f (inr among)) within back (calm_edge c.instrs b starts complete e p front calm) (omega arith) (λ isnt. rest_open e es (unguarded isnt))))
+      (block_fine complete es s q (λ f among. members f (inr among)) within back
+      (calm_edge c.instrs b starts complete e p front calm) (omega arith)
+      (λ isnt. rest_open e es (unguarded isnt))))
 
   -- each place
   fine_places : (k : ℕ) (i : Instr) → slice_get c.instrs k ≡ Some i → IsFine c k i
@@ -329,43 +423,66 @@ module _ (b : BehaviourParts) (c : CodeParts) (rules : IsBehaviour b) (instrs : 
       let s = w.state in
       let within = built.within s w.placed in
       let at = start_is b s within in
-      let fine = block_fine (is_complete b s) (leaving b s) s (starts s) (λ e among. member_leaving b.transitions s e among) within (whole_block c.instrs b s rules instrs within) (begins s within) refl
+      let fine =
+      block_fine (is_complete b s) (leaving b s) s (starts s) (λ e among. member_leaving b.transitions s e among)
+      within (whole_block c.instrs b s rules instrs within) (begins s within) refl
       (λ going. last_open (leaving b s) (onward_of b s rules within going).unguarded) in
       let from = w.from in
       let before = w.before in
       fine.each k i (omega arith) (omega arith) is
 
   -- ---- entries
-  entry_calm : (complete : Bool) (es : List Edge) (e : Edge) (p : ℕ) → HasAt c.instrs p (block_code b starts complete es p) → find (λ e. is_dispatch e.trigger) es ≡ Some e → IsCalm c.instrs p → IsCalm c.instrs (p + dispatch_offset es) × (dispatch_offset es < length_edges es)
+  entry_calm : (complete : Bool) (es : List Edge) (e : Edge) (p : ℕ)
+      → HasAt c.instrs p (block_code b starts complete es p) → find (λ e. is_dispatch e.trigger) es ≡ Some e
+      → IsCalm c.instrs p → IsCalm c.instrs (p + dispatch_offset es) × (dispatch_offset es < length_edges es)
   entry_calm complete [] e p has found calm = cc
   entry_calm complete (f ∷ es) e p has found calm =
       let part = edge_code b starts complete f p in
       let q = p + length_edge f in
       by (is_dispatch f.trigger) found
-      (λ later. entry_calm complete es e q (has_back c.instrs p (length_edge f) q part (block_code b starts complete es q) (edge-length b starts complete f p) refl has) later (calm_edge c.instrs b starts complete f p (has_front c.instrs p part (block_code b starts complete es q) has) calm))
+      (λ later. entry_calm complete es e q
+      (has_back c.instrs p (length_edge f) q part (block_code b starts complete es q)
+      (edge-length b starts complete f p) refl has) later
+      (calm_edge c.instrs b starts complete f p
+      (has_front c.instrs p part (block_code b starts complete es q) has) calm))
     where
-      by : (t : Bool) → (if t then Some f else find (λ e. is_dispatch e.trigger) es) ≡ Some e → (find (λ e. is_dispatch e.trigger) es ≡ Some e → IsCalm c.instrs (p + length_edge f + dispatch_offset es) × (dispatch_offset es < length_edges es))
-          → IsCalm c.instrs (p + (if t then 0 else length_edge f + dispatch_offset es)) × ((if t then 0 else length_edge f + dispatch_offset es) < length_edge f + length_edges es)
+      by : (t : Bool) → (if t then Some f else find (λ e. is_dispatch e.trigger) es) ≡ Some e
+          → (find (λ e. is_dispatch e.trigger) es ≡ Some e
+          → IsCalm c.instrs (p + length_edge f + dispatch_offset es) × (dispatch_offset es < length_edges es))
+          → IsCalm c.instrs (p + (if t then 0 else length_edge f + dispatch_offset es))
+          × ((if t then 0 else length_edge f + dispatch_offset es) < length_edge f + length_edges es)
       by true is later = (calm_at c.instrs p (p + 0) (omega arith) calm, omega arith)
-      by false is later = let x = later is in let less = x.1 in (calm_at c.instrs (p + length_edge f + dispatch_offset es) (p + (length_edge f + dispatch_offset es)) (omega arith) x.0, omega arith)
+      by false is later = let x = later is in let less = x.1 in (
+        calm_at c.instrs (p + length_edge f + dispatch_offset es) (p + (length_edge f + dispatch_offset es))
+            (omega arith) x.0,
+        omega arith,
+      )
 
-  entry_at : (s e : ℕ) (t : Bool) → s < length b.states → is_complete b s ≡ t → (if t then Some (starts s + dispatch_offset (leaving b s)) else None) ≡ Some e → IsCalm c.instrs e × (e < length c.instrs)
+  entry_at : (s e : ℕ) (t : Bool) → s < length b.states → is_complete b s ≡ t
+      → (if t then Some (starts s + dispatch_offset (leaving b s)) else None) ≡ Some e
+      → IsCalm c.instrs e × (e < length c.instrs)
   entry_at s e false within is entry = cc
   entry_at s e true within is entry =
       let place : starts s + dispatch_offset (leaving b s) ≡ e = cc in
       let d = dispatch_of b s rules within is in
-      let x = entry_calm (is_complete b s) (leaving b s) d.edge (starts s) (whole_block c.instrs b s rules instrs within) d.found (begins s within) in
+      let x =
+      entry_calm (is_complete b s) (leaving b s) d.edge (starts s) (whole_block c.instrs b s rules instrs within)
+      d.found (begins s within) in
       let less = x.1 in
       let most = ends s within in
       (calm_at c.instrs (starts s + dispatch_offset (leaving b s)) e place x.0, omega arith)
 
-  mapped : {A : Type 0} (f : ℕ → A) (from n : ℕ) (y : A) → Member (map f (upwards from n)) y → (s : ℕ) × (s < from + n) × (f s ≡ y)
+  mapped : {A : Type 0} (f : ℕ → A) (from n : ℕ) (y : A) → Member (map f (upwards from n)) y
+      → (s : ℕ) × (s < from + n) × (f s ≡ y)
   mapped f from zero y among = absurd among
-  mapped f from (suc n) y among = ⊎_elim (λ (here : f from ≡ y). (from, omega arith, here)) (λ later. let x = mapped f (suc from) n y later in let less = x.1 in (x.0, omega arith, x.2)) among
+  mapped f from (suc n) y among =
+      ⊎_elim (λ (here : f from ≡ y). (from, omega arith, here))
+      (λ later. let x = mapped f (suc from) n y later in let less = x.1 in (x.0, omega arith, x.2)) among
 
   pub entry_good : (e : ℕ) → Member c.entries (Some e) → IsCalm c.instrs e × (e < length c.instrs)
   entry_good e among =
-      let x = mapped (entry_of b starts) 0 (length b.states) (Some e) (subst (λ es. Member es (Some e)) entries among) in
+      let x =
+      mapped (entry_of b starts) 0 (length b.states) (Some e) (subst (λ es. Member es (Some e)) entries among) in
       let less = x.1 in
       entry_at x.0 e (is_complete b x.0) (omega arith) refl x.2
 
@@ -387,7 +504,9 @@ module _ (b : BehaviourParts) (c : CodeParts) (rules : IsBehaviour b) (instrs : 
 
   -- ---- the rules
   no_loops : (e : ℕ) → Closed c.instrs 0 e → is_none (around c.instrs e) ≡ true
-  no_loops e closed = by (around c.instrs e) (none_round c.instrs (λ l. true) e e (λ k l is less lies. absurd (let le = closed.each k l is (omega arith) less in omega arith)))
+  no_loops e closed =
+      by (around c.instrs e) (none_round c.instrs (λ l. true) e e
+      (λ k l is less lies. absurd (let le = closed.each k l is (omega arith) less in omega arith)))
     where
       by : (ls : List Loop) → list_any (λ l. true) ls ≡ false → is_none ls ≡ true
       by [] none = refl
@@ -409,7 +528,8 @@ module _ (b : BehaviourParts) (c : CodeParts) (rules : IsBehaviour b) (instrs : 
           let less : nat_lt p (length c.instrs) ≡ true = (let y = x.1 in grind arith) in
           ap (λ y. not (y && is_none (around c.instrs p))) less ∙ ap not (no_loops p x.0.closed)
 
-  finds_none : (test : Instr → Bool) (p : ℕ) → ((i : Instr) → slice_get c.instrs p ≡ Some i → test i ≡ false) → finds c test p ≡ false
+  finds_none : (test : Instr → Bool) (p : ℕ) → ((i : Instr) → slice_get c.instrs p ≡ Some i → test i ≡ false)
+      → finds c test p ≡ false
   finds_none test p none = by (slice_get c.instrs p) refl
     where
       by : (o : Option Instr) → slice_get c.instrs p ≡ o → on_some o test ≡ false
@@ -426,16 +546,19 @@ module _ (b : BehaviourParts) (c : CodeParts) (rules : IsBehaviour b) (instrs : 
           let less : nat_lt t (length c.instrs) ≡ true = (let y = x.1 in grind arith) in
           ap (λ y. not (y && stays c.instrs p t)) less ∙ ap not x.2
 
-      on_next : (t : Bool) → may_go_on i ≡ t → on_some (if t then Some (p + 1) else None) (λ next. not (nat_lt next (length c.instrs))) ≡ false
+      on_next : (t : Bool) → may_go_on i ≡ t
+          → on_some (if t then Some (p + 1) else None) (λ next. not (nat_lt next (length c.instrs))) ≡ false
       on_next false is = refl
-      on_next true is = let less = fine.next is in let y : nat_lt (p + 1) (length c.instrs) ≡ true = grind arith in ap not y
+      on_next true is = let less = fine.next is in
+          let y : nat_lt (p + 1) (length c.instrs) ≡ true = grind arith in ap not y
 
   not_back : (p : ℕ) (i : Instr) → IsFine c p i → jumps_back c.instrs p i ≡ false
   not_back p i fine = ap (λ x. x || lacks_loop c.instrs p i) (jumped (jump_of i) refl) ∙ fine.loop
     where
       jumped : (o : Option ℕ) → jump_of i ≡ o → on_some o (λ to. not (nat_lt p to)) ≡ false
       jumped None is = refl
-      jumped (Some t) is = let x = fine.jump t is in let y : nat_lt p t ≡ true = (let less = x.0 in grind arith) in ap not y
+      jumped (Some t) is = let x = fine.jump t is in
+          let y : nat_lt p t ≡ true = (let less = x.0 in grind arith) in ap not y
 
   untrue : (x : Bool) → x ≡ false → IsTrue x → ⊥
   untrue x is holds = absurd (true≢false (sym holds ∙ is))
@@ -443,9 +566,13 @@ module _ (b : BehaviourParts) (c : CodeParts) (rules : IsBehaviour b) (instrs : 
   rule_clean : (p : ℕ) (rule : Rule) → ¬ Finds c rule p
   rule_clean p BadJump found =
       untrue (is_bad_entry c.instrs c.entries p || finds c (jumps_badly c.instrs p) p)
-      (ap (λ x. x || finds c (jumps_badly c.instrs p) p) (good_entry p) ∙ finds_none (jumps_badly c.instrs p) p (λ i is. not_bad p i (fine_places p i is))) found
-  rule_clean p BackJump found = untrue (finds c (jumps_back c.instrs p) p) (finds_none (jumps_back c.instrs p) p (λ i is. not_back p i (fine_places p i is))) found
-  rule_clean p BadSlot found = untrue (finds c (misses_slot c p) p) (finds_none (misses_slot c p) p (λ i is. (fine_places p i is).slot)) found
+      (ap (λ x. x || finds c (jumps_badly c.instrs p) p) (good_entry p)
+      ∙ finds_none (jumps_badly c.instrs p) p (λ i is. not_bad p i (fine_places p i is))) found
+  rule_clean p BackJump found =
+      untrue (finds c (jumps_back c.instrs p) p)
+      (finds_none (jumps_back c.instrs p) p (λ i is. not_back p i (fine_places p i is))) found
+  rule_clean p BadSlot found =
+      untrue (finds c (misses_slot c p) p) (finds_none (misses_slot c p) p (λ i is. (fine_places p i is).slot)) found
   rule_clean p Underflow found =
       let fine = fine_places p found.instr found.here in
       let at = reached found.steps p found.height found.reached in
@@ -465,7 +592,8 @@ pub compiled_verified : (b : BehaviourParts) → IsBehaviour b → code_length b
 unfolding compiled
 compiled_verified b rules short =
     let same = compiled_length b rules in
-    all_clean b (compiled b) rules refl refl (record { declared = refl; slots = refl; outs = refl; ins = refl }) refl (omega arith)
+    all_clean b (compiled b) rules refl refl (record { declared = refl; slots = refl; outs = refl; ins = refl }) refl
+    (omega arith)
 
 -- the only fault of verified parts is that there is not enough memory
 pub only_memory : (c : CodeParts) (f : CodeFault) → IsVerified c → IsFaultOf c f → f ≡ fault.Memory

@@ -49,7 +49,8 @@ abbrev mutual
 
   pub code_rest : Operands → ℕ → List Instr
   code_rest NoMore p = []
-  code_rest (Then op e rest) p = operand_code op (length_of e) (code_of e) p ++ code_rest rest (p + operand_length op (length_of e))
+  code_rest (Then op e rest) p =
+      operand_code op (length_of e) (code_of e) p ++ code_rest rest (p + operand_length op (length_of e))
 
 -- the later operand of a chain behind the value of what stands left of it
 abbrev pub operand_of : Op → Expression → ℕ → List Instr
@@ -64,7 +65,8 @@ abbrev mutual
       code_branches branches n (p + length_branches branches + length_acts otherwise) p
       ++ code_acts otherwise n (p + length_branches branches)
   code_act (For low high body) n p =
-      code.LoopStart n low high (p + length_acts body + 2) ∷ (code_acts body (n + 1) (p + 1) ++ code.LoopNext n high (p + 1) ∷ [])
+      code.LoopStart n low high (p + length_acts body + 2)
+      ∷ (code_acts body (n + 1) (p + 1) ++ code.LoopNext n high (p + 1) ∷ [])
 
   pub code_acts : Actions → ℕ → ℕ → List Instr
   code_acts Nothing n p = []

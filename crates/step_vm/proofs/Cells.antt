@@ -13,7 +13,8 @@ stacked-set cells top v (suc n) le =
     ap (λ x. x ∷ stacked (slice_set cells top v) n) (get_or-set_other cells top n v (pos 0) (λ e. absurd (omega arith)))
     ∙ ap (λ xs. slice_index_or cells n (pos 0) ∷ xs) (stacked-set cells top v n (omega arith))
 
-pub pushed : (cells : List ℤ) (top : ℕ) (v : ℤ) → top < length cells → stacked (slice_set cells top v) (top + 1) ≡ v ∷ stacked cells top
+pub pushed : (cells : List ℤ) (top : ℕ) (v : ℤ) → top < length cells
+    → stacked (slice_set cells top v) (top + 1) ≡ v ∷ stacked cells top
 pushed cells top v within =
     ap (stacked (slice_set cells top v)) (add-one top)
     ∙ ap (λ x. x ∷ stacked (slice_set cells top v) top) (get_or-set_same cells top v (pos 0) within)

@@ -8,7 +8,9 @@ use Rattle.step_code.specs.declared.instr.CodeParts.{CodeParts}
 use Rattle.step_code.specs.proof.Exec.{left, run_from, from_entry, unless_halted, exec, Leaves}
 
 -- the whole step
-pub stepped : (c : CodeParts) (frame held : Frame) (inputs : List Port) (entry : ℕ) (f : Fired) → held ≡ record frame { held = holding frame.held inputs } → frame.halt ≡ None → slice_get c.entries frame.state ≡ Some (Some entry)
+pub stepped : (c : CodeParts) (frame held : Frame) (inputs : List Port) (entry : ℕ) (f : Fired)
+    → held ≡ record frame { held = holding frame.held inputs } → frame.halt ≡ None
+    → slice_get c.entries frame.state ≡ Some (Some entry)
     → left c held (run_from c held inputs entry) ≡ Leaves f → exec c frame inputs ≡ Leaves f
 stepped c frame held inputs entry f is halt at leaves =
     let h : Frame = record frame { held = holding frame.held inputs } in

@@ -18,7 +18,8 @@ abbrev pub names_of : List ℕ → Bool → List (List ℕ)
 names_of path replicated = map (replica_name path replicated) (upwards 0 (if replicated then 3 else 1))
 
 abbrev pub all_names : List Component → List Bool → List (List (List ℕ))
-all_names components replicated = map (λ numbered. names_of numbered.1.path (is_replicated replicated numbered.0)) (enumerate_from 0 components)
+all_names components replicated =
+    map (λ numbered. names_of numbered.1.path (is_replicated replicated numbered.0)) (enumerate_from 0 components)
 
 -- ---- the lines of replicas, where components are numbered from a number on
 abbrev pub all_lines : List Bool → (ℕ → ℕ → Frame) → ℕ → List Component → List (List ℕ)

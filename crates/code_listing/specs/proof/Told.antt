@@ -82,5 +82,6 @@ pub record AreListed (design : DesignParts) (programs : List CodeParts) : Type 0
 -- ---- the law
 -- what has one listing is told alike
 abbrev pub ListingTells : Type 0
-ListingTells = (design other : DesignParts) (programs others : List CodeParts) → AreListed design programs → AreListed other others
+ListingTells =
+    (design other : DesignParts) (programs others : List CodeParts) → AreListed design programs → AreListed other others
     → listing design programs ≡ listing other others → told design programs ≡ told other others

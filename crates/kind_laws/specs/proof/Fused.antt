@@ -19,12 +19,14 @@ pub record FusedFits (design : DesignParts) (ins : Inputs) : Type 0 where
   pub frames : (node step : ℕ) (c : Component) → slice_get design.components node ≡ Some c
       → FrameFits c.behaviour (frame_before ins node c step)
   -- what an out port has in each step
-  pub left : (node port step : ℕ) → PortFits (out_kind (slice_get design.components node) port) (left_by design ins node port step)
+  pub left : (node port step : ℕ)
+      → PortFits (out_kind (slice_get design.components node) port) (left_by design ins node port step)
   -- what a component leaves after each round
   pub parts : (node round : ℕ) (c : Component) → slice_get design.components node ≡ Some c
       → PartFits design node c (fused_part design ins round node c)
 
 abbrev pub SolutionsFit : Type 0
 SolutionsFit =
-    (design : DesignParts) (pairs : List Pair) (env : Env) (rounds : ℕ) (ins : Inputs) → IsDesign design → ArePairs design pairs
+    (design : DesignParts) (pairs : List Pair) (env : Env) (rounds : ℕ) (ins : Inputs) → IsDesign design
+    → ArePairs design pairs
     → EnvFits design env → IsFused design pairs env rounds ins → FusedFits design ins

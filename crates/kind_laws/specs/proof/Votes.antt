@@ -14,7 +14,8 @@ use Rattle.triple_vote.specs.Replicas.{Voted, vcomp, vshown}
 -- ---- faults
 -- what a fault sends in place of its replica's own message fits the kind of the link
 abbrev pub FaultFits : DesignParts → VoteFault → Type 0
-FaultFits design f = (link : Link) → slice_get design.links f.link.0 ≡ Some link → TupleFits (link_kind design link) f.values
+FaultFits design f =
+    (link : Link) → slice_get design.links f.link.0 ≡ Some link → TupleFits (link_kind design link) f.values
 
 abbrev pub FaultsFit : DesignParts → (ℕ → List VoteFault) → Type 0
 FaultsFit design faults = (round : ℕ) → All (FaultFits design) (faults round)
@@ -32,11 +33,13 @@ pub record VotedFits (design : DesignParts) (voted : Voted) : Type 0 where
 abbrev pub VotesFit : Type 0
 VotesFit =
     (design : DesignParts) (env : Env) (replicated : List Bool) (faults : ℕ → List VoteFault) (rounds : ℕ)
-    → IsDesign design → EnvFits design env → FaultsFit design faults → VotedFits design (vcomp design env replicated faults rounds)
+    → IsDesign design → EnvFits design env → FaultsFit design faults
+    → VotedFits design (vcomp design env replicated faults rounds)
 
 -- so does what each root out port shows
 abbrev pub ShownFit : Type 0
 ShownFit =
     (design : DesignParts) (env : Env) (replicated : List Bool) (faults : ℕ → List VoteFault) (tap : Tap) (round : ℕ)
     → IsDesign design → EnvFits design env → FaultsFit design faults
-    → TupleFits (out_kind (slice_get design.components tap.source.0) tap.out_port) (vshown design env replicated faults tap round)
+    → TupleFits (out_kind (slice_get design.components tap.source.0) tap.out_port)
+    (vshown design env replicated faults tap round)

@@ -29,7 +29,8 @@ is_busy Holding = true
 is_busy Done = false
 
 -- ---- Start
-pub record Starts (old : NodeValue) (env : List Port) (reading : Option ℕ) (new : NodeValue) (job : JobValue) : Type 0 where
+pub record Starts (old : NodeValue) (env : List Port) (reading : Option ℕ) (new : NodeValue)
+    (job : JobValue) : Type 0 where
   pub waits : old.state.phase ≡ Waiting
   pub due : is_early reading (start_alarm old.program.plan old.state) ≡ false
   pub full : missing old.program.plan old.state ≡ None
@@ -43,7 +44,8 @@ StartEnds n reading start.Over = n.state.phase ≡ Done
 StartEnds n reading (start.NotYet alarm) =
     (n.state.phase ≡ Waiting) × (alarm ≡ start_alarm n.program.plan n.state) × (is_early reading alarm ≡ true)
 StartEnds n reading (start.Missed port) =
-    (n.state.phase ≡ Waiting) × (is_early reading (start_alarm n.program.plan n.state) ≡ false) × (missing n.program.plan n.state ≡ Some port)
+    (n.state.phase ≡ Waiting) × (is_early reading (start_alarm n.program.plan n.state) ≡ false)
+    × (missing n.program.plan n.state ≡ Some port)
 StartEnds n reading start.Memory = Unit {0}
 
 -- ---- Step
@@ -57,12 +59,14 @@ pub record Steps (old : NodeValue) (reading : Option ℕ) (new : NodeValue) (job
 abbrev pub StepEnds : NodeValue → Option ℕ → StepEnd → Type 0
 StepEnds n reading step.NotBetween = (i : ℕ) → n.state.phase ≢ Between i
 StepEnds n reading (step.NotYet alarm) =
-    (i : ℕ) × (n.state.phase ≡ Between i) × (alarm ≡ step_alarm n.program.plan n.state i) × (is_early reading alarm ≡ true)
+    (i : ℕ) × (n.state.phase ≡ Between i) × (alarm ≡ step_alarm n.program.plan n.state i)
+    × (is_early reading alarm ≡ true)
 StepEnds n reading step.Memory = Unit {0}
 
 -- ---- Finish
 abbrev pub Finishes : NodeValue → NodeValue → ℕ → Type 0
-Finishes old new i = (old.state.phase ≡ Running i) × (new ≡ with_state old (finished old.program.plan old.rounds i old.state))
+Finishes old new i =
+    (old.state.phase ≡ Running i) × (new ≡ with_state old (finished old.program.plan old.rounds i old.state))
 
 -- what is handed in is used exactly where it is of the job that is out
 abbrev pub IsUsed : Finished → JobValue → JobValue → Type 0
@@ -92,4 +96,5 @@ pub record Sends (old : NodeValue) (reading : Option ℕ) (new : NodeValue) (mes
 abbrev pub SendEnds : NodeValue → Option ℕ → SendEnd → Type 0
 SendEnds n reading send.NotFinished = may_send n.program.plan n.state ≡ false
 SendEnds n reading (send.NotYet release) =
-    (may_send n.program.plan n.state ≡ true) × (release ≡ release_alarm n.program.plan n.state) × (is_early reading release ≡ true)
+    (may_send n.program.plan n.state ≡ true) × (release ≡ release_alarm n.program.plan n.state)
+    × (is_early reading release ≡ true)

@@ -17,18 +17,34 @@ use Rattle.bus_machine.specs.Nodes.{NodeState}
 use Rattle.pals_node.specs.proof.Values.{Program, NodeValue}
 
 abbrev pub program_code : Coded Program
-program_code = code_by (Plan × CodeParts) (coded× plans.coded codes.coded) (λ p. (p.plan, p.code)) (λ p. record { plan = p.0; code = p.1 }) (λ _. refl)
+program_code =
+    code_by (Plan × CodeParts) (coded× plans.coded codes.coded) (λ p. (p.plan, p.code))
+    (λ p. record { plan = p.0; code = p.1 }) (λ _. refl)
 
 -- a node is stored as its parts
 abbrev pub state_code : Coded NodeState
 state_code =
-    code_by (ℕ × (Phase × (Frame × (List (Option (List Port)) × (List (List Port) × (List (List Port) × (Bool × List Part)))))))
-    (coded× coded_ℕ (coded× phases.coded (coded× frames.coded (coded× (coded_list (coded_option (coded_list ports.coded))) (coded× (coded_list (coded_list ports.coded)) (coded× (coded_list (coded_list ports.coded)) (coded× coded_bool (coded_list parts.coded))))))))
+    code_by (ℕ × (Phase × (Frame
+    × (List (Option (List Port)) × (List (List Port) × (List (List Port) × (Bool × List Part)))))))
+    (coded× coded_ℕ (coded× phases.coded
+    (coded× frames.coded (coded× (coded_list (coded_option (coded_list ports.coded)))
+    (coded× (coded_list (coded_list ports.coded))
+    (coded× (coded_list (coded_list ports.coded)) (coded× coded_bool (coded_list parts.coded))))))))
     (λ n. (n.count, (n.phase, (n.frame, (n.slots, (n.vectors, (n.outs, (n.sent, n.parts))))))))
-    (λ p. record { count = p.0; phase = p.1.0; frame = p.1.1.0; slots = p.1.1.1.0; vectors = p.1.1.1.1.0; outs = p.1.1.1.1.1.0; sent = p.1.1.1.1.1.1.0; parts = p.1.1.1.1.1.1.1 })
+    (λ p. record {
+      count = p.0;
+      phase = p.1.0;
+      frame = p.1.1.0;
+      slots = p.1.1.1.0;
+      vectors = p.1.1.1.1.0;
+      outs = p.1.1.1.1.1.0;
+      sent = p.1.1.1.1.1.1.0;
+      parts = p.1.1.1.1.1.1.1;
+    })
     (λ _. refl)
 
 abbrev pub node_code : Coded NodeValue
 node_code =
-    code_by (Program × (ℕ × NodeState)) (coded× program_code (coded× coded_ℕ state_code)) (λ n. (n.program, (n.rounds, n.state)))
+    code_by (Program × (ℕ × NodeState)) (coded× program_code (coded× coded_ℕ state_code))
+    (λ n. (n.program, (n.rounds, n.state)))
     (λ p. record { program = p.0; rounds = p.1.0; state = p.1.1 }) (λ _. refl)

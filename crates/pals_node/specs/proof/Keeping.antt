@@ -40,7 +40,8 @@ pub record IsProgram (program : Program) : Type 0 where
   pub means : Means program.code program.plan.behaviour
 
 -- a job fits its code, and has the room that it needs
-pub record IsJob (code : CodeParts) (frame : Frame) (inputs : List Port) (result : Frame) (outs : List Port) (room : Capacity) : Type 0 where
+pub record IsJob (code : CodeParts) (frame : Frame) (inputs : List Port) (result : Frame) (outs : List Port)
+    (room : Capacity) : Type 0 where
   pub frame_fits : FitsCode code frame
   pub inputs_are : length inputs ≡ code.ins
   pub result_is : result ≡ frame
@@ -133,4 +134,5 @@ pub record IsStepMade (f : Fields) (step : ℕ) : Type 0 where
 -- what a node stands at after it
 abbrev pub ended_at : Plan → Fields → ℕ → NodeState
 ended_at plan f step =
-    finished_with plan f.rounds step (state_of f) (record { frame = f.frame; outs = f.row.items }) (with_places step f.row.items f.outs)
+    finished_with plan f.rounds step (state_of f) (record { frame = f.frame; outs = f.row.items })
+    (with_places step f.row.items f.outs)

@@ -14,7 +14,8 @@ use Rattle.bus_machine.specs.declared.plan.Plan.{Plan}
 
 -- a part of absent values
 abbrev pub empty_part : Plan → Part
-empty_part plan = record { frame = initial plan.behaviour; outs = replicate (length plan.taps) (replicate plan.rate Absent) }
+empty_part plan =
+    record { frame = initial plan.behaviour; outs = replicate (length plan.taps) (replicate plan.rate Absent) }
 
 -- what a round needs is made
 pub record IsBegun (plan : Plan) (env : List Port) (slots : List (Option (List Port))) (room : RoundRoom) : Type 0 where

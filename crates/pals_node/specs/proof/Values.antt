@@ -25,7 +25,10 @@ pub record JobValue : Type 0 where
 
 abbrev pub job_value : Program → ℕ → ℕ → Frame → List Port → JobValue
 job_value program round step frame inputs =
-    record { code = program.code; work = record { node = program.plan.node; round = round; step = step; frame = frame; inputs = inputs } }
+    record {
+      code = program.code;
+      work = record { node = program.plan.node; round = round; step = step; frame = frame; inputs = inputs };
+    }
 
 -- what the code of a job leaves
 abbrev pub IsResult : JobValue → Fired → Type 0

@@ -90,13 +90,15 @@ TimetableRepeats = (design : DesignParts) (codes : List CodeParts) (nanos : ℕ)
 -- codes that are laid out for the same behaviours give one text: it is a function of the design and the processors
 abbrev pub TextIsOne : Type 0
 TextIsOne =
-    (design : DesignParts) (behaviours : List BehaviourParts) (programs others : List CodeParts) (processors : List Processor) →
+    (design : DesignParts) (behaviours : List BehaviourParts) (programs others : List CodeParts)
+    (processors : List Processor) →
     AreLaidOut behaviours programs → AreLaidOut behaviours others →
     budget_text design programs processors ≡ budget_text design others processors
 
 -- and one answer to whether a processor is over
 abbrev pub VerdictIsOne : Type 0
 VerdictIsOne =
-    (design : DesignParts) (behaviours : List BehaviourParts) (programs others : List CodeParts) (processors : List Processor) →
+    (design : DesignParts) (behaviours : List BehaviourParts) (programs others : List CodeParts)
+    (processors : List Processor) →
     AreLaidOut behaviours programs → AreLaidOut behaviours others →
     some_is_over design programs processors ≡ some_is_over design others processors

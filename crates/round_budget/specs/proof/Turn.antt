@@ -34,7 +34,9 @@ edge source target trigger actions = record { source = source; target = target; 
 
 -- sum := l + r + t; cmd!(goal)
 abbrev main_actions : Actions
-main_actions = Do (Assign 0 (Chain (PortValue 1) (Then Add (PortValue 2) (Then Add (PortValue 3) NoMore)))) (Do (Emit 0 (PortValue 0)) Nothing)
+main_actions =
+    Do (Assign 0 (Chain (PortValue 1) (Then Add (PortValue 2) (Then Add (PortValue 3) NoMore))))
+    (Do (Emit 0 (PortValue 0)) Nothing)
 
 abbrev pub main : BehaviourParts
 main = record {
@@ -76,7 +78,8 @@ abbrev numbered : ℕ → NodeNo
 numbered n = record { 0 = n }
 
 abbrev link : ℕ → ℕ → ℕ → Option Adaptor → Link
-link source target in_port adaptor = record { source = numbered source; out_port = 0; target = numbered target; in_port = in_port; adaptor = adaptor }
+link source target in_port adaptor =
+    record { source = numbered source; out_port = 0; target = numbered target; in_port = in_port; adaptor = adaptor }
 
 abbrev bounds : Gamma
 bounds = record { eps = 1000000; alpha_min = 0; alpha_max = 3000000; mu_min = 1000000; mu_max = 4000000 }
@@ -85,7 +88,9 @@ abbrev pub turn : DesignParts
 turn = record {
   period = 20000000;
   gamma = bounds;
-  components = component (codes "p.m") 1 main ∷ component (codes "p.l") 1 surface ∷ component (codes "p.r") 2 surface ∷ component (codes "p.t") 4 surface ∷ [];
+  components =
+      component (codes "p.m") 1 main ∷ component (codes "p.l") 1 surface ∷ component (codes "p.r") 2 surface
+      ∷ component (codes "p.t") 4 surface ∷ [];
   links =
       link 1 0 1 None ∷ link 2 0 2 (Some Last) ∷ link 3 0 3 (Some Average)
       ∷ link 0 1 0 None ∷ link 0 2 0 (Some Repeat) ∷ link 0 3 0 (Some Repeat) ∷ [];

@@ -21,7 +21,8 @@ abbrev pub Holds : List (Option ℕ) → ℕ → ℕ → Type 0
 Holds heights p h = slice_get heights p ≡ Some (Some h)
 
 -- these are the heights that entries and instructions below a place give
-pub record AreHeights (code : List Instr) (entries : List (Option ℕ)) (below : ℕ) (heights : List (Option ℕ)) : Type 0 where
+pub record AreHeights (code : List Instr) (entries : List (Option ℕ)) (below : ℕ)
+    (heights : List (Option ℕ)) : Type 0 where
   pub count : length heights ≡ length code
   pub given : (p h : ℕ) → p < length code → Holds heights p h → Given code entries below p h
   pub held : (p h : ℕ) → p < length code → Given code entries below p h → Holds heights p h

@@ -36,7 +36,9 @@ surface = record {
 -- sets a variable in a loop of 4 turns that stands in one of 3
 abbrev pub nested : CodeParts
 nested = record {
-  instrs = LoopStart 1 (pos 1) (pos 3) 6 ∷ LoopStart 2 (pos 1) (pos 4) 5 ∷ Load 2 ∷ Store 0 ∷ LoopNext 2 (pos 4) 2 ∷ LoopNext 1 (pos 3) 1 ∷ End 0 ∷ [];
+  instrs =
+      LoopStart 1 (pos 1) (pos 3) 6 ∷ LoopStart 2 (pos 1) (pos 4) 5 ∷ Load 2 ∷ Store 0 ∷ LoopNext 2 (pos 4) 2
+      ∷ LoopNext 1 (pos 3) 1 ∷ End 0 ∷ [];
   entries = Some 0 ∷ [];
   vars = 1;
   loops = 2;

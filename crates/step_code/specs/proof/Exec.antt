@@ -29,7 +29,8 @@ then_run Sticks rest = Stuck
 -- at most n instructions, one after another
 abbrev pub run : List Instr → Senses → ℕ → Rest
 run code s zero place stack slots outs = Unfinished
-run code s (suc n) place stack slots outs = then_run (step (slice_get code place) s place stack slots outs) (run code s n)
+run code s (suc n) place stack slots outs =
+    then_run (step (slice_get code place) s place stack slots outs) (run code s n)
 
 -- ---- a step of a node
 -- what a step of code leaves, unless it is stuck or unfinished
@@ -39,14 +40,16 @@ pub data Executed : Type 0 where
   IsUnfinished : Executed
 
 abbrev pub left : CodeParts → Frame → Outcome → Executed
-left c held (Ended state slots outs) = Leaves (record { frame = record held { state = state; vars = take c.vars slots }; outs = outs })
+left c held (Ended state slots outs) =
+    Leaves (record { frame = record held { state = state; vars = take c.vars slots }; outs = outs })
 left c held (Trapped trap) = Leaves (record { frame = record held { halt = Some trap }; outs = silent c })
 left c held Stuck = IsStuck
 left c held Unfinished = IsUnfinished
 
 -- from a place on, within the code's weight
 abbrev pub run_from : CodeParts → Frame → List Port → ℕ → Outcome
-run_from c held inputs place = run c.instrs (senses held.held inputs) (weight_of c) place [] (slots_of c held.vars) (silent c)
+run_from c held inputs place =
+    run c.instrs (senses held.held inputs) (weight_of c) place [] (slots_of c held.vars) (silent c)
 
 abbrev pub from_entry : CodeParts → Frame → List Port → Option (Option ℕ) → Outcome
 from_entry c held inputs (Some (Some e)) = run_from c held inputs e

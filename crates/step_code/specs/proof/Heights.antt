@@ -56,10 +56,12 @@ Member (y ∷ ys) x = (y ≡ x) ⊎ Member ys x
 abbrev pub Reaches : List Instr → List (Option ℕ) → ℕ → ℕ → ℕ → Type 0
 Reaches code entries zero p h = Member entries (Some p) × (h ≡ 0)
 Reaches code entries (suc n) p h =
-    (q : ℕ) × (k : ℕ) × (i : Instr) × Reaches code entries n q k × (slice_get code q ≡ Some i) × (takes i ≤ k) × Member (onward q (Some i)) p × (q < p) × (h ≡ after k i)
+    (q : ℕ) × (k : ℕ) × (i : Instr) × Reaches code entries n q k × (slice_get code q ≡ Some i) × (takes i ≤ k)
+    × Member (onward q (Some i)) p × (q < p) × (h ≡ after k i)
 
 -- the path is an entry, or its last instruction stands below a place
-abbrev pub ComesFromBelow : (code : List Instr) (entries : List (Option ℕ)) (below n p h : ℕ) → Reaches code entries n p h → Type 0
+abbrev pub ComesFromBelow : (code : List Instr) (entries : List (Option ℕ)) (below n p h : ℕ)
+    → Reaches code entries n p h → Type 0
 ComesFromBelow code entries below zero p h r = Unit {0}
 ComesFromBelow code entries below (suc n) p h r = r.0 < below
 

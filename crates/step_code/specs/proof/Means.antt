@@ -14,5 +14,7 @@ pub record Means (c : CodeParts) (b : BehaviourParts) : Type 0 where
   pub ins : c.ins ≡ length b.ins
   pub outs : c.outs ≡ length b.outs
   pub states : length c.entries ≡ length b.states
-  pub entries : (state : ℕ) (d : StateDecl) → slice_get b.states state ≡ Some d → has_entry (slice_get c.entries state) ≡ d.complete
-  pub steps : (frame : Frame) (inputs : List Port) → HasShape b frame → length inputs ≡ length b.ins → exec c frame inputs ≡ Leaves (fire b frame inputs)
+  pub entries : (state : ℕ) (d : StateDecl) → slice_get b.states state ≡ Some d
+      → has_entry (slice_get c.entries state) ≡ d.complete
+  pub steps : (frame : Frame) (inputs : List Port) → HasShape b frame → length inputs ≡ length b.ins
+      → exec c frame inputs ≡ Leaves (fire b frame inputs)

@@ -26,21 +26,25 @@ Met (onward.Traps trap) stack slots outs next = next ≡ Traps trap
 
 -- what one instruction does at these inputs
 abbrev pub done_by : Instr → ℕ → List ℤ → List ℤ → List Port → Inputs → Next
-done_by i place stack slots outs inputs = step (Some i) (senses inputs.held.now inputs.present.now) place stack slots outs
+done_by i place stack slots outs inputs =
+    step (Some i) (senses inputs.held.now inputs.present.now) place stack slots outs
 
 -- an answer, and the stack that it leaves, is where a result leads
 abbrev pub GivesResult : Onward → List ℤ → Result ℤ Trap → ℕ → List ℤ → Type 0
 GivesResult answer left result place stack =
-    (slots : List ℤ) (outs : List Port) → Met answer left slots outs (on_result result (λ v. Goes (place + 1) (v ∷ stack) slots outs))
+    (slots : List ℤ) (outs : List Port)
+    → Met answer left slots outs (on_result result (λ v. Goes (place + 1) (v ∷ stack) slots outs))
 
 -- an answer, and the stack that it leaves, is where an operator on the two topmost numbers leads
 abbrev pub GivesBoth : Onward → List ℤ → Op → ℕ → List ℤ → Type 0
-GivesBoth answer left op place stack = (slots : List ℤ) (outs : List Port) → Met answer left slots outs (on_two op place stack slots outs)
+GivesBoth answer left op place stack =
+    (slots : List ℤ) (outs : List Port) → Met answer left slots outs (on_two op place stack slots outs)
 
 -- ---- runs
 -- what a run from an entry comes to
 abbrev pub ran : CodeParts → ℕ → List ℤ → List Port → Inputs → Outcome
-ran c entry slots outs inputs = run c.instrs (senses inputs.held.now inputs.present.now) (weight_of c) entry [] slots outs
+ran c entry slots outs inputs =
+    run c.instrs (senses inputs.held.now inputs.present.now) (weight_of c) entry [] slots outs
 
 -- how a run has come to its end, and what it left
 abbrev pub HasEnded : Ended → List ℤ → List Port → Outcome → Type 0

@@ -7,5 +7,6 @@ use Rattle.analysis_texts.proofs.names.all_names.Given as goal
 -- the names so far, and those of the components that are left
 abbrev pub invariant-loop-node : goal.invariant-loop-node
 invariant-loop-node l =
-    l.names.items ++ map (λ numbered. names_of numbered.1.path (is_replicated l.replicated numbered.0)) (enumerate_from l.node (drop l.node l.components))
+    l.names.items ++ map (λ numbered. names_of numbered.1.path (is_replicated l.replicated numbered.0))
+    (enumerate_from l.node (drop l.node l.components))
     ≡ all_names l.components l.replicated

@@ -11,11 +11,13 @@ loop-replica-preserved c =
     let counter = c.loop-replica.replica-counter in
     let name : c.new.result ≡ path ++ codes "#" ++ decimal counter =
     c.new.ensures ∙ c.in_ok-format.ensures.ok ∙ sym (append_assoc path (codes "#") (decimal counter)) in
-    c.in_ok-push-2.ensures.ok ∙ name_more path counter c.loop-replica.names c.new.result (omega arith) c.loop-replica.invariant name
+    c.in_ok-push-2.ensures.ok
+    ∙ name_more path counter c.loop-replica.names c.new.result (omega arith) c.loop-replica.invariant name
 
 pub returns : goal.returns
 returns c =
     let path = c.args.path.now in
     let three : c.loop-replica.replica-counter - 1 ≡ 3 = omega arith in
     let replicated : c.args.replicated ≡ true = search rules in
-    c.loop-replica.invariant ∙ ap (λ n. map (replica_name path true) (upwards 0 n)) three ∙ ap (names_of path) (sym replicated)
+    c.loop-replica.invariant ∙ ap (λ n. map (replica_name path true) (upwards 0 n)) three
+    ∙ ap (names_of path) (sym replicated)

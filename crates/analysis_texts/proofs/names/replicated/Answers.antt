@@ -19,6 +19,7 @@ loop-replica-preserved c =
     let node = (slice_index_or replicas at none).0 in
     let marks = c.loop-replica.marks in
     let new = c.mark.new.marks in
-    let is : new ≡ slice_set marks.items node true = c.mark.ensures ∙ ap (λ ms. slice_set ms node true) c.deref_mut.ensures.value in
+    let is : new ≡ slice_set marks.items node true = c.mark.ensures
+    ∙ ap (λ ms. slice_set ms node true) c.deref_mut.ensures.value in
     written_whole marks.len new marks.items (omega arith) (ap length is ∙ length-set marks.items node true)
     ∙ is ∙ marked_more replicas at none c.args.count marks.items c.loop-replica-test.true c.loop-replica.invariant

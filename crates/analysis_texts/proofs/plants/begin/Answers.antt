@@ -9,5 +9,6 @@ pub unreachable-requires : goal.unreachable-requires
 unreachable-requires c =
     let design = arc_value c.in_ok-new.field-0 in
     let pairs = c.in_ok-pairs.pairs in
-    none_bad design pairs c.in-Err-BadPair.field-0-0 (subst₂ ArePairs (sym c.in_ok-new.ensures.ok) (sym c.in_ok-pairs.ensures) c.requires)
+    none_bad design pairs c.in-Err-BadPair.field-0-0
+    (subst₂ ArePairs (sym c.in_ok-new.ensures.ok) (sym c.in_ok-pairs.ensures) c.requires)
     (subst (IsEnd design pairs) c.in-Err-BadPair.field-0-is c.in-Err-BadPair.ensures.end)

@@ -14,12 +14,15 @@ returns c =
     let rounds = c.args.rounds in
     let pairs = c.args.pairs.now in
     let fused : IfOk c.fused_rows.result (λ text. IsFusedReport design pairs env rounds text.items) =
-    subst (λ (s : FuseState). IfOk c.fused_rows.result (λ text. IsFusedReport s.design s.pairs env rounds text.items)) c.in_ok-product.ensures.opening c.fused_rows.ensures in
+    subst (λ (s : FuseState). IfOk c.fused_rows.result (λ text. IsFusedReport s.design s.pairs env rounds text.items))
+    c.in_ok-product.ensures.opening c.fused_rows.ensures in
     record {
       fused = fused;
       alone =
-          IfOk-weaker c.fused_rows.result (λ text. IsFusedReport design pairs env rounds text.items) (λ text. pairs ≡ [] → text.items ≡ report design env rounds)
+          IfOk-weaker c.fused_rows.result (λ text. IsFusedReport design pairs env rounds text.items)
+          (λ text. pairs ≡ [] → text.items ≡ report design env rounds)
           (λ text is none.
-          report_without_pairs design env rounds text.items c.in_ok-product.ensures.rules (subst (λ (ps : List Pair). IsFusedReport design ps env rounds text.items) none is))
+          report_without_pairs design env rounds text.items c.in_ok-product.ensures.rules
+          (subst (λ (ps : List Pair). IsFusedReport design ps env rounds text.items) none is))
           fused;
     }

@@ -8,8 +8,11 @@ use Rattle.analysis_texts.proofs.processors.add_processor.Goals as goal
 
 pub total-sum-requires-clause-within : goal.total-sum-requires-clause-within
 total-sum-requires-clause-within c =
-    let are = nodes_are_members c.args.design.now c.args.processor.now.components c.requires.processor.within c.requires.processor.rising in
-    subst (λ (members : List NodeNo). All (λ node. node < length c.args.codes.now) (numbers members)) (sym c.as_slice-members.ensures.value)
+    let are =
+    nodes_are_members c.args.design.now c.args.processor.now.components c.requires.processor.within
+    c.requires.processor.rising in
+    subst (λ (members : List NodeNo). All (λ node. node < length c.args.codes.now) (numbers members))
+    (sym c.as_slice-members.ensures.value)
     (subst (λ n. All (λ node. node < n) (numbers c.args.processor.now.components)) (sym c.requires.codes) are.within)
 
 pub total-sum-requires-clause-count : goal.total-sum-requires-clause-count
@@ -23,5 +26,7 @@ total-sum-requires-clause-count c =
 
 pub timetable-requires-clause-members : goal.timetable-requires-clause-members
 timetable-requires-clause-members c =
-    subst (λ (members : List NodeNo). AreMembers c.args.design.now (numbers members)) (sym c.as_slice-members.ensures.value)
-    (nodes_are_members c.args.design.now c.args.processor.now.components c.requires.processor.within c.requires.processor.rising)
+    subst (λ (members : List NodeNo). AreMembers c.args.design.now (numbers members))
+    (sym c.as_slice-members.ensures.value)
+    (nodes_are_members c.args.design.now c.args.processor.now.components c.requires.processor.within
+    c.requires.processor.rising)

@@ -23,4 +23,5 @@ pub returns : goal.returns
 returns c =
     let slot = λ (line : Line). slot_line c.args.design.now (line_value line) in
     lines_all line_end slot c.args.lines.now c.loop-line.line-index _ _ (omega arith) c.loop-line.invariant
-    ∙ ap (λ lines. c.args.text.now.items ++ text_of lines) (sym (map-map (slot_line c.args.design.now) line_value c.args.lines.now))
+    ∙ ap (λ lines. c.args.text.now.items ++ text_of lines)
+    (sym (map-map (slot_line c.args.design.now) line_value c.args.lines.now))

@@ -7,4 +7,6 @@ use Rattle.analysis_texts.proofs.processors.add_slots.Given as goal
 
 -- the lines so far
 abbrev pub invariant-loop-line : goal.invariant-loop-line
-invariant-loop-line l = l.text.items ≡ l.fn.text.items ++ text_of (map (λ (line : Line). slot_line l.design (line_value line)) (take l.line-index l.lines))
+invariant-loop-line l =
+    l.text.items ≡ l.fn.text.items
+    ++ text_of (map (λ (line : Line). slot_line l.design (line_value line)) (take l.line-index l.lines))

@@ -9,6 +9,9 @@ use Rattle.analysis_texts.proofs.processors.budget.Given as goal
 -- the lines of the processors so far, and whether one of these has more to do than fits
 abbrev pub invariant-loop-processor : goal.invariant-loop-processor
 invariant-loop-processor l = record {
-  lines : l.text.items ≡ text_of (flat_map (λ (p : Processor). processor_lines l.design l.codes (processor_of p)) (take l.processor-index l.processors));
-  over : l.over ≡ list_any (λ (p : Processor). not (fits_on l.design l.codes (processor_of p))) (take l.processor-index l.processors);
+  lines : l.text.items ≡ text_of
+      (flat_map (λ (p : Processor). processor_lines l.design l.codes (processor_of p))
+      (take l.processor-index l.processors));
+  over : l.over ≡ list_any (λ (p : Processor). not (fits_on l.design l.codes (processor_of p)))
+      (take l.processor-index l.processors);
 }

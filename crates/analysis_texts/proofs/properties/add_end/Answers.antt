@@ -9,7 +9,8 @@ use Rattle.analysis_texts.proofs.WatchedLines.{name_at, last_words}
 use Rattle.analysis_texts.proofs.properties.add_end.Goals as goal
 
 words : ℕ → List ℕ → ℕ → List ℕ
-words rounds name round = spaced (codes "watch" ∷ codes "rounds" ∷ decimal rounds ∷ codes "first" ∷ name ∷ decimal round ∷ [])
+words rounds name round =
+    spaced (codes "watch" ∷ codes "rounds" ∷ decimal rounds ∷ codes "first" ∷ name ∷ decimal round ∷ [])
 
 pub returns-in-Some : goal.returns-in-Some
 unfolding words
@@ -19,11 +20,13 @@ returns-in-Some c =
     let rounds = c.args.rounds in
     let violation = c.in-Some.violation in
     let property : PropertyValue = c.index-properties-violation.result in
-    let within : violation.property < length properties = subst (λ v. IfSome v (λ w. w.property < length properties)) c.in-Some.is c.requires in
+    let within : violation.property < length properties =
+    subst (λ v. IfSome v (λ w. w.property < length properties)) c.in-Some.is c.requires in
     let name : c.as_bytes.result.now ≡ slice_index_or names violation.property [] =
     c.as_bytes.ensures.value ∙ ap (λ (p : PropertyValue). p.name) c.property.view_is
     ∙ name_at properties violation.property property within c.index-properties-violation.is in
-    subst (λ line. OnOk c.add_line-in-Some.result (c.add_line-in-Some.new.out.items ≡ c.args.text.now.items ++ line ++ line_end))
+    subst (λ line. OnOk c.add_line-in-Some.result
+    (c.add_line-in-Some.new.out.items ≡ c.args.text.now.items ++ line ++ line_end))
     (ap (λ n. words n c.as_bytes.result.now c.from-in-Some.result) c.from.ensures
     ∙ ap (λ (bytes : List ℕ). words rounds bytes c.from-in-Some.result) name
     ∙ ap (words rounds (slice_index_or names violation.property [])) c.from-in-Some.ensures

@@ -16,11 +16,15 @@ loop-at-preserved c = λ h says.
     let verdict : c.said.result ≡ holds property.form h round =
     c.said.ensures ∙ ap (λ bits. slice_index_or bits at false) says
     ∙ verdict_at properties h round at property false c.loop-at-test.true c.index-properties-at.is in
-    lines_turn line_end (verdict_of h round) properties at property _ _ _ c.loop-at-test.true c.index-properties-at.is (c.loop-at.invariant h says)
-    (c.in_ok-add_verdict.ensures ∙ ap (λ said. c.loop-at.text.items ++ verdict_line property.name said ++ line_end) verdict)
+    lines_turn line_end (verdict_of h round) properties at property _ _ _ c.loop-at-test.true c.index-properties-at.is
+    (c.loop-at.invariant h says)
+    (c.in_ok-add_verdict.ensures
+    ∙ ap (λ said. c.loop-at.text.items ++ verdict_line property.name said ++ line_end) verdict)
 
 pub returns : goal.returns
 returns c = λ h says.
     let properties = c.args.properties.now in
-    round_and_verdicts properties h c.args.round c.args.text.now.items c.add_round.new.out.items _ c.in_ok-add_round.ensures.ok
-    (lines_all line_end (verdict_of h c.args.round) properties c.loop-at.at _ _ (omega arith) (c.loop-at.invariant h says))
+    round_and_verdicts properties h c.args.round c.args.text.now.items c.add_round.new.out.items _
+    c.in_ok-add_round.ensures.ok
+    (lines_all line_end (verdict_of h c.args.round) properties c.loop-at.at _ _ (omega arith)
+    (c.loop-at.invariant h says))

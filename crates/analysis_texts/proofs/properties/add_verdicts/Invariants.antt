@@ -13,4 +13,5 @@ use Rattle.analysis_texts.proofs.properties.add_verdicts.Given as goal
 abbrev pub invariant-loop-at : goal.invariant-loop-at
 invariant-loop-at l =
     (h : List (List Frame)) → said_by l.monitors ≡ verdicts (formulas l.properties) h l.round
-    → l.text.items ≡ l.initial.text.items ++ text_of (map (λ (p : PropertyValue). verdict_line p.name (holds p.form h l.round)) (take l.at l.properties))
+    → l.text.items ≡ l.initial.text.items
+    ++ text_of (map (λ (p : PropertyValue). verdict_line p.name (holds p.form h l.round)) (take l.at l.properties))

@@ -11,5 +11,7 @@ returns-clause-further c env here at =
 pub returns-clause-watches : goal.returns-clause-watches
 returns-clause-watches c env fs here at watched =
     let old = c.args.product.now in
-    let parts : c.parts.result.now ≡ (advanced old c.args.values.now).parts = c.parts.ensures ∙ ap (λ (s : ProductState). s.parts) c.in_ok-advance.ensures.ok in
-    c.advance-2.ensures.composed old.design env fs watched (row_after env c.args.round c.args.values.now old c.parts.result.now here at parts)
+    let parts : c.parts.result.now ≡ (advanced old c.args.values.now).parts = c.parts.ensures
+    ∙ ap (λ (s : ProductState). s.parts) c.in_ok-advance.ensures.ok in
+    c.advance-2.ensures.composed old.design env fs watched
+    (row_after env c.args.round c.args.values.now old c.parts.result.now here at parts)

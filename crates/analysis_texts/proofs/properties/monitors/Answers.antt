@@ -18,4 +18,5 @@ loop-property-preserved c =
 
 pub returns : goal.returns
 returns c =
-    subst (λ ps. HasWatched c.loop-property.monitors (formulas ps) []) (take_all c.loop-property.property-index c.args.properties.now (omega arith)) c.loop-property.invariant
+    subst (λ ps. HasWatched c.loop-property.monitors (formulas ps) [])
+    (take_all c.loop-property.property-index c.args.properties.now (omega arith)) c.loop-property.invariant

@@ -30,17 +30,23 @@ loop-round-preserved c =
     let wide : length written ≡ length env.lists = ap length c.write_values.ensures ∙ length_values_at env round in
     let whole : take values.len (written ++ drop (length written) values.items) ≡ written =
     written_whole values.len written values.items (omega arith) (wide ∙ sym c.loop-round.invariant.values) in
-    let here : c.as_slice.result.now ≡ values_at env round = c.as_slice.ensures.value ∙ whole ∙ c.write_values.ensures in
+    let here : c.as_slice.result.now ≡ values_at env round = c.as_slice.ensures.value ∙ whole
+    ∙ c.write_values.ensures in
     let same = c.loop-round.invariant.design in
     let stands = c.loop-round.invariant.stands ∙ ap (λ d. comp d env round) (sym same) in
-    let watched = subst (λ d. HasWatched c.loop-round.monitors (formulas properties) (history d env round)) (sym same) c.loop-round.invariant.watched in
+    let watched =
+    subst (λ d. HasWatched c.loop-round.monitors (formulas properties) (history d env round)) (sym same)
+    c.loop-round.invariant.watched in
     let watches = c.in_ok-go_on.ensures.watches env (formulas properties) here stands watched in
     record {
       design = c.in_ok-go_on.ensures.design ∙ same;
       stands = c.in_ok-go_on.ensures.further env here stands ∙ ap (λ d. comp d env (round + 1)) same;
-      watched = subst (λ d. HasWatched c.go_on.new.monitors (formulas properties) (history d env (round + 1))) same watches.watched;
+      watched =
+          subst (λ d. HasWatched c.go_on.new.monitors (formulas properties) (history d env (round + 1))) same
+          watches.watched;
       rows = c.in_ok-add_verdicts.ensures (history c.loop-round.product.design env (round + 1)) watches.says
-          ∙ ap (λ d. c.loop-round.text.items ++ text_of (watched_lines (named properties) (history d env (round + 1)) round)) same
+          ∙ ap (λ d. c.loop-round.text.items
+          ++ text_of (watched_lines (named properties) (history d env (round + 1)) round)) same
           ∙ rows_more design env round properties c.loop-round.text.items c.loop-round.invariant.rows;
       values = ap length whole ∙ wide;
     }
@@ -49,7 +55,8 @@ pub add_end-requires : goal.add_end-requires
 add_end-requires c =
     let properties = c.args.properties.now in
     subst (λ o. IfSome o (λ v. v.property < length properties)) (sym c.violation-violation.ensures)
-    (found_within c.args.product.now.design c.args.env.now c.loop-round.round properties c.loop-round.monitors c.loop-round.invariant.watched)
+    (found_within c.args.product.now.design c.args.env.now c.loop-round.round properties c.loop-round.monitors
+    c.loop-round.invariant.watched)
 
 pub returns-clause-text : goal.returns-clause-text
 returns-clause-text c =
@@ -60,7 +67,8 @@ returns-clause-text c =
     let all : c.loop-round.round ≡ c.args.rounds = omega arith in
     watched_whole design env c.args.rounds properties c.violation-violation.result c.loop-round.text.items _
     (c.loop-round.invariant.rows ∙ ap (λ n. watched_rows design env n (named properties)) all)
-    (c.violation-violation.ensures ∙ found_is design env c.loop-round.round fs c.loop-round.monitors c.loop-round.invariant.watched
+    (c.violation-violation.ensures
+    ∙ found_is design env c.loop-round.round fs c.loop-round.monitors c.loop-round.invariant.watched
     ∙ ap (λ n. violation fs (history design env n) n) all)
     c.in_ok-add_end.ensures
 

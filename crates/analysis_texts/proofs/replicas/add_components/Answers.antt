@@ -17,7 +17,8 @@ bounds-names-node c =
     omega (
       arith,
       ap length c.requires,
-      length-numbered (λ (numbered : ℕ × Component). names_of numbered.1.path (is_replicated product.replicated numbered.0)) 0 product.design.components,
+      length-numbered (λ (numbered : ℕ × Component).
+          names_of numbered.1.path (is_replicated product.replicated numbered.0)) 0 product.design.components,
       ap length same,
       c.loop-node-test.true,
     )
@@ -29,11 +30,14 @@ add_replicas-requires-clause-names c =
     let node = c.loop-node.node in
     let component = c.index-components-node.result in
     let same = c.components-components.ensures.value ∙ ap (λ (d : DesignParts). d.components) c.design.ensures in
-    let is = item_at components c.components-components.result.now node component same c.loop-node-test.true c.index-components-node.is in
+    let is =
+    item_at components c.components-components.result.now node component same c.loop-node-test.true
+    c.index-components-node.is in
     c.as_slice-names.ensures.value
     ∙ entry_at c.args.names.now (all_names components product.replicated) node c.index-names-node.result
     (names_of component.path (is_replicated product.replicated node)) c.requires
-    (numbered-at (λ (numbered : ℕ × Component). names_of numbered.1.path (is_replicated product.replicated numbered.0)) components node component is)
+    (numbered-at (λ (numbered : ℕ × Component). names_of numbered.1.path (is_replicated product.replicated numbered.0))
+    components node component is)
     c.index-names-node.is
 
 pub loop-node-preserved : goal.loop-node-preserved
@@ -45,12 +49,15 @@ loop-node-preserved c =
     let component = c.index-components-node.result in
     let frame = frame_at product.voted in
     let out = c.loop-node.text.items in
-    let same : items ≡ components = c.components-components.ensures.value ∙ ap (λ (d : DesignParts). d.components) c.design.ensures in
+    let same : items ≡ components = c.components-components.ensures.value
+    ∙ ap (λ (d : DesignParts). d.components) c.design.ensures in
     let split : drop node components ≡ component ∷ drop (node + 1) components
     = ap (drop node) (sym same) ∙ drop_more items node component c.loop-node-test.true
     ∙ ap (λ (x : Component). x ∷ drop (node + 1) items) (sym c.index-components-node.is)
     ∙ ap (λ (cs : List Component). component ∷ drop (node + 1) cs) same in
     let lines = replica_lines product.replicated frame node component in
-    lines_turn out c.add_replicas.new.text.items (c.args.text.now.items ++ text_of (all_lines product.replicated frame 0 components)) lines lines
+    lines_turn out c.add_replicas.new.text.items
+    (c.args.text.now.items ++ text_of (all_lines product.replicated frame 0 components)) lines lines
     (all_lines product.replicated frame (node + 1) (drop (node + 1) components)) c.in_ok-add_replicas.ensures refl
-    (ap (λ (cs : List Component). out ++ text_of (all_lines product.replicated frame node cs)) (sym split) ∙ c.loop-node.invariant)
+    (ap (λ (cs : List Component). out ++ text_of (all_lines product.replicated frame node cs)) (sym split)
+    ∙ c.loop-node.invariant)

@@ -7,5 +7,7 @@ use Rattle.analysis_texts.proofs.replicas.add_components.Given as goal
 -- the lines so far, and those of the components that are left
 abbrev pub invariant-loop-node : goal.invariant-loop-node
 invariant-loop-node l =
-    l.text.items ++ text_of (all_lines l.product.replicated (frame_at l.product.voted) l.node (drop l.node l.product.design.components))
-    ≡ l.initial.text.items ++ text_of (all_lines l.product.replicated (frame_at l.product.voted) 0 l.product.design.components)
+    l.text.items ++ text_of (all_lines l.product.replicated (frame_at l.product.voted) l.node
+    (drop l.node l.product.design.components))
+    ≡ l.initial.text.items ++ text_of
+    (all_lines l.product.replicated (frame_at l.product.voted) 0 l.product.design.components)

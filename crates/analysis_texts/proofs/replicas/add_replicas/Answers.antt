@@ -14,7 +14,8 @@ use Rattle.analysis_texts.proofs.VotedRows.{replica_line, copies_few}
 use Rattle.analysis_texts.proofs.replicas.add_replicas.Goals as goal
 
 -- there are at most three names
-few : (path : List ℕ) (replicated : List Bool) (node : ℕ) (names : List (List ℕ)) → names ≡ names_of path (is_replicated replicated node)
+few : (path : List ℕ) (replicated : List Bool) (node : ℕ) (names : List (List ℕ))
+    → names ≡ names_of path (is_replicated replicated node)
     → (length names ≡ copies_of replicated node) × (length names ≤ 3)
 few path replicated node names are =
     let same : length names ≡ copies_of replicated node
@@ -23,17 +24,20 @@ few path replicated node names are =
 
 pub overflow_cast-at : goal.overflow_cast-at
 overflow_cast-at c =
-    let count = few c.args.component.now.path c.args.product.now.replicated c.args.node.0 c.args.names.now c.requires.names in
+    let count =
+    few c.args.component.now.path c.args.product.now.replicated c.args.node.0 c.args.names.now c.requires.names in
     omega (arith, count.1, c.loop-at-test.true)
 
 pub overflow_add-at : goal.overflow_add-at
 overflow_add-at c =
-    let count = few c.args.component.now.path c.args.product.now.replicated c.args.node.0 c.args.names.now c.requires.names in
+    let count =
+    few c.args.component.now.path c.args.product.now.replicated c.args.node.0 c.args.names.now c.requires.names in
     omega (arith, count.1, c.loop-at-test.true)
 
 pub frame-frame-requires : goal.frame-frame-requires
 frame-frame-requires c =
-    let count = few c.args.component.now.path c.args.product.now.replicated c.args.node.0 c.args.names.now c.requires.names in
+    let count =
+    few c.args.component.now.path c.args.product.now.replicated c.args.node.0 c.args.names.now c.requires.names in
     record { node = c.requires.node; low = omega arith; high = omega (arith, count.0, c.loop-at-test.true) }
 
 pub loop-at-preserved : goal.loop-at-preserved
@@ -49,13 +53,18 @@ loop-at-preserved c =
     let count = few component.path product.replicated node c.args.names.now c.requires.names in
     let below : at < copies = omega (arith, count.0, c.loop-at-test.true) in
     let named : name ≡ naming at
-    = c.index-names-at.is ∙ ap (λ (ns : List (List ℕ)). slice_index_or ns at name) c.requires.names ∙ table-at naming copies at name below in
+    =
+    c.index-names-at.is ∙ ap (λ (ns : List (List ℕ)). slice_index_or ns at name) c.requires.names
+    ∙ table-at naming copies at name below in
     let place : at + 1 - 1 ≡ at = omega arith in
-    let framed : c.frame-frame.result.now ≡ frame_at product.voted node at = c.frame-frame.ensures ∙ ap (frame_at product.voted node) place in
-    counted_turn (replica_line product.replicated (frame_at product.voted) node component) at c.args.text.now.items out c.add_frame.new.out.items c.loop-at.invariant
+    let framed : c.frame-frame.result.now ≡ frame_at product.voted node at = c.frame-frame.ensures
+    ∙ ap (frame_at product.voted node) place in
+    counted_turn (replica_line product.replicated (frame_at product.voted) node component) at c.args.text.now.items out
+    c.add_frame.new.out.items c.loop-at.invariant
     (c.in_ok-add_frame.ensures.ok
     ∙ ap₂ (λ (n : List ℕ) (f : Frame). out ++ component_line n c.parts.result.now f ++ line_end) named framed
-    ∙ ap (λ (b : BehaviourParts). out ++ component_line (naming at) b (frame_at product.voted node at) ++ line_end) c.parts.ensures.value)
+    ∙ ap (λ (b : BehaviourParts). out ++ component_line (naming at) b (frame_at product.voted node at) ++ line_end)
+    c.parts.ensures.value)
 
 pub returns : goal.returns
 returns c =
@@ -64,4 +73,6 @@ returns c =
     let count = few c.args.component.now.path product.replicated node c.args.names.now c.requires.names in
     let all : c.loop-at.at ≡ copies_of product.replicated node = omega (arith, count.0, c.loop-at-test.false) in
     c.loop-at.invariant
-    ∙ ap (λ n. c.args.text.now.items ++ text_of (map (replica_line product.replicated (frame_at product.voted) node c.args.component.now) (upwards 0 n))) all
+    ∙ ap (λ n. c.args.text.now.items
+    ++ text_of (map (replica_line product.replicated (frame_at product.voted) node c.args.component.now)
+    (upwards 0 n))) all

@@ -8,4 +8,6 @@ use Rattle.analysis_texts.proofs.replicas.add_replicas.Given as goal
 -- the lines so far
 abbrev pub invariant-loop-at : goal.invariant-loop-at
 invariant-loop-at l =
-    l.text.items ≡ l.initial.text.items ++ text_of (map (replica_line l.product.replicated (frame_at l.product.voted) l.node.0 l.component) (upwards 0 l.at))
+    l.text.items ≡ l.initial.text.items
+    ++ text_of (map (replica_line l.product.replicated (frame_at l.product.voted) l.node.0 l.component)
+    (upwards 0 l.at))

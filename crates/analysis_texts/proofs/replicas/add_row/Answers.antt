@@ -14,7 +14,9 @@ returns c = λ shown are.
     let same = c.parts.ensures.value ∙ c.design.ensures in
     on_ok_weaker c.add_taps.result
     (λ added.
-    row_of_parts product.design product.replicated (frame_at product.voted) shown c.args.round c.args.text.now.items c.add_round.new.out.items c.add_components.new.text.items
+    row_of_parts product.design product.replicated (frame_at product.voted) shown c.args.round c.args.text.now.items
+    c.add_round.new.out.items c.add_components.new.text.items
     c.add_taps.new.text.items c.in_ok-add_round.ensures.ok c.in_ok-add_components.ensures
-    (added ∙ ap (λ (d : DesignParts). c.add_components.new.text.items ++ text_of (map (shown_line d shown) d.taps)) same))
+    (added ∙ ap (λ (d : DesignParts). c.add_components.new.text.items
+    ++ text_of (map (shown_line d shown) d.taps)) same))
     (c.add_taps.ensures shown (c.shown.ensures ∙ are ∙ ap (λ (d : DesignParts). map shown d.taps) (sym same)))

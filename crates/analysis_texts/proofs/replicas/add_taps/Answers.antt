@@ -21,11 +21,14 @@ loop-number-preserved c = λ all are.
     ∙ get_or-map all design.taps at tap c.index-shown-number.result within ∙ ap all (sym is) in
     let out = c.loop-number.text.items in
     lines_turn line_end (shown_line design all) design.taps at tap _ _ _ within is (c.loop-number.invariant all are)
-    (c.in_ok-add_shown.ensures.ok ∙ ap (λ kind. out ++ tap_line kind tap c.as_slice.result.now ++ line_end) c.out_kind-kind.ensures
-    ∙ ap (λ t. out ++ tap_line (out_kind (slice_get design.components tap.source.0) tap.out_port) tap t ++ line_end) tuple)
+    (c.in_ok-add_shown.ensures.ok
+    ∙ ap (λ kind. out ++ tap_line kind tap c.as_slice.result.now ++ line_end) c.out_kind-kind.ensures
+    ∙ ap (λ t. out ++ tap_line (out_kind (slice_get design.components tap.source.0) tap.out_port) tap t
+    ++ line_end) tuple)
 
 pub returns : goal.returns
 returns c = λ all are.
     let taps = c.args.design.now.taps in
     let same = c.as_slice-tap-items.ensures.value in
-    lines_all line_end (shown_line c.args.design.now all) taps c.loop-number.number _ _ (omega (arith, ap length same)) (c.loop-number.invariant all are)
+    lines_all line_end (shown_line c.args.design.now all) taps c.loop-number.number _ _ (omega (arith, ap length same))
+    (c.loop-number.invariant all are)

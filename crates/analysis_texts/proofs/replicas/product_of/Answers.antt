@@ -12,7 +12,8 @@ use Rattle.analysis_texts.proofs.replicas.product_of.Goals as goal
 
 pub new-requires-2 : goal.new-requires-2
 new-requires-2 c =
-    ap length c.in_ok-replicated.ensures ∙ length-table (is_among c.args.replicas.now) (length c.components.result.now) ∙ ap length c.components.ensures.value
+    ap length c.in_ok-replicated.ensures ∙ length-table (is_among c.args.replicas.now) (length c.components.result.now)
+    ∙ ap length c.components.ensures.value
     ∙ ap (λ (d : DesignParts). length d.components) (sym c.in_ok-new.ensures.ok)
 
 pub returns-clause-begun : goal.returns-clause-begun
@@ -22,6 +23,9 @@ returns-clause-begun c =
     let held = arc_value c.in_ok-new.field-0 in
     let marks = c.in_ok-replicated.replicated.items in
     let marked : marks ≡ replicated_in design replicas
-    = c.in_ok-replicated.ensures ∙ ap (λ (cs : List Component). map (is_among replicas) (upwards 0 (length cs))) c.components.ensures.value in
-    IfOk-weaker c.new-2.result (λ (product : VotedState). product ≡ vbegun held marks) (λ (product : VotedState). product ≡ vbegun design (replicated_in design replicas))
+    =
+    c.in_ok-replicated.ensures
+    ∙ ap (λ (cs : List Component). map (is_among replicas) (upwards 0 (length cs))) c.components.ensures.value in
+    IfOk-weaker c.new-2.result (λ (product : VotedState). product ≡ vbegun held marks)
+    (λ (product : VotedState). product ≡ vbegun design (replicated_in design replicas))
     (λ product is. is ∙ ap₂ vbegun c.in_ok-new.ensures.ok marked) c.new-2.ensures

@@ -29,7 +29,8 @@ advance-requires c =
     let faults = c.as_slice-in-loop-round.result.now in
     let listed = c.as_slice-in-loop-round.ensures.value ∙ c.index-faults-round.is in
     subst (λ (d : DesignParts). All (IsFault d) faults) (sym c.loop-round.invariant.design)
-    (subst (λ (fs : List VoteFault). All (IsFault design) fs) (sym listed) (c.requires.faults c.loop-round.round c.index-faults-round.result c.loop-round-test.true))
+    (subst (λ (fs : List VoteFault). All (IsFault design) fs) (sym listed)
+    (c.requires.faults c.loop-round.round c.index-faults-round.result c.loop-round-test.true))
 
 pub add_row-requires : goal.add_row-requires
 add_row-requires c =
@@ -40,8 +41,12 @@ add_row-requires c =
     let design = ap (λ (s : VotedState). s.design) advanced ∙ c.loop-round.invariant.design in
     let replicated = ap (λ (s : VotedState). s.replicated) advanced ∙ c.loop-round.invariant.replicated in
     record {
-      names = c.requires.names ∙ ap₂ (λ (d : DesignParts) (r : List Bool). all_names d.components r) (sym design) (sym replicated);
-      shown = ap (λ (s : VotedState). length s.shown) advanced ∙ length-map old.design.taps (vshown_by old.design old.replicated values old.voted)
+      names =
+          c.requires.names ∙ ap₂ (λ (d : DesignParts) (r : List Bool). all_names d.components r) (sym design)
+          (sym replicated);
+      shown =
+          ap (λ (s : VotedState). length s.shown) advanced
+          ∙ length-map old.design.taps (vshown_by old.design old.replicated values old.voted)
           ∙ ap (λ (s : VotedState). length s.design.taps) (sym advanced);
     }
 
@@ -59,15 +64,19 @@ loop-round-preserved c =
     let wide : length written ≡ length env.lists = ap length c.write_values.ensures ∙ length_values_at env round in
     let whole : take values.len (written ++ drop (length written) values.items) ≡ written =
     written_whole values.len written values.items (omega arith) (wide ∙ sym c.loop-round.invariant.values) in
-    let here : c.as_slice.result.now ≡ values_at env round = c.as_slice.ensures.value ∙ whole ∙ c.write_values.ensures in
-    let advanced : new ≡ vadvanced old c.as_slice.result.now c.as_slice-in-loop-round.result.now = c.in_ok-advance.ensures.ok in
+    let here : c.as_slice.result.now ≡ values_at env round = c.as_slice.ensures.value ∙ whole
+    ∙ c.write_values.ensures in
+    let advanced : new ≡ vadvanced old c.as_slice.result.now c.as_slice-in-loop-round.result.now =
+    c.in_ok-advance.ensures.ok in
     record {
       design = ap (λ (s : VotedState). s.design) advanced ∙ c.loop-round.invariant.design;
       replicated = ap (λ (s : VotedState). s.replicated) advanced ∙ c.loop-round.invariant.replicated;
       voted = λ all are.
           (let before = c.loop-round.invariant.voted all are in
           let faults : c.as_slice-in-loop-round.result.now ≡ all round
-          = c.as_slice-in-loop-round.ensures.value ∙ c.index-faults-round.is ∙ ap (λ (t : List (List VoteFault)). slice_index_or t round c.index-faults-round.result) are
+          =
+          c.as_slice-in-loop-round.ensures.value ∙ c.index-faults-round.is
+          ∙ ap (λ (t : List (List VoteFault)). slice_index_or t round c.index-faults-round.result) are
           ∙ table-at all (length c.args.faults.now) round c.index-faults-round.result c.loop-round-test.true in
           let makes : MakesRound design env replicated all round old new
           = record {
@@ -76,7 +85,8 @@ loop-round-preserved c =
             voted_is = before.stands;
             made = advanced ∙ ap₂ (vadvanced old) here faults;
           } in
-          voted_more design env replicated all round old new c.loop-round.text.items c.add_row.new.text.items makes before.rows c.in_ok-add_row.ensures);
+          voted_more design env replicated all round old new c.loop-round.text.items c.add_row.new.text.items makes
+          before.rows c.in_ok-add_row.ensures);
       values = ap length whole ∙ wide;
     }
 

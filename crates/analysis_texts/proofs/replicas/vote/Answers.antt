@@ -28,17 +28,22 @@ returns c =
     let replicas = c.args.replicas.now in
     let faults = c.args.faults in
     let rules = c.in_ok-product.ensures.rules in
-    let rows : IfOk c.voted.result (λ text. text.items ≡ vreport design env (replicated_in design replicas) (faults_of faults) rounds) =
-    subst (λ (d : DesignParts). IfOk c.voted.result (λ text. text.items ≡ vreport d env (replicated_in d replicas) (faults_of faults) rounds))
+    let rows : IfOk c.voted.result (λ text. text.items
+    ≡ vreport design env (replicated_in design replicas) (faults_of faults) rounds) =
+    subst (λ (d : DesignParts).
+    IfOk c.voted.result (λ text. text.items ≡ vreport d env (replicated_in d replicas) (faults_of faults) rounds))
     (ap (λ (s : VotedState). s.design) c.in_ok-product.ensures.begun) c.voted.ensures in
     record {
       rows = rows;
       outvoted =
-          IfOk-weaker c.voted.result (λ text. text.items ≡ vreport design env (replicated_in design replicas) (faults_of faults) rounds)
-          (λ text. AreOutvoted (faults_of faults) → text.items ≡ thrice design env (replicated_in design replicas) rounds)
+          IfOk-weaker c.voted.result
+          (λ text. text.items ≡ vreport design env (replicated_in design replicas) (faults_of faults) rounds)
+          (λ text. AreOutvoted (faults_of faults)
+          → text.items ≡ thrice design env (replicated_in design replicas) rounds)
           (λ text is fits. is ∙ rows_outvoted design env replicas faults rounds rules c.requires fits) rows;
       alone =
-          IfOk-weaker c.voted.result (λ text. text.items ≡ vreport design env (replicated_in design replicas) (faults_of faults) rounds)
+          IfOk-weaker c.voted.result
+          (λ text. text.items ≡ vreport design env (replicated_in design replicas) (faults_of faults) rounds)
           (λ text. replicas ≡ [] → text.items ≡ report design env rounds)
           (λ text is none. is ∙ rows_alone design env replicas faults rounds rules c.requires none) rows;
     }

@@ -16,13 +16,17 @@ rows-requires c =
     let product = c.args.product.now in
     let design = product.design in
     let replicas = c.args.replicas.now in
-    let marked : product.replicated ≡ replicated_in design replicas = ap (λ (s : VotedState). s.replicated) c.requires.product in
+    let marked : product.replicated ≡ replicated_in design replicas =
+    ap (λ (s : VotedState). s.replicated) c.requires.product in
     let listed = c.as_slice-2.ensures.value ∙ c.in_ok-faults.ensures in
     record {
       opening = ap (λ (s : VotedState). s.voted) c.requires.product ∙ ap (vopening design) (sym marked);
-      names = c.as_slice.ensures.value ∙ c.in_ok-names.ensures ∙ ap (λ (d : DesignParts). all_names d.components (replicated_in d replicas)) c.design.ensures
+      names =
+          c.as_slice.ensures.value ∙ c.in_ok-names.ensures
+          ∙ ap (λ (d : DesignParts). all_names d.components (replicated_in d replicas)) c.design.ensures
           ∙ ap (all_names design.components) (sym marked);
-      count = omega (arith, ap length listed, length-table (faults_of c.args.faults) c.args.rounds, c.ranges.rounds.fits);
+      count =
+          omega (arith, ap length listed, length-table (faults_of c.args.faults) c.args.rounds, c.ranges.rounds.fits);
       faults = rounds_keep design replicas c.args.faults c.args.rounds c.as_slice-2.result.now c.requires.faults listed;
     }
 
@@ -34,11 +38,13 @@ returns c =
     let replicas = c.args.replicas.now in
     let faults = faults_of c.args.faults in
     let table = c.as_slice-2.result.now in
-    let marked : product.replicated ≡ replicated_in design replicas = ap (λ (s : VotedState). s.replicated) c.requires.product in
+    let marked : product.replicated ≡ replicated_in design replicas =
+    ap (λ (s : VotedState). s.replicated) c.requires.product in
     let listed : table ≡ map faults (upwards 0 c.args.rounds) = c.as_slice-2.ensures.value ∙ c.in_ok-faults.ensures in
     let count : length table ≡ c.args.rounds = ap length listed ∙ length-table faults c.args.rounds in
     IfOk-weaker c.rows.result (λ text. text.items ≡ vreport design env product.replicated faults (length table))
     (λ text. text.items ≡ vreport design env (replicated_in design replicas) faults c.args.rounds)
     (λ text is.
-    is ∙ ap (λ (r : List Bool). vreport design env r faults (length table)) marked ∙ ap (vreport design env (replicated_in design replicas) faults) count)
+    is ∙ ap (λ (r : List Bool). vreport design env r faults (length table)) marked
+    ∙ ap (vreport design env (replicated_in design replicas) faults) count)
     (c.rows.ensures faults (listed ∙ ap (λ n. map faults (upwards 0 n)) (sym count)))

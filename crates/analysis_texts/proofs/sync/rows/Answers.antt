@@ -16,7 +16,11 @@ loop-round-init c = record {
 }
 
 pub add_round-requires : goal.add_round-requires
-add_round-requires c = record { places = c.requires.places ∙ ap (λ (d : DesignParts). tap_places d.taps) (sym c.loop-round.invariant.design) }
+add_round-requires c =
+    record {
+      places = c.requires.places
+          ∙ ap (λ (d : DesignParts). tap_places d.taps) (sym c.loop-round.invariant.design);
+    }
 
 pub loop-round-preserved : goal.loop-round-preserved
 loop-round-preserved c =
@@ -28,7 +32,8 @@ loop-round-preserved c =
     let wide : length written ≡ length env.lists = ap length c.write_values.ensures ∙ length_values_at env round in
     let whole : take values.len (written ++ drop (length written) values.items) ≡ written =
     written_whole values.len written values.items (omega arith) (wide ∙ sym c.loop-round.invariant.values) in
-    let here : c.as_slice.result.now ≡ values_at env round = c.as_slice.ensures.value ∙ whole ∙ c.write_values.ensures in
+    let here : c.as_slice.result.now ≡ values_at env round = c.as_slice.ensures.value ∙ whole
+    ∙ c.write_values.ensures in
     let same = c.loop-round.invariant.design in
     let stands = c.loop-round.invariant.stands ∙ ap (λ d. comp d env round) (sym same) in
     record {

@@ -10,6 +10,8 @@ loop-variable-preserved c =
     let variables = c.args.variables.now in
     let at = c.loop-variable.variable-index in
     let item = c.variable-item.result in (
-      lines_turn line_end variable_line variables at item _ _ _ c.loop-variable-test.true c.variable-item.is c.loop-variable.invariant.0 c.in_ok-add_variable.ensures.ok,
-      holds_turn FirstFits variables at item c.loop-variable-test.true c.variable-item.is c.loop-variable.invariant.1 c.in_ok-add_variable.ensures.fit,
+      lines_turn line_end variable_line variables at item _ _ _ c.loop-variable-test.true c.variable-item.is
+          c.loop-variable.invariant.0 c.in_ok-add_variable.ensures.ok,
+      holds_turn FirstFits variables at item c.loop-variable-test.true c.variable-item.is c.loop-variable.invariant.1
+          c.in_ok-add_variable.ensures.fit,
     )

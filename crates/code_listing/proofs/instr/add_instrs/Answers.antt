@@ -13,16 +13,20 @@ loop-place-preserved c =
     let instrs = c.args.instrs.now in
     let at = c.loop-place.place in
     let here = get_or_default instrs at _ _ c.loop-place-test.true in (
-      lines_turn line_end (λ numbered. instr_line c.args.behaviour.now numbered.0 numbered.1) (enumerate_from 0 instrs) at (at, _) _ _ _
-          (numbered_within instrs at c.loop-place-test.true) (numbered_at instrs at _ c.loop-place-test.true here) c.loop-place.invariant.0
+      lines_turn line_end (λ numbered. instr_line c.args.behaviour.now numbered.0 numbered.1) (enumerate_from 0 instrs)
+          at (at, _) _ _ _
+          (numbered_within instrs at c.loop-place-test.true) (numbered_at instrs at _ c.loop-place-test.true here)
+          c.loop-place.invariant.0
           c.in_ok-add_instr.ensures.ok,
-      holds_turn InstrFits instrs at _ c.loop-place-test.true here c.loop-place.invariant.1 c.in_ok-add_instr.ensures.fit,
+      holds_turn InstrFits instrs at _ c.loop-place-test.true here c.loop-place.invariant.1
+          c.in_ok-add_instr.ensures.fit,
     )
 
 pub returns-clause-ok : goal.returns-clause-ok
 returns-clause-ok c =
     let instrs = c.args.instrs.now in
-    lines_all line_end (λ numbered. instr_line c.args.behaviour.now numbered.0 numbered.1) (enumerate_from 0 instrs) c.loop-place.place _ _
+    lines_all line_end (λ numbered. instr_line c.args.behaviour.now numbered.0 numbered.1) (enumerate_from 0 instrs)
+    c.loop-place.place _ _
     (numbered_end instrs c.loop-place.place (omega arith)) c.loop-place.invariant.0
 
 pub returns-clause-fit : goal.returns-clause-fit

@@ -13,11 +13,15 @@ returns-clause-ok c =
     let bounds : Adds old (design_lines design) _ = record { is = c.in_ok-add_bounds.ensures.ok } in
     let components = lines_behind _ all bounds c.in_ok-add_components.ensures.ok in
     let links = lines_behind _ (map (link_line design) design.links) components
-    (c.in_ok-add_links.ensures.ok ∙ ap (λ xs. c.add_components.new.out.items ++ text_of (map (link_line design) xs)) c.as_slice.ensures.value) in
+    (c.in_ok-add_links.ensures.ok
+    ∙ ap (λ xs. c.add_components.new.out.items ++ text_of (map (link_line design) xs)) c.as_slice.ensures.value) in
     let feeds = lines_behind _ (map (feed_line design) design.feeds) links
-    (c.in_ok-add_feeds.ensures.ok ∙ ap (λ xs. c.add_links.new.out.items ++ text_of (map (feed_line design) xs)) c.as_slice-2.ensures.value) in
+    (c.in_ok-add_feeds.ensures.ok
+    ∙ ap (λ xs. c.add_links.new.out.items ++ text_of (map (feed_line design) xs)) c.as_slice-2.ensures.value) in
     let taps = lines_behind _ (map (tap_line design) design.taps) feeds
-    (c.in_ok-add_taps.ensures.ok ∙ ap (λ xs. c.add_feeds.new.out.items ++ text_of (map (tap_line design) xs)) c.as_slice-3.ensures.value) in
+    (c.in_ok-add_taps.ensures.ok
+    ∙ ap (λ xs. c.add_feeds.new.out.items ++ text_of (map (tap_line design) xs)) c.as_slice-3.ensures.value) in
     line_last c.add_line.result _ (codes "end") (listing_lines design c.args.codes.now) taps
-    (six_lists (design_lines design) all (map (link_line design) design.links) (map (feed_line design) design.feeds) (map (tap_line design) design.taps) (codes "end" ∷ []))
+    (six_lists (design_lines design) all (map (link_line design) design.links) (map (feed_line design) design.feeds)
+    (map (tap_line design) design.taps) (codes "end" ∷ []))
     c.add_line.ensures.ok

@@ -13,7 +13,10 @@ loop-at-preserved c =
     let item = c.place_before.ensures ∙ cut_place c.args.count at from c.place_before.result c.loop-at-test.true in
     record {
       len = grind (arith, common_steps);
-      done = ap (take (at + 1)) c.set.ensures ∙ filled_more c.loop-at.to wanted at c.place_before.result (omega arith) (omega arith) item c.loop-at.invariant.done;
+      done =
+          ap (take (at + 1)) c.set.ensures
+          ∙ filled_more c.loop-at.to wanted at c.place_before.result (omega arith) (omega arith) item
+          c.loop-at.invariant.done;
     }
 
 pub returns : goal.returns

@@ -18,14 +18,20 @@ loop-port-preserved c =
     let len : length tuples ≡ length values = c.loop-port.invariant.len in
     let below : k < length values = c.loop-port-test.true in
     let below' : k < length tuples = omega arith in
-    let is = c.set.ensures ∙ ap₂ (λ (x : List Port) (v : Port). slice_set x at v) c.index_mut.ensures.value c.place.ensures in
-    let size : length c.set.new.self ≡ length (slice_index_or tuples k item) = ap length is ∙ length-set (slice_index_or tuples k item) at (slice_index_or values k Absent) in
+    let is =
+    c.set.ensures ∙ ap₂ (λ (x : List Port) (v : Port). slice_set x at v) c.index_mut.ensures.value
+    c.place.ensures in
+    let size : length c.set.new.self ≡ length (slice_index_or tuples k item) = ap length is
+    ∙ length-set (slice_index_or tuples k item) at (slice_index_or values k Absent) in
     let inside : at < length (slice_index_or tuples k item) = c.loop-port.invariant.within k item below' in
     record {
       len = length-set tuples k c.set.new.self ∙ len;
-      within = All-set (λ (tuple : List Port). at < length tuple) tuples k c.set.new.self (omega arith) c.loop-port.invariant.within;
+      within =
+          All-set (λ (tuple : List Port). at < length tuple) tuples k c.set.new.self (omega arith)
+          c.loop-port.invariant.within;
       done =
           ap (slice_set tuples k) is
-          ∙ subst (λ ts. slice_set ts k (slice_set (slice_index_or ts k item) at (slice_index_or values k Absent)) ≡ with_places at (take (k + 1) values) c.args.tuples.now) (sym c.loop-port.invariant.done)
+          ∙ subst (λ ts. slice_set ts k (slice_set (slice_index_or ts k item) at (slice_index_or values k Absent))
+          ≡ with_places at (take (k + 1) values) c.args.tuples.now) (sym c.loop-port.invariant.done)
           (places_more at k values c.args.tuples.now item Absent below c.requires.count);
     }

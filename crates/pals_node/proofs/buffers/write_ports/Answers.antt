@@ -17,14 +17,18 @@ loop-at-preserved c =
     let new = c.write_cut.new.to in
     let below : at < length ports = c.loop-at-test.true in
     let many : length wanted ≡ length ports = length-map ports f in
-    let is : new ≡ f port = c.write_cut.ensures ∙ ap (cut c.args.count) (c.as_slice.ensures.value ∙ c.tuple_at-tuple.ensures) in
+    let is : new ≡ f port = c.write_cut.ensures
+    ∙ ap (cut c.args.count) (c.as_slice.ensures.value ∙ c.tuple_at-tuple.ensures) in
     let item : new ≡ slice_index_or wanted at new = is ∙ sym (get_or-map f ports at 0 new below) in
     let inside : port < length from = c.requires.ports at 0 below in
-    let size : length new ≡ c.args.places = ap length is ∙ length-cut c.args.count (slice_index_or from port []) ∙ c.requires.from_places port [] inside in
+    let size : length new ≡ c.args.places = ap length is ∙ length-cut c.args.count (slice_index_or from port [])
+    ∙ c.requires.from_places port [] inside in
     let len = c.loop-at.invariant.len in
     record {
       len = length-set c.loop-at.to at new ∙ len;
-      places_are = All-set (λ (tuple : List Port). length tuple ≡ c.args.places) c.loop-at.to at new size c.loop-at.invariant.places_are;
+      places_are =
+          All-set (λ (tuple : List Port). length tuple ≡ c.args.places) c.loop-at.to at new size
+          c.loop-at.invariant.places_are;
       done = filled_more c.loop-at.to wanted at new (omega arith) (omega arith) item c.loop-at.invariant.done;
     }
 

@@ -14,10 +14,13 @@ loop-at-preserved c =
     let len = c.loop-at.invariant.len in
     let within = c.loop-at-test.true in
     let below : at < length before = omega (arith, within, c.len-at-end.ensures) in
-    let is : slice_set c.loop-at.slots at c.slot_take-message.new.self ≡ slice_set c.loop-at.slots at no_message = ap (slice_set c.loop-at.slots at) c.slot_take-message.ensures.slot in
+    let is : slice_set c.loop-at.slots at c.slot_take-message.new.self ≡ slice_set c.loop-at.slots at no_message =
+    ap (slice_set c.loop-at.slots at) c.slot_take-message.ensures.slot in
     record {
       len = length-set c.loop-at.slots at _ ∙ len;
-      done = ap (take (at + 1)) is ∙ filled_more c.loop-at.slots wanted at no_message (omega arith) (omega arith) (empty_at before at (omega arith)) c.loop-at.invariant.done;
+      done =
+          ap (take (at + 1)) is ∙ filled_more c.loop-at.slots wanted at no_message (omega arith) (omega arith)
+          (empty_at before at (omega arith)) c.loop-at.invariant.done;
     }
 
 pub returns : goal.returns

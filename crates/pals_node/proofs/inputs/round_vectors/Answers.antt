@@ -9,7 +9,9 @@ use Rattle.pals_node.proofs.inputs.round_vectors.Goals as goal
 
 pub loop-step-preserved : goal.loop-step-preserved
 loop-step-preserved c =
-    let tuples = map (λ (p : Input × Option (List Port)). brought c.args.plan.now.rate c.args.env.now p.0 p.1) (zip c.args.plan.now.inputs c.args.slots.now) in
+    let tuples =
+    map (λ (p : Input × Option (List Port)). brought c.args.plan.now.rate c.args.env.now p.0 p.1)
+    (zip c.args.plan.now.inputs c.args.slots.now) in
     c.in_ok-push.ensures.ok
     ∙ ap₂ (λ (vs : List (List Port)) (v : List Port). vs ++ v ∷ []) c.loop-step.invariant c.in_ok-vector_at.ensures
     ∙ sym (map_upwards_more (λ (at : ℕ). column at tuples) c.loop-step.step)

@@ -8,4 +8,7 @@ use Rattle.pals_node.proofs.inputs.round_vectors.Given as goal
 
 -- the vectors so far
 abbrev pub invariant-loop-step : goal.invariant-loop-step
-invariant-loop-step l = l.vectors ≡ map (λ at. column at (map (λ (p : Input × Option (List Port)). brought l.plan.rate l.env p.0 p.1) (zip l.plan.inputs l.slots))) (upwards 0 l.step)
+invariant-loop-step l =
+    l.vectors ≡ map (λ at. column at
+    (map (λ (p : Input × Option (List Port)). brought l.plan.rate l.env p.0 p.1) (zip l.plan.inputs l.slots)))
+    (upwards 0 l.step)

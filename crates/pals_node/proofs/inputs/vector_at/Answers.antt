@@ -11,7 +11,8 @@ pub loop-at-preserved : goal.loop-at-preserved
 loop-at-preserved c =
     let inputs = c.args.plan.now.inputs in
     let slots = c.args.slots.now in
-    let f : Input × Option (List Port) → Port = λ p. slice_index_or (brought c.args.plan.now.rate c.args.env.now p.0 p.1) c.args.step Absent in
+    let f : Input × Option (List Port) → Port =
+    λ p. slice_index_or (brought c.args.plan.now.rate c.args.env.now p.0 p.1) c.args.step Absent in
     let same = c.requires.slots in
     let below : c.loop-at.at < length slots = c.loop-at-test.true in
     let within : c.loop-at.at < length inputs = omega arith in
@@ -28,4 +29,5 @@ returns c =
     let same = c.requires.slots in
     let out = c.loop-at-test.false in
     let past : length inputs ≤ c.loop-at.at = omega (arith, same, out) in
-    c.loop-at.invariant ∙ zip_all g inputs slots c.loop-at.at past same ∙ sym (column_of f c.args.step (zip inputs slots))
+    c.loop-at.invariant ∙ zip_all g inputs slots c.loop-at.at past same
+    ∙ sym (column_of f c.args.step (zip inputs slots))

@@ -8,4 +8,7 @@ use Rattle.pals_node.proofs.inputs.vector_at.Given as goal
 
 -- what the first ports have
 abbrev pub invariant-loop-at : goal.invariant-loop-at
-invariant-loop-at l = l.vector ≡ map (λ (p : Input × Option (List Port)). slice_index_or (brought l.plan.rate l.env p.0 p.1) l.step Absent) (zip (take l.at l.plan.inputs) (take l.at l.slots))
+invariant-loop-at l =
+    l.vector ≡ map (λ (p : Input × Option (List Port)).
+    slice_index_or (brought l.plan.rate l.env p.0 p.1) l.step Absent)
+    (zip (take l.at l.plan.inputs) (take l.at l.slots))

@@ -5,5 +5,6 @@ use Rattle.pals_node.proofs.job.same_entries.Goals as goal
 
 pub returns : goal.returns
 returns c =
-    let d : Decides c.eq.result (c.args.left.now ≡ c.args.right.now) = slice_eq-Decides (λ a b. search rules) _ _ _ c.eq.ensures in
+    let d : Decides c.eq.result (c.args.left.now ≡ c.args.right.now) =
+    slice_eq-Decides (λ a b. search rules) _ _ _ c.eq.ensures in
     search rules

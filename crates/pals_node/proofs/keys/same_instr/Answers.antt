@@ -5,6 +5,7 @@ use Rattle.pals_node.proofs.keys.same_instr.Goals as goal
 
 pub returns : goal.returns
 returns c = (
-  (λ is. same_key c.args.left c.args.right (sym c.key_of-left.ensures ∙ c.same_key.ensures.0 is ∙ c.key_of-right.ensures)),
+  (λ is. same_key c.args.left c.args.right
+      (sym c.key_of-left.ensures ∙ c.same_key.ensures.0 is ∙ c.key_of-right.ensures)),
   (λ same. c.same_key.ensures.1 (c.key_of-left.ensures ∙ ap key_of same ∙ sym c.key_of-right.ensures)),
 )

@@ -21,7 +21,8 @@ returns-then-lacks_at c =
     position_from-zero test (zip inputs slots)
     ∙ sym c.loop-at.invariant
     ∙ fails_more test inputs slots at at Nothing None c.loop-at-test.true c.requires.count
-    ∙ ap (λ b. cond b (Some at) (position_from test (at + 1) (zip (drop (suc at) inputs) (drop (suc at) slots)))) (sym c.lacks_at.ensures ∙ c.if-lacks_at.true)
+    ∙ ap (λ b. cond b (Some at) (position_from test (at + 1) (zip (drop (suc at) inputs) (drop (suc at) slots))))
+    (sym c.lacks_at.ensures ∙ c.if-lacks_at.true)
     )
 
 pub returns : goal.returns

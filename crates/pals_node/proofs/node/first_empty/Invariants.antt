@@ -9,5 +9,6 @@ use Rattle.pals_node.proofs.node.first_empty.Given as goal
 -- the first place is among those that are left
 abbrev pub invariant-loop-at : goal.invariant-loop-at
 invariant-loop-at l =
-    position_from (λ (p : Input × Option (List Port)). lacks p.0 p.1) l.at (zip (drop l.at l.inputs) (drop l.at l.slots))
+    position_from (λ (p : Input × Option (List Port)). lacks p.0 p.1) l.at
+    (zip (drop l.at l.inputs) (drop l.at l.slots))
     ≡ position_from (λ (p : Input × Option (List Port)). lacks p.0 p.1) 0 (zip l.inputs l.slots)

@@ -12,7 +12,8 @@ pub index-requires : goal.index-requires
 index-requires c =
     let design = c.args.design.now in
     let f : ℕ × Component → List PortSource = λ numbered. sources_of design numbered.0 numbered.1 in
-    let count : length c.in_ok-table.table ≡ length design.components = ap length c.in_ok-table.ensures ∙ length-numbered f 0 design.components in
+    let count : length c.in_ok-table.table ≡ length design.components = ap length c.in_ok-table.ensures
+    ∙ length-numbered f 0 design.components in
     let within = c.requires in
     omega arith
 

@@ -4,4 +4,5 @@ use Rattle.pals_node.proofs.plan.inputs_of.Given as goal
 
 -- the inputs so far, and those of the sources that are left
 abbrev pub invariant-loop-source : goal.invariant-loop-source
-invariant-loop-source l = l.inputs ++ map (input_of l.design) (drop l.source-index l.source-items) ≡ map (input_of l.design) l.source-items
+invariant-loop-source l =
+    l.inputs ++ map (input_of l.design) (drop l.source-index l.source-items) ≡ map (input_of l.design) l.source-items

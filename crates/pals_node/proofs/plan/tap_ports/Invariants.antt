@@ -6,5 +6,6 @@ use Rattle.pals_node.proofs.plan.tap_ports.Given as goal
 -- the ports so far, and those of the taps that are left
 abbrev pub invariant-loop-tap : goal.invariant-loop-tap
 invariant-loop-tap l =
-    l.ports ++ map (λ (tap : Tap). tap.out_port) (filter (λ (tap : Tap). nat_eq tap.source.0 l.node.0) (drop l.tap-index l.tap-items))
+    l.ports ++ map (λ (tap : Tap). tap.out_port)
+    (filter (λ (tap : Tap). nat_eq tap.source.0 l.node.0) (drop l.tap-index l.tap-items))
     ≡ map (λ (tap : Tap). tap.out_port) (filter (λ (tap : Tap). nat_eq tap.source.0 l.node.0) l.tap-items)

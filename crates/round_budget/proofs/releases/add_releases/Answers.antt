@@ -24,9 +24,11 @@ loop-step-preserved c =
     let items = c.loop-step.releases.items in
     let before = c.args.releases.now.items in
     let x : Release = record { node = c.args.node; step = step; time = p + c.from.result * g } in
-    let rate : c.rate-rate.result ≡ rate_of design node = c.rate-rate.ensures ∙ ap (λ (d : DesignParts). rate_of d node) c.parts.ensures.value in
+    let rate : c.rate-rate.result ≡ rate_of design node = c.rate-rate.ensures
+    ∙ ap (λ (d : DesignParts). rate_of d node) c.parts.ensures.value in
     let gap : g ≡ step_period design.period (rate_of design node) =
-    c.step_period-gap.ensures ∙ ap (λ t. step_period t c.rate-rate.result) c.period-period.ensures.value ∙ ap (step_period design.period) rate in
+    c.step_period-gap.ensures ∙ ap (λ t. step_period t c.rate-rate.result) c.period-period.ensures.value
+    ∙ ap (step_period design.period) rate in
     let time : p + c.from.result * g ≡ alarm design.period 0 + step * step_period design.period (rate_of design node) =
     (ap (λ k. p + k * g) c.from.ensures
     ∙ ap (λ k. p + step * k) gap

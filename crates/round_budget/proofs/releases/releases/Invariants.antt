@@ -5,4 +5,5 @@ use Rattle.round_budget.specs.proof.Values.{release_value}
 use Rattle.round_budget.proofs.releases.releases.Given as goal
 
 abbrev pub invariant-loop-member : goal.invariant-loop-member
-invariant-loop-member l = map release_value l.releases.items ≡ releases_in l.design (numbers (take l.member-index l.members)) 0
+invariant-loop-member l =
+    map release_value l.releases.items ≡ releases_in l.design (numbers (take l.member-index l.members)) 0

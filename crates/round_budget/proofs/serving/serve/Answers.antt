@@ -38,11 +38,19 @@ loop-release-preserved c =
     let after : done ≡ max x.time free + nanos * by_most codes (release_value x) = ap₂ (λ a b. a + b) begin takes in
     let first = c.from-start.result in
     let y : Line = record { node = x.node; step = x.step; begin = begun - first; done = done - first } in
-    let line = λ (s b d : ℕ). (let l : budgets.Line = record { node = node; step = x.step; begin = b - s; done = d - s } in l) in
+    let line =
+    λ (s b d : ℕ). (let l : budgets.Line =
+    record { node = node; step = x.step; begin = b - s; done = d - s } in l) in
     let same = ap₂ (line start) (sym begin) (sym after) ∙ ap (λ s. line s begun done) (sym c.from-start.ensures) in
     record {
       all =
-          ap (λ (items : List Line). map line_value items ++ map (line_from start) (serve cost done (map release_value (drop (at + 1) releases)))) c.in_ok-push.ensures.items
-          ∙ serve_next cost start free done at releases x none c.loop-release.lines.items y (map (line_from start) (serve cost 0 (map release_value releases))) c.loop-release-test.true refl same after c.loop-release.invariant.all;
-      small = (let soon = can.soon in let short = can.short in omega (arith, after, soon, short, c.loop-release.invariant.small));
+          ap (λ (items : List Line). map line_value items
+          ++ map (line_from start) (serve cost done (map release_value (drop (at + 1) releases))))
+          c.in_ok-push.ensures.items
+          ∙ serve_next cost start free done at releases x none c.loop-release.lines.items y
+          (map (line_from start) (serve cost 0 (map release_value releases))) c.loop-release-test.true refl same
+          after c.loop-release.invariant.all;
+      small =
+          (let soon = can.soon in let short = can.short in
+          omega (arith, after, soon, short, c.loop-release.invariant.small));
     }

@@ -9,7 +9,8 @@ abbrev pub invariant-loop-release : goal.invariant-loop-release
 invariant-loop-release l = record {
   all :
       map line_value l.lines.items
-      ++ map (line_from l.fn.start) (serve (λ x. l.nanos * by_most l.codes x) l.free (map release_value (drop l.release-index l.releases)))
+      ++ map (line_from l.fn.start)
+      (serve (λ x. l.nanos * by_most l.codes x) l.free (map release_value (drop l.release-index l.releases)))
       ≡ map (line_from l.fn.start) (serve (λ x. l.nanos * by_most l.codes x) 0 (map release_value l.releases));
   small : l.free ≤ 2 * HOUR + l.release-index * HOUR;
 }

@@ -15,7 +15,8 @@ use Rattle.round_budget.proofs.sums.total.Goals as goal
 
 pub bounds-codes-member : goal.bounds-codes-member
 bounds-codes-member c =
-    member_at (λ node. node < length c.args.codes.now) c.args.members.now c.loop-member.member-index record { 0 = 0 } c.requires.within c.loop-member-test.true
+    member_at (λ node. node < length c.args.codes.now) c.args.members.now c.loop-member.member-index record { 0 = 0 }
+    c.requires.within c.loop-member-test.true
 
 pub loop-member-preserved : goal.loop-member-preserved
 loop-member-preserved c =
@@ -33,7 +34,8 @@ loop-member-preserved c =
     ∙ sym (ap most_in (slice_get-get_or codes member.0 code within))) in
     let all = numbers (take at members) in
     let next : numbers (take (at + 1) members) ≡ all ++ member.0 ∷ [] =
-    ap numbers (take_more members at none c.loop-member-test.true) ∙ map_push (λ (m : NodeNo). m.0) (take at members) member in
+    ap numbers (take_more members at none c.loop-member-test.true)
+    ∙ map_push (λ (m : NodeNo). m.0) (take at members) member in
     record {
       is =
           ap (λ n. n + c.from-most.result) c.loop-member.invariant.is

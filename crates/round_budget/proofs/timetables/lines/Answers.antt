@@ -19,7 +19,9 @@ serve-requires c =
     let period = c.period-period.result in
     let are : in_order (releases design members 1) ≡ map release_value made =
     sym (ap (map release_value) c.deref.ensures.value ∙ c.in_ok-releases.ensures) in
-    let all = all_can_serve design codes nanos members c.period-period.ensures.rules record { members_are = c.requires.members; fits = c.requires.fits } c.requires.codes in
+    let all =
+    all_can_serve design codes nanos members c.period-period.ensures.rules
+    record { members_are = c.requires.members; fits = c.requires.fits } c.requires.codes in
     all_of_values (CanServe codes nanos period) made
     (subst (λ t. Every (CanServe codes nanos t) (map release_value made)) (sym c.period-period.ensures.value)
     (subst (Every (CanServe codes nanos design.period)) are all))
@@ -33,7 +35,10 @@ returns c =
     let members = numbers c.args.members.now in
     let made = c.deref.result.now in
     let cost = λ (x : budgets.Release). c.args.nanos * by_most c.args.codes.now x in
-    let start : c.period-period.result ≡ alarm design.period 0 = c.period-period.ensures.value ∙ first_alarm design.period in
+    let start : c.period-period.result ≡ alarm design.period 0 = c.period-period.ensures.value
+    ∙ first_alarm design.period in
     let same = ap (λ t. map (line_from t) (serve cost 0 (map release_value made))) start
-    ∙ ap (λ xs. map (line_from (alarm design.period 0)) (serve cost 0 xs)) (ap (map release_value) c.deref.ensures.value ∙ c.in_ok-releases.ensures) in
-    subst (λ (all : List budgets.Line). IfOk c.serve.result (λ lines. map line_value lines.items ≡ all)) same c.serve.ensures
+    ∙ ap (λ xs. map (line_from (alarm design.period 0)) (serve cost 0 xs))
+    (ap (map release_value) c.deref.ensures.value ∙ c.in_ok-releases.ensures) in
+    subst (λ (all : List budgets.Line). IfOk c.serve.result (λ lines. map line_value lines.items ≡ all)) same
+    c.serve.ensures

@@ -15,14 +15,20 @@ loop-entry-preserved c =
       | in-Some+then-place-length w ↦
           let p = w.in-Some.place in
           let within : p < n = omega arith in
-          entered_more n i es all c.match-entry.heights.items (Some p) c.as_slice-entry-items.ensures.value c.loop-entry-test.true w.in-Some.is
-          (subst (λ v. AreEntered n (take i es ++ Some p ∷ []) v.items) (sym w.heights-is) (entered_in n p (take i es) hs c.loop-entry.invariant within))
+          entered_more n i es all c.match-entry.heights.items (Some p) c.as_slice-entry-items.ensures.value
+          c.loop-entry-test.true w.in-Some.is
+          (subst (λ v. AreEntered n (take i es ++ Some p ∷ []) v.items) (sym w.heights-is)
+          (entered_in n p (take i es) hs c.loop-entry.invariant within))
       | in-Some+else-place-length w ↦
           let p = w.in-Some.place in
           let beyond : n ≤ p = omega arith in
-          entered_more n i es all c.match-entry.heights.items (Some p) c.as_slice-entry-items.ensures.value c.loop-entry-test.true w.in-Some.is
-          (subst (λ v. AreEntered n (take i es ++ Some p ∷ []) v.items) (sym w.heights-is) (entered_out n p (take i es) hs c.loop-entry.invariant beyond))
+          entered_more n i es all c.match-entry.heights.items (Some p) c.as_slice-entry-items.ensures.value
+          c.loop-entry-test.true w.in-Some.is
+          (subst (λ v. AreEntered n (take i es ++ Some p ∷ []) v.items) (sym w.heights-is)
+          (entered_out n p (take i es) hs c.loop-entry.invariant beyond))
       | in_default w ↦
-          entered_more n i es all c.match-entry.heights.items None c.as_slice-entry-items.ensures.value c.loop-entry-test.true w.in_default.is
-          (subst (λ v. AreEntered n (take i es ++ None ∷ []) v.items) (sym w.heights-is) (entered_none n (take i es) hs c.loop-entry.invariant))
+          entered_more n i es all c.match-entry.heights.items None c.as_slice-entry-items.ensures.value
+          c.loop-entry-test.true w.in_default.is
+          (subst (λ v. AreEntered n (take i es ++ None ∷ []) v.items) (sym w.heights-is)
+          (entered_none n (take i es) hs c.loop-entry.invariant))
     ]

@@ -7,7 +7,8 @@ bounds-heights-place c = place_there (length c.args.heights.now) c.args.place c.
 
 pub offset_bounds-heights-place : goal.offset_bounds-heights-place
 offset_bounds-heights-place c =
-    let within : c.in-Some.place < length c.args.heights.now = place_there (length c.args.heights.now) c.args.place c.in-Some.place c.in-Some.is c.requires in
+    let within : c.in-Some.place < length c.args.heights.now =
+    place_there (length c.args.heights.now) c.args.place c.in-Some.place c.in-Some.is c.requires in
     search rules
 
 pub returns-in-Some : goal.returns-in-Some

@@ -9,7 +9,9 @@ bounds-innermost-found c =
     let code = c.args.parts.now.instrs in
     let n = c.requires.count in
     let on = subst (LooksOn code c.args.place c.args.slot) c.in-Some.is c.loop-round.invariant in
-    let next = looks_further code c.args.innermost.now c.args.place c.args.slot c.in-Some.found None c.requires.innermost (omega arith) n (clean_closed c.args.parts.now c.args.place c.requires.clean) on c.if-found-slot.false in
+    let next =
+    looks_further code c.args.innermost.now c.args.place c.args.slot c.in-Some.found None c.requires.innermost
+    (omega arith) n (clean_closed c.args.parts.now c.args.place c.requires.clean) on c.if-found-slot.false in
     let less = next.1 in
     omega arith
 
@@ -24,13 +26,17 @@ loop-round-smaller c =
     let found = c.args.innermost.now in
     let n = c.requires.count in
     let on = subst (LooksOn code c.args.place c.args.slot) c.in-Some.is c.loop-round.invariant in
-    let next = looks_further code found c.args.place c.args.slot c.in-Some.found None c.requires.innermost (omega arith) n (clean_closed c.args.parts.now c.args.place c.requires.clean) on c.if-found-slot.false in
+    let next =
+    looks_further code found c.args.place c.args.slot c.in-Some.found None c.requires.innermost (omega arith) n
+    (clean_closed c.args.parts.now c.args.place c.requires.clean) on c.if-found-slot.false in
     let less = next.1 in
-    subst (λ o. start_of (slice_index_or found c.in-Some.found.start None) < start_of o) (sym c.in-Some.is) (start_falls code found c.in-Some.found None c.requires.innermost (omega arith))
+    subst (λ o. start_of (slice_index_or found c.in-Some.found.start None) < start_of o) (sym c.in-Some.is)
+    (start_falls code found c.in-Some.found None c.requires.innermost (omega arith))
 
 pub loop-round-preserved : goal.loop-round-preserved
 loop-round-preserved c =
     let code = c.args.parts.now.instrs in
     let n = c.requires.count in
     let on = subst (LooksOn code c.args.place c.args.slot) c.in-Some.is c.loop-round.invariant in
-    (looks_further code c.args.innermost.now c.args.place c.args.slot c.in-Some.found None c.requires.innermost (omega arith) n (clean_closed c.args.parts.now c.args.place c.requires.clean) on c.if-found-slot.false).0
+    (looks_further code c.args.innermost.now c.args.place c.args.slot c.in-Some.found None c.requires.innermost
+    (omega arith) n (clean_closed c.args.parts.now c.args.place c.requires.clean) on c.if-found-slot.false).0

@@ -14,9 +14,11 @@ loop-entry-preserved c =
     elim c.match-entry.branch [
       | in-Some w ↦
           subst (IsLeast (is_bad_entry code (take (i + 1) es))) (sym w.first-is)
-          (least_more code es all i (Some w.in-Some.place) w.least_bad-first.result c.as_slice-entry-items.ensures.value c.loop-entry-test.true w.in-Some.is
+          (least_more code es all i (Some w.in-Some.place) w.least_bad-first.result c.as_slice-entry-items.ensures.value
+          c.loop-entry-test.true w.in-Some.is
           (w.least_bad-first.ensures (is_bad_entry code (take i es)) c.loop-entry.invariant))
       | in_default w ↦
           subst (IsLeast (is_bad_entry code (take (i + 1) es))) (sym w.first-is)
-          (least_none code es all i c.loop-entry.first c.as_slice-entry-items.ensures.value c.loop-entry-test.true w.in_default.is c.loop-entry.invariant)
+          (least_none code es all i c.loop-entry.first c.as_slice-entry-items.ensures.value c.loop-entry-test.true
+          w.in_default.is c.loop-entry.invariant)
     ]

@@ -16,8 +16,11 @@ best_onward-requires-clause-there c =
     let i = slice_index_or c.as_slice.result.now c.args.place (Push (pos 0)) in
     let size = c.as_slice.ensures.len in
     let within = c.requires.within in
-    let here : slice_get parts.instrs c.args.place ≡ Some i = ap (λ l. slice_get l c.args.place) (sym c.as_slice.ensures.value) ∙ slice_get-get_or c.as_slice.result.now c.args.place (Push (pos 0)) (omega arith) in
-    subst (AreThere (onward c.args.place (Some i))) (sym c.requires.best.count) (known_there parts c.args.place i (verified_known parts c.args.place i c.requires.verified here))
+    let here : slice_get parts.instrs c.args.place ≡ Some i =
+    ap (λ l. slice_get l c.args.place) (sym c.as_slice.ensures.value)
+    ∙ slice_get-get_or c.as_slice.result.now c.args.place (Push (pos 0)) (omega arith) in
+    subst (AreThere (onward c.args.place (Some i))) (sym c.requires.best.count)
+    (known_there parts c.args.place i (verified_known parts c.args.place i c.requires.verified here))
 
 pub returns : goal.returns
 returns c =
@@ -27,8 +30,11 @@ returns c =
     let size = c.as_slice.ensures.len in
     let n = c.requires.count in
     let within = c.requires.within in
-    let here : slice_get parts.instrs p ≡ Some i = ap (λ l. slice_get l p) (sym c.as_slice.ensures.value) ∙ slice_get-get_or c.as_slice.result.now p (Push (pos 0)) (omega arith) in
-    let weight : slice_index_or c.args.weights.now p 0 ≡ capped (weight_at parts.instrs p) = get_or_from_slice_get c.args.weights.now p (capped (weight_at parts.instrs p)) 0 (c.requires.weights.each p (omega arith)) in
+    let here : slice_get parts.instrs p ≡ Some i = ap (λ l. slice_get l p) (sym c.as_slice.ensures.value)
+    ∙ slice_get-get_or c.as_slice.result.now p (Push (pos 0)) (omega arith) in
+    let weight : slice_index_or c.args.weights.now p 0 ≡ capped (weight_at parts.instrs p) =
+    get_or_from_slice_get c.args.weights.now p (capped (weight_at parts.instrs p)) 0
+    (c.requires.weights.each p (omega arith)) in
     c.saturating_add.ensures
     ∙ ap (λ b. capped (slice_index_or c.args.weights.now p 0 + b)) c.best_onward.ensures
     ∙ ap (λ w. capped (w + greatest (map (λ to. slice_index_or c.args.best.now to 0) (onward p (Some i))))) weight

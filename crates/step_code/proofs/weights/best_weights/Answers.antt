@@ -10,6 +10,9 @@ loop-place-preserved c =
     let some = c.loop-place-test.true in
     let place : c.loop-place.place ≡ c.loop-place.place - 1 + 1 = omega arith in
     record {
-      known = set_best c.args.parts.now (c.loop-place.place - 1) c.loop-place.best.items c.best_at.result (subst (λ p. AreBest c.args.parts.now.instrs p c.loop-place.best.items) place known) (omega arith) c.best_at.ensures;
+      known =
+          set_best c.args.parts.now (c.loop-place.place - 1) c.loop-place.best.items c.best_at.result
+          (subst (λ p. AreBest c.args.parts.now.instrs p c.loop-place.best.items) place known) (omega arith)
+          c.best_at.ensures;
       below = omega arith;
     }

@@ -7,5 +7,6 @@ bounds-best-place c = place_there (length c.args.best.now) c.args.place c.in-Som
 
 pub offset_bounds-best-place : goal.offset_bounds-best-place
 offset_bounds-best-place c =
-    let within : c.in-Some.place < length c.args.best.now = place_there (length c.args.best.now) c.args.place c.in-Some.place c.in-Some.is c.requires in
+    let within : c.in-Some.place < length c.args.best.now =
+    place_there (length c.args.best.now) c.args.place c.in-Some.place c.in-Some.is c.requires in
     search rules

@@ -6,7 +6,8 @@ use Rattle.step_compiler.proofs.actions.+push_act.Given as goal
 -- the code so far, and that of the actions that are left
 abbrev pub invariant-push_acts-loop-act : goal.invariant-push_acts-loop-act
 invariant-push_acts-loop-act l =
-    l.code ++ code_acts (actions_along (drop l.act-index l.acts)) l.variables (length l.code) ≡ l.initial.code ++ code_acts (actions_along l.acts) l.variables (length l.initial.code)
+    l.code ++ code_acts (actions_along (drop l.act-index l.acts)) l.variables (length l.code)
+    ≡ l.initial.code ++ code_acts (actions_along l.acts) l.variables (length l.initial.code)
 
 -- and of branches
 abbrev pub invariant-push_branches-loop-branch : goal.invariant-push_branches-loop-branch

@@ -13,5 +13,6 @@ loop-state-preserved c =
     let before = map (capped_length b) (upwards 0 s) in
     c.in_ok-push.ensures.items
     ∙ ap (λ xs. xs ++ c.block_length.result ∷ []) c.loop-state.invariant
-    ∙ ap (λ n. before ++ n ∷ []) (c.block_length.ensures ∙ ap (λ es. capped (length_edges (leaving_among s es))) c.transitions.ensures.value)
+    ∙ ap (λ n. before ++ n ∷ [])
+    (c.block_length.ensures ∙ ap (λ es. capped (length_edges (leaving_among s es))) c.transitions.ensures.value)
     ∙ sym (map_upwards_more (capped_length b) s)

@@ -23,7 +23,8 @@ loop-transition-preserved c =
     let left = drop_item b.transitions i e within (c.transition-item.is ∙ ap (λ xs. slice_index_or xs i e) all) in
     let rest = drop (i + 1) b.transitions in
     let one = leaving_among s (e ∷ []) in
-    more_parts cur c.push_if_leaving.new.code (block_code b starts complete one (length cur)) (length_edges one) (block_code b starts complete (leaving_among s rest)) c.in_ok-push_if_leaving.ensures
+    more_parts cur c.push_if_leaving.new.code (block_code b starts complete one (length cur)) (length_edges one)
+    (block_code b starts complete (leaving_among s rest)) c.in_ok-push_if_leaving.ensures
     (block-length b starts complete one (length cur))
     ∙ ap (λ xs. cur ++ xs) (leaving_split b starts complete s e rest (length cur))
     ∙ ap (λ es. cur ++ block_code b starts complete (leaving_among s es) (length cur)) (sym left)

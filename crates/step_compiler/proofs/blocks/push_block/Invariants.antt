@@ -7,5 +7,7 @@ use Rattle.step_compiler.proofs.blocks.push_block.Given as goal
 
 abbrev pub invariant-loop-transition : goal.invariant-loop-transition
 invariant-loop-transition l =
-    l.code ++ block_code l.behaviour (in_list l.starts) (is_complete l.behaviour l.state) (filter (λ e. nat_eq e.source l.state) (drop l.transition-index l.behaviour.transitions)) (length l.code)
-    ≡ l.initial.code ++ block_code l.behaviour (in_list l.starts) (is_complete l.behaviour l.state) (leaving l.behaviour l.state) (length l.initial.code)
+    l.code ++ block_code l.behaviour (in_list l.starts) (is_complete l.behaviour l.state)
+    (filter (λ e. nat_eq e.source l.state) (drop l.transition-index l.behaviour.transitions)) (length l.code)
+    ≡ l.initial.code ++ block_code l.behaviour (in_list l.starts) (is_complete l.behaviour l.state)
+    (leaving l.behaviour l.state) (length l.initial.code)

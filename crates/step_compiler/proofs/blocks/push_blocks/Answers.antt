@@ -15,7 +15,8 @@ loop-state-preserved c =
     let i = c.loop-state.state-index in
     let s = slice_index_or order i 0 in
     let left = drop-cons order i 0 c.loop-state-test.true ∙ ap (λ k. s ∷ drop k order) (sym (add-one i)) in
-    more_parts cur c.push_block.new.code (block_code b starts (is_complete b s) (leaving b s) (length cur)) (block_length b s) (blocks_code b starts (drop (i + 1) order)) c.in_ok-push_block.ensures
+    more_parts cur c.push_block.new.code (block_code b starts (is_complete b s) (leaving b s) (length cur))
+    (block_length b s) (blocks_code b starts (drop (i + 1) order)) c.in_ok-push_block.ensures
     (block-length b starts (is_complete b s) (leaving b s) (length cur))
     ∙ ap (λ ss. cur ++ blocks_code b starts ss (length cur)) (sym left)
     ∙ c.loop-state.invariant

@@ -5,4 +5,5 @@ use Rattle.step_compiler.proofs.blocks.push_blocks.Given as goal
 
 abbrev pub invariant-loop-state : goal.invariant-loop-state
 invariant-loop-state l =
-    l.code ++ blocks_code l.behaviour (in_list l.starts) (drop l.state-index l.order) (length l.code) ≡ l.initial.code ++ blocks_code l.behaviour (in_list l.starts) l.order (length l.initial.code)
+    l.code ++ blocks_code l.behaviour (in_list l.starts) (drop l.state-index l.order) (length l.code)
+    ≡ l.initial.code ++ blocks_code l.behaviour (in_list l.starts) l.order (length l.initial.code)

@@ -14,7 +14,8 @@ loop-state-preserved c =
     let s = c.loop-state.state in
     let before = map (start_of b order) (upwards 0 s) in
     let listed = c.deref.ensures.value ∙ c.in_ok-lengths.ensures in
-    let summed = c.start_in.ensures ∙ ap (λ ls. capped (start_in ls order s)) listed ∙ starts_capped b order s c.requires in
+    let summed =
+    c.start_in.ensures ∙ ap (λ ls. capped (start_in ls order s)) listed ∙ starts_capped b order s c.requires in
     c.in_ok-push.ensures.items
     ∙ ap (λ xs. xs ++ c.in_ok-behind.field-0 ∷ []) c.loop-state.invariant
     ∙ ap (λ n. before ++ n ∷ []) (c.in_ok-behind.ensures (start_of b order s) summed ∙ zero-add (start_of b order s))

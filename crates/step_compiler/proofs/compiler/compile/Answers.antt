@@ -14,7 +14,8 @@ use Rattle.step_compiler.proofs.compiler.compile.Goals as goal
 pub returns-in-Ok-clause-layout : goal.returns-in-Ok-clause-layout
 returns-in-Ok-clause-layout c =
     let b = c.args.behaviour.now in
-    subst (IsLaidOut b) (sym (c.in-Ok.ensures.code ∙ c.in_ok-parts.ensures)) (compiled_is_laid_out b c.parts.ensures.rules)
+    subst (IsLaidOut b) (sym (c.in-Ok.ensures.code ∙ c.in_ok-parts.ensures))
+    (compiled_is_laid_out b c.parts.ensures.rules)
 
 pub returns-in-Ok-clause-means : goal.returns-in-Ok-clause-means
 returns-in-Ok-clause-means c =
@@ -25,13 +26,15 @@ returns-in-Ok-clause-means c =
 
 pub returns-in-Ok-clause-length : goal.returns-in-Ok-clause-length
 returns-in-Ok-clause-length c =
-    ap (λ (x : CodeParts). length x.instrs) (c.in-Ok.ensures.code ∙ c.in_ok-parts.ensures) ∙ compiled_length c.args.behaviour.now c.parts.ensures.rules
+    ap (λ (x : CodeParts). length x.instrs) (c.in-Ok.ensures.code ∙ c.in_ok-parts.ensures)
+    ∙ compiled_length c.args.behaviour.now c.parts.ensures.rules
 
 pub refusal-requires : goal.refusal-requires
 refusal-requires c =
     let b = c.args.behaviour.now in
     let parts = c.in_ok-parts.ensures in
-    let same = ap length_edges (c.as_slice.ensures.value ∙ ap (λ (x : BehaviourParts). x.transitions) c.parts.ensures.value) in
+    let same =
+    ap length_edges (c.as_slice.ensures.value ∙ ap (λ (x : BehaviourParts). x.transitions) c.parts.ensures.value) in
     let short : code_length b ≤ INSTRUCTIONS = omega (arith, c.transitions_length-length.ensures, c.if-length.false) in
     let verified = subst IsVerified (sym parts) (compiled_verified b c.parts.ensures.rules short) in
     only_memory c.in_ok-parts.parts c.in-Err.fault verified c.in-Err.ensures.fault

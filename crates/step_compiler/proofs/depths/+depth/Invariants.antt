@@ -5,7 +5,10 @@ use Rattle.step_compiler.specs.Depths.{depth_acts, depth_branches}
 use Rattle.step_compiler.proofs.depths.+depth.Given as goal
 
 abbrev pub invariant-acts_depth-loop-act : goal.invariant-acts_depth-loop-act
-invariant-acts_depth-loop-act l = max l.depth (depth_acts (actions_along (drop l.act-index l.acts))) ≡ depth_acts (actions_along l.acts)
+invariant-acts_depth-loop-act l =
+    max l.depth (depth_acts (actions_along (drop l.act-index l.acts))) ≡ depth_acts (actions_along l.acts)
 
 abbrev pub invariant-branches_depth-loop-branch : goal.invariant-branches_depth-loop-branch
-invariant-branches_depth-loop-branch l = max l.depth (depth_branches (branches_along (drop l.branch-index l.branches))) ≡ depth_branches (branches_along l.branches)
+invariant-branches_depth-loop-branch l =
+    max l.depth (depth_branches (branches_along (drop l.branch-index l.branches)))
+    ≡ depth_branches (branches_along l.branches)

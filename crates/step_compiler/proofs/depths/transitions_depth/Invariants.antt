@@ -4,4 +4,5 @@ use Rattle.step_compiler.specs.Depths.{depth_edges}
 use Rattle.step_compiler.proofs.depths.transitions_depth.Given as goal
 
 abbrev pub invariant-loop-transition : goal.invariant-loop-transition
-invariant-loop-transition l = max l.depth (depth_edges (drop l.transition-index l.transitions)) ≡ depth_edges l.transitions
+invariant-loop-transition l =
+    max l.depth (depth_edges (drop l.transition-index l.transitions)) ≡ depth_edges l.transitions

@@ -14,10 +14,13 @@ push_expr-returns-in_ok-push_expr-in-Chain t c =
     let old = c.args.code.now in
     let e = tree_of c.deref-in-Chain.result.now in
     let whole = ap tree_of c.in-Chain.is ∙ tree_of-Chain c.in-Chain.first c.in-Chain.rest in
-    let parts = ap (λ f. Chain (tree_of f) (operands_along c.in-Chain.rest.items)) (sym c.deref-in-Chain.ensures) ∙ ap (λ xs. Chain e (operands_along xs)) (sym c.deref-in-Chain-2.ensures.value) in
+    let parts =
+    ap (λ f. Chain (tree_of f) (operands_along c.in-Chain.rest.items)) (sym c.deref-in-Chain.ensures)
+    ∙ ap (λ xs. Chain e (operands_along xs)) (sym c.deref-in-Chain-2.ensures.value) in
     let os = operands_along c.deref-in-Chain-2.result.now in
     on_ok c.push_rest.result _ _
-    (λ is. both_parts old c.push_expr-in-Chain.new.code c.push_rest.new.code (code_of e (length old)) (length_of e) (code_rest os) c.in_ok-push_expr-in-Chain.ensures (code-length e (length old)) is
+    (λ is. both_parts old c.push_expr-in-Chain.new.code c.push_rest.new.code (code_of e (length old)) (length_of e)
+    (code_rest os) c.in_ok-push_expr-in-Chain.ensures (code-length e (length old)) is
     ∙ ap (λ x. old ++ code_of x (length old)) (sym (whole ∙ parts)))
     c.push_rest.ensures
 
@@ -32,7 +35,8 @@ push_rest-loop-operand-preserved t c =
     let a = operand_code item.op (length_of e) (code_of e) (length cur) in
     let len = operand-length item.op (length_of e) (length cur) (code_of e) (code-length e) in
     let later = operands_along (drop (i + 1) rest) in
-    more_parts cur c.push_operand.new.code a (operand_length item.op (length_of e)) (code_rest later) c.in_ok-push_operand.ensures len
+    more_parts cur c.push_operand.new.code a (operand_length item.op (length_of e)) (code_rest later)
+    c.in_ok-push_operand.ensures len
     ∙ ap (λ os. cur ++ code_rest os (length cur)) (sym left) ∙ c.loop-operand.invariant
 
 pub push_or_else-returns : goal.push_or_else-returns
@@ -45,8 +49,11 @@ push_or_else-returns t c =
     let end_is : c.in_ok-end.end ≡ length old + n + 3 = omega (arith, c.len-2.ensures) in
     on_ok c.push_expr.result _ _
     (λ is. behind_three old c.push.new.self c.push-2.new.self c.push-3.new.self c.push_expr.new.code
-    (code.JumpZero c.in_ok-other.other) (code.Push (pos 1)) (code.Jump c.in_ok-end.end) (code_of (tree_of c.args.right.now))
+    (code.JumpZero c.in_ok-other.other) (code.Push (pos 1)) (code.Jump c.in_ok-end.end)
+    (code_of (tree_of c.args.right.now))
     c.in_ok-push.ensures.ok c.in_ok-push-2.ensures.ok c.in_ok-push-3.ensures.ok is
-    ∙ ap (λ q. old ++ code.JumpZero q ∷ code.Push (pos 1) ∷ code.Jump c.in_ok-end.end ∷ code_of (tree_of c.args.right.now) (length old + 3)) other_is
-    ∙ ap (λ q. old ++ code.JumpZero (length old + 3) ∷ code.Push (pos 1) ∷ code.Jump q ∷ code_of (tree_of c.args.right.now) (length old + 3)) end_is)
+    ∙ ap (λ q. old ++ code.JumpZero q ∷ code.Push (pos 1) ∷ code.Jump c.in_ok-end.end
+    ∷ code_of (tree_of c.args.right.now) (length old + 3)) other_is
+    ∙ ap (λ q. old ++ code.JumpZero (length old + 3) ∷ code.Push (pos 1) ∷ code.Jump q
+    ∷ code_of (tree_of c.args.right.now) (length old + 3)) end_is)
     c.push_expr.ensures

@@ -6,4 +6,5 @@ use Rattle.step_compiler.proofs.expressions.+push_expr.Given as goal
 -- the code so far, and that of the operands that are left
 abbrev pub invariant-push_rest-loop-operand : goal.invariant-push_rest-loop-operand
 invariant-push_rest-loop-operand l =
-    l.code ++ code_rest (operands_along (drop l.operand-index l.rest)) (length l.code) ≡ l.initial.code ++ code_rest (operands_along l.rest) (length l.initial.code)
+    l.code ++ code_rest (operands_along (drop l.operand-index l.rest)) (length l.code)
+    ≡ l.initial.code ++ code_rest (operands_along l.rest) (length l.initial.code)

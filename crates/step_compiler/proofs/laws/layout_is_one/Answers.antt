@@ -3,4 +3,5 @@ use Rattle.step_compiler.proofs.LaidOutCodes.{has_layout, laid_out_code_is_one, 
 use Rattle.step_compiler.proofs.laws.layout_is_one.Goals as goal
 
 pub returns : goal.returns
-returns c = record { exists = has_layout; order = order_is_one; code = laid_out_code_is_one; codes = laid_out_codes_are_one }
+returns c =
+    record { exists = has_layout; order = order_is_one; code = laid_out_code_is_one; codes = laid_out_codes_are_one }

@@ -7,13 +7,16 @@ use Rattle.step_compiler.proofs.lengths.+length_act.Goals as goal
 
 pub act_length-returns-in-If : goal.act_length-returns-in-If
 act_length-returns-in-If t c =
-    let whole = ap (λ a. capped (length_act a)) (ap action_of c.in-If.is ∙ action_of-If c.in-If.branches c.in-If.otherwise) in
+    let whole =
+    ap (λ a. capped (length_act a)) (ap action_of c.in-If.is ∙ action_of-If c.in-If.branches c.in-If.otherwise) in
     let first = ap (λ xs. capped (length_branches (branches_along xs))) c.deref.ensures.value in
     let second = ap (λ xs. capped (length_acts (actions_along xs))) c.deref-in-If.ensures.value in
     omega (arith, c.branches_length-front.ensures, c.acts_length.ensures, c.saturating_add-in-If.ensures)
 
 pub act_length-returns-in-For : goal.act_length-returns-in-For
 act_length-returns-in-For t c =
-    let whole = ap (λ a. capped (length_act a)) (ap action_of c.in-For.is ∙ action_of-For c.in-For.low c.in-For.high c.in-For.body) in
+    let whole =
+    ap (λ a. capped (length_act a))
+    (ap action_of c.in-For.is ∙ action_of-For c.in-For.low c.in-For.high c.in-For.body) in
     let body = ap (λ xs. capped (length_acts (actions_along xs))) c.deref-in-For.ensures.value in
     omega (arith, c.acts_length-in-For.ensures, c.saturating_add-in-For.ensures)

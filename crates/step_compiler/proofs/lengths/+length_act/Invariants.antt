@@ -6,8 +6,18 @@ use Rattle.step_compiler.proofs.lengths.+length_act.Given as goal
 
 -- the length so far, and that of the actions that are left
 abbrev pub invariant-acts_length-loop-act : goal.invariant-acts_length-loop-act
-invariant-acts_length-loop-act l = record { sum : capped (l.length + length_acts (actions_along (drop l.act-index l.acts))) ≡ capped (length_acts (actions_along l.acts)); most : l.length ≤ 2 ^ 64 - 1 }
+invariant-acts_length-loop-act l =
+    record {
+      sum : capped (l.length + length_acts (actions_along (drop l.act-index l.acts)))
+          ≡ capped (length_acts (actions_along l.acts));
+      most : l.length ≤ 2 ^ 64 - 1;
+    }
 
 -- and of branches
 abbrev pub invariant-branches_length-loop-branch : goal.invariant-branches_length-loop-branch
-invariant-branches_length-loop-branch l = record { sum : capped (l.length + length_branches (branches_along (drop l.branch-index l.branches))) ≡ capped (length_branches (branches_along l.branches)); most : l.length ≤ 2 ^ 64 - 1 }
+invariant-branches_length-loop-branch l =
+    record {
+      sum : capped (l.length + length_branches (branches_along (drop l.branch-index l.branches)))
+          ≡ capped (length_branches (branches_along l.branches));
+      most : l.length ≤ 2 ^ 64 - 1;
+    }

@@ -6,4 +6,9 @@ use Rattle.step_compiler.proofs.lengths.+length_expr.Given as goal
 
 -- the length so far, and that of the operands that are left
 abbrev pub invariant-rest_length-loop-operand : goal.invariant-rest_length-loop-operand
-invariant-rest_length-loop-operand l = record { sum : capped (l.length + length_rest (operands_along (drop l.operand-index l.rest))) ≡ capped (length_rest (operands_along l.rest)); most : l.length ≤ 2 ^ 64 - 1 }
+invariant-rest_length-loop-operand l =
+    record {
+      sum : capped (l.length + length_rest (operands_along (drop l.operand-index l.rest)))
+          ≡ capped (length_rest (operands_along l.rest));
+      most : l.length ≤ 2 ^ 64 - 1;
+    }

@@ -5,4 +5,5 @@ use Rattle.step_compiler.proofs.order.awaited.Given as goal
 
 abbrev pub invariant-loop-transition : goal.invariant-loop-transition
 invariant-loop-transition l =
-    fold (with_target l.outside) l.marks.items (drop l.transition-index l.transitions) ≡ fold (with_target l.outside) (replicate (length l.outside) false) l.transitions
+    fold (with_target l.outside) l.marks.items (drop l.transition-index l.transitions)
+    ≡ fold (with_target l.outside) (replicate (length l.outside) false) l.transitions

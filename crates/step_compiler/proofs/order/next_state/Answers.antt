@@ -24,15 +24,24 @@ returns-then-not-item_at c =
     let order = c.args.order.now in
     let s = c.loop-state.state in
     let same = c.parts-parts.ensures.value in
-    let n_is : c.len-states.result ≡ length b.states = c.len-states.ensures ∙ ap (λ (x : BehaviourParts). length x.states) same in
+    let n_is : c.len-states.result ≡ length b.states = c.len-states.ensures
+    ∙ ap (λ (x : BehaviourParts). length x.states) same in
     let within : s < length b.states = omega (arith, c.loop-state-test.true) in
     let listed = c.in_ok-outside.ensures ∙ ap (states_outside order) n_is in
     let marks = λ (xs : List Bool) (es : List Edge). fold (with_target xs) (replicate (length xs) false) es in
     let swept = c.in_ok-awaited.ensures ∙ ap (λ xs. marks xs c.as_slice.result.now) (c.deref.ensures.value ∙ listed)
-    ∙ ap (marks (states_outside order (length b.states))) (c.as_slice.ensures.value ∙ ap (λ (x : BehaviourParts). x.transitions) same) in
-    let out = c.item_at.ensures ∙ ap (λ xs. slice_index_or xs s false) (c.deref-in-loop-state.ensures.value ∙ listed) ∙ outside_tells b order s within in
-    let aw = c.item_at-then-item_at.ensures ∙ ap (λ xs. slice_index_or xs s false) (c.deref-then-item_at.ensures.value ∙ swept) ∙ awaited_tells b order s c.parts-parts.ensures.rules within in
-    sym (found (may_follow b order) s (length b.states) within (both_hold c.item_at.result c.item_at-then-item_at.result (is_placed order s) (is_awaited b order s) out aw c.if-item_at.true c.if-not-item_at.true))
+    ∙ ap (marks (states_outside order (length b.states)))
+    (c.as_slice.ensures.value ∙ ap (λ (x : BehaviourParts). x.transitions) same) in
+    let out =
+    c.item_at.ensures ∙ ap (λ xs. slice_index_or xs s false) (c.deref-in-loop-state.ensures.value ∙ listed)
+    ∙ outside_tells b order s within in
+    let aw =
+    c.item_at-then-item_at.ensures
+    ∙ ap (λ xs. slice_index_or xs s false) (c.deref-then-item_at.ensures.value ∙ swept)
+    ∙ awaited_tells b order s c.parts-parts.ensures.rules within in
+    sym (found (may_follow b order) s (length b.states) within
+    (both_hold c.item_at.result c.item_at-then-item_at.result (is_placed order s) (is_awaited b order s) out aw
+    c.if-item_at.true c.if-not-item_at.true))
     ∙ c.loop-state.invariant
 
 pub loop-state-preserved : goal.loop-state-preserved
@@ -41,17 +50,28 @@ loop-state-preserved c =
     let order = c.args.order.now in
     let s = c.loop-state.state in
     let same = c.parts-parts.ensures.value in
-    let n_is : c.len-states.result ≡ length b.states = c.len-states.ensures ∙ ap (λ (x : BehaviourParts). length x.states) same in
+    let n_is : c.len-states.result ≡ length b.states = c.len-states.ensures
+    ∙ ap (λ (x : BehaviourParts). length x.states) same in
     let within : s < length b.states = omega (arith, c.loop-state-test.true) in
     let listed = c.in_ok-outside.ensures ∙ ap (states_outside order) n_is in
     let marks = λ (xs : List Bool) (es : List Edge). fold (with_target xs) (replicate (length xs) false) es in
     let swept = c.in_ok-awaited.ensures ∙ ap (λ xs. marks xs c.as_slice.result.now) (c.deref.ensures.value ∙ listed)
-    ∙ ap (marks (states_outside order (length b.states))) (c.as_slice.ensures.value ∙ ap (λ (x : BehaviourParts). x.transitions) same) in
-    let out = c.item_at.ensures ∙ ap (λ xs. slice_index_or xs s false) (c.deref-in-loop-state.ensures.value ∙ listed) ∙ outside_tells b order s within in
+    ∙ ap (marks (states_outside order (length b.states)))
+    (c.as_slice.ensures.value ∙ ap (λ (x : BehaviourParts). x.transitions) same) in
+    let out =
+    c.item_at.ensures ∙ ap (λ xs. slice_index_or xs s false) (c.deref-in-loop-state.ensures.value ∙ listed)
+    ∙ outside_tells b order s within in
     elim c.else-item_at.branch [
       | else-item_at-via-then-item_at+else-not-item_at w ↦
-          let aw = w.item_at-then-item_at.ensures ∙ ap (λ xs. slice_index_or xs s false) (w.deref-then-item_at.ensures.value ∙ swept) ∙ awaited_tells b order s c.parts-parts.ensures.rules within in
-          skipped (may_follow b order) s (length b.states) within (second_fails w.item_at-then-item_at.result (is_placed order s) (is_awaited b order s) aw w.if-not-item_at.false) ∙ c.loop-state.invariant
+          let aw =
+          w.item_at-then-item_at.ensures
+          ∙ ap (λ xs. slice_index_or xs s false) (w.deref-then-item_at.ensures.value ∙ swept)
+          ∙ awaited_tells b order s c.parts-parts.ensures.rules within in
+          skipped (may_follow b order) s (length b.states) within
+          (second_fails w.item_at-then-item_at.result (is_placed order s) (is_awaited b order s) aw
+          w.if-not-item_at.false) ∙ c.loop-state.invariant
       | else-item_at-via-else-item_at w ↦
-          skipped (may_follow b order) s (length b.states) within (first_fails c.item_at.result (is_placed order s) (is_awaited b order s) out w.if-item_at.false) ∙ c.loop-state.invariant
+          skipped (may_follow b order) s (length b.states) within
+          (first_fails c.item_at.result (is_placed order s) (is_awaited b order s) out w.if-item_at.false)
+          ∙ c.loop-state.invariant
     ]

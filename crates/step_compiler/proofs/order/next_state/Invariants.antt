@@ -5,4 +5,6 @@ use Rattle.step_compiler.specs.proof.Order.{may_follow, next_state}
 use Rattle.step_compiler.proofs.order.next_state.Given as goal
 
 abbrev pub invariant-loop-state : goal.invariant-loop-state
-invariant-loop-state l = find (may_follow l.behaviour l.order) (upwards l.state (length l.behaviour.states - l.state)) ≡ next_state l.behaviour l.order
+invariant-loop-state l =
+    find (may_follow l.behaviour l.order) (upwards l.state (length l.behaviour.states - l.state))
+    ≡ next_state l.behaviour l.order

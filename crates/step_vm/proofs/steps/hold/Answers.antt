@@ -27,6 +27,8 @@ loop-at-preserved c =
           let v = w.in-Present.value in
           let fits : SFits w64 v = search rules in
           let set = simp to_z-of_z at w.set.ensures in
-          w.held-is ∙ set ∙ ap (λ l. slice_set l at v) c.loop-at.invariant ∙ sym (hold_present held inputs at v Absent c.requires c.loop-at-test.true w.in-Present.is)
-      | in_default w ↦ w.held-is ∙ c.loop-at.invariant ∙ sym (hold_absent held inputs at Absent c.loop-at-test.true w.in_default.is)
+          w.held-is ∙ set ∙ ap (λ l. slice_set l at v) c.loop-at.invariant
+          ∙ sym (hold_present held inputs at v Absent c.requires c.loop-at-test.true w.in-Present.is)
+      | in_default w ↦ w.held-is ∙ c.loop-at.invariant
+          ∙ sym (hold_absent held inputs at Absent c.loop-at-test.true w.in_default.is)
     ]

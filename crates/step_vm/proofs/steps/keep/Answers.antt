@@ -13,4 +13,5 @@ loop-at-preserved c =
     let set = simp to_z-of_z at c.set.ensures in
     let size = c.len-at-end.ensures in
     let within = c.loop-at-test.true in
-    set ∙ ap (λ l. slice_set l at v) c.loop-at.invariant ∙ keep_more c.args.vars.now slots at v (omega arith) c.requires refl
+    set ∙ ap (λ l. slice_set l at v) c.loop-at.invariant
+    ∙ keep_more c.args.vars.now slots at v (omega arith) c.requires refl

@@ -12,7 +12,8 @@ none_of None b is fails = refl
 none_of (Some x) b is fails = let no : true ≡ false = sym is ∙ fails in cc
 
 pub react-requires-clause-entry : goal.react-requires-clause-entry
-react-requires-clause-entry c = member_at c.args.parts.now.entries c.args.frame.now.state (Some c.entry_of-entry.result) c.entry_of-entry.ensures
+react-requires-clause-entry c =
+    member_at c.args.parts.now.entries c.args.frame.now.state (Some c.entry_of-entry.result) c.entry_of-entry.ensures
 
 pub react-requires-clause-sizes : goal.react-requires-clause-sizes
 react-requires-clause-sizes c = record {
@@ -26,5 +27,7 @@ returns-clause-step c =
     let frame = c.args.frame.now in
     let held : Frame = record frame { held = c.hold.new.held } in
     let f : Fired = record { frame = c.react.new.frame; outs = c.react.new.outs } in
-    stepped c.args.parts.now frame held c.args.inputs.now c.entry_of-entry.result f (ap (λ h. record frame { held = h }) c.hold.ensures)
-    (none_of frame.halt c.is_some.result c.is_some.ensures c.if-is_some.false) c.entry_of-entry.ensures c.react.ensures.step
+    stepped c.args.parts.now frame held c.args.inputs.now c.entry_of-entry.result f
+    (ap (λ h. record frame { held = h }) c.hold.ensures)
+    (none_of frame.halt c.is_some.result c.is_some.ensures c.if-is_some.false) c.entry_of-entry.ensures
+    c.react.ensures.step

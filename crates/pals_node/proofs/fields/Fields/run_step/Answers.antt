@@ -16,19 +16,33 @@ end_step-requires c =
     let p = arc_value f.plan in
     let keeps = c.requires.keeps in
     let round = runs_open f c.args.step keeps c.requires.runs in
-    let same : c.behind-self.inside.code ≡ p.code = ap (λ (q : Program). q.code) (c.behind-self.view_is ∙ c.deref.ensures) in
+    let same : c.behind-self.inside.code ≡ p.code =
+    ap (λ (q : Program). q.code) (c.behind-self.view_is ∙ c.deref.ensures) in
     let count = round.round.vectors.count_is in
     let below = round.within in
-    let input = c.as_slice-inputs.ensures.value ∙ c.index.ensures ∙ sym (get_or_from_slice_get f.vectors c.args.step (slice_index_or f.vectors c.args.step c.index.result.now) [] (slice_get-get_or f.vectors c.args.step c.index.result.now (omega arith))) in
-    let left = subst (λ (code : CodeParts). exec code f.frame (slice_index_or f.vectors c.args.step []) ≡ Leaves (record { frame = c.run.new.frame; outs = c.run.new.outs })) same
-    (subst (λ inputs. exec c.behind-self.inside.code f.frame inputs ≡ Leaves (record { frame = c.run.new.frame; outs = c.run.new.outs })) input c.run.ensures.step) in
+    let input =
+    c.as_slice-inputs.ensures.value ∙ c.index.ensures
+    ∙ sym (get_or_from_slice_get f.vectors c.args.step (slice_index_or f.vectors c.args.step c.index.result.now) []
+    (slice_get-get_or f.vectors c.args.step c.index.result.now (omega arith))) in
+    let left =
+    subst (λ (code : CodeParts). exec code f.frame (slice_index_or f.vectors c.args.step [])
+    ≡ Leaves (record { frame = c.run.new.frame; outs = c.run.new.outs })) same
+    (subst (λ inputs. exec c.behind-self.inside.code f.frame inputs
+    ≡ Leaves (record { frame = c.run.new.frame; outs = c.run.new.outs })) input c.run.ensures.step) in
     let made = makes f c.args.step c.run.new.frame c.run.new.outs keeps c.requires.runs left in
-    let width : length c.run.new.outs ≡ f.row.len = made.count_is ∙ sym keeps.program.means.outs ∙ sym keeps.row ∙ sym f.row.ok.0 in
+    let width : length c.run.new.outs ≡ f.row.len = made.count_is ∙ sym keeps.program.means.outs ∙ sym keeps.row
+    ∙ sym f.row.ok.0 in
     record {
       ready = record {
         plan = keeps.program.plan;
         count = keeps.count;
-        made = record { within = round.within; round = record { begun = round.round.begun; vectors = round.round.vectors; outs = round.round.outs }; part = round.part; place = round.place };
+        made =
+            record {
+              within = round.within;
+              round = record { begun = round.round.begun; vectors = round.round.vectors; outs = round.round.outs };
+              part = round.part;
+              place = round.place;
+            };
         frame = made.shape;
         row = ap length (with_items_is f.row c.run.new.outs width) ∙ made.count_is;
       };
@@ -40,15 +54,24 @@ returns-clause-keeps c =
     let p = arc_value f.plan in
     let keeps = c.requires.keeps in
     let round = runs_open f c.args.step keeps c.requires.runs in
-    let same : c.behind-self.inside.code ≡ p.code = ap (λ (q : Program). q.code) (c.behind-self.view_is ∙ c.deref.ensures) in
+    let same : c.behind-self.inside.code ≡ p.code =
+    ap (λ (q : Program). q.code) (c.behind-self.view_is ∙ c.deref.ensures) in
     let count = round.round.vectors.count_is in
     let below = round.within in
-    let input = c.as_slice-inputs.ensures.value ∙ c.index.ensures ∙ sym (get_or_from_slice_get f.vectors c.args.step (slice_index_or f.vectors c.args.step c.index.result.now) [] (slice_get-get_or f.vectors c.args.step c.index.result.now (omega arith))) in
-    let left = subst (λ (code : CodeParts). exec code f.frame (slice_index_or f.vectors c.args.step []) ≡ Leaves (record { frame = c.run.new.frame; outs = c.run.new.outs })) same
-    (subst (λ inputs. exec c.behind-self.inside.code f.frame inputs ≡ Leaves (record { frame = c.run.new.frame; outs = c.run.new.outs })) input c.run.ensures.step) in
+    let input =
+    c.as_slice-inputs.ensures.value ∙ c.index.ensures
+    ∙ sym (get_or_from_slice_get f.vectors c.args.step (slice_index_or f.vectors c.args.step c.index.result.now) []
+    (slice_get-get_or f.vectors c.args.step c.index.result.now (omega arith))) in
+    let left =
+    subst (λ (code : CodeParts). exec code f.frame (slice_index_or f.vectors c.args.step [])
+    ≡ Leaves (record { frame = c.run.new.frame; outs = c.run.new.outs })) same
+    (subst (λ inputs. exec c.behind-self.inside.code f.frame inputs
+    ≡ Leaves (record { frame = c.run.new.frame; outs = c.run.new.outs })) input c.run.ensures.step) in
     let made = makes f c.args.step c.run.new.frame c.run.new.outs keeps c.requires.runs left in
-    let width : length c.run.new.outs ≡ f.row.len = made.count_is ∙ sym keeps.program.means.outs ∙ sym keeps.row ∙ sym f.row.ok.0 in
-    keeps_on (record f { frame = c.run.new.frame; room = c.run.new.room; row = with_items f.row c.run.new.outs }) c.end_step.new.self
+    let width : length c.run.new.outs ≡ f.row.len = made.count_is ∙ sym keeps.program.means.outs ∙ sym keeps.row
+    ∙ sym f.row.ok.0 in
+    keeps_on (record f { frame = c.run.new.frame; room = c.run.new.room; row = with_items f.row c.run.new.outs })
+    c.end_step.new.self
     (record {
       program = keeps.program;
       rounds = keeps.rounds;

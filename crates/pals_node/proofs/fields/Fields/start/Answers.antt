@@ -28,7 +28,8 @@ returns-clause-keeps c =
     let rules = keeps.program.plan in
     let rests = subst (PhaseKeeps plan f) c.requires.waits keeps.phase_keeps in
     let is = c.in_ok-room.ensures.room in
-    let vectors : c.in_ok-room.room.vectors ≡ vectors_of plan c.args.env.now f.slots = is.vectors_are ∙ ap (vectors_of plan c.args.env.now) c.as_slice.ensures.value in
+    let vectors : c.in_ok-room.room.vectors ≡ vectors_of plan c.args.env.now f.slots = is.vectors_are
+    ∙ ap (vectors_of plan c.args.env.now) c.as_slice.ensures.value in
     subst Keeps (sym c.begin.ensures) (record {
       program = keeps.program;
       rounds = keeps.rounds;
@@ -39,13 +40,19 @@ returns-clause-keeps c =
         within = rules.rate.0;
         round = record {
           begun = omega arith;
-          vectors = subst (AreTuples plan.rate (length plan.behaviour.ins)) (sym vectors) (vectors_are plan c.args.env.now f.slots rules keeps.slots);
-          outs = subst (AreTuples (length plan.behaviour.outs) plan.rate) (sym is.outs_are) (absent_are (length plan.behaviour.outs) plan.rate);
+          vectors =
+              subst (AreTuples plan.rate (length plan.behaviour.ins)) (sym vectors)
+              (vectors_are plan c.args.env.now f.slots rules keeps.slots);
+          outs =
+              subst (AreTuples (length plan.behaviour.outs) plan.rate) (sym is.outs_are)
+              (absent_are (length plan.behaviour.outs) plan.rate);
         };
         part = subst (IsPartRoom plan) (sym is.part_is) (part_room plan (empty_part plan) refl refl);
         place = grind (arith, common_steps);
       };
-      messages_keep = subst (AreTuples (length plan.out_links) plan.rate) (sym is.messages_are) (absent_are (length plan.out_links) plan.rate);
+      messages_keep =
+          subst (AreTuples (length plan.out_links) plan.rate) (sym is.messages_are)
+          (absent_are (length plan.out_links) plan.rate);
       room = keeps.room;
       row = keeps.row;
       spare = subst (HasMemory (arc_value f.plan).code) (sym c.take-spare.ensures.after) tt;

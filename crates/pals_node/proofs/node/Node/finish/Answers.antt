@@ -8,11 +8,19 @@ returns-then-is_of-clause-ok c =
     let f = c.self.inside.fields in
     let round = runs_open f c.in-Running.step c.self.invariant c.in-Running.is in
     let same = job_is f c.in-Running.step c.deref.result.now c.index.result.now round c.deref.ensures c.index.ensures in
-    rw (← c.self.view_is) (record { running = c.in-Running.step; finishes = (c.in-Running.is, c.take_step.ensures.value); used = c.is_of.ensures.0 c.if-is_of.true ∙ same })
+    rw (← c.self.view_is) (record {
+      running = c.in-Running.step;
+      finishes = (c.in-Running.is, c.take_step.ensures.value);
+      used = c.is_of.ensures.0 c.if-is_of.true ∙ same;
+    })
 
 pub returns-clause-ok : goal.returns-clause-ok
 returns-clause-ok c =
     let f = c.self.inside.fields in
     let round = runs_open f c.in-Running.step c.self.invariant c.in-Running.is in
     let same = job_is f c.in-Running.step c.deref.result.now c.index.result.now round c.deref.ensures c.index.ensures in
-    rw (← c.self.view_is) (record { running = c.in-Running.step; finishes = (c.in-Running.is, c.run_step.ensures.value); used = λ is. false≢true (sym c.if-is_of.false ∙ c.is_of.ensures.1 (is ∙ sym same)) })
+    rw (← c.self.view_is) (record {
+      running = c.in-Running.step;
+      finishes = (c.in-Running.is, c.run_step.ensures.value);
+      used = λ is. false≢true (sym c.if-is_of.false ∙ c.is_of.ensures.1 (is ∙ sym same));
+    })

@@ -18,8 +18,10 @@ pub returns-in_ok-start-in-None-clause-ok : goal.returns-in_ok-start-in-None-cla
 returns-in_ok-start-in-None-clause-ok c =
     let f = c.self.inside.fields in
     let p = arc_value f.plan in
-    let here : c.behind-self.inside.plan ≡ p.plan = ap (λ (q : Program). q.plan) (c.behind-self.view_is ∙ c.deref.ensures) in
-    let there : c.behind-f.inside.plan ≡ p.plan = ap (λ (q : Program). q.plan) (c.behind-f.view_is ∙ c.deref-2.ensures) in
+    let here : c.behind-self.inside.plan ≡ p.plan =
+    ap (λ (q : Program). q.plan) (c.behind-self.view_is ∙ c.deref.ensures) in
+    let there : c.behind-f.inside.plan ≡ p.plan =
+    ap (λ (q : Program). q.plan) (c.behind-f.view_is ∙ c.deref-2.ensures) in
     rw (← c.self.view_is) (record {
       waits = c.in-Waiting.is;
       due =

@@ -34,7 +34,8 @@ returns c =
     let m = ap (λ s. s.size) c.self.view_is in
     let r = c.requires in
     let within : top < length cells = omega arith in
-    ap (λ x. stack_of (stacked (slice_set cells top x) (top + 1)) (length (slice_set cells top x))) (to_z-of_z w64 v c.ranges.operand)
+    ap (λ x. stack_of (stacked (slice_set cells top x) (top + 1)) (length (slice_set cells top x)))
+    (to_z-of_z w64 v c.ranges.operand)
     ∙ ap (λ xs. stack_of xs (length (slice_set cells top v))) (pushed cells top v within)
     ∙ ap (λ k. stack_of (v ∷ stacked cells top) k) (length-set cells top v)
     ∙ ap (λ s. stack_of (v ∷ s.numbers) s.size) c.self.view_is
