@@ -1,5 +1,5 @@
 -- What is answered to a bundle: to one that has no design, and to a design with its codes or with one that is too long.
-use Rattle.std.proofs.Common.{◌≡◌, inl, inr, ℕ, List, ◌++◌, Result, Ok, Err, IfOk, sym, ap, ◌∙◌, subst}
+use Rattle.std.proofs.Common.{◌≡◌, inl, inr, ℕ, List, ◌++◌, Result, Ok, Err, IfOk, OnOk, sym, ap, ◌∙◌, subst}
 use Rattle.pals_base.specs.declared.values.NodeNo.{NodeNo}
 use Rattle.pals_model.specs.declared.design.DesignParts.{DesignParts}
 use Rattle.pals_model.specs.RoundTexts.{line_end}
@@ -13,6 +13,7 @@ use Rattle.bundle_designs.specs.RefusedTexts.{IsTextRefused}
 use Rattle.bundle_designs.specs.Accepted.{IsAccepted, IsPackageRefused}
 use Rattle.bundle_designs.specs.proof.Refusals.{IsRefusal}
 use Rattle.code_listing.specs.Listings.{listing}
+use Rattle.code_listing.specs.Numbers.{AllFit}
 use Rattle.pals_code.specs.declared.answer.Answer.{Answer}
 use Rattle.pals_code.specs.declared.status.TheConstants.{DONE, CODE_TOO_LONG}
 use Rattle.pals_code.specs.Bundles.{code_fault_line, IsRefused, IsListingAnswer}
@@ -50,9 +51,9 @@ code_refused root bundle design scenario node size (Ok a) accepted long says =
 code_refused root bundle design scenario node size (Err e) accepted long says = tt
 
 pub listed : {E : Type 0} (root bundle : List ℕ) (design : DesignParts) (scenario : List ℕ) (programs shown : List CodeParts) (answered : Result Answer E)
-    → IsAccepted root bundle design scenario → AreShort design → AreLaidOut (behaviours design) programs → shown ≡ programs
+    → IsAccepted root bundle design scenario → AreShort design → AreLaidOut (behaviours design) programs → shown ≡ programs → OnOk answered (AllFit design.components shown)
     → IfOk answered (Says DONE (listing design shown)) → IfOk answered (λ a. IsListingAnswer root bundle (status_of a) (text_of a))
-listed root bundle design scenario programs shown (Ok a) accepted short laid_out same says =
+listed root bundle design scenario programs shown (Ok a) accepted short laid_out same fit says =
     inr (inr (record {
       status_is = says.0;
       design = design;
@@ -61,6 +62,7 @@ listed root bundle design scenario programs shown (Ok a) accepted short laid_out
       short = short;
       programs = programs;
       laid_out = laid_out;
+      fit = subst (AllFit design.components) same fit;
       text_is = says.1 ∙ ap (listing design) same;
     }))
-listed root bundle design scenario programs shown (Err e) accepted short laid_out same says = tt
+listed root bundle design scenario programs shown (Err e) accepted short laid_out same fit says = tt

@@ -1,8 +1,9 @@
 //! The answer to a bundle.
-ghost use Rattle.std.specs.Prelude.{◌++◌, ℕ, List, IfOk};
+ghost use Rattle.std.specs.Prelude.{◌++◌, ℕ, List, IfOk, OnOk};
 ghost use Rattle.pals_model.specs.RoundTexts.{line_end};
 ghost use Rattle.bundle_designs.specs.Accepted.{IsAccepted};
 ghost use Rattle.code_listing.specs.Listings.{listing};
+ghost use Rattle.code_listing.specs.Numbers.{AllFit};
 ghost use Rattle.pals_code.specs.declared.status.TheConstants.{CODE_TOO_LONG, DONE};
 ghost use Rattle.pals_code.specs.Bundles.{code_fault_line, IsListingAnswer};
 ghost use Rattle.pals_code.specs.proof.Statuses.{status_of, text_of, Says};
@@ -42,7 +43,8 @@ fn answer_design(alloc: Global, design: &Design) -> Result<Answer, NoMemory>
 
 // The answer to a design with its codes.
 fn list(alloc: Global, design: &Design, codes: &[Code]) -> Result<Answer, NoMemory>
-    ensures { IfOk result (Says DONE (listing design.now codes.now)) }
+    ensures answer { IfOk result (Says DONE (listing design.now codes.now)) }
+    ensures fit { OnOk result (AllFit design.now.components codes.now) }
 {
     let mut text = Vec::new(alloc);
     add_listing(&mut text, design, codes)?;

@@ -4,6 +4,7 @@
 
 mod answer;
 mod bundle;
+mod laws;
 mod program;
 mod status;
 

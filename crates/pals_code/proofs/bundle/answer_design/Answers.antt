@@ -5,7 +5,7 @@ use Rattle.pals_code.proofs.bundle.answer_design.Goals as goal
 
 pub returns-in-Ok : goal.returns-in-Ok
 returns-in-Ok c root bundle scenario accepted =
-    listed root bundle c.args.design.now scenario c.in-Ok.codes c.as_slice.result.now c.list.result accepted c.in-Ok.ensures.short c.in-Ok.ensures.layout c.as_slice.ensures.value c.list.ensures
+    listed root bundle c.args.design.now scenario c.in-Ok.codes c.as_slice.result.now c.list.result accepted c.in-Ok.ensures.short c.in-Ok.ensures.layout c.as_slice.ensures.value c.list.ensures.fit c.list.ensures.answer
 
 pub returns-in-Err-TooLong : goal.returns-in-Err-TooLong
 returns-in-Err-TooLong c root bundle scenario accepted =
