@@ -38,17 +38,21 @@ checked : (root bundle : List ℕ) (s : ℕ) (a : List ℕ) → IsCheckAnswer ro
 checked root bundle s a (inl x) = other 0 s x.0 (λ n. absurd (omega arith)) (λ n. absurd (omega arith))
 checked root bundle s a (inr x) = refused root bundle s a x
 
-analysed : (what : Analysis) (root bundle : List ℕ) (s : ℕ) (a : List ℕ) → IsAnalysisAnswer what root bundle s a → IsOther s
+analysed : (what : Analysis) (root bundle : List ℕ) (s : ℕ) (a : List ℕ)
+    → IsAnalysisAnswer what root bundle s a → IsOther s
 analysed what root bundle s a (inl x) = refused root bundle s a x
 analysed what root bundle s a (inr (inl x)) = other 5 s x.0 (λ n. absurd (omega arith)) (λ n. absurd (omega arith))
 analysed what root bundle s a (inr (inr x)) =
     let small = analysis_status what x.design x.scenario s a x.makes in
     (λ e. absurd (omega (arith, small, e)), λ e. absurd (omega (arith, small, e)))
 
-executed : (what : Execution) (root bundle : List ℕ) (s : ℕ) (a : List ℕ) → IsExecutionAnswer what root bundle s a → IsOther s
+executed : (what : Execution) (root bundle : List ℕ) (s : ℕ) (a : List ℕ)
+    → IsExecutionAnswer what root bundle s a → IsOther s
 executed what root bundle s a (inl x) = refused root bundle s a x
-executed what root bundle s a (inr (inl x)) = other 13 s x.status_is (λ n. absurd (omega arith)) (λ n. absurd (omega arith))
-executed what root bundle s a (inr (inr (inl x))) = other 5 s x.status_is (λ n. absurd (omega arith)) (λ n. absurd (omega arith))
+executed what root bundle s a (inr (inl x)) =
+    other 13 s x.status_is (λ n. absurd (omega arith)) (λ n. absurd (omega arith))
+executed what root bundle s a (inr (inr (inl x))) =
+    other 5 s x.status_is (λ n. absurd (omega arith)) (λ n. absurd (omega arith))
 executed what root bundle s a (inr (inr (inr x))) =
     let made = execution_status what x.design x.scenario s a x.makes in
     (λ e. apart s 9 made e (inr (inr (inl refl))), λ e. apart s 12 made e (inr (inr (inr (inl refl)))))
@@ -75,7 +79,8 @@ module _ (command : Command) (seen : Reading) (few : seen.before.faults < 2 ^ 64
       no_room seen.before.faults (2 ^ 64 - 1) few (sym (ap (λ (v : SourceView). v.faults) x.1.view) ∙ same)
   has_failed (inr (inr x)) e same = let n : 12 ≡ 9 = sym x.0 ∙ e in absurd (omega (arith, n))
 
-  pub failed_exactly : IsSourceAnswer command seen status text → (status ≡ 9) ↔ (seen.after.faults ≡ seen.before.faults → ⊥)
+  pub failed_exactly : IsSourceAnswer command seen status text
+      → (status ≡ 9) ↔ (seen.after.faults ≡ seen.before.faults → ⊥)
   failed_exactly answer = (has_failed answer, λ differ. (failed command seen status text differ answer).0)
 
   module _ (left : List ℕ) (told : seen.before.left ≡ Some left) where
@@ -87,4 +92,5 @@ module _ (command : Command) (seen : Reading) (few : seen.before.faults < 2 ^ 64
 
     pub too_many_exactly : IsSourceAnswer command seen status text
         → (status ≡ 12) ↔ ((seen.after.faults ≡ seen.before.faults) × (BUNDLE_BYTES < length left))
-    too_many_exactly answer = (has_too_many answer, λ h. (too_many command seen status text left told few h.0 h.1 answer).0)
+    too_many_exactly answer =
+        (has_too_many answer, λ h. (too_many command seen status text left told few h.0 h.1 answer).0)

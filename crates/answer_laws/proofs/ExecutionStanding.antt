@@ -45,13 +45,17 @@ module _ (what : Execution) (root bundle : List ℕ) where
   IsAlone n = (s : ℕ) → GivesStatus what root bundle s → GivesStatus what root bundle n → s ≡ n
 
   -- ---- a status that is made says what is made
-  made_by : (text design code scenario : Bool) (s : ℕ) → nat_eq s 3 ≡ text → nat_eq s 4 ≡ design → nat_eq s 13 ≡ code → nat_eq s 5 ≡ scenario → IsMade s
+  made_by : (text design code scenario : Bool) (s : ℕ) → nat_eq s 3 ≡ text → nat_eq s 4 ≡ design → nat_eq s 13 ≡ code
+      → nat_eq s 5 ≡ scenario → IsMade s
       → GivesStatus what root bundle s
-      → MatchBool text (HasTree bundle → ⊥) (MatchBool design (HasTree bundle × (MeansDesign root bundle → ⊥)) (MatchBool code (HasLongCode root bundle)
-      (MatchBool scenario (LacksScenario what root bundle ⊎ GivesStatus what root bundle s) (GivesStatus what root bundle s))))
+      → MatchBool text (HasTree bundle → ⊥)
+      (MatchBool design (HasTree bundle × (MeansDesign root bundle → ⊥)) (MatchBool code (HasLongCode root bundle)
+      (MatchBool scenario (LacksScenario what root bundle ⊎ GivesStatus what root bundle s)
+      (GivesStatus what root bundle s))))
   made_by true design code scenario s t d c e made x = absurd (apart s 3 made (eqb-true s 3 t) (inl refl))
   made_by false true code scenario s t d c e made x = absurd (apart s 4 made (eqb-true s 4 d) (inr (inl refl)))
-  made_by false false true scenario s t d c e made x = absurd (apart s 13 made (eqb-true s 13 c) (inr (inr (inr (inr refl)))))
+  made_by false false true scenario s t d c e made x =
+      absurd (apart s 13 made (eqb-true s 13 c) (inr (inr (inr (inr refl)))))
   made_by false false false true s t d c e made x = inr x
   made_by false false false false s t d c e made x = x
 
@@ -61,7 +65,8 @@ module _ (what : Execution) (root bundle : List ℕ) where
   has s (inr (inr (inl x))) = subst (λ n. Has what root bundle n) (sym x.0) x.1
   has s (inr (inr (inr (inl x)))) = subst (λ n. Has what root bundle n) (sym x.0) (inl x.1)
   has s (inr (inr (inr (inr x)))) =
-      made_by (nat_eq s 3) (nat_eq s 4) (nat_eq s 13) (nat_eq s 5) s refl refl refl refl (execution_status what x.design x.scenario s x.text x.makes) x
+      made_by (nat_eq s 3) (nat_eq s 4) (nat_eq s 13) (nat_eq s 5) s refl refl refl refl
+      (execution_status what x.design x.scenario s x.text x.makes) x
 
   -- ---- what each needs
   scenario_of : (s : ℕ) → GivesStatus what root bundle s → MeansScenario root bundle (command_of what root)
@@ -82,7 +87,8 @@ module _ (one_design : OneDesign) (what : Execution) (root bundle : List ℕ) wh
   codes_of s (inr x) long = long_or_short one_design root bundle x.design x.means.bytes long x.means.accepted x.short
 
   -- ---- an answer stands at its status
-  stands_refused : (s : ℕ) (a : List ℕ) → IsScenarioRefusedIn root bundle (command_of what root) s a → LacksScenario what root bundle
+  stands_refused : (s : ℕ) (a : List ℕ) → IsScenarioRefusedIn root bundle (command_of what root) s a
+      → LacksScenario what root bundle
   stands_refused s a x = (
     (x.faulty.design, x.faulty.bytes, x.faulty.accepted),
     λ long. long_or_short one_design root bundle x.faulty.design x.faulty.bytes long x.faulty.accepted x.short,
@@ -107,19 +113,22 @@ module _ (one_design : OneDesign) (what : Execution) (root bundle : List ℕ) wh
   executed : (s : ℕ) (x : GivesStatus what root bundle s) → IsExecuted what root bundle s x.text
   executed s x = record { design = x.design; scenario = x.scenario; means = x.means; short = x.short; makes = x.makes }
 
-  same_scenario : (s n : ℕ) → IsAlone what root bundle n → WithCodes what root bundle s → WithCodes what root bundle n → s ≡ n
+  same_scenario : (s n : ℕ) → IsAlone what root bundle n → WithCodes what root bundle s
+      → WithCodes what root bundle n → s ≡ n
   same_scenario s n alone (inl x) (inl y) = x.0 ∙ sym y.0
   same_scenario s n alone (inl x) (inr y) = absurd (x.1.2 (scenario_of what root bundle n y))
   same_scenario s n alone (inr x) (inl y) = absurd (y.1.2 (scenario_of what root bundle s x))
   same_scenario s n alone (inr x) (inr y) = alone s x y
 
-  same_code : (s n : ℕ) → IsAlone what root bundle n → WithDesign what root bundle s → WithDesign what root bundle n → s ≡ n
+  same_code : (s n : ℕ) → IsAlone what root bundle n → WithDesign what root bundle s
+      → WithDesign what root bundle n → s ≡ n
   same_code s n alone (inl x) (inl y) = x.0 ∙ sym y.0
   same_code s n alone (inl x) (inr y) = absurd (codes_of n y x.1)
   same_code s n alone (inr x) (inl y) = absurd (codes_of s x y.1)
   same_code s n alone (inr x) (inr y) = same_scenario s n alone x y
 
-  same_design : (s n : ℕ) → IsAlone what root bundle n → WithTree what root bundle s → WithTree what root bundle n → s ≡ n
+  same_design : (s n : ℕ) → IsAlone what root bundle n → WithTree what root bundle s
+      → WithTree what root bundle n → s ≡ n
   same_design s n alone (inl x) (inl y) = x.0 ∙ sym y.0
   same_design s n alone (inl x) (inr y) = absurd (x.1.1 (design_of what root bundle n y))
   same_design s n alone (inr x) (inl y) = absurd (y.1.1 (design_of what root bundle s x))
@@ -134,8 +143,10 @@ module _ (one_design : OneDesign) (what : Execution) (root bundle : List ℕ) wh
   -- an answer is of such a status just if the bundle has what stands there
   pub exactly : (s n : ℕ) (a : List ℕ) → IsAlone what root bundle n → IsExecutionAnswer what root bundle s a
       → (Has what root bundle n → Stands what root bundle n) → (s ≡ n) ↔ Has what root bundle n
-  exactly s n a alone x into =
-      (λ e. subst (λ m. Has what root bundle m) e (has what root bundle s (stands s a x)), λ h. same_status s n alone (stands s a x) (into h))
+  exactly s n a alone x into = (
+    λ e. subst (λ m. Has what root bundle m) e (has what root bundle s (stands s a x)),
+    λ h. same_status s n alone (stands s a x) (into h),
+  )
 
   -- ---- 5: there is no scenario, or of it comes an answer of this status
   pub at_scenario : LacksScenario what root bundle ⊎ GivesStatus what root bundle 5 → Stands what root bundle 5
@@ -145,15 +156,20 @@ module _ (one_design : OneDesign) (what : Execution) (root bundle : List ℕ) wh
   -- ---- statuses that are alone
   -- none is made
   pub never_made : (n : ℕ) → ((n ≡ 3) ⊎ ((n ≡ 4) ⊎ ((n ≡ 9) ⊎ ((n ≡ 12) ⊎ (n ≡ 13))))) → IsAlone what root bundle n
-  never_made n which = λ s x y. absurd (apart n n (execution_status what y.design y.scenario n y.text y.makes) refl which)
+  never_made n which =
+      λ s x y. absurd (apart n n (execution_status what y.design y.scenario n y.text y.makes) refl which)
 
   -- a command that is no run makes one
   pub one_made : ExecutionLaws → is_run (command_of what root) ≡ false → (n : ℕ) → IsAlone what root bundle n
-  one_made laws not_run n = λ s x y. (executions_agree one_design what root bundle laws not_run s n x.text y.text (executed s x) (executed n y)).0
+  one_made laws not_run n =
+      λ s x y. (executions_agree one_design what root bundle laws not_run s n x.text y.text (executed s x)
+      (executed n y)).0
 
 -- a run makes none of status 5
-pub alone_at_scenario : OneDesign → ExecutionLaws → (what : Execution) (root bundle : List ℕ) → IsAlone what root bundle 5
-alone_at_scenario one_design laws (Run trace) root bundle = λ s x y. absurd (no_refused_run y.design y.scenario trace y.text y.makes)
+pub alone_at_scenario : OneDesign → ExecutionLaws → (what : Execution) (root bundle : List ℕ)
+    → IsAlone what root bundle 5
+alone_at_scenario one_design laws (Run trace) root bundle =
+    λ s x y. absurd (no_refused_run y.design y.scenario trace y.text y.makes)
 alone_at_scenario one_design laws TimedWorld root bundle = one_made one_design TimedWorld root bundle laws refl 5
 alone_at_scenario one_design laws LooseWorld root bundle = one_made one_design LooseWorld root bundle laws refl 5
 alone_at_scenario one_design laws Audit root bundle = one_made one_design Audit root bundle laws refl 5

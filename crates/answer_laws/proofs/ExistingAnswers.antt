@@ -37,19 +37,30 @@ ringed nodes rounds bundle = (DONE, ring_text nodes rounds, (refl, refl))
 
 -- ---- print
 by_tree : (bundle : List ℕ) → HasTree bundle ⊎ IsRefused bundle → HasAnswer Print bundle
-by_tree bundle (inl t) =
-    (DONE, canon t.tree, inl (refl, record { design = t.text; scenario = t.scenario; tree = t.tree; parsed = t.parsed; text_is = refl }))
+by_tree bundle (inl t) = (
+  DONE,
+  canon t.tree,
+  inl
+      (refl, record { design = t.text; scenario = t.scenario; tree = t.tree; parsed = t.parsed; text_is = refl }),
+)
 by_tree bundle (inr (text, r)) = (TEXT_REFUSED, text, inr (refl, r))
 
 -- ---- check
 by_design : (root bundle : List ℕ) → HasDesign root bundle ⊎ HasRefusal root bundle → HasAnswer (Check root) bundle
 by_design root bundle (inl d) =
-    let report = has_report d.design in
-    (DONE, report.0, inl (refl, record { design = d.design; scenario = d.bytes; accepted = d.accepted; report = report.1 }))
+    let report = has_report d.design in (
+      DONE,
+      report.0,
+      inl (
+        refl,
+        record { design = d.design; scenario = d.bytes; accepted = d.accepted; report = report.1 },
+      ),
+    )
 by_design root bundle (inr (status, text, r)) = (status, text, inr r)
 
 -- ---- a scenario with a fault
-faulty : (root bundle : List ℕ) (command : Command) (d : HasDesign root bundle) (fault : HasFault d.bytes d.design command)
+faulty : (root bundle : List ℕ) (command : Command) (d : HasDesign root bundle)
+    (fault : HasFault d.bytes d.design command)
     → HasScenarioFault root bundle command (scenario_fault_line fault.0 ++ line_end)
 faulty root bundle command d (fault, named, means) = record {
   design = d.design;
@@ -66,7 +77,9 @@ abbrev HasAnalysisAnswer : Analysis → List ℕ → List ℕ → Type 0
 HasAnalysisAnswer what root bundle = (status : ℕ) × (text : List ℕ) × IsAnalysisAnswer what root bundle status text
 
 module _ (laws : ExistenceLaws) (what : Analysis) (root bundle : List ℕ) where
-  by_scenario : (d : HasDesign root bundle) → HasScenario d.bytes d.design (analysis_command what root) ⊎ HasFault d.bytes d.design (analysis_command what root)
+  by_scenario : (d : HasDesign root bundle)
+      → HasScenario d.bytes d.design (analysis_command what root)
+      ⊎ HasFault d.bytes d.design (analysis_command what root)
       → HasAnalysisAnswer what root bundle
   by_scenario d (inl (scenario, means)) =
       let pairs = laws.pairs d.bytes (analysis_command what root) d.design scenario means in
@@ -81,7 +94,8 @@ module _ (laws : ExistenceLaws) (what : Analysis) (root bundle : List ℕ) where
           makes = made.2;
         })),
       )
-  by_scenario d (inr fault) = (SCENARIO_REFUSED, scenario_fault_line fault.0 ++ line_end, inr (inl (refl, faulty root bundle _ d fault)))
+  by_scenario d (inr fault) =
+      (SCENARIO_REFUSED, scenario_fault_line fault.0 ++ line_end, inr (inl (refl, faulty root bundle _ d fault)))
 
   analysed_by : HasDesign root bundle ⊎ HasRefusal root bundle → HasAnalysisAnswer what root bundle
   analysed_by (inl d) = by_scenario d (laws.scenario_or_fault d.bytes d.design (analysis_command what root))
@@ -96,7 +110,8 @@ HasExecutionAnswer what root bundle = (status : ℕ) × (text : List ℕ) × IsE
 
 module _ (laws : ExistenceLaws) (root bundle : List ℕ) where
   -- what the scenario keeps
-  events_of : (what : Execution) (d : HasDesign root bundle) (scenario : Scenario) → Means d.bytes d.design (execution_command what root) (Ok scenario)
+  events_of : (what : Execution) (d : HasDesign root bundle) (scenario : Scenario)
+      → Means d.bytes d.design (execution_command what root) (Ok scenario)
       → HasEvents what d.design scenario
   events_of execution.TimedWorld d scenario means = laws.few d.bytes (World root false) d.design scenario means
   events_of execution.LooseWorld d scenario means = laws.loose d.bytes root d.design scenario means
@@ -106,7 +121,8 @@ module _ (laws : ExistenceLaws) (root bundle : List ℕ) where
 
   module _ (what : Execution) where
     by_events : (d : HasDesign root bundle) → AreShort d.design
-        → HasScenario d.bytes d.design (execution_command what root) ⊎ HasFault d.bytes d.design (execution_command what root)
+        → HasScenario d.bytes d.design (execution_command what root)
+        ⊎ HasFault d.bytes d.design (execution_command what root)
         → HasExecutionAnswer what root bundle
     unfolding faulty
     by_events d short (inl (scenario, means)) =
@@ -128,7 +144,8 @@ module _ (laws : ExistenceLaws) (root bundle : List ℕ) where
       inr (inr (inl (record { status_is = refl; faulty = faulty root bundle _ d fault; short = short }))),
     )
 
-    by_codes : (d : HasDesign root bundle) → ((node : ℕ) × (size : ℕ) × IsFirstTooLong d.design node size) ⊎ AreShort d.design
+    by_codes : (d : HasDesign root bundle)
+        → ((node : ℕ) × (size : ℕ) × IsFirstTooLong d.design node size) ⊎ AreShort d.design
         → HasExecutionAnswer what root bundle
     by_codes d (inl (node, size, long)) = (
       CODE_TOO_LONG,
@@ -170,11 +187,18 @@ module _ (laws : ExistenceLaws) where
   has_answer (Ring nodes rounds) bundle form = ringed nodes rounds bundle
 
 -- ---- and no other, if it is no run
-agrees : AnswerIsDecided → (command : Command) (bundle : List ℕ) → is_run command ≡ false → (s t : ℕ) (a b : List ℕ) → IsAnswerTo command bundle s a → IsAnswerTo command bundle t b
+agrees : AnswerIsDecided → (command : Command) (bundle : List ℕ) → is_run command ≡ false → (s t : ℕ) (a b : List ℕ)
+    → IsAnswerTo command bundle s a → IsAnswerTo command bundle t b
     → (s ≡ t) × (a ≡ b)
 agrees decided (Ring nodes rounds) bundle not_run s t a b x y = (x.0 ∙ sym y.0, x.1 ∙ sym y.1)
 agrees decided command bundle not_run s t a b x y = decided command bundle s t a b not_run x y
 
-pub one_answer : AnswerIsDecided → (command : Command) (bundle : List ℕ) → is_run command ≡ false → HasAnswer command bundle → HasOneAnswer command bundle
+pub one_answer : AnswerIsDecided → (command : Command) (bundle : List ℕ) → is_run command ≡ false
+    → HasAnswer command bundle → HasOneAnswer command bundle
 one_answer decided command bundle not_run (status, text, is) =
-    record { status = status; text = text; is = is; only = λ s t x. agrees decided command bundle not_run s status t text x is }
+    record {
+      status = status;
+      text = text;
+      is = is;
+      only = λ s t x. agrees decided command bundle not_run s status t text x is;
+    }

@@ -36,5 +36,8 @@ by_least design (inl l) =
     )
 by_least design (inr none) = inr (λ n lt. short (length_of design n) (none n lt))
 
-pub long_or_short : (design : DesignParts) → ((node : ℕ) × (size : ℕ) × IsFirstTooLong design node size) ⊎ AreShort design
-long_or_short design = by_least design (least (λ n. INSTRUCTIONS < length_of design n) (λ n. too_long (length_of design n)) (length design.components))
+pub long_or_short : (design : DesignParts)
+    → ((node : ℕ) × (size : ℕ) × IsFirstTooLong design node size) ⊎ AreShort design
+long_or_short design =
+    by_least design (least (λ n. INSTRUCTIONS < length_of design n) (λ n. too_long (length_of design n))
+    (length design.components))

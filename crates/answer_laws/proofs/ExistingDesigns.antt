@@ -27,12 +27,17 @@ pub record HasDesign (root bundle : List ℕ) : Type 0 where
 abbrev pub HasRefusal : List ℕ → List ℕ → Type 0
 HasRefusal root bundle = (status : ℕ) × (text : List ℕ) × IsBundleRefused root bundle status text
 
-refused_in : (root bundle : List ℕ) (t : HasTree bundle) (written : List ℕ) → IsRefusedIn t.text t.tree root written → HasRefusal root bundle
-refused_in root bundle t written r =
-    (DESIGN_REFUSED, written, inr (refl, record { text = t.text; scenario = t.scenario; tree = t.tree; parsed = t.parsed; refused = r }))
+refused_in : (root bundle : List ℕ) (t : HasTree bundle) (written : List ℕ) → IsRefusedIn t.text t.tree root written
+    → HasRefusal root bundle
+refused_in root bundle t written r = (
+  DESIGN_REFUSED,
+  written,
+  inr (refl, record { text = t.text; scenario = t.scenario; tree = t.tree; parsed = t.parsed; refused = r }),
+)
 
 module _ (laws : ExistenceLaws) (root bundle : List ℕ) where
-  by_list : (t : HasTree bundle) (parts : Parts) → IsFlat t.tree root parts → (list : List Violation) → AreViolations t.tree (shown_by t.tree parts) list
+  by_list : (t : HasTree bundle) (parts : Parts) → IsFlat t.tree root parts → (list : List Violation)
+      → AreViolations t.tree (shown_by t.tree parts) list
       → HasDesign root bundle ⊎ HasRefusal root bundle
   by_list t parts flat [] all =
       let given : IsGiven t.tree = (t.text, t.parsed.read) in
@@ -53,7 +58,8 @@ module _ (laws : ExistenceLaws) (root bundle : List ℕ) where
         text_is = refl;
       })))
 
-  by_package : (t : HasTree bundle) → HasFirstFault t.tree root ⊎ HasInstance t.tree root → HasDesign root bundle ⊎ HasRefusal root bundle
+  by_package : (t : HasTree bundle) → HasFirstFault t.tree root ⊎ HasInstance t.tree root
+      → HasDesign root bundle ⊎ HasRefusal root bundle
   by_package t (inl (fault, is)) =
       inr (refused_in root bundle t (flat_fault_line t.text fault ++ line_end)
       (inl (record { fault = fault; faulty = is; named = laws.named t.tree root fault is; text_is = refl })))

@@ -23,7 +23,8 @@ HasEnd run events = (how : LooseEnd) × (t : BusState) × (journal : List Journa
 
 -- ---- from a state on
 -- the event of an index is this one, and those before it are steps from this state on
-record Comes (run : Run) (s : BusState) (events : List Event) (index : ℕ) (e : Event) (before : BusState) (told : List JournalEntry) : Type 0 where
+record Comes (run : Run) (s : BusState) (events : List Event) (index : ℕ) (e : Event) (before : BusState)
+    (told : List JournalEntry) : Type 0 where
   is_event : slice_get events index ≡ Some e
   steps : AllStep run s (take index events) before told
 
@@ -75,15 +76,22 @@ here : (run : Run) (s : BusState) (e : Event) (events : List Event) → Comes ru
 here run s e events = record { is_event = refl; steps = (refl, refl) }
 
 -- ---- one more event before them
-later : (run : Run) (s next : BusState) (e : Event) (events : List Event) (what : BusEvent) → loose_event e ≡ Some what → IsStep run s what next → next.stop ≡ None
+later : (run : Run) (s next : BusState) (e : Event) (events : List Event) (what : BusEvent) → loose_event e ≡ Some what
+    → IsStep run s what next → next.stop ≡ None
     → (index : ℕ) (f : Event) (before : BusState) (told : List JournalEntry) → Comes run next events index f before told
     → Comes run s (e ∷ events) (suc index) f before (entries run s what ++ told)
-later run s next e events what h step going index f before told c = record { is_event = c.is_event; steps = (what, next, told, h, step, going, c.steps, refl) }
+later run s next e events what h step going index f before told c =
+    record { is_event = c.is_event; steps = (what, next, told, h, step, going, c.steps, refl) }
 
-goes_on : (run : Run) (s next : BusState) (e : Event) (events : List Event) (what : BusEvent) → loose_event e ≡ Some what → IsStep run s what next → next.stop ≡ None
+goes_on : (run : Run) (s next : BusState) (e : Event) (events : List Event) (what : BusEvent)
+    → loose_event e ≡ Some what → IsStep run s what next → next.stop ≡ None
     → EndsFrom run next events → EndsFrom run s (e ∷ events)
 goes_on run s next e events what h step going (inl g) =
-    inl (record { state = g.state; journal = entries run s what ++ g.journal; steps = (what, next, g.journal, h, step, going, g.steps, refl) })
+    inl (record {
+      state = g.state;
+      journal = entries run s what ++ g.journal;
+      steps = (what, next, g.journal, h, step, going, g.steps, refl);
+    })
 goes_on run s next e events what h step going (inr (inl x)) =
     inr (inl (record {
       why = x.why;
@@ -113,10 +121,12 @@ goes_on run s next e events what h step going (inr (inr x)) =
     }))
 
 -- ---- by the first event
-by_stop : (run : Run) (s : BusState) (e : Event) (events : List Event) (what : BusEvent) → loose_event e ≡ Some what → IsStep run s what (after run s what)
+by_stop : (run : Run) (s : BusState) (e : Event) (events : List Event) (what : BusEvent) → loose_event e ≡ Some what
+    → IsStep run s what (after run s what)
     → ((going : (after run s what).stop ≡ None) → EndsFrom run (after run s what) events)
     → (o : Option Stop) → (after run s what).stop ≡ o → EndsFrom run s (e ∷ events)
-by_stop run s e events what h step rest None going = goes_on run s (after run s what) e events what h step going (rest going)
+by_stop run s e events what h step rest None going =
+    goes_on run s (after run s what) e events what h step going (rest going)
 by_stop run s e events what h step rest (Some why) stops =
     inr (inl (record {
       why = why;
@@ -132,11 +142,13 @@ by_stop run s e events what h step rest (Some why) stops =
       stops = stops;
     }))
 
-by_allowed : (run : Run) (s : BusState) (e : Event) (events : List Event) (what : BusEvent) → s.stop ≡ None → loose_event e ≡ Some what
+by_allowed : (run : Run) (s : BusState) (e : Event) (events : List Event) (what : BusEvent) → s.stop ≡ None
+    → loose_event e ≡ Some what
     → ((going : (after run s what).stop ≡ None) → EndsFrom run (after run s what) events)
     → (b : Bool) → is_allowed run s what ≡ b → EndsFrom run s (e ∷ events)
 by_allowed run s e events what going h rest true allowed =
-    by_stop run s e events what h (record { going = going; allowed = allowed; state = refl }) rest (after run s what).stop refl
+    by_stop run s e events what h (record { going = going; allowed = allowed; state = refl }) rest
+    (after run s what).stop refl
 by_allowed run s e events what going h rest false refused =
     let f = fault_of e what h in
     inr (inr (record {
@@ -159,15 +171,18 @@ AreLoose (e ∷ events) = ((what : BusEvent) × (loose_event e ≡ Some what)) �
 ends_from : (run : Run) (events : List Event) (s : BusState) → s.stop ≡ None → AreLoose events → EndsFrom run s events
 ends_from run [] s going loose = inl (record { state = s; journal = []; steps = (refl, refl) })
 ends_from run (e ∷ events) s going ((what, h), loose) =
-    by_allowed run s e events what going h (λ next_going. ends_from run events (after run s what) next_going loose) (is_allowed run s what) refl
+    by_allowed run s e events what going h (λ next_going. ends_from run events (after run s what) next_going loose)
+    (is_allowed run s what) refl
 
 are_loose : (run : Run) (events : List Event) → All (IsLooseIn run.design) events → AreLoose events
 are_loose run [] all = tt
 are_loose run (e ∷ events) all =
-    let first = all 0 e (omega arith) in ((first.what, first.is_what), are_loose run events (λ k d less. all (suc k) d (omega arith)))
+    let first = all 0 e (omega arith) in
+    ((first.what, first.is_what), are_loose run events (λ k d less. all (suc k) d (omega arith)))
 
 -- ---- from the opening on
-comes_to : (run : Run) (events : List Event) (index : ℕ) (e : Event) (before : BusState) (told : List JournalEntry) → Comes run (opening run) events index e before told
+comes_to : (run : Run) (events : List Event) (index : ℕ) (e : Event) (before : BusState) (told : List JournalEntry)
+    → Comes run (opening run) events index e before told
     → ComesTo run events index e before told
 comes_to run events index e before told c = record { is_event = c.is_event; steps = c.steps }
 

@@ -31,9 +31,11 @@ pub record ExistenceLaws : Type 0 where
   -- where nothing is wrong there is a design, which keeps the rules of designs
   pub there : (tree : PackageTree ℕ) (root : List ℕ) (parts : Parts) → IsGiven tree → IsFlat tree root parts
       → AreViolations tree (shown_by tree parts) [] → (design : DesignParts) × IsDesignIn tree root design
-  pub rules : (tree : PackageTree ℕ) (root : List ℕ) (design : DesignParts) → IsGiven tree → IsDesignIn tree root design → IsDesign design
+  pub rules : (tree : PackageTree ℕ) (root : List ℕ) (design : DesignParts) → IsGiven tree → IsDesignIn tree root design
+      → IsDesign design
   -- bytes mean a scenario or have a first fault
-  pub scenario_or_fault : (bytes : List ℕ) (design : DesignParts) (command : Command) → HasScenario bytes design command ⊎ HasFault bytes design command
+  pub scenario_or_fault : (bytes : List ℕ) (design : DesignParts) (command : Command)
+      → HasScenario bytes design command ⊎ HasFault bytes design command
   pub loose : EventsAreLoose
   pub few : EventsAreFew
   pub lines : TracesAreFew

@@ -38,7 +38,8 @@ by_sync design scenario = (_, _, (refl, refl))
 by_watch : (design : DesignParts) (scenario : Scenario) → IsMadeByAnalysis Watch design scenario
 by_watch design scenario = (_, _, record { status_is = refl; text_is = refl })
 
-by_vote : (design : DesignParts) (scenario : Scenario) → IsDesign design → IsScenarioOf design scenario → IsMadeByAnalysis Vote design scenario
+by_vote : (design : DesignParts) (scenario : Scenario) → IsDesign design → IsScenarioOf design scenario
+    → IsMadeByAnalysis Vote design scenario
 by_vote design scenario rules suits = (
   _,
   _,
@@ -51,7 +52,8 @@ by_vote design scenario rules suits = (
 )
 
 module _ (fused : ReportExists) where
-  by_fuse : (design : DesignParts) (scenario : Scenario) → IsDesign design → ArePairs design scenario.plants → IsMadeByAnalysis Fuse design scenario
+  by_fuse : (design : DesignParts) (scenario : Scenario) → IsDesign design → ArePairs design scenario.plants
+      → IsMadeByAnalysis Fuse design scenario
   by_fuse design scenario rules pairs =
       let there = fused design scenario.plants scenario.env scenario.rounds rules pairs in (
         _,
@@ -65,7 +67,8 @@ module _ (fused : ReportExists) where
         },
       )
 
-  pub by_analysis : (what : Analysis) (design : DesignParts) (scenario : Scenario) → IsDesign design → IsScenarioOf design scenario
+  pub by_analysis : (what : Analysis) (design : DesignParts) (scenario : Scenario) → IsDesign design
+      → IsScenarioOf design scenario
       → ArePairs design scenario.plants → IsMadeByAnalysis what design scenario
   by_analysis Sync design scenario rules suits pairs = by_sync design scenario
   by_analysis Watch design scenario rules suits pairs = by_watch design scenario
@@ -76,26 +79,34 @@ module _ (fused : ReportExists) where
 abbrev pub IsMadeByExecution : Execution → DesignParts → Scenario → Type 0
 IsMadeByExecution what design scenario = (status : ℕ) × (text : List ℕ) × executes what design scenario status text
 
-by_timed_world : (design : DesignParts) (scenario : Scenario) → IsDesign design → IsScenarioOf design scenario → IsMadeByExecution TimedWorld design scenario
-by_timed_world design scenario rules suits = answered (world_of design scenario) (record { design = rules; rounds = suits.long.0 }) scenario.events
+by_timed_world : (design : DesignParts) (scenario : Scenario) → IsDesign design → IsScenarioOf design scenario
+    → IsMadeByExecution TimedWorld design scenario
+by_timed_world design scenario rules suits =
+    answered (world_of design scenario) (record { design = rules; rounds = suits.long.0 }) scenario.events
 
-by_loose_world : (design : DesignParts) (scenario : Scenario) → AreLooseEvents design scenario.events → IsMadeByExecution LooseWorld design scenario
+by_loose_world : (design : DesignParts) (scenario : Scenario) → AreLooseEvents design scenario.events
+    → IsMadeByExecution LooseWorld design scenario
 by_loose_world design scenario loose = world_answer design scenario loose.each
 
-by_audit : (design : DesignParts) (scenario : Scenario) → IsDesign design → IsScenarioOf design scenario → IsMadeByExecution Audit design scenario
-by_audit design scenario rules suits = (_, _, audit_of design scenario _ _ (rules_of design scenario rules suits) (refl, refl))
+by_audit : (design : DesignParts) (scenario : Scenario) → IsDesign design → IsScenarioOf design scenario
+    → IsMadeByExecution Audit design scenario
+by_audit design scenario rules suits =
+    (_, _, audit_of design scenario _ _ (rules_of design scenario rules suits) (refl, refl))
 
 module _ (laws : ExistenceLaws) where
-  by_budget : (design : DesignParts) (scenario : Scenario) → IsDesign design → IsScenarioOf design scenario → IsMadeByExecution Budget design scenario
+  by_budget : (design : DesignParts) (scenario : Scenario) → IsDesign design → IsScenarioOf design scenario
+      → IsMadeByExecution Budget design scenario
   by_budget design scenario rules suits =
       let codes = has_codes laws.layout design rules in
       let in_time = all_in_time design codes.0 scenario rules suits in
       (_, _, record { programs = codes.0; laid_out = codes.1; status_is = refl; text_is = refl; in_time = in_time })
 
-  pub by_execution : (what : Execution) (design : DesignParts) (scenario : Scenario) → IsDesign design → IsScenarioOf design scenario → HasEvents what design scenario
+  pub by_execution : (what : Execution) (design : DesignParts) (scenario : Scenario) → IsDesign design
+      → IsScenarioOf design scenario → HasEvents what design scenario
       → IsMadeByExecution what design scenario
   by_execution TimedWorld design scenario rules suits events = by_timed_world design scenario rules suits
   by_execution LooseWorld design scenario rules suits events = by_loose_world design scenario events
-  by_execution (Run trace) design scenario rules suits events = run_answer laws.ends laws.ends_named design scenario trace rules suits
+  by_execution (Run trace) design scenario rules suits events =
+      run_answer laws.ends laws.ends_named design scenario trace rules suits
   by_execution Audit design scenario rules suits events = by_audit design scenario rules suits
   by_execution Budget design scenario rules suits events = by_budget design scenario rules suits

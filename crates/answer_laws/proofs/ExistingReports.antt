@@ -12,7 +12,8 @@ use Rattle.pals_report.specs.CheckReports.{rates, check_lines, IsCheckReport}
 use Rattle.design_laws.proofs.Least.{IsLeast, HasLeast, least}
 
 -- ---- what holds of all of a list can be told
-after : {X : Type 0} (P : X → Type 0) (x : X) (xs : List X) → P x → All P xs → (k : ℕ) (d : X) → k < length (x ∷ xs) → P (get_or (x ∷ xs) k d)
+after : {X : Type 0} (P : X → Type 0) (x : X) (xs : List X) → P x → All P xs → (k : ℕ) (d : X) → k < length (x ∷ xs)
+    → P (get_or (x ∷ xs) k d)
 after P x xs p rest zero d lt = p
 after P x xs p rest (suc k) d lt = rest k d (omega arith)
 
@@ -43,23 +44,35 @@ module _ (g : Gamma) (rates : List ℕ) where
   suited : (t : ℕ) → IsSuited g rates t ⊎ (IsSuited g rates t → ⊥)
   suited t = by_both t (cases_lt t (least_period g (greatest_rate rates))) (tell_all (λ k. t % k ≡ 0) (divides t) rates)
 
-  no_less : (l : IsLeast (IsSuited g rates) (HOUR + 1)) (s : ℕ) → IsSuited g rates s → (s < l.number) ⊎ (l.number ≤ s) → l.number ≤ s
+  no_less : (l : IsLeast (IsSuited g rates) (HOUR + 1)) (s : ℕ) → IsSuited g rates s → (s < l.number) ⊎ (l.number ≤ s)
+      → l.number ≤ s
   no_less l s is (inl lt) = absurd (l.first s lt is)
   no_less l s is (inr le) = le
 
   by_least : HasLeast (IsSuited g rates) (HOUR + 1) → ((t : ℕ) × IsLeastMultiple g rates t) ⊎ HasNoMultiple g rates
   by_least (inl l) =
       let within = l.within in
-      inl (l.number, record { suited = l.has; within = omega arith; least = λ s is. no_less l s is (cases_lt s l.number) })
+      inl (
+        l.number,
+        record {
+          suited = l.has;
+          within = omega arith;
+          least = λ s is. no_less l s is (cases_lt s l.number);
+        },
+      )
   by_least (inr none) = inr (λ t most is. none t (omega arith) is)
 
   multiple : ((t : ℕ) × IsLeastMultiple g rates t) ⊎ HasNoMultiple g rates
   multiple = by_least (least (IsSuited g rates) suited (HOUR + 1))
 
 -- ---- the report
-by_multiple : (design : DesignParts) → ((t : ℕ) × IsLeastMultiple design.gamma (rates design) t) ⊎ HasNoMultiple design.gamma (rates design) → (text : List ℕ) × IsCheckReport design text
-by_multiple design (inl (t, is)) = (text_of (check_lines design (Some t)), record { shortest = Some t; is_shortest = is; text_is = refl })
-by_multiple design (inr none) = (text_of (check_lines design None), record { shortest = None; is_shortest = none; text_is = refl })
+by_multiple : (design : DesignParts)
+    → ((t : ℕ) × IsLeastMultiple design.gamma (rates design) t) ⊎ HasNoMultiple design.gamma (rates design)
+    → (text : List ℕ) × IsCheckReport design text
+by_multiple design (inl (t, is)) =
+    (text_of (check_lines design (Some t)), record { shortest = Some t; is_shortest = is; text_is = refl })
+by_multiple design (inr none) =
+    (text_of (check_lines design None), record { shortest = None; is_shortest = none; text_is = refl })
 
 pub has_report : (design : DesignParts) → (text : List ℕ) × IsCheckReport design text
 has_report design = by_multiple design (multiple design.gamma (rates design))

@@ -47,7 +47,8 @@ module _ (run : Run) (clocks : List ClockState) (are : AreClocksOf run.design cl
   in_range node = elim (cases_lt node (length clocks)) [
     | inl within ↦ (opening_at node within).within
     | inr past ↦
-        subst (λ (c : ClockState). All (λ reading. reading ≤ READING) c.readings) (sym (get_or_past clocks node no_clock past)) (All-nil (λ reading. reading ≤ READING))
+        subst (λ (c : ClockState). All (λ reading. reading ≤ READING) c.readings)
+        (sym (get_or_past clocks node no_clock past)) (All-nil (λ reading. reading ≤ READING))
   ]
 
 begins : (run : Run) (clocks : Clocks) → AreClocksFor run.design clocks → Begin run clocks
@@ -61,13 +62,15 @@ are_readings run (Lists clocks) are = in_range run clocks are
 -- ---- what is told of a run at its end
 abbrev Tells : Run → Clocks → Bool → ℕ → List ℕ → Type 0
 Tells run clocks trace status text =
-    ((status ≡ DONE) × IsCompletedRun run clocks trace text) ⊎ ((status ≡ STOPPED) × IsStoppedRun run clocks text) ⊎ ((status ≡ CLOCK_ENDED) × IsEndedRun run clocks text)
+    ((status ≡ DONE) × IsCompletedRun run clocks trace text) ⊎ ((status ≡ STOPPED) × IsStoppedRun run clocks text)
+    ⊎ ((status ≡ CLOCK_ENDED) × IsEndedRun run clocks text)
 
 module _ (run : Run) (clocks : Clocks) (trace : Bool) where
   abbrev IsTold : Type 0
   IsTold = (status : ℕ) × (text : List ℕ) × Tells run clocks trace status text
 
-  module _ (later : Clocks) (journal : List JournalEntry) (s : BusState) (rules : IsRunOf run) (runs : Runs run later journal s) (lists : lists_in later ≡ lists_in clocks)
+  module _ (later : Clocks) (journal : List JournalEntry) (s : BusState) (rules : IsRunOf run)
+      (runs : Runs run later journal s) (lists : lists_in later ≡ lists_in clocks)
       (few : run.rounds ≤ ROUNDS) (range : AreReadings clocks) where
     done : AllDone run s → s.stop ≡ None → IsTold
     done all going = (
@@ -84,9 +87,12 @@ module _ (run : Run) (clocks : Clocks) (trace : Bool) where
     )
 
 -- the list of a node has ended
-module _ (run : Run) (clocks : Clocks) (trace : Bool) (lists : List ClockState) (journal : List JournalEntry) (s : BusState) (rules : IsRunOf run)
-    (runs : Runs run (Lists lists) journal s) (same : lists_in (Lists lists) ≡ lists_in clocks) (few : run.rounds ≤ ROUNDS) (range : AreReadings clocks) where
-  ended : AllAtEnd run (Lists lists) s → s.stop ≡ None → (node : ℕ) → IsFirstEnded run lists s node → IsTold run clocks trace
+module _ (run : Run) (clocks : Clocks) (trace : Bool) (lists : List ClockState) (journal : List JournalEntry)
+    (s : BusState) (rules : IsRunOf run)
+    (runs : Runs run (Lists lists) journal s) (same : lists_in (Lists lists) ≡ lists_in clocks)
+    (few : run.rounds ≤ ROUNDS) (range : AreReadings clocks) where
+  ended : AllAtEnd run (Lists lists) s → s.stop ≡ None → (node : ℕ) → IsFirstEnded run lists s node
+      → IsTold run clocks trace
   ended all going node first =
       let goal = target (plan_of run.design node) first.ended.0 in (
         CLOCK_ENDED,
@@ -106,8 +112,10 @@ module _ (run : Run) (clocks : Clocks) (trace : Bool) (lists : List ClockState) 
         )),
       )
 
-module _ (named : EndsAreNamed) (run : Run) (clocks : Clocks) (trace : Bool) (rules : IsRunOf run) (few : run.rounds ≤ ROUNDS) (range : AreReadings clocks) where
-  at_end : (later : Clocks) (journal : List JournalEntry) (s : BusState) → Runs run later journal s → lists_in later ≡ lists_in clocks → s.stop ≡ None → AllAtEnd run later s
+module _ (named : EndsAreNamed) (run : Run) (clocks : Clocks) (trace : Bool) (rules : IsRunOf run)
+    (few : run.rounds ≤ ROUNDS) (range : AreReadings clocks) where
+  at_end : (later : Clocks) (journal : List JournalEntry) (s : BusState) → Runs run later journal s
+      → lists_in later ≡ lists_in clocks → s.stop ≡ None → AllAtEnd run later s
       → IsTold run clocks trace
   at_end Meet journal s runs same going all = done run clocks trace Meet journal s rules runs same few range all going
   at_end (Lists lists) journal s runs same going all = elim (named run lists journal s rules runs all) [
@@ -115,17 +123,21 @@ module _ (named : EndsAreNamed) (run : Run) (clocks : Clocks) (trace : Bool) (ru
     | inr first ↦ ended run clocks trace lists journal s rules runs same few range all going first.0 first.1
   ]
 
-  by_stop : (later : Clocks) (journal : List JournalEntry) (s : BusState) (o : Option Stop) → Runs run later journal s → lists_in later ≡ lists_in clocks → s.stop ≡ o → HasCome run later s
+  by_stop : (later : Clocks) (journal : List JournalEntry) (s : BusState) (o : Option Stop) → Runs run later journal s
+      → lists_in later ≡ lists_in clocks → s.stop ≡ o → HasCome run later s
       → IsTold run clocks trace
-  by_stop later journal s (Some why) runs same is come = at_stop run clocks trace later journal s rules runs same few range why is
+  by_stop later journal s (Some why) runs same is come =
+      at_stop run clocks trace later journal s rules runs same few range why is
   by_stop later journal s None runs same is (inl stops) = absurd (stops is)
   by_stop later journal s None runs same is (inr all) = at_end later journal s runs same is all
 
 -- ---- a scenario has an answer
-pub run_answer : EachRunEnds → EndsAreNamed → (design : DesignParts) (scenario : Scenario) (trace : Bool) → IsDesign design → IsScenarioOf design scenario
+pub run_answer : EachRunEnds → EndsAreNamed → (design : DesignParts) (scenario : Scenario) (trace : Bool)
+    → IsDesign design → IsScenarioOf design scenario
     → (status : ℕ) × (text : List ℕ) × IsRunAnswer design scenario trace status text
 run_answer ends named design scenario trace rules suits =
     let run = run_of design scenario in
     let is_run : IsRunOf run = record { design = rules; rounds = suits.long.0 } in
     let e = ends run scenario.clocks is_run (begins run scenario.clocks suits.clock) in
-    by_stop named run scenario.clocks trace is_run suits.long.1 (are_readings run scenario.clocks suits.clock) e.later e.more e.state e.state.stop e.runs e.lists refl e.come
+    by_stop named run scenario.clocks trace is_run suits.long.1 (are_readings run scenario.clocks suits.clock) e.later
+    e.more e.state e.state.stop e.runs e.lists refl e.come

@@ -23,7 +23,8 @@ pub faults_of_scenarios_fit : FaultsOfScenariosFit
 faults_of_scenarios_fit root bundle command design scenario has =
     each_round design scenario.faults (meant_by has.bytes design command scenario has.means).faults
 
-module _ (rules : (root bundle : List ℕ) (design : DesignParts) (scenario : List ℕ) → IsAccepted root bundle design scenario → IsDesign design) where
+module _ (rules : (root bundle : List ℕ) (design : DesignParts) (scenario : List ℕ)
+    → IsAccepted root bundle design scenario → IsDesign design) where
   pub states_of_scenarios_fit : StatesOfScenariosFit
   states_of_scenarios_fit root bundle command design scenario has = λ node rounds c is_c.
       states_fit design scenario.env node rounds c (rules root bundle design has.bytes has.accepted)
@@ -41,13 +42,17 @@ module _ (rules : (root bundle : List ℕ) (design : DesignParts) (scenario : Li
 
   pub votes_of_scenarios_fit : VotesOfScenariosFit
   votes_of_scenarios_fit root bundle command design scenario has = λ rounds.
-      voted_fit design scenario.env (replicated_in design scenario.replicas) (faults_of scenario.faults) rounds (rules root bundle design has.bytes has.accepted)
-      (scenarios_fit root bundle command design scenario has) (faults_of_scenarios_fit root bundle command design scenario has)
+      voted_fit design scenario.env (replicated_in design scenario.replicas) (faults_of scenario.faults) rounds
+      (rules root bundle design has.bytes has.accepted)
+      (scenarios_fit root bundle command design scenario has)
+      (faults_of_scenarios_fit root bundle command design scenario has)
 
   pub shown_of_scenarios_fit : ShownOfScenariosFit
   shown_of_scenarios_fit root bundle command design scenario has = λ tap round.
-      shown_fit design scenario.env (replicated_in design scenario.replicas) (faults_of scenario.faults) tap round (rules root bundle design has.bytes has.accepted)
-      (scenarios_fit root bundle command design scenario has) (faults_of_scenarios_fit root bundle command design scenario has)
+      shown_fit design scenario.env (replicated_in design scenario.replicas) (faults_of scenario.faults) tap round
+      (rules root bundle design has.bytes has.accepted)
+      (scenarios_fit root bundle command design scenario has)
+      (faults_of_scenarios_fit root bundle command design scenario has)
 
   pub fused_of_scenarios_fit : PairsCanBeFused → FusedOfScenariosFit
   fused_of_scenarios_fit fused root bundle command design scenario has = λ rounds ins solves.

@@ -43,7 +43,19 @@ made_keeps made Q holds = record { kept = λ s e. subst Q (ok_same made s e) hol
 abbrev made : ℕ → List (List Port) → List Event → Clocks → List (List ℕ) → List (List ℕ) → List PropertyValue
     → List NodeNo → List RoundFault → List Pair → List Processor → Scenario
 made n i v c l t p r f pl pr =
-    record { rounds = n; env = record { lists = i }; events = v; clocks = c; delays = record { lists = l }; trace = t; properties = p; replicas = r; faults = f; plants = pl; processors = pr }
+    record {
+      rounds = n;
+      env = record { lists = i };
+      events = v;
+      clocks = c;
+      delays = record { lists = l };
+      trace = t;
+      properties = p;
+      replicas = r;
+      faults = f;
+      plants = pl;
+      processors = pr;
+    }
 
 module _ (d : Data) (design : DesignParts) (command : Command) where
   abbrev from_processors : ℕ → List (List Port) → List Event → Clocks → List (List ℕ) → List (List ℕ)
@@ -100,7 +112,10 @@ module _ (d : Data) (design : DesignParts) (command : Command) where
       then_keeps (plants_field design d) (λ pl. from_processors n i v c l t p r f pl) Q (λ pl x9.
       then_keeps (processors_field design command d) (λ pr. Ok (made n i v c l t p r f pl pr)) Q (λ pr x10.
       made_keeps (made n i v c l t p r f pl pr) Q
-      record { inputs = inputs_field_fit design (get (codes "inputs") d) i x1; faults = faults_field_fit design r (get (codes "faults") d) f x8 })))))))))))
+      record {
+        inputs = inputs_field_fit design (get (codes "inputs") d) i x1;
+        faults = faults_field_fit design r (get (codes "faults") d) f x8;
+      })))))))))))
 
 known_keeps : (o : Option (List ℕ × Data)) (next : Result Scenario ScenarioFault) (Q : Scenario → Type 0) → Keeps next Q
     → Keeps (only_known o next) Q
@@ -111,8 +126,10 @@ scenario_fits : (d : Data) (design : DesignParts) (command : Command)
     → Keeps (scen d design command) (ValuesFit design)
 unfolding scen
 scenario_fits d design command =
-    then_keeps (entries (codes "scenario") d) (λ es. only_known (find (λ e. not (is_field e.0)) es) (fields_in d design command)) (ValuesFit design)
-    (λ es x. known_keeps (find (λ e. not (is_field e.0)) es) (fields_in d design command) (ValuesFit design) (fields_fit d design command))
+    then_keeps (entries (codes "scenario") d)
+    (λ es. only_known (find (λ e. not (is_field e.0)) es) (fields_in d design command)) (ValuesFit design)
+    (λ es x. known_keeps (find (λ e. not (is_field e.0)) es) (fields_in d design command) (ValuesFit design)
+    (fields_fit d design command))
 
 pub meant_by : (bytes : List ℕ) (design : DesignParts) (command : Command) (scenario : Scenario)
     → Means bytes design command (Ok scenario) → ValuesFit design scenario

@@ -52,26 +52,32 @@ more_fit : (kind : Kind) (place : List ℕ) (values : List Port) (d : Data) (mor
 more_fit kind place values d more fits e =
     let v = ok_bind (port_value kind (inside place (decimal (length values))) d) (λ x. Ok (values ++ x ∷ [])) more e in
     subst (TupleFits kind) (ok_same (values ++ v.0 ∷ []) more v.2)
-    (All-append (PortFits kind) values (v.0 ∷ []) fits (All-cons (PortFits kind) v.0 [] (value_fits kind (inside place (decimal (length values))) d v.0 v.1) (All-nil (PortFits kind))))
+    (All-append (PortFits kind) values (v.0 ∷ []) fits
+    (All-cons (PortFits kind) v.0 [] (value_fits kind (inside place (decimal (length values))) d v.0 v.1)
+    (All-nil (PortFits kind))))
 
 list_fits : (kind : Kind) (place : List ℕ) (d : Data) (values : List Port) → value_list kind place d ≡ Ok values
     → TupleFits kind values
 unfolding value_list
 list_fits kind place d values e =
     let ds = ok_bind (elements place d) (λ xs. through (with_value kind place) [] xs) values e in
-    through_keeps (TupleFits kind) (with_value kind place) (λ so_far x more fits one. more_fit kind place so_far x more fits one) [] ds.0 values (All-nil (PortFits kind)) ds.2
+    through_keeps (TupleFits kind) (with_value kind place)
+    (λ so_far x more fits one. more_fit kind place so_far x more fits one) [] ds.0 values
+    (All-nil (PortFits kind)) ds.2
 
 -- ---- the lists of all root in ports
 abbrev pub ListsFit : DesignParts → List (List Port) → Type 0
 ListsFit design lists =
-    (number : ℕ) (name : List ℕ) → slice_get (root_inputs design) number ≡ Some name → TupleFits (root_kind design name) (slice_index_or lists number [])
+    (number : ℕ) (name : List ℕ) → slice_get (root_inputs design) number ≡ Some name
+    → TupleFits (root_kind design name) (slice_index_or lists number [])
 
 root_is : (place : List ℕ) (design : DesignParts) (name : List ℕ) (root : ℕ) → root_at place design name ≡ Ok root
     → slice_get (root_inputs design) root ≡ Some name
 unfolding root_at
 root_is place design name root e =
     let at =
-    found_at (bytes_eq name) (root_inputs design) root (ok_given (Unknown place) (position (bytes_eq name) (root_inputs design)) root e) in
+    found_at (bytes_eq name) (root_inputs design) root
+    (ok_given (Unknown place) (position (bytes_eq name) (root_inputs design)) root e) in
     at.1 ∙ ap Some (sym ((bytes_eq-Decides name at.0).0 at.2))
 
 input_fits : (design : DesignParts) (lists : List (List Port)) (entry : List ℕ × Data) (more : List (List Port))
@@ -81,14 +87,16 @@ input_fits design lists entry more fit e =
     let place = inside (codes "inputs") entry.0 in
     let kind = root_kind design entry.0 in
     let root =
-    ok_bind (root_at place design entry.0) (λ r. value_list kind place entry.1 >>= λ values. Ok (slice_set lists r values)) more e in
+    ok_bind (root_at place design entry.0)
+    (λ r. value_list kind place entry.1 >>= λ values. Ok (slice_set lists r values)) more e in
     let values = ok_bind (value_list kind place entry.1) (λ vs. Ok (slice_set lists root.0 vs)) more root.2 in
     let fits = list_fits kind place entry.1 values.0 values.1 in
     let own = root_is place design entry.0 root.0 root.1 in
     subst (ListsFit design) (ok_same (slice_set lists root.0 values.0) more values.2)
     (λ number name is.
     set_keeps (TupleFits (root_kind design name)) lists root.0 number values.0 []
-    (λ same. subst (λ n. TupleFits (root_kind design n) values.0) (same_Some entry.0 name (sym own ∙ ap (slice_get (root_inputs design)) (sym same) ∙ is)) fits)
+    (λ same. subst (λ n. TupleFits (root_kind design n) values.0)
+    (same_Some entry.0 name (sym own ∙ ap (slice_get (root_inputs design)) (sym same) ∙ is)) fits)
     (fit number name is))
 
 none_at : (kind : Kind) (n k : ℕ) → TupleFits kind (slice_index_or (replicate n []) k [])
@@ -105,7 +113,9 @@ unfolding inputs_in
 inputs_fit design d lists e =
     let first = replicate (length (root_inputs design)) [] in
     let members = ok_bind (entries (codes "inputs") d) (λ es. through (with_input design) first es) lists e in
-    through_keeps (ListsFit design) (with_input design) (λ so_far entry more fit one. input_fits design so_far entry more fit one) first members.0 lists (no_inputs_fit design) members.2
+    through_keeps (ListsFit design) (with_input design)
+    (λ so_far entry more fit one. input_fits design so_far entry more fit one) first members.0 lists
+    (no_inputs_fit design) members.2
 
 pub inputs_field_fit : (design : DesignParts) (o : Option Data) (lists : List (List Port))
     → field (codes "inputs") false (replicate (length (root_inputs design)) []) (inputs_in design) o ≡ Ok lists
@@ -118,4 +128,5 @@ inputs_field_fit design (Some d) lists e = inputs_fit design d lists e
 pub lists_to_env : (design : DesignParts) (env : Env) → ListsFit design env.lists → EnvFits design env
 lists_to_env design env fit = λ round number name is.
     subst (PortFits (root_kind design name)) (sym (place_of_column env.lists round number))
-    (index_fits (PortFits (root_kind design name)) (slice_index_or env.lists number []) round Absent (fit number name is) tt)
+    (index_fits (PortFits (root_kind design name)) (slice_index_or env.lists number []) round Absent
+    (fit number name is) tt)

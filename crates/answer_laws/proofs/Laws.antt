@@ -15,7 +15,8 @@ use Rattle.bundle_designs.specs.Accepted.{IsAccepted}
 
 -- a package has one design at most below a root
 abbrev pub OneDesign : Type 0
-OneDesign = (tree : PackageTree ℕ) (root : List ℕ) (a b : DesignParts) → IsDesignIn tree root a → IsDesignIn tree root b → a ≡ b
+OneDesign =
+    (tree : PackageTree ℕ) (root : List ℕ) (a b : DesignParts) → IsDesignIn tree root a → IsDesignIn tree root b → a ≡ b
 
 -- the package of a text has one first fault at most
 abbrev pub OneFault : Type 0
@@ -25,7 +26,9 @@ OneFault =
 
 -- the design that a bundle means keeps the rules of designs
 abbrev pub KeepsRules : Type 0
-KeepsRules = (root bundle : List ℕ) (design : DesignParts) (scenario : List ℕ) → IsAccepted root bundle design scenario → IsDesign design
+KeepsRules =
+    (root bundle : List ℕ) (design : DesignParts) (scenario : List ℕ) → IsAccepted root bundle design scenario
+    → IsDesign design
 
 -- what a command makes that needs no step codes is one: there is one report of a fused composition, of designs that keep the rules
 -- and pairs that can be fused

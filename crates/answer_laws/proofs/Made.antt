@@ -39,40 +39,52 @@ verdict_is_small s true e = omega (arith, e)
 verdict_is_small s false e = omega (arith, e)
 
 -- ---- analyses
-pub one_analysis : ReportIsOne → (what : Analysis) (design : DesignParts) (scenario : Scenario) → IsDesign design → ArePairs design scenario.plants
+pub one_analysis : ReportIsOne → (what : Analysis) (design : DesignParts) (scenario : Scenario) → IsDesign design
+    → ArePairs design scenario.plants
     → (s t : ℕ) (a b : List ℕ) → analyses what design scenario s a → analyses what design scenario t b → Agree s a t b
 one_analysis one Sync design scenario rules pairs s t a b x y = by_equations s t _ a b _ x y
-one_analysis one Watch design scenario rules pairs s t a b x y = by_equations s t _ a b _ (x.status_is, x.text_is) (y.status_is, y.text_is)
-one_analysis one Vote design scenario rules pairs s t a b x y = by_equations s t _ a b _ (x.status_is, x.text_is) (y.status_is, y.text_is)
-one_analysis one Fuse design scenario rules pairs s t a b x y =
-    (x.status_is ∙ sym y.status_is, one design scenario.plants scenario.env scenario.rounds a b rules pairs x.report y.report)
+one_analysis one Watch design scenario rules pairs s t a b x y =
+    by_equations s t _ a b _ (x.status_is, x.text_is) (y.status_is, y.text_is)
+one_analysis one Vote design scenario rules pairs s t a b x y =
+    by_equations s t _ a b _ (x.status_is, x.text_is) (y.status_is, y.text_is)
+one_analysis one Fuse design scenario rules pairs s t a b x y = (
+  x.status_is ∙ sym y.status_is,
+  one design scenario.plants scenario.env scenario.rounds a b rules pairs x.report y.report,
+)
 
-pub analysis_status : (what : Analysis) (design : DesignParts) (scenario : Scenario) (s : ℕ) (a : List ℕ) → analyses what design scenario s a → s < 2
+pub analysis_status : (what : Analysis) (design : DesignParts) (scenario : Scenario) (s : ℕ) (a : List ℕ)
+    → analyses what design scenario s a → s < 2
 analysis_status Sync design scenario s a x = let e : s ≡ 0 = x.0 in omega arith
 analysis_status Watch design scenario s a x = judged_is_small s _ x.status_is
 analysis_status Vote design scenario s a x = let e : s ≡ 0 = x.status_is in omega arith
 analysis_status Fuse design scenario s a x = let e : s ≡ 0 = x.status_is in omega arith
 
 -- ---- executions
-pub one_execution : ExecutionLaws → (what : Execution) (root : List ℕ) → is_run (command_of what root) ≡ false → (design : DesignParts) (scenario : Scenario)
+pub one_execution : ExecutionLaws → (what : Execution) (root : List ℕ) → is_run (command_of what root) ≡ false
+    → (design : DesignParts) (scenario : Scenario)
     (s t : ℕ) (a b : List ℕ) → executes what design scenario s a → executes what design scenario t b → Agree s a t b
-one_execution laws TimedWorld root not_run design scenario s t a b x y = one_timed (world_of design scenario) scenario.events s t a b x y
+one_execution laws TimedWorld root not_run design scenario s t a b x y =
+    one_timed (world_of design scenario) scenario.events s t a b x y
 one_execution laws LooseWorld root not_run design scenario s t a b x y =
     one_world laws.one_end design scenario s t a b (end_of design scenario s a x) (end_of design scenario t b y)
 one_execution laws (Run trace) root not_run design scenario s t a b x y = absurd (true≢false not_run)
 one_execution laws Audit root not_run design scenario s t a b x y = by_equations s t _ a b _ x.judged y.judged
 one_execution laws Budget root not_run design scenario s t a b x y = (
   x.status_is
-      ∙ (ap (λ (over : Bool). if over then 1 else 0) (laws.one_verdict design (behaviours design) x.programs y.programs (processors_of scenario) x.laid_out y.laid_out)
+      ∙ (ap (λ (over : Bool). if over then 1 else 0)
+      (laws.one_verdict design (behaviours design) x.programs y.programs (processors_of scenario)
+      x.laid_out y.laid_out)
       ∙ sym y.status_is),
-  x.text_is ∙ (laws.one_text design (behaviours design) x.programs y.programs (processors_of scenario) x.laid_out y.laid_out ∙ sym y.text_is),
+  x.text_is ∙ (laws.one_text design (behaviours design) x.programs y.programs (processors_of scenario) x.laid_out
+      y.laid_out ∙ sym y.text_is),
 )
 
 -- none of them is the status of a refused text or design, of a code that is too long, or of a source that was not read
 abbrev pub IsMade : ℕ → Type 0
 IsMade s = (s < 3) ⊎ ((5 ≤ s) × (s < 9))
 
-pub execution_status : (what : Execution) (design : DesignParts) (scenario : Scenario) (s : ℕ) (a : List ℕ) → executes what design scenario s a → IsMade s
+pub execution_status : (what : Execution) (design : DesignParts) (scenario : Scenario) (s : ℕ) (a : List ℕ)
+    → executes what design scenario s a → IsMade s
 execution_status TimedWorld design scenario s a (inl x) = let e : s ≡ 0 = x.0 in inl (omega arith)
 execution_status TimedWorld design scenario s a (inr x) = let e : s ≡ 5 = x.0 in inr (omega arith, omega arith)
 execution_status LooseWorld design scenario s a (inl x) = let e : s ≡ 0 = x.0 in inl (omega arith)
@@ -82,10 +94,12 @@ execution_status (Run trace) design scenario s a (inl x) = let e : s ≡ 0 = x.0
 execution_status (Run trace) design scenario s a (inr (inl x)) = let e : s ≡ 6 = x.0 in inr (omega arith, omega arith)
 execution_status (Run trace) design scenario s a (inr (inr x)) = let e : s ≡ 7 = x.0 in inr (omega arith, omega arith)
 execution_status Audit design scenario s a x = let small = verdict_is_small s _ x.judged.0 in inl (omega (arith, small))
-execution_status Budget design scenario s a x = let small = judged_is_small s _ x.status_is in inl (omega (arith, small))
+execution_status Budget design scenario s a x = let small = judged_is_small s _ x.status_is in
+    inl (omega (arith, small))
 
 -- a run refuses no scenario
-pub no_refused_run : (design : DesignParts) (scenario : Scenario) (trace : Bool) (a : List ℕ) → executes (Run trace) design scenario 5 a → ⊥
+pub no_refused_run : (design : DesignParts) (scenario : Scenario) (trace : Bool) (a : List ℕ)
+    → executes (Run trace) design scenario 5 a → ⊥
 no_refused_run design scenario trace a (inl x) = let e : 5 ≡ 0 = x.0 in absurd (omega (arith, e))
 no_refused_run design scenario trace a (inr (inl x)) = let e : 5 ≡ 6 = x.0 in absurd (omega (arith, e))
 no_refused_run design scenario trace a (inr (inr x)) = let e : 5 ≡ 7 = x.0 in absurd (omega (arith, e))
@@ -96,8 +110,13 @@ apart s n (inl small) e (inr (inl is)) = absurd (omega (arith, small, e, is))
 apart s n (inl small) e (inr (inr (inl is))) = absurd (omega (arith, small, e, is))
 apart s n (inl small) e (inr (inr (inr (inl is)))) = absurd (omega (arith, small, e, is))
 apart s n (inl small) e (inr (inr (inr (inr is)))) = absurd (omega (arith, small, e, is))
-apart s n (inr large) e (inl is) = let least = large.0 in let most = large.1 in absurd (omega (arith, least, most, e, is))
-apart s n (inr large) e (inr (inl is)) = let least = large.0 in let most = large.1 in absurd (omega (arith, least, most, e, is))
-apart s n (inr large) e (inr (inr (inl is))) = let least = large.0 in let most = large.1 in absurd (omega (arith, least, most, e, is))
-apart s n (inr large) e (inr (inr (inr (inl is)))) = let least = large.0 in let most = large.1 in absurd (omega (arith, least, most, e, is))
-apart s n (inr large) e (inr (inr (inr (inr is)))) = let least = large.0 in let most = large.1 in absurd (omega (arith, least, most, e, is))
+apart s n (inr large) e (inl is) = let least = large.0 in let most = large.1 in
+    absurd (omega (arith, least, most, e, is))
+apart s n (inr large) e (inr (inl is)) = let least = large.0 in let most = large.1 in
+    absurd (omega (arith, least, most, e, is))
+apart s n (inr large) e (inr (inr (inl is))) = let least = large.0 in let most = large.1 in
+    absurd (omega (arith, least, most, e, is))
+apart s n (inr large) e (inr (inr (inr (inl is)))) = let least = large.0 in let most = large.1 in
+    absurd (omega (arith, least, most, e, is))
+apart s n (inr large) e (inr (inr (inr (inr is)))) = let least = large.0 in let most = large.1 in
+    absurd (omega (arith, least, most, e, is))

@@ -18,7 +18,8 @@ one_value bytes d e x y = same_Some d e (sym x.1 ∙ y.1)
 
 pub one_scenario : (bytes : List ℕ) (design : DesignParts) (command : Command) (a b : Result Scenario ScenarioFault)
     → Means bytes design command a → Means bytes design command b → a ≡ b
-one_scenario bytes design command a b (inl x) (inl y) = sym x.2 ∙ (ap (λ d. scen d design command) (one_value bytes x.0 y.0 x.1 y.1) ∙ y.2)
+one_scenario bytes design command a b (inl x) (inl y) =
+    sym x.2 ∙ (ap (λ d. scen d design command) (one_value bytes x.0 y.0 x.1 y.1) ∙ y.2)
 one_scenario bytes design command a b (inl x) (inr y) = absurd (y.0 x.0 x.1)
 one_scenario bytes design command a b (inr x) (inl y) = absurd (x.0 y.0 y.1)
 one_scenario bytes design command a b (inr x) (inr y) = x.1 ∙ sym y.1
@@ -42,7 +43,8 @@ same_fault bytes design command a b x y = ap (fault_or a) (one_scenario bytes de
 pub scenario_or_fault : (bytes : List ℕ) (design : DesignParts) (command : Command) (a : Scenario) (b : ScenarioFault)
     → Means bytes design command (Ok a) → Means bytes design command (Err b) → ⊥
 scenario_or_fault bytes design command a b x y =
-    let e : ◌≡◌ {A = Result Scenario ScenarioFault} (Ok a) (Err b) = one_scenario bytes design command (Ok a) (Err b) x y in absurd (cc e)
+    let e : ◌≡◌ {A = Result Scenario ScenarioFault} (Ok a) (Err b) =
+    one_scenario bytes design command (Ok a) (Err b) x y in absurd (cc e)
 
 -- ---- reports
 least_is_one : (g : Gamma) (ks : List ℕ) (t u : ℕ) → IsLeastMultiple g ks t → IsLeastMultiple g ks u → t ≡ u
@@ -56,4 +58,5 @@ one_shortest design (Some t) (Some u) x y = ap Some (least_is_one design.gamma (
 
 pub one_report : (design : DesignParts) (a b : List ℕ) → IsCheckReport design a → IsCheckReport design b → a ≡ b
 one_report design a b x y =
-    x.text_is ∙ (ap (λ o. text_of (check_lines design o)) (one_shortest design x.shortest y.shortest x.is_shortest y.is_shortest) ∙ sym y.text_is)
+    x.text_is ∙ (ap (λ o. text_of (check_lines design o))
+    (one_shortest design x.shortest y.shortest x.is_shortest y.is_shortest) ∙ sym y.text_is)

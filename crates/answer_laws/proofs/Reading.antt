@@ -11,14 +11,20 @@ use Rattle.answer_laws.proofs.Calls.{too_long_by, all_read, too_long, not_counte
 module _ (command : Command) (seen : Reading) (status : ℕ) (text : List ℕ) where
   module _ (left : List ℕ) (told : seen.before.left ≡ Some left) (few : seen.before.faults < 2 ^ 64 - 1)
       (same : seen.after.faults ≡ seen.before.faults) where
-    pub read : length left ≤ BUNDLE_BYTES → IsSourceAnswer command seen status text → IsCommandAnswer command left status text
-    read within (inl x) = subst (λ (b : List ℕ). IsCommandAnswer command b status text) (all_read seen left told few x.bundle x.read) x.answer
+    pub read : length left ≤ BUNDLE_BYTES → IsSourceAnswer command seen status text
+        → IsCommandAnswer command left status text
+    read within (inl x) =
+        subst (λ (b : List ℕ). IsCommandAnswer command b status text)
+        (all_read seen left told few x.bundle x.read) x.answer
     read within (inr (inl x)) = absurd (not_counted seen left told few same x.1)
-    read within (inr (inr x)) = absurd (too_long_by (length left) (length left) BUNDLE_BYTES refl within (too_long seen left told few x.1))
+    read within (inr (inr x)) =
+        absurd (too_long_by (length left) (length left) BUNDLE_BYTES refl within (too_long seen left told few x.1))
 
-    pub too_many : BUNDLE_BYTES < length left → IsSourceAnswer command seen status text → (status ≡ 12) × (text ≡ too_long_line)
+    pub too_many : BUNDLE_BYTES < length left → IsSourceAnswer command seen status text
+        → (status ≡ 12) × (text ≡ too_long_line)
     too_many long (inl x) =
-        absurd (too_long_by (length x.bundle) (length left) BUNDLE_BYTES (ap length (all_read seen left told few x.bundle x.read)) x.read.within long)
+        absurd (too_long_by (length x.bundle) (length left) BUNDLE_BYTES
+        (ap length (all_read seen left told few x.bundle x.read)) x.read.within long)
     too_many long (inr (inl x)) = absurd (not_counted seen left told few same x.1)
     too_many long (inr (inr x)) = (x.0, x.2)
 

@@ -23,7 +23,8 @@ use Rattle.answer_laws.specs.proof.Runs.{ShowsRounds}
 
 -- ---- what ends first
 -- a node with something to do is there
-is_there : (run : Run) (s : BusState) (node : ℕ) (action : Action) → Agrees run s → upcoming (plan_of run.design node) (node_at s node) ≡ Some action
+is_there : (run : Run) (s : BusState) (node : ℕ) (action : Action) → Agrees run s
+    → upcoming (plan_of run.design node) (node_at s node) ≡ Some action
     → node < length run.design.components
 is_there run s node action agree next = elim (cases_lt node (length run.design.components)) [
   | inl within ↦ within
@@ -45,9 +46,11 @@ done_at_end : (run : Run) (later : Clocks) (s : BusState) → AllDone run s → 
 done_at_end run Meet s done = done
 done_at_end run (Lists lists) s done = λ node within. inl (done node within)
 
-done_or_first : (run : Run) (later : Clocks) (s : BusState) (node goal : ℕ) → AllDone run s → EndsFirst run later s node goal → ⊥
+done_or_first : (run : Run) (later : Clocks) (s : BusState) (node goal : ℕ) → AllDone run s
+    → EndsFirst run later s node goal → ⊥
 done_or_first run Meet s node goal done first = first
-done_or_first run (Lists lists) s node goal done first = done_or_ended run lists s node (done node first.0.within) first.0.ended
+done_or_first run (Lists lists) s node goal done first =
+    done_or_ended run lists s node (done node first.0.within) first.0.ended
 
 -- ---- two ends
 module _ (run : Run) (clocks : Clocks) (rules : IsRunOf run) where
@@ -59,7 +62,8 @@ module _ (run : Run) (clocks : Clocks) (rules : IsRunOf run) where
         → (AllDone run x.state × AllDone run y.state)
         ⊎ ((node goal : ℕ) × EndsFirst run x.later x.state node goal × EndsFirst run y.later y.state node goal)
     by_end x y over end =
-        one_end run x.later y.later x.journal y.journal x.state y.state rules x.runs y.runs (x.lists ∙ sym y.lists) over end
+        one_end run x.later y.later x.journal y.journal x.state y.state rules x.runs y.runs
+        (x.lists ∙ sym y.lists) over end
 
     -- the same line names the node
     pub two_ended : (a b : List ℕ) → IsEndedRun run clocks a → IsEndedRun run clocks b → a ≡ b
@@ -73,23 +77,28 @@ module _ (run : Run) (clocks : Clocks) (rules : IsRunOf run) where
           x.text_is ∙ ((λ i. clock_end_line run.design (node i) (goal i) ++ line_end) ∙ sym y.text_is)
     ]
 
-    pub completed_or_ended : (trace : Bool) (a b : List ℕ) → IsCompletedRun run clocks trace a → IsEndedRun run clocks b → ⊥
-    completed_or_ended trace a b x y = elim (by_end x.course y.course (done_at_end run x.course.later x.course.state x.done) y.all) [
-      | inl done ↦ done_or_first run y.course.later y.course.state y.node y.goal done.1 (ends_first b y)
-      | inr one ↦ done_or_first run x.course.later x.course.state one.0 one.1 x.done one.2
-    ]
+    pub completed_or_ended : (trace : Bool) (a b : List ℕ) → IsCompletedRun run clocks trace a
+        → IsEndedRun run clocks b → ⊥
+    completed_or_ended trace a b x y =
+        elim (by_end x.course y.course (done_at_end run x.course.later x.course.state x.done) y.all) [
+          | inl done ↦ done_or_first run y.course.later y.course.state y.node y.goal done.1 (ends_first b y)
+          | inr one ↦ done_or_first run x.course.later x.course.state one.0 one.1 x.done one.2
+        ]
 
   -- ---- in time
   pub going_on : NoneStops → InTime run clocks → (a : List ℕ) → IsStoppedRun run clocks a → ⊥
   going_on none in_time a x =
-      let going = none run x.course.later x.course.journal x.course.state rules x.course.runs clocks x.course.lists in_time in
+      let going =
+      none run x.course.later x.course.journal x.course.state rules x.course.runs clocks x.course.lists in_time in
       let both : None ≡ Some x.why = sym going ∙ x.stop in
       absurd (cc)
 
   -- no list has ended where each has a pick for its last target
   pub none_ended : PickedAreDone → AllPicked run clocks → (a : List ℕ) → IsEndedRun run clocks a → ⊥
   none_ended are picked a x =
-      let done = are run x.course.later x.course.journal x.course.state rules x.course.runs clocks x.course.lists picked x.all in
+      let done =
+      are run x.course.later x.course.journal x.course.state rules x.course.runs clocks x.course.lists
+      picked x.all in
       done_or_first run x.course.later x.course.state x.node x.goal done (ends_first a x)
 
   pub shows_rounds : (trace : Bool) (a : List ℕ) → IsCompletedRun run clocks trace a → ShowsRounds run trace a

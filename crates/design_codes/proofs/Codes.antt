@@ -18,27 +18,40 @@ pub record AreFirst (design : DesignParts) (codes : List CodeParts) : Type 0 whe
   pub short : (k : ℕ) → k < length codes → length_of design k ≤ INSTRUCTIONS
 
 pub first_none : (design : DesignParts) → AreFirst design []
-first_none design = record { laid = λ k lt. absurd (omega (arith, lt)); mean = λ k lt. absurd (omega (arith, lt)); short = λ k lt. absurd (omega (arith, lt)) }
+first_none design =
+    record {
+      laid = λ k lt. absurd (omega (arith, lt));
+      mean = λ k lt. absurd (omega (arith, lt));
+      short = λ k lt. absurd (omega (arith, lt));
+    }
 
-pub first_more : (design : DesignParts) (codes : List CodeParts) (code : CodeParts) → AreFirst design codes → IsLaidOut (component_at design (length codes)).behaviour code → Means code (component_at design (length codes)).behaviour → length_of design (length codes) ≤ INSTRUCTIONS
+pub first_more : (design : DesignParts) (codes : List CodeParts) (code : CodeParts) → AreFirst design codes
+    → IsLaidOut (component_at design (length codes)).behaviour code
+    → Means code (component_at design (length codes)).behaviour → length_of design (length codes) ≤ INSTRUCTIONS
     → AreFirst design (codes ++ code ∷ [])
 first_more design codes code are laid means size =
     let many = length-append codes (code ∷ []) in
     record {
       laid = λ k lt. elim (cases_lt k (length codes)) [
-        | inl before ↦ subst (IsLaidOut (component_at design k).behaviour) (sym (get_or_append_left codes (code ∷ []) no_code k before)) (are.laid k before)
+        | inl before ↦ subst (IsLaidOut (component_at design k).behaviour)
+            (sym (get_or_append_left codes (code ∷ []) no_code k before)) (are.laid k before)
         | inr at ↦
             let here : length codes ≡ k = omega (arith, many, lt, at) in
-            subst (IsLaidOut (component_at design k).behaviour) (sym (get_or_push codes code no_code k here)) (subst (λ (j : ℕ). IsLaidOut (component_at design j).behaviour code) here laid)
+            subst (IsLaidOut (component_at design k).behaviour) (sym (get_or_push codes code no_code k here))
+            (subst (λ (j : ℕ). IsLaidOut (component_at design j).behaviour code) here laid)
       ];
       mean = λ k lt. elim (cases_lt k (length codes)) [
-        | inl before ↦ subst (λ (c : CodeParts). Means c (component_at design k).behaviour) (sym (get_or_append_left codes (code ∷ []) no_code k before)) (are.mean k before)
+        | inl before ↦ subst (λ (c : CodeParts). Means c (component_at design k).behaviour)
+            (sym (get_or_append_left codes (code ∷ []) no_code k before)) (are.mean k before)
         | inr at ↦
             let here : length codes ≡ k = omega (arith, many, lt, at) in
-            subst (λ (c : CodeParts). Means c (component_at design k).behaviour) (sym (get_or_push codes code no_code k here)) (subst (λ (j : ℕ). Means code (component_at design j).behaviour) here means)
+            subst (λ (c : CodeParts). Means c (component_at design k).behaviour)
+            (sym (get_or_push codes code no_code k here))
+            (subst (λ (j : ℕ). Means code (component_at design j).behaviour) here means)
       ];
       short = λ k lt. elim (cases_lt k (length codes)) [
         | inl before ↦ are.short k before
-        | inr at ↦ let here : length codes ≡ k = omega (arith, many, lt, at) in subst (λ (j : ℕ). length_of design j ≤ INSTRUCTIONS) here size
+        | inr at ↦ let here : length codes ≡ k = omega (arith, many, lt, at) in
+            subst (λ (j : ℕ). length_of design j ≤ INSTRUCTIONS) here size
       ];
     }

@@ -20,7 +20,8 @@ abbrev pub and_sender : List ℕ → Option ℕ → List ℕ
 and_sender before None = before
 and_sender before (Some node) = before ++ node ∷ []
 
-pub one_event : (design : DesignParts) (env : Env) (before : List ℕ) (events : List Event) (o : Option ℕ) (later : List ℕ → List (List ℕ))
+pub one_event : (design : DesignParts) (env : Env) (before : List ℕ) (events : List Event) (o : Option ℕ)
+    (later : List ℕ → List (List ℕ))
     → sent_lines_in design env before events o later ≡ event_lines design env before o ++ later (and_sender before o)
 one_event design env before events None later = refl
 one_event design env before events (Some node) later = refl

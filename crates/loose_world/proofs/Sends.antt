@@ -52,27 +52,35 @@ record IsFrom (links : List Link) (node number : ℕ) : Type 0 where
 
 -- those that are numbered from a number on are places of the list
 abbrev AtPlace : List Link → ℕ → ℕ → ℕ × Link → Type 0
-AtPlace links node before numbered = (k : ℕ) × (numbered.0 ≡ before + k) × (slice_get links k ≡ Some numbered.1) × (nat_eq numbered.1.source.0 node ≡ true)
+AtPlace links node before numbered =
+    (k : ℕ) × (numbered.0 ≡ before + k) × (slice_get links k ≡ Some numbered.1)
+    × (nat_eq numbered.1.source.0 node ≡ true)
 
-later_place : (l : Link) (links : List Link) (node before : ℕ) (numbered : ℕ × Link) → AtPlace links node (before + 1) numbered
+later_place : (l : Link) (links : List Link) (node before : ℕ) (numbered : ℕ × Link)
+    → AtPlace links node (before + 1) numbered
     → AtPlace (l ∷ links) node before numbered
 later_place l links node before numbered at = (suc at.0, (let is = at.1 in omega arith), at.2, at.3)
 
-from_by : (l : Link) (links : List Link) (node before : ℕ) (rest : List (ℕ × Link)) (b : Bool) → nat_eq l.source.0 node ≡ b
+from_by : (l : Link) (links : List Link) (node before : ℕ) (rest : List (ℕ × Link)) (b : Bool)
+    → nat_eq l.source.0 node ≡ b
     → All (AtPlace (l ∷ links) node before) rest
     → All (AtPlace (l ∷ links) node before) (cond b ((before, l) ∷ rest) rest)
-from_by l links node before rest true is all = All-cons (AtPlace (l ∷ links) node before) (before, l) rest (0, omega arith, refl, is) all
+from_by l links node before rest true is all =
+    All-cons (AtPlace (l ∷ links) node before) (before, l) rest (0, omega arith, refl, is) all
 from_by l links node before rest false is all = all
 
 all_from : (links : List Link) (node before : ℕ)
-    → All (AtPlace links node before) (filter (λ numbered. nat_eq numbered.1.source.0 node) (enumerate_from before links))
+    → All (AtPlace links node before)
+    (filter (λ numbered. nat_eq numbered.1.source.0 node) (enumerate_from before links))
 all_from [] node before = All-nil (AtPlace [] node before)
 all_from (l ∷ links) node before =
     let rest = filter (λ (numbered : ℕ × Link). nat_eq numbered.1.source.0 node) (enumerate_from (before + 1) links) in
     from_by l links node before rest (nat_eq l.source.0 node) refl
-    (All-weaker (AtPlace links node (before + 1)) (AtPlace (l ∷ links) node before) (later_place l links node before) rest (all_from links node (before + 1)))
+    (All-weaker (AtPlace links node (before + 1)) (AtPlace (l ∷ links) node before) (later_place l links node before)
+    rest (all_from links node (before + 1)))
 
-is_from : (links : List Link) (node : ℕ) (numbered : ℕ × Link) → AtPlace links node 0 numbered → IsFrom links node numbered.0
+is_from : (links : List Link) (node : ℕ) (numbered : ℕ × Link) → AtPlace links node 0 numbered
+    → IsFrom links node numbered.0
 is_from links node numbered at =
     let same : numbered.0 ≡ at.0 = let is = at.1 in omega arith in
     record { link = numbered.1; is_link = ap (slice_get links) same ∙ at.2; from = at.3 }
@@ -80,7 +88,9 @@ is_from links node numbered at =
 links_are_from : (design : DesignParts) (node : ℕ) → All (IsFrom design.links node) (links_from design node)
 links_are_from design node =
     let numbered = filter (λ (numbered : ℕ × Link). nat_eq numbered.1.source.0 node) (enumerate_from 0 design.links) in
-    All-map (IsFrom design.links node) (λ (n : ℕ × Link). n.0) numbered (All-weaker (AtPlace design.links node 0) (λ n. IsFrom design.links node n.0) (is_from design.links node) numbered (all_from design.links node 0))
+    All-map (IsFrom design.links node) (λ (n : ℕ × Link). n.0) numbered
+    (All-weaker (AtPlace design.links node 0) (λ n. IsFrom design.links node n.0) (is_from design.links node)
+    numbered (all_from design.links node 0))
 
 -- ---- the newest copy
 found_before : (o : Option FlightCopy) (copy : FlightCopy) → (old : FlightCopy) × (option_or o (Some copy) ≡ Some old)
@@ -98,30 +108,40 @@ oldest_there round flight copy is =
 
 -- ---- behind a send
 -- of a link from the node of a send
-sent_on : (run : Run) (s t : BusState) (node : NodeNo) (reading : Option ℕ) (number round : ℕ) → IsFrom run.design.links node.0 number
+sent_on : (run : Run) (s t : BusState) (node : NodeNo) (reading : Option ℕ) (number round : ℕ)
+    → IsFrom run.design.links node.0 number
     → t ≡ after_send run s node reading → Agrees run t → round_of (node_at s node.0) ≡ round
-    → (copy : FlightCopy) × (oldest round (flight_at t number) ≡ Some copy) × (copy.tuple ≡ msg run.design run.env number round)
+    → (copy : FlightCopy) × (oldest round (flight_at t number) ≡ Some copy)
+    × (copy.tuple ≡ msg run.design run.env number round)
 sent_on run s t node reading number round from is agree same =
     let n = node_at s node.0 in
     let link = from.link in
-    let copy = sent_copy (round_of n) reading (delay_of run.delays number (round_of n)) (message_from (plan_of run.design node.0) n link.out_port) in
+    let copy =
+    sent_copy (round_of n) reading (delay_of run.delays number (round_of n))
+    (message_from (plan_of run.design node.0) n link.out_port) in
     let flight : flight_at t number ≡ flight_at s number ++ copy ∷ [] =
     ap (λ u. flight_at u number) is
-    ∙ numbered_at (λ (numbered : ℕ × Link). flight_after_send run s node reading numbered.0 numbered.1) run.design.links number link [] from.is_link
+    ∙ numbered_at (λ (numbered : ℕ × Link). flight_after_send run s node reading numbered.0 numbered.1) run.design.links
+    number link [] from.is_link
     ∙ ap (λ b. if b then flight_at s number ++ copy ∷ [] else flight_at s number) from.from in
     let old = oldest_there round (flight_at s number) copy same in
     let found : oldest round (flight_at t number) ≡ Some old.0 = ap (oldest round) flight ∙ old.1 in
-    let one = oldest_is_one (IsCopy run number (rounds_sent_on run t number)) round (flight_at t number) old.0 (agree.links number link from.is_link).flight found in
+    let one =
+    oldest_is_one (IsCopy run number (rounds_sent_on run t number)) round (flight_at t number) old.0
+    (agree.links number link from.is_link).flight found in
     (old.0, found, one.0.tuple ∙ ap (msg run.design run.env number) (eqb-true old.0.round round one.1))
 
-sent_count : (sent : Bool) (count round : ℕ) → sent ≡ false → (if sent then count else (count - 1)) ≡ round → count - 1 ≡ round
+sent_count : (sent : Bool) (count round : ℕ) → sent ≡ false → (if sent then count else (count - 1)) ≡ round
+    → count - 1 ≡ round
 sent_count true count round unsent is = absurd (false≢true (sym unsent))
 sent_count false count round unsent is = is
 
 -- what a send leaves, in terms of its run
 record HasSentOf (run : Run) (t : BusState) (node round : ℕ) : Type 0 where
   pub count : (node_at t node).count ≡ round + 1
-  pub copies : (link : ℕ) → Contains (links_from run.design node) link → (copy : FlightCopy) × (oldest round (flight_at t link) ≡ Some copy) × (copy.tuple ≡ msg run.design run.env link round)
+  pub copies : (link : ℕ) → Contains (links_from run.design node) link
+      → (copy : FlightCopy) × (oldest round (flight_at t link) ≡ Some copy)
+      × (copy.tuple ≡ msg run.design run.env link round)
 
 has_sent : (run : Run) (s t : BusState) (node : NodeNo) (reading : Option ℕ) (round : ℕ) → IsRunOf run → Agrees run s
     → IsStep run s (Send node reading) t → sent_rounds (node_at s node.0) ≡ round → HasSentOf run t node.0 round
@@ -138,33 +158,46 @@ has_sent run s t node reading round rules agree step sent =
     ∙ ap (λ (m : NodeState). m.count) (node_set s node.0 (sent_from run.rounds n) within) in
     record {
       count = omega arith;
-      copies = λ link is. sent_on run s t node reading link round (All-contains (IsFrom run.design.links node.0) (links_from run.design node.0) link (links_are_from run.design node.0) is) step.state after_it this;
+      copies =
+          λ link is. sent_on run s t node reading link round
+          (All-contains (IsFrom run.design.links node.0) (links_from run.design node.0) link
+          (links_are_from run.design node.0) is) step.state after_it this;
     }
 
-sent_of_run : (run : Run) (s t : BusValue) (node : NodeNo) (round : ℕ) → IsRunOf run → IsReplayed run s → Undergoes s (event.Send node) t
+sent_of_run : (run : Run) (s t : BusValue) (node : NodeNo) (round : ℕ) → IsRunOf run → IsReplayed run s
+    → Undergoes s (event.Send node) t
     → (node.0 < length run.design.components → sent_rounds (node_at s.state node.0) ≡ round) → HasSent t node.0 round
 sent_of_run run s t node round rules before undergoes sent =
     let send = makes_send s t node undergoes in
     let happens : Happens s (Send node send.0) t = send.1 in
-    let step : IsStep run s.state (Send node send.0) t.state = subst (λ r. IsStep r s.state (Send node send.0) t.state) before.run_is happens.step in
+    let step : IsStep run s.state (Send node send.0) t.state =
+    subst (λ r. IsStep r s.state (Send node send.0) t.state) before.run_is happens.step in
     let there = sender_is_there run s.state node before.agrees step.allowed in
-    let has : HasSentOf run t.state node.0 round = has_sent run s.state t.state node send.0 round rules before.agrees step (sent there) in
+    let has : HasSentOf run t.state node.0 round =
+    has_sent run s.state t.state node send.0 round rules before.agrees step (sent there) in
     let behind : IsReplayed run t = stays_replayed run s t (event.Send node) rules before undergoes in
-    let same : HasSentOf t.run t.state node.0 round = subst (λ r. HasSentOf r t.state node.0 round) (sym behind.run_is) has in
+    let same : HasSentOf t.run t.state node.0 round =
+    subst (λ r. HasSentOf r t.state node.0 round) (sym behind.run_is) has in
     record { count = same.count; copies = same.copies }
 
-pub sends_are_in_flight : (run : Run) (before : List Event) (s : BusValue) (lines : List (List ℕ)) → IsRunOf run → IsLeftBy run before s lines
-    → (t : BusValue) (node : NodeNo) → Undergoes s (event.Send node) t → HasSent t node.0 (sends_of node.0 (senders before))
+pub sends_are_in_flight : (run : Run) (before : List Event) (s : BusValue) (lines : List (List ℕ)) → IsRunOf run
+    → IsLeftBy run before s lines
+    → (t : BusValue) (node : NodeNo) → Undergoes s (event.Send node) t
+    → HasSent t node.0 (sends_of node.0 (senders before))
 sends_are_in_flight run before s lines rules left t node undergoes =
-    sent_of_run run s t node _ rules (events_replay run before s lines rules left) undergoes (rounds_are_sent run before s lines rules left node.0)
+    sent_of_run run s t node _ rules (events_replay run before s lines rules left) undergoes
+    (rounds_are_sent run before s lines rules left node.0)
 
 -- ---- its lines
-one_line_each : (f : ℕ → List (List ℕ)) (g : ℕ → List ℕ) (links : List ℕ) → All (λ link. f link ≡ g link ∷ []) links → flat_map f links ≡ map g links
+one_line_each : (f : ℕ → List (List ℕ)) (g : ℕ → List ℕ) (links : List ℕ) → All (λ link. f link ≡ g link ∷ []) links
+    → flat_map f links ≡ map g links
 one_line_each f g [] all = refl
 one_line_each f g (link ∷ links) all =
-    ap₂ (λ xs ys. xs ++ ys) (All-head (λ l. f l ≡ g l ∷ []) link links all) (one_line_each f g links (All-tail (λ l. f l ≡ g l ∷ []) link links all))
+    ap₂ (λ xs ys. xs ++ ys) (All-head (λ l. f l ≡ g l ∷ []) link links all)
+    (one_line_each f g links (All-tail (λ l. f l ≡ g l ∷ []) link links all))
 
-shown : (t : BusValue) (node round : ℕ) → HasSent t node round → shown_lines t node ≡ round_lines t.run.design t.run.env node round
+shown : (t : BusValue) (node round : ℕ) → HasSent t node round
+    → shown_lines t node ≡ round_lines t.run.design t.run.env node round
 shown t node round sent =
     let design = t.run.design in
     let count = sent.count in
@@ -179,9 +212,11 @@ shown t node round sent =
 -- ---- those of all events
 -- the sends of each node so far are those of the nodes before
 abbrev HaveSent : Run → BusState → List ℕ → Type 0
-HaveSent run s before = (node : ℕ) → node < length run.design.components → sent_rounds (node_at s node) ≡ sends_of node before
+HaveSent run s before =
+    (node : ℕ) → node < length run.design.components → sent_rounds (node_at s node) ≡ sends_of node before
 
-told : (run : Run) (s t : BusValue) (e : Event) (before : List ℕ) → IsRunOf run → IsReplayed run s → HaveSent run s.state before
+told : (run : Run) (s t : BusValue) (e : Event) (before : List ℕ) → IsRunOf run → IsReplayed run s
+    → HaveSent run s.state before
     → Undergoes s e t → told_by t e ≡ event_lines run.design run.env before (sender e)
 told run s t (event.Pass time readings) before rules replayed sent undergoes = refl
 told run s t (event.Start node) before rules replayed sent undergoes = refl
@@ -196,19 +231,24 @@ told run s t (event.Arrive link round) before rules replayed sent undergoes = re
 told run s t (event.Drop link round) before rules replayed sent undergoes = refl
 told run s t (event.Repeat link round) before rules replayed sent undergoes = refl
 
-all_told : (run : Run) (s t : BusValue) (events : List Event) (lines : List (List ℕ)) (before : List ℕ) → IsRunOf run → IsReplayed run s
-    → HaveSent run s.state before → InTurn Undergoes s events t lines → lines ≡ sent_lines run.design run.env events before
+all_told : (run : Run) (s t : BusValue) (events : List Event) (lines : List (List ℕ)) (before : List ℕ) → IsRunOf run
+    → IsReplayed run s
+    → HaveSent run s.state before → InTurn Undergoes s events t lines
+    → lines ≡ sent_lines run.design run.env events before
 all_told run s t [] lines before rules replayed sent turns = turns.1
 all_told run s t (e ∷ events) lines before rules replayed sent turns =
     let next : BusValue = turns.0 in
     let behind = stays_replayed run s next e rules replayed turns.2 in
     turns.4
     ∙ ap₂ (λ xs ys. xs ++ ys) (told run s next e before rules replayed sent turns.2)
-    (all_told run next t events turns.1 (and_sender before (sender e)) rules behind (sent_more run s next e before rules replayed sent turns.2) turns.3)
+    (all_told run next t events turns.1 (and_sender before (sender e)) rules behind
+    (sent_more run s next e before rules replayed sent turns.2) turns.3)
     ∙ sym (one_event run.design run.env before events (sender e) (sent_lines run.design run.env events))
 
-pub lines_are_told : (run : Run) (events : List Event) (t : BusValue) (lines : List (List ℕ)) → IsRunOf run → IsLeftBy run events t lines
+pub lines_are_told : (run : Run) (events : List Event) (t : BusValue) (lines : List (List ℕ)) → IsRunOf run
+    → IsLeftBy run events t lines
     → lines ≡ sent_lines run.design run.env events []
 lines_are_told run events t lines rules left =
     let opened = opening_bus run left.programs false in
-    all_told run opened t events lines [] rules (opens_replayed run left.programs rules) (λ node within. nothing_sent run node) left.undergone
+    all_told run opened t events lines [] rules (opens_replayed run left.programs rules)
+    (λ node within. nothing_sent run node) left.undergone

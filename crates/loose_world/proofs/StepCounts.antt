@@ -41,9 +41,11 @@ none_more : (a b : ℕ) → a ≡ b → a ≡ b + 0
 none_more a b same = omega arith
 
 -- an event that leaves both at a node leaves both at each
-stay : (run : Run) (s : BusState) (node k : ℕ) (n : NodeState) → steps_of run node n ≡ steps_of run node (node_at s node)
+stay : (run : Run) (s : BusState) (node k : ℕ) (n : NodeState)
+    → steps_of run node n ≡ steps_of run node (node_at s node)
     → sent_rounds n ≡ sent_rounds (node_at s node)
-    → (steps_of run k (node_at (with_node s node n) k) ≡ steps_of run k (node_at s k)) × (sent_rounds (node_at (with_node s node n) k) ≡ sent_rounds (node_at s k))
+    → (steps_of run k (node_at (with_node s node n) k) ≡ steps_of run k (node_at s k))
+    × (sent_rounds (node_at (with_node s node n) k) ≡ sent_rounds (node_at s k))
 stay run s node k n steps sends = (stays_at (steps_of run) s node k n steps, stays_at rounds_of s node k n sends)
 
 -- ---- Start
@@ -59,26 +61,35 @@ start_sends true count is = omega arith
 start_sends false count is = absurd (false≢true is)
 
 counts_start : (run : Run) (s : BusState) (node : NodeNo) (reading m : Option ℕ) (k : ℕ) → Agrees run s
-    → is_waiting (node_at s node.0).phase ≡ true → IsCounted run s (event.Start node) (after_start run s node reading m) k
-counts_start run s node reading (Some link) k agree waits = record { steps = none_more _ _ refl; sends = none_more _ _ refl }
+    → is_waiting (node_at s node.0).phase ≡ true
+    → IsCounted run s (event.Start node) (after_start run s node reading m) k
+counts_start run s node reading (Some link) k agree waits =
+    record { steps = none_more _ _ refl; sends = none_more _ _ refl }
 counts_start run s node reading None k agree waits =
     let n = node_at s node.0 in
     let c = component_at run.design node.0 in
-    let is_c = is_component run s node.0 agree (λ gone. false≢true (sym (ap (λ (k : NodeState). is_waiting k.phase) gone) ∙ waits)) in
+    let is_c =
+    is_component run s node.0 agree
+    (λ gone. false≢true (sym (ap (λ (k : NodeState). is_waiting k.phase) gone) ∙ waits)) in
     let phase : n.phase ≡ Waiting = is_waiting_phase n.phase waits in
     let rest = subst (PhaseAgrees run node.0 c n) phase (agree.nodes node.0 c is_c).phase in
     let m = started (plan_of run.design node.0) (values_at run.env n.count) n in
-    let both = stay run s node.0 k m (ap (λ p. rate_of run.design node.0 * length n.parts + steps_in_hand p) (sym phase)) (start_sends n.sent n.count rest.0.sent) in
+    let both =
+    stay run s node.0 k m (ap (λ p. rate_of run.design node.0 * length n.parts + steps_in_hand p) (sym phase))
+    (start_sends n.sent n.count rest.0.sent) in
     record { steps = none_more _ _ both.0; sends = none_more _ _ both.1 }
 
 -- ---- Step
 counts_step : (run : Run) (s : BusState) (node : NodeNo) (p : Phase) (k : ℕ) → (node_at s node.0).phase ≡ p
-    → IsCounted run s (event.Step node) (on_step (next_step p) s (λ step. with_node s node.0 (stepped step (node_at s node.0)))) k
+    → IsCounted run s (event.Step node)
+    (on_step (next_step p) s (λ step. with_node s node.0 (stepped step (node_at s node.0)))) k
 counts_step run s node Waiting k is = record { steps = none_more _ _ refl; sends = none_more _ _ refl }
 counts_step run s node (Running step) k is = record { steps = none_more _ _ refl; sends = none_more _ _ refl }
 counts_step run s node (Between steps) k is =
     let n = node_at s node.0 in
-    let both = stay run s node.0 k (stepped steps n) (ap (λ p. rate_of run.design node.0 * length n.parts + steps_in_hand p) (sym is)) refl in
+    let both =
+    stay run s node.0 k (stepped steps n)
+    (ap (λ p. rate_of run.design node.0 * length n.parts + steps_in_hand p) (sym is)) refl in
     record { steps = none_more _ _ both.0; sends = none_more _ _ both.1 }
 counts_step run s node Holding k is = record { steps = none_more _ _ refl; sends = none_more _ _ refl }
 counts_step run s node Done k is = record { steps = none_more _ _ refl; sends = none_more _ _ refl }
@@ -90,7 +101,8 @@ no_hand true false = refl
 no_hand false b = refl
 
 -- one step more: of the round in hand, or the last of a round
-one_step : (rate step : ℕ) (n x y : NodeState) (b : Bool) → nat_lt (step + 1) rate ≡ b → x.parts ≡ n.parts → x.phase ≡ Between (step + 1)
+one_step : (rate step : ℕ) (n x y : NodeState) (b : Bool) → nat_lt (step + 1) rate ≡ b → x.parts ≡ n.parts
+    → x.phase ≡ Between (step + 1)
     → length y.parts ≡ length n.parts + 1 → steps_in_hand y.phase ≡ 0 → step < rate → n.phase ≡ Running step
     → steps_finished rate (if b then x else y) ≡ steps_finished rate n + 1
 one_step rate step n x y true is parts phase one none within runs =
@@ -110,24 +122,31 @@ finish_counts plan rounds step n within runs =
     one_step plan.rate step n _ _ (nat_lt (step + 1) plan.rate) refl refl refl
     (length-append n.parts _) (no_hand n.sent (nat_eq n.count rounds)) within runs
 
-counts_finish : (run : Run) (s : BusState) (node : NodeNo) (p : Phase) (k : ℕ) → Agrees run s → (node_at s node.0).phase ≡ p
+counts_finish : (run : Run) (s : BusState) (node : NodeNo) (p : Phase) (k : ℕ) → Agrees run s
+    → (node_at s node.0).phase ≡ p
     → is_some (running_step p) ≡ true
-    → IsCounted run s (event.Finish node) (on_step (running_step p) s (λ step. with_node s node.0 (finished (plan_of run.design node.0) run.rounds step (node_at s node.0)))) k
+    → IsCounted run s (event.Finish node)
+    (on_step (running_step p) s
+    (λ step. with_node s node.0 (finished (plan_of run.design node.0) run.rounds step (node_at s node.0)))) k
 counts_finish run s node Waiting k agree is may = absurd (false≢true may)
 counts_finish run s node (Running step) k agree is may =
     let n = node_at s node.0 in
     let c = component_at run.design node.0 in
     let plan = plan_of run.design node.0 in
-    let is_c = is_component run s node.0 agree (λ gone. let both : Running step ≡ Done = sym is ∙ ap (λ (k : NodeState). k.phase) gone in absurd (cc)) in
+    let is_c =
+    is_component run s node.0 agree
+    (λ gone. let both : Running step ≡ Done = sym is ∙ ap (λ (k : NodeState). k.phase) gone in absurd (cc)) in
     let count = agree.node_count in
-    let below : node.0 < length s.nodes = let here : node.0 < length run.design.components = slice_get_within run.design.components node.0 c is_c in omega arith in
+    let below : node.0 < length s.nodes = let here : node.0 < length run.design.components =
+    slice_get_within run.design.components node.0 c is_c in omega arith in
     let round = subst (PhaseAgrees run node.0 c n) is (agree.nodes node.0 c is_c).phase in
     let rate : rate_of run.design node.0 ≡ c.rate = ap rate_in is_c in
     let m = finished plan run.rounds step n in
     let keeps = finish_keeps plan run.rounds step n in
     let sends : sent_rounds m ≡ sent_rounds n = ap₂ (λ b j. if b then j else (j - 1)) keeps.2 keeps.0 in
     let steps : steps_finished (rate_of run.design node.0) m ≡ steps_finished (rate_of run.design node.0) n + 1 =
-    subst (λ r. steps_finished r m ≡ steps_finished r n + 1) (sym rate) (finish_counts plan run.rounds step n round.within is) in
+    subst (λ r. steps_finished r m ≡ steps_finished r n + 1) (sym rate)
+    (finish_counts plan run.rounds step n round.within is) in
     record {
       steps = grows_at (steps_of run) s node.0 k 1 m below steps;
       sends = none_more _ _ (stays_at rounds_of s node.0 k m sends);
@@ -144,7 +163,8 @@ send_keeps_hand count rounds (Between steps) = refl
 send_keeps_hand count rounds Holding = no_hand true (nat_eq count rounds)
 send_keeps_hand count rounds Done = refl
 
-one_round : (sent : Bool) (count round : ℕ) → sent ≡ false → count ≡ suc round → count ≡ (if sent then count else (count - 1)) + 1
+one_round : (sent : Bool) (count round : ℕ) → sent ≡ false → count ≡ suc round
+    → count ≡ (if sent then count else (count - 1)) + 1
 one_round true count round unsent some = absurd (false≢true (sym unsent))
 one_round false count round unsent some = omega arith
 
@@ -153,8 +173,11 @@ pub sender_before : (run : Run) (s : BusState) (node : NodeNo) → Agrees run s
     → may_send (plan_of run.design node.0) (node_at s node.0) ≡ true
     → MaySend run node.0 (component_at run.design node.0) (node_at s node.0)
 sender_before run s node agree may =
-    let is_c = is_component run s node.0 agree (λ gone. false≢true (sym (ap (may_send (plan_of run.design node.0)) gone) ∙ may)) in
-    may_send_of run node.0 (component_at run.design node.0) (node_at s node.0) (agree.nodes node.0 (component_at run.design node.0) is_c) may
+    let is_c =
+    is_component run s node.0 agree
+    (λ gone. false≢true (sym (ap (may_send (plan_of run.design node.0)) gone) ∙ may)) in
+    may_send_of run node.0 (component_at run.design node.0) (node_at s node.0)
+    (agree.nodes node.0 (component_at run.design node.0) is_c) may
 
 pub sender_is_there : (run : Run) (s : BusState) (node : NodeNo) → Agrees run s
     → may_send (plan_of run.design node.0) (node_at s node.0) ≡ true → node.0 < length run.design.components
@@ -163,7 +186,8 @@ sender_is_there run s node agree may =
     (is_component run s node.0 agree (λ gone. false≢true (sym (ap (may_send (plan_of run.design node.0)) gone) ∙ may)))
 
 counts_send : (run : Run) (s : BusState) (node : NodeNo) (reading : Option ℕ) (k : ℕ) → Agrees run s
-    → may_send (plan_of run.design node.0) (node_at s node.0) ≡ true → IsCounted run s (event.Send node) (after_send run s node reading) k
+    → may_send (plan_of run.design node.0) (node_at s node.0) ≡ true
+    → IsCounted run s (event.Send node) (after_send run s node reading) k
 counts_send run s node reading k agree may =
     let n = node_at s node.0 in
     let m = sent_from run.rounds n in
@@ -171,15 +195,19 @@ counts_send run s node reading k agree may =
     let there = sender_is_there run s node agree may in
     let count = agree.node_count in
     let below : node.0 < length s.nodes = omega arith in
-    let hand : steps_of run node.0 m ≡ steps_of run node.0 n = ap (λ h. rate_of run.design node.0 * length n.parts + h) (send_keeps_hand n.count run.rounds n.phase) in
+    let hand : steps_of run node.0 m ≡ steps_of run node.0 n =
+    ap (λ h. rate_of run.design node.0 * length n.parts + h) (send_keeps_hand n.count run.rounds n.phase) in
     record {
       steps = none_more _ _ (stays_at (steps_of run) s node.0 k m hand);
-      sends = grows_at rounds_of s node.0 k 1 m below (one_round n.sent n.count before.under_way.round before.unsent before.under_way.count);
+      sends =
+          grows_at rounds_of s node.0 k 1 m below
+          (one_round n.sent n.count before.under_way.round before.unsent before.under_way.count);
     }
 
 -- ---- Arrive
 arrival_keeps : (run : Run) (node : ℕ) (n : NodeState) (port : ℕ) (tuple : List Port) (a : Arrived)
-    → (steps_of run node (with_message n port tuple a) ≡ steps_of run node n) × (sent_rounds (with_message n port tuple a) ≡ sent_rounds n)
+    → (steps_of run node (with_message n port tuple a) ≡ steps_of run node n)
+    × (sent_rounds (with_message n port tuple a) ≡ sent_rounds n)
 arrival_keeps run node n port tuple Kept = (refl, refl)
 arrival_keeps run node n port tuple Ignored = (refl, refl)
 arrival_keeps run node n port tuple Early = (refl, refl)
@@ -195,8 +223,10 @@ counts_arrive run s link round reading k =
     record { steps = none_more _ _ both.0; sends = none_more _ _ both.1 }
 
 -- ---- each event
-counts_after : (run : Run) (s : BusState) (e : BusEvent) (k : ℕ) → Agrees run s → is_allowed run s e ≡ true → IsCounted run s (event_of e) (after run s e) k
-counts_after run s (Start node reading) k agree may = counts_start run s node reading (missing_link run s node.0) k agree may
+counts_after : (run : Run) (s : BusState) (e : BusEvent) (k : ℕ) → Agrees run s → is_allowed run s e ≡ true
+    → IsCounted run s (event_of e) (after run s e) k
+counts_after run s (Start node reading) k agree may =
+    counts_start run s node reading (missing_link run s node.0) k agree may
 counts_after run s (Step node reading) k agree may = counts_step run s node (node_at s node.0).phase k refl
 counts_after run s (Finish node) k agree may = counts_finish run s node (node_at s node.0).phase k agree refl may
 counts_after run s (Send node reading) k agree may = counts_send run s node reading k agree may
@@ -206,4 +236,5 @@ counts_after run s (Repeat link round) k agree may = record { steps = none_more 
 
 pub step_counts : (run : Run) (s t : BusState) (e : BusEvent) (node : ℕ) → IsRunOf run → Agrees run s → IsStep run s e t
     → IsCounted run s (event_of e) t node
-step_counts run s t e node rules agree step = subst (λ u. IsCounted run s (event_of e) u node) (sym step.state) (counts_after run s e node agree step.allowed)
+step_counts run s t e node rules agree step =
+    subst (λ u. IsCounted run s (event_of e) u node) (sym step.state) (counts_after run s e node agree step.allowed)

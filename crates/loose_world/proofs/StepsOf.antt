@@ -28,7 +28,8 @@ record AreSteps (s t : BusValue) (events : List Event) : Type 0 where
 one_run : (s t : BusValue) (what : BusEvent) → Happens s what t → t.run ≡ s.run
 one_run s t what happens = ap (λ (b : BusValue). b.run) happens.others
 
-are_steps : (s t : BusValue) (events : List Event) (lines : List (List ℕ)) → AllHappen s events t lines → AreSteps s t events
+are_steps : (s t : BusValue) (events : List Event) (lines : List (List ℕ)) → AllHappen s events t lines
+    → AreSteps s t events
 are_steps s t [] lines happen = record {
   journal = [];
   steps = (ap (λ (b : BusValue). b.state) happen.0, refl);
@@ -54,23 +55,28 @@ are_steps s t (e ∷ events) lines happen =
         refl,
       );
       run = rest.run ∙ same;
-      told = rest.told ∙ ap (λ (xs : List JournalEntry). xs ++ rest.journal) here.journal ∙ append_assoc s.journal (entries s.run s.state what) rest.journal;
+      told =
+          rest.told ∙ ap (λ (xs : List JournalEntry). xs ++ rest.journal) here.journal
+          ∙ append_assoc s.journal (entries s.run s.state what) rest.journal;
     }
 
 -- ---- from the opening on
 abbrev opened : Run → List CodeParts → BusValue
 opened run programs = opening_bus run programs false
 
-comes_to : (run : Run) (programs : List CodeParts) (events : List Event) (t : BusValue) (lines : List (List ℕ)) → AllHappen (opened run programs) events t lines
+comes_to : (run : Run) (programs : List CodeParts) (events : List Event) (t : BusValue) (lines : List (List ℕ))
+    → AllHappen (opened run programs) events t lines
     → AllStep run (opening run) events t.state t.journal
 comes_to run programs events t lines happen =
     let all = are_steps (opened run programs) t events lines happen in
     subst (λ (journal : List JournalEntry). AllStep run (opening run) events t.state journal) (sym all.told) all.steps
 
-run_of : (run : Run) (programs : List CodeParts) (events : List Event) (t : BusValue) (lines : List (List ℕ)) → AllHappen (opened run programs) events t lines → t.run ≡ run
+run_of : (run : Run) (programs : List CodeParts) (events : List Event) (t : BusValue) (lines : List (List ℕ))
+    → AllHappen (opened run programs) events t lines → t.run ≡ run
 run_of run programs events t lines happen = (are_steps (opened run programs) t events lines happen).run
 
-stops_at : (run : Run) (programs : List CodeParts) (events : List Event) (why : Stop) (t : BusValue) (lines : List (List ℕ))
+stops_at : (run : Run) (programs : List CodeParts) (events : List Event) (why : Stop) (t : BusValue)
+    (lines : List (List ℕ))
     → StopsAt (opened run programs) events why t lines → StepsToStop run events why t.state t.journal
 stops_at run programs events why t lines x =
     let before : BusValue = x.before in
@@ -82,7 +88,8 @@ stops_at run programs events why t lines x =
       event = x.event;
       before = before.state;
       told = before.journal;
-      comes = record { is_event = x.is_event; steps = comes_to run programs (take x.index events) before lines x.happen };
+      comes =
+          record { is_event = x.is_event; steps = comes_to run programs (take x.index events) before lines x.happen };
       what = what;
       is_what = x.last.1;
       step = subst (λ (r : Run). IsStep r before.state what t.state) same here.step;
@@ -90,7 +97,8 @@ stops_at run programs events why t lines x =
       journal_is = here.journal ∙ ap (λ (r : Run). before.journal ++ entries r before.state what) same;
     }
 
-refused_at : (run : Run) (programs : List CodeParts) (events : List Event) (index : ℕ) (fault : EventFault) (t : BusValue) (lines : List (List ℕ))
+refused_at : (run : Run) (programs : List CodeParts) (events : List Event) (index : ℕ) (fault : EventFault)
+    (t : BusValue) (lines : List (List ℕ))
     → IsRefusedAt (opened run programs) events index fault t lines → StepsToFault run events index fault
 refused_at run programs events index fault t lines x =
     let refused : IsRefused t x.event t = x.refused in
@@ -106,8 +114,10 @@ refused_at run programs events index fault t lines x =
       is_fault = x.fault;
     }
 
-pub events_are_steps : (run : Run) (programs : List CodeParts) (events : List Event) (how : LooseEnd) (t : BusValue) (lines : List (List ℕ))
+pub events_are_steps : (run : Run) (programs : List CodeParts) (events : List Event) (how : LooseEnd) (t : BusValue)
+    (lines : List (List ℕ))
     → RunsLoosely (opening_bus run programs false) events how t lines → StepsTo run events how t.state t.journal
 events_are_steps run programs events end.All t lines x = comes_to run programs events t lines x
 events_are_steps run programs events (end.Stopped why) t lines x = stops_at run programs events why t lines x
-events_are_steps run programs events (end.Refused index fault) t lines x = refused_at run programs events index fault t lines x
+events_are_steps run programs events (end.Refused index fault) t lines x =
+    refused_at run programs events index fault t lines x

@@ -20,23 +20,28 @@ use Rattle.loose_world.proofs.Journals.{journal_replays}
 use Rattle.loose_world.proofs.WorldRows.{finished_rows, common_rows}
 use Rattle.loose_world.proofs.Sends.{lines_are_told}
 
-pub world_is_told : (run : Run) (events : List Event) (t : BusValue) (lines : List (List ℕ)) → IsRunOf run → IsLeftBy run events t lines
+pub world_is_told : (run : Run) (events : List Event) (t : BusValue) (lines : List (List ℕ)) → IsRunOf run
+    → IsLeftBy run events t lines
     → text_of (finished_lines t) ++ text_of lines ≡ worldtext run.design run.env events
 world_is_told run events t lines rules left =
-    ap₂ (λ rows sent. text_of rows ++ text_of sent) (finished_rows run events t lines rules left) (lines_are_told run events t lines rules left)
+    ap₂ (λ rows sent. text_of rows ++ text_of sent) (finished_rows run events t lines rules left)
+    (lines_are_told run events t lines rules left)
     ∙ sym (text_more (world_rows run.design run.env events) (sent_lines run.design run.env events []))
 
-pub text_is_told : (run : Run) (programs : List CodeParts) (events : List Event) (t : BusValue) (sent : List ℕ) → IsRunOf run
+pub text_is_told : (run : Run) (programs : List CodeParts) (events : List Event) (t : BusValue) (sent : List ℕ)
+    → IsRunOf run
     → Tells (opening_bus run programs false) events end.All t [] sent
     → text_of (finished_lines t) ++ sent ≡ worldtext run.design run.env events
 text_is_told run programs events t sent rules tells =
     ap (λ (xs : List ℕ). text_of (finished_lines t) ++ xs) tells.told
     ∙ world_is_told run events t tells.lines rules (left_by_loose run programs events t tells.lines tells.runs)
 
-pub stop_is_told : (run : Run) (programs : List CodeParts) (events : List Event) (why : Stop) (t : BusValue) (sent : List ℕ) → IsRunOf run
+pub stop_is_told : (run : Run) (programs : List CodeParts) (events : List Event) (why : Stop) (t : BusValue)
+    (sent : List ℕ) → IsRunOf run
     → Tells (opening_bus run programs false) events (end.Stopped why) t [] sent
     → text_of (common_lines t) ≡ report run.design run.env (finished_by_all run t.state)
 stop_is_told run programs events why t sent rules tells =
-    let left : IsReplayed run t = journal_replays run programs events (end.Stopped why) t tells.lines rules tells.runs in
+    let left : IsReplayed run t =
+    journal_replays run programs events (end.Stopped why) t tells.lines rules tells.runs in
     common_rows t (subst IsRunOf (sym left.run_is) rules) (subst (λ r. Agrees r t.state) (sym left.run_is) left.agrees)
     ∙ ap (λ (r : Run). report r.design r.env (finished_by_all r t.state)) left.run_is

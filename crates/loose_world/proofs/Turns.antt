@@ -9,14 +9,17 @@ use Rattle.pals_bus.specs.Values.{BusValue}
 use Rattle.loose_world.specs.Worlds.{InTurn, told_by}
 
 -- one relation for another
-pub turns_weaker : (R Q : BusValue → Event → BusValue → Type 0) → ((s : BusValue) (e : Event) (t : BusValue) → R s e t → Q s e t)
-    → (s t : BusValue) (events : List Event) (lines : List (List ℕ)) → InTurn R s events t lines → InTurn Q s events t lines
+pub turns_weaker : (R Q : BusValue → Event → BusValue → Type 0)
+    → ((s : BusValue) (e : Event) (t : BusValue) → R s e t → Q s e t)
+    → (s t : BusValue) (events : List Event) (lines : List (List ℕ)) → InTurn R s events t lines
+    → InTurn Q s events t lines
 turns_weaker R Q weaker s t [] lines turns = turns
 turns_weaker R Q weaker s t (e ∷ events) lines turns =
     (turns.0, turns.1, weaker s e turns.0 turns.2, turns_weaker R Q weaker turns.0 t events turns.1 turns.3, turns.4)
 
 -- one more event
-turns_more : (R : BusValue → Event → BusValue → Type 0) (s t u : BusValue) (events : List Event) (e : Event) (lines : List (List ℕ))
+turns_more : (R : BusValue → Event → BusValue → Type 0) (s t u : BusValue) (events : List Event) (e : Event)
+    (lines : List (List ℕ))
     → InTurn R s events t lines → R t e u → InTurn R s (events ++ e ∷ []) u (lines ++ told_by u e)
 turns_more R s t u [] e lines turns leads = (
   u,
@@ -34,7 +37,8 @@ turns_more R s t u (x ∷ events) e lines turns leads = (
 )
 
 -- the next event of a list
-pub turns_next : (R : BusValue → Event → BusValue → Type 0) (s t u : BusValue) (events : List Event) (first : ℕ) (d : Event) (lines : List (List ℕ))
+pub turns_next : (R : BusValue → Event → BusValue → Type 0) (s t u : BusValue) (events : List Event) (first : ℕ)
+    (d : Event) (lines : List (List ℕ))
     → first < length events → InTurn R s (take first events) t lines → R t (slice_index_or events first d) u
     → InTurn R s (take (first + 1) events) u (lines ++ told_by u (slice_index_or events first d))
 turns_next R s t u events first d lines within turns leads =
@@ -46,7 +50,8 @@ pub text_more : (lines more : List (List ℕ)) → text_of (lines ++ more) ≡ t
 text_more lines more = flat_map-append (λ (line : List ℕ). line ++ line_end) lines more
 
 -- a text that has been told, and more lines
-pub told_more : (old mid new : List ℕ) (lines more : List (List ℕ)) → mid ≡ old ++ text_of lines → new ≡ mid ++ text_of more
+pub told_more : (old mid new : List ℕ) (lines more : List (List ℕ)) → mid ≡ old ++ text_of lines
+    → new ≡ mid ++ text_of more
     → new ≡ old ++ text_of (lines ++ more)
 told_more old mid new lines more so_far is =
     is

@@ -37,12 +37,14 @@ pub left_by_loose : (run : Run) (programs : List CodeParts) (events : List Event
 left_by_loose run programs events t lines happen = record {
   programs = programs;
   undergone =
-      turns_weaker GoesOn Undergoes (λ s e u goes. undergoes_loose s e u goes.happens) (opening_bus run programs false) t events lines happen;
+      turns_weaker GoesOn Undergoes (λ s e u goes. undergoes_loose s e u goes.happens) (opening_bus run programs false)
+      t events lines happen;
 }
 
 -- ---- sends
 -- an event of the bus that is a send of a node
-send_is : (what : BusEvent) (node : NodeNo) → event_of what ≡ event.Send node → (reading : Option ℕ) × (what ≡ Send node reading)
+send_is : (what : BusEvent) (node : NodeNo) → event_of what ≡ event.Send node
+    → (reading : Option ℕ) × (what ≡ Send node reading)
 send_is (Start j reading) node is = absurd (cc)
 send_is (Step j reading) node is = absurd (cc)
 send_is (Finish j) node is = absurd (cc)
@@ -51,14 +53,16 @@ send_is (Arrive link round reading) node is = absurd (cc)
 send_is (Drop link round) node is = absurd (cc)
 send_is (Repeat link round) node is = absurd (cc)
 
-pub makes_send : (s t : BusValue) (node : NodeNo) → Undergoes s (event.Send node) t → (reading : Option ℕ) × Happens s (Send node reading) t
+pub makes_send : (s t : BusValue) (node : NodeNo) → Undergoes s (event.Send node) t
+    → (reading : Option ℕ) × Happens s (Send node reading) t
 makes_send s t node (inl rests) = let clash = rests.is_pass in absurd (cc clash)
 makes_send s t node (inr makes) =
     let send = send_is makes.what node makes.is_what in
     (send.0, subst (λ (e : BusEvent). Happens s e t) send.1 makes.happens)
 
 -- ---- one event keeps what is replayed
-makes_replayed : (run : Run) (s t : BusValue) (e : Event) → IsRunOf run → IsReplayed run s → Makes s e t → IsReplayed run t
+makes_replayed : (run : Run) (s t : BusValue) (e : Event) → IsRunOf run → IsReplayed run s → Makes s e t
+    → IsReplayed run t
 makes_replayed run s t e rules before makes =
     let what : BusEvent = makes.what in
     let happens : Happens s what t = makes.happens in
@@ -67,25 +71,32 @@ makes_replayed run s t e rules before makes =
     happens.journal ∙ ap (λ (r : Run). s.journal ++ entries r s.state what) before.run_is in
     record {
       run_is = ap (λ (b : BusValue). b.run) happens.others ∙ before.run_is;
-      replays = subst (λ (told : List JournalEntry). Replays run told t.state) (sym journal) (goes_on what before.replays step);
+      replays =
+          subst (λ (told : List JournalEntry). Replays run told t.state) (sym journal)
+          (goes_on what before.replays step);
       agrees = step_keeps_agreement run s.state t.state what rules before.agrees step;
     }
 
-pub stays_replayed : (run : Run) (s t : BusValue) (e : Event) → IsRunOf run → IsReplayed run s → Undergoes s e t → IsReplayed run t
+pub stays_replayed : (run : Run) (s t : BusValue) (e : Event) → IsRunOf run → IsReplayed run s → Undergoes s e t
+    → IsReplayed run t
 stays_replayed run s t e rules before (inl rests) = subst (IsReplayed run) (sym rests.same) before
 stays_replayed run s t e rules before (inr makes) = makes_replayed run s t e rules before makes
 
 -- ---- and so do all
-all_replayed : (run : Run) (s t : BusValue) (events : List Event) (lines : List (List ℕ)) → IsRunOf run → IsReplayed run s
+all_replayed : (run : Run) (s t : BusValue) (events : List Event) (lines : List (List ℕ)) → IsRunOf run
+    → IsReplayed run s
     → InTurn Undergoes s events t lines → IsReplayed run t
 all_replayed run s t [] lines rules before turns = subst (IsReplayed run) (sym turns.0) before
 all_replayed run s t (e ∷ events) lines rules before turns =
     all_replayed run turns.0 t events turns.1 rules (stays_replayed run s turns.0 e rules before turns.2) turns.3
 
-pub opens_replayed : (run : Run) (programs : List CodeParts) → IsRunOf run → IsReplayed run (opening_bus run programs false)
+pub opens_replayed : (run : Run) (programs : List CodeParts) → IsRunOf run
+    → IsReplayed run (opening_bus run programs false)
 opens_replayed run programs rules = record { run_is = refl; replays = opens; agrees = opening_agrees run rules }
 
-pub events_replay : (run : Run) (events : List Event) (t : BusValue) (lines : List (List ℕ)) → IsRunOf run → IsLeftBy run events t lines
+pub events_replay : (run : Run) (events : List Event) (t : BusValue) (lines : List (List ℕ)) → IsRunOf run
+    → IsLeftBy run events t lines
     → IsReplayed run t
 events_replay run events t lines rules left =
-    all_replayed run (opening_bus run left.programs false) t events lines rules (opens_replayed run left.programs rules) left.undergone
+    all_replayed run (opening_bus run left.programs false) t events lines rules (opens_replayed run left.programs rules)
+    left.undergone

@@ -17,16 +17,28 @@ pub record AreDone (s : BusValue) (events : List Event) (first : ℕ) (t : BusVa
   pub run : t.run ≡ s.run
   pub meeting : t.meeting ≡ s.meeting
 
-pub done_none : (s : BusValue) (events : List Event) (text : List ℕ) → s.state.stop ≡ None → AreDone s events 0 s text text
-done_none s events text going = record { lines = []; happen = (refl, refl); told = sym (append-nil text); going = going; run = refl; meeting = refl }
+pub done_none : (s : BusValue) (events : List Event) (text : List ℕ) → s.state.stop ≡ None
+    → AreDone s events 0 s text text
+done_none s events text going =
+    record {
+      lines = [];
+      happen = (refl, refl);
+      told = sym (append-nil text);
+      going = going;
+      run = refl;
+      meeting = refl;
+    }
 
 run_loose : (old : BusValue) (e : Event) (new : BusValue) → HappensLoose old e new → new.run ≡ old.run
-run_loose old e new happens = let same : Happens old happens.0 new = happens.2 in ap (λ (b : BusValue). b.run) same.others
+run_loose old e new happens = let same : Happens old happens.0 new = happens.2 in
+    ap (λ (b : BusValue). b.run) same.others
 
 meeting_loose : (old : BusValue) (e : Event) (new : BusValue) → HappensLoose old e new → new.meeting ≡ old.meeting
-meeting_loose old e new happens = let same : Happens old happens.0 new = happens.2 in ap (λ (b : BusValue). b.meeting) same.others
+meeting_loose old e new happens = let same : Happens old happens.0 new = happens.2 in
+    ap (λ (b : BusValue). b.meeting) same.others
 
-pub done_more : (s : BusValue) (events : List Event) (first : ℕ) (t u : BusValue) (old mid new : List ℕ) (d : Event) → first < length events → AreDone s events first t old mid → GoesOn t (slice_index_or events first d) u
+pub done_more : (s : BusValue) (events : List Event) (first : ℕ) (t u : BusValue) (old mid new : List ℕ) (d : Event)
+    → first < length events → AreDone s events first t old mid → GoesOn t (slice_index_or events first d) u
     → new ≡ mid ++ text_of (told_by u (slice_index_or events first d)) → AreDone s events (first + 1) u old new
 done_more s events first t u old mid new d within done goes told =
     let e = slice_index_or events first d in
@@ -46,7 +58,8 @@ on_err (Ok x) here = tt
 on_err (Err x) here = here
 
 -- behind an event whose lines are not told
-pub cut_behind : (s : BusValue) (events : List Event) (first : ℕ) (t u : BusValue) (old mid new : List ℕ) (d : Event) → first < length events → AreDone s events first t old mid → GoesOn t (slice_index_or events first d) u → new ≡ mid
+pub cut_behind : (s : BusValue) (events : List Event) (first : ℕ) (t u : BusValue) (old mid new : List ℕ) (d : Event)
+    → first < length events → AreDone s events first t old mid → GoesOn t (slice_index_or events first d) u → new ≡ mid
     → IsCutShort s events u old new
 cut_behind s events first t u old mid new d within done goes kept =
     let e = slice_index_or events first d in

@@ -25,4 +25,5 @@ sent_lines b node = flat_map (message_lines b ((node_at b.state node).count - 1)
 -- the links from each node of a design
 pub record AreOutLinks (design : DesignParts) (nodes : List (List LinkNo)) : Type 0 where
   pub count : length nodes ≡ length design.components
-  pub each : (node : ℕ) → node < length nodes → map (λ link. link.0) (slice_index_or nodes node []) ≡ links_from design node
+  pub each : (node : ℕ) → node < length nodes
+      → map (λ link. link.0) (slice_index_or nodes node []) ≡ links_from design node

@@ -14,16 +14,19 @@ use Rattle.loose_world.specs.Worlds.{IsFaultOf}
 abbrev pub AllStep : Run → BusState → List Event → BusState → List JournalEntry → Type 0
 AllStep run s [] t journal = (t ≡ s) × (journal ≡ [])
 AllStep run s (e ∷ events) t journal =
-    (what : BusEvent) × (next : BusState) × (later : List JournalEntry) × (loose_event e ≡ Some what) × IsStep run s what next × (next.stop ≡ None)
+    (what : BusEvent) × (next : BusState) × (later : List JournalEntry) × (loose_event e ≡ Some what)
+    × IsStep run s what next × (next.stop ≡ None)
     × AllStep run next events t later × (journal ≡ entries run s what ++ later)
 
 -- the event of an index is this one, and those before it are steps from the opening on
-pub record ComesTo (run : Run) (events : List Event) (index : ℕ) (event : Event) (s : BusState) (journal : List JournalEntry) : Type 0 where
+pub record ComesTo (run : Run) (events : List Event) (index : ℕ) (event : Event) (s : BusState)
+    (journal : List JournalEntry) : Type 0 where
   pub is_event : slice_get events index ≡ Some event
   pub steps : AllStep run (opening run) (take index events) s journal
 
 -- an event is a step that gives this stop
-pub record StepsToStop (run : Run) (events : List Event) (why : Stop) (t : BusState) (journal : List JournalEntry) : Type 0 where
+pub record StepsToStop (run : Run) (events : List Event) (why : Stop) (t : BusState)
+    (journal : List JournalEntry) : Type 0 where
   pub index : ℕ
   pub event : Event
   pub before : BusState

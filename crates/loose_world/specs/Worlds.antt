@@ -35,14 +35,16 @@ told_by b (event.Repeat link round) = []
 abbrev pub InTurn : (BusValue → Event → BusValue → Type 0) → BusValue → List Event → BusValue → List (List ℕ) → Type 0
 InTurn R s [] t lines = (t ≡ s) × (lines ≡ [])
 InTurn R s (e ∷ events) t lines =
-    (next : BusValue) × (rest : List (List ℕ)) × R s e next × InTurn R next events t rest × (lines ≡ told_by next e ++ rest)
+    (next : BusValue) × (rest : List (List ℕ)) × R s e next × InTurn R next events t rest
+    × (lines ≡ told_by next e ++ rest)
 
 -- each event happens, none gives a stop, and these are the lines of what is sent
 abbrev pub AllHappen : BusValue → List Event → BusValue → List (List ℕ) → Type 0
 AllHappen s events t lines = InTurn GoesOn s events t lines
 
 -- an event gives this stop, and all before it happen without one
-pub record StopsAt (s : BusValue) (events : List Event) (why : Stop) (t : BusValue) (lines : List (List ℕ)) : Type 0 where
+pub record StopsAt (s : BusValue) (events : List Event) (why : Stop) (t : BusValue)
+    (lines : List (List ℕ)) : Type 0 where
   pub index : ℕ
   pub event : Event
   pub is_event : slice_get events index ≡ Some event
@@ -66,7 +68,8 @@ IsFaultOf e (fault.TooSoon which earliest) = ⊥
 IsFaultOf e fault.Memory = ⊥
 
 -- an event is not allowed, and all before it happen without a stop
-pub record IsRefusedAt (s : BusValue) (events : List Event) (index : ℕ) (why : EventFault) (t : BusValue) (lines : List (List ℕ)) : Type 0 where
+pub record IsRefusedAt (s : BusValue) (events : List Event) (index : ℕ) (why : EventFault) (t : BusValue)
+    (lines : List (List ℕ)) : Type 0 where
   pub event : Event
   pub is_event : slice_get events index ≡ Some event
   pub happen : AllHappen s (take index events) t lines

@@ -104,10 +104,12 @@ component_sync : IsSync component.row
 component_sync = search (sendable, behaviour_sync, text_sync) depth 20
 
 design_parts_send : IsSend design_parts.row
-design_parts_send = search (sendable, component_send, items_send, gamma_send, link_send, feed_send, tap_send, text_send) depth 20
+design_parts_send =
+    search (sendable, component_send, items_send, gamma_send, link_send, feed_send, tap_send, text_send) depth 20
 
 design_parts_sync : IsSync design_parts.row
-design_parts_sync = search (sendable, component_sync, items_sync, gamma_sync, link_sync, feed_sync, tap_sync, text_sync) depth 20
+design_parts_sync =
+    search (sendable, component_sync, items_sync, gamma_sync, link_sync, feed_sync, tap_sync, text_sync) depth 20
 
 design_send : IsSend design.row
 design_send = search (sendable, design_parts_send) depth 20
@@ -158,7 +160,10 @@ node_fields_send =
                               search (sendable, items_send, port_send) depth 20,
                               (
                                 search (sendable, room_send) depth 20,
-                                (search (sendable, Vec-send, port_send) depth 20, (search (sendable, memory_send) depth 20, tt)),
+                                (
+                                  search (sendable, Vec-send, port_send) depth 20,
+                                  (search (sendable, memory_send) depth 20, tt),
+                                ),
                               ),
                             ),
                           ),
@@ -191,7 +196,24 @@ node_list_send = search (sendable, node_list_inside_send) depth 20
 
 -- ---- a bus, a course, and what lies under the lock
 bus_fields_send : IsSend bus_fields.row
-bus_fields_send = search (sendable, Arc-send, design_send, design_sync, outgoing_send, env_send, delays_send, node_list_send, flight_send, queue_send, stop_send, entry_send, port_send, items_send, Vec-send) depth 20
+bus_fields_send =
+    search (
+      sendable,
+      Arc-send,
+      design_send,
+      design_sync,
+      outgoing_send,
+      env_send,
+      delays_send,
+      node_list_send,
+      flight_send,
+      queue_send,
+      stop_send,
+      entry_send,
+      port_send,
+      items_send,
+      Vec-send,
+    ) depth 20
 
 bus_send : IsSend bus.row
 bus_send = search (sendable, bus_fields_send) depth 20

@@ -32,29 +32,39 @@ use Rattle.pals_bus.specs.proof.Answers.{StartsRound, BusStartEnds, BusStepEnds,
 use Rattle.pals_bus.proofs.AfterEvents.{start_after}
 
 -- ---- no stop after an event
-pub start_goes : (old new : BusValue) (node : NodeNo) (reading : Option ℕ) (job : JobValue) → StartsRound old node reading new job → new.state.stop ≡ None
+pub start_goes : (old new : BusValue) (node : NodeNo) (reading : Option ℕ) (job : JobValue)
+    → StartsRound old node reading new job → new.state.stop ≡ None
 start_goes old new node reading job starts =
-    ap (λ (s : BusState). s.stop) (starts.happens.step.state ∙ start_after old.run old.state node reading starts.node_starts.full) ∙ starts.happens.step.going
+    ap (λ (s : BusState). s.stop)
+    (starts.happens.step.state ∙ start_after old.run old.state node reading starts.node_starts.full)
+    ∙ starts.happens.step.going
 
-on_step_goes : (o : Option ℕ) (s : BusState) (go : ℕ → BusState) → ((step : ℕ) → (go step).stop ≡ s.stop) → (on_step o s go).stop ≡ s.stop
+on_step_goes : (o : Option ℕ) (s : BusState) (go : ℕ → BusState) → ((step : ℕ) → (go step).stop ≡ s.stop)
+    → (on_step o s go).stop ≡ s.stop
 on_step_goes None s go same = refl
 on_step_goes (Some step) s go same = same step
 
-pub step_goes : (old new : BusValue) (node : NodeNo) (reading : Option ℕ) → Happens old (Step node reading) new → new.state.stop ≡ None
+pub step_goes : (old new : BusValue) (node : NodeNo) (reading : Option ℕ) → Happens old (Step node reading) new
+    → new.state.stop ≡ None
 step_goes old new node reading happens =
-    ap (λ (s : BusState). s.stop) happens.step.state ∙ on_step_goes (next_step (node_at old.state node.0).phase) old.state _ (λ step. refl) ∙ happens.step.going
+    ap (λ (s : BusState). s.stop) happens.step.state
+    ∙ on_step_goes (next_step (node_at old.state node.0).phase) old.state _ (λ step. refl) ∙ happens.step.going
 
 pub finish_goes : (old new : BusValue) (node : NodeNo) → Happens old (Finish node) new → new.state.stop ≡ None
 finish_goes old new node happens =
-    ap (λ (s : BusState). s.stop) happens.step.state ∙ on_step_goes (running_step (node_at old.state node.0).phase) old.state _ (λ step. refl) ∙ happens.step.going
+    ap (λ (s : BusState). s.stop) happens.step.state
+    ∙ on_step_goes (running_step (node_at old.state node.0).phase) old.state _ (λ step. refl) ∙ happens.step.going
 
-pub send_goes : (old new : BusValue) (node : NodeNo) (reading : Option ℕ) → Happens old (Send node reading) new → new.state.stop ≡ None
+pub send_goes : (old new : BusValue) (node : NodeNo) (reading : Option ℕ) → Happens old (Send node reading) new
+    → new.state.stop ≡ None
 send_goes old new node reading happens = ap (λ (s : BusState). s.stop) happens.step.state ∙ happens.step.going
 
-pub drop_goes : (old new : BusValue) (link : LinkNo) (round : ℕ) → Happens old (Drop link round) new → new.state.stop ≡ None
+pub drop_goes : (old new : BusValue) (link : LinkNo) (round : ℕ) → Happens old (Drop link round) new
+    → new.state.stop ≡ None
 drop_goes old new link round happens = ap (λ (s : BusState). s.stop) happens.step.state ∙ happens.step.going
 
-pub repeat_goes : (old new : BusValue) (link : LinkNo) (round : ℕ) → Happens old (Repeat link round) new → new.state.stop ≡ None
+pub repeat_goes : (old new : BusValue) (link : LinkNo) (round : ℕ) → Happens old (Repeat link round) new
+    → new.state.stop ≡ None
 repeat_goes old new link round happens = ap (λ (s : BusState). s.stop) happens.step.state ∙ happens.step.going
 
 -- ---- not allowed
@@ -80,37 +90,60 @@ none_runs Holding not = refl
 none_runs Done not = refl
 
 -- ---- what is told of messages
-pub link_ends : (old new : BusValue) (e : Event) (what : BusEvent) (link : LinkNo) (round : ℕ) (end : LinkEnd) → new ≡ old → LinkEnds old link round end → loose_event e ≡ Some what → message_of e ≡ Some (link, round)
-    → is_allowed old.run old.state what ≡ is_in_flight round (flight_at old.state link.0) → LooseEnds old e new (link_fault end link round)
+pub link_ends : (old new : BusValue) (e : Event) (what : BusEvent) (link : LinkNo) (round : ℕ) (end : LinkEnd)
+    → new ≡ old → LinkEnds old link round end → loose_event e ≡ Some what → message_of e ≡ Some (link, round)
+    → is_allowed old.run old.state what ≡ is_in_flight round (flight_at old.state link.0)
+    → LooseEnds old e new (link_fault end link round)
 link_ends old new e what link round (link_end.Stopped why) same cause is about allowed = inl (cause, same)
-link_ends old new e what link round link_end.NoSuchMessage same cause is about allowed = (record { same = same; going = cause.0; what = what; is_what = is; refused = allowed ∙ cause.1 }, about)
+link_ends old new e what link round link_end.NoSuchMessage same cause is about allowed =
+    (record { same = same; going = cause.0; what = what; is_what = is; refused = allowed ∙ cause.1 }, about)
 link_ends old new e what link round link_end.Memory same cause is about allowed = same
 
 -- ---- what is told of nodes
-refused : (old new : BusValue) (e : Event) (what : BusEvent) → new ≡ old → old.state.stop ≡ None → loose_event e ≡ Some what → is_allowed old.run old.state what ≡ false → IsRefused old e new
-refused old new e what same going is not = record { same = same; going = going; what = what; is_what = is; refused = not }
+refused : (old new : BusValue) (e : Event) (what : BusEvent) → new ≡ old → old.state.stop ≡ None
+    → loose_event e ≡ Some what → is_allowed old.run old.state what ≡ false → IsRefused old e new
+refused old new e what same going is not =
+    record { same = same; going = going; what = what; is_what = is; refused = not }
 
-pub start_ends : (old new : BusValue) (node : NodeNo) (end : BusStartEnd) → BusStartEnds old node None new end → LooseEnds old (event.Start node) new (start_fault end node)
+pub start_ends : (old new : BusValue) (node : NodeNo) (end : BusStartEnd) → BusStartEnds old node None new end
+    → LooseEnds old (event.Start node) new (start_fault end node)
 start_ends old new node (bus_start.Stopped why) cause = elim cause [
   | inl stood ↦ inl stood
   | inr misses ↦ inr ((Start node None, refl, misses.happens), misses.stops)
 ]
 start_ends old new node (bus_start.NotYet alarm) cause = absurd (false≢true cause.cause.2)
-start_ends old new node bus_start.Busy cause = (refused old new (event.Start node) (Start node None) cause.same cause.going refl (busy_waits_not (node_at old.state node.0).phase cause.cause), refl)
-start_ends old new node bus_start.Over cause = (refused old new (event.Start node) (Start node None) cause.same cause.going refl (ap is_waiting cause.cause), refl)
+start_ends old new node bus_start.Busy cause = (
+  refused old new (event.Start node) (Start node None) cause.same cause.going refl
+      (busy_waits_not (node_at old.state node.0).phase cause.cause),
+  refl,
+)
+start_ends old new node bus_start.Over cause =
+    (refused old new (event.Start node) (Start node None) cause.same cause.going refl (ap is_waiting cause.cause), refl)
 start_ends old new node bus_start.Memory cause = cause
 
-pub step_ends : (old new : BusValue) (node : NodeNo) (end : BusStepEnd) → new ≡ old → BusStepEnds old node None end → LooseEnds old (event.Step node) new (step_fault end node)
+pub step_ends : (old new : BusValue) (node : NodeNo) (end : BusStepEnd) → new ≡ old → BusStepEnds old node None end
+    → LooseEnds old (event.Step node) new (step_fault end node)
 step_ends old new node (bus_step.Stopped why) same cause = inl (cause, same)
 step_ends old new node (bus_step.NotYet alarm) same cause = absurd (false≢true cause.1.3)
-step_ends old new node bus_step.NotBetween same cause = (refused old new (event.Step node) (Step node None) same cause.0 refl (no_next_step (node_at old.state node.0).phase cause.1), refl)
+step_ends old new node bus_step.NotBetween same cause = (
+  refused old new (event.Step node) (Step node None) same cause.0 refl
+      (no_next_step (node_at old.state node.0).phase cause.1),
+  refl,
+)
 step_ends old new node bus_step.Memory same cause = same
 
-pub finish_ends : (old new : BusValue) (node : NodeNo) (end : BusFinishEnd) → new ≡ old → BusFinishEnds old node end → LooseEnds old (event.Finish node) new (finish_fault end node)
+pub finish_ends : (old new : BusValue) (node : NodeNo) (end : BusFinishEnd) → new ≡ old → BusFinishEnds old node end
+    → LooseEnds old (event.Finish node) new (finish_fault end node)
 finish_ends old new node (bus_finish.Stopped why) same cause = inl (cause, same)
-finish_ends old new node bus_finish.NotRunning same cause = (refused old new (event.Finish node) (Finish node) same cause.0 refl (none_runs (node_at old.state node.0).phase cause.1), refl)
+finish_ends old new node bus_finish.NotRunning same cause = (
+  refused old new (event.Finish node) (Finish node) same cause.0 refl
+      (none_runs (node_at old.state node.0).phase cause.1),
+  refl,
+)
 
-pub send_ends : (old new : BusValue) (node : NodeNo) (end : BusSendEnd) → new ≡ old → BusSendEnds old node None end → LooseEnds old (event.Send node) new (send_fault end node)
+pub send_ends : (old new : BusValue) (node : NodeNo) (end : BusSendEnd) → new ≡ old → BusSendEnds old node None end
+    → LooseEnds old (event.Send node) new (send_fault end node)
 send_ends old new node (bus_send.Stopped why) same cause = inl (cause, same)
 send_ends old new node (bus_send.NotYet release) same cause = absurd (false≢true cause.1.2)
-send_ends old new node bus_send.NotFinished same cause = (refused old new (event.Send node) (Send node None) same cause.0 refl cause.1, refl)
+send_ends old new node bus_send.NotFinished same cause =
+    (refused old new (event.Send node) (Send node None) same cause.0 refl cause.1, refl)

@@ -33,34 +33,45 @@ abbrev pub codes : List NodeValue → List CodeParts
 codes nodes = map (λ (n : NodeValue). n.program.code) nodes
 
 -- a node is the one that contracts see
-pub node_shown : (f : Fields) (node : ℕ) → AreNodes (arc_value f.design) f.rounds f.nodes → node < length f.nodes → slice_index_or f.nodes node no_node_value ≡ node_value (value_of f) node
+pub node_shown : (f : Fields) (node : ℕ) → AreNodes (arc_value f.design) f.rounds f.nodes → node < length f.nodes
+    → slice_index_or f.nodes node no_node_value ≡ node_value (value_of f) node
 node_shown f node are within =
     let n = slice_index_or f.nodes node no_node_value in
     let is : IsNodeOf (arc_value f.design) f.rounds node n = are.each node within in
-    let code : code_at (codes f.nodes) node ≡ n.program.code = get_or-map (λ (n : NodeValue). n.program.code) f.nodes node no_node_value no_code within in
-    let state : slice_index_or (states f.nodes) node no_node ≡ n.state = get_or-map (λ (n : NodeValue). n.state) f.nodes node no_node_value no_node within in
+    let code : code_at (codes f.nodes) node ≡ n.program.code =
+    get_or-map (λ (n : NodeValue). n.program.code) f.nodes node no_node_value no_code within in
+    let state : slice_index_or (states f.nodes) node no_node ≡ n.state =
+    get_or-map (λ (n : NodeValue). n.state) f.nodes node no_node_value no_node within in
     ap₂ (λ (p : Plan) (c : CodeParts). record n { program = record { plan = p; code = c } }) is.plan (sym code)
-    ∙ ap₂ (λ (r : ℕ) (s : NodeState). record { program = (node_value (value_of f) node).program; rounds = r; state = s }) is.rounds_are (sym state)
+    ∙ ap₂ (λ (r : ℕ) (s : NodeState).
+    record { program = (node_value (value_of f) node).program; rounds = r; state = s }) is.rounds_are (sym state)
 
-pub node_is : (f : Fields) (node : ℕ) → Keeps f → node < length f.nodes → slice_index_or f.nodes node no_node_value ≡ node_value (value_of f) node
+pub node_is : (f : Fields) (node : ℕ) → Keeps f → node < length f.nodes
+    → slice_index_or f.nodes node no_node_value ≡ node_value (value_of f) node
 node_is f node keeps within = node_shown f node keeps.nodes within
 
-pub node_here : (f : Fields) (node : ℕ) (n : NodeValue) → Keeps f → node < length f.nodes → n ≡ slice_index_or f.nodes node n → n ≡ node_value (value_of f) node
-node_here f node n keeps within is = is ∙ get_or_default f.nodes node n no_node_value within ∙ node_is f node keeps within
+pub node_here : (f : Fields) (node : ℕ) (n : NodeValue) → Keeps f → node < length f.nodes
+    → n ≡ slice_index_or f.nodes node n → n ≡ node_value (value_of f) node
+node_here f node n keeps within is =
+    is ∙ get_or_default f.nodes node n no_node_value within ∙ node_is f node keeps within
 
 -- the codes of its nodes mean what the components do
-pub codes_mean : (design : DesignParts) (rounds : ℕ) (nodes : List NodeValue) → AreNodes design rounds nodes → AreCodes design (codes nodes)
+pub codes_mean : (design : DesignParts) (rounds : ℕ) (nodes : List NodeValue) → AreNodes design rounds nodes
+    → AreCodes design (codes nodes)
 codes_mean design rounds nodes are =
     let many = length-map nodes (λ (n : NodeValue). n.program.code) in
     record {
       count = many ∙ are.count;
       mean = λ node lt.
           let within : node < length nodes = omega (arith, many, lt) in
-          subst (λ (c : CodeParts). Means c (component_at design node).behaviour) (sym (get_or-map (λ (n : NodeValue). n.program.code) nodes node no_node_value no_code within)) (are.each node within).means;
+          subst (λ (c : CodeParts). Means c (component_at design node).behaviour)
+          (sym (get_or-map (λ (n : NodeValue). n.program.code) nodes node no_node_value no_code within))
+          (are.each node within).means;
     }
 
 -- ---- one node changes
-pub states-set : (nodes : List NodeValue) (at : ℕ) (m : NodeValue) → states (slice_set nodes at m) ≡ slice_set (states nodes) at m.state
+pub states-set : (nodes : List NodeValue) (at : ℕ) (m : NodeValue)
+    → states (slice_set nodes at m) ≡ slice_set (states nodes) at m.state
 states-set nodes at m = map-set (λ (n : NodeValue). n.state) nodes at m
 
 -- a node of the same plan, of as many rounds
@@ -68,16 +79,28 @@ pub record IsSameNode (n m : NodeValue) : Type 0 where
   pub program : m.program ≡ n.program
   pub rounds : m.rounds ≡ n.rounds
 
-pub codes-set : (nodes : List NodeValue) (at : ℕ) (m : NodeValue) → IsSameNode (slice_index_or nodes at no_node_value) m → codes (slice_set nodes at m) ≡ codes nodes
-codes-set nodes at m same = map-set_same (λ (n : NodeValue). n.program.code) nodes at m no_node_value (ap (λ (p : Program). p.code) same.program)
+pub codes-set : (nodes : List NodeValue) (at : ℕ) (m : NodeValue) → IsSameNode (slice_index_or nodes at no_node_value) m
+    → codes (slice_set nodes at m) ≡ codes nodes
+codes-set nodes at m same =
+    map-set_same (λ (n : NodeValue). n.program.code) nodes at m no_node_value
+    (ap (λ (p : Program). p.code) same.program)
 
-pub nodes-set : (design : DesignParts) (rounds : ℕ) (nodes : List NodeValue) (at : ℕ) (m : NodeValue) → AreNodes design rounds nodes → at < length nodes → IsSameNode (slice_index_or nodes at no_node_value) m → AreNodes design rounds (slice_set nodes at m)
+pub nodes-set : (design : DesignParts) (rounds : ℕ) (nodes : List NodeValue) (at : ℕ) (m : NodeValue)
+    → AreNodes design rounds nodes → at < length nodes → IsSameNode (slice_index_or nodes at no_node_value) m
+    → AreNodes design rounds (slice_set nodes at m)
 nodes-set design rounds nodes at m are within same = record {
   count = length-set nodes at m ∙ are.count;
   each = λ node lt. elim (cases_eq node at) [
     | inl e ↦
         subst (λ n. IsNodeOf design rounds node n) (sym (get_or-set_at nodes at node m no_node_value e within))
-        (subst (λ k. IsNodeOf design rounds k m) (sym e) (let old = are.each at within in record { plan = ap (λ (p : Program). p.plan) same.program ∙ old.plan; rounds_are = same.rounds ∙ old.rounds_are; means = subst (λ (p : Program). Means p.code (component_at design at).behaviour) (sym same.program) old.means }))
+        (subst (λ k. IsNodeOf design rounds k m) (sym e)
+        (let old = are.each at within in
+        record {
+          plan = ap (λ (p : Program). p.plan) same.program ∙ old.plan;
+          rounds_are = same.rounds ∙ old.rounds_are;
+          means = subst (λ (p : Program). Means p.code (component_at design at).behaviour) (sym same.program)
+              old.means;
+        }))
     | inr other ↦
         subst (λ n. IsNodeOf design rounds node n) (sym (get_or-set_other nodes at node m no_node_value other))
         (are.each node (let size = length-set nodes at m in omega (arith, size, lt)))
@@ -85,10 +108,14 @@ nodes-set design rounds nodes at m are within same = record {
 }
 
 -- a node whose state alone has changed
-pub same_node : (f : Fields) (node : ℕ) (m : NodeValue) (s : NodeState) → Keeps f → node < length f.nodes → m ≡ with_state (node_value (value_of f) node) s → IsSameNode (slice_index_or f.nodes node no_node_value) m
+pub same_node : (f : Fields) (node : ℕ) (m : NodeValue) (s : NodeState) → Keeps f → node < length f.nodes
+    → m ≡ with_state (node_value (value_of f) node) s → IsSameNode (slice_index_or f.nodes node no_node_value) m
 same_node f node m s keeps within is =
     let here = node_is f node keeps within in
-    record { program = ap (λ (n : NodeValue). n.program) is ∙ sym (ap (λ (n : NodeValue). n.program) here); rounds = ap (λ (n : NodeValue). n.rounds) is ∙ sym (ap (λ (n : NodeValue). n.rounds) here) }
+    record {
+      program = ap (λ (n : NodeValue). n.program) is ∙ sym (ap (λ (n : NodeValue). n.program) here);
+      rounds = ap (λ (n : NodeValue). n.rounds) is ∙ sym (ap (λ (n : NodeValue). n.rounds) here);
+    }
 
 -- ---- entries that are owed
 one_at_most : (b : Bool) → (if b then 1 else 0) ≤ 1
@@ -106,17 +133,22 @@ owed_at_most n =
     omega (arith, a, b)
 
 pub all_owed : (nodes : List NodeValue) → sum_by owed nodes ≤ length nodes * 2
-all_owed nodes = sum_by-le owed 2 nodes (All-from_get_or (λ (n : NodeValue). owed n ≤ 2) nodes no_node_value (λ i lt. owed_at_most (slice_index_or nodes i no_node_value)))
+all_owed nodes =
+    sum_by-le owed 2 nodes (All-from_get_or (λ (n : NodeValue). owed n ≤ 2) nodes no_node_value
+    (λ i lt. owed_at_most (slice_index_or nodes i no_node_value)))
 
 -- a node owes two entries at most
-pub owed_more : (nodes : List NodeValue) (at : ℕ) (m : NodeValue) → at < length nodes → sum_by owed (slice_set nodes at m) ≤ sum_by owed nodes + 2
+pub owed_more : (nodes : List NodeValue) (at : ℕ) (m : NodeValue) → at < length nodes
+    → sum_by owed (slice_set nodes at m) ≤ sum_by owed nodes + 2
 owed_more nodes at m within =
     let all = sum_by-set owed nodes at m no_node_value within in
     let most = owed_at_most m in
     omega (arith, all, most)
 
 -- it makes one of those that it owes
-pub owed_less : (nodes : List NodeValue) (at : ℕ) (m : NodeValue) → at < length nodes → owed m + 1 ≡ owed (slice_index_or nodes at no_node_value) → sum_by owed (slice_set nodes at m) + 1 ≡ sum_by owed nodes
+pub owed_less : (nodes : List NodeValue) (at : ℕ) (m : NodeValue) → at < length nodes
+    → owed m + 1 ≡ owed (slice_index_or nodes at no_node_value)
+    → sum_by owed (slice_set nodes at m) + 1 ≡ sum_by owed nodes
 owed_less nodes at m within less =
     let all = sum_by-set owed nodes at m no_node_value within in
     omega (arith, all, less)
@@ -130,23 +162,36 @@ after_round_rests : (sent b : Bool) → running_step (if sent then at_rest b els
 after_round_rests true b = rests_not b
 after_round_rests false b = refl
 
-either_rests : (b : Bool) (x y : NodeState) → running_step x.phase ≡ None → running_step y.phase ≡ None → running_step (if b then x else y).phase ≡ None
+either_rests : (b : Bool) (x y : NodeState) → running_step x.phase ≡ None → running_step y.phase ≡ None
+    → running_step (if b then x else y).phase ≡ None
 either_rests true x y left right = left
 either_rests false x y left right = right
 
-pub finished_rests : (plan : Plan) (rounds step : ℕ) (n : NodeState) → running_step (finished plan rounds step n).phase ≡ None
+pub finished_rests : (plan : Plan) (rounds step : ℕ) (n : NodeState)
+    → running_step (finished plan rounds step n).phase ≡ None
 finished_rests plan rounds step n =
     let result = fired plan step n in
     let outs = with_places step result.outs n.outs in
-    either_rests (nat_lt (step + 1) plan.rate) (record n { frame = result.frame; outs = outs; phase = Between (step + 1) })
-    (record n { frame = result.frame; outs = outs; phase = after_round rounds n; parts = n.parts ++ part_left plan result outs ∷ [] }) refl (after_round_rests n.sent (nat_eq n.count rounds))
+    either_rests (nat_lt (step + 1) plan.rate)
+    (record n { frame = result.frame; outs = outs; phase = Between (step + 1) })
+    (record n {
+      frame = result.frame;
+      outs = outs;
+      phase = after_round rounds n;
+      parts = n.parts ++ part_left plan result outs ∷ [];
+    }) refl (after_round_rests n.sent (nat_eq n.count rounds))
 
-pub owed_finished : (n : NodeValue) (plan : Plan) (rounds step : ℕ) (m : NodeValue) → n.state.phase ≡ Running step → m.state ≡ finished plan rounds step n.state → owed m + 1 ≡ owed n
+pub owed_finished : (n : NodeValue) (plan : Plan) (rounds step : ℕ) (m : NodeValue) → n.state.phase ≡ Running step
+    → m.state ≡ finished plan rounds step n.state → owed m + 1 ≡ owed n
 owed_finished n plan rounds step m runs is =
-    let none : running_step m.state.phase ≡ None = ap (λ (s : NodeState). running_step s.phase) is ∙ finished_rests plan rounds step n.state in
-    let sent : m.state.sent ≡ n.state.sent = ap (λ (s : NodeState). s.sent) is ∙ (finish_keeps plan rounds step n.state).2 in
-    let before : owed n ≡ 1 + (if n.state.sent then 0 else 1) = ap (λ p. (if is_some (running_step p) then 1 else 0) + (if n.state.sent then 0 else 1)) runs in
-    let after : owed m ≡ 0 + (if n.state.sent then 0 else 1) = ap₂ (λ (o : Option ℕ) (b : Bool). (if is_some o then 1 else 0) + (if b then 0 else 1)) none sent in
+    let none : running_step m.state.phase ≡ None = ap (λ (s : NodeState). running_step s.phase) is
+    ∙ finished_rests plan rounds step n.state in
+    let sent : m.state.sent ≡ n.state.sent = ap (λ (s : NodeState). s.sent) is
+    ∙ (finish_keeps plan rounds step n.state).2 in
+    let before : owed n ≡ 1 + (if n.state.sent then 0 else 1) =
+    ap (λ p. (if is_some (running_step p) then 1 else 0) + (if n.state.sent then 0 else 1)) runs in
+    let after : owed m ≡ 0 + (if n.state.sent then 0 else 1) =
+    ap₂ (λ (o : Option ℕ) (b : Bool). (if is_some o then 1 else 0) + (if b then 0 else 1)) none sent in
     omega (arith, before, after)
 
 -- ---- a send leaves the job that is out
@@ -164,10 +209,14 @@ not_true false is = refl
 pub is_unsent : (plan : Plan) (n : NodeState) → may_send plan n ≡ true → n.sent ≡ false
 is_unsent plan n may = not_true n.sent (and_parts (not n.sent) _ may).0
 
-pub owed_sent : (n : NodeValue) (rounds : ℕ) (m : NodeValue) → n.state.sent ≡ false → m.state ≡ sent_from rounds n.state → owed m + 1 ≡ owed n
+pub owed_sent : (n : NodeValue) (rounds : ℕ) (m : NodeValue) → n.state.sent ≡ false → m.state ≡ sent_from rounds n.state
+    → owed m + 1 ≡ owed n
 owed_sent n rounds m unsent is =
-    let runs : running_step m.state.phase ≡ running_step n.state.phase = ap (λ (s : NodeState). running_step s.phase) is ∙ send_runs n.state.count rounds true n.state.phase in
+    let runs : running_step m.state.phase ≡ running_step n.state.phase = ap (λ (s : NodeState). running_step s.phase) is
+    ∙ send_runs n.state.count rounds true n.state.phase in
     let sent : m.state.sent ≡ true = ap (λ (s : NodeState). s.sent) is in
-    let before : owed n ≡ (if is_some (running_step n.state.phase) then 1 else 0) + 1 = ap (λ b. (if is_some (running_step n.state.phase) then 1 else 0) + (if b then 0 else 1)) unsent in
-    let after : owed m ≡ (if is_some (running_step n.state.phase) then 1 else 0) + 0 = ap₂ (λ (o : Option ℕ) (b : Bool). (if is_some o then 1 else 0) + (if b then 0 else 1)) runs sent in
+    let before : owed n ≡ (if is_some (running_step n.state.phase) then 1 else 0) + 1 =
+    ap (λ b. (if is_some (running_step n.state.phase) then 1 else 0) + (if b then 0 else 1)) unsent in
+    let after : owed m ≡ (if is_some (running_step n.state.phase) then 1 else 0) + 0 =
+    ap₂ (λ (o : Option ℕ) (b : Bool). (if is_some o then 1 else 0) + (if b then 0 else 1)) runs sent in
     omega (arith, before, after)

@@ -15,14 +15,17 @@ use Rattle.pals_bus.specs.proof.NodeLists.{node_of}
 use Rattle.pals_bus.proofs.NodeChanges.{nodes-set, node_is, node_shown, same_node}
 
 -- what contracts see of the node after it
-pub turn_shown : (f g : Fields) (node : ℕ) (m : NodeValue) (s : NodeState) → Keeps f → node < length f.nodes → m ≡ with_state (node_value (value_of f) node) s
+pub turn_shown : (f g : Fields) (node : ℕ) (m : NodeValue) (s : NodeState) → Keeps f → node < length f.nodes
+    → m ≡ with_state (node_value (value_of f) node) s
     → g ≡ record f { nodes = slice_set f.nodes node m; journal = g.journal } → node_value (value_of g) node ≡ m
 turn_shown f g node m s keeps within is same =
     let h : Fields = record f { nodes = slice_set f.nodes node m; journal = g.journal } in
     let size = length-set f.nodes node m in
     let within_h : node < length h.nodes = omega (arith, size, within) in
     ap (λ (k : Fields). node_value (value_of k) node) same
-    ∙ sym (node_shown h node (nodes-set (arc_value f.design) f.rounds f.nodes node m keeps.nodes within (same_node f node m s keeps within is)) within_h)
+    ∙ sym (node_shown h node
+    (nodes-set (arc_value f.design) f.rounds f.nodes node m keeps.nodes within
+    (same_node f node m s keeps within is)) within_h)
     ∙ get_or-set_at f.nodes node node m no_node_value refl within
 
 -- a call of a node, and its entry
@@ -32,15 +35,20 @@ pub record Turned (f t g : Fields) (node : ℕ) (x : JournalEntry) : Type 0 wher
   pub told : g.journal.items ≡ t.journal.items ++ x ∷ []
   pub capacity : vec_capacity g.journal ≡ vec_capacity t.journal
 
-pub turned_same : (f t g : Fields) (node : ℕ) (x : JournalEntry) → Turned f t g node x → g ≡ record f { nodes = slice_set f.nodes node (node_in t node); journal = g.journal }
-turned_same f t g node x turned = turned.same ∙ ap (λ (k : Fields). let u : Fields = record k { journal = g.journal } in u) turned.others
+pub turned_same : (f t g : Fields) (node : ℕ) (x : JournalEntry) → Turned f t g node x
+    → g ≡ record f { nodes = slice_set f.nodes node (node_in t node); journal = g.journal }
+turned_same f t g node x turned =
+    turned.same ∙ ap (λ (k : Fields). let u : Fields = record k { journal = g.journal } in u) turned.others
 
-pub turned_told : (f t g : Fields) (node : ℕ) (x : JournalEntry) → Turned f t g node x → g.journal.items ≡ f.journal.items ++ x ∷ []
+pub turned_told : (f t g : Fields) (node : ℕ) (x : JournalEntry) → Turned f t g node x
+    → g.journal.items ≡ f.journal.items ++ x ∷ []
 turned_told f t g node x turned = turned.told ∙ ap (λ (k : Fields). k.journal.items ++ x ∷ []) turned.others
 
-pub turned_capacity : (f t g : Fields) (node : ℕ) (x : JournalEntry) → Turned f t g node x → vec_capacity g.journal ≡ vec_capacity f.journal
+pub turned_capacity : (f t g : Fields) (node : ℕ) (x : JournalEntry) → Turned f t g node x
+    → vec_capacity g.journal ≡ vec_capacity f.journal
 turned_capacity f t g node x turned = turned.capacity ∙ ap (λ (k : Fields). vec_capacity k.journal) turned.others
 
 -- what a call says of the node, as contracts see it
-pub turn_told : (f : Fields) (node : ℕ) (P : NodeValue → Type 0) → Keeps f → node < length f.nodes → P (node_of f.nodes node) → P (node_value (value_of f) node)
+pub turn_told : (f : Fields) (node : ℕ) (P : NodeValue → Type 0) → Keeps f → node < length f.nodes
+    → P (node_of f.nodes node) → P (node_value (value_of f) node)
 turn_told f node P keeps within says = subst P (node_is f node keeps within) says

@@ -46,7 +46,8 @@ length_upwards : (from n : ℕ) → length (upwards from n) ≡ n
 length_upwards from zero = refl
 length_upwards from (suc n) = ap suc (length_upwards (suc from) n)
 
-pub states_open : (design : DesignParts) (all : List CodeParts) (rounds : ℕ) (nodes : List NodeValue) → AreOpening design all rounds nodes → length all ≡ length design.components
+pub states_open : (design : DesignParts) (all : List CodeParts) (rounds : ℕ) (nodes : List NodeValue)
+    → AreOpening design all rounds nodes → length all ≡ length design.components
     → states nodes ≡ map (λ node. opening_node (plan_of design node)) (upwards 0 (length design.components))
 states_open design all rounds nodes are count =
     let n = length design.components in
@@ -65,43 +66,56 @@ states_open design all rounds nodes are count =
     ∙ ap f (sym at)
     ∙ sym (get_or-map f (upwards 0 n) k 0 no_node (omega (arith, wide, below))))
 
-pub codes_open : (design : DesignParts) (all : List CodeParts) (rounds : ℕ) (nodes : List NodeValue) → AreOpening design all rounds nodes → codes nodes ≡ all
+pub codes_open : (design : DesignParts) (all : List CodeParts) (rounds : ℕ) (nodes : List NodeValue)
+    → AreOpening design all rounds nodes → codes nodes ≡ all
 codes_open design all rounds nodes are =
     let same : length (codes nodes) ≡ length nodes = length-map nodes (λ (k : NodeValue). k.program.code) in
     ext_get_or no_code (codes nodes) all (same ∙ are.count)
     (λ k lt.
     let within : k < length nodes = omega (arith, same, lt) in
-    get_or-map (λ (m : NodeValue). m.program.code) nodes k no_node_value no_code within ∙ ap (λ (m : NodeValue). m.program.code) (are.each k within))
+    get_or-map (λ (m : NodeValue). m.program.code) nodes k no_node_value no_code within
+    ∙ ap (λ (m : NodeValue). m.program.code) (are.each k within))
 
 abbrev no_copies : List FlightCopy
 no_copies = []
 
-pub copies_open : (links : List Link) → copies_in (map (λ (_ : Link). no_flight) links) ≡ map (λ (_ : Link). no_copies) links
+pub copies_open : (links : List Link)
+    → copies_in (map (λ (_ : Link). no_flight) links) ≡ map (λ (_ : Link). no_copies) links
 copies_open [] = refl
 copies_open (link ∷ links) = ap (λ cs. no_copies ∷ cs) (copies_open links)
 
-pub nodes_open : (design : DesignParts) (all : List CodeParts) (rounds : ℕ) (nodes : List NodeValue) → AreOpening design all rounds nodes → AreCodes design all → AreNodes design rounds nodes
+pub nodes_open : (design : DesignParts) (all : List CodeParts) (rounds : ℕ) (nodes : List NodeValue)
+    → AreOpening design all rounds nodes → AreCodes design all → AreNodes design rounds nodes
 nodes_open design all rounds nodes are of_design = record {
   count = are.count ∙ of_design.count;
   each = λ node lt. record {
     plan = ap (λ (n : NodeValue). n.program.plan) (are.each node lt);
     rounds_are = ap (λ (n : NodeValue). n.rounds) (are.each node lt);
-    means = subst (λ (n : NodeValue). Means n.program.code (component_at design node).behaviour) (sym (are.each node lt)) (of_design.mean node (let count = are.count in omega (arith, count, lt)));
+    means =
+        subst (λ (n : NodeValue). Means n.program.code (component_at design node).behaviour) (sym (are.each node lt))
+        (of_design.mean node (let count = are.count in omega (arith, count, lt)));
   };
 }
 
-sent_open : (design : DesignParts) (all : List CodeParts) (rounds : ℕ) (nodes : List NodeValue) → AreOpening design all rounds nodes → (k : ℕ) → (slice_index_or nodes k no_node_value).state.sent ≡ true
+sent_open : (design : DesignParts) (all : List CodeParts) (rounds : ℕ) (nodes : List NodeValue)
+    → AreOpening design all rounds nodes → (k : ℕ) → (slice_index_or nodes k no_node_value).state.sent ≡ true
 sent_open design all rounds nodes are k = elim (cases_lt k (length nodes)) [
   | inl within ↦ ap (λ (n : NodeValue). n.state.sent) (are.each k within)
   | inr past ↦ ap (λ (n : NodeValue). n.state.sent) (get_or_past nodes k no_node_value past)
 ]
 
-pub rooms_open : (design : DesignParts) (all : List CodeParts) (rounds : ℕ) (nodes : List NodeValue) (links : List Link) (flights : List FlightState) → AreOpening design all rounds nodes → HasRooms links nodes flights
-rooms_open design all rounds nodes links flights are number link is unsent = absurd (false≢true (sym unsent ∙ sent_open design all rounds nodes are link.source.0))
+pub rooms_open : (design : DesignParts) (all : List CodeParts) (rounds : ℕ) (nodes : List NodeValue) (links : List Link)
+    (flights : List FlightState) → AreOpening design all rounds nodes → HasRooms links nodes flights
+rooms_open design all rounds nodes links flights are number link is unsent =
+    absurd (false≢true (sym unsent ∙ sent_open design all rounds nodes are link.source.0))
 
-pub owed_open : (design : DesignParts) (all : List CodeParts) (rounds : ℕ) (nodes : List NodeValue) → AreOpening design all rounds nodes → sum_by owed nodes ≡ 0
+pub owed_open : (design : DesignParts) (all : List CodeParts) (rounds : ℕ) (nodes : List NodeValue)
+    → AreOpening design all rounds nodes → sum_by owed nodes ≡ 0
 owed_open design all rounds nodes are =
-    let none = sum_by-le owed 0 nodes (All-from_get_or (λ (n : NodeValue). owed n ≤ 0) nodes no_node_value (λ k lt. let zero_is : owed (slice_index_or nodes k no_node_value) ≡ 0 = ap owed (are.each k lt) in omega (arith, zero_is))) in
+    let none =
+    sum_by-le owed 0 nodes (All-from_get_or (λ (n : NodeValue). owed n ≤ 0) nodes no_node_value
+    (λ k lt. let zero_is : owed (slice_index_or nodes k no_node_value) ≡ 0 = ap owed (are.each k lt) in
+    omega (arith, zero_is))) in
     let times : length nodes * 0 ≡ 0 = omega arith in
     omega (arith, none, times)
 
@@ -109,7 +123,9 @@ owed_open design all rounds nodes are =
 pub opening_none : (design : DesignParts) (rounds : ℕ) → AreOpening design [] rounds []
 opening_none design rounds = record { count = refl; each = λ node lt. absurd (omega (arith, lt)) }
 
-pub opening_one : (design : DesignParts) (done : List CodeParts) (rounds : ℕ) (nodes : List NodeValue) (code : CodeParts) (n : NodeValue) → AreOpening design done rounds nodes → n ≡ opening_value (program_of design (length nodes) code) rounds
+pub opening_one : (design : DesignParts) (done : List CodeParts) (rounds : ℕ) (nodes : List NodeValue)
+    (code : CodeParts) (n : NodeValue) → AreOpening design done rounds nodes
+    → n ≡ opening_value (program_of design (length nodes) code) rounds
     → AreOpening design (done ++ code ∷ []) rounds (nodes ++ n ∷ [])
 opening_one design done rounds nodes code n are is =
     let many = length-append nodes (n ∷ []) in
@@ -121,13 +137,15 @@ opening_one design done rounds nodes code n are is =
         | inl before ↦
             get_or_append_left nodes (n ∷ []) no_node_value node before
             ∙ are.each node before
-            ∙ ap (λ (c : CodeParts). opening_value (program_of design node c) rounds) (sym (get_or_append_left done (code ∷ []) no_code node (omega (arith, count, before))))
+            ∙ ap (λ (c : CodeParts). opening_value (program_of design node c) rounds)
+            (sym (get_or_append_left done (code ∷ []) no_code node (omega (arith, count, before))))
         | inr at ↦
             let here : length nodes ≡ node = omega (arith, many, lt, at) in
             get_or_push nodes n no_node_value node here
             ∙ is
             ∙ ap (λ (k : ℕ). opening_value (program_of design k code) rounds) here
-            ∙ ap (λ (c : CodeParts). opening_value (program_of design node c) rounds) (sym (get_or_push done code no_code node (sym count ∙ here)))
+            ∙ ap (λ (c : CodeParts). opening_value (program_of design node c) rounds)
+            (sym (get_or_push done code no_code node (sym count ∙ here)))
       ];
     }
 
@@ -148,9 +166,12 @@ pub record IsOpening (f : Fields) (all : List CodeParts) : Type 0 where
 
 state_open : (f : Fields) (all : List CodeParts) → IsOpening f all → state_of f ≡ opening (run_of f)
 state_open f all is =
-    let flights : copies_in f.flights ≡ map (λ (_ : Link). no_copies) (arc_value f.design).links = ap copies_in is.flights ∙ copies_open (arc_value f.design).links in
-    ap (λ (ns : List NodeState). record (state_of f) { nodes = ns }) (states_open (arc_value f.design) all f.rounds f.nodes is.nodes is.codes_are.count)
-    ∙ ap₂ (λ (cs : List (List FlightCopy)) (o : Option Stop). record (opening (run_of f)) { flights = cs; stop = o }) flights is.stop
+    let flights : copies_in f.flights ≡ map (λ (_ : Link). no_copies) (arc_value f.design).links =
+    ap copies_in is.flights ∙ copies_open (arc_value f.design).links in
+    ap (λ (ns : List NodeState). record (state_of f) { nodes = ns })
+    (states_open (arc_value f.design) all f.rounds f.nodes is.nodes is.codes_are.count)
+    ∙ ap₂ (λ (cs : List (List FlightCopy)) (o : Option Stop). record (opening (run_of f)) { flights = cs; stop = o })
+    flights is.stop
 
 pub opening_keeps : (f : Fields) (all : List CodeParts) → IsOpening f all → Keeps f
 opening_keeps f all is =
@@ -166,23 +187,33 @@ opening_keeps f all is =
       nodes = nodes_open (arc_value f.design) all f.rounds f.nodes is.nodes is.codes_are;
       flight_count = ap length is.flights ∙ length-map links (λ (_ : Link). no_flight);
       rooms = rooms_open (arc_value f.design) all f.rounds f.nodes links f.flights is.nodes;
-      replays = subst (λ (s : BusState). Replays (run_of f) f.journal.items s) (sym (state_open f all is)) (subst (λ (j : List JournalEntry). Replays (run_of f) j (opening (run_of f))) (sym is.journal) opens);
+      replays =
+          subst (λ (s : BusState). Replays (run_of f) f.journal.items s) (sym (state_open f all is))
+          (subst (λ (j : List JournalEntry). Replays (run_of f) j (opening (run_of f))) (sym is.journal) opens);
       queues =
           subst (λ (fs : List FlightState). AreQueues links f.nodes fs f.queues) (sym is.flights)
-          (subst (λ (qs : List QueueState). AreQueues links f.nodes (map (λ (_ : Link). no_flight) links) qs) (sym is.queues) (queues_open links f.nodes (sent_open (arc_value f.design) all f.rounds f.nodes is.nodes)));
+          (subst (λ (qs : List QueueState). AreQueues links f.nodes (map (λ (_ : Link). no_flight) links) qs)
+          (sym is.queues) (queues_open links f.nodes
+          (sent_open (arc_value f.design) all f.rounds f.nodes is.nodes)));
       place = omega (arith, owes, none);
     }
 
-pub opening_shows : (f : Fields) (all : List CodeParts) → IsOpening f all → value_of f ≡ opening_bus (run_of f) all f.meeting
+pub opening_shows : (f : Fields) (all : List CodeParts) → IsOpening f all
+    → value_of f ≡ opening_bus (run_of f) all f.meeting
 opening_shows f all is =
-    ap₂ (λ (cs : List CodeParts) (s : BusState). record (value_of f) { codes = cs; state = s }) (codes_open (arc_value f.design) all f.rounds f.nodes is.nodes) (state_open f all is)
-    ∙ ap₂ (λ (b : Bool) (j : List JournalEntry). record (opening_bus (run_of f) all f.meeting) { closed = b; journal = j }) is.closed is.journal
+    ap₂ (λ (cs : List CodeParts) (s : BusState). record (value_of f) { codes = cs; state = s })
+    (codes_open (arc_value f.design) all f.rounds f.nodes is.nodes) (state_open f all is)
+    ∙ ap₂ (λ (b : Bool) (j : List JournalEntry).
+    record (opening_bus (run_of f) all f.meeting) { closed = b; journal = j }) is.closed is.journal
 
 -- ---- the same run anew
-fresh_program : (p : Program) (plan : Plan) (code : CodeParts) → p.plan ≡ plan → p.code ≡ code → ◌≡◌ {A = Program} p (record { plan = plan; code = code })
-fresh_program p plan code plan_is code_is = ap₂ (λ (x : Plan) (y : CodeParts). let u : Program = record { plan = x; code = y } in u) plan_is code_is
+fresh_program : (p : Program) (plan : Plan) (code : CodeParts) → p.plan ≡ plan → p.code ≡ code
+    → ◌≡◌ {A = Program} p (record { plan = plan; code = code })
+fresh_program p plan code plan_is code_is =
+    ap₂ (λ (x : Plan) (y : CodeParts). let u : Program = record { plan = x; code = y } in u) plan_is code_is
 
-pub nodes_anew : (design : DesignParts) (rounds : ℕ) (old new : List NodeValue) → AreNodes design rounds old → new ≡ map (λ (n : NodeValue). opening_value n.program n.rounds) old → AreOpening design (codes old) rounds new
+pub nodes_anew : (design : DesignParts) (rounds : ℕ) (old new : List NodeValue) → AreNodes design rounds old
+    → new ≡ map (λ (n : NodeValue). opening_value n.program n.rounds) old → AreOpening design (codes old) rounds new
 nodes_anew design rounds old new are is =
     let f = λ (n : NodeValue). opening_value n.program n.rounds in
     let size : length new ≡ length old = ap length is ∙ length-map old f in
@@ -193,10 +224,13 @@ nodes_anew design rounds old new are is =
           let within : node < length old = omega (arith, size, lt) in
           let n = slice_index_or old node no_node_value in
           let of_design = are.each node within in
-          let code : n.program.code ≡ code_at (codes old) node = sym (get_or-map (λ (k : NodeValue). k.program.code) old node no_node_value no_code within) in
+          let code : n.program.code ≡ code_at (codes old) node =
+          sym (get_or-map (λ (k : NodeValue). k.program.code) old node no_node_value no_code within) in
           ap (λ (ns : List NodeValue). slice_index_or ns node no_node_value) is
           ∙ get_or-map f old node no_node_value no_node_value within
-          ∙ ap₂ (λ (p : Program) (r : ℕ). opening_value p r) (fresh_program n.program (plan_of design node) (code_at (codes old) node) of_design.plan code) of_design.rounds_are;
+          ∙ ap₂ (λ (p : Program) (r : ℕ). opening_value p r)
+          (fresh_program n.program (plan_of design node) (code_at (codes old) node) of_design.plan code)
+          of_design.rounds_are;
     }
 
 -- a bus of the same run, made anew
@@ -223,12 +257,17 @@ anew_opens f g keeps is =
       design = subst IsDesign back keeps.design;
       outgoing = subst (λ (d : DesignParts). AreOutgoing (length d.components) d.links g.outgoing) back is.outgoing;
       rounds = subst (λ (n : ℕ). (1 ≤ n) × (n ≤ ROUNDS)) rounds_are keeps.rounds;
-      delays = subst (λ (d : DesignParts). AreDelays (length d.links) g.delays) back (subst (AreDelays (length (arc_value f.design).links)) (sym is.delays) keeps.delays);
+      delays =
+          subst (λ (d : DesignParts). AreDelays (length d.links) g.delays) back
+          (subst (AreDelays (length (arc_value f.design).links)) (sym is.delays) keeps.delays);
       values = is.values ∙ ap (λ (e : Env). length e.lists) (sym is.env);
-      codes_are = subst (λ (d : DesignParts). AreCodes d (codes f.nodes)) back (codes_mean (arc_value f.design) f.rounds f.nodes keeps.nodes);
+      codes_are =
+          subst (λ (d : DesignParts). AreCodes d (codes f.nodes)) back
+          (codes_mean (arc_value f.design) f.rounds f.nodes keeps.nodes);
       nodes =
           subst (λ (d : DesignParts). AreOpening d (codes f.nodes) g.rounds g.nodes) back
-          (subst (λ (n : ℕ). AreOpening (arc_value f.design) (codes f.nodes) n g.nodes) rounds_are (nodes_anew (arc_value f.design) f.rounds f.nodes g.nodes keeps.nodes is.nodes));
+          (subst (λ (n : ℕ). AreOpening (arc_value f.design) (codes f.nodes) n g.nodes) rounds_are
+          (nodes_anew (arc_value f.design) f.rounds f.nodes g.nodes keeps.nodes is.nodes));
       flights = is.flights ∙ ap (λ (d : DesignParts). map (λ (_ : Link). no_flight) d.links) back;
       queues = is.queues;
       stop = is.stop;
@@ -238,15 +277,19 @@ anew_opens f g keeps is =
 
 run_anew : (f g : Fields) → IsAnew f g → run_of g ≡ run_of f
 run_anew f g is =
-    ap₂ (λ (d : DesignParts) (e : Env). let u : Run = record { design = d; env = e; rounds = g.rounds; delays = g.delays } in u) is.design is.env
-    ∙ ap₂ (λ (n : ℕ) (ds : Delays). let u : Run = record { design = arc_value f.design; env = f.env; rounds = n; delays = ds } in u) is.rounds is.delays
+    ap₂ (λ (d : DesignParts) (e : Env). let u : Run =
+    record { design = d; env = e; rounds = g.rounds; delays = g.delays } in u) is.design is.env
+    ∙ ap₂ (λ (n : ℕ) (ds : Delays). let u : Run =
+    record { design = arc_value f.design; env = f.env; rounds = n; delays = ds } in u) is.rounds is.delays
 
 pub anew_shows : (f g : Fields) → Keeps f → IsAnew f g → value_of g ≡ opening_bus (run_of f) (codes f.nodes) f.meeting
 anew_shows f g keeps is =
-    opening_shows g (codes f.nodes) (anew_opens f g keeps is) ∙ ap₂ (λ (r : Run) (m : Bool). opening_bus r (codes f.nodes) m) (run_anew f g is) is.meeting
+    opening_shows g (codes f.nodes) (anew_opens f g keeps is)
+    ∙ ap₂ (λ (r : Run) (m : Bool). opening_bus r (codes f.nodes) m) (run_anew f g is) is.meeting
 
 -- ---- one more item of a list that is made of another
-pub map_more : {X Y : Type 0} (f : X → Y) (xs : List X) (k : ℕ) (d : X) (ys zs : List Y) (z : Y) → k < length xs → ys ≡ map f (take k xs) → z ≡ f (slice_index_or xs k d) → zs ≡ ys ++ z ∷ [] → zs ≡ map f (take (k + 1) xs)
+pub map_more : {X Y : Type 0} (f : X → Y) (xs : List X) (k : ℕ) (d : X) (ys zs : List Y) (z : Y) → k < length xs
+    → ys ≡ map f (take k xs) → z ≡ f (slice_index_or xs k d) → zs ≡ ys ++ z ∷ [] → zs ≡ map f (take (k + 1) xs)
 map_more {X = X} {Y = Y} f xs k d ys zs z within before is all =
     all
     ∙ ap (λ (us : List Y). us ++ z ∷ []) before

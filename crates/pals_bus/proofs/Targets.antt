@@ -13,7 +13,9 @@ use Rattle.pals_bus.proofs.NodeChanges.{node_is}
 use Rattle.pals_bus.specs.proof.Meeting.{target_in, HasEnded}
 
 -- that of a node is the one in the list
-pub target_listed : (f : Fields) (b : BusValue) (targets : List (Option ℕ)) (node : ℕ) (o : Option ℕ) → Keeps f → value_of f ≡ b → targets ≡ map target_of_node f.nodes → node < length f.nodes → slice_index_or targets node None ≡ o → target_in b node ≡ o
+pub target_listed : (f : Fields) (b : BusValue) (targets : List (Option ℕ)) (node : ℕ) (o : Option ℕ) → Keeps f
+    → value_of f ≡ b → targets ≡ map target_of_node f.nodes → node < length f.nodes
+    → slice_index_or targets node None ≡ o → target_in b node ≡ o
 target_listed f b targets node o keeps shows are within is =
     subst (λ (v : BusValue). target_in v node ≡ o) shows
     (ap target_of_node (sym (node_is f node keeps within))
@@ -21,16 +23,20 @@ target_listed f b targets node o keeps shows are within is =
     ∙ ap (λ (ts : List (Option ℕ)). slice_index_or ts node None) (sym are)
     ∙ is)
 
-pub within_list : (f : Fields) (targets : List (Option ℕ)) (node : ℕ) → targets ≡ map target_of_node f.nodes → node < length targets → node < length f.nodes
-within_list f targets node are within = let size = ap length are ∙ length-map f.nodes target_of_node in omega (arith, size, within)
+pub within_list : (f : Fields) (targets : List (Option ℕ)) (node : ℕ) → targets ≡ map target_of_node f.nodes
+    → node < length targets → node < length f.nodes
+within_list f targets node are within = let size = ap length are ∙ length-map f.nodes target_of_node in
+    omega (arith, size, within)
 
-pub all_listed : (f : Fields) (b : BusValue) (targets : List (Option ℕ)) (node : ℕ) → Keeps f → value_of f ≡ b → targets ≡ map target_of_node f.nodes → node < length b.run.design.components → node < length targets
+pub all_listed : (f : Fields) (b : BusValue) (targets : List (Option ℕ)) (node : ℕ) → Keeps f → value_of f ≡ b
+    → targets ≡ map target_of_node f.nodes → node < length b.run.design.components → node < length targets
 all_listed f b targets node keeps shows are within =
     let size = ap length are ∙ length-map f.nodes target_of_node in
     let count = keeps.nodes.count ∙ ap (λ (v : BusValue). length v.run.design.components) shows in
     omega (arith, size, count, within)
 
-pub within_run : (f : Fields) (b : BusValue) → Keeps f → value_of f ≡ b → (node : ℕ) → node < length f.nodes → node < length b.run.design.components
+pub within_run : (f : Fields) (b : BusValue) → Keeps f → value_of f ≡ b → (node : ℕ) → node < length f.nodes
+    → node < length b.run.design.components
 within_run f b keeps shows node within =
     let count = keeps.nodes.count ∙ ap (λ (v : BusValue). length v.run.design.components) shows in
     omega (arith, count, within)

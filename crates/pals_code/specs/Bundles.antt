@@ -45,7 +45,8 @@ pub record IsCodeTooLong (root bundle : List ℕ) (status : ℕ) (text : List �
 -- The design text is refused, or the design is.
 abbrev pub IsRefused : List ℕ → List ℕ → ℕ → List ℕ → Type 0
 IsRefused root bundle status text =
-    ((status ≡ TEXT_REFUSED) × IsTextRefused bundle text) ⊎ ((status ≡ DESIGN_REFUSED) × IsPackageRefused root bundle text)
+    ((status ≡ TEXT_REFUSED) × IsTextRefused bundle text)
+    ⊎ ((status ≡ DESIGN_REFUSED) × IsPackageRefused root bundle text)
 
 abbrev pub IsListingAnswer : List ℕ → List ℕ → ℕ → List ℕ → Type 0
 IsListingAnswer root bundle status text =

@@ -18,9 +18,11 @@ pub refused : {E : Type 0} (what : Analysis) (root bundle : List ℕ) (design : 
 refused what root bundle design (Ok a) says = inr (inl (says.status_is, says.faulty))
 refused what root bundle design (Err e) says = tt
 
-pub analysed : {E : Type 0} (what : Analysis) (root bundle : List ℕ) (design : DesignParts) (bytes : List ℕ) (scenario : Scenario) (answered : Result Answer E)
+pub analysed : {E : Type 0} (what : Analysis) (root bundle : List ℕ) (design : DesignParts) (bytes : List ℕ)
+    (scenario : Scenario) (answered : Result Answer E)
     → IsAccepted root bundle design bytes → Means bytes design (command_of what root) (Ok scenario)
-    → IfOk answered (λ a. Makes what design scenario (status_of a) (text_of a)) → IfOk answered (IsAnswered what root bundle)
+    → IfOk answered (λ a. Makes what design scenario (status_of a) (text_of a))
+    → IfOk answered (IsAnswered what root bundle)
 analysed what root bundle design bytes scenario (Ok a) accepted means makes =
     inr (inr (record {
       design = design;

@@ -13,18 +13,27 @@ use Rattle.pals_top.specs.Audit.{SaysVerdict, IsAudited}
 use Rattle.pals_top.specs.Loose.{run_of}
 use Rattle.pals_top.specs.proof.Statuses.{status_of, text_of}
 
-pub audit_of : (design : DesignParts) (scenario : Scenario) (status : ℕ) (text : List ℕ) → IsRunOf (run_of design scenario)
-    → SaysVerdict design (verdict (run_of design scenario) scenario.trace) status text → IsAudited design scenario status text
+pub audit_of : (design : DesignParts) (scenario : Scenario) (status : ℕ) (text : List ℕ)
+    → IsRunOf (run_of design scenario)
+    → SaysVerdict design (verdict (run_of design scenario) scenario.trace) status text
+    → IsAudited design scenario status text
 audit_of design scenario status text rules says =
     let run = run_of design scenario in
     let lines = scenario.trace in
-    record { judged = says; sound = λ rounds stop. (sound_are_traces run lines rounds stop rules, traces_are_sound run lines rounds stop rules) }
+    record {
+      judged = says;
+      sound =
+          λ rounds stop. (sound_are_traces run lines rounds stop rules, traces_are_sound run lines rounds stop rules);
+    }
 
 -- the line of the verdict on a scenario's trace
-pub audited : {E : Type 0} (design shown : DesignParts) (scenario : Scenario) (v : Verdict) (answered : Result Answer E) → IsRunOf (run_of design scenario) → shown ≡ design
-    → v ≡ verdict (run_of design scenario) scenario.trace → IfOk answered (λ a. SaysVerdict shown v (status_of a) (text_of a))
+pub audited : {E : Type 0} (design shown : DesignParts) (scenario : Scenario) (v : Verdict) (answered : Result Answer E)
+    → IsRunOf (run_of design scenario) → shown ≡ design
+    → v ≡ verdict (run_of design scenario) scenario.trace
+    → IfOk answered (λ a. SaysVerdict shown v (status_of a) (text_of a))
     → IfOk answered (λ a. IsAudited design scenario (status_of a) (text_of a))
 audited design shown scenario v (Ok a) rules same is says =
     audit_of design scenario (status_of a) (text_of a) rules
-    (subst (λ w. SaysVerdict design w (status_of a) (text_of a)) is (subst (λ d. SaysVerdict d v (status_of a) (text_of a)) same says))
+    (subst (λ w. SaysVerdict design w (status_of a) (text_of a)) is
+    (subst (λ d. SaysVerdict d v (status_of a) (text_of a)) same says))
 audited design shown scenario v (Err e) rules same is says = tt

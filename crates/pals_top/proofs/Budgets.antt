@@ -13,16 +13,20 @@ use Rattle.round_budget.proofs.Members.{nodes_are_members}
 use Rattle.round_budget.proofs.Promised.{budgeted_by, respond_in_time}
 use Rattle.pals_top.specs.Budget.{FitsInTime, processors_of}
 
-served_in_time : (design : DesignParts) (programs : List CodeParts) (p : Processor) → IsDesign design → IsProcessorOf design p
+served_in_time : (design : DesignParts) (programs : List CodeParts) (p : Processor) → IsDesign design
+    → IsProcessorOf design p
     → FitsInTime design programs (processor_of p)
 served_in_time design programs p rules of fits =
     let described = processor_of p in
     respond_in_time design programs described.nanos described.members rules of.time.0
-    (budgeted_by design programs described.nanos described.members (nodes_are_members design p.components of.within of.rising) fits)
+    (budgeted_by design programs described.nanos described.members
+    (nodes_are_members design p.components of.within of.rising) fits)
 
-pub all_in_time : (design : DesignParts) (programs : List CodeParts) (scenario : Scenario) → IsDesign design → IsScenarioOf design scenario
+pub all_in_time : (design : DesignParts) (programs : List CodeParts) (scenario : Scenario) → IsDesign design
+    → IsScenarioOf design scenario
     → All (FitsInTime design programs) (processors_of scenario)
 all_in_time design programs scenario rules kept =
     All-map (FitsInTime design programs) processor_of scenario.processors
-    (All-weaker (IsProcessorOf design) (λ p. FitsInTime design programs (processor_of p)) (λ p. served_in_time design programs p rules)
+    (All-weaker (IsProcessorOf design) (λ p. FitsInTime design programs (processor_of p))
+    (λ p. served_in_time design programs p rules)
     scenario.processors kept.processor)

@@ -29,7 +29,8 @@ apart : WRITE_FAULT ≢ NO_MEMORY
 apart e = absurd (cc)
 
 -- ---- what is written of an answer that was made, and the sink where none was
-module _ {E K : Type 0} (form : Option Command) (seen : Reading) (before after : SinkView) (old new : K) (status : ℕ) where
+module _ {E K : Type 0} (form : Option Command) (seen : Reading) (before after : SinkView) (old new : K)
+    (status : ℕ) where
   abbrev Answered : Result Answer E → Type 0
   Answered answered = IfOk answered (λ a. IsAnswer form seen (status_of a) (text_of a))
 
@@ -42,20 +43,23 @@ module _ {E K : Type 0} (form : Option Command) (seen : Reading) (before after :
   abbrev Unwritten : Result Answer E → Type 0
   Unwritten answered = OnErr answered ((status ≡ NO_MEMORY) × (new ≡ old))
 
-  pub answered_by : (answered : Result Answer E) → Answered answered → Written answered → Unwritten answered → status ≢ WRITE_FAULT → status ≢ NO_MEMORY
+  pub answered_by : (answered : Result Answer E) → Answered answered → Written answered → Unwritten answered
+      → status ≢ WRITE_FAULT → status ≢ NO_MEMORY
       → (text : List ℕ) × IsAnswer form seen status text × (after ≡ after_taking before text)
   answered_by (Ok a) is (inl written) nothing no_fault memory =
       (text_of a, subst (λ (s : ℕ). IsAnswer form seen s (text_of a)) (sym written.0) is, written.1)
   answered_by (Ok a) is (inr written) nothing no_fault memory = absurd (no_fault written.0)
   answered_by (Err e) is written nothing no_fault memory = absurd (memory nothing.0)
 
-  pub cut_short_by : (answered : Result Answer E) → Answered answered → Written answered → Unwritten answered → status ≡ WRITE_FAULT
+  pub cut_short_by : (answered : Result Answer E) → Answered answered → Written answered → Unwritten answered
+      → status ≡ WRITE_FAULT
       → (said : ℕ) × (text : List ℕ) × IsAnswer form seen said text × TakesPart before after text
   cut_short_by (Ok a) is (inl written) nothing fault = absurd ((no_ending a).0 (sym written.0 ∙ fault))
   cut_short_by (Ok a) is (inr written) nothing fault = (status_of a, text_of a, is, written.1)
   cut_short_by (Err e) is written nothing fault = absurd (apart (sym fault ∙ nothing.0))
 
-  pub no_memory_by : (answered : Result Answer E) → Unanswered answered → Written answered → Unwritten answered → status ≡ NO_MEMORY
+  pub no_memory_by : (answered : Result Answer E) → Unanswered answered → Written answered → Unwritten answered
+      → status ≡ NO_MEMORY
       → IsSome form × GivesWithin seen.before seen.after BUNDLE_BYTES × (new ≡ old)
   no_memory_by (Ok a) un (inl written) nothing memory = absurd ((no_ending a).1 (sym written.0 ∙ memory))
   no_memory_by (Ok a) un (inr written) nothing memory = absurd (apart (sym written.0 ∙ memory))

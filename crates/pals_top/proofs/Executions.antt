@@ -21,8 +21,10 @@ use Rattle.pals_top.specs.proof.Statuses.{status_of, text_of, Says}
 use Rattle.pals_top.proofs.Scenarios.{SaysFault}
 
 -- what a scenario was read for, it keeps
-keeps_events : (what : Execution) (root : List ℕ) (design : DesignParts) (bytes : List ℕ) (scenario : Scenario) (command : Command)
-    → command ≡ command_of what root → EventsAreLoose → Means bytes design command (Ok scenario) → length scenario.events ≤ LIST_ITEMS
+keeps_events : (what : Execution) (root : List ℕ) (design : DesignParts) (bytes : List ℕ) (scenario : Scenario)
+    (command : Command)
+    → command ≡ command_of what root → EventsAreLoose → Means bytes design command (Ok scenario)
+    → length scenario.events ≤ LIST_ITEMS
     → length scenario.trace ≤ LIST_ITEMS → HasEvents what design scenario
 keeps_events TimedWorld root design bytes scenario command is loose means few lines = few
 keeps_events LooseWorld root design bytes scenario command is loose means few lines =
@@ -32,21 +34,25 @@ keeps_events (Run trace) root design bytes scenario command is loose means few l
 keeps_events Audit root design bytes scenario command is loose means few lines = lines
 keeps_events Budget root design bytes scenario command is loose means few lines = tt
 
-pub has_events : (what : Execution) (root : List ℕ) (design : DesignParts) (bytes : List ℕ) (scenario : Scenario) → EventsAreLoose → EventsAreFew → TracesAreFew
+pub has_events : (what : Execution) (root : List ℕ) (design : DesignParts) (bytes : List ℕ) (scenario : Scenario)
+    → EventsAreLoose → EventsAreFew → TracesAreFew
     → Means bytes design (command_of what root) (Ok scenario) → HasEvents what design scenario
 has_events what root design bytes scenario loose few lines means =
-    keeps_events what root design bytes scenario (command_of what root) refl loose means (few bytes (command_of what root) design scenario means)
+    keeps_events what root design bytes scenario (command_of what root) refl loose means
+    (few bytes (command_of what root) design scenario means)
     (lines bytes (command_of what root) design scenario means)
 
 -- a line on a component, by another name of it
 pub code_said : (design : DesignParts) (a : Answer) {m n : NodeNo} {s t : ℕ} → m ≡ n → s ≡ t
-    → Says CODE_TOO_LONG (code_fault_line design m.0 s ++ line_end) a → Says CODE_TOO_LONG (code_fault_line design n.0 t ++ line_end) a
+    → Says CODE_TOO_LONG (code_fault_line design m.0 s ++ line_end) a
+    → Says CODE_TOO_LONG (code_fault_line design n.0 t ++ line_end) a
 code_said design a {m} {n} {s} {t} same_node same_size said =
     subst (λ (size : ℕ). Says CODE_TOO_LONG (code_fault_line design n.0 size ++ line_end) a) same_size
     (subst (λ (node : NodeNo). Says CODE_TOO_LONG (code_fault_line design node.0 s ++ line_end) a) same_node said)
 
 -- ---- why a bundle has no such meaning
-pub code_refused : (root bundle : List ℕ) (design : DesignParts) (bytes : List ℕ) (node : NodeNo) (size : ℕ) (a : Answer) → IsAccepted root bundle design bytes
+pub code_refused : (root bundle : List ℕ) (design : DesignParts) (bytes : List ℕ) (node : NodeNo) (size : ℕ)
+    (a : Answer) → IsAccepted root bundle design bytes
     → IsFirstTooLong design node.0 size → Says CODE_TOO_LONG (code_fault_line design node.0 size ++ line_end) a
     → IsCodeTooLong root bundle (status_of a) (text_of a)
 code_refused root bundle design bytes node size a accepted long says = record {
@@ -70,13 +76,15 @@ scenario_refused what root bundle design a short says =
     }))
 
 -- ---- answers
-pub refused : (what : Execution) (root bundle : List ℕ) (status : ℕ) (text : List ℕ) → IsRefused what root bundle status text
+pub refused : (what : Execution) (root bundle : List ℕ) (status : ℕ) (text : List ℕ)
+    → IsRefused what root bundle status text
     → IsExecutionAnswer what root bundle status text
 refused what root bundle status text (inl x) = inl x
 refused what root bundle status text (inr (inl x)) = inr (inl x)
 refused what root bundle status text (inr (inr x)) = inr (inr (inl x))
 
-pub executed : {E : Type 0} (what : Execution) (root bundle : List ℕ) (coded : Coded) (answered : Result Answer E) → IsCoded what root bundle coded
+pub executed : {E : Type 0} (what : Execution) (root bundle : List ℕ) (coded : Coded) (answered : Result Answer E)
+    → IsCoded what root bundle coded
     → IfOk answered (λ a. Makes what coded.design coded.scenario (status_of a) (text_of a))
     → IfOk answered (λ a. IsExecutionAnswer what root bundle (status_of a) (text_of a))
 executed what root bundle coded (Ok a) is makes =

@@ -17,8 +17,10 @@ text_refused bundle (Text text) a is says = (says.0, subst (λ (w : List ℕ). I
 text_refused bundle (Design text) a is says = absurd is
 text_refused bundle Memory a is says = absurd says
 
-pub bundle_refused : (root bundle : List ℕ) (refusal : Refusal) (a : Answer) → IsRefusal root bundle refusal → SaysWhy refusal a
+pub bundle_refused : (root bundle : List ℕ) (refusal : Refusal) (a : Answer) → IsRefusal root bundle refusal
+    → SaysWhy refusal a
     → IsBundleRefused root bundle (status_of a) (text_of a)
 bundle_refused root bundle (Text text) a is says = inl (text_refused bundle (Text text) a is says)
-bundle_refused root bundle (Design text) a is says = inr (says.0, subst (λ (w : List ℕ). IsPackageRefused root bundle w) (sym says.1) is)
+bundle_refused root bundle (Design text) a is says =
+    inr (says.0, subst (λ (w : List ℕ). IsPackageRefused root bundle w) (sym says.1) is)
 bundle_refused root bundle Memory a is says = absurd says

@@ -19,9 +19,12 @@ pub record SaysFault (root bundle : List ℕ) (design : DesignParts) (command : 
   pub faulty : HasScenarioFault root bundle command (text_of a)
   pub design_is : faulty.design ≡ design
 
-module _ (root bundle : List ℕ) (design : DesignParts) (bytes : List ℕ) (command : Command) (fault : ScenarioFault) where
-  pub says_fault : (a : Answer) → IsAccepted root bundle design bytes → (fault ≢ Memory → Means bytes design command (Err fault))
-      → status_of a ≡ SCENARIO_REFUSED → text_of a ≡ scenario_fault_line fault ++ line_end → fault ≢ Memory → SaysFault root bundle design command a
+module _ (root bundle : List ℕ) (design : DesignParts) (bytes : List ℕ) (command : Command)
+    (fault : ScenarioFault) where
+  pub says_fault : (a : Answer) → IsAccepted root bundle design bytes
+      → (fault ≢ Memory → Means bytes design command (Err fault))
+      → status_of a ≡ SCENARIO_REFUSED → text_of a ≡ scenario_fault_line fault ++ line_end → fault ≢ Memory
+      → SaysFault root bundle design command a
   says_fault a accepted means status text named = record {
     status_is = status;
     faulty = record {
@@ -36,8 +39,10 @@ module _ (root bundle : List ℕ) (design : DesignParts) (bytes : List ℕ) (com
     design_is = λ i. design;
   }
 
-  pub faults_said : {E : Type 0} (answered : Result Answer E) → IsAccepted root bundle design bytes → (fault ≢ Memory → Means bytes design command (Err fault))
-      → IfOk answered (λ a. status_of a ≡ SCENARIO_REFUSED) → IfOk answered (λ a. text_of a ≡ scenario_fault_line fault ++ line_end)
+  pub faults_said : {E : Type 0} (answered : Result Answer E) → IsAccepted root bundle design bytes
+      → (fault ≢ Memory → Means bytes design command (Err fault))
+      → IfOk answered (λ a. status_of a ≡ SCENARIO_REFUSED)
+      → IfOk answered (λ a. text_of a ≡ scenario_fault_line fault ++ line_end)
       → IfOk answered (λ a. fault ≢ Memory) → IfOk answered (SaysFault root bundle design command)
   faults_said (Ok a) accepted means status text named = says_fault a accepted means status text named
   faults_said (Err e) accepted means status text named = tt

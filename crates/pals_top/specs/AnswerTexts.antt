@@ -3,7 +3,8 @@ use Rattle.std.specs.Prelude.{ℕ, codes, List, ◌++◌}
 use Rattle.pals_model.specs.RoundTexts.{line_end}
 
 abbrev pub usage_line : List ℕ
-usage_line = codes "usage: pals print / check ROOT / sync ROOT / world [--loose] ROOT / run [--trace] ROOT / audit ROOT / self N R / watch ROOT / vote ROOT / fuse ROOT / budget ROOT" ++ line_end
+usage_line =
+    codes "usage: pals print / check ROOT / sync ROOT / world [--loose] ROOT / run [--trace] ROOT / audit ROOT / self N R / watch ROOT / vote ROOT / fuse ROOT / budget ROOT" ++ line_end
 
 abbrev pub read_fault_line : List ℕ
 read_fault_line = codes "read fault" ++ line_end

@@ -18,11 +18,13 @@ is_sound (Wrong index rule) = false
 
 -- the status and the text of a verdict; not so where it is wrong
 abbrev pub SaysVerdict : DesignParts → Verdict → ℕ → List ℕ → Type 0
-SaysVerdict design v status text = (status ≡ (if is_sound v then DONE else NOT_SO)) × (text ≡ verdict_line design v ++ line_end)
+SaysVerdict design v status text =
+    (status ≡ (if is_sound v then DONE else NOT_SO)) × (text ≡ verdict_line design v ++ line_end)
 
 -- the verdict on the scenario's trace. It is sound, with a number of rounds and a stop, exactly where the trace is that of a history
 -- which is over: all nodes have finished so many rounds, and it stands at that stop
 pub record IsAudited (design : DesignParts) (scenario : Scenario) (status : ℕ) (text : List ℕ) : Type 0 where
   pub judged : SaysVerdict design (verdict (run_of design scenario) scenario.trace) status text
   pub sound : (rounds : ℕ) (stop : Option Stop)
-      → (verdict (run_of design scenario) scenario.trace ≡ Sound rounds stop) ↔ IsTraceOf (run_of design scenario) scenario.trace rounds stop
+      → (verdict (run_of design scenario) scenario.trace ≡ Sound rounds stop)
+      ↔ IsTraceOf (run_of design scenario) scenario.trace rounds stop

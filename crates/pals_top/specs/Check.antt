@@ -14,4 +14,5 @@ pub record IsChecked (root bundle text : List ℕ) : Type 0 where
   pub report : IsCheckReport design text
 
 abbrev pub IsCheckAnswer : List ℕ → List ℕ → ℕ → List ℕ → Type 0
-IsCheckAnswer root bundle status text = ((status ≡ DONE) × IsChecked root bundle text) ⊎ IsBundleRefused root bundle status text
+IsCheckAnswer root bundle status text =
+    ((status ≡ DONE) × IsChecked root bundle text) ⊎ IsBundleRefused root bundle status text

@@ -16,7 +16,8 @@ use Rattle.pals_top.specs.declared.status.TheConstants.{DONE, SCENARIO_REFUSED, 
 
 -- the run that a scenario asks for
 abbrev pub run_of : DesignParts → Scenario → Run
-run_of design scenario = record { design = design; env = scenario.env; rounds = scenario.rounds; delays = scenario.delays }
+run_of design scenario =
+    record { design = design; env = scenario.env; rounds = scenario.rounds; delays = scenario.delays }
 
 -- ---- worlds, from the opening of a run on
 -- each event is a step of the bus machine that gives no stop
@@ -32,7 +33,8 @@ pub record IsStoppedWorld (run : Run) (events : List Event) (text : List ℕ) : 
   pub state : BusState
   pub journal : List JournalEntry
   pub stops : StepsToStop run events why state journal
-  pub text_is : text ≡ report run.design run.env (finished_by_all run state) ++ text_of (map (entry_line run.design) journal)
+  pub text_is : text ≡ report run.design run.env (finished_by_all run state)
+      ++ text_of (map (entry_line run.design) journal)
 
 -- an event is not allowed, and none before it gives a stop
 pub record HasEventFault (run : Run) (events : List Event) (text : List ℕ) : Type 0 where

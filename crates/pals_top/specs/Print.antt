@@ -6,4 +6,5 @@ use Rattle.pals_top.specs.declared.status.TheConstants.{DONE, TEXT_REFUSED}
 
 -- the canonical text of the design, or why the design text is refused
 abbrev pub IsPrintAnswer : List ℕ → ℕ → List ℕ → Type 0
-IsPrintAnswer bundle status text = ((status ≡ DONE) × IsPrinted bundle text) ⊎ ((status ≡ TEXT_REFUSED) × IsTextRefused bundle text)
+IsPrintAnswer bundle status text =
+    ((status ≡ DONE) × IsPrinted bundle text) ⊎ ((status ≡ TEXT_REFUSED) × IsTextRefused bundle text)

@@ -7,4 +7,5 @@ use Rattle.pals_top.specs.declared.status.TheConstants.{TEXT_REFUSED, DESIGN_REF
 -- The design text is refused, or the design is.
 abbrev pub IsBundleRefused : List ℕ → List ℕ → ℕ → List ℕ → Type 0
 IsBundleRefused root bundle status text =
-    ((status ≡ TEXT_REFUSED) × IsTextRefused bundle text) ⊎ ((status ≡ DESIGN_REFUSED) × IsPackageRefused root bundle text)
+    ((status ≡ TEXT_REFUSED) × IsTextRefused bundle text)
+    ⊎ ((status ≡ DESIGN_REFUSED) × IsPackageRefused root bundle text)

@@ -12,7 +12,8 @@ use Rattle.bundle_designs.specs.Accepted.{IsAccepted}
 use Rattle.pals_top.specs.declared.status.TheConstants.{SCENARIO_REFUSED}
 
 -- The bundle means this design and this scenario.
-pub record HasScenario (root bundle : List ℕ) (command : Command) (design : DesignParts) (scenario : Scenario) : Type 0 where
+pub record HasScenario (root bundle : List ℕ) (command : Command) (design : DesignParts)
+    (scenario : Scenario) : Type 0 where
   pub bytes : List ℕ
   pub accepted : IsAccepted root bundle design bytes
   pub means : Means bytes design command (Ok scenario)
@@ -28,4 +29,5 @@ pub record HasScenarioFault (root bundle : List ℕ) (command : Command) (text :
   pub text_is : text ≡ scenario_fault_line fault ++ line_end
 
 abbrev pub IsScenarioRefused : List ℕ → List ℕ → Command → ℕ → List ℕ → Type 0
-IsScenarioRefused root bundle command status text = (status ≡ SCENARIO_REFUSED) × HasScenarioFault root bundle command text
+IsScenarioRefused root bundle command status text =
+    (status ≡ SCENARIO_REFUSED) × HasScenarioFault root bundle command text

@@ -11,7 +11,8 @@ use Rattle.pals_top.specs.declared.status.TheConstants.{DONE}
 -- the rows of the composition in which some components have three replicas, some of them at fault, and each reader votes
 pub record IsVoted (design : DesignParts) (scenario : Scenario) (status : ℕ) (text : List ℕ) : Type 0 where
   pub status_is : status ≡ DONE
-  pub text_is : text ≡ vreport design scenario.env (replicated_in design scenario.replicas) (faults_of scenario.faults) scenario.rounds
+  pub text_is : text ≡ vreport design scenario.env (replicated_in design scenario.replicas) (faults_of scenario.faults)
+      scenario.rounds
   -- where no two replicas are at fault towards one reader in one round, they are the composition's, with each line of a
   -- replicated component three times
   pub outvoted : AreOutvoted (faults_of scenario.faults)

@@ -9,5 +9,6 @@ use Rattle.pals_top.specs.declared.status.TheConstants.{DONE, NOT_SO}
 
 -- what each property says in each round, over the states of the composition; not so where one is false at some round
 pub record IsWatched (design : DesignParts) (scenario : Scenario) (status : ℕ) (text : List ℕ) : Type 0 where
-  pub status_is : status ≡ (if is_violated design scenario.env scenario.rounds (formulas scenario.properties) then NOT_SO else DONE)
+  pub status_is : status ≡ (if is_violated design scenario.env scenario.rounds (formulas scenario.properties) then
+      NOT_SO else DONE)
   pub text_is : text ≡ watch_text design scenario.env scenario.rounds (named scenario.properties)

@@ -35,16 +35,20 @@ value_of digits = fold (λ value c. value * 10 + (c - 48)) 0 digits
 
 -- the number that a word is, if that is from the one to the other
 abbrev pub number_in : ℕ → ℕ → List ℕ → Option ℕ
-number_in least most word = if is_number word && nat_le least (value_of word) && nat_le (value_of word) most then Some (value_of word) else None
+number_in least most word =
+    if is_number word && nat_le least (value_of word) && nat_le (value_of word) most then Some (value_of word) else None
 
 -- ---- a command by its plain words, without flags or with one
 -- the command of a word with a root
 abbrev pub rooted_form : List ℕ → List ℕ → Option Command
 rooted_form word root =
     if bytes_eq word (codes "check") then Some (Check root) else if bytes_eq word (codes "sync") then Some (Sync root)
-    else if bytes_eq word (codes "world") then Some (World root false) else if bytes_eq word (codes "run") then Some (Run root false)
-    else if bytes_eq word (codes "audit") then Some (Audit root) else if bytes_eq word (codes "watch") then Some (Watch root)
-    else if bytes_eq word (codes "vote") then Some (Vote root) else if bytes_eq word (codes "fuse") then Some (Fuse root)
+    else if bytes_eq word (codes "world") then Some (World root false) else if bytes_eq word (codes "run") then Some
+    (Run root false)
+    else if bytes_eq word (codes "audit") then Some (Audit root) else if bytes_eq word (codes "watch") then Some
+    (Watch root)
+    else if bytes_eq word (codes "vote") then Some (Vote root) else if bytes_eq word (codes "fuse") then
+    Some (Fuse root)
     else if bytes_eq word (codes "budget") then Some (Budget root) else None
 
 -- that of a ring of this many nodes, for this many rounds
@@ -56,7 +60,8 @@ abbrev pub plain_form : List (List ℕ) → Option Command
 plain_form (word ∷ []) = if bytes_eq word (codes "print") then Some Print else None
 plain_form (word ∷ root ∷ []) = rooted_form word root
 plain_form (word ∷ nodes ∷ rounds ∷ []) =
-    if bytes_eq word (codes "self") then ring_form (number_in 2 RING_NODES nodes) (number_in 1 RING_ROUNDS rounds) else None
+    if bytes_eq word (codes "self") then ring_form (number_in 2 RING_NODES nodes)
+    (number_in 1 RING_ROUNDS rounds) else None
 plain_form _ = None
 
 -- the flags ask for a world without time, and for the journal of a run
@@ -68,7 +73,8 @@ trace_form word root = if bytes_eq word (codes "run") then Some (Run root true) 
 
 abbrev pub flag_form : List ℕ → List (List ℕ) → Option Command
 flag_form flag (word ∷ root ∷ []) =
-    if bytes_eq flag (codes "--loose") then loose_form word root else if bytes_eq flag (codes "--trace") then trace_form word root else None
+    if bytes_eq flag (codes "--loose") then loose_form word root else if bytes_eq flag (codes "--trace") then trace_form
+    word root else None
 flag_form flag _ = None
 
 abbrev pub form_by : List (List ℕ) → List (List ℕ) → Option Command

@@ -31,7 +31,8 @@ same_range (Lists lists) Meet same range = absurd (cc)
 same_range (Lists lists) (Lists others) same range = λ node.
     subst (All (λ reading. reading ≤ READING)) (sym (readings_same lists others same node)) (range node)
 
-module _ (run : Run) (clocks later : Clocks) (journal : List JournalEntry) (s : BusState) (rules : IsRunOf run) (runs : Runs run later journal s)
+module _ (run : Run) (clocks later : Clocks) (journal : List JournalEntry) (s : BusState) (rules : IsRunOf run)
+    (runs : Runs run later journal s)
     (lists : lists_in later ≡ lists_in clocks) (few : run.rounds ≤ ROUNDS) (range : AreReadings clocks) where
   abbrev pub course : Course run clocks
   course = record {
@@ -51,7 +52,8 @@ module _ (run : Run) (clocks later : Clocks) (journal : List JournalEntry) (s : 
       let later_range = same_range later clocks lists range in
       let trace = trace_of run journal s in
       let whole : text ≡ text_of trace =
-      told ∙ sym (text_more (report_lines run.design run.env (finished_by_all run s)) (map (entry_line run.design) journal)) in
+      told ∙ sym (text_more (report_lines run.design run.env (finished_by_all run s))
+      (map (entry_line run.design) journal)) in
       ap (λ t. verdict run (lines_of t)) whole
       ∙ ap (verdict run) (traces_are_texts run later journal s rules runs few later_range)
       ∙ runs_are_sound run later journal s rules runs few later_range over
@@ -67,15 +69,19 @@ module _ (run : Run) (clocks later : Clocks) (journal : List JournalEntry) (s : 
         course = course;
         done = all;
         going = going;
-        text_is = told ∙ ap (λ n. report run.design run.env n ++ (if trace then journal_text run journal else [])) every;
+        text_is =
+            told ∙ ap (λ n. report run.design run.env n ++ (if trace then journal_text run journal else [])) every;
         sound = λ traced.
-            let whole = told ∙ ap (λ t. report run.design run.env (finished_by_all run s) ++ (if t then journal_text run journal else [])) traced in
+            let whole =
+            told ∙ ap (λ t. report run.design run.env (finished_by_all run s)
+            ++ (if t then journal_text run journal else [])) traced in
             sound_of text None (inr all) going whole ∙ ap (λ n. Sound n None) every;
       }
 
   -- a stop stands
   pub stopped : (why : Stop) (text : List ℕ) → s.stop ≡ Some why
-      → text ≡ report run.design run.env (finished_by_all run s) ++ journal_text run journal → IsStoppedRun run clocks text
+      → text ≡ report run.design run.env (finished_by_all run s) ++ journal_text run journal
+      → IsStoppedRun run clocks text
   stopped why text is told = record {
     course = course;
     why = why;

@@ -8,7 +8,8 @@ use Rattle.bus_machine.specs.States.{Run, BusState, node_at, no_node, finished_b
 use Rattle.bus_machine.specs.Agreement.{PhaseAgrees, Agrees}
 use Rattle.run_laws.specs.Meetings.{AllDone}
 
-has_all : (run : Run) (s : BusState) (node : ℕ) (n : NodeState) → Agrees run s → AllDone run s → slice_get s.nodes node ≡ Some n
+has_all : (run : Run) (s : BusState) (node : ℕ) (n : NodeState) → Agrees run s → AllDone run s
+    → slice_get s.nodes node ≡ Some n
     → length n.parts ≡ run.rounds
 has_all run s node n agree done is =
     let within = slice_get_within s.nodes node n is in
@@ -21,7 +22,8 @@ has_all run s node n agree done is =
     let same : node_at s node ≡ n = get_or_from_slice_get s.nodes node n no_node is in
     ap (λ (m : NodeState). length m.parts) (sym same) ∙ finished.0.finished ∙ finished.1
 
-least_of : (rounds : ℕ) (ns : List NodeState) → ((k : ℕ) (n : NodeState) → slice_get ns k ≡ Some n → length n.parts ≡ rounds)
+least_of : (rounds : ℕ) (ns : List NodeState)
+    → ((k : ℕ) (n : NodeState) → slice_get ns k ≡ Some n → length n.parts ≡ rounds)
     → fold (λ least (n : NodeState). min least (length n.parts)) rounds ns ≡ rounds
 least_of rounds [] each = refl
 least_of rounds (n ∷ ns) each =

@@ -28,30 +28,37 @@ use Rattle.run_texts.specs.proof.Ends.{IsComeEnd, journal_lines, TellsEnd}
 use Rattle.run_texts.proofs.Courses.{course, completed, stopped}
 
 -- ---- what the ends say
-pub no_stop_left : (old : BusValue) (clocks : Clocks) (new : BusValue) (ends : List NodeEnd) → IsOutcome old clocks new ends
+pub no_stop_left : (old : BusValue) (clocks : Clocks) (new : BusValue) (ends : List NodeEnd)
+    → IsOutcome old clocks new ends
     → (node : ℕ) → slice_get ends node ≡ Some end.Stopped → new.state.stop ≢ None
 no_stop_left old clocks new ends out node is = out.ends_fit.each node end.Stopped is
 
-pub few_ends : (old : BusValue) (clocks : Clocks) (new : BusValue) (ends : List NodeEnd) → IsOutcome old clocks new ends → length ends ≤ COMPONENTS
+pub few_ends : (old : BusValue) (clocks : Clocks) (new : BusValue) (ends : List NodeEnd) → IsOutcome old clocks new ends
+    → length ends ≤ COMPONENTS
 few_ends old clocks new ends out =
     let many = out.ends_fit.many in
     let few = out.rules.design.components.count in
     omega (arith, many, few)
 
-ends_at : (b : BusValue) (later : Clocks) (node goal : ℕ) → EndsAtOn b later node goal → EndsAt b.run later b.state node goal
+ends_at : (b : BusValue) (later : Clocks) (node goal : ℕ) → EndsAtOn b later node goal
+    → EndsAt b.run later b.state node goal
 ends_at b Meet node goal ends = ends
 ends_at b (Lists lists) node goal ends = ends
 
-met_by : (b : BusValue) (node : ℕ) (e : NodeEnd) → IsComeEnd e → EndFits b Meet node e → (node_at b.state node).phase ≡ Done
+met_by : (b : BusValue) (node : ℕ) (e : NodeEnd) → IsComeEnd e → EndFits b Meet node e
+    → (node_at b.state node).phase ≡ Done
 met_by b node e (inl is) fits = subst (EndFits b Meet node) is fits
 met_by b node e (inr is) fits = absurd (subst (EndFits b Meet node) is.1 fits)
 
-over_by : (b : BusValue) (lists : List ClockState) (node : ℕ) (e : NodeEnd) → IsComeEnd e → EndFits b (Lists lists) node e → IsOver b.run lists b.state node
+over_by : (b : BusValue) (lists : List ClockState) (node : ℕ) (e : NodeEnd) → IsComeEnd e
+    → EndFits b (Lists lists) node e → IsOver b.run lists b.state node
 over_by b lists node e (inl is) fits = inl (subst (EndFits b (Lists lists) node) is fits)
-over_by b lists node e (inr is) fits = let ends : EndsAtOn b (Lists lists) node is.0 = subst (EndFits b (Lists lists) node) is.1 fits in inr ends.0
+over_by b lists node e (inr is) fits = let ends : EndsAtOn b (Lists lists) node is.0 =
+    subst (EndFits b (Lists lists) node) is.1 fits in inr ends.0
 
 all_at_end : (b : BusValue) (later : Clocks) (ends : List NodeEnd) → EndsFit b later ends
-    → ((node : ℕ) → node < length ends → (e : NodeEnd) × (slice_get ends node ≡ Some e) × IsComeEnd e) → AllAtEnd b.run later b.state
+    → ((node : ℕ) → node < length ends → (e : NodeEnd) × (slice_get ends node ≡ Some e) × IsComeEnd e)
+    → AllAtEnd b.run later b.state
 all_at_end b Meet ends fit each = λ node within.
     let many = fit.many in
     let e = each node (omega (arith, within, many)) in
@@ -65,7 +72,8 @@ some_of : (o : Option Stop) → o ≢ None → (why : Stop) × (o ≡ Some why)
 some_of None not_none = absurd (not_none refl)
 some_of (Some why) not_none = (why, refl)
 
-module _ (old : BusValue) (clocks : Clocks) (new : BusValue) (ends : List NodeEnd) (out : IsOutcome old clocks new ends) (few : new.run.rounds ≤ ROUNDS)
+module _ (old : BusValue) (clocks : Clocks) (new : BusValue) (ends : List NodeEnd) (out : IsOutcome old clocks new ends)
+    (few : new.run.rounds ≤ ROUNDS)
     (range : AreReadings clocks) where
   agrees : Agrees new.run new.state
   agrees = runs_agree new.run out.later new.journal new.state out.rules out.runs
@@ -84,7 +92,8 @@ module _ (old : BusValue) (clocks : Clocks) (new : BusValue) (ends : List NodeEn
       (tells.2 ∙ ap (λ shown. shown ++ (if trace then journal_lines new else [])) rows)
   told_new trace (told.Stopped text) tells =
       let why = some_of new.state.stop tells.0 in
-      stopped new.run clocks out.later new.journal new.state out.rules out.runs out.lists few range why.0 text.items why.1
+      stopped new.run clocks out.later new.journal new.state out.rules out.runs out.lists few range why.0
+      text.items why.1
       (tells.1 ∙ ap (λ shown. shown ++ journal_lines new) rows)
   told_new trace (told.ClockEnded text) tells =
       let named = tells.1.0 in
@@ -101,9 +110,12 @@ module _ (old : BusValue) (clocks : Clocks) (new : BusValue) (ends : List NodeEn
         text_is = tells.1.2;
       }
 
-pub told_of : {E : Type 0} (old : BusValue) (clocks : Clocks) (new : BusValue) (ends : List NodeEnd) (trace : Bool) (result : Result ToldRun E)
-    → old.run.rounds ≤ ROUNDS → AreReadings clocks → IsOutcome old clocks new ends → IfOk result (TellsEnd new ends trace) → IfOk result (TellsRun old.run clocks trace)
+pub told_of : {E : Type 0} (old : BusValue) (clocks : Clocks) (new : BusValue) (ends : List NodeEnd) (trace : Bool)
+    (result : Result ToldRun E)
+    → old.run.rounds ≤ ROUNDS → AreReadings clocks → IsOutcome old clocks new ends
+    → IfOk result (TellsEnd new ends trace) → IfOk result (TellsRun old.run clocks trace)
 told_of old clocks new ends trace (Ok told) few range out tells =
     let still : new.run.rounds ≤ ROUNDS = subst (λ (r : Run). r.rounds ≤ ROUNDS) (sym out.run) few in
-    subst (λ (r : Run). TellsRun r clocks trace told) out.run (told_new old clocks new ends out still range trace told tells)
+    subst (λ (r : Run). TellsRun r clocks trace told) out.run
+    (told_new old clocks new ends out still range trace told tells)
 told_of old clocks new ends trace (Err e) few range out tells = tt

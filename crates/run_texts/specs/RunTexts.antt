@@ -55,7 +55,8 @@ pub record IsStoppedRun (run : Run) (clocks : Clocks) (text : List ℕ) : Type 0
 -- a node's list holds no reading for this target, which is its next one
 abbrev pub EndsAt : Run → Clocks → BusState → ℕ → ℕ → Type 0
 EndsAt run Meet s node goal = ⊥
-EndsAt run (Lists lists) s node goal = (ended : HasEnded run lists s node) × (target (plan_of run.design node) ended.0 ≡ goal)
+EndsAt run (Lists lists) s node goal =
+    (ended : HasEnded run lists s node) × (target (plan_of run.design node) ended.0 ≡ goal)
 
 -- each node is done or its list has ended, and the first whose list has ended is named, with the target that it waits for
 pub record IsEndedRun (run : Run) (clocks : Clocks) (text : List ℕ) : Type 0 where

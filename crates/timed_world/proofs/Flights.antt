@@ -26,7 +26,8 @@ use Rattle.timed_world.specs.proof.Passes.{flying_past}
 use Rattle.timed_world.proofs.Rows.{goes_past, has_found}
 
 -- ---- counts
-count_first : (round : ℕ) (a : FlightCopy) (cs : List FlightCopy) → a.round ≡ round → copies round (a ∷ cs) ≡ 1 + copies round cs
+count_first : (round : ℕ) (a : FlightCopy) (cs : List FlightCopy) → a.round ≡ round
+    → copies round (a ∷ cs) ≡ 1 + copies round cs
 count_first round a cs is =
     let f : FlightCopy → ℕ = λ y. cond {A = ℕ} (is_of round y) 1 0 in
     let one : cond {A = ℕ} (is_of round a) 1 0 ≡ 1 = ap (λ (b : Bool). cond {A = ℕ} b 1 0) (eq-eqb a.round round is) in
@@ -44,7 +45,8 @@ or_none : (o : Option EventFault) → or_else o None ≡ o
 or_none None = refl
 or_none (Some why) = refl
 
-module _ (run : Run) (w : World) (rules : IsRunOf run) (keeps : KeepsTime run w) (number : ℕ) (within : number < length run.design.links) where
+module _ (run : Run) (w : World) (rules : IsRunOf run) (keeps : KeepsTime run w) (number : ℕ)
+    (within : number < length run.design.links) where
   abbrev flight : List FlightCopy
   flight = flight_at w.bus number
 
@@ -57,19 +59,25 @@ module _ (run : Run) (w : World) (rules : IsRunOf run) (keeps : KeepsTime run w)
       let link = link_at run.design number in
       let rule = rule_of run number rules within in
       let n = node_at w.bus link.target.0 in
-      let u = under_way n.count (slot_at n link.in_port) (rounds_sent_on run w.bus number) flight round ((keeps.links number within).once round) (in_flight_counts round flight flies) in
+      let u =
+      under_way n.count (slot_at n link.in_port) (rounds_sent_on run w.bus number) flight round
+      ((keeps.links number within).once round) (in_flight_counts round flight flies) in
       let close = counts_close run w rules keeps link.source.0 link.target.0 rule.source.node_is rule.target.node_is in
-      let fewer : sent_rounds (node_at w.bus link.source.0) ≤ (node_at w.bus link.source.0).count = sent_most (node_at w.bus link.source.0).sent (node_at w.bus link.source.0).count in
+      let fewer : sent_rounds (node_at w.bus link.source.0) ≤ (node_at w.bus link.source.0).count =
+      sent_most (node_at w.bus link.source.0).sent (node_at w.bus link.source.0).count in
       let sent = u.is_sent in
       let first = u.near in
       (omega arith, omega arith)
 
   -- so the earliest time of its arrival is in range
-  pub arrival_fits : run.rounds ≤ ROUNDS → (round : ℕ) → is_in_flight round flight ≡ true → flight_since run w number round + run.design.gamma.mu_min ≤ READING
+  pub arrival_fits : run.rounds ≤ ROUNDS → (round : ℕ) → is_in_flight round flight ≡ true
+      → flight_since run w number round + run.design.gamma.mu_min ≤ READING
   arrival_fits few round flies =
       let link = link_at run.design number in
       let n = node_at w.bus link.target.0 in
-      let u = under_way n.count (slot_at n link.in_port) (rounds_sent_on run w.bus number) flight round ((keeps.links number within).once round) (in_flight_counts round flight flies) in
+      let u =
+      under_way n.count (slot_at n link.in_port) (rounds_sent_on run w.bus number) flight round
+      ((keeps.links number within).once round) (in_flight_counts round flight flies) in
       let last = (times_are_readings run w rules few keeps).messages number round within u.is_sent in
       let least = rules.design.gamma.network.0 in
       omega arith
@@ -84,13 +92,17 @@ module _ (run : Run) (w : World) (rules : IsRunOf run) (keeps : KeepsTime run w)
       let n = node_at w.bus link.target.0 in
       let from : source < length run.design.components = (rule_of run number rules within).source.node_is in
       let each = (keeps.sends source from).each in
-      let u = under_way n.count (slot_at n link.in_port) (rounds_sent_on run w.bus number) flight other ((keeps.links number within).once other) (in_flight_counts other flight also) in
+      let u =
+      under_way n.count (slot_at n link.in_port) (rounds_sent_on run w.bus number) flight other
+      ((keeps.links number within).once other) (in_flight_counts other flight also) in
       let sent = u.is_sent in
       let first = (keeps.sends source from).sent one (omega arith) in
       let second = (keeps.sends source from).sent other (omega arith) in
-      let last_time : w.time ≤ flight_since run w number one + g.mu_max = (keeps.links number within).in_time one flies in
+      let last_time : w.time ≤ flight_since run w number one + g.mu_max =
+      (keeps.links number within).in_time one flies in
       let before : w.time + g.eps < alarm t (suc one) =
-      arrives_before (fits_at run source rules from) (alarm t one) (alarm t (suc one)) w.time (flight_since run w number one) (alarm_next t one) first.prompt last_time in
+      arrives_before (fits_at run source rules from) (alarm t one) (alarm t (suc one)) w.time
+      (flight_since run w number one) (alarm_next t one) first.prompt last_time in
       let later : alarm t (suc one) ≤ alarm t other = alarm_more t (suc one) other (omega arith) in
       let due = second.due in
       let is_past = second.past in
@@ -100,7 +112,9 @@ module _ (run : Run) (w : World) (rules : IsRunOf run) (keeps : KeepsTime run w)
   one_most round = elim (cases_lt 1 (copies round flight)) [
     | inl more ↦
         let n = node_at w.bus (link_at run.design number).target.0 in
-        let u = under_way n.count (slot_at n (link_at run.design number).in_port) (rounds_sent_on run w.bus number) flight round ((keeps.links number within).once round) (omega arith) in
+        let u =
+        under_way n.count (slot_at n (link_at run.design number).in_port) (rounds_sent_on run w.bus number) flight
+        round ((keeps.links number within).once round) (omega arith) in
         let one = u.one in
         omega arith
     | inr few ↦ few
@@ -133,17 +147,26 @@ module _ (run : Run) (w : World) (rules : IsRunOf run) (keeps : KeepsTime run w)
   -- ---- what is past
   module _ (time : ℕ) where
     abbrev flying_of : Bool → ℕ → Option EventFault
-    flying_of b round = if b then past time (which.Message (record { 0 = number }) round) (Some (message_deadline run w number round)) else None
+    flying_of b round =
+        if b then past time (which.Message (record { 0 = number }) round)
+        (Some (message_deadline run w number round)) else None
 
     abbrev Same : List FlightCopy → Type 0
-    Same fs = first_of (map (copy_past run w time number) fs) ≡ or_else (flying_of (is_in_flight (count - 1) fs) (count - 1)) (flying_of (is_in_flight count fs) count)
+    Same fs =
+        first_of (map (copy_past run w time number) fs)
+        ≡ or_else (flying_of (is_in_flight (count - 1) fs) (count - 1)) (flying_of (is_in_flight count fs) count)
 
-    flies_here : (c : FlightCopy) (round : ℕ) → c.round ≡ round → flying_of (is_in_flight round (c ∷ [])) round ≡ copy_past run w time number c
+    flies_here : (c : FlightCopy) (round : ℕ) → c.round ≡ round
+        → flying_of (is_in_flight round (c ∷ [])) round ≡ copy_past run w time number c
     flies_here c round same =
-        ap (λ (b : Bool). flying_of (is_some (cond {A = Option FlightCopy} b (Some c) None)) round) (eq-eqb c.round round same) ∙ ap (λ (k : ℕ). flying_of true k) (sym same)
+        ap (λ (b : Bool). flying_of (is_some (cond {A = Option FlightCopy} b (Some c) None)) round)
+        (eq-eqb c.round round same) ∙ ap (λ (k : ℕ). flying_of true k) (sym same)
 
-    flies_not : (c : FlightCopy) (round : ℕ) → (c.round ≡ round → ⊥) → flying_of (is_in_flight round (c ∷ [])) round ≡ None
-    flies_not c round other = ap (λ (b : Bool). flying_of (is_some (cond {A = Option FlightCopy} b (Some c) None)) round) (ne_eqb c.round round other)
+    flies_not : (c : FlightCopy) (round : ℕ) → (c.round ≡ round → ⊥)
+        → flying_of (is_in_flight round (c ∷ [])) round ≡ None
+    flies_not c round other =
+        ap (λ (b : Bool). flying_of (is_some (cond {A = Option FlightCopy} b (Some c) None)) round)
+        (ne_eqb c.round round other)
 
     twice : (x y : Option EventFault) → (y ≡ x) ⊎ (y ≡ None) → or_else x y ≡ x
     twice None y same = elim same [ inl is ↦ is | inr is ↦ is ]
@@ -158,25 +181,32 @@ module _ (run : Run) (w : World) (rules : IsRunOf run) (keeps : KeepsTime run w)
         ∙ sym (elim (cases_eq c.round (count - 1)) [
           | inl before ↦
               ap (λ (o : Option EventFault). or_else o second) (flies_here c (count - 1) before)
-              ∙ twice x second (elim (cases_eq c.round count) [ inl same ↦ inl (flies_here c count same) | inr other ↦ inr (flies_not c count other) ])
+              ∙ twice x second (elim (cases_eq c.round count)
+              [ inl same ↦ inl (flies_here c count same) | inr other ↦ inr (flies_not c count other) ])
           | inr not_before ↦
               let low = near_it.0 in
               let high = near_it.1 in
               ap (λ (o : Option EventFault). or_else o second) (flies_not c (count - 1) not_before)
-              ∙ flies_here c count (elim (cases_eq c.round count) [ inl same ↦ same | inr other ↦ absurd (not_before (omega arith)) ])
+              ∙ flies_here c count (elim (cases_eq c.round count)
+              [ inl same ↦ same | inr other ↦ absurd (not_before (omega arith)) ])
         ])
 
-    link_past_is : link_past run w time number ≡ or_else (flying_past run w time number (count - 1)) (flying_past run w time number count)
+    link_past_is : link_past run w time number
+        ≡ or_else (flying_past run w time number (count - 1)) (flying_past run w time number count)
     link_past_is = elim (single flight refl) [
       | inl none ↦ subst Same (sym none) refl
       | inr one ↦
           let c = one.0 in
-          let flies : is_in_flight c.round flight ≡ true = flies_by c.round (c ∷ []) one.1 (let counted : copies c.round (c ∷ []) ≡ 1 + copies c.round [] = count_first c.round c [] refl in omega arith) in
+          let flies : is_in_flight c.round flight ≡ true =
+          flies_by c.round (c ∷ []) one.1
+          (let counted : copies c.round (c ∷ []) ≡ 1 + copies c.round [] = count_first c.round c [] refl in
+          omega arith) in
           subst Same (sym one.1) (with_one c (near c.round flies))
     ]
 
     -- of the two rounds the first is past its time, or the other tells
-    pub first_is_past : (before : ℕ) (why : EventFault) → before ≡ count - 1 → flying_past run w time number before ≡ Some why
+    pub first_is_past : (before : ℕ) (why : EventFault) → before ≡ count - 1
+        → flying_past run w time number before ≡ Some why
         → Some why ≡ link_past run w time number
     first_is_past before why is past_it =
         has_found _ (flying_past run w time number (count - 1)) (flying_past run w time number count) why link_past_is

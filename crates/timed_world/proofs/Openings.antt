@@ -29,7 +29,8 @@ abbrev pub least_delays : DesignParts → Delays
 least_delays design = record { lists = map (λ (_ : Link). design.gamma.mu_min ∷ []) design.links }
 
 -- they are such as a run may have
-pub least_fit : (g : Gamma) (links : List Link) → IsGamma g → AreDelays (length links) (record { lists = map (λ (_ : Link). g.mu_min ∷ []) links })
+pub least_fit : (g : Gamma) (links : List Link) → IsGamma g
+    → AreDelays (length links) (record { lists = map (λ (_ : Link). g.mu_min ∷ []) links })
 least_fit g links rules =
     let least = rules.network.0 in
     let most = rules.network.1 in
@@ -41,7 +42,8 @@ least_fit g links rules =
     }
 
 -- ---- the world
-pub opening_kept : (design : DesignParts) (codes : List CodeParts) (env : Env) (rounds : ℕ) → IsDesign design → 1 ≤ rounds → rounds ≤ ROUNDS
+pub opening_kept : (design : DesignParts) (codes : List CodeParts) (env : Env) (rounds : ℕ) → IsDesign design
+    → 1 ≤ rounds → rounds ≤ ROUNDS
     → KeepsWorld (opening_value design codes env rounds)
 opening_kept design codes env rounds rules some few =
     let is_run : IsRunOf (world_run design env rounds) = record { design = rules; rounds = some } in
@@ -51,11 +53,21 @@ abbrev pub no_sendings : DesignParts → List (List ℕ)
 no_sendings design = map (λ (_ : Component). []) design.components
 
 -- a world is told by its parts
-pub same_world : (old : WorldValue) (bus : BusValue) (time : ℕ) (readings since ready : List ℕ) (sent_at : List (List ℕ)) → bus ≡ old.bus → time ≡ old.time
+pub same_world : (old : WorldValue) (bus : BusValue) (time : ℕ) (readings since ready : List ℕ)
+    (sent_at : List (List ℕ)) → bus ≡ old.bus → time ≡ old.time
     → readings ≡ old.readings → since ≡ old.since → ready ≡ old.ready → sent_at ≡ old.sent_at
     → record { bus = bus; time = time; readings = readings; since = since; ready = ready; sent_at = sent_at } ≡ old
 same_world old bus time readings since ready sent_at is_bus is_time is_readings is_since is_ready is_sent =
-    let first : (b : BusValue) (r : List ℕ) → WorldValue = λ b r. record { bus = b; time = time; readings = r; since = since; ready = ready; sent_at = sent_at } in
-    let second : (s r : List ℕ) → WorldValue = λ s r. record { bus = old.bus; time = time; readings = old.readings; since = s; ready = r; sent_at = sent_at } in
+    let first : (b : BusValue) (r : List ℕ) → WorldValue =
+    λ b r. record { bus = b; time = time; readings = r; since = since; ready = ready; sent_at = sent_at } in
+    let second : (s r : List ℕ) → WorldValue =
+    λ s r. record {
+      bus = old.bus;
+      time = time;
+      readings = old.readings;
+      since = s;
+      ready = r;
+      sent_at = sent_at;
+    } in
     let third : (t : ℕ) (m : List (List ℕ)) → WorldValue = λ t m. record old { time = t; sent_at = m } in
     ap₂ first is_bus is_readings ∙ ap₂ second is_since is_ready ∙ ap₂ third is_time is_sent

@@ -29,27 +29,35 @@ use Rattle.timed_world.proofs.Moving.{IsFine, Reads}
 start_goes : (old : WorldValue) (node : NodeNo) (new : BusState) → KeepsWorld old → IsFine old (event.Start node)
     → new ≡ after old.bus.run old.bus.state (Start node (Some (reading_at (world_of old) node.0))) → new.stop ≡ None
 start_goes old node new keeps fine is =
-    ap (λ (s : BusState). s.stop) is ∙ (event_keeps_time old.bus.run (world_of old) (event.Start node) keeps.rules keeps.keeps fine).going
+    ap (λ (s : BusState). s.stop) is
+    ∙ (event_keeps_time old.bus.run (world_of old) (event.Start node) keeps.rules keeps.keeps fine).going
 
 -- a start is refused for memory alone, and then the bus is as before
-start_ends : (old : WorldValue) (node : NodeNo) (new : BusValue) (end : BusStartEnd) → KeepsWorld old → IsFine old (event.Start node)
-    → BusStartEnds old.bus node (Some (reading_at (world_of old) node.0)) new end → (end ≡ bus_start.Memory) × (new ≡ old.bus)
+start_ends : (old : WorldValue) (node : NodeNo) (new : BusValue) (end : BusStartEnd) → KeepsWorld old
+    → IsFine old (event.Start node)
+    → BusStartEnds old.bus node (Some (reading_at (world_of old) node.0)) new end
+    → (end ≡ bus_start.Memory) × (new ≡ old.bus)
 start_ends old node new (bus_start.Stopped why) keeps fine cause = elim cause [
   | inl stood ↦ absurd (none-some why (sym keeps.keeps.going ∙ stood.0))
-  | inr misses ↦ absurd (none-some why (sym (start_goes old node new.state keeps fine misses.happens.step.state) ∙ misses.stops))
+  | inr misses ↦ absurd (none-some why
+      (sym (start_goes old node new.state keeps fine misses.happens.step.state) ∙ misses.stops))
 ]
 start_ends old node new (bus_start.NotYet alarm) keeps fine cause =
     let clock = reading_at (world_of old) node.0 in
-    let due : alarm ≤ clock = subst (λ a. a ≤ clock) (sym cause.cause.1) (starts_in_time old.bus.run (world_of old) node fine).due in
+    let due : alarm ≤ clock =
+    subst (λ a. a ≤ clock) (sym cause.cause.1) (starts_in_time old.bus.run (world_of old) node fine).due in
     absurd (false≢true (sym (le-ltb clock alarm due) ∙ cause.cause.2))
 start_ends old node new bus_start.Busy keeps fine cause =
-    absurd (false≢true (sym (busy_waits_not (node_at old.bus.state node.0).phase cause.cause) ∙ (starts_in_time old.bus.run (world_of old) node fine).waits))
+    absurd (false≢true (sym (busy_waits_not (node_at old.bus.state node.0).phase cause.cause)
+    ∙ (starts_in_time old.bus.run (world_of old) node fine).waits))
 start_ends old node new bus_start.Over keeps fine cause =
     absurd (false≢true (sym (ap is_waiting cause.cause) ∙ (starts_in_time old.bus.run (world_of old) node fine).waits))
 start_ends old node new bus_start.Memory keeps fine cause = (refl, cause)
 
-pub start_only : (old : WorldValue) (node : NodeNo) (reading : ℕ) (new : BusValue) (end : BusStartEnd) → KeepsWorld old → IsFine old (event.Start node)
-    → Reads old node reading → BusStartEnds old.bus node (Some reading) new end → (end ≡ bus_start.Memory) × (new ≡ old.bus)
+pub start_only : (old : WorldValue) (node : NodeNo) (reading : ℕ) (new : BusValue) (end : BusStartEnd) → KeepsWorld old
+    → IsFine old (event.Start node)
+    → Reads old node reading → BusStartEnds old.bus node (Some reading) new end
+    → (end ≡ bus_start.Memory) × (new ≡ old.bus)
 start_only old node reading new end keeps fine reads cause =
     start_ends old node new end keeps fine (subst (λ at. BusStartEnds old.bus node (Some at) new end) reads cause)
 
@@ -57,12 +65,15 @@ start_only old node reading new end keeps fine reads cause =
 not_done : (p : Phase) (steps rate : ℕ) → finished_steps rate p ≡ Some steps → p ≢ Done
 not_done p steps rate is done = none-some steps (sym (ap (finished_steps rate) done) ∙ is)
 
-pub send_reads : (old : WorldValue) (node : NodeNo) (reading : ℕ) → KeepsWorld old → IsFine old (event.Send node) → Reads old node reading → reading ≤ READING
+pub send_reads : (old : WorldValue) (node : NodeNo) (reading : ℕ) → KeepsWorld old → IsFine old (event.Send node)
+    → Reads old node reading → reading ≤ READING
 send_reads old node reading keeps fine reads =
     let w = world_of old in
     let may = sends_in_time old.bus.run w node fine in
     let plan = plan_of old.bus.run.design node.0 in
     let n = node_at w.bus node.0 in
     let m = may_is plan n may.may in
-    let clock = (times_are_readings old.bus.run w keeps.rules keeps.few keeps.keeps).clocks node.0 may.within (not_done n.phase m.steps plan.rate m.finished) in
+    let clock =
+    (times_are_readings old.bus.run w keeps.rules keeps.few keeps.keeps).clocks node.0 may.within
+    (not_done n.phase m.steps plan.rate m.finished) in
     subst (λ at. at ≤ READING) (sym reads) clock

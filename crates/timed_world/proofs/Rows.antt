@@ -19,7 +19,8 @@ or_found o rest why is = ap (λ (x : Option EventFault). or_else x rest) is
 pub goes_past : (row o rest : Option EventFault) → row ≡ or_else o rest → o ≡ None → row ≡ rest
 goes_past row o rest at none = at ∙ or_past o rest none
 
-pub has_found : (row o rest : Option EventFault) (why : EventFault) → row ≡ or_else o rest → o ≡ Some why → Some why ≡ row
+pub has_found : (row o rest : Option EventFault) (why : EventFault) → row ≡ or_else o rest → o ≡ Some why
+    → Some why ≡ row
 has_found row o rest why at some = sym (at ∙ or_found o rest why some)
 
 -- ---- a test
@@ -45,8 +46,10 @@ abbrev pub numbers_left : (ℕ → Option EventFault) → ℕ → ℕ → Option
 numbers_left f count index = first_of (map f (upwards index (count - index)))
 
 pub readings_more : (f : Reading → Option EventFault) (readings : List ℕ) (index : ℕ) → index < length readings
-    → readings_left f readings index ≡ or_else (f (index, slice_index_or readings index 0)) (readings_left f readings (index + 1))
-readings_more f readings index within = ap (λ (rest : List ℕ). first_of (map f (enumerate_from index rest))) (drop_more readings index 0 within)
+    → readings_left f readings index
+    ≡ or_else (f (index, slice_index_or readings index 0)) (readings_left f readings (index + 1))
+readings_more f readings index within =
+    ap (λ (rest : List ℕ). first_of (map f (enumerate_from index rest))) (drop_more readings index 0 within)
 
 pub numbers_all : (f : ℕ → Option EventFault) (count : ℕ) → first_of (map f (upwards 0 count)) ≡ numbers_left f count 0
 numbers_all f count = let same : count ≡ count - 0 = omega arith in ap (λ (n : ℕ). first_of (map f (upwards 0 n))) same

@@ -25,11 +25,14 @@ some_lesser : (a : ℕ) (b : Option ℕ) → is_some (lesser (Some a) b) ≡ tru
 some_lesser a None = refl
 some_lesser a (Some b) = refl
 
-time_small : (time most : ℕ) (o : Option ℕ) → is_some o ≡ true → IsInTime time o → ((last : ℕ) → o ≡ Some last → last ≤ most) → time ≤ most
+time_small : (time most : ℕ) (o : Option ℕ) → is_some o ≡ true → IsInTime time o
+    → ((last : ℕ) → o ≡ Some last → last ≤ most) → time ≤ most
 time_small time most None some in_time small = absurd (false≢true some)
-time_small time most (Some last) some in_time small = let few = small last refl in let before : time ≤ last = in_time in omega arith
+time_small time most (Some last) some in_time small = let few = small last refl in
+    let before : time ≤ last = in_time in omega arith
 
-module _ (run : Run) (w : World) (rules : IsRunOf run) (few : run.rounds ≤ ROUNDS) (keeps : KeepsTime run w) (node : ℕ) (within : node < length run.design.components) where
+module _ (run : Run) (w : World) (rules : IsRunOf run) (few : run.rounds ≤ ROUNDS) (keeps : KeepsTime run w) (node : ℕ)
+    (within : node < length run.design.components) where
   since_small : (step : ℕ) → (node_at w.bus node).phase ≡ Running step → since_at w node ≤ READING
   since_small step is =
       let g = run.design.gamma in
@@ -37,9 +40,12 @@ module _ (run : Run) (w : World) (rules : IsRunOf run) (few : run.rounds ≤ ROU
       let n = node_at w.bus node in
       let past = ((keeps.nodes node within).running step is).past in
       let there : is_some (node_deadline run w node) ≡ true =
-      ap is_some (deadline_is run w node ∙ ap (λ p. lesser (of_phase g plan n (since_at w node) p) (of_send g plan n (ready_at w node))) is)
+      ap is_some (deadline_is run w node
+      ∙ ap (λ p. lesser (of_phase g plan n (since_at w node) p) (of_send g plan n (ready_at w node))) is)
       ∙ some_lesser (since_at w node + g.alpha_max) (of_send g plan n (ready_at w node)) in
-      let small = time_small w.time READING (node_deadline run w node) there (keeps.in_time node within) (λ last same. (times_are_readings run w rules few keeps).nodes node last within same) in
+      let small =
+      time_small w.time READING (node_deadline run w node) there (keeps.in_time node within)
+      (λ last same. (times_are_readings run w rules few keeps).nodes node last within same) in
       omega arith
 
   -- what the bus says of the node's phase
@@ -60,7 +66,8 @@ module _ (run : Run) (w : World) (rules : IsRunOf run) (few : run.rounds ≤ ROU
 
 -- so is whatever has its count, its phase, and the moment since which it stands so
 pub sound_again : (v : WorldValue) (node : ℕ) (s : Standing) → KeepsWorld v → node < length v.bus.run.design.components
-    → s.count ≡ (node_at v.bus.state node).count → s.phase ≡ (node_at v.bus.state node).phase → s.since ≡ slice_index_or v.since node 0
+    → s.count ≡ (node_at v.bus.state node).count → s.phase ≡ (node_at v.bus.state node).phase
+    → s.since ≡ slice_index_or v.since node 0
     → IsSound (plan_of v.bus.run.design node) s
 sound_again v node s keeps within count phase since =
     let sound = stands_sound v.bus.run (world_of v) keeps.rules keeps.few keeps.keeps node within in
@@ -73,14 +80,16 @@ sound_again v node s keeps within count phase since =
     }
 
 -- ---- the last time
-phase_is : (run : Run) (w : World) (node : ℕ) (p : Phase) → phase_deadline run w node p ≡ phase_last (plan_of run.design node) (standing_of w node) run.design.gamma p
+phase_is : (run : Run) (w : World) (node : ℕ) (p : Phase)
+    → phase_deadline run w node p ≡ phase_last (plan_of run.design node) (standing_of w node) run.design.gamma p
 phase_is run w node Waiting = refl
 phase_is run w node (Running step) = refl
 phase_is run w node (Between steps) = refl
 phase_is run w node Holding = refl
 phase_is run w node Done = refl
 
-pub last_is : (run : Run) (w : World) (node : ℕ) (plan : Plan) (s : Standing) (g : Gamma) → plan ≡ plan_of run.design node → s ≡ standing_of w node
+pub last_is : (run : Run) (w : World) (node : ℕ) (plan : Plan) (s : Standing) (g : Gamma)
+    → plan ≡ plan_of run.design node → s ≡ standing_of w node
     → g ≡ run.design.gamma → last_time plan s g ≡ node_deadline run w node
 last_is run w node plan s g plan_is is gamma_is =
     let here = plan_of run.design node in

@@ -13,7 +13,8 @@ or_right : (b : Bool) → (b || true) ≡ true
 or_right true = refl
 or_right false = refl
 
-any_at : {X : Type 0} (p : X → Bool) (xs : List X) (k : ℕ) (x : X) → slice_get xs k ≡ Some x → p x ≡ true → list_any p xs ≡ true
+any_at : {X : Type 0} (p : X → Bool) (xs : List X) (k : ℕ) (x : X) → slice_get xs k ≡ Some x → p x ≡ true
+    → list_any p xs ≡ true
 any_at p [] k x is passes = absurd (cc)
 any_at p (y ∷ ys) zero x is passes = let same : y ≡ x = cc in ap (λ b. b || list_any p ys) (ap p same ∙ passes)
 any_at p (y ∷ ys) (suc k) x is passes = ap (λ b. p y || b) (any_at p ys k x is passes) ∙ or_right (p y)
@@ -21,7 +22,8 @@ any_at p (y ∷ ys) (suc k) x is passes = ap (λ b. p y || b) (any_at p ys k x i
 abbrev AnyOf : {X : Type 0} → (X → Bool) → List X → Type 0
 AnyOf {X} p xs = (k : ℕ) × (x : X) × (slice_get xs k ≡ Some x) × (p x ≡ true)
 
-any_or : {X : Type 0} (p : X → Bool) (y : X) (ys : List X) (b : Bool) → p y ≡ b → (b || list_any p ys) ≡ true → (list_any p ys ≡ true → AnyOf p ys) → AnyOf p (y ∷ ys)
+any_or : {X : Type 0} (p : X → Bool) (y : X) (ys : List X) (b : Bool) → p y ≡ b → (b || list_any p ys) ≡ true
+    → (list_any p ys ≡ true → AnyOf p ys) → AnyOf p (y ∷ ys)
 any_or p y ys true passes is later = (0, y, refl, passes)
 any_or p y ys false fails is later = let rest = later is in (suc rest.0, rest.1, rest.2, rest.3)
 
@@ -36,40 +38,56 @@ goes_to node numbered = nat_eq numbered.1.target.0 node
 abbrev into : ℕ → ℕ → List Link → List ℕ
 into node from links = map (λ numbered. numbered.0) (filter (goes_to node) (enumerate_from from links))
 
-into_at : (p : ℕ → Bool) (node from : ℕ) (links : List Link) (k n : ℕ) (l : Link) → n ≡ from + k → slice_get links k ≡ Some l → nat_eq l.target.0 node ≡ true → p n ≡ true → list_any p (into node from links) ≡ true
+into_at : (p : ℕ → Bool) (node from : ℕ) (links : List Link) (k n : ℕ) (l : Link) → n ≡ from + k
+    → slice_get links k ≡ Some l → nat_eq l.target.0 node ≡ true → p n ≡ true → list_any p (into node from links) ≡ true
 into_at p node from [] k n l place is goes passes = absurd (cc)
 into_at p node from (m ∷ links) zero n l place is goes passes =
     let same : m ≡ l = cc in
     let here : nat_eq m.target.0 node ≡ true = ap (λ (x : Link). nat_eq x.target.0 node) same ∙ goes in
     let first : n ≡ from = omega arith in
-    ap (λ b. list_any p (map (λ numbered. numbered.0) (cond b ((from, m) ∷ filter (goes_to node) (enumerate_from (from + 1) links)) (filter (goes_to node) (enumerate_from (from + 1) links))))) here
+    ap (λ b. list_any p (map (λ numbered. numbered.0)
+    (cond b ((from, m) ∷ filter (goes_to node) (enumerate_from (from + 1) links))
+    (filter (goes_to node) (enumerate_from (from + 1) links))))) here
     ∙ ap (λ b. b || list_any p (into node (from + 1) links)) (ap p (sym first) ∙ passes)
 into_at p node from (m ∷ links) (suc k) n l place is goes passes =
     let next : n ≡ from + 1 + k = omega arith in
     by (nat_eq m.target.0 node) (into_at p node (from + 1) links k n l next is goes passes)
   where
     by : (b : Bool) → list_any p (into node (from + 1) links) ≡ true
-        → list_any p (map (λ numbered. numbered.0) (cond b ((from, m) ∷ filter (goes_to node) (enumerate_from (from + 1) links)) (filter (goes_to node) (enumerate_from (from + 1) links)))) ≡ true
+        → list_any p (map (λ numbered. numbered.0)
+        (cond b ((from, m) ∷ filter (goes_to node) (enumerate_from (from + 1) links))
+        (filter (goes_to node) (enumerate_from (from + 1) links)))) ≡ true
     by true rest = ap (λ b. p from || b) rest ∙ or_right (p from)
     by false rest = rest
 
 abbrev IntoOf : (ℕ → Bool) → ℕ → ℕ → List Link → Type 0
-IntoOf p node from links = (k : ℕ) × (n : ℕ) × (l : Link) × (n ≡ from + k) × (slice_get links k ≡ Some l) × (nat_eq l.target.0 node ≡ true) × (p n ≡ true)
+IntoOf p node from links =
+    (k : ℕ) × (n : ℕ) × (l : Link) × (n ≡ from + k) × (slice_get links k ≡ Some l) × (nat_eq l.target.0 node ≡ true)
+    × (p n ≡ true)
 
-later_of : (p : ℕ → Bool) (node from : ℕ) (m : Link) (links : List Link) → IntoOf p node (from + 1) links → IntoOf p node from (m ∷ links)
-later_of p node from m links rest = (suc rest.0, rest.1, rest.2, (let place = rest.3 in omega arith), rest.4, rest.5, rest.6)
+later_of : (p : ℕ → Bool) (node from : ℕ) (m : Link) (links : List Link) → IntoOf p node (from + 1) links
+    → IntoOf p node from (m ∷ links)
+later_of p node from m links rest =
+    (suc rest.0, rest.1, rest.2, (let place = rest.3 in omega arith), rest.4, rest.5, rest.6)
 
-into_found : (p : ℕ → Bool) (node from : ℕ) (links : List Link) → list_any p (into node from links) ≡ true → IntoOf p node from links
+into_found : (p : ℕ → Bool) (node from : ℕ) (links : List Link) → list_any p (into node from links) ≡ true
+    → IntoOf p node from links
 into_found p node from [] is = absurd (false≢true is)
 into_found p node from (m ∷ links) is = by (nat_eq m.target.0 node) refl is (into_found p node (from + 1) links)
   where
-    first : (b : Bool) → p from ≡ b → nat_eq m.target.0 node ≡ true → (b || list_any p (into node (from + 1) links)) ≡ true → (list_any p (into node (from + 1) links) ≡ true → IntoOf p node (from + 1) links) → IntoOf p node from (m ∷ links)
+    first : (b : Bool) → p from ≡ b → nat_eq m.target.0 node ≡ true
+        → (b || list_any p (into node (from + 1) links)) ≡ true
+        → (list_any p (into node (from + 1) links) ≡ true → IntoOf p node (from + 1) links)
+        → IntoOf p node from (m ∷ links)
     first true passes goes is later = (0, from, m, (omega arith), refl, goes, passes)
     first false fails goes is later = later_of p node from m links (later is)
 
     by : (b : Bool) → nat_eq m.target.0 node ≡ b
-        → list_any p (map (λ numbered. numbered.0) (cond b ((from, m) ∷ filter (goes_to node) (enumerate_from (from + 1) links)) (filter (goes_to node) (enumerate_from (from + 1) links)))) ≡ true
-        → (list_any p (into node (from + 1) links) ≡ true → IntoOf p node (from + 1) links) → IntoOf p node from (m ∷ links)
+        → list_any p (map (λ numbered. numbered.0)
+        (cond b ((from, m) ∷ filter (goes_to node) (enumerate_from (from + 1) links))
+        (filter (goes_to node) (enumerate_from (from + 1) links)))) ≡ true
+        → (list_any p (into node (from + 1) links) ≡ true → IntoOf p node (from + 1) links)
+        → IntoOf p node from (m ∷ links)
     by true goes is later = first (p from) refl goes is later
     by false goes is later = later_of p node from m links (later is)
 
@@ -81,7 +99,8 @@ due_shown : (b : BusValue) (node reading : ℕ) → HasDue b node reading → ha
 due_shown b node reading due =
     let d = due.is_due in
     let flies = any_at (is_due (Some reading)) (flight_at b.state due.link) d.place d.copy d.is_copy d.due in
-    into_at (flies_due b reading) node 0 b.run.design.links due.link due.link d.the_link (omega arith) d.is_link (eq-eqb d.the_link.target.0 node d.to_node) flies
+    into_at (flies_due b reading) node 0 b.run.design.links due.link due.link d.the_link (omega arith) d.is_link
+    (eq-eqb d.the_link.target.0 node d.to_node) flies
 
 shown_due : (b : BusValue) (node reading : ℕ) → has_due b.run b.state node (Some reading) ≡ true → HasDue b node reading
 shown_due b node reading is =
@@ -108,6 +127,8 @@ decided true s to from = sym (to refl)
 decided false true to from = from refl
 decided false false to from = refl
 
-pub due_is : (b : BusValue) (node reading : ℕ) (r : Bool) → (IsTrue r ↔ HasDue b node reading) → r ≡ has_due b.run b.state node (Some reading)
+pub due_is : (b : BusValue) (node reading : ℕ) (r : Bool) → (IsTrue r ↔ HasDue b node reading)
+    → r ≡ has_due b.run b.state node (Some reading)
 due_is b node reading r both =
-    decided r (has_due b.run b.state node (Some reading)) (λ yes. due_shown b node reading (both.0 yes)) (λ yes. both.1 (shown_due b node reading yes))
+    decided r (has_due b.run b.state node (Some reading)) (λ yes. due_shown b node reading (both.0 yes))
+    (λ yes. both.1 (shown_due b node reading yes))

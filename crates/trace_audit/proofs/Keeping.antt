@@ -27,7 +27,8 @@ zeros : (f : ℕ → NodeState) (from n : ℕ) → map {B = ℕ} (λ (_ : NodeSt
 zeros f from zero = refl
 zeros f from (suc n) = ap (λ ks. 0 ∷ ks) (zeros f (suc from) n)
 
-pub no_readings : (run : Run) → map {B = ℕ} (λ (_ : NodeState). 0) (opening run).nodes ≡ replicate (length run.design.components) 0
+pub no_readings : (run : Run)
+    → map {B = ℕ} (λ (_ : NodeState). 0) (opening run).nodes ≡ replicate (length run.design.components) 0
 no_readings run = zeros _ 0 (length run.design.components)
 
 pub length-noted : (readings : List ℕ) (t : Option Timed) → length (noted readings t) ≡ length readings
@@ -47,7 +48,8 @@ owed_within design (entry.Repeat link round) fits = tt
 owed_within design (entry.Stopped why) fits = tt
 
 -- a line where a stop is owed
-pub stop_line : (run : Run) (s : BusState) (readings : List ℕ) (owed : Option JournalEntry) (e x : JournalEntry) (r : Bool) → has_reading (timed run.design e) ≡ true → owed ≡ Some x → r ≡ is_line_of run.design e (Some x)
+pub stop_line : (run : Run) (s : BusState) (readings : List ℕ) (owed : Option JournalEntry) (e x : JournalEntry)
+    (r : Bool) → has_reading (timed run.design e) ≡ true → owed ≡ Some x → r ≡ is_line_of run.design e (Some x)
     → cond r None (Some rule.Stop) ≡ line_broken run (record { bus = s; readings = readings; owed = owed }) (Some e)
 stop_line run s readings owed e x r reads is line =
     ap (λ b. cond b None (Some rule.Stop)) line
@@ -55,13 +57,18 @@ stop_line run s readings owed e x r reads is line =
     ∙ ap (λ b. cond (not b) (Some rule.Text) (cond (is_line_of run.design e (Some x)) None (Some rule.Stop))) reads)
 
 -- an event that breaks no rule
-pub audit_next : (run : Run) (s t : BusState) (readings before kept_ : List ℕ) (owed o : Option JournalEntry) (e : JournalEntry) (event : BusEvent) → event_of run.design e ≡ Some event → t ≡ after run s event → broken run s before e ≡ None
-    → kept_ ≡ noted readings (timed run.design e) → o ≡ owed_by e → owed ≡ None → record { bus = t; readings = kept_; owed = o } ≡ audit_after run (record { bus = s; readings = readings; owed = owed }) e
+pub audit_next : (run : Run) (s t : BusState) (readings before kept_ : List ℕ) (owed o : Option JournalEntry)
+    (e : JournalEntry) (event : BusEvent) → event_of run.design e ≡ Some event → t ≡ after run s event
+    → broken run s before e ≡ None
+    → kept_ ≡ noted readings (timed run.design e) → o ≡ owed_by e → owed ≡ None
+    → record { bus = t; readings = kept_; owed = o }
+    ≡ audit_after run (record { bus = s; readings = readings; owed = owed }) e
 audit_next run s t readings before kept_ owed o e event is happens none notes owes no_stop =
     let a : Audit = record { bus = s; readings = readings; owed = None } in
     let rs = noted readings (timed run.design e) in
     ap (λ b. record { bus = b; readings = kept_; owed = o }) happens
     ∙ ap (λ ns. record { bus = after run s event; readings = ns; owed = o }) notes
-    ∙ ap (λ w. record { bus = after run s event; readings = rs; owed = w }) (owes ∙ sym (owed_behind run s before e event is none))
+    ∙ ap (λ w. record { bus = after run s event; readings = rs; owed = w })
+    (owes ∙ sym (owed_behind run s before e event is none))
     ∙ sym (ap (λ w. audit_after run (record { bus = s; readings = readings; owed = w }) e) no_stop
     ∙ ap (audit_event run a rs) is)

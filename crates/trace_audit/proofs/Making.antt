@@ -19,24 +19,30 @@ use Rattle.trace_audit.specs.proof.Rows.{AreRows}
 at_place : {A : Type 0} (f : ℕ → A) (from n k : ℕ) → k < n → slice_get (map f (upwards from n)) k ≡ Some (f (from + k))
 at_place f from zero k h = absurd (omega arith)
 at_place f from (suc n) zero h = ap (λ m. Some (f m)) (omega arith)
-at_place f from (suc n) (suc k) h = let below : k < n = omega arith in at_place f (suc from) n k below ∙ ap (λ m. Some (f m)) (omega arith)
+at_place f from (suc n) (suc k) h = let below : k < n = omega arith in
+    at_place f (suc from) n k below ∙ ap (λ m. Some (f m)) (omega arith)
 
 -- values that are written over others
-pub written_whole : {A : Type 0} (n : ℕ) (new old : List A) → n ≡ length old → length new ≡ length old → take n (new ++ drop (length new) old) ≡ new
+pub written_whole : {A : Type 0} (n : ℕ) (new old : List A) → n ≡ length old → length new ≡ length old
+    → take n (new ++ drop (length new) old) ≡ new
 written_whole n new old all same =
-    ap (λ rest. take n (new ++ rest)) (drop_all (length new) old (omega arith)) ∙ ap (take n) (append-nil new) ∙ take_all n new (omega arith)
+    ap (λ rest. take n (new ++ rest)) (drop_all (length new) old (omega arith)) ∙ ap (take n) (append-nil new)
+    ∙ take_all n new (omega arith)
 
 pub length-values_at : (env : Env) (round : ℕ) → length (values_at env round) ≡ length env.lists
 length-values_at env round = length-map env.lists (λ list. slice_index_or list round Absent)
 
 -- a product that goes one round further has the round's parts
-pub parts_made : (design shown : DesignParts) (env : Env) (round : ℕ) (old new : ProductState) (values : List Port) (parts : List Part) → old ≡ state_after design env round → values ≡ values_at env round → new ≡ advanced old values → parts ≡ new.parts → shown ≡ design
+pub parts_made : (design shown : DesignParts) (env : Env) (round : ℕ) (old new : ProductState) (values : List Port)
+    (parts : List Part) → old ≡ state_after design env round → values ≡ values_at env round → new ≡ advanced old values
+    → parts ≡ new.parts → shown ≡ design
     → ArePartsOf shown env round (λ node. slice_get parts node)
 parts_made design shown env round old new values parts before here is parts_are same =
     let after' : new ≡ state_after design env (suc round) = is ∙ ap₂ advanced before here in
     subst (λ d. ArePartsOf d env round (λ node. slice_get parts node)) (sym same)
     (λ node below.
-    ap (λ ps. slice_get ps node) (parts_are ∙ ap (λ (s : ProductState). s.parts) after' ∙ has_parts_of_round design env round)
+    ap (λ ps. slice_get ps node)
+    (parts_are ∙ ap (λ (s : ProductState). s.parts) after' ∙ has_parts_of_round design env round)
     ∙ at_place (λ n. part design env n round) 0 (length design.components) node below
     ∙ ap (λ n. Some (part design env n round)) (zero-add node))
 
@@ -45,5 +51,6 @@ on_ok (Ok x) P Q go holds = go holds
 on_ok (Err e) P Q go holds = tt
 
 -- rows are of their product's design
-pub own_design : (design : DesignParts) (env : Env) (r : Rows) (rounds : ℕ) → AreRows design env r rounds → r.product.design ≡ design
+pub own_design : (design : DesignParts) (env : Env) (r : Rows) (rounds : ℕ) → AreRows design env r rounds
+    → r.product.design ≡ design
 own_design design env r rounds are = ap (λ (s : ProductState). s.design) are.product ∙ design_stays design env rounds

@@ -56,28 +56,38 @@ next_is step p is = by (next_step p) is
     by None is' = absurd (cc)
     by (Some i) is' = ap Some (sym (eqb-true step i is'))
 
-pub step_fits : (run : Run) (s : BusState) (node : NodeNo) (round step : ℕ) (reading : Option ℕ) → round ≡ round_of (node_at s node.0) → next_step (node_at s node.0).phase ≡ Some step → fits run s (entry.Step node round step reading) ≡ true
+pub step_fits : (run : Run) (s : BusState) (node : NodeNo) (round step : ℕ) (reading : Option ℕ)
+    → round ≡ round_of (node_at s node.0) → next_step (node_at s node.0).phase ≡ Some step
+    → fits run s (entry.Step node round step reading) ≡ true
 step_fits run s node round step reading here next =
-    ap₂ (λ a b. a && b) (eq-eqb round (round_of (node_at s node.0)) here) (ap (λ o. nat_eq step (unwrap_or o 0)) next ∙ eq-eqb step step refl)
+    ap₂ (λ a b. a && b) (eq-eqb round (round_of (node_at s node.0)) here)
+    (ap (λ o. nat_eq step (unwrap_or o 0)) next ∙ eq-eqb step step refl)
 
-pub step_first : (run : Run) (s : BusState) (node : NodeNo) (round step : ℕ) (reading : Option ℕ) → round ≡ round_of (node_at s node.0) → next_step (node_at s node.0).phase ≡ Some step
+pub step_first : (run : Run) (s : BusState) (node : NodeNo) (round step : ℕ) (reading : Option ℕ)
+    → round ≡ round_of (node_at s node.0) → next_step (node_at s node.0).phase ≡ Some step
     → first_entry (entries run s (Step node reading)) ≡ Some (entry.Step node round step reading)
-step_first run s node round step reading here next = ap₂ (λ r o. Some (entry.Step node r (unwrap_or o 0) reading)) (sym here) next
+step_first run s node round step reading here next =
+    ap₂ (λ r o. Some (entry.Step node r (unwrap_or o 0) reading)) (sym here) next
 
 no_right : (a b : Bool) → b ≡ false → (a && b) ≡ false
 no_right true b none = none
 no_right false b none = refl
 
 -- another step than the next one, or none
-pub step_breaks : (run : Run) (s : BusState) (readings : List ℕ) (node : NodeNo) (round step : ℕ) (reading : Option ℕ) → option_map_or (nat_eq step) (next_step (node_at s node.0).phase) false ≡ false
+pub step_breaks : (run : Run) (s : BusState) (readings : List ℕ) (node : NodeNo) (round step : ℕ) (reading : Option ℕ)
+    → option_map_or (nat_eq step) (next_step (node_at s node.0).phase) false ≡ false
     → Some rule.Order ≡ broken run s readings (entry.Step node round step reading)
 step_breaks run s readings node round step reading is = by (next_step (node_at s node.0).phase) refl is
   where
-    by : (o : Option ℕ) → next_step (node_at s node.0).phase ≡ o → option_map_or (nat_eq step) o false ≡ false → Some rule.Order ≡ broken run s readings (entry.Step node round step reading)
-    by None none is' = refused run s readings (entry.Step node round step reading) (Step node reading) refl (ap is_some none)
+    by : (o : Option ℕ) → next_step (node_at s node.0).phase ≡ o → option_map_or (nat_eq step) o false ≡ false
+        → Some rule.Order ≡ broken run s readings (entry.Step node round step reading)
+    by None none is' =
+        refused run s readings (entry.Step node round step reading) (Step node reading) refl (ap is_some none)
     by (Some i) next is' =
         unfit run s readings (entry.Step node round step reading)
-        (no_right (nat_eq round (round_of (node_at s node.0))) (nat_eq step (unwrap_or (next_step (node_at s node.0).phase) 0)) (ap (λ o. nat_eq step (unwrap_or o 0)) next ∙ is'))
+        (no_right (nat_eq round (round_of (node_at s node.0)))
+        (nat_eq step (unwrap_or (next_step (node_at s node.0).phase) 0))
+        (ap (λ o. nat_eq step (unwrap_or o 0)) next ∙ is'))
 
 -- ---- arrivals
 pub results_same : (a b : Arrived) → same_result a b ≡ true → a ≡ b
@@ -99,10 +109,12 @@ second_of x (Some why) = refl
 second : Run → BusState → Option BusEvent → Option JournalEntry
 second run s o = option_and_then (λ event. second_entry (entries run s event)) o
 
-second_is : (run : Run) (s : BusState) (e : JournalEntry) → fits run s e ≡ true → second run s (event_of run.design e) ≡ owed_by e
+second_is : (run : Run) (s : BusState) (e : JournalEntry) → fits run s e ≡ true
+    → second run s (event_of run.design e) ≡ owed_by e
 unfolding second
 second_is run s (entry.Arrive link round reading outcome) fit =
-    second_of (entry.Arrive link round reading (arrival run s link round)) (early_stop link round reading (arrival run s link round))
+    second_of (entry.Arrive link round reading (arrival run s link round))
+    (early_stop link round reading (arrival run s link round))
     ∙ ap (λ a. stop_of (early_stop link round reading a)) (sym (results_same outcome (arrival run s link round) fit))
 second_is run s (entry.Start node round reading) fit = refl
 second_is run s (entry.Step node round step reading) fit = refl
@@ -113,13 +125,18 @@ second_is run s (entry.Repeat link round) fit = refl
 second_is run s (entry.Stopped (stop.Missed link round reading cause)) fit = refl
 second_is run s (entry.Stopped (stop.Early link round reading)) fit = refl
 
-ordered_by : (run : Run) (s : BusState) (readings : List ℕ) (e : JournalEntry) (b : Bool) → is_in_order run s e ≡ b → broken run s readings e ≡ None → is_in_order run s e ≡ true
+ordered_by : (run : Run) (s : BusState) (readings : List ℕ) (e : JournalEntry) (b : Bool) → is_in_order run s e ≡ b
+    → broken run s readings e ≡ None → is_in_order run s e ≡ true
 ordered_by run s readings e true is none = is
 ordered_by run s readings e false is none =
-    let order : Some rule.Order ≡ broken run s readings e = sym (ap (λ b. first_rule b (falls readings (timed run.design e)) (too_early run s e) (waits run s e) (tells_stop run s e (event_of run.design e))) is) in
+    let order : Some rule.Order ≡ broken run s readings e =
+    sym (ap (λ b. first_rule b (falls readings (timed run.design e)) (too_early run s e) (waits run s e)
+    (tells_stop run s e (event_of run.design e))) is) in
     absurd (cc)
 
-pub owed_behind : (run : Run) (s : BusState) (readings : List ℕ) (e : JournalEntry) (event : BusEvent) → event_of run.design e ≡ Some event → broken run s readings e ≡ None → second_entry (entries run s event) ≡ owed_by e
+pub owed_behind : (run : Run) (s : BusState) (readings : List ℕ) (e : JournalEntry) (event : BusEvent)
+    → event_of run.design e ≡ Some event → broken run s readings e ≡ None
+    → second_entry (entries run s event) ≡ owed_by e
 unfolding second
 owed_behind run s readings e event is none =
     let order = ordered_by run s readings e (is_in_order run s e) refl none in

@@ -33,24 +33,30 @@ one_more q size = grind arith
 begun_in : (q size r more : ℕ) → size ≡ 1 + more → r ≢ 0 → r < size → (q * size + r + more) / size ≡ q + 1
 begun_in q size r more is some within =
     let same : (p : ℕ) → p + r + more ≡ p + size + (r - 1) = λ p. omega arith in
-    ap (λ k. k / size) (same (q * size) ∙ ap (λ k. k + (r - 1)) (sym (one_more q size))) ∙ div-mul-add (q + 1) size (r - 1) (omega arith)
+    ap (λ k. k / size) (same (q * size) ∙ ap (λ k. k + (r - 1)) (sym (one_more q size)))
+    ∙ div-mul-add (q + 1) size (r - 1) (omega arith)
 
 begun_next : (q size r more : ℕ) → size ≡ 1 + more → r < size → (q * size + r + 1 + more) / size ≡ q + 1
 begun_next q size r more is within =
     let same : (p : ℕ) → p + r + 1 + more ≡ p + size + r = λ p. omega arith in
     ap (λ k. k / size) (same (q * size) ∙ ap (λ k. k + r) (sym (one_more q size))) ∙ div-mul-add (q + 1) size r within
 
-row_next : (q size r : ℕ) → r < size → (q * size + r + 1) % size ≢ 0 → ((q * size + r + 1) / size ≡ q) × ((q * size + r + 1) % size ≡ r + 1)
+row_next : (q size r : ℕ) → r < size → (q * size + r + 1) % size ≢ 0
+    → ((q * size + r + 1) / size ≡ q) × ((q * size + r + 1) % size ≡ r + 1)
 row_next q size r within some = by (cases_lt (r + 1) size)
   where
     same : (p : ℕ) → p + r + 1 ≡ p + (r + 1)
     same p = omega arith
 
     by : (r + 1 < size) ⊎ (size ≤ r + 1) → ((q * size + r + 1) / size ≡ q) × ((q * size + r + 1) % size ≡ r + 1)
-    by (inl lt) = (ap (λ k. k / size) (same (q * size)) ∙ div-mul-add q size (r + 1) lt, ap (λ k. k % size) (same (q * size)) ∙ mod-mul-add q size (r + 1) lt)
+    by (inl lt) = (
+      ap (λ k. k / size) (same (q * size)) ∙ div-mul-add q size (r + 1) lt,
+      ap (λ k. k % size) (same (q * size)) ∙ mod-mul-add q size (r + 1) lt,
+    )
     by (inr ge) =
         let last : (p : ℕ) → p + r + 1 ≡ p + size + 0 = λ p. omega arith in
-        absurd (some (ap (λ k. k % size) (last (q * size) ∙ ap (λ k. k + 0) (sym (one_more q size))) ∙ mod-mul-add (q + 1) size 0 (omega arith)))
+        absurd (some (ap (λ k. k % size) (last (q * size) ∙ ap (λ k. k + 0) (sym (one_more q size)))
+        ∙ mod-mul-add (q + 1) size 0 (omega arith)))
 
 some_rows : (design : DesignParts) → 0 < row_size design
 some_rows design = omega arith
@@ -76,7 +82,8 @@ zero_mod n some = let same : 0 ≡ 0 * n + 0 = omega arith in ap (λ k. k % n) s
 pub first_place : (design : DesignParts) → 0 % row_size design ≡ 0
 first_place design = zero_mod (row_size design) (some_rows design)
 
-pub begun_first : (design : DesignParts) (index : ℕ) → index % row_size design ≡ 0 → rows_begun design index ≡ index / row_size design
+pub begun_first : (design : DesignParts) (index : ℕ) → index % row_size design ≡ 0
+    → rows_begun design index ≡ index / row_size design
 begun_first design index none =
     let a = length design.components in
     let b = length design.taps in
@@ -87,7 +94,8 @@ begun_first design index none =
 pub none_begun : (design : DesignParts) → rows_begun design 0 ≡ 0
 none_begun design = begun_first design 0 (first_place design) ∙ zero_div (row_size design) (some_rows design)
 
-pub begun_later : (design : DesignParts) (index : ℕ) → index % row_size design ≢ 0 → rows_begun design index ≡ index / row_size design + 1
+pub begun_later : (design : DesignParts) (index : ℕ) → index % row_size design ≢ 0
+    → rows_begun design index ≡ index / row_size design + 1
 begun_later design index some =
     let a = length design.components in
     let b = length design.taps in
@@ -104,43 +112,68 @@ begun_after design index =
     ∙ begun_next (index / size) size (index % size) (a + b) (size_is a b) (place_within design index)
 
 -- ---- the lines of a row
-component_count : (design : DesignParts) (env : Env) (round : ℕ) → length (flat_map (λ numbered. part_lines numbered.1 (Some (part design env numbered.0 round))) (enumerate_from 0 design.components)) ≡ length design.components
+component_count : (design : DesignParts) (env : Env) (round : ℕ)
+    → length (flat_map (λ numbered. part_lines numbered.1 (Some (part design env numbered.0 round)))
+    (enumerate_from 0 design.components)) ≡ length design.components
 component_count design env round =
-    let f = λ (numbered : ℕ × Component). component_line numbered.1.path numbered.1.behaviour (part design env numbered.0 round).frame in
+    let f =
+    λ (numbered : ℕ × Component).
+    component_line numbered.1.path numbered.1.behaviour (part design env numbered.0 round).frame in
     ap length (flat_map_single f (enumerate_from 0 design.components)) ∙ length-numbered f 0 design.components
 
 abbrev tap_at : DesignParts → Env → ℕ → ℕ × Tap → List ℕ
-tap_at design env round numbered = slice_index_or (tap_lines design numbered.0 numbered.1 (Some (part design env numbered.1.source.0 round))) 0 []
+tap_at design env round numbered =
+    slice_index_or (tap_lines design numbered.0 numbered.1 (Some (part design env numbered.1.source.0 round))) 0 []
 
-tap_count : (design : DesignParts) (env : Env) (round : ℕ) → length (flat_map (λ numbered. tap_lines design numbered.0 numbered.1 (Some (part design env numbered.1.source.0 round))) (enumerate_from 0 design.taps)) ≡ length design.taps
+tap_count : (design : DesignParts) (env : Env) (round : ℕ)
+    → length (flat_map (λ numbered.
+    tap_lines design numbered.0 numbered.1 (Some (part design env numbered.1.source.0 round)))
+    (enumerate_from 0 design.taps)) ≡ length design.taps
 tap_count design env round =
-    ap length (flat_map_single (tap_at design env round) (enumerate_from 0 design.taps)) ∙ length-numbered (tap_at design env round) 0 design.taps
+    ap length (flat_map_single (tap_at design env round) (enumerate_from 0 design.taps))
+    ∙ length-numbered (tap_at design env round) 0 design.taps
 
 row_length : (design : DesignParts) (env : Env) (round : ℕ) → length (composed_lines design env round) ≡ row_size design
 row_length design env round =
     let one = component_count design env round in
     let two = tap_count design env round in
-    let both = length-append (flat_map (λ numbered. part_lines numbered.1 (Some (part design env numbered.0 round))) (enumerate_from 0 design.components)) (flat_map (λ numbered. tap_lines design numbered.0 numbered.1 (Some (part design env numbered.1.source.0 round))) (enumerate_from 0 design.taps)) in
+    let both =
+    length-append (flat_map (λ numbered. part_lines numbered.1 (Some (part design env numbered.0 round)))
+    (enumerate_from 0 design.components))
+    (flat_map (λ numbered. tap_lines design numbered.0 numbered.1
+    (Some (part design env numbered.1.source.0 round))) (enumerate_from 0 design.taps)) in
     omega arith
 
-place_there : (design : DesignParts) (env : Env) (index : ℕ) → index % row_size design < length (composed_lines design env (index / row_size design))
-place_there design env index = subst (λ n. index % row_size design < n) (sym (row_length design env (index / row_size design))) (place_within design index)
+place_there : (design : DesignParts) (env : Env) (index : ℕ)
+    → index % row_size design < length (composed_lines design env (index / row_size design))
+place_there design env index =
+    subst (λ n. index % row_size design < n) (sym (row_length design env (index / row_size design)))
+    (place_within design index)
 
 abbrev pub left_behind : DesignParts → Env → ℕ → List (List ℕ)
 left_behind design env index = drop (index % row_size design + 1) (composed_lines design env (index / row_size design))
 
-pub left_is : (design : DesignParts) (env : Env) (index : ℕ) → left_at design env index ≡ line_at design env index ∷ left_behind design env index
-left_is design env index = drop_more (composed_lines design env (index / row_size design)) (index % row_size design) [] (place_there design env index)
+pub left_is : (design : DesignParts) (env : Env) (index : ℕ)
+    → left_at design env index ≡ line_at design env index ∷ left_behind design env index
+left_is design env index =
+    drop_more (composed_lines design env (index / row_size design)) (index % row_size design) []
+    (place_there design env index)
 
 pub line_is_one : (design : DesignParts) (env : Env) (index : ℕ) → IsDesign design → IsLine (line_at design env index)
 line_is_one design env index rules =
-    All-get_or IsLine (composed_lines design env (index / row_size design)) (index % row_size design) [] (place_there design env index)
-    (row_has_lines design (λ node. Some (part design env node (index / row_size design))) (index / row_size design) rules)
+    All-get_or IsLine (composed_lines design env (index / row_size design)) (index % row_size design) []
+    (place_there design env index)
+    (row_has_lines design (λ node. Some (part design env node (index / row_size design)))
+    (index / row_size design) rules)
 
-pub left_next : (design : DesignParts) (env : Env) (index : ℕ) → (index + 1) % row_size design ≢ 0 → left_at design env (index + 1) ≡ left_behind design env index
+pub left_next : (design : DesignParts) (env : Env) (index : ℕ) → (index + 1) % row_size design ≢ 0
+    → left_at design env (index + 1) ≡ left_behind design env index
 left_next design env index some =
     let size = row_size design in
     let at = split design index in
     let next : index + 1 ≡ index / size * size + index % size + 1 = ap (λ k. k + 1) at in
-    let both = row_next (index / size) size (index % size) (place_within design index) (λ none. some (ap (λ k. k % size) next ∙ none)) in
-    ap₂ (λ p r. drop p (composed_lines design env r)) (ap (λ k. k % size) next ∙ both.1) (ap (λ k. k / size) next ∙ both.0)
+    let both =
+    row_next (index / size) size (index % size) (place_within design index)
+    (λ none. some (ap (λ k. k % size) next ∙ none)) in
+    ap₂ (λ p r. drop p (composed_lines design env r)) (ap (λ k. k % size) next ∙ both.1)
+    (ap (λ k. k / size) next ∙ both.0)

@@ -9,8 +9,11 @@ abbrev with_digit : ℕ → ℕ → ℕ
 with_digit n digit = n * 10 + (digit - 48)
 
 -- one more digit
-pub spelled_more : (word : List ℕ) (at d : ℕ) → at < length word → spelled (take (at + 1) word) ≡ spelled (take at word) * 10 + (slice_index_or word at d - 48)
-spelled_more word at d within = ap (λ (w : List ℕ). spelled w) (take_more word at d within) ∙ fold-append with_digit 0 (take at word) (slice_index_or word at d ∷ [])
+pub spelled_more : (word : List ℕ) (at d : ℕ) → at < length word
+    → spelled (take (at + 1) word) ≡ spelled (take at word) * 10 + (slice_index_or word at d - 48)
+spelled_more word at d within =
+    ap (λ (w : List ℕ). spelled w) (take_more word at d within)
+    ∙ fold-append with_digit 0 (take at word) (slice_index_or word at d ∷ [])
 
 grows : (n : ℕ) (word : List ℕ) → n ≤ fold with_digit n word
 grows n [] = omega arith
@@ -19,5 +22,7 @@ grows n (digit ∷ word) = let rest = grows (with_digit n digit) word in omega a
 -- the first digits spell no more than all
 pub spelled_above : (word : List ℕ) (at : ℕ) → spelled (take at word) ≤ spelled word
 spelled_above word at =
-    let whole = sym (fold-append with_digit 0 (take at word) (drop at word)) ∙ ap (λ (w : List ℕ). spelled w) (take-append-drop at word) in
+    let whole =
+    sym (fold-append with_digit 0 (take at word) (drop at word))
+    ∙ ap (λ (w : List ℕ). spelled w) (take-append-drop at word) in
     subst (λ (n : ℕ). spelled (take at word) ≤ n) whole (grows (spelled (take at word)) (drop at word))

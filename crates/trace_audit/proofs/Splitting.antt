@@ -28,15 +28,18 @@ no_space xs free = All-from_get_or (λ b. nat_eq 32 b ≡ false) xs 0 (λ i with
 
 first_word : (line : List ℕ) (r : Option (Bor (List ℕ) × Bor (List ℕ))) → IsSplitOnceResult 32 line r
     → MatchOption r (words_of line ≡ line ∷ []) (λ x. words_of line ≡ x.0.now ∷ words_of x.1.now)
-first_word line None cut = slice_split_none (nat_eq 32) line (no_space line (split_parts 32 line None cut (omega arith)))
+first_word line None cut =
+    slice_split_none (nat_eq 32) line (no_space line (split_parts 32 line None cut (omega arith)))
 first_word line (Some x) cut =
     let parts = split_parts 32 line (Some x) cut (omega arith) in
-    ap (λ l. slice_split (nat_eq 32) l) parts.0 ∙ slice_split_at (nat_eq 32) x.0.now 32 x.1.now (no_space x.0.now parts.1) refl
+    ap (λ l. slice_split (nat_eq 32) l) parts.0
+    ∙ slice_split_at (nat_eq 32) x.0.now 32 x.1.now (no_space x.0.now parts.1) refl
 
 pub uncut : (line : List ℕ) → IsSplitOnceResult 32 line None → words_of line ≡ line ∷ []
 uncut line cut = first_word line None cut
 
-pub cut_once : (line : List ℕ) (word more : Bor (List ℕ)) → IsSplitOnceResult 32 line (Some (word, more)) → words_of line ≡ word.now ∷ words_of more.now
+pub cut_once : (line : List ℕ) (word more : Bor (List ℕ)) → IsSplitOnceResult 32 line (Some (word, more))
+    → words_of line ≡ word.now ∷ words_of more.now
 cut_once line word more cut = first_word line (Some (word, more)) cut
 
 -- ---- the end of a line

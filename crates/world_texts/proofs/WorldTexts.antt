@@ -35,7 +35,8 @@ use Rattle.world_texts.proofs.Within.{leads_next}
 -- ---- one event
 -- the bus undergoes it
 undergoes : (old : WorldValue) (e : Event) (new : WorldValue) → Moves old e new → Undergoes old.bus e new.bus
-undergoes old (event.Pass time readings) new moves = inl (record { time = time; readings = readings; is_pass = refl; same = moves.bus })
+undergoes old (event.Pass time readings) new moves =
+    inl (record { time = time; readings = readings; is_pass = refl; same = moves.bus })
 undergoes old (event.Start node) new moves =
     inr (record { what = Start node (Some (reading_at (world_of old) node.0)); is_what = refl; happens = moves.bus })
 undergoes old (event.Step node) new moves =
@@ -43,9 +44,12 @@ undergoes old (event.Step node) new moves =
 undergoes old (event.Finish node) new moves = inr (record { what = Finish node; is_what = refl; happens = moves.bus })
 undergoes old (event.Send node) new moves =
     inr (record { what = Send node (Some (reading_at (world_of old) node.0)); is_what = refl; happens = moves.bus })
-undergoes old (event.Arrive link round) new moves = inr (record { what = Arrive link round None; is_what = refl; happens = moves.bus })
-undergoes old (event.Drop link round) new moves = inr (record { what = Drop link round; is_what = refl; happens = moves.bus })
-undergoes old (event.Repeat link round) new moves = inr (record { what = Repeat link round; is_what = refl; happens = moves.bus })
+undergoes old (event.Arrive link round) new moves =
+    inr (record { what = Arrive link round None; is_what = refl; happens = moves.bus })
+undergoes old (event.Drop link round) new moves =
+    inr (record { what = Drop link round; is_what = refl; happens = moves.bus })
+undergoes old (event.Repeat link round) new moves =
+    inr (record { what = Repeat link round; is_what = refl; happens = moves.bus })
 
 -- it names what is there
 named_by : (run : Run) (e : Event) → is_named run e ≡ true → IsNamedIn run.design e
@@ -58,7 +62,8 @@ named_by run (event.Arrive link round) is = ltb-true _ _ is
 named_by run (event.Drop link round) is = ltb-true _ _ is
 named_by run (event.Repeat link round) is = ltb-true _ _ is
 
-no_bad_name : (b : Bool) (run : Run) (w : World) (e : Event) → (if b then event_fault run w e else Some BadName) ≡ None → b ≡ true
+no_bad_name : (b : Bool) (run : Run) (w : World) (e : Event)
+    → (if b then event_fault run w e else Some BadName) ≡ None → b ≡ true
 no_bad_name true run w e fine = refl
 no_bad_name false run w e fine = absurd (none-some BadName (sym fine))
 
@@ -67,11 +72,14 @@ names_are_there run w e fine = named_by run e (no_bad_name (is_named run e) run 
 
 -- ---- the first events of a list
 pub telling_none : (v : WorldValue) (text : List ℕ) → LeadsTelling v [] v text text
-telling_none v text = record { leads = leads_none v; lines = []; undergone = (refl, refl); told = sym (append-nil text) }
+telling_none v text =
+    record { leads = leads_none v; lines = []; undergone = (refl, refl); told = sym (append-nil text) }
 
-pub telling_more : (old mid new : WorldValue) (events : List Event) (first : ℕ) (d : Event) (before so_far text : List ℕ) → first < length events
+pub telling_more : (old mid new : WorldValue) (events : List Event) (first : ℕ) (d : Event)
+    (before so_far text : List ℕ) → first < length events
     → LeadsTelling old (take first events) mid before so_far
-    → fault_of mid.bus.run (world_of mid) (slice_index_or events first d) ≡ None → Moves mid (slice_index_or events first d) new
+    → fault_of mid.bus.run (world_of mid) (slice_index_or events first d) ≡ None
+    → Moves mid (slice_index_or events first d) new
     → text ≡ so_far ++ text_of (told_by new.bus (slice_index_or events first d))
     → LeadsTelling old (take (first + 1) events) new before text
 telling_more old mid new events first d before so_far text within telling fine moves more =
@@ -79,20 +87,25 @@ telling_more old mid new events first d before so_far text within telling fine m
     record {
       leads = leads_next old mid new events first d within telling.leads fine moves;
       lines = telling.lines ++ told_by new.bus e;
-      undergone = turns_next Undergoes old.bus mid.bus new.bus events first d telling.lines within telling.undergone (undergoes mid e new moves);
+      undergone =
+          turns_next Undergoes old.bus mid.bus new.bus events first d telling.lines within telling.undergone
+          (undergoes mid e new moves);
       told = told_more before so_far text telling.lines (told_by new.bus e) telling.told more;
     }
 
 -- ---- from the opening of a run on
-pub opens : (design : DesignParts) (codes : List CodeParts) (env : Env) (rounds : ℕ) (v : WorldValue) → v ≡ opening_value design codes env rounds → IsOpening v
+pub opens : (design : DesignParts) (codes : List CodeParts) (env : Env) (rounds : ℕ) (v : WorldValue)
+    → v ≡ opening_value design codes env rounds → IsOpening v
 opens design codes env rounds v is = subst IsOpening (sym is) (record { bus = refl; world = refl })
 
 pub world_told : (old new : WorldValue) (events : List Event) (sent text : List ℕ) → IsOpening old → IsRunOf new.bus.run
-    → LeadsTelling old events new [] sent → text ≡ text_of (finished_lines new.bus) ++ sent → IsToldWorld old.bus.run events text
+    → LeadsTelling old events new [] sent → text ≡ text_of (finished_lines new.bus) ++ sent
+    → IsToldWorld old.bus.run events text
 world_told old new events sent text opening rules telling is =
     let run = old.bus.run in
     let same : new.bus.run ≡ run = ap (λ (b : BusValue). b.run) telling.leads.others in
-    let undergone = subst (λ (b : BusValue). InTurn Undergoes b events new.bus telling.lines) opening.bus telling.undergone in
+    let undergone =
+    subst (λ (b : BusValue). InTurn Undergoes b events new.bus telling.lines) opening.bus telling.undergone in
     let within = subst (λ (w : World). IsWithin run w events) opening.world telling.leads.within in
     let of_run = subst IsRunOf same rules in
     record {
@@ -101,10 +114,12 @@ world_told old new events sent text opening rules telling is =
       text_is =
           is
           ∙ ap (λ (xs : List ℕ). text_of (finished_lines new.bus) ++ xs) telling.told
-          ∙ world_is_told run events new.bus telling.lines of_run (record { programs = old.bus.codes; undergone = undergone });
+          ∙ world_is_told run events new.bus telling.lines of_run
+          (record { programs = old.bus.codes; undergone = undergone });
     }
 
-pub fault_told : (old new : WorldValue) (events : List Event) (index : ℕ) (fault : EventFault) → IsOpening old → EndsAt old events index fault new
+pub fault_told : (old new : WorldValue) (events : List Event) (index : ℕ) (fault : EventFault) → IsOpening old
+    → EndsAt old events index fault new
     → IsFirstFault old.bus.run events index fault
 fault_told old new events index fault opening ends =
     let run = old.bus.run in

@@ -18,7 +18,8 @@ message_count n rounds = n * rounds
 abbrev pub ring_line : ℕ → ℕ → List ℕ
 ring_line n rounds =
     spaced (
-    codes "ring" ∷ decimal n ∷ codes "rounds" ∷ decimal rounds ∷ codes "messages" ∷ decimal (message_count n rounds) ∷ codes "sum"
+    codes "ring" ∷ decimal n ∷ codes "rounds" ∷ decimal rounds ∷ codes "messages" ∷ decimal (message_count n rounds)
+    ∷ codes "sum"
     ∷ signed_decimal (ring_sum n rounds) ∷ []
     )
 

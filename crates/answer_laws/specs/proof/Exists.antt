@@ -29,4 +29,5 @@ EachBundleHasAnAnswer = (command : Command) (bundle : List ℕ) → HasForm comm
 
 -- and just one, if it is no run
 abbrev pub EachBundleHasOneAnswer : Type 0
-EachBundleHasOneAnswer = (command : Command) (bundle : List ℕ) → is_run command ≡ false → HasForm command → HasOneAnswer command bundle
+EachBundleHasOneAnswer =
+    (command : Command) (bundle : List ℕ) → is_run command ≡ false → HasForm command → HasOneAnswer command bundle

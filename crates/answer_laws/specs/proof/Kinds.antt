@@ -40,7 +40,8 @@ StatesOfScenariosFit = OfScenarios (λ design scenario. (node rounds : ℕ) (c :
 -- those of each message
 abbrev pub MessagesOfScenariosFit : Type 0
 MessagesOfScenariosFit = OfScenarios (λ design scenario. (number round : ℕ) (link : Link)
-    → slice_get design.links number ≡ Some link → TupleFits (link_kind design link) (msg design scenario.env number round))
+    → slice_get design.links number ≡ Some link
+    → TupleFits (link_kind design link) (msg design scenario.env number round))
 
 -- and those of what each component leaves of a round
 abbrev pub PartsOfScenariosFit : Type 0
@@ -55,7 +56,8 @@ FaultsOfScenariosFit = OfScenarios (λ design scenario. FaultsFit design (faults
 -- so do those of each replica's frame, and of all that a replica receives
 abbrev pub VotesOfScenariosFit : Type 0
 VotesOfScenariosFit = OfScenarios (λ design scenario. (rounds : ℕ)
-    → VotedFits design (vcomp design scenario.env (replicated_in design scenario.replicas) (faults_of scenario.faults) rounds))
+    → VotedFits design (vcomp design scenario.env (replicated_in design scenario.replicas)
+    (faults_of scenario.faults) rounds))
 
 -- and those of each root out port
 abbrev pub ShownOfScenariosFit : Type 0

@@ -25,7 +25,8 @@ MeansDesign root bundle = (design : DesignParts) × (scenario : List ℕ) × IsA
 
 -- It has such a design, and what stands behind the design text is a scenario for it.
 abbrev pub MeansScenario : List ℕ → List ℕ → Command → Type 0
-MeansScenario root bundle command = (design : DesignParts) × (scenario : Scenario) × HasScenario root bundle command design scenario
+MeansScenario root bundle command =
+    (design : DesignParts) × (scenario : Scenario) × HasScenario root bundle command design scenario
 
 -- ---- what commands need further that need step codes
 -- It has such a design, with a component whose step code would be too long.
@@ -39,7 +40,8 @@ pub record HasLongCode (root bundle : List ℕ) : Type 0 where
 
 -- It has such a design, with no component whose step code would be too long, and no scenario for it.
 abbrev pub LacksScenario : Execution → List ℕ → List ℕ → Type 0
-LacksScenario what root bundle = MeansDesign root bundle × (HasLongCode root bundle → ⊥) × (MeansScenario root bundle (command_of what root) → ⊥)
+LacksScenario what root bundle =
+    MeansDesign root bundle × (HasLongCode root bundle → ⊥) × (MeansScenario root bundle (command_of what root) → ⊥)
 
 -- It has such a scenario, no step code is too long, and of these the command makes an answer of this status.
 pub record GivesStatus (what : Execution) (root bundle : List ℕ) (status : ℕ) : Type 0 where

@@ -55,7 +55,8 @@ NoneIsStopped = InRunAnswers (λ design scenario trace status text. IsInTime des
 -- the rows of the composition, as `sync` writes them, and in a trace then a journal
 abbrev pub ShowsRounds : Run → Bool → List ℕ → Type 0
 ShowsRounds run false text = text ≡ report run.design run.env run.rounds
-ShowsRounds run true text = (journal : List JournalEntry) × (text ≡ report run.design run.env run.rounds ++ journal_text run journal)
+ShowsRounds run true text =
+    (journal : List JournalEntry) × (text ≡ report run.design run.env run.rounds ++ journal_text run journal)
 
 abbrev pub IsSynchronous : DesignParts → Scenario → Bool → ℕ → List ℕ → Type 0
 IsSynchronous design scenario trace status text = (status ≡ DONE) × ShowsRounds (run_of design scenario) trace text
@@ -70,7 +71,8 @@ abbrev pub AnswersAsSync : Type 0
 AnswersAsSync =
     (root bundle : List ℕ) (design : DesignParts) (scenario : Scenario) (status : ℕ) (text : List ℕ)
     → HasScenario root bundle (command.Run root false) design scenario → AreShort design → IsInTime design scenario
-    → AllPicked (run_of design scenario) scenario.clocks → IsExecutionAnswer (execution.Run false) root bundle status text
+    → AllPicked (run_of design scenario) scenario.clocks
+    → IsExecutionAnswer (execution.Run false) root bundle status text
     → IsAnalysisAnswer analysis.Sync root bundle status text
 
 -- it is done with these rounds too where nodes meet and the delays are within the bounds

@@ -22,13 +22,17 @@ loop-component-preserved c =
     let here : item ≡ component_at design (length codes) =
     c.component-item.is
     ∙ get_or_default c.components-component-items.result.now at item no_component c.loop-component-test.true
-    ∙ ap₂ (λ (cs : List Component) (k : ℕ). slice_index_or cs k no_component) c.components-component-items.ensures.value (sym count) in
+    ∙ ap₂ (λ (cs : List Component) (k : ℕ). slice_index_or cs k no_component) c.components-component-items.ensures.value
+    (sym count) in
     let means = subst (λ (k : Component). Means code k.behaviour) here c.in-Ok.ensures.means in
     let laid = subst (λ (k : Component). IsLaidOut k.behaviour code) here c.in-Ok.ensures.layout in
     let short = c.parts-verified.ensures.verified.short in
     let long = c.in-Ok.ensures.length in
-    let same : code_length item.behaviour ≡ length_of design (length codes) = ap (λ (k : Component). code_length k.behaviour) here in
+    let same : code_length item.behaviour ≡ length_of design (length codes) =
+    ap (λ (k : Component). code_length k.behaviour) here in
     let size : length_of design (length codes) ≤ INSTRUCTIONS = omega (arith, short, long, same) in
     let pushed = c.in_ok-push-in-Ok.ensures.ok in
-    let more = ap length pushed ∙ length-append codes (code ∷ []) in
-    (subst (AreFirst design) (sym pushed) (first_more design codes code c.loop-component.invariant.0 laid means size), omega (arith, more, count))
+    let more = ap length pushed ∙ length-append codes (code ∷ []) in (
+      subst (AreFirst design) (sym pushed) (first_more design codes code c.loop-component.invariant.0 laid means size),
+      omega (arith, more, count),
+    )

@@ -14,6 +14,7 @@ use Rattle.loose_world.specs.proof.Histories.{IsReplayed}
 -- a stop; behind the event that gives a stop, up to which the journal goes; and before the event that is not allowed
 abbrev pub JournalReplays : Type 0
 JournalReplays =
-    (run : Run) (programs : List CodeParts) (events : List Event) (how : LooseEnd) (t : BusValue) (lines : List (List ℕ))
+    (run : Run) (programs : List CodeParts) (events : List Event) (how : LooseEnd) (t : BusValue)
+    (lines : List (List ℕ))
     → IsRunOf run → RunsLoosely (opening_bus run programs false) events how t lines
     → IsReplayed run t

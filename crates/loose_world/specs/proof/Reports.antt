@@ -15,11 +15,13 @@ pub record AllHaveFinished (design : DesignParts) (events : List Event) (rounds 
 -- then the rows of the world are, byte for byte, those that `sync` reports of these rounds
 abbrev pub WorldIsReported : Type 0
 WorldIsReported =
-    (design : DesignParts) (env : Env) (events : List Event) (rounds : ℕ) → IsDesign design → AllHaveFinished design events rounds
+    (design : DesignParts) (env : Env) (events : List Event) (rounds : ℕ) → IsDesign design
+    → AllHaveFinished design events rounds
     → world_rows design env events ≡ report_lines design env rounds
 
 -- and its text is that report, and behind it a line for each message that was sent
 abbrev pub WorldTextIsReported : Type 0
 WorldTextIsReported =
-    (design : DesignParts) (env : Env) (events : List Event) (rounds : ℕ) → IsDesign design → AllHaveFinished design events rounds
+    (design : DesignParts) (env : Env) (events : List Event) (rounds : ℕ) → IsDesign design
+    → AllHaveFinished design events rounds
     → worldtext design env events ≡ report design env rounds ++ text_of (sent_lines design env events [])

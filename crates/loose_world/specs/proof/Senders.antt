@@ -22,4 +22,5 @@ senders (e ∷ events) = with_sender (sender e) (senders events)
 pub record HasSent (t : BusValue) (node round : ℕ) : Type 0 where
   pub count : (node_at t.state node).count ≡ round + 1
   pub copies : (link : ℕ) → Contains (links_from t.run.design node) link
-      → (copy : FlightCopy) × (oldest round (flight_at t.state link) ≡ Some copy) × (copy.tuple ≡ msg t.run.design t.run.env link round)
+      → (copy : FlightCopy) × (oldest round (flight_at t.state link) ≡ Some copy)
+      × (copy.tuple ≡ msg t.run.design t.run.env link round)

@@ -20,5 +20,6 @@ StepsTo run events (end.Refused index fault) t journal = StepsToFault run events
 -- what happens on a bus, whatever codes its nodes have, is steps of the machine
 abbrev pub EventsAreSteps : Type 0
 EventsAreSteps =
-    (run : Run) (programs : List CodeParts) (events : List Event) (how : LooseEnd) (t : BusValue) (lines : List (List ℕ))
+    (run : Run) (programs : List CodeParts) (events : List Event) (how : LooseEnd) (t : BusValue)
+    (lines : List (List ℕ))
     → RunsLoosely (opening_bus run programs false) events how t lines → StepsTo run events how t.state t.journal

@@ -43,14 +43,16 @@ abbrev pub RoundsAreFinished : Type 0
 RoundsAreFinished =
     AtEachEnd
     (λ run events t lines.
-    (node : ℕ) → node < length run.design.components → length (node_at t.state node).parts ≡ finished_by run.design events node)
+    (node : ℕ) → node < length run.design.components
+    → length (node_at t.state node).parts ≡ finished_by run.design events node)
 
 -- a node has sent as many rounds as it has sends
 abbrev pub RoundsAreSent : Type 0
 RoundsAreSent =
     AtEachEnd
     (λ run events t lines.
-    (node : ℕ) → node < length run.design.components → sent_rounds (node_at t.state node) ≡ sends_of node (senders events))
+    (node : ℕ) → node < length run.design.components
+    → sent_rounds (node_at t.state node) ≡ sends_of node (senders events))
 
 -- ---- rows
 -- the rounds that some node has finished have the rows of the world
@@ -65,7 +67,8 @@ CommonRows =
 
 -- without components these are all rounds of the run
 abbrev pub RoundsWithoutNodes : Type 0
-RoundsWithoutNodes = (run : Run) (s : BusState) → Agrees run s → run.design.components ≡ [] → finished_by_all run s ≡ run.rounds
+RoundsWithoutNodes =
+    (run : Run) (s : BusState) → Agrees run s → run.design.components ≡ [] → finished_by_all run s ≡ run.rounds
 
 -- ---- messages
 -- behind a send, each link from its node has the message of the round that the sends before it tell
@@ -73,7 +76,8 @@ abbrev pub SendsAreInFlight : Type 0
 SendsAreInFlight =
     AtEachEnd
     (λ run before s lines.
-    (t : BusValue) (node : NodeNo) → Undergoes s (event.Send node) t → HasSent t node.0 (sends_of node.0 (senders before)))
+    (t : BusValue) (node : NodeNo) → Undergoes s (event.Send node) t
+    → HasSent t node.0 (sends_of node.0 (senders before)))
 
 -- the lines that are told are those of the world
 abbrev pub LinesAreTold : Type 0
@@ -82,7 +86,8 @@ LinesAreTold = AtEachEnd (λ run events t lines. lines ≡ sent_lines run.design
 -- ---- the texts
 -- the rows and the lines that were told are the text of the world
 abbrev pub WorldIsTold : Type 0
-WorldIsTold = AtEachEnd (λ run events t lines. text_of (finished_lines t) ++ text_of lines ≡ worldtext run.design run.env events)
+WorldIsTold =
+    AtEachEnd (λ run events t lines. text_of (finished_lines t) ++ text_of lines ≡ worldtext run.design run.env events)
 
 -- so it is where all events of a loose world happen
 abbrev pub TextIsTold : Type 0

@@ -26,7 +26,8 @@ EndFits b clocks node end.Memory = Unit {0}
 pub record EndsFit (b : BusValue) (clocks : Clocks) (ends : List NodeEnd) : Type 0 where
   pub many : length ends ≡ length b.run.design.components
   pub each : (node : ℕ) (e : NodeEnd) → slice_get ends node ≡ Some e → EndFits b clocks node e
-  pub closed : (node : ℕ) → slice_get ends node ≡ Some end.Closed → (other : ℕ) × (slice_get ends other ≡ Some end.Memory)
+  pub closed : (node : ℕ) → slice_get ends node ≡ Some end.Closed
+      → (other : ℕ) × (slice_get ends other ≡ Some end.Memory)
 
 -- what comes out of a run: the run is the one that went in; the clocks have come to some place in the same lists; the bus is where
 -- the events of a run that keeps to them lead; and the ends fit
@@ -60,7 +61,8 @@ noted_end note.Memory phase stopped closed = Some end.Memory
 noted_end note.Open phase stopped closed = phase_end phase stopped closed
 
 abbrev pub end_in : CourseValue → ℕ → Option NodeEnd
-end_in c node = noted_end (note_at c.notes node) (node_at c.bus.state node).phase (is_some c.bus.state.stop) c.bus.closed
+end_in c node =
+    noted_end (note_at c.notes node) (node_at c.bus.state node).phase (is_some c.bus.state.stop) c.bus.closed
 
 -- the part of each node has ended
 abbrev pub AllEnded : CourseValue → Type 0

@@ -34,12 +34,15 @@ Going b = b.state.stop ≡ None
 
 -- ---- Start
 -- the node starts its round, and the job of its first step goes out
-pub record StartsRound (old : BusValue) (node : NodeNo) (reading : Option ℕ) (new : BusValue) (job : JobValue) : Type 0 where
+pub record StartsRound (old : BusValue) (node : NodeNo) (reading : Option ℕ) (new : BusValue)
+    (job : JobValue) : Type 0 where
   pub happens : Happens old (Start node reading) new
-  pub node_starts : Starts (node_value old node.0) (values_at old.run.env (node_at old.state node.0).count) reading (node_value new node.0) job
+  pub node_starts : Starts (node_value old node.0) (values_at old.run.env (node_at old.state node.0).count) reading
+      (node_value new node.0) job
 
 -- the start misses a message, and this stop stands from now on
-pub record MissesMessage (old : BusValue) (node : NodeNo) (reading : Option ℕ) (new : BusValue) (why : Stop) : Type 0 where
+pub record MissesMessage (old : BusValue) (node : NodeNo) (reading : Option ℕ) (new : BusValue)
+    (why : Stop) : Type 0 where
   pub happens : Happens old (Start node reading) new
   pub port : ℕ
   pub misses : StartEnds (node_value old node.0) reading (start.Missed port)
@@ -47,10 +50,12 @@ pub record MissesMessage (old : BusValue) (node : NodeNo) (reading : Option ℕ)
 
 -- the stop stood before, or the start gives it
 abbrev pub StoppedAtStart : BusValue → NodeNo → Option ℕ → BusValue → Stop → Type 0
-StoppedAtStart old node reading new why = ((old.state.stop ≡ Some why) × (new ≡ old)) ⊎ MissesMessage old node reading new why
+StoppedAtStart old node reading new why =
+    ((old.state.stop ≡ Some why) × (new ≡ old)) ⊎ MissesMessage old node reading new why
 
 -- nothing has changed, no stop stands, and the node itself refuses
-pub record RefusesStart (old : BusValue) (node : NodeNo) (reading : Option ℕ) (new : BusValue) (why : StartEnd) : Type 0 where
+pub record RefusesStart (old : BusValue) (node : NodeNo) (reading : Option ℕ) (new : BusValue)
+    (why : StartEnd) : Type 0 where
   pub same : new ≡ old
   pub going : Going old
   pub cause : StartEnds (node_value old node.0) reading why
@@ -63,19 +68,22 @@ BusStartEnds old node reading new bus_start.Over = RefusesStart old node reading
 BusStartEnds old node reading new bus_start.Memory = new ≡ old
 
 -- ---- Step
-pub record StepsOn (old : BusValue) (node : NodeNo) (reading : Option ℕ) (new : BusValue) (job : JobValue) : Type 0 where
+pub record StepsOn (old : BusValue) (node : NodeNo) (reading : Option ℕ) (new : BusValue)
+    (job : JobValue) : Type 0 where
   pub happens : Happens old (Step node reading) new
   pub node_steps : Steps (node_value old node.0) reading (node_value new node.0) job
 
 abbrev pub BusStepEnds : BusValue → NodeNo → Option ℕ → BusStepEnd → Type 0
 BusStepEnds b node reading (bus_step.Stopped why) = b.state.stop ≡ Some why
-BusStepEnds b node reading (bus_step.NotYet alarm) = Going b × StepEnds (node_value b node.0) reading (step.NotYet alarm)
+BusStepEnds b node reading (bus_step.NotYet alarm) =
+    Going b × StepEnds (node_value b node.0) reading (step.NotYet alarm)
 BusStepEnds b node reading bus_step.NotBetween = Going b × StepEnds (node_value b node.0) reading step.NotBetween
 BusStepEnds b node reading bus_step.Memory = Unit {0}
 
 -- ---- Finish
 -- the step is finished with what was handed in, or by running the job here
-pub record FinishesStep (old : BusValue) (node : NodeNo) (job : JobValue) (new : BusValue) (how : Finished) : Type 0 where
+pub record FinishesStep (old : BusValue) (node : NodeNo) (job : JobValue) (new : BusValue)
+    (how : Finished) : Type 0 where
   pub happens : Happens old (Finish node) new
   pub node_finishes : FinishesWith (node_value old node.0) job (node_value new node.0) how
 
@@ -90,7 +98,8 @@ pub record SendsRound (old : BusValue) (node : NodeNo) (reading : Option ℕ) (n
 
 abbrev pub BusSendEnds : BusValue → NodeNo → Option ℕ → BusSendEnd → Type 0
 BusSendEnds b node reading (bus_send.Stopped why) = b.state.stop ≡ Some why
-BusSendEnds b node reading (bus_send.NotYet release) = Going b × SendEnds (node_value b node.0) reading (send.NotYet release)
+BusSendEnds b node reading (bus_send.NotYet release) =
+    Going b × SendEnds (node_value b node.0) reading (send.NotYet release)
 BusSendEnds b node reading bus_send.NotFinished = Going b × SendEnds (node_value b node.0) reading send.NotFinished
 
 -- ---- messages

@@ -23,20 +23,31 @@ use Rattle.pals_bus.specs.Values.{BusValue}
 
 abbrev pub run_code : Coded Run
 run_code =
-    code_by (DesignParts × (Env × (ℕ × Delays))) (coded× designs.coded (coded× envs.coded (coded× coded_ℕ delays.coded)))
-    (λ r. (r.design, (r.env, (r.rounds, r.delays)))) (λ p. record { design = p.0; env = p.1.0; rounds = p.1.1.0; delays = p.1.1.1 }) (λ _. refl)
+    code_by (DesignParts × (Env × (ℕ × Delays)))
+    (coded× designs.coded (coded× envs.coded (coded× coded_ℕ delays.coded)))
+    (λ r. (r.design, (r.env, (r.rounds, r.delays))))
+    (λ p. record { design = p.0; env = p.1.0; rounds = p.1.1.0; delays = p.1.1.1 }) (λ _. refl)
 
 abbrev pub bus_state_code : Coded BusState
 bus_state_code =
-    code_by (List NodeState × (List (List FlightCopy) × Option Stop)) (coded× (coded_list state_code) (coded× (coded_list (coded_list copies.coded)) (coded_option stops.coded)))
+    code_by (List NodeState × (List (List FlightCopy) × Option Stop))
+    (coded× (coded_list state_code) (coded× (coded_list (coded_list copies.coded)) (coded_option stops.coded)))
     (λ s. (s.nodes, (s.flights, s.stop))) (λ p. record { nodes = p.0; flights = p.1.0; stop = p.1.1 }) (λ _. refl)
 
 abbrev pub bus_code : Coded BusValue
 bus_code =
     code_by (Run × (List CodeParts × (Bool × (Bool × (BusState × List JournalEntry)))))
-    (coded× run_code (coded× (coded_list codes.coded) (coded× coded_bool (coded× coded_bool (coded× bus_state_code (coded_list entries.coded))))))
+    (coded× run_code (coded× (coded_list codes.coded)
+    (coded× coded_bool (coded× coded_bool (coded× bus_state_code (coded_list entries.coded))))))
     (λ b. (b.run, (b.codes, (b.meeting, (b.closed, (b.state, b.journal))))))
-    (λ p. record { run = p.0; codes = p.1.0; meeting = p.1.1.0; closed = p.1.1.1.0; state = p.1.1.1.1.0; journal = p.1.1.1.1.1 }) (λ _. refl)
+    (λ p. record {
+      run = p.0;
+      codes = p.1.0;
+      meeting = p.1.1.0;
+      closed = p.1.1.1.0;
+      state = p.1.1.1.1.0;
+      journal = p.1.1.1.1.1;
+    }) (λ _. refl)
 
 abbrev pub nodes_code : Coded (List NodeValue)
 nodes_code = coded_list node_code

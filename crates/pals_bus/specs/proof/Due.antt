@@ -33,12 +33,15 @@ pub record HasDue (b : BusValue) (node reading : ℕ) : Type 0 where
 -- the first of them: in link order, and then in order of rounds
 pub record IsNextDue (b : BusValue) (node reading link round : ℕ) : Type 0 where
   pub is_due : IsDueTo b node reading link round
-  pub first : (other later : ℕ) → IsDueTo b node reading other later → (link < other) ⊎ ((link ≡ other) × (round ≤ later))
+  pub first : (other later : ℕ) → IsDueTo b node reading other later
+      → (link < other) ⊎ ((link ≡ other) × (round ≤ later))
 
 -- they arrive one after the other
 pub data TakesDue (node reading : ℕ) : BusValue → BusValue → Type 0 where
   takes_none : {b : BusValue} → TakesDue node reading b b
-  takes_next : {a b c : BusValue} (link : LinkNo) (round : ℕ) → TakesDue node reading a b → IsNextDue b node reading link.0 round → Happens b (Arrive link round (Some reading)) c → TakesDue node reading a c
+  takes_next : {a b c : BusValue} (link : LinkNo) (round : ℕ) → TakesDue node reading a b
+      → IsNextDue b node reading link.0 round → Happens b (Arrive link round (Some reading)) c
+      → TakesDue node reading a c
 
 -- all have arrived, and no stop stands
 pub record TakesAllDue (old : BusValue) (node reading : ℕ) (new : BusValue) : Type 0 where
@@ -48,7 +51,9 @@ pub record TakesAllDue (old : BusValue) (node reading : ℕ) (new : BusValue) : 
 
 -- how often an entry's copy is in flight to a node
 abbrev pub flying : BusValue → ℕ → DueEntry → ℕ
-flying b node e = if nat_eq (link_at b.run.design e.link.0).target.0 node then count_by (is_copy_of e) (flight_at b.state e.link.0) else 0
+flying b node e =
+    if nat_eq (link_at b.run.design e.link.0).target.0 node then count_by (is_copy_of e)
+    (flight_at b.state e.link.0) else 0
 
 -- the entries of all messages that are due to a node at a reading, in link order and then in order of rounds
 pub record AreLeft (b : BusValue) (node reading : ℕ) (left : List DueEntry) : Type 0 where
@@ -58,5 +63,6 @@ pub record AreLeft (b : BusValue) (node reading : ℕ) (left : List DueEntry) : 
 -- the stop stood before, or the last of them that arrived gave it
 abbrev pub DueEnds : BusValue → ℕ → ℕ → BusValue → DueEnd → Type 0
 DueEnds old node reading new (due_end.Stopped why) =
-    ((old.state.stop ≡ Some why) × (new ≡ old)) ⊎ ((old.state.stop ≡ None) × TakesDue node reading old new × (new.state.stop ≡ Some why))
+    ((old.state.stop ≡ Some why) × (new ≡ old))
+    ⊎ ((old.state.stop ≡ None) × TakesDue node reading old new × (new.state.stop ≡ Some why))
 DueEnds old node reading new due_end.Memory = new ≡ old

@@ -63,7 +63,8 @@ pub record AreNodes (design : DesignParts) (rounds : ℕ) (nodes : List NodeValu
 -- a link whose source has a round in hand that is not sent has room for its message
 abbrev pub HasRooms : List Link → List NodeValue → List FlightState → Type 0
 HasRooms links nodes flights =
-    (number : ℕ) (link : Link) → slice_get links number ≡ Some link → (slice_index_or nodes link.source.0 no_node_value).state.sent ≡ false
+    (number : ℕ) (link : Link) → slice_get links number ≡ Some link
+    → (slice_index_or nodes link.source.0 no_node_value).state.sent ≡ false
     → 1 ≤ (slice_index_or flights number no_flight).spare
 
 -- the entries that a node still owes to the journal in this round: the finish of the job that is out, and the send

@@ -21,7 +21,8 @@ use Rattle.pals_bus.specs.declared.answers.LooseFault.TheVariants as fault
 
 -- the stop stood before, or the event gave it
 abbrev pub StopsLoose : BusValue → Event → BusValue → Stop → Type 0
-StopsLoose old e new why = ((old.state.stop ≡ Some why) × (new ≡ old)) ⊎ (HappensLoose old e new × (new.state.stop ≡ Some why))
+StopsLoose old e new why =
+    ((old.state.stop ≡ Some why) × (new ≡ old)) ⊎ (HappensLoose old e new × (new.state.stop ≡ Some why))
 
 abbrev pub LooseEnds : BusValue → Event → BusValue → LooseFault → Type 0
 LooseEnds old e new (fault.Stopped why) = StopsLoose old e new why

@@ -9,11 +9,13 @@ use Rattle.pals_bus.specs.declared.answers.Meet.TheVariants as meet
 
 -- the reading that a node waits for, or works at; none where it is done
 abbrev pub target_in : BusValue → ℕ → Option ℕ
-target_in b node = let plan = plan_of b.run.design node in option_map (target plan) (action_of plan (node_at b.state node))
+target_in b node = let plan = plan_of b.run.design node in
+    option_map (target plan) (action_of plan (node_at b.state node))
 
 -- no node that is not done has a lesser target
 abbrev pub IsLeast : BusValue → ℕ → Type 0
-IsLeast b reading = (other least : ℕ) → other < length b.run.design.components → target_in b other ≡ Some least → reading ≤ least
+IsLeast b reading =
+    (other least : ℕ) → other < length b.run.design.components → target_in b other ≡ Some least → reading ≤ least
 
 -- a stop stands, or the run is closed
 abbrev pub HasEnded : BusValue → Type 0

@@ -37,4 +37,5 @@ copies_without f link round = slice_set (copies_in f.flights) link.0 (without_ol
 -- the flights after they are sent
 abbrev pub IsRoundSent : Fields → ℕ → ℕ → Option ℕ → List (List Port) → List FlightState → Type 0
 IsRoundSent f node round reading messages flights =
-    AreSent node (arc_value f.design).links f.delays round reading messages (length (arc_value f.design).links) f.flights flights
+    AreSent node (arc_value f.design).links f.delays round reading messages (length (arc_value f.design).links)
+    f.flights flights

@@ -7,6 +7,8 @@ use Rattle.pals_bus.specs.proof.Values.{code_at}
 use Rattle.pals_bus.specs.proof.Absent.{no_node_value}
 
 -- each has the plan of its component and its code
-pub record AreOpening (design : DesignParts) (codes : List CodeParts) (rounds : ℕ) (nodes : List NodeValue) : Type 0 where
+pub record AreOpening (design : DesignParts) (codes : List CodeParts) (rounds : ℕ)
+    (nodes : List NodeValue) : Type 0 where
   pub count : length nodes ≡ length codes
-  pub each : (node : ℕ) → node < length nodes → slice_index_or nodes node no_node_value ≡ opening_value (program_of design node (code_at codes node)) rounds
+  pub each : (node : ℕ) → node < length nodes
+      → slice_index_or nodes node no_node_value ≡ opening_value (program_of design node (code_at codes node)) rounds

@@ -25,12 +25,15 @@ copies_to links flights node e =
 
 -- a link into a node whose source has a round in hand that is not sent
 abbrev pub is_awaited : List NodeValue → ℕ → Link → Bool
-is_awaited nodes node link = nat_eq link.target.0 node && not (slice_index_or nodes link.source.0 no_node_value).state.sent
+is_awaited nodes node link =
+    nat_eq link.target.0 node && not (slice_index_or nodes link.source.0 no_node_value).state.sent
 
 -- each queue has those copies, and room for the messages that are still to be sent to its node
-pub record AreQueues (links : List Link) (nodes : List NodeValue) (flights : List FlightState) (queues : List QueueState) : Type 0 where
+pub record AreQueues (links : List Link) (nodes : List NodeValue) (flights : List FlightState)
+    (queues : List QueueState) : Type 0 where
   pub count : length queues ≡ length nodes
-  pub entries : (node : ℕ) (e : DueEntry) → count_by (is_entry e) (slice_index_or queues node no_queue).entries ≡ copies_to links flights node e
+  pub entries : (node : ℕ) (e : DueEntry)
+      → count_by (is_entry e) (slice_index_or queues node no_queue).entries ≡ copies_to links flights node e
   pub room : (node : ℕ) → count_by (is_awaited nodes node) links ≤ (slice_index_or queues node no_queue).spare
 
 -- ---- room
@@ -38,12 +41,14 @@ abbrev pub entries_in : List QueueState → List (List DueEntry)
 entries_in queues = map (λ queue. queue.entries) queues
 
 abbrev pub NoLessQueueRoom : List QueueState → List QueueState → Type 0
-NoLessQueueRoom old new = (node : ℕ) → (slice_index_or old node no_queue).spare ≤ (slice_index_or new node no_queue).spare
+NoLessQueueRoom old new =
+    (node : ℕ) → (slice_index_or old node no_queue).spare ≤ (slice_index_or new node no_queue).spare
 
 -- a node that reads from this one has room for a message on each of its in ports
 abbrev pub HasQueueRoomFor : ℕ → List Link → List QueueState → Type 0
 HasQueueRoomFor node links queues =
-    (number : ℕ) (link : Link) → slice_get links number ≡ Some link → link.source.0 ≡ node → PORTS ≤ (slice_index_or queues link.target.0 no_queue).spare
+    (number : ℕ) (link : Link) → slice_get links number ≡ Some link → link.source.0 ≡ node
+    → PORTS ≤ (slice_index_or queues link.target.0 no_queue).spare
 
 -- the target of each of these links has it
 abbrev pub HasQueueRoomOn : List LinkNo → List Link → List QueueState → Type 0
@@ -53,7 +58,8 @@ HasQueueRoomOn numbers links queues =
 -- ---- one message
 abbrev pub with_due : QueueState → Option ℕ → LinkNo → ℕ → QueueState
 with_due queue None link round = queue
-with_due queue (Some due) link round = queue_of (with_entry (record { due = due; link = link; round = round }) queue.entries) (queue.spare - 1)
+with_due queue (Some due) link round =
+    queue_of (with_entry (record { due = due; link = link; round = round }) queue.entries) (queue.spare - 1)
 
 abbrev pub without_due : List DueEntry → Option ℕ → LinkNo → ℕ → List DueEntry
 without_due entries None link round = entries
@@ -65,10 +71,13 @@ abbrev pub is_between : ℕ → ℕ → Link → Bool
 is_between source node link = nat_eq link.source.0 source && nat_eq link.target.0 node
 
 -- the messages of the first links from a node are sent: each queue has room for those of its other links too
-pub record AreQueuesAmid (source first : ℕ) (links : List Link) (nodes : List NodeValue) (flights : List FlightState) (queues : List QueueState) : Type 0 where
+pub record AreQueuesAmid (source first : ℕ) (links : List Link) (nodes : List NodeValue) (flights : List FlightState)
+    (queues : List QueueState) : Type 0 where
   pub count : length queues ≡ length nodes
-  pub entries : (node : ℕ) (e : DueEntry) → count_by (is_entry e) (slice_index_or queues node no_queue).entries ≡ copies_to links flights node e
-  pub room : (node : ℕ) → count_by (is_between source node) (drop first links) + count_by (is_awaited nodes node) links ≤ (slice_index_or queues node no_queue).spare
+  pub entries : (node : ℕ) (e : DueEntry)
+      → count_by (is_entry e) (slice_index_or queues node no_queue).entries ≡ copies_to links flights node e
+  pub room : (node : ℕ) → count_by (is_between source node) (drop first links) + count_by (is_awaited nodes node) links
+      ≤ (slice_index_or queues node no_queue).spare
 
 -- ---- those that are due, by link and then by round
 abbrev pub comes_first : DueEntry → DueEntry → Bool

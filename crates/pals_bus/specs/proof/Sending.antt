@@ -23,14 +23,16 @@ place_of node links number = length (filter (is_from node) (take number links))
 -- the first links have room for a message, where they are from the node
 abbrev pub HasRoomFor : ℕ → ℕ → List Link → List FlightState → Type 0
 HasRoomFor node first links flights =
-    (number : ℕ) (link : Link) → number < first → slice_get links number ≡ Some link → link.source.0 ≡ node → 1 ≤ (slice_index_or flights number no_flight).spare
+    (number : ℕ) (link : Link) → number < first → slice_get links number ≡ Some link → link.source.0 ≡ node
+    → 1 ≤ (slice_index_or flights number no_flight).spare
 
 -- each of these links has room for a message
 abbrev pub HasRoomOn : List LinkNo → List FlightState → Type 0
 HasRoomOn numbers flights = All (λ link. 1 ≤ (slice_index_or flights link.0 no_flight).spare) numbers
 
 abbrev pub NoLessRoom : List FlightState → List FlightState → Type 0
-NoLessRoom old new = (number : ℕ) → (slice_index_or old number no_flight).spare ≤ (slice_index_or new number no_flight).spare
+NoLessRoom old new =
+    (number : ℕ) → (slice_index_or old number no_flight).spare ≤ (slice_index_or new number no_flight).spare
 
 -- ---- sending
 -- a flight with one more copy, in the room that was there
@@ -41,11 +43,15 @@ with_copy flight copy = flight_of (flight.copies ++ copy ∷ []) (flight.spare -
 abbrev pub sent_flight : ℕ → List Link → Delays → ℕ → Option ℕ → List (List Port) → ℕ → FlightState → FlightState
 sent_flight node links delays round reading messages number flight =
     if is_from node (slice_index_or links number no_link)
-    then with_copy flight (sent_copy round reading (delay_of delays number round) (slice_index_or messages (place_of node links number) []))
+    then with_copy flight (sent_copy round reading (delay_of delays number round)
+    (slice_index_or messages (place_of node links number) []))
     else flight
 
 -- the first flights are those after the send, and the others are as before
-pub record AreSent (node : ℕ) (links : List Link) (delays : Delays) (round : ℕ) (reading : Option ℕ) (messages : List (List Port)) (first : ℕ) (old new : List FlightState) : Type 0 where
+pub record AreSent (node : ℕ) (links : List Link) (delays : Delays) (round : ℕ) (reading : Option ℕ)
+    (messages : List (List Port)) (first : ℕ) (old new : List FlightState) : Type 0 where
   pub count : length new ≡ length old
-  pub sent : (number : ℕ) → number < first → slice_index_or new number no_flight ≡ sent_flight node links delays round reading messages number (slice_index_or old number no_flight)
+  pub sent : (number : ℕ) → number < first
+      → slice_index_or new number no_flight
+      ≡ sent_flight node links delays round reading messages number (slice_index_or old number no_flight)
   pub others : (number : ℕ) → first ≤ number → slice_index_or new number no_flight ≡ slice_index_or old number no_flight

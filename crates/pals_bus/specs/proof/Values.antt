@@ -11,7 +11,8 @@ use Rattle.pals_bus.specs.Values.{BusValue}
 
 -- before the first event
 abbrev pub opening_bus : Run → List CodeParts → Bool → BusValue
-opening_bus run codes meeting = record { run = run; codes = codes; meeting = meeting; closed = false; state = opening run; journal = [] }
+opening_bus run codes meeting =
+    record { run = run; codes = codes; meeting = meeting; closed = false; state = opening run; journal = [] }
 
 abbrev pub no_code : CodeParts
 no_code = record { instrs = []; entries = []; vars = 0; loops = 0; ins = 0; outs = 0 }
@@ -26,4 +27,9 @@ pub record AreCodes (design : DesignParts) (codes : List CodeParts) : Type 0 whe
 
 -- one of its nodes
 abbrev pub node_value : BusValue → ℕ → NodeValue
-node_value b node = record { program = program_of b.run.design node (code_at b.codes node); rounds = b.run.rounds; state = node_at b.state node }
+node_value b node =
+    record {
+      program = program_of b.run.design node (code_at b.codes node);
+      rounds = b.run.rounds;
+      state = node_at b.state node;
+    }

@@ -6,4 +6,5 @@ use Rattle.pals_code.specs.Bundles.{IsListed}
 -- their designs and codes are told alike
 abbrev pub OneListingOneDesign : Type 0
 OneListingOneDesign = (root other_root bundle other_bundle : List ℕ) (status other_status : ℕ) (text : List ℕ)
-    → (one : IsListed root bundle status text) (other : IsListed other_root other_bundle other_status text) → told one.design one.programs ≡ told other.design other.programs
+    → (one : IsListed root bundle status text) (other : IsListed other_root other_bundle other_status text)
+    → told one.design one.programs ≡ told other.design other.programs

@@ -29,5 +29,6 @@ status_at (end.Refused index fault) = SCENARIO_REFUSED
 
 abbrev pub text_at : LooseEnd → BusValue → List ℕ → List ℕ
 text_at end.All after sent = text_of (finished_lines after) ++ sent
-text_at (end.Stopped why) after sent = text_of (common_lines after) ++ text_of (map (entry_line after.run.design) after.journal)
+text_at (end.Stopped why) after sent =
+    text_of (common_lines after) ++ text_of (map (entry_line after.run.design) after.journal)
 text_at (end.Refused index fault) after sent = event_fault_line after.run.design index fault ++ line_end

@@ -34,7 +34,8 @@ abbrev pub TellsEnd : BusValue → List NodeEnd → Bool → ToldRun → Type 0
 TellsEnd b ends trace (told.Completed text) =
     (b.state.stop ≡ None) × AreFirst ends (length ends) None
     × (text.items ≡ text_of (common_lines b) ++ (if trace then journal_lines b else []))
-TellsEnd b ends trace (told.Stopped text) = (b.state.stop ≢ None) × (text.items ≡ text_of (common_lines b) ++ journal_lines b)
+TellsEnd b ends trace (told.Stopped text) =
+    (b.state.stop ≢ None) × (text.items ≡ text_of (common_lines b) ++ journal_lines b)
 TellsEnd b ends trace (told.ClockEnded text) =
     (b.state.stop ≡ None) × ((named : NodeNo × ℕ) × AreFirst ends (length ends) (Some named)
     × (text.items ≡ clock_end_line b.run.design named.0.0 named.1 ++ line_end))

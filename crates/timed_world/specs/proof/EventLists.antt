@@ -15,7 +15,8 @@ pub record Leads (old : WorldValue) (events : List Event) (new : WorldValue) : T
   pub others : new.bus ≡ record old.bus { state = new.bus.state; journal = new.bus.journal }
 
 -- the event of this index has this fault, and those before it happened
-pub record EndsAt (old : WorldValue) (events : List Event) (index : ℕ) (why : EventFault) (new : WorldValue) : Type 0 where
+pub record EndsAt (old : WorldValue) (events : List Event) (index : ℕ) (why : EventFault)
+    (new : WorldValue) : Type 0 where
   pub event : Event
   pub is_event : slice_get events index ≡ Some event
   pub before : Leads old (take index events) new

@@ -62,7 +62,9 @@ abbrev pub start_fault : Plan → Standing → Option EventFault
 start_fault plan s = or_else (wrong_unless plan (is_waiting s.phase)) (below plan s (alarm plan.period s.count))
 
 abbrev pub step_fault : Plan → Standing → Option EventFault
-step_fault plan s = or_else (wrong_unless plan (is_some (next_step s.phase))) (below plan s (alarm_of_step plan s (unwrap_or (next_step s.phase) 0)))
+step_fault plan s =
+    or_else (wrong_unless plan (is_some (next_step s.phase)))
+    (below plan s (alarm_of_step plan s (unwrap_or (next_step s.phase) 0)))
 
 abbrev pub finish_fault : Plan → Standing → ℕ → ℕ → Option EventFault
 finish_fault plan s time alpha_min =

@@ -24,7 +24,15 @@ pub record WorldValue : Type 0 where
 
 -- the world that it is
 abbrev pub world_of : WorldValue → World
-world_of v = record { bus = v.bus.state; time = v.time; readings = v.readings; since = v.since; ready = v.ready; sent_at = v.sent_at }
+world_of v =
+    record {
+      bus = v.bus.state;
+      time = v.time;
+      readings = v.readings;
+      since = v.since;
+      ready = v.ready;
+      sent_at = v.sent_at;
+    }
 
 -- before the first event; its nodes do not meet
 abbrev pub opening_value : DesignParts → List CodeParts → Env → ℕ → WorldValue

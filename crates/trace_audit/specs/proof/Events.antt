@@ -20,7 +20,8 @@ pub record SaysStart (b : BusValue) (readings : List ℕ) (e : JournalEntry) (no
   pub event : event_of b.run.design e ≡ Some (Start node (Some reading))
   pub fits : fits b.run b.state e ≡ true
   pub reads : timed b.run.design e ≡ read_at node.0 reading
-  pub early : too_early b.run b.state e ≡ (if is_before (Some reading) (alarm_at b.run b.state node.0) then Some rule.Alarm else None)
+  pub early : too_early b.run b.state e
+      ≡ (if is_before (Some reading) (alarm_at b.run b.state node.0) then Some rule.Alarm else None)
   pub waits : waits b.run b.state e ≡ has_due b.run b.state node.0 (Some reading)
 
 -- the event of an entry has happened

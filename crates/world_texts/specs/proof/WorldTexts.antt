@@ -26,7 +26,8 @@ pub record IsOpening (v : WorldValue) : Type 0 where
   pub world : world_of v ≡ opening_world v.bus.run
 
 -- events lead from one world to another, and the lines of what their bus sends are added to a text
-pub record LeadsTelling (old : WorldValue) (events : List Event) (new : WorldValue) (before text : List ℕ) : Type 0 where
+pub record LeadsTelling (old : WorldValue) (events : List Event) (new : WorldValue)
+    (before text : List ℕ) : Type 0 where
   pub leads : Leads old events new
   pub lines : List (List ℕ)
   pub undergone : InTurn Undergoes old.bus events new.bus lines

@@ -1,7 +1,8 @@
 use Rattle.answer_laws.proofs.accepted.accepted_designs_keep_their_rules.Goals as goal
 
 pub returns-clause-rules : goal.returns-clause-rules
-returns-clause-rules c root bundle design scenario x = c.designs_of_texts_keep_their_rules.ensures.rules x.tree root design (x.text, x.parsed.read) x.design_in
+returns-clause-rules c root bundle design scenario x =
+    c.designs_of_texts_keep_their_rules.ensures.rules x.tree root design (x.text, x.parsed.read) x.design_in
 
 pub returns-clause-there : goal.returns-clause-there
 returns-clause-there c root bundle text scenario tree parts parsed flat nothing =

@@ -4,10 +4,13 @@ use Rattle.answer_laws.proofs.Standing.{has_tree, check_ways}
 use Rattle.answer_laws.proofs.statuses.statuses_of_check.Goals as goal
 
 pub returns-clause-done : goal.returns-clause-done
-returns-clause-done c root bundle s a x = done (λ n. n ≡ 0) zero_is_small (has_tree root bundle) (λ h. h) s (check_ways root bundle s a x)
+returns-clause-done c root bundle s a x =
+    done (λ n. n ≡ 0) zero_is_small (has_tree root bundle) (λ h. h) s (check_ways root bundle s a x)
 
 pub returns-clause-text : goal.returns-clause-text
-returns-clause-text c root bundle s a x = without_text (λ n. n ≡ 0) zero_is_small (has_tree root bundle) (λ h. h) s (check_ways root bundle s a x)
+returns-clause-text c root bundle s a x =
+    without_text (λ n. n ≡ 0) zero_is_small (has_tree root bundle) (λ h. h) s (check_ways root bundle s a x)
 
 pub returns-clause-design : goal.returns-clause-design
-returns-clause-design c root bundle s a x = without_design (λ n. n ≡ 0) zero_is_small (has_tree root bundle) (λ h. h) s (check_ways root bundle s a x)
+returns-clause-design c root bundle s a x =
+    without_design (λ n. n ≡ 0) zero_is_small (has_tree root bundle) (λ h. h) s (check_ways root bundle s a x)

@@ -7,4 +7,5 @@ pub returns-clause-done : goal.returns-clause-done
 returns-clause-done c bundle s a x = done (λ n. n ≡ 0) zero_is_small (λ h. h) (λ h. h) s (print_ways bundle s a x)
 
 pub returns-clause-text : goal.returns-clause-text
-returns-clause-text c bundle s a x = without_text (λ n. n ≡ 0) zero_is_small (λ h. h) (λ h. h) s (print_ways bundle s a x)
+returns-clause-text c bundle s a x =
+    without_text (λ n. n ≡ 0) zero_is_small (λ h. h) (λ h. h) s (print_ways bundle s a x)

@@ -20,7 +20,8 @@ loop-index-preserved c =
     let goes = subst (λ (e : Event). GoesOn t e u) c.index-events-index.is c.in-Ok.ensures.ok in
     let same = c.index-events-index-in-loop-index.is ∙ get_or_default events first told done within in
     let lines = c.in_ok-tell_messages.ensures.ok ∙ ap (λ (e : Event). mid ++ text_of (told_by u e)) same in
-    done_more c.args.bus.now events first t u c.args.sent.now.items mid c.tell_messages.new.sent.items done within c.loop-index.invariant goes lines
+    done_more c.args.bus.now events first t u c.args.sent.now.items mid c.tell_messages.new.sent.items done within
+    c.loop-index.invariant goes lines
 
 pub returns-in_err-tell_messages-clause-err : goal.returns-in_err-tell_messages-clause-err
 returns-in_err-tell_messages-clause-err c =
@@ -33,4 +34,6 @@ returns-in_err-tell_messages-clause-err c =
     let within = c.loop-index-test.true in
     let goes = subst (λ (e : Event). GoesOn t e u) c.index-events-index.is c.in-Ok.ensures.ok in
     let kept = c.in_err-tell_messages.ensures.err in
-    on_err c.from_residual.result (cut_behind c.args.bus.now events first t u c.args.sent.now.items mid c.tell_messages.new.sent.items done within c.loop-index.invariant goes kept)
+    on_err c.from_residual.result
+    (cut_behind c.args.bus.now events first t u c.args.sent.now.items mid c.tell_messages.new.sent.items done within
+    c.loop-index.invariant goes kept)

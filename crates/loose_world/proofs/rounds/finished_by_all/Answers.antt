@@ -6,7 +6,8 @@ use Rattle.loose_world.proofs.rounds.finished_by_all.Goals as goal
 pub loop-node-preserved : goal.loop-node-preserved
 loop-node-preserved c =
     let b = c.args.bus.now in
-    let count = ap length (c.components-node-end.ensures.value ∙ ap (λ (d : DesignParts). d.components) c.design.ensures) in
+    let count =
+    ap length (c.components-node-end.ensures.value ∙ ap (λ (d : DesignParts). d.components) c.design.ensures) in
     let nodes = c.agreement.ensures.nodes in
     let before = c.loop-node-test.true in
     let within : c.loop-node.node < length b.state.nodes = omega (arith, count, nodes, before) in
@@ -19,7 +20,8 @@ loop-node-preserved c =
 pub returns : goal.returns
 returns c =
     let b = c.args.bus.now in
-    let count = ap length (c.components-node-end.ensures.value ∙ ap (λ (d : DesignParts). d.components) c.design.ensures) in
+    let count =
+    ap length (c.components-node-end.ensures.value ∙ ap (λ (d : DesignParts). d.components) c.design.ensures) in
     let nodes = c.agreement.ensures.nodes in
     let past = c.loop-node-test.false in
     let all : length b.state.nodes ≤ c.loop-node.node = omega (arith, count, nodes, past) in

@@ -14,7 +14,8 @@ loop-node-preserved c =
 
 pub returns : goal.returns
 returns c =
-    let count = ap length (c.components-node-end.ensures.value ∙ ap (λ (d : DesignParts). d.components) c.design.ensures) in
+    let count =
+    ap length (c.components-node-end.ensures.value ∙ ap (λ (d : DesignParts). d.components) c.design.ensures) in
     let past = c.loop-node-test.false in
     let within = c.loop-node.auto.node-end in
     let all : c.loop-node.node ≡ length c.args.bus.now.run.design.components = omega (arith, count, past, within) in

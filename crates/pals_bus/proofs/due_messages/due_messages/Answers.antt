@@ -13,7 +13,8 @@ use Rattle.pals_bus.proofs.due_messages.due_messages.Goals as goal
 
 pub unreachable-requires : goal.unreachable-requires
 unreachable-requires c =
-    due_place c.args.queue.now.entries c.args.reading c.due_count-place-end.result c.loop-place.place c.due_count-place-end.ensures.count c.loop-place-test.true (sym c.get.ensures.entry ∙ c.in_default.is)
+    due_place c.args.queue.now.entries c.args.reading c.due_count-place-end.result c.loop-place.place
+    c.due_count-place-end.ensures.count c.loop-place-test.true (sym c.get.ensures.entry ∙ c.in_default.is)
 
 pub loop-place-preserved : goal.loop-place-preserved
 loop-place-preserved c =
@@ -24,7 +25,8 @@ loop-place-preserved c =
     let count = c.due_count-place-end.ensures.count in
     let below = c.loop-place-test.true in
     let within : place < length entries = omega (arith, least, count, below) in
-    let here : slice_index_or entries place entry ≡ entry = get_or_from_slice_get entries place entry entry (sym c.in-Some.ensures.entry) in
+    let here : slice_index_or entries place entry ≡ entry =
+    get_or_from_slice_get entries place entry entry (sym c.in-Some.ensures.entry) in
     let pushed : c.push.new.self.items ≡ c.loop-place.due.items ++ entry ∷ [] = c.in_ok-push.ensures.items in
     let short : IsShort entry = c.place_in_order-place.ensures.short in (
       pushed
@@ -40,11 +42,14 @@ returns c =
     let past = c.loop-place-test.false in
     let most = c.loop-place.auto.place-end in
     let all : c.loop-place.place ≡ c.due_count-place-end.result = omega (arith, past, most) in
-    let due : c.loop-place.due.items ≡ filter (is_due_at c.args.reading) entries = c.loop-place.invariant.0 ∙ ap (λ k. take k entries) all ∙ c.due_count-place-end.ensures.first in
+    let due : c.loop-place.due.items ≡ filter (is_due_at c.args.reading) entries = c.loop-place.invariant.0
+    ∙ ap (λ k. take k entries) all ∙ c.due_count-place-end.ensures.first in
     let sorted = c.sort_unstable_by_key.new.self.items in
     record {
       are = subst (λ (xs : List DueEntry). IsPermutation xs sorted) due c.sort_unstable_by_key.ensures.permutation;
       order =
-          in_order sorted (IsNonDecreasingBy-from_sort_by_key number_of sorted c.sort_unstable_by_key.ensures.sorted (λ a r q k. search rules))
-          (All-permutation IsShort c.loop-place.due.items sorted c.sort_unstable_by_key.ensures.permutation c.loop-place.invariant.1);
+          in_order sorted (IsNonDecreasingBy-from_sort_by_key number_of sorted c.sort_unstable_by_key.ensures.sorted
+          (λ a r q k. search rules))
+          (All-permutation IsShort c.loop-place.due.items sorted c.sort_unstable_by_key.ensures.permutation
+          c.loop-place.invariant.1);
     }

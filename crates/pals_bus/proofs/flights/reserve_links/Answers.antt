@@ -19,9 +19,12 @@ loop-link-preserved c =
     let here = c.index_mut.ensures.value ∙ get_or_default new link.0 c.index_mut.result.now no_flight within in
     let room = c.in_ok-reserve.ensures.room in
     let spare = ap (λ (f : FlightState). f.spare) here in
-    reserved_one k numbers c.args.flights.now new link c.reserve.new.self c.loop-link.invariant refl within (c.reserve.ensures.copies ∙ ap (λ (f : FlightState). f.copies) here) (omega (arith, room, spare)) (omega (arith, room))
+    reserved_one k numbers c.args.flights.now new link c.reserve.new.self c.loop-link.invariant refl within
+    (c.reserve.ensures.copies ∙ ap (λ (f : FlightState). f.copies) here) (omega (arith, room, spare))
+    (omega (arith, room))
 
 pub returns-clause-room : goal.returns-clause-room
 returns-clause-room c =
     let past = c.loop-link-test.false in
-    All-from_get_or (λ (link : LinkNo). 1 ≤ (slice_index_or c.loop-link.flights link.0 no_flight).spare) c.args.numbers.now no_link_no (λ k lt. c.loop-link.invariant.room k (omega (arith, past, lt)))
+    All-from_get_or (λ (link : LinkNo). 1 ≤ (slice_index_or c.loop-link.flights link.0 no_flight).spare)
+    c.args.numbers.now no_link_no (λ k lt. c.loop-link.invariant.room k (omega (arith, past, lt)))

@@ -23,10 +23,14 @@ loop-link-preserved c =
     let here = c.index_mut.ensures.value ∙ get_or_default new target c.index_mut.result.now no_queue within in
     let room = c.in_ok-reserve.ensures.room in
     let spare = ap (λ (q : QueueState). q.spare) here in
-    queues_reserved_one k numbers links c.args.queues.now new link target c.reserve.new.self c.loop-link.invariant refl refl within (c.reserve.ensures.entries ∙ ap (λ (q : QueueState). q.entries) here) (omega (arith, room, spare)) (omega (arith, room))
+    queues_reserved_one k numbers links c.args.queues.now new link target c.reserve.new.self c.loop-link.invariant refl
+    refl within (c.reserve.ensures.entries ∙ ap (λ (q : QueueState). q.entries) here) (omega (arith, room, spare))
+    (omega (arith, room))
 
 pub returns-clause-room : goal.returns-clause-room
 returns-clause-room c =
     let past = c.loop-link-test.false in
-    All-from_get_or (λ (link : LinkNo). PORTS ≤ (slice_index_or c.loop-link.queues (slice_index_or c.args.links.now link.0 no_link).target.0 no_queue).spare) c.args.numbers.now no_link_no
+    All-from_get_or (λ (link : LinkNo). PORTS
+    ≤ (slice_index_or c.loop-link.queues (slice_index_or c.args.links.now link.0 no_link).target.0 no_queue).spare)
+    c.args.numbers.now no_link_no
     (λ k lt. c.loop-link.invariant.room k (omega (arith, past, lt)))

@@ -10,4 +10,6 @@ returns-in-Err-clause-end c =
     let old = c.args.bus.now in
     let new = c.deliver.new.self in
     let e = event.Arrive c.args.link c.args.round in
-    subst (LooseEnds old e new) (sym c.link_fault.ensures) (link_ends old new e (Arrive c.args.link c.args.round None) c.args.link c.args.round c.in-Err.end c.in-Err.ensures.same c.in-Err.ensures.cause refl refl refl)
+    subst (LooseEnds old e new) (sym c.link_fault.ensures)
+    (link_ends old new e (Arrive c.args.link c.args.round None) c.args.link c.args.round c.in-Err.end
+    c.in-Err.ensures.same c.in-Err.ensures.cause refl refl refl)

@@ -8,4 +8,5 @@ pub returns-in-Err-clause-end : goal.returns-in-Err-clause-end
 returns-in-Err-clause-end c =
     let old = c.args.bus.now in
     let new = c.finish_here.new.self in
-    subst (LooseEnds old (event.Finish c.args.node) new) (sym c.finish_fault.ensures) (finish_ends old new c.args.node c.in-Err.end c.in-Err.ensures.same c.in-Err.ensures.cause)
+    subst (LooseEnds old (event.Finish c.args.node) new) (sym c.finish_fault.ensures)
+    (finish_ends old new c.args.node c.in-Err.end c.in-Err.ensures.same c.in-Err.ensures.cause)

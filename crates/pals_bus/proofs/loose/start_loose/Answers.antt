@@ -8,4 +8,5 @@ pub returns-in-Err-clause-end : goal.returns-in-Err-clause-end
 returns-in-Err-clause-end c =
     let old = c.args.bus.now in
     let new = c.start.new.self in
-    subst (LooseEnds old (event.Start c.args.node) new) (sym c.start_fault.ensures) (start_ends old new c.args.node c.in-Err.end c.in-Err.ensures.end)
+    subst (LooseEnds old (event.Start c.args.node) new) (sym c.start_fault.ensures)
+    (start_ends old new c.args.node c.in-Err.end c.in-Err.ensures.end)

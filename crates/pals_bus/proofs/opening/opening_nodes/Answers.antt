@@ -14,5 +14,7 @@ loop-code-preserved c =
     let len = c.len.ensures in
     let number : c.len.result ≡ length nodes = omega (arith, size, len) in
     let program = c.in_ok-plan-2.ensures.ok ∙ c.in_ok-plan.ensures ∙ ap (λ (k : ℕ). program_of design k code) number in
-    let is : n ≡ opening_value (program_of design (length nodes) code) c.args.rounds = c.in_ok-new.ensures ∙ ap (λ (p : Program). opening_value p c.args.rounds) program in
-    subst (AreOpening design (c.loop-code.yielded ++ code ∷ []) c.args.rounds) (sym c.in_ok-push.ensures.items) (opening_one design c.loop-code.yielded c.args.rounds nodes code n c.loop-code.invariant is)
+    let is : n ≡ opening_value (program_of design (length nodes) code) c.args.rounds = c.in_ok-new.ensures
+    ∙ ap (λ (p : Program). opening_value p c.args.rounds) program in
+    subst (AreOpening design (c.loop-code.yielded ++ code ∷ []) c.args.rounds) (sym c.in_ok-push.ensures.items)
+    (opening_one design c.loop-code.yielded c.args.rounds nodes code n c.loop-code.invariant is)

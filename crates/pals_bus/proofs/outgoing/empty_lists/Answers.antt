@@ -6,4 +6,6 @@ use Rattle.pals_bus.proofs.outgoing.empty_lists.Goals as goal
 
 pub loop-component-preserved : goal.loop-component-preserved
 loop-component-preserved c =
-    map_more (λ (_ : Component). no_numbers) c.args.components.now c.loop-component._component-index no_component c.loop-component.lists c.push.new.self c.new.result c.loop-component-test.true c.loop-component.invariant c.new.ensures c.in_ok-push.ensures.ok
+    map_more (λ (_ : Component). no_numbers) c.args.components.now c.loop-component._component-index no_component
+    c.loop-component.lists c.push.new.self c.new.result c.loop-component-test.true c.loop-component.invariant
+    c.new.ensures c.in_ok-push.ensures.ok

@@ -5,4 +5,6 @@ use Rattle.pals_code.proofs.bundle.answer_bundle.Goals as goal
 
 pub returns-in-Err : goal.returns-in-Err
 returns-in-Err c =
-    IfOk-weaker c.refused.result _ _ (λ a says. inl (refused c.args.root.now c.args.bundle.now c.in-Err.refusal a c.in-Err.ensures.refused says)) c.refused.ensures.answer
+    IfOk-weaker c.refused.result _ _
+    (λ a says. inl (refused c.args.root.now c.args.bundle.now c.in-Err.refusal a c.in-Err.ensures.refused says))
+    c.refused.ensures.answer

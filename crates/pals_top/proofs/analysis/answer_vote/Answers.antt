@@ -13,8 +13,10 @@ returns c =
       status_is = refl;
       text_is =
           c.in_ok-text.ensures.rows
-          ∙ ap (λ (rs : List NodeNo). vreport design scenario.env (replicated_in design rs) (faults_of scenario.faults) scenario.rounds) same;
+          ∙ ap (λ (rs : List NodeNo).
+          vreport design scenario.env (replicated_in design rs) (faults_of scenario.faults) scenario.rounds) same;
       outvoted = λ fits.
-          c.in_ok-text.ensures.outvoted fits ∙ ap (λ (rs : List NodeNo). thrice design scenario.env (replicated_in design rs) scenario.rounds) same;
+          c.in_ok-text.ensures.outvoted fits
+          ∙ ap (λ (rs : List NodeNo). thrice design scenario.env (replicated_in design rs) scenario.rounds) same;
       alone = λ none. c.in_ok-text.ensures.alone (same ∙ none);
     }

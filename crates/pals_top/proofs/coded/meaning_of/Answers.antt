@@ -4,4 +4,5 @@ use Rattle.pals_top.proofs.coded.meaning_of.Goals as goal
 
 pub returns-in_ok-answer-in-Err : goal.returns-in_ok-answer-in-Err
 returns-in_ok-answer-in-Err c =
-    inl (bundle_refused c.args.root c.args.bundle.now c.in-Err.refusal c.in_ok-answer-in-Err.answer c.in-Err.ensures.refused c.in_ok-answer-in-Err.ensures.answer)
+    inl (bundle_refused c.args.root c.args.bundle.now c.in-Err.refusal c.in_ok-answer-in-Err.answer
+    c.in-Err.ensures.refused c.in_ok-answer-in-Err.ensures.answer)

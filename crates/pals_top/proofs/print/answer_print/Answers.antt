@@ -5,4 +5,6 @@ use Rattle.pals_top.proofs.print.answer_print.Goals as goal
 
 pub returns-in-Err : goal.returns-in-Err
 returns-in-Err c =
-    IfOk-weaker c.refused.result _ _ (λ a says. inr (text_refused c.args.bundle.now c.in-Err.refusal a c.in-Err.ensures.refused says)) c.refused.ensures.answer
+    IfOk-weaker c.refused.result _ _
+    (λ a says. inr (text_refused c.args.bundle.now c.in-Err.refusal a c.in-Err.ensures.refused says))
+    c.refused.ensures.answer

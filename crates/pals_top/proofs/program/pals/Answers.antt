@@ -45,7 +45,8 @@ pub returns-in-Err-Usage-clause-cut_short : goal.returns-in-Err-Usage-clause-cut
 returns-in-Err-Usage-clause-cut_short g c =
     let source = g.S.Source.shown c.args.source.now in
     let seen = reading source source in
-    let none : form c.args.words.now ≡ None = subst (IsWordsEnd (form c.args.words.now)) c.in-Err-Usage.field-0-is c.in-Err-Usage.ensures in
+    let none : form c.args.words.now ≡ None =
+    subst (IsWordsEnd (form c.args.words.now)) c.in-Err-Usage.field-0-is c.in-Err-Usage.ensures in
     let is : IsAnswer (form c.args.words.now) seen USAGE usage_line =
     subst (λ (f : Option Command). IsAnswer f seen USAGE usage_line) (sym none) (refl, refl, refl) in
     let answered : Result Answer ℕ = Ok Usage in

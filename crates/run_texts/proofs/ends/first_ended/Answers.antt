@@ -15,5 +15,6 @@ loop-node-preserved c =
       | in-Finished w ↦ subst (AreFirst ends (node + 1)) (sym w.first-is)
           (one_done ends node c.loop-node.first c.loop-node.invariant (here ∙ ap Some w.in-Finished.is))
       | in-ClockEnded w ↦ subst (AreFirst ends (node + 1)) (sym (w.first-is ∙ w.or-first.ensures))
-          (ended_next ends node c.loop-node.first _ w.in-ClockEnded.target refl c.loop-node.invariant (here ∙ ap Some w.in-ClockEnded.is))
+          (ended_next ends node c.loop-node.first _ w.in-ClockEnded.target refl c.loop-node.invariant
+          (here ∙ ap Some w.in-ClockEnded.is))
     ]

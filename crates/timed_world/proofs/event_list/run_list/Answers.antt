@@ -16,6 +16,10 @@ loop-index-preserved c =
     let event = c.index-events-index.result in
     let at = c.index-events-index.is in
     let fine : fault_of mid.bus.run (world_of mid) event ≡ None = c.in-Ok.ensures.fine in
-    let leads = leads_more c.args.world.now mid new (take index events) event c.loop-index.invariant fine c.in-Ok.ensures.moves in
-    let more = take_more events index event c.loop-index-test.true ∙ ap (λ (e : Event). take index events ++ e ∷ []) (sym at) in
+    let leads =
+    leads_more c.args.world.now mid new (take index events) event c.loop-index.invariant fine
+    c.in-Ok.ensures.moves in
+    let more =
+    take_more events index event c.loop-index-test.true
+    ∙ ap (λ (e : Event). take index events ++ e ∷ []) (sym at) in
     subst (λ (es : List Event). Leads c.args.world.now es new) (sym more) leads

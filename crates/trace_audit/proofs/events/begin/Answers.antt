@@ -12,25 +12,39 @@ use Rattle.trace_audit.proofs.events.begin.Goals as goal
 pub returns-in-Ok-clause-rule : goal.returns-in-Ok-clause-rule
 returns-in-Ok-clause-rule c =
     let start = c.in-Ok.ensures.ok in
-    started c.args.bus.now c.start.new.self c.args.readings.now c.args.entry.now c.args.node c.args.reading c.late_rule.result c.falls-falls.result c.has_due-waits.result c.is_last.result c.journal.result.now
+    started c.args.bus.now c.start.new.self c.args.readings.now c.args.entry.now c.args.node c.args.reading
+    c.late_rule.result c.falls-falls.result c.has_due-waits.result c.is_last.result c.journal.result.now
     c.requires.ready c.requires.says c.keeps.ensures.design c.keeps.ensures.rounds c.requires.entry c.requires.node
-    start.happens start.node_starts.due c.falls-falls.ensures c.has_due-waits.ensures c.journal.ensures c.is_last.ensures c.late_rule.ensures
+    start.happens start.node_starts.due c.falls-falls.ensures c.has_due-waits.ensures c.journal.ensures
+    c.is_last.ensures c.late_rule.ensures
 
 pub returns-in-Err-Stopped-clause-rule : goal.returns-in-Err-Stopped-clause-rule
 returns-in-Err-Stopped-clause-rule c =
     let b = c.args.bus.now in
-    let end = subst (BusStartEnds b c.args.node (Some c.args.reading) c.start.new.self) c.in-Err-Stopped.field-0-is c.in-Err-Stopped.ensures.end in
-    let missed = misses b c.start.new.self c.args.node (Some c.args.reading) c.in-Err-Stopped.field-0-0 c.requires.ready.going end in
-    started b c.start.new.self c.args.readings.now c.args.entry.now c.args.node c.args.reading c.late_rule-in-Err-Stopped.result c.falls-falls.result c.has_due-waits.result c.is_last-in-Err-Stopped.result c.journal-in-Err-Stopped.result.now
+    let end =
+    subst (BusStartEnds b c.args.node (Some c.args.reading) c.start.new.self) c.in-Err-Stopped.field-0-is
+    c.in-Err-Stopped.ensures.end in
+    let missed =
+    misses b c.start.new.self c.args.node (Some c.args.reading) c.in-Err-Stopped.field-0-0
+    c.requires.ready.going end in
+    started b c.start.new.self c.args.readings.now c.args.entry.now c.args.node c.args.reading
+    c.late_rule-in-Err-Stopped.result c.falls-falls.result c.has_due-waits.result c.is_last-in-Err-Stopped.result
+    c.journal-in-Err-Stopped.result.now
     c.requires.ready c.requires.says c.keeps.ensures.design c.keeps.ensures.rounds c.requires.entry c.requires.node
-    missed.happens missed.misses.1 c.falls-falls.ensures c.has_due-waits.ensures c.journal-in-Err-Stopped.ensures c.is_last-in-Err-Stopped.ensures c.late_rule-in-Err-Stopped.ensures
+    missed.happens missed.misses.1 c.falls-falls.ensures c.has_due-waits.ensures c.journal-in-Err-Stopped.ensures
+    c.is_last-in-Err-Stopped.ensures c.late_rule-in-Err-Stopped.ensures
 
 pub returns-in-Err-NotYet-clause-rule : goal.returns-in-Err-NotYet-clause-rule
 returns-in-Err-NotYet-clause-rule c =
     let b = c.args.bus.now in
     let says = c.requires.says in
-    let end = subst (BusStartEnds b c.args.node (Some c.args.reading) c.start.new.self) c.in-Err-NotYet.field-0-is c.in-Err-NotYet.ensures.end in
-    let early : is_early (Some c.args.reading) (alarm_at b.run b.state c.args.node.0) ≡ true = ap (is_early (Some c.args.reading)) (sym end.cause.1) ∙ end.cause.2 in
-    early_breaks b.run b.state c.args.readings.now c.args.entry.now (Start c.args.node (Some c.args.reading)) rule.Alarm c.early_rule.result c.falls-falls.result
-    c.requires.ready.going says.event says.fits (ap is_waiting end.cause.0) (c.falls-falls.ensures ∙ ap (falls c.args.readings.now) (sym says.reads))
+    let end =
+    subst (BusStartEnds b c.args.node (Some c.args.reading) c.start.new.self) c.in-Err-NotYet.field-0-is
+    c.in-Err-NotYet.ensures.end in
+    let early : is_early (Some c.args.reading) (alarm_at b.run b.state c.args.node.0) ≡ true =
+    ap (is_early (Some c.args.reading)) (sym end.cause.1) ∙ end.cause.2 in
+    early_breaks b.run b.state c.args.readings.now c.args.entry.now (Start c.args.node (Some c.args.reading)) rule.Alarm
+    c.early_rule.result c.falls-falls.result
+    c.requires.ready.going says.event says.fits (ap is_waiting end.cause.0)
+    (c.falls-falls.ensures ∙ ap (falls c.args.readings.now) (sym says.reads))
     (says.early ∙ ap (λ o. cond o (Some rule.Alarm) None) early) c.early_rule.ensures

@@ -17,8 +17,12 @@ returns-in-Err-NotYet-clause-rule c =
     let b = c.args.bus.now in
     let node = c.args.node in
     let n = node_at b.state node.0 in
-    let end = (subst (BusSendEnds b node (Some c.args.reading)) c.in-Err-NotYet.field-0-is c.in-Err-NotYet.ensures.cause).1 in
-    let early : is_early (Some c.args.reading) (release_alarm (plan_of b.run.design node.0) n) ≡ true = ap (is_early (Some c.args.reading)) (sym end.1) ∙ end.2 in
-    early_breaks b.run b.state c.args.readings.now (entry.Send node c.args.round (Some c.args.reading)) (Send node (Some c.args.reading)) rule.Release c.early_rule.result c.falls-falls.result
-    c.requires.ready.going refl (eq-eqb c.args.round (round_of n) (c.if-round-in_hand.false ∙ c.in_hand.ensures)) end.0 c.falls-falls.ensures
+    let end =
+    (subst (BusSendEnds b node (Some c.args.reading)) c.in-Err-NotYet.field-0-is c.in-Err-NotYet.ensures.cause).1 in
+    let early : is_early (Some c.args.reading) (release_alarm (plan_of b.run.design node.0) n) ≡ true =
+    ap (is_early (Some c.args.reading)) (sym end.1) ∙ end.2 in
+    early_breaks b.run b.state c.args.readings.now (entry.Send node c.args.round (Some c.args.reading))
+    (Send node (Some c.args.reading)) rule.Release c.early_rule.result c.falls-falls.result
+    c.requires.ready.going refl (eq-eqb c.args.round (round_of n) (c.if-round-in_hand.false ∙ c.in_hand.ensures)) end.0
+    c.falls-falls.ensures
     (ap (λ o. cond o (Some rule.Release) None) early) c.early_rule.ensures

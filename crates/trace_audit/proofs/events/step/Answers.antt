@@ -20,13 +20,21 @@ returns-in-Err-NotYet-clause-rule c =
     let node = c.args.node in
     let n = node_at b.state node.0 in
     let plan = plan_of b.run.design node.0 in
-    let end = (subst (BusStepEnds b node (Some c.args.reading)) c.in-Err-NotYet.field-0-is c.in-Err-NotYet.ensures.cause).1 in
+    let end =
+    (subst (BusStepEnds b node (Some c.args.reading)) c.in-Err-NotYet.field-0-is c.in-Err-NotYet.ensures.cause).1 in
     let yes : c.is_next.result ≡ true = search (rules, tests) in
-    let next : next_step n.phase ≡ Some c.args.step = next_is c.args.step n.phase (ap (λ p. option_map_or (nat_eq c.args.step) (next_step p) false) (sym c.phase.ensures) ∙ sym c.is_next.ensures ∙ yes) in
+    let next : next_step n.phase ≡ Some c.args.step =
+    next_is c.args.step n.phase
+    (ap (λ p. option_map_or (nat_eq c.args.step) (next_step p) false) (sym c.phase.ensures)
+    ∙ sym c.is_next.ensures ∙ yes) in
     let one : Some end.0 ≡ Some c.args.step = sym (ap next_step end.1) ∙ next in
     let same : end.0 ≡ c.args.step = cc in
     let early : is_early (Some c.args.reading) (step_alarm plan n c.args.step) ≡ true =
-    ap (λ i. is_early (Some c.args.reading) (step_alarm plan n i)) (sym same) ∙ ap (is_early (Some c.args.reading)) (sym end.2) ∙ end.3 in
-    early_breaks b.run b.state c.args.readings.now (entry.Step node c.args.round c.args.step (Some c.args.reading)) (Step node (Some c.args.reading)) rule.Alarm c.early_rule.result c.falls-falls.result
-    c.requires.ready.going refl (step_fits b.run b.state node c.args.round c.args.step (Some c.args.reading) (c.if-round-in_hand.false ∙ c.in_hand.ensures) next) (ap is_some next) c.falls-falls.ensures
+    ap (λ i. is_early (Some c.args.reading) (step_alarm plan n i)) (sym same)
+    ∙ ap (is_early (Some c.args.reading)) (sym end.2) ∙ end.3 in
+    early_breaks b.run b.state c.args.readings.now (entry.Step node c.args.round c.args.step (Some c.args.reading))
+    (Step node (Some c.args.reading)) rule.Alarm c.early_rule.result c.falls-falls.result
+    c.requires.ready.going refl
+    (step_fits b.run b.state node c.args.round c.args.step (Some c.args.reading)
+    (c.if-round-in_hand.false ∙ c.in_hand.ensures) next) (ap is_some next) c.falls-falls.ensures
     (ap (λ o. cond o (Some rule.Alarm) None) early) c.early_rule.ensures

@@ -15,10 +15,12 @@ pub returns-then-has_form-clause-value : goal.returns-then-has_form-clause-value
 returns-then-has_form-clause-value c =
     let design = c.args.design.now in
     let size : c.row_size-size.result ≡ row_size design = c.row_size-size.ensures.value in
-    let form : is_some (form_of c.index-trace-index.result) ≡ true = sym (c.has_form.ensures ∙ ap (λ l. is_some (form_of l)) c.as_str.ensures) ∙ c.if-has_form.true in
+    let form : is_some (form_of c.index-trace-index.result) ≡ true =
+    sym (c.has_form.ensures ∙ ap (λ l. is_some (form_of l)) c.as_str.ensures) ∙ c.if-has_form.true in
     report_ends design c.args.rows.now.env.now c.args.trace.now c.end_at.result
     (c.end_at.ensures ∙ ap (end_at c.loop-index.index) size
-    ∙ at_form design c.args.rows.now.env.now c.args.trace.now c.loop-index.index c.index-trace-index.result c.loop-index-test.true c.index-trace-index.is form c.loop-index.invariant.ends)
+    ∙ at_form design c.args.rows.now.env.now c.args.trace.now c.loop-index.index c.index-trace-index.result
+    c.loop-index-test.true c.index-trace-index.is form c.loop-index.invariant.ends)
 
 pub returns-then-has_form-clause-within : goal.returns-then-has_form-clause-within
 returns-then-has_form-clause-within c =
@@ -40,12 +42,16 @@ returns-then-not-branch-clause-value c =
     let line = c.index-trace-index.result in
     let own = own_design design c.args.rows.now.env.now c.loop-index.rows _ at.rows in
     let none : c.in_ok-is_line.field-0 ≡ false = search (rules, tests) in
-    let form : is_some (form_of line) ≡ false = sym (c.has_form.ensures ∙ ap (λ l. is_some (form_of l)) c.as_str.ensures) ∙ c.if-has_form.false in
+    let form : is_some (form_of line) ≡ false =
+    sym (c.has_form.ensures ∙ ap (λ l. is_some (form_of l)) c.as_str.ensures) ∙ c.if-has_form.false in
     let same : bytes_eq line (line_at design c.args.rows.now.env.now c.loop-index.index) ≡ false =
-    sym (c.in_ok-is_line.ensures.same ∙ ap (λ l. bytes_eq l (line_at c.loop-index.rows.product.design c.loop-index.rows.env.now c.loop-index.index)) c.as_bytes.ensures.value
+    sym (c.in_ok-is_line.ensures.same
+    ∙ ap (λ l. bytes_eq l (line_at c.loop-index.rows.product.design c.loop-index.rows.env.now c.loop-index.index))
+    c.as_bytes.ensures.value
     ∙ ap₂ (λ (d : DesignParts) (e : Env). bytes_eq line (line_at d e c.loop-index.index)) own at.rows.env_is) ∙ none in
     report_ends design c.args.rows.now.env.now c.args.trace.now (Wrong c.loop-index.index)
-    (at_other design c.args.rows.now.env.now c.args.trace.now c.loop-index.index line c.loop-index-test.true c.index-trace-index.is form same c.loop-index.invariant.ends)
+    (at_other design c.args.rows.now.env.now c.args.trace.now c.loop-index.index line c.loop-index-test.true
+    c.index-trace-index.is form same c.loop-index.invariant.ends)
 
 pub loop-index-preserved : goal.loop-index-preserved
 loop-index-preserved c =
@@ -54,13 +60,20 @@ loop-index-preserved c =
     let line = c.index-trace-index.result in
     let own = own_design design c.args.rows.now.env.now c.loop-index.rows _ at.rows in
     let one : c.in_ok-is_line.field-0 ≡ true = search (rules, tests) in
-    let form : is_some (form_of line) ≡ false = sym (c.has_form.ensures ∙ ap (λ l. is_some (form_of l)) c.as_str.ensures) ∙ c.if-has_form.false in
+    let form : is_some (form_of line) ≡ false =
+    sym (c.has_form.ensures ∙ ap (λ l. is_some (form_of l)) c.as_str.ensures) ∙ c.if-has_form.false in
     let same : bytes_eq line (line_at design c.args.rows.now.env.now c.loop-index.index) ≡ true =
-    sym (c.in_ok-is_line.ensures.same ∙ ap (λ l. bytes_eq l (line_at c.loop-index.rows.product.design c.loop-index.rows.env.now c.loop-index.index)) c.as_bytes.ensures.value
+    sym (c.in_ok-is_line.ensures.same
+    ∙ ap (λ l. bytes_eq l (line_at c.loop-index.rows.product.design c.loop-index.rows.env.now c.loop-index.index))
+    c.as_bytes.ensures.value
     ∙ ap₂ (λ (d : DesignParts) (e : Env). bytes_eq line (line_at d e c.loop-index.index)) own at.rows.env_is) ∙ one in
     record {
-      rows = subst₂ (λ (d : DesignParts) (e : Env). IsAtLine d e c.is_line.new.self (c.loop-index.index + 1)) own at.rows.env_is c.in_ok-is_line.ensures.next;
-      ends = at_same design c.args.rows.now.env.now c.args.trace.now c.loop-index.index line c.loop-index-test.true c.index-trace-index.is form same c.loop-index.invariant.ends;
+      rows =
+          subst₂ (λ (d : DesignParts) (e : Env). IsAtLine d e c.is_line.new.self (c.loop-index.index + 1)) own
+          at.rows.env_is c.in_ok-is_line.ensures.next;
+      ends =
+          at_same design c.args.rows.now.env.now c.args.trace.now c.loop-index.index line c.loop-index-test.true
+          c.index-trace-index.is form same c.loop-index.invariant.ends;
     }
 
 pub returns-clause-value : goal.returns-clause-value
@@ -70,4 +83,5 @@ returns-clause-value c =
     let past : length c.args.trace.now ≤ c.loop-index.index = omega arith in
     let end : length c.args.trace.now ≡ c.loop-index.index = omega arith in
     report_ends design c.args.rows.now.env.now c.args.trace.now c.end_at-2.result
-    (c.end_at-2.ensures ∙ ap₂ end_at end size ∙ at_end design c.args.rows.now.env.now c.args.trace.now c.loop-index.index past c.loop-index.invariant.ends)
+    (c.end_at-2.ensures ∙ ap₂ end_at end size
+    ∙ at_end design c.args.rows.now.env.now c.args.trace.now c.loop-index.index past c.loop-index.invariant.ends)

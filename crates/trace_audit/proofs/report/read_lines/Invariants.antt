@@ -7,5 +7,6 @@ use Rattle.trace_audit.proofs.report.read_lines.Given as goal
 abbrev pub invariant-loop-index : goal.invariant-loop-index
 invariant-loop-index l = record {
   rows : IsAtLine l.design l.fn.rows.env.now l.rows l.index;
-  ends : reported l.design l.fn.rows.env.now l.index (drop l.index l.trace) ≡ reported l.design l.fn.rows.env.now 0 l.trace;
+  ends : reported l.design l.fn.rows.env.now l.index (drop l.index l.trace)
+      ≡ reported l.design l.fn.rows.env.now 0 l.trace;
 }

@@ -15,4 +15,5 @@ read_lines-requires-clause-rows c =
 pub returns-clause-value : goal.returns-clause-value
 returns-clause-value c =
     let at = c.in_ok-rows.ensures in
-    subst₂ (λ (d : DesignParts) (e : Env). IfOk c.read_lines.result (ReportEnds d e c.args.trace.now)) c.deref.ensures at.rows.env_is c.read_lines.ensures.value
+    subst₂ (λ (d : DesignParts) (e : Env). IfOk c.read_lines.result (ReportEnds d e c.args.trace.now)) c.deref.ensures
+    at.rows.env_is c.read_lines.ensures.value

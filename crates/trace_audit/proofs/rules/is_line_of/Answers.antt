@@ -8,4 +8,5 @@ returns c =
     let design = c.args.design.now in
     let e = c.args.entry.now in
     let other = c.args.other.now in
-    sym (line_is design e other c.is_same.result (lines_differ design e c.period-period.ensures.rules c.requires.entry other c.requires.other) c.is_same.ensures)
+    sym (line_is design e other c.is_same.result
+    (lines_differ design e c.period-period.ensures.rules c.requires.entry other c.requires.other) c.is_same.ensures)

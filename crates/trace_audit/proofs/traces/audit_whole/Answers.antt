@@ -13,10 +13,17 @@ audit_behind-requires-clause-design c = c.deref.ensures ∙ sym (ap (λ (r : Run
 
 pub returns : goal.returns
 returns c =
-    let run : Run = record { design = arc_value c.args.design; env = c.args.env; rounds = c.args.rounds; delays = c.args.delays } in
+    let run : Run = record {
+      design = arc_value c.args.design;
+      env = c.args.env;
+      rounds = c.args.rounds;
+      delays = c.args.delays;
+    } in
     let replay = c.in_ok-replay.replay in
     let size = c.args.size in
     subst (λ (v : Verdict). IfOk c.audit_behind.result (λ w. w ≡ v))
-    (judged_whole run replay.bus.run c.args.trace.now size _ _ c.requires.report.0 c.requires.report.1 c.in_ok-replay.ensures.run
-    (c.in_ok-replay.ensures.value ∙ ap opening_audit c.in_ok-replay.ensures.run) (ap (λ (d : DesignParts). size / row_size d) c.deref.ensures))
+    (judged_whole run replay.bus.run c.args.trace.now size _ _ c.requires.report.0 c.requires.report.1
+    c.in_ok-replay.ensures.run
+    (c.in_ok-replay.ensures.value ∙ ap opening_audit c.in_ok-replay.ensures.run)
+    (ap (λ (d : DesignParts). size / row_size d) c.deref.ensures))
     c.audit_behind.ensures

@@ -11,5 +11,6 @@ pub returns-clause-run : goal.returns-clause-run
 returns-clause-run c =
     let again : arc_value c.in_ok-again.again ≡ arc_value c.args.design.now = search rules in
     let is = ap (λ (b : BusValue). b.run) c.in_ok-bus.ensures
-    ∙ ap (λ (d : DesignParts). let r : Run = record { design = d; env = c.args.env; rounds = c.args.rounds; delays = c.args.delays } in r) again in
+    ∙ ap (λ (d : DesignParts). let r : Run =
+    record { design = d; env = c.args.env; rounds = c.args.rounds; delays = c.args.delays } in r) again in
     subst (λ (u : Run). IfOk c.new-2.result (λ (r : Replay). r.bus.run ≡ u)) is c.new-2.ensures.run

@@ -8,5 +8,6 @@ use Rattle.trace_audit.proofs.words.are_there.Goals as goal
 pub returns : goal.returns
 returns c =
     all_from_yields_List is_there _ _ _ c.all.ensures.ran
-    (YieldsList-from_slice_split _ is_space _ c.split.ensures.rest c.split.ensures.done c.split.ensures.closure (λ x b q h. search rules))
+    (YieldsList-from_slice_split _ is_space _ c.split.ensures.rest c.split.ensures.done c.split.ensures.closure
+    (λ x b q h. search rules))
     (λ x b q h. search rules)

@@ -17,6 +17,9 @@ returns c =
     let new : WorldValue = c.go_through.new.world in
     let empty : env ≡ no_env = ap (λ (lists : List (List Port)). record { lists = lists }) c.new.ensures in
     let opened : old ≡ opening_value design c.in_ok-codes.codes env c.args.rounds =
-    c.in_ok-world.ensures ∙ ap (λ (d : DesignParts). opening_value d c.in_ok-codes.codes env c.args.rounds) c.in_ok-new.ensures.ok in
-    let leads = subst (λ (events : List Event). Leads old events new) c.as_slice.ensures.value c.in_ok-go_through.ensures in
-    all_done c.args.nodes c.args.rounds design c.in_ok-codes.codes env c.in_ok-events.events old new c.in_ok-design.ensures empty opened c.in_ok-events.ensures.whole leads
+    c.in_ok-world.ensures ∙ ap (λ (d : DesignParts). opening_value d c.in_ok-codes.codes env c.args.rounds)
+    c.in_ok-new.ensures.ok in
+    let leads =
+    subst (λ (events : List Event). Leads old events new) c.as_slice.ensures.value c.in_ok-go_through.ensures in
+    all_done c.args.nodes c.args.rounds design c.in_ok-codes.codes env c.in_ok-events.events old new
+    c.in_ok-design.ensures empty opened c.in_ok-events.ensures.whole leads

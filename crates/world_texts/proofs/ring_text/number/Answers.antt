@@ -10,17 +10,22 @@ use Rattle.world_texts.proofs.ring_text.number.Goals as goal
 
 pub part-requires : goal.part-requires
 part-requires c =
-    let count = ap (λ (r : Run). length r.design.components) c.requires.done.run ∙ length-numbered ring_component c.args.nodes in
+    let count =
+    ap (λ (r : Run). length r.design.components) c.requires.done.run
+    ∙ length-numbered ring_component c.args.nodes in
     let within = c.requires.within in
     omega (arith, count, within)
 
 pub unreachable-requires : goal.unreachable-requires
 unreachable-requires c =
-    part_is_there c.args.nodes c.args.rounds c.args.node.0 c.args.bus.now None c.requires.done c.agreement.ensures.agrees c.requires.some c.requires.within
+    part_is_there c.args.nodes c.args.rounds c.args.node.0 c.args.bus.now None c.requires.done
+    c.agreement.ensures.agrees c.requires.some c.requires.within
     c.in-None.ensures refl
 
 pub returns : goal.returns
 returns c =
-    let is = last_number c.args.nodes c.args.rounds c.args.node.0 c.args.bus.now c.in-Some.part.now c.requires.done c.agreement.ensures.agrees c.requires.some c.requires.within c.in-Some.ensures in
+    let is =
+    last_number c.args.nodes c.args.rounds c.args.node.0 c.args.bus.now c.in-Some.part.now c.requires.done
+    c.agreement.ensures.agrees c.requires.some c.requires.within c.in-Some.ensures in
     let fits : SFits w64 c.number_in.result = search rules in
     to_z-of_z w64 c.number_in.result fits ∙ c.number_in.ensures ∙ is

@@ -10,7 +10,9 @@ overflow_add-sum c =
     let rounds = c.args.rounds in
     let node = c.loop-node.node in
     let number : FitsSigned w64 c.number-sum.result = search rules in
-    let sum = added c.loop-node.sum-bits c.number-sum.result (sum_first n rounds node) (ring_number n rounds node) c.loop-node.invariant c.number-sum.ensures number in
+    let sum =
+    added c.loop-node.sum-bits c.number-sum.result (sum_first n rounds node) (ring_number n rounds node)
+    c.loop-node.invariant c.number-sum.ensures number in
     subst (FitsSigned w64) (sym sum) (next_sum_fits n rounds node c.requires.few c.loop-node-test.true)
 
 pub loop-node-preserved : goal.loop-node-preserved
@@ -19,6 +21,8 @@ loop-node-preserved c =
     let rounds = c.args.rounds in
     let node = c.loop-node.node in
     let number : FitsSigned w64 c.number-sum.result = search rules in
-    let sum = added c.loop-node.sum-bits c.number-sum.result (sum_first n rounds node) (ring_number n rounds node) c.loop-node.invariant c.number-sum.ensures number in
+    let sum =
+    added c.loop-node.sum-bits c.number-sum.result (sum_first n rounds node) (ring_number n rounds node)
+    c.loop-node.invariant c.number-sum.ensures number in
     let fits = subst (FitsSigned w64) (sym sum) (next_sum_fits n rounds node c.requires.few c.loop-node-test.true) in
     to_z-of_z w64 _ fits ∙ (sum ∙ sym (sum_more n rounds node))

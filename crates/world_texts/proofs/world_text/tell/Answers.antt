@@ -12,7 +12,12 @@ returns-in-All c =
     let new = c.tell_events.new.world in
     let sent : List ℕ = c.tell_events.new.sent.items in
     let events = c.args.events.now in
-    let all = subst (λ (end : WorldEnd). TellsEvents old events end new c.new-sent.result.items sent) c.in-All.is c.in_ok-end.ensures in
+    let all =
+    subst (λ (end : WorldEnd). TellsEvents old events end new c.new-sent.result.items sent) c.in-All.is
+    c.in_ok-end.ensures in
     let telling = subst (λ (text : List ℕ). LeadsTelling old events new text sent) c.new-sent.ensures.items all in
-    let text = c.in_ok-finished-in-All.ensures ∙ ap (λ (xs : List ℕ). text_of (finished_lines new.bus) ++ xs) c.as_slice.ensures.value in
-    world_told old new events sent c.in_ok-finished-in-All.field-0.items c.requires.opening c.kept.ensures.run telling text
+    let text =
+    c.in_ok-finished-in-All.ensures
+    ∙ ap (λ (xs : List ℕ). text_of (finished_lines new.bus) ++ xs) c.as_slice.ensures.value in
+    world_told old new events sent c.in_ok-finished-in-All.field-0.items c.requires.opening c.kept.ensures.run
+    telling text

@@ -15,7 +15,9 @@ add_message-requires c =
     let same : c.self.inside.nodes ≡ c.args.self.now = cc in
     let items = c.as_slice-link-items.result.now in
     let none : LinkNo = record { 0 = 0 } in
-    let are = items_are design c.self.inside.nodes c.args.self.now items c.index.result.now c.args.node.0 c.requires.links same c.requires.node c.as_slice-link-items.ensures.value c.index.ensures in
+    let are =
+    items_are design c.self.inside.nodes c.args.self.now items c.index.result.now c.args.node.0 c.requires.links
+    same c.requires.node c.as_slice-link-items.ensures.value c.index.ensures in
     link_within design c.args.node.0 items c.loop-link.link-index none are c.loop-link-test.true
 
 pub returns-clause-ok : goal.returns-clause-ok
@@ -26,12 +28,15 @@ returns-clause-ok c =
     let round = c.saturating_sub-round.result in
     let same : c.self.inside.nodes ≡ c.args.self.now = cc in
     let items = c.as_slice-link-items.result.now in
-    let are = items_are b.run.design c.self.inside.nodes c.args.self.now items c.index.result.now node c.requires.links same c.requires.node c.as_slice-link-items.ensures.value c.index.ensures in
+    let are =
+    items_are b.run.design c.self.inside.nodes c.args.self.now items c.index.result.now node c.requires.links same
+    c.requires.node c.as_slice-link-items.ensures.value c.index.ensures in
     let past = c.loop-link-test.false in
     let less = c.saturating_sub-round.ensures in
     let count = c.count.ensures in
     let last : round ≡ (node_at b.state node).count - 1 = omega (arith, less, count) in
     c.loop-link.invariant
-    ∙ ap (λ (xs : List LinkNo). old ++ text_of (flat_map (message_lines b round) (map (λ (link : LinkNo). link.0) xs))) (take_all c.loop-link.link-index items past)
+    ∙ ap (λ (xs : List LinkNo). old ++ text_of (flat_map (message_lines b round) (map (λ (link : LinkNo). link.0) xs)))
+    (take_all c.loop-link.link-index items past)
     ∙ ap (λ (ks : List ℕ). old ++ text_of (flat_map (message_lines b round) ks)) are
     ∙ ap (λ (r : ℕ). old ++ text_of (flat_map (message_lines b r) (links_from b.run.design node))) last

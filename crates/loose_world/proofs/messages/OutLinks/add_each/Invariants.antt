@@ -7,4 +7,7 @@ use Rattle.loose_world.proofs.messages.OutLinks.add_each.Given as goal
 
 -- the lines of the first links are there
 abbrev pub invariant-loop-link : goal.invariant-loop-link
-invariant-loop-link l = l.out.items ≡ l.fn.out.items ++ text_of (flat_map (message_lines l.bus l.round) (map (λ (link : LinkNo). link.0) (take l.link-index l.link-items)))
+invariant-loop-link l =
+    l.out.items ≡ l.fn.out.items
+    ++ text_of (flat_map (message_lines l.bus l.round)
+    (map (λ (link : LinkNo). link.0) (take l.link-index l.link-items)))

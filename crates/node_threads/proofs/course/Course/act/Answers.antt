@@ -2,7 +2,8 @@ use Rattle.node_threads.proofs.Acting.{to_start, to_step, to_send}
 use Rattle.node_threads.proofs.course.Course.act.Goals as goal
 
 pub start-requires-clause-waits : goal.start-requires-clause-waits
-start-requires-clause-waits c = to_start _ c.args.node c.args.action _ c.args.reading c.agreement.ensures c.requires c.in-Start.is
+start-requires-clause-waits c =
+    to_start _ c.args.node c.args.action _ c.args.reading c.agreement.ensures c.requires c.in-Start.is
 
 pub step-requires-clause-steps : goal.step-requires-clause-steps
 step-requires-clause-steps c = to_step _ c.args.node c.args.action _ _ c.args.reading c.requires c.in-Step.is

@@ -3,8 +3,12 @@ use Rattle.node_threads.proofs.course.Course.finish_here.Goals as goal
 
 pub invariant_of-self : goal.invariant_of-self
 invariant_of-self c =
-    (finish_here_keeps c.self.inside.bus c.self.inside.lists c.self.inside.notes c.finish_here.new.self _ c.args.node c.finish_here.result c.self.view_is c.self.invariant c.requires c.finish_here.ensures.ok c.finish_here.ensures.same).course
+    (finish_here_keeps c.self.inside.bus c.self.inside.lists c.self.inside.notes c.finish_here.new.self _ c.args.node
+    c.finish_here.result c.self.view_is c.self.invariant c.requires c.finish_here.ensures.ok
+    c.finish_here.ensures.same).course
 
 pub returns : goal.returns
 returns c =
-    (finish_here_keeps c.self.inside.bus c.self.inside.lists c.self.inside.notes c.finish_here.new.self _ c.args.node c.finish_here.result c.self.view_is c.self.invariant c.requires c.finish_here.ensures.ok c.finish_here.ensures.same).stays
+    (finish_here_keeps c.self.inside.bus c.self.inside.lists c.self.inside.notes c.finish_here.new.self _ c.args.node
+    c.finish_here.result c.self.view_is c.self.invariant c.requires c.finish_here.ensures.ok
+    c.finish_here.ensures.same).stays

@@ -4,10 +4,14 @@ use Rattle.node_threads.proofs.Waiting.{all_awaited, meeting_awaited, one_more}
 use Rattle.node_threads.proofs.course.Course.is_awaited.Goals as goal
 
 pub returns-then-meeting : goal.returns-then-meeting
-returns-then-meeting c = λ is. meeting_awaited c.self.inside.bus c.self.inside.lists c.self.inside.notes _ c.args.node.0 c.self.view_is (sym c.meeting.ensures ∙ c.if-meeting.true)
+returns-then-meeting c =
+    λ is. meeting_awaited c.self.inside.bus c.self.inside.lists c.self.inside.notes _ c.args.node.0 c.self.view_is
+    (sym c.meeting.ensures ∙ c.if-meeting.true)
 
 pub loop-number-preserved : goal.loop-number-preserved
-loop-number-preserved c = one_more c.args.self.now c.args.node.0 c.loop-number.number c.loop-number.invariant (c.is_sent_on.ensures c.if-not-is_sent_on.false)
+loop-number-preserved c =
+    one_more c.args.self.now c.args.node.0 c.loop-number.number c.loop-number.invariant
+    (c.is_sent_on.ensures c.if-not-is_sent_on.false)
 
 pub returns : goal.returns
 returns c = λ is. all_awaited c.args.self.now c.args.node.0 (λ k within.

@@ -13,6 +13,8 @@ invariant_of-result c =
     let b = c.args.bus in
     let components = c.components.ensures.value ∙ ap (λ (d : DesignParts). d.components) c.design.ensures in
     let notes : c.from_vec.result ≡ replicate (length b.run.design.components) note.Open =
-    c.from_vec.ensures ∙ c.in_ok-notes.ensures.items_if_clones_equal (λ y same. same) ∙ ap (λ (cs : List Component). replicate (length cs) note.Open) components in
+    c.from_vec.ensures ∙ c.in_ok-notes.ensures.items_if_clones_equal (λ y same. same)
+    ∙ ap (λ (cs : List Component). replicate (length cs) note.Open) components in
     subst (λ (ns : List Note). IsCourse (course_of b c.args.lists ns)) (sym notes)
-    (course_opens b c.args.lists c.requires.opening (subst IsDesign c.design.ensures c.components.ensures.rules) c.agreement.ensures.rounds c.requires.clocks)
+    (course_opens b c.args.lists c.requires.opening (subst IsDesign c.design.ensures c.components.ensures.rules)
+    c.agreement.ensures.rounds c.requires.clocks)

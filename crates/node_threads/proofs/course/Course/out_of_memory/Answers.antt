@@ -7,9 +7,12 @@ use Rattle.node_threads.proofs.course.Course.out_of_memory.Goals as goal
 pub invariant_of-self : goal.invariant_of-self
 invariant_of-self c =
     subst (λ (ns : List Note). IsCourse (course_of c.close.new.self c.self.inside.lists ns)) (sym c.set.ensures)
-    (memory_keeps c.self.inside.bus c.self.inside.lists c.self.inside.notes c.close.new.self _ c.args.node.0 c.self.view_is c.self.invariant c.requires c.close.ensures).course
+    (memory_keeps c.self.inside.bus c.self.inside.lists c.self.inside.notes c.close.new.self _ c.args.node.0
+    c.self.view_is c.self.invariant c.requires c.close.ensures).course
 
 pub returns : goal.returns
 returns c =
-    subst (λ (ns : List Note). Stays c.args.self.now (course_of c.close.new.self c.self.inside.lists ns)) (sym c.set.ensures)
-    (memory_keeps c.self.inside.bus c.self.inside.lists c.self.inside.notes c.close.new.self _ c.args.node.0 c.self.view_is c.self.invariant c.requires c.close.ensures).stays
+    subst (λ (ns : List Note). Stays c.args.self.now (course_of c.close.new.self c.self.inside.lists ns))
+    (sym c.set.ensures)
+    (memory_keeps c.self.inside.bus c.self.inside.lists c.self.inside.notes c.close.new.self _ c.args.node.0
+    c.self.view_is c.self.invariant c.requires c.close.ensures).stays

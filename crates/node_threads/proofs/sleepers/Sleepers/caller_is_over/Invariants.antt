@@ -5,4 +5,5 @@ use Rattle.node_threads.proofs.sleepers.Sleepers.caller_is_over.Given as goal
 
 -- the nodes so far that the calling thread has are done, where they go on
 abbrev pub invariant-loop-number : goal.invariant-loop-number
-invariant-loop-number l = (k : ℕ) → k < l.number → IsOpen l.course k → (seat_at l.self.seats k).of_caller ≡ true → IsDone l.course k
+invariant-loop-number l =
+    (k : ℕ) → k < l.number → IsOpen l.course k → (seat_at l.self.seats k).of_caller ≡ true → IsDone l.course k

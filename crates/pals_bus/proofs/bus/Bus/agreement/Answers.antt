@@ -18,4 +18,5 @@ pub returns-clause-codes : goal.returns-clause-codes
 returns-clause-codes c =
     let f = c.self.inside.fields in
     let shows : value_of f ≡ c.args.self.now = cc in
-    subst (λ (b : BusValue). AreCodes b.run.design b.codes) shows (codes_mean (arc_value f.design) f.rounds f.nodes c.self.invariant.nodes)
+    subst (λ (b : BusValue). AreCodes b.run.design b.codes) shows
+    (codes_mean (arc_value f.design) f.rounds f.nodes c.self.invariant.nodes)

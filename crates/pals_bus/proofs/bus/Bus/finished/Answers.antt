@@ -11,7 +11,11 @@ overflow_cast-result c =
     let f = c.self.inside.fields in
     let node = c.args.node.0 in
     let shows : c.args.self.now ≡ value_of f = cc in
-    let within : node < length (arc_value f.design).components = subst (λ (b : BusValue). node < length b.run.design.components) shows c.requires in
+    let within : node < length (arc_value f.design).components =
+    subst (λ (b : BusValue). node < length b.run.design.components) shows c.requires in
     let few = parts_few f node c.self.invariant within in
-    let is = ap length (c.parts.ensures ∙ ap (λ (s : NodeState). s.parts) (state_is f node c.index.result.now c.self.invariant within c.index.ensures)) in
+    let is =
+    ap length (c.parts.ensures
+    ∙ ap (λ (s : NodeState). s.parts)
+    (state_is f node c.index.result.now c.self.invariant within c.index.ensures)) in
     omega (arith, few, is)

@@ -39,15 +39,21 @@ invariant_of-result c =
       design = c.in_ok-try_clone.ensures;
       outgoing =
           subst (AreOutgoing (length (arc_value f.design).components) (arc_value f.design).links) outgoing
-          (subst (λ (d : DesignParts). AreOutgoing (length d.components) d.links c.in_ok-outgoing.outgoing) c.deref.ensures c.in_ok-outgoing.ensures);
+          (subst (λ (d : DesignParts). AreOutgoing (length d.components) d.links c.in_ok-outgoing.outgoing)
+          c.deref.ensures c.in_ok-outgoing.ensures);
       env = c.in_ok-try_clone-2.ensures;
       rounds = refl;
       delays = c.in_ok-try_clone-3.ensures;
       meeting = refl;
       values = c.in_ok-room_for_values.ensures;
-      nodes = sym nodes ∙ c.in_ok-nodes.ensures ∙ ap (map (λ (n : NodeValue). opening_value n.program n.rounds)) c.as_slice.ensures;
-      flights = c.in_ok-empty_flights.ensures.flights ∙ ap (λ (d : DesignParts). map (λ (_ : Link). no_flight) d.links) c.deref-2.ensures;
-      queues = sym queues ∙ c.in_ok-queues.ensures ∙ ap (map (λ (_ : NodeValue). no_queue)) (c.as_slice-2.ensures ∙ nodes);
+      nodes =
+          sym nodes ∙ c.in_ok-nodes.ensures
+          ∙ ap (map (λ (n : NodeValue). opening_value n.program n.rounds)) c.as_slice.ensures;
+      flights =
+          c.in_ok-empty_flights.ensures.flights
+          ∙ ap (λ (d : DesignParts). map (λ (_ : Link). no_flight) d.links) c.deref-2.ensures;
+      queues =
+          sym queues ∙ c.in_ok-queues.ensures ∙ ap (map (λ (_ : NodeValue). no_queue)) (c.as_slice-2.ensures ∙ nodes);
       stop = refl;
       journal = c.new-2.ensures.items;
       closed = refl;
@@ -80,15 +86,21 @@ returns c =
       design = c.in_ok-try_clone.ensures;
       outgoing =
           subst (AreOutgoing (length (arc_value f.design).components) (arc_value f.design).links) outgoing
-          (subst (λ (d : DesignParts). AreOutgoing (length d.components) d.links c.in_ok-outgoing.outgoing) c.deref.ensures c.in_ok-outgoing.ensures);
+          (subst (λ (d : DesignParts). AreOutgoing (length d.components) d.links c.in_ok-outgoing.outgoing)
+          c.deref.ensures c.in_ok-outgoing.ensures);
       env = c.in_ok-try_clone-2.ensures;
       rounds = refl;
       delays = c.in_ok-try_clone-3.ensures;
       meeting = refl;
       values = c.in_ok-room_for_values.ensures;
-      nodes = sym nodes ∙ c.in_ok-nodes.ensures ∙ ap (map (λ (n : NodeValue). opening_value n.program n.rounds)) c.as_slice.ensures;
-      flights = c.in_ok-empty_flights.ensures.flights ∙ ap (λ (d : DesignParts). map (λ (_ : Link). no_flight) d.links) c.deref-2.ensures;
-      queues = sym queues ∙ c.in_ok-queues.ensures ∙ ap (map (λ (_ : NodeValue). no_queue)) (c.as_slice-2.ensures ∙ nodes);
+      nodes =
+          sym nodes ∙ c.in_ok-nodes.ensures
+          ∙ ap (map (λ (n : NodeValue). opening_value n.program n.rounds)) c.as_slice.ensures;
+      flights =
+          c.in_ok-empty_flights.ensures.flights
+          ∙ ap (λ (d : DesignParts). map (λ (_ : Link). no_flight) d.links) c.deref-2.ensures;
+      queues =
+          sym queues ∙ c.in_ok-queues.ensures ∙ ap (map (λ (_ : NodeValue). no_queue)) (c.as_slice-2.ensures ∙ nodes);
       stop = refl;
       journal = c.new-2.ensures.items;
       closed = refl;

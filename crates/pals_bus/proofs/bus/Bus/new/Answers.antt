@@ -30,13 +30,19 @@ invariant_of-result c =
     } in
     let is : IsOpening f c.args.codes = record {
       design = subst IsDesign c.deref-3.ensures c.empty_flights.ensures.rules;
-      outgoing = subst (λ (d : DesignParts). AreOutgoing (length d.components) d.links c.in_ok-outgoing.outgoing) c.deref.ensures c.in_ok-outgoing.ensures;
+      outgoing =
+          subst (λ (d : DesignParts). AreOutgoing (length d.components) d.links c.in_ok-outgoing.outgoing)
+          c.deref.ensures c.in_ok-outgoing.ensures;
       rounds = (c.requires.some, c.requires.most);
       delays = c.requires.delays;
       values = c.in_ok-values.ensures;
       codes_are = c.requires.codes;
-      nodes = subst (λ (d : DesignParts). AreOpening d c.args.codes c.args.rounds c.in_ok-nodes.nodes) c.deref-2.ensures c.in_ok-nodes.ensures;
-      flights = c.in_ok-flights.ensures.flights ∙ ap (λ (d : DesignParts). map (λ (_ : Link). no_flight) d.links) c.deref-3.ensures;
+      nodes =
+          subst (λ (d : DesignParts). AreOpening d c.args.codes c.args.rounds c.in_ok-nodes.nodes) c.deref-2.ensures
+          c.in_ok-nodes.ensures;
+      flights =
+          c.in_ok-flights.ensures.flights
+          ∙ ap (λ (d : DesignParts). map (λ (_ : Link). no_flight) d.links) c.deref-3.ensures;
       queues = c.in_ok-queues.ensures ∙ ap (map (λ (_ : NodeValue). no_queue)) c.as_slice.ensures;
       stop = refl;
       journal = c.new-2.ensures.items;
@@ -64,13 +70,19 @@ returns c =
     } in
     let is : IsOpening f c.args.codes = record {
       design = subst IsDesign c.deref-3.ensures c.empty_flights.ensures.rules;
-      outgoing = subst (λ (d : DesignParts). AreOutgoing (length d.components) d.links c.in_ok-outgoing.outgoing) c.deref.ensures c.in_ok-outgoing.ensures;
+      outgoing =
+          subst (λ (d : DesignParts). AreOutgoing (length d.components) d.links c.in_ok-outgoing.outgoing)
+          c.deref.ensures c.in_ok-outgoing.ensures;
       rounds = (c.requires.some, c.requires.most);
       delays = c.requires.delays;
       values = c.in_ok-values.ensures;
       codes_are = c.requires.codes;
-      nodes = subst (λ (d : DesignParts). AreOpening d c.args.codes c.args.rounds c.in_ok-nodes.nodes) c.deref-2.ensures c.in_ok-nodes.ensures;
-      flights = c.in_ok-flights.ensures.flights ∙ ap (λ (d : DesignParts). map (λ (_ : Link). no_flight) d.links) c.deref-3.ensures;
+      nodes =
+          subst (λ (d : DesignParts). AreOpening d c.args.codes c.args.rounds c.in_ok-nodes.nodes) c.deref-2.ensures
+          c.in_ok-nodes.ensures;
+      flights =
+          c.in_ok-flights.ensures.flights
+          ∙ ap (λ (d : DesignParts). map (λ (_ : Link). no_flight) d.links) c.deref-3.ensures;
       queues = c.in_ok-queues.ensures ∙ ap (map (λ (_ : NodeValue). no_queue)) c.as_slice.ensures;
       stop = refl;
       journal = c.new-2.ensures.items;

@@ -7,7 +7,14 @@ use Rattle.pals_bus.proofs.DueTurns.{none_told, message_link, message_flies, arr
 use Rattle.pals_bus.proofs.fields.Fields.arrive_all.Goals as goal
 
 pub loop-message-init : goal.loop-message-init
-loop-message-init c = let room = c.requires.room in record { keeps = c.requires.keeps; going = c.requires.going; takes = takes_none; left = c.requires.left; room = omega (arith, room) }
+loop-message-init c = let room = c.requires.room in
+    record {
+      keeps = c.requires.keeps;
+      going = c.requires.going;
+      takes = takes_none;
+      left = c.requires.left;
+      room = omega (arith, room);
+    }
 
 pub arrive_reserved-requires-clause-link : goal.arrive_reserved-requires-clause-link
 arrive_reserved-requires-clause-link c =
@@ -17,7 +24,8 @@ arrive_reserved-requires-clause-link c =
     let at = c.loop-message.message-index in
     let message = slice_index_or due at no_entry in
     let is = get_or_default due at no_entry message c.loop-message-test.true in
-    message_link first now c.args.node.0 c.args.reading at due message c.loop-message.invariant c.loop-message-test.true is
+    message_link first now c.args.node.0 c.args.reading at due message c.loop-message.invariant
+    c.loop-message-test.true is
 
 pub returns-then-is_some-clause-takes : goal.returns-then-is_some-clause-takes
 returns-then-is_some-clause-takes c =
@@ -28,9 +36,14 @@ returns-then-is_some-clause-takes c =
     let at = c.loop-message.message-index in
     let message = slice_index_or due at no_entry in
     let is = get_or_default due at no_entry message c.loop-message-test.true in
-    let flies = message_flies first now c.args.node.0 c.args.reading at due message c.loop-message.invariant c.loop-message-test.true is in
-    let happens = arrives now next message c.args.reading c.arrive_reserved.result flies c.arrive_reserved.ensures.some c.arrive_reserved.ensures.none in
-    takes_more first now next c.args.node.0 c.args.reading at due message c.loop-message.invariant c.loop-message-test.true is happens
+    let flies =
+    message_flies first now c.args.node.0 c.args.reading at due message c.loop-message.invariant
+    c.loop-message-test.true is in
+    let happens =
+    arrives now next message c.args.reading c.arrive_reserved.result flies c.arrive_reserved.ensures.some
+    c.arrive_reserved.ensures.none in
+    takes_more first now next c.args.node.0 c.args.reading at due message c.loop-message.invariant
+    c.loop-message-test.true is happens
 
 pub loop-message-preserved : goal.loop-message-preserved
 loop-message-preserved c =
@@ -41,7 +54,13 @@ loop-message-preserved c =
     let at = c.loop-message.message-index in
     let message = slice_index_or due at no_entry in
     let is = get_or_default due at no_entry message c.loop-message-test.true in
-    let flies = message_flies first now c.args.node.0 c.args.reading at due message c.loop-message.invariant c.loop-message-test.true is in
-    let happens = arrives now next message c.args.reading c.arrive_reserved.result flies c.arrive_reserved.ensures.some c.arrive_reserved.ensures.none in
+    let flies =
+    message_flies first now c.args.node.0 c.args.reading at due message c.loop-message.invariant
+    c.loop-message-test.true is in
+    let happens =
+    arrives now next message c.args.reading c.arrive_reserved.result flies c.arrive_reserved.ensures.some
+    c.arrive_reserved.ensures.none in
     let going : next.stop ≡ None = none_told next.stop c.is_some.result c.is_some.ensures c.if-is_some.false in
-    arriving_more first now next c.args.node.0 c.args.reading at due message c.loop-message.invariant c.loop-message-test.true is happens c.arrive_reserved.ensures.keeps going c.arrive_reserved.ensures.owed c.arrive_reserved.ensures.room
+    arriving_more first now next c.args.node.0 c.args.reading at due message c.loop-message.invariant
+    c.loop-message-test.true is happens c.arrive_reserved.ensures.keeps going c.arrive_reserved.ensures.owed
+    c.arrive_reserved.ensures.room

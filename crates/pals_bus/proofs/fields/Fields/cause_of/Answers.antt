@@ -13,7 +13,9 @@ returns c =
     let f = c.args.self.now in
     let source =
     ap (λ (n : NodeNo). n.0) c.source_of-source.ensures
-    ∙ ap (λ ls. (slice_index_or ls c.args.link.0 no_link).source.0) (c.links.ensures.value ∙ ap (λ (d : DesignParts). d.links) c.deref.ensures) in
+    ∙ ap (λ ls. (slice_index_or ls c.args.link.0 no_link).source.0)
+    (c.links.ensures.value ∙ ap (λ (d : DesignParts). d.links) c.deref.ensures) in
     c.cause_by.ensures
-    ∙ cause_told f c.args.link.0 c.args.round c.source_of-source.result.0 c.sent_rounds-sent.result c.index.result.now c.is_in_flight-flying.result c.requires.keeps c.requires.some source c.index.ensures c.sent_rounds-sent.ensures
+    ∙ cause_told f c.args.link.0 c.args.round c.source_of-source.result.0 c.sent_rounds-sent.result c.index.result.now
+    c.is_in_flight-flying.result c.requires.keeps c.requires.some source c.index.ensures c.sent_rounds-sent.ensures
     (c.is_in_flight-flying.ensures ∙ ap (λ o. is_in_flight c.args.round (copies_in_option o)) c.get.ensures)

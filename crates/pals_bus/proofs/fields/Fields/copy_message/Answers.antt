@@ -24,21 +24,29 @@ returns-clause-keeps c =
     let copy : FlightCopy = record { round = first.round; due = first.due; tuple = c.in_ok-tuple.tuple } in
     let g : Fields = record s { journal = c.push_reserved.new.self } in
     let going : old.stop ≡ None = grind (arith, common_steps) in
-    let same : copy ≡ first = ap (λ (ports : List Port). let u : FlightCopy = record { round = first.round; due = first.due; tuple = ports } in u) c.in_ok-tuple.ensures in
+    let same : copy ≡ first =
+    ap (λ (ports : List Port). let u : FlightCopy =
+    record { round = first.round; due = first.due; tuple = ports } in u) c.in_ok-tuple.ensures in
     let more = c.reserve_message.ensures in
     let adds = c.add_message.ensures in
     let repeats : Repeats f g link round copy = record {
-      is_copy = oldest_kept old f link.0 round c.index.result.now first copy c.requires.keeps c.requires.link more.copies c.index.ensures c.in-Some-flight_oldest.ensures same;
+      is_copy =
+          oldest_kept old f link.0 round c.index.result.now first copy c.requires.keeps c.requires.link more.copies
+          c.index.ensures c.in-Some-flight_oldest.ensures same;
       flights = adds.flights;
       queues = adds.queues;
       others = ap (λ (k : Fields). let u : Fields = record k { journal = g.journal } in u) adds.others;
-      told = c.push_reserved.ensures.items ∙ ap (λ (k : Fields). k.journal.items ++ entry.Repeat link round ∷ []) adds.others;
+      told =
+          c.push_reserved.ensures.items
+          ∙ ap (λ (k : Fields). k.journal.items ++ entry.Repeat link round ∷ []) adds.others;
     } in
-    let within : link.0 < length (arc_value f.design).links = subst (λ (k : Fields). link.0 < length (arc_value k.design).links) (sym more.others) c.requires.link in
+    let within : link.0 < length (arc_value f.design).links =
+    subst (λ (k : Fields). link.0 < length (arc_value k.design).links) (sym more.others) c.requires.link in
     let happens = repeat_happens f g link round copy (ap (λ (k : Fields). k.stop) more.others ∙ going) repeats in
     let capacity = c.push_reserved.ensures.capacity ∙ ap (λ (k : Fields). vec_capacity k.journal) adds.others in
     let room = c.in_ok-reserve_message.ensures.entries in
-    repeat_keeps_bus f g link round copy more.keeps within repeats happens c.in_ok-reserve_message.ensures.room c.in_ok-reserve_message.ensures.queue (omega (arith, capacity, room))
+    repeat_keeps_bus f g link round copy more.keeps within repeats happens c.in_ok-reserve_message.ensures.room
+    c.in_ok-reserve_message.ensures.queue (omega (arith, capacity, room))
 
 pub returns-clause-ok : goal.returns-clause-ok
 returns-clause-ok c =
@@ -51,15 +59,22 @@ returns-clause-ok c =
     let copy : FlightCopy = record { round = first.round; due = first.due; tuple = c.in_ok-tuple.tuple } in
     let g : Fields = record s { journal = c.push_reserved.new.self } in
     let going : old.stop ≡ None = grind (arith, common_steps) in
-    let same : copy ≡ first = ap (λ (ports : List Port). let u : FlightCopy = record { round = first.round; due = first.due; tuple = ports } in u) c.in_ok-tuple.ensures in
+    let same : copy ≡ first =
+    ap (λ (ports : List Port). let u : FlightCopy =
+    record { round = first.round; due = first.due; tuple = ports } in u) c.in_ok-tuple.ensures in
     let more = c.reserve_message.ensures in
     let adds = c.add_message.ensures in
     let repeats : Repeats f g link round copy = record {
-      is_copy = oldest_kept old f link.0 round c.index.result.now first copy c.requires.keeps c.requires.link more.copies c.index.ensures c.in-Some-flight_oldest.ensures same;
+      is_copy =
+          oldest_kept old f link.0 round c.index.result.now first copy c.requires.keeps c.requires.link more.copies
+          c.index.ensures c.in-Some-flight_oldest.ensures same;
       flights = adds.flights;
       queues = adds.queues;
       others = ap (λ (k : Fields). let u : Fields = record k { journal = g.journal } in u) adds.others;
-      told = c.push_reserved.ensures.items ∙ ap (λ (k : Fields). k.journal.items ++ entry.Repeat link round ∷ []) adds.others;
+      told =
+          c.push_reserved.ensures.items
+          ∙ ap (λ (k : Fields). k.journal.items ++ entry.Repeat link round ∷ []) adds.others;
     } in
     let happens = repeat_happens f g link round copy (ap (λ (k : Fields). k.stop) more.others ∙ going) repeats in
-    subst (λ (b : BusValue). Happens b (Repeat link round) (value_of g)) (room_shows old f more.others more.copies more.items) happens
+    subst (λ (b : BusValue). Happens b (Repeat link round) (value_of g))
+    (room_shows old f more.others more.copies more.items) happens

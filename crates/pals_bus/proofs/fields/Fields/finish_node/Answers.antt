@@ -6,4 +6,5 @@ use Rattle.pals_bus.proofs.fields.Fields.finish_node.Goals as goal
 
 pub returns-clause-cause : goal.returns-clause-cause
 returns-clause-cause c =
-    turn_told c.args.self.now c.args.node.0 (λ (n : NodeValue). OnErr c.finish.result (NoneRuns n)) c.requires.keeps c.requires.node c.finish.ensures.cause
+    turn_told c.args.self.now c.args.node.0 (λ (n : NodeValue). OnErr c.finish.result (NoneRuns n)) c.requires.keeps
+    c.requires.node c.finish.ensures.cause

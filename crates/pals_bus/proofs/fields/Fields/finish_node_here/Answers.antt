@@ -7,4 +7,6 @@ use Rattle.pals_bus.proofs.fields.Fields.finish_node_here.Goals as goal
 
 pub returns-clause-ok : goal.returns-clause-ok
 returns-clause-ok c =
-    turn_told c.args.self.now c.args.node.0 (λ (n : NodeValue). OnOk c.finish_here.result (FinishesHere n (node_of c.finish_here.new.self c.args.node.0))) c.requires.keeps c.requires.node c.finish_here.ensures.ok
+    turn_told c.args.self.now c.args.node.0
+    (λ (n : NodeValue). OnOk c.finish_here.result (FinishesHere n (node_of c.finish_here.new.self c.args.node.0)))
+    c.requires.keeps c.requires.node c.finish_here.ensures.ok

@@ -13,10 +13,23 @@ returns-clause-ok c =
     let t = c.finish_node_here.new.self in
     let round = c.round_in_hand-round.result in
     let g : Fields = record t { journal = c.push_reserved.new.self } in
-    let stands : Stands (value_of f) f c.args.node.0 = record { shows = refl; keeps = c.requires.keeps; going = grind (arith, common_steps); within = c.requires.node } in
-    let turned : Turned f t g c.args.node.0 (entry.Finish c.args.node round) = record { others = c.in-Ok.ensures.others; same = refl; told = c.push_reserved.ensures.items; capacity = c.push_reserved.ensures.capacity } in
+    let stands : Stands (value_of f) f c.args.node.0 =
+    record {
+      shows = refl;
+      keeps = c.requires.keeps;
+      going = grind (arith, common_steps);
+      within = c.requires.node;
+    } in
+    let turned : Turned f t g c.args.node.0 (entry.Finish c.args.node round) =
+    record {
+      others = c.in-Ok.ensures.others;
+      same = refl;
+      told = c.push_reserved.ensures.items;
+      capacity = c.push_reserved.ensures.capacity;
+    } in
     let finishes = c.in-Ok.ensures.ok in
-    finish_answers (value_of f) f t g c.args.node finishes.0 round stands finishes.1 c.round_in_hand-round.ensures turned
+    finish_answers (value_of f) f t g c.args.node finishes.0 round stands finishes.1
+    c.round_in_hand-round.ensures turned
 
 pub returns-clause-keeps : goal.returns-clause-keeps
 returns-clause-keeps c =
@@ -24,7 +37,19 @@ returns-clause-keeps c =
     let t = c.finish_node_here.new.self in
     let round = c.round_in_hand-round.result in
     let g : Fields = record t { journal = c.push_reserved.new.self } in
-    let stands : Stands (value_of f) f c.args.node.0 = record { shows = refl; keeps = c.requires.keeps; going = grind (arith, common_steps); within = c.requires.node } in
-    let turned : Turned f t g c.args.node.0 (entry.Finish c.args.node round) = record { others = c.in-Ok.ensures.others; same = refl; told = c.push_reserved.ensures.items; capacity = c.push_reserved.ensures.capacity } in
+    let stands : Stands (value_of f) f c.args.node.0 =
+    record {
+      shows = refl;
+      keeps = c.requires.keeps;
+      going = grind (arith, common_steps);
+      within = c.requires.node;
+    } in
+    let turned : Turned f t g c.args.node.0 (entry.Finish c.args.node round) =
+    record {
+      others = c.in-Ok.ensures.others;
+      same = refl;
+      told = c.push_reserved.ensures.items;
+      capacity = c.push_reserved.ensures.capacity;
+    } in
     let finishes = c.in-Ok.ensures.ok in
     finish_leaves (value_of f) f t g c.args.node finishes.0 round stands finishes.1 c.round_in_hand-round.ensures turned

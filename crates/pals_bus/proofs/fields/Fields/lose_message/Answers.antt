@@ -12,16 +12,32 @@ returns-in_default-take_message-clause-keeps c =
     let f = c.reserve_entries.new.self in
     let g = c.take_message.new.self in
     let says = c.take_message.ensures in
-    let takes : Takes f g c.args.link c.args.round c.take_message.result = record { taken = says.taken; copies = says.copies; queues = says.queues; room = says.room; others = says.others } in
-    none_keeps f g c.args.link c.args.round c.reserve_entries.ensures.keeps (subst (Takes f g c.args.link c.args.round) c.in_default-take_message.is takes)
+    let takes : Takes f g c.args.link c.args.round c.take_message.result =
+    record {
+      taken = says.taken;
+      copies = says.copies;
+      queues = says.queues;
+      room = says.room;
+      others = says.others;
+    } in
+    none_keeps f g c.args.link c.args.round c.reserve_entries.ensures.keeps
+    (subst (Takes f g c.args.link c.args.round) c.in_default-take_message.is takes)
 
 pub returns-in_default-take_message-clause-same : goal.returns-in_default-take_message-clause-same
 returns-in_default-take_message-clause-same c =
     let f = c.reserve_entries.new.self in
     let g = c.take_message.new.self in
     let says = c.take_message.ensures in
-    let takes : Takes f g c.args.link c.args.round c.take_message.result = record { taken = says.taken; copies = says.copies; queues = says.queues; room = says.room; others = says.others } in
-    none_value f g c.args.link c.args.round (subst (Takes f g c.args.link c.args.round) c.in_default-take_message.is takes)
+    let takes : Takes f g c.args.link c.args.round c.take_message.result =
+    record {
+      taken = says.taken;
+      copies = says.copies;
+      queues = says.queues;
+      room = says.room;
+      others = says.others;
+    } in
+    none_value f g c.args.link c.args.round
+    (subst (Takes f g c.args.link c.args.round) c.in_default-take_message.is takes)
     ∙ journal_shows c.args.self.now f c.reserve_entries.ensures.others c.reserve_entries.ensures.items
 
 pub returns-clause-keeps : goal.returns-clause-keeps
@@ -35,10 +51,20 @@ returns-clause-keeps c =
     let g : Fields = record t { journal = c.push_reserved.new.self } in
     let going : old.stop ≡ None = grind (arith, common_steps) in
     let says = c.take_message.ensures in
-    let asked : Takes f t link round c.take_message.result = record { taken = says.taken; copies = says.copies; queues = says.queues; room = says.room; others = says.others } in
+    let asked : Takes f t link round c.take_message.result =
+    record {
+      taken = says.taken;
+      copies = says.copies;
+      queues = says.queues;
+      room = says.room;
+      others = says.others;
+    } in
     let takes : Takes f t link round (Some lost) = subst (Takes f t link round) c.in-Some-take_message.is asked in
-    let told = c.push_reserved.ensures.items ∙ ap (λ (k : Fields). k.journal.items ++ entry.Drop link round ∷ []) says.others in
+    let told =
+    c.push_reserved.ensures.items
+    ∙ ap (λ (k : Fields). k.journal.items ++ entry.Drop link round ∷ []) says.others in
     let capacity = c.push_reserved.ensures.capacity ∙ ap (λ (k : Fields). vec_capacity k.journal) says.others in
     let room = c.in_ok-reserve_entries.ensures.room in
     drop_keeps f t g link round lost c.reserve_entries.ensures.keeps takes refl told
-    (drop_happens f t g link round lost (ap (λ (k : Fields). k.stop) c.reserve_entries.ensures.others ∙ going) takes refl told) (omega (arith, room, capacity))
+    (drop_happens f t g link round lost (ap (λ (k : Fields). k.stop) c.reserve_entries.ensures.others ∙ going) takes
+    refl told) (omega (arith, room, capacity))

@@ -13,8 +13,10 @@ returns-in_err-reserve-2-clause-keeps c =
     let room = c.in_ok-reserve.ensures.room in
     let same = c.in_err-reserve-2.ensures.same in
     let spare = ap (λ (q : QueueState). q.spare) same in
-    message_room f c.links.result.now c.args.link c.index_mut.result.now c.reserve.new.self c.index_mut-2.result.now c.reserve-2.new.self c.requires.keeps links c.requires.link
-    c.index_mut.ensures.value c.reserve.ensures.copies (omega (arith, room)) c.index_mut-2.ensures.value c.reserve-2.ensures.entries (omega (arith, spare))
+    message_room f c.links.result.now c.args.link c.index_mut.result.now c.reserve.new.self c.index_mut-2.result.now
+    c.reserve-2.new.self c.requires.keeps links c.requires.link
+    c.index_mut.ensures.value c.reserve.ensures.copies (omega (arith, room)) c.index_mut-2.ensures.value
+    c.reserve-2.ensures.entries (omega (arith, spare))
 
 pub returns-in_err-reserve-2-clause-copies : goal.returns-in_err-reserve-2-clause-copies
 returns-in_err-reserve-2-clause-copies c =
@@ -22,7 +24,8 @@ returns-in_err-reserve-2-clause-copies c =
     let count = c.requires.keeps.flight_count in
     let link = c.requires.link in
     let flies : c.args.link.0 < length f.flights = omega (arith, count, link) in
-    flight_copies f.flights c.args.link.0 c.index_mut.result.now c.reserve.new.self flies c.index_mut.ensures.value c.reserve.ensures.copies
+    flight_copies f.flights c.args.link.0 c.index_mut.result.now c.reserve.new.self flies c.index_mut.ensures.value
+    c.reserve.ensures.copies
 
 pub reserve_entries-requires : goal.reserve_entries-requires
 reserve_entries-requires c =
@@ -31,8 +34,11 @@ reserve_entries-requires c =
     let room = c.in_ok-reserve.ensures.room in
     let queue_room = c.in_ok-reserve-2.ensures.room in
     record {
-      keeps = message_room f c.links.result.now c.args.link c.index_mut.result.now c.reserve.new.self c.index_mut-2.result.now c.reserve-2.new.self c.requires.keeps links c.requires.link
-          c.index_mut.ensures.value c.reserve.ensures.copies (omega (arith, room)) c.index_mut-2.ensures.value c.reserve-2.ensures.entries (omega (arith, queue_room));
+      keeps =
+          message_room f c.links.result.now c.args.link c.index_mut.result.now c.reserve.new.self
+          c.index_mut-2.result.now c.reserve-2.new.self c.requires.keeps links c.requires.link
+          c.index_mut.ensures.value c.reserve.ensures.copies (omega (arith, room)) c.index_mut-2.ensures.value
+          c.reserve-2.ensures.entries (omega (arith, queue_room));
     }
 
 pub returns-clause-copies : goal.returns-clause-copies
@@ -42,4 +48,5 @@ returns-clause-copies c =
     let link = c.requires.link in
     let flies : c.args.link.0 < length f.flights = omega (arith, count, link) in
     ap (λ (k : Fields). copies_in k.flights) c.reserve_entries.ensures.others
-    ∙ flight_copies f.flights c.args.link.0 c.index_mut.result.now c.reserve.new.self flies c.index_mut.ensures.value c.reserve.ensures.copies
+    ∙ flight_copies f.flights c.args.link.0 c.index_mut.result.now c.reserve.new.self flies c.index_mut.ensures.value
+    c.reserve.ensures.copies

@@ -20,10 +20,21 @@ unreachable-requires c =
     let now = c.loop-at.self in
     let node = c.args.node.0 in
     let left = into_iter_items c.loop-at.messages in
-    let here = own_links first now node c.args.round c.args.reading c.args.messages left c.loop-at.at c.links_from.result.now c.links_from-at-end.result.now c.loop-at.invariant c.links_from-at-end.ensures c.loop-at-test.true c.links_from.ensures in
+    let here =
+    own_links first now node c.args.round c.args.reading c.args.messages left c.loop-at.at c.links_from.result.now
+    c.links_from-at-end.result.now c.loop-at.invariant c.links_from-at-end.ensures c.loop-at-test.true
+    c.links_from.ensures in
     let link = slice_index_or c.links_from.result.now c.loop-at.at no_link_no in
-    let can : CanSend first node c.args.messages = record { design = c.requires.design; flights = c.requires.count; nodes = c.requires.nodes; count = c.requires.messages } in
-    let some = message_left first now node c.args.round c.args.reading c.args.messages left link.0 can here.holds here.within here.own in
+    let can : CanSend first node c.args.messages =
+    record {
+      design = c.requires.design;
+      flights = c.requires.count;
+      nodes = c.requires.nodes;
+      count = c.requires.messages;
+    } in
+    let some =
+    message_left first now node c.args.round c.args.reading c.args.messages left link.0 can here.holds
+    here.within here.own in
     let none = c.in-None.ensures.cases.0 in
     let size = c.loop-at.messages.rest.ok.0 in
     absurd (omega (arith, some, none, size))
@@ -34,9 +45,13 @@ delay-requires c =
     let now = c.loop-at.self in
     let node = c.args.node.0 in
     let left = into_iter_items c.loop-at.messages in
-    let here = own_links first now node c.args.round c.args.reading c.args.messages left c.loop-at.at c.links_from.result.now c.links_from-at-end.result.now c.loop-at.invariant c.links_from-at-end.ensures c.loop-at-test.true c.links_from.ensures in
+    let here =
+    own_links first now node c.args.round c.args.reading c.args.messages left c.loop-at.at c.links_from.result.now
+    c.links_from-at-end.result.now c.loop-at.invariant c.links_from-at-end.ensures c.loop-at-test.true
+    c.links_from.ensures in
     let link = slice_index_or c.links_from.result.now c.loop-at.at no_link_no in
-    (sending_delay first now node c.args.round c.args.reading c.args.messages left link.0 here.holds c.requires.delays here.within).0
+    (sending_delay first now node c.args.round c.args.reading c.args.messages left link.0 here.holds c.requires.delays
+    here.within).0
 
 pub due_at-due-requires-clause-delay : goal.due_at-due-requires-clause-delay
 due_at-due-requires-clause-delay c =
@@ -44,9 +59,14 @@ due_at-due-requires-clause-delay c =
     let now = c.loop-at.self in
     let node = c.args.node.0 in
     let left = into_iter_items c.loop-at.messages in
-    let here = own_links first now node c.args.round c.args.reading c.args.messages left c.loop-at.at c.links_from.result.now c.links_from-at-end.result.now c.loop-at.invariant c.links_from-at-end.ensures c.loop-at-test.true c.links_from.ensures in
+    let here =
+    own_links first now node c.args.round c.args.reading c.args.messages left c.loop-at.at c.links_from.result.now
+    c.links_from-at-end.result.now c.loop-at.invariant c.links_from-at-end.ensures c.loop-at-test.true
+    c.links_from.ensures in
     let link = slice_index_or c.links_from.result.now c.loop-at.at no_link_no in
-    subst (λ (d : ℕ). d ≤ HOUR) (sym c.delay.ensures) (sending_delay first now node c.args.round c.args.reading c.args.messages left link.0 here.holds c.requires.delays here.within).1
+    subst (λ (d : ℕ). d ≤ HOUR) (sym c.delay.ensures)
+    (sending_delay first now node c.args.round c.args.reading c.args.messages left link.0 here.holds
+    c.requires.delays here.within).1
 
 pub add_message-requires-clause-link : goal.add_message-requires-clause-link
 add_message-requires-clause-link c =
@@ -54,9 +74,18 @@ add_message-requires-clause-link c =
     let now = c.loop-at.self in
     let node = c.args.node.0 in
     let left = into_iter_items c.loop-at.messages in
-    let here = own_links first now node c.args.round c.args.reading c.args.messages left c.loop-at.at c.links_from.result.now c.links_from-at-end.result.now c.loop-at.invariant c.links_from-at-end.ensures c.loop-at-test.true c.links_from.ensures in
+    let here =
+    own_links first now node c.args.round c.args.reading c.args.messages left c.loop-at.at c.links_from.result.now
+    c.links_from-at-end.result.now c.loop-at.invariant c.links_from-at-end.ensures c.loop-at-test.true
+    c.links_from.ensures in
     let link = slice_index_or c.links_from.result.now c.loop-at.at no_link_no in
-    let can : CanSend first node c.args.messages = record { design = c.requires.design; flights = c.requires.count; nodes = c.requires.nodes; count = c.requires.messages } in
+    let can : CanSend first node c.args.messages =
+    record {
+      design = c.requires.design;
+      flights = c.requires.count;
+      nodes = c.requires.nodes;
+      count = c.requires.messages;
+    } in
     (sending_places first now node c.args.round c.args.reading c.args.messages left link.0 can here.holds here.within).0
 
 pub add_message-requires-clause-number : goal.add_message-requires-clause-number
@@ -65,10 +94,20 @@ add_message-requires-clause-number c =
     let now = c.loop-at.self in
     let node = c.args.node.0 in
     let left = into_iter_items c.loop-at.messages in
-    let here = own_links first now node c.args.round c.args.reading c.args.messages left c.loop-at.at c.links_from.result.now c.links_from-at-end.result.now c.loop-at.invariant c.links_from-at-end.ensures c.loop-at-test.true c.links_from.ensures in
+    let here =
+    own_links first now node c.args.round c.args.reading c.args.messages left c.loop-at.at c.links_from.result.now
+    c.links_from-at-end.result.now c.loop-at.invariant c.links_from-at-end.ensures c.loop-at-test.true
+    c.links_from.ensures in
     let link = slice_index_or c.links_from.result.now c.loop-at.at no_link_no in
-    let can : CanSend first node c.args.messages = record { design = c.requires.design; flights = c.requires.count; nodes = c.requires.nodes; count = c.requires.messages } in
-    (sending_places first now node c.args.round c.args.reading c.args.messages left link.0 can here.holds here.within).1.0
+    let can : CanSend first node c.args.messages =
+    record {
+      design = c.requires.design;
+      flights = c.requires.count;
+      nodes = c.requires.nodes;
+      count = c.requires.messages;
+    } in
+    (sending_places first now node c.args.round c.args.reading c.args.messages left link.0 can here.holds
+    here.within).1.0
 
 pub add_message-requires-clause-target : goal.add_message-requires-clause-target
 add_message-requires-clause-target c =
@@ -76,10 +115,20 @@ add_message-requires-clause-target c =
     let now = c.loop-at.self in
     let node = c.args.node.0 in
     let left = into_iter_items c.loop-at.messages in
-    let here = own_links first now node c.args.round c.args.reading c.args.messages left c.loop-at.at c.links_from.result.now c.links_from-at-end.result.now c.loop-at.invariant c.links_from-at-end.ensures c.loop-at-test.true c.links_from.ensures in
+    let here =
+    own_links first now node c.args.round c.args.reading c.args.messages left c.loop-at.at c.links_from.result.now
+    c.links_from-at-end.result.now c.loop-at.invariant c.links_from-at-end.ensures c.loop-at-test.true
+    c.links_from.ensures in
     let link = slice_index_or c.links_from.result.now c.loop-at.at no_link_no in
-    let can : CanSend first node c.args.messages = record { design = c.requires.design; flights = c.requires.count; nodes = c.requires.nodes; count = c.requires.messages } in
-    (sending_places first now node c.args.round c.args.reading c.args.messages left link.0 can here.holds here.within).1.1
+    let can : CanSend first node c.args.messages =
+    record {
+      design = c.requires.design;
+      flights = c.requires.count;
+      nodes = c.requires.nodes;
+      count = c.requires.messages;
+    } in
+    (sending_places first now node c.args.round c.args.reading c.args.messages left link.0 can here.holds
+    here.within).1.1
 
 pub add_message-requires-clause-room : goal.add_message-requires-clause-room
 add_message-requires-clause-room c =
@@ -87,9 +136,13 @@ add_message-requires-clause-room c =
     let now = c.loop-at.self in
     let node = c.args.node.0 in
     let left = into_iter_items c.loop-at.messages in
-    let here = own_links first now node c.args.round c.args.reading c.args.messages left c.loop-at.at c.links_from.result.now c.links_from-at-end.result.now c.loop-at.invariant c.links_from-at-end.ensures c.loop-at-test.true c.links_from.ensures in
+    let here =
+    own_links first now node c.args.round c.args.reading c.args.messages left c.loop-at.at c.links_from.result.now
+    c.links_from-at-end.result.now c.loop-at.invariant c.links_from-at-end.ensures c.loop-at-test.true
+    c.links_from.ensures in
     let link = slice_index_or c.links_from.result.now c.loop-at.at no_link_no in
-    sending_room first now node c.args.round c.args.reading c.args.messages left link.0 here.holds c.requires.room here.within here.own
+    sending_room first now node c.args.round c.args.reading c.args.messages left link.0 here.holds c.requires.room
+    here.within here.own
 
 pub add_message-requires-clause-queue : goal.add_message-requires-clause-queue
 add_message-requires-clause-queue c =
@@ -97,10 +150,16 @@ add_message-requires-clause-queue c =
     let now = c.loop-at.self in
     let node = c.args.node.0 in
     let left = into_iter_items c.loop-at.messages in
-    let here = own_links first now node c.args.round c.args.reading c.args.messages left c.loop-at.at c.links_from.result.now c.links_from-at-end.result.now c.loop-at.invariant c.links_from-at-end.ensures c.loop-at-test.true c.links_from.ensures in
+    let here =
+    own_links first now node c.args.round c.args.reading c.args.messages left c.loop-at.at c.links_from.result.now
+    c.links_from-at-end.result.now c.loop-at.invariant c.links_from-at-end.ensures c.loop-at-test.true
+    c.links_from.ensures in
     let link = slice_index_or c.links_from.result.now c.loop-at.at no_link_no in
-    subst (λ (k : Fields). 1 ≤ (slice_index_or now.queues (link_at (arc_value k.design) link.0).target.0 no_queue).spare) (sym here.holds.others)
-    (sending_queue_room first now node c.args.round c.args.reading c.args.messages left link.0 here.holds here.within here.own)
+    subst (λ (k : Fields). 1
+    ≤ (slice_index_or now.queues (link_at (arc_value k.design) link.0).target.0 no_queue).spare)
+    (sym here.holds.others)
+    (sending_queue_room first now node c.args.round c.args.reading c.args.messages left link.0 here.holds
+    here.within here.own)
 
 pub loop-at-preserved : goal.loop-at-preserved
 loop-at-preserved c =
@@ -108,9 +167,18 @@ loop-at-preserved c =
     let now = c.loop-at.self in
     let node = c.args.node.0 in
     let left = into_iter_items c.loop-at.messages in
-    let here = own_links first now node c.args.round c.args.reading c.args.messages left c.loop-at.at c.links_from.result.now c.links_from-at-end.result.now c.loop-at.invariant c.links_from-at-end.ensures c.loop-at-test.true c.links_from.ensures in
+    let here =
+    own_links first now node c.args.round c.args.reading c.args.messages left c.loop-at.at c.links_from.result.now
+    c.links_from-at-end.result.now c.loop-at.invariant c.links_from-at-end.ensures c.loop-at-test.true
+    c.links_from.ensures in
     let link = slice_index_or c.links_from.result.now c.loop-at.at no_link_no in
-    let can : CanSend first node c.args.messages = record { design = c.requires.design; flights = c.requires.count; nodes = c.requires.nodes; count = c.requires.messages } in
+    let can : CanSend first node c.args.messages =
+    record {
+      design = c.requires.design;
+      flights = c.requires.count;
+      nodes = c.requires.nodes;
+      count = c.requires.messages;
+    } in
     let next = c.add_message.new.self in
     let adds = c.add_message.ensures in
     let round = c.args.round in
@@ -122,11 +190,20 @@ loop-at-preserved c =
     let due = c.due_at-due.ensures ∙ ap (λ (d : ℕ). option_map (λ (sent : ℕ). sent + d) reading) delay in
     let is = ap (λ (o : Option ℕ). let u : FlightCopy = record { round = round; due = o; tuple = tuple } in u) due in
     let queues =
-    subst (λ (k : Fields). next.queues ≡ slice_set now.queues (link_at (arc_value k.design) link.0).target.0 (with_due (slice_index_or now.queues (link_at (arc_value k.design) link.0).target.0 no_queue) copy.due link copy.round)) here.holds.others adds.queues in
-    let more = sending_more first now next node round reading c.args.messages left rest link tuple copy can here.holds here.within here.own c.in-Some.ensures.items is adds.flights queues adds.others in
-    reaches_more (Sending first now node round reading c.args.messages left) (Sending first next node round reading c.args.messages rest) node c.loop-at.at (arc_value first.design).links (slice_index_or first.outgoing node no_numbers) link here more
+    subst (λ (k : Fields). next.queues
+    ≡ slice_set now.queues (link_at (arc_value k.design) link.0).target.0
+    (with_due (slice_index_or now.queues (link_at (arc_value k.design) link.0).target.0 no_queue) copy.due link
+    copy.round)) here.holds.others adds.queues in
+    let more =
+    sending_more first now next node round reading c.args.messages left rest link tuple copy can here.holds
+    here.within here.own c.in-Some.ensures.items is adds.flights queues adds.others in
+    reaches_more (Sending first now node round reading c.args.messages left)
+    (Sending first next node round reading c.args.messages rest) node c.loop-at.at (arc_value first.design).links
+    (slice_index_or first.outgoing node no_numbers) link here more
 
 pub returns-clause-sent : goal.returns-clause-sent
 returns-clause-sent c =
     let past = c.loop-at-test.false in
-    (sending_all c.args.self.now c.loop-at.self c.args.node.0 c.args.round c.args.reading c.args.messages (into_iter_items c.loop-at.messages) c.loop-at.at c.links_from-at-end.result.now c.loop-at.invariant c.links_from-at-end.ensures (omega (arith, past))).sent
+    (sending_all c.args.self.now c.loop-at.self c.args.node.0 c.args.round c.args.reading c.args.messages
+    (into_iter_items c.loop-at.messages) c.loop-at.at c.links_from-at-end.result.now c.loop-at.invariant
+    c.links_from-at-end.ensures (omega (arith, past))).sent

@@ -10,4 +10,5 @@ use Rattle.pals_bus.proofs.fields.Fields.send_messages.Given as goal
 abbrev pub invariant-loop-at : goal.invariant-loop-at
 invariant-loop-at l =
     let first = l.fn.self in
-    Reaches (Sending first l.self l.node.0 l.round l.reading l.fn.messages (into_iter_items l.messages)) l.node.0 l.at (arc_value first.design).links (slice_index_or first.outgoing l.node.0 no_numbers)
+    Reaches (Sending first l.self l.node.0 l.round l.reading l.fn.messages (into_iter_items l.messages)) l.node.0 l.at
+    (arc_value first.design).links (slice_index_or first.outgoing l.node.0 no_numbers)

@@ -23,9 +23,14 @@ returns-in-Err-Missed-clause-end c =
     let going : old.stop ≡ None = grind (arith, common_steps) in
     let ready : IsReady (value_of old) f h c.args.node round = record {
       stands = record {
-        shows = values_show f h c.read_values.ensures.others ∙ room_shows old f c.reserve_round.ensures.others c.reserve_round.ensures.copies c.reserve_round.ensures.items;
+        shows =
+            values_show f h c.read_values.ensures.others
+            ∙ room_shows old f c.reserve_round.ensures.others c.reserve_round.ensures.copies
+            c.reserve_round.ensures.items;
         keeps = c.read_values.ensures.keeps;
-        going = ap (λ (k : Fields). k.stop) c.read_values.ensures.others ∙ ap (λ (k : Fields). k.stop) c.reserve_round.ensures.others ∙ going;
+        going =
+            ap (λ (k : Fields). k.stop) c.read_values.ensures.others
+            ∙ ap (λ (k : Fields). k.stop) c.reserve_round.ensures.others ∙ going;
         within = c.requires.node;
       };
       read = c.read_values.ensures.others;
@@ -36,8 +41,11 @@ returns-in-Err-Missed-clause-end c =
     let same = c.in-Err-Missed.ensures.same in
     let misses = rw c.in-Err-Missed.field-0-is at c.in-Err-Missed.ensures.cause in
     inr (miss_answers (value_of old) f h g c.args.node c.args.reading round port why ready misses
-    (c.missed_stop-stop.ensures ∙ ap (λ (k : Fields). missed_stop (run_of k) (state_of k) c.args.node c.args.reading (link_into (arc_value k.design) c.args.node.0 port)) same)
-    (ap (λ (k : Fields). let u : Fields = record k { stop = Some why; journal = c.push_reserved.new.self } in u) same) (c.push_reserved.ensures.items ∙ ap (λ (k : Fields). k.journal.items ++ entry.Stopped why ∷ []) same))
+    (c.missed_stop-stop.ensures
+    ∙ ap (λ (k : Fields). missed_stop (run_of k) (state_of k) c.args.node c.args.reading
+    (link_into (arc_value k.design) c.args.node.0 port)) same)
+    (ap (λ (k : Fields). let u : Fields = record k { stop = Some why; journal = c.push_reserved.new.self } in u) same)
+    (c.push_reserved.ensures.items ∙ ap (λ (k : Fields). k.journal.items ++ entry.Stopped why ∷ []) same))
 
 pub returns-in-Err-Missed-clause-keeps : goal.returns-in-Err-Missed-clause-keeps
 returns-in-Err-Missed-clause-keeps c =
@@ -51,9 +59,14 @@ returns-in-Err-Missed-clause-keeps c =
     let going : old.stop ≡ None = grind (arith, common_steps) in
     let ready : IsReady (value_of old) f h c.args.node round = record {
       stands = record {
-        shows = values_show f h c.read_values.ensures.others ∙ room_shows old f c.reserve_round.ensures.others c.reserve_round.ensures.copies c.reserve_round.ensures.items;
+        shows =
+            values_show f h c.read_values.ensures.others
+            ∙ room_shows old f c.reserve_round.ensures.others c.reserve_round.ensures.copies
+            c.reserve_round.ensures.items;
         keeps = c.read_values.ensures.keeps;
-        going = ap (λ (k : Fields). k.stop) c.read_values.ensures.others ∙ ap (λ (k : Fields). k.stop) c.reserve_round.ensures.others ∙ going;
+        going =
+            ap (λ (k : Fields). k.stop) c.read_values.ensures.others
+            ∙ ap (λ (k : Fields). k.stop) c.reserve_round.ensures.others ∙ going;
         within = c.requires.node;
       };
       read = c.read_values.ensures.others;
@@ -64,8 +77,11 @@ returns-in-Err-Missed-clause-keeps c =
     let same = c.in-Err-Missed.ensures.same in
     let misses = rw c.in-Err-Missed.field-0-is at c.in-Err-Missed.ensures.cause in
     miss_leaves (value_of old) f h g c.args.node c.args.reading round port why ready misses
-    (c.missed_stop-stop.ensures ∙ ap (λ (k : Fields). missed_stop (run_of k) (state_of k) c.args.node c.args.reading (link_into (arc_value k.design) c.args.node.0 port)) same)
-    (ap (λ (k : Fields). let u : Fields = record k { stop = Some why; journal = c.push_reserved.new.self } in u) same) (c.push_reserved.ensures.items ∙ ap (λ (k : Fields). k.journal.items ++ entry.Stopped why ∷ []) same)
+    (c.missed_stop-stop.ensures
+    ∙ ap (λ (k : Fields). missed_stop (run_of k) (state_of k) c.args.node c.args.reading
+    (link_into (arc_value k.design) c.args.node.0 port)) same)
+    (ap (λ (k : Fields). let u : Fields = record k { stop = Some why; journal = c.push_reserved.new.self } in u) same)
+    (c.push_reserved.ensures.items ∙ ap (λ (k : Fields). k.journal.items ++ entry.Stopped why ∷ []) same)
     (c.push_reserved.ensures.capacity ∙ ap (λ (k : Fields). vec_capacity k.journal) same)
 
 pub returns-clause-ok : goal.returns-clause-ok
@@ -79,9 +95,14 @@ returns-clause-ok c =
     let going : old.stop ≡ None = grind (arith, common_steps) in
     let ready : IsReady (value_of old) f h c.args.node round = record {
       stands = record {
-        shows = values_show f h c.read_values.ensures.others ∙ room_shows old f c.reserve_round.ensures.others c.reserve_round.ensures.copies c.reserve_round.ensures.items;
+        shows =
+            values_show f h c.read_values.ensures.others
+            ∙ room_shows old f c.reserve_round.ensures.others c.reserve_round.ensures.copies
+            c.reserve_round.ensures.items;
         keeps = c.read_values.ensures.keeps;
-        going = ap (λ (k : Fields). k.stop) c.read_values.ensures.others ∙ ap (λ (k : Fields). k.stop) c.reserve_round.ensures.others ∙ going;
+        going =
+            ap (λ (k : Fields). k.stop) c.read_values.ensures.others
+            ∙ ap (λ (k : Fields). k.stop) c.reserve_round.ensures.others ∙ going;
         within = c.requires.node;
       };
       read = c.read_values.ensures.others;
@@ -89,7 +110,13 @@ returns-clause-ok c =
       round_is = c.rounds_started-round.ensures;
       entries = c.in_ok-reserve_round.ensures.entries;
     } in
-    let turned : Turned h t g c.args.node.0 (entry.Start c.args.node round c.args.reading) = record { others = c.in-Ok.ensures.others; same = refl; told = c.push_reserved-2.ensures.items; capacity = c.push_reserved-2.ensures.capacity } in
+    let turned : Turned h t g c.args.node.0 (entry.Start c.args.node round c.args.reading) =
+    record {
+      others = c.in-Ok.ensures.others;
+      same = refl;
+      told = c.push_reserved-2.ensures.items;
+      capacity = c.push_reserved-2.ensures.capacity;
+    } in
     start_answers (value_of old) f h t g c.args.node c.args.reading round c.in-Ok.job ready c.in-Ok.ensures.ok turned
 
 pub returns-clause-keeps : goal.returns-clause-keeps
@@ -103,9 +130,14 @@ returns-clause-keeps c =
     let going : old.stop ≡ None = grind (arith, common_steps) in
     let ready : IsReady (value_of old) f h c.args.node round = record {
       stands = record {
-        shows = values_show f h c.read_values.ensures.others ∙ room_shows old f c.reserve_round.ensures.others c.reserve_round.ensures.copies c.reserve_round.ensures.items;
+        shows =
+            values_show f h c.read_values.ensures.others
+            ∙ room_shows old f c.reserve_round.ensures.others c.reserve_round.ensures.copies
+            c.reserve_round.ensures.items;
         keeps = c.read_values.ensures.keeps;
-        going = ap (λ (k : Fields). k.stop) c.read_values.ensures.others ∙ ap (λ (k : Fields). k.stop) c.reserve_round.ensures.others ∙ going;
+        going =
+            ap (λ (k : Fields). k.stop) c.read_values.ensures.others
+            ∙ ap (λ (k : Fields). k.stop) c.reserve_round.ensures.others ∙ going;
         within = c.requires.node;
       };
       read = c.read_values.ensures.others;
@@ -113,5 +145,12 @@ returns-clause-keeps c =
       round_is = c.rounds_started-round.ensures;
       entries = c.in_ok-reserve_round.ensures.entries;
     } in
-    let turned : Turned h t g c.args.node.0 (entry.Start c.args.node round c.args.reading) = record { others = c.in-Ok.ensures.others; same = refl; told = c.push_reserved-2.ensures.items; capacity = c.push_reserved-2.ensures.capacity } in
-    start_leaves (value_of old) f h t g c.args.node c.args.reading round c.in-Ok.job ready c.in-Ok.ensures.ok turned c.in_ok-reserve_round.ensures.room c.in_ok-reserve_round.ensures.queues
+    let turned : Turned h t g c.args.node.0 (entry.Start c.args.node round c.args.reading) =
+    record {
+      others = c.in-Ok.ensures.others;
+      same = refl;
+      told = c.push_reserved-2.ensures.items;
+      capacity = c.push_reserved-2.ensures.capacity;
+    } in
+    start_leaves (value_of old) f h t g c.args.node c.args.reading round c.in-Ok.job ready c.in-Ok.ensures.ok turned
+    c.in_ok-reserve_round.ensures.room c.in_ok-reserve_round.ensures.queues

@@ -24,7 +24,10 @@ returns-clause-ok c =
     let turned : Turned f t g c.args.node.0 (entry.Step c.args.node job.work.round job.work.step c.args.reading) = record {
       others = c.in-Ok.ensures.others;
       same = refl;
-      told = c.push_reserved.ensures.items ∙ ap₂ (λ r k. t.journal.items ++ entry.Step c.args.node r k c.args.reading ∷ []) c.round.ensures c.step.ensures;
+      told =
+          c.push_reserved.ensures.items
+          ∙ ap₂ (λ r k. t.journal.items ++ entry.Step c.args.node r k c.args.reading ∷ []) c.round.ensures
+          c.step.ensures;
       capacity = c.push_reserved.ensures.capacity;
     } in
     step_answers (value_of old) f t g c.args.node c.args.reading job stands c.in-Ok.ensures.ok turned
@@ -46,7 +49,11 @@ returns-clause-keeps c =
     let turned : Turned f t g c.args.node.0 (entry.Step c.args.node job.work.round job.work.step c.args.reading) = record {
       others = c.in-Ok.ensures.others;
       same = refl;
-      told = c.push_reserved.ensures.items ∙ ap₂ (λ r k. t.journal.items ++ entry.Step c.args.node r k c.args.reading ∷ []) c.round.ensures c.step.ensures;
+      told =
+          c.push_reserved.ensures.items
+          ∙ ap₂ (λ r k. t.journal.items ++ entry.Step c.args.node r k c.args.reading ∷ []) c.round.ensures
+          c.step.ensures;
       capacity = c.push_reserved.ensures.capacity;
     } in
-    step_leaves (value_of old) f t g c.args.node c.args.reading job stands c.in-Ok.ensures.ok turned c.in_ok-reserve_entries.ensures.room
+    step_leaves (value_of old) f t g c.args.node c.args.reading job stands c.in-Ok.ensures.ok turned
+    c.in_ok-reserve_entries.ensures.room

@@ -22,8 +22,11 @@ arrive_all-requires-clause-left c =
     let there = c.requires.node in
     let within : node < length f.queues = omega (arith, many, count, there) in
     let here = c.index.ensures ∙ get_or_default f.queues node c.index.result.now no_queue within in
-    let left = left_at_first f node reading c.index.result.now c.in_ok-due.due.items c.requires.keeps here c.in_ok-due.ensures in
-    subst (λ (b : BusValue). AreLeft b node reading c.as_slice.result.now) (sym shows) (subst (AreLeft (value_of f) node reading) (sym c.as_slice.ensures.value) left)
+    let left =
+    left_at_first f node reading c.index.result.now c.in_ok-due.due.items c.requires.keeps here
+    c.in_ok-due.ensures in
+    subst (λ (b : BusValue). AreLeft b node reading c.as_slice.result.now) (sym shows)
+    (subst (AreLeft (value_of f) node reading) (sym c.as_slice.ensures.value) left)
 
 pub returns-clause-ok : goal.returns-clause-ok
 returns-clause-ok c =

@@ -4,4 +4,7 @@ use Rattle.pals_bus.proofs.NodeLists.{targets_kept}
 use Rattle.pals_bus.proofs.node_list.NodeList.finish_here.Goals as goal
 
 pub invariant_of-self : goal.invariant_of-self
-invariant_of-self c = targets_kept c.self.inside.nodes c.self.inside.targets c.keep_target.new.targets c.args.node c.finish_here-answer.new.self c.self.invariant (subst (λ (ns : List NodeValue). c.args.node < length ns) (sym c.self.view_is) c.requires) c.keep_target.ensures
+invariant_of-self c =
+    targets_kept c.self.inside.nodes c.self.inside.targets c.keep_target.new.targets c.args.node
+    c.finish_here-answer.new.self c.self.invariant
+    (subst (λ (ns : List NodeValue). c.args.node < length ns) (sym c.self.view_is) c.requires) c.keep_target.ensures

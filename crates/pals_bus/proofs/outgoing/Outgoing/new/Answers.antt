@@ -11,7 +11,8 @@ use Rattle.pals_bus.proofs.outgoing.Outgoing.new.Goals as goal
 pub loop-number-init : goal.loop-number-init
 loop-number-init c =
     let components = c.components.ensures.value in
-    subst (λ (cs : List Component). AreOutgoing (length cs) (take 0 c.links-links.result.now) c.in_ok-lists.lists) components
+    subst (λ (cs : List Component).
+    AreOutgoing (length cs) (take 0 c.links-links.result.now) c.in_ok-lists.lists) components
     (outgoing_none c.components.result.now c.links-links.result.now c.in_ok-lists.lists c.in_ok-lists.ensures)
 
 pub loop-number-preserved : goal.loop-number-preserved
@@ -22,10 +23,15 @@ loop-number-preserved c =
     let lists = c.loop-number.lists in
     let source = (slice_index_or links k no_link).source.0 in
     let within = c.loop-number-test.true in
-    let there : k < length design.links = subst (λ (ls : List Link). k < length ls) c.links-links.ensures.value within in
+    let there : k < length design.links =
+    subst (λ (ls : List Link). k < length ls) c.links-links.ensures.value within in
     let of_design = source_within design k c.links-links.ensures.rules there in
-    let inside : source < length design.components = subst (λ (ls : List Link). (slice_index_or ls k no_link).source.0 < length design.components) (sym c.links-links.ensures.value) of_design in
+    let inside : source < length design.components =
+    subst (λ (ls : List Link). (slice_index_or ls k no_link).source.0 < length design.components)
+    (sym c.links-links.ensures.value) of_design in
     let count = c.loop-number.invariant.count in
     let here : source < length lists = omega (arith, count, inside) in
-    let was : c.index_mut.result.now ≡ slice_index_or lists source no_numbers = c.index_mut.ensures.value ∙ get_or_default lists source c.index_mut.result.now no_numbers here in
-    outgoing_more (length design.components) k source links lists c.push.new.self c.loop-number.invariant within refl inside (c.in_ok-push.ensures.ok ∙ ap (λ (ns : List LinkNo). ns ++ numbered k ∷ []) was)
+    let was : c.index_mut.result.now ≡ slice_index_or lists source no_numbers = c.index_mut.ensures.value
+    ∙ get_or_default lists source c.index_mut.result.now no_numbers here in
+    outgoing_more (length design.components) k source links lists c.push.new.self c.loop-number.invariant within refl
+    inside (c.in_ok-push.ensures.ok ∙ ap (λ (ns : List LinkNo). ns ++ numbered k ∷ []) was)

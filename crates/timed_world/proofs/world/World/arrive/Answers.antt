@@ -7,7 +7,15 @@ use Rattle.timed_world.proofs.world.World.arrive.Goals as goal
 pub invariant_of-self-2 : goal.invariant_of-self-2
 invariant_of-self-2 c =
     let f = c.self.inside in
-    let v : WorldValue = record { bus = f.bus; time = f.time; readings = f.readings; since = f.since; ready = f.ready; sent_at = f.sent_at } in
+    let v : WorldValue = record {
+      bus = f.bus;
+      time = f.time;
+      readings = f.readings;
+      since = f.since;
+      ready = f.ready;
+      sent_at = f.sent_at;
+    } in
     let e = event.Arrive c.args.link c.args.round in
     let fine = subst (λ (x : WorldValue). IsFine x e) (sym c.self.view_is) c.requires.fine in
-    moves_keep v e _ c.self.invariant fine (arrived v c.args.link c.args.round c.deliver.new.self c.in_default.ensures.ok)
+    moves_keep v e _ c.self.invariant fine
+    (arrived v c.args.link c.args.round c.deliver.new.self c.in_default.ensures.ok)

@@ -16,16 +16,21 @@ returns-then-eps-abs_diff c =
     let readings = c.args.readings.now in
     let index = c.loop-index.index in
     let reading = slice_index_or readings index 0 in
-    let gamma = c.gamma-eps.ensures.value ∙ ap (λ (d : DesignParts). d.gamma) c.design.ensures ∙ ap (λ (x : WorldValue). x.bus.run.design.gamma) c.self.view_is in
+    let gamma =
+    c.gamma-eps.ensures.value ∙ ap (λ (d : DesignParts). d.gamma) c.design.ensures
+    ∙ ap (λ (x : WorldValue). x.bus.run.design.gamma) c.self.view_is in
     let eps = ap (λ (g : Gamma). g.eps) gamma in
     let test = c.loop-index-test.true in
     let end = c.component_count-index-end.ensures.value in
     let many = c.requires in
     let within : index < length readings = omega (arith, test, end, many) in
     let row = c.loop-index.invariant ∙ readings_more f readings index within in
-    let far = subst (λ (n : ℕ). n ≤ apart reading c.args.time) eps (subst (λ (n : ℕ). c.gamma-eps.result.eps ≤ n) c.abs_diff.ensures c.if-eps-abs_diff.true) in
+    let far =
+    subst (λ (n : ℕ). n ≤ apart reading c.args.time) eps
+    (subst (λ (n : ℕ). c.gamma-eps.result.eps ≤ n) c.abs_diff.ensures c.if-eps-abs_diff.true) in
     let why = fault.ClockApart (record { 0 = index }) reading in
-    has_found _ (f (index, reading)) (readings_left f readings (index + 1)) why row (within_found v.bus.run.design.gamma.eps (apart reading c.args.time) why far)
+    has_found _ (f (index, reading)) (readings_left f readings (index + 1)) why row
+    (within_found v.bus.run.design.gamma.eps (apart reading c.args.time) why far)
 
 pub loop-index-preserved : goal.loop-index-preserved
 loop-index-preserved c =
@@ -34,13 +39,18 @@ loop-index-preserved c =
     let readings = c.args.readings.now in
     let index = c.loop-index.index in
     let reading = slice_index_or readings index 0 in
-    let gamma = c.gamma-eps.ensures.value ∙ ap (λ (d : DesignParts). d.gamma) c.design.ensures ∙ ap (λ (x : WorldValue). x.bus.run.design.gamma) c.self.view_is in
+    let gamma =
+    c.gamma-eps.ensures.value ∙ ap (λ (d : DesignParts). d.gamma) c.design.ensures
+    ∙ ap (λ (x : WorldValue). x.bus.run.design.gamma) c.self.view_is in
     let eps = ap (λ (g : Gamma). g.eps) gamma in
     let test = c.loop-index-test.true in
     let end = c.component_count-index-end.ensures.value in
     let many = c.requires in
     let within : index < length readings = omega (arith, test, end, many) in
     let row = c.loop-index.invariant ∙ readings_more f readings index within in
-    let close = subst (λ (n : ℕ). apart reading c.args.time < n) eps (subst (λ (n : ℕ). n < c.gamma-eps.result.eps) c.abs_diff.ensures c.if-eps-abs_diff.false) in
+    let close =
+    subst (λ (n : ℕ). apart reading c.args.time < n) eps
+    (subst (λ (n : ℕ). n < c.gamma-eps.result.eps) c.abs_diff.ensures c.if-eps-abs_diff.false) in
     let why = fault.ClockApart (record { 0 = index }) reading in
-    goes_past _ (f (index, reading)) (readings_left f readings (index + 1)) row (within_past v.bus.run.design.gamma.eps (apart reading c.args.time) why close)
+    goes_past _ (f (index, reading)) (readings_left f readings (index + 1)) row
+    (within_past v.bus.run.design.gamma.eps (apart reading c.args.time) why close)

@@ -5,4 +5,5 @@ use Rattle.timed_world.proofs.world.World.clock_apart.Given as goal
 
 abbrev pub invariant-loop-index : goal.invariant-loop-index
 invariant-loop-index l =
-    readings_left (clock_apart l.self.bus.run l.time) l.readings 0 ≡ readings_left (clock_apart l.self.bus.run l.time) l.readings l.index
+    readings_left (clock_apart l.self.bus.run l.time) l.readings 0
+    ≡ readings_left (clock_apart l.self.bus.run l.time) l.readings l.index

@@ -22,7 +22,8 @@ returns-then-reading-before c =
     let row = c.loop-index.invariant ∙ readings_more f readings index within in
     let less = subst (λ (l : List ℕ). reading < slice_index_or l index 0) same c.if-reading-before.true in
     let why = fault.ClockBack (record { 0 = index }) reading in
-    has_found _ (f (index, reading)) (readings_left f readings (index + 1)) why row (below_found reading (slice_index_or v.readings index 0) why less)
+    has_found _ (f (index, reading)) (readings_left f readings (index + 1)) why row
+    (below_found reading (slice_index_or v.readings index 0) why less)
 
 pub loop-index-preserved : goal.loop-index-preserved
 loop-index-preserved c =
@@ -39,4 +40,5 @@ loop-index-preserved c =
     let row = c.loop-index.invariant ∙ readings_more f readings index within in
     let most = subst (λ (l : List ℕ). slice_index_or l index 0 ≤ reading) same c.if-reading-before.false in
     let why = fault.ClockBack (record { 0 = index }) reading in
-    goes_past _ (f (index, reading)) (readings_left f readings (index + 1)) row (below_past reading (slice_index_or v.readings index 0) why most)
+    goes_past _ (f (index, reading)) (readings_left f readings (index + 1)) row
+    (below_past reading (slice_index_or v.readings index 0) why most)

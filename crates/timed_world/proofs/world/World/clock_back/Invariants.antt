@@ -6,4 +6,5 @@ use Rattle.timed_world.proofs.world.World.clock_back.Given as goal
 
 abbrev pub invariant-loop-index : goal.invariant-loop-index
 invariant-loop-index l =
-    readings_left (clock_back (world_of l.self)) l.readings 0 ≡ readings_left (clock_back (world_of l.self)) l.readings l.index
+    readings_left (clock_back (world_of l.self)) l.readings 0
+    ≡ readings_left (clock_back (world_of l.self)) l.readings l.index

@@ -20,9 +20,12 @@ overflow_add-earliest c =
     let round = c.args.round in
     let keeps = subst KeepsWorld c.self.view_is c.self.invariant in
     let same = ap (λ (x : WorldValue). is_in_flight round (flight_at x.bus.state link)) c.self.view_is in
-    let flies = sym same ∙ sym (ap is_some c.in_flight.ensures) ∙ some_copied c.in_flight.result ∙ c.if-is_none.ensures in
+    let flies =
+    sym same ∙ sym (ap is_some c.in_flight.ensures) ∙ some_copied c.in_flight.result ∙ c.if-is_none.ensures in
     let fits = arrival_fits v.bus.run (world_of v) keeps.rules keeps.keeps link c.requires keeps.few round flies in
-    let gamma = c.gamma-least.ensures.value ∙ ap (λ (d : DesignParts). d.gamma) c.design.ensures ∙ ap (λ (x : WorldValue). x.bus.run.design.gamma) c.self.view_is in
+    let gamma =
+    c.gamma-least.ensures.value ∙ ap (λ (d : DesignParts). d.gamma) c.design.ensures
+    ∙ ap (λ (x : WorldValue). x.bus.run.design.gamma) c.self.view_is in
     let least = ap (λ (g : Gamma). g.mu_min) gamma in
     let since = c.flight_since.ensures in
     omega (arith, fits, least, since)

@@ -12,9 +12,12 @@ returns-in-Some c =
     let link = c.args.link.0 in
     let keeps = subst KeepsWorld c.self.view_is c.self.invariant in
     let count = (node_at v.bus.state (link_at v.bus.run.design link).target.0).count in
-    let counted : c.count-count.result ≡ count = grind (arith, common_steps) ∙ ap (λ (x : WorldValue). (node_at x.bus.state (link_at x.bus.run.design link).target.0).count) c.self.view_is in
+    let counted : c.count-count.result ≡ count = grind (arith, common_steps)
+    ∙ ap (λ (x : WorldValue). (node_at x.bus.state (link_at x.bus.run.design link).target.0).count)
+    c.self.view_is in
     let before : c.saturating_sub.result ≡ count - 1 = c.saturating_sub.ensures ∙ ap (λ (n : ℕ). n - 1) counted in
-    first_is_past v.bus.run (world_of v) keeps.rules keeps.keeps link c.requires c.args.time c.saturating_sub.result c.in-Some.why before (sym c.flying_past.ensures ∙ c.in-Some.is)
+    first_is_past v.bus.run (world_of v) keeps.rules keeps.keeps link c.requires c.args.time c.saturating_sub.result
+    c.in-Some.why before (sym c.flying_past.ensures ∙ c.in-Some.is)
 
 pub returns : goal.returns
 returns c =
@@ -22,8 +25,11 @@ returns c =
     let link = c.args.link.0 in
     let keeps = subst KeepsWorld c.self.view_is c.self.invariant in
     let count = (node_at v.bus.state (link_at v.bus.run.design link).target.0).count in
-    let counted : c.count-count.result ≡ count = grind (arith, common_steps) ∙ ap (λ (x : WorldValue). (node_at x.bus.state (link_at x.bus.run.design link).target.0).count) c.self.view_is in
+    let counted : c.count-count.result ≡ count = grind (arith, common_steps)
+    ∙ ap (λ (x : WorldValue). (node_at x.bus.state (link_at x.bus.run.design link).target.0).count)
+    c.self.view_is in
     let before : c.saturating_sub.result ≡ count - 1 = c.saturating_sub.ensures ∙ ap (λ (n : ℕ). n - 1) counted in
     c.flying_past-2.ensures
     ∙ ap (flying_past v.bus.run (world_of v) c.args.time link) counted
-    ∙ first_is_not v.bus.run (world_of v) keeps.rules keeps.keeps link c.requires c.args.time c.saturating_sub.result before (sym c.flying_past.ensures ∙ c.in_default.is)
+    ∙ first_is_not v.bus.run (world_of v) keeps.rules keeps.keeps link c.requires c.args.time c.saturating_sub.result
+    before (sym c.flying_past.ensures ∙ c.in_default.is)

@@ -10,7 +10,10 @@ pub returns : goal.returns
 returns c =
     let v = c.args.self.now in
     let gamma : c.gamma-gamma.result ≡ v.bus.run.design.gamma =
-    c.gamma-gamma.ensures.value ∙ ap (λ (d : DesignParts). d.gamma) c.design.ensures ∙ ap (λ (x : WorldValue). x.bus.run.design.gamma) c.self.view_is in
+    c.gamma-gamma.ensures.value ∙ ap (λ (d : DesignParts). d.gamma) c.design.ensures
+    ∙ ap (λ (x : WorldValue). x.bus.run.design.gamma) c.self.view_is in
     c.past.ensures
     ∙ ap (past c.args.time (which.Node c.args.node))
-    (c.last_time-last.ensures ∙ last_is v.bus.run (world_of v) c.args.node.0 c.plan.result.now c.standing.result c.gamma-gamma.result c.plan.ensures.value c.standing.ensures.value gamma)
+    (c.last_time-last.ensures
+    ∙ last_is v.bus.run (world_of v) c.args.node.0 c.plan.result.now c.standing.result c.gamma-gamma.result
+    c.plan.ensures.value c.standing.ensures.value gamma)

@@ -10,7 +10,14 @@ use Rattle.timed_world.proofs.world.World.standing.Goals as goal
 pub returns-clause-sound : goal.returns-clause-sound
 returns-clause-sound c =
     let f = c.self.inside in
-    let v : WorldValue = record { bus = f.bus; time = f.time; readings = f.readings; since = f.since; ready = f.ready; sent_at = f.sent_at } in
+    let v : WorldValue = record {
+      bus = f.bus;
+      time = f.time;
+      readings = f.readings;
+      since = f.since;
+      ready = f.ready;
+      sent_at = f.sent_at;
+    } in
     let node = c.args.node.0 in
     let s : Standing = record {
       count = c.count.result;
@@ -20,7 +27,8 @@ returns-clause-sound c =
       since = c.index-2.result.now;
       ready = c.index-3.result.now;
     } in
-    let within : node < length f.bus.run.design.components = subst (λ (x : WorldValue). node < length x.bus.run.design.components) (sym c.self.view_is) c.requires in
+    let within : node < length f.bus.run.design.components =
+    subst (λ (x : WorldValue). node < length x.bus.run.design.components) (sym c.self.view_is) c.requires in
     let many = c.self.invariant.keeps.moments.since in
     let at : node < length f.since = omega arith in
     let since = c.index-2.ensures ∙ get_or_default f.since node c.index-2.result.now 0 at in

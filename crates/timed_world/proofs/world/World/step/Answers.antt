@@ -8,9 +8,18 @@ use Rattle.timed_world.proofs.world.World.step.Goals as goal
 pub invariant_of-self-2 : goal.invariant_of-self-2
 invariant_of-self-2 c =
     let f = c.self.inside in
-    let v : WorldValue = record { bus = f.bus; time = f.time; readings = f.readings; since = f.since; ready = f.ready; sent_at = f.sent_at } in
+    let v : WorldValue = record {
+      bus = f.bus;
+      time = f.time;
+      readings = f.readings;
+      since = f.since;
+      ready = f.ready;
+      sent_at = f.sent_at;
+    } in
     let e = event.Step c.args.node in
     let fine = subst (λ (x : WorldValue). IsFine x e) (sym c.self.view_is) c.requires.fine in
     let within = (steps_in_time v.bus.run (world_of v) c.args.node fine).within in
     let clock = reads v c.args.node c.index-reading.result.now c.self.invariant within c.index-reading.ensures in
-    moves_keep v e _ c.self.invariant fine (stepped v c.args.node c.index-reading.result.now c.step.new.self c.set.new.self clock c.in_default.ensures.ok.happens c.set.ensures)
+    moves_keep v e _ c.self.invariant fine
+    (stepped v c.args.node c.index-reading.result.now c.step.new.self c.set.new.self clock
+    c.in_default.ensures.ok.happens c.set.ensures)

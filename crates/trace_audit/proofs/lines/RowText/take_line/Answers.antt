@@ -10,8 +10,13 @@ returns-clause-left c shown lines has is =
     let place = c.args.self.now.place in
     let rest = text_of lines in
     let begins : drop place text ≡ shown ++ 10 ∷ rest = first_of (drop place text) shown lines has.text in
-    let n : c.line_length-length.result ≡ length shown = c.line_length-length.ensures.value shown rest is (c.rest.ensures ∙ begins) in
+    let n : c.line_length-length.result ≡ length shown =
+    c.line_length-length.ensures.value shown rest is (c.rest.ensures ∙ begins) in
     let long : c.len.result ≡ length text = search rules in
     let next : c.min-self.result ≡ place + suc (length shown) =
-    next_place text shown rest place c.line_length-length.result c.min-self.result has.within begins n (c.min-self.ensures ∙ ap (min (place + c.line_length-length.result + 1)) long) in
-    record { within = next_within text shown rest place c.min-self.result has.within begins next; text = next_text text shown rest place c.min-self.result begins next }
+    next_place text shown rest place c.line_length-length.result c.min-self.result has.within begins n
+    (c.min-self.ensures ∙ ap (min (place + c.line_length-length.result + 1)) long) in
+    record {
+      within = next_within text shown rest place c.min-self.result has.within begins next;
+      text = next_text text shown rest place c.min-self.result begins next;
+    }

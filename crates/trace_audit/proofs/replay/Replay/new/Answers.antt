@@ -9,4 +9,5 @@ pub returns-clause-value : goal.returns-clause-value
 returns-clause-value c =
     let run = c.args.bus.run in
     let made : c.in_ok-readings.readings.items ≡ replicate (length run.design.components) 0 = search rules in
-    ap₂ (λ (s : BusState) (rs : List ℕ). let a : Audit = record { bus = s; readings = rs; owed = None } in a) c.requires.opening (made ∙ sym (no_readings run))
+    ap₂ (λ (s : BusState) (rs : List ℕ). let a : Audit = record { bus = s; readings = rs; owed = None } in a)
+    c.requires.opening (made ∙ sym (no_readings run))

@@ -11,7 +11,8 @@ returns-then-not-is_line_of-clause-rule c =
     let e = c.args.entry.now in
     let none : c.is_line_of.result ≡ false = search (rules, tests) in
     sym (ap (λ b. cond b None (Some rule.Stop)) none)
-    ∙ stop_line r.bus.run r.bus.state r.readings.items r.owed e c.args.owed.now c.is_line_of.result c.requires.clock.reads c.requires.owed
+    ∙ stop_line r.bus.run r.bus.state r.readings.items r.owed e c.args.owed.now c.is_line_of.result
+    c.requires.clock.reads c.requires.owed
     (c.is_line_of.ensures ∙ ap (λ (d : DesignParts). is_line_of d e (Some c.args.owed.now)) c.design.ensures)
 
 pub returns-clause-rule : goal.returns-clause-rule
@@ -20,5 +21,6 @@ returns-clause-rule c =
     let e = c.args.entry.now in
     let one : c.is_line_of.result ≡ true = search (rules, tests) in
     sym (ap (λ b. cond b None (Some rule.Stop)) one)
-    ∙ stop_line r.bus.run r.bus.state r.readings.items r.owed e c.args.owed.now c.is_line_of.result c.requires.clock.reads c.requires.owed
+    ∙ stop_line r.bus.run r.bus.state r.readings.items r.owed e c.args.owed.now c.is_line_of.result
+    c.requires.clock.reads c.requires.owed
     (c.is_line_of.ensures ∙ ap (λ (d : DesignParts). is_line_of d e (Some c.args.owed.now)) c.design.ensures)

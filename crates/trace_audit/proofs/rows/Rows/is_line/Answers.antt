@@ -11,7 +11,8 @@ returns-clause-same c =
     let env = c.args.self.now.env.now in
     let index = c.args.index in
     let left = subst (HasLeft c.reach.new.self.row) (left_is design env index) c.in_ok-reach.ensures.left in
-    c.take_line.ensures.same (line_at design env index) (left_behind design env index) left (line_is_one design env index c.in_ok-reach.ensures.rules)
+    c.take_line.ensures.same (line_at design env index) (left_behind design env index) left
+    (line_is_one design env index c.in_ok-reach.ensures.rules)
 
 pub returns-clause-next : goal.returns-clause-next
 returns-clause-next c =
@@ -28,5 +29,6 @@ returns-clause-next c =
         places = rows.places;
       };
       left = λ some. subst (HasLeft c.take_line.new.self) (sym (left_next design env index some))
-          (c.take_line.ensures.left (line_at design env index) (left_behind design env index) left (line_is_one design env index c.in_ok-reach.ensures.rules));
+          (c.take_line.ensures.left (line_at design env index) (left_behind design env index) left
+          (line_is_one design env index c.in_ok-reach.ensures.rules));
     }
