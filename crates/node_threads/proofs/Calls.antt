@@ -1,22 +1,22 @@
 -- What each call of the bus leaves of a course.
 use Rattle.std.proofs.Common.{◌≡◌, inl, inr, ℕ, ◌<◌, List, length, Option, Some, refl, sym, ◌∙◌, subst}
 use Rattle.std.specs.Prelude.{Result, Ok, Err, IfOk, IfErr, OnOk, OnErr}
+use Rattle.std.specs.declared.alloc.AllocError.{AllocError}
 use Rattle.pals_base.specs.declared.values.NodeNo.{NodeNo}
 use Rattle.pals_clock.specs.Clock.{ClockState}
 use Rattle.pals_node.specs.proof.Values.{JobValue}
+use Rattle.pals_node.specs.declared.answers.StartEnd.{StartEnd}
+use Rattle.pals_node.specs.declared.answers.StepEnd.{StepEnd}
 use Rattle.pals_node.specs.declared.answers.Finished.{Finished}
+use Rattle.pals_node.specs.declared.answers.FinishEnd.{FinishEnd}
+use Rattle.pals_node.specs.declared.answers.SendEnd.{SendEnd}
 use Rattle.bus_machine.specs.States.{Run}
 use Rattle.bus_machine.specs.Machine.{Start, Step, Finish, Send}
+use Rattle.pals_bus.specs.declared.refusals.BusError.{BusError}
+use Rattle.pals_bus.specs.declared.refusals.BusError.TheVariants as fault
 use Rattle.pals_bus.specs.Values.{BusValue, Happens}
 use Rattle.pals_bus.specs.proof.Answers.{StartsRound, BusStartEnds, StepsOn, FinishesStep, SendsRound}
 use Rattle.pals_bus.specs.proof.Due.{TakesAllDue, DueEnds}
-use Rattle.pals_bus.specs.declared.refusals.BusStartEnd.{BusStartEnd}
-use Rattle.pals_bus.specs.declared.refusals.BusStartEnd.TheVariants as bus_start
-use Rattle.pals_bus.specs.declared.refusals.BusStepEnd.{BusStepEnd}
-use Rattle.pals_bus.specs.declared.refusals.BusFinishEnd.{BusFinishEnd}
-use Rattle.pals_bus.specs.declared.refusals.BusSendEnd.{BusSendEnd}
-use Rattle.pals_bus.specs.declared.refusals.DueEnd.{DueEnd}
-use Rattle.pals_bus.specs.declared.refusals.DueEnd.TheVariants as due_end
 use Rattle.node_threads.specs.declared.ends.Note.{Note}
 use Rattle.node_threads.specs.proof.Courses.{CourseValue, course_of, IsCourse, IsOpen, IsToStartIn, IsAwaitedIn, Allows}
 use Rattle.node_threads.proofs.Steps.{Goes, goes_same, event_goes}
@@ -24,24 +24,18 @@ use Rattle.node_threads.proofs.Taking.{Still, all_still, none_is_left}
 
 -- ---- start
 start_ends : (bus : BusValue) (lists : List ClockState) (notes : List Note) (new : BusValue) (node : NodeNo)
-    (reading : Option ℕ) (end : BusStartEnd) → IsCourse (course_of bus lists notes)
+    (reading : Option ℕ) (end : BusError StartEnd) → IsCourse (course_of bus lists notes)
     → Allows (course_of bus lists notes) (Start node reading)
     → BusStartEnds bus node reading new end → Goes (course_of bus lists notes) (course_of new lists notes)
-start_ends bus lists notes new node reading (bus_start.Stopped why) course allows ends = elim ends [
+start_ends bus lists notes new node reading (fault.Stopped why) course allows ends = elim ends [
   | inl stood ↦ goes_same bus lists notes new course stood.1
   | inr misses ↦ event_goes bus lists notes (Start node reading) new course allows misses.happens
 ]
-start_ends bus lists notes new node reading (bus_start.NotYet alarm) course allows ends =
+start_ends bus lists notes new node reading (fault.Refused why) course allows ends =
     goes_same bus lists notes new course ends.same
-start_ends bus lists notes new node reading bus_start.Busy course allows ends =
-    goes_same bus lists notes new course ends.same
-start_ends bus lists notes new node reading bus_start.Over course allows ends =
-    goes_same bus lists notes new course ends.same
-start_ends bus lists notes new node reading bus_start.Memory course allows ends =
-    goes_same bus lists notes new course ends
 
 start_goes : (bus : BusValue) (lists : List ClockState) (notes : List Note) (new : BusValue) (node : NodeNo)
-    (reading : Option ℕ) (result : Result JobValue BusStartEnd) → IsCourse (course_of bus lists notes)
+    (reading : Option ℕ) (result : Result JobValue (BusError StartEnd)) → IsCourse (course_of bus lists notes)
     → Allows (course_of bus lists notes) (Start node reading)
     → IfOk result (λ job. StartsRound bus node reading new job)
     → IfErr result (λ end. BusStartEnds bus node reading new end)
@@ -53,7 +47,7 @@ start_goes bus lists notes new node reading (Err end) course allows ok err =
 
 -- of a course that is this value
 pub start_keeps : (bus : BusValue) (lists : List ClockState) (notes : List Note) (new : BusValue) (v : CourseValue)
-    (node : NodeNo) (reading : Option ℕ) (result : Result JobValue BusStartEnd) → course_of bus lists notes ≡ v
+    (node : NodeNo) (reading : Option ℕ) (result : Result JobValue (BusError StartEnd)) → course_of bus lists notes ≡ v
     → IsCourse (course_of bus lists notes)
     → Allows v (Start node reading) → IfOk result (λ job. StartsRound bus node reading new job)
     → IfErr result (λ end. BusStartEnds bus node reading new end) → Goes v (course_of new lists notes)
@@ -64,7 +58,7 @@ start_keeps bus lists notes new v node reading result is course allows ok err =
 
 -- ---- step and send
 step_goes : (bus : BusValue) (lists : List ClockState) (notes : List Note) (new : BusValue) (node : NodeNo)
-    (reading : Option ℕ) (result : Result JobValue BusStepEnd) → IsCourse (course_of bus lists notes)
+    (reading : Option ℕ) (result : Result JobValue (BusError StepEnd)) → IsCourse (course_of bus lists notes)
     → Allows (course_of bus lists notes) (Step node reading)
     → IfOk result (λ job. StepsOn bus node reading new job) → OnErr result (new ≡ bus)
     → Goes (course_of bus lists notes) (course_of new lists notes)
@@ -73,7 +67,7 @@ step_goes bus lists notes new node reading (Ok job) course allows ok err =
 step_goes bus lists notes new node reading (Err end) course allows ok err = goes_same bus lists notes new course err
 
 pub step_keeps : (bus : BusValue) (lists : List ClockState) (notes : List Note) (new : BusValue) (v : CourseValue)
-    (node : NodeNo) (reading : Option ℕ) (result : Result JobValue BusStepEnd) → course_of bus lists notes ≡ v
+    (node : NodeNo) (reading : Option ℕ) (result : Result JobValue (BusError StepEnd)) → course_of bus lists notes ≡ v
     → IsCourse (course_of bus lists notes)
     → Allows v (Step node reading) → IfOk result (λ job. StepsOn bus node reading new job) → OnErr result (new ≡ bus)
     → Goes v (course_of new lists notes)
@@ -83,7 +77,7 @@ step_keeps bus lists notes new v node reading result is course allows ok err =
     (subst (λ w. Allows w (Step node reading)) (sym is) allows) ok err)
 
 send_goes : (bus : BusValue) (lists : List ClockState) (notes : List Note) (new : BusValue) (node : NodeNo)
-    (reading : Option ℕ) {T : Type 0} (result : Result T BusSendEnd) → IsCourse (course_of bus lists notes)
+    (reading : Option ℕ) {T : Type 0} (result : Result T (BusError SendEnd)) → IsCourse (course_of bus lists notes)
     → Allows (course_of bus lists notes) (Send node reading)
     → OnOk result (SendsRound bus node reading new) → OnErr result (new ≡ bus)
     → Goes (course_of bus lists notes) (course_of new lists notes)
@@ -92,8 +86,8 @@ send_goes bus lists notes new node reading (Ok done) course allows ok err =
 send_goes bus lists notes new node reading (Err end) course allows ok err = goes_same bus lists notes new course err
 
 pub send_keeps : (bus : BusValue) (lists : List ClockState) (notes : List Note) (new : BusValue) (v : CourseValue)
-    (node : NodeNo) (reading : Option ℕ) {T : Type 0} (result : Result T BusSendEnd) → course_of bus lists notes ≡ v
-    → IsCourse (course_of bus lists notes)
+    (node : NodeNo) (reading : Option ℕ) {T : Type 0} (result : Result T (BusError SendEnd))
+    → course_of bus lists notes ≡ v → IsCourse (course_of bus lists notes)
     → Allows v (Send node reading) → OnOk result (SendsRound bus node reading new) → OnErr result (new ≡ bus)
     → Goes v (course_of new lists notes)
 send_keeps bus lists notes new v node reading result is course allows ok err =
@@ -103,7 +97,7 @@ send_keeps bus lists notes new v node reading result is course allows ok err =
 
 -- ---- finish
 finish_goes : (bus : BusValue) (lists : List ClockState) (notes : List Note) (new : BusValue) (node : NodeNo)
-    (job : JobValue) (result : Result Finished BusFinishEnd) → IsCourse (course_of bus lists notes)
+    (job : JobValue) (result : Result Finished (BusError FinishEnd)) → IsCourse (course_of bus lists notes)
     → node.0 < length bus.run.design.components
     → IfOk result (λ how. FinishesStep bus node job new how) → OnErr result (new ≡ bus)
     → Goes (course_of bus lists notes) (course_of new lists notes)
@@ -112,7 +106,7 @@ finish_goes bus lists notes new node job (Ok how) course within ok err =
 finish_goes bus lists notes new node job (Err end) course within ok err = goes_same bus lists notes new course err
 
 pub finish_keeps : (bus : BusValue) (lists : List ClockState) (notes : List Note) (new : BusValue) (v : CourseValue)
-    (node : NodeNo) (job : JobValue) (result : Result Finished BusFinishEnd) → course_of bus lists notes ≡ v
+    (node : NodeNo) (job : JobValue) (result : Result Finished (BusError FinishEnd)) → course_of bus lists notes ≡ v
     → IsCourse (course_of bus lists notes)
     → node.0 < length v.bus.run.design.components → IfOk result (λ how. FinishesStep bus node job new how)
     → OnErr result (new ≡ bus) → Goes v (course_of new lists notes)
@@ -122,7 +116,7 @@ finish_keeps bus lists notes new v node job result is course within ok err =
     (subst (λ (w : CourseValue). node.0 < length w.bus.run.design.components) (sym is) within) ok err)
 
 finish_here_goes : (bus : BusValue) (lists : List ClockState) (notes : List Note) (new : BusValue) (node : NodeNo)
-    {T : Type 0} (result : Result T BusFinishEnd) → IsCourse (course_of bus lists notes)
+    {T : Type 0} (result : Result T (BusError FinishEnd)) → IsCourse (course_of bus lists notes)
     → node.0 < length bus.run.design.components
     → OnOk result (Happens bus (Finish node) new) → OnErr result (new ≡ bus)
     → Goes (course_of bus lists notes) (course_of new lists notes)
@@ -131,8 +125,8 @@ finish_here_goes bus lists notes new node (Ok done) course within ok err =
 finish_here_goes bus lists notes new node (Err end) course within ok err = goes_same bus lists notes new course err
 
 pub finish_here_keeps : (bus : BusValue) (lists : List ClockState) (notes : List Note) (new : BusValue)
-    (v : CourseValue) (node : NodeNo) {T : Type 0} (result : Result T BusFinishEnd) → course_of bus lists notes ≡ v
-    → IsCourse (course_of bus lists notes)
+    (v : CourseValue) (node : NodeNo) {T : Type 0} (result : Result T (BusError FinishEnd))
+    → course_of bus lists notes ≡ v → IsCourse (course_of bus lists notes)
     → node.0 < length v.bus.run.design.components → OnOk result (Happens bus (Finish node) new)
     → OnErr result (new ≡ bus) → Goes v (course_of new lists notes)
 finish_here_keeps bus lists notes new v node result is course within ok err =
@@ -143,23 +137,23 @@ finish_here_keeps bus lists notes new v node result is course within ok err =
 -- ---- arrivals
 -- after them the node may start, where no stop came
 pub record Taken (old new : CourseValue) (node : NodeNo) (reading : ℕ) {T : Type 0}
-    (result : Result T DueEnd) : Type 0 where
+    (result : Result T (BusError AllocError)) : Type 0 where
   pub goes : Goes old new
   pub is_open : OnOk result (IsOpen new node.0)
   pub allows : OnOk result (Allows new (Start node (Some reading)))
 
 due_ends : (bus : BusValue) (lists : List ClockState) (notes : List Note) (new : BusValue) (node : NodeNo) (reading : ℕ)
-    (end : DueEnd) → Still (course_of bus lists notes) lists notes node reading bus
+    (end : BusError AllocError) → Still (course_of bus lists notes) lists notes node reading bus
     → DueEnds bus node.0 reading new end → Goes (course_of bus lists notes) (course_of new lists notes)
-due_ends bus lists notes new node reading (due_end.Stopped why) still ends = elim ends [
+due_ends bus lists notes new node reading (fault.Stopped why) still ends = elim ends [
   | inl stood ↦ goes_same bus lists notes new still.goes.course stood.1
   | inr stops ↦ (all_still (course_of bus lists notes) lists notes node reading bus new still stops.1).goes
 ]
-due_ends bus lists notes new node reading due_end.Memory still ends =
+due_ends bus lists notes new node reading (fault.Refused no_memory) still ends =
     goes_same bus lists notes new still.goes.course ends
 
 take_goes : (bus : BusValue) (lists : List ClockState) (notes : List Note) (new : BusValue) (node : NodeNo)
-    (reading : ℕ) {T : Type 0} (result : Result T DueEnd) → IsCourse (course_of bus lists notes)
+    (reading : ℕ) {T : Type 0} (result : Result T (BusError AllocError)) → IsCourse (course_of bus lists notes)
     → IsOpen (course_of bus lists notes) node.0
     → IsToStartIn (course_of bus lists notes) node reading → IsAwaitedIn (course_of bus lists notes) node.0
     → OnOk result (TakesAllDue bus node.0 reading new) → IfErr result (λ end. DueEnds bus node.0 reading new end)
@@ -201,7 +195,7 @@ take_goes bus lists notes new node reading (Err end) course is_open waits awaite
     record { goes = due_ends bus lists notes new node reading end first err; is_open = tt; allows = tt }
 
 pub take_keeps : (bus : BusValue) (lists : List ClockState) (notes : List Note) (new : BusValue) (v : CourseValue)
-    (node : NodeNo) (reading : ℕ) {T : Type 0} (result : Result T DueEnd) → course_of bus lists notes ≡ v
+    (node : NodeNo) (reading : ℕ) {T : Type 0} (result : Result T (BusError AllocError)) → course_of bus lists notes ≡ v
     → IsCourse (course_of bus lists notes)
     → IsOpen v node.0 → IsToStartIn v node reading → IsAwaitedIn v node.0
     → OnOk result (TakesAllDue bus node.0 reading new) → IfErr result (λ end. DueEnds bus node.0 reading new end)

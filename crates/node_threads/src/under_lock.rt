@@ -10,8 +10,8 @@ use crate::course::Course;
 use crate::ends::Note;
 use bus_machine::{Action, Next};
 use pals_base::{Nanos, NodeNo};
-use pals_bus::{BusFinishEnd, BusSendEnd, BusStartEnd, BusStepEnd, DueEnd};
-use pals_node::{Done, Finished, Job};
+use pals_bus::{BusError, BusFinishEnd, BusSendEnd, BusStartEnd, BusStepEnd, DueEnd};
+use pals_node::{Done, Finished, Job, StartEnd, StepEnd};
 
 /// What a thread does with its node after a locked step.
 #[derive(Drop)]
@@ -120,8 +120,8 @@ impl Course {
         }
         match self.take(node, reading) {
             Ok(()) => self.launch(node, reading),
-            Err(DueEnd::Stopped(_)) => Turn::Over,
-            Err(DueEnd::Memory) => self.out_of_memory(node),
+            Err(BusError::Stopped(_)) => Turn::Over,
+            Err(BusError::Refused(_)) => self.out_of_memory(node),
         }
     }
 
@@ -145,8 +145,8 @@ impl Course {
     {
         match self.start_round(node, reading) {
             Ok(job) => Turn::Work(job),
-            Err(BusStartEnd::Memory) => self.out_of_memory(node),
-            Err(BusStartEnd::Stopped(_)) => Turn::Over,
+            Err(BusError::Refused(StartEnd::Memory)) => self.out_of_memory(node),
+            Err(BusError::Stopped(_)) => Turn::Over,
             Err(_) => Turn::Again,
         }
     }
@@ -167,8 +167,8 @@ impl Course {
     {
         match self.start_step(node, reading) {
             Ok(job) => Turn::Work(job),
-            Err(BusStepEnd::Memory) => self.out_of_memory(node),
-            Err(BusStepEnd::Stopped(_)) => Turn::Over,
+            Err(BusError::Refused(StepEnd::Memory)) => self.out_of_memory(node),
+            Err(BusError::Stopped(_)) => Turn::Over,
             Err(_) => Turn::Again,
         }
     }

@@ -13,17 +13,17 @@ use Rattle.bus_machine.specs.Replay.{Replays, goes_on, entries}
 use Rattle.pals_node.specs.proof.Values.{NodeValue, with_state}
 use Rattle.pals_bus.specs.declared.fields.Fields.{Fields}
 use Rattle.pals_bus.specs.Values.{BusValue, Happens}
-use Rattle.pals_bus.specs.proof.Values.{node_value}
+use Rattle.pals_bus.specs.proof.Values.{codes_in, node_value}
 use Rattle.pals_bus.specs.proof.Keeping.{AreNodes, HasRooms, Keeps, copies_in, owed, run_of, state_of, value_of}
 use Rattle.pals_bus.specs.proof.Sending.{NoLessRoom}
 use Rattle.pals_bus.specs.proof.Queues.{AreQueues}
-use Rattle.pals_bus.proofs.NodeChanges.{states, codes, states-set, codes-set, same_node}
+use Rattle.pals_bus.proofs.NodeChanges.{states, states-set, codes-set, same_node}
 use Rattle.pals_bus.proofs.Rooms.{rooms_kept}
 
 -- what contracts see of a bus where one node, the flights, the stop and the journal have changed
 abbrev pub changed : Fields → ℕ → NodeValue → List FlightState → Option Stop → List JournalEntry → BusValue
 changed f node m flights stop journal = record (value_of f) {
-  codes = codes (slice_set f.nodes node m);
+  codes = codes_in (slice_set f.nodes node m);
   state = record { nodes = states (slice_set f.nodes node m); flights = copies_in flights; stop = stop };
   journal = journal;
 }

@@ -15,16 +15,17 @@ use Rattle.pals_runs.specs.declared.events.Event.{Event}
 use Rattle.pals_runs.specs.declared.events.Event.TheVariants as event
 use Rattle.bus_machine.specs.LinkEvents.{is_in_flight}
 use Rattle.bus_machine.specs.States.{flight_at}
-use Rattle.pals_bus.specs.declared.refusals.BusStartEnd.{BusStartEnd}
-use Rattle.pals_bus.specs.declared.refusals.BusStartEnd.TheVariants as bus_start
-use Rattle.pals_bus.specs.declared.refusals.BusStepEnd.{BusStepEnd}
-use Rattle.pals_bus.specs.declared.refusals.BusStepEnd.TheVariants as bus_step
-use Rattle.pals_bus.specs.declared.refusals.BusFinishEnd.{BusFinishEnd}
-use Rattle.pals_bus.specs.declared.refusals.BusFinishEnd.TheVariants as bus_finish
-use Rattle.pals_bus.specs.declared.refusals.BusSendEnd.{BusSendEnd}
-use Rattle.pals_bus.specs.declared.refusals.BusSendEnd.TheVariants as bus_send
-use Rattle.pals_bus.specs.declared.refusals.LinkEnd.{LinkEnd}
-use Rattle.pals_bus.specs.declared.refusals.LinkEnd.TheVariants as link_end
+use Rattle.pals_node.specs.declared.answers.StartEnd.{StartEnd}
+use Rattle.pals_node.specs.declared.answers.StartEnd.TheVariants as start
+use Rattle.pals_node.specs.declared.answers.StepEnd.{StepEnd}
+use Rattle.pals_node.specs.declared.answers.StepEnd.TheVariants as step
+use Rattle.pals_node.specs.declared.answers.FinishEnd.{FinishEnd}
+use Rattle.pals_node.specs.declared.answers.SendEnd.{SendEnd}
+use Rattle.pals_node.specs.declared.answers.SendEnd.TheVariants as send
+use Rattle.pals_bus.specs.declared.refusals.BusError.{BusError}
+use Rattle.pals_bus.specs.declared.refusals.BusError.TheVariants as fault
+use Rattle.pals_bus.specs.declared.refusals.MessageError.{MessageError}
+use Rattle.pals_bus.specs.declared.refusals.MessageError.TheVariants as message
 use Rattle.pals_bus.specs.Values.{BusValue, Happens}
 use Rattle.pals_bus.specs.Loose.{IsRefused, loose_event, message_of}
 use Rattle.pals_bus.specs.proof.Loose.{LooseEnds, start_fault, step_fault, finish_fault, send_fault, link_fault}
@@ -90,14 +91,15 @@ none_runs Holding not = refl
 none_runs Done not = refl
 
 -- ---- what is told of messages
-pub link_ends : (old new : BusValue) (e : Event) (what : BusEvent) (link : LinkNo) (round : ℕ) (end : LinkEnd)
-    → new ≡ old → LinkEnds old link round end → loose_event e ≡ Some what → message_of e ≡ Some (link, round)
+pub link_ends : (old new : BusValue) (e : Event) (what : BusEvent) (link : LinkNo) (round : ℕ)
+    (end : BusError MessageError) → new ≡ old → LinkEnds old link round end → loose_event e ≡ Some what
+    → message_of e ≡ Some (link, round)
     → is_allowed old.run old.state what ≡ is_in_flight round (flight_at old.state link.0)
     → LooseEnds old e new (link_fault end link round)
-link_ends old new e what link round (link_end.Stopped why) same cause is about allowed = inl (cause, same)
-link_ends old new e what link round link_end.NoSuchMessage same cause is about allowed =
+link_ends old new e what link round (fault.Stopped why) same cause is about allowed = inl (cause, same)
+link_ends old new e what link round (fault.Refused message.NoSuchMessage) same cause is about allowed =
     (record { same = same; going = cause.0; what = what; is_what = is; refused = allowed ∙ cause.1 }, about)
-link_ends old new e what link round link_end.Memory same cause is about allowed = same
+link_ends old new e what link round (fault.Refused message.Memory) same cause is about allowed = same
 
 -- ---- what is told of nodes
 refused : (old new : BusValue) (e : Event) (what : BusEvent) → new ≡ old → old.state.stop ≡ None
@@ -105,45 +107,46 @@ refused : (old new : BusValue) (e : Event) (what : BusEvent) → new ≡ old →
 refused old new e what same going is not =
     record { same = same; going = going; what = what; is_what = is; refused = not }
 
-pub start_ends : (old new : BusValue) (node : NodeNo) (end : BusStartEnd) → BusStartEnds old node None new end
+pub start_ends : (old new : BusValue) (node : NodeNo) (end : BusError StartEnd) → BusStartEnds old node None new end
     → LooseEnds old (event.Start node) new (start_fault end node)
-start_ends old new node (bus_start.Stopped why) cause = elim cause [
+start_ends old new node (fault.Stopped why) cause = elim cause [
   | inl stood ↦ inl stood
   | inr misses ↦ inr ((Start node None, refl, misses.happens), misses.stops)
 ]
-start_ends old new node (bus_start.NotYet alarm) cause = absurd (false≢true cause.cause.2)
-start_ends old new node bus_start.Busy cause = (
+start_ends old new node (fault.Refused (start.Missed port)) cause = absurd (cause.misses_none port refl)
+start_ends old new node (fault.Refused (start.NotYet alarm)) cause = absurd (false≢true cause.cause.2)
+start_ends old new node (fault.Refused start.Busy) cause = (
   refused old new (event.Start node) (Start node None) cause.same cause.going refl
       (busy_waits_not (node_at old.state node.0).phase cause.cause),
   refl,
 )
-start_ends old new node bus_start.Over cause =
+start_ends old new node (fault.Refused start.Over) cause =
     (refused old new (event.Start node) (Start node None) cause.same cause.going refl (ap is_waiting cause.cause), refl)
-start_ends old new node bus_start.Memory cause = cause
+start_ends old new node (fault.Refused start.Memory) cause = cause.same
 
-pub step_ends : (old new : BusValue) (node : NodeNo) (end : BusStepEnd) → new ≡ old → BusStepEnds old node None end
-    → LooseEnds old (event.Step node) new (step_fault end node)
-step_ends old new node (bus_step.Stopped why) same cause = inl (cause, same)
-step_ends old new node (bus_step.NotYet alarm) same cause = absurd (false≢true cause.1.3)
-step_ends old new node bus_step.NotBetween same cause = (
+pub step_ends : (old new : BusValue) (node : NodeNo) (end : BusError StepEnd) → new ≡ old
+    → BusStepEnds old node None end → LooseEnds old (event.Step node) new (step_fault end node)
+step_ends old new node (fault.Stopped why) same cause = inl (cause, same)
+step_ends old new node (fault.Refused (step.NotYet alarm)) same cause = absurd (false≢true cause.1.3)
+step_ends old new node (fault.Refused step.NotBetween) same cause = (
   refused old new (event.Step node) (Step node None) same cause.0 refl
       (no_next_step (node_at old.state node.0).phase cause.1),
   refl,
 )
-step_ends old new node bus_step.Memory same cause = same
+step_ends old new node (fault.Refused step.Memory) same cause = same
 
-pub finish_ends : (old new : BusValue) (node : NodeNo) (end : BusFinishEnd) → new ≡ old → BusFinishEnds old node end
-    → LooseEnds old (event.Finish node) new (finish_fault end node)
-finish_ends old new node (bus_finish.Stopped why) same cause = inl (cause, same)
-finish_ends old new node bus_finish.NotRunning same cause = (
+pub finish_ends : (old new : BusValue) (node : NodeNo) (end : BusError FinishEnd) → new ≡ old
+    → BusFinishEnds old node end → LooseEnds old (event.Finish node) new (finish_fault end node)
+finish_ends old new node (fault.Stopped why) same cause = inl (cause, same)
+finish_ends old new node (fault.Refused not_running) same cause = (
   refused old new (event.Finish node) (Finish node) same cause.0 refl
       (none_runs (node_at old.state node.0).phase cause.1),
   refl,
 )
 
-pub send_ends : (old new : BusValue) (node : NodeNo) (end : BusSendEnd) → new ≡ old → BusSendEnds old node None end
-    → LooseEnds old (event.Send node) new (send_fault end node)
-send_ends old new node (bus_send.Stopped why) same cause = inl (cause, same)
-send_ends old new node (bus_send.NotYet release) same cause = absurd (false≢true cause.1.2)
-send_ends old new node bus_send.NotFinished same cause =
+pub send_ends : (old new : BusValue) (node : NodeNo) (end : BusError SendEnd) → new ≡ old
+    → BusSendEnds old node None end → LooseEnds old (event.Send node) new (send_fault end node)
+send_ends old new node (fault.Stopped why) same cause = inl (cause, same)
+send_ends old new node (fault.Refused (send.NotYet release)) same cause = absurd (false≢true cause.1.2)
+send_ends old new node (fault.Refused send.NotFinished) same cause =
     (refused old new (event.Send node) (Send node None) same cause.0 refl cause.1, refl)

@@ -22,15 +22,12 @@ use Rattle.bus_machine.specs.States.{no_node}
 use Rattle.bus_machine.proofs.Nodes.{finish_keeps}
 use Rattle.pals_node.specs.proof.Values.{Program, NodeValue, with_state}
 use Rattle.pals_bus.specs.declared.fields.Fields.{Fields}
-use Rattle.pals_bus.specs.proof.Values.{AreCodes, no_code, code_at, node_value}
+use Rattle.pals_bus.specs.proof.Values.{AreCodes, codes_in, no_code, code_at, node_value}
 use Rattle.pals_bus.specs.proof.Keeping.{IsNodeOf, AreNodes, Keeps, owed, value_of}
 use Rattle.pals_bus.specs.proof.Absent.{no_node_value}
 
 abbrev pub states : List NodeValue → List NodeState
 states nodes = map (λ (n : NodeValue). n.state) nodes
-
-abbrev pub codes : List NodeValue → List CodeParts
-codes nodes = map (λ (n : NodeValue). n.program.code) nodes
 
 -- a node is the one that contracts see
 pub node_shown : (f : Fields) (node : ℕ) → AreNodes (arc_value f.design) f.rounds f.nodes → node < length f.nodes
@@ -38,7 +35,7 @@ pub node_shown : (f : Fields) (node : ℕ) → AreNodes (arc_value f.design) f.r
 node_shown f node are within =
     let n = slice_index_or f.nodes node no_node_value in
     let is : IsNodeOf (arc_value f.design) f.rounds node n = are.each node within in
-    let code : code_at (codes f.nodes) node ≡ n.program.code =
+    let code : code_at (codes_in f.nodes) node ≡ n.program.code =
     get_or-map (λ (n : NodeValue). n.program.code) f.nodes node no_node_value no_code within in
     let state : slice_index_or (states f.nodes) node no_node ≡ n.state =
     get_or-map (λ (n : NodeValue). n.state) f.nodes node no_node_value no_node within in
@@ -57,7 +54,7 @@ node_here f node n keeps within is =
 
 -- the codes of its nodes mean what the components do
 pub codes_mean : (design : DesignParts) (rounds : ℕ) (nodes : List NodeValue) → AreNodes design rounds nodes
-    → AreCodes design (codes nodes)
+    → AreCodes design (codes_in nodes)
 codes_mean design rounds nodes are =
     let many = length-map nodes (λ (n : NodeValue). n.program.code) in
     record {
@@ -80,7 +77,7 @@ pub record IsSameNode (n m : NodeValue) : Type 0 where
   pub rounds : m.rounds ≡ n.rounds
 
 pub codes-set : (nodes : List NodeValue) (at : ℕ) (m : NodeValue) → IsSameNode (slice_index_or nodes at no_node_value) m
-    → codes (slice_set nodes at m) ≡ codes nodes
+    → codes_in (slice_set nodes at m) ≡ codes_in nodes
 codes-set nodes at m same =
     map-set_same (λ (n : NodeValue). n.program.code) nodes at m no_node_value
     (ap (λ (p : Program). p.code) same.program)

@@ -28,25 +28,11 @@ turn_shown f g node m s keeps within is same =
     (same_node f node m s keeps within is)) within_h)
     ∙ get_or-set_at f.nodes node node m no_node_value refl within
 
--- a call of a node, and its entry
-pub record Turned (f t g : Fields) (node : ℕ) (x : JournalEntry) : Type 0 where
-  pub others : t ≡ record f { nodes = slice_set f.nodes node (node_in t node) }
-  pub same : g ≡ record t { journal = g.journal }
-  pub told : g.journal.items ≡ t.journal.items ++ x ∷ []
-  pub capacity : vec_capacity g.journal ≡ vec_capacity t.journal
-
-pub turned_same : (f t g : Fields) (node : ℕ) (x : JournalEntry) → Turned f t g node x
-    → g ≡ record f { nodes = slice_set f.nodes node (node_in t node); journal = g.journal }
-turned_same f t g node x turned =
-    turned.same ∙ ap (λ (k : Fields). let u : Fields = record k { journal = g.journal } in u) turned.others
-
-pub turned_told : (f t g : Fields) (node : ℕ) (x : JournalEntry) → Turned f t g node x
-    → g.journal.items ≡ f.journal.items ++ x ∷ []
-turned_told f t g node x turned = turned.told ∙ ap (λ (k : Fields). k.journal.items ++ x ∷ []) turned.others
-
-pub turned_capacity : (f t g : Fields) (node : ℕ) (x : JournalEntry) → Turned f t g node x
-    → vec_capacity g.journal ≡ vec_capacity f.journal
-turned_capacity f t g node x turned = turned.capacity ∙ ap (λ (k : Fields). vec_capacity k.journal) turned.others
+-- a call changed this node alone, and its entry was told
+pub record Turned (f g : Fields) (node : ℕ) (x : JournalEntry) : Type 0 where
+  pub same : g ≡ record f { nodes = slice_set f.nodes node (node_in g node); journal = g.journal }
+  pub told : g.journal.items ≡ f.journal.items ++ x ∷ []
+  pub capacity : vec_capacity g.journal ≡ vec_capacity f.journal
 
 -- what a call says of the node, as contracts see it
 pub turn_told : (f : Fields) (node : ℕ) (P : NodeValue → Type 0) → Keeps f → node < length f.nodes

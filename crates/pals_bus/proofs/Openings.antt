@@ -28,13 +28,13 @@ use Rattle.bus_machine.specs.Replay.{Replays, opens}
 use Rattle.bus_machine.specs.declared.plan.Plan.{Plan}
 use Rattle.pals_node.specs.proof.Values.{NodeValue, Program, program_of, opening_value}
 use Rattle.pals_bus.specs.declared.fields.Fields.{Fields}
-use Rattle.pals_bus.specs.proof.Values.{AreCodes, code_at, no_code, opening_bus}
+use Rattle.pals_bus.specs.proof.Values.{AreCodes, codes_in, code_at, no_code, opening_bus}
 use Rattle.pals_bus.specs.proof.Keeping.{AreNodes, HasRooms, Keeps, copies_in, owed, run_of, state_of, value_of}
 use Rattle.pals_bus.specs.proof.LinksFrom.{AreOutgoing}
 use Rattle.pals_bus.specs.proof.Queues.{AreQueues}
 use Rattle.pals_bus.specs.proof.Absent.{no_flight, no_queue, no_node_value}
 use Rattle.pals_bus.specs.proof.Openings.{AreOpening}
-use Rattle.pals_bus.proofs.NodeChanges.{states, codes, codes_mean}
+use Rattle.pals_bus.proofs.NodeChanges.{states}
 use Rattle.pals_bus.proofs.QueueSends.{queues_open}
 
 upwards_at : (from n k : ℕ) → k < n → slice_index_or (upwards from n) k 0 ≡ from + k
@@ -67,10 +67,10 @@ states_open design all rounds nodes are count =
     ∙ sym (get_or-map f (upwards 0 n) k 0 no_node (omega (arith, wide, below))))
 
 pub codes_open : (design : DesignParts) (all : List CodeParts) (rounds : ℕ) (nodes : List NodeValue)
-    → AreOpening design all rounds nodes → codes nodes ≡ all
+    → AreOpening design all rounds nodes → codes_in nodes ≡ all
 codes_open design all rounds nodes are =
-    let same : length (codes nodes) ≡ length nodes = length-map nodes (λ (k : NodeValue). k.program.code) in
-    ext_get_or no_code (codes nodes) all (same ∙ are.count)
+    let same : length (codes_in nodes) ≡ length nodes = length-map nodes (λ (k : NodeValue). k.program.code) in
+    ext_get_or no_code (codes_in nodes) all (same ∙ are.count)
     (λ k lt.
     let within : k < length nodes = omega (arith, same, lt) in
     get_or-map (λ (m : NodeValue). m.program.code) nodes k no_node_value no_code within
@@ -213,79 +213,35 @@ fresh_program p plan code plan_is code_is =
     ap₂ (λ (x : Plan) (y : CodeParts). let u : Program = record { plan = x; code = y } in u) plan_is code_is
 
 pub nodes_anew : (design : DesignParts) (rounds : ℕ) (old new : List NodeValue) → AreNodes design rounds old
-    → new ≡ map (λ (n : NodeValue). opening_value n.program n.rounds) old → AreOpening design (codes old) rounds new
+    → new ≡ map (λ (n : NodeValue). opening_value n.program n.rounds) old → AreOpening design (codes_in old) rounds new
 nodes_anew design rounds old new are is =
     let f = λ (n : NodeValue). opening_value n.program n.rounds in
     let size : length new ≡ length old = ap length is ∙ length-map old f in
-    let many : length (codes old) ≡ length old = length-map old (λ (n : NodeValue). n.program.code) in
+    let many : length (codes_in old) ≡ length old = length-map old (λ (n : NodeValue). n.program.code) in
     record {
       count = size ∙ sym many;
       each = λ node lt.
           let within : node < length old = omega (arith, size, lt) in
           let n = slice_index_or old node no_node_value in
           let of_design = are.each node within in
-          let code : n.program.code ≡ code_at (codes old) node =
+          let code : n.program.code ≡ code_at (codes_in old) node =
           sym (get_or-map (λ (k : NodeValue). k.program.code) old node no_node_value no_code within) in
           ap (λ (ns : List NodeValue). slice_index_or ns node no_node_value) is
           ∙ get_or-map f old node no_node_value no_node_value within
           ∙ ap₂ (λ (p : Program) (r : ℕ). opening_value p r)
-          (fresh_program n.program (plan_of design node) (code_at (codes old) node) of_design.plan code)
+          (fresh_program n.program (plan_of design node) (code_at (codes_in old) node) of_design.plan code)
           of_design.rounds_are;
     }
 
--- a bus of the same run, made anew
-pub record IsAnew (f g : Fields) : Type 0 where
-  pub design : arc_value g.design ≡ arc_value f.design
-  pub outgoing : AreOutgoing (length (arc_value f.design).components) (arc_value f.design).links g.outgoing
-  pub env : g.env ≡ f.env
-  pub rounds : g.rounds ≡ f.rounds
-  pub delays : g.delays ≡ f.delays
-  pub meeting : g.meeting ≡ f.meeting
-  pub values : length g.values.items ≡ length f.env.lists
-  pub nodes : g.nodes ≡ map (λ (n : NodeValue). opening_value n.program n.rounds) f.nodes
-  pub flights : g.flights ≡ map (λ (_ : Link). no_flight) (arc_value f.design).links
-  pub queues : g.queues ≡ map (λ (_ : NodeValue). no_queue) g.nodes
-  pub stop : g.stop ≡ None
-  pub journal : g.journal.items ≡ []
-  pub closed : g.closed ≡ false
-
-pub anew_opens : (f g : Fields) → Keeps f → IsAnew f g → IsOpening g (codes f.nodes)
-anew_opens f g keeps is =
-    let back = sym is.design in
-    let rounds_are : f.rounds ≡ g.rounds = sym is.rounds in
-    record {
-      design = subst IsDesign back keeps.design;
-      outgoing = subst (λ (d : DesignParts). AreOutgoing (length d.components) d.links g.outgoing) back is.outgoing;
-      rounds = subst (λ (n : ℕ). (1 ≤ n) × (n ≤ ROUNDS)) rounds_are keeps.rounds;
-      delays =
-          subst (λ (d : DesignParts). AreDelays (length d.links) g.delays) back
-          (subst (AreDelays (length (arc_value f.design).links)) (sym is.delays) keeps.delays);
-      values = is.values ∙ ap (λ (e : Env). length e.lists) (sym is.env);
-      codes_are =
-          subst (λ (d : DesignParts). AreCodes d (codes f.nodes)) back
-          (codes_mean (arc_value f.design) f.rounds f.nodes keeps.nodes);
-      nodes =
-          subst (λ (d : DesignParts). AreOpening d (codes f.nodes) g.rounds g.nodes) back
-          (subst (λ (n : ℕ). AreOpening (arc_value f.design) (codes f.nodes) n g.nodes) rounds_are
-          (nodes_anew (arc_value f.design) f.rounds f.nodes g.nodes keeps.nodes is.nodes));
-      flights = is.flights ∙ ap (λ (d : DesignParts). map (λ (_ : Link). no_flight) d.links) back;
-      queues = is.queues;
-      stop = is.stop;
-      journal = is.journal;
-      closed = is.closed;
-    }
-
-run_anew : (f g : Fields) → IsAnew f g → run_of g ≡ run_of f
-run_anew f g is =
+-- the run of a bus, of parts that are the same
+pub run_anew : (f : Fields) (design : DesignParts) (env : Env) (delays : Delays) → design ≡ arc_value f.design
+    → env ≡ f.env → delays ≡ f.delays
+    → ◌≡◌ {A = Run} (record { design = design; env = env; rounds = f.rounds; delays = delays }) (run_of f)
+run_anew f design env delays design_is env_is delays_is =
     ap₂ (λ (d : DesignParts) (e : Env). let u : Run =
-    record { design = d; env = e; rounds = g.rounds; delays = g.delays } in u) is.design is.env
-    ∙ ap₂ (λ (n : ℕ) (ds : Delays). let u : Run =
-    record { design = arc_value f.design; env = f.env; rounds = n; delays = ds } in u) is.rounds is.delays
-
-pub anew_shows : (f g : Fields) → Keeps f → IsAnew f g → value_of g ≡ opening_bus (run_of f) (codes f.nodes) f.meeting
-anew_shows f g keeps is =
-    opening_shows g (codes f.nodes) (anew_opens f g keeps is)
-    ∙ ap₂ (λ (r : Run) (m : Bool). opening_bus r (codes f.nodes) m) (run_anew f g is) is.meeting
+    record { design = d; env = e; rounds = f.rounds; delays = delays } in u) design_is env_is
+    ∙ ap (λ (ds : Delays). let u : Run =
+    record { design = arc_value f.design; env = f.env; rounds = f.rounds; delays = ds } in u) delays_is
 
 -- ---- one more item of a list that is made of another
 pub map_more : {X Y : Type 0} (f : X → Y) (xs : List X) (k : ℕ) (d : X) (ys zs : List Y) (z : Y) → k < length xs

@@ -3,6 +3,7 @@ pub mod Values
 pub mod Absent
 pub mod NodeLists
 pub mod Keeping
+pub mod Faults
 pub mod Answers
 pub mod Queues
 pub mod Due

@@ -9,9 +9,11 @@ ghost use Rattle.bus_machine.specs.Plans.{plan_of};
 ghost use Rattle.bus_machine.specs.States.{node_at, flight_at};
 ghost use Rattle.bus_machine.specs.Targets.{next_of};
 ghost use Rattle.pals_model.specs.Flights.{oldest};
-ghost use Rattle.pals_bus.specs.proof.Values.{opening_bus, AreCodes};
+ghost use Rattle.pals_bus.specs.proof.Values.{opening_bus, codes_in, AreCodes};
+ghost use Rattle.pals_bus.specs.proof.Openings.{AreOpening};
 
-use crate::Fields;
+use crate::fields::Fields;
+use crate::node_list::NodeList;
 use crate::opening::{empty_flights, empty_queues, fresh_nodes, opening_nodes, room_for_values};
 use crate::outgoing::Outgoing;
 use bus_machine::{Next, Plan};
@@ -70,11 +72,31 @@ impl Bus {
         requires codes { AreCodes (arc_value design) codes }
         ensures { IfOk result (λ bus. bus ≡ opening_bus (record { design = arc_value design; env = env; rounds = rounds; delays = delays }) codes meeting) }
     {
-        let outgoing = Outgoing::new(alloc, &design)?;
         let nodes = opening_nodes(alloc, &design, codes, rounds)?;
+        Bus::open(alloc, design, env, rounds, delays, meeting, nodes)
+    }
+
+    // A run before its first event, of nodes that stand before theirs.
+    fn open(
+        alloc: Global,
+        design: Arc<Design>,
+        env: Env,
+        rounds: u32,
+        delays: Delays,
+        meeting: bool,
+        nodes: NodeList,
+    ) -> Result<Bus, NoMemory>
+        requires some { 1 ≤ rounds }
+        requires most { rounds ≤ ROUNDS }
+        requires delays { AreDelays (length (arc_value design).links) delays }
+        requires codes { AreCodes (arc_value design) (codes_in nodes) }
+        requires nodes { AreOpening (arc_value design) (codes_in nodes) rounds nodes }
+        ensures { IfOk result (λ bus. bus ≡ opening_bus (record { design = arc_value design; env = env; rounds = rounds; delays = delays }) (codes_in nodes) meeting) }
+    {
+        let values = room_for_values(alloc, &env)?;
+        let outgoing = Outgoing::new(alloc, &design)?;
         let flights = empty_flights(alloc, &design)?;
         let queues = empty_queues(alloc, nodes.as_slice())?;
-        let values = room_for_values(alloc, &env)?;
         Ok(Bus {
             fields: Fields {
                 alloc,
@@ -230,27 +252,11 @@ impl Bus {
         ensures { IfOk result (λ bus. bus ≡ opening_bus self.now.run self.now.codes self.now.meeting) }
     {
         let f = &self.fields;
-        let outgoing = Outgoing::new(alloc, &f.design)?;
+        let design = Arc::try_clone(&f.design)?;
+        let env = f.env.try_clone(alloc)?;
+        let delays = f.delays.try_clone(alloc)?;
         let nodes = fresh_nodes(alloc, f.nodes.as_slice())?;
-        let queues = empty_queues(alloc, nodes.as_slice())?;
-        Ok(Bus {
-            fields: Fields {
-                alloc,
-                design: Arc::try_clone(&f.design)?,
-                outgoing,
-                env: f.env.try_clone(alloc)?,
-                rounds: f.rounds,
-                delays: f.delays.try_clone(alloc)?,
-                meeting: f.meeting,
-                closed: false,
-                nodes,
-                flights: empty_flights(alloc, &f.design)?,
-                queues,
-                stop: None,
-                journal: Vec::new(alloc),
-                values: room_for_values(alloc, &f.env)?,
-            },
-        })
+        Bus::open(alloc, design, env, f.rounds, delays, f.meeting, nodes)
     }
 
     /// Whether another bus is of the same run: of an equal design, with equal values of the root in

@@ -3,19 +3,20 @@ ghost use Rattle.std.specs.Prelude.{◌≡◌};
 ghost use Rattle.pals_bus.specs.proof.Loose.{start_fault, step_fault, finish_fault, send_fault, link_fault};
 
 use crate::answers::LooseFault;
-use crate::{BusFinishEnd, BusSendEnd, BusStartEnd, BusStepEnd, LinkEnd};
+use crate::refusals::{
+    BusError, BusFinishEnd, BusSendEnd, BusStartEnd, BusStepEnd, LinkEnd, MessageError,
+};
 use pals_base::{LinkNo, NodeNo};
+use pals_node::{StartEnd, StepEnd};
 
 /// The fault of a start from which no job comes.
 pub fn start_fault(end: BusStartEnd, node: NodeNo) -> LooseFault
     ensures { result ≡ start_fault end node }
 {
     match end {
-        BusStartEnd::Stopped(stop) => LooseFault::Stopped(stop),
-        BusStartEnd::NotYet { .. } | BusStartEnd::Busy | BusStartEnd::Over => {
-            LooseFault::WrongPhase { node }
-        }
-        BusStartEnd::Memory => LooseFault::Memory,
+        BusError::Stopped(stop) => LooseFault::Stopped(stop),
+        BusError::Refused(StartEnd::Memory) => LooseFault::Memory,
+        BusError::Refused(_) => LooseFault::WrongPhase { node },
     }
 }
 
@@ -24,9 +25,9 @@ pub fn step_fault(end: BusStepEnd, node: NodeNo) -> LooseFault
     ensures { result ≡ step_fault end node }
 {
     match end {
-        BusStepEnd::Stopped(stop) => LooseFault::Stopped(stop),
-        BusStepEnd::NotYet { .. } | BusStepEnd::NotBetween => LooseFault::WrongPhase { node },
-        BusStepEnd::Memory => LooseFault::Memory,
+        BusError::Stopped(stop) => LooseFault::Stopped(stop),
+        BusError::Refused(StepEnd::Memory) => LooseFault::Memory,
+        BusError::Refused(_) => LooseFault::WrongPhase { node },
     }
 }
 
@@ -35,8 +36,8 @@ pub fn finish_fault(end: BusFinishEnd, node: NodeNo) -> LooseFault
     ensures { result ≡ finish_fault end node }
 {
     match end {
-        BusFinishEnd::Stopped(stop) => LooseFault::Stopped(stop),
-        BusFinishEnd::NotRunning => LooseFault::WrongPhase { node },
+        BusError::Stopped(stop) => LooseFault::Stopped(stop),
+        BusError::Refused(_) => LooseFault::WrongPhase { node },
     }
 }
 
@@ -45,8 +46,8 @@ pub fn send_fault(end: BusSendEnd, node: NodeNo) -> LooseFault
     ensures { result ≡ send_fault end node }
 {
     match end {
-        BusSendEnd::Stopped(stop) => LooseFault::Stopped(stop),
-        BusSendEnd::NotYet { .. } | BusSendEnd::NotFinished => LooseFault::WrongPhase { node },
+        BusError::Stopped(stop) => LooseFault::Stopped(stop),
+        BusError::Refused(_) => LooseFault::WrongPhase { node },
     }
 }
 
@@ -55,8 +56,8 @@ pub fn link_fault(end: LinkEnd, link: LinkNo, round: u32) -> LooseFault
     ensures { result ≡ link_fault end link round }
 {
     match end {
-        LinkEnd::Stopped(stop) => LooseFault::Stopped(stop),
-        LinkEnd::NoSuchMessage => LooseFault::NoSuchMessage { link, round },
-        LinkEnd::Memory => LooseFault::Memory,
+        BusError::Stopped(stop) => LooseFault::Stopped(stop),
+        BusError::Refused(MessageError::NoSuchMessage) => LooseFault::NoSuchMessage { link, round },
+        BusError::Refused(MessageError::Memory) => LooseFault::Memory,
     }
 }

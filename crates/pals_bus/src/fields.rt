@@ -3,9 +3,10 @@ ghost use Rattle.std.specs.Prelude.{◌≡◌, ◌+◌, ◌^◌, ◌<◌, ◌≤
 ghost use Rattle.std.specs.Arc.{arc_value};
 ghost use Rattle.pals_base.specs.declared.limits.TheConstants.{PORTS};
 ghost use Rattle.pals_model.specs.Inputs.{values_at};
-ghost use Rattle.bus_machine.specs.States.{link_at};
+ghost use Rattle.bus_machine.specs.Nodes.{round_of};
+ghost use Rattle.bus_machine.specs.States.{link_at, node_at};
 ghost use Rattle.pals_bus.specs.proof.Absent.{no_flight, no_queue};
-ghost use Rattle.pals_bus.specs.proof.Keeping.{Keeps, owed, copies_in};
+ghost use Rattle.pals_bus.specs.proof.Keeping.{Keeps, owed, copies_in, state_of};
 ghost use Rattle.pals_bus.specs.proof.Queues.{HasQueueRoomFor};
 ghost use Rattle.pals_bus.specs.proof.Sending.{HasRoomFor};
 
@@ -136,5 +137,23 @@ impl Fields {
         ensures values { self.new.values.items ≡ values_at self.old.env round }
     {
         self.env.write_values(round, &mut self.values);
+    }
+
+    /// How many rounds a node has started.
+    pub fn rounds_started(&self, node: NodeNo) -> u32
+        requires keeps { Keeps self.now }
+        requires node { node.0 < length self.now.nodes }
+        ensures { result ≡ (node_at (state_of self.now) node.0).count }
+    {
+        self.nodes[node.0 as usize].count()
+    }
+
+    /// The round that a node has in hand.
+    pub fn round_in_hand(&self, node: NodeNo) -> u32
+        requires keeps { Keeps self.now }
+        requires node { node.0 < length self.now.nodes }
+        ensures { result ≡ round_of (node_at (state_of self.now) node.0) }
+    {
+        self.nodes[node.0 as usize].count().saturating_sub(1)
     }
 }

@@ -106,9 +106,7 @@ impl Fields {
         remove_due(&mut self.queues[target.0 as usize], due, link, round);
         self.flights[at].flight_take(round)
     }
-}
 
-impl Fields {
     /// Puts one more copy of a link's message into flight, and into the queue of its target. It takes
     /// no memory.
     pub fn add_message(&mut self, link: LinkNo, copy: FlightCopy)

@@ -4,23 +4,20 @@
 #![tactic(auto)]
 
 mod answers;
+mod arrival;
 mod bus;
 mod due;
-mod due_messages;
 mod faults;
 mod fields;
 mod flights;
 mod links;
 mod loose;
 mod meeting;
-mod messages;
-mod node_calls;
 mod node_list;
 mod nodes;
 mod opening;
 mod outgoing;
 mod refusals;
-mod rounds;
 mod stops;
 mod target_list;
 
@@ -30,5 +27,7 @@ pub use fields::Fields;
 pub use loose::apply_loose;
 pub use node_list::NodeList;
 pub use outgoing::Outgoing;
-pub use refusals::{BusFinishEnd, BusSendEnd, BusStartEnd, BusStepEnd, DueEnd, LinkEnd};
+pub use refusals::{
+    BusError, BusFinishEnd, BusSendEnd, BusStartEnd, BusStepEnd, DueEnd, LinkEnd, MessageError,
+};
 pub use target_list::TargetList;

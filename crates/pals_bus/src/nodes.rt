@@ -7,9 +7,10 @@ ghost use Rattle.pals_bus.specs.Values.{Happens};
 ghost use Rattle.pals_bus.specs.proof.Answers.{StartsRound, BusStartEnds, StepsOn, BusStepEnds, FinishesStep, BusFinishEnds, SendsRound, BusSendEnds};
 
 use crate::bus::Bus;
-use crate::{BusFinishEnd, BusSendEnd, BusStartEnd, BusStepEnd};
+use crate::refusals::{BusError, BusFinishEnd, BusSendEnd, BusStartEnd, BusStepEnd};
 use pals_base::{Nanos, NodeNo};
-use pals_node::{Done, Finished, Job};
+use pals_node::{Done, Finished, Job, StartEnd};
+use pals_runs::JournalEntry;
 
 impl Bus {
     /// A node starts its next round, and the job of its first step goes out. Where a message of the
@@ -21,7 +22,32 @@ impl Bus {
         ensures ok { IfOk result (λ job. StartsRound self.old node reading self.new job) }
         ensures end { IfErr result (λ end. BusStartEnds self.old node reading self.new end) }
     {
-        self.fields.start_round(node, reading)
+        let f = &mut self.fields;
+        if let Some(stop) = f.stop {
+            return Err(BusError::Stopped(stop));
+        }
+        f.reserve_round(node)?;
+        let round = f.rounds_started(node);
+        f.read_values(round);
+        let job = match f.nodes.start(node.0 as usize, &f.values, reading) {
+            Ok(job) => job,
+            Err(end) => {
+                let StartEnd::Missed { port } = end else {
+                    return Err(BusError::Refused(end));
+                };
+                let stop = f.missed_stop(node, port, reading);
+                f.journal.push_reserved(JournalEntry::Stopped(stop));
+                f.stop = Some(stop);
+                return Err(BusError::Stopped(stop));
+            }
+        };
+        let entry = JournalEntry::Start {
+            node,
+            round,
+            reading,
+        };
+        f.journal.push_reserved(entry);
+        Ok(job)
     }
 
     /// A node starts the next step of its round, and the job goes out. It reserves the memory that
@@ -33,7 +59,23 @@ impl Bus {
         ensures same { OnErr result (self.new ≡ self.old) }
         ensures cause { IfErr result (BusStepEnds self.old node reading) }
     {
-        self.fields.start_step(node, reading)
+        let f = &mut self.fields;
+        if let Some(stop) = f.stop {
+            return Err(BusError::Stopped(stop));
+        }
+        f.reserve_entries()?;
+        let job = match f.nodes.step(node.0 as usize, reading) {
+            Ok(job) => job,
+            Err(end) => return Err(BusError::Refused(end)),
+        };
+        let entry = JournalEntry::Step {
+            node,
+            round: job.round(),
+            step: job.step(),
+            reading,
+        };
+        f.journal.push_reserved(entry);
+        Ok(job)
     }
 
     /// A node finishes the step whose job is out: with what was handed in, where it is of that job,
@@ -44,7 +86,18 @@ impl Bus {
         ensures same { OnErr result (self.new ≡ self.old) }
         ensures cause { IfErr result (BusFinishEnds self.old node) }
     {
-        self.fields.finish_step(node, done)
+        let f = &mut self.fields;
+        if let Some(stop) = f.stop {
+            return Err(BusError::Stopped(stop));
+        }
+        let round = f.round_in_hand(node);
+        let how = match f.nodes.finish(node.0 as usize, done) {
+            Ok(how) => how,
+            Err(end) => return Err(BusError::Refused(end)),
+        };
+        f.journal
+            .push_reserved(JournalEntry::Finish { node, round });
+        Ok(how)
     }
 
     /// A node finishes the step whose job is out by running it here. It takes no memory.
@@ -54,7 +107,18 @@ impl Bus {
         ensures same { OnErr result (self.new ≡ self.old) }
         ensures cause { IfErr result (BusFinishEnds self.old node) }
     {
-        self.fields.finish_step_here(node)
+        let f = &mut self.fields;
+        if let Some(stop) = f.stop {
+            return Err(BusError::Stopped(stop));
+        }
+        let round = f.round_in_hand(node);
+        match f.nodes.finish_here(node.0 as usize) {
+            Ok(()) => {}
+            Err(end) => return Err(BusError::Refused(end)),
+        }
+        f.journal
+            .push_reserved(JournalEntry::Finish { node, round });
+        Ok(())
     }
 
     /// A node sends its round: one message goes into flight on each link from it. It takes no memory.
@@ -67,6 +131,22 @@ impl Bus {
         ensures same { OnErr result (self.new ≡ self.old) }
         ensures cause { IfErr result (BusSendEnds self.old node reading) }
     {
-        self.fields.send_round(node, reading)
+        let f = &mut self.fields;
+        if let Some(stop) = f.stop {
+            return Err(BusError::Stopped(stop));
+        }
+        let round = f.round_in_hand(node);
+        let messages = match f.nodes.send(node.0 as usize, reading) {
+            Ok(messages) => messages,
+            Err(end) => return Err(BusError::Refused(end)),
+        };
+        f.send_messages(node, round, reading, messages);
+        let entry = JournalEntry::Send {
+            node,
+            round,
+            reading,
+        };
+        f.journal.push_reserved(entry);
+        Ok(())
     }
 }

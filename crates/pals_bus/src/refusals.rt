@@ -1,115 +1,61 @@
-//! Why the bus refuses an event. Where a stop stands, each event is refused by it.
-use pals_base::{Nanos, NoMemory};
+//! Why a bus does not go on after an event. Where a stop stands, each event is refused by it.
+use pals_base::NoMemory;
+use pals_node::{FinishEnd, SendEnd, StartEnd, StepEnd};
 use pals_runs::Stop;
 
-/// Why nothing happens to a message.
-#[derive(Clone, Copy)]
-pub enum LinkEnd {
-    /// A stop stands.
+/// Why a bus does not go on after an event.
+#[derive(Clone, Copy, PartialEq)]
+pub enum BusError<E> {
+    /// A stop stands: it stood before, or the event gives it.
     Stopped(Stop),
+    /// No stop stands, and the event is refused for this.
+    Refused(E),
+}
+
+/// Why a start gives no job. A message that the start misses stops the run.
+pub type BusStartEnd = BusError<StartEnd>;
+
+/// Why a step gives no job.
+pub type BusStepEnd = BusError<StepEnd>;
+
+/// Why nothing is finished.
+pub type BusFinishEnd = BusError<FinishEnd>;
+
+/// Why nothing is sent.
+pub type BusSendEnd = BusError<SendEnd>;
+
+/// Why nothing happens to a message.
+pub type LinkEnd = BusError<MessageError>;
+
+/// Why not all messages that are due have arrived. A message that came too early stops the run.
+pub type DueEnd = BusError<NoMemory>;
+
+/// Why nothing happens to a message where no stop stands.
+#[derive(Clone, Copy)]
+pub enum MessageError {
     /// No copy of that round is in flight on the link.
     NoSuchMessage,
     /// There was not enough memory.
     Memory,
 }
 
-/// Why a start gives no job. The alarm is in nanoseconds.
-#[derive(Clone, Copy)]
-pub enum BusStartEnd {
-    /// A stop stands: it stood before, or the start misses a message.
-    Stopped(Stop),
-    /// The reading is below the round's alarm.
-    NotYet { alarm: Nanos },
-    /// A round is in hand.
-    Busy,
-    /// All rounds are done.
-    Over,
-    /// There was not enough memory.
-    Memory,
-}
-
-/// Why a step gives no job. The alarm is in nanoseconds.
-#[derive(Clone, Copy)]
-pub enum BusStepEnd {
-    /// A stop stands.
-    Stopped(Stop),
-    /// The reading is below the step's alarm.
-    NotYet { alarm: Nanos },
-    /// The node is not between two steps.
-    NotBetween,
-    /// There was not enough memory.
-    Memory,
-}
-
-/// Why nothing is finished.
-#[derive(Clone, Copy)]
-pub enum BusFinishEnd {
-    /// A stop stands.
-    Stopped(Stop),
-    /// No job is out.
-    NotRunning,
-}
-
-/// Why nothing is sent. The release is in nanoseconds.
-#[derive(Clone, Copy)]
-pub enum BusSendEnd {
-    /// A stop stands.
-    Stopped(Stop),
-    /// The reading is below the round's release.
-    NotYet { release: Nanos },
-    /// No round is to be sent, or too few of its steps are finished.
-    NotFinished,
-}
-
-/// Why not all messages that are due have arrived.
-#[derive(Clone, Copy, PartialEq)]
-pub enum DueEnd {
-    /// A stop stands: it stood before, or a message came too early.
-    Stopped(Stop),
-    /// There was not enough memory.
-    Memory,
-}
-
-impl From<NoMemory> for LinkEnd {
+impl From<NoMemory> for MessageError {
     ghost use Rattle.std.specs.Prelude.{◌≡◌};
-    ghost use Rattle.pals_bus.specs.declared.refusals.LinkEnd.TheVariants.{Memory};
+    ghost use Rattle.pals_bus.specs.declared.refusals.MessageError.TheVariants.{Memory};
 
     ghost from_gives = { λ _ e. e ≡ Memory };
 
-    fn from(_error: NoMemory) -> LinkEnd {
-        LinkEnd::Memory
+    fn from(_error: NoMemory) -> MessageError {
+        MessageError::Memory
     }
 }
 
-impl From<NoMemory> for DueEnd {
-    ghost use Rattle.std.specs.Prelude.{◌≡◌};
-    ghost use Rattle.pals_bus.specs.declared.refusals.DueEnd.TheVariants.{Memory};
+impl<E: From<NoMemory>> From<NoMemory> for BusError<E> {
+    ghost use Rattle.pals_bus.specs.proof.Faults.{IsRefusedBy};
 
-    ghost from_gives = { λ _ e. e ≡ Memory };
+    ghost from_gives = { λ error fault. IsRefusedBy (E.from_gives error) fault };
 
-    fn from(_error: NoMemory) -> DueEnd {
-        DueEnd::Memory
-    }
-}
-
-impl From<NoMemory> for BusStartEnd {
-    ghost use Rattle.std.specs.Prelude.{◌≡◌};
-    ghost use Rattle.pals_bus.specs.declared.refusals.BusStartEnd.TheVariants.{Memory};
-
-    ghost from_gives = { λ _ e. e ≡ Memory };
-
-    fn from(_error: NoMemory) -> BusStartEnd {
-        BusStartEnd::Memory
-    }
-}
-
-impl From<NoMemory> for BusStepEnd {
-    ghost use Rattle.std.specs.Prelude.{◌≡◌};
-    ghost use Rattle.pals_bus.specs.declared.refusals.BusStepEnd.TheVariants.{Memory};
-
-    ghost from_gives = { λ _ e. e ≡ Memory };
-
-    fn from(_error: NoMemory) -> BusStepEnd {
-        BusStepEnd::Memory
+    fn from(error: NoMemory) -> BusError<E> {
+        BusError::Refused(E::from(error))
     }
 }

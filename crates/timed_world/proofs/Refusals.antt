@@ -12,8 +12,10 @@ use Rattle.bus_machine.specs.Nodes.{finished_steps}
 use Rattle.bus_machine.specs.NodeEvents.{is_waiting}
 use Rattle.bus_machine.specs.States.{BusState, node_at}
 use Rattle.bus_machine.specs.Machine.{Start, after}
-use Rattle.pals_bus.specs.declared.refusals.BusStartEnd.{BusStartEnd}
-use Rattle.pals_bus.specs.declared.refusals.BusStartEnd.TheVariants as bus_start
+use Rattle.pals_node.specs.declared.answers.StartEnd.{StartEnd}
+use Rattle.pals_node.specs.declared.answers.StartEnd.TheVariants as start
+use Rattle.pals_bus.specs.declared.refusals.BusError.{BusError}
+use Rattle.pals_bus.specs.declared.refusals.BusError.TheVariants as fault
 use Rattle.pals_bus.specs.Values.{BusValue}
 use Rattle.pals_bus.specs.proof.Answers.{BusStartEnds}
 use Rattle.pals_bus.proofs.LooseSteps.{busy_waits_not}
@@ -33,31 +35,32 @@ start_goes old node new keeps fine is =
     ∙ (event_keeps_time old.bus.run (world_of old) (event.Start node) keeps.rules keeps.keeps fine).going
 
 -- a start is refused for memory alone, and then the bus is as before
-start_ends : (old : WorldValue) (node : NodeNo) (new : BusValue) (end : BusStartEnd) → KeepsWorld old
+start_ends : (old : WorldValue) (node : NodeNo) (new : BusValue) (end : BusError StartEnd) → KeepsWorld old
     → IsFine old (event.Start node)
     → BusStartEnds old.bus node (Some (reading_at (world_of old) node.0)) new end
-    → (end ≡ bus_start.Memory) × (new ≡ old.bus)
-start_ends old node new (bus_start.Stopped why) keeps fine cause = elim cause [
+    → (end ≡ fault.Refused start.Memory) × (new ≡ old.bus)
+start_ends old node new (fault.Stopped why) keeps fine cause = elim cause [
   | inl stood ↦ absurd (none-some why (sym keeps.keeps.going ∙ stood.0))
   | inr misses ↦ absurd (none-some why
       (sym (start_goes old node new.state keeps fine misses.happens.step.state) ∙ misses.stops))
 ]
-start_ends old node new (bus_start.NotYet alarm) keeps fine cause =
+start_ends old node new (fault.Refused (start.NotYet alarm)) keeps fine cause =
     let clock = reading_at (world_of old) node.0 in
     let due : alarm ≤ clock =
     subst (λ a. a ≤ clock) (sym cause.cause.1) (starts_in_time old.bus.run (world_of old) node fine).due in
     absurd (false≢true (sym (le-ltb clock alarm due) ∙ cause.cause.2))
-start_ends old node new bus_start.Busy keeps fine cause =
+start_ends old node new (fault.Refused start.Busy) keeps fine cause =
     absurd (false≢true (sym (busy_waits_not (node_at old.bus.state node.0).phase cause.cause)
     ∙ (starts_in_time old.bus.run (world_of old) node fine).waits))
-start_ends old node new bus_start.Over keeps fine cause =
+start_ends old node new (fault.Refused start.Over) keeps fine cause =
     absurd (false≢true (sym (ap is_waiting cause.cause) ∙ (starts_in_time old.bus.run (world_of old) node fine).waits))
-start_ends old node new bus_start.Memory keeps fine cause = (refl, cause)
+start_ends old node new (fault.Refused (start.Missed port)) keeps fine cause = absurd (cause.misses_none port refl)
+start_ends old node new (fault.Refused start.Memory) keeps fine cause = (refl, cause.same)
 
-pub start_only : (old : WorldValue) (node : NodeNo) (reading : ℕ) (new : BusValue) (end : BusStartEnd) → KeepsWorld old
-    → IsFine old (event.Start node)
+pub start_only : (old : WorldValue) (node : NodeNo) (reading : ℕ) (new : BusValue) (end : BusError StartEnd)
+    → KeepsWorld old → IsFine old (event.Start node)
     → Reads old node reading → BusStartEnds old.bus node (Some reading) new end
-    → (end ≡ bus_start.Memory) × (new ≡ old.bus)
+    → (end ≡ fault.Refused start.Memory) × (new ≡ old.bus)
 start_only old node reading new end keeps fine reads cause =
     start_ends old node new end keeps fine (subst (λ at. BusStartEnds old.bus node (Some at) new end) reads cause)
 

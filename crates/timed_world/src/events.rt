@@ -2,9 +2,10 @@
 ghost use Rattle.std.specs.Prelude.{◌≡◌, ◌⊎◌, ◌<◌, ◌++◌, [], ◌∷◌, length, Some, None, IfErr, OnOk, OnErr, slice_index_or, slice_set};
 ghost use Rattle.pals_runs.specs.declared.events.Event.TheVariants as event;
 ghost use Rattle.pals_runs.specs.declared.events.EventFault.TheVariants as fault;
-ghost use Rattle.pals_bus.specs.declared.refusals.BusStartEnd.TheVariants as bus_start;
-ghost use Rattle.pals_bus.specs.declared.refusals.BusStepEnd.TheVariants as bus_step;
-ghost use Rattle.pals_bus.specs.declared.refusals.LinkEnd.TheVariants as link_end;
+ghost use Rattle.pals_node.specs.declared.answers.StartEnd.TheVariants as start;
+ghost use Rattle.pals_node.specs.declared.answers.StepEnd.TheVariants as step;
+ghost use Rattle.pals_bus.specs.declared.refusals.BusError.TheVariants.{Refused};
+ghost use Rattle.pals_bus.specs.declared.refusals.MessageError.TheVariants as message;
 ghost use Rattle.run_laws.specs.Faults.{fault_of};
 ghost use Rattle.timed_world.specs.proof.Values.{Moves, world_of};
 
@@ -148,21 +149,21 @@ fn add_moment(moments: &mut Items<Items<Nanos>>, at: usize, time: Nanos) -> Resu
 
 // What a start without a fault can be refused for.
 fn refused_start(_end: BusStartEnd) -> NoMemory
-    requires { _end ≡ bus_start.Memory }
+    requires { _end ≡ Refused start.Memory }
 {
     AllocError
 }
 
 // What a step without a fault can be refused for.
 fn refused_step(_end: BusStepEnd) -> NoMemory
-    requires { _end ≡ bus_step.Memory }
+    requires { _end ≡ Refused step.Memory }
 {
     AllocError
 }
 
 // What an arrival without a fault can be refused for.
 fn refused_arrival(_end: LinkEnd) -> NoMemory
-    requires { _end ≡ link_end.Memory }
+    requires { _end ≡ Refused message.Memory }
 {
     AllocError
 }

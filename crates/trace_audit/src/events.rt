@@ -15,7 +15,8 @@ ghost use Rattle.trace_audit.specs.proof.Events.{IsReady, SaysStart, IsRedone};
 use crate::clocks::{falls, target};
 use crate::rules::{early_rule, is_due, is_last, late_rule};
 use pals_base::{LinkNo, Nanos, NoMemory, NodeNo};
-use pals_bus::{Bus, BusFinishEnd, BusSendEnd, BusStartEnd, BusStepEnd, LinkEnd};
+use pals_bus::{Bus, BusError, MessageError};
+use pals_node::{SendEnd, StartEnd, StepEnd};
 use pals_runs::{Arrived, JournalEntry, Phase, TraceRule};
 use std::alloc::AllocError;
 
@@ -39,12 +40,13 @@ pub fn begin(
     let waits = bus.has_due(node, reading);
     match bus.start(node, Some(reading)) {
         Ok(_job) => Ok(late_rule(falls, waits, is_last(bus.journal(), entry))),
-        Err(BusStartEnd::Stopped(_)) => {
-            Ok(late_rule(falls, waits, is_last(bus.journal(), entry)))
+        Err(BusError::Stopped(_)) => Ok(late_rule(falls, waits, is_last(bus.journal(), entry))),
+        Err(BusError::Refused(StartEnd::NotYet { .. })) => {
+            Ok(Some(early_rule(falls, TraceRule::Alarm)))
         }
-        Err(BusStartEnd::NotYet { .. }) => Ok(Some(early_rule(falls, TraceRule::Alarm))),
-        Err(BusStartEnd::Busy | BusStartEnd::Over) => Ok(Some(TraceRule::Order)),
-        Err(BusStartEnd::Memory) => Err(AllocError),
+        Err(BusError::Refused(StartEnd::Busy | StartEnd::Over)) => Ok(Some(TraceRule::Order)),
+        Err(BusError::Refused(StartEnd::Missed { .. })) => unreachable!(),
+        Err(BusError::Refused(StartEnd::Memory)) => Err(AllocError),
     }
 }
 
@@ -71,9 +73,13 @@ pub fn step(
     let falls = falls(readings, node, reading);
     match bus.step(node, Some(reading)) {
         Ok(_job) => Ok(late_rule(falls, false, true)),
-        Err(BusStepEnd::NotYet { .. }) => Ok(Some(early_rule(falls, TraceRule::Alarm))),
-        Err(BusStepEnd::Stopped(_) | BusStepEnd::NotBetween) => Ok(Some(TraceRule::Order)),
-        Err(BusStepEnd::Memory) => Err(AllocError),
+        Err(BusError::Refused(StepEnd::NotYet { .. })) => {
+            Ok(Some(early_rule(falls, TraceRule::Alarm)))
+        }
+        Err(BusError::Stopped(_) | BusError::Refused(StepEnd::NotBetween)) => {
+            Ok(Some(TraceRule::Order))
+        }
+        Err(BusError::Refused(StepEnd::Memory)) => Err(AllocError),
     }
 }
 
@@ -89,7 +95,7 @@ pub fn finish(bus: &mut Bus, readings: &[Nanos], node: NodeNo, round: u32) -> Op
     }
     match bus.finish_here(node) {
         Ok(()) => None,
-        Err(BusFinishEnd::Stopped(_) | BusFinishEnd::NotRunning) => Some(TraceRule::Order),
+        Err(BusError::Stopped(_) | BusError::Refused(_)) => Some(TraceRule::Order),
     }
 }
 
@@ -112,8 +118,12 @@ pub fn send(
     let falls = falls(readings, node, reading);
     match bus.send(node, Some(reading)) {
         Ok(()) => late_rule(falls, false, true),
-        Err(BusSendEnd::NotYet { .. }) => Some(early_rule(falls, TraceRule::Release)),
-        Err(BusSendEnd::Stopped(_) | BusSendEnd::NotFinished) => Some(TraceRule::Order),
+        Err(BusError::Refused(SendEnd::NotYet { .. })) => {
+            Some(early_rule(falls, TraceRule::Release))
+        }
+        Err(BusError::Stopped(_) | BusError::Refused(SendEnd::NotFinished)) => {
+            Some(TraceRule::Order)
+        }
     }
 }
 
@@ -141,8 +151,10 @@ pub fn arrive(
                 Ok(Some(TraceRule::Order))
             }
         }
-        Err(LinkEnd::Stopped(_) | LinkEnd::NoSuchMessage) => Ok(Some(TraceRule::Order)),
-        Err(LinkEnd::Memory) => Err(AllocError),
+        Err(BusError::Stopped(_) | BusError::Refused(MessageError::NoSuchMessage)) => {
+            Ok(Some(TraceRule::Order))
+        }
+        Err(BusError::Refused(MessageError::Memory)) => Err(AllocError),
     }
 }
 

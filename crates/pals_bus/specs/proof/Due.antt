@@ -8,10 +8,11 @@ use Rattle.link_buffers.specs.declared.queue.DueEntry.{DueEntry}
 use Rattle.link_buffers.specs.proof.Queues.{is_entry, is_due_at}
 use Rattle.bus_machine.specs.States.{flight_at, link_at}
 use Rattle.bus_machine.specs.Machine.{Arrive}
-use Rattle.pals_bus.specs.declared.refusals.DueEnd.{DueEnd}
+use Rattle.std.specs.declared.alloc.AllocError.{AllocError}
+use Rattle.pals_bus.specs.declared.refusals.BusError.{BusError}
 use Rattle.pals_bus.specs.Values.{BusValue, Happens}
 use Rattle.pals_bus.specs.proof.Queues.{comes_first, is_copy_of}
-use Rattle.pals_bus.specs.declared.refusals.DueEnd.TheVariants as due_end
+use Rattle.pals_bus.specs.declared.refusals.BusError.TheVariants as fault
 
 -- a message of this round of this link is due to a node at a reading
 pub record IsDueTo (b : BusValue) (node reading link round : ℕ) : Type 0 where
@@ -61,8 +62,8 @@ pub record AreLeft (b : BusValue) (node reading : ℕ) (left : List DueEntry) : 
   pub order : AllPairs (λ earlier later. comes_first later earlier ≡ false) left
 
 -- the stop stood before, or the last of them that arrived gave it
-abbrev pub DueEnds : BusValue → ℕ → ℕ → BusValue → DueEnd → Type 0
-DueEnds old node reading new (due_end.Stopped why) =
+abbrev pub DueEnds : BusValue → ℕ → ℕ → BusValue → BusError AllocError → Type 0
+DueEnds old node reading new (fault.Stopped why) =
     ((old.state.stop ≡ Some why) × (new ≡ old))
     ⊎ ((old.state.stop ≡ None) × TakesDue node reading old new × (new.state.stop ≡ Some why))
-DueEnds old node reading new due_end.Memory = new ≡ old
+DueEnds old node reading new (fault.Refused no_memory) = new ≡ old

@@ -16,6 +16,7 @@ use Rattle.bus_machine.specs.Replay.{Replays}
 use Rattle.pals_node.specs.proof.Values.{NodeValue}
 use Rattle.pals_bus.specs.declared.fields.Fields.{Fields}
 use Rattle.pals_bus.specs.Values.{BusValue}
+use Rattle.pals_bus.specs.proof.Values.{codes_in}
 use Rattle.pals_bus.specs.proof.Absent.{no_node_value, no_flight}
 use Rattle.pals_bus.specs.proof.LinksFrom.{AreOutgoing}
 use Rattle.pals_bus.specs.proof.Queues.{AreQueues}
@@ -38,7 +39,7 @@ run_of f = record { design = arc_value f.design; env = f.env; rounds = f.rounds;
 abbrev pub value_of : Fields → BusValue
 value_of f = record {
   run = run_of f;
-  codes = map (λ n. n.program.code) f.nodes;
+  codes = codes_in f.nodes;
   meeting = f.meeting;
   closed = f.closed;
   state = state_of f;

@@ -1,11 +1,10 @@
 -- The opening of a bus, its step codes and its nodes, as contracts see them.
-use Rattle.std.specs.Prelude.{◌≡◌, ℕ, ◌<◌, Bool, false, List, [], length, slice_index_or}
+use Rattle.std.specs.Prelude.{◌≡◌, ℕ, ◌<◌, Bool, false, List, [], length, map, slice_index_or}
 use Rattle.step_code.specs.declared.instr.CodeParts.{CodeParts}
 use Rattle.step_code.specs.proof.Means.{Means}
 use Rattle.pals_model.specs.declared.design.DesignParts.{DesignParts}
 use Rattle.bus_machine.specs.Plans.{component_at}
 use Rattle.bus_machine.specs.States.{Run, opening, node_at}
-use Rattle.bus_machine.specs.Replay.{entries}
 use Rattle.pals_node.specs.proof.Values.{NodeValue, program_of}
 use Rattle.pals_bus.specs.Values.{BusValue}
 
@@ -19,6 +18,10 @@ no_code = record { instrs = []; entries = []; vars = 0; loops = 0; ins = 0; outs
 
 abbrev pub code_at : List CodeParts → ℕ → CodeParts
 code_at codes node = slice_index_or codes node no_code
+
+-- those of nodes
+abbrev pub codes_in : List NodeValue → List CodeParts
+codes_in nodes = map (λ n. n.program.code) nodes
 
 -- the codes of a design: one for each component, which means what that does
 pub record AreCodes (design : DesignParts) (codes : List CodeParts) : Type 0 where

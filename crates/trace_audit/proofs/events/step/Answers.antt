@@ -8,20 +8,22 @@ use Rattle.bus_machine.specs.NodeEvents.{next_step}
 use Rattle.bus_machine.specs.Plans.{plan_of}
 use Rattle.bus_machine.specs.States.{node_at}
 use Rattle.bus_machine.specs.Machine.{Step}
-use Rattle.pals_node.specs.proof.Answers.{is_early}
+use Rattle.pals_node.specs.proof.Answers.{is_early, StepEnds}
+use Rattle.pals_bus.specs.proof.Values.{node_value}
 use Rattle.pals_bus.specs.proof.Answers.{BusStepEnds}
 use Rattle.trace_audit.proofs.Breaking.{early_breaks}
 use Rattle.trace_audit.proofs.Numbers.{next_is, step_fits}
 use Rattle.trace_audit.proofs.events.step.Goals as goal
 
-pub returns-in-Err-NotYet-clause-rule : goal.returns-in-Err-NotYet-clause-rule
-returns-in-Err-NotYet-clause-rule c =
+pub returns-in-Err-Refused-NotYet-clause-rule : goal.returns-in-Err-Refused-NotYet-clause-rule
+returns-in-Err-Refused-NotYet-clause-rule c =
     let b = c.args.bus.now in
     let node = c.args.node in
     let n = node_at b.state node.0 in
     let plan = plan_of b.run.design node.0 in
-    let end =
-    (subst (BusStepEnds b node (Some c.args.reading)) c.in-Err-NotYet.field-0-is c.in-Err-NotYet.ensures.cause).1 in
+    let at = c.in-Err-Refused-NotYet in
+    let refused = subst (BusStepEnds b node (Some c.args.reading)) at.field-0-is at.ensures.cause in
+    let end = subst (StepEnds (node_value b node.0) (Some c.args.reading)) at.field-0-0-is refused.1 in
     let yes : c.is_next.result ≡ true = search (rules, tests) in
     let next : next_step n.phase ≡ Some c.args.step =
     next_is c.args.step n.phase

@@ -1,91 +1,39 @@
-use Rattle.std.proofs.Common.{◌∙◌, None, false, map, length, refl, ap, subst}
+use Rattle.std.proofs.Common.{◌≡◌, List, sym, subst, IfOk}
+use Rattle.std.specs.Arc.{arc_value}
+use Rattle.step_code.specs.declared.instr.CodeParts.{CodeParts}
 use Rattle.pals_model.specs.declared.design.DesignParts.{DesignParts}
-use Rattle.pals_model.specs.declared.design.Link.{Link}
-use Rattle.pals_model.specs.Rules.{IsDesign}
-use Rattle.pals_node.specs.proof.Values.{NodeValue}
-use Rattle.pals_bus.specs.declared.fields.Fields.{Fields}
-use Rattle.pals_bus.specs.proof.Absent.{no_flight, no_queue}
-use Rattle.pals_bus.specs.proof.LinksFrom.{AreOutgoing}
+use Rattle.pals_bus.specs.Values.{BusValue}
 use Rattle.pals_bus.specs.proof.Openings.{AreOpening}
-use Rattle.pals_bus.proofs.Openings.{IsOpening, opening_keeps, opening_shows}
+use Rattle.pals_bus.specs.proof.Values.{AreCodes, opening_bus}
+use Rattle.pals_bus.proofs.Openings.{codes_open}
 use Rattle.pals_bus.proofs.bus.Bus.new.Goals as goal
 
-pub invariant_of-result : goal.invariant_of-result
-invariant_of-result c =
-    let f : Fields = record {
-      alloc = c.args.alloc;
-      design = c.args.design;
-      outgoing = c.in_ok-outgoing.outgoing;
-      env = c.args.env;
-      rounds = c.args.rounds;
-      delays = c.args.delays;
-      meeting = c.args.meeting;
-      closed = false;
-      nodes = c.in_ok-nodes.nodes;
-      flights = c.in_ok-flights.flights;
-      queues = c.in_ok-queues.queues;
-      stop = None;
-      journal = c.new-2.result;
-      values = c.in_ok-values.values;
-    } in
-    let is : IsOpening f c.args.codes = record {
-      design = subst IsDesign c.deref-3.ensures c.empty_flights.ensures.rules;
-      outgoing =
-          subst (λ (d : DesignParts). AreOutgoing (length d.components) d.links c.in_ok-outgoing.outgoing)
-          c.deref.ensures c.in_ok-outgoing.ensures;
-      rounds = (c.requires.some, c.requires.most);
-      delays = c.requires.delays;
-      values = c.in_ok-values.ensures;
-      codes_are = c.requires.codes;
-      nodes =
-          subst (λ (d : DesignParts). AreOpening d c.args.codes c.args.rounds c.in_ok-nodes.nodes) c.deref-2.ensures
-          c.in_ok-nodes.ensures;
-      flights =
-          c.in_ok-flights.ensures.flights
-          ∙ ap (λ (d : DesignParts). map (λ (_ : Link). no_flight) d.links) c.deref-3.ensures;
-      queues = c.in_ok-queues.ensures ∙ ap (map (λ (_ : NodeValue). no_queue)) c.as_slice.ensures;
-      stop = refl;
-      journal = c.new-2.ensures.items;
-      closed = refl;
-    } in
-    opening_keeps f c.args.codes is
+pub open-requires-clause-codes : goal.open-requires-clause-codes
+open-requires-clause-codes c =
+    let design = arc_value c.args.design in
+    let are =
+    subst (λ (d : DesignParts). AreOpening d c.args.codes c.args.rounds c.in_ok-nodes.nodes) c.deref.ensures
+    c.in_ok-nodes.ensures in
+    subst (AreCodes design) (sym (codes_open design c.args.codes c.args.rounds c.in_ok-nodes.nodes are))
+    c.requires.codes
+
+pub open-requires-clause-nodes : goal.open-requires-clause-nodes
+open-requires-clause-nodes c =
+    let design = arc_value c.args.design in
+    let are =
+    subst (λ (d : DesignParts). AreOpening d c.args.codes c.args.rounds c.in_ok-nodes.nodes) c.deref.ensures
+    c.in_ok-nodes.ensures in
+    subst (λ (cs : List CodeParts). AreOpening design cs c.args.rounds c.in_ok-nodes.nodes)
+    (sym (codes_open design c.args.codes c.args.rounds c.in_ok-nodes.nodes are)) are
 
 pub returns : goal.returns
 returns c =
-    let f : Fields = record {
-      alloc = c.args.alloc;
-      design = c.args.design;
-      outgoing = c.in_ok-outgoing.outgoing;
-      env = c.args.env;
-      rounds = c.args.rounds;
-      delays = c.args.delays;
-      meeting = c.args.meeting;
-      closed = false;
-      nodes = c.in_ok-nodes.nodes;
-      flights = c.in_ok-flights.flights;
-      queues = c.in_ok-queues.queues;
-      stop = None;
-      journal = c.new-2.result;
-      values = c.in_ok-values.values;
-    } in
-    let is : IsOpening f c.args.codes = record {
-      design = subst IsDesign c.deref-3.ensures c.empty_flights.ensures.rules;
-      outgoing =
-          subst (λ (d : DesignParts). AreOutgoing (length d.components) d.links c.in_ok-outgoing.outgoing)
-          c.deref.ensures c.in_ok-outgoing.ensures;
-      rounds = (c.requires.some, c.requires.most);
-      delays = c.requires.delays;
-      values = c.in_ok-values.ensures;
-      codes_are = c.requires.codes;
-      nodes =
-          subst (λ (d : DesignParts). AreOpening d c.args.codes c.args.rounds c.in_ok-nodes.nodes) c.deref-2.ensures
-          c.in_ok-nodes.ensures;
-      flights =
-          c.in_ok-flights.ensures.flights
-          ∙ ap (λ (d : DesignParts). map (λ (_ : Link). no_flight) d.links) c.deref-3.ensures;
-      queues = c.in_ok-queues.ensures ∙ ap (map (λ (_ : NodeValue). no_queue)) c.as_slice.ensures;
-      stop = refl;
-      journal = c.new-2.ensures.items;
-      closed = refl;
-    } in
-    opening_shows f c.args.codes is
+    let design = arc_value c.args.design in
+    let are =
+    subst (λ (d : DesignParts). AreOpening d c.args.codes c.args.rounds c.in_ok-nodes.nodes) c.deref.ensures
+    c.in_ok-nodes.ensures in
+    subst (λ (cs : List CodeParts).
+    IfOk c.open.result (λ (bus : BusValue). bus
+    ≡ opening_bus (record { design = design; env = c.args.env; rounds = c.args.rounds; delays = c.args.delays })
+    cs c.args.meeting))
+    (codes_open design c.args.codes c.args.rounds c.in_ok-nodes.nodes are) c.open.ensures

@@ -16,8 +16,8 @@ loop-message-init c = let room = c.requires.room in
       room = omega (arith, room);
     }
 
-pub arrive_reserved-requires-clause-link : goal.arrive_reserved-requires-clause-link
-arrive_reserved-requires-clause-link c =
+pub arrive-requires-clause-link : goal.arrive-requires-clause-link
+arrive-requires-clause-link c =
     let first = c.args.self.now in
     let now = c.loop-message.self in
     let due = c.args.due.now in
@@ -31,7 +31,7 @@ pub returns-then-is_some-clause-takes : goal.returns-then-is_some-clause-takes
 returns-then-is_some-clause-takes c =
     let first = c.args.self.now in
     let now = c.loop-message.self in
-    let next = c.arrive_reserved.new.self in
+    let next = c.arrive.new.self in
     let due = c.args.due.now in
     let at = c.loop-message.message-index in
     let message = slice_index_or due at no_entry in
@@ -40,8 +40,7 @@ returns-then-is_some-clause-takes c =
     message_flies first now c.args.node.0 c.args.reading at due message c.loop-message.invariant
     c.loop-message-test.true is in
     let happens =
-    arrives now next message c.args.reading c.arrive_reserved.result flies c.arrive_reserved.ensures.some
-    c.arrive_reserved.ensures.none in
+    arrives now next message c.args.reading c.arrive.result flies c.arrive.ensures.some c.arrive.ensures.none in
     takes_more first now next c.args.node.0 c.args.reading at due message c.loop-message.invariant
     c.loop-message-test.true is happens
 
@@ -49,7 +48,7 @@ pub loop-message-preserved : goal.loop-message-preserved
 loop-message-preserved c =
     let first = c.args.self.now in
     let now = c.loop-message.self in
-    let next = c.arrive_reserved.new.self in
+    let next = c.arrive.new.self in
     let due = c.args.due.now in
     let at = c.loop-message.message-index in
     let message = slice_index_or due at no_entry in
@@ -58,9 +57,7 @@ loop-message-preserved c =
     message_flies first now c.args.node.0 c.args.reading at due message c.loop-message.invariant
     c.loop-message-test.true is in
     let happens =
-    arrives now next message c.args.reading c.arrive_reserved.result flies c.arrive_reserved.ensures.some
-    c.arrive_reserved.ensures.none in
+    arrives now next message c.args.reading c.arrive.result flies c.arrive.ensures.some c.arrive.ensures.none in
     let going : next.stop ≡ None = none_told next.stop c.is_some.result c.is_some.ensures c.if-is_some.false in
     arriving_more first now next c.args.node.0 c.args.reading at due message c.loop-message.invariant
-    c.loop-message-test.true is happens c.arrive_reserved.ensures.keeps going c.arrive_reserved.ensures.owed
-    c.arrive_reserved.ensures.room
+    c.loop-message-test.true is happens c.arrive.ensures.keeps going c.arrive.ensures.owed c.arrive.ensures.room

@@ -1,6 +1,6 @@
 use Rattle.std.proofs.Common.{◌≡◌, take, All}
 use Rattle.pals_bus.proofs.DueEntries.{IsShort}
-use Rattle.pals_bus.proofs.due_messages.due_messages.Given as goal
+use Rattle.pals_bus.proofs.due.due_messages.Given as goal
 
 -- the first entries that are due are there
 abbrev pub invariant-loop-place : goal.invariant-loop-place

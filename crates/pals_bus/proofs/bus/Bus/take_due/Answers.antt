@@ -8,29 +8,29 @@ use Rattle.pals_bus.specs.Values.{BusValue}
 use Rattle.pals_bus.proofs.DueEntries.{left_at_first}
 use Rattle.pals_bus.proofs.DueSteps.{none_due}
 use Rattle.pals_bus.proofs.NodeEnds.{journal_shows}
-use Rattle.pals_bus.proofs.fields.Fields.take_due.Goals as goal
+use Rattle.pals_bus.proofs.bus.Bus.take_due.Goals as goal
 
 pub arrive_all-requires-clause-left : goal.arrive_all-requires-clause-left
 arrive_all-requires-clause-left c =
-    let f = c.args.self.now in
+    let f = c.self.inside.fields in
     let g = c.reserve_arrivals.new.self in
     let node = c.args.node.0 in
     let reading = c.args.reading in
     let shows = journal_shows f g c.reserve_arrivals.ensures.others c.reserve_arrivals.ensures.items in
-    let many = c.requires.keeps.queues.count in
-    let count = c.requires.keeps.nodes.count in
-    let there = c.requires.node in
+    let many = c.self.invariant.queues.count in
+    let count = c.self.invariant.nodes.count in
+    let there = subst (λ (b : BusValue). node < length b.run.design.components) (sym c.self.view_is) c.requires in
     let within : node < length f.queues = omega (arith, many, count, there) in
     let here = c.index.ensures ∙ get_or_default f.queues node c.index.result.now no_queue within in
     let left =
-    left_at_first f node reading c.index.result.now c.in_ok-due.due.items c.requires.keeps here
+    left_at_first f node reading c.index.result.now c.in_ok-due.due.items c.self.invariant here
     c.in_ok-due.ensures in
     subst (λ (b : BusValue). AreLeft b node reading c.as_slice.result.now) (sym shows)
     (subst (AreLeft (value_of f) node reading) (sym c.as_slice.ensures.value) left)
 
 pub returns-clause-ok : goal.returns-clause-ok
 returns-clause-ok c =
-    let f = c.args.self.now in
+    let f = c.self.inside.fields in
     let g = c.reserve_arrivals.new.self in
     let h = c.arrive_all.new.self in
     let node = c.args.node.0 in
@@ -39,7 +39,9 @@ returns-clause-ok c =
     let none = c.in_default-arrive_all.is in
     let left = subst (λ o. IfNone o (AreLeft (value_of h) node reading [])) none c.arrive_all.ensures.none_left in
     record {
-      takes = subst (λ (b : BusValue). TakesDue node reading b (value_of h)) shows c.arrive_all.ensures.takes;
+      takes =
+          subst (λ (b : BusValue). TakesDue node reading b (value_of h)) (shows ∙ c.self.view_is)
+          c.arrive_all.ensures.takes;
       going = sym c.arrive_all.ensures.stop ∙ none;
       none_left = none_due (value_of h) node reading left;
     }

@@ -11,27 +11,29 @@ use Rattle.pals_bus.specs.Values.{BusValue, Happens}
 use Rattle.pals_bus.specs.proof.Keeping.{value_of}
 use Rattle.pals_bus.proofs.NodeEnds.{room_shows}
 use Rattle.pals_bus.proofs.Repeats.{Repeats, oldest_kept, repeat_happens, repeat_keeps_bus}
-use Rattle.pals_bus.proofs.fields.Fields.copy_message.Goals as goal
+use Rattle.pals_bus.proofs.bus.Bus.repeat_message.Goals as goal
 
-pub returns-clause-keeps : goal.returns-clause-keeps
-returns-clause-keeps c =
-    let old = c.args.self.now in
+pub invariant_of-self-2 : goal.invariant_of-self-2
+invariant_of-self-2 c =
+    let old = c.self.inside.fields in
     let f = c.reserve_message.new.self in
     let s = c.add_message.new.self in
     let link = c.args.link in
     let round = c.args.round in
-    let first : FlightCopy = c.in-Some-flight_oldest.copy.now in
+    let first : FlightCopy = c.in-Some-flight_oldest.oldest.now in
     let copy : FlightCopy = record { round = first.round; due = first.due; tuple = c.in_ok-tuple.tuple } in
     let g : Fields = record s { journal = c.push_reserved.new.self } in
     let going : old.stop ≡ None = grind (arith, common_steps) in
     let same : copy ≡ first =
     ap (λ (ports : List Port). let u : FlightCopy =
     record { round = first.round; due = first.due; tuple = ports } in u) c.in_ok-tuple.ensures in
+    let there : link.0 < length (arc_value old.design).links =
+    subst (λ (b : BusValue). link.0 < length b.run.design.links) (sym c.self.view_is) c.requires in
     let more = c.reserve_message.ensures in
     let adds = c.add_message.ensures in
     let repeats : Repeats f g link round copy = record {
       is_copy =
-          oldest_kept old f link.0 round c.index.result.now first copy c.requires.keeps c.requires.link more.copies
+          oldest_kept old f link.0 round c.index.result.now first copy c.self.invariant there more.copies
           c.index.ensures c.in-Some-flight_oldest.ensures same;
       flights = adds.flights;
       queues = adds.queues;
@@ -41,7 +43,7 @@ returns-clause-keeps c =
           ∙ ap (λ (k : Fields). k.journal.items ++ entry.Repeat link round ∷ []) adds.others;
     } in
     let within : link.0 < length (arc_value f.design).links =
-    subst (λ (k : Fields). link.0 < length (arc_value k.design).links) (sym more.others) c.requires.link in
+    subst (λ (k : Fields). link.0 < length (arc_value k.design).links) (sym more.others) there in
     let happens = repeat_happens f g link round copy (ap (λ (k : Fields). k.stop) more.others ∙ going) repeats in
     let capacity = c.push_reserved.ensures.capacity ∙ ap (λ (k : Fields). vec_capacity k.journal) adds.others in
     let room = c.in_ok-reserve_message.ensures.entries in
@@ -50,23 +52,25 @@ returns-clause-keeps c =
 
 pub returns-clause-ok : goal.returns-clause-ok
 returns-clause-ok c =
-    let old = c.args.self.now in
+    let old = c.self.inside.fields in
     let f = c.reserve_message.new.self in
     let s = c.add_message.new.self in
     let link = c.args.link in
     let round = c.args.round in
-    let first : FlightCopy = c.in-Some-flight_oldest.copy.now in
+    let first : FlightCopy = c.in-Some-flight_oldest.oldest.now in
     let copy : FlightCopy = record { round = first.round; due = first.due; tuple = c.in_ok-tuple.tuple } in
     let g : Fields = record s { journal = c.push_reserved.new.self } in
     let going : old.stop ≡ None = grind (arith, common_steps) in
     let same : copy ≡ first =
     ap (λ (ports : List Port). let u : FlightCopy =
     record { round = first.round; due = first.due; tuple = ports } in u) c.in_ok-tuple.ensures in
+    let there : link.0 < length (arc_value old.design).links =
+    subst (λ (b : BusValue). link.0 < length b.run.design.links) (sym c.self.view_is) c.requires in
     let more = c.reserve_message.ensures in
     let adds = c.add_message.ensures in
     let repeats : Repeats f g link round copy = record {
       is_copy =
-          oldest_kept old f link.0 round c.index.result.now first copy c.requires.keeps c.requires.link more.copies
+          oldest_kept old f link.0 round c.index.result.now first copy c.self.invariant there more.copies
           c.index.ensures c.in-Some-flight_oldest.ensures same;
       flights = adds.flights;
       queues = adds.queues;
@@ -77,4 +81,4 @@ returns-clause-ok c =
     } in
     let happens = repeat_happens f g link round copy (ap (λ (k : Fields). k.stop) more.others ∙ going) repeats in
     subst (λ (b : BusValue). Happens b (Repeat link round) (value_of g))
-    (room_shows old f more.others more.copies more.items) happens
+    (room_shows old f more.others more.copies more.items ∙ c.self.view_is) happens

@@ -5,10 +5,10 @@ use Rattle.pals_runs.specs.declared.journal.JournalEntry.TheVariants as entry
 use Rattle.pals_bus.specs.declared.fields.Fields.{Fields}
 use Rattle.pals_bus.proofs.NodeEnds.{journal_shows}
 use Rattle.pals_bus.proofs.Taken.{Takes, none_keeps, none_value, drop_happens, drop_keeps}
-use Rattle.pals_bus.proofs.fields.Fields.lose_message.Goals as goal
+use Rattle.pals_bus.proofs.bus.Bus.drop_message.Goals as goal
 
-pub returns-in_default-take_message-clause-keeps : goal.returns-in_default-take_message-clause-keeps
-returns-in_default-take_message-clause-keeps c =
+pub invariant_of-self-in_default-take_message : goal.invariant_of-self-in_default-take_message
+invariant_of-self-in_default-take_message c =
     let f = c.reserve_entries.new.self in
     let g = c.take_message.new.self in
     let says = c.take_message.ensures in
@@ -38,11 +38,12 @@ returns-in_default-take_message-clause-same c =
     } in
     none_value f g c.args.link c.args.round
     (subst (Takes f g c.args.link c.args.round) c.in_default-take_message.is takes)
-    ∙ journal_shows c.args.self.now f c.reserve_entries.ensures.others c.reserve_entries.ensures.items
+    ∙ journal_shows c.self.inside.fields f c.reserve_entries.ensures.others c.reserve_entries.ensures.items
+    ∙ c.self.view_is
 
-pub returns-clause-keeps : goal.returns-clause-keeps
-returns-clause-keeps c =
-    let old = c.args.self.now in
+pub invariant_of-self-2 : goal.invariant_of-self-2
+invariant_of-self-2 c =
+    let old = c.self.inside.fields in
     let f = c.reserve_entries.new.self in
     let t = c.take_message.new.self in
     let link = c.args.link in

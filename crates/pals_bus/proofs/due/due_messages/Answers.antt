@@ -9,7 +9,7 @@ use Rattle.std.proofs.lemmas.Option.{get_or_from_slice_get}
 use Rattle.link_buffers.specs.declared.queue.DueEntry.{DueEntry}
 use Rattle.link_buffers.specs.proof.Queues.{is_due_at}
 use Rattle.pals_bus.proofs.DueEntries.{IsShort, number_of, in_order, due_place}
-use Rattle.pals_bus.proofs.due_messages.due_messages.Goals as goal
+use Rattle.pals_bus.proofs.due.due_messages.Goals as goal
 
 pub unreachable-requires : goal.unreachable-requires
 unreachable-requires c =

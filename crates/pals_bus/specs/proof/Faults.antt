@@ -1,0 +1,8 @@
+-- Events that a bus refuses.
+use Rattle.pals_bus.specs.declared.refusals.BusError.{BusError}
+use Rattle.pals_bus.specs.declared.refusals.BusError.TheVariants.{Stopped, Refused}
+
+-- no stop stands, and the event is refused for something of this kind
+abbrev pub IsRefusedBy : {E : Type 0} → (E → Type 0) → BusError E → Type 0
+IsRefusedBy Causes (Stopped why) = ⊥
+IsRefusedBy Causes (Refused cause) = Causes cause
