@@ -2,9 +2,10 @@
 use Rattle.std.proofs.Common.{◌≡◌, ◌⊎◌, inl, inr, ℕ, zero, suc, ◌+◌, ◌<◌, ◌≤◌, false, nat_eq, List, [], ◌∷◌, ◌++◌, take, reverse, length}
 use Rattle.std.proofs.Common.{slice_get, get_or, Option, Some, None, option_map, refl, sym, ap, subst, ◌∙◌, arith}
 use Rattle.std.specs.Option.{option_and_then, option_map_or}
-use Rattle.std.proofs.lemmas.Bool.{eqb-true, eq-eqb}
+use Rattle.std.proofs.lemmas.Bool.{eqb-true, eq-eqb, cases_lt}
 use Rattle.std.proofs.lemmas.List.{reverse-append, length-map}
 use Rattle.std.proofs.lemmas.Option.{none-some, slice_get_past}
+use Rattle.list_lemmas.proofs.Places.{slice_get-from_Contains}
 use Rattle.aadl_tree.specs.Declarations.{Subcomponent, PackageTree}
 use Rattle.aadl_names.specs.declared.site.Site.{Site}
 use Rattle.aadl_names.specs.declared.site.Site.TheVariants.{Own, Inner}
@@ -14,9 +15,7 @@ use Rattle.aadl_uses.specs.proof.Uses.{containment, targets_in}
 use Rattle.aadl_uses.proofs.Containing.{below-same}
 use Rattle.aadl_uses.specs.proof.Wiring.{into}
 use Rattle.aadl_uses.specs.proof.Orders.{IsOrder}
-use Rattle.aadl_uses.proofs.Searches.{at_contains}
 use Rattle.aadl_chains.specs.proof.Inside.{is_in_at}
-use Rattle.aadl_chains.proofs.Numbers.{split}
 use Rattle.aadl_chains.specs.proof.Sound.{MayLeave, AreDeclared}
 use Rattle.aadl_chains.proofs.OnChains.{next_at}
 use Rattle.aadl_chains.specs.declared.walks.Entry.{Entry}
@@ -122,7 +121,7 @@ module _ (tree : PackageTree ℕ) (keys : List ℕ) (order : IsOrder (containmen
       (f.0, f.1, omega arith, ap (slice_get keys) same ∙ (at.is_item ∙ ap Some (sym (eqb-true n at.item at.passes))))
 
   declared_by : (n s m : ℕ) → below tree n s ≡ Some m → n < length tree.declarations
-  declared_by n s m b = by (split n (length tree.declarations))
+  declared_by n s m b = by (cases_lt n (length tree.declarations))
     where
       none_past : length tree.declarations ≤ n → below tree n s ≡ None
       none_past past = ap (λ o. option_and_then (λ sub. referred tree sub.classifier) (slice_get (subcomponents_of (implementation_in o)) s))
@@ -143,7 +142,7 @@ module _ (tree : PackageTree ℕ) (keys : List ℕ) (order : IsOrder (containmen
       let size = length-map tree.declarations (targets_in tree) in
       let lt = declared_by n s m b in
       let c = order.all n (omega (arith, size, lt)) in
-      let p = place_of n c.0 (at_contains keys n c) in
+      let p = place_of n c.0 (slice_get-from_Contains keys n c) in
       let j = order.sequence.behind p.0 n s m p.3 (below-same tree n s ∙ b) in
       let q = place_of m j.0 j.2 in
       let before = j.1 in

@@ -1,14 +1,14 @@
 -- The walk back from an in port of a thread: chains that end there come the way that it goes.
 use Rattle.std.proofs.Common.{◌≡◌, ◌⊎◌, inl, inr, ℕ, List, [], ◌∷◌, Contains}
 use Rattle.std.proofs.Common.{Option, Some, None, refl, sym, ap, subst, ◌∙◌}
-use Rattle.std.proofs.lemmas.List.Elements.{Contains-append_cases, Contains-append_left, Contains-append_right, Contains-push, Contains-push_cases}
+use Rattle.std.proofs.lemmas.List.Elements.{Contains-append_right}
 use Rattle.std.proofs.lemmas.Option.{same_Some}
+use Rattle.list_lemmas.proofs.Elements.{Contains-head}
 use Rattle.aadl_tree.specs.Declarations.{PackageTree}
 use Rattle.aadl_names.specs.declared.site.Site.{Site}
 use Rattle.aadl_names.specs.declared.site.Site.TheVariants.{Own, Inner}
 use Rattle.aadl_uses.specs.Uses.{standing}
 use Rattle.aadl_uses.specs.proof.Wiring.{into}
-use Rattle.aadl_uses.proofs.Searches.{contains_none}
 use Rattle.aadl_chains.specs.Chains.{Port, Place, Goes, Leads}
 use Rattle.aadl_chains.specs.proof.Walks.{Crossing, Climb, nowhere, at_root, crosses, climb_along, climb_into, climb}
 use Rattle.aadl_chains.proofs.Steps.{Entered, entered, goes_into}
@@ -20,22 +20,9 @@ abbrev place : List ℕ → ℕ → Place
 place path k = record { path = path; connection = k }
 
 -- ---- lists
-pub in_head : {X : Type 0} (x : X) (xs : List X) → Contains (x ∷ xs) x
-in_head x xs = Contains-append_left (x ∷ []) xs x (Contains-push [] x)
 
 pub in_tail : {X : Type 0} (y : X) (xs : List X) (x : X) → Contains xs x → Contains (y ∷ xs) x
 in_tail y xs x h = Contains-append_right (y ∷ []) xs x h
-
-pub head_or_tail : {X : Type 0} (y : X) (xs : List X) (x : X) → Contains (y ∷ xs) x → (y ≡ x) ⊎ Contains xs x
-head_or_tail y xs x h = by (Contains-append_cases (y ∷ []) xs x h)
-  where
-    one : Contains [] x ⊎ (y ≡ x) → (y ≡ x) ⊎ Contains xs x
-    one (inl k) = absurd (contains_none x k)
-    one (inr k) = inl k
-
-    by : Contains (y ∷ []) x ⊎ Contains xs x → (y ≡ x) ⊎ Contains xs x
-    by (inl k) = one (Contains-push_cases [] y x k)
-    by (inr k) = inr k
 
 -- ---- ends of walks
 module _ (tree : PackageTree ℕ) (root : ℕ) where
@@ -116,7 +103,7 @@ module _ (tree : PackageTree ℕ) (root : ℕ) where
                 s,
                 p,
                 h.1,
-                subst (λ (x : List ℕ). Contains (place path k ∷ r.chain) (place x k)) h.0 (in_head (place path k) r.chain),
+                subst (λ (x : List ℕ). Contains (place path k ∷ r.chain) (place x k)) h.0 (Contains-head (place path k) r.chain),
                 subst (λ i. Entered tree i (Inner s p) k (Own q)) is_root (subst (λ i. Entered tree n (Inner s p) k (Own i)) (sym h.2) x),
               )
           last_of (inr h) = (h.0, h.1, h.2, h.3, in_tail (place path k) r.chain (place [] h.0) h.4, h.5)

@@ -1,8 +1,9 @@
 -- A chain to an in port comes the way that the walk back from there goes.
-use Rattle.std.proofs.Common.{◌≡◌, ◌⊎◌, inl, inr, ℕ, Bool, true, false, not, ◌&&◌, List, [], ◌∷◌, slice_get, Contains}
+use Rattle.std.proofs.Common.{◌≡◌, ◌⊎◌, inl, inr, ℕ, Bool, true, false, not, List, [], ◌∷◌, slice_get, Contains}
 use Rattle.std.proofs.Common.{Option, Some, refl, sym, ap, subst, ◌∙◌}
-use Rattle.std.proofs.lemmas.Bool.{true≢false, false≢true}
+use Rattle.std.proofs.lemmas.Bool.{true≢false, and_parts}
 use Rattle.std.proofs.lemmas.Option.{same_Some}
+use Rattle.list_lemmas.proofs.Elements.{Contains-nil, Contains-cons_cases}
 use Rattle.aadl_tree.specs.declared.declarations.Direction.TheVariants as directions
 use Rattle.aadl_tree.specs.Declarations.{Connection, Implementation, PackageTree}
 use Rattle.aadl_names.specs.declared.site.Site.{Site}
@@ -10,7 +11,6 @@ use Rattle.aadl_names.specs.declared.site.Site.TheVariants.{Own, Inner}
 use Rattle.aadl_names.specs.Resolving.{implementation_at, site}
 use Rattle.aadl_uses.specs.Uses.{below, standing}
 use Rattle.aadl_uses.specs.Threads.{IsThreadAt}
-use Rattle.aadl_uses.proofs.Searches.{contains_none}
 use Rattle.aadl_uses.specs.proof.Wiring.{into}
 use Rattle.aadl_chains.specs.proof.Inside.{is_in_at, Reaches, of_thread, of_inner}
 use Rattle.aadl_chains.specs.Chains.{Port, Place, port_at, Goes, Leads, is_in, IsStart}
@@ -19,14 +19,10 @@ use Rattle.aadl_chains.proofs.OnChains.{opposed, next_at, below_at, is_in-at, th
 use Rattle.aadl_chains.specs.proof.Walks.{Crossing, at_root, crosses, climb, OneEach}
 use Rattle.aadl_chains.specs.Links.{not_own, is_crossing}
 use Rattle.aadl_chains.proofs.Steps.{into_of_goes, Known, known}
-use Rattle.aadl_chains.proofs.Climbs.{head_or_tail, climb_own, climb_inner}
+use Rattle.aadl_chains.proofs.Climbs.{climb_own, climb_inner}
 
 abbrev port : List ℕ → ℕ → Port
 port path p = record { path = path; port = p }
-
-both_true : (a b : Bool) → (a && b) ≡ true → (a ≡ true) × (b ≡ true)
-both_true true b e = (refl, e)
-both_true false b e = absurd (false≢true e)
 
 module _ (tree : PackageTree ℕ) (root : ℕ) where
   -- a connection between two subcomponents
@@ -49,7 +45,7 @@ module _ (tree : PackageTree ℕ) (root : ℕ) where
       (sym x.is_link ∙ (ap (λ (e : Implementation ℕ). slice_get e.connections place.connection) c ∙ g.is_link)) in
       let k : is_crossing tree g.component g.link ≡ true =
       ap (λ (e : Implementation ℕ). is_crossing tree e g.link) (sym c) ∙ (ap (is_crossing tree x.component) (sym l) ∙ x.kind) in
-      let b = both_true (not_own (site tree g.component g.link.source)) (not_own (site tree g.component g.link.target)) k in
+      let b = and_parts (not_own (site tree g.component g.link.source)) (not_own (site tree g.component g.link.target)) k in
       (ap not_own (sym g.is_source) ∙ b.0, ap not_own (sym g.is_target) ∙ b.1)
 
   module _ (sound : AreDeclared tree) where
@@ -109,8 +105,8 @@ module _ (tree : PackageTree ℕ) (root : ℕ) where
       thread = s.0;
       out = s.1;
       reaches = of_thread (thread_from tree root p.path n stands s.0) (not_false (is_in_at tree n p.port) out);
-      none_crosses = λ place h x. contains_none place h;
-      none_outside = λ place h e. absurd (contains_none place h);
+      none_crosses = λ place h x. Contains-nil place h;
+      none_outside = λ place h e. absurd (Contains-nil place h);
     }
     down_start p n (inr s) stands out = absurd (opposed (is_in tree root p) s.1 (is_in-at tree root p n stands ∙ out))
 
@@ -133,9 +129,9 @@ module _ (tree : PackageTree ℕ) (root : ℕ) where
           out = d.out;
           reaches = subst (λ m. Reaches tree directions.Out m p.port) (sym o.3)
               (subst (Reaches tree directions.Out g.number) (sym (ap (λ (o : Port). o.port) o.2)) r);
-          none_crosses = λ place h x. by_crossing place x (f ∙ o.1) (head_or_tail c cs place h) d;
+          none_crosses = λ place h x. by_crossing place x (f ∙ o.1) (Contains-cons_cases c cs place h) d;
           none_outside = λ place h root_is. by_outside place root_is (ap (λ (o : Port). o.path) i.0) (ap (λ (o : Port). o.path) o.2)
-              (head_or_tail c cs place h) d;
+              (Contains-cons_cases c cs place h) d;
         }
       where
         by_crossing : (place : Place) → Crosses place → {r : ℕ} → g.target ≡ Own r → (c ≡ place) ⊎ Contains cs place → {m : ℕ} → Down cs from mid m → ⊥
@@ -186,7 +182,7 @@ module _ (tree : PackageTree ℕ) (root : ℕ) where
         port = p.port;
         climbs = ap (λ path. climb tree root last path p.port) s.0;
         from_is = ap (λ path. port path p.port) s.0;
-        by_is = λ place h e. absurd (contains_none place h);
+        by_is = λ place h e. absurd (Contains-nil place h);
       }
 
       up_root : (last : Option ℕ) (c : Place) (cs : List Place) (from mid p : Port) (g : Goes tree root c mid p) (s r q : ℕ) → g.source ≡ Own q
@@ -197,7 +193,7 @@ module _ (tree : PackageTree ℕ) (root : ℕ) where
         climbs = ap (λ (o : Port). climb tree root last o.path o.port) to_is ∙ (climb_own tree root last c.path s r g.number c.connection q g.stands is
             ∙ (sym (ap (λ (o : Port). climb tree root (Some c.connection) o.path o.port) mid_is) ∙ m.climbs));
         from_is = m.from_is;
-        by_is = λ place h root_is. by place root_is (head_or_tail c cs place h);
+        by_is = λ place h root_is. by place root_is (Contains-cons_cases c cs place h);
       }
         where
           to_is : p ≡ port (s ∷ c.path) r
@@ -232,7 +228,7 @@ module _ (tree : PackageTree ℕ) (root : ℕ) where
         is_below = m.is_below;
         stands = m.stands;
         is_down = m.is_down;
-        only = λ place h x. by place x (head_or_tail c cs place h);
+        only = λ place h x. by place x (Contains-cons_cases c cs place h);
       }
         where
           to_is : p ≡ port (s ∷ c.path) r
@@ -263,7 +259,7 @@ module _ (tree : PackageTree ℕ) (root : ℕ) where
         is_below = i.2;
         stands = g.stands;
         is_down = d;
-        only = λ place h x. by place x (head_or_tail c cs place h);
+        only = λ place h x. by place x (Contains-cons_cases c cs place h);
       }
         where
           to_is : p ≡ port (s ∷ c.path) r

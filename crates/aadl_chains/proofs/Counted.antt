@@ -8,8 +8,9 @@ use Rattle.std.proofs.lemmas.List.{length-map}
 use Rattle.std.proofs.lemmas.List.Elements.{All-from_recursion, recursion_from_All}
 use Rattle.std.proofs.lemmas.List.Kept.{AllPairs-cons}
 use Rattle.std.proofs.lemmas.Option.{same_Some, option_and_then_some, slice_get_within, slice_get-get_or, slice_get-map}
+use Rattle.list_lemmas.proofs.Elements.{Contains-nil}
+use Rattle.list_lemmas.proofs.Places.{slice_get-from_Contains, Contains-from_slice_get}
 use Rattle.aadl_uses.specs.proof.Counts.{Among, count_of}
-use Rattle.aadl_uses.proofs.Searches.{contains_none, contains_at, at_contains}
 use Rattle.aadl_tree.specs.declared.declarations.Direction.TheVariants as directions
 use Rattle.aadl_tree.specs.Declarations.{Connection, Implementation, PackageTree}
 use Rattle.aadl_names.specs.declared.site.Site.TheVariants.{Own, Inner}
@@ -77,7 +78,7 @@ module _ (tree : PackageTree ℕ) (root : ℕ) where
         leads = (
           record { path = s ∷ path; port = q },
           g.leads,
-          goes_at tree root path _ among.0 wire (Inner s q) (Own _) stands (at_contains (wires_at tree _) wire among) inner outer,
+          goes_at tree root path _ among.0 wire (Inner s q) (Own _) stands (slice_get-from_Contains (wires_at tree _) wire among) inner outer,
         );
       }
 
@@ -256,7 +257,7 @@ one_each tree root none n i j target used a b = by (cases_order i j)
     listed_at : (o : Option (Implementation ℕ)) (k : ℕ) → target_in (wires_of tree o) k ≡ Some target
         → (x : Connection ℕ) × (slice_get (connections_of o) k ≡ Some x)
     listed_at None k e = option_and_then_some (λ (w : Wire). w.target) (slice_get (wires_of tree None) k) target e
-        (λ w h f. absurd (contains_none w (contains_at [] k w h)))
+        (λ w h f. absurd (Contains-nil w (Contains-from_slice_get [] k w h)))
     listed_at (Some x) k e = option_and_then_some (λ (w : Wire). w.target) (slice_get (wires_of tree (Some x)) k) target e
         (λ w h f. let l = listed (wire_of tree x) x.connections k w h in (l.0, l.1))
 

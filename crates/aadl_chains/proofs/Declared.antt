@@ -1,10 +1,14 @@
 -- Where nothing is wrong with the names of a package, both ends of each connection are declared, and it may go from the one to the other.
 use Rattle.std.proofs.Common.{◌≡◌, ℕ, zero, suc, ◌+◌, Bool, true, false, not, ◌&&◌, nat_eq, List, [], ◌∷◌, ◌++◌, map}
-use Rattle.std.proofs.Common.{slice_get, Contains, Option, Some, None, option_map, refl, sym, ap, subst, ◌∙◌, arith}
+use Rattle.std.proofs.Common.{slice_get, Contains, Option, Some, None, option_map, refl, sym, ap, ◌∙◌, arith}
 use Rattle.std.specs.List.{flat_map, enumerate_from}
 use Rattle.std.specs.Option.{option_and_then}
-use Rattle.std.proofs.lemmas.Bool.{true≢false}
+use Rattle.std.proofs.lemmas.Bool.{true≢false, not-false, not-true}
 use Rattle.std.proofs.lemmas.Option.{same_Some, none-some, option_and_then_some}
+use Rattle.list_lemmas.proofs.Elements.{Contains-nil}
+use Rattle.list_lemmas.proofs.Options.{option_map-parts}
+use Rattle.list_lemmas.proofs.Places.{flat_map-nil_at, slice_get-from_Contains, Contains-from_slice_get}
+use Rattle.list_lemmas.proofs.Lists.{append_is_nil_left, append_is_nil_right}
 use Rattle.aadl_tree.specs.declared.declarations.Direction.{Direction}
 use Rattle.aadl_tree.specs.declared.declarations.Category.{Category}
 use Rattle.aadl_tree.specs.declared.declarations.Category.TheVariants as categories
@@ -26,26 +30,13 @@ use Rattle.aadl_uses.specs.proof.Threads.{is_thread_in}
 use Rattle.aadl_uses.specs.declared.connections.Wire.{Wire}
 use Rattle.aadl_uses.specs.Wiring.{wire_of, wires_of}
 use Rattle.aadl_uses.proofs.Rows.{listed}
-use Rattle.aadl_uses.proofs.Searches.{contains_none, contains_at, at_contains}
 use Rattle.aadl_chains.specs.proof.Inside.{is_in_at}
 use Rattle.aadl_chains.specs.proof.Sound.{MayLeave, MayEnter, NotBothOwn, IsDeclared, AreDeclared}
 
 -- ---- lists with nothing in them
-left_none : {X : Type 0} (a b : List X) → a ++ b ≡ [] → a ≡ []
-left_none [] b e = refl
-left_none (x ∷ a) b e = absurd (cc e)
-
-right_none : {X : Type 0} (a b : List X) → a ++ b ≡ [] → b ≡ []
-right_none [] b e = e
-right_none (x ∷ a) b e = absurd (cc e)
-
-each_none : {X Y : Type 0} (f : X → List Y) (xs : List X) (k : ℕ) (x : X) → flat_map f xs ≡ [] → slice_get xs k ≡ Some x → f x ≡ []
-each_none f [] k x e is = absurd (contains_none x (contains_at [] k x is))
-each_none f (y ∷ xs) zero x e is = subst (λ z. f z ≡ []) (same_Some y x is) (left_none (f y) (flat_map f xs) e)
-each_none f (y ∷ xs) (suc k) x e is = each_none f xs k x (right_none (f y) (flat_map f xs) e) is
 
 numbered : {X : Type 0} (i : ℕ) (xs : List X) (k : ℕ) (x : X) → slice_get xs k ≡ Some x → slice_get (enumerate_from i xs) k ≡ Some (i + k, x)
-numbered i [] k x e = absurd (contains_none x (contains_at [] k x e))
+numbered i [] k x e = absurd (Contains-nil x (Contains-from_slice_get [] k x e))
 numbered i (y ∷ xs) zero x e = ap (λ z. Some (i, z)) (same_Some y x e) ∙ ap (λ n. Some (n, x)) (omega arith)
 numbered i (y ∷ xs) (suc k) x e = numbered (i + 1) xs k x e ∙ ap (λ n. Some (n, x)) (omega arith)
 
@@ -53,23 +44,11 @@ not_wrong : (b : Bool) (at : ℕ) → wrong_if b at ≡ [] → b ≡ false
 not_wrong true at e = absurd (cc e)
 not_wrong false at e = refl
 
-of_not : (b : Bool) → not b ≡ false → b ≡ true
-of_not true e = refl
-of_not false e = absurd (true≢false e)
-
-not_of : (b : Bool) → not b ≡ true → b ≡ false
-not_of true e = absurd (true≢false (sym e))
-not_of false e = refl
-
 -- ---- ends
 port_there : (may : Site × Option Direction → Bool) (end : ConnectionEnd ℕ) (at : ℕ) (o : Option (Site × Option Direction)) → end_faults may end at o ≡ []
     → (port : Site × Option Direction) × (o ≡ Some port) × (may port ≡ true)
 port_there may end at None e = absurd (cc e)
-port_there may end at (Some port) e = (port, refl, of_not (may port) (not_wrong (not (may port)) at e))
-
-mapped_from : {X Y : Type 0} (f : X → Y) (o : Option X) (y : Y) → option_map f o ≡ Some y → (x : X) × (o ≡ Some x) × (f x ≡ y)
-mapped_from f None y e = absurd (none-some y e)
-mapped_from f (Some x) y e = (x, refl, same_Some (f x) y e)
+port_there may end at (Some port) e = (port, refl, not-false (may port) (not_wrong (not (may port)) at e))
 
 no_port : (name : List ℕ) (p : ℕ) → port_named [] name ≡ Some p → ⊥
 no_port name p e = none-some p e
@@ -97,13 +76,13 @@ module _ (tree : PackageTree ℕ) (x : Implementation ℕ) where
 
   inner_site_by : (t s p : ℕ) (name : List ℕ) → inner_site tree x name t ≡ Some (Inner s p) → InnerPort s p
   inner_site_by t s p name e =
-      let m = mapped_from (Inner t) (port_named (inner_ports tree x t) name) (Inner s p) e in
+      let m = option_map-parts (Inner t) (port_named (inner_ports tree x t) name) (Inner s p) e in
       let same = same_inner t s m.0 p m.2 in
       let is : port_named (inner_ports tree x s) name ≡ Some p = ap (λ k. port_named (inner_ports tree x k) name) (sym same.0) ∙ (m.1 ∙ ap Some same.1) in
       inner_by s p name (option_and_then (target_of tree) (slice_get x.subcomponents s)) refl is
 
   by_second : (s p : ℕ) (first : Identifier ℕ) (second : Option (Identifier ℕ)) → site_by tree x first second ≡ Some (Inner s p) → InnerPort s p
-  by_second s p first None e = let m = mapped_from Own (port_named (ports_of tree x) first.spelling) (Inner s p) e in let c = m.2 in absurd (cc c)
+  by_second s p first None e = let m = option_map-parts Own (port_named (ports_of tree x) first.spelling) (Inner s p) e in let c = m.2 in absurd (cc c)
   by_second s p first (Some port) e =
       option_and_then_some (inner_site tree x port.spelling) (sub_named x.subcomponents first.spelling) (Inner s p) e
       (λ t h f. inner_site_by t s p port.spelling f)
@@ -129,15 +108,15 @@ module _ (tree : PackageTree ℕ) (x : Implementation ℕ) where
     leaves : (end : ConnectionEnd ℕ) (s : Site) → site tree x end ≡ Some s → may_leave (with_direction tree x s) ≡ true → MayLeave tree n s
     leaves end (Own p) e m = own_way p ∙ m
     leaves end (Inner s p) e m = let i = inner_port s p end e in
-        (i.target, below_is s p i, inner_way s p i ∙ not_of (goes_in (direction_of tree x (Inner s p))) m)
+        (i.target, below_is s p i, inner_way s p i ∙ not-true (goes_in (direction_of tree x (Inner s p))) m)
 
     enters : (end : ConnectionEnd ℕ) (s : Site) → site tree x end ≡ Some s → may_enter (with_direction tree x s) ≡ true → MayEnter tree n s
-    enters end (Own p) e m = own_way p ∙ not_of (goes_in (direction_of tree x (Own p))) m
+    enters end (Own p) e m = own_way p ∙ not-true (goes_in (direction_of tree x (Own p))) m
     enters end (Inner s p) e m = let i = inner_port s p end e in (
       i.target,
       below_is s p i,
-      inner_way s p i ∙ of_not (goes_in (direction_of tree x (Inner s p)))
-          (not_of (not (goes_in (direction_of tree x (Inner s p)))) m),
+      inner_way s p i ∙ not-false (goes_in (direction_of tree x (Inner s p)))
+          (not-true (not (goes_in (direction_of tree x (Inner s p)))) m),
     )
 
     not_both : (s t : Site) → (is_own (Some (with_direction tree x s)) && is_own (Some (with_direction tree x t))) ≡ false → NotBothOwn s t
@@ -163,15 +142,15 @@ module _ (tree : PackageTree ℕ) (x : Implementation ℕ) where
         let b = end_faults may_enter c.target at (sited tree x c.target) in
         let o = wrong_if (is_own (sited tree x c.source) && is_own (sited tree x c.target)) at in
         let l = list_faults holders.Connection c.properties in
-        let front = left_none (a ++ b ++ o) l e in
-        let third = right_none (a ++ b) o front in
-        let both = left_none (a ++ b) o front in
-        let first = left_none a b both in
-        let second = right_none a b both in
+        let front = append_is_nil_left (a ++ b ++ o) l e in
+        let third = append_is_nil_right (a ++ b) o front in
+        let both = append_is_nil_left (a ++ b) o front in
+        let first = append_is_nil_left a b both in
+        let second = append_is_nil_right a b both in
         let p = port_there may_leave c.source at (sited tree x c.source) first in
         let q = port_there may_enter c.target at (sited tree x c.target) second in
-        let s = mapped_from (with_direction tree x) (site tree x c.source) p.0 p.1 in
-        let t = mapped_from (with_direction tree x) (site tree x c.target) q.0 q.1 in
+        let s = option_map-parts (with_direction tree x) (site tree x c.source) p.0 p.1 in
+        let t = option_map-parts (with_direction tree x) (site tree x c.target) q.0 q.1 in
         record {
           source = s.0;
           target = t.0;
@@ -200,11 +179,11 @@ module _ (tree : PackageTree ℕ) (x : Implementation ℕ) where
     no_subs : (s p : ℕ) → is_thread x.category ≡ true → flat_map (subcomponent_faults tree x.category) x.subcomponents ≡ [] → InnerPort s p → ⊥
     no_subs s p thread clean i =
         let sub = i.sub in
-        let f : subcomponent_faults tree x.category sub ≡ [] = each_none (subcomponent_faults tree x.category) x.subcomponents s sub clean i.is_sub in
+        let f : subcomponent_faults tree x.category sub ≡ [] = flat_map-nil_at (subcomponent_faults tree x.category) x.subcomponents s sub clean i.is_sub in
         let a = wrong_if (not (may_contain x.category sub.category)) sub.name.at in
         let b = names_faults tree sub sub.classifier.implementation in
-        let first = left_none a b (left_none (a ++ b) (list_faults (holders.Subcomponent sub.category) sub.properties) f) in
-        contains_nothing x.category sub.category thread (of_not (may_contain x.category sub.category)
+        let first = append_is_nil_left a b (append_is_nil_left (a ++ b) (list_faults (holders.Subcomponent sub.category) sub.properties) f) in
+        contains_nothing x.category sub.category thread (not-false (may_contain x.category sub.category)
         (not_wrong (not (may_contain x.category sub.category)) sub.name.at first))
       where
         contains_nothing : (a b : Category) → is_thread a ≡ true → may_contain a b ≡ true → ⊥
@@ -229,14 +208,14 @@ there (Some (implementation y)) x e = ap (λ z. Some (implementation z)) (same_S
 module _ (tree : PackageTree ℕ) (root : ℕ) (clean : package_faults tree root ≡ []) where
   all_clean : flat_map (declaration_faults tree root) (enumerate_from 0 tree.declarations) ≡ []
   unfolding wrong_names
-  all_clean = right_none _ _ (left_none (wrong_names tree root) _ clean)
+  all_clean = append_is_nil_right _ _ (append_is_nil_left (wrong_names tree root) _ clean)
 
   clean_at : (n : ℕ) (x : Implementation ℕ) → implementation_at tree n ≡ Some x → outer_faults tree (nat_eq root n) x ≡ []
   clean_at n x e =
       let d : slice_get (enumerate_from 0 tree.declarations) n ≡ Some (n, implementation x) =
       numbered 0 tree.declarations n (implementation x) (there (slice_get tree.declarations n) x e) ∙ ap (λ k. Some (k, implementation x)) (omega arith) in
-      left_none (outer_faults tree (nat_eq root n) x) (annex_faults tree x (behaviours x.annexes))
-      (each_none (declaration_faults tree root) (enumerate_from 0 tree.declarations) n (n, implementation x) all_clean d)
+      append_is_nil_left (outer_faults tree (nat_eq root n) x) (annex_faults tree x (behaviours x.annexes))
+      (flat_map-nil_at (declaration_faults tree root) (enumerate_from 0 tree.declarations) n (n, implementation x) all_clean d)
 
   pub record CleanParts (x : Implementation ℕ) : Type 0 where
     pub subs : flat_map (subcomponent_faults tree x.category) x.subcomponents ≡ []
@@ -249,18 +228,18 @@ module _ (tree : PackageTree ℕ) (root : ℕ) (clean : package_faults tree root
       let c = flat_map (connection_faults tree x) x.connections in
       let l = list_faults (holders.Declaration x.category (nat_eq root n)) x.properties in
       let v = flat_map variables_faults x.annexes in
-      let front = left_none (h ++ s ++ c) l (left_none (h ++ s ++ c ++ l) v (clean_at n x e)) in
-      record { subs = right_none h s (left_none (h ++ s) c front); links = right_none (h ++ s) c front }
+      let front = append_is_nil_left (h ++ s ++ c) l (append_is_nil_left (h ++ s ++ c ++ l) v (clean_at n x e)) in
+      record { subs = append_is_nil_right h s (append_is_nil_left (h ++ s) c front); links = append_is_nil_right (h ++ s) c front }
 
   declares_at : (n k : ℕ) (x : Implementation ℕ) (c : Connection ℕ) → (e : implementation_at tree n ≡ Some x) → slice_get x.connections k ≡ Some c
       → Declares tree x n e c
-  declares_at n k x c e is = declares tree x n e c (each_none (connection_faults tree x) x.connections k c (parts n x e).links is)
+  declares_at n k x c e is = declares tree x n e c (flat_map-nil_at (connection_faults tree x) x.connections k c (parts n x e).links is)
 
   each_by : (n : ℕ) (wire : Wire) (o : Option (Implementation ℕ)) → implementation_at tree n ≡ o → (h : Contains (wires_of tree o) wire)
       → IsDeclared tree n wire
-  each_by n wire None e h = absurd (contains_none wire h)
+  each_by n wire None e h = absurd (Contains-nil wire h)
   each_by n wire (Some x) e h =
-      let l = listed (wire_of tree x) x.connections h.0 wire (at_contains (wires_of tree (Some x)) wire h) in
+      let l = listed (wire_of tree x) x.connections h.0 wire (slice_get-from_Contains (wires_of tree (Some x)) wire h) in
       wired tree x n e l.0 wire (declares_at n h.0 x l.0 e l.1) l.2
 
   threads_by : (n : ℕ) (o : Option (Implementation ℕ)) → implementation_at tree n ≡ o → is_thread_in o ≡ true → wires_of tree o ≡ []

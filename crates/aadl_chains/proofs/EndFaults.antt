@@ -5,6 +5,8 @@ use Rattle.std.proofs.Common.{Contains, Option, Some, None, refl, sym, ap, subst
 use Rattle.std.proofs.lemmas.Bool.{false≢true}
 use Rattle.std.proofs.lemmas.List.Elements.{Contains-append_left, Contains-append_right, Contains-append_cases, Contains-push, Contains-push_cases}
 use Rattle.std.proofs.lemmas.Option.{same_Some, none-some, slice_get_within, get_or_from_slice_get}
+use Rattle.list_lemmas.proofs.Elements.{Contains-nil}
+use Rattle.list_lemmas.proofs.Places.{slice_get-from_Contains, Contains-from_slice_get}
 use Rattle.aadl_tree.specs.declared.declarations.Direction.TheVariants as directions
 use Rattle.aadl_tree.specs.Declarations.{Connection, Implementation, PackageTree}
 use Rattle.aadl_names.specs.declared.fault.FlatFault.{FlatFault}
@@ -18,7 +20,6 @@ use Rattle.aadl_uses.specs.proof.Uses.{FirstIn}
 use Rattle.aadl_uses.specs.declared.connections.Wire.{Wire}
 use Rattle.aadl_uses.specs.Firsts.{IsSecond}
 use Rattle.aadl_uses.specs.Wiring.{wire_of, wires_of, wires_at}
-use Rattle.aadl_uses.proofs.Searches.{contains_none, contains_at, at_contains}
 use Rattle.aadl_chains.specs.proof.Outside.{LeadsFrom}
 use Rattle.aadl_chains.proofs.Ordered.{one_of_two}
 use Rattle.aadl_chains.specs.Chains.{IsDeadEnd, IsEndFault}
@@ -31,11 +32,11 @@ use Rattle.aadl_chains.proofs.FromChains.{on_way}
 
 wire_if : (tree : PackageTree ℕ) (o : Option (Implementation ℕ)) (k : ℕ) (link : Connection ℕ) → slice_get (connections_of o) k ≡ Some link
     → (wire : Wire) × (slice_get (wires_of tree o) k ≡ Some wire)
-wire_if tree None k link e = absurd (contains_none link (contains_at [] k link e))
+wire_if tree None k link e = absurd (Contains-nil link (Contains-from_slice_get [] k link e))
 wire_if tree (Some x) k link e = by x.connections k e
   where
     by : (cs : List (Connection ℕ)) (k : ℕ) → slice_get cs k ≡ Some link → (wire : Wire) × (slice_get (map (wire_of tree x) cs) k ≡ Some wire)
-    by [] k e = absurd (contains_none link (contains_at [] k link e))
+    by [] k e = absurd (Contains-nil link (Contains-from_slice_get [] k link e))
     by (c ∷ cs) zero e = (wire_of tree x c, refl)
     by (c ∷ cs) (suc k) e = by cs k e
 
@@ -92,11 +93,11 @@ module _ (tree : PackageTree ℕ) (root : ℕ) (sound : AreDeclared tree) where
 module _ (tree : PackageTree ℕ) (root n k : ℕ) (link : Connection ℕ) (wire : Wire)
     (is_link : slice_get (connections_of (implementation_at tree n)) k ≡ Some link) (is_wire : slice_get (wires_at tree n) k ≡ Some wire) where
   dead_each : (b : Bool) (fault : FlatFault) → (IsTrue b ↔ IsOnWay tree root n wire) → Contains (dead_end b link) fault → IsFoundAt tree root n k fault
-  dead_each true fault tells h = absurd (contains_none fault h)
+  dead_each true fault tells h = absurd (Contains-nil fault h)
   dead_each false fault tells h = by (Contains-push_cases [] (DeadEnd link.name.spelling link.name.at) fault h)
     where
       by : Contains [] fault ⊎ (DeadEnd link.name.spelling link.name.at ≡ fault) → IsFoundAt tree root n k fault
-      by (inl c) = absurd (contains_none fault c)
+      by (inl c) = absurd (Contains-nil fault c)
       by (inr e) = record {
         link = link;
         is_connection = is_link;
@@ -104,11 +105,11 @@ module _ (tree : PackageTree ℕ) (root n k : ℕ) (link : Connection ℕ) (wire
       }
 
   second_each : (b : Bool) (fault : FlatFault) → (IsTrue b ↔ IsSecond (wires_at tree n) k) → Contains (second b link) fault → IsFoundAt tree root n k fault
-  second_each false fault tells h = absurd (contains_none fault h)
+  second_each false fault tells h = absurd (Contains-nil fault h)
   second_each true fault tells h = by (Contains-push_cases [] (TwoSources link.name.spelling link.name.at) fault h)
     where
       by : Contains [] fault ⊎ (TwoSources link.name.spelling link.name.at ≡ fault) → IsFoundAt tree root n k fault
-      by (inl c) = absurd (contains_none fault c)
+      by (inl c) = absurd (Contains-nil fault c)
       by (inr e) = record { link = link; is_connection = is_link; kind = inr (tells.0 refl, sym e) }
 
   dead_all : (b : Bool) (fault : FlatFault) → (IsTrue b ↔ IsOnWay tree root n wire) → (IsOnWayAt tree root n k → ⊥)
@@ -206,12 +207,12 @@ module _ (tree : PackageTree ℕ) (root : ℕ) (keys : List ℕ) where
   first_end sound used i new past front =
       first_found (IsEndFault tree root) new
       (finds_same (FoundAmong i) (IsEndFault tree root) None new
-      (λ f h. end_fault tree root sound h.1 f ((used h.1).0 (contains_at keys h.0 h.1 h.3)) h.4)
+      (λ f h. end_fault tree root sound h.1 f ((used h.1).0 (Contains-from_slice_get keys h.0 h.1 h.3)) h.4)
       (λ f e.
       let h = found_fault tree root sound f e in
       let c = (used h.0).1 h.1 in
       let lt = c.1 in
-      (c.0, h.0, omega arith, at_contains keys h.0 c, h.2))
+      (c.0, h.0, omega arith, slice_get-from_Contains keys h.0 c, h.2))
       front)
 
 -- where there is no connection nothing is found

@@ -5,6 +5,8 @@ use Rattle.std.specs.List.{IsDistinct, AllByRecursion}
 use Rattle.std.proofs.lemmas.Bool.{true≢false, eq-eqb}
 use Rattle.std.proofs.lemmas.List.{length-map}
 use Rattle.std.proofs.lemmas.Option.{same_Some, none-some, slice_get_within, slice_get-get_or}
+use Rattle.list_lemmas.proofs.Elements.{Contains-nil}
+use Rattle.list_lemmas.proofs.Places.{slice_get-from_Contains}
 use Rattle.aadl_tree.specs.declared.declarations.Direction.{Direction}
 use Rattle.aadl_tree.specs.Declarations.{PackageTree}
 use Rattle.aadl_names.specs.declared.site.Site.{Site}
@@ -15,7 +17,6 @@ use Rattle.aadl_uses.proofs.Containing.{below-same}
 use Rattle.aadl_uses.specs.declared.connections.Wire.{Wire}
 use Rattle.aadl_uses.specs.Wiring.{wires_at}
 use Rattle.aadl_uses.specs.proof.Orders.{IsOrder}
-use Rattle.aadl_uses.proofs.Searches.{contains_none, at_contains}
 use Rattle.aadl_chains.specs.declared.ports.PortAt.{PortAt}
 use Rattle.aadl_chains.specs.proof.Inside.{inner_end, outer_end, port_at}
 use Rattle.aadl_chains.specs.proof.Outside.{LeadsOut, of_root, of_own, of_beside, LeadsFrom, AreLeading, HasLeading, AreLed, AreLedIfUsed, IsOutside}
@@ -46,7 +47,7 @@ module _ (tree : PackageTree ℕ) (root : ℕ) (d : Direction) (keys : List ℕ)
 
   pub no_back : BackLed 0 []
   no_back = record {
-    sound = λ n port h. absurd (contains_none (port_at n port) h);
+    sound = λ n port h. absurd (Contains-nil (port_at n port) h);
     complete = λ k n wire s port m site past is used among e o b l. let lt = slice_get_within keys k n is in absurd (omega arith);
   }
 
@@ -56,8 +57,8 @@ module _ (tree : PackageTree ℕ) (root : ℕ) (d : Direction) (keys : List ℕ)
     placed_at k wire among = which (split tree d k (length tree.declarations))
       where
         which : (k < length tree.declarations) ⊎ (length tree.declarations ≤ k) → (j : ℕ) × (slice_get keys j ≡ Some k)
-        which (inl h) = let same = length-map tree.declarations (targets_in tree) in let c = order.all k (omega arith) in (c.0, at_contains keys k c)
-        which (inr h) = absurd (contains_none wire (subst (λ ws. Contains ws wire) (no_wires tree d k h) among))
+        which (inl h) = let same = length-map tree.declarations (targets_in tree) in let c = order.all k (omega arith) in (c.0, slice_get-from_Contains keys k c)
+        which (inr h) = absurd (Contains-nil wire (subst (λ ws. Contains ws wire) (no_wires tree d k h) among))
 
     module _ (at : ℕ) (ports : List PortAt) (back : BackLed at ports) where
       -- a declaration around one that stands at the place in the order stands behind it

@@ -1,17 +1,17 @@
 -- Findings one after the other, and the first of all.
 use Rattle.std.proofs.Common.{◌⊎◌, inl, inr, [], ◌++◌, Contains, Option, Some, None, refl, sym, ap, subst, ◌∙◌}
 use Rattle.std.proofs.lemmas.List.Elements.{Contains-append_left, Contains-append_right, Contains-append_cases}
+use Rattle.list_lemmas.proofs.Elements.{Contains-nil}
 use Rattle.aadl_names.specs.declared.fault.FlatFault.{FlatFault}
 use Rattle.aadl_names.specs.Findings.{FirstOf}
 use Rattle.aadl_names.specs.proof.Found.{found}
 use Rattle.aadl_names.proofs.Finds.{found_append}
 use Rattle.aadl_uses.specs.proof.Uses.{FirstIn}
-use Rattle.aadl_uses.proofs.Searches.{contains_none}
 use Rattle.aadl_names.proofs.Covers.{found_is_first}
 use Rattle.aadl_chains.specs.proof.Findings.{FindsAll}
 
 pub finds_nothing : (P : FlatFault → Type 0) (old : Option FlatFault) → ((fault : FlatFault) → P fault → ⊥) → FindsAll P old old
-finds_nothing P old none = record { faults = []; is = refl; each = λ f h. absurd (contains_none f h); all = λ f p. absurd (none f p) }
+finds_nothing P old none = record { faults = []; is = refl; each = λ f h. absurd (Contains-nil f h); all = λ f p. absurd (none f p) }
 
 pub finds_both : (P Q R : FlatFault → Type 0) (a b c : Option FlatFault) → ((f : FlatFault) → P f → R f) → ((f : FlatFault) → Q f → R f)
     → ((f : FlatFault) → R f → P f ⊎ Q f)
@@ -40,5 +40,5 @@ pub first_found : (P : FlatFault → Type 0) (new : Option FlatFault) → FindsA
 first_found P new p = by new (subst (FirstOf p.faults) (sym p.is) (found_is_first p.faults))
   where
     by : (o : Option FlatFault) → FirstOf p.faults o → FirstIn P o
-    by None e = λ f h. contains_none f (subst (λ l. Contains l f) e (p.all f h))
+    by None e = λ f h. Contains-nil f (subst (λ l. Contains l f) e (p.all f h))
     by (Some first) i = record { found = p.each first i.found; first = λ other h. i.first other (p.all other h) }

@@ -2,6 +2,8 @@
 use Rattle.std.proofs.Common.{◌≡◌, inl, inr, ℕ, zero, suc, Bool, true, false, not, List, [], ◌∷◌, slice_get, Contains}
 use Rattle.std.proofs.Common.{Some, refl, sym, ap, subst, ◌∙◌}
 use Rattle.std.proofs.lemmas.Option.{same_Some}
+use Rattle.list_lemmas.proofs.Elements.{Contains-nil}
+use Rattle.list_lemmas.proofs.Places.{slice_get-from_Contains, Contains-from_slice_get}
 use Rattle.aadl_tree.specs.declared.declarations.Direction.TheVariants as directions
 use Rattle.aadl_tree.specs.Declarations.{PackageTree}
 use Rattle.aadl_names.specs.declared.site.Site.{Site}
@@ -9,7 +11,6 @@ use Rattle.aadl_names.specs.declared.site.Site.TheVariants.{Own, Inner}
 use Rattle.aadl_uses.specs.Uses.{below, standing}
 use Rattle.aadl_uses.specs.declared.connections.Wire.{Wire}
 use Rattle.aadl_uses.specs.Wiring.{wires_at}
-use Rattle.aadl_uses.proofs.Searches.{contains_none, contains_at, at_contains}
 use Rattle.aadl_chains.specs.proof.Inside.{is_thread_at, is_in_at, Reaches, of_thread, of_inner}
 use Rattle.aadl_chains.specs.proof.Outside.{LeadsOut, of_root, of_own, of_beside, LeadsFrom}
 use Rattle.aadl_chains.specs.Chains.{Port, Place, port_at, Goes, Leads, is_in, IsStart, IsEnd}
@@ -60,7 +61,7 @@ module _ (tree : PackageTree ℕ) (root : ℕ) where
         }
       where
         by : (b : Bool) → is_thread_at tree g.number ≡ b → is_thread_at tree g.number ≡ false
-        by true e = absurd (contains_none (record { source = Some g.source; target = Some g.target })
+        by true e = absurd (Contains-nil (record { source = Some g.source; target = Some g.target })
             (subst (λ ws. Contains ws (record { source = Some g.source; target = Some g.target })) (sound.threads g.number e)
             (among_goes tree root place from to g)))
         by false e = e
@@ -281,7 +282,7 @@ module _ (tree : PackageTree ℕ) (root : ℕ) where
 
     parted : (chain : List Place) (place : Place) (from to : Port) (k : ℕ) → slice_get chain k ≡ Some place → Leads tree root chain from to
         → Parted chain place from to
-    parted [] place from to k e l = absurd (contains_none place (contains_at [] k place e))
+    parted [] place from to k e l = absurd (Contains-nil place (Contains-from_slice_get [] k place e))
     parted (c ∷ cs) place from to zero e l = record {
       earlier = cs;
       later = [];
@@ -337,7 +338,7 @@ module _ (tree : PackageTree ℕ) (root : ℕ) where
 
     pub on_way : (n k : ℕ) (wire : Wire) → slice_get (wires_at tree n) k ≡ Some wire → Chained tree root sound n k → IsOnWay tree root n wire
     on_way n k wire is c =
-        let at = at_contains c.chain c.place c.among in
+        let at = slice_get-from_Contains c.chain c.place c.among in
         let p = parted c.chain c.place c.from c.to c.among.0 at c.is_chain.leads in
         let g = p.here in
         let same : g.number ≡ n = same_Some g.number n (sym g.stands ∙ c.stands) in

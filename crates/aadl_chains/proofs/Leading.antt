@@ -2,8 +2,9 @@
 use Rattle.std.proofs.Common.{◌≡◌, ◌⊎◌, inl, inr, ℕ, ◌+◌, ◌<◌, ◌≤◌, Bool, true, false, cond, ◌||◌, nat_eq, List, [], ◌∷◌, length, slice_get}
 use Rattle.std.proofs.Common.{Contains, Option, Some, None, refl, sym, ap, subst, ◌∙◌, arith}
 use Rattle.std.specs.Option.{option_and_then}
-use Rattle.std.proofs.lemmas.Bool.{true≢false, eqb-true, eq-eqb}
+use Rattle.std.proofs.lemmas.Bool.{true≢false, eqb-true, eq-eqb, or_cases, or_right}
 use Rattle.std.proofs.lemmas.Option.{same_Some, none-some}
+use Rattle.list_lemmas.proofs.Places.{slice_get-from_Contains, Contains-from_slice_get}
 use Rattle.aadl_tree.specs.declared.declarations.Direction.{Direction}
 use Rattle.aadl_tree.specs.Declarations.{PackageTree}
 use Rattle.aadl_names.specs.declared.site.Site.{Site}
@@ -11,7 +12,6 @@ use Rattle.aadl_names.specs.declared.site.Site.TheVariants.{Own, Inner}
 use Rattle.aadl_uses.specs.Uses.{below, IsInUse}
 use Rattle.aadl_uses.specs.declared.connections.Wire.{Wire}
 use Rattle.aadl_uses.specs.Wiring.{wires_at}
-use Rattle.aadl_uses.proofs.Searches.{contains_at, at_contains}
 use Rattle.aadl_chains.specs.declared.ports.PortAt.{PortAt}
 use Rattle.aadl_chains.specs.proof.Ports.{has, with_port}
 use Rattle.aadl_chains.specs.proof.Inside.{inner_end, outer_end, port_at, reaches_in, IsInside}
@@ -20,14 +20,6 @@ use Rattle.aadl_chains.specs.proof.Outside.{HasLeading, IsLed, AreLed}
 use Rattle.aadl_chains.proofs.Sets.{has-true, has-from, kept, added, either}
 use Rattle.aadl_chains.proofs.Joining.{reaches_in_to, reaches_from}
 use Rattle.aadl_chains.proofs.Ordered.{one_of_two}
-
-or_cases : (a b : Bool) → (a || b) ≡ true → (a ≡ true) ⊎ (b ≡ true)
-or_cases true b e = inl refl
-or_cases false b e = inr e
-
-or_right : (a b : Bool) → b ≡ true → (a || b) ≡ true
-or_right true b e = refl
-or_right false b e = e
 
 module _ (tree : PackageTree ℕ) (root : ℕ) (d : Direction) where
   pub next_in_use : (k s n : ℕ) → IsInUse tree root k → below tree k s ≡ Some n → IsInUse tree root n
@@ -143,7 +135,7 @@ module _ (tree : PackageTree ℕ) (root : ℕ) (d : Direction) where
         → IsLed tree root d inside n wire mid new → FrontLed n i old mid → FrontLed n (i + 1) old new
     one_more n i wire old mid new used is led front = record {
       kept = λ x h. led.kept x (front.kept x h);
-      sound = λ h. led.sound used (contains_at (wires_at tree n) i wire is) (front.sound h);
+      sound = λ h. led.sound used (Contains-from_slice_get (wires_at tree n) i wire is) (front.sound h);
       here = λ k w s port m site lt has_all at e o b l. which k w s port m site has_all at e o b l (one_of_two k i lt);
     }
       where
@@ -165,5 +157,5 @@ module _ (tree : PackageTree ℕ) (root : ℕ) (d : Direction) where
       sound = front.sound;
       complete = λ has_all wire s port m site among e o b l.
           let lt = among.1 in
-          front.here among.0 wire s port m site (omega arith) has_all (at_contains (wires_at tree n) wire among) e o b l;
+          front.here among.0 wire s port m site (omega arith) has_all (slice_get-from_Contains (wires_at tree n) wire among) e o b l;
     }

@@ -4,6 +4,7 @@ use Rattle.std.proofs.Common.{Option, Some, None, refl, sym, ap, subst, ◌∙�
 use Rattle.std.proofs.lemmas.Bool.{true≢false, false≢true}
 use Rattle.std.proofs.lemmas.List.Elements.{Contains-append_right}
 use Rattle.std.proofs.lemmas.Option.{same_Some, none-some, option_and_then_some}
+use Rattle.list_lemmas.proofs.Elements.{Contains-cons_cases, Contains-head}
 use Rattle.aadl_tree.specs.Declarations.{PackageTree}
 use Rattle.aadl_names.specs.declared.site.Site.{Site}
 use Rattle.aadl_names.specs.declared.site.Site.TheVariants.{Own, Inner}
@@ -19,7 +20,7 @@ use Rattle.aadl_chains.specs.proof.Walks.{Crossing, at_root, crosses, climb, One
 use Rattle.aadl_chains.specs.Links.{Ends, not_own, is_crossing, Carries, IsLink, IsFeed, IsTap}
 use Rattle.aadl_uses.specs.proof.Wiring.{into}
 use Rattle.aadl_chains.proofs.Steps.{Entered, goes_into, known_into, into_of_goes}
-use Rattle.aadl_chains.proofs.Climbs.{in_head, head_or_tail, Rooted, rooted, crossed}
+use Rattle.aadl_chains.proofs.Climbs.{Rooted, rooted, crossed}
 use Rattle.aadl_chains.proofs.Coming.{Crosses, Down, down, into_own, from_inner, never_both, MetRoot, MetCrossing, met}
 
 -- chains one behind the other
@@ -64,7 +65,7 @@ module _ (tree : PackageTree ℕ) (root : ℕ) where
           place = here;
           component = g.component;
           link = g.link;
-          among = Contains-append_right x.chain (here ∷ chain) here (in_head here chain);
+          among = Contains-append_right x.chain (here ∷ chain) here (Contains-head here chain);
           stands = stands;
           number = sym k;
           is_component = ap (implementation_at tree) (d ∙ sym x.number_is) ∙ g.is_component;
@@ -151,7 +152,7 @@ module _ (tree : PackageTree ℕ) (root : ℕ) where
           place = here;
           component = g.component;
           link = g.link;
-          among = in_head here chain;
+          among = Contains-head here chain;
           stands = ap Some (sym d);
           number = sym e;
           is_component = ap (implementation_at tree) d ∙ component;
@@ -281,7 +282,7 @@ module _ (tree : PackageTree ℕ) (root : ℕ) where
         let mid_is : mid ≡ record { path = t ∷ []; port = q } = i.0 ∙ ap (λ l. record { path = t ∷ l; port = q }) path in
         let d = down tree root sound cs ends.from mid i.1 leads start (ap (λ (p : Port). standing tree root p.path) i.0 ∙ i.3)
         (ap (is_in_at tree i.1) (ap (λ (p : Port). p.port) i.0) ∙ i.4) in
-        let here : c ≡ carried.place = placed_by d.none_outside (ap (λ (p : Port). p.path) mid_is) (head_or_tail c cs carried.place carried.among) in
+        let here : c ≡ carried.place = placed_by d.none_outside (ap (λ (p : Port). p.path) mid_is) (Contains-cons_cases c cs carried.place carried.among) in
         record {
           to_is = ap (λ l. record { path = l; port = ends.to.port }) outside;
           out = out;

@@ -1,23 +1,13 @@
 -- Numbers of what has a property: of nothing, of one, of what has one of two, and of what is the same under another name.
-use Rattle.std.proofs.Common.{◌≡◌, ◌⊎◌, inl, inr, ℕ, ◌+◌, ◌<◌, ◌≤◌, min, List, [], ◌∷◌, ◌++◌, map, length, refl, sym, ap, subst, ◌∙◌, arith}
+use Rattle.std.proofs.Common.{◌≡◌, ◌⊎◌, inl, inr, ℕ, ◌+◌, ◌≤◌, min, List, [], ◌∷◌, ◌++◌, map, length, refl, sym, ap, subst, ◌∙◌, arith}
 use Rattle.std.specs.List.{AllByRecursion}
-use Rattle.std.proofs.lemmas.Bool.{cases_order}
 use Rattle.std.proofs.lemmas.List.{length-append, length-map}
+use Rattle.list_lemmas.proofs.Numbers.{min-add_capped}
+use Rattle.list_lemmas.proofs.Elements.{AllByRecursion-append, AllByRecursion-map, AllByRecursion-weaker}
 use Rattle.aadl_uses.specs.proof.Counts.{Among}
 use Rattle.aadl_chains.specs.proof.Numbers.{Distinct, IsNumber}
 
 -- ---- lists
-all_append : {X : Type 0} (P : X → Type 0) (xs ys : List X) → AllByRecursion P xs → AllByRecursion P ys → AllByRecursion P (xs ++ ys)
-all_append P [] ys a b = b
-all_append P (x ∷ xs) ys a b = (a.0, all_append P xs ys a.1 b)
-
-all_map : {X Y : Type 0} (P : Y → Type 0) (f : X → Y) (xs : List X) → AllByRecursion (λ x. P (f x)) xs → AllByRecursion P (map f xs)
-all_map P f [] a = tt
-all_map P f (x ∷ xs) a = (a.0, all_map P f xs a.1)
-
-pub all_weaker : {X : Type 0} (P Q : X → Type 0) → ((x : X) → P x → Q x) → (xs : List X) → AllByRecursion P xs → AllByRecursion Q xs
-all_weaker P Q f [] a = tt
-all_weaker P Q f (x ∷ xs) a = (f x a.0, all_weaker P Q f xs a.1)
 
 among_left : {X : Type 0} (xs ys : List X) (x : X) → Among xs x → Among (xs ++ ys) x
 among_left [] ys x a = absurd a
@@ -35,16 +25,14 @@ among_map f (y ∷ xs) x (inr a) = inr (among_map f xs x a)
 
 distinct_append : {X : Type 0} (xs ys : List X) → Distinct xs → Distinct ys → AllByRecursion (λ x. AllByRecursion (λ y. x ≡ y → ⊥) ys) xs → Distinct (xs ++ ys)
 distinct_append [] ys a b c = b
-distinct_append (x ∷ xs) ys a b c = (all_append (λ y. x ≡ y → ⊥) xs ys a.0 c.0, distinct_append xs ys a.1 b c.1)
+distinct_append (x ∷ xs) ys a b c = (AllByRecursion-append (λ y. x ≡ y → ⊥) xs ys a.0 c.0, distinct_append xs ys a.1 b c.1)
 
 distinct_map : {X Y : Type 0} (f : X → Y) → ((x y : X) → f x ≡ f y → x ≡ y) → (xs : List X) → Distinct xs → Distinct (map f xs)
 distinct_map f one [] a = tt
 distinct_map f one (x ∷ xs) a =
-    (all_map (λ y. f x ≡ y → ⊥) f xs (all_weaker (λ y. x ≡ y → ⊥) (λ y. f x ≡ f y → ⊥) (λ y apart e. apart (one x y e)) xs a.0), distinct_map f one xs a.1)
+    (AllByRecursion-map (λ y. f x ≡ y → ⊥) f xs (AllByRecursion-weaker (λ y. x ≡ y → ⊥) (λ y. f x ≡ f y → ⊥) (λ y apart e. apart (one x y e)) xs a.0), distinct_map f one xs a.1)
 
 -- ---- numbers
-capped : (limit a b x y : ℕ) → a ≡ min limit x → b ≡ min limit y → min limit (a + b) ≡ min limit (x + y)
-capped limit a b x y e f = omega arith
 
 module _ {X : Type 0} (limit : ℕ) where
   pub no_number : (P : X → Type 0) → ((x : X) → P x → ⊥) → IsNumber limit P 0
@@ -60,7 +48,7 @@ module _ {X : Type 0} (limit : ℕ) where
   pub same_number : (P Q : X → Type 0) (n : ℕ) → ((x : X) → P x → Q x) → ((x : X) → Q x → P x) → IsNumber limit P n → IsNumber limit Q n
   same_number P Q n to from a = record {
     all = a.all;
-    are = record { each = all_weaker P Q to a.all a.are.each; distinct = a.are.distinct; complete = λ x q. a.are.complete x (from x q) };
+    are = record { each = AllByRecursion-weaker P Q to a.all a.are.each; distinct = a.are.distinct; complete = λ x q. a.are.complete x (from x q) };
     number_is = a.number_is;
   }
 
@@ -69,15 +57,15 @@ module _ {X : Type 0} (limit : ℕ) where
   both_numbers P Q R a b n apart left right either x y is = record {
     all = x.all ++ y.all;
     are = record {
-      each = all_append R x.all y.all (all_weaker P R left x.all x.are.each) (all_weaker Q R right y.all y.are.each);
-      distinct = distinct_append x.all y.all x.are.distinct y.are.distinct (all_weaker P (λ z. AllByRecursion (λ w. z ≡ w → ⊥) y.all) others x.all x.are.each);
+      each = AllByRecursion-append R x.all y.all (AllByRecursion-weaker P R left x.all x.are.each) (AllByRecursion-weaker Q R right y.all y.are.each);
+      distinct = distinct_append x.all y.all x.are.distinct y.are.distinct (AllByRecursion-weaker P (λ z. AllByRecursion (λ w. z ≡ w → ⊥) y.all) others x.all x.are.each);
       complete = λ z r. among (either z r);
     };
-    number_is = is ∙ (capped limit a b (length x.all) (length y.all) x.number_is y.number_is ∙ ap (min limit) (sym (length-append x.all y.all)));
+    number_is = is ∙ (min-add_capped limit a b (length x.all) (length y.all) x.number_is y.number_is ∙ ap (min limit) (sym (length-append x.all y.all)));
   }
     where
       others : (z : X) → P z → AllByRecursion (λ w. z ≡ w → ⊥) y.all
-      others z p = all_weaker Q (λ w. z ≡ w → ⊥) (λ w q e. apart z p (subst Q (sym e) q)) y.all y.are.each
+      others z p = AllByRecursion-weaker Q (λ w. z ≡ w → ⊥) (λ w q e. apart z p (subst Q (sym e) q)) y.all y.are.each
 
       among : {z : X} → P z ⊎ Q z → Among (x.all ++ y.all) z
       among (inl p) = among_left x.all y.all _ (x.are.complete _ p)
@@ -89,7 +77,7 @@ pub image_number : {X Y : Type 0} (limit : ℕ) (f : X → Y) (P : X → Type 0)
 image_number limit f P Q n one to from a = record {
   all = map f a.all;
   are = record {
-    each = all_map Q f a.all (all_weaker P (λ x. Q (f x)) to a.all a.are.each);
+    each = AllByRecursion-map Q f a.all (AllByRecursion-weaker P (λ x. Q (f x)) to a.all a.are.each);
     distinct = distinct_map f one a.all a.are.distinct;
     complete = λ y q. let x = from y q in subst (Among (map f a.all)) (sym x.2) (among_map f a.all x.0 (a.are.complete x.0 x.1));
   };
@@ -128,12 +116,3 @@ module _ {X : Type 0} where
       rest_of : (zs : List X) → AllByRecursion (λ z. y ≡ z → ⊥) zs → AllByRecursion (Among xs) zs → AllByRecursion (Among (without xs y a.0)) zs
       rest_of [] b c = tt
       rest_of (z ∷ zs) b c = (still_among xs y z a.0 b.0 c.0, rest_of zs b.1 c.1)
-
--- ---- one of two
-pub split : (n m : ℕ) → (n < m) ⊎ (m ≤ n)
-split n m = by (cases_order n m)
-  where
-    by : (n ≡ m) ⊎ ((n < m) ⊎ (m < n)) → (n < m) ⊎ (m ≤ n)
-    by (inl e) = inr (omega arith)
-    by (inr (inl lt)) = inl lt
-    by (inr (inr gt)) = inr (omega arith)

@@ -1,10 +1,12 @@
 -- A connection of an implementation in use whose ends lead to where chains begin and end is on a chain at some place.
-use Rattle.std.proofs.Common.{◌≡◌, inl, inr, ℕ, zero, suc, Bool, true, false, not, List, [], ◌∷◌, ◌++◌, map, slice_get, Contains}
+use Rattle.std.proofs.Common.{◌≡◌, inl, inr, ℕ, zero, suc, Bool, true, false, List, [], ◌∷◌, ◌++◌, map, slice_get, Contains}
 use Rattle.std.proofs.Common.{Option, Some, None, option_map, refl, sym, ap, subst, ◌∙◌}
 use Rattle.std.specs.Option.{option_and_then}
-use Rattle.std.proofs.lemmas.Bool.{true≢false}
+use Rattle.std.proofs.lemmas.Bool.{true≢false, not-true}
 use Rattle.std.proofs.lemmas.List.Elements.{Contains-append_right, Contains-append_left, Contains-push}
 use Rattle.std.proofs.lemmas.Option.{same_Some}
+use Rattle.list_lemmas.proofs.Elements.{Contains-nil}
+use Rattle.list_lemmas.proofs.Places.{slice_get-from_Contains, Contains-from_slice_get}
 use Rattle.aadl_tree.specs.declared.declarations.Direction.TheVariants as directions
 use Rattle.aadl_tree.specs.Declarations.{Feature, Connection, Implementation, PackageTree}
 use Rattle.aadl_names.specs.declared.site.Site.{Site}
@@ -17,7 +19,6 @@ use Rattle.aadl_uses.specs.proof.Threads.{is_thread_in}
 use Rattle.aadl_uses.specs.declared.connections.Wire.{Wire}
 use Rattle.aadl_uses.specs.Wiring.{wire_of, wires_of, wires_at}
 use Rattle.aadl_uses.proofs.Rows.{listed}
-use Rattle.aadl_uses.proofs.Searches.{contains_none, contains_at, at_contains}
 use Rattle.aadl_chains.specs.proof.Inside.{is_thread_at, is_in_at, Reaches, of_thread, of_inner}
 use Rattle.aadl_chains.specs.proof.Outside.{LeadsOut, of_root, of_own, of_beside, LeadsFrom}
 use Rattle.aadl_chains.specs.Chains.{Port, Place, port_at, Goes, Leads, is_in, IsStart, IsEnd, IsChain}
@@ -26,10 +27,6 @@ use Rattle.aadl_chains.specs.proof.OnChains.{IsOnWay}
 
 pub opposed : (b : Bool) → b ≡ true → b ≡ false → ⊥
 opposed b e f = true≢false (sym e ∙ f)
-
-not_false : (b : Bool) → not b ≡ true → b ≡ false
-not_false true e = absurd (true≢false (sym e))
-not_false false e = refl
 
 thread_by : (o : Option (Implementation ℕ)) → is_thread_in o ≡ true → (x : Implementation ℕ) × (o ≡ Some x) × (is_thread x.category ≡ true)
 thread_by None e = absurd (true≢false (sym e))
@@ -61,7 +58,7 @@ module _ (tree : PackageTree ℕ) (root : ℕ) where
       → standing tree root place.path ≡ Some n
       → slice_get (wires_of tree o) place.connection ≡ Some wire → wire.source ≡ Some source → wire.target ≡ Some target
       → Goes tree root place (port_at place.path source) (port_at place.path target)
-  goes_if place n wire source target None e stands is s t = absurd (contains_none wire (contains_at [] place.connection wire is))
+  goes_if place n wire source target None e stands is s t = absurd (Contains-nil wire (Contains-from_slice_get [] place.connection wire is))
   goes_if place n wire source target (Some x) e stands is s t =
       let l = listed (wire_of tree x) x.connections place.connection wire is in
       record {
@@ -83,7 +80,7 @@ module _ (tree : PackageTree ℕ) (root : ℕ) where
       → wire.source ≡ Some source → wire.target ≡ Some target
       → Goes tree root (record { path = path; connection = h.0 }) (port_at path source) (port_at path target)
   goes_by path n wire source target stands h s t = goes_if (record { path = path; connection = h.0 }) n wire source target (implementation_at tree n) refl
-      stands (at_contains (wires_at tree n) wire h) s t
+      stands (slice_get-from_Contains (wires_at tree n) wire h) s t
 
   wire_if : (n k : ℕ) (x : Implementation ℕ) (link : Connection ℕ) (source target : Site) (o : Option (Implementation ℕ)) → o ≡ Some x
       → slice_get x.connections k ≡ Some link → site tree x link.source ≡ Some source → site tree x link.target ≡ Some target
@@ -94,7 +91,7 @@ module _ (tree : PackageTree ℕ) (root : ℕ) where
       ∙ (ap (λ a. Some (record { source = a; target = site tree x link.target })) s ∙ ap (λ b. Some (record { source = Some source; target = b })) t))
     where
       mapped : (cs : List (Connection ℕ)) (k : ℕ) → slice_get cs k ≡ Some link → slice_get (map (wire_of tree x) cs) k ≡ Some (wire_of tree x link)
-      mapped [] k e = absurd (contains_none link (contains_at [] k link e))
+      mapped [] k e = absurd (Contains-nil link (Contains-from_slice_get [] k link e))
       mapped (c ∷ cs) zero e = ap (λ (o : Connection ℕ). Some (wire_of tree x o)) (same_Some c link e)
       mapped (c ∷ cs) (suc k) e = mapped cs k e
 
@@ -105,7 +102,7 @@ module _ (tree : PackageTree ℕ) (root : ℕ) where
 
   pub among_goes : (place : Place) (from to : Port) → (g : Goes tree root place from to)
       → Contains (wires_at tree g.number) (record { source = Some g.source; target = Some g.target })
-  among_goes place from to g = contains_at (wires_at tree g.number) place.connection _ (wire_of_goes place from to g)
+  among_goes place from to g = Contains-from_slice_get (wires_at tree g.number) place.connection _ (wire_of_goes place from to g)
 
   -- ---- chains one behind the other
   appended : (ds cs : List Place) (a b c : Port) → Leads tree root ds b c → Leads tree root cs a b → Leads tree root (ds ++ cs) a c
@@ -130,7 +127,7 @@ module _ (tree : PackageTree ℕ) (root : ℕ) where
     chain = [];
     from = port path _;
     leads = refl;
-    start = inl (thread_at path _ stands thread, is_in-at (port path _) _ stands ∙ not_false _ way);
+    start = inl (thread_at path _ stands thread, is_in-at (port path _) _ stands ∙ not-true _ way);
   }
   gives_chain (of_inner s q m wire thread among outer inner is rest) path stands =
       let b = gives_chain rest (s ∷ path) (next_at path _ s m stands is) in

@@ -3,6 +3,8 @@ use Rattle.std.proofs.Common.{◌≡◌, ◌⊎◌, inl, inr, ℕ, zero, suc, �
 use Rattle.std.proofs.Common.{None, refl, sym, ap, subst, ◌∙◌, arith}
 use Rattle.std.proofs.lemmas.List.{length-map}
 use Rattle.std.proofs.lemmas.Option.{same_Some, none-some, slice_get_past}
+use Rattle.list_lemmas.proofs.Elements.{Contains-nil}
+use Rattle.list_lemmas.proofs.Places.{slice_get-from_Contains}
 use Rattle.aadl_tree.specs.declared.declarations.Direction.{Direction}
 use Rattle.aadl_tree.specs.Declarations.{PackageTree}
 use Rattle.aadl_names.specs.Resolving.{implementation_in}
@@ -10,7 +12,6 @@ use Rattle.aadl_uses.specs.proof.Uses.{containment, targets_in}
 use Rattle.aadl_uses.proofs.Containing.{below-same}
 use Rattle.aadl_uses.specs.Wiring.{wires_at, wires_of}
 use Rattle.aadl_uses.specs.proof.Orders.{IsOrder}
-use Rattle.aadl_uses.proofs.Searches.{contains_none, at_contains}
 use Rattle.aadl_chains.specs.declared.ports.PortAt.{PortAt}
 use Rattle.aadl_chains.specs.proof.Inside.{port_at, AreReaching, HasAll, HasAllBelow, AreJoined, IsInside}
 use Rattle.aadl_chains.proofs.Joining.{through}
@@ -32,7 +33,7 @@ module _ (tree : PackageTree ℕ) (d : Direction) where
     pub complete : (k n : ℕ) → k < at → slice_get keys k ≡ Some n → HasAll tree d ports n
 
   pub no_front : (keys : List ℕ) → FrontInside keys 0 []
-  no_front keys = record { sound = λ n port h. absurd (contains_none (port_at n port) h); complete = λ k n lt e. absurd (omega arith) }
+  no_front keys = record { sound = λ n port h. absurd (Contains-nil (port_at n port) h); complete = λ k n lt e. absurd (omega arith) }
 
   pub front_more : (keys : List ℕ) (at n : ℕ) (old new : List PortAt) → IsOrder (containment tree) keys → slice_get keys at ≡ Some n
       → AreJoined tree d n old new → FrontInside keys at old → FrontInside keys (at + 1) new
@@ -67,7 +68,7 @@ module _ (tree : PackageTree ℕ) (d : Direction) where
   none_past : (ports : List PortAt) (n : ℕ) → length tree.declarations ≤ n → HasAll tree d ports n
   none_past ports n past = λ port thread r.
       let t = through tree d r thread in
-      absurd (contains_none t.wire (subst (λ ws. Contains ws t.wire) (no_wires n past) t.among))
+      absurd (Contains-nil t.wire (subst (λ ws. Contains ws t.wire) (no_wires n past) t.among))
 
   pub split : (n m : ℕ) → (n < m) ⊎ (m ≤ n)
   split zero zero = inr (omega arith)
@@ -91,5 +92,5 @@ module _ (tree : PackageTree ℕ) (d : Direction) where
           let same = length-map tree.declarations (targets_in tree) in
           let c = order.all n (omega arith) in
           let lt = c.1 in
-          front.complete c.0 n (omega arith) (at_contains keys n c)
+          front.complete c.0 n (omega arith) (slice_get-from_Contains keys n c)
       which n (inr h) = none_past ports n h

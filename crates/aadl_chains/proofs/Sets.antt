@@ -1,17 +1,12 @@
 -- Sets of ports.
-use Rattle.std.proofs.Common.{◌≡◌, ◌⊎◌, inl, ℕ, Bool, true, false, ◌&&◌, nat_eq, List, [], ◌∷◌, ◌++◌, get_or, Contains, refl, sym, ap, ◌∙◌}
+use Rattle.std.proofs.Common.{◌≡◌, ◌⊎◌, inl, Bool, true, false, ◌&&◌, nat_eq, List, [], ◌∷◌, ◌++◌, Contains, refl, ap, ◌∙◌}
 use Rattle.std.proofs.Common.{if◌then◌else◌}
-use Rattle.std.specs.List.{list_any}
-use Rattle.std.proofs.lemmas.Bool.{true≢false, eqb-true, eq-eqb}
+use Rattle.std.proofs.lemmas.Bool.{eqb-true, eq-eqb, and_parts}
 use Rattle.std.proofs.lemmas.List.Folds.{list_any_at}
 use Rattle.std.proofs.lemmas.List.Elements.{Contains-append_left, Contains-push, Contains-push_cases}
 use Rattle.indexmap.proofs.CallerLemmas.{Contains-list_any}
 use Rattle.aadl_chains.specs.declared.ports.PortAt.{PortAt}
 use Rattle.aadl_chains.specs.proof.Ports.{same_port, has, with_port}
-
-both_true : (a b : Bool) → (a && b) ≡ true → (a ≡ true) × (b ≡ true)
-both_true true b e = (refl, e)
-both_true false b e = absurd (true≢false (sym e))
 
 port_by : (a b : PortAt) → a.declaration ≡ b.declaration → a.port ≡ b.port → a ≡ b
 port_by a b first second =
@@ -21,7 +16,7 @@ port_by a b first second =
 
 same_port-true : (a b : PortAt) → same_port a b ≡ true → a ≡ b
 same_port-true a b e =
-    let h = both_true (nat_eq a.declaration b.declaration) (nat_eq a.port b.port) e in
+    let h = and_parts (nat_eq a.declaration b.declaration) (nat_eq a.port b.port) e in
     port_by a b (eqb-true a.declaration b.declaration h.0) (eqb-true a.port b.port h.1)
 
 itself : (a : PortAt) → same_port a a ≡ true
@@ -54,7 +49,3 @@ either_if ports port other false h = Contains-push_cases ports port other h
 
 pub either : (ports : List PortAt) (port other : PortAt) → Contains (with_port ports port) other → Contains ports other ⊎ (port ≡ other)
 either ports port other h = either_if ports port other (has ports port) h
-
--- ---- sets of numbers
-pub number-found : (numbers : List ℕ) (n : ℕ) → Contains numbers n → list_any (nat_eq n) numbers ≡ true
-number-found numbers n h = list_any_at (nat_eq n) numbers h.0 n h.1 (eq-eqb n (get_or numbers h.0 n) (sym h.2))

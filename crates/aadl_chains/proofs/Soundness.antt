@@ -2,12 +2,13 @@
 use Rattle.std.proofs.Common.{◌≡◌, ℕ, slice_get, Contains, Some, option_map, sym, ap, subst, ◌∙◌}
 use Rattle.std.specs.Option.{option_and_then}
 use Rattle.std.proofs.lemmas.Option.{same_Some, slice_get-map}
+use Rattle.list_lemmas.proofs.Places.{Contains-from_slice_get}
+use Rattle.list_lemmas.proofs.Elements.{Contains-nil}
 use Rattle.aadl_tree.specs.Declarations.{Connection, Implementation, PackageTree}
 use Rattle.aadl_names.specs.Resolving.{implementation_at}
 use Rattle.aadl_uses.specs.proof.Threads.{is_thread_in}
 use Rattle.aadl_uses.specs.declared.connections.Wire.{Wire}
 use Rattle.aadl_uses.specs.Wiring.{wire_of, wires_of, wires_at}
-use Rattle.aadl_uses.proofs.Searches.{contains_none, contains_at}
 use Rattle.aadl_chains.specs.proof.Sound.{MayEnter, AreDeclared}
 use Rattle.aadl_chains.specs.proof.Walked.{IsSound}
 use Rattle.aadl_chains.specs.proof.Walks.{OneEach}
@@ -24,11 +25,11 @@ module _ (tree : PackageTree ℕ) (root : ℕ) where
         one n i j target used (ap (option_and_then (λ (w : Wire). w.target)) (wire_at n i component x e at_i) ∙ site_i)
         (ap (option_and_then (λ (w : Wire). w.target)) (wire_at n j component y e at_j) ∙ site_j);
     enters = λ n i component x target e at is.
-        let d = declared.each n (wire_of tree component x) (contains_at (wires_at tree n) i (wire_of tree component x) (wire_at n i component x e at)) in
+        let d = declared.each n (wire_of tree component x) (Contains-from_slice_get (wires_at tree n) i (wire_of tree component x) (wire_at n i component x e at)) in
         let same : d.target ≡ target = same_Some d.target target (sym d.target_is ∙ is) in
         subst (MayEnter tree n) same d.enters;
     threads = λ n i component x e thread at.
-        contains_none (wire_of tree component x)
+        Contains-nil (wire_of tree component x)
         (subst (λ ws. Contains ws (wire_of tree component x)) (declared.threads n (ap is_thread_in e ∙ thread))
-        (contains_at (wires_at tree n) i (wire_of tree component x) (wire_at n i component x e at)));
+        (Contains-from_slice_get (wires_at tree n) i (wire_of tree component x) (wire_at n i component x e at)));
   }

@@ -6,6 +6,8 @@ use Rattle.std.specs.Option.{option_and_then, option_map_or}
 use Rattle.std.proofs.lemmas.Bool.{true≢false, cases_order}
 use Rattle.std.proofs.lemmas.Bool.Decides.{nat_tests}
 use Rattle.std.proofs.lemmas.Option.{same_Some, none-some, option_and_then_some}
+use Rattle.list_lemmas.proofs.Places.{Contains-from_slice_get}
+use Rattle.list_lemmas.proofs.Elements.{Contains-nil}
 use Rattle.aadl_tree.specs.Declarations.{Implementation, PackageTree}
 use Rattle.aadl_names.specs.declared.site.Site.{Site}
 use Rattle.aadl_names.specs.declared.site.Site.TheVariants.{Own, Inner}
@@ -19,7 +21,6 @@ use Rattle.aadl_uses.specs.Wiring.{wire_of, wires_of, wires_at}
 use Rattle.aadl_uses.specs.proof.Wiring.{first_into_at, with_source, sourced, into}
 use Rattle.aadl_uses.proofs.Rows.{listed}
 use Rattle.aadl_uses.proofs.Tables.{same_site-true, itself, second_from}
-use Rattle.aadl_uses.proofs.Searches.{contains_none, contains_at}
 use Rattle.aadl_chains.specs.proof.Inside.{is_thread_at, is_in_at}
 use Rattle.aadl_chains.specs.Chains.{Port, Place, port_at, Goes}
 use Rattle.aadl_chains.specs.proof.Sound.{MayLeave, MayEnter, NotBothOwn, AreDeclared}
@@ -56,7 +57,7 @@ module _ {X : Type 0} (test : X → Bool) where
   some_if x y xs k (suc i) false e is t rest = let r = rest i is in let least = r.2 in (r.0, r.1, omega arith)
 
   pub some_first : (xs : List X) (k i : ℕ) (y : X) → slice_get xs i ≡ Some y → test y ≡ true → (n : ℕ) × (position_from test k xs ≡ Some n) × (n ≤ k + i)
-  some_first [] k i y is t = absurd (contains_none y (contains_at [] i y is))
+  some_first [] k i y is t = absurd (Contains-nil y (Contains-from_slice_get [] i y is))
   some_first (x ∷ xs) k i y is t = some_if x y xs k i (test x) refl is t (λ j h. some_first xs (k + 1) j y h t)
 
 -- ---- ends of connections
@@ -151,7 +152,7 @@ module _ (tree : PackageTree ℕ) where
         → standing tree root place.path ≡ Some n → slice_get (wires_of tree o) place.connection ≡ Some wire → wire.source ≡ Some source
         → wire.target ≡ Some target
         → (g : Goes tree root place (port_at place.path source) (port_at place.path target)) × (g.number ≡ n) × (g.source ≡ source) × (g.target ≡ target)
-    goes_if place n wire source target None e stands is s t = absurd (contains_none wire (contains_at [] place.connection wire is))
+    goes_if place n wire source target None e stands is s t = absurd (Contains-nil wire (Contains-from_slice_get [] place.connection wire is))
     goes_if place n wire source target (Some x) e stands is s t =
         let l = listed (wire_of tree x) x.connections place.connection wire is in (
           record {
@@ -233,7 +234,7 @@ module _ (tree : PackageTree ℕ) where
           }
         where
           by : (b : Bool) → is_thread_at tree n ≡ b → is_thread_at tree n ≡ false
-          by true e = absurd (contains_none wire (subst (λ ws. Contains ws wire) (sound.threads n e) h))
+          by true e = absurd (Contains-nil wire (subst (λ ws. Contains ws wire) (sound.threads n e) h))
           by false e = e
 
       pub known : (place : Place) (from to : Port) → (g : Goes tree root place from to) → Known g.number g.source g.target
@@ -241,7 +242,7 @@ module _ (tree : PackageTree ℕ) where
           (among_goes tree root place from to g) refl refl
 
       pub known_into : (n : ℕ) (target : Site) (k : ℕ) (source : Site) → Entered n target k source → Known n source target
-      known_into n target k source x = known_wire n x.wire source target (contains_at (wires_at tree n) k x.wire x.is_wire) x.source_is x.target_is
+      known_into n target k source x = known_wire n x.wire source target (Contains-from_slice_get (wires_at tree n) k x.wire x.is_wire) x.source_is x.target_is
 
 -- into an own out port a connection goes from an out port of a subcomponent
 pub inner_of : (tree : PackageTree ℕ) → AreDeclared tree → (here out k : ℕ) (source : Site) → is_in_at tree here out ≡ false

@@ -7,8 +7,8 @@ use Rattle.std.specs.Option.{option_map_or}
 use Rattle.std.proofs.lemmas.Bool.{cases_order, true≢false, false≢true, eqb-true, eq-eqb}
 use Rattle.std.proofs.lemmas.Map.Keys.{apart_from_distinct}
 use Rattle.std.proofs.lemmas.Option.{same_Some, none-some, slice_get_within, slice_get-get_or}
+use Rattle.list_lemmas.proofs.Places.{slice_get-from_Contains, Contains-from_slice_get}
 use Rattle.aadl_uses.specs.proof.Orders.{IsSequence}
-use Rattle.aadl_uses.proofs.Searches.{contains_at, at_contains}
 use Rattle.aadl_tree.specs.Declarations.{Implementation, PackageTree}
 use Rattle.aadl_names.specs.declared.site.Site.{Site}
 use Rattle.aadl_names.specs.declared.site.Site.TheVariants.{Own, Inner}
@@ -186,7 +186,7 @@ module _ (tree : PackageTree ℕ) (limit n k : ℕ) where
       → wire.target ≡ Some (Inner s p) → (IsSecond (wires_at tree n) k → ⊥) → AreTakenBelow tree limit table n
       → IsNumber limit (Through tree n k) (taken_by limit table tree (below tree n s) p)
   through-number wire s p table sound is target only known =
-      let d = sound.each n wire (contains_at (wires_at tree n) k wire is) in
+      let d = sound.each n wire (Contains-from_slice_get (wires_at tree n) k wire is) in
       let m = subst (MayEnter tree n) (same_Some d.target (Inner s p) (sym d.target_is ∙ target)) d.enters in
       subst (λ o. IsNumber limit (Through tree n k) (taken_by limit table tree o p)) (sym m.1)
       (through_number tree n limit k s p m.0 (taken_by limit table tree (Some m.0) p) wire is target (first_if tree n k wire (Inner s p) is target only) m.1
@@ -266,4 +266,4 @@ module _ (tree : PackageTree ℕ) (limit : ℕ) (keys : List ℕ) where
 
     pub table_all : (table : List (PortAt × ℕ)) → length keys ≤ at → FrontTable tree limit keys at table → (n : ℕ) → Contains keys n
         → AreTaken tree limit table n
-    table_all table past front n h = let lt = h.1 in front.known h.0 n (omega arith) (at_contains keys n h)
+    table_all table past front n h = let lt = h.1 in front.known h.0 n (omega arith) (slice_get-from_Contains keys n h)

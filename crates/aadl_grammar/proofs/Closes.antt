@@ -5,6 +5,8 @@ use Rattle.std.specs.List.{list_all, starts_with}
 use Rattle.std.specs.Char.{is_ascii_alphabetic, is_ascii_digit}
 use Rattle.std.specs.Fmt as fmt
 use Rattle.std.proofs.lemmas.Bool.{and_from, or_left}
+use Rattle.std.specs.Cmp.{first_so, second_so}
+use Rattle.std.proofs.Math.Bool.{and-false}
 use Rattle.aadl_lex.specs.declared.rules.Reading.TheVariants.{Inside}
 use Rattle.aadl_lex.specs.Rules.{is_in_word, is_word, close_from}
 use Rattle.aadl_tree.specs.declared.mark.Mark.{Mark}
@@ -12,9 +14,8 @@ use Rattle.aadl_tree.specs.declared.mark.Mark.TheVariants as k
 use Rattle.aadl_tree.specs.Marks.{mark_text}
 use Rattle.aadl_tree.specs.Kinds.{Kind, mark}
 use Rattle.aadl_tree.specs.Canon.{kind_text}
-use Rattle.aadl_lex.proofs.Basics.{both_left, both_right}
 use Rattle.aadl_grammar.proofs.FirstTokens.{other_bytes}
-use Rattle.aadl_lex.proofs.Closes.{and_none, none_parts}
+use Rattle.aadl_lex.proofs.Closes.{none_parts}
 use Rattle.aadl_lex.specs.proof.Spelled.{IsReal, IsString}
 use Rattle.aadl_grammar.proofs.Literals.{number_digits}
 use Rattle.aadl_grammar.proofs.Spoken.{Spoken, a_word, a_number, a_real, a_string, a_keyword, a_symbol, closes}
@@ -24,9 +25,9 @@ use Rattle.aadl_grammar.proofs.Tokens.{Ends, IsPlain, keyword_is_word}
 pub close_past : (p : ℕ → Bool) → p 42 ≡ false → (w s : List ℕ) (n : ℕ) → list_all p w ≡ true → close_from n (w ++ s) ≡ close_from (n + length w) s
 close_past p star [] s n e = ap (λ m. close_from m s) (let g : n ≡ n + 0 = omega arith in g)
 close_past p star (c ∷ w) s n e =
-    let here = other_bytes p c 42 (both_left (p c) _ e) star in
+    let here = other_bytes p c 42 (first_so (p c) _ e) star in
     ap (λ b. cond (b && starts_with nat_eq (w ++ s) (codes "*}")) (Some n) (close_from (n + 1) (w ++ s))) here
-    ∙ close_past p star w s (n + 1) (both_right (p c) _ e)
+    ∙ close_past p star w s (n + 1) (second_so (p c) _ e)
     ∙ ap (λ m. close_from m s) (let g : n + 1 + length w ≡ n + suc (length w) = omega arith in g)
 
 -- and a `*` that none follows
@@ -36,8 +37,8 @@ star_past (h ∷ t) n e = rw e refl
 
 -- where a `**}` begins hangs on three bytes
 starts_same : (c : ℕ) (w s : List ℕ) → starts_with nat_eq (c ∷ (w ++ 34 ∷ [])) (codes "**}") ≡ false → starts_with nat_eq (c ∷ (w ++ 34 ∷ s)) (codes "**}") ≡ false
-starts_same c [] s e = and_none (42 == c)
-starts_same c (d ∷ []) s e = ap (λ b. (42 == c) && b) (and_none (42 == d)) ∙ and_none (42 == c)
+starts_same c [] s e = and-false (42 == c)
+starts_same c (d ∷ []) s e = ap (λ b. (42 == c) && b) (and-false (42 == d)) ∙ and-false (42 == c)
 starts_same c (d ∷ (f ∷ w)) s e = e
 
 -- a string has no `**}` in it, and ends with a quote
@@ -74,18 +75,18 @@ mark_past m s n plain e = close_past no_star refl (mark_text m) s n refl
 
 word_past : (b s : List ℕ) (n : ℕ) → is_word b ≡ true → close_from n (b ++ s) ≡ close_from (n + length b) s
 word_past [] s n w = absurd cc
-word_past (c ∷ b) s n w = close_past is_in_word refl (c ∷ b) s n (both_right (is_ascii_alphabetic c) _ (both_left (is_ascii_alphabetic c && list_all is_in_word (c ∷ b)) _ w))
+word_past (c ∷ b) s n w = close_past is_in_word refl (c ∷ b) s n (second_so (is_ascii_alphabetic c) _ (first_so (is_ascii_alphabetic c && list_all is_in_word (c ∷ b)) _ w))
 
 abbrev in_real : ℕ → Bool
 in_real c = is_ascii_digit c || c == 46
 
 pub all_weaker : (p q : ℕ → Bool) (w : List ℕ) → ((c : ℕ) → p c ≡ true → q c ≡ true) → list_all p w ≡ true → list_all q w ≡ true
 all_weaker p q [] h e = refl
-all_weaker p q (c ∷ w) h e = and_from (q c) _ (h c (both_left (p c) _ e)) (all_weaker p q w h (both_right (p c) _ e))
+all_weaker p q (c ∷ w) h e = and_from (q c) _ (h c (first_so (p c) _ e)) (all_weaker p q w h (second_so (p c) _ e))
 
 pub all_append : (q : ℕ → Bool) (v w : List ℕ) → list_all q v ≡ true → list_all q w ≡ true → list_all q (v ++ w) ≡ true
 all_append q [] w e h = h
-all_append q (c ∷ v) w e h = and_from (q c) _ (both_left (q c) _ e) (all_append q v w (both_right (q c) _ e) h)
+all_append q (c ∷ v) w e h = and_from (q c) _ (first_so (q c) _ e) (all_append q v w (second_so (q c) _ e) h)
 
 real_past : (b s : List ℕ) (n : ℕ) → IsReal b → close_from n (b ++ s) ≡ close_from (n + length b) s
 real_past b s n h =

@@ -1,10 +1,10 @@
 -- One terminal decides how a symbol begins.
 use Rattle.std.proofs.Common.{◌≡◌, true, not, ◌==◌, sym, ap, List, [], ◌∷◌, eq-eqb}
 use Rattle.std.proofs.lemmas.Bool.{or_left, or_right}
+use Rattle.std.specs.Cmp.{first_so, second_so}
 use Rattle.aadl_grammar.specs.proof.Symbols.{Class, Symbol, Row}
 use Rattle.aadl_grammar.specs.proof.Table.{rows, Differ, Decides}
 use Rattle.aadl_grammar.specs.proof.Machine.{class_number}
-use Rattle.aadl_lex.proofs.Basics.{both_left, both_right}
 use Rattle.aadl_grammar.proofs.Basics.{not_both}
 use Rattle.aadl_grammar.proofs.Derived.Tails.{among, firsts, distinct, distinct_firsts}
 
@@ -16,7 +16,7 @@ differ c (r ∷ rs) never =
 decides : (rs : List Row) → distinct (firsts rs) ≡ true → Decides rs
 decides [] e = tt
 decides (r ∷ rs) e =
-    (differ r.first rs (λ a. not_both (among (class_number r.first) (firsts rs)) (both_left _ _ e) a), decides rs (both_right (not (among (class_number r.first) (firsts rs))) _ e))
+    (differ r.first rs (λ a. not_both (among (class_number r.first) (firsts rs)) (first_so _ _ e) a), decides rs (second_so (not (among (class_number r.first) (firsts rs))) _ e))
 
 pub rows_decide : (x : Symbol) → Decides (rows x)
 rows_decide x = decides (rows x) (distinct_firsts x)

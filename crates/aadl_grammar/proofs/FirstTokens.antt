@@ -5,6 +5,7 @@ use Rattle.std.specs.List.{list_all, prefix_len, starts_with}
 use Rattle.std.specs.Char.{is_ascii_alphabetic}
 use Rattle.std.proofs.lemmas.Bool.{false_from_ne_true, eqb-true, not-true, or_from, or_parts}
 use Rattle.std.proofs.lemmas.List.Folds.{length-prefix_len}
+use Rattle.std.specs.Cmp.{first_so as both_left, second_so}
 use Rattle.aadl_lex.specs.declared.token.TokenKind.TheVariants.{Word, Symbol}
 use Rattle.aadl_lex.specs.declared.fault.LexFault.TheVariants.{LongName}
 use Rattle.aadl_lex.specs.declared.rules.First.{First}
@@ -15,7 +16,6 @@ use Rattle.aadl_lex.specs.Rules.{is_blank, is_in_word, run, is_word, first}
 use Rattle.aadl_tree.specs.declared.mark.Mark.{Mark}
 use Rattle.aadl_tree.specs.declared.mark.Mark.TheVariants as k
 use Rattle.aadl_tree.specs.Marks.{mark_text, symbol_of}
-use Rattle.aadl_lex.proofs.Basics.{both_left, both_right}
 
 -- a byte that passes a test is none that does not
 pub other_byte : (p : ℕ → Bool) (c d : ℕ) → p c ≡ true → p d ≡ false → (c == d) ≡ false
@@ -45,7 +45,7 @@ prefix_stops p (h ∷ t) e = ap (λ b. cond b (1 + prefix_len p t) 0) (not-true 
 prefix_all : (p : ℕ → Bool) (w rest : List ℕ) → list_all p w ≡ true → stops p rest ≡ true → prefix_len p (w ++ rest) ≡ length w
 prefix_all p [] rest e h = prefix_stops p rest h
 prefix_all p (c ∷ w) rest e h =
-    ap (λ b. cond b (1 + prefix_len p (w ++ rest)) 0) (both_left (p c) _ e) ∙ (let more = prefix_all p w rest (both_right (p c) _ e) h in omega arith)
+    ap (λ b. cond b (1 + prefix_len p (w ++ rest)) 0) (both_left (p c) _ e) ∙ (let more = prefix_all p w rest (second_so (p c) _ e) h in omega arith)
 
 pub run_all : (p : ℕ → Bool) (w rest : List ℕ) → list_all p w ≡ true → stops p rest ≡ true → run p (w ++ rest) ≡ length w
 run_all p w rest e h = length-prefix_len p (w ++ rest) ∙ prefix_all p w rest e h
@@ -88,8 +88,8 @@ pub word_first : (r : Reading) (at : ℕ) (w rest : List ℕ) → is_word w ≡ 
 word_first r at [] rest w stop = absurd cc
 word_first r at (c ∷ cs) rest w stop =
     let letter : is_ascii_alphabetic c ≡ true = both_left (is_ascii_alphabetic c) _ (both_left (is_ascii_alphabetic c && list_all is_in_word (c ∷ cs)) _ w) in
-    let all : list_all is_in_word (c ∷ cs) ≡ true = both_right (is_ascii_alphabetic c) _ (both_left (is_ascii_alphabetic c && list_all is_in_word (c ∷ cs)) _ w) in
-    let short : nat_le (length (c ∷ cs)) NAME_BYTES ≡ true = both_right (is_ascii_alphabetic c && list_all is_in_word (c ∷ cs)) _ w in
+    let all : list_all is_in_word (c ∷ cs) ≡ true = second_so (is_ascii_alphabetic c) _ (both_left (is_ascii_alphabetic c && list_all is_in_word (c ∷ cs)) _ w) in
+    let short : nat_le (length (c ∷ cs)) NAME_BYTES ≡ true = second_so (is_ascii_alphabetic c && list_all is_in_word (c ∷ cs)) _ w in
     let len = run_all is_in_word (c ∷ cs) rest all stop in
     letter_goes r at c (cs ++ rest) letter (ap (λ n. nat_le n NAME_BYTES) len ∙ short) ∙ ap (λ n. Taken Word n) len
 

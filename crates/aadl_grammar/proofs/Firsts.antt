@@ -1,5 +1,5 @@
 -- The first terminal, by its number; and words as texts.
-use Rattle.std.proofs.Common.{◌≡◌, ℕ, zero, suc, ◌+◌, ◌<◌, ◌≤◌, true, false, Bool, ◌∙◌, sym, ap, List, [], ◌∷◌, ◌++◌, length, get_or, drop, refl, arith, add-one, drop-cons, ◌&&◌}
+use Rattle.std.proofs.Common.{◌≡◌, ℕ, zero, suc, ◌+◌, ◌<◌, ◌≤◌, true, ◌∙◌, sym, ap, List, [], ◌∷◌, ◌++◌, length, get_or, drop, refl, arith, add-one, drop-cons, ◌&&◌}
 use Rattle.std.specs.List.{list_all, All}
 use Rattle.std.specs.Char.{is_ascii_alphabetic}
 use Rattle.std.proofs.lemmas.List.{get_or_past}
@@ -10,8 +10,9 @@ use Rattle.std.proofs.lemmas.Str.{IsUtf8-from_ascii}
 use Rattle.std.proofs.lemmas.Bool.Decides.{nat_tests}
 use Rattle.std.proofs.lemmas.List.Sums.{AllPass-from_list_all}
 use Rattle.std.proofs.lemmas.List.Elements.{All-append}
+use Rattle.std.specs.Cmp.{first_so, second_so}
+use Rattle.list_lemmas.proofs.Booleans.{by_test}
 use Rattle.aadl_lex.specs.declared.token.TheConstants.{NAME_BYTES}
-use Rattle.aadl_lex.proofs.Basics.{both_left, both_right}
 use Rattle.aadl_lex.specs.Rules.{is_word, is_in_word}
 use Rattle.aadl_grammar.specs.declared.terminal.Terminal.{Terminal}
 use Rattle.aadl_grammar.specs.declared.terminal.TerminalKind.TheVariants as t
@@ -33,17 +34,13 @@ words_push text ts x all one = All-append (λ (y : Terminal). y.kind ≡ t.Word 
   only zero d less = one
   only (suc k) d less = absurd (omega arith)
 
-by_test : (b : Bool) (P : Type 0) → (b ≡ true → P) → (b ≡ false → P) → P
-by_test true P holds fails = holds refl
-by_test false P holds fails = fails refl
-
 byte_in_word : (c : ℕ) → is_in_word c ≡ true → c < 128
 byte_in_word c h = grind (arith, nat_tests)
 
 -- the bytes of words are ASCII, so a word is a text
 pub word_is_text : (s : List ℕ) → is_word s ≡ true → IsUtf8 s
 word_is_text s h =
-    let all = AllPass-from_list_all is_in_word s (both_right (is_ascii_alphabetic (get_or s 0 0)) (list_all is_in_word s) (both_left (is_ascii_alphabetic (get_or s 0 0) && list_all is_in_word s) (nat_le (length s) NAME_BYTES) h)) in
+    let all = AllPass-from_list_all is_in_word s (second_so (is_ascii_alphabetic (get_or s 0 0)) (list_all is_in_word s) (first_so (is_ascii_alphabetic (get_or s 0 0) && list_all is_in_word s) (nat_le (length s) NAME_BYTES) h)) in
     IsUtf8-from_ascii s (λ i. by_test (nat_lt i (length s)) (get_or s i 0 < 128) (λ less. let l : i < length s = grind (arith, nat_tests) in byte_in_word (get_or s i 0) (all i 0 l))
     (λ past. let le : length s ≤ i = grind (arith, nat_tests) in let e = get_or_past s i 0 le in omega arith))
 

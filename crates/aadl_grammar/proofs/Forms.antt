@@ -1,11 +1,12 @@
 -- Two forms of guards, each by a check of the table's rows.
 use Rattle.std.proofs.Common.{◌≡◌, ℕ, Bool, true, false, not, ◌&&◌, ◌||◌, ◌==◌, ◌∙◌, ap, refl, List, [], ◌∷◌, inl, inr}
+use Rattle.std.proofs.lemmas.Bool.{or_left}
+use Rattle.std.specs.Cmp.{first_so, second_so}
 use Rattle.aadl_tree.specs.proof.Marks.{mark_number}
 use Rattle.aadl_grammar.specs.proof.Symbols.{Symbol, Row}
 use Rattle.aadl_grammar.specs.proof.Symbols as s
 use Rattle.aadl_grammar.specs.proof.Table.{rows, can_omit}
 use Rattle.aadl_grammar.specs.proof.Machine.{class_number}
-use Rattle.aadl_lex.proofs.Basics.{both_left, both_right}
 use Rattle.aadl_grammar.proofs.Derived.Derivations.{Member}
 use Rattle.aadl_grammar.proofs.Guards.{neat, on_top, last_of, seam, Guard}
 
@@ -19,8 +20,8 @@ all_rows q (r ∷ rs) = q r && all_rows q rs
 
 row_checked : (q : Row → Bool) (r : Row) (rs : List Row) → Member r rs → all_rows q rs ≡ true → q r ≡ true
 row_checked q r [] m e = absurd m
-row_checked q r (x ∷ rs) (inl m) e = ap q m ∙ both_left _ _ e
-row_checked q r (x ∷ rs) (inr m) e = row_checked q r rs m (both_right (q x) _ e)
+row_checked q r (x ∷ rs) (inl m) e = ap q m ∙ first_so _ _ e
+row_checked q r (x ∷ rs) (inr m) e = row_checked q r rs m (second_so (q x) _ e)
 
 implied : (a b k : Bool) → (not a || b) ≡ true → (not b || k) ≡ true → (not a || k) ≡ true
 implied false b k e h = refl
@@ -31,10 +32,6 @@ carried : (a b k : Bool) → (not a || b) ≡ true → (a || k) ≡ true → (b 
 carried a true k e h = refl
 carried true false k e h = absurd cc
 carried false false k e h = h
-
-or_front : (a b : Bool) → a ≡ true → (a || b) ≡ true
-or_front true b e = refl
-or_front false b e = absurd cc
 
 -- Behind a terminal of the number t only some symbols are on top, and so only some terminals come.
 
@@ -70,17 +67,17 @@ omit_after false true o c a k i f g h = absurd cc
 seam_after : (t : ℕ) (ok chain : Symbol → Bool) (x y : Symbol) (n : ℕ) (f : List Symbol) → after_seam t chain x n f ≡ true → after_pair t ok chain x y ≡ true
     → seam (after_top t ok) (after_pair t ok chain) n f y ≡ true
 seam_after t ok chain x y n [] e h = implied (n == t) (chain x || is_only t x) (ok y) e h
-seam_after t ok chain x y n (z ∷ f) e h = or_front _ _ e
+seam_after t ok chain x y n (z ∷ f) e h = or_left _ _ e
 
 pub after_guard : (t : ℕ) (ok chain : Symbol → Bool) (come : ℕ → Bool) → ((x : Symbol) → after_check t ok chain come x ≡ true) → Guard (after_top t ok) (after_pair t ok chain) (after_beside t come)
 after_guard t ok chain come checked =
-    let row = λ (x : Symbol) (r : Row) (m : Member r (rows x)). row_checked (after_row t ok chain come x) r (rows x) m (both_right (not (can_omit x && ok x) || chain x) _ (checked x)) in
+    let row = λ (x : Symbol) (r : Row) (m : Member r (rows x)). row_checked (after_row t ok chain come x) r (rows x) m (second_so (not (can_omit x && ok x) || chain x) _ (checked x)) in
     record {
-      omits = λ p x y o h g. omit_after (can_omit x) (p == t) (ok x) (chain x) (is_only t x) (ok y) o (both_left _ _ (checked x)) h g;
-      wants = λ x r m. both_left _ _ (row x r m);
-      seams = λ x y r m h. seam_after t ok chain x y (class_number r.first) r.wanted (both_left _ _ (both_right (on_top (after_top t ok) (class_number r.first) r.wanted && neat (after_pair t ok chain) r.wanted) _ (row x r m))) h;
+      omits = λ p x y o h g. omit_after (can_omit x) (p == t) (ok x) (chain x) (is_only t x) (ok y) o (first_so _ _ (checked x)) h g;
+      wants = λ x r m. first_so _ _ (row x r m);
+      seams = λ x y r m h. seam_after t ok chain x y (class_number r.first) r.wanted (first_so _ _ (second_so (on_top (after_top t ok) (class_number r.first) r.wanted && neat (after_pair t ok chain) r.wanted) _ (row x r m))) h;
       takes = λ p x r m h. implied (p == t) (ok x) (come (class_number r.first)) h
-          (both_right (after_seam t chain x (class_number r.first) r.wanted) _ (both_right (on_top (after_top t ok) (class_number r.first) r.wanted && neat (after_pair t ok chain) r.wanted) _ (row x r m)));
+          (second_so (after_seam t chain x (class_number r.first) r.wanted) _ (second_so (on_top (after_top t ok) (class_number r.first) r.wanted && neat (after_pair t ok chain) r.wanted) _ (row x r m)));
     }
 
 -- Some symbols are on top behind a word alone, and so some terminals come behind a word alone.
@@ -127,11 +124,11 @@ seam_before t held keeps x y n (z ∷ f) e h = carried (keeps x) (keeps (last_of
 pub before_guard : (t : ℕ) (held keeps : Symbol → Bool) (comes : ℕ → Bool) → ((x : Symbol) → before_check t held keeps comes x ≡ true)
     → Guard (before_top t held) (before_pair held keeps) (before_beside t comes)
 before_guard t held keeps comes checked =
-    let row = λ (x : Symbol) (r : Row) (m : Member r (rows x)). row_checked (before_row t held keeps comes x) r (rows x) m (both_right (not (can_omit x && keeps x) || held x) _ (checked x)) in
+    let row = λ (x : Symbol) (r : Row) (m : Member r (rows x)). row_checked (before_row t held keeps comes x) r (rows x) m (second_so (not (can_omit x && keeps x) || held x) _ (checked x)) in
     record {
-      omits = λ p x y o h g. omit_before (can_omit x) (p == t) (keeps x) (held x) (not (held y)) o (both_left _ _ (checked x)) h g;
-      wants = λ x r m. both_left _ _ (row x r m);
-      seams = λ x y r m h. seam_before t held keeps x y (class_number r.first) r.wanted (both_left _ _ (both_right (on_top (before_top t held) (class_number r.first) r.wanted && neat (before_pair held keeps) r.wanted) _ (row x r m))) h;
+      omits = λ p x y o h g. omit_before (can_omit x) (p == t) (keeps x) (held x) (not (held y)) o (first_so _ _ (checked x)) h g;
+      wants = λ x r m. first_so _ _ (row x r m);
+      seams = λ x y r m h. seam_before t held keeps x y (class_number r.first) r.wanted (first_so _ _ (second_so (on_top (before_top t held) (class_number r.first) r.wanted && neat (before_pair held keeps) r.wanted) _ (row x r m))) h;
       takes = λ p x r m h. held_before (p == t) (comes (class_number r.first)) (held x)
-          (both_right (before_seam t keeps x (class_number r.first) r.wanted) _ (both_right (on_top (before_top t held) (class_number r.first) r.wanted && neat (before_pair held keeps) r.wanted) _ (row x r m))) h;
+          (second_so (before_seam t keeps x (class_number r.first) r.wanted) _ (second_so (on_top (before_top t held) (class_number r.first) r.wanted && neat (before_pair held keeps) r.wanted) _ (row x r m))) h;
     }

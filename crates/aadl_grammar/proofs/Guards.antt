@@ -2,11 +2,11 @@
 use Rattle.std.proofs.Common.{◌≡◌, ℕ, Bool, true, ◌&&◌, ◌∙◌, sym, ap, subst, refl, List, [], ◌∷◌, ◌++◌}
 use Rattle.std.proofs.lemmas.List.{append-nil}
 use Rattle.std.proofs.lemmas.Bool.{eqb-true, and_from}
+use Rattle.std.specs.Cmp.{first_so, second_so}
 use Rattle.aadl_tree.specs.Kinds.{Kind}
 use Rattle.aadl_grammar.specs.proof.Symbols.{Symbol, Row}
 use Rattle.aadl_grammar.specs.proof.Table.{rows, can_omit}
 use Rattle.aadl_grammar.specs.proof.Machine.{Stack, class_number, kind_number}
-use Rattle.aadl_lex.proofs.Basics.{both_left, both_right}
 use Rattle.aadl_grammar.proofs.Derived.Derivations.{Member, Derives, nothing, take, omit}
 
 -- symbols one below the other
@@ -42,12 +42,12 @@ Beside beside p (kind ∷ ks) = (beside p (kind_number kind) ≡ true) × Beside
 
 neat_below : (pair : Symbol → Symbol → Bool) (x : Symbol) (below : Stack) → neat pair (x ∷ below) ≡ true → neat pair below ≡ true
 neat_below pair x [] e = refl
-neat_below pair x (y ∷ s) e = both_right (pair x y) _ e
+neat_below pair x (y ∷ s) e = second_so (pair x y) _ e
 
 neat_append : (pair : Symbol → Symbol → Bool) (z : Symbol) (f : List Symbol) (y : Symbol) (s : Stack) → neat pair (z ∷ f) ≡ true → pair (last_of z f) y ≡ true → neat pair (y ∷ s) ≡ true
     → neat pair (z ∷ f ++ y ∷ s) ≡ true
 neat_append pair z [] y s e h n = and_from (pair z y) _ h n
-neat_append pair z (x ∷ f) y s e h n = and_from (pair z x) _ (both_left _ _ e) (neat_append pair x f y s (both_right (pair z x) _ e) h n)
+neat_append pair z (x ∷ f) y s e h n = and_from (pair z x) _ (first_so _ _ e) (neat_append pair x f y s (second_so (pair z x) _ e) h n)
 
 abbrev Fine : (ℕ → Symbol → Bool) → (Symbol → Symbol → Bool) → ℕ → Stack → Type 0
 Fine top pair p wanted = (on_top top p wanted ≡ true) × (neat pair wanted ≡ true)
@@ -55,18 +55,18 @@ Fine top pair p wanted = (on_top top p wanted ≡ true) × (neat pair wanted ≡
 fine_below : (top : ℕ → Symbol → Bool) (pair : Symbol → Symbol → Bool) (beside : ℕ → ℕ → Bool) → Guard top pair beside → (p : ℕ) (x : Symbol) (below : Stack) → can_omit x ≡ true
     → Fine top pair p (x ∷ below) → Fine top pair p below
 fine_below top pair beside g p x [] o h = (refl, refl)
-fine_below top pair beside g p x (y ∷ s) o (h, n) = (g.omits p x y o h (both_left _ _ n), both_right (pair x y) _ n)
+fine_below top pair beside g p x (y ∷ s) o (h, n) = (g.omits p x y o h (first_so _ _ n), second_so (pair x y) _ n)
 
 fine_row : (top : ℕ → Symbol → Bool) (pair : Symbol → Symbol → Bool) (n : ℕ) (f : List Symbol) (below : Stack)
     → (on_top top n f && neat pair f) ≡ true → ((y : Symbol) (s : Stack) → below ≡ y ∷ s → seam top pair n f y ≡ true) → neat pair below ≡ true → Fine top pair n (f ++ below)
 fine_row top pair n [] [] w m h = (refl, refl)
 fine_row top pair n [] (y ∷ s) w m h = (m y s refl, h)
-fine_row top pair n (z ∷ f) [] w m h = (both_left _ _ w, subst (λ (l : Stack). neat pair l ≡ true) (sym (append-nil (z ∷ f))) (both_right (top n z) _ w))
-fine_row top pair n (z ∷ f) (y ∷ s) w m h = (both_left _ _ w, neat_append pair z f y s (both_right (top n z) _ w) (m y s refl) h)
+fine_row top pair n (z ∷ f) [] w m h = (first_so _ _ w, subst (λ (l : Stack). neat pair l ≡ true) (sym (append-nil (z ∷ f))) (second_so (top n z) _ w))
+fine_row top pair n (z ∷ f) (y ∷ s) w m h = (first_so _ _ w, neat_append pair z f y s (second_so (top n z) _ w) (m y s refl) h)
 
 below_seam : (top : ℕ → Symbol → Bool) (pair : Symbol → Symbol → Bool) (beside : ℕ → ℕ → Bool) → Guard top pair beside → (x : Symbol) (below : Stack) (r : Row) → Member r (rows x)
     → neat pair (x ∷ below) ≡ true → (y : Symbol) (s : Stack) → below ≡ y ∷ s → seam top pair (class_number r.first) r.wanted y ≡ true
-below_seam top pair beside g x below r m n y s e = g.seams x y r m (both_left _ _ (subst (λ (l : Stack). neat pair (x ∷ l) ≡ true) e n))
+below_seam top pair beside g x below r m n y s e = g.seams x y r m (first_so _ _ (subst (λ (l : Stack). neat pair (x ∷ l) ≡ true) e n))
 
 -- What a guarded stack derives has its terminals beside one another.
 pub guarded : (top : ℕ → Symbol → Bool) (pair : Symbol → Symbol → Bool) (beside : ℕ → ℕ → Bool) → Guard top pair beside → (p : ℕ) (wanted : Stack) (ks : List Kind)

@@ -1,16 +1,10 @@
 -- Keywords in lists, and tests of each item of a list.
 use Rattle.std.proofs.Common.{◌≡◌, suc, Bool, true, false, not, ◌||◌, ◌==◌, List, [], ◌∷◌, refl, arith}
 use Rattle.std.specs.Prelude.{Contains}
-use Rattle.std.specs.List.{list_all}
-use Rattle.std.proofs.lemmas.List.Sums.{AllPass-from_list_all}
 use Rattle.std.proofs.lemmas.Bool.{eqb-true}
-use Rattle.std.proofs.lemmas.List.Elements.{All-contains}
 use Rattle.aadl_tree.specs.declared.mark.Mark.{Mark}
 use Rattle.aadl_tree.specs.proof.Marks.{mark_number}
 use Rattle.aadl_tree.proofs.Numbers.{same_number}
-
-pub passes : {X : Type 0} (p : X → Bool) (xs : List X) (x : X) → list_all p xs ≡ true → Contains xs x → p x ≡ true
-passes p xs x e c = All-contains (λ x. p x ≡ true) xs x (AllPass-from_list_all p xs e) c
 
 pub or_not : (a b : Bool) → (a || not b) ≡ true → b ≡ true → a ≡ true
 or_not true b e f = refl
@@ -35,7 +29,3 @@ listed_first false x m xs same more e = behind x m xs (more e)
 pub is_listed : (xs : List Mark) (m : Mark) → listed xs m ≡ true → Contains xs m
 is_listed [] m e = cc
 is_listed (x ∷ xs) m e = listed_first _ x m xs (λ f. same_number x m (eqb-true _ _ f)) (is_listed xs m) e
-
-pub false_unless : (b : Bool) → (b ≡ true → ⊥) → b ≡ false
-false_unless true never = absurd (never refl)
-false_unless false never = refl

@@ -2,6 +2,8 @@
 use Rattle.std.proofs.Common.{◌≡◌, Bool, true, false, not, ◌&&◌, ◌||◌, List, refl, subst}
 use Rattle.std.specs.Prelude.{Contains}
 use Rattle.std.specs.List.{list_all}
+use Rattle.std.proofs.lemmas.Bool.{false_from_ne_true}
+use Rattle.list_lemmas.proofs.Elements.{passes_by_list_all}
 use Rattle.aadl_tree.specs.declared.mark.Mark.{Mark}
 use Rattle.aadl_tree.specs.declared.mark.Mark.TheVariants as k
 use Rattle.aadl_tree.specs.Marks.{keywords_outside, keywords_inside}
@@ -10,7 +12,7 @@ use Rattle.aadl_grammar.specs.proof.Symbols as s
 use Rattle.aadl_grammar.specs.proof.Table.{rows}
 use Rattle.aadl_grammar.specs.proof.Machine.{whole_package, annex_body}
 use Rattle.aadl_grammar.specs.proof.Reached.{is_word, Stands, at_first, later, CanCome}
-use Rattle.aadl_grammar.proofs.KeywordLists.{passes, or_not, or_false, listed, is_listed, false_unless}
+use Rattle.aadl_grammar.proofs.KeywordLists.{or_not, or_false, listed, is_listed}
 use Rattle.aadl_grammar.proofs.KeywordWays.{is_the, the_mark}
 
 -- a keyword or symbol that may come where these are the keywords
@@ -32,14 +34,14 @@ abbrev Fine : List Mark → (Symbol → Bool) → Type 0
 Fine keywords side = (x : Symbol) → (list_all (λ r. fine keywords r.first) (rows x) || not (side x)) ≡ true
 
 not_annex : (c : Class) → (c ≡ the k.AnnexOpen → ⊥) → is_the k.AnnexOpen c ≡ false
-not_annex c never = false_unless (is_the k.AnnexOpen c) (λ e. never (the_mark k.AnnexOpen c e))
+not_annex c never = false_from_ne_true (is_the k.AnnexOpen c) (λ e. never (the_mark k.AnnexOpen c e))
 
 passing : (side : Symbol → Bool) → Stays side → (first : List Symbol) → list_all side first ≡ true → (x : Symbol) → Stands first x → side x ≡ true
-passing side stays first e _ (at_first x among) = passes side first x e among
+passing side stays first e _ (at_first x among) = passes_by_list_all side first x e among
 passing side stays first e _ (later x y row stands among other wanted) =
     let here = passing side stays first e x stands in
-    let row_passes = passes (row_stays side) (rows x) row (or_not _ (side x) (stays x) here) among in
-    passes side row.wanted y (or_false _ _ row_passes (not_annex row.first other)) wanted
+    let row_passes = passes_by_list_all (row_stays side) (rows x) row (or_not _ (side x) (stays x) here) among in
+    passes_by_list_all side row.wanted y (or_false _ _ row_passes (not_annex row.first other)) wanted
 
 word_is_listed : (keywords : List Mark) (m : Mark) → is_word m ≡ true → fine_mark keywords m ≡ true → Contains keywords m
 word_is_listed keywords m e f = is_listed keywords m (or_not _ (is_word m) f e)
@@ -48,7 +50,7 @@ pub listed_if_it_comes : (keywords : List Mark) (side : Symbol → Bool) → Sta
     → is_word m ≡ true → CanCome first m → Contains keywords m
 listed_if_it_comes keywords side stays fines first e m is_one comes =
     let here = passing side stays first e comes.symbol comes.stands in
-    let first_is_fine = passes (λ r. fine keywords r.first) (rows comes.symbol) comes.row (or_not _ (side comes.symbol) (fines comes.symbol) here) comes.among in
+    let first_is_fine = passes_by_list_all (λ r. fine keywords r.first) (rows comes.symbol) comes.row (or_not _ (side comes.symbol) (fines comes.symbol) here) comes.among in
     word_is_listed keywords m is_one (subst (λ c. fine keywords c ≡ true) comes.begins first_is_fine)
 
 either : (b : Bool) → ((b && true) || not b) ≡ true

@@ -3,11 +3,11 @@ use Rattle.std.proofs.Common.{◌≡◌, ◌≢◌, ℕ, Bool, true, false, not,
 use Rattle.std.specs.Prelude.{nat_lt}
 use Rattle.std.proofs.lemmas.Bool.{eqb-true, ltb-true}
 use Rattle.std.proofs.lemmas.List.Elements.{Contains-get_or}
+use Rattle.std.specs.Cmp.{first_so, second_so}
 use Rattle.aadl_tree.specs.declared.mark.Mark.{Mark}
 use Rattle.aadl_tree.specs.declared.mark.Mark.TheVariants as k
 use Rattle.aadl_tree.specs.proof.Marks.{mark_number}
 use Rattle.aadl_tree.proofs.Numbers.{same_number}
-use Rattle.aadl_lex.proofs.Basics.{both_left, both_right}
 use Rattle.aadl_grammar.proofs.Basics.{not_both}
 use Rattle.aadl_grammar.specs.proof.Machine.{class_number}
 use Rattle.aadl_grammar.specs.proof.Symbols.{Class, a_word, a_whole, a_real, a_quoted, an_unread, the, Symbol, Row}
@@ -73,27 +73,27 @@ other_class m (the x) e f = not_both _ e (eq-eqb _ _ (ap class_number f))
 
 goes : (first : List Symbol) (x : Symbol) (t : Turn) → may_go x t ≡ true → Stands first x → Stands first (next x t)
 goes first x t e stands =
-    let by = both_left (nat_lt t.by (length (rows x))) _ e in
-    let rest = both_right (nat_lt t.by (length (rows x))) _ e in
+    let by = first_so (nat_lt t.by (length (rows x))) _ e in
+    let rest = second_so (nat_lt t.by (length (rows x))) _ e in
     later x (next x t) (row_of x t.by) stands (Contains-get_or (rows x) t.by _ (ltb-true _ _ by))
-    (other_class k.AnnexOpen _ (both_right (nat_lt t.to (length (row_of x t.by).wanted)) _ rest))
-    (Contains-get_or (row_of x t.by).wanted t.to x (ltb-true _ _ (both_left (nat_lt t.to (length (row_of x t.by).wanted)) _ rest)))
+    (other_class k.AnnexOpen _ (second_so (nat_lt t.to (length (row_of x t.by).wanted)) _ rest))
+    (Contains-get_or (row_of x t.by).wanted t.to x (ltb-true _ _ (first_so (nat_lt t.to (length (row_of x t.by).wanted)) _ rest)))
 
 arrives : (first : List Symbol) (x : Symbol) (ts : List Turn) → is_way x ts ≡ true → Stands first x → Stands first (end_of x ts)
 arrives first x [] e stands = stands
-arrives first x (t ∷ ts) e stands = arrives first (next x t) ts (both_right (may_go x t) _ e) (goes first x t (both_left (may_go x t) _ e) stands)
+arrives first x (t ∷ ts) e stands = arrives first (next x t) ts (second_so (may_go x t) _ e) (goes first x t (first_so (may_go x t) _ e) stands)
 
 pub comes : (first : List Symbol) (m : Mark) (w : Way) → leads_to first m w ≡ true → CanCome first m
 comes first m w e =
-    let within = both_left (nat_lt w.first (length first)) _ e in
-    let rest = both_right (nat_lt w.first (length first)) _ e in
-    let way = both_left (is_way (start first w) w.turns) _ rest in
-    let last = both_right (is_way (start first w) w.turns) _ rest in
+    let within = first_so (nat_lt w.first (length first)) _ e in
+    let rest = second_so (nat_lt w.first (length first)) _ e in
+    let way = first_so (is_way (start first w) w.turns) _ rest in
+    let last = second_so (is_way (start first w) w.turns) _ rest in
     let end = end_of (start first w) w.turns in
     record {
       symbol = end;
       row = row_of end w.row;
       stands = arrives first (start first w) w.turns way (at_first (start first w) (Contains-get_or first w.first _ (ltb-true _ _ within)));
-      among = Contains-get_or (rows end) w.row _ (ltb-true _ _ (both_left (nat_lt w.row (length (rows end))) _ last));
-      begins = the_mark m _ (both_right (nat_lt w.row (length (rows end))) _ last);
+      among = Contains-get_or (rows end) w.row _ (ltb-true _ _ (first_so (nat_lt w.row (length (rows end))) _ last));
+      begins = the_mark m _ (second_so (nat_lt w.row (length (rows end))) _ last);
     }

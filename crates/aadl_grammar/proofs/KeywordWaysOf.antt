@@ -2,14 +2,14 @@
 use Rattle.std.proofs.Common.{◌≡◌, ℕ, Bool, true, ◌&&◌, List, [], ◌∷◌, refl}
 use Rattle.std.specs.Prelude.{Contains}
 use Rattle.std.specs.List.{list_all}
+use Rattle.std.specs.Cmp.{first_so, second_so}
+use Rattle.list_lemmas.proofs.Elements.{passes_by_list_all}
 use Rattle.aadl_tree.specs.declared.mark.Mark.{Mark}
 use Rattle.aadl_tree.specs.declared.mark.Mark.TheVariants as k
 use Rattle.aadl_tree.specs.Marks.{keywords_outside, keywords_inside}
 use Rattle.aadl_grammar.specs.proof.Symbols.{Symbol}
 use Rattle.aadl_grammar.specs.proof.Machine.{whole_package, annex_body}
 use Rattle.aadl_grammar.specs.proof.Reached.{is_word, CanCome}
-use Rattle.aadl_lex.proofs.Basics.{both_left, both_right}
-use Rattle.aadl_grammar.proofs.KeywordLists.{passes}
 use Rattle.aadl_grammar.proofs.KeywordWays.{Turn, Way, leads_to, comes}
 
 turn : ℕ → ℕ → Turn
@@ -85,8 +85,8 @@ reached : (first : List Symbol) (ways : Mark → Way) (keywords : List Mark) →
     → (is_word m ≡ true) × CanCome first m
 unfolding is_reached
 reached first ways keywords e m among =
-    let here = passes (is_reached first ways) keywords m e among in
-    (both_left (is_word m) _ here, comes first m (ways m) (both_right (is_word m) _ here))
+    let here = passes_by_list_all (is_reached first ways) keywords m e among in
+    (first_so (is_word m) _ here, comes first m (ways m) (second_so (is_word m) _ here))
 
 pub outside_reached : (m : Mark) → Contains keywords_outside m → (is_word m ≡ true) × CanCome whole_package m
 unfolding is_reached way_outside turn way

@@ -5,6 +5,7 @@ use Rattle.std.specs.List.{find}
 use Rattle.std.specs.Str.{bytes_eq, str_eq_ignore_ascii_case, str_to_ascii_lowercase}
 use Rattle.std.proofs.lemmas.Bool.{false_from_ne_true}
 use Rattle.std.proofs.lemmas.Slice.Eq.{bytes_eq-Decides}
+use Rattle.std.proofs.lemmas.Option.{same_Some}
 use Rattle.aadl_lex.specs.declared.token.TokenKind.TheVariants.{Word, Symbol}
 use Rattle.aadl_lex.specs.declared.rules.Reading.{Reading}
 use Rattle.aadl_lex.specs.declared.rules.Reading.TheVariants.{Outside, AfterName, Inside}
@@ -13,13 +14,12 @@ use Rattle.aadl_tree.specs.declared.mark.Mark.{Mark}
 use Rattle.aadl_tree.specs.declared.mark.Mark.TheVariants as k
 use Rattle.aadl_tree.specs.Marks.{mark_text, keywords, symbols, keyword_of, symbol_of}
 use Rattle.aadl_tree.specs.Kinds.{mark}
-use Rattle.aadl_lex.proofs.Basics.{some_is}
 use Rattle.aadl_grammar.proofs.Basics.{heads, tails}
 use Rattle.aadl_grammar.proofs.Spoken.{is_inside, behind}
 use Rattle.aadl_grammar.proofs.Tokens.{keyword_then, symbol_then}
 
 find_by : (f : Mark → Option Mark) (x m : Mark) (b : Bool) (y : Option Mark) → f x ≡ Some x → (y ≡ Some m → f m ≡ Some m) → (if b then Some x else y) ≡ Some m → f m ≡ Some m
-find_by f x m true y here go e = let same : x ≡ m = some_is x m e in sym (ap f same) ∙ here ∙ ap Some same
+find_by f x m true y here go e = let same : x ≡ m = same_Some x m e in sym (ap f same) ∙ here ∙ ap Some same
 find_by f x m false y here go e = go e
 
 -- what is found among those that f keeps is kept
@@ -28,7 +28,7 @@ find_fixed f q [] m e h = absurd cc
 find_fixed f q (x ∷ xs) m e h = find_by f x m (q x) (find q xs) (heads (f x) (Some x) (map f xs) (map Some xs) e) (λ g. find_fixed f q xs m (tails (f x) (Some x) (map f xs) (map Some xs) e) g) h
 
 passes_by : (q : Mark → Bool) (x m : Mark) (b : Bool) (y : Option Mark) → q x ≡ b → (y ≡ Some m → q m ≡ true) → (if b then Some x else y) ≡ Some m → q m ≡ true
-passes_by q x m true y here go e = sym (ap q (some_is x m e)) ∙ here
+passes_by q x m true y here go e = sym (ap q (same_Some x m e)) ∙ here
 passes_by q x m false y here go e = go e
 
 find_passes : (q : Mark → Bool) (xs : List Mark) (m : Mark) → find q xs ≡ Some m → q m ≡ true

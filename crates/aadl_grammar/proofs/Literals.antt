@@ -7,6 +7,7 @@ use Rattle.std.specs.Fmt as fmt
 use Rattle.std.proofs.Math.Seq.{take-append_seam}
 use Rattle.std.proofs.lemmas.Bool.{false_from_ne_true, not-true, or_parts, or_cases, and_from, le-leb, leb-true}
 use Rattle.std.proofs.lemmas.Fmt.{decimal_by_steps}
+use Rattle.std.specs.Cmp.{first_so, second_so}
 use Rattle.aadl_lex.specs.declared.token.TokenKind.TheVariants.{Whole, Real, Quoted, Unread}
 use Rattle.aadl_lex.specs.declared.fault.LexFault.TheVariants.{BigNumber}
 use Rattle.aadl_lex.specs.declared.rules.First.{First}
@@ -17,7 +18,6 @@ use Rattle.aadl_lex.specs.Rules.{is_blank, is_in_string, run, whole_len, decimal
 use Rattle.aadl_lex.specs.proof.Spelled.{IsReal, IsString, IsUnread}
 use Rattle.aadl_lex.proofs.Closes.{unread_ends}
 use Rattle.aadl_lex.proofs.Scans.{more_by, decimal_cons}
-use Rattle.aadl_lex.proofs.Basics.{both_left, both_right}
 use Rattle.aadl_grammar.proofs.FirstTokens.{stops, run_all, Visible, not_blank, not_comment, fourth}
 
 pub at_seam : (w rest : List ℕ) → get_or (w ++ rest) (length w) 0 ≡ get_or rest 0 0
@@ -38,10 +38,10 @@ digit_goes r at c s x digit letter h =
 
 digit_no_letter : (c : ℕ) → is_ascii_digit c ≡ true → is_ascii_alphabetic c ≡ false
 digit_no_letter c d =
-    let high : c ≤ 57 = leb-true c 57 (both_right (nat_le 48 c) _ d) in
+    let high : c ≤ 57 = leb-true c 57 (second_so (nat_le 48 c) _ d) in
     false_from_ne_true (is_ascii_alphabetic c) (λ e. elim (or_cases (nat_le 65 c && nat_le c 90) _ e) [
-      | inl a ↦ (let l = leb-true 65 c (both_left (nat_le 65 c) _ a) in absurd (omega arith))
-      | inr a ↦ (let l = leb-true 97 c (both_left (nat_le 97 c) _ a) in absurd (omega arith))
+      | inl a ↦ (let l = leb-true 65 c (first_so (nat_le 65 c) _ a) in absurd (omega arith))
+      | inr a ↦ (let l = leb-true 97 c (first_so (nat_le 97 c) _ a) in absurd (omega arith))
     ])
 
 -- what goes on with a whole number
@@ -75,15 +75,15 @@ whole_stops (h ∷ t) e =
 whole_goes : (ds rest : List ℕ) → list_all is_ascii_digit ds ≡ true → stops in_number rest ≡ true → whole_len (ds ++ rest) ≡ length ds
 whole_goes [] rest all stop = whole_stops rest stop
 whole_goes (c ∷ ds) rest all stop =
-    let digit = both_left (is_ascii_digit c) _ all in
-    let more = whole_goes ds rest (both_right (is_ascii_digit c) _ all) stop in
+    let digit = first_so (is_ascii_digit c) _ all in
+    let more = whole_goes ds rest (second_so (is_ascii_digit c) _ all) stop in
     ap (λ b. cond (b || (c == 95 && is_ascii_digit (get_or (ds ++ rest) 0 0))) (1 + whole_len (ds ++ rest)) 0) digit ∙ omega arith
 
 pub whole_first : (r : Reading) (at : ℕ) (ds rest : List ℕ) → 0 < length ds → list_all is_ascii_digit ds ≡ true → nat_le (decimal ds) most ≡ true → stops in_number rest ≡ true
     → first r at (ds ++ rest) ≡ Taken (Whole (pos (decimal ds))) (length ds)
 whole_first r at [] rest some all fits stop = absurd (omega arith)
 whole_first r at (c ∷ ds) rest some all fits stop =
-    let digit = both_left (is_ascii_digit c) _ all in
+    let digit = first_so (is_ascii_digit c) _ all in
     digit_goes r at c (ds ++ rest) _ digit (digit_no_letter c digit)
     (ap (number_by at (c ∷ ds ++ rest)) (not_real (c ∷ ds) rest all stop)
     ∙ ap (λ n. let t = take n (c ∷ ds ++ rest) in cond (nat_le (decimal t) most) (Taken (Whole (pos (decimal t))) (length t)) (Refused (BigNumber at))) (whole_goes (c ∷ ds) rest all stop)
@@ -106,7 +106,7 @@ is_digit k h = and_from (nat_le 48 (48 + k)) _ (le-leb 48 (48 + k) (omega arith)
 
 all_snoc : (p : ℕ → Bool) (ds : List ℕ) (d : ℕ) → list_all p ds ≡ true → p d ≡ true → list_all p (ds ++ d ∷ []) ≡ true
 all_snoc p [] d e h = and_from (p d) true h refl
-all_snoc p (c ∷ ds) d e h = and_from (p c) _ (both_left (p c) _ e) (all_snoc p ds d (both_right (p c) _ e) h)
+all_snoc p (c ∷ ds) d e h = and_from (p c) _ (first_so (p c) _ e) (all_snoc p ds d (second_so (p c) _ e) h)
 
 says_one : (n : ℕ) → n < 10 → Says n ((48 + n) ∷ [])
 says_one n h = let d = is_digit n h in record {
@@ -157,7 +157,7 @@ is_real w f rest some all frac stop =
 
 first_digit : (w rest : List ℕ) (r : Reading) (at : ℕ) (x : First) → 0 < length w → list_all is_ascii_digit w ≡ true → number_by at (w ++ rest) (real_len (w ++ rest)) ≡ x → first r at (w ++ rest) ≡ x
 first_digit [] rest r at x some all h = absurd (omega arith)
-first_digit (c ∷ w) rest r at x some all h = let digit = both_left (is_ascii_digit c) _ all in digit_goes r at c (w ++ rest) x digit (digit_no_letter c digit) h
+first_digit (c ∷ w) rest r at x some all h = let digit = first_so (is_ascii_digit c) _ all in digit_goes r at c (w ++ rest) x digit (digit_no_letter c digit) h
 
 pub real_first : (r : Reading) (at : ℕ) (b rest : List ℕ) → IsReal b → stops is_ascii_digit rest ≡ true → first r at (b ++ rest) ≡ Taken Real (length b)
 real_first r at b rest h stop =

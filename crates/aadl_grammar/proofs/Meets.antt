@@ -4,6 +4,7 @@ use Rattle.std.specs.Prelude.{codes, if◌then◌else◌}
 use Rattle.std.specs.Char.{is_ascii_alphabetic}
 use Rattle.std.specs.List.{list_all}
 use Rattle.std.proofs.lemmas.Bool.{or_cases}
+use Rattle.std.specs.Cmp.{first_so}
 use Rattle.aadl_lex.specs.declared.rules.Reading.{Reading}
 use Rattle.aadl_lex.specs.Rules.{is_word, is_in_word}
 use Rattle.aadl_tree.specs.declared.mark.Mark.{Mark}
@@ -13,7 +14,6 @@ use Rattle.aadl_tree.specs.proof.Marks.{mark_number}
 use Rattle.aadl_tree.specs.Kinds.{Kind, whole, mark}
 use Rattle.aadl_tree.specs.Canon.{kind_text, holds_left, holds_right, ends_line, line_end, text_behind}
 use Rattle.aadl_grammar.specs.proof.Machine.{kind_number}
-use Rattle.aadl_lex.proofs.Basics.{both_left}
 use Rattle.aadl_grammar.proofs.SideBySide.{may_stand_behind, AreNeighbours}
 use Rattle.aadl_grammar.proofs.FirstTokens.{other_bytes}
 use Rattle.aadl_grammar.proofs.Spoken.{Spoken, a_word, Said}
@@ -91,7 +91,7 @@ closed_ends m never (h ∷ t) = never h
 letter_first : (b rest : List ℕ) → is_word b ≡ true → Ends (mark k.Dot) (b ++ rest)
 letter_first [] rest w = absurd cc
 letter_first (c ∷ b) rest w =
-    other_bytes is_ascii_alphabetic c 46 (both_left (is_ascii_alphabetic c) _ (both_left (is_ascii_alphabetic c && list_all is_in_word (c ∷ b)) _ w)) refl
+    other_bytes is_ascii_alphabetic c 46 (first_so (is_ascii_alphabetic c) _ (first_so (is_ascii_alphabetic c && list_all is_in_word (c ∷ b)) _ w)) refl
 
 dot_meets_word : (r : Reading) (kind : Kind) (rest : List ℕ) → may_stand_behind (mark_number k.Dot) (kind_number kind) ≡ true → Spoken r kind → Ends (mark k.Dot) (kind_text kind ++ rest)
 dot_meets_word r _ rest h (a_word _ b w e) = letter_first b rest w

@@ -1,9 +1,10 @@
 -- Pieces of a text one behind the other, and the blanks between them.
-use Rattle.std.proofs.Common.{◌≡◌, ℕ, zero, suc, ◌+◌, ◌-◌, ◌<◌, Bool, true, false, ◌||◌, ◌∙◌, sym, ap, subst, refl, List, [], ◌∷◌, ◌++◌, length, length-append, take, drop, arith, Some}
+use Rattle.std.proofs.Common.{◌≡◌, ℕ, ◌+◌, ◌-◌, ◌<◌, Bool, true, false, ◌||◌, ◌∙◌, ap, subst, refl, List, [], ◌∷◌, ◌++◌, length, length-append, take, drop, arith, Some}
 use Rattle.std.specs.Prelude.{codes, if◌then◌else◌}
 use Rattle.std.specs.List.{list_all}
-use Rattle.std.proofs.Math.Seq.{drop-nil, drop-append_seam, take-append_seam, take-append-add}
+use Rattle.std.proofs.Math.Seq.{drop-append_seam, take-append_seam, take-append-add}
 use Rattle.std.proofs.lemmas.List.{length-drop, drop-take}
+use Rattle.list_lemmas.proofs.Lists.{drop_add}
 use Rattle.aadl_lex.specs.declared.token.Token.{Token}
 use Rattle.aadl_lex.specs.declared.token.TokenKind.{TokenKind}
 use Rattle.aadl_lex.specs.declared.rules.Reading.{Reading}
@@ -36,14 +37,9 @@ pub stands_within : (text : List ℕ) (at : ℕ) (w s : List ℕ) → 0 < length
 stands_within text at w s some e =
     let a = length-drop at text in let b = ap (length {A = ℕ}) e in let c = length-append w s in omega arith
 
-pub drop_more : (m n : ℕ) (text : List ℕ) → drop (m + n) text ≡ drop n (drop m text)
-drop_more zero n text = ap (λ i. drop i text) (let e : 0 + n ≡ n = omega arith in e)
-drop_more (suc m) n [] = drop-nil (suc m + n) ∙ sym (drop-nil n)
-drop_more (suc m) n (c ∷ text) = let e : suc m + n ≡ suc (m + n) = omega arith in ap (λ i. drop i (c ∷ text)) e ∙ drop_more m n text
-
 -- what stands behind a piece
 pub drop_past : (text : List ℕ) (at : ℕ) (w s : List ℕ) → drop at text ≡ w ++ s → drop (at + length w) text ≡ s
-drop_past text at w s e = drop_more at (length w) text ∙ ap (drop (length w)) e ∙ drop-append_seam w s
+drop_past text at w s e = drop_add at (length w) text ∙ ap (drop (length w)) e ∙ drop-append_seam w s
 
 -- a piece, in a text that ends some bytes behind it
 pub drop_cut : (text : List ℕ) (at : ℕ) (w s : List ℕ) (m : ℕ) → drop at text ≡ w ++ s → drop at (take (at + (length w + m)) text) ≡ w ++ take m s

@@ -7,6 +7,7 @@ use Rattle.std.specs.Fmt as fmt
 use Rattle.std.specs.Str.{IsUtf8, IsAscii}
 use Rattle.std.proofs.lemmas.Bool.{or_cases, eqb-true, leb-true, ltb-true, lt-ltb}
 use Rattle.std.proofs.lemmas.Str.{IsUtf8-append, IsUtf8-from_ascii}
+use Rattle.std.specs.Cmp.{first_so, second_so}
 use Rattle.aadl_lex.specs.declared.rules.Reading.{Reading}
 use Rattle.aadl_lex.specs.Rules.{is_word, is_in_word, is_blank}
 use Rattle.aadl_tree.specs.declared.mark.Mark.{Mark}
@@ -14,7 +15,6 @@ use Rattle.aadl_tree.specs.declared.mark.Mark.TheVariants as k
 use Rattle.aadl_tree.specs.Marks.{mark_text}
 use Rattle.aadl_tree.specs.Kinds.{Kind}
 use Rattle.aadl_tree.specs.Canon.{kind_text, line_end, between, text_behind}
-use Rattle.aadl_lex.proofs.Basics.{both_left, both_right}
 use Rattle.aadl_lex.specs.proof.Spelled.{IsReal}
 use Rattle.aadl_grammar.proofs.Literals.{number_digits}
 use Rattle.aadl_grammar.proofs.Spoken.{Spoken, a_word, a_number, a_real, a_string, an_annex, a_keyword, a_symbol, opens, closes, behind, Said}
@@ -26,19 +26,19 @@ low c = nat_lt c 128
 
 low_ascii : (w : List ℕ) → list_all low w ≡ true → IsAscii w
 low_ascii [] e i = omega arith
-low_ascii (c ∷ w) e zero = ltb-true c 128 (both_left (low c) _ e)
-low_ascii (c ∷ w) e (suc i) = low_ascii w (both_right (low c) _ e) i
+low_ascii (c ∷ w) e zero = ltb-true c 128 (first_so (low c) _ e)
+low_ascii (c ∷ w) e (suc i) = low_ascii w (second_so (low c) _ e) i
 
 low_utf8 : (w : List ℕ) → list_all low w ≡ true → IsUtf8 w
 low_utf8 w e = IsUtf8-from_ascii w (low_ascii w e)
 
 digit_low : (c : ℕ) → is_ascii_digit c ≡ true → low c ≡ true
-digit_low c d = let high = leb-true c 57 (both_right (nat_le 48 c) _ d) in lt-ltb c 128 (omega arith)
+digit_low c d = let high = leb-true c 57 (second_so (nat_le 48 c) _ d) in lt-ltb c 128 (omega arith)
 
 letter_low : (c : ℕ) → is_ascii_alphabetic c ≡ true → low c ≡ true
 letter_low c l = elim (or_cases (nat_le 65 c && nat_le c 90) _ l) [
-  | inl a ↦ (let high = leb-true c 90 (both_right (nat_le 65 c) _ a) in lt-ltb c 128 (omega arith))
-  | inr a ↦ (let high = leb-true c 122 (both_right (nat_le 97 c) _ a) in lt-ltb c 128 (omega arith))
+  | inl a ↦ (let high = leb-true c 90 (second_so (nat_le 65 c) _ a) in lt-ltb c 128 (omega arith))
+  | inr a ↦ (let high = leb-true c 122 (second_so (nat_le 97 c) _ a) in lt-ltb c 128 (omega arith))
 ]
 
 one_low : (c d : ℕ) → (c == d) ≡ true → low d ≡ true → low c ≡ true
@@ -65,7 +65,7 @@ mark_utf8 m = low_utf8 (mark_text m) refl
 
 word_utf8 : (b : List ℕ) → is_word b ≡ true → IsUtf8 b
 word_utf8 [] w = absurd cc
-word_utf8 (c ∷ b) w = low_utf8 (c ∷ b) (all_weaker is_in_word low (c ∷ b) word_low (both_right (is_ascii_alphabetic c) _ (both_left (is_ascii_alphabetic c && list_all is_in_word (c ∷ b)) _ w)))
+word_utf8 (c ∷ b) w = low_utf8 (c ∷ b) (all_weaker is_in_word low (c ∷ b) word_low (second_so (is_ascii_alphabetic c) _ (first_so (is_ascii_alphabetic c && list_all is_in_word (c ∷ b)) _ w)))
 
 real_utf8 : (b : List ℕ) → IsReal b → IsUtf8 b
 real_utf8 b h =

@@ -3,7 +3,7 @@ use Rattle.std.proofs.Common.{◌≡◌, ◌⊎◌, inl, inr, ℕ, zero, suc, �
 use Rattle.std.proofs.Common.{◌∷◌, get_or, Contains, Some, None, Result, Ok, Err, MatchResult, refl, sym, ap, subst, ◌∙◌, arith}
 use Rattle.std.proofs.lemmas.Bool.{cases_order}
 use Rattle.std.proofs.lemmas.Option.{same_Some, none-some}
-use Rattle.aadl_uses.proofs.Searches.{contains_none}
+use Rattle.list_lemmas.proofs.Elements.{Contains-nil}
 use Rattle.aadl_tree.specs.Declarations.{PackageTree}
 use Rattle.aadl_names.specs.declared.fault.FlatFault.{FlatFault}
 use Rattle.aadl_names.specs.declared.fault.FlatFault.TheVariants.{NoRoot, TooMany}
@@ -127,7 +127,7 @@ module _ (tree : PackageTree ℕ) (root : ℕ) where
       by (inr same) = here line fault same h
 
   pub silent_three : package_faults tree root ≡ [] → IsSilentTo tree root 3
-  silent_three none = silent_next 2 silent_two (λ line fault e h. contains_none fault (subst (λ xs. Contains xs fault) none (in_two line fault e h)))
+  silent_three none = silent_next 2 silent_two (λ line fault e h. Contains-nil fault (subst (λ xs. Contains xs fault) none (in_two line fault e h)))
 
   pub silent_four : package_faults tree root ≡ [] → ((fault : FlatFault) → IsRecursive tree fault → ⊥) → IsSilentTo tree root 4
   silent_four none never = silent_next 3 (silent_three none) (λ line fault e h. never fault (in_three line fault e h))

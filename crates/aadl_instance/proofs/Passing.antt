@@ -1,12 +1,13 @@
 -- Links, feeds and taps, found thread by thread and port by port.
-use Rattle.std.proofs.Common.{◌≡◌, ◌⊎◌, inl, inr, ℕ, ◌+◌, ◌<◌, ◌≤◌, Bool, true, false, ◌&&◌, ◌||◌, nat_lt, List, [], ◌∷◌, ◌++◌, length, reverse}
+use Rattle.std.proofs.Common.{◌≡◌, ◌⊎◌, inl, inr, ℕ, ◌+◌, ◌<◌, ◌≤◌, true, false, ◌&&◌, ◌||◌, nat_lt, List, [], ◌∷◌, ◌++◌, length, reverse}
 use Rattle.std.proofs.Common.{slice_get, get_or, Contains, AllPairs, Some, refl, sym, ap, subst, ◌∙◌, arith}
 use Rattle.std.proofs.lemmas.Bool.{true≢false, cases_order}
 use Rattle.std.proofs.lemmas.Bool.Decides.{nat_tests}
 use Rattle.std.proofs.lemmas.List.{map-append}
 use Rattle.std.proofs.lemmas.Option.{same_Some, slice_get_within, get_or_from_slice_get}
+use Rattle.std.proofs.Math.Bool.{or-true}
+use Rattle.list_lemmas.proofs.Places.{slice_get-from_Contains}
 use Rattle.aadl_uses.specs.Threads.{path_before}
-use Rattle.aadl_uses.proofs.Searches.{at_contains}
 use Rattle.aadl_tree.specs.Declarations.{PackageTree}
 use Rattle.aadl_names.specs.Resolving.{ports_at, implementation_at}
 use Rattle.aadl_uses.specs.Uses.{standing, component_at}
@@ -65,12 +66,9 @@ module _ (paths : List (List ℕ)) where
     passed_port to (inr h) = this_or to h.0 h.1 (cases_order to.port port)
 
   all_passed : (to : Port) → Contains paths to.path → IsPassed paths (length paths) 0 to
-  all_passed to h = inl (h.0, h.1, at_contains paths to.path h)
+  all_passed to h = inl (h.0, h.1, slice_get-from_Contains paths to.path h)
 
 -- ---- what is passed comes before
-or_true : (b : Bool) → (b || true) ≡ true
-or_true true = refl
-or_true false = refl
 
 first_before : (a b : Ends) → PathBefore a.to.path b.to.path → TargetBefore a b
 first_before a b e = ap (λ t. t || (same_path a.to.path b.to.path && nat_lt a.to.port b.to.port)) e
@@ -80,7 +78,7 @@ then_before a b e lt =
     let same : same_path a.to.path b.to.path ≡ true = subst (λ q. same_path a.to.path q ≡ true) e (same_itself a.to.path) in
     let less : nat_lt a.to.port b.to.port ≡ true = grind (arith, nat_tests) in
     ap (λ t. path_before (reverse a.to.path) (reverse b.to.path) || (t && nat_lt a.to.port b.to.port)) same
-    ∙ (ap (λ t. path_before (reverse a.to.path) (reverse b.to.path) || t) less ∙ or_true (path_before (reverse a.to.path) (reverse b.to.path)))
+    ∙ (ap (λ t. path_before (reverse a.to.path) (reverse b.to.path) || t) less ∙ or-true (path_before (reverse a.to.path) (reverse b.to.path)))
 
 before_by : (paths : List (List ℕ)) (node port : ℕ) → AllPairs PathBefore paths → (a b : Ends) → slice_get paths node ≡ Some b.to.path → b.to.port ≡ port
     → IsPassed paths node port a.to → TargetBefore a b
@@ -235,7 +233,7 @@ module _ (tree : PackageTree ℕ) (root : ℕ) (paths : List (List ℕ)) where
           (λ x k. (k, reached x (threads.complete x.to.path (is x k)))) s
         where
           reached : (x : Ends) → Contains paths x.to.path → IsPassed paths node 0 x.to
-          reached x h = let lt = h.1 in inl (h.0, omega arith, at_contains paths x.to.path h)
+          reached x h = let lt = h.1 in inl (h.0, omega arith, slice_get-from_Contains paths x.to.path h)
 
       pub links_whole : (incoming : Incoming) → AreInto tree root paths node 0 incoming
           → AreShown tree root paths (IsLink tree root) TargetBefore incoming.links

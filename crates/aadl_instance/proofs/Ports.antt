@@ -5,7 +5,8 @@ use Rattle.std.specs.List.{position_from}
 use Rattle.std.specs.Option.{option_and_then}
 use Rattle.std.proofs.lemmas.Bool.{true≢false}
 use Rattle.std.proofs.lemmas.Option.{same_Some, none-some, option_and_then_some, slice_get_within}
-use Rattle.aadl_uses.proofs.Searches.{contains_none}
+use Rattle.list_lemmas.proofs.Elements.{Contains-nil}
+use Rattle.list_lemmas.proofs.Options.{option_map-parts}
 use Rattle.aadl_tree.specs.Names.{Identifier}
 use Rattle.aadl_tree.specs.Declarations.{Feature, Subcomponent, ConnectionEnd, Implementation, PackageTree}
 use Rattle.aadl_names.specs.declared.site.Site.{Site}
@@ -27,10 +28,6 @@ first_within test i (x ∷ xs) k e = by (test x) e (first_within test (i + 1) xs
         → k < i + length (x ∷ xs)
     by true f more = let same = same_Some i k f in omega arith
     by false f more = let lt = more f in omega arith
-
-mapped_from : {X Y : Type 0} (f : X → Y) (o : Option X) (y : Y) → option_map f o ≡ Some y → (x : X) × (o ≡ Some x) × (f x ≡ y)
-mapped_from f None y e = absurd (none-some y e)
-mapped_from f (Some x) y e = (x, refl, same_Some (f x) y e)
 
 named_within : (ports : List (Feature ℕ)) (name : List ℕ) (p : ℕ) → port_named ports name ≡ Some p → p < length ports
 named_within ports name p e = let lt = first_within _ 0 ports p e in omega arith
@@ -71,12 +68,12 @@ module _ (tree : PackageTree ℕ) (root : ℕ) where
     there_by : (first : Identifier ℕ) (second : Option (Identifier ℕ)) (at : Site) → site_by tree x first second ≡ Some at
         → HasPort tree root (port_at path at)
     there_by first None at e =
-        let m = mapped_from Own (port_named (ports_of tree x) first.spelling) at e in
+        let m = option_map-parts Own (port_named (ports_of tree x) first.spelling) at e in
         subst (λ s. HasPort tree root (port_at path s)) m.2 (own_there m.0 (named_within (ports_of tree x) first.spelling m.0 m.1))
     there_by first (Some port) at e =
         option_and_then_some (inner_site tree x port.spelling) (sub_named x.subcomponents first.spelling) at e
         (λ s f g.
-        let m = mapped_from (Inner s) (port_named (inner_ports tree x s) port.spelling) at g in
+        let m = option_map-parts (Inner s) (port_named (inner_ports tree x s) port.spelling) at g in
         subst (λ t. HasPort tree root (port_at path t)) m.2 (inner_there s m.0 (named_within (inner_ports tree x s) port.spelling m.0 m.1)))
 
     pub there : (end : ConnectionEnd ℕ) (at : Site) → site tree x end ≡ Some at → HasPort tree root (port_at path at)
@@ -97,9 +94,9 @@ module _ (tree : PackageTree ℕ) (root : ℕ) where
   begins_by c (d ∷ cs) from to l = begins_by d cs from l.0 l.1
 
   pub begins_there : (chain : List Place) (place : Place) (from to : Port) → Contains chain place → Leads tree root chain from to → HasPort tree root from
-  begins_there [] place from to h l = absurd (contains_none place h)
+  begins_there [] place from to h l = absurd (Contains-nil place h)
   begins_there (c ∷ cs) place from to h l = begins_by c cs from to l
 
   pub ends_there : (chain : List Place) (place : Place) (from to : Port) → Contains chain place → Leads tree root chain from to → HasPort tree root to
-  ends_there [] place from to h l = absurd (contains_none place h)
+  ends_there [] place from to h l = absurd (Contains-nil place h)
   ends_there (c ∷ cs) place from to h l = enters_there c l.0 to l.2

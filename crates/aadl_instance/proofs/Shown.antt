@@ -4,11 +4,13 @@ use Rattle.std.proofs.Common.{nat_eq, nat_lt, List, [], ◌∷◌, length, map, 
 use Rattle.std.proofs.Common.{slice_get, get_or, AllPairs, Option, Some, None, count_by, Vec, Global, refl, sym, ap, subst, ◌∙◌, arith}
 use Rattle.std.specs.List.{position_from}
 use Rattle.std.specs.Option.{option_and_then, option_map_or}
-use Rattle.std.proofs.lemmas.Bool.{true≢false, and_parts, cases_lt}
+use Rattle.std.proofs.lemmas.Bool.{true≢false, and_parts, cases_lt, false_from_ne_true}
 use Rattle.std.proofs.lemmas.Bool.Decides.{nat_tests}
 use Rattle.std.proofs.lemmas.List.{take-map}
 use Rattle.std.proofs.lemmas.List.Folds.{fold-map}
 use Rattle.std.proofs.lemmas.Option.{same_Some, none-some, slice_get-map, slice_get_read, slice_get_within, get_or_from_slice_get}
+use Rattle.list_lemmas.proofs.Places.{Contains-from_slice_get}
+use Rattle.list_lemmas.proofs.Elements.{Contains-nil}
 use Rattle.pals_base.specs.declared.limits.TheConstants.{PORTS}
 use Rattle.pals_base.specs.declared.values.NodeNo.{NodeNo}
 use Rattle.aadl_tree.specs.declared.declarations.Feature as source
@@ -16,7 +18,6 @@ use Rattle.aadl_tree.specs.Declarations.{Feature, PackageTree}
 use Rattle.aadl_tree.specs.proof.Maps.{kept_place}
 use Rattle.aadl_tree.specs.proof.Views.{feature_view}
 use Rattle.aadl_uses.specs.Threads.{path_before}
-use Rattle.aadl_uses.proofs.Searches.{contains_none, contains_at}
 use Rattle.aadl_names.specs.Resolving.{ports_at, ports_of, implementation_at}
 use Rattle.aadl_uses.specs.Uses.{standing, component_at}
 use Rattle.aadl_uses.specs.Threads.{IsThreadAt, PathBefore}
@@ -31,7 +32,7 @@ use Rattle.aadl_instance.specs.Instances.{same_direction, node_at, goes_as, numb
 -- ---- the number of a thread
 position_at : {X : Type 0} (test : X → Bool) (i : ℕ) (xs : List X) (k : ℕ) (x : X) → slice_get xs k ≡ Some x → test x ≡ true
     → ((j : ℕ) (y : X) → j < k → slice_get xs j ≡ Some y → test y ≡ false) → position_from test i xs ≡ Some (i + k)
-position_at test i [] k x e t none = absurd (contains_none x (contains_at [] k x e))
+position_at test i [] k x e t none = absurd (Contains-nil x (Contains-from_slice_get [] k x e))
 position_at test i (y ∷ xs) zero x e t none =
     ap (λ b. cond b (Some i) (position_from test (i + 1) xs)) (ap test (same_Some y x e) ∙ t) ∙ ap Some (omega arith)
 position_at test i (y ∷ xs) (suc k) x e t none =
@@ -59,15 +60,11 @@ never_before (x ∷ path) =
     let same : nat_eq x x ≡ true = grind (arith, nat_tests) in
     ap (λ b. b || (nat_eq x x && path_before path path)) less ∙ (ap (λ b. b && path_before path path) same ∙ never_before path)
 
-not_true : (b : Bool) → (b ≡ true → ⊥) → b ≡ false
-not_true true h = absurd (h refl)
-not_true false h = refl
-
 pub node_is : (paths : List (List ℕ)) (node : NodeNo) (path : List ℕ) → AllPairs PathBefore paths → slice_get paths node.0 ≡ Some path
     → node_at paths path ≡ node
 node_is paths node path pairs at =
     ap (λ (o : Option ℕ). let n : NodeNo = record { 0 = option_map_or (λ k. k) o 0 } in n)
-    (position_at (same_path path) 0 paths node.0 path at (same_itself path) (λ j y lt e. not_true (same_path path y) (λ t. other j y lt e (same_is path y t)))
+    (position_at (same_path path) 0 paths node.0 path at (same_itself path) (λ j y lt e. false_from_ne_true (same_path path y) (λ t. other j y lt e (same_is path y t)))
     ∙ ap Some (omega arith))
   where
     other : (j : ℕ) (y : List ℕ) → j < node.0 → slice_get paths j ≡ Some y → path ≡ y → ⊥

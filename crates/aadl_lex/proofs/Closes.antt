@@ -3,13 +3,11 @@ use Rattle.std.proofs.Common.{◌≡◌, ℕ, zero, suc, ◌+◌, ◌≤◌, Boo
 use Rattle.std.specs.Prelude.{codes}
 use Rattle.std.specs.List.{starts_with}
 use Rattle.std.proofs.lemmas.Bool.{eqb-true}
+use Rattle.std.proofs.Math.Bool.{and-false}
+use Rattle.std.specs.Cmp.{first_so, second_so}
+use Rattle.std.proofs.lemmas.Option.{same_Some}
 use Rattle.aadl_lex.specs.Rules.{close_from}
 use Rattle.aadl_lex.specs.proof.Spelled.{IsUnread}
-use Rattle.aadl_lex.proofs.Basics.{both_left, both_right, some_is}
-
-pub and_none : (a : Bool) → (a && false) ≡ false
-and_none true = refl
-and_none false = refl
 
 pub none_parts : (b : Bool) (x : ℕ) (y : Option ℕ) → cond b (Some x) y ≡ None → (b ≡ false) × (y ≡ None)
 none_parts true x y e = absurd cc
@@ -17,9 +15,9 @@ none_parts false x y e = (refl, e)
 
 -- where a `**}` begins hangs on three bytes
 starts_take : (c : ℕ) (s : List ℕ) (i : ℕ) → starts_with nat_eq (c ∷ s) (codes "**}") ≡ false → starts_with nat_eq (c ∷ take i s) (codes "**}") ≡ false
-starts_take c s zero e = and_none (42 == c)
+starts_take c s zero e = and-false (42 == c)
 starts_take c [] (suc i) e = e
-starts_take c (d ∷ s) (suc zero) e = ap (λ b. (42 == c) && b) (and_none (42 == d)) ∙ and_none (42 == c)
+starts_take c (d ∷ s) (suc zero) e = ap (λ b. (42 == c) && b) (and-false (42 == d)) ∙ and-false (42 == c)
 starts_take c (d ∷ []) (suc (suc i)) e = e
 starts_take c (d ∷ (f ∷ s)) (suc (suc i)) e = e
 
@@ -55,13 +53,13 @@ pub data Closes : List ℕ → ℕ → Type 0 where
 
 pub starts_exact : (x y z : ℕ) (s : List ℕ) → starts_with nat_eq s (x ∷ (y ∷ (z ∷ []))) ≡ true → (t : List ℕ) × (s ≡ x ∷ y ∷ z ∷ t)
 starts_exact x y z [] e = absurd cc
-starts_exact x y z (c ∷ []) e = absurd (let f = both_right (x == c) false e in cc)
-starts_exact x y z (c ∷ (d ∷ [])) e = absurd (let f = both_right (y == d) false (both_right (x == c) _ e) in cc)
+starts_exact x y z (c ∷ []) e = absurd (let f = second_so (x == c) false e in cc)
+starts_exact x y z (c ∷ (d ∷ [])) e = absurd (let f = second_so (y == d) false (second_so (x == c) _ e) in cc)
 starts_exact x y z (c ∷ (d ∷ (f ∷ t))) e =
-    let rest = both_right (x == c) _ e in
-    let a = eqb-true x c (both_left (x == c) _ e) in
-    let b = eqb-true y d (both_left (y == d) _ rest) in
-    let g = eqb-true z f (both_left (z == f) _ (both_right (y == d) _ rest)) in
+    let rest = second_so (x == c) _ e in
+    let a = eqb-true x c (first_so (x == c) _ e) in
+    let b = eqb-true y d (first_so (y == d) _ rest) in
+    let g = eqb-true z f (first_so (z == f) _ (second_so (y == d) _ rest)) in
     (t, cc)
 
 record Found (s : List ℕ) (j k : ℕ) : Type 0 where
@@ -72,7 +70,7 @@ record Found (s : List ℕ) (j k : ℕ) : Type 0 where
 found_by : (c : ℕ) (s : List ℕ) (j k : ℕ) (b : Bool) → starts_with nat_eq (c ∷ s) (codes "**}") ≡ b → (close_from (j + 1) s ≡ Some k → Found s (j + 1) k) → cond b (Some j) (close_from (j + 1) s) ≡ Some k → Found (c ∷ s) j k
 found_by c s j k true h go e =
     let exact = starts_exact 42 42 125 (c ∷ s) h in
-    let same = some_is j k e in
+    let same = same_Some j k e in
     record { size = 0; is = omega arith; closes = subst (λ (l : List ℕ). Closes l 0) (sym exact.1) (here exact.0) }
 found_by c s j k false h go e =
     let more = go e in let is = more.is in

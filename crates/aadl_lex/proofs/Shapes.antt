@@ -9,6 +9,8 @@ use Rattle.std.proofs.lemmas.Bool.{eqb-true, leb-true, ltb-true, or_left, or_rig
 use Rattle.std.proofs.lemmas.List.{length-take-le}
 use Rattle.std.proofs.lemmas.List.Folds.{length-prefix_len, list_any-append}
 use Rattle.std.proofs.lemmas.Slice.Eq.{bytes_eq-Decides}
+use Rattle.std.specs.Cmp.{first_so, second_so}
+use Rattle.std.proofs.lemmas.Option.{same_Some}
 use Rattle.aadl_lex.specs.declared.token.TheConstants.{NAME_BYTES}
 use Rattle.aadl_lex.specs.declared.token.TokenKind.{TokenKind}
 use Rattle.aadl_lex.specs.declared.token.TokenKind.TheVariants.{Word, Whole, Real, Quoted, Symbol, AnnexOpen, AnnexClose, Unread}
@@ -18,7 +20,6 @@ use Rattle.aadl_lex.specs.declared.rules.Reading.{Reading}
 use Rattle.aadl_lex.specs.declared.rules.Reading.TheVariants.{Outside, AfterName, Inside}
 use Rattle.aadl_lex.specs.Rules.{is_blank, is_in_word, is_in_string, run, whole_len, decimal, most, real_len, number_by, body_len, close_from, annex_by, can_open, symbols_of_three, symbols_of_two, symbols_of_one, symbol_len, first, after}
 use Rattle.aadl_lex.specs.proof.Spelled.{IsWhole, IsReal, IsString, IsUnread, IsSymbol, IsSpelled, behind}
-use Rattle.aadl_lex.proofs.Basics.{both_left, both_right, some_is}
 use Rattle.aadl_lex.proofs.Closes.{none_take, starts_exact, closes_of, closes_size, closes_front, closes_cut, close_at}
 use Rattle.aadl_lex.proofs.Within.{whole_len_le, run_some}
 use Rattle.aadl_lex.proofs.Words.{all_taken, run_is_word}
@@ -37,7 +38,7 @@ parted_at (c ∷ s) (suc a) b x e some =
 -- a real
 
 real_parts : (a b : Bool) (m n : ℕ) → cond (a && b) (Some m) None ≡ Some n → (a ≡ true) × (b ≡ true) × (m ≡ n)
-real_parts true true m n e = (refl, refl, some_is m n e)
+real_parts true true m n e = (refl, refl, same_Some m n e)
 real_parts true false m n e = absurd cc
 real_parts false b m n e = absurd cc
 
@@ -133,8 +134,8 @@ any_by s n x false more found size h rest e = or_right (bytes_eq (take n s) x) f
 any_taken : (s : List ℕ) (n : ℕ) (xs : List (List ℕ)) → list_all (λ x. length x == n) xs ≡ true → list_any (starts_with nat_eq s) xs ≡ true → list_any (bytes_eq (take n s)) xs ≡ true
 any_taken s n [] sizes e = absurd cc
 any_taken s n (x ∷ xs) sizes e =
-    any_by s n x (starts_with nat_eq s x) (list_any (starts_with nat_eq s) xs) (list_any (bytes_eq (take n s)) xs) (both_left (length x == n) _ sizes) refl
-    (any_taken s n xs (both_right (length x == n) _ sizes)) e
+    any_by s n x (starts_with nat_eq s x) (list_any (starts_with nat_eq s) xs) (list_any (bytes_eq (take n s)) xs) (first_so (length x == n) _ sizes) refl
+    (any_taken s n xs (second_so (length x == n) _ sizes)) e
 
 one_by : (c d : ℕ) (b more found : Bool) → (c == d) ≡ b → (more ≡ true → found ≡ true) → (b || more) ≡ true → (bytes_eq (d ∷ []) (c ∷ []) || found) ≡ true
 one_by c d true more found h rest e = or_left (bytes_eq (d ∷ []) (c ∷ [])) found ((bytes_eq-Decides (d ∷ []) (c ∷ [])).1 (ap (λ x. x ∷ []) (sym (eqb-true c d h))))
@@ -209,7 +210,7 @@ first_shape r at s some =
     (λ front. shape_if r s (get_or s (run is_in_string (drop 1 s) + 1) 0 == 34) _ _
     (λ close clear. (string_shape s front close, λ inside. none_take s (run is_in_string (drop 1 s) + 2) 0 (clear inside))) (λ _. tt))
     (λ _. shape_if r s (starts_with nat_eq s (codes "{**") && can_open r) _ _
-    (λ both. annex_shape r at s (body_len (drop 3 s)) (both_left (starts_with nat_eq s (codes "{**")) _ both) (both_right (starts_with nat_eq s (codes "{**")) _ both) refl)
+    (λ both. annex_shape r at s (body_len (drop 3 s)) (first_so (starts_with nat_eq s (codes "{**")) _ both) (second_so (starts_with nat_eq s (codes "{**")) _ both) refl)
     (λ _. shape_if r s (symbol_len s == 0) _ _ (λ _. tt) (λ long clear. symbol_shape s some long)))))))
 
 -- a token that is no end of a body

@@ -8,20 +8,13 @@ use Rattle.std.specs.Cmp.Lexicographic.{same_text}
 use Rattle.std.specs.Prelude.{◌==◌, codes}
 use Rattle.std.specs.List.{starts_with, list_any, list_all, prefix_len}
 use Rattle.std.specs.Char.{is_ascii_digit, is_ascii_alphabetic}
+use Rattle.std.specs.Cmp.{first_so, second_so}
+use Rattle.list_lemmas.proofs.Booleans.{or_second, by_test}
 use Rattle.aadl_lex.specs.declared.rules.First.{First}
 use Rattle.aadl_lex.specs.declared.rules.Reading.{Reading}
 use Rattle.aadl_lex.specs.declared.rules.Reading.TheVariants.{Outside, AfterName, Inside}
 use Rattle.aadl_lex.specs.declared.token.TheConstants.{NAME_BYTES}
-use Rattle.aadl_lex.proofs.Basics.{both_left, both_right}
 use Rattle.aadl_lex.specs.Rules.{run, is_in_line, is_in_word, is_in_string, is_blank, word_first, whole_len, decimal, most, whole_first, real_len, number_by, number_first, string_first, close_from, body_len, annex_by, annex_first, can_open, symbols_of_three, symbols_of_two, symbols_of_one, symbol_len, symbol_first, first, IsWithin}
-
-or_second : (a b : Bool) → a ≡ false → (a || b) ≡ true → b ≡ true
-or_second true b e h = absurd cc
-or_second false b e h = h
-
-by_test : (b : Bool) (P : Type 0) → (b ≡ true → P) → (b ≡ false → P) → P
-by_test true P holds fails = holds refl
-by_test false P holds fails = fails refl
 
 begins_le : (s needle : List ℕ) → starts_with nat_eq s needle ≡ true → length needle ≤ length s
 begins_le s needle h = let same = ap length (same_text needle (take (length needle) s) (sym h)) in omega (arith, length-take (length needle) s)
@@ -62,8 +55,8 @@ any_le : (s : List ℕ) (n : ℕ) (symbols : List (List ℕ)) → list_all (λ x
 any_le s n [] all h = absurd cc
 any_le s n (x ∷ xs) all h =
     by_test (starts_with nat_eq s x) (n ≤ length s)
-    (λ holds. let within = begins_le s x holds in let len : (length x == n) ≡ true = both_left (length x == n) (list_all (λ y. length y == n) xs) all in grind (arith, nat_tests))
-    (λ not_this. any_le s n xs (both_right (length x == n) (list_all (λ y. length y == n) xs) all) (or_second (starts_with nat_eq s x) (list_any (starts_with nat_eq s) xs) not_this h))
+    (λ holds. let within = begins_le s x holds in let len : (length x == n) ≡ true = first_so (length x == n) (list_all (λ y. length y == n) xs) all in grind (arith, nat_tests))
+    (λ not_this. any_le s n xs (second_so (length x == n) (list_all (λ y. length y == n) xs) all) (or_second (starts_with nat_eq s x) (list_any (starts_with nat_eq s) xs) not_this h))
 
 comment_dash : (s : List ℕ) → 0 < length s → starts_with nat_eq s (codes "--") ≡ true → get_or s 0 0 ≡ 45
 comment_dash [] some h = absurd (omega arith)
@@ -109,7 +102,7 @@ real_within s n e =
     let fraction = run is_ascii_digit (drop (whole + 1) s) in
     by_test (get_or s whole 0 == 46 && nat_lt 0 fraction) ((0 < n) × (n ≤ length s))
     (λ holds.
-    let some : nat_lt 0 fraction ≡ true = both_right (get_or s whole 0 == 46) (nat_lt 0 fraction) holds in
+    let some : nat_lt 0 fraction ≡ true = second_so (get_or s whole 0 == 46) (nat_lt 0 fraction) holds in
     let positive : 0 < fraction = grind (arith, nat_tests) in
     let same : Some (whole + 1 + fraction) ≡ Some n = rw holds at e in
     let len : whole + 1 + fraction ≡ n = cc in
@@ -152,5 +145,5 @@ first_within reading at s some =
     (λ not_word. if_within (is_ascii_digit (get_or s 0 0)) len _ _ (number_within at s some)
     (λ not_number. if_within (get_or s 0 0 == 34) len _ _ (λ _. string_within at s)
     (λ not_string. if_within (starts_with nat_eq s (codes "{**") && can_open reading) len _ _
-    (λ opens. annex_within reading at s (begins_le s (codes "{**") (both_left (starts_with nat_eq s (codes "{**")) (can_open reading) opens)))
+    (λ opens. annex_within reading at s (begins_le s (codes "{**") (first_so (starts_with nat_eq s (codes "{**")) (can_open reading) opens)))
     (λ closed. symbol_within at s some))))))

@@ -4,13 +4,16 @@ use Rattle.aadl_tree.specs.Names.{same_name}
 use Rattle.std.proofs.Common.{refl, sym, ap, ◌∙◌, subst, inl, inr, suc, add-zero, arith}
 use Rattle.std.specs.List.{list_any, flat_map}
 use Rattle.std.specs.Prelude.{slice_get}
-use Rattle.std.proofs.lemmas.Bool.{true≢false}
+use Rattle.std.proofs.lemmas.Bool.{true≢false, and_from, or_left, or_right}
 use Rattle.std.proofs.lemmas.Bool.Decides.{nat_tests}
 use Rattle.std.proofs.lemmas.Grind.{flat_map-append}
 use Rattle.std.proofs.lemmas.List.Folds.{list_any-append}
 use Rattle.std.proofs.lemmas.List.Elements.{Contains-append_left, Contains-append_right, Contains-append_cases}
 use Rattle.std.proofs.lemmas.Slice.Eq.{bytes_eq-Decides}
 use Rattle.std.specs.Str.{bytes_eq}
+use Rattle.std.specs.Cmp.{first_so, second_so}
+use Rattle.list_lemmas.proofs.Places.{Contains-from_slice_get}
+use Rattle.list_lemmas.proofs.Elements.{list_any_by_element, Contains-nil}
 use Rattle.aadl_names.specs.declared.fault.FlatFault.{FlatFault}
 use Rattle.aadl_names.specs.declared.fault.FlatFault.TheVariants.{Twice}
 use Rattle.aadl_names.specs.declared.entry.Entry.{Entry}
@@ -21,7 +24,7 @@ use Rattle.aadl_names.specs.Twice.{again, twice}
 use Rattle.aadl_names.specs.proof.Earliest.{sooner, earliest, is_before}
 use Rattle.aadl_names.proofs.Spots.{any_before}
 use Rattle.aadl_names.specs.proof.DeclaredTwice.{entry_again, again_beside, port_again, beside_each, beside}
-use Rattle.aadl_names.proofs.Elements.{from_all, among_all, passing, any_of, got, is_here, only_here, none_here}
+use Rattle.aadl_names.proofs.Elements.{from_all, among_all, passing, is_here, only_here}
 use Rattle.aadl_names.proofs.Covers.{Covers, NotBehind, found_is_first, first_covers, not_itself}
 
 -- ---- names
@@ -38,23 +41,6 @@ same_step : (a b c : List ℕ) → same_name a b ≡ true → same_name b c ≡ 
 same_step a b c s t = same_by a c (same_from a b s ∙ same_from b c t)
 
 -- ---- a test of two parts
-both : (a b : Bool) → a ≡ true → b ≡ true → (a && b) ≡ true
-both a b x y = ap (λ c. c && b) x ∙ y
-
-and_left : (a b : Bool) → (a && b) ≡ true → a ≡ true
-and_left true b h = refl
-and_left false b h = absurd (true≢false (sym h))
-
-and_right : (a b : Bool) → (a && b) ≡ true → b ≡ true
-and_right true b h = h
-and_right false b h = absurd (true≢false (sym h))
-
-or_left : (a b : Bool) → a ≡ true → (a || b) ≡ true
-or_left a b x = ap (λ c. c || b) x
-
-or_right : (a b : Bool) → b ≡ true → (a || b) ≡ true
-or_right true b y = refl
-or_right false b y = y
 
 or_else : (a b : Bool) → (a || b) ≡ true → a ≡ false → b ≡ true
 or_else a b h x = sym (ap (λ c. c || b) x) ∙ h
@@ -65,11 +51,11 @@ there_if b f e = subst (λ c. Contains (cond c (f ∷ []) []) f) (sym e) (is_her
 
 is_if : (b : Bool) (f g : FlatFault) → Contains (cond b (f ∷ []) []) g → f ≡ g
 is_if true f g h = only_here f g h
-is_if false f g h = absurd (none_here g h)
+is_if false f g h = absurd (Contains-nil g h)
 
 passed_if : (b : Bool) (f g : FlatFault) → Contains (cond b (f ∷ []) []) g → b ≡ true
 passed_if true f g h = refl
-passed_if false f g h = absurd (none_here g h)
+passed_if false f g h = absurd (Contains-nil g h)
 
 -- another one of the name stands before it
 abbrev stands_before : Entry → Entry → Bool
@@ -154,14 +140,14 @@ more_again ports others x f h =
 port_again_in : (ports others : List Entry) (x y : Entry) → Contains others x → same_name x.name y.name ≡ true → nat_lt x.at y.at ≡ true
     → Contains (again (ports ++ others) y) (Twice y.name y.at)
 port_again_in ports others x y there same before =
-    let one = any_of (stands_before y) others x there (both (same_name y.name x.name) (nat_lt x.at y.at) (same_flip x.name y.name same) before) in
+    let one = list_any_by_element (stands_before y) others x there (and_from (same_name y.name x.name) (nat_lt x.at y.at) (same_flip x.name y.name same) before) in
     there_if (list_any (stands_before y) (ports ++ others)) (Twice y.name y.at)
     (list_any-append (stands_before y) ports others ∙ or_right (list_any (stands_before y) ports) (list_any (stands_before y) others) one)
 
 -- ---- what is asked is among all
 port_among : (ports others : List Entry) (x : Entry) (f : FlatFault) → Contains others x → (o : Option Spot) → earliest x.name 0 ports ≡ o
     → Contains (port_again ports o x) f → Contains (twice (ports ++ others)) f
-port_among ports others x f there None e h = absurd (none_here f h)
+port_among ports others x f there None e h = absurd (Contains-nil f h)
 port_among ports others x f there (Some s) e h = by (nat_lt x.at s.at) refl h
   where
     spot : IsSpot x.name 0 ports s
@@ -171,10 +157,10 @@ port_among ports others x f there (Some s) e h = by (nat_lt x.at s.at) refl h
     numbered = ap (slice_get ports) (spot_number s.number spot.place spot.number) ∙ spot.is_item
 
     by : (b : Bool) → nat_lt x.at s.at ≡ b → Contains (cond b (entry_again (slice_get ports s.number)) []) f → Contains (twice (ports ++ others)) f
-    by false before h = absurd (none_here f h)
+    by false before h = absurd (Contains-nil f h)
     by true before h =
         let is = only_here (Twice spot.item.name spot.item.at) f (subst (λ o. Contains (entry_again o) f) numbered h) in
-        whole_left ports others spot.item f (got ports spot.place spot.item spot.is_item)
+        whole_left ports others spot.item f (Contains-from_slice_get ports spot.place spot.item spot.is_item)
         (subst (Contains (again (ports ++ others) spot.item)) is (port_again_in ports others x spot.item there spot.same (ap (nat_lt x.at) spot.at ∙ before)))
 
 each_among : (ports others : List Entry) (x : Entry) (f : FlatFault) → Contains others x → Contains (beside_each ports others x) f
@@ -238,12 +224,12 @@ cross_enough : (ports others : List Entry) (x y : Entry) → Contains ports x �
     → Contains others y → same_name x.name y.name ≡ true → nat_lt y.at x.at ≡ true → (o : Option Spot) → earliest y.name 0 ports ≡ o
     → NotBehind (asked ports others) (Twice x.name x.at)
 cross_enough ports others x y there none beside_it same before None e =
-    let one = any_of (λ z. same_name y.name z.name && nat_lt z.at (x.at + 1)) ports x there
-    (both (same_name y.name x.name) (nat_lt x.at (x.at + 1)) (same_flip x.name y.name same) (lt_next x.at)) in
+    let one = list_any_by_element (λ z. same_name y.name z.name && nat_lt z.at (x.at + 1)) ports x there
+    (and_from (same_name y.name x.name) (nat_lt x.at (x.at + 1)) (same_flip x.name y.name same) (lt_next x.at)) in
     absurd (true≢false (sym one ∙ (any_before y.name (x.at + 1) 0 ports ∙ ap (λ o. is_before o (x.at + 1)) e)))
 cross_enough ports others x y there none beside_it same before (Some s) e =
-    let one = any_of (λ z. same_name y.name z.name && nat_lt z.at (x.at + 1)) ports x there
-    (both (same_name y.name x.name) (nat_lt x.at (x.at + 1)) (same_flip x.name y.name same) (lt_next x.at)) in
+    let one = list_any_by_element (λ z. same_name y.name z.name && nat_lt z.at (x.at + 1)) ports x there
+    (and_from (same_name y.name x.name) (nat_lt x.at (x.at + 1)) (same_flip x.name y.name same) (lt_next x.at)) in
     let near : nat_lt s.at (x.at + 1) ≡ true = ap (λ o. is_before o (x.at + 1)) (sym e) ∙ (sym (any_before y.name (x.at + 1) 0 ports) ∙ one) in
     let names : earliest x.name 0 ports ≡ Some s = earliest_same x.name y.name 0 ports (same_from x.name y.name same) ∙ e in
     let far : nat_lt s.at x.at ≡ false = ap (λ o. is_before o x.at) (sym names) ∙ (sym (any_before x.name x.at 0 ports) ∙ none) in
@@ -283,8 +269,8 @@ port_enough ports others x f there here = by (list_any (stands_before x) ports) 
         (sym (list_any-append (stands_before x) ports others) ∙ passed_if (list_any (stands_before x) (ports ++ others)) (Twice x.name x.at) f here) e in
         let y = passing (stands_before x) others any in
         subst (NotBehind (asked ports others)) is
-        (cross_enough ports others x y.item there e y.there (and_left (same_name x.name y.item.name) (nat_lt y.item.at x.at) y.passes)
-        (and_right (same_name x.name y.item.name) (nat_lt y.item.at x.at) y.passes)
+        (cross_enough ports others x y.item there e y.there (first_so (same_name x.name y.item.name) (nat_lt y.item.at x.at) y.passes)
+        (second_so (same_name x.name y.item.name) (nat_lt y.item.at x.at) y.passes)
         (earliest y.item.name 0 ports) refl)
 
 all_enough : (ports others : List Entry) (f : FlatFault) → Contains (twice (ports ++ others)) f → NotBehind (asked ports others) f

@@ -4,27 +4,23 @@ use Rattle.std.proofs.Common.{sym, ap, ◌∙◌, subst, inl, inr, arith}
 use Rattle.std.specs.List.{flat_map}
 use Rattle.std.proofs.lemmas.List.Elements.{Contains-append_left, Contains-append_right, Contains-append_cases}
 use Rattle.std.proofs.lemmas.Bool.Decides.{nat_tests}
+use Rattle.list_lemmas.proofs.Elements.{Contains-nil}
+use Rattle.list_lemmas.proofs.Numbers.{pair_ge-transitive, pair_lt-asymmetric}
 use Rattle.aadl_names.specs.declared.fault.FlatFault.{FlatFault}
 use Rattle.aadl_names.specs.Findings.{place_of, number_of, precedes, FirstOf}
 use Rattle.aadl_names.specs.proof.Found.{earlier, found, as_list}
-use Rattle.aadl_names.proofs.Elements.{is_here, only_here, none_here}
+use Rattle.aadl_names.proofs.Elements.{is_here, only_here}
 
 -- ---- the order of findings
-no_earlier_by : (p q r m n o : ℕ) → (nat_lt p q || (nat_eq p q && nat_lt m n)) ≡ false → (nat_lt q r || (nat_eq q r && nat_lt n o)) ≡ false
-    → (nat_lt p r || (nat_eq p r && nat_lt m o)) ≡ false
-no_earlier_by p q r m n o a b = grind (arith, nat_tests)
-
-not_both_by : (p q m n : ℕ) → (nat_lt p q || (nat_eq p q && nat_lt m n)) ≡ true → (nat_lt q p || (nat_eq q p && nat_lt n m)) ≡ false
-not_both_by p q m n a = grind (arith, nat_tests)
 
 not_itself_by : (p m : ℕ) → (nat_lt p p || (nat_eq p p && nat_lt m m)) ≡ false
 not_itself_by p m = grind (arith, nat_tests)
 
 pub no_earlier : (a b c : FlatFault) → precedes a b ≡ false → precedes b c ≡ false → precedes a c ≡ false
-no_earlier a b c x y = no_earlier_by (place_of a) (place_of b) (place_of c) (number_of a) (number_of b) (number_of c) x y
+no_earlier a b c x y = pair_ge-transitive (place_of a) (place_of b) (place_of c) (number_of a) (number_of b) (number_of c) x y
 
 not_both : (a b : FlatFault) → precedes a b ≡ true → precedes b a ≡ false
-not_both a b x = not_both_by (place_of a) (place_of b) (number_of a) (number_of b) x
+not_both a b x = pair_lt-asymmetric (place_of a) (place_of b) (number_of a) (number_of b) x
 
 pub not_itself : (a : FlatFault) → precedes a a ≡ false
 not_itself a = not_itself_by (place_of a) (number_of a)
@@ -62,7 +58,7 @@ covers_all f g each (x ∷ xs) = covers_append (f x) (g x) (flat_map f xs) (flat
 
 nothing_by : (ys : List FlatFault) → ((f : FlatFault) → Contains ys f → NotBehind [] f) → ys ≡ []
 nothing_by [] h = refl
-nothing_by (y ∷ ys) h = let s = h y (Contains-append_left (y ∷ []) ys y (is_here y)) in absurd (none_here s.item s.there)
+nothing_by (y ∷ ys) h = let s = h y (Contains-append_left (y ∷ []) ys y (is_here y)) in absurd (Contains-nil s.item s.there)
 
 pub first_of_more : (xs ys : List FlatFault) → Covers xs ys → (o : Option FlatFault) → FirstOf xs o → FirstOf ys o
 first_of_more xs ys c None h = nothing_by ys (subst (λ zs. (f : FlatFault) → Contains ys f → NotBehind zs f) h c.enough)

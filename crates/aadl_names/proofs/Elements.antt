@@ -1,10 +1,10 @@
 -- What is in a list.
-use Rattle.std.proofs.Common.{◌≡◌, ◌⊎◌, ℕ, Bool, true, false, ◌||◌, List, [], ◌∷◌, ◌++◌, Contains, refl, sym, ap, ◌∙◌, subst, inl, inr, lit<, zero}
-use Rattle.std.proofs.Common.{suc, arith, Some}
+use Rattle.std.proofs.Common.{◌≡◌, ◌⊎◌, Bool, true, false, ◌||◌, List, [], ◌∷◌, ◌++◌, Contains, refl, sym, subst, inl, inr, lit<, zero}
+use Rattle.std.proofs.Common.{suc, arith}
 use Rattle.std.specs.List.{list_any, flat_map}
-use Rattle.std.specs.Prelude.{slice_get}
 use Rattle.std.proofs.lemmas.Bool.{true≢false}
 use Rattle.std.proofs.lemmas.List.Elements.{Contains-append_left, Contains-append_right, Contains-append_cases}
+use Rattle.list_lemmas.proofs.Elements.{Contains-nil, Contains-cons_cases}
 
 pub is_here : {X : Type 0} (x : X) → Contains (x ∷ []) x
 is_here x = (0, lit< tt, refl)
@@ -13,17 +13,6 @@ pub only_here : {X : Type 0} (x y : X) → Contains (x ∷ []) y → x ≡ y
 only_here x y (zero, within, is) = is
 only_here x y (suc k, within, is) = absurd (omega arith)
 
-pub none_here : {X : Type 0} (x : X) → Contains [] x → ⊥
-none_here x (k, within, is) = omega arith
-
--- the first of a list or one behind it
-pub first_or : {X : Type 0} (x : X) (xs : List X) (y : X) → Contains (x ∷ xs) y → (x ≡ y) ⊎ Contains xs y
-first_or x xs y h = by (Contains-append_cases (x ∷ []) xs y h)
-  where
-    by : Contains (x ∷ []) y ⊎ Contains xs y → (x ≡ y) ⊎ Contains xs y
-    by (inl a) = inl (only_here x y a)
-    by (inr b) = inr b
-
 -- what a list of lists has
 among_by : {X Y : Type 0} (f : X → List Y) (z : X) (xs : List X) (x : X) (y : Y) → Contains (f x) y → (Contains xs x → Contains (flat_map f xs) y)
     → (z ≡ x) ⊎ Contains xs x → Contains (f z ++ flat_map f xs) y
@@ -31,8 +20,8 @@ among_by f z xs x y here rest (inl e) = Contains-append_left (f z) (flat_map f x
 among_by f z xs x y here rest (inr h) = Contains-append_right (f z) (flat_map f xs) y (rest h)
 
 pub among_all : {X Y : Type 0} (f : X → List Y) (xs : List X) (x : X) (y : Y) → Contains xs x → Contains (f x) y → Contains (flat_map f xs) y
-among_all f [] x y there here = absurd (none_here x there)
-among_all f (z ∷ xs) x y there here = among_by f z xs x y here (λ h. among_all f xs x y h here) (first_or z xs x there)
+among_all f [] x y there here = absurd (Contains-nil x there)
+among_all f (z ∷ xs) x y there here = among_by f z xs x y here (λ h. among_all f xs x y h here) (Contains-cons_cases z xs x there)
 
 pub record Source {X Y : Type 0} (f : X → List Y) (xs : List X) (y : Y) : Type 0 where
   pub item : X
@@ -45,22 +34,8 @@ from_by f x xs y rest (inl a) = record { item = x; there = Contains-append_left 
 from_by f x xs y rest (inr b) = let s = rest b in record { item = s.item; there = Contains-append_right (x ∷ []) xs s.item s.there; here = s.here }
 
 pub from_all : {X Y : Type 0} (f : X → List Y) (xs : List X) (y : Y) → Contains (flat_map f xs) y → Source f xs y
-from_all f [] y h = absurd (none_here y h)
+from_all f [] y h = absurd (Contains-nil y h)
 from_all f (x ∷ xs) y h = from_by f x xs y (λ b. from_all f xs y b) (Contains-append_cases (f x) (flat_map f xs) y h)
-
--- what passes a test
-or_true : (b : Bool) → (b || true) ≡ true
-or_true true = refl
-or_true false = refl
-
-any_by : {X : Type 0} (p : X → Bool) (y : X) (xs : List X) (x : X) → p x ≡ true → (Contains xs x → list_any p xs ≡ true) → (y ≡ x) ⊎ Contains xs x
-    → (p y || list_any p xs) ≡ true
-any_by p y xs x is rest (inl e) = ap (λ b. b || list_any p xs) (ap p e ∙ is)
-any_by p y xs x is rest (inr h) = ap (λ b. p y || b) (rest h) ∙ or_true (p y)
-
-pub any_of : {X : Type 0} (p : X → Bool) (xs : List X) (x : X) → Contains xs x → p x ≡ true → list_any p xs ≡ true
-any_of p [] x there is = absurd (none_here x there)
-any_of p (y ∷ xs) x there is = any_by p y xs x is (λ h. any_of p xs x h is) (first_or y xs x there)
 
 pub record Passing {X : Type 0} (p : X → Bool) (xs : List X) : Type 0 where
   pub item : X
@@ -75,11 +50,3 @@ passing_by p x xs rest false e h = let s = rest h in record { item = s.item; the
 pub passing : {X : Type 0} (p : X → Bool) (xs : List X) → list_any p xs ≡ true → Passing p xs
 passing p [] h = absurd (true≢false (sym h))
 passing p (x ∷ xs) h = passing_by p x xs (λ r. passing p xs r) (p x) refl h
-
-some_is : {X : Type 0} (x y : X) → Some x ≡ Some y → x ≡ y
-some_is x y e = cc e
-
-pub got : {X : Type 0} (xs : List X) (k : ℕ) (x : X) → slice_get xs k ≡ Some x → Contains xs x
-got [] k x e = absurd (cc e)
-got (y ∷ xs) zero x e = subst (λ z. Contains (z ∷ xs) x) (sym (some_is y x e)) (Contains-append_left (x ∷ []) xs x (is_here x))
-got (y ∷ xs) (suc k) x e = Contains-append_right (y ∷ []) xs x (got xs k x e)

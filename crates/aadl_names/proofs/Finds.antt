@@ -1,16 +1,14 @@
 -- Findings one behind the other.
-use Rattle.std.proofs.Common.{◌≡◌, ◌<◌, ◌≤◌, ◌+◌, ℕ, ◌∙◌, sym, ap, refl, List, [], ◌∷◌, ◌++◌, Option, length, drop, get_or, drop-cons, arith, Result, Ok, Err}
+use Rattle.std.proofs.Common.{◌≡◌, ◌<◌, ◌≤◌, ◌+◌, ℕ, ◌∙◌, sym, ap, refl, List, [], ◌∷◌, ◌++◌, Option, length, drop, get_or, arith, Result, Ok, Err}
 use Rattle.std.proofs.lemmas.Grind.{common_steps}
 use Rattle.std.specs.Prelude.{OnOk}
+use Rattle.list_lemmas.proofs.Lists.{drop-next}
 use Rattle.aadl_names.specs.declared.fault.FlatFault.{FlatFault}
 use Rattle.aadl_names.specs.proof.Found.{earlier, found}
 
 pub found_append : (first : Option FlatFault) (a b : List FlatFault) → found first (a ++ b) ≡ found (found first a) b
 found_append first [] b = refl
 found_append first (x ∷ a) b = found_append (earlier first x) a b
-
-pub first_left : {A : Type 0} (xs : List A) (i : ℕ) (x : A) → i < length xs → x ≡ get_or xs i x → drop i xs ≡ x ∷ drop (i + 1) xs
-first_left xs i x within is = drop-cons xs i x within ∙ grind (arith, common_steps)
 
 pub none_left : {A : Type 0} (xs : List A) (i : ℕ) → length xs ≤ i → drop i xs ≡ []
 none_left xs i past = grind (arith, common_steps)
@@ -20,7 +18,7 @@ pub next_found : {A : Type 0} (parts : List A → List FlatFault) (here : A → 
     → (xs : List A) (i : ℕ) (x : A) (whole before after : (Option FlatFault)) → i < length xs → x ≡ get_or xs i x
     → whole ≡ found before (parts (drop i xs)) → after ≡ found before (here x) → whole ≡ found after (parts (drop (i + 1) xs))
 next_found parts here splits xs i x whole before after within is left more =
-    left ∙ ap (λ (l : List _). found before (parts l)) (first_left xs i x within is) ∙ ap (found before) (splits x (drop (i + 1) xs))
+    left ∙ ap (λ (l : List _). found before (parts l)) (drop-next xs i x within is) ∙ ap (found before) (splits x (drop (i + 1) xs))
     ∙ found_append before (here x) (parts (drop (i + 1) xs)) ∙ ap (λ (p : Option FlatFault). found p (parts (drop (i + 1) xs))) (sym more)
 
 -- Behind the last turn nothing is left.
@@ -33,8 +31,3 @@ last_found parts xs i whole now past none left =
 pub closed : {T E : Type 0} (r : Result T E) (now last whole : (Option FlatFault)) → last ≡ whole → OnOk r (now ≡ last) → OnOk r (now ≡ whole)
 closed (Ok x) now last whole e is = is ∙ e
 closed (Err x) now last whole e is = tt
-
--- What is so where a call did not fail.
-pub on_ok : {T E P Q : Type 0} (r : Result T E) → (P → Q) → OnOk r P → OnOk r Q
-on_ok (Ok x) f p = f p
-on_ok (Err x) f p = tt

@@ -1,24 +1,21 @@
 -- The first of a list, with one more item.
-use Rattle.std.proofs.Common.{◌≡◌, ℕ, ◌+◌, ◌<◌, ◌≤◌, Bool, true, false, cond, List, [], ◌∷◌, ◌++◌, length, Option, Some, None, refl, sym, ap, ◌∙◌, arith}
+use Rattle.std.proofs.Common.{◌≡◌, ℕ, ◌+◌, ◌<◌, ◌≤◌, Bool, cond, List, [], ◌∷◌, ◌++◌, length, Option, Some, None, refl, sym, ap, ◌∙◌, arith}
 use Rattle.std.proofs.Common.{add-zero, map, take, get_or, zero, suc, length-append, Result, Ok, Err, IfOk}
 use Rattle.std.specs.Prelude.{slice_get}
 use Rattle.std.specs.List.{position_from}
 use Rattle.std.specs.Option.{option_or}
 use Rattle.std.proofs.lemmas.List.{length-map, length-take-le, map_more, take_all}
+use Rattle.list_lemmas.proofs.Options.{option_or-cond}
 use Rattle.aadl_tree.specs.Declarations.{Declaration}
 use Rattle.aadl_names.specs.Resolving.{first_number}
 use Rattle.aadl_names.specs.proof.Tables.{value_of}
 use Rattle.aadl_names.specs.proof.Members.{member_of}
 
-push_by : {X : Type 0} (b : Bool) (n : X) (old new more : Option X) → new ≡ option_or old more → cond b (Some n) new ≡ option_or (cond b (Some n) old) more
-push_by true n old new more e = refl
-push_by false n old new more e = e
-
 position-push : {X : Type 0} (p : X → Bool) (n : ℕ) (xs : List X) (x : X)
     → position_from p n (xs ++ x ∷ []) ≡ option_or (position_from p n xs) (cond (p x) (Some (n + length xs)) None)
 position-push p n [] x = ap (λ m. cond (p x) (Some m) None) (sym (add-zero n))
 position-push p n (y ∷ ys) x =
-    push_by (p y) n (position_from p (n + 1) ys) _ (cond (p x) (Some (n + length (y ∷ ys))) None)
+    option_or-cond (p y) n (position_from p (n + 1) ys) _ (cond (p x) (Some (n + length (y ∷ ys))) None)
     (position-push p (n + 1) ys x ∙ ap (λ m. option_or (position_from p (n + 1) ys) (cond (p x) (Some m) None)) (omega arith))
 
 first-push : {X : Type 0} (p : X → Bool) (xs : List X) (x : X) (n : ℕ) → n ≡ length xs

@@ -10,6 +10,7 @@ use Rattle.std.specs.Char.{is_ascii_uppercase}
 use Rattle.std.specs.List.{list_any}
 use Rattle.std.proofs.lemmas.Slice.Eq.{bytes_eq-Decides}
 use Rattle.indexmap.specs.IndexMap.{insert_entry}
+use Rattle.list_lemmas.proofs.Options.{option_or-cond}
 use Rattle.aadl_names.specs.Spelling.{folded}
 use Rattle.aadl_names.specs.proof.Tables.{value_of}
 
@@ -32,14 +33,10 @@ pub lookup_keys : {K J X : Type 0} (part : K → J) (test : J → Bool) (es : Li
 lookup_keys part test [] = refl
 lookup_keys part test (e ∷ es) = ap (cond (test (part e.0)) (Some e.1)) (lookup_keys part test es)
 
-or_by : {X : Type 0} (b : Bool) (n : X) (old new more : Option X) → new ≡ option_or old more → cond b (Some n) new ≡ option_or (cond b (Some n) old) more
-or_by true n old new more e = refl
-or_by false n old new more e = e
-
 pub lookup-push : {K X : Type 0} (test : K → Bool) (es : List (K × X)) (e : K × X)
     → lookup test (es ++ e ∷ []) ≡ option_or (lookup test es) (cond (test e.0) (Some e.1) None)
 lookup-push test [] e = refl
-lookup-push test (f ∷ es) e = or_by (test f.0) f.1 (lookup test es) _ (cond (test e.0) (Some e.1) None) (lookup-push test es e)
+lookup-push test (f ∷ es) e = option_or-cond (test f.0) f.1 (lookup test es) _ (cond (test e.0) (Some e.1) None) (lookup-push test es e)
 
 -- a value that is there stays
 kept_by : {X : Type 0} (a : Option X) (b : Bool) (n : X) → (b ≡ true → (m : X) × (a ≡ Some m)) → a ≡ option_or a (cond b (Some n) None)

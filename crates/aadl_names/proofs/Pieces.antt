@@ -5,20 +5,14 @@ use Rattle.std.specs.Prelude.{nat_eq}
 use Rattle.std.specs.Char.{to_ascii_lowercase}
 use Rattle.std.specs.Str.{str_to_ascii_lowercase}
 use Rattle.std.proofs.lemmas.Slice.Eq.{bytes_eq-Decides}
-
-none_more : (b : Bool) → (b && false) ≡ false
-none_more true = refl
-none_more false = refl
-
-both_more : (a b c : Bool) → (a && (b && c)) ≡ ((a && b) && c)
-both_more true b c = refl
-both_more false b c = refl
+use Rattle.std.proofs.Math.Bool.{and-false}
+use Rattle.list_lemmas.proofs.Booleans.{and_assoc_left}
 
 pub too_short : (word more text : List ℕ) → length text < length word → same_name (word ++ more) text ≡ false
 too_short [] more text short = absurd (omega arith)
 too_short (w ∷ word) more [] short = refl
 too_short (w ∷ word) more (t ∷ text) short =
-    ap (λ b. nat_eq (to_ascii_lowercase w) (to_ascii_lowercase t) && b) (too_short word more text (omega arith)) ∙ none_more (nat_eq (to_ascii_lowercase w) (to_ascii_lowercase t))
+    ap (λ b. nat_eq (to_ascii_lowercase w) (to_ascii_lowercase t) && b) (too_short word more text (omega arith)) ∙ and-false (nat_eq (to_ascii_lowercase w) (to_ascii_lowercase t))
 
 -- a text of two parts, the first as long as a word
 parted : (word front more rest : List ℕ) → length front ≡ length word → same_name (word ++ more) (front ++ rest) ≡ (same_name word front && same_name more rest)
@@ -27,7 +21,7 @@ parted [] (f ∷ front) more rest long = absurd (omega arith)
 parted (w ∷ word) [] more rest long = absurd (omega arith)
 parted (w ∷ word) (f ∷ front) more rest long =
     ap (λ b. nat_eq (to_ascii_lowercase w) (to_ascii_lowercase f) && b) (parted word front more rest (omega arith))
-    ∙ both_more (nat_eq (to_ascii_lowercase w) (to_ascii_lowercase f)) (same_name word front) (same_name more rest)
+    ∙ and_assoc_left (nat_eq (to_ascii_lowercase w) (to_ascii_lowercase f)) (same_name word front) (same_name more rest)
 
 pub cut_behind : (word front more rest text : List ℕ) → text ≡ front ++ rest → length front ≡ length word → map to_ascii_lowercase front ≡ map to_ascii_lowercase word
     → same_name (word ++ more) text ≡ same_name more rest

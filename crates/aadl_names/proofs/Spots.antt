@@ -5,6 +5,8 @@ use Rattle.std.proofs.Common.{refl, sym, ap, ◌∙◌, arith}
 use Rattle.std.specs.List.{list_any}
 use Rattle.std.proofs.lemmas.Bool.{true≢false}
 use Rattle.std.proofs.lemmas.Bool.Decides.{nat_tests}
+use Rattle.std.proofs.Math.Bool.{or-false}
+use Rattle.list_lemmas.proofs.Lists.{drop-next}
 use Rattle.aadl_names.specs.declared.fault.FlatFault.TheVariants.{Twice}
 use Rattle.aadl_names.specs.declared.entry.Entry.{Entry}
 use Rattle.aadl_names.specs.declared.spot.Spot.{Spot}
@@ -12,7 +14,7 @@ use Rattle.aadl_names.specs.proof.Tables.{value_of}
 use Rattle.aadl_names.specs.Twice.{again}
 use Rattle.aadl_names.specs.proof.Earliest.{sooner, is_sooner, earliest, is_before, again_by}
 use Rattle.aadl_names.proofs.Lookups.{value-same}
-use Rattle.aadl_names.proofs.Finds.{first_left, none_left}
+use Rattle.aadl_names.proofs.Finds.{none_left}
 
 -- ---- of two and of three
 below_chain : (a b c : ℕ) → nat_lt c b ≡ true → nat_lt b a ≡ true → nat_lt c a ≡ true
@@ -77,16 +79,13 @@ pub next_earliest : (name : List ℕ) (xs : List Entry) (i : ℕ) (x : Entry) (o
 next_earliest name xs i x old new whole within is more so_far =
     ap (λ (o : Option Spot). sooner o (earliest name (i + 1) (drop (i + 1) xs))) more
     ∙ (sooner-assoc old (cond (same_name name x.name) (Some (record { number = i; at = x.at })) None) (earliest name (i + 1) (drop (i + 1) xs))
-    ∙ (ap (λ l. sooner old (earliest name i l)) (sym (first_left xs i x within is)) ∙ so_far))
+    ∙ (ap (λ l. sooner old (earliest name i l)) (sym (drop-next xs i x within is)) ∙ so_far))
 
 pub last_earliest : (name : List ℕ) (xs : List Entry) (i : ℕ) (now whole : (Option Spot)) → length xs ≤ i → sooner now (earliest name i (drop i xs)) ≡ whole
     → now ≡ whole
 last_earliest name xs i now whole past so_far = sym (sooner-none now) ∙ (sym (ap (λ l. sooner now (earliest name i l)) (none_left xs i past)) ∙ so_far)
 
 -- ---- what the earliest one decides
-or-false : (b : Bool) → (b || false) ≡ b
-or-false true = refl
-or-false false = refl
 
 before_two : (a b at : ℕ) → nat_lt (cond (nat_lt b a) b a) at ≡ (nat_lt a at || nat_lt b at)
 before_two a b at = by (nat_lt b a) refl

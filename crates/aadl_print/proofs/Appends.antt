@@ -1,9 +1,10 @@
 -- Parts one behind the other are written one behind the other.
-use Rattle.std.proofs.Common.{◌≡◌, ◌<◌, ◌≤◌, ◌+◌, ◌-◌, ℕ, ◌∙◌, sym, ap, refl, List, [], ◌∷◌, ◌++◌, length, take, drop, get_or, drop-cons, arith, suc}
+use Rattle.std.proofs.Common.{◌≡◌, ◌<◌, ◌≤◌, ◌+◌, ◌-◌, ℕ, ◌∙◌, sym, ap, refl, List, [], ◌∷◌, ◌++◌, length, take, drop, get_or, arith, suc}
 use Rattle.std.proofs.lemmas.Grind.{common_steps}
 use Rattle.std.specs.Prelude.{OnOk}
 use Rattle.std.proofs.Common.{Result, Ok, Err}
 use Rattle.std.proofs.lemmas.List.{take_all}
+use Rattle.list_lemmas.proofs.Lists.{drop-next}
 use Rattle.aadl_tree.specs.Parts.{Part, token, may}
 use Rattle.aadl_print.specs.proof.Printed.{Printed, put, printed}
 
@@ -11,9 +12,6 @@ pub printed_append : {P : Type 0} → (before : Printed) (a b : List (Part P)) �
 printed_append before [] b = refl
 printed_append before (token kind places ∷ a) b = printed_append (put before kind) a b
 printed_append before (may extra ∷ a) b = printed_append before a b
-
-first_left : {A : Type 0} (xs : List A) (i : ℕ) (x : A) → i < length xs → x ≡ get_or xs i x → drop i xs ≡ x ∷ drop (i + 1) xs
-first_left xs i x within is = drop-cons xs i x within ∙ grind (arith, common_steps)
 
 none_left : {A : Type 0} (xs : List A) (i : ℕ) → length xs ≤ i → drop i xs ≡ []
 none_left xs i past = grind (arith, common_steps)
@@ -23,7 +21,7 @@ pub next_written : {A P : Type 0} (parts : List A → List (Part P)) (here : A �
     → (xs : List A) (i : ℕ) (x : A) (whole before after : Printed) → i < length xs → x ≡ get_or xs i x
     → whole ≡ printed before (parts (drop i xs)) → after ≡ printed before (here x) → whole ≡ printed after (parts (drop (i + 1) xs))
 next_written parts here splits xs i x whole before after within is left written =
-    left ∙ ap (λ (l : List _). printed before (parts l)) (first_left xs i x within is) ∙ ap (printed before) (splits x (drop (i + 1) xs))
+    left ∙ ap (λ (l : List _). printed before (parts l)) (drop-next xs i x within is) ∙ ap (printed before) (splits x (drop (i + 1) xs))
     ∙ printed_append before (here x) (parts (drop (i + 1) xs)) ∙ ap (λ (p : Printed). printed p (parts (drop (i + 1) xs))) (sym written)
 
 -- Behind the last turn nothing is left.

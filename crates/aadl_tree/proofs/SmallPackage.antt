@@ -5,11 +5,11 @@ use Rattle.std.specs.List.{list_all}
 use Rattle.std.specs.Str.{IsAscii}
 use Rattle.std.proofs.lemmas.Bool.{ltb-true}
 use Rattle.std.proofs.lemmas.Str.{IsUtf8-from_ascii}
+use Rattle.std.specs.Cmp.{first_so, second_so}
 use Rattle.aadl_lex.specs.declared.token.TokenKind.TheVariants.{Word, Symbol}
 use Rattle.aadl_lex.specs.declared.rules.Reading.TheVariants.{Outside}
 use Rattle.aadl_lex.specs.Rules.{first}
 use Rattle.aadl_lex.specs.Tokens.{Lexes, ended, skips, takes, AreTokensOf}
-use Rattle.aadl_lex.proofs.Basics.{both_left, both_right}
 use Rattle.aadl_tree.specs.Kinds.{Kind, spots, kinds_of}
 use Rattle.aadl_tree.specs.Parts.{Written}
 use Rattle.aadl_tree.specs.Declarations.{package_parts}
@@ -19,8 +19,8 @@ use Rattle.aadl_tree.specs.proof.SmallPackage.{package_text, package_tokens, sma
 
 low_ascii : (w : List ℕ) → list_all (λ c. nat_lt c 128) w ≡ true → IsAscii w
 low_ascii [] e i = omega arith
-low_ascii (c ∷ w) e zero = ltb-true c 128 (both_left (nat_lt c 128) _ e)
-low_ascii (c ∷ w) e (suc i) = low_ascii w (both_right (nat_lt c 128) _ e) i
+low_ascii (c ∷ w) e zero = ltb-true c 128 (first_so (nat_lt c 128) _ e)
+low_ascii (c ∷ w) e (suc i) = low_ascii w (second_so (nat_lt c 128) _ e) i
 
 lexes : Lexes Outside package_text 0 package_tokens
 unfolding first

@@ -1,10 +1,10 @@
 -- The containment of a package by numbers is that of its subcomponents.
-use Rattle.std.proofs.Common.{◌≡◌, ◌↔◌, ℕ, zero, suc, ◌<◌, ◌+◌, Bool, true, false, cond, List, [], ◌∷◌, ◌++◌, map, Option, Some, None, option_map, length}
+use Rattle.std.proofs.Common.{◌≡◌, ◌↔◌, ℕ, zero, suc, ◌<◌, Bool, true, false, List, [], ◌∷◌, ◌++◌, map, Option, Some, None, option_map, length}
 use Rattle.std.proofs.Common.{get_or, slice_get, Contains, refl, sym, ap, subst, ◌∙◌, arith, if◌then◌else◌, codes, Result, Ok, Err, IfOk}
 use Rattle.std.specs.Option.{option_and_then}
-use Rattle.std.specs.List.{position_from}
 use Rattle.std.proofs.lemmas.List.{length-map}
-use Rattle.std.proofs.lemmas.Option.{slice_get-map, same_Some, none-some, option_and_then_some}
+use Rattle.std.proofs.lemmas.Option.{slice_get-map, none-some, option_and_then_some}
+use Rattle.list_lemmas.proofs.Places.{position_from-within}
 use Rattle.aadl_tree.specs.Names.{Identifier, Reference}
 use Rattle.aadl_tree.specs.Declarations.{Declaration, PackageTree}
 use Rattle.aadl_names.specs.Resolving.{implementation_in, implementation_at, subcomponents_of, referred, named_by, is_of, first_number, is_implementation}
@@ -48,13 +48,6 @@ in_use_by tree root n keys same = (
 )
 
 -- ---- references name what is declared
-within_by : (b : Bool) (k m n : ℕ) (rest : Option ℕ) → (rest ≡ Some m → m < k + 1 + n) → cond b (Some k) rest ≡ Some m → m < k + suc n
-within_by true k m n rest later e = let same = same_Some k m e in omega arith
-within_by false k m n rest later e = let least = later e in omega arith
-
-position_within : {X : Type 0} (test : X → Bool) (k m : ℕ) (xs : List X) → position_from test k xs ≡ Some m → m < k + length xs
-position_within test k m [] e = absurd (none-some m e)
-position_within test k m (x ∷ xs) e = within_by (test x) k m (length xs) (position_from test (k + 1) xs) (position_within test (k + 1) m xs) e
 
 named_within : (tree : PackageTree ℕ) (x : Reference ℕ) (o : Option (Identifier ℕ)) (m : ℕ) → named_by tree x o ≡ Some m → m < length tree.declarations
 named_within tree x None m e = absurd (none-some m e)
@@ -62,7 +55,7 @@ named_within tree x (Some i) m e = by (is_of tree x) e
   where
     by : (b : Bool) → (if b then first_number (is_implementation (x.type_name.spelling ++ codes "." ++ i.spelling)) tree.declarations else None) ≡ Some m
         → m < length tree.declarations
-    by true f = let least = position_within (is_implementation (x.type_name.spelling ++ codes "." ++ i.spelling)) 0 m tree.declarations f in omega arith
+    by true f = let least = position_from-within (is_implementation (x.type_name.spelling ++ codes "." ++ i.spelling)) 0 m tree.declarations f in omega arith
     by false f = absurd (none-some m f)
 
 pub referred_within : (tree : PackageTree ℕ) (x : Reference ℕ) (m : ℕ) → referred tree x ≡ Some m → m < length tree.declarations

@@ -3,13 +3,16 @@ use Rattle.std.proofs.Common.{◌≡◌, ◌⊎◌, inl, inr, ◌↔◌, ℕ, ze
 use Rattle.std.proofs.Common.{◌++◌, map, reverse, Option, Some, None, length, get_or, slice_get, AllPairs, Contains, refl, sym, ap, subst, ◌∙◌, arith}
 use Rattle.std.proofs.Common.{Result, Ok, Err, IfOk}
 use Rattle.std.specs.Option.{option_and_then}
-use Rattle.std.proofs.lemmas.Bool.{cases_order, true≢false}
+use Rattle.std.proofs.lemmas.Bool.{cases_order, true≢false, le-ltb}
 use Rattle.std.proofs.lemmas.Bool.Decides.{nat_tests}
 use Rattle.std.proofs.lemmas.List.{length-map, reverse-append, reverse-reverse}
 use Rattle.std.proofs.lemmas.List.Elements.{All-from_recursion, All-map, All-weaker, Contains-append_cases, Contains-append_left, Contains-append_right}
 use Rattle.std.proofs.lemmas.List.Elements.{Contains-push, Contains-push_cases}
 use Rattle.std.proofs.lemmas.List.Kept.{AllPairs-cons}
 use Rattle.std.proofs.lemmas.Option.{option_and_then_some}
+use Rattle.list_lemmas.proofs.Booleans.{or_and_right}
+use Rattle.list_lemmas.proofs.Pairs.{AllPairs-nil}
+use Rattle.list_lemmas.proofs.Elements.{Contains-nil}
 use Rattle.aadl_tree.specs.Declarations.{Implementation, Declaration, PackageTree}
 use Rattle.aadl_names.specs.Resolving.{implementation_in, implementation_at, is_thread}
 use Rattle.aadl_uses.specs.Uses.{standing}
@@ -67,8 +70,6 @@ marked_from tree n path t =
     })
 
 -- ---- lists
-none_in : {X : Type 0} (x : X) → Contains [] x → ⊥
-none_in x h = let lt = h.1 in absurd (omega arith)
 
 contains_by : {X : Type 0} (xs : List X) (x : X) → Among xs x → Contains xs x
 contains_by [] x a = absurd a
@@ -80,14 +81,11 @@ reversed_in [] p a = absurd a
 reversed_in (q ∷ ps) p (inl e) = inl (ap reverse e)
 reversed_in (q ∷ ps) p (inr a) = inr (reversed_in ps p a)
 
-pairs_none : {X : Type 0} (R : X → X → Type 0) → AllPairs R []
-pairs_none R i j d less lt = absurd (omega arith)
-
 later_by : (p : List ℕ) (q : List ℕ) → path_before p q ≡ true → PathBefore (reverse p) (reverse q)
 later_by p q e = ap (λ l. path_before l (reverse (reverse q))) (reverse-reverse p) ∙ (ap (path_before p) (reverse-reverse q) ∙ e)
 
 pairs_by : (ps : List (List ℕ)) → Ordered path_before ps → AllPairs PathBefore (map reverse ps)
-pairs_by [] o = pairs_none PathBefore
+pairs_by [] o = AllPairs-nil PathBefore
 pairs_by (p ∷ ps) o =
     AllPairs-cons PathBefore (reverse p) (map reverse ps)
     (All-map (PathBefore (reverse p)) reverse ps (All-weaker (λ q. path_before p q ≡ true) (λ q. PathBefore (reverse p) (reverse q)) (λ q e. later_by p q e)
@@ -130,7 +128,7 @@ first_or_later : {X : Type 0} (y z : X) (ys : List X) → Contains (y ∷ ys) z 
 first_or_later y z ys h = by (Contains-append_cases (y ∷ []) ys z h)
   where
     one : Contains [] z ⊎ (y ≡ z) → (y ≡ z) ⊎ Contains ys z
-    one (inl k) = absurd (none_in z k)
+    one (inl k) = absurd (Contains-nil z k)
     one (inr k) = inl k
 
     by : Contains (y ∷ []) z ⊎ Contains ys z → (y ≡ z) ⊎ Contains ys z
@@ -165,7 +163,7 @@ module _ {X : Type 0} (R : X → X → Type 0) (one_way : (x y : X) → R x y �
 
   no_longer : (ys xs : List X) → AllPairs R ys → AllPairs R xs → ((z : X) → Contains xs z → Contains ys z) → length xs ≤ length ys
   no_longer ys [] b a among = omega arith
-  no_longer [] (x ∷ xs) b a among = absurd (none_in x (among x (Contains-append_left (x ∷ []) xs x (Contains-push [] x))))
+  no_longer [] (x ∷ xs) b a among = absurd (Contains-nil x (among x (Contains-append_left (x ∷ []) xs x (Contains-push [] x))))
   no_longer (y ∷ ys) (x ∷ xs) b a among = one_more y ys x xs (λ zs c d. no_longer ys zs (tail_pairs R y ys b) c d) b a among
 
 -- ---- paths are in order one way alone
@@ -174,24 +172,16 @@ never_first true b c e f g = true≢false e
 never_first false true c e f g = true≢false f
 never_first false false c e f g = true≢false (sym g)
 
-then_rest : (a b c : Bool) → a ≡ false → (a || (b && c)) ≡ true → c ≡ true
-then_rest true b c e g = absurd (true≢false e)
-then_rest false true c e g = g
-then_rest false false c e g = absurd (true≢false (sym g))
-
-not_less : (a b : ℕ) → b ≤ a → nat_lt a b ≡ false
-not_less a b le = grind (arith, nat_tests)
-
 not_same : (a b : ℕ) → b < a → nat_eq a b ≡ false
 not_same a b lt = grind (arith, nat_tests)
 
 one_way_by : (x y : ℕ) (p q : List ℕ) → (path_before p q ≡ true → path_before q p ≡ true → ⊥) → path_before (x ∷ p) (y ∷ q) ≡ true
     → path_before (y ∷ q) (x ∷ p) ≡ true → (x ≡ y) ⊎ ((x < y) ⊎ (y < x)) → ⊥
 one_way_by x y p q rest e f (inl same) =
-    rest (then_rest (nat_lt x y) (nat_eq x y) (path_before p q) (not_less x y (omega arith)) e)
-    (then_rest (nat_lt y x) (nat_eq y x) (path_before q p) (not_less y x (omega arith)) f)
-one_way_by x y p q rest e f (inr (inl less)) = never_first (nat_lt y x) (nat_eq y x) (path_before q p) (not_less y x (omega arith)) (not_same y x less) f
-one_way_by x y p q rest e f (inr (inr more)) = never_first (nat_lt x y) (nat_eq x y) (path_before p q) (not_less x y (omega arith)) (not_same x y more) e
+    rest (or_and_right (nat_lt x y) (nat_eq x y) (path_before p q) (le-ltb x y (omega arith)) e)
+    (or_and_right (nat_lt y x) (nat_eq y x) (path_before q p) (le-ltb y x (omega arith)) f)
+one_way_by x y p q rest e f (inr (inl less)) = never_first (nat_lt y x) (nat_eq y x) (path_before q p) (le-ltb y x (omega arith)) (not_same y x less) f
+one_way_by x y p q rest e f (inr (inr more)) = never_first (nat_lt x y) (nat_eq x y) (path_before p q) (le-ltb x y (omega arith)) (not_same x y more) e
 
 one_way_paths : (p q : List ℕ) → path_before p q ≡ true → path_before q p ≡ true → ⊥
 one_way_paths [] [] e f = true≢false (sym e)

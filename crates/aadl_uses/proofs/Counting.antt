@@ -6,22 +6,13 @@ use Rattle.std.proofs.lemmas.List.{length-append, length-map}
 use Rattle.std.proofs.lemmas.Bool.{cases_order, true≢false}
 use Rattle.std.proofs.lemmas.Bool.Decides.{nat_tests}
 use Rattle.std.proofs.lemmas.Option.{slice_get_within, slice_get-get_or, option_and_then_some, none-some, same_Some}
+use Rattle.list_lemmas.proofs.Numbers.{nat_eq-self, min-add_capped}
+use Rattle.list_lemmas.proofs.Elements.{AllByRecursion-append, AllByRecursion-map, AllByRecursion-weaker}
 use Rattle.aadl_uses.specs.proof.Graphs.{Graph, targets_in, below_in}
 use Rattle.aadl_uses.specs.proof.Counts.{stands_at, IsMarkedAt, Among, Ordered, AreListed, Counted, own_count, own_paths, count_of}
 use Rattle.aadl_uses.specs.Threads.{path_before}
 
 -- ---- lists
-all_append : {X : Type 0} (P : X → Type 0) (xs ys : List X) → AllByRecursion P xs → AllByRecursion P ys → AllByRecursion P (xs ++ ys)
-all_append P [] ys a b = b
-all_append P (x ∷ xs) ys a b = (a.0, all_append P xs ys a.1 b)
-
-all_map : {X Y : Type 0} (P : Y → Type 0) (f : X → Y) (xs : List X) → AllByRecursion (λ x. P (f x)) xs → AllByRecursion P (map f xs)
-all_map P f [] a = tt
-all_map P f (x ∷ xs) a = (a.0, all_map P f xs a.1)
-
-all_weaker : {X : Type 0} (P Q : X → Type 0) → ((x : X) → P x → Q x) → (xs : List X) → AllByRecursion P xs → AllByRecursion Q xs
-all_weaker P Q f [] a = tt
-all_weaker P Q f (x ∷ xs) a = (f x a.0, all_weaker P Q f xs a.1)
 
 among_left : {X : Type 0} (xs ys : List X) (x : X) → Among xs x → Among (xs ++ ys) x
 among_left [] ys x a = absurd a
@@ -39,7 +30,7 @@ among_map f (y ∷ xs) x (inr a) = inr (among_map f xs x a)
 
 ordered_append : {X : Type 0} (before : X → X → Bool) (xs ys : List X) → Ordered before xs → Ordered before ys → AllByRecursion (λ x. AllByRecursion (λ y. before x y ≡ true) ys) xs → Ordered before (xs ++ ys)
 ordered_append before [] ys a b c = b
-ordered_append before (x ∷ xs) ys a b c = (all_append (λ y. before x y ≡ true) xs ys a.0 c.0, ordered_append before xs ys a.1 b c.1)
+ordered_append before (x ∷ xs) ys a b c = (AllByRecursion-append (λ y. before x y ≡ true) xs ys a.0 c.0, ordered_append before xs ys a.1 b c.1)
 
 -- ---- paths
 -- the path of the declaration itself, and those that begin with one of the first subcomponents
@@ -51,9 +42,6 @@ pub record Begun (g : Graph) (marks : List Bool) (n i : ℕ) (path : List ℕ) :
   pub marked : IsMarkedAt g marks n path
   pub first : starts i path
 
-same_number : (i : ℕ) → nat_eq i i ≡ true
-same_number i = grind (arith, nat_tests)
-
 by_tests : (a b c : Bool) → b ≡ true → c ≡ true → (a || (b && c)) ≡ true
 by_tests true b c e f = refl
 by_tests false true true e f = refl
@@ -61,14 +49,14 @@ by_tests false true false e f = f
 by_tests false false c e f = absurd (cc e)
 
 behind_same : (i : ℕ) (p q : List ℕ) → path_before p q ≡ true → path_before (i ∷ p) (i ∷ q) ≡ true
-behind_same i p q e = by_tests (nat_lt i i) (nat_eq i i) (path_before p q) (same_number i) e
+behind_same i p q e = by_tests (nat_lt i i) (nat_eq i i) (path_before p q) (nat_eq-self i) e
 
 less_first : (i s : ℕ) (p q : List ℕ) → s < i → path_before (s ∷ p) (i ∷ q) ≡ true
 less_first i s p q h = let e : nat_lt s i ≡ true = grind (arith, nat_tests) in ap (λ b. b || (nat_eq s i && path_before p q)) e
 
 ordered_map : (i : ℕ) (xs : List (List ℕ)) → Ordered path_before xs → Ordered path_before (map (λ p. i ∷ p) xs)
 ordered_map i [] a = tt
-ordered_map i (x ∷ xs) a = (all_map (λ y. path_before (i ∷ x) y ≡ true) (λ p. i ∷ p) xs (all_weaker (λ y. path_before x y ≡ true) (λ y. path_before (i ∷ x) (i ∷ y) ≡ true) (λ y e. behind_same i x y e) xs a.0), ordered_map i xs a.1)
+ordered_map i (x ∷ xs) a = (AllByRecursion-map (λ y. path_before (i ∷ x) y ≡ true) (λ p. i ∷ p) xs (AllByRecursion-weaker (λ y. path_before x y ≡ true) (λ y. path_before (i ∷ x) (i ∷ y) ≡ true) (λ y e. behind_same i x y e) xs a.0), ordered_map i xs a.1)
 
 all_later : (i : ℕ) (x : List ℕ) (ys : List (List ℕ)) → starts i x → AllByRecursion (λ y. path_before x y ≡ true) (map (λ p. i ∷ p) ys)
 all_later i [] [] h = tt
@@ -108,9 +96,9 @@ module _ (g : Graph) (marks : List Bool) (n i : ℕ) where
   pub listed_more : (k : ℕ) (xs ys : List (List ℕ)) → below_in g n i ≡ Some k → AreListed (Begun g marks n i) path_before xs → AreListed (IsMarkedAt g marks k) path_before ys
       → AreListed (Begun g marks n (i + 1)) path_before (xs ++ map (λ q. i ∷ q) ys)
   listed_more k xs ys e a b = record {
-    each = all_append (Begun g marks n (i + 1)) xs (map (λ q. i ∷ q) ys) (all_weaker (Begun g marks n i) (Begun g marks n (i + 1)) more_begun xs a.each)
-        (all_map (Begun g marks n (i + 1)) (λ q. i ∷ q) ys (all_weaker (IsMarkedAt g marks k) (λ q. Begun g marks n (i + 1) (i ∷ q)) (λ q t. deeper k q e t) ys b.each));
-    ordered = ordered_append path_before xs (map (λ q. i ∷ q) ys) a.ordered (ordered_map i ys b.ordered) (all_weaker (Begun g marks n i) (λ x. AllByRecursion (λ y. path_before x y ≡ true) (map (λ q. i ∷ q) ys)) (λ x h. all_later i x ys h.first) xs a.each);
+    each = AllByRecursion-append (Begun g marks n (i + 1)) xs (map (λ q. i ∷ q) ys) (AllByRecursion-weaker (Begun g marks n i) (Begun g marks n (i + 1)) more_begun xs a.each)
+        (AllByRecursion-map (Begun g marks n (i + 1)) (λ q. i ∷ q) ys (AllByRecursion-weaker (IsMarkedAt g marks k) (λ q. Begun g marks n (i + 1) (i ∷ q)) (λ q t. deeper k q e t) ys b.each));
+    ordered = ordered_append path_before xs (map (λ q. i ∷ q) ys) a.ordered (ordered_map i ys b.ordered) (AllByRecursion-weaker (Begun g marks n i) (λ x. AllByRecursion (λ y. path_before x y ≡ true) (map (λ q. i ∷ q) ys)) (λ x h. all_later i x ys h.first) xs a.each);
     complete = λ p h. complete_at k xs ys e a b p h;
   }
 
@@ -128,7 +116,7 @@ module _ (g : Graph) (marks : List Bool) (n i : ℕ) where
 
   pub listed_same : (xs : List (List ℕ)) → below_in g n i ≡ None → AreListed (Begun g marks n i) path_before xs → AreListed (Begun g marks n (i + 1)) path_before xs
   listed_same xs e a = record {
-    each = all_weaker (Begun g marks n i) (Begun g marks n (i + 1)) more_begun xs a.each;
+    each = AllByRecursion-weaker (Begun g marks n i) (Begun g marks n (i + 1)) more_begun xs a.each;
     ordered = a.ordered;
     complete = λ p h. a.complete p (fewer_begun p e h);
   }
@@ -139,9 +127,6 @@ pub record CountedSome (limit : ℕ) (g : Graph) (marks : List Bool) (n i count 
   pub paths : List (List ℕ)
   pub listed : AreListed (Begun g marks n i) path_before paths
   pub count_is : count ≡ min limit (length paths)
-
-capped : (limit a b x y : ℕ) → a ≡ min limit x → b ≡ min limit y → min limit (a + b) ≡ min limit (x + y)
-capped limit a b x y e f = omega arith
 
 capped_same : (limit a x : ℕ) → a ≡ min limit x → min limit (a + 0) ≡ min limit x
 capped_same limit a x e = omega arith
@@ -160,7 +145,7 @@ module _ (limit : ℕ) (g : Graph) (marks : List Bool) (n i : ℕ) where
       record {
         paths = x.paths ++ map (λ q. i ∷ q) y.paths;
         listed = listed_more g marks n i m x.paths y.paths e x.listed y.listed;
-        count_is = is ∙ (capped limit a (get_or counts m 0) (length x.paths) (length y.paths) x.count_is y.count_is ∙ ap (min limit) (sym (simp (length-append, length-map) refl)));
+        count_is = is ∙ (min-add_capped limit a (get_or counts m 0) (length x.paths) (length y.paths) x.count_is y.count_is ∙ ap (min limit) (sym (simp (length-append, length-map) refl)));
       }
 
 -- ---- the declaration itself
@@ -200,7 +185,7 @@ all_begun g marks n i (s ∷ p) past t =
 pub all_listed : (g : Graph) (marks : List Bool) (n i : ℕ) (paths : List (List ℕ)) → length (targets_in g n) ≤ i → AreListed (Begun g marks n i) path_before paths
     → AreListed (IsMarkedAt g marks n) path_before paths
 all_listed g marks n i paths past x = record {
-  each = all_weaker (Begun g marks n i) (IsMarkedAt g marks n) (λ p h. h.marked) paths x.each;
+  each = AllByRecursion-weaker (Begun g marks n i) (IsMarkedAt g marks n) (λ p h. h.marked) paths x.each;
   ordered = x.ordered;
   complete = λ p t. x.complete p (all_begun g marks n i p past t);
 }

@@ -1,7 +1,8 @@
 -- The port that an end names, by what was looked up before.
-use Rattle.std.proofs.Common.{◌≡◌, ℕ, List, Option, Some, None, Result, Ok, Err, IfOk, slice_get, option_map, refl, sym, ap, ◌∙◌}
+use Rattle.std.proofs.Common.{◌≡◌, ℕ, List, Option, Some, None, Result, Ok, Err, IfOk, slice_get, option_map, sym, ap, ◌∙◌}
 use Rattle.std.specs.Option.{option_and_then}
 use Rattle.std.proofs.lemmas.Option.{none-some, same_Some}
+use Rattle.list_lemmas.proofs.Options.{option_and_then_assoc}
 use Rattle.aadl_tree.specs.Names.{Identifier}
 use Rattle.aadl_tree.specs.Declarations.{Subcomponent, ConnectionEnd, Implementation, Declaration, type, implementation, PackageTree}
 use Rattle.aadl_names.specs.proof.Members.{member_of}
@@ -13,11 +14,6 @@ use Rattle.aadl_uses.specs.Uses.{below}
 pub if_ok : {T E : Type 0} (P Q : T → Type 0) (r : Result T E) → ((x : T) → P x → Q x) → IfOk r P → IfOk r Q
 if_ok P Q (Ok x) f h = f x h
 if_ok P Q (Err e) f h = tt
-
-twice : {A B C : Type 0} (f : A → Option B) (g : B → Option C) (o : Option A)
-    → option_and_then g (option_and_then f o) ≡ option_and_then (λ a. option_and_then g (f a)) o
-twice f g None = refl
-twice f g (Some a) = refl
 
 member_is : (name : List ℕ) (x : Implementation ℕ) (o : Option (Declaration ℕ)) → implementation_in o ≡ Some x
     → member_of o name ≡ sub_named x.subcomponents name
@@ -42,7 +38,7 @@ module _ (tree : PackageTree ℕ) (n : ℕ) (x : Implementation ℕ) (end : Conn
   stands_below : (s : ℕ) → option_and_then (implementation_at tree) (below tree n s) ≡ option_and_then (target_of tree) (slice_get x.subcomponents s)
   stands_below s =
       ap (λ o. option_and_then (implementation_at tree) (option_and_then (λ (sub : Subcomponent ℕ). referred tree sub.classifier) (slice_get (subcomponents_of o) s))) is
-      ∙ twice (λ (sub : Subcomponent ℕ). referred tree sub.classifier) (implementation_at tree) (slice_get x.subcomponents s)
+      ∙ option_and_then_assoc (λ (sub : Subcomponent ℕ). referred tree sub.classifier) (implementation_at tree) (slice_get x.subcomponents s)
 
   pub inner_is : (port : Identifier ℕ) (s : ℕ) → end.second ≡ Some port → member_of (slice_get tree.declarations n) end.first.spelling ≡ Some s
       → option_map (Inner s) (port_named (ports_at tree (option_and_then (implementation_at tree) (below tree n s))) port.spelling) ≡ site tree x end

@@ -1,12 +1,11 @@
 -- What is known of declarations, one after the other, each behind those that it contains.
 use Rattle.std.proofs.Common.{◌≡◌, ℕ, ◌+◌, ◌<◌, ◌≤◌, List, length, Some, None, get_or, set, slice_get, sym, ap, ◌∙◌, subst, arith, inl, inr, ◌⊎◌, get_or-set_other, get_or-set_same}
-use Rattle.std.proofs.lemmas.Bool.{cases_order}
+use Rattle.std.proofs.lemmas.Bool.{cases_order, cases_lt}
 use Rattle.std.proofs.lemmas.List.{length-set}
 use Rattle.std.proofs.lemmas.Option.{none-some, same_Some}
+use Rattle.list_lemmas.proofs.Places.{slice_get-from_Contains, Contains-from_slice_get}
 use Rattle.aadl_uses.specs.proof.Graphs.{Graph, below_in}
 use Rattle.aadl_uses.specs.proof.Orders.{IsSequence, IsOrder}
-use Rattle.aadl_uses.proofs.Searches.{contains_at, at_contains}
-use Rattle.aadl_uses.proofs.Suspected.{one_of_two}
 
 -- values in the places of declarations; those of the first `at` declarations of a sequence are known to be right
 pub record FrontOf {X : Type 0} (Right : ℕ → X → Type 0) (d : X) (g : Graph) (keys : List ℕ) (at : ℕ) (values : List X) : Type 0 where
@@ -23,7 +22,7 @@ module _ {X : Type 0} (Right : ℕ → X → Type 0) (d : X) (g : Graph) (keys :
 
   -- the next one is right as it is, or there is none
   pub front_same : ((n : ℕ) → slice_get keys at ≡ Some n → Right n (get_or values n d)) → FrontOf Right d g keys (at + 1) values
-  front_same as_is = record { size = front.size; known = λ k n lt e. by k n e (one_of_two k at) lt }
+  front_same as_is = record { size = front.size; known = λ k n lt e. by k n e (cases_lt k at) lt }
     where
       by : (k n : ℕ) → slice_get keys k ≡ Some n → (k < at) ⊎ (at ≤ k) → k < at + 1 → Right n (get_or values n d)
       by k n e (inl h) lt = front.known k n h e
@@ -35,11 +34,11 @@ module _ {X : Type 0} (Right : ℕ → X → Type 0) (d : X) (g : Graph) (keys :
   pub front_more : (n : ℕ) (value : X) → IsSequence g keys → slice_get keys at ≡ Some n → Right n value → FrontOf Right d g keys (at + 1) (set values n value)
   front_more n value sequence here right = record {
     size = length-set values n value ∙ front.size;
-    known = λ k m lt e. by k m e (one_of_two k at) lt;
+    known = λ k m lt e. by k m e (cases_lt k at) lt;
   }
     where
       here_is : n < length values
-      here_is = let declared = sequence.declared n (contains_at keys at n here) in omega (arith, front.size)
+      here_is = let declared = sequence.declared n (Contains-from_slice_get keys at n here) in omega (arith, front.size)
 
       own : Right n (get_or (set values n value) n d)
       own = subst (Right n) (sym (get_or-set_same values n value d here_is)) right
@@ -60,4 +59,4 @@ module _ {X : Type 0} (Right : ℕ → X → Type 0) (d : X) (g : Graph) (keys :
   front_all order past n lt =
       let there = order.all n lt in
       let within = there.1 in
-      front.known there.0 n (omega arith) (at_contains keys n there)
+      front.known there.0 n (omega arith) (slice_get-from_Contains keys n there)

@@ -1,10 +1,9 @@
 -- The heaviest of the paths that begin with the first subcomponents, and of all.
 use Rattle.std.proofs.Common.{◌≡◌, ℕ, ◌+◌, ◌<◌, ◌≤◌, max, min, Bool, true, false, List, [], ◌∷◌, length, Option, Some, None, option_map, get_or, refl, sym, ap, ◌∙◌, subst, arith, inl, inr, ◌⊎◌}
 use Rattle.std.specs.Option.{option_map_or}
-use Rattle.std.proofs.lemmas.Bool.{cases_order}
+use Rattle.std.proofs.lemmas.Bool.{cases_order, cases_lt}
 use Rattle.aadl_uses.specs.proof.Graphs.{Graph, targets_in, below_in}
 use Rattle.aadl_uses.specs.proof.Counts.{IsMarkedAt}
-use Rattle.aadl_uses.proofs.Suspected.{one_of_two}
 use Rattle.aadl_uses.proofs.Counting.{Begun, deeper, shallower, more_begun, fewer_begun, none_begun, all_begun}
 use Rattle.aadl_uses.specs.proof.Weights.{weight_of, path_weight, IsGreatest, IsGreatestOf, IsHeaviest, AreWeighed, own_weight, found_from, heavier}
 
@@ -63,7 +62,7 @@ module _ (limit : ℕ) (g : Graph) (marks : List Bool) (weights : List (List ℕ
 
     both : (u v : ℕ) → IsGreatest (Begun g marks n i) (path_weight g weights n) limit u → IsHeaviest limit g marks weights k (Some v)
         → IsGreatest (Begun g marks n (i + 1)) (path_weight g weights n) limit (max u (min limit (weight_of weights n i + v)))
-    both u v a b = at (one_of_two u (min limit (weight_of weights n i + v)))
+    both u v a b = at (cases_lt u (min limit (weight_of weights n i + v)))
       where
         by : (p : List ℕ) → Begun g marks n i p ⊎ ((q : List ℕ) × (p ≡ i ∷ q) × IsMarkedAt g marks k q) → min limit (path_weight g weights n p) ≤ max u (min limit (weight_of weights n i + v))
         by p (inl h) = let least = a.most p h in omega arith

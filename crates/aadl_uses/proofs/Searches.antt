@@ -3,40 +3,26 @@ use Rattle.std.proofs.Common.{◌≡◌, ◌⊎◌, inl, inr, ◌↔◌, ℕ, �
 use Rattle.std.specs.Option.{option_and_then}
 use Rattle.std.specs.List.{list_any, IsDistinct}
 use Rattle.std.proofs.lemmas.Bool.{eqb-true}
-use Rattle.std.proofs.lemmas.List.{append-nil, append_assoc, length-append, get_or_append_left}
+use Rattle.std.proofs.lemmas.List.{append-nil, append_assoc}
 use Rattle.std.proofs.lemmas.List.Elements.{Contains-append_left, Contains-append_cases, Contains-push, Contains-push_cases}
-use Rattle.std.proofs.lemmas.Option.{slice_get_within, slice_get-get_or, get_or_from_slice_get, same_Some, none-some, option_and_then_some}
+use Rattle.std.proofs.lemmas.Option.{slice_get_within, slice_get-get_or, same_Some, none-some, option_and_then_some}
 use Rattle.std.proofs.lemmas.Map.Steps.{length-le_from_distinct_below}
 use Rattle.indexmap.specs.IndexSet.{insert_key}
 use Rattle.indexmap.proofs.CallerLemmas.{Contains-list_any, Contains-insert_key}
+use Rattle.list_lemmas.proofs.Places.{Contains-from_slice_get, slice_get-from_Contains, slice_get-append_left}
+use Rattle.list_lemmas.proofs.Elements.{Contains-nil}
 use Rattle.aadl_uses.specs.proof.Graphs.{Graph, targets_in, below_in, reached_by, IsReached, IsWithin, AreAdded}
-
--- ---- lists
-pub contains_none : {X : Type 0} (x : X) → Contains [] x → ⊥
-contains_none x h = let lt = h.1 in absurd (omega arith)
-
-pub contains_at : {X : Type 0} (xs : List X) (i : ℕ) (x : X) → slice_get xs i ≡ Some x → Contains xs x
-contains_at xs i x e = (i, slice_get_within xs i x e, get_or_from_slice_get xs i x x e)
-
-pub at_contains : {X : Type 0} (xs : List X) (x : X) → (h : Contains xs x) → slice_get xs h.0 ≡ Some x
-at_contains xs x h = slice_get-get_or xs h.0 x h.1 ∙ ap Some h.2
-
-pub get_left : {X : Type 0} (xs ys : List X) (i : ℕ) (x : X) → slice_get xs i ≡ Some x → slice_get (xs ++ ys) i ≡ Some x
-get_left xs ys i x e =
-    let lt = slice_get_within xs i x e in
-    let long = length-append xs ys in
-    at_contains (xs ++ ys) x (i, omega arith, get_or_append_left xs ys x i lt ∙ get_or_from_slice_get xs i x x e)
 
 -- ---- one more number
 pub insert_grows : (ks : List ℕ) (k : ℕ) → (more : List ℕ) × (insert_key nat_eq ks k ≡ ks ++ more) × ((n : ℕ) → Contains more n → n ≡ k)
 insert_grows ks k = by (list_any (nat_eq k) ks) refl
   where
     by : (b : Bool) → list_any (nat_eq k) ks ≡ b → (more : List ℕ) × (insert_key nat_eq ks k ≡ ks ++ more) × ((n : ℕ) → Contains more n → n ≡ k)
-    by true e = ([], ap (λ c. if c then ks else ks ++ k ∷ []) e ∙ sym (append-nil ks), λ n h. absurd (contains_none n h))
+    by true e = ([], ap (λ c. if c then ks else ks ++ k ∷ []) e ∙ sym (append-nil ks), λ n h. absurd (Contains-nil n h))
     by false e = (k ∷ [], ap (λ c. if c then ks else ks ++ k ∷ []) e, λ n h. one n (Contains-push_cases [] k n h))
       where
         one : (n : ℕ) → Contains [] n ⊎ (k ≡ n) → n ≡ k
-        one n (inl h) = absurd (contains_none n h)
+        one n (inl h) = absurd (Contains-nil n h)
         one n (inr h) = sym h
 
 -- nothing is added yet
@@ -44,8 +30,8 @@ pub added_none : (ks : List ℕ) → AreAdded [] ks ks
 added_none ks = record {
   more = [];
   grown = sym (append-nil ks);
-  named = λ n h. absurd (contains_none n h);
-  all = λ n h. absurd (contains_none (Some n) h);
+  named = λ n h. absurd (Contains-nil n h);
+  all = λ n h. absurd (Contains-nil (Some n) h);
   distinct = λ d. d;
 }
 
@@ -94,10 +80,10 @@ pub record Searched (g : Graph) (from at : ℕ) (keys : List ℕ) : Type 0 where
   pub distinct : IsDistinct nat_eq keys
 
 pub below_target : (g : Graph) (n s m : ℕ) → below_in g n s ≡ Some m → Contains (targets_in g n) (Some m)
-below_target g n s m e = option_and_then_some (λ t. t) (slice_get (targets_in g n) s) m e (λ x h f. contains_at (targets_in g n) s (Some m) (h ∙ ap Some f))
+below_target g n s m e = option_and_then_some (λ t. t) (slice_get (targets_in g n) s) m e (λ x h f. Contains-from_slice_get (targets_in g n) s (Some m) (h ∙ ap Some f))
 
 pub target_below : (g : Graph) (n m : ℕ) (h : Contains (targets_in g n) (Some m)) → below_in g n h.0 ≡ Some m
-target_below g n m h = ap (option_and_then (λ t. t)) (at_contains (targets_in g n) (Some m) h)
+target_below g n m h = ap (option_and_then (λ t. t)) (slice_get-from_Contains (targets_in g n) (Some m) h)
 
 pub reached_next : (g : Graph) (from n s m : ℕ) → IsReached g from n → below_in g n s ≡ Some m → IsReached g from m
 reached_next g from n s m r e = (s ∷ r.0, ap (option_and_then (λ k. below_in g k s)) r.1 ∙ e)
@@ -111,7 +97,7 @@ searched_first g from keys e d = record {
 }
   where
     by : (n : ℕ) → Contains [] n ⊎ (from ≡ n) → Some from ≡ Some n
-    by n (inl h) = absurd (contains_none n h)
+    by n (inl h) = absurd (Contains-nil n h)
     by n (inr h) = ap Some h
 
 module _ (g : Graph) (from at : ℕ) (keys : List ℕ) (so_far : Searched g from at keys) where
@@ -147,13 +133,13 @@ module _ (g : Graph) (from at : ℕ) (keys : List ℕ) (so_far : Searched g from
 
       sound_by : (n : ℕ) → Contains keys n ⊎ Contains added.more n → IsReached g from n
       sound_by n (inl h) = so_far.sound n h
-      sound_by n (inr h) = let t = added.named n h in reached_next g from here t.0 n (so_far.sound here (contains_at keys at here is)) (target_below g here n t)
+      sound_by n (inr h) = let t = added.named n h in reached_next g from here t.0 n (so_far.sound here (Contains-from_slice_get keys at here is)) (target_below g here n t)
 
       which : (k : ℕ) → k < at + 1 → (k < at) ⊎ (k ≡ at)
       which k lt = grind arith
 
       same_in : (k n : ℕ) (v : ℕ) → slice_get keys k ≡ Some v → slice_get new k ≡ Some n → v ≡ n
-      same_in k n v e a = same_Some v n (sym (ap (λ (l : List ℕ). slice_get l k) added.grown ∙ get_left keys added.more k v e) ∙ a)
+      same_in k n v e a = same_Some v n (sym (ap (λ (l : List ℕ). slice_get l k) added.grown ∙ slice_get-append_left keys added.more k v e) ∙ a)
 
       closed_by : (k n s m : ℕ) → slice_get new k ≡ Some n → below_in g n s ≡ Some m → (k < at) ⊎ (k ≡ at) → Contains new m
       closed_by k n s m a b (inl lt) =
@@ -172,7 +158,7 @@ module _ (g : Graph) (from at : ℕ) (keys : List ℕ) (done : Searched g from a
   complete [] n e = subst (Contains keys) (same_Some from n e) done.start
   complete (s ∷ path) n e =
       option_and_then_some (λ k. below_in g k s) (reached_by g from path) n e
-      (λ x h f. let there = complete path x h in let lt = there.1 in done.closed there.0 x s n (omega arith) (at_contains keys x there) f)
+      (λ x h f. let there = complete path x h in let lt = there.1 in done.closed there.0 x s n (omega arith) (slice_get-from_Contains keys x there) f)
 
   pub searched_all : (n : ℕ) → Contains keys n ↔ IsReached g from n
   searched_all n = (done.sound n, λ r. complete r.0 n r.1)

@@ -2,33 +2,31 @@
 use Rattle.std.proofs.Common.{◌≡◌, ◌⊎◌, inl, inr, ℕ, zero, suc, ◌<◌, ◌≤◌, ◌+◌, Bool, true, false, ◌&&◌, ◌||◌, nat_eq, List, [], ◌∷◌, ◌++◌, Option, Some, None, length, get_or, slice_get, Contains, refl, sym, ap, subst, ◌∙◌, arith}
 use Rattle.std.specs.Option.{option_and_then}
 use Rattle.std.specs.List.{list_any, list_all, IsDistinct, AllByRecursion}
-use Rattle.std.proofs.lemmas.Bool.{true≢false, eqb-true, eq-eqb}
+use Rattle.std.proofs.lemmas.Bool.{true≢false, eqb-true, cases_lt}
 use Rattle.std.proofs.lemmas.List.{append-nil, append_assoc, length-append, nil_from_length}
-use Rattle.std.proofs.lemmas.List.Folds.{list_any_at, list_all_at}
+use Rattle.std.proofs.lemmas.List.Folds.{list_all_at}
 use Rattle.std.proofs.lemmas.List.Elements.{Contains-append_left, Contains-append_right, Contains-append_cases, Contains-push, Contains-push_cases}
 use Rattle.std.proofs.lemmas.Option.{slice_get-get_or, same_Some}
 use Rattle.std.proofs.lemmas.Map.Steps.{length-le_from_distinct_below, le-length_from_below}
 use Rattle.indexmap.specs.IndexSet.{insert_key}
 use Rattle.indexmap.proofs.CallerLemmas.{Contains-list_any, Contains-insert_key}
+use Rattle.list_lemmas.proofs.Places.{slice_get-from_Contains, Contains-from_slice_get, slice_get-append_left}
+use Rattle.list_lemmas.proofs.Elements.{list_any_by_number, Contains-nil}
 use Rattle.aadl_uses.specs.proof.Graphs.{Graph, targets_in, below_in, IsReached, IsWithin, LeadsBack}
 use Rattle.aadl_uses.specs.proof.Orders.{is_there, IsSequence, IsOrder, Misses, IsPlaced, ArePlaced}
-use Rattle.aadl_uses.proofs.Searches.{contains_none, contains_at, at_contains, get_left, insert_grows, below_target, reached_next}
-use Rattle.aadl_uses.proofs.Suspected.{one_of_two}
+use Rattle.aadl_uses.proofs.Searches.{insert_grows, below_target, reached_next}
 
 -- ---- lists
 right_part : {X : Type 0} (xs ys : List X) (k : ℕ) (x : X) → length xs ≤ k → slice_get (xs ++ ys) k ≡ Some x → Contains ys x
-right_part [] ys k x le e = contains_at ys k x e
+right_part [] ys k x le e = Contains-from_slice_get ys k x e
 right_part (y ∷ xs) ys zero x le e = absurd (omega arith)
 right_part (y ∷ xs) ys (suc k) x le e = right_part xs ys k x (omega arith) e
-
-any_of : (xs : List ℕ) (n : ℕ) → Contains xs n → list_any (nat_eq n) xs ≡ true
-any_of xs n h = list_any_at (nat_eq n) xs h.0 n h.1 (eq-eqb n (get_or xs h.0 n) (sym h.2))
 
 pub of_any : (xs : List ℕ) (n : ℕ) → list_any (nat_eq n) xs ≡ true → Contains xs n
 of_any xs n e = Contains-list_any nat_eq eqb-true xs n e
 
 pub not_of_any : (xs : List ℕ) (n : ℕ) → list_any (nat_eq n) xs ≡ false → Contains xs n → ⊥
-not_of_any xs n e h = true≢false (sym (any_of xs n h) ∙ e)
+not_of_any xs n e h = true≢false (sym (list_any_by_number xs n h) ∙ e)
 
 each_by : (n x : ℕ) (xs : List ℕ) → (list_any (nat_eq n) xs ≡ false → AllByRecursion (λ y. nat_eq n y ≡ false) xs) → (b : Bool) → nat_eq n x ≡ b → list_any (nat_eq n) (x ∷ xs) ≡ false → AllByRecursion (λ y. nat_eq n y ≡ false) (x ∷ xs)
 each_by n x xs rest true f e = absurd (true≢false (sym (ap (λ b. b || list_any (nat_eq n) xs) f) ∙ e))
@@ -54,7 +52,7 @@ in_more : (n m : ℕ) (xs : List ℕ) → Contains (n ∷ xs) m → (n ≡ m) �
 in_more n m xs h = by (Contains-append_cases (n ∷ []) xs m h)
   where
     one : Contains [] m ⊎ (n ≡ m) → (n ≡ m) ⊎ Contains xs m
-    one (inl k) = absurd (contains_none m k)
+    one (inl k) = absurd (Contains-nil m k)
     one (inr k) = inl k
 
     by : Contains (n ∷ []) m ⊎ Contains xs m → (n ≡ m) ⊎ Contains xs m
@@ -67,7 +65,7 @@ some_missing xs zero = inl (λ q lt. absurd (omega arith))
 some_missing xs (suc k) = by (some_missing xs k)
   where
     last : ((q : ℕ) → q < k → Contains xs q) → (b : Bool) → list_any (nat_eq k) xs ≡ b → ((q : ℕ) → q < suc k → Contains xs q) ⊎ ((q : ℕ) × (q < suc k) × (list_any (nat_eq q) xs ≡ false))
-    last all true e = inl (λ q lt. which q (one_of_two q k) lt)
+    last all true e = inl (λ q lt. which q (cases_lt q k) lt)
       where
         which : (q : ℕ) → (q < k) ⊎ (k ≤ q) → q < suc k → Contains xs q
         which q (inl h) lt = all q h
@@ -97,7 +95,7 @@ missing_target xs (t ∷ ts) e = missing_by xs t ts (missing_target xs ts) (is_t
 pub misses_by : (g : Graph) (n : ℕ) (xs : List ℕ) → list_all (is_there xs) (targets_in g n) ≡ false → Misses g n xs
 misses_by g n xs e =
     let h = missing_target xs (targets_in g n) e in
-    record { sub = h.1.0; target = h.0; names = ap (option_and_then (λ t. t)) (at_contains (targets_in g n) (Some h.0) h.1); absent = not_of_any xs h.0 h.2 }
+    record { sub = h.1.0; target = h.0; names = ap (option_and_then (λ t. t)) (slice_get-from_Contains (targets_in g n) (Some h.0) h.1); absent = not_of_any xs h.0 h.2 }
 
 all_there : (xs : List ℕ) (ts : List (Option ℕ)) (m : ℕ) → list_all (is_there xs) ts ≡ true → Contains ts (Some m) → Contains xs m
 all_there xs ts m e h = by (list_any (nat_eq m) xs) refl
@@ -123,7 +121,7 @@ module _ (g : Graph) (n : ℕ) (old new : List ℕ) where
     sequence = λ q. record {
       distinct = distinct;
       declared = λ m h. declared_by q m (Contains-append_cases old grows.0 m (subst (λ (l : List ℕ). Contains l m) (is ∙ grows.1) h));
-      behind = λ k x s m a b. behind_by q k x s m a b (one_of_two k (length old));
+      behind = λ k x s m a b. behind_by q k x s m a b (cases_lt k (length old));
     };
     tried = λ h. inl (subst (λ (l : List ℕ). Contains l n) (sym is) (Contains-insert_key nat_eq eqb-true old n));
   }
@@ -136,7 +134,7 @@ module _ (g : Graph) (n : ℕ) (old new : List ℕ) where
       declared_by q m (inr h) = subst (λ k. k < length g) (sym (grows.2 m h)) lt
 
       kept : (j m : ℕ) → slice_get old j ≡ Some m → slice_get new j ≡ Some m
-      kept j m e = ap (λ (l : List ℕ). slice_get l j) (is ∙ grows.1) ∙ get_left old grows.0 j m e
+      kept j m e = ap (λ (l : List ℕ). slice_get l j) (is ∙ grows.1) ∙ slice_get-append_left old grows.0 j m e
 
       behind_by : IsSequence g old → (k x s m : ℕ) → slice_get new k ≡ Some x → below_in g x s ≡ Some m → (k < length old) ⊎ (length old ≤ k) → (j : ℕ) × (j < k) × (slice_get new j ≡ Some m)
       behind_by q k x s m a b (inl before) =
@@ -148,7 +146,7 @@ module _ (g : Graph) (n : ℕ) (old new : List ℕ) where
           let same : x ≡ n = grows.2 x (right_part old grows.0 k x past (sym (ap (λ (l : List ℕ). slice_get l k) (is ∙ grows.1)) ∙ a)) in
           let h = all_there old (targets_in g n) m there (below_target g n s m (sym (ap (λ k. below_in g k s) same) ∙ b)) in
           let within = h.1 in
-          (h.0, omega arith, kept h.0 m (at_contains old m h))
+          (h.0, omega arith, kept h.0 m (slice_get-from_Contains old m h))
 
 -- ---- one more declaration
 misses_before : (g : Graph) (n : ℕ) (old mid more : List ℕ) → mid ≡ old ++ more → Misses g n mid → Misses g n old
@@ -191,7 +189,7 @@ placed_more g at old mid new so_far placed = record {
   more = so_far.more ++ placed.more;
   grown = both g at at old mid new so_far placed;
   sequence = λ q. placed.sequence (so_far.sequence q);
-  tried = λ m lt h. by m lt h (one_of_two m at);
+  tried = λ m lt h. by m lt h (cases_lt m at);
 }
   where
     here : (m : ℕ) → m ≡ at → Contains new at ⊎ Misses g at mid → Contains new m ⊎ Misses g m old
@@ -245,14 +243,14 @@ module _ (g : Graph) (xs : List ℕ) (within : IsWithin g) (acyclic : (n s : ℕ
     where
       one : (q : ℕ) → (n ≡ q) ⊎ Contains [] q → n ≡ q
       one q (inl h) = h
-      one q (inr h) = absurd (contains_none q h)
+      one q (inr h) = absurd (Contains-nil q h)
 
       same : (q : ℕ) → Contains (n ∷ []) q → n ≡ q
       same q h = one q (in_more n q [] h)
 
 -- a round over all declarations places one, unless all are there
 pub one_more : (g : Graph) (old new : List ℕ) → IsWithin g → ((n s : ℕ) → LeadsBack g n s → ⊥) → IsSequence g old → length old < length g → ArePlaced g (length g) old new → length old < length new
-one_more g old new within acyclic sequence fewer placed = by (one_of_two (length old) (length new))
+one_more g old new within acyclic sequence fewer placed = by (cases_lt (length old) (length new))
   where
     longer : length new ≡ length old + length placed.more
     longer = ap length placed.grown ∙ length-append old placed.more
@@ -267,7 +265,7 @@ one_more g old new within acyclic sequence fewer placed = by (one_of_two (length
         stuck n lt = subst (λ (l : List ℕ). Contains l n ⊎ Misses g n old) same (placed.tried n lt lt)
 
         which : ((q : ℕ) → q < length g → Contains old q) ⊎ ((q : ℕ) × (q < length g) × (list_any (nat_eq q) old ≡ false)) → ⊥
-        which (inl all) = let most = le-length_from_below old (length g) (λ q lt. any_of old q (all q lt)) in absurd (omega arith)
+        which (inl all) = let most = le-length_from_below old (length g) (λ q lt. list_any_by_number old q (all q lt)) in absurd (omega arith)
         which (inr h) = all_in g old within acyclic stuck h.0 h.1 (not_of_any old h.0 h.2)
 
     by : (length old < length new) ⊎ (length new ≤ length old) → length old < length new
@@ -294,6 +292,6 @@ all_placed g xs sequence full = record {
 pub no_sequence : (g : Graph) (xs : List ℕ) → length xs ≡ 0 → IsSequence g xs
 no_sequence g xs none = subst (IsSequence g) (sym (nil_from_length xs none)) (record {
   distinct = distinct_none;
-  declared = λ n h. absurd (contains_none n h);
-  behind = λ k n s m a b. absurd (contains_none n (contains_at [] k n a));
+  declared = λ n h. absurd (Contains-nil n h);
+  behind = λ k n s m a b. absurd (Contains-nil n (Contains-from_slice_get [] k n a));
 })

@@ -2,30 +2,23 @@
 use Rattle.std.proofs.Common.{◌≡◌, ◌⊎◌, inl, inr, ◌↔◌, ℕ, ◌<◌, ◌≤◌, ◌+◌, Bool, true, false, ◌||◌, nat_eq, nat_le, List, [], ◌∷◌, ◌++◌, Option, Some, length, get_or, Contains, refl, sym, ap, subst, ◌∙◌, arith}
 use Rattle.std.specs.Option.{option_and_then}
 use Rattle.std.specs.List.{list_any}
-use Rattle.std.proofs.lemmas.Bool.{true≢false, le-leb, lt-ltb, eqb-true, eq-eqb}
+use Rattle.std.proofs.lemmas.Bool.{true≢false, le-leb, lt-ltb, eqb-true, eq-eqb, cases_lt}
 use Rattle.indexmap.proofs.CallerLemmas.{Contains-list_any}
-use Rattle.std.proofs.lemmas.Bool.Decides.{leb_tells}
 use Rattle.std.proofs.lemmas.List.{get_or_past}
 use Rattle.std.proofs.lemmas.List.Folds.{list_any_at}
 use Rattle.std.proofs.lemmas.List.Elements.{Contains-append_left, Contains-push}
 use Rattle.std.proofs.lemmas.Option.{same_Some, option_and_then_some, slice_get_past}
+use Rattle.list_lemmas.proofs.Elements.{Contains-nil}
 use Rattle.aadl_uses.specs.proof.Graphs.{Graph, targets_in, below_in, reached_by, IsReached, LeadsBack}
 use Rattle.aadl_uses.specs.proof.Suspects.{level_in, is_above, is_suspect, AreSuspected}
-use Rattle.aadl_uses.proofs.Searches.{contains_none, below_target}
-
-pub one_of_two : (a b : ℕ) → (a < b) ⊎ (b ≤ a)
-one_of_two a b = by (leb_tells b a)
-  where
-    by : ((nat_le b a ≡ true) × (b ≤ a)) ⊎ ((nat_le b a ≡ false) × (a < b)) → (a < b) ⊎ (b ≤ a)
-    by (inl h) = inr h.1
-    by (inr h) = inl h.1
+use Rattle.aadl_uses.proofs.Searches.{below_target}
 
 none_in_nothing : (g : Graph) (n s m : ℕ) → targets_in g n ≡ [] → below_in g n s ≡ Some m → ⊥
-none_in_nothing g n s m e b = contains_none (Some m) (subst (λ (l : List (Option ℕ)). Contains l (Some m)) e (below_target g n s m b))
+none_in_nothing g n s m e b = Contains-nil (Some m) (subst (λ (l : List (Option ℕ)). Contains l (Some m)) e (below_target g n s m b))
 
 -- what has a subcomponent is declared
 pub declared : (g : Graph) (n s m : ℕ) → below_in g n s ≡ Some m → n < length g
-declared g n s m b = by (one_of_two n (length g))
+declared g n s m b = by (cases_lt n (length g))
   where
     by : (n < length g) ⊎ (length g ≤ n) → n < length g
     by (inl h) = h
@@ -34,7 +27,7 @@ declared g n s m b = by (one_of_two n (length g))
 -- where levels never rise along subcomponents
 module _ (g : Graph) (levels : List ℕ) (flat : (n : ℕ) → n < length g → list_any (is_above levels (level_in levels n)) (targets_in g n) ≡ false) where
   falls : (n s m : ℕ) → below_in g n s ≡ Some m → level_in levels m ≤ level_in levels n
-  falls n s m b = by (one_of_two (level_in levels n) (level_in levels m))
+  falls n s m b = by (cases_lt (level_in levels n) (level_in levels m))
     where
       by : (level_in levels n < level_in levels m) ⊎ (level_in levels m ≤ level_in levels n) → level_in levels m ≤ level_in levels n
       by (inr h) = h
@@ -88,7 +81,7 @@ pub suspects_past : (g : Graph) (levels : List ℕ) (any : Bool) (n s : ℕ) →
 suspects_past g levels any n s past e = true≢false (sym e ∙ ap (λ o. is_suspect levels any n (option_and_then (λ t. t) o)) (slice_get_past (targets_in g n) s past))
 
 pub all_suspected : (g : Graph) (levels : List ℕ) (any : Bool) (n : ℕ) (old new : List (ℕ × ℕ)) → AreSuspected g levels any n (length (targets_in g n)) old new → (s : ℕ) → is_suspect levels any n (below_in g n s) ≡ true → Contains new (n, s)
-all_suspected g levels any n old new so_far s e = by (one_of_two s (length (targets_in g n)))
+all_suspected g levels any n old new so_far s e = by (cases_lt s (length (targets_in g n)))
   where
     by : (s < length (targets_in g n)) ⊎ (length (targets_in g n) ≤ s) → Contains new (n, s)
     by (inl h) = so_far.all s h e

@@ -1,10 +1,9 @@
 -- Tables of the first connection into each port.
-use Rattle.std.proofs.Common.{◌≡◌, ◌↔◌, ℕ, zero, suc, ◌+◌, ◌<◌, ◌≤◌, Bool, true, false, cond, ◌&&◌, nat_eq, nat_lt, List, [], ◌∷◌, ◌++◌, length, drop}
+use Rattle.std.proofs.Common.{◌≡◌, ◌↔◌, ℕ, zero, suc, ◌+◌, ◌<◌, ◌≤◌, Bool, true, false, cond, ◌&&◌, nat_eq, List, [], ◌∷◌, ◌++◌, length, drop}
 use Rattle.std.proofs.Common.{get_or, Option, Some, None, IsTrue, refl, sym, ap, ◌∙◌, arith, add-one, drop-cons}
 use Rattle.std.specs.List.{position_from}
 use Rattle.std.specs.Option.{option_or}
-use Rattle.std.proofs.lemmas.Bool.{true≢false, eqb-true, eq-eqb}
-use Rattle.std.proofs.lemmas.Bool.Decides.{nat_tests}
+use Rattle.std.proofs.lemmas.Bool.{true≢false, eqb-true, eq-eqb, and_parts, ltb-true, lt-ltb}
 use Rattle.std.proofs.lemmas.Grind.{common_steps}
 use Rattle.std.proofs.lemmas.Option.{same_Some, none-some}
 use Rattle.aadl_names.specs.declared.site.Site.{Site}
@@ -16,16 +15,13 @@ use Rattle.aadl_uses.specs.proof.Firsts.{first_into, is_before}
 use Rattle.aadl_uses.specs.Firsts.{target_in, IsSecond}
 
 -- ---- ports
-both_true : (a b : Bool) → (a && b) ≡ true → (a ≡ true) × (b ≡ true)
-both_true true b e = (refl, e)
-both_true false b e = absurd (true≢false (sym e))
 
 pub same_site-true : (a b : Site) → same_site a b ≡ true → a ≡ b
 same_site-true (Own p) (Own q) e = ap Own (eqb-true p q e)
 same_site-true (Own p) (Inner t q) e = absurd (true≢false (sym e))
 same_site-true (Inner s p) (Own q) e = absurd (true≢false (sym e))
 same_site-true (Inner s p) (Inner t q) e =
-    let h = both_true (nat_eq s t) (nat_eq p q) e in
+    let h = and_parts (nat_eq s t) (nat_eq p q) e in
     ap (λ n. Inner n p) (eqb-true s t h.0) ∙ ap (Inner t) (eqb-true p q h.1)
 
 pub itself : (a : Site) → same_site a a ≡ true
@@ -118,18 +114,13 @@ first_before [] target k j h = absurd (none_past j target h)
 first_before (w ∷ ws) target k j h = before_by w ws target k j (is_site target w.target) refl h (λ i g. first_before ws target (k + 1) i g)
 
 -- ---- second ones
-lt_to : (a b : ℕ) → nat_lt a b ≡ true → a < b
-lt_to a b e = grind (arith, nat_tests)
-
-lt_from : (a b : ℕ) → a < b → nat_lt a b ≡ true
-lt_from a b e = grind (arith, nat_tests)
 
 second_to : (wires : List Wire) (number : ℕ) (target : Site) → target_in wires number ≡ Some target → (o : Option ℕ) → first_into wires target ≡ o
     → is_before o number ≡ true → IsSecond wires number
 second_to wires number target h None e t = absurd (true≢false (sym t))
 second_to wires number target h (Some n) e t =
     let f = first_at wires target 0 n e in
-    let less = lt_to n number t in
+    let less = ltb-true n number t in
     let is = f.is in
     record { first = f.index; target = target; in_order = omega arith; earlier = f.passes; here = h }
 
@@ -140,7 +131,7 @@ second_from wires number target h s =
     let r = first_before wires target 0 s.first (s.earlier ∙ ap Some same) in
     let least = r.2 in
     let less = s.in_order in
-    ap (λ o. is_before o number) r.1 ∙ lt_from r.0 number (omega arith)
+    ap (λ o. is_before o number) r.1 ∙ lt-ltb r.0 number (omega arith)
 
 pub is_second-tells : (wires : List Wire) (number : ℕ) (target : Site) (b : Bool) → target_in wires number ≡ Some target
     → b ≡ is_before (first_into wires target) number → IsTrue b ↔ IsSecond wires number

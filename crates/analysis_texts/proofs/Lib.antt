@@ -1,6 +1,5 @@
 pub mod Rounds
 pub mod Blocks
-pub mod Mapped
 pub mod WatchedLines
 pub mod Filing
 pub mod VotedRows

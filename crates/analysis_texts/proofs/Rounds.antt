@@ -1,9 +1,10 @@
 -- The rows of rounds that go one after the other.
-use Rattle.std.proofs.Common.{Result, Ok, Err, OnOk, ◌≡◌, ℕ, zero, suc, ◌+◌, ◌<◌, List, [], ◌∷◌, ◌++◌, length, map, take, drop, sym, ap, ◌∙◌, arith}
+use Rattle.std.proofs.Common.{◌≡◌, ℕ, zero, suc, ◌+◌, ◌<◌, List, [], ◌∷◌, ◌++◌, length, map, sym, ap, ◌∙◌, arith}
 use Rattle.std.proofs.Common.{get_or, refl, ap₂, add-one, add-zero, zero-add, append-nil}
-use Rattle.std.proofs.lemmas.List.{drop_all, length-map, take_all}
+use Rattle.std.proofs.lemmas.List.{length-map}
 use Rattle.std.proofs.lemmas.Grind.{flat_map-append}
 use Rattle.std.specs.Prelude.{Some, flat_map, slice_get, slice_index_or}
+use Rattle.std.proofs.lemmas.Simd.{map-map}
 use Rattle.pals_base.specs.declared.values.Port.{Port}
 use Rattle.pals_base.specs.declared.values.Frame.{Frame}
 use Rattle.pals_base.specs.declared.values.Port.TheVariants.{Absent}
@@ -19,7 +20,6 @@ use Rattle.pals_model.proofs.CompositionLaws.{one_frame_each}
 use Rattle.pals_report.specs.proof.Rows.{ArePartsOf}
 use Rattle.run_monitor.specs.proof.Bits.{row_of}
 use Rattle.sync_product.specs.proof.State.{ProductState, advanced, parts_of}
-use Rattle.analysis_texts.proofs.Mapped.{map-map}
 
 -- ---- counting up
 slice_get-map-upwards : {A : Type 0} (f : ℕ → A) (from n k : ℕ) → k < n
@@ -31,11 +31,6 @@ slice_get-map-upwards f from (suc n) (suc k) h =
     slice_get-map-upwards f (suc from) n k below ∙ ap (λ m. Some (f m)) (omega arith)
 
 -- ---- values that are written over others
-pub written_whole : {A : Type 0} (n : ℕ) (new old : List A) → n ≡ length old → length new ≡ length old
-    → take n (new ++ drop (length new) old) ≡ new
-written_whole n new old all same =
-    ap (λ rest. take n (new ++ rest)) (drop_all (length new) old (omega arith)) ∙ ap (take n) (append-nil new)
-    ∙ take_all n new (omega arith)
 
 pub length_values_at : (env : Env) (round : ℕ) → length (values_at env round) ≡ length env.lists
 length_values_at env round = length-map env.lists (λ list. slice_index_or list round Absent)
@@ -95,11 +90,6 @@ row_after env round values old parts here at is =
     ∙ frames_of_all frames 0 (length design.components) frames size
     (λ k d below. ap (λ j. get_or frames j d) (zero-add k))
     ∙ ap (λ n. (comp design env n).frames) (sym (add-one round))
-
--- what holds in any case holds where a call succeeds
-pub on_ok : {T E : Type 0} (r : Result T E) (P : Type 0) → P → OnOk r P
-on_ok (Ok x) P holds = holds
-on_ok (Err e) P holds = tt
 
 -- ---- the report
 -- one more row behind those of the rounds before it

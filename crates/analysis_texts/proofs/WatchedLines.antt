@@ -3,6 +3,7 @@ use Rattle.std.proofs.Common.{Some, None, IfSome, subst, ◌≡◌, ◌∙◌, �
 use Rattle.std.specs.Prelude.{slice_index_or}
 use Rattle.std.proofs.lemmas.Option.{slice_get_within}
 use Rattle.std.proofs.lemmas.List.{length-map, get_or-map, take_more, map-append}
+use Rattle.std.proofs.lemmas.Simd.{map-map}
 use Rattle.pals_base.specs.declared.values.Frame.{Frame}
 use Rattle.pals_model.specs.declared.design.DesignParts.{DesignParts}
 use Rattle.pals_model.specs.declared.rounds.Env.{Env}
@@ -20,7 +21,6 @@ use Rattle.run_monitor.proofs.Texts.{rows_go_on}
 use Rattle.run_monitor.proofs.Watching.{history_has_rounds}
 use Rattle.analysis_texts.specs.Watched.{named, formulas}
 use Rattle.analysis_texts.proofs.Blocks.{line_before, line_behind}
-use Rattle.analysis_texts.proofs.Mapped.{map-map}
 
 formulas_of-named : (properties : List PropertyValue) → formulas_of (named properties) ≡ formulas properties
 formulas_of-named properties = map-map (λ p. p.1) (λ (p : PropertyValue). (p.name, p.form)) properties

@@ -1,7 +1,10 @@
 -- What reaches is a way, and what a way leads to is reached.
-use Rattle.std.proofs.Common.{◌≡◌, ℕ, ◌<◌, zero, suc, Bool, true, false, not, ◌&&◌, ◌||◌, nat_eq, List, [], ◌∷◌, length, refl, sym, ap, ◌∙◌, subst, arith, rules, inl, inr, ◌⊎◌}
+use Rattle.std.proofs.Common.{◌≡◌, ℕ, ◌<◌, zero, suc, Bool, true, false, not, ◌&&◌, nat_eq, List, [], ◌∷◌, length, refl, sym, ap, ◌∙◌, subst, arith, inl, inr, ◌⊎◌}
 use Rattle.std.specs.List.{list_any, Contains}
 use Rattle.std.proofs.lemmas.Bool.{true≢false, or_cases, eqb-true, cases_lt}
+use Rattle.std.proofs.lemmas.Bool.{and_from, and_parts, or_left, or_right, not-true}
+use Rattle.list_lemmas.proofs.Elements.{list_any_by_element}
+use Rattle.list_lemmas.proofs.Numbers.{nat_eq-self}
 use Rattle.pals_base.specs.declared.behaviour.BehaviourParts.{BehaviourParts}
 use Rattle.pals_base.specs.Tree.{Edge}
 use Rattle.pals_base.specs.Fire.{is_complete, leaving}
@@ -10,28 +13,6 @@ use Rattle.pals_base.proofs.Ways.{incomplete_within}
 use Rattle.annex_resolve.specs.CycleRules.{leads, reaches, is_on_cycle}
 
 -- ---- tests
-both : (a b : Bool) → a ≡ true → b ≡ true → (a && b) ≡ true
-both true b e f = f
-both false b e f = absurd (true≢false (sym e))
-
-parts : (a b : Bool) → (a && b) ≡ true → (a ≡ true) × (b ≡ true)
-parts true b e = (refl, e)
-parts false b e = absurd (true≢false (sym e))
-
-left : (a b : Bool) → a ≡ true → (a || b) ≡ true
-left true b e = refl
-left false b e = absurd (true≢false (sym e))
-
-right : (a b : Bool) → b ≡ true → (a || b) ≡ true
-right true b e = refl
-right false b e = e
-
-not_true : (a : Bool) → not a ≡ true → a ≡ false
-not_true true e = absurd (true≢false (sym e))
-not_true false e = refl
-
-same_itself : (n : ℕ) → nat_eq n n ≡ true
-same_itself n = search rules
 
 abbrev Passes : {A : Type 0} → (A → Bool) → List A → Type 0
 Passes {A} p xs = (x : A) × Contains xs x × (p x ≡ true)
@@ -44,15 +25,10 @@ some_element : {A : Type 0} (p : A → Bool) (xs : List A) → list_any p xs ≡
 some_element p [] any = absurd (true≢false (sym any))
 some_element p (x ∷ xs) any = passes_by p x xs (or_cases (p x) (list_any p xs) any) (some_element p xs)
 
-found_any : {A : Type 0} (p : A → Bool) (xs : List A) (x : A) → Contains xs x → p x ≡ true → list_any p xs ≡ true
-found_any p [] x (k, within, is) holds = absurd (omega (arith, within))
-found_any p (y ∷ ys) x (zero, within, is) holds = left (p y) (list_any p ys) (ap p is ∙ holds)
-found_any p (y ∷ ys) x (suc k, within, is) holds = right (p y) (list_any p ys) (found_any p ys x (k, omega (arith, within), is) holds)
-
 -- ---- what is reached, by more states in between
 grows : (k : ℕ) (b : BehaviourParts) (s t : ℕ) → leads b s t ≡ true → reaches k b s t ≡ true
 grows zero b s t e = e
-grows (suc k) b s t e = left (reaches k b s t) (reaches k b s k && reaches k b k t) (grows k b s t e)
+grows (suc k) b s t e = or_left (reaches k b s t) (reaches k b s k && reaches k b k t) (grows k b s t e)
 
 -- with one more state between, a way goes by it or not
 abbrev Either : ℕ → BehaviourParts → ℕ → ℕ → Type 0
@@ -61,14 +37,14 @@ Either k b s t = (reaches k b s t ≡ true) ⊎ ((reaches k b s k ≡ true) × (
 split : (k : ℕ) (b : BehaviourParts) (s t : ℕ) → reaches (suc k) b s t ≡ true → Either k b s t
 split k b s t e = elim (or_cases (reaches k b s t) (reaches k b s k && reaches k b k t) e) as (λ r. Either k b s t) [
   | inl direct ↦ inl direct
-  | inr by ↦ inr (parts (reaches k b s k) (reaches k b k t) by)
+  | inr by ↦ inr (and_parts (reaches k b s k) (reaches k b k t) by)
 ]
 
 direct : (k : ℕ) (b : BehaviourParts) (s t : ℕ) → reaches k b s t ≡ true → reaches (suc k) b s t ≡ true
-direct k b s t e = left (reaches k b s t) (reaches k b s k && reaches k b k t) e
+direct k b s t e = or_left (reaches k b s t) (reaches k b s k && reaches k b k t) e
 
 by_way_of : (k : ℕ) (b : BehaviourParts) (s t : ℕ) → reaches k b s k ≡ true → reaches k b k t ≡ true → reaches (suc k) b s t ≡ true
-by_way_of k b s t e f = right (reaches k b s t) (reaches k b s k && reaches k b k t) (both (reaches k b s k) (reaches k b k t) e f)
+by_way_of k b s t e f = or_right (reaches k b s t) (reaches k b s k && reaches k b k t) (and_from (reaches k b s k) (reaches k b k t) e f)
 
 to_last : (k : ℕ) (b : BehaviourParts) (s : ℕ) → Either k b s k → reaches k b s k ≡ true
 to_last k b s (inl e) = e
@@ -96,8 +72,8 @@ through (suc k) b s m t below e f = elim (cases_lt m k) as (λ r. reaches (suc k
 -- ---- ways
 step_leads : (b : BehaviourParts) (s t : ℕ) → IsWay b 1 s t → leads b s t ≡ true
 step_leads b s t (incomplete, (e, here, is)) =
-    both (not (is_complete b s)) (list_any (λ (e : Edge). nat_eq e.target t) (leaving b s)) (ap not incomplete)
-    (found_any (λ (e : Edge). nat_eq e.target t) (leaving b s) e here (ap (λ n. nat_eq n t) is ∙ same_itself t))
+    and_from (not (is_complete b s)) (list_any (λ (e : Edge). nat_eq e.target t) (leaving b s)) (ap not incomplete)
+    (list_any_by_element (λ (e : Edge). nat_eq e.target t) (leaving b s) e here (ap (λ n. nat_eq n t) is ∙ nat_eq-self t))
 
 pub way_reaches : (n : ℕ) (b : BehaviourParts) (s t : ℕ) → IsWay b (suc n) s t → reaches (length b.states) b s t ≡ true
 way_reaches zero b s t way = grows (length b.states) b s t (step_leads b s t way)
@@ -116,9 +92,9 @@ joined_ways (suc n) b s m t q (incomplete, (e, here, way)) rest = let on = joine
 -- what is reached is at the end of a way
 pub reached_by_way : (k : ℕ) (b : BehaviourParts) (s t : ℕ) → reaches k b s t ≡ true → (n : ℕ) × IsWay b (suc n) s t
 reached_by_way zero b s t e =
-    let both' = parts (not (is_complete b s)) (list_any (λ (e : Edge). nat_eq e.target t) (leaving b s)) e in
+    let both' = and_parts (not (is_complete b s)) (list_any (λ (e : Edge). nat_eq e.target t) (leaving b s)) e in
     let found = some_element (λ (e : Edge). nat_eq e.target t) (leaving b s) both'.1 in
-    (zero, (not_true (is_complete b s) both'.0, (found.0, found.1, eqb-true found.0.target t found.2)))
+    (zero, (not-true (is_complete b s) both'.0, (found.0, found.1, eqb-true found.0.target t found.2)))
 reached_by_way (suc k) b s t e = elim (split k b s t e) as (λ r. (n : ℕ) × IsWay b (suc n) s t) [
   | inl way ↦ reached_by_way k b s t way
   | inr ways ↦ let first = reached_by_way k b s k ways.0 in let second = reached_by_way k b k t ways.1 in joined_ways (suc first.0) b s k t second.0 first.1 second.1

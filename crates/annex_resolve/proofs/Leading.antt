@@ -5,6 +5,7 @@ use Rattle.std.proofs.lemmas.Bool.{cases_eq, eq-eqb, ne_eqb}
 use Rattle.std.proofs.lemmas.List.{append-nil}
 use Rattle.std.proofs.lemmas.List.Elements.{filter-append}
 use Rattle.std.proofs.lemmas.List.Folds.{list_any-append}
+use Rattle.std.proofs.Math.Bool.{and-false}
 use Rattle.pals_base.specs.declared.behaviour.BehaviourParts.{BehaviourParts}
 use Rattle.pals_base.specs.Tree.{Edge}
 use Rattle.pals_base.specs.Fire.{is_complete}
@@ -39,14 +40,11 @@ mapped_read f from (suc n) zero d within = ap f (omega arith)
 mapped_read f from (suc n) (suc k) d within = mapped_read f (suc from) n k d (omega (arith, within)) ∙ ap f (omega arith)
 
 -- ---- no transition
-never : (b : Bool) → (b && false) ≡ false
-never true = refl
-never false = refl
 
 pub table-none : (b : BehaviourParts) → replicate (length b.states) (replicate (length b.states) false) ≡ table_by b []
 table-none b =
     let n = length b.states in
-    sym (mapped_all (row_by b []) (replicate n false) 0 n (λ s. mapped_all (leads_by b [] s) false 0 n (λ t. never (not (is_complete b s)))))
+    sym (mapped_all (row_by b []) (replicate n false) 0 n (λ s. mapped_all (leads_by b [] s) false 0 n (λ t. and-false (not (is_complete b s)))))
 
 -- ---- one more transition
 module _ (b : BehaviourParts) (es : List Edge) (e : Edge) where

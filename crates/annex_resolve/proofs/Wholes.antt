@@ -1,9 +1,10 @@
 -- What is found of one more state.
-use Rattle.std.proofs.Common.{◌≡◌, ℕ, ◌+◌, ◌<◌, zero, suc, List, [], ◌∷◌, ◌++◌, length, map, take, get_or, refl, sym, ap, ◌∙◌, append_assoc, arith}
+use Rattle.std.proofs.Common.{◌≡◌, ℕ, ◌+◌, ◌<◌, List, [], ◌∷◌, ◌++◌, length, map, take, get_or, sym, ap, ◌∙◌, append_assoc, arith}
 use Rattle.std.specs.Prelude.{flat_map}
 use Rattle.std.specs.List.{enumerate_from}
 use Rattle.std.proofs.lemmas.List.{append-nil}
 use Rattle.std.proofs.lemmas.Grind.{flat_map-append}
+use Rattle.list_lemmas.proofs.Lists.{enumerate_from-push, length-take_within}
 use Rattle.pals_base.specs.declared.behaviour.BehaviourParts.{BehaviourParts}
 use Rattle.pals_base.specs.Tree.{Edge}
 use Rattle.aadl_tree.specs.Annexes.{Transition, AnnexTree}
@@ -14,22 +15,11 @@ use Rattle.annex_resolve.specs.declared.violation.Violation.{Violation}
 use Rattle.annex_resolve.specs.Behaviours.{states_of, transitions_of, edge_of, parts_by, behaviour_of, transition_findings, rule_findings, annex_findings}
 use Rattle.annex_resolve.proofs.Reading.{take_next}
 
-enumerate-push : {A : Type 0} (from : ℕ) (xs : List A) (x : A) → enumerate_from from (xs ++ x ∷ []) ≡ enumerate_from from xs ++ (from + length xs, x) ∷ []
-enumerate-push from [] x = let e : from ≡ from + 0 = omega arith in ap (λ n. (n, x) ∷ []) e
-enumerate-push from (y ∷ ys) x =
-    let e : (from + 1) + length ys ≡ from + suc (length ys) = omega arith in
-    ap (λ l. (from, y) ∷ l) (enumerate-push (from + 1) ys x ∙ ap (λ n. enumerate_from (from + 1) ys ++ (n, x) ∷ []) e)
-
-length_taken : {A : Type 0} (xs : List A) (i : ℕ) → i < length xs → length (take i xs) ≡ i
-length_taken [] i within = absurd (omega (arith, within))
-length_taken (x ∷ xs) zero within = refl
-length_taken (x ∷ xs) (suc i) within = ap suc (length_taken xs i (omega (arith, within)))
-
 numbered_next : {A B : Type 0} (f : ℕ × A → List B) (xs : List A) (i : ℕ) (x : A) → i < length xs → x ≡ get_or xs i x
     → flat_map f (enumerate_from 0 (take (i + 1) xs)) ≡ flat_map f (enumerate_from 0 (take i xs)) ++ f (i, x)
 numbered_next f xs i x within is =
-    let e : 0 + length (take i xs) ≡ i = (let g = length_taken xs i within in omega (arith, g)) in
-    ap (λ l. flat_map f (enumerate_from 0 l)) (take_next xs i x within is) ∙ ap (flat_map f) (enumerate-push 0 (take i xs) x)
+    let e : 0 + length (take i xs) ≡ i = (let g = length-take_within xs i within in omega (arith, g)) in
+    ap (λ l. flat_map f (enumerate_from 0 l)) (take_next xs i x within is) ∙ ap (flat_map f) (enumerate_from-push 0 (take i xs) x)
     ∙ flat_map-append f (enumerate_from 0 (take i xs)) ((0 + length (take i xs), x) ∷ [])
     ∙ ap (λ l. flat_map f (enumerate_from 0 (take i xs)) ++ l) (append-nil (f (0 + length (take i xs), x)))
     ∙ ap (λ n. flat_map f (enumerate_from 0 (take i xs)) ++ f (n, x)) e

@@ -6,6 +6,7 @@ use Rattle.std.proofs.lemmas.Grind.{get_or-set_at}
 use Rattle.std.proofs.lemmas.List.{length-set, length-map, get_or-set_other, get_or_past, get_or-map}
 use Rattle.std.proofs.lemmas.List.Elements.{All-append}
 use Rattle.std.proofs.lemmas.Option.{slice_get_within, slice_get-get_or, get_or_from_slice_get}
+use Rattle.list_lemmas.proofs.Pairs.{AllPairs-slice_get}
 use Rattle.pals_base.specs.declared.values.Port.{Port}
 use Rattle.pals_base.specs.declared.values.LinkNo.{LinkNo}
 use Rattle.pals_base.specs.Steps.{upwards}
@@ -16,7 +17,7 @@ use Rattle.pals_model.specs.Flights.{oldest, without_oldest}
 use Rattle.pals_model.specs.Ports.{ins_in}
 use Rattle.pals_model.specs.Composition.{msg}
 use Rattle.pals_model.specs.Rules.{IsLink, LinkPrecedes, port_place}
-use Rattle.pals_model.proofs.Lookups.{at_element, pair_at}
+use Rattle.pals_model.proofs.Lookups.{at_element}
 use Rattle.pals_model.proofs.CompositionLaws.{state_begins}
 use Rattle.pals_runs.specs.declared.journal.Phase.{Phase}
 use Rattle.pals_runs.specs.declared.journal.Phase.TheVariants.{Waiting, Running, Between, Holding, Done}
@@ -90,8 +91,8 @@ same_link run one two a b rules is_a is_b node port =
     elim (cases_order one two) [
       | inl same_number ↦ same_number
       | inr apart ↦ elim apart [
-        | inl before ↦ let less : port_place a.target.0 a.in_port < port_place b.target.0 b.in_port = pair_at LinkPrecedes run.design.links one two a b rules.design.links.order before is_a is_b in absurd (omega arith)
-        | inr after ↦ let less : port_place b.target.0 b.in_port < port_place a.target.0 a.in_port = pair_at LinkPrecedes run.design.links two one b a rules.design.links.order after is_b is_a in absurd (omega arith)
+        | inl before ↦ let less : port_place a.target.0 a.in_port < port_place b.target.0 b.in_port = AllPairs-slice_get LinkPrecedes run.design.links one two a b rules.design.links.order before is_a is_b in absurd (omega arith)
+        | inr after ↦ let less : port_place b.target.0 b.in_port < port_place a.target.0 a.in_port = AllPairs-slice_get LinkPrecedes run.design.links two one b a rules.design.links.order after is_b is_a in absurd (omega arith)
       ]
     ]
 

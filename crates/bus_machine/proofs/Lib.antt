@@ -6,3 +6,4 @@ pub mod States
 pub mod Steps
 pub mod Arrivals
 pub mod TargetRows
+pub mod Moves

@@ -1,5 +1,5 @@
 -- Lists by their places.
-use Rattle.std.proofs.Common.{◌≡◌, ℕ, zero, suc, ◌+◌, ◌-◌, ◌≤◌, Bool, true, false, cond, List, [], ◌∷◌, ◌++◌, length, map, take, drop, set, replicate, slice_get, Some, None, All, refl, sym, ap, ap₂, ◌∙◌, subst, arith, zero-add}
+use Rattle.std.proofs.Common.{◌≡◌, ℕ, zero, suc, ◌+◌, ◌-◌, ◌≤◌, Bool, true, false, cond, List, [], ◌∷◌, ◌++◌, map, take, drop, set, replicate, slice_get, Some, None, All, refl, sym, ap, ap₂, ◌∙◌, subst, arith, zero-add}
 use Rattle.std.specs.Prelude.{position, find, slice_index_or, slice_set}
 use Rattle.std.specs.List.{enumerate_from, position_from, position_or_len}
 use Rattle.std.proofs.lemmas.Iterator.Adapters.{position_from-zero}
@@ -12,9 +12,6 @@ use Rattle.pals_model.specs.declared.flight.FlightCopy.{FlightCopy}
 use Rattle.pals_model.specs.Flights.{is_of, oldest, without_oldest}
 
 -- ---- lists whose elements are numbered
-pub length-numbered : {X Y : Type 0} (f : ℕ × X → Y) (from : ℕ) (xs : List X) → length (map f (enumerate_from from xs)) ≡ length xs
-length-numbered f from [] = refl
-length-numbered f from (x ∷ xs) = ap suc (length-numbered f (from + 1) xs)
 
 numbered_from : {X Y : Type 0} (f : ℕ × X → Y) (from : ℕ) (xs : List X) (k n : ℕ) (x : X) (d : Y) → n ≡ from + k → slice_get xs k ≡ Some x → slice_index_or (map f (enumerate_from from xs)) k d ≡ f (n, x)
 numbered_from f from [] k n x d at is_x = absurd (cc)

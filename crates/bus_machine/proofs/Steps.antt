@@ -1,10 +1,13 @@
 -- Each step of the machine keeps the agreement.
 use Rattle.std.proofs.Common.{◌≡◌, ℕ, zero, suc, ◌+◌, ◌-◌, ◌<◌, ◌≤◌, nat_eq, Bool, true, false, List, [], ◌∷◌, ◌++◌, length, map, slice_get, Option, Some, None, All, refl, sym, ap, ap₂, ◌∙◌, subst, arith}
-use Rattle.std.specs.Prelude.{option_map, slice_index_or, if◌then◌else◌}
+use Rattle.std.specs.Prelude.{slice_index_or, if◌then◌else◌}
 use Rattle.std.specs.List.{enumerate_from}
 use Rattle.std.proofs.lemmas.Bool.{eqb-true, false≢true}
 use Rattle.std.proofs.lemmas.List.Elements.{All-append, All-replicate}
 use Rattle.std.proofs.lemmas.Option.{slice_get_within, get_or_from_slice_get}
+use Rattle.list_lemmas.proofs.Lists.{length-map_enumerate_from}
+use Rattle.bus_machine.proofs.Moves.{sent_most}
+use Rattle.list_lemmas.proofs.Options.{option_map-none}
 use Rattle.pals_base.specs.declared.values.Port.{Port}
 use Rattle.pals_base.specs.declared.values.NodeNo.{NodeNo}
 use Rattle.pals_model.specs.declared.design.Component.{Component}
@@ -26,7 +29,7 @@ use Rattle.bus_machine.specs.Stops.{missing_link, link_into, sent_rounds, rounds
 use Rattle.bus_machine.specs.Machine.{after_start, on_step, flight_after_send, after_send}
 use Rattle.bus_machine.specs.Agreement.{SlotAgrees, IsCopy, Agrees}
 use Rattle.bus_machine.specs.proof.Laws.{IsRunOf}
-use Rattle.bus_machine.proofs.Lists.{numbered_at, length-numbered}
+use Rattle.bus_machine.proofs.Lists.{numbered_at}
 use Rattle.bus_machine.proofs.Vectors.{SlotsAgree}
 use Rattle.bus_machine.proofs.Nodes.{starts, steps_on, finishes, finish_keeps, sends, MaySend, may_send_of, sends_message}
 use Rattle.bus_machine.proofs.States.{with_stop_agrees, with_flights_agrees, node_set, is_component, with_node_agrees, slots_of}
@@ -35,13 +38,6 @@ component_rate : (run : Run) (node : ℕ) (c : Component) → IsRunOf run → sl
 component_rate run node c rules is_c = (at_element (IsComponent run.design.period) run.design.components node c rules.design.components.each is_c).rate.0
 
 -- ---- Start
-unmapped : (f : ℕ → ℕ) (o : Option ℕ) → option_map f o ≡ None → o ≡ None
-unmapped f None is = refl
-unmapped f (Some x) is = absurd (cc)
-
-at_most : (sent : Bool) (count : ℕ) → (if sent then count else (count - 1)) ≤ count
-at_most true count = omega arith
-at_most false count = omega arith
 
 abbrev no_slot : Option (List Port)
 no_slot = None
@@ -64,9 +60,9 @@ start_keeps run s node reading None rules agree waits none =
     let n = node_at s node.0 in
     let c = component_at run.design node.0 in
     let is_c = is_component run s node.0 agree (λ gone. false≢true (sym (ap (λ (k : NodeState). is_waiting k.phase) gone) ∙ waits)) in
-    let sent : sent_rounds n ≤ n.count = at_most n.sent n.count in
+    let sent : sent_rounds n ≤ n.count = sent_most n.sent n.count in
     with_node_agrees run s node.0 c (started (plan_of run.design node.0) (values_at run.env n.count) n) agree is_c
-    (starts run node.0 c n is_c (component_rate run node.0 c rules is_c) (agree.nodes node.0 c is_c) (slots_of run s node.0 agree) (is_waiting_phase n.phase waits) (unmapped (link_into run.design node.0) (missing (plan_of run.design node.0) n) none))
+    (starts run node.0 c n is_c (component_rate run node.0 c rules is_c) (agree.nodes node.0 c is_c) (slots_of run s node.0 agree) (is_waiting_phase n.phase waits) (option_map-none (link_into run.design node.0) (missing (plan_of run.design node.0) n) none))
     (omega arith)
     (λ number link is same. subst (λ slot. SlotAgrees run number (n.count + 1) slot) (sym (emptied n.slots link.in_port)) tt)
 
@@ -119,14 +115,14 @@ send_keeps run s node reading rules agree may =
     let here = agree.nodes node.0 c is_c in
     let m : MaySend run node.0 c n = may_send_of run node.0 c n here may in
     let sent = sent_from run.rounds n in
-    let most : sent_rounds n ≤ n.count = at_most n.sent n.count in
+    let most : sent_rounds n ≤ n.count = sent_most n.sent n.count in
     let one : Agrees run (with_node s node.0 sent) = with_node_agrees run s node.0 c sent agree is_c (sends run node.0 c n is_c here) most (slots_of run s node.0 agree) in
     let counted : n.count ≡ suc m.under_way.round = m.under_way.count in
     let this : round_of n ≡ m.under_way.round = omega arith in
     let count = agree.node_count in
     let within : node.0 < length s.nodes = let below : node.0 < length run.design.components = slice_get_within run.design.components node.0 c is_c in omega arith in
     with_flights_agrees run (with_node s node.0 sent) (map (λ numbered. flight_after_send run s node reading numbered.0 numbered.1) (enumerate_from 0 run.design.links)) one
-    (length-numbered (λ (numbered : ℕ × Link). flight_after_send run s node reading numbered.0 numbered.1) 0 run.design.links)
+    (length-map_enumerate_from (λ (numbered : ℕ × Link). flight_after_send run s node reading numbered.0 numbered.1) 0 run.design.links)
     (λ number link is.
     let rounds = rounds_sent_on run (with_node s node.0 sent) number in
     let copy = sent_copy (round_of n) reading (delay_of run.delays number (round_of n)) (message_from (plan_of run.design node.0) n link.out_port) in

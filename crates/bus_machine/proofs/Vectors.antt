@@ -4,6 +4,8 @@ use Rattle.std.specs.Prelude.{position, zip, slice_index_or, if◌then◌else◌
 use Rattle.std.proofs.lemmas.List.{length-map}
 use Rattle.std.proofs.lemmas.Bool.{and_parts, eqb-true, ne_eqb, false≢true}
 use Rattle.std.proofs.lemmas.Option.{slice_get-map, get_or_from_slice_get, slice_get_within, slice_get-get_or}
+use Rattle.list_lemmas.proofs.Places.{slice_get-zip}
+use Rattle.list_lemmas.proofs.Options.{option_map-parts}
 use Rattle.pals_base.specs.declared.values.Port.{Port}
 use Rattle.pals_base.specs.declared.values.Port.TheVariants.{Absent}
 use Rattle.pals_base.specs.Adaptors.{adapt}
@@ -68,14 +70,10 @@ length-upwards from (suc n) = ap suc (length-upwards (suc from) n)
 pub length_sources : (design : DesignParts) (node : ℕ) (c : Component) → length (sources_of design node c) ≡ length c.behaviour.ins
 length_sources design node c = length-map (upwards 0 (length c.behaviour.ins)) (λ port. source_of design node port) ∙ length-upwards 0 (length c.behaviour.ins)
 
-mapped : {X Y : Type 0} (f : X → Y) (o : Option X) (y : Y) → option_map f o ≡ Some y → (x : X) × (o ≡ Some x) × (f x ≡ y)
-mapped f None y is = absurd (cc)
-mapped f (Some x) y is = (x, refl, cc)
-
 source_at : (design : DesignParts) (node k : ℕ) (c : Component) (src : PortSource) → slice_get (sources_of design node c) k ≡ Some src → source_of design node k ≡ src
 source_at design node k c src is =
     let ports = upwards 0 (length c.behaviour.ins) in
-    let found = mapped (λ port. source_of design node port) (slice_get ports k) src (sym (slice_get-map (λ port. source_of design node port) ports k) ∙ is) in
+    let found = option_map-parts (λ port. source_of design node port) (slice_get ports k) src (sym (slice_get-map (λ port. source_of design node port) ports k) ∙ is) in
     let place : found.0 ≡ 0 + k = upwards_at 0 (length c.behaviour.ins) k found.0 found.1 in
     let same : k ≡ found.0 = omega arith in
     ap (source_of design node) same ∙ found.2
@@ -106,12 +104,6 @@ message_stands run number count link None is agrees empty =
     ∙ ap (λ m. slice_index_or (comp run.design run.env m).messages number []) (sym (empty refl))
 message_stands run number count link (Some tuple) is agrees empty = agrees.2 ∙ ap (λ m. slice_index_or (comp run.design run.env m).messages number []) (sym agrees.1)
 
-zip_at : {X Y : Type 0} (xs : List X) (ys : List Y) (k : ℕ) (x : X) (y : Y) → slice_get xs k ≡ Some x → slice_get ys k ≡ Some y → slice_get (zip xs ys) k ≡ Some (x, y)
-zip_at [] ys k x y is_x is_y = absurd (cc)
-zip_at (z ∷ xs) [] k x y is_x is_y = absurd (cc)
-zip_at (z ∷ xs) (w ∷ ys) zero x y is_x is_y = let one : z ≡ x = cc in let two : w ≡ y = cc in ap₂ (λ a b. Some (a, b)) one two
-zip_at (z ∷ xs) (w ∷ ys) (suc k) x y is_x is_y = zip_at xs ys k x y is_x is_y
-
 lacks_none : (design : DesignParts) (number : ℕ) (link : Link) (slot : Option (List Port)) → slice_get design.links number ≡ Some link → slot ≡ None → lacks (input_of design (source.Link number)) slot ≡ true
 lacks_none design number link slot is empty = ap₂ (λ l s. lacks (input_from_link design l) s) is empty
 
@@ -131,7 +123,7 @@ empty_at_first run node k number c n link (suc m) size is_src is none empty coun
     let count : length sources ≡ length c.behaviour.ins = length_sources run.design node c in
     let within : k < length n.slots = let below = slice_get_within sources k (source.Link number) is_src in omega arith in
     let is_slot : slice_get n.slots k ≡ Some (slot_at n k) = slice_get-get_or n.slots k None within in
-    let fails = none_found (λ (p : Input × Option (List Port)). lacks p.0 p.1) (zip inputs n.slots) k (input_of run.design (source.Link number), slot_at n k) (none_missing (plan_for run.design node c) n m counted none) (zip_at inputs n.slots k _ _ is_input is_slot) in
+    let fails = none_found (λ (p : Input × Option (List Port)). lacks p.0 p.1) (zip inputs n.slots) k (input_of run.design (source.Link number), slot_at n k) (none_missing (plan_for run.design node c) n m counted none) (slice_get-zip inputs n.slots k _ _ is_input is_slot) in
     let passes = lacks_none run.design number link (slot_at n k) is empty in
     absurd (false≢true (sym fails ∙ passes))
 

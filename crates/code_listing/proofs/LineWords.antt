@@ -1,5 +1,5 @@
 -- Lines of words with a space between each two: which lines a text has, and which words a line has.
-use Rattle.std.proofs.Common.{◌≡◌, ◌≢◌, ℕ, zero, suc, ◌+◌, ◌/◌, ◌%◌, ◌≤◌, nat_eq, nat_lt, Bool, true, false, not, ◌&&◌, ◌==◌, if◌then◌else◌, ℤ, pos, negsuc, List, [], ◌∷◌, All, refl, sym, ap, ap₂, ◌∙◌, arith, ne_eqb}
+use Rattle.std.proofs.Common.{◌≡◌, ◌≢◌, ℕ, zero, suc, ◌/◌, ◌%◌, nat_eq, nat_lt, Bool, true, false, not, ◌&&◌, ◌==◌, if◌then◌else◌, ℤ, pos, negsuc, List, [], ◌∷◌, All, refl, sym, ap, ap₂, ◌∙◌, arith, ne_eqb}
 use Rattle.std.specs.Prelude.{decimal}
 use Rattle.std.specs.List.{list_all, slice_split, join_with_byte}
 use Rattle.std.specs.Fmt.{digits, digits_onto, digit_glyph, signed_decimal}
@@ -7,6 +7,7 @@ use Rattle.std.proofs.lemmas.Bool.{and_parts, eqb-false, not-true}
 use Rattle.std.proofs.lemmas.List.{append_cancel_right}
 use Rattle.std.proofs.lemmas.List.Elements.{All-nil, All-cons, All-append, All-head, All-tail, All-weaker}
 use Rattle.std.proofs.lemmas.List.Splits.{slice_split_none, slice_split_at}
+use Rattle.list_lemmas.proofs.Numbers.{digit-at_least}
 use Rattle.pals_base.specs.Names.{is_word, is_path}
 use Rattle.pals_model.specs.RoundTexts.{text_of, is_line_feed}
 use Rattle.pals_model.specs.proof.Laws.Lines.{IsLine}
@@ -93,13 +94,10 @@ path_plain path is =
     (path_without 10 path (λ same. absurd (omega (arith, same))) refl is)
 
 -- ---- numbers
-glyph_or : (b : Bool) (d : ℕ) → 48 ≤ (if b then 48 + d else 87 + d)
-glyph_or true d = omega arith
-glyph_or false d = omega arith
 
 glyph_inner : (d : ℕ) → is_inner (digit_glyph false d) ≡ true
 glyph_inner d =
-    let least = glyph_or (nat_lt d 10) d in
+    let least = digit-at_least (nat_lt d 10) d in
     inner (digit_glyph false d) (λ same. absurd (omega (arith, least, same)))
     (λ same. absurd (omega (arith, least, same)))
 

@@ -1,11 +1,12 @@
 -- Texts to which lines are added.
 use Rattle.std.proofs.Common.{◌≡◌, Result, Ok, Err, OnOk, OnErr, ℕ, ◌+◌, ◌<◌, ◌≤◌, min, List, [], ◌∷◌, ◌++◌, length, take, get_or, All, sym, ap, ap₂, ◌∙◌, subst, append_assoc, arith}
 use Rattle.std.specs.List.{flat_map, zip, enumerate_from}
-use Rattle.std.proofs.lemmas.List.{append-nil, take_all, take_more}
+use Rattle.std.proofs.lemmas.List.{append-nil, take_all}
 use Rattle.std.proofs.lemmas.List.Elements.{All-more}
 use Rattle.std.proofs.lemmas.List.FromFn.{length-enumerate_from, get_or-enumerate_from}
 use Rattle.std.proofs.lemmas.Slice.Zip.{length-zip, get_or-zip}
 use Rattle.std.proofs.lemmas.Grind.{flat_map-append}
+use Rattle.list_lemmas.proofs.Lists.{flat_map-take_more}
 use Rattle.pals_base.specs.declared.behaviour.BehaviourParts.{BehaviourParts}
 use Rattle.pals_model.specs.RoundTexts.{line_end, text_of}
 use Rattle.pals_report.specs.proof.Appended.{BeginsWith}
@@ -68,11 +69,6 @@ pub three_behind : (first second third fourth : List ℕ) (lines rest : List (Li
 three_behind first second third fourth lines rest = simp append_assoc
 
 -- ---- blocks of lines, one for each item of a list
-one_more : {X : Type 0} (f : X → List (List ℕ)) (xs : List X) (i : ℕ) (x : X) → i < length xs → x ≡ get_or xs i x
-    → flat_map f (take (i + 1) xs) ≡ flat_map f (take i xs) ++ f x
-one_more f xs i x within is =
-    ap (flat_map f) (take_more xs i x within ∙ ap (λ y. take i xs ++ y ∷ []) (sym is))
-    ∙ flat_map-append f (take i xs) (x ∷ []) ∙ ap (λ rest. flat_map f (take i xs) ++ rest) (append-nil (f x))
 
 pub blocks_turn : {X : Type 0} (f : X → List (List ℕ)) (xs : List X) (i : ℕ) (x : X) (old out new : List ℕ)
     → i < length xs → x ≡ get_or xs i x
@@ -80,7 +76,7 @@ pub blocks_turn : {X : Type 0} (f : X → List (List ℕ)) (xs : List X) (i : �
     → new ≡ old ++ text_of (flat_map f (take (i + 1) xs))
 blocks_turn f xs i x old out new within is before added =
     let begun : Adds old (flat_map f (take i xs)) out = record { is = before } in
-    (lines_behind new (f x) begun added).is ∙ ap (λ lines. old ++ text_of lines) (sym (one_more f xs i x within is))
+    (lines_behind new (f x) begun added).is ∙ ap (λ lines. old ++ text_of lines) (sym (flat_map-take_more f xs i x within is))
 
 pub blocks_all : {X : Type 0} (f : X → List (List ℕ)) (xs : List X) (i : ℕ) (old out : List ℕ) → length xs ≤ i
     → out ≡ old ++ text_of (flat_map f (take i xs)) → out ≡ old ++ text_of (flat_map f xs)

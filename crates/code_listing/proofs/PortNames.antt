@@ -1,11 +1,13 @@
 -- The full names of ports tell their components and numbers.
-use Rattle.std.proofs.Common.{◌≡◌, ◌≢◌, ℕ, zero, suc, ◌+◌, ◌<◌, true, List, [], ◌∷◌, ◌++◌, length, map, Option, Some, None, slice_get, AllPairs, refl, sym, ap, ◌∙◌, subst, arith, append_assoc, inl, inr}
+use Rattle.std.proofs.Common.{◌≡◌, ℕ, suc, ◌+◌, ◌<◌, true, List, [], ◌∷◌, ◌++◌, length, map, Option, Some, None, slice_get, refl, sym, ap, ◌∙◌, subst, arith, append_assoc, inl, inr}
 use Rattle.std.specs.Prelude.{codes}
 use Rattle.std.specs.Option.{option_map}
 use Rattle.std.specs.List.{list_all}
-use Rattle.std.proofs.lemmas.Bool.{and_parts, cases_lt}
+use Rattle.std.proofs.lemmas.Bool.{and_parts}
 use Rattle.std.proofs.lemmas.List.Folds.{list_all-append}
-use Rattle.std.proofs.lemmas.Option.{same_Some, slice_get-map, slice_get_cases}
+use Rattle.std.proofs.lemmas.Option.{slice_get-map, slice_get_cases}
+use Rattle.list_lemmas.proofs.Places.{slice_get-append_left, slice_get-map_parts}
+use Rattle.list_lemmas.proofs.Pairs.{same_place}
 use Rattle.pals_base.specs.declared.behaviour.Named.{Named}
 use Rattle.pals_base.specs.declared.behaviour.VarDecl.{VarDecl}
 use Rattle.pals_base.specs.declared.behaviour.BehaviourParts.{BehaviourParts}
@@ -16,33 +18,18 @@ use Rattle.pals_model.specs.declared.design.DesignParts.{DesignParts}
 use Rattle.pals_model.specs.LinkNames.{port_name, in_port_name, target_name}
 use Rattle.pals_model.specs.Ports.{ins_in, outs_in}
 use Rattle.pals_model.specs.Rules.{IsDesign, IsSource, IsTarget}
-use Rattle.pals_model.proofs.Lookups.{pair_at, at_element}
+use Rattle.pals_model.proofs.Lookups.{at_element}
 use Rattle.pals_model.proofs.ShapeLaws.{component_at, is_behaviour}
 use Rattle.pals_model.proofs.Words.{IsWithout, all_pass, word_without, splits_at_last}
 use Rattle.pals_report.specs.CheckReports.{out_port_name, source_name}
 
 -- ---- lists in which no name stands twice
-pub same_place : {X : Type 0} (name : X → List ℕ) (xs : List X) (i j : ℕ) (x y : X)
-    → AllPairs (λ a b. name a ≢ name b) xs → slice_get xs i ≡ Some x → slice_get xs j ≡ Some y → name x ≡ name y → i ≡ j
-same_place name xs i j x y apart is_x is_y same =
-    elim (cases_lt i j) [
-      | inl below ↦ absurd (pair_at (λ a b. name a ≢ name b) xs i j x y apart below is_x is_y same)
-      | inr not_below ↦ elim (cases_lt j i) [
-        | inl above ↦ absurd (pair_at (λ a b. name a ≢ name b) xs j i y x apart above is_y is_x (sym same))
-        | inr not_above ↦ omega arith
-      ]
-    ]
 
 abbrev pub StandOnce : List (List ℕ) → Type 0
 StandOnce names = (i j : ℕ) (name : List ℕ) → slice_get names i ≡ Some name → slice_get names j ≡ Some name → i ≡ j
 
 stand_once : (names : List (List ℕ)) → AreDistinct names → StandOnce names
 stand_once names apart i j name at_i at_j = same_place (λ n. n) names i j name name apart at_i at_j refl
-
-get_front : {X : Type 0} (xs ys : List X) (k : ℕ) (x : X) → slice_get xs k ≡ Some x → slice_get (xs ++ ys) k ≡ Some x
-get_front [] ys k x is = absurd (cc)
-get_front (z ∷ xs) ys zero x is = is
-get_front (z ∷ xs) ys (suc k) x is = get_front xs ys k x is
 
 get_behind : {X : Type 0} (xs ys : List X) (k : ℕ) (x : X) → slice_get ys k ≡ Some x
     → slice_get (xs ++ ys) (length xs + k) ≡ Some x
@@ -52,20 +39,13 @@ get_behind (z ∷ xs) ys k x is =
     ap (slice_get (z ∷ xs ++ ys)) same ∙ get_behind xs ys k x is
 
 front_once : (xs ys : List (List ℕ)) → StandOnce (xs ++ ys) → StandOnce xs
-front_once xs ys once i j name at_i at_j = once i j name (get_front xs ys i name at_i) (get_front xs ys j name at_j)
+front_once xs ys once i j name at_i at_j = once i j name (slice_get-append_left xs ys i name at_i) (slice_get-append_left xs ys j name at_j)
 
 rest_once : (xs ys : List (List ℕ)) → StandOnce (xs ++ ys) → StandOnce ys
 rest_once xs ys once i j name at_i at_j =
     let same : length xs + i ≡ length xs + j =
     once (length xs + i) (length xs + j) name (get_behind xs ys i name at_i) (get_behind xs ys j name at_j) in
     omega arith
-
--- what a list of names of items has comes from an item
-pub from_map : {X Y : Type 0} (f : X → Y) (xs : List X) (k : ℕ) (y : Y) → slice_get (map f xs) k ≡ Some y
-    → (x : X) × (slice_get xs k ≡ Some x) × (f x ≡ y)
-from_map f [] k y is = absurd (cc)
-from_map f (x ∷ xs) zero y is = (x, refl, same_Some (f x) y is)
-from_map f (x ∷ xs) (suc k) y is = from_map f xs k y is
 
 -- ---- components by their ports of one direction
 pub record Ported : Type 0 where
@@ -160,15 +140,15 @@ apart : (ports : BehaviourParts → List Named) → HaveNames ports → (design 
     → AreApart (map (ported ports) design.components)
 apart ports have design rules = record {
   paths = λ i j c d is_c is_d same.
-      let a = from_map (ported ports) design.components i c is_c in
-      let b = from_map (ported ports) design.components j d is_d in
+      let a = slice_get-map_parts (ported ports) design.components i c is_c in
+      let b = slice_get-map_parts (ported ports) design.components j d is_d in
       same_place (λ (x : Component). x.path) design.components i j a.0 b.0 rules.components.paths_differ a.1 b.1
       (ap (λ (x : Ported). x.path) a.2 ∙ same ∙ sym (ap (λ (x : Ported). x.path) b.2));
   names = λ i c is.
-      let a = from_map (ported ports) design.components i c is in
+      let a = slice_get-map_parts (ported ports) design.components i c is in
       subst (λ (x : Ported). StandOnce x.names) a.2 (have a.0.behaviour (is_behaviour design i a.0 rules a.1)).0;
   words = λ i c is.
-      let a = from_map (ported ports) design.components i c is in
+      let a = slice_get-map_parts (ported ports) design.components i c is in
       subst (λ (x : Ported). list_all is_word x.names ≡ true) a.2
       (have a.0.behaviour (is_behaviour design i a.0 rules a.1)).1;
 }

@@ -6,6 +6,8 @@ use Rattle.std.proofs.lemmas.List.Elements.{All-head, All-tail}
 use Rattle.std.proofs.lemmas.List.Folds.{list_all-append}
 use Rattle.std.proofs.lemmas.Option.{slice_get-map}
 use Rattle.std.specs.Option.{option_map}
+use Rattle.list_lemmas.proofs.Places.{slice_get-map_parts}
+use Rattle.list_lemmas.proofs.Pairs.{same_place}
 use Rattle.pals_base.specs.declared.behaviour.Named.{Named}
 use Rattle.pals_base.specs.declared.behaviour.StateDecl.{StateDecl}
 use Rattle.pals_base.specs.declared.behaviour.BehaviourParts.{BehaviourParts}
@@ -25,7 +27,6 @@ use Rattle.code_listing.specs.Numbers.{NumbersFit}
 use Rattle.code_listing.specs.proof.Told.{state_names, told_component, told_components, IsCodeOf}
 use Rattle.code_listing.proofs.LineWords.{is_plain, same_words, path_plain}
 use Rattle.code_listing.proofs.PlainNames.{HasPlainNames, names_are_plain, state_plain}
-use Rattle.code_listing.proofs.PortNames.{same_place, from_map}
 use Rattle.code_listing.proofs.Runs.{begins, EndsAt, no_end, parted, all_begin, none_begins, run_parted, items_told, cons_told}
 use Rattle.code_listing.proofs.ToldComponents.{number_told, IsFit, port_told, variable_told, states_told}
 use Rattle.code_listing.proofs.ToldInstrs.{instrs_told}
@@ -105,7 +106,7 @@ initial_told b c rules rules_other names same =
     let at : slice_get (state_names b.states) c.initial ≡ Some t.0.name =
     ap (λ ns. slice_get ns c.initial) names ∙ slice_get-map (λ (u : StateDecl). u.name) c.states c.initial
     ∙ ap (option_map (λ (u : StateDecl). u.name)) t.1 in
-    let u = from_map (λ (v : StateDecl). v.name) b.states c.initial t.0.name at in
+    let u = slice_get-map_parts (λ (v : StateDecl). v.name) b.states c.initial t.0.name at in
     same_place (λ (v : StateDecl). v.name) b.states b.initial c.initial s.0 u.0 rules.names.states_differ s.1 u.1
     (same_name ∙ sym u.2)
 

@@ -1,7 +1,8 @@
 -- Associations of a name, and properties in several lists.
-use Rattle.std.proofs.Common.{◌≡◌, ◌∙◌, ℕ, Bool, true, false, cond, ◌&&◌, ◌++◌, List, [], ◌∷◌, Option, Some, None, refl, sym, ap, map, rules, find}
+use Rattle.std.proofs.Common.{◌≡◌, ◌∙◌, ℕ, Bool, true, false, cond, ◌&&◌, ◌++◌, List, [], ◌∷◌, Option, Some, refl, sym, ap, map, rules, find}
 use Rattle.std.specs.Option.{option_or, option_and_then}
 use Rattle.std.proofs.lemmas.Bool.{false≢true}
+use Rattle.list_lemmas.proofs.Options.{option_or-none, option_or_assoc}
 use Rattle.aadl_tree.specs.declared.values.Value.{the_lemmas as value_lemmas}
 use Rattle.aadl_tree.specs.declared.values.Value.TheViews.{out-Association}
 use Rattle.aadl_tree.specs.declared.values.Association.{Association as source}
@@ -45,17 +46,10 @@ root_given tree n p x own is given =
     ∙ ap (λ o. first_in p (own_lists tree o)) is
 
 -- ---- one list behind the other
-or_none : {A : Type 0} (x : Option A) → option_or x None ≡ x
-or_none None = refl
-or_none (Some x) = refl
-
-or_or : {A : Type 0} (x y z : Option A) → option_or (option_or x y) z ≡ option_or x (option_or y z)
-or_or None y z = refl
-or_or (Some x) y z = refl
 
 pub first_of_one : (p : Property) (xs : Associations ℕ) → first_in p (xs ∷ []) ≡ association_named xs (name_of p)
-first_of_one p xs = or_none (association_named xs (name_of p))
+first_of_one p xs = option_or-none (association_named xs (name_of p))
 
 pub first-append : (p : Property) (a b : List (Associations ℕ)) → first_in p (a ++ b) ≡ option_or (first_in p a) (first_in p b)
 first-append p [] b = refl
-first-append p (x ∷ a) b = ap (option_or (association_named x (name_of p))) (first-append p a b) ∙ sym (or_or (association_named x (name_of p)) (first_in p a) (first_in p b))
+first-append p (x ∷ a) b = ap (option_or (association_named x (name_of p))) (first-append p a b) ∙ sym (option_or_assoc (association_named x (name_of p)) (first_in p a) (first_in p b))

@@ -1,37 +1,29 @@
 -- What a loop over numbered things has made of them, with one more.
-use Rattle.std.proofs.Common.{◌≡◌, ℕ, ◌+◌, ◌<◌, suc, List, [], ◌∷◌, ◌++◌, length, map, take, get_or, Option, Some, ap, sym, ◌∙◌, append_assoc, arith}
+use Rattle.std.proofs.Common.{◌≡◌, ℕ, ◌+◌, ◌<◌, List, [], ◌∷◌, ◌++◌, length, map, take, get_or, Option, Some, ap, sym, ◌∙◌, append_assoc, arith}
 use Rattle.std.specs.Prelude.{flat_map, slice_get}
 use Rattle.std.specs.List.{enumerate_from}
 use Rattle.std.proofs.lemmas.List.{append-nil, length-map, map-append}
-use Rattle.std.proofs.lemmas.Grind.{common_steps, flat_map-append}
+use Rattle.std.proofs.lemmas.Grind.{flat_map-append}
 use Rattle.std.proofs.lemmas.Option.{slice_get-get_or, get_or_from_slice_get}
+use Rattle.list_lemmas.proofs.Lists.{enumerate_from-push, length-take_within}
 use Rattle.annex_resolve.proofs.Listing.{map_next}
 use Rattle.annex_resolve.proofs.Reading.{take_next}
-
-enumerate-push : {A : Type 0} (from : ℕ) (xs : List A) (x : A) → enumerate_from from (xs ++ x ∷ []) ≡ enumerate_from from xs ++ (from + length xs, x) ∷ []
-enumerate-push from [] x = let e : from ≡ from + 0 = omega arith in ap (λ n. (n, x) ∷ []) e
-enumerate-push from (y ∷ ys) x =
-    let e : (from + 1) + length ys ≡ from + suc (length ys) = omega arith in
-    ap (λ l. (from, y) ∷ l) (enumerate-push (from + 1) ys x ∙ ap (λ n. enumerate_from (from + 1) ys ++ (n, x) ∷ []) e)
-
-taken : {A : Type 0} (xs : List A) (i : ℕ) → i < length xs → length (take i xs) ≡ i
-taken xs i within = grind (arith, common_steps)
 
 -- the number of one more thing is how many stand before it
 numbered_more : {A : Type 0} (xs more : List A) (i : ℕ) (x : A) → more ≡ xs ++ x ∷ [] → length xs ≡ i → enumerate_from 0 more ≡ enumerate_from 0 xs ++ (i, x) ∷ []
 numbered_more xs more i x pushed long =
     let e : 0 + length xs ≡ i = omega (arith, long) in
-    ap (enumerate_from 0) pushed ∙ enumerate-push 0 xs x ∙ ap (λ n. enumerate_from 0 xs ++ (n, x) ∷ []) e
+    ap (enumerate_from 0) pushed ∙ enumerate_from-push 0 xs x ∙ ap (λ n. enumerate_from 0 xs ++ (n, x) ∷ []) e
 
 pub numbers_next : {A B : Type 0} (v : A → B) (xs : List A) (i : ℕ) (x : A) → i < length xs → x ≡ get_or xs i x
     → enumerate_from 0 (map v (take (i + 1) xs)) ≡ enumerate_from 0 (map v (take i xs)) ++ (i, v x) ∷ []
 numbers_next v xs i x within is =
-    let h = taken xs i within in
+    let h = length-take_within xs i within in
     numbered_more (map v (take i xs)) (map v (take (i + 1) xs)) i (v x) (map_next v xs i x within is) (rw length-map h)
 
 -- ---- one more by its number
 pub next_numbered : {A : Type 0} (xs : List A) (i : ℕ) (x : A) → i < length xs → x ≡ get_or xs i x → enumerate_from 0 (take (i + 1) xs) ≡ enumerate_from 0 (take i xs) ++ (i, x) ∷ []
-next_numbered xs i x within is = numbered_more (take i xs) (take (i + 1) xs) i x (take_next xs i x within is) (taken xs i within)
+next_numbered xs i x within is = numbered_more (take i xs) (take (i + 1) xs) i x (take_next xs i x within is) (length-take_within xs i within)
 
 -- what stands at a number within a list
 pub record At {A : Type 0} (xs : List A) (i : ℕ) : Type 0 where

@@ -2,6 +2,7 @@
 use Rattle.std.proofs.Common.{◌≡◌, ◌∙◌, ℕ, ◌≤◌, max, List, [], ◌∷◌, ◌++◌, map, fold, Option, Some, None, refl, ap, subst}
 use Rattle.std.proofs.lemmas.Option.{same_Some}
 use Rattle.std.specs.Prelude.{slice_get}
+use Rattle.list_lemmas.proofs.Lists.{append_is_nil_right}
 use Rattle.pals_base.specs.Bound.{least_period}
 use Rattle.pals_base.specs.declared.behaviour.BehaviourParts.{BehaviourParts}
 use Rattle.pals_model.specs.declared.design.Component.{Component}
@@ -19,7 +20,6 @@ use Rattle.component_checks.specs.Roots.{root_gamma, at_root, place_of, missing_
 use Rattle.aadl_names.specs.declared.holder.Property.TheVariants.{Period}
 use Rattle.aadl_instance.specs.Flat.{Parts, IsFlat}
 use Rattle.design_laws.specs.proof.Named.{NamesDiffer, AreNamed}
-use Rattle.design_laws.proofs.Differing.{right_none}
 use Rattle.model_violations.specs.Violations.{Shown, shown_by, rates_of, AreViolations}
 use Rattle.design_laws.specs.proof.Accepted.{IsShown, NothingFound, HasDesign}
 use Rattle.design_laws.specs.Designs.{put_first, all_of, component_by, thread_behaviour, component_in, IsDesignOf}
@@ -103,7 +103,7 @@ within_bound tree root design d =
     let none = nothing_found tree s d.nothing_wrong in
     let place = place_of (at_root tree s.root Period) in
     let clean = (all_parts tree s none.used none.none).root in
-    let here = right_none (missing_findings tree s.root ++ order_findings tree s.root)
+    let here = append_is_nil_right (missing_findings tree s.root ++ order_findings tree s.root)
     (bound_findings place (root_period tree s.root) (root_gamma tree s.root) rate) clean in
     let timed = subst (λ o. bound_findings place o (root_gamma tree s.root) rate ≡ []) d.design_of.period here in
     let bounded = subst (λ o. bound_findings place (Some design.period) o rate ≡ []) d.design_of.gamma timed in

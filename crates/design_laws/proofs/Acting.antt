@@ -1,7 +1,7 @@
 -- Where nothing is found in actions, the resolved actions are well typed and their loops short.
 use Rattle.std.proofs.Common.{◌≡◌, ℕ, ◌+◌, ◌*◌, ◌≤◌, min, true, false, not, nat_le, ◌&&◌, List, [], ◌++◌, Option, Some, None, refl, sym, subst, arith, inl, inr}
 use Rattle.std.proofs.Math.Nat.{min-eq_left, min-eq_right}
-use Rattle.std.proofs.lemmas.Bool.{false≢true, leb-true, le-leb, cases_lt}
+use Rattle.std.proofs.lemmas.Bool.{false≢true, leb-true, le-leb, cases_lt, and_from, and_parts, not-false}
 use Rattle.pals_base.specs.declared.behaviour.Kind.{Kind}
 use Rattle.pals_base.specs.declared.behaviour.Kind.TheVariants.{Integer, Boolean}
 use Rattle.pals_base.specs.declared.behaviour.BehaviourParts.{BehaviourParts}
@@ -22,7 +22,7 @@ use Rattle.annex_resolve.specs.Types.{fits, misfit, same_kind, whole_types, expr
 use Rattle.annex_resolve.specs.Resolved.{expression_of, action_of, actions_of, mores_of, elsifs_of, otherwise_of, block_of}
 use Rattle.annex_resolve.specs.Actions.{turns, together, is_too_long, is_integer, branch_findings, action_findings, actions_findings, mores_findings, elsifs_findings, otherwise_findings, block_findings}
 use Rattle.design_laws.specs.proof.Ready.{FitsMeaning, FitsScope}
-use Rattle.design_laws.proofs.Tests.{both, parts, not_false, nothing_left, not_wrong, is_right}
+use Rattle.design_laws.proofs.Tests.{nothing_left, not_wrong, is_right}
 use Rattle.design_laws.proofs.Scopes.{inner_fits}
 use Rattle.design_laws.proofs.Expressing.{Has, is_truth, expression_sound}
 
@@ -83,9 +83,9 @@ not_cut p small = elim (cases_lt p (NESTED_TURNS + 1)) as (λ r. p ≤ NESTED_TU
 
 pub short_enough : (around count : ℕ) → is_too_long around count ≡ false → (is_short count around ≡ true) × (together around count ≡ around * count)
 short_enough around count short =
-    let p = parts (nat_le count TURNS) (nat_le (together around count) NESTED_TURNS) (not_false (nat_le count TURNS && nat_le (together around count) NESTED_TURNS) short) in
+    let p = and_parts (nat_le count TURNS) (nat_le (together around count) NESTED_TURNS) (not-false (nat_le count TURNS && nat_le (together around count) NESTED_TURNS) short) in
     let small = not_cut (around * count) p.1 in
-    (both (nat_le count TURNS) (nat_le (around * count) NESTED_TURNS) p.0 (le-leb (around * count) NESTED_TURNS small), min-eq_left (omega (arith, small)))
+    (and_from (nat_le count TURNS) (nat_le (around * count) NESTED_TURNS) p.0 (le-leb (around * count) NESTED_TURNS small), min-eq_left (omega (arith, small)))
 
 -- ---- actions
 module _ (b : BehaviourParts) where
@@ -103,9 +103,9 @@ module _ (b : BehaviourParts) where
         let p = nothing_left (branch_findings scope around test a ++ elsifs_findings scope around es) (otherwise_findings scope around o) none in
         let q = nothing_left (branch_findings scope around test a) (elsifs_findings scope around es) p.0 in
         let r = nothing_left (whole_types scope (Some Boolean) test) (actions_findings scope around a) q.0 in
-        both (branches_are_sound (plain.Where (expression_of scope test) (actions_of scope a) (elsifs_of scope es)) b loops around) (are_sound (otherwise_of scope o) b loops around)
-        (both ((kinds_of (expression_of scope test) b loops).boolean && are_sound (actions_of scope a) b loops around) (branches_are_sound (elsifs_of scope es) b loops around)
-        (both (kinds_of (expression_of scope test) b loops).boolean (are_sound (actions_of scope a) b loops around) (test_sound b loops scope fit test r.0) (actions_sound a loops around scope fit r.1))
+        and_from (branches_are_sound (plain.Where (expression_of scope test) (actions_of scope a) (elsifs_of scope es)) b loops around) (are_sound (otherwise_of scope o) b loops around)
+        (and_from ((kinds_of (expression_of scope test) b loops).boolean && are_sound (actions_of scope a) b loops around) (branches_are_sound (elsifs_of scope es) b loops around)
+        (and_from (kinds_of (expression_of scope test) b loops).boolean (are_sound (actions_of scope a) b loops around) (test_sound b loops scope fit test r.0) (actions_sound a loops around scope fit r.1))
         (elsifs_sound es loops around scope fit q.1))
         (otherwise_sound o loops around scope fit p.1)
     action_sound (loop at x type low high body) loops around scope fit none =
@@ -114,27 +114,27 @@ module _ (b : BehaviourParts) where
         let p = nothing_left (typed ++ limited) (block_findings (with_loop scope x) (together around (turns low high)) body) none in
         let q = nothing_left typed limited p.0 in
         let short = short_enough around (turns low high) (not_wrong (is_too_long around (turns low high)) at LOOP_TOO_LONG [] q.1) in
-        both (is_short (turns low high) around) (are_sound (block_of (with_loop scope x) body) b (loops + 1) (around * turns low high)) short.0
+        and_from (is_short (turns low high) around) (are_sound (block_of (with_loop scope x) body) b (loops + 1) (around * turns low high)) short.0
         (block_sound body (loops + 1) (around * turns low high) (with_loop scope x) (inner_fits b loops scope x fit) (subst (λ n. block_findings (with_loop scope x) n body ≡ []) short.1 p.1))
 
     actions_sound : (x : Actions ℕ) (loops around : ℕ) (scope : Scope) → FitsScope b loops scope → actions_findings scope around x ≡ [] → are_sound (actions_of scope x) b loops around ≡ true
     actions_sound (actions first rest) loops around scope fit none =
         let p = nothing_left (action_findings scope around first) (mores_findings scope around rest) none in
-        both (is_sound (action_of scope first) b loops around) (are_sound (mores_of scope rest) b loops around) (action_sound first loops around scope fit p.0) (mores_sound rest loops around scope fit p.1)
+        and_from (is_sound (action_of scope first) b loops around) (are_sound (mores_of scope rest) b loops around) (action_sound first loops around scope fit p.0) (mores_sound rest loops around scope fit p.1)
 
     mores_sound : (x : Mores ℕ) (loops around : ℕ) (scope : Scope) → FitsScope b loops scope → mores_findings scope around x ≡ [] → are_sound (mores_of scope x) b loops around ≡ true
     mores_sound no_mores loops around scope fit none = refl
     mores_sound (more a rest) loops around scope fit none =
         let p = nothing_left (action_findings scope around a) (mores_findings scope around rest) none in
-        both (is_sound (action_of scope a) b loops around) (are_sound (mores_of scope rest) b loops around) (action_sound a loops around scope fit p.0) (mores_sound rest loops around scope fit p.1)
+        and_from (is_sound (action_of scope a) b loops around) (are_sound (mores_of scope rest) b loops around) (action_sound a loops around scope fit p.0) (mores_sound rest loops around scope fit p.1)
 
     elsifs_sound : (x : Elsifs ℕ) (loops around : ℕ) (scope : Scope) → FitsScope b loops scope → elsifs_findings scope around x ≡ [] → branches_are_sound (elsifs_of scope x) b loops around ≡ true
     elsifs_sound no_elsifs loops around scope fit none = refl
     elsifs_sound (elsif test a rest) loops around scope fit none =
         let p = nothing_left (branch_findings scope around test a) (elsifs_findings scope around rest) none in
         let r = nothing_left (whole_types scope (Some Boolean) test) (actions_findings scope around a) p.0 in
-        both ((kinds_of (expression_of scope test) b loops).boolean && are_sound (actions_of scope a) b loops around) (branches_are_sound (elsifs_of scope rest) b loops around)
-        (both (kinds_of (expression_of scope test) b loops).boolean (are_sound (actions_of scope a) b loops around) (test_sound b loops scope fit test r.0) (actions_sound a loops around scope fit r.1))
+        and_from ((kinds_of (expression_of scope test) b loops).boolean && are_sound (actions_of scope a) b loops around) (branches_are_sound (elsifs_of scope rest) b loops around)
+        (and_from (kinds_of (expression_of scope test) b loops).boolean (are_sound (actions_of scope a) b loops around) (test_sound b loops scope fit test r.0) (actions_sound a loops around scope fit r.1))
         (elsifs_sound rest loops around scope fit p.1)
 
     otherwise_sound : (x : Otherwise ℕ) (loops around : ℕ) (scope : Scope) → FitsScope b loops scope → otherwise_findings scope around x ≡ [] → are_sound (otherwise_of scope x) b loops around ≡ true

@@ -4,6 +4,8 @@ use Rattle.std.specs.Prelude.{flat_map, slice_get}
 use Rattle.std.specs.List.{filter_map}
 use Rattle.std.proofs.lemmas.Option.{same_Some}
 use Rattle.std.proofs.lemmas.List.Elements.{Contains-append_left, Contains-append_right}
+use Rattle.list_lemmas.proofs.Elements.{Contains-nil}
+use Rattle.list_lemmas.proofs.Places.{Contains-from_slice_get}
 use Rattle.aadl_tree.specs.Names.{Identifier, identifiers, listed_in}
 use Rattle.aadl_tree.specs.Annexes.{VariableDeclaration, StateDeclaration, AnnexTree}
 use Rattle.aadl_tree.specs.Declarations.{Feature, Subcomponent, Connection, TypeDeclaration, Implementation, Declaration, type, implementation}
@@ -17,7 +19,7 @@ use Rattle.aadl_names.specs.Resolving.{is_thread, type_in, type_numbered, type_n
 use Rattle.aadl_names.specs.Spaces.{port_entries, variable_entries, state_entries, twice_in_behaviour, twice_in_first, member_entries}
 use Rattle.aadl_names.specs.Spaces.{twice_in, type_entry, implementation_entry, twice_names}
 use Rattle.aadl_names.specs.PackageFaults.{behaviour_faults, unknown_reference, unknown_end}
-use Rattle.aadl_names.proofs.Elements.{is_here, none_here, among_all, from_all, got}
+use Rattle.aadl_names.proofs.Elements.{is_here, among_all, from_all}
 use Rattle.design_laws.proofs.Covering.{Covered, covered_none, covered_append, covered_if, covered_each, Named, named_append, named_map}
 use Rattle.design_laws.proofs.Covering.{named_filter_map, covered_twice}
 use Rattle.design_laws.proofs.Found.{behaviour_has}
@@ -103,13 +105,13 @@ module _ (tree : PackageTree ℕ) where
 
   ports_by : (n : ℕ) (o : Option (Declaration ℕ)) → slice_get tree.declarations n ≡ o → (y : Feature ℕ) → Contains (features_of (type_in o)) y
       → Contains (possible tree) (again_of y.name)
-  ports_by n None e y there = absurd (none_here y there)
-  ports_by n (Some (implementation x)) e y there = absurd (none_here y there)
-  ports_by n (Some (type x)) e y there = in_package (type x) (again_of y.name) (got tree.declarations n (type x) e) (feature_has x y there)
+  ports_by n None e y there = absurd (Contains-nil y there)
+  ports_by n (Some (implementation x)) e y there = absurd (Contains-nil y there)
+  ports_by n (Some (type x)) e y there = in_package (type x) (again_of y.name) (Contains-from_slice_get tree.declarations n (type x) e) (feature_has x y there)
 
   ports_of_number : (number : Option ℕ) (y : Feature ℕ) → Contains (features_of (type_numbered tree number)) y
       → Contains (possible tree) (again_of y.name)
-  ports_of_number None y there = absurd (none_here y there)
+  ports_of_number None y there = absurd (Contains-nil y there)
   ports_of_number (Some n) y there = ports_by n (slice_get tree.declarations n) refl y there
 
   module _ (x : Implementation ℕ) (declared : Contains tree.declarations (implementation x)) where

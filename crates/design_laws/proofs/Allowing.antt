@@ -1,17 +1,15 @@
 -- Adaptors on which nothing is found are allowed.
-use Rattle.std.proofs.Common.{◌≡◌, ℕ, nat_eq, Bool, true, false, cond, ◌||◌, List, [], ◌∷◌, Option, Some, None, refl, ap, subst, arith}
+use Rattle.std.proofs.Common.{◌≡◌, ℕ, nat_eq, Bool, true, false, cond, ◌||◌, List, [], ◌∷◌, Option, Some, None, refl, ap, subst}
 use Rattle.std.specs.Prelude.{option_map}
 use Rattle.std.specs.Option.{option_and_then, is_some}
 use Rattle.std.proofs.Math.Nat.{mod_self}
-use Rattle.std.proofs.lemmas.Bool.{false≢true}
-use Rattle.std.proofs.lemmas.Bool.Decides.{nat_tests}
+use Rattle.std.proofs.lemmas.Bool.{false≢true, eqb-true, and_parts}
 use Rattle.pals_base.specs.declared.behaviour.Kind.{Kind}
 use Rattle.pals_base.specs.declared.values.Adaptor.{Adaptor}
 use Rattle.pals_base.specs.Allowed.{divides_or_divided, is_allowed}
 use Rattle.annex_resolve.specs.Scopes.{finding, found_if}
 use Rattle.annex_resolve.specs.declared.violation.TheConstants.{RATES_DONT_DIVIDE, STRAY_ADAPTOR, ADAPTOR_OUT_OF_RANGE}
 use Rattle.component_checks.specs.Rates.{and_number, adaptor_named, kind_suits, is_right, adaptor_findings, pair_findings}
-use Rattle.design_laws.proofs.Tests.{parts}
 use Rattle.design_laws.proofs.Tests as tests
 
 -- the adaptor of a text fits two rates and a type
@@ -21,14 +19,12 @@ pub record Fits (text : Option (List ℕ)) (kind : Option Kind) (p q : ℕ) : Ty
   pub suits : kind_suits (option_and_then adaptor_named text) kind ≡ true
 
 -- ---- equal rates, and none
-same_from : (p q : ℕ) → nat_eq p q ≡ true → p ≡ q
-same_from p q h = grind (arith, nat_tests)
 
 self_divides : (p : ℕ) → divides_or_divided p p ≡ true
 self_divides p = ap (λ n. nat_eq n 0 || nat_eq n 0) (mod_self p)
 
 same_divides : (p q : ℕ) → nat_eq p q ≡ true → divides_or_divided p q ≡ true
-same_divides p q h = subst (λ r. divides_or_divided p r ≡ true) (same_from p q h) (self_divides p)
+same_divides p q h = subst (λ r. divides_or_divided p r ≡ true) (eqb-true p q h) (self_divides p)
 
 none_suits : (kind : Option Kind) → kind_suits None kind ≡ true
 none_suits None = refl
@@ -37,7 +33,7 @@ none_suits (Some k) = refl
 -- ---- an adaptor that is right
 right_fits : (a : Option Adaptor) (kind : Option Kind) (p q : ℕ) → is_right a kind p q ≡ true → (is_allowed a p q ≡ true) × (kind_suits a kind ≡ true)
 right_fits None kind p q h = absurd (false≢true h)
-right_fits (Some a) kind p q h = parts (is_allowed (Some a) p q) (kind_suits (Some a) kind) h
+right_fits (Some a) kind p q h = and_parts (is_allowed (Some a) p q) (kind_suits (Some a) kind) h
 
 -- ---- all cases
 fits_by : (at : ℕ) (name : List ℕ) (text : Option (List ℕ)) (kind : Option Kind) (p q : ℕ) (same one : Bool) → nat_eq p q ≡ same

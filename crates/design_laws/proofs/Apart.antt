@@ -7,6 +7,10 @@ use Rattle.std.proofs.lemmas.Bool.{cases_order}
 use Rattle.std.proofs.lemmas.List.{map-append}
 use Rattle.std.proofs.lemmas.List.Kept.{AllPairs-cons}
 use Rattle.std.proofs.lemmas.List.Elements.{All-from_recursion}
+use Rattle.list_lemmas.proofs.Elements.{AllByRecursion-weaker}
+use Rattle.list_lemmas.proofs.Lists.{append_is_nil_right, append_is_nil_left}
+use Rattle.list_lemmas.proofs.Places.{flat_map-nil_at}
+use Rattle.list_lemmas.proofs.Numbers.{ne_from_lt}
 use Rattle.aadl_tree.specs.Parts.{Part}
 use Rattle.aadl_tree.specs.Names.{Identifier}
 use Rattle.aadl_tree.specs.Annexes.{AnnexTree}
@@ -24,8 +28,8 @@ use Rattle.aadl_names.specs.PackageFaults.{wrong_names, package_faults}
 use Rattle.aadl_names.specs.proof.Orders.{places_of}
 use Rattle.aadl_names.proofs.Rising.{places_rise}
 use Rattle.design_laws.specs.proof.Named.{NamesDiffer}
-use Rattle.design_laws.proofs.Placed.{Pairs, all_weaker, pairs_append, pairs_weaker, Rise, rise_back, in_front, in_back, IsIn, Placed}
-use Rattle.design_laws.proofs.Differing.{left_none, right_none, where_true, Apart, Differs, names_differ}
+use Rattle.design_laws.proofs.Placed.{Pairs, pairs_append, pairs_weaker, Rise, rise_back, in_front, in_back, IsIn, Placed}
+use Rattle.design_laws.proofs.Differing.{where_true, Apart, Differs, names_differ}
 use Rattle.design_laws.proofs.Declaring.{type_names, member_names, first_variables, first_states, rise_declarations, rise_one}
 
 -- ---- pairs by their numbers
@@ -94,9 +98,6 @@ before (e ∷ ds) zero (suc n) c d p q r lt first second here there =
 before (e ∷ ds) (suc m) (suc n) c d p q r lt first second here there =
     before ds m n c d p q (rise_back (declaration_parts e) (flat_map declaration_parts ds) r) (omega arith) first second here there
 
-less_apart : (p q : ℕ) → p < q → p ≢ q
-less_apart p q lt = λ e. absurd (omega (arith, lt, e))
-
 more_apart : (p q : ℕ) → q < p → p ≢ q
 more_apart p q lt = λ e. absurd (omega (arith, lt, e))
 
@@ -104,16 +105,16 @@ module _ (ds : List (Declaration ℕ)) (r : Rise (flat_map declaration_parts ds)
   places_apart : (m n : ℕ) (c d : Declaration ℕ) (p q : ℕ) → (m ≡ n) ⊎ ((m < n) ⊎ (n < m)) → m ≢ n → slice_get ds m ≡ Some c → slice_get ds n ≡ Some d
       → Contains (places_of (declaration_parts c)) p → Contains (places_of (declaration_parts d)) q → p ≢ q
   places_apart m n c d p q (inl e) other first second here there = absurd (other e)
-  places_apart m n c d p q (inr (inl lt)) other first second here there = less_apart p q (before ds m n c d p q r lt first second here there)
+  places_apart m n c d p q (inr (inl lt)) other first second here there = ne_from_lt p q (before ds m n c d p q r lt first second here there)
   places_apart m n c d p q (inr (inr lt)) other first second here there = more_apart p q (before ds n m d c q p r lt second first there here)
 
   both_apart : (m n : ℕ) (c d : Declaration ℕ) (xs ys : List Entry) → m ≢ n → slice_get ds m ≡ Some c → slice_get ds n ≡ Some d
       → Entered (declaration_parts c) xs → Entered (declaration_parts d) ys → Pairs Apart (xs ++ ys)
   both_apart m n c d xs ys other first second a b =
-      pairs_append Apart xs ys (pairs_weaker Earlier Apart (λ x y. less_apart x.at y.at) xs a.rising)
-      (pairs_weaker Earlier Apart (λ x y. less_apart x.at y.at) ys b.rising)
-      (all_weaker (Within (declaration_parts c)) (λ x. AllByRecursion (Apart x) ys)
-      (λ x here. all_weaker (Within (declaration_parts d)) (Apart x) (λ y there. places_apart m n c d x.at y.at
+      pairs_append Apart xs ys (pairs_weaker Earlier Apart (λ x y. ne_from_lt x.at y.at) xs a.rising)
+      (pairs_weaker Earlier Apart (λ x y. ne_from_lt x.at y.at) ys b.rising)
+      (AllByRecursion-weaker (Within (declaration_parts c)) (λ x. AllByRecursion (Apart x) ys)
+      (λ x here. AllByRecursion-weaker (Within (declaration_parts d)) (Apart x) (λ y there. places_apart m n c d x.at y.at
       (cases_order m n) other first second here there) ys b.inside) xs a.inside)
 
   types_entered : (x : TypeDeclaration ℕ) → Rise (declaration_parts (type x)) → Entered (declaration_parts (type x)) (port_entries x.features)
@@ -129,8 +130,8 @@ module _ (ds : List (Declaration ℕ)) (r : Rise (flat_map declaration_parts ds)
   ports_by : (m n : ℕ) (d : Option (Declaration ℕ)) (x : Implementation ℕ) (ys : List Entry) → slice_get ds m ≡ d
       → slice_get ds n ≡ Some (implementation x)
       → Entered (declaration_parts (implementation x)) ys → Pairs Apart (port_entries (features_of (type_in d)) ++ ys)
-  ports_by m n None x ys first second b = pairs_weaker Earlier Apart (λ y z. less_apart y.at z.at) ys b.rising
-  ports_by m n (Some (implementation y)) x ys first second b = pairs_weaker Earlier Apart (λ y z. less_apart y.at z.at) ys b.rising
+  ports_by m n None x ys first second b = pairs_weaker Earlier Apart (λ y z. ne_from_lt y.at z.at) ys b.rising
+  ports_by m n (Some (implementation y)) x ys first second b = pairs_weaker Earlier Apart (λ y z. ne_from_lt y.at z.at) ys b.rising
   ports_by m n (Some (type t)) x ys first second b =
       both_apart m n (type t) (implementation x) (port_entries t.features) ys (other_kind m n t x first second) first second
       (types_entered t (rise_one ds m (type t) first r)) b
@@ -142,7 +143,7 @@ module _ (tree : PackageTree ℕ) (rise : Rise (package_parts tree)) (n : ℕ) (
 
   ports_with : (number : Option ℕ) (ys : List Entry) → Entered (declaration_parts (implementation x)) ys
       → Pairs Apart (port_entries (features_of (type_numbered tree number)) ++ ys)
-  ports_with None ys b = pairs_weaker Earlier Apart (λ y z. less_apart y.at z.at) ys b.rising
+  ports_with None ys b = pairs_weaker Earlier Apart (λ y z. ne_from_lt y.at z.at) ys b.rising
   ports_with (Some m) ys b = ports_by tree.declarations (rise_declarations tree rise) m n (slice_get tree.declarations m) x ys refl is b
 
   members_entered : Entered (declaration_parts (implementation x)) (member_entries x)
@@ -165,16 +166,12 @@ module _ (tree : PackageTree ℕ) (rise : Rise (package_parts tree)) (n : ℕ) (
   states_entered b first = entered (declaration_parts (implementation x)) (states_of b.1) (first_states x b first inner)
 
 -- ---- nothing is declared twice
-pub none_here : {X Y : Type 0} (f : X → List Y) (xs : List X) (n : ℕ) (x : X) → flat_map f xs ≡ [] → slice_get xs n ≡ Some x → f x ≡ []
-none_here f [] n x e is = absurd (cc is)
-none_here f (y ∷ xs) zero x e is = let same : y ≡ x = cc is in subst (λ z. f z ≡ []) same (left_none (f y) (flat_map f xs) e)
-none_here f (y ∷ xs) (suc n) x e is = none_here f xs n x (right_none (f y) (flat_map f xs) e) is
 
 none_twice : (tree : PackageTree ℕ) (root : ℕ) → package_faults tree root ≡ [] → flat_map (twice_in tree) tree.declarations ≡ []
 unfolding twice_names
 none_twice tree root none =
-    right_none (twice (filter_map type_entry tree.declarations) ++ twice (filter_map implementation_entry tree.declarations))
-    (flat_map (twice_in tree) tree.declarations) (right_none (wrong_names tree root) (twice_names tree) none)
+    append_is_nil_right (twice (filter_map type_entry tree.declarations) ++ twice (filter_map implementation_entry tree.declarations))
+    (flat_map (twice_in tree) tree.declarations) (append_is_nil_right (wrong_names tree root) (twice_names tree) none)
 
 first_twice : (tree : PackageTree ℕ) (x : Implementation ℕ) (bs : List (ℕ × AnnexTree ℕ)) (b : ℕ × AnnexTree ℕ) → slice_get bs 0 ≡ Some b
     → is_thread x.category ≡ true → twice_in_first tree x bs ≡ []
@@ -188,22 +185,22 @@ first_twice tree x (c ∷ bs) b is thread none =
 pub differ : (tree : PackageTree ℕ) (root n : ℕ) (x : Implementation ℕ) → Rise (package_parts tree) → package_faults tree root ≡ []
     → slice_get tree.declarations n ≡ Some (implementation x) → NamesDiffer tree x
 differ tree root n x rise none is =
-    let here = none_here (twice_in tree) tree.declarations n (implementation x) (none_twice tree root none) is in
-    let members = left_none (twice (port_entries (ports_of tree x) ++ member_entries x)) (twice_in_first tree x (behaviours x.annexes)) here in
-    let first = right_none (twice (port_entries (ports_of tree x) ++ member_entries x)) (twice_in_first tree x (behaviours x.annexes)) here in
+    let here = flat_map-nil_at (twice_in tree) tree.declarations n (implementation x) (none_twice tree root none) is in
+    let members = append_is_nil_left (twice (port_entries (ports_of tree x) ++ member_entries x)) (twice_in_first tree x (behaviours x.annexes)) here in
+    let first = append_is_nil_right (twice (port_entries (ports_of tree x) ++ member_entries x)) (twice_in_first tree x (behaviours x.annexes)) here in
     record {
       members = pairs_all Differs _ (names_differ _ members (ports_with tree rise n x is (type_number tree x) (member_entries x)
           (members_entered tree rise n x is)));
       values = λ b first_is thread.
           let both = first_twice tree x (behaviours x.annexes) b first_is thread first in
-          pairs_all Differs _ (names_differ _ (left_none (twice (port_entries (ports_of tree x) ++ variable_entries b.1))
+          pairs_all Differs _ (names_differ _ (append_is_nil_left (twice (port_entries (ports_of tree x) ++ variable_entries b.1))
           (twice (state_entries b.1)) both)
           (ports_with tree rise n x is (type_number tree x) (variable_entries b.1) (variables_entered tree rise n x is b first_is)));
       states = λ b first_is thread.
           let both = first_twice tree x (behaviours x.annexes) b first_is thread first in
-          pairs_all Differs _ (names_differ _ (right_none (twice (port_entries (ports_of tree x) ++ variable_entries b.1))
+          pairs_all Differs _ (names_differ _ (append_is_nil_right (twice (port_entries (ports_of tree x) ++ variable_entries b.1))
           (twice (state_entries b.1)) both)
-          (pairs_weaker Earlier Apart (λ y z. less_apart y.at z.at) (state_entries b.1) (states_entered tree rise n x is b first_is).rising));
+          (pairs_weaker Earlier Apart (λ y z. ne_from_lt y.at z.at) (state_entries b.1) (states_entered tree rise n x is b first_is).rising));
     }
 
 pub differ_given : (tree : PackageTree ℕ) (root n : ℕ) (x : Implementation ℕ) → IsGiven tree → package_faults tree root ≡ []

@@ -3,7 +3,10 @@ use Rattle.std.proofs.Common.{◌≡◌, ◌∙◌, ℕ, ◌+◌, Bool, true, Li
 use Rattle.std.specs.Prelude.{slice_get, option_map}
 use Rattle.std.specs.Option.{option_and_then, is_some}
 use Rattle.std.proofs.lemmas.Bool.{false≢true}
-use Rattle.std.proofs.lemmas.Option.{same_Some, option_and_then_some}
+use Rattle.std.proofs.lemmas.Option.{option_and_then_some}
+use Rattle.list_lemmas.proofs.Places.{flat_map-nil_at}
+use Rattle.list_lemmas.proofs.Lists.{append_is_nil_right, append_is_nil_left}
+use Rattle.list_lemmas.proofs.Options.{option_map-parts}
 use Rattle.pals_base.specs.declared.behaviour.Kind.{Kind}
 use Rattle.pals_base.specs.declared.behaviour.Kind.TheVariants.{Integer, Boolean}
 use Rattle.aadl_tree.specs.Names.{Identifier, same_name}
@@ -21,8 +24,6 @@ use Rattle.design_laws.proofs.Tests.{none_at, is_right}
 use Rattle.component_checks.specs.Types.{port_findings}
 use Rattle.model_violations.specs.Carriers.{carries}
 use Rattle.model_violations.specs.Connections.{site_port, site_kind, kind_at, ends_findings, delay_findings, connection_findings, connections_findings}
-use Rattle.design_laws.proofs.Differing.{left_none, right_none}
-use Rattle.design_laws.proofs.Apart.{none_here}
 use Rattle.model_violations.specs.Use.{IsUse}
 use Rattle.model_violations.specs.Declarations.{thread_findings}
 use Rattle.model_violations.specs.Violations.{shown_by, used_findings, carriers_of}
@@ -37,21 +38,17 @@ named_there ports word p is =
     let e : f.place ≡ p = let n = f.number in omega (arith, n) in
     (f.one, ap (slice_get ports) (sym e) ∙ f.is)
 
-mapped_from : {X Y : Type 0} (f : X → Y) (o : Option X) (y : Y) → option_map f o ≡ Some y → (x : X) × (o ≡ Some x) × (f x ≡ y)
-mapped_from f None y e = absurd (cc e)
-mapped_from f (Some x) y e = (x, refl, same_Some (f x) y e)
-
 module _ (tree : PackageTree ℕ) (x : Implementation ℕ) where
   own_there : (word : List ℕ) (s : Site) → option_map Own (port_named (ports_of tree x) word) ≡ Some s
       → (f : Feature ℕ) × (site_port tree x s ≡ Some f)
   own_there word s e =
-      let m = mapped_from Own (port_named (ports_of tree x) word) s e in
+      let m = option_map-parts Own (port_named (ports_of tree x) word) s e in
       let f = named_there (ports_of tree x) word m.0 m.1 in
       (f.0, ap (site_port tree x) (sym m.2) ∙ f.1)
 
   inner_there : (word : List ℕ) (k : ℕ) (s : Site) → inner_site tree x word k ≡ Some s → (f : Feature ℕ) × (site_port tree x s ≡ Some f)
   inner_there word k s e =
-      let m = mapped_from (Inner k) (port_named (inner_ports tree x k) word) s e in
+      let m = option_map-parts (Inner k) (port_named (inner_ports tree x k) word) s e in
       let f = named_there (inner_ports tree x k) word m.0 m.1 in
       (f.0, ap (site_port tree x) (sym m.2) ∙ f.1)
 
@@ -126,7 +123,7 @@ module _ {tree : PackageTree ℕ} {name : List ℕ} {parts : Parts} (flat : IsFl
       let clean = ports_clean flat used is_use none at.number x (is_used tree parts.root used is_use path at.number at.stands)
       (declared_at tree at.number x at.is) in
       some_kind (kind_in f.data_type) (is_right (is_some (kind_in f.data_type)) f.name.at BAD_TYPE []
-      (none_here port_findings (ports_of tree x) p f clean is))
+      (flat_map-nil_at port_findings (ports_of tree x) p f clean is))
 
   -- each port of the design has a type
   pub typed : (p : Port) (f : Feature ℕ) → port_of tree parts.root p ≡ Some f → (k : Kind) × (kind_in f.data_type ≡ Some k)
@@ -144,10 +141,10 @@ module _ {tree : PackageTree ℕ} {name : List ℕ} {parts : Parts} (flat : IsFl
       let carried = carries (carriers_of (shown_by tree parts)) in
       let whole = implementation_clean tree (shown_by tree parts) used none n x (is_used tree parts.root used is_use place.path n g.stands)
       (declared_at tree n x g.is_component) in
-      let all = right_none _ (connections_findings tree carried n x) (left_none _ (thread_findings tree x) whole) in
+      let all = append_is_nil_right _ (connections_findings tree carried n x) (append_is_nil_left _ (thread_findings tree x) whole) in
       let zero' : 0 + place.connection ≡ place.connection = omega arith in
       let here = none_at (connection_findings tree carried n x) 0 x.connections all place.connection c g.is_link in
-      let one = left_none (ends_findings tree x c) (delay_findings c) (left_none (ends_findings tree x c ++ delay_findings c) _ here) in
+      let one = append_is_nil_left (ends_findings tree x c) (delay_findings c) (append_is_nil_left (ends_findings tree x c ++ delay_findings c) _ here) in
       let right = is_right (fits (kind_at tree x c.target) (kind_at tree x c.source)) c.name.at BAD_TYPE [] one in
       subst (λ o. fits (option_and_then (site_kind tree x) o) (site_kind tree x g.source) ≡ true) g.is_target
       (subst (λ o. fits (kind_at tree x c.target) (option_and_then (site_kind tree x) o) ≡ true) g.is_source right)

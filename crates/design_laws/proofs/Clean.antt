@@ -1,11 +1,12 @@
 -- Where an instance has no fault and nothing is found in it, nothing is wrong with any part of it.
-use Rattle.std.proofs.Common.{◌≤◌, ◌<◌, ◌≡◌, ◌∙◌, inl, inr, ℕ, zero, suc, ◌+◌, nat_eq, Bool, true, false, ◌||◌, List, [], ◌∷◌, ◌++◌}
+use Rattle.std.proofs.Common.{◌≡◌, ◌∙◌, inl, inr, ℕ, zero, suc, ◌+◌, Bool, true, List, [], ◌∷◌, ◌++◌}
 use Rattle.std.proofs.Common.{Option, Some, None, refl, sym, ap, subst, arith, Contains}
 use Rattle.std.specs.Prelude.{flat_map, slice_get}
 use Rattle.std.specs.List.{list_any, enumerate_from}
-use Rattle.std.proofs.lemmas.Bool.{false≢true}
-use Rattle.std.proofs.lemmas.Bool.Decides.{nat_tests}
 use Rattle.std.proofs.lemmas.Option.{same_Some, option_and_then_some}
+use Rattle.std.proofs.lemmas.Bool.{or_left, or_right, and_from as both}
+use Rattle.list_lemmas.proofs.Lists.{append_is_nil_right, append_is_nil_left}
+use Rattle.list_lemmas.proofs.Numbers.{nat_eq-self}
 use Rattle.aadl_tree.specs.Declarations.{Declaration, type, TypeDeclaration, Implementation, implementation, PackageTree}
 use Rattle.aadl_names.specs.declared.fault.FlatFault.{FlatFault}
 use Rattle.aadl_names.specs.declared.fault.FlatFault.TheVariants.{TooMany}
@@ -14,8 +15,8 @@ use Rattle.aadl_names.specs.PackageFaults.{package_faults}
 use Rattle.aadl_uses.specs.Uses.{standing, component_at}
 use Rattle.aadl_instance.specs.Faults.{IsOver, FoundIn}
 use Rattle.aadl_instance.specs.Flat.{Parts, IsFlat}
-use Rattle.design_laws.proofs.Tests.{both, none_at}
-use Rattle.design_laws.proofs.Differing.{left_none, right_none, where_true}
+use Rattle.design_laws.proofs.Tests.{none_at}
+use Rattle.design_laws.proofs.Differing.{where_true}
 use Rattle.model_violations.specs.Ignored.{is_number, is_root_type}
 use Rattle.component_checks.specs.Roots.{root_findings}
 use Rattle.component_checks.specs.Threads.{greatest_rate, thread_findings}
@@ -40,9 +41,6 @@ module _ {tree : PackageTree ℕ} {name : List ℕ} {parts : Parts} (flat : IsFl
   pub not_over : (line : ℕ) (what : List ℕ) → IsOver tree parts.root line what → ⊥
   not_over line what over = not_found line (TooMany what) (inr (inr (inr (what, over, refl))))
 
-pub at_most : (m n : ℕ) → (m < n → ⊥) → n ≤ m
-at_most m n not_more = omega arith
-
 -- ---- nothing found
 pub record NoFindings (tree : PackageTree ℕ) (s : Shown) (used : ℕ → Bool) : Type 0 where
   pub root : root_findings tree s.root (greatest_rate (rates_of tree s)) ≡ []
@@ -61,17 +59,17 @@ all_parts tree s used none =
     let feeds = flat_map (feed_findings tree s.threads (rates_of tree s)) s.feeds in
     let taps = flat_map (tap_findings tree s.threads) s.taps in
     let chains = chain_findings tree s (rates_of tree s) in
-    let front = left_none (root ++ threads ++ chains) (used_findings tree s used) none in
-    let first = left_none (root ++ threads) chains front in
-    let second = right_none (root ++ threads) chains front in
-    let both = left_none (links ++ feeds) taps second in
+    let front = append_is_nil_left (root ++ threads ++ chains) (used_findings tree s used) none in
+    let first = append_is_nil_left (root ++ threads) chains front in
+    let second = append_is_nil_right (root ++ threads) chains front in
+    let both = append_is_nil_left (links ++ feeds) taps second in
     record {
-      root = left_none root threads first;
-      threads = right_none root threads first;
-      links = left_none links feeds both;
-      feeds = right_none links feeds both;
-      taps = right_none (links ++ feeds) taps second;
-      declarations = right_none (root ++ threads ++ chains) (used_findings tree s used) none;
+      root = append_is_nil_left root threads first;
+      threads = append_is_nil_right root threads first;
+      links = append_is_nil_left links feeds both;
+      feeds = append_is_nil_right links feeds both;
+      taps = append_is_nil_right (links ++ feeds) taps second;
+      declarations = append_is_nil_right (root ++ threads ++ chains) (used_findings tree s used) none;
     }
 
 -- ---- what is in use
@@ -84,27 +82,16 @@ pub declared_at : (tree : PackageTree ℕ) (n : ℕ) (x : Implementation ℕ) �
     → slice_get tree.declarations n ≡ Some (implementation x)
 declared_at tree n x is = there (slice_get tree.declarations n) x is
 
-any_here : (b : Bool) (rest : Bool) → b ≡ true → (b || rest) ≡ true
-any_here true rest is = refl
-any_here false rest is = absurd (false≢true is)
-
-any_later : (b : Bool) (rest : Bool) → rest ≡ true → (b || rest) ≡ true
-any_later true rest is = refl
-any_later false rest is = is
-
 any_numbered : {X : Type 0} (p : ℕ × X → Bool) (from : ℕ) (xs : List X) (n : ℕ) (x : X) → slice_get xs n ≡ Some x → p (from + n, x) ≡ true
     → list_any p (enumerate_from from xs) ≡ true
 any_numbered p from [] n x is passes = absurd (cc is)
 any_numbered p from (y ∷ xs) zero x is passes =
     let zero' : from + 0 ≡ from = omega arith in
-    any_here (p (from, y)) (list_any p (enumerate_from (from + 1) xs)) (ap (λ z. p (from, z)) (same_Some y x is)
+    or_left (p (from, y)) (list_any p (enumerate_from (from + 1) xs)) (ap (λ z. p (from, z)) (same_Some y x is)
     ∙ (ap (λ k. p (k, x)) (sym zero') ∙ passes))
 any_numbered p from (y ∷ xs) (suc n) x is passes =
     let next : (from + 1) + n ≡ from + suc n = omega arith in
-    any_later (p (from, y)) (list_any p (enumerate_from (from + 1) xs)) (any_numbered p (from + 1) xs n x is (ap (λ k. p (k, x)) next ∙ passes))
-
-pub same_number : (n : ℕ) → nat_eq n n ≡ true
-same_number n = grind (arith, nat_tests)
+    or_right (p (from, y)) (list_any p (enumerate_from (from + 1) xs)) (any_numbered p (from + 1) xs n x is (ap (λ k. p (k, x)) next ∙ passes))
 
 module _ (tree : PackageTree ℕ) (s : Shown) (used : ℕ → Bool) (none : used_findings tree s used ≡ []) where
   pub implementation_clean : (n : ℕ) (x : Implementation ℕ) → used n ≡ true → slice_get tree.declarations n ≡ Some (implementation x)
@@ -122,7 +109,7 @@ module _ (tree : PackageTree ℕ) (s : Shown) (used : ℕ → Bool) (none : used
       let zero' : 0 + n ≡ n = omega arith in
       any_numbered (uses_type tree used m) 0 tree.declarations n (implementation x) is
       (ap (λ k. uses_type tree used m (k, implementation x)) zero' ∙ both (used n) (is_number m (type_number tree x)) in_use
-      (ap (is_number m) number ∙ same_number m))
+      (ap (is_number m) number ∙ nat_eq-self m))
 
   pub type_clean : (n m : ℕ) (x : Implementation ℕ) (t : TypeDeclaration ℕ) → used n ≡ true
       → slice_get tree.declarations n ≡ Some (implementation x) → type_number tree x ≡ Some m

@@ -2,11 +2,12 @@
 use Rattle.std.proofs.Common.{◌≡◌, ◌⊎◌, inl, inr, ◌∙◌, ℕ, Bool, true, false, cond, List, [], ◌∷◌, ◌++◌, Contains, refl, sym, subst, append_assoc, arith}
 use Rattle.std.specs.Prelude.{flat_map}
 use Rattle.std.proofs.lemmas.List.Elements.{Contains-append_left, Contains-append_right, Contains-append_cases}
+use Rattle.list_lemmas.proofs.Elements.{Contains-nil}
 use Rattle.aadl_tree.specs.Parts.{Part, Section, section_mark, empty_section, plain, may}
 use Rattle.aadl_tree.specs.Declarations.{section_parts}
 use Rattle.aadl_names.specs.declared.fault.FlatFault.{FlatFault}
 use Rattle.aadl_names.specs.Findings.{place_of}
-use Rattle.aadl_names.proofs.Elements.{only_here, none_here}
+use Rattle.aadl_names.proofs.Elements.{only_here}
 use Rattle.aadl_names.specs.proof.Orders.{places_of}
 use Rattle.design_laws.proofs.Placed.{Rise, rise_front, rise_back, in_front, in_back}
 
@@ -16,7 +17,7 @@ pub record Clear (parts : List (Part ℕ)) (found : List FlatFault) : Type 0 whe
   pub single : Rise parts → (f g : FlatFault) → Contains found f → Contains found g → place_of f ≡ place_of g → f ≡ g
 
 pub clear_none : (parts : List (Part ℕ)) → Clear parts []
-clear_none parts = record { inside = λ f h. absurd (none_here f h); single = λ r f g h k e. absurd (none_here f h) }
+clear_none parts = record { inside = λ f h. absurd (Contains-nil f h); single = λ r f g h k e. absurd (Contains-nil f h) }
 
 pub clear_one : (parts : List (Part ℕ)) (f : FlatFault) → Contains (places_of parts) (place_of f) → Clear parts (f ∷ [])
 clear_one parts f there = record {

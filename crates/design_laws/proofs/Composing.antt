@@ -8,6 +8,7 @@ use Rattle.std.specs.Option.{option_and_then}
 use Rattle.std.proofs.lemmas.List.{length-map}
 use Rattle.std.proofs.lemmas.List.Elements.{recursion_from_All}
 use Rattle.std.proofs.lemmas.Option.{same_Some}
+use Rattle.list_lemmas.proofs.Numbers.{le_from_not_lt}
 use Rattle.pals_base.specs.declared.limits.TheConstants.{PORTS, VARIABLES, STATES, COMPONENTS, PATH_BYTES}
 use Rattle.pals_base.specs.declared.behaviour.BehaviourParts.{BehaviourParts}
 use Rattle.pals_base.specs.Names.{is_path}
@@ -38,7 +39,7 @@ use Rattle.design_laws.proofs.Counting.{IsRateOf}
 use Rattle.model_violations.specs.Use.{IsUse}
 use Rattle.model_violations.specs.Violations.{shown_by, used_findings}
 use Rattle.design_laws.specs.Designs.{component_by, component_in, thread_behaviour}
-use Rattle.design_laws.proofs.Clean.{at_most, names_clean, not_over, declared_at}
+use Rattle.design_laws.proofs.Clean.{names_clean, not_over, declared_at}
 use Rattle.design_laws.proofs.Ruling.{ThreadLaw, ThreadIs, thread_is, root_no_thread, thread_behaves, seen_behaviour}
 use Rattle.design_laws.proofs.Rating.{root_time, rate_is}
 use Rattle.design_laws.proofs.Pathing.{path_is, paths_differ, before_other}
@@ -83,19 +84,19 @@ first_counted of (c ∷ bs) b is = ap (λ (d : ℕ × AnnexTree ℕ). length (of
 module _ {tree : PackageTree ℕ} {name : List ℕ} {parts : Parts} (flat : IsFlat tree name parts) (path : List ℕ) (x : Implementation ℕ)
     (thread : IsThreadOf tree parts.root path x) where
   few_ports : length (ports_of tree x) ≤ PORTS
-  few_ports = at_most PORTS (length (ports_of tree x)) (λ more. not_over flat 7 (codes "ports")
+  few_ports = le_from_not_lt PORTS (length (ports_of tree x)) (λ more. not_over flat 7 (codes "ports")
       (inr (inr (inl (refl, refl, (path, x, thread, more))))))
 
   few_variables : variable_count x ≤ VARIABLES
-  few_variables = at_most VARIABLES (variable_count x) (λ more. not_over flat 8 (codes "variables")
+  few_variables = le_from_not_lt VARIABLES (variable_count x) (λ more. not_over flat 8 (codes "variables")
       (inr (inr (inr (inl (refl, refl, (path, x, thread, more)))))))
 
   few_states : state_count x ≤ STATES
-  few_states = at_most STATES (state_count x) (λ more. not_over flat 9 (codes "states")
+  few_states = le_from_not_lt STATES (state_count x) (λ more. not_over flat 9 (codes "states")
       (inr (inr (inr (inr (inl (refl, refl, (path, x, thread, more))))))))
 
   pub short_path : length (spelled_path tree parts.root path) ≤ PATH_BYTES
-  short_path = at_most PATH_BYTES (length (spelled_path tree parts.root path))
+  short_path = le_from_not_lt PATH_BYTES (length (spelled_path tree parts.root path))
       (λ more. not_over flat 10 (codes "path") (inr (inr (inr (inr (inr (refl, refl, (path, x, thread, more))))))))
 
   small_by : (b : ℕ × AnnexTree ℕ) → first_annex x ≡ Some b → model.IsSmall (behaviour_of (values_of tree x b.1) (scope_of tree x b.1) b.1)
@@ -189,7 +190,7 @@ module _ {tree : PackageTree ℕ} {name : List ℕ} {parts : Parts} (flat : IsFl
   few_components : length components.all ≤ COMPONENTS
   few_components =
       let same = zipped_length IsOf parts.threads components.all components.each in
-      let few = at_most COMPONENTS (length parts.threads) (λ more. not_over flat 5 (codes "components")
+      let few = le_from_not_lt COMPONENTS (length parts.threads) (λ more. not_over flat 5 (codes "components")
       (inl (refl, refl, record { some = parts.threads; each = flat.threads.each; in_order = flat.threads.in_order; many = more }))) in
       omega (arith, same, few)
 

@@ -1,6 +1,8 @@
 -- The first connection that is on no chain, or is the second into a port.
 use Rattle.std.proofs.Common.{◌≡◌, ◌↔◌, ℕ, zero, suc, Bool, false, ◌&&◌, IsTrue, List, [], ◌∷◌, length, map, slice_get, Contains, Option, Some, None, refl, sym, subst, ◌∙◌}
 use Rattle.std.proofs.lemmas.Option.{none-some, same_Some, slice_get_within}
+use Rattle.list_lemmas.proofs.Elements.{Contains-nil}
+use Rattle.list_lemmas.proofs.Places.{slice_get-from_Contains, Contains-from_slice_get}
 use Rattle.aadl_tree.specs.declared.declarations.Direction.{Direction}
 use Rattle.aadl_tree.specs.declared.declarations.Direction.TheVariants as directions
 use Rattle.aadl_tree.specs.Declarations.{Connection, Implementation, PackageTree}
@@ -16,7 +18,6 @@ use Rattle.aadl_uses.specs.proof.Firsts.{is_before, first_into}
 use Rattle.aadl_uses.specs.Wiring.{wire_of, wires_of, wires_at}
 use Rattle.aadl_uses.proofs.Tables.{is_second-tells, no_second}
 use Rattle.aadl_uses.specs.proof.Orders.{IsOrder}
-use Rattle.aadl_uses.proofs.Searches.{contains_none, contains_at, at_contains}
 use Rattle.aadl_chains.specs.proof.Outside.{opposite, LeadsFrom, leads_from}
 use Rattle.aadl_chains.proofs.Leading.{leads_to, leads_found}
 use Rattle.aadl_chains.specs.Chains.{IsEndFault}
@@ -31,11 +32,11 @@ use Rattle.design_laws.proofs.Outside.{is_used, outside}
 -- a connection is wired
 wire_if : (tree : PackageTree ℕ) (o : Option (Implementation ℕ)) (k : ℕ) (link : Connection ℕ) → slice_get (connections_of o) k ≡ Some link
     → (wire : Wire) × (slice_get (wires_of tree o) k ≡ Some wire)
-wire_if tree None k link e = absurd (contains_none link (contains_at [] k link e))
+wire_if tree None k link e = absurd (Contains-nil link (Contains-from_slice_get [] k link e))
 wire_if tree (Some x) k link e = by x.connections k e
   where
     by : (cs : List (Connection ℕ)) (k : ℕ) → slice_get cs k ≡ Some link → (wire : Wire) × (slice_get (map (wire_of tree x) cs) k ≡ Some wire)
-    by [] k e = absurd (contains_none link (contains_at [] k link e))
+    by [] k e = absurd (Contains-nil link (Contains-from_slice_get [] k link e))
     by (c ∷ cs) zero e = (wire_of tree x c, refl)
     by (c ∷ cs) (suc k) e = by cs k e
 
@@ -109,13 +110,13 @@ module _ (tree : PackageTree ℕ) (root : ℕ) (sound : AreDeclared tree) (keys 
   at_key i old = by_key i old (slice_get used i) refl
 
   to_end : (f : FlatFault) → Below FoundAt (length used) f → IsEndFault tree root f
-  to_end f (i, lt, (n, e, h)) = end_fault tree root sound n f ((tells n).0 (contains_at used i n e)) h
+  to_end f (i, lt, (n, e, h)) = end_fault tree root sound n f ((tells n).0 (Contains-from_slice_get used i n e)) h
 
   from_end : (f : FlatFault) → IsEndFault tree root f → Below FoundAt (length used) f
   from_end f x =
       let h = found_fault tree root sound f x in
       let c = (tells h.0).1 h.1 in
-      (c.0, c.1, (h.0, at_contains used h.0 c, h.2))
+      (c.0, c.1, (h.0, slice_get-from_Contains used h.0 c, h.2))
 
   pub first_end : (o : Option FlatFault) × FirstIn (IsEndFault tree root) o
   first_end =

@@ -3,8 +3,9 @@ use Rattle.std.proofs.Common.{◌≡◌, ◌∙◌, ℕ, ◌*◌, ◌/◌, ◌%�
 use Rattle.std.proofs.Common.{Option, Some, None, refl, ap, subst, zero, suc, arith}
 use Rattle.std.specs.Option.{option_and_then}
 use Rattle.std.proofs.Math.Nat.{div-add-mod, mul-mod_left}
-use Rattle.std.proofs.lemmas.Bool.{false≢true}
+use Rattle.std.proofs.lemmas.Bool.{false≢true, leb-true, ltb-false, le-leb, and_from, and_parts}
 use Rattle.std.proofs.lemmas.Bool.Decides.{nat_tests}
+use Rattle.std.proofs.lemmas.Option.{cond_some}
 use Rattle.pals_base.specs.declared.values.Gamma.{Gamma}
 use Rattle.pals_base.specs.declared.limits.TheConstants.{HOUR, RATE}
 use Rattle.pals_base.specs.Bound.{least_period}
@@ -13,19 +14,13 @@ use Rattle.component_checks.specs.Numbers.{not_zero, in_order, skew_of, range_of
 use Rattle.component_checks.specs.Rates.{bound_findings, period_findings, and_number}
 use Rattle.annex_resolve.specs.declared.violation.TheConstants.{NOT_DIVISOR, RATE_TOO_HIGH, PERIOD_TOO_SHORT}
 use Rattle.annex_resolve.specs.Scopes.{finding, found_if}
-use Rattle.design_laws.proofs.Tests.{both, parts, not_wrong}
+use Rattle.design_laws.proofs.Tests.{not_wrong}
 
 -- ---- what a test lets through
-pub passed : {X : Type 0} (b : Bool) (x y : X) → cond b (Some x) None ≡ Some y → (b ≡ true) × (x ≡ y)
-passed true x y is = (refl, cc)
-passed false x y is = absurd (cc is)
 
 pub stopped : {X : Type 0} (b : Bool) (x y : X) → cond b None (Some x) ≡ Some y → (b ≡ false) × (x ≡ y)
 stopped true x y is = absurd (cc is)
 stopped false x y is = (refl, cc)
-
-le_from : (m n : ℕ) → nat_le m n ≡ true → m ≤ n
-le_from m n h = grind (arith, nat_tests)
 
 -- ---- a skew from 1 nanosecond to one hour
 pub record IsSkew (eps : ℕ) : Type 0 where
@@ -41,7 +36,7 @@ some_skew n eps is short =
     above_zero n eps h e = grind (arith, nat_tests)
 
 within_skew : (n : ℕ) (eps : ℕ) (b : Bool) → nat_le n HOUR ≡ b → option_and_then not_zero (cond b (Some n) None) ≡ Some eps → IsSkew eps
-within_skew n eps true h is = some_skew n eps is (le_from n HOUR h)
+within_skew n eps true h is = some_skew n eps is (leb-true n HOUR h)
 within_skew n eps false h is = absurd (cc is)
 
 pub skew_counts : (given : Option ℕ) (eps : ℕ) → skew_of given ≡ Some eps → IsSkew eps
@@ -55,12 +50,12 @@ pub record IsRange (r : ℕ × ℕ) : Type 0 where
 
 some_range : (r q : ℕ × ℕ) → in_order r ≡ Some q → r.1 ≤ HOUR → IsRange q
 some_range r q is short =
-    let p = passed (nat_le r.0 r.1) r q is in
-    subst IsRange p.1 (record { in_order = le_from r.0 r.1 p.0; short = short })
+    let p = cond_some (nat_le r.0 r.1) r q is in
+    subst IsRange p.1 (record { in_order = leb-true r.0 r.1 p.0; short = short })
 
 within_range : (r q : ℕ × ℕ) (b : Bool) → (nat_le r.0 HOUR && nat_le r.1 HOUR) ≡ b → option_and_then in_order (cond b (Some r) None) ≡ Some q
     → IsRange q
-within_range r q true h is = some_range r q is (le_from r.1 HOUR (parts (nat_le r.0 HOUR) (nat_le r.1 HOUR) h).1)
+within_range r q true h is = some_range r q is (leb-true r.1 HOUR (and_parts (nat_le r.0 HOUR) (nat_le r.1 HOUR) h).1)
 within_range r q false h is = absurd (cc is)
 
 pub range_counts : (given : Option (ℕ × ℕ)) (q : ℕ × ℕ) → range_of given ≡ Some q → IsRange q
@@ -95,11 +90,11 @@ gamma_counts skew execution network g is = gamma_of (skew_of skew) (range_of exe
 
 -- ---- rates
 bounds_of : (q : ℕ) → (nat_le 1 q && nat_le q RATE) ≡ true → (1 ≤ q) × (q ≤ RATE)
-bounds_of q h = let p = parts (nat_le 1 q) (nat_le q RATE) h in (le_from 1 q p.0, le_from q RATE p.1)
+bounds_of q h = let p = and_parts (nat_le 1 q) (nat_le q RATE) h in (leb-true 1 q p.0, leb-true q RATE p.1)
 
 divides_by : (p t : ℕ) → divides p t ≡ true → t ≡ p * (t / p)
 divides_by p t h =
-    let d = parts (not (nat_eq p 0)) (nat_eq (t % p) 0) h in
+    let d = and_parts (not (nat_eq p 0)) (nat_eq (t % p) 0) h in
     let z : t % p ≡ 0 = zero_from (t % p) d.1 in
     omega (arith, div-add-mod t p, z)
   where
@@ -121,17 +116,15 @@ pub record IsRateOf (t k : ℕ) : Type 0 where
 pub rate_counts : (t : ℕ) (p : Option ℕ) (k : ℕ) → rate_of (Some t) p ≡ Some k → IsRateOf t k
 rate_counts t None k is = absurd (cc is)
 rate_counts t (Some p) k is =
-    let q = passed (is_rate t p) (t / p) k is in
+    let q = cond_some (is_rate t p) (t / p) k is in
     let r = regrouped (divides p t) (nat_le 1 (t / p)) (nat_le (t / p) RATE) q.0 in
     let b = bounds_of (t / p) r.1 in
     subst (IsRateOf t) q.1 (record { low = b.0; high = b.1; divides = no_rest p t (divides_by p t r.0) })
 
 -- ---- a period on which nothing is found
-not_above : (m n : ℕ) → nat_lt m n ≡ false → n ≤ m
-not_above m n h = grind (arith, nat_tests)
 
 pub leaves_time : (at t : ℕ) (g : Gamma) (k : ℕ) → bound_findings at (Some t) (Some g) k ≡ [] → least_period g k ≤ t
-leaves_time at t g k none = not_above t (least_period g k) (not_wrong (nat_lt t (least_period g k)) at PERIOD_TOO_SHORT _ none)
+leaves_time at t g k none = ltb-false t (least_period g k) (not_wrong (nat_lt t (least_period g k)) at PERIOD_TOO_SHORT _ none)
 
 pub least_is_some : (g : Gamma) (k : ℕ) → IsGamma g → 1 ≤ least_period g k
 least_is_some g k gamma = let eps = gamma.skew.0 in omega (arith, eps)
@@ -140,17 +133,14 @@ factor_is_some : (p n t : ℕ) → 1 ≤ t → t ≡ p * n → 1 ≤ n
 factor_is_some p zero t some e = absurd (omega (arith, some, e))
 factor_is_some p (suc n) t some e = omega arith
 
-le_true : (m n : ℕ) → m ≤ n → nat_le m n ≡ true
-le_true m n h = grind (arith, nat_tests)
-
 rate_by : (at : ℕ) (path : List ℕ) (t p : ℕ) → 1 ≤ t → (d : Bool) → divides p t ≡ d
     → cond d (found_if (nat_lt RATE (t / p)) at RATE_TOO_HIGH (and_number path (t / p)))
     (finding at NOT_DIVISOR (and_number (and_number path p) t) ∷ []) ≡ []
     → cond ((d && nat_le 1 (t / p)) && nat_le (t / p) RATE) (Some (t / p)) None ≡ Some (t / p)
 rate_by at path t p some true h none =
-    let high = not_above RATE (t / p) (not_wrong (nat_lt RATE (t / p)) at RATE_TOO_HIGH (and_number path (t / p)) none) in
+    let high = ltb-false RATE (t / p) (not_wrong (nat_lt RATE (t / p)) at RATE_TOO_HIGH (and_number path (t / p)) none) in
     let low = factor_is_some p (t / p) t some (divides_by p t h) in
-    ap (λ b. cond b (Some (t / p)) None) (both (nat_le 1 (t / p)) (nat_le (t / p) RATE) (le_true 1 (t / p) low) (le_true (t / p) RATE high))
+    ap (λ b. cond b (Some (t / p)) None) (and_from (nat_le 1 (t / p)) (nat_le (t / p) RATE) (le-leb 1 (t / p) low) (le-leb (t / p) RATE high))
 rate_by at path t p some false h none = absurd (cc none)
 
 pub rate_from : (at : ℕ) (path : List ℕ) (t p : ℕ) → 1 ≤ t → period_findings at path (Some t) (Some p) ≡ [] → rate_of (Some t) (Some p) ≡ Some (t / p)

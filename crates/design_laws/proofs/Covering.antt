@@ -6,12 +6,13 @@ use Rattle.std.specs.List.{list_any, filter_map, cons_option}
 use Rattle.std.proofs.lemmas.List.Concat.{flat_map_single}
 use Rattle.std.proofs.lemmas.List.Elements.{Contains-append_left, Contains-append_right, Contains-append_cases}
 use Rattle.std.proofs.lemmas.List.Elements.{All-contains, All-filter, All-contains_itself}
+use Rattle.list_lemmas.proofs.Elements.{Contains-nil, Contains-cons_cases}
 use Rattle.aadl_names.specs.declared.fault.FlatFault.{FlatFault}
 use Rattle.aadl_names.specs.declared.fault.FlatFault.TheVariants.{Twice, WrongKind}
 use Rattle.aadl_names.specs.declared.entry.Entry.{Entry}
 use Rattle.aadl_names.specs.Findings.{number_of, wrong_if}
 use Rattle.aadl_names.specs.Twice.{again, twice}
-use Rattle.aadl_names.proofs.Elements.{is_here, only_here, none_here, first_or, among_all, from_all}
+use Rattle.aadl_names.proofs.Elements.{is_here, only_here, among_all, from_all}
 
 -- ---- lists
 pub from_map : {X Y : Type 0} (h : X → Y) (xs : List X) (y : Y) → Contains (map h xs) y → (x : X) × Contains xs x × (h x ≡ y)
@@ -28,14 +29,14 @@ given_later h x xs y g = (g.0, Contains-append_right (x ∷ []) xs g.0 g.1, g.2)
 given_by : {X Y : Type 0} (h : X → Option Y) (x : X) (xs : List X) (ys : List Y) (y : Y) (o : Option Y) → h x ≡ o
     → (Contains ys y → Given h xs y) → Contains (cons_option o ys) y → Given h (x ∷ xs) y
 given_by h x xs ys y None e later c = given_later h x xs y (later c)
-given_by h x xs ys y (Some z) e later c = by (first_or z ys y c)
+given_by h x xs ys y (Some z) e later c = by (Contains-cons_cases z ys y c)
   where
     by : (z ≡ y) ⊎ Contains ys y → Given h (x ∷ xs) y
     by (inl same) = (x, Contains-append_left (x ∷ []) xs x (is_here x), subst (λ w. h x ≡ Some w) same e)
     by (inr there) = given_later h x xs y (later there)
 
 pub from_filter_map : {X Y : Type 0} (h : X → Option Y) (xs : List X) (y : Y) → Contains (filter_map h xs) y → (x : X) × Contains xs x × (h x ≡ Some y)
-from_filter_map h [] y c = absurd (none_here y c)
+from_filter_map h [] y c = absurd (Contains-nil y c)
 from_filter_map h (x ∷ xs) y c = given_by h x xs (filter_map h xs) y (h x) refl (λ there. from_filter_map h xs y there) c
 
 pub from_filter : {X : Type 0} (p : X → Bool) (xs : List X) (x : X) → Contains (filter p xs) x → Contains xs x
@@ -53,7 +54,7 @@ pub covered_among : {fs ps : List FlatFault} → ((f : FlatFault) → Contains f
 covered_among all = record { each = λ f h. inr (all f h) }
 
 pub covered_none : (ps : List FlatFault) → Covered [] ps
-covered_none ps = record { each = λ f h. absurd (none_here f h) }
+covered_none ps = record { each = λ f h. absurd (Contains-nil f h) }
 
 pub covered_itself : (ps : List FlatFault) → Covered ps ps
 covered_itself ps = record { each = λ f h. inr h }

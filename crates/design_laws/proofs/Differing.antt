@@ -1,5 +1,5 @@
 -- Names that stand at different places differ, where none of them is declared twice.
-use Rattle.std.proofs.Common.{◌≡◌, ◌≢◌, ℕ, nat_lt, Bool, true, false, cond, ◌&&◌, ◌||◌, List, [], ◌∷◌, ◌++◌, refl, sym, subst, ◌∙◌, arith}
+use Rattle.std.proofs.Common.{◌≡◌, ◌≢◌, ℕ, nat_lt, Bool, true, false, cond, ◌&&◌, List, [], ◌∷◌, refl, sym, subst, ◌∙◌, arith}
 use Rattle.aadl_tree.specs.Names.{same_name}
 use Rattle.std.specs.Prelude.{flat_map}
 use Rattle.std.specs.List.{list_any, AllByRecursion}
@@ -7,11 +7,14 @@ use Rattle.std.specs.Str.{str_to_ascii_lowercase}
 use Rattle.std.proofs.lemmas.Bool.{false≢true}
 use Rattle.std.proofs.lemmas.Bool.Decides.{nat_tests}
 use Rattle.std.proofs.lemmas.Slice.Eq.{bytes_eq-Decides}
+use Rattle.list_lemmas.proofs.Elements.{AllByRecursion-weaker}
+use Rattle.list_lemmas.proofs.Booleans.{or_false_left, or_false_right}
+use Rattle.list_lemmas.proofs.Lists.{append_is_nil_left, append_is_nil_right}
 use Rattle.aadl_names.specs.declared.fault.FlatFault.{FlatFault}
 use Rattle.aadl_names.specs.declared.fault.FlatFault.TheVariants.{Twice}
 use Rattle.aadl_names.specs.declared.entry.Entry.{Entry}
 use Rattle.aadl_names.specs.Twice.{again, twice}
-use Rattle.design_laws.proofs.Placed.{Pairs, all_weaker}
+use Rattle.design_laws.proofs.Placed.{Pairs}
 
 -- ---- names compare as equal both ways
 pub same_turned : (a b : List ℕ) → same_name a b ≡ true → same_name b a ≡ true
@@ -22,29 +25,14 @@ pub same_itself : (a : List ℕ) → same_name a a ≡ true
 same_itself a = (bytes_eq-Decides (str_to_ascii_lowercase a) (str_to_ascii_lowercase a)).1 refl
 
 -- ---- nothing is found
-pub left_none : {X : Type 0} (xs ys : List X) → xs ++ ys ≡ [] → xs ≡ []
-left_none [] ys e = refl
-left_none (x ∷ xs) ys e = absurd (cc e)
-
-pub right_none : {X : Type 0} (xs ys : List X) → xs ++ ys ≡ [] → ys ≡ []
-right_none [] ys e = e
-right_none (x ∷ xs) ys e = absurd (cc e)
 
 pub all_none : {X Y : Type 0} (f : X → List Y) (xs : List X) → flat_map f xs ≡ [] → AllByRecursion (λ x. f x ≡ []) xs
 all_none f [] e = tt
-all_none f (x ∷ xs) e = (left_none (f x) (flat_map f xs) e, all_none f xs (right_none (f x) (flat_map f xs) e))
-
-not_left : (a b : Bool) → (a || b) ≡ false → a ≡ false
-not_left true b e = e
-not_left false b e = refl
-
-not_right : (a b : Bool) → (a || b) ≡ false → b ≡ false
-not_right true b e = absurd (false≢true (sym e))
-not_right false b e = e
+all_none f (x ∷ xs) e = (append_is_nil_left (f x) (flat_map f xs) e, all_none f xs (append_is_nil_right (f x) (flat_map f xs) e))
 
 pub all_false : {X : Type 0} (p : X → Bool) (xs : List X) → list_any p xs ≡ false → AllByRecursion (λ x. p x ≡ false) xs
 all_false p [] e = tt
-all_false p (x ∷ xs) e = (not_left (p x) (list_any p xs) e, all_false p xs (not_right (p x) (list_any p xs) e))
+all_false p (x ∷ xs) e = (or_false_left (p x) (list_any p xs) e, all_false p xs (or_false_right (p x) (list_any p xs) e))
 
 -- what stands where a test is true
 pub where_true : {Y : Type 0} (b : Bool) (xs : List Y) → b ≡ true → cond b xs [] ≡ [] → xs ≡ []
@@ -61,7 +49,7 @@ none_by false fault e = refl
 
 none_clashes : (xs : List Entry) → twice xs ≡ [] → AllByRecursion (λ x. AllByRecursion (λ y. clash x y ≡ false) xs) xs
 none_clashes xs e =
-    all_weaker (λ x. again xs x ≡ []) (λ x. AllByRecursion (λ y. clash x y ≡ false) xs)
+    AllByRecursion-weaker (λ x. again xs x ≡ []) (λ x. AllByRecursion (λ y. clash x y ≡ false) xs)
     (λ x none. all_false (clash x) xs (none_by (list_any (clash x) xs) (Twice x.name x.at) none)) xs (all_none (again xs) xs e)
 
 -- each of two, both ways
@@ -73,8 +61,8 @@ module _ {X : Type 0} (S : X → X → Type 0) where
   pub square : (xs : List X) → AllByRecursion (λ x. AllByRecursion (S x) xs) xs → Pairs (λ x y. S x y × S y x) xs
   square [] a = tt
   square (x ∷ xs) a = (
-    both_ways x xs a.0.1 (all_weaker (λ y. AllByRecursion (S y) (x ∷ xs)) (λ y. S y x) (λ y h. h.0) xs a.1),
-    square xs (all_weaker (λ y. AllByRecursion (S y) (x ∷ xs)) (λ y. AllByRecursion (S y) xs) (λ y h. h.1) xs a.1),
+    both_ways x xs a.0.1 (AllByRecursion-weaker (λ y. AllByRecursion (S y) (x ∷ xs)) (λ y. S y x) (λ y h. h.0) xs a.1),
+    square xs (AllByRecursion-weaker (λ y. AllByRecursion (S y) (x ∷ xs)) (λ y. AllByRecursion (S y) xs) (λ y h. h.1) xs a.1),
   )
 
 module _ {X : Type 0} (R S T : X → X → Type 0) (f : (x y : X) → R x y → S x y → T x y) where

@@ -1,8 +1,8 @@
 -- The ports of threads at which chains end, as the design numbers them.
-use Rattle.std.proofs.Common.{◌≡◌, ◌∙◌, ℕ, ◌+◌, ◌≤◌, Bool, true, false, not, List, map, length, take, Option, Some, None, Contains, refl, sym, ap}
+use Rattle.std.proofs.Common.{◌≡◌, ◌∙◌, ℕ, ◌+◌, ◌≤◌, true, false, not, List, map, length, take, Option, Some, None, Contains, refl, sym, ap}
 use Rattle.std.specs.Prelude.{slice_get, filter, count_by, option_map}
 use Rattle.std.specs.Option.{option_and_then}
-use Rattle.std.proofs.lemmas.Bool.{false≢true}
+use Rattle.std.proofs.lemmas.Bool.{false≢true, not_from_false}
 use Rattle.std.proofs.lemmas.Option.{same_Some, slice_get-map}
 use Rattle.pals_base.specs.declared.limits.TheConstants.{PORTS}
 use Rattle.pals_base.specs.declared.behaviour.BehaviourParts.{BehaviourParts}
@@ -48,10 +48,6 @@ out_test : (d : Direction) → goes_in (Some d) ≡ false → (fs : List (Featur
     → count_by (λ (o : Feature ℕ). same_direction d o.direction) fs ≡ count_by (λ o. not (types.is_in o)) fs
 out_test directions.In is fs = absurd (false≢true (sym is))
 out_test directions.Out is fs = refl
-
-not_by : (b : Bool) → b ≡ false → not b ≡ true
-not_by true e = absurd (false≢true (sym e))
-not_by false e = refl
 
 -- ---- a component of the design stands for the thread at a path
 pub record Sits (tree : PackageTree ℕ) (root : ℕ) (path : List ℕ) (c : Component) : Type 0 where
@@ -132,7 +128,7 @@ module _ (tree : PackageTree ℕ) (root : ℕ) (threads : List (List ℕ)) (cs :
         let kept = filter (λ o. not (types.is_in o)) (ports_of tree at.sits.thread.component) in
         let listed : slice_get kept (port_number tree root p) ≡ Some f =
         ap (slice_get kept) (number_is ∙ out_test f.direction way (take p.port (ports_of tree at.sits.thread.component)))
-        ∙ kept_at (λ o. not (types.is_in o)) (ports_of tree at.sits.thread.component) p.port f port_is (not_by (types.is_in f) way) in
+        ∙ kept_at (λ o. not (types.is_in o)) (ports_of tree at.sits.thread.component) p.port f port_is (not_from_false (types.is_in f) way) in
         ap (λ l. slice_get l (port_number tree root p)) (behaviour_ports tree at.sits.thread.component
         (first_annex at.sits.thread.component) at.component.behaviour at.sits.seen).1
         ∙ (slice_get-map named_of (map values.port_of kept) (port_number tree root p)

@@ -2,10 +2,10 @@
 use Rattle.std.proofs.Common.{◌≡◌, ◌⊎◌, inl, inr, ℕ, zero, suc, ◌+◌, ◌<◌, ◌≤◌, Bool, true, false, nat_eq, List, [], length, refl, subst, arith}
 use Rattle.std.specs.List.{list_all}
 use Rattle.indexmap.specs.IndexSet.{insert_key}
+use Rattle.std.proofs.lemmas.Bool.{cases_lt}
 use Rattle.aadl_uses.specs.proof.Graphs.{Graph, targets_in, IsWithin}
 use Rattle.aadl_uses.specs.proof.Orders.{is_there, IsSequence, IsPlaced, ArePlaced}
 use Rattle.aadl_uses.proofs.Sequences.{misses_by, placed_not, placed_new, none_placed, placed_more, one_more, all_placed, no_sequence}
-use Rattle.aadl_uses.proofs.Suspected.{one_of_two}
 use Rattle.design_laws.proofs.Containing.{IsAcyclic, HasOrder}
 use Rattle.design_laws.proofs.Distinct.{insert_distinct}
 
@@ -24,7 +24,7 @@ by_declared g n old q (inl lt) = by_there g n old q lt (list_all (is_there old) 
 by_declared g n old q (inr past) = record { new = old; is = placed_not g n old (λ h. absurd (omega arith)) }
 
 placed : (g : Graph) (n : ℕ) (old : List ℕ) → IsSequence g old → Placed g n old
-placed g n old q = by_declared g n old q (one_of_two n (length g))
+placed g n old q = by_declared g n old q (cases_lt n (length g))
 
 -- ---- a round
 record Round (g : Graph) (at : ℕ) (old : List ℕ) : Type 0 where
@@ -56,7 +56,7 @@ next g n within acyclic most l (inr all) = record { keys = l.keys; sequence = l.
 longer : (g : Graph) (n : ℕ) → IsWithin g → IsAcyclic g → n ≤ length g → Longer g n
 longer g zero within acyclic most = record { keys = []; sequence = no_sequence g [] refl; long = omega arith }
 longer g (suc n) within acyclic most =
-    let l = longer g n within acyclic (omega arith) in next g n within acyclic most l (one_of_two (length l.keys) (length g))
+    let l = longer g n within acyclic (omega arith) in next g n within acyclic most l (cases_lt (length l.keys) (length g))
 
 pub order : (g : Graph) → IsWithin g → IsAcyclic g → HasOrder g
 order g within acyclic = let l = longer g (length g) within acyclic (omega arith) in (l.keys, all_placed g l.keys l.sequence l.long)

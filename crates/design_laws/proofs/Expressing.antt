@@ -1,7 +1,7 @@
 -- Where no type is wrong, the resolved expression is well typed.
 use Rattle.std.proofs.Common.{◌≡◌, ℕ, ◌+◌, Bool, true, false, nat_lt, ◌||◌, cond, [], ◌++◌, length, Option, Some, None, refl, sym, subst}
 use Rattle.std.specs.Option.{is_some}
-use Rattle.std.proofs.lemmas.Bool.{false≢true, lt-ltb}
+use Rattle.std.proofs.lemmas.Bool.{false≢true, lt-ltb, or_left, or_right, and_from}
 use Rattle.std.proofs.lemmas.Option.{slice_get_within, slice_get_past}
 use Rattle.pals_base.specs.declared.behaviour.Kind.{Kind}
 use Rattle.pals_base.specs.declared.behaviour.Kind.TheVariants.{Integer, Boolean}
@@ -28,7 +28,7 @@ use Rattle.annex_resolve.specs.Scopes.{entry_named, read_of, value_of, freshness
 use Rattle.annex_resolve.specs.Types.{fits, misfit, is_equality, read_kind, primary_kind, factor_kind, term_kind, total_kind, relation_kind, expression_kind, primary_types, factor_types, term_types, factors_types, sum_types, terms_types, relation_types, expression_types, relations_types}
 use Rattle.annex_resolve.specs.Resolved.{multiply_op, sign_op, relation_op, logic_op, negated_by, truth_of, primary_of, factor_of, term_of, factors_of, sum_of, terms_of, relation_of, expression_of, relations_of}
 use Rattle.design_laws.specs.proof.Ready.{FitsMeaning, FitsScope}
-use Rattle.design_laws.proofs.Tests.{both, nothing_left, is_right}
+use Rattle.design_laws.proofs.Tests.{nothing_left, is_right}
 
 -- an expression may have the type that it was found to have
 abbrev pub Has : BehaviourParts → ℕ → Option Kind → plain.Expression → Type 0
@@ -43,29 +43,21 @@ is_truth b loops at kind e (Boolean, is, h) m = h
 is_truth b loops at kind e (Integer, is, h) m = absurd (false≢true (is_right (fits (Some Integer) (Some Boolean)) at BAD_TYPE [] (subst (λ k. misfit at (Some Boolean) k ≡ []) is m)))
 
 multiplied : (o : MultiplyOperator) (l r : Kinds) → l.integer ≡ true → r.integer ≡ true → (joined (multiply_op o) l r).integer ≡ true
-multiplied multiply.Times l r e f = both l.integer r.integer e f
-multiplied multiply.Divide l r e f = both l.integer r.integer e f
-multiplied multiply.Mod l r e f = both l.integer r.integer e f
-multiplied multiply.Rem l r e f = both l.integer r.integer e f
+multiplied multiply.Times l r e f = and_from l.integer r.integer e f
+multiplied multiply.Divide l r e f = and_from l.integer r.integer e f
+multiplied multiply.Mod l r e f = and_from l.integer r.integer e f
+multiplied multiply.Rem l r e f = and_from l.integer r.integer e f
 
 summed : (s : Sign) (l r : Kinds) → l.integer ≡ true → r.integer ≡ true → (joined (sign_op s) l r).integer ≡ true
-summed signs.Plus l r e f = both l.integer r.integer e f
-summed signs.Minus l r e f = both l.integer r.integer e f
+summed signs.Plus l r e f = and_from l.integer r.integer e f
+summed signs.Minus l r e f = and_from l.integer r.integer e f
 
 connected : (o : LogicOperator) (l r : Kinds) → l.boolean ≡ true → r.boolean ≡ true → (joined (logic_op o) l r).boolean ≡ true
-connected logic.And l r e f = both l.boolean r.boolean e f
-connected logic.Or l r e f = both l.boolean r.boolean e f
-connected logic.Xor l r e f = both l.boolean r.boolean e f
-connected logic.AndThen l r e f = both l.boolean r.boolean e f
-connected logic.OrElse l r e f = both l.boolean r.boolean e f
-
-left_true : (a b : Bool) → a ≡ true → (a || b) ≡ true
-left_true true b e = refl
-left_true false b e = absurd (false≢true e)
-
-right_true : (a b : Bool) → b ≡ true → (a || b) ≡ true
-right_true true b e = refl
-right_true false b e = e
+connected logic.And l r e f = and_from l.boolean r.boolean e f
+connected logic.Or l r e f = and_from l.boolean r.boolean e f
+connected logic.Xor l r e f = and_from l.boolean r.boolean e f
+connected logic.AndThen l r e f = and_from l.boolean r.boolean e f
+connected logic.OrElse l r e f = and_from l.boolean r.boolean e f
 
 signed_integer : (b : BehaviourParts) (loops : ℕ) (s : Sign) (e : plain.Expression) → (kinds_of e b loops).integer ≡ true → (kinds_of (negated_by s e) b loops).integer ≡ true
 signed_integer b loops signs.Plus e h = h
@@ -73,8 +65,8 @@ signed_integer b loops signs.Minus e h = h
 
 -- sides of one type can be compared
 compared_equal : (b : BehaviourParts) (loops at : ℕ) (k m : Option Kind) (x y : plain.Expression) → Has b loops k x → Has b loops m y → misfit at k m ≡ [] → (numbers_at (kinds_of x b loops) (kinds_of y b loops) || truths_at (kinds_of x b loops) (kinds_of y b loops)) ≡ true
-compared_equal b loops at k m x y (Integer, is, h) (Integer, os, g) f = left_true _ _ (both (kinds_of x b loops).integer (kinds_of y b loops).integer h g)
-compared_equal b loops at k m x y (Boolean, is, h) (Boolean, os, g) f = right_true _ _ (both (kinds_of x b loops).boolean (kinds_of y b loops).boolean h g)
+compared_equal b loops at k m x y (Integer, is, h) (Integer, os, g) f = or_left _ _ (and_from (kinds_of x b loops).integer (kinds_of y b loops).integer h g)
+compared_equal b loops at k m x y (Boolean, is, h) (Boolean, os, g) f = or_right _ _ (and_from (kinds_of x b loops).boolean (kinds_of y b loops).boolean h g)
 compared_equal b loops at k m x y (Integer, is, h) (Boolean, os, g) f =
     absurd (false≢true (is_right (fits (Some Boolean) (Some Integer)) at BAD_TYPE [] (subst (λ w. misfit at w (Some Boolean) ≡ []) is (subst (λ w. misfit at k w ≡ []) os f))))
 compared_equal b loops at k m x y (Boolean, is, h) (Integer, os, g) f =
@@ -84,7 +76,7 @@ ordered_sides : (b : BehaviourParts) (loops at to : ℕ) (k m : Option Kind) (x 
     → misfit at (Some Integer) k ++ misfit to (Some Integer) m ≡ [] → numbers_at (kinds_of x b loops) (kinds_of y b loops) ≡ true
 ordered_sides b loops at to k m x y h g e =
     let p = nothing_left (misfit at (Some Integer) k) (misfit to (Some Integer) m) e in
-    both (kinds_of x b loops).integer (kinds_of y b loops).integer (is_integer b loops at k x h p.0) (is_integer b loops to m y g p.1)
+    and_from (kinds_of x b loops).integer (kinds_of y b loops).integer (is_integer b loops at k x h p.0) (is_integer b loops to m y g p.1)
 
 sided : (b : BehaviourParts) (loops at to : ℕ) (o : RelationOperator) (k m : Option Kind) (x y : plain.Expression) → Has b loops k x → Has b loops m y
     → cond (is_equality o) (misfit to k m) (misfit at (Some Integer) k ++ misfit to (Some Integer) m) ≡ [] → (joined (relation_op o) (kinds_of x b loops) (kinds_of y b loops)).boolean ≡ true

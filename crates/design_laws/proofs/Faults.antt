@@ -3,6 +3,7 @@ use Rattle.std.proofs.Common.{◌≡◌, ◌⊎◌, inl, inr, ◌∙◌, ℕ, �
 use Rattle.std.specs.Prelude.{slice_get, codes}
 use Rattle.std.proofs.lemmas.Bool.{cases_order}
 use Rattle.std.proofs.lemmas.Option.{same_Some}
+use Rattle.list_lemmas.proofs.Places.{Contains-from_slice_get}
 use Rattle.aadl_tree.specs.Names.{Identifier}
 use Rattle.aadl_tree.specs.Declarations.{Subcomponent, Connection, Declaration, type, implementation, PackageTree, package_parts}
 use Rattle.aadl_names.specs.declared.fault.FlatFault.{FlatFault}
@@ -13,7 +14,6 @@ use Rattle.aadl_uses.specs.Uses.{IsRecursive}
 use Rattle.aadl_chains.specs.Chains.{IsEndFault}
 use Rattle.aadl_instance.specs.Faults.{IsOver, FoundIn, Found, IsFault}
 use Rattle.aadl_instance.proofs.First.{one_by_line}
-use Rattle.aadl_names.proofs.Elements.{got}
 use Rattle.design_laws.proofs.Placed.{Rise}
 use Rattle.design_laws.proofs.Possible.{possible}
 use Rattle.design_laws.proofs.FaultDeclaring.{possible_clear}
@@ -82,15 +82,15 @@ module _ (tree : PackageTree ℕ) (rise : Rise (package_parts tree)) where
       → slice_get (subcomponents_of (implementation_in o)) s ≡ Some sub → Contains (possible tree) (again_of sub.name)
   sub_by n s sub None e is = absurd (cc is)
   sub_by n s sub (Some (type x)) e is = absurd (cc is)
-  sub_by n s sub (Some (implementation x)) e is = in_package tree (implementation x) (again_of sub.name) (got tree.declarations n (implementation x) e)
-      (subcomponent_has tree x sub (got x.subcomponents s sub is))
+  sub_by n s sub (Some (implementation x)) e is = in_package tree (implementation x) (again_of sub.name) (Contains-from_slice_get tree.declarations n (implementation x) e)
+      (subcomponent_has tree x sub (Contains-from_slice_get x.subcomponents s sub is))
 
   connection_by : (n c : ℕ) (link : Connection ℕ) (o : Option (Declaration ℕ)) → slice_get tree.declarations n ≡ o
       → slice_get (connections_of (implementation_in o)) c ≡ Some link → Contains (possible tree) (again_of link.name)
   connection_by n c link None e is = absurd (cc is)
   connection_by n c link (Some (type x)) e is = absurd (cc is)
   connection_by n c link (Some (implementation x)) e is = in_package tree (implementation x) (again_of link.name)
-      (got tree.declarations n (implementation x) e) (connection_has tree x link (got x.connections c link is))
+      (Contains-from_slice_get tree.declarations n (implementation x) e) (connection_has tree x link (Contains-from_slice_get x.connections c link is))
 
   one_recursive : (a b : FlatFault) → IsRecursive tree a → IsRecursive tree b → place_of a ≡ place_of b → a ≡ b
   one_recursive a b x y place =

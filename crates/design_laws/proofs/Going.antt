@@ -1,11 +1,12 @@
 -- Where nothing is found, transitions are sound, each state has its ways, and no cycle avoids the complete states.
-use Rattle.std.proofs.Common.{◌≡◌, ℕ, ◌+◌, ◌-◌, ◌<◌, zero, suc, Bool, true, false, nat_eq, nat_lt, ◌&&◌, cond, List, [], ◌∷◌, ◌++◌, length, map, take, Option, Some, None, refl, sym, ap, ◌∙◌, subst, arith}
+use Rattle.std.proofs.Common.{◌≡◌, ℕ, ◌+◌, ◌-◌, ◌<◌, Bool, true, false, nat_eq, nat_lt, ◌&&◌, cond, List, [], ◌∷◌, ◌++◌, length, map, take, Option, Some, None, refl, sym, ap, ◌∙◌, subst, arith}
 use Rattle.std.specs.Prelude.{flat_map, filter, fold, slice_get, option_map}
 use Rattle.std.specs.List.{list_all, list_any, enumerate_from}
 use Rattle.std.specs.Option.{unwrap_or}
-use Rattle.std.proofs.lemmas.Bool.{false≢true, eqb-true}
+use Rattle.std.proofs.lemmas.Bool.{false≢true, eqb-true, and_from, and_parts, not-false, or_parts}
 use Rattle.std.proofs.lemmas.List.{length-map}
 use Rattle.std.proofs.lemmas.Option.{slice_get-map}
+use Rattle.list_lemmas.proofs.Places.{slice_get-some}
 use Rattle.pals_base.specs.declared.behaviour.BehaviourParts.{BehaviourParts}
 use Rattle.pals_base.specs.Tree as plain
 use Rattle.pals_base.specs.Kinds.{are_sound}
@@ -26,7 +27,7 @@ use Rattle.annex_resolve.specs.Behaviours.{declared, state_number, trigger_of, e
 use Rattle.annex_resolve.proofs.Tables.{mapped_at}
 use Rattle.annex_resolve.proofs.CycleWays.{way_reaches}
 use Rattle.design_laws.specs.proof.Ready.{FitsScope, is_declared}
-use Rattle.design_laws.proofs.Tests.{both, parts, neither, not_false, nothing_left, not_wrong, none_at, all_upwards, filter-map}
+use Rattle.design_laws.proofs.Tests.{nothing_left, not_wrong, none_at, all_upwards, filter-map}
 use Rattle.design_laws.proofs.Acting.{test_sound, block_sound}
 
 -- ---- transitions
@@ -46,17 +47,17 @@ edge_sound b scope states fit count t known none =
     let p = nothing_left (guard_types scope t.guard) (effect_findings scope t.effect) none in
     let there : (nat_lt (state_number states t.source.spelling) (length b.states) && nat_lt (state_number states t.target.spelling) (length b.states)) ≡ true =
     subst (λ n. (nat_lt (state_number states t.source.spelling) n && nat_lt (state_number states t.target.spelling) n) ≡ true) (sym count) known in
-    both (nat_lt (state_number states t.source.spelling) (length b.states) && nat_lt (state_number states t.target.spelling) (length b.states) && has_condition b (trigger_of scope t.guard)) (are_sound (effect_of scope t.effect) b 0 1)
-    (both (nat_lt (state_number states t.source.spelling) (length b.states) && nat_lt (state_number states t.target.spelling) (length b.states)) (has_condition b (trigger_of scope t.guard)) there (guard_sound b scope fit t.guard p.0))
+    and_from (nat_lt (state_number states t.source.spelling) (length b.states) && nat_lt (state_number states t.target.spelling) (length b.states) && has_condition b (trigger_of scope t.guard)) (are_sound (effect_of scope t.effect) b 0 1)
+    (and_from (nat_lt (state_number states t.source.spelling) (length b.states) && nat_lt (state_number states t.target.spelling) (length b.states)) (has_condition b (trigger_of scope t.guard)) there (guard_sound b scope fit t.guard p.0))
     (effect_sound b scope fit t.effect p.1)
 
 pub edges_sound : (b : BehaviourParts) (scope : Scope) (states : List StateAt) → FitsScope b 0 scope → length b.states ≡ length states → (ts : List (Transition ℕ)) → list_all (is_declared states) ts ≡ true
     → flat_map (transition_findings scope) ts ≡ [] → list_all (is_edge b) (map (edge_of scope states) ts) ≡ true
 edges_sound b scope states fit count [] known none = refl
 edges_sound b scope states fit count (t ∷ ts) known none =
-    let k = parts (is_declared states t) (list_all (is_declared states) ts) known in
+    let k = and_parts (is_declared states t) (list_all (is_declared states) ts) known in
     let p = nothing_left (transition_findings scope t) (flat_map (transition_findings scope) ts) none in
-    both (is_edge b (edge_of scope states t)) (list_all (is_edge b) (map (edge_of scope states) ts)) (edge_sound b scope states fit count t k.0 p.0) (edges_sound b scope states fit count ts k.1 p.1)
+    and_from (is_edge b (edge_of scope states t)) (list_all (is_edge b) (map (edge_of scope states) ts)) (edge_sound b scope states fit count t k.0 p.0) (edges_sound b scope states fit count ts k.1 p.1)
 
 -- ---- the last way from a state
 module _ (scope : Scope) (states : List StateAt) where
@@ -89,14 +90,10 @@ module _ (scope : Scope) (states : List StateAt) where
       last_open false t ts none (subst (λ n. is_open (slice_get (ways (t ∷ ts)) n) ≡ false) at shut)
 
 -- ---- what is found of a state
-some_at : {X : Type 0} (xs : List X) (n : ℕ) → n < length xs → (x : X) × (slice_get xs n ≡ Some x)
-some_at [] n within = absurd (omega (arith, within))
-some_at (x ∷ xs) zero within = (x, refl)
-some_at (x ∷ xs) (suc n) within = some_at xs n (omega (arith, within))
 
 ways_by : (complete : Bool) (count : ℕ) (ends : Bool) → nat_eq count (cond complete 1 0) ≡ true → (complete ≡ false → nat_eq count 0 ≡ true → ends ≡ true) → cond complete (nat_eq count 1) (nat_eq count 0 && ends) ≡ true
 ways_by true count ends right end' = right
-ways_by false count ends right end' = both (nat_eq count 0) ends right (end' refl right)
+ways_by false count ends right end' = and_from (nat_eq count 0) ends right (end' refl right)
 
 otherwise_empty : {X : Type 0} (c : Bool) (xs : List X) → cond c [] xs ≡ [] → c ≡ false → xs ≡ []
 otherwise_empty true xs e is = absurd (false≢true (sym is))
@@ -122,10 +119,10 @@ module _ (b : BehaviourParts) (scope : Scope) (states : List StateAt) (ts : List
       let second = found_if lacks s.at NO_OTHERWISE s.name in
       let third = found_if (unwrap_or (slice_get (cycles_of b) n) false) s.at CYCLE_WITHOUT_COMPLETE s.name in
       let p = nothing_left first (cond s.complete [] (second ++ third)) none in
-      let count = not_false (nat_eq (dispatch_count (leaving b n)) (cond (is_complete b n) 1 0)) (not_wrong (breaks_dispatch b n) s.at DISPATCH_COUNT s.name p.0) in
+      let count = not-false (nat_eq (dispatch_count (leaving b n)) (cond (is_complete b n) 1 0)) (not_wrong (breaks_dispatch b n) s.at DISPATCH_COUNT s.name p.0) in
       ways_by (is_complete b n) (dispatch_count (leaving b n)) (ends_unguarded (leaving b n)) count (λ open' zero'.
       let rest = nothing_left second third (otherwise_empty s.complete (second ++ third) p.1 (sym (complete_is n s is) ∙ open')) in
-      let shut = (neither (is_open (slice_get (ways_from n (map (leg_of states) ts)) (length (ways_from n (map (leg_of states) ts)) - 1))) (list_any is_otherwise (take (length (ways_from n (map (leg_of states) ts)) - 1) (ways_from n (map (leg_of states) ts)))) (not_wrong lacks s.at NO_OTHERWISE s.name rest.0)).0 in
+      let shut = (or_parts (is_open (slice_get (ways_from n (map (leg_of states) ts)) (length (ways_from n (map (leg_of states) ts)) - 1))) (list_any is_otherwise (take (length (ways_from n (map (leg_of states) ts)) - 1) (ways_from n (map (leg_of states) ts)))) (not_wrong lacks s.at NO_OTHERWISE s.name rest.0)).0 in
       subst (λ l. ends_unguarded l ≡ true) (sym (leaving_is n))
       (unguarded scope states (leave n) (subst (λ l. dispatch_count l ≡ 0) (leaving_is n) (eqb-true (dispatch_count (leaving b n)) 0 zero'))
       (subst (λ l. is_open (slice_get l (length l - 1)) ≡ false) (ways_are n) shut)))
@@ -141,7 +138,7 @@ module _ (b : BehaviourParts) (scope : Scope) (states : List StateAt) (ts : List
 
   -- the state of a number below their count
   state_of : (n : ℕ) → n < length b.states → (s : StateAt) × (slice_get states n ≡ Some s)
-  state_of n within = some_at states n (subst (λ k. n < k) (ap length is_states ∙ length-map states declared) within)
+  state_of n within = slice_get-some states n (subst (λ k. n < k) (ap length is_states ∙ length-map states declared) within)
 
   pub all_have_ways : flat_map (state_rules b (map (leg_of states) ts) (cycles_of b)) (enumerate_from 0 states) ≡ [] → list_all (has_ways b) (upwards 0 (length b.states)) ≡ true
   all_have_ways none = all_upwards (has_ways b) 0 (length b.states) (λ n low high.

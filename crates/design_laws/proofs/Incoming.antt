@@ -1,5 +1,6 @@
 -- All links and feeds, thread by thread and port by port.
 use Rattle.std.proofs.Common.{◌≡◌, ◌⊎◌, inl, inr, ℕ, zero, suc, ◌+◌, ◌≤◌, Bool, true, false, List, [], ◌∷◌, ◌++◌, length, slice_get, Some, refl, subst, arith}
+use Rattle.list_lemmas.proofs.Places.{slice_get-some}
 use Rattle.aadl_tree.specs.Declarations.{PackageTree}
 use Rattle.aadl_names.specs.Resolving.{implementation_at, ports_at}
 use Rattle.aadl_uses.specs.proof.Uses.{containment}
@@ -16,7 +17,6 @@ use Rattle.aadl_instance.specs.proof.Passed.{AreInto}
 use Rattle.aadl_instance.proofs.Passing.{into_start, into_thread, into_skip, into_link, into_feed, links_whole, feeds_whole, thread_listed}
 use Rattle.aadl_instance.proofs.Adding.{out_added}
 use Rattle.aadl_instance.proofs.Shown.{stands}
-use Rattle.design_laws.proofs.Inside.{within}
 use Rattle.design_laws.proofs.Tracing.{Comes, NoneComes, comes}
 
 module _ (tree : PackageTree ℕ) (root : ℕ) (sound : AreDeclared tree) (one : OneEach tree root) (no_thread : is_thread_at tree root ≡ false)
@@ -72,7 +72,7 @@ module _ (tree : PackageTree ℕ) (root : ℕ) (sound : AreDeclared tree) (one :
   all_threads : (node : ℕ) → node ≤ length paths → Into node 0
   all_threads zero most = record { incoming = record { links = []; feeds = [] }; are = into_start tree root paths no_thread (record { links = []; feeds = [] }) refl refl }
   all_threads (suc node) most =
-      let p = within paths node (omega arith) in
+      let p = slice_get-some paths node (omega arith) in
       let e : node + 1 ≡ suc node = omega arith in
       subst (λ (n : ℕ). Into n 0) e (one_thread node p.0 p.1 (all_threads node (omega arith)))
 

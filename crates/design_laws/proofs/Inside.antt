@@ -1,22 +1,17 @@
 -- The ports that reach threads, in an order of declarations.
-use Rattle.std.proofs.Common.{◌≡◌, ℕ, zero, suc, ◌+◌, ◌<◌, ◌≤◌, Bool, true, false, List, [], ◌∷◌, length, slice_get, Option, Some, None, refl, subst, arith}
+use Rattle.std.proofs.Common.{◌≡◌, ℕ, zero, suc, ◌+◌, ◌<◌, ◌≤◌, Bool, true, false, List, [], length, slice_get, Option, Some, None, refl, subst, arith}
+use Rattle.list_lemmas.proofs.Places.{slice_get-some, Contains-from_slice_get}
 use Rattle.aadl_tree.specs.declared.declarations.Direction.{Direction}
 use Rattle.aadl_tree.specs.Declarations.{PackageTree}
 use Rattle.aadl_uses.specs.proof.Uses.{containment}
 use Rattle.aadl_uses.specs.declared.connections.Wire.{Wire}
 use Rattle.aadl_uses.specs.Wiring.{wires_at}
 use Rattle.aadl_uses.specs.proof.Orders.{IsOrder}
-use Rattle.aadl_uses.proofs.Searches.{contains_at}
 use Rattle.aadl_chains.specs.declared.ports.PortAt.{PortAt}
 use Rattle.aadl_chains.specs.proof.Ports.{with_port}
 use Rattle.aadl_chains.specs.proof.Inside.{is_thread_at, inner_end, outer_end, port_at, joined_by, AreJoined, IsJoined, IsInside}
 use Rattle.aadl_chains.proofs.Joining.{one_joined, none_joined, FrontJoined, none_yet, one_more, all_joined, thread_joined}
 use Rattle.aadl_chains.proofs.Ordered.{FrontInside, no_front, front_more, front_past, front_all}
-
-pub within : {X : Type 0} (xs : List X) (i : ℕ) → i < length xs → (x : X) × (slice_get xs i ≡ Some x)
-within [] i lt = absurd (omega arith)
-within (x ∷ xs) zero lt = (x, refl)
-within (x ∷ xs) (suc i) lt = within xs i (omega arith)
 
 module _ (tree : PackageTree ℕ) (d : Direction) where
   -- ---- a connection
@@ -36,10 +31,10 @@ module _ (tree : PackageTree ℕ) (d : Direction) where
   front_step : (n i : ℕ) (old : List PortAt) → is_thread_at tree n ≡ false → Front n i old → (wire : Wire) → slice_get (wires_at tree n) i ≡ Some wire → Front n (i + 1) old
   front_step n i old thread f wire e =
       let j = by_port n wire f.new (joined_by f.new tree d n (outer_end d wire) (inner_end d wire)) refl in
-      record { new = j.new; are = one_more tree d n i wire old f.new j.new thread e (contains_at (wires_at tree n) i wire e) j.is f.are }
+      record { new = j.new; are = one_more tree d n i wire old f.new j.new thread e (Contains-from_slice_get (wires_at tree n) i wire e) j.is f.are }
 
   some_wire : (n i : ℕ) → i < length (wires_at tree n) → (wire : Wire) × (slice_get (wires_at tree n) i ≡ Some wire)
-  some_wire n i lt = within (wires_at tree n) i lt
+  some_wire n i lt = slice_get-some (wires_at tree n) i lt
 
   fronts : (n i : ℕ) (old : List PortAt) → is_thread_at tree n ≡ false → i ≤ length (wires_at tree n) → Front n i old
   fronts n zero old thread most = record { new = old; are = none_yet tree d n old }

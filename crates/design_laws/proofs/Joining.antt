@@ -4,6 +4,8 @@ use Rattle.std.specs.Prelude.{flat_map, All}
 use Rattle.std.specs.List.{AllByRecursion}
 use Rattle.std.proofs.lemmas.List.Elements.{recursion_from_All}
 use Rattle.std.proofs.lemmas.Option.{same_Some}
+use Rattle.std.proofs.lemmas.Bool.{ltb-true}
+use Rattle.list_lemmas.proofs.Numbers.{le_from_not_lt}
 use Rattle.pals_base.specs.declared.limits.TheConstants.{LINKS}
 use Rattle.pals_base.specs.declared.values.Gamma.{Gamma}
 use Rattle.pals_model.specs.declared.design.Component.{Component}
@@ -28,14 +30,14 @@ use Rattle.design_laws.proofs.Partition.{pairs_from, all_unmapped}
 use Rattle.model_violations.specs.Use.{IsUse}
 use Rattle.model_violations.specs.Violations.{shown_by, rates_of, used_findings}
 use Rattle.design_laws.specs.Designs.{link_in, feed_in, tap_in}
-use Rattle.design_laws.proofs.Clean.{at_most, names_clean, not_over, declared_at}
+use Rattle.design_laws.proofs.Clean.{names_clean, not_over, declared_at}
 use Rattle.design_laws.proofs.Rating.{root_there}
 use Rattle.design_laws.proofs.Matching.{Zipped, Made, all_made, zipped_length, all_zipped, pairs_zipped}
 use Rattle.design_laws.proofs.Ending.{Sits}
 use Rattle.design_laws.proofs.Linking.{not_root, end_goes_in, link_joins, feed_joins, tap_joins, link_of, feed_of, tap_of, link_is, feed_is}
 use Rattle.design_laws.proofs.Linking.{tap_is, in_kind_is}
 use Rattle.design_laws.proofs.Keeping.{link_keeps, feed_keeps, tap_keeps}
-use Rattle.design_laws.proofs.Ordering.{InPort, less_from, other_target, targets_rise, one_port, other_name, one_named}
+use Rattle.design_laws.proofs.Ordering.{InPort, other_target, targets_rise, one_port, other_name, one_named}
 use Rattle.design_laws.proofs.Sourcing.{one_start}
 
 module _ {tree : PackageTree ℕ} {name : List ℕ} {parts : Parts} (flat : IsFlat tree name parts) (used : ℕ → Bool)
@@ -194,7 +196,7 @@ module _ {tree : PackageTree ℕ} {name : List ℕ} {parts : Parts} (flat : IsFl
         let first : t.name ≡ i.target.name.spelling = ap (λ (k : Tap). k.name) x.is ∙ ap port_name i.target_is in
         let second : u.name ≡ j.target.name.spelling = ap (λ (k : Tap). k.name) y.is ∙ ap port_name j.target_is in
         other_name tree parts.root r.0 r.1 differ a.to b.to i.target j.target (tap_root a x.tap)
-        (tap_root b y.tap) i.target_is j.target_is (less_from a.to.port b.to.port before) (sym first ∙ (same ∙ second))
+        (tap_root b y.tap) i.target_is j.target_is (ltb-true a.to.port b.to.port before) (sym first ∙ (same ∙ second))
 
     feed_kind_is : (e : Ends) (f : Feed) → (h : FeedIs e f) → feed_kind (design_of ls fs ts) f ≡ (feed_joins flat used is_use none e h.feed).kind
     feed_kind_is e f h =
@@ -230,7 +232,7 @@ module _ {tree : PackageTree ℕ} {name : List ℕ} {parts : Parts} (flat : IsFl
   few_links : length links.all ≤ LINKS
   few_links =
       let same = zipped_length LinkIs parts.links links.all links.each in
-      let few : length parts.links ≤ LINKS = at_most LINKS (length parts.links)
+      let few : length parts.links ≤ LINKS = le_from_not_lt LINKS (length parts.links)
       (λ more. not_over flat 6 (codes "links") (inr (inl (
         refl,
         refl,

@@ -3,6 +3,7 @@ use Rattle.std.proofs.Common.{◌≡◌, ◌∙◌, ℕ, Bool, true, false, List
 use Rattle.std.specs.Prelude.{IsTrue}
 use Rattle.std.specs.Option.{option_and_then}
 use Rattle.std.proofs.lemmas.List.Elements.{recursion_from_All}
+use Rattle.list_lemmas.proofs.Lists.{append_is_nil_right}
 use Rattle.pals_base.specs.declared.behaviour.Kind.{Kind}
 use Rattle.pals_base.specs.Allowed.{divides_or_divided, is_allowed, suits_kind}
 use Rattle.pals_base.specs.Names.{is_word}
@@ -25,7 +26,6 @@ use Rattle.model_violations.specs.Chains.{timing_findings, adaptor_findings, on_
 use Rattle.model_violations.specs.Ports.{end_name, end_kind, end_rate}
 use Rattle.component_checks.specs.Rates.{adaptor_named, kind_suits}
 use Rattle.design_laws.specs.proof.Named.{HasWords}
-use Rattle.design_laws.proofs.Differing.{right_none}
 use Rattle.design_laws.proofs.Partition.{all_at}
 use Rattle.design_laws.proofs.Naming.{IsPort}
 use Rattle.design_laws.proofs.Readying.{port_words}
@@ -72,7 +72,7 @@ module _ {tree : PackageTree ℕ} {name : List ℕ} {parts : Parts} (flat : IsFl
       let x = chain_at tree parts e in
       let rules = λ (l : Connection ℕ). timing_findings tree threads x l ++ adaptor_findings tree threads all x l in
       let here : rules c.link ≡ [] = subst (λ o. on_carrier rules o ≡ []) (connection_is flat true chain e c) found in
-      let one = right_none (timing_findings tree threads x c.link) (adaptor_findings tree threads all x c.link) here in
+      let one = append_is_nil_right (timing_findings tree threads x c.link) (adaptor_findings tree threads all x c.link) here in
       let p = rate_of design (node_at parts.threads e.from.path).0 in
       let q = rate_of design (node_at parts.threads e.to.path).0 in
       let f = rated_fits c.link.name.at (end_name tree threads x.to) (adaptor_text c.link) (end_kind tree threads x.to) (end_rate all x.from)

@@ -2,13 +2,15 @@
 use Rattle.std.proofs.Common.{◌≡◌, ◌⊎◌, inl, inr, ℕ, suc, ◌+◌, ◌<◌, ◌≤◌, min, Bool, true, false, ◌&&◌, ◌||◌, nat_eq, nat_lt, List, [], ◌∷◌, length, reverse, get_or, Contains, AllPairs, Option, Some, None, refl, sym, ap, subst, ◌∙◌, arith}
 use Rattle.std.specs.List.{AllByRecursion}
 use Rattle.std.proofs.lemmas.Bool.{true≢false, cases_lt}
-use Rattle.std.proofs.lemmas.Bool.Decides.{nat_tests}
 use Rattle.std.proofs.lemmas.Option.{none-some, same_Some}
 use Rattle.pals_base.specs.declared.limits.TheConstants.{COMPONENTS, LINKS, PORTS, VARIABLES, STATES, PATH_BYTES}
 use Rattle.aadl_tree.specs.Declarations.{Implementation, PackageTree}
 use Rattle.aadl_names.specs.Resolving.{is_thread, ports_of}
-use Rattle.aadl_names.proofs.Elements.{is_here, none_here, first_or}
+use Rattle.aadl_names.proofs.Elements.{is_here}
 use Rattle.std.proofs.lemmas.List.Elements.{Contains-append_left, Contains-append_right}
+use Rattle.list_lemmas.proofs.Elements.{Contains-nil, Contains-cons_cases}
+use Rattle.list_lemmas.proofs.Booleans.{or_and_right}
+use Rattle.list_lemmas.proofs.Numbers.{nat_lt-self}
 use Rattle.aadl_uses.specs.Uses.{component_at}
 use Rattle.aadl_uses.specs.Threads.{Lists, MoreThan, IsThreadOf, IsThreadAt, PathBefore}
 use Rattle.aadl_uses.proofs.Counted.{more_threads}
@@ -33,7 +35,7 @@ told_more a b = by (cases_lt a b)
 
 -- ---- one of a list has a property, or none has
 some_in : {X : Type 0} (Q : X → Type 0) → ((x : X) → Q x ⊎ (Q x → ⊥)) → (xs : List X) → ((x : X) × Contains xs x × Q x) ⊎ ((x : X) → Contains xs x → Q x → ⊥)
-some_in Q tell [] = inr (λ x h q. none_here x h)
+some_in Q tell [] = inr (λ x h q. Contains-nil x h)
 some_in {X = X} Q tell (x ∷ xs) = by (tell x) (some_in Q tell xs)
   where
     neither : (Q x → ⊥) → ((y : X) → Contains xs y → Q y → ⊥) → (y : X) → (x ≡ y) ⊎ Contains xs y → Q y → ⊥
@@ -43,20 +45,13 @@ some_in {X = X} Q tell (x ∷ xs) = by (tell x) (some_in Q tell xs)
     by : Q x ⊎ (Q x → ⊥) → ((y : X) × Contains xs y × Q y) ⊎ ((y : X) → Contains xs y → Q y → ⊥) → ((y : X) × Contains (x ∷ xs) y × Q y) ⊎ ((y : X) → Contains (x ∷ xs) y → Q y → ⊥)
     by (inl q) rest = inl (x, Contains-append_left (x ∷ []) xs x (is_here x), q)
     by (inr never) (inl h) = inl (h.0, Contains-append_right (x ∷ []) xs h.0 h.1, h.2)
-    by (inr never) (inr none) = inr (λ y h q. neither never none y (first_or x xs y h) q)
+    by (inr never) (inr none) = inr (λ y h q. neither never none y (Contains-cons_cases x xs y h) q)
 
 -- ---- paths and targets are in order one way
-no_less : (n : ℕ) → nat_lt n n ≡ false
-no_less n = grind (arith, nat_tests)
-
-then_rest : (a b c : Bool) → a ≡ false → (a || (b && c)) ≡ true → c ≡ true
-then_rest true b c e f = absurd cc
-then_rest false true c e f = f
-then_rest false false c e f = absurd cc
 
 not_itself : (p : List ℕ) → path_before p p ≡ true → ⊥
 not_itself [] e = true≢false (sym e)
-not_itself (x ∷ p) e = not_itself p (then_rest (nat_lt x x) (nat_eq x x) (path_before p p) (no_less x) e)
+not_itself (x ∷ p) e = not_itself p (or_and_right (nat_lt x x) (nat_eq x x) (path_before p p) (nat_lt-self x) e)
 
 either_false : (a b c : Bool) → (a ≡ true → ⊥) → c ≡ false → (a || (b && c)) ≡ true → ⊥
 either_false true b c never e f = never refl
@@ -65,13 +60,13 @@ either_false false false c never e f = true≢false (sym f)
 
 other_target : (a b : Ends) → TargetBefore a b → OtherTarget a b
 other_target a b before e =
-    either_false (path_before (reverse b.to.path) (reverse b.to.path)) (same_path b.to.path b.to.path) (nat_lt b.to.port b.to.port) (not_itself (reverse b.to.path)) (no_less b.to.port)
+    either_false (path_before (reverse b.to.path) (reverse b.to.path)) (same_path b.to.path b.to.path) (nat_lt b.to.port b.to.port) (not_itself (reverse b.to.path)) (nat_lt-self b.to.port)
     (subst (λ (t : _). (path_before (reverse t.path) (reverse b.to.path) || (same_path t.path b.to.path && nat_lt t.port b.to.port)) ≡ true) e before)
 
 -- ---- no more of them than all
 in_list : {X : Type 0} (xs : List X) (x : X) → Contains xs x → Among xs x
-in_list [] x h = none_here x h
-in_list (y ∷ xs) x h = by (λ k. in_list xs x k) (first_or y xs x h)
+in_list [] x h = Contains-nil x h
+in_list (y ∷ xs) x h = by (λ k. in_list xs x k) (Contains-cons_cases y xs x h)
   where
     by : (Contains xs x → Among xs x) → (y ≡ x) ⊎ Contains xs x → Among (y ∷ xs) x
     by rest (inl e) = inl (sym e)

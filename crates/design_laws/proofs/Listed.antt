@@ -1,9 +1,7 @@
 -- There is one list of all that have a property, in an order that goes one way.
 use Rattle.std.proofs.Common.{◌≡◌, ◌⊎◌, inl, inr, ℕ, zero, suc, ◌<◌, List, [], ◌∷◌, length, get_or, AllPairs, All, Contains, sym, subst, arith}
+use Rattle.list_lemmas.proofs.Elements.{Contains-nil}
 use Rattle.aadl_uses.specs.Threads.{Lists}
-
-none_in : {X : Type 0} (x : X) → Contains [] x → ⊥
-none_in x h = let lt = h.1 in absurd (omega arith)
 
 module _ {X : Type 0} where
   in_head : (x : X) (xs : List X) → Contains (x ∷ xs) x
@@ -44,8 +42,8 @@ module _ {X : Type 0} (Before : X → X → Type 0) (one_way : (x y : X) → Bef
   same_lists : (xs ys : List X) → AllPairs Before xs → AllPairs Before ys
       → ((z : X) → Contains xs z → Contains ys z) → ((z : X) → Contains ys z → Contains xs z) → xs ≡ ys
   same_lists [] [] a b there back = λ i. []
-  same_lists [] (y ∷ ys) a b there back = absurd (none_in y (back y (in_head y ys)))
-  same_lists (x ∷ xs) [] a b there back = absurd (none_in x (there x (in_head x xs)))
+  same_lists [] (y ∷ ys) a b there back = absurd (Contains-nil y (back y (in_head y ys)))
+  same_lists (x ∷ xs) [] a b there back = absurd (Contains-nil x (there x (in_head x xs)))
   same_lists (x ∷ xs) (y ∷ ys) a b there back =
       let first = same_first x y xs ys a b (first_or_later y x ys (there x (in_head x xs))) (first_or_later x y xs (back y (in_head y ys))) in
       let rest =

@@ -2,18 +2,19 @@
 use Rattle.std.proofs.Common.{◌⊎◌, inl, inr, ◌∙◌, ℕ, Bool, true, false, cond, List, [], ◌∷◌, ◌++◌, map, flat_map, Contains}
 use Rattle.std.specs.Prelude.{◌≢◌}
 use Rattle.std.proofs.lemmas.List.Elements.{Contains-append_cases}
+use Rattle.list_lemmas.proofs.Elements.{Contains-nil}
 use Rattle.aadl_names.specs.declared.fault.FlatFault.{FlatFault}
 use Rattle.aadl_names.specs.declared.fault.FlatFault.TheVariants.{Unknown, Twice, WrongKind, Memory}
 use Rattle.aadl_names.specs.declared.entry.Entry.{Entry}
 use Rattle.aadl_names.specs.Findings.{wrong_if}
 use Rattle.aadl_names.specs.Twice.{again, twice}
-use Rattle.aadl_names.proofs.Elements.{only_here, none_here}
+use Rattle.aadl_names.proofs.Elements.{only_here}
 
 pub record AreNamed (fs : List FlatFault) : Type 0 where
   pub named : (f : FlatFault) → Contains fs f → f ≢ Memory
 
 pub none : AreNamed []
-none = record { named = λ f h e. none_here f h }
+none = record { named = λ f h e. Contains-nil f h }
 
 pub one : (f : FlatFault) → f ≢ Memory → AreNamed (f ∷ [])
 one f n = record { named = λ g h e. n (only_here f g h ∙ e) }

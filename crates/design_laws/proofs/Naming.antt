@@ -5,6 +5,7 @@ use Rattle.std.specs.List.{AllByRecursion, list_all}
 use Rattle.std.proofs.lemmas.Bool.{false≢true}
 use Rattle.std.proofs.lemmas.List.{map-append}
 use Rattle.std.proofs.lemmas.List.Elements.{recursion_from_All}
+use Rattle.list_lemmas.proofs.Elements.{AllByRecursion-weaker, AllByRecursion-append, AllByRecursion-map}
 use Rattle.pals_base.specs.declared.behaviour.Named.{Named}
 use Rattle.pals_base.specs.declared.behaviour.VarDecl.{VarDecl}
 use Rattle.pals_base.specs.declared.behaviour.StateDecl.{StateDecl}
@@ -23,10 +24,10 @@ use Rattle.component_checks.specs.Types.{is_in}
 use Rattle.model_violations.specs.declared.declared.Declared.{Declared}
 use Rattle.model_violations.specs.Values.{port_of, ins_in, outs_in, variables_in, variables_of, named_of, var_of}
 use Rattle.design_laws.specs.proof.Named.{IsNamed, Differ}
-use Rattle.design_laws.proofs.Placed.{Pairs, all_append, all_weaker, pairs_append, pairs_weaker}
+use Rattle.design_laws.proofs.Placed.{Pairs, pairs_append, pairs_weaker}
 use Rattle.design_laws.proofs.Differing.{same_turned, same_itself, Differs}
 use Rattle.design_laws.proofs.Apart.{pairs_all}
-use Rattle.design_laws.proofs.Partition.{pairs_from, all_mapped, all_unmapped, pairs_mapped, pairs_unmapped, pairs_first, pairs_second}
+use Rattle.design_laws.proofs.Partition.{pairs_from, all_unmapped, pairs_mapped, pairs_unmapped, pairs_first, pairs_second}
 use Rattle.design_laws.proofs.Partition.{pairs_across, all_kept, split, all_true}
 
 -- ---- names that differ
@@ -142,17 +143,17 @@ module _ (ports : List (Feature ℕ)) (annex : AnnexTree ℕ) where
       (pairs_second Differs (port_entries ports) (variable_entries annex) all) in
       let across = all_unmapped (λ e. AllByRecursion (Differs e) (variable_entries annex)) entry_port ports
       (pairs_across Differs (port_entries ports) (variable_entries annex) all) in
-      let cross = all_weaker (λ f. AllByRecursion (Differs (entry_port f)) (variable_entries annex))
+      let cross = AllByRecursion-weaker (λ f. AllByRecursion (Differs (entry_port f)) (variable_entries annex))
       (λ f. AllByRecursion (Apart (port_name f)) (map spelling (names.variables_of annex)))
-      (λ f h. all_mapped (Apart (port_name f)) spelling (names.variables_of annex)
+      (λ f h. AllByRecursion-map (Apart (port_name f)) spelling (names.variables_of annex)
       (all_unmapped (Differs (entry_port f)) entry_of (names.variables_of annex) h)) ports across in
       let halves = split (λ f g. Apart (port_name f) (port_name g)) (λ f g. turned (port_name f) (port_name g)) is_in ports of_ports in
       let fs = filter is_in ports ++ filter (λ f. not (is_in f)) ports in
       let P = λ (f : Feature ℕ). AllByRecursion (Apart (port_name f)) (map spelling (names.variables_of annex)) in
       pairs_append Apart (map port_name fs) (map spelling (names.variables_of annex)) (pairs_mapped Apart port_name fs halves)
       (pairs_mapped Apart spelling (names.variables_of annex) of_variables)
-      (all_mapped (λ n. AllByRecursion (Apart n) (map spelling (names.variables_of annex))) port_name fs
-      (all_append P (filter is_in ports) (filter (λ f. not (is_in f)) ports) (all_kept P is_in ports cross)
+      (AllByRecursion-map (λ n. AllByRecursion (Apart n) (map spelling (names.variables_of annex))) port_name fs
+      (AllByRecursion-append P (filter is_in ports) (filter (λ f. not (is_in f)) ports) (all_kept P is_in ports cross)
       (all_kept P (λ f. not (is_in f)) ports cross)))
 
   text_words : All IsPort ports → All IsNamed (names.variables_of annex) → AllByRecursion (λ n. is_word n ≡ true) text_names
@@ -160,10 +161,10 @@ module _ (ports : List (Feature ℕ)) (annex : AnnexTree ℕ) where
   text_words of_ports of_variables =
       let p = recursion_from_All IsPort ports of_ports in
       let fs = filter is_in ports ++ filter (λ f. not (is_in f)) ports in
-      all_append (λ n. is_word n ≡ true) (map port_name fs) (map spelling (names.variables_of annex))
-      (all_mapped (λ n. is_word n ≡ true) port_name fs (all_append IsPort (filter is_in ports) (filter (λ f. not (is_in f)) ports)
+      AllByRecursion-append (λ n. is_word n ≡ true) (map port_name fs) (map spelling (names.variables_of annex))
+      (AllByRecursion-map (λ n. is_word n ≡ true) port_name fs (AllByRecursion-append IsPort (filter is_in ports) (filter (λ f. not (is_in f)) ports)
       (all_kept IsPort is_in ports p) (all_kept IsPort (λ f. not (is_in f)) ports p)))
-      (all_mapped (λ n. is_word n ≡ true) spelling (names.variables_of annex) (recursion_from_All IsNamed (names.variables_of annex) of_variables))
+      (AllByRecursion-map (λ n. is_word n ≡ true) spelling (names.variables_of annex) (recursion_from_All IsNamed (names.variables_of annex) of_variables))
 
   pub values_apart : Differ (port_entries ports ++ variable_entries annex) → AreDistinct value_list
   values_apart differ = pairs_all (λ a b. a ≢ b) value_list (pairs_weaker Apart (λ a b. a ≢ b) other value_list
@@ -196,7 +197,7 @@ module _ (annex : AnnexTree ℕ) where
 
   pub states_words : All IsNamed (names.states_of annex) → IsTrue (list_all has_word (map declared (states_of annex)))
   states_words words =
-      all_true has_word (map declared (states_of annex)) (all_mapped (λ d. has_word d ≡ true) declared (states_of annex)
+      all_true has_word (map declared (states_of annex)) (AllByRecursion-map (λ d. has_word d ≡ true) declared (states_of annex)
       (all_unmapped (λ n. is_word n ≡ true) state_name (states_of annex)
       (subst (AllByRecursion (λ n. is_word n ≡ true)) (sym (same_states annex.states))
-      (all_mapped (λ n. is_word n ≡ true) spelling (names.states_of annex) (recursion_from_All IsNamed (names.states_of annex) words)))))
+      (AllByRecursion-map (λ n. is_word n ≡ true) spelling (names.states_of annex) (recursion_from_All IsNamed (names.states_of annex) words)))))

@@ -1,11 +1,12 @@
 -- Links and feeds stand in the order of their targets; feeds of one name have one type, and taps have different names.
-use Rattle.std.proofs.Common.{◌≡◌, ◌≢◌, ◌∙◌, inl, inr, ◌⊎◌, ℕ, ◌+◌, ◌*◌, ◌<◌, nat_lt, Bool, true, false, ◌&&◌, ◌||◌, List, [], ◌++◌}
+use Rattle.std.proofs.Common.{◌≡◌, ◌≢◌, ◌∙◌, inl, inr, ◌⊎◌, ℕ, ◌+◌, ◌*◌, ◌<◌, nat_lt, true, false, List, [], ◌++◌}
 use Rattle.aadl_tree.specs.Names.{same_name}
-use Rattle.std.proofs.Common.{reverse, Some, refl, sym, ap, subst, arith}
+use Rattle.std.proofs.Common.{reverse, Some, sym, ap, subst, arith}
 use Rattle.std.specs.Prelude.{slice_get}
-use Rattle.std.proofs.lemmas.Bool.{false≢true, cases_order}
-use Rattle.std.proofs.lemmas.Bool.Decides.{nat_tests}
+use Rattle.std.proofs.lemmas.Bool.{cases_order, ltb-true}
 use Rattle.std.proofs.lemmas.Option.{same_Some, slice_get_within}
+use Rattle.list_lemmas.proofs.Numbers.{ne_from_lt}
+use Rattle.list_lemmas.proofs.Booleans.{or_and_cases}
 use Rattle.pals_base.specs.declared.limits.TheConstants.{PORTS}
 use Rattle.pals_model.specs.declared.design.DesignParts.{DesignParts}
 use Rattle.pals_model.specs.Rules as model
@@ -40,17 +41,6 @@ place_by_port m n a b e lt = omega (arith, e, lt)
 
 one_place : (m n a b : ℕ) → a < PORTS → b < PORTS → PORTS * m + a ≡ PORTS * n + b → (m ≡ n) × (a ≡ b)
 one_place m n a b first second e = (omega (arith, first, second, e), omega (arith, first, second, e))
-
-either_by : (a b c : Bool) → (a || (b && c)) ≡ true → (a ≡ true) ⊎ ((b ≡ true) × (c ≡ true))
-either_by true b c e = inl refl
-either_by false true c e = inr (refl, e)
-either_by false false c e = absurd (false≢true e)
-
-pub less_from : (m n : ℕ) → nat_lt m n ≡ true → m < n
-less_from m n h = grind (arith, nat_tests)
-
-later_port : (m n : ℕ) → m < n → m ≡ n → ⊥
-later_port m n lt e = omega (arith, lt, e)
 
 module _ {tree : PackageTree ℕ} {name : List ℕ} {parts : Parts} (flat : IsFlat tree name parts) (design : DesignParts)
     (sits : Zipped (Sits tree parts.root) parts.threads design.components) where
@@ -106,7 +96,7 @@ module _ {tree : PackageTree ℕ} {name : List ℕ} {parts : Parts} (flat : IsFl
       → model.port_place (node_at parts.threads a.to.path).0 (port_number tree parts.root a.to) < model.port_place
       (node_at parts.threads b.to.path).0 (port_number tree parts.root b.to)
   targets_rise a b i j before =
-      elim (either_by (path_before (reverse a.to.path) (reverse b.to.path)) (same_path a.to.path b.to.path) (nat_lt a.to.port b.to.port) before)
+      elim (or_and_cases (path_before (reverse a.to.path) (reverse b.to.path)) (same_path a.to.path b.to.path) (nat_lt a.to.port b.to.port) before)
       as (λ _. model.port_place (node_at parts.threads a.to.path).0 (port_number tree parts.root a.to) < model.port_place
       (node_at parts.threads b.to.path).0 (port_number tree parts.root b.to)) [
         | inl earlier ↦ by_paths a.to b.to i j earlier
@@ -114,7 +104,7 @@ module _ {tree : PackageTree ℕ} {name : List ℕ} {parts : Parts} (flat : IsFl
             (let e = one_path a.to.path b.to.path same.0 in
             place_by_port (node_at parts.threads a.to.path).0 (node_at parts.threads b.to.path).0 (port_number tree parts.root a.to)
             (port_number tree parts.root b.to)
-            (ap (λ l. (node_at parts.threads l).0) e) (same_thread a.to b.to i j e (less_from a.to.port b.to.port same.1)))
+            (ap (λ l. (node_at parts.threads l).0) e) (same_thread a.to b.to i j e (ltb-true a.to.port b.to.port same.1)))
       ]
 
   -- ---- one place is one port
@@ -144,10 +134,10 @@ module _ {tree : PackageTree ℕ} {name : List ℕ} {parts : Parts} (flat : IsFl
 -- ---- what stands in the order of targets has different ones
 pub other_target : (a b : Ends) → TargetBefore a b → OtherTarget a b
 other_target a b before same =
-    elim (either_by (path_before (reverse a.to.path) (reverse b.to.path)) (same_path a.to.path b.to.path)
+    elim (or_and_cases (path_before (reverse a.to.path) (reverse b.to.path)) (same_path a.to.path b.to.path)
     (nat_lt a.to.port b.to.port) before) as (λ _. ⊥) [
       | inl earlier ↦ before_other a.to.path b.to.path earlier (ap (λ (p : Port). p.path) same)
-      | inr later ↦ later_port a.to.port b.to.port (less_from a.to.port b.to.port later.1) (ap (λ (p : Port). p.port) same)
+      | inr later ↦ ne_from_lt a.to.port b.to.port (ltb-true a.to.port b.to.port later.1) (ap (λ (p : Port). p.port) same)
     ]
 
 -- ---- the names of the root's ports

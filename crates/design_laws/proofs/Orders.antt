@@ -1,27 +1,16 @@
 -- Paths, and ends of chains, stand in their order one way alone.
-use Rattle.std.proofs.Common.{◌≡◌, ◌⊎◌, inl, inr, ℕ, ◌<◌, nat_eq, nat_lt, Bool, true, false, ◌&&◌, ◌||◌, List, [], ◌∷◌, reverse, subst, arith}
-use Rattle.std.proofs.lemmas.Bool.{false≢true}
-use Rattle.std.proofs.lemmas.Bool.Decides.{nat_tests}
+use Rattle.std.proofs.Common.{◌≡◌, ◌⊎◌, inl, inr, ℕ, nat_eq, nat_lt, Bool, true, false, ◌&&◌, List, [], ◌∷◌, reverse, subst, arith}
+use Rattle.std.proofs.lemmas.Bool.{false≢true, ltb-true, eqb-true}
+use Rattle.list_lemmas.proofs.Booleans.{or_and_cases}
 use Rattle.aadl_uses.specs.Threads.{path_before}
 use Rattle.aadl_uses.specs.Threads.{PathBefore}
 use Rattle.aadl_chains.specs.Links.{Ends, same_path, TargetBefore, PortBefore}
 
-either_by : (a b c : Bool) → (a || (b && c)) ≡ true → (a ≡ true) ⊎ ((b ≡ true) × (c ≡ true))
-either_by true b c e = inl e
-either_by false true c e = inr (λ i. true, e)
-either_by false false c e = absurd (false≢true e)
-
-less_from : (x y : ℕ) → nat_lt x y ≡ true → x < y
-less_from x y h = grind (arith, nat_tests)
-
-same_number : (x y : ℕ) → nat_eq x y ≡ true → x ≡ y
-same_number x y h = grind (arith, nat_tests)
-
 not_both_less : (x y : ℕ) → nat_lt x y ≡ true → nat_lt y x ≡ true → ⊥
-not_both_less x y h g = let less = less_from x y h in let more = less_from y x g in absurd (omega arith)
+not_both_less x y h g = let less = ltb-true x y h in let more = ltb-true y x g in absurd (omega arith)
 
 less_not_same : (x y : ℕ) → nat_lt x y ≡ true → nat_eq y x ≡ true → ⊥
-less_not_same x y h g = let less = less_from x y h in let same = same_number y x g in absurd (omega arith)
+less_not_same x y h g = let less = ltb-true x y h in let same = eqb-true y x g in absurd (omega arith)
 
 one_way_by : (x y : ℕ) (p q : List ℕ) → (path_before p q ≡ true → path_before q p ≡ true → ⊥)
     → (nat_lt x y ≡ true) ⊎ ((nat_eq x y ≡ true) × (path_before p q ≡ true))
@@ -36,7 +25,7 @@ one_way_paths [] [] e f = false≢true e
 one_way_paths [] (y ∷ q) e f = false≢true f
 one_way_paths (x ∷ p) [] e f = false≢true e
 one_way_paths (x ∷ p) (y ∷ q) e f =
-    one_way_by x y p q (one_way_paths p q) (either_by (nat_lt x y) (nat_eq x y) (path_before p q) e) (either_by (nat_lt y x) (nat_eq y x) (path_before q p) f)
+    one_way_by x y p q (one_way_paths p q) (or_and_cases (nat_lt x y) (nat_eq x y) (path_before p q) e) (or_and_cases (nat_lt y x) (nat_eq y x) (path_before q p) f)
 
 pub paths_one_way : (a b : List ℕ) → PathBefore a b → PathBefore b a → ⊥
 paths_one_way a b h g = one_way_paths (reverse a) (reverse b) h g
@@ -48,7 +37,7 @@ one_path [] (y ∷ q) e = absurd (false≢true e)
 one_path (x ∷ p) [] e = absurd (false≢true e)
 one_path (x ∷ p) (y ∷ q) e =
     let both = parts (nat_eq x y) (same_path p q) e in
-    let first = same_number x y both.0 in
+    let first = eqb-true x y both.0 in
     let rest = one_path p q both.1 in
     λ i. first i ∷ rest i
   where
@@ -73,8 +62,8 @@ targets_by p q m n (inr same) (inr other) = not_both_less m n same.1 other.1
 pub targets_one_way : (a b : Ends) → TargetBefore a b → TargetBefore b a → ⊥
 targets_one_way a b h g =
     targets_by a.to.path b.to.path a.to.port b.to.port
-    (either_by (path_before (reverse a.to.path) (reverse b.to.path)) (same_path a.to.path b.to.path) (nat_lt a.to.port b.to.port) h)
-    (either_by (path_before (reverse b.to.path) (reverse a.to.path)) (same_path b.to.path a.to.path) (nat_lt b.to.port a.to.port) g)
+    (or_and_cases (path_before (reverse a.to.path) (reverse b.to.path)) (same_path a.to.path b.to.path) (nat_lt a.to.port b.to.port) h)
+    (or_and_cases (path_before (reverse b.to.path) (reverse a.to.path)) (same_path b.to.path a.to.path) (nat_lt b.to.port a.to.port) g)
 
 pub ports_one_way : (a b : Ends) → PortBefore a b → PortBefore b a → ⊥
 ports_one_way a b h g = not_both_less a.to.port b.to.port h g

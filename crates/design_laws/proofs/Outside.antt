@@ -1,6 +1,7 @@
 -- The ports that lead out, in an order of declarations.
 use Rattle.std.proofs.Common.{◌≡◌, ◌⊎◌, ◌↔◌, inl, inr, ℕ, zero, suc, ◌+◌, ◌-◌, ◌≤◌, Bool, true, false, nat_eq, List, [], length, slice_get, Contains, Option, Some, None, refl, subst, arith}
 use Rattle.std.specs.List.{list_any}
+use Rattle.list_lemmas.proofs.Places.{slice_get-some}
 use Rattle.aadl_tree.specs.declared.declarations.Direction.{Direction}
 use Rattle.aadl_tree.specs.Declarations.{PackageTree}
 use Rattle.aadl_uses.specs.proof.Uses.{containment}
@@ -15,7 +16,6 @@ use Rattle.aadl_chains.specs.proof.Inside.{IsInside}
 use Rattle.aadl_chains.specs.proof.Outside.{opposite, led_by, IsLed, AreLedIfUsed, IsOutside}
 use Rattle.aadl_chains.proofs.Leading.{FrontLed, none_yet, one_led, none_led, one_more, all_led}
 use Rattle.aadl_chains.proofs.Falling.{BackLed, no_back, back_next, back_all}
-use Rattle.design_laws.proofs.Inside.{within}
 
 pub is_used : (tree : PackageTree ℕ) (root : ℕ) (used : List ℕ) → ((n : ℕ) → Contains used n ↔ IsInUse tree root n) → (n : ℕ) → IsInUse tree root n ⊎ (IsInUse tree root n → ⊥)
 is_used tree root used tells n = by (list_any (nat_eq n) used) refl
@@ -47,7 +47,7 @@ module _ (tree : PackageTree ℕ) (root : ℕ) (d : Direction) (ins : List PortA
   fronts : (n i : ℕ) (old : List PortAt) → IsInUse tree root n → i ≤ length (wires_at tree n) → Front n i old
   fronts n zero old used most = record { new = old; are = none_yet tree root d n old }
   fronts n (suc i) old used most =
-      let w = within (wires_at tree n) i (omega arith) in
+      let w = slice_get-some (wires_at tree n) i (omega arith) in
       let e : i + 1 ≡ suc i = omega arith in
       subst (λ (k : ℕ). Front n k old) e (front_step n i old used (fronts n i old used (omega arith)) w.0 w.1)
 
@@ -77,7 +77,7 @@ module _ (tree : PackageTree ℕ) (root : ℕ) (d : Direction) (ins : List PortA
     known (suc at) most =
         let k = length keys - (at + 1) in
         let place : length keys - (at + 1) + at + 1 ≡ length keys = omega arith in
-        let n = within keys (length keys - (at + 1)) (omega arith) in
+        let n = slice_get-some keys (length keys - (at + 1)) (omega arith) in
         let e : at + 1 ≡ suc at = omega arith in
         subst Known e (step at (length keys - (at + 1)) place (known at (omega arith)) n.0 n.1)
 

@@ -5,8 +5,9 @@ use Rattle.std.specs.Prelude.{filter, slice_get, find}
 use Rattle.std.specs.List.{AllByRecursion, list_all, enumerate_from}
 use Rattle.std.proofs.lemmas.List.Elements.{recursion_from_All}
 use Rattle.std.proofs.lemmas.Option.{same_Some}
-use Rattle.design_laws.proofs.Tests.{both}
-use Rattle.design_laws.proofs.Placed.{Pairs, all_append}
+use Rattle.std.proofs.lemmas.Bool.{and_from}
+use Rattle.list_lemmas.proofs.Elements.{AllByRecursion-map, found_either, AllByRecursion-append}
+use Rattle.design_laws.proofs.Placed.{Pairs}
 
 -- ---- from the words of std
 pub pairs_from : {X : Type 0} (R : X → X → Type 0) (xs : List X) → AllPairs R xs → Pairs R xs
@@ -18,9 +19,6 @@ pairs_from R (x ∷ xs) h = (
 )
 
 -- ---- what is made of a list
-pub all_mapped : {X Y : Type 0} (P : Y → Type 0) (f : X → Y) (xs : List X) → AllByRecursion (λ x. P (f x)) xs → AllByRecursion P (map f xs)
-all_mapped P f [] h = tt
-all_mapped P f (x ∷ xs) h = (h.0, all_mapped P f xs h.1)
 
 pub all_unmapped : {X Y : Type 0} (P : Y → Type 0) (f : X → Y) (xs : List X) → AllByRecursion P (map f xs) → AllByRecursion (λ x. P (f x)) xs
 all_unmapped P f [] h = tt
@@ -28,7 +26,7 @@ all_unmapped P f (x ∷ xs) h = (h.0, all_unmapped P f xs h.1)
 
 pub pairs_mapped : {X Y : Type 0} (R : Y → Y → Type 0) (f : X → Y) (xs : List X) → Pairs (λ x y. R (f x) (f y)) xs → Pairs R (map f xs)
 pairs_mapped R f [] h = tt
-pairs_mapped R f (x ∷ xs) h = (all_mapped (R (f x)) f xs h.0, pairs_mapped R f xs h.1)
+pairs_mapped R f (x ∷ xs) h = (AllByRecursion-map (R (f x)) f xs h.0, pairs_mapped R f xs h.1)
 
 pub pairs_unmapped : {X Y : Type 0} (R : Y → Y → Type 0) (f : X → Y) (xs : List X) → Pairs R (map f xs) → Pairs (λ x y. R (f x) (f y)) xs
 pairs_unmapped R f [] h = tt
@@ -68,14 +66,14 @@ module _ {X : Type 0} (R : X → X → Type 0) (turned : (x y : X) → R x y →
   put_between : (x : X) (xs ys : List X) → AllByRecursion (R x) xs → AllByRecursion (R x) ys → Pairs R (xs ++ ys) → Pairs R (xs ++ x ∷ ys)
   put_between x [] ys a b h = (b, h)
   put_between x (z ∷ xs) ys a b h = (
-    all_append (R z) xs (x ∷ ys) (all_first (R z) xs ys h.0)
+    AllByRecursion-append (R z) xs (x ∷ ys) (all_first (R z) xs ys h.0)
         (turned x z a.0, all_second (R z) xs ys h.0),
     put_between x xs ys a.1 b h.1,
   )
 
   split_by : (b : Bool) (x : X) (xs ys : List X) → AllByRecursion (R x) xs → AllByRecursion (R x) ys → Pairs R (xs ++ ys)
       → Pairs R (cond b (x ∷ xs) xs ++ cond (not b) (x ∷ ys) ys)
-  split_by true x xs ys a b h = (all_append (R x) xs ys a b, h)
+  split_by true x xs ys a b h = (AllByRecursion-append (R x) xs ys a b, h)
   split_by false x xs ys a b h = put_between x xs ys a b h
 
   pub split : (p : X → Bool) (xs : List X) → Pairs R xs → Pairs R (filter p xs ++ filter (λ x. not (p x)) xs)
@@ -111,14 +109,11 @@ pairs_at R (z ∷ xs) zero (suc j) x y h lt first second = subst (λ k. R k y) (
 pairs_at R (z ∷ xs) (suc i) (suc j) x y h lt first second = pairs_at R xs i j x y h.1 (omega arith) first second
 
 -- ---- tests
-found_by : {X : Type 0} (P : X → Type 0) (b : Bool) (y x : X) (rest : Option X) → P y → (rest ≡ Some x → P x) → cond b (Some y) rest ≡ Some x → P x
-found_by P true y x rest here later e = subst P (same_Some y x e) here
-found_by P false y x rest here later e = later e
 
 pub found_one : {X : Type 0} (P : X → Type 0) (p : X → Bool) (xs : List X) (x : X) → AllByRecursion P xs → find p xs ≡ Some x → P x
 found_one P p [] x h is = absurd (cc is)
-found_one P p (y ∷ xs) x h is = found_by P (p y) y x (find p xs) h.0 (found_one P p xs x h.1) is
+found_one P p (y ∷ xs) x h is = found_either P (p y) y x (find p xs) h.0 (found_one P p xs x h.1) is
 
 pub all_true : {X : Type 0} (p : X → Bool) (xs : List X) → AllByRecursion (λ x. p x ≡ true) xs → list_all p xs ≡ true
 all_true p [] h = refl
-all_true p (x ∷ xs) h = both (p x) (list_all p xs) h.0 (all_true p xs h.1)
+all_true p (x ∷ xs) h = and_from (p x) (list_all p xs) h.0 (all_true p xs h.1)

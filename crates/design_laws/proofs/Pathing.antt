@@ -5,11 +5,12 @@ use Rattle.std.proofs.Common.{◌∷◌, ◌++◌, map, length, reverse, codes, 
 use Rattle.std.specs.Prelude.{slice_get, IsTrue}
 use Rattle.std.specs.List.{AllByRecursion, list_all, slice_split, onto_first}
 use Rattle.std.specs.Option.{option_and_then}
-use Rattle.std.proofs.lemmas.Bool.{false≢true, cases_order}
+use Rattle.std.proofs.lemmas.Bool.{false≢true, cases_order, and_parts}
 use Rattle.std.proofs.lemmas.Bool.Decides.{nat_tests}
 use Rattle.std.proofs.lemmas.List.{reverse-append, reverse-reverse}
 use Rattle.std.proofs.lemmas.List.Elements.{recursion_from_All}
 use Rattle.std.proofs.lemmas.Option.{same_Some, option_and_then_some}
+use Rattle.list_lemmas.proofs.Elements.{AllByRecursion-append}
 use Rattle.pals_base.specs.declared.limits.TheConstants.{NAME_BYTES}
 use Rattle.pals_base.specs.Names.{is_word_byte, is_led_by_letter, is_word, is_dot, is_path}
 use Rattle.aadl_tree.specs.Declarations.{Subcomponent, Connection, Implementation, PackageTree}
@@ -20,9 +21,8 @@ use Rattle.aadl_uses.specs.Uses.{sub_at, below, standing}
 use Rattle.aadl_uses.specs.Threads.{path_before}
 use Rattle.aadl_uses.specs.ThreadPlaces.{name_at, names_along, dotted_names, spelled_path}
 use Rattle.design_laws.specs.proof.Named.{IsNamed, HasWords, NamesDiffer}
-use Rattle.design_laws.proofs.Placed.{Pairs, all_append}
+use Rattle.design_laws.proofs.Placed.{Pairs}
 use Rattle.design_laws.proofs.Differing.{one_name, Differs}
-use Rattle.design_laws.proofs.Tests.{parts}
 use Rattle.design_laws.proofs.Partition.{pairs_at, pairs_from, pairs_first, pairs_second, pairs_unmapped, all_at, all_true}
 use Rattle.design_laws.proofs.Clean.{declared_at}
 
@@ -36,10 +36,10 @@ NoDot c = is_dot c ≡ false
 
 no_dots : (cs : List ℕ) → list_all is_word_byte cs ≡ true → AllByRecursion NoDot cs
 no_dots [] all = tt
-no_dots (c ∷ cs) all = let h = parts (is_word_byte c) (list_all is_word_byte cs) all in (no_dot_by c (nat_eq c 46) refl h.0, no_dots cs h.1)
+no_dots (c ∷ cs) all = let h = and_parts (is_word_byte c) (list_all is_word_byte cs) all in (no_dot_by c (nat_eq c 46) refl h.0, no_dots cs h.1)
 
 pub word_no_dots : (name : List ℕ) → is_word name ≡ true → AllByRecursion NoDot name
-word_no_dots name is = no_dots name (parts (nat_le (length name) NAME_BYTES && is_led_by_letter name) (list_all is_word_byte name) is).1
+word_no_dots name is = no_dots name (and_parts (nat_le (length name) NAME_BYTES && is_led_by_letter name) (list_all is_word_byte name) is).1
 
 -- ---- what is joined by dots is split at them again
 split_word : (w : List ℕ) → AllByRecursion NoDot w → slice_split is_dot w ≡ w ∷ []
@@ -64,7 +64,7 @@ split_names n (m ∷ ns) all =
 all_turned : {X : Type 0} (P : X → Type 0) (xs : List X) → AllByRecursion P xs → AllByRecursion P (reverse xs)
 all_turned P [] all = tt
 all_turned P (x ∷ xs) all = subst (AllByRecursion P) (sym (reverse-append (x ∷ []) xs))
-    (all_append P (reverse xs) (x ∷ []) (all_turned P xs all.1) (all.0, tt))
+    (AllByRecursion-append P (reverse xs) (x ∷ []) (all_turned P xs all.1) (all.0, tt))
 
 module _ (tree : PackageTree ℕ) (words : HasWords tree) (root : ℕ) where
   sub_by : (n s : ℕ) (o : Option (Implementation ℕ)) (sub : Subcomponent ℕ) → implementation_at tree n ≡ o

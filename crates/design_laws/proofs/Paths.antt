@@ -1,12 +1,12 @@
 -- Paths are listed declaration by declaration, in such an order.
 use Rattle.std.proofs.Common.{◌≡◌, ◌⊎◌, inl, inr, ℕ, zero, suc, ◌+◌, ◌<◌, ◌≤◌, Bool, false, List, ◌∷◌, ◌++◌, length, map, Option, Some, None, slice_get, get_or, refl, ap, subst, sym, ◌∙◌, arith}
+use Rattle.std.proofs.lemmas.Bool.{cases_lt}
+use Rattle.list_lemmas.proofs.Places.{slice_get-from_Contains}
 use Rattle.aadl_uses.specs.proof.Graphs.{Graph, targets_in, below_in, IsWithin}
 use Rattle.aadl_uses.specs.proof.Orders.{IsSequence}
 use Rattle.aadl_uses.specs.proof.Counts.{AreListed, own_paths}
 use Rattle.aadl_uses.specs.Threads.{path_before}
 use Rattle.aadl_uses.proofs.Counting.{Begun, own_listed, listed_more, listed_same, all_listed}
-use Rattle.aadl_uses.proofs.Searches.{at_contains}
-use Rattle.aadl_uses.proofs.Suspected.{one_of_two}
 use Rattle.design_laws.proofs.Containing.{IsAcyclic, HasPaths}
 use Rattle.design_laws.proofs.ExistingOrdering.{order}
 
@@ -48,10 +48,10 @@ known_more g marks keys q k before j n lt (inr ge) e =
 
 known : (g : Graph) (marks : List Bool) (keys : List ℕ) → IsSequence g keys → (k : ℕ) → KnownBefore g marks keys k
 known g marks keys q zero = λ j n lt e. absurd (omega arith)
-known g marks keys q (suc k) = λ j n lt e. known_more g marks keys q k (known g marks keys q k) j n lt (one_of_two j k) e
+known g marks keys q (suc k) = λ j n lt e. known_more g marks keys q k (known g marks keys q k) j n lt (cases_lt j k) e
 
 pub paths : (g : Graph) (marks : List Bool) (n : ℕ) → IsWithin g → IsAcyclic g → n < length g → HasPaths g marks n
 paths g marks n within acyclic lt =
     let o = order g within acyclic in
     let h = o.1.all n lt in
-    known g marks o.0 o.1.sequence (suc h.0) h.0 n (omega arith) (at_contains o.0 n h)
+    known g marks o.0 o.1.sequence (suc h.0) h.0 n (omega arith) (slice_get-from_Contains o.0 n h)

@@ -4,6 +4,7 @@ use Rattle.std.specs.Prelude.{flat_map}
 use Rattle.std.specs.List.{AllByRecursion}
 use Rattle.std.proofs.lemmas.List.Concat.{flat_map-append}
 use Rattle.std.proofs.lemmas.List.Elements.{Contains-append_left, Contains-append_right}
+use Rattle.list_lemmas.proofs.Elements.{AllByRecursion-append, AllByRecursion-weaker}
 use Rattle.aadl_tree.specs.declared.mark.Mark.{Mark}
 use Rattle.aadl_tree.specs.declared.mark.Mark.TheVariants as k
 use Rattle.aadl_tree.specs.Parts.{Part, Section, section_mark, empty_section, plain, may, behind, parts_if}
@@ -17,22 +18,14 @@ abbrev pub Pairs : {X : Type 0} → (X → X → Type 0) → List X → Type 0
 Pairs R [] = Unit {0}
 Pairs R (x ∷ xs) = AllByRecursion (R x) xs × Pairs R xs
 
-pub all_append : {X : Type 0} (P : X → Type 0) (xs ys : List X) → AllByRecursion P xs → AllByRecursion P ys → AllByRecursion P (xs ++ ys)
-all_append P [] ys a b = b
-all_append P (x ∷ xs) ys a b = (a.0, all_append P xs ys a.1 b)
-
-pub all_weaker : {X : Type 0} (P Q : X → Type 0) → ((x : X) → P x → Q x) → (xs : List X) → AllByRecursion P xs → AllByRecursion Q xs
-all_weaker P Q f [] a = tt
-all_weaker P Q f (x ∷ xs) a = (f x a.0, all_weaker P Q f xs a.1)
-
 pub pairs_append : {X : Type 0} (R : X → X → Type 0) (xs ys : List X) → Pairs R xs → Pairs R ys
     → AllByRecursion (λ x. AllByRecursion (R x) ys) xs → Pairs R (xs ++ ys)
 pairs_append R [] ys a b c = b
-pairs_append R (x ∷ xs) ys a b c = (all_append (R x) xs ys a.0 c.0, pairs_append R xs ys a.1 b c.1)
+pairs_append R (x ∷ xs) ys a b c = (AllByRecursion-append (R x) xs ys a.0 c.0, pairs_append R xs ys a.1 b c.1)
 
 pub pairs_weaker : {X : Type 0} (R S : X → X → Type 0) → ((x y : X) → R x y → S x y) → (xs : List X) → Pairs R xs → Pairs S xs
 pairs_weaker R S f [] a = tt
-pairs_weaker R S f (x ∷ xs) a = (all_weaker (R x) (S x) (f x) xs a.0, pairs_weaker R S f xs a.1)
+pairs_weaker R S f (x ∷ xs) a = (AllByRecursion-weaker (R x) (S x) (f x) xs a.0, pairs_weaker R S f xs a.1)
 
 -- ---- parts along which places rise
 pub record Rise (parts : List (Part ℕ)) : Type 0 where
@@ -88,10 +81,10 @@ pub record Placed (parts : List (Part ℕ)) (xs : List (Identifier ℕ)) : Type 
   pub inside : AllByRecursion (IsIn parts) xs
 
 pub placed_front : (a b : List (Part ℕ)) (xs : List (Identifier ℕ)) → Placed a xs → Placed (a ++ b) xs
-placed_front a b xs h = record { rising = h.rising; inside = all_weaker (IsIn a) (IsIn (a ++ b)) (λ x. in_front a b x.at) xs h.inside }
+placed_front a b xs h = record { rising = h.rising; inside = AllByRecursion-weaker (IsIn a) (IsIn (a ++ b)) (λ x. in_front a b x.at) xs h.inside }
 
 pub placed_back : (a b : List (Part ℕ)) (xs : List (Identifier ℕ)) → Placed b xs → Placed (a ++ b) xs
-placed_back a b xs h = record { rising = h.rising; inside = all_weaker (IsIn b) (IsIn (a ++ b)) (λ x. in_back a b x.at) xs h.inside }
+placed_back a b xs h = record { rising = h.rising; inside = AllByRecursion-weaker (IsIn b) (IsIn (a ++ b)) (λ x. in_back a b x.at) xs h.inside }
 
 pub placed_tail : (a : Part ℕ) (b : List (Part ℕ)) (xs : List (Identifier ℕ)) → Placed b xs → Placed (a ∷ b) xs
 placed_tail a b xs h = placed_back (a ∷ []) b xs h
@@ -103,11 +96,11 @@ placed_section s (p ∷ ps) xs h = placed_tail (plain (section_mark s)) (p ∷ p
 pub placed_append : (a b : List (Part ℕ)) (xs ys : List (Identifier ℕ)) → Rise (a ++ b) → Placed a xs → Placed b ys → Placed (a ++ b) (xs ++ ys)
 placed_append a b xs ys r g h = record {
   rising = pairs_append Before xs ys g.rising h.rising
-      (all_weaker (IsIn a) (λ x. AllByRecursion (Before x) ys)
-      (λ x first. all_weaker (IsIn b) (Before x) (λ y second. r.each x.at y.at
+      (AllByRecursion-weaker (IsIn a) (λ x. AllByRecursion (Before x) ys)
+      (λ x first. AllByRecursion-weaker (IsIn b) (Before x) (λ y second. r.each x.at y.at
       (record { front = a; back = b; split = refl; first = first; second = second })) ys h.inside)
       xs g.inside);
-  inside = all_append (IsIn (a ++ b)) xs ys (placed_front a b xs g).inside (placed_back a b ys h).inside;
+  inside = AllByRecursion-append (IsIn (a ++ b)) xs ys (placed_front a b xs g).inside (placed_back a b ys h).inside;
 }
 
 pub placed_none : Placed [] []

@@ -1,20 +1,20 @@
 -- The numbers of ports among those that go as they do, and of threads.
 use Rattle.std.proofs.Common.{◌≡◌, ◌∙◌, inl, inr, ◌⊎◌, ℕ, zero, suc, ◌+◌, ◌<◌, nat_eq, nat_lt, Bool, true, false, cond, ◌&&◌, ◌||◌, List}
-use Rattle.std.proofs.Common.{[], ◌∷◌, length, reverse, take, Option, Some, AllPairs, Contains, get_or, refl, sym, ap, subst, arith}
+use Rattle.std.proofs.Common.{[], ◌∷◌, length, reverse, take, Option, Some, AllPairs, Contains, refl, sym, ap, subst, arith}
 use Rattle.std.specs.Prelude.{slice_get, filter, count_by}
 use Rattle.std.specs.List.{position_from}
 use Rattle.std.specs.Option.{option_map_or}
-use Rattle.std.proofs.lemmas.Bool.{false≢true, cases_order}
+use Rattle.std.proofs.lemmas.Bool.{false≢true, cases_order, eqb-true, and_from, and_parts}
 use Rattle.std.proofs.lemmas.Bool.Decides.{nat_tests}
 use Rattle.std.proofs.lemmas.List.Sums.{length-filter}
-use Rattle.std.proofs.lemmas.Option.{same_Some, slice_get-get_or, slice_get_within, get_or_from_slice_get}
+use Rattle.std.proofs.lemmas.Option.{same_Some, slice_get-get_or}
+use Rattle.list_lemmas.proofs.Numbers.{nat_eq-self}
+use Rattle.list_lemmas.proofs.Pairs.{AllPairs-slice_get}
 use Rattle.aadl_uses.specs.Threads.{PathBefore}
 use Rattle.aadl_uses.specs.Threads.{path_before}
 use Rattle.aadl_chains.specs.Links.{same_path}
 use Rattle.aadl_instance.specs.Instances.{node_at}
 use Rattle.design_laws.proofs.Ruling.{first_is}
-use Rattle.design_laws.proofs.Tests.{both, parts}
-use Rattle.design_laws.proofs.Clean.{same_number}
 
 -- ---- what passes a test, by the number of those before it
 module _ {X : Type 0} (p : X → Bool) where
@@ -64,16 +64,13 @@ module _ {X : Type 0} (p : X → Bool) where
 -- ---- paths compare
 path_is_itself : (p : List ℕ) → same_path p p ≡ true
 path_is_itself [] = refl
-path_is_itself (x ∷ p) = both (nat_eq x x) (same_path p p) (same_number x) (path_is_itself p)
-
-eq_from : (m n : ℕ) → nat_eq m n ≡ true → m ≡ n
-eq_from m n h = grind (arith, nat_tests)
+path_is_itself (x ∷ p) = and_from (nat_eq x x) (same_path p p) (nat_eq-self x) (path_is_itself p)
 
 pub one_path : (p q : List ℕ) → same_path p q ≡ true → p ≡ q
 one_path [] [] e = refl
 one_path [] (y ∷ q) e = absurd (false≢true e)
 one_path (x ∷ p) [] e = absurd (false≢true e)
-one_path (x ∷ p) (y ∷ q) e = let h = parts (nat_eq x y) (same_path p q) e in ap (λ k. k ∷ p) (eq_from x y h.0) ∙ ap (λ l. y ∷ l) (one_path p q h.1)
+one_path (x ∷ p) (y ∷ q) e = let h = and_parts (nat_eq x y) (same_path p q) e in ap (λ k. k ∷ p) (eqb-true x y h.0) ∙ ap (λ l. y ∷ l) (one_path p q h.1)
 
 -- one stands before the other, or the other before the one, but not both
 not_both_by : (x y : ℕ) (a b : Bool) → (a ≡ true → b ≡ true → ⊥) → (nat_lt x y || (nat_eq x y && a)) ≡ true
@@ -124,18 +121,6 @@ is_node threads path h =
       is = f.is ∙ ap Some (sym (one_path path f.one f.passes));
     }
 
--- threads are numbered in the order of their paths
-pairs_at : {X : Type 0} (R : X → X → Type 0) (xs : List X) (i j : ℕ) (x y : X) → AllPairs R xs → i < j → slice_get xs i ≡ Some x
-    → slice_get xs j ≡ Some y → R x y
-pairs_at R xs i j x y h lt first second = subst (λ z. R z y) (read xs i x first y)
-    (subst (λ z. R (get_or xs i y) z) (read xs j y second y) (h i j y lt (within xs j y second)))
-  where
-    within : {X : Type 0} (xs : List X) (i : ℕ) (x : X) → slice_get xs i ≡ Some x → i < length xs
-    within xs i x is = slice_get_within xs i x is
-
-    read : {X : Type 0} (xs : List X) (i : ℕ) (x : X) → slice_get xs i ≡ Some x → (d : X) → get_or xs i d ≡ x
-    read xs i x is d = get_or_from_slice_get xs i x d is
-
 module _ (threads : List (List ℕ)) (sorted : AllPairs PathBefore threads) where
   number_by : (p q : List ℕ) (m n : ℕ) → (m ≡ n) ⊎ ((m < n) ⊎ (n < m)) → slice_get threads m ≡ Some p → slice_get threads n ≡ Some q
       → path_before (reverse p) (reverse q) ≡ true → m < n
@@ -145,7 +130,7 @@ module _ (threads : List (List ℕ)) (sorted : AllPairs PathBefore threads) wher
       (subst (λ l. path_before (reverse p) (reverse l) ≡ true) (sym same) before)))
   number_by p q m n (inr (inl lt)) first second before = lt
   number_by p q m n (inr (inr lt)) first second before = absurd (not_both (reverse p) (reverse q) before
-      (pairs_at PathBefore threads n m q p sorted lt second first))
+      (AllPairs-slice_get PathBefore threads n m q p sorted lt second first))
 
   pub numbers_rise : (p q : List ℕ) → (a : IsNode threads p) (b : IsNode threads q) → path_before (reverse p) (reverse q) ≡ true → a.place < b.place
   numbers_rise p q a b before = number_by p q a.place b.place (cases_order a.place b.place) a.is b.is before

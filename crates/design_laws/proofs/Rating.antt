@@ -8,6 +8,10 @@ use Rattle.std.proofs.lemmas.Bool.{false≢true}
 use Rattle.std.proofs.lemmas.Bool.Decides.{nat_tests}
 use Rattle.std.proofs.lemmas.List.{reverse-reverse}
 use Rattle.std.proofs.lemmas.Option.{option_and_then_some}
+use Rattle.list_lemmas.proofs.Elements.{AllByRecursion-append}
+use Rattle.list_lemmas.proofs.Places.{flat_map-nil_at}
+use Rattle.list_lemmas.proofs.Lists.{append_is_nil_right, append_is_nil_left}
+use Rattle.list_lemmas.proofs.Numbers.{nat_eq-swapped, nat_eq-self}
 use Rattle.pals_base.specs.declared.values.Gamma.{Gamma}
 use Rattle.pals_base.specs.Bound.{least_period}
 use Rattle.pals_model.specs.Rules.{IsGamma}
@@ -32,9 +36,6 @@ use Rattle.aadl_uses.specs.ThreadPlaces.{sub_in, subs_along, thread_at}
 use Rattle.aadl_instance.specs.Flat.{Parts, IsFlat}
 use Rattle.annex_resolve.specs.Scopes.{found_if}
 use Rattle.design_laws.proofs.Tests.{is_right, not_wrong}
-use Rattle.design_laws.proofs.Placed.{all_append}
-use Rattle.design_laws.proofs.Differing.{left_none, right_none}
-use Rattle.design_laws.proofs.Apart.{none_here}
 use Rattle.component_checks.specs.Numbers.{within_hour, range_within, not_zero, in_order, gamma_by}
 use Rattle.component_checks.specs.Numbers as numbers
 use Rattle.component_checks.specs.Rates.{bound_findings, period_findings}
@@ -53,19 +54,17 @@ use Rattle.model_violations.specs.Use.{IsUse}
 use Rattle.model_violations.specs.Declarations.{sub_findings}
 use Rattle.model_violations.specs.Declarations as uses
 use Rattle.model_violations.specs.Violations.{shown_by, used_findings, carriers_of}
-use Rattle.design_laws.proofs.Clean.{same_number, names_clean, declared_at, implementation_clean, type_clean, is_used}
+use Rattle.design_laws.proofs.Clean.{names_clean, declared_at, implementation_clean, type_clean, is_used}
 use Rattle.design_laws.proofs.Ruling.{first_is}
 use Rattle.design_laws.proofs.Timing.{Among, period_at_sub, period_at, skew_at, execution_at, network_at, IsGood, LooksGood, looks_good}
 use Rattle.design_laws.proofs.Timing.{first_good, first_behind, IsTime, period_good, skew_good, execution_good, network_good}
 use Rattle.design_laws.proofs.Stating.{declaration_clean}
 
 -- ---- numbers compare as equal both ways
-eq_turned : (m n : ℕ) → nat_eq m n ≡ nat_eq n m
-eq_turned m n = grind (arith, nat_tests)
 
 flag_by : (tree : PackageTree ℕ) (o : Option ℕ) (m : ℕ) → is_same_number o m ≡ is_number m o
 flag_by tree None m = refl
-flag_by tree (Some k) m = eq_turned k m
+flag_by tree (Some k) m = nat_eq-swapped k m
 
 root_flag : (tree : PackageTree ℕ) (o : Option (Implementation ℕ)) (m : ℕ)
     → is_same_number (naming.root_type tree o) m ≡ is_number m (option_and_then (type_number tree) o)
@@ -86,15 +85,15 @@ parts_clean tree root n x none is =
     let c = flat_map (connection_faults tree x) x.connections in
     let l = list_faults (holders.Declaration x.category (nat_eq root n)) x.properties in
     let v = flat_map variables_faults x.annexes in
-    let outer = left_none (outer_faults tree (nat_eq root n) x) (annex_faults tree x (behaviours x.annexes))
+    let outer = append_is_nil_left (outer_faults tree (nat_eq root n) x) (annex_faults tree x (behaviours x.annexes))
     (declaration_clean tree root n (implementation x) none is) in
-    let fourth = left_none (h ++ s ++ c ++ l) v outer in
-    let third = left_none (h ++ s ++ c) l fourth in
+    let fourth = append_is_nil_left (h ++ s ++ c ++ l) v outer in
+    let third = append_is_nil_left (h ++ s ++ c) l fourth in
     record {
-      subs = right_none h s (left_none (h ++ s) c third);
-      connections = right_none (h ++ s) c third;
-      properties = subst (λ b. list_faults (holders.Declaration x.category b) x.properties ≡ []) (eq_turned root n)
-          (right_none (h ++ s ++ c) l fourth);
+      subs = append_is_nil_right h s (append_is_nil_left (h ++ s) c third);
+      connections = append_is_nil_right (h ++ s) c third;
+      properties = subst (λ b. list_faults (holders.Declaration x.category b) x.properties ≡ []) (nat_eq-swapped root n)
+          (append_is_nil_right (h ++ s ++ c) l fourth);
     }
 
 type_properties : (tree : PackageTree ℕ) (root m : ℕ) (t : TypeDeclaration ℕ) → package_faults tree root ≡ []
@@ -105,9 +104,9 @@ type_properties tree root m t none is =
     let p = flat_map port_faults t.features in
     let l = list_faults (holders.Declaration t.category flag) t.properties in
     let whole = declaration_clean tree root m (type t) none is in
-    let front = left_none _ (flat_map stray_faults t.annexes) (left_none _ (flat_map variables_faults t.annexes) whole) in
+    let front = append_is_nil_left _ (flat_map stray_faults t.annexes) (append_is_nil_left _ (flat_map variables_faults t.annexes) whole) in
     subst (λ b. list_faults (holders.Declaration t.category b) t.properties ≡ []) (root_flag tree (implementation_at tree root) m)
-    (right_none _ l front)
+    (append_is_nil_right _ l front)
 
 -- ---- some association
 pub some_from : {X : Type 0} (o : Option X) → is_some o ≡ true → (x : X) × (o ≡ Some x)
@@ -127,7 +126,7 @@ module _ {tree : PackageTree ℕ} {name : List ℕ} {parts : Parts} (flat : IsFl
         let subs = flat_map sub_findings x.subcomponents in
         let connections = connections_findings tree (carries (carriers_of (shown_by tree parts))) n x in
         looks_good (holders.Declaration x.category (nat_eq n parts.root)) p x.properties known faults.properties
-        (left_none big subs (left_none (big ++ subs) connections (left_none (big ++ subs ++ connections) (uses.thread_findings tree x) whole)))
+        (append_is_nil_left big subs (append_is_nil_left (big ++ subs) connections (append_is_nil_left (big ++ subs ++ connections) (uses.thread_findings tree x) whole)))
 
     module _ (type_known : (m : ℕ) (t : TypeDeclaration ℕ) → type_number tree x ≡ Some m
         → Among p (recognised (holders.Declaration t.category (is_root_type tree parts.root m)))) where
@@ -137,7 +136,7 @@ module _ {tree : PackageTree ℕ} {name : List ℕ} {parts : Parts} (flat : IsFl
           let whole = type_clean tree (shown_by tree parts) used none n m x t in_use is number type_is in
           looks_good (holders.Declaration t.category (is_root_type tree parts.root m)) p t.properties (type_known m t number)
           (type_properties tree parts.root m t (names_clean flat) type_is)
-          (right_none (flat_map port_findings t.features) (list_big (holders.Declaration t.category
+          (append_is_nil_right (flat_map port_findings t.features) (list_big (holders.Declaration t.category
           (is_root_type tree parts.root m)) t.properties) whole)
 
       types_by : (m : ℕ) (d : Option (Declaration ℕ)) → type_number tree x ≡ Some m → slice_get tree.declarations m ≡ d
@@ -168,18 +167,18 @@ module _ {tree : PackageTree ℕ} {name : List ℕ} {parts : Parts} (flat : IsFl
       → slice_get x.subcomponents k ≡ Some sub → LooksGood Period sub.properties
   sub_good n k x sub in_use is sub_is =
       let decl = declared_at tree n x is in
-      let faults = none_here (subcomponent_faults tree x.category) x.subcomponents k sub
+      let faults = flat_map-nil_at (subcomponent_faults tree x.category) x.subcomponents k sub
       (parts_clean tree parts.root n x (names_clean flat) decl).subs sub_is in
       let whole = implementation_clean tree (shown_by tree parts) used none n x in_use decl in
       let big = list_big (holders.Declaration x.category (nat_eq n parts.root)) x.properties in
       let subs = flat_map sub_findings x.subcomponents in
       let connections = connections_findings tree (carries (carriers_of (shown_by tree parts))) n x in
-      let here = right_none big subs (left_none (big ++ subs) connections
-      (left_none (big ++ subs ++ connections) (uses.thread_findings tree x) whole)) in
+      let here = append_is_nil_right big subs (append_is_nil_left (big ++ subs) connections
+      (append_is_nil_left (big ++ subs ++ connections) (uses.thread_findings tree x) whole)) in
       looks_good (holders.Subcomponent sub.category) Period sub.properties (period_at_sub sub.category)
-      (right_none (wrong_if (not (may_contain x.category sub.category)) sub.name.at ++ names_faults tree sub sub.classifier.implementation)
+      (append_is_nil_right (wrong_if (not (may_contain x.category sub.category)) sub.name.at ++ names_faults tree sub sub.classifier.implementation)
       (list_faults (holders.Subcomponent sub.category) sub.properties) faults)
-      (none_here sub_findings x.subcomponents k sub here sub_is)
+      (flat_map-nil_at sub_findings x.subcomponents k sub here sub_is)
 
   sub_by : (n k m : ℕ) (o : Option (Implementation ℕ)) (sub : Subcomponent ℕ) → used n ≡ true → implementation_at tree n ≡ o
       → slice_get (subcomponents_of o) k ≡ Some sub → LooksGood Period sub.properties
@@ -209,7 +208,7 @@ module _ {tree : PackageTree ℕ} {name : List ℕ} {parts : Parts} (flat : IsFl
       let rest = subs_along tree parts.root path in
       let added : subs_along tree parts.root (k ∷ path) ≡ here ∷ rest = ap (λ o. sub_in o k ++ rest) before in
       subst (λ l. AllByRecursion (LooksGood Period) (flat_map (lists_at tree) l)) (sym added)
-      (all_append (LooksGood Period) (lists_at tree here) (flat_map (lists_at tree) rest) (at_good m k n path before step stands)
+      (AllByRecursion-append (LooksGood Period) (lists_at tree here) (flat_map (lists_at tree) rest) (at_good m k n path before step stands)
       (along_good path m before)))
 
   -- ---- the root
@@ -229,14 +228,14 @@ module _ {tree : PackageTree ℕ} {name : List ℕ} {parts : Parts} (flat : IsFl
 
   type_flag : (x : Implementation ℕ) (m : ℕ) → implementation_at tree parts.root ≡ Some x → type_number tree x ≡ Some m
       → is_root_type tree parts.root m ≡ true
-  type_flag x m is number = ap (λ o. is_number m (option_and_then (type_number tree) o)) is ∙ (ap (is_number m) number ∙ same_number m)
+  type_flag x m is number = ap (λ o. is_number m (option_and_then (type_number tree) o)) is ∙ (ap (is_number m) number ∙ nat_eq-self m)
 
   root_good : (p : Property) → ((c : Category) → Among p (recognised (holders.Declaration c true)))
       → AllByRecursion (LooksGood p) (root_lists tree parts.root)
   root_good p known =
       let x = root_there.0 in
       let is = root_there.1 in
-      let flag : nat_eq parts.root parts.root ≡ true = same_number parts.root in
+      let flag : nat_eq parts.root parts.root ≡ true = nat_eq-self parts.root in
       let own : Among p (recognised (holders.Declaration x.category (nat_eq parts.root parts.root))) = subst
       (λ b. Among p (recognised (holders.Declaration x.category b))) (sym flag) (known x.category) in
       subst (λ o. AllByRecursion (LooksGood p) (own_lists tree o)) (sym is)
@@ -257,12 +256,12 @@ module _ {tree : PackageTree ℕ} {name : List ℕ} {parts : Parts} (flat : IsFl
 
   module _ (rate : ℕ) (clean : root_findings tree parts.root rate ≡ []) where
     all_missing : missing_findings tree parts.root ≡ []
-    all_missing = left_none (missing_findings tree parts.root) (order_findings tree parts.root)
-        (left_none (missing_findings tree parts.root ++ order_findings tree parts.root) _ clean)
+    all_missing = append_is_nil_left (missing_findings tree parts.root) (order_findings tree parts.root)
+        (append_is_nil_left (missing_findings tree parts.root ++ order_findings tree parts.root) _ clean)
 
     all_ordered : order_findings tree parts.root ≡ []
-    all_ordered = right_none (missing_findings tree parts.root) (order_findings tree parts.root)
-        (left_none (missing_findings tree parts.root ++ order_findings tree parts.root) _ clean)
+    all_ordered = append_is_nil_right (missing_findings tree parts.root) (order_findings tree parts.root)
+        (append_is_nil_left (missing_findings tree parts.root ++ order_findings tree parts.root) _ clean)
 
     has_period : is_some (at_root tree parts.root Period) ≡ true
     has_period =
@@ -271,7 +270,7 @@ module _ {tree : PackageTree ℕ} {name : List ℕ} {parts : Parts} (flat : IsFl
         let c = missing_bound tree parts.root Execution in
         let d = missing_bound tree parts.root Network in
         is_right (is_some (at_root tree parts.root Period)) (root_place tree parts.root) NO_PERIOD []
-        (left_none a b (left_none (a ++ b) c (left_none (a ++ b ++ c) d all_missing)))
+        (append_is_nil_left a b (append_is_nil_left (a ++ b) c (append_is_nil_left (a ++ b ++ c) d all_missing)))
 
     has_skew : is_some (at_root tree parts.root Skew) ≡ true
     has_skew =
@@ -280,7 +279,7 @@ module _ {tree : PackageTree ℕ} {name : List ℕ} {parts : Parts} (flat : IsFl
         let c = missing_bound tree parts.root Execution in
         let d = missing_bound tree parts.root Network in
         is_right (is_some (at_root tree parts.root Skew)) (root_place tree parts.root) GAMMA_MISSING (shown Skew)
-        (right_none a b (left_none (a ++ b) c (left_none (a ++ b ++ c) d all_missing)))
+        (append_is_nil_right a b (append_is_nil_left (a ++ b) c (append_is_nil_left (a ++ b ++ c) d all_missing)))
 
     has_execution : is_some (at_root tree parts.root Execution) ≡ true
     has_execution =
@@ -289,7 +288,7 @@ module _ {tree : PackageTree ℕ} {name : List ℕ} {parts : Parts} (flat : IsFl
         let c = missing_bound tree parts.root Execution in
         let d = missing_bound tree parts.root Network in
         is_right (is_some (at_root tree parts.root Execution)) (root_place tree parts.root) GAMMA_MISSING (shown Execution)
-        (right_none (a ++ b) c (left_none (a ++ b ++ c) d all_missing))
+        (append_is_nil_right (a ++ b) c (append_is_nil_left (a ++ b ++ c) d all_missing))
 
     has_network : is_some (at_root tree parts.root Network) ≡ true
     has_network =
@@ -298,7 +297,7 @@ module _ {tree : PackageTree ℕ} {name : List ℕ} {parts : Parts} (flat : IsFl
         let c = missing_bound tree parts.root Execution in
         let d = missing_bound tree parts.root Network in
         is_right (is_some (at_root tree parts.root Network)) (root_place tree parts.root) GAMMA_MISSING (shown Network)
-        (right_none (a ++ b ++ c) d all_missing)
+        (append_is_nil_right (a ++ b ++ c) d all_missing)
 
     -- ---- the period
     pub root_time : (n : ℕ) × IsTime (root_period tree parts.root) n
@@ -323,7 +322,7 @@ module _ {tree : PackageTree ℕ} {name : List ℕ} {parts : Parts} (flat : IsFl
         let c = reversed_range Network (at_root tree parts.root Network) in (
           t.0,
           skew_by given t.0 is (not_wrong (is_zero given) (place_of (at_root tree parts.root Skew)) GAMMA_ORDER (shown Skew)
-              (left_none a b (left_none (a ++ b) c all_ordered))),
+              (append_is_nil_left a b (append_is_nil_left (a ++ b) c all_ordered))),
         )
 
     ordered : (low high : ℕ) → nat_lt high low ≡ false → nat_le low high ≡ true
@@ -344,7 +343,7 @@ module _ {tree : PackageTree ℕ} {name : List ℕ} {parts : Parts} (flat : IsFl
         let c = reversed_range Network (at_root tree parts.root Network) in (
           t.0,
           range_by given t.0 is (not_wrong (is_reversed given) (place_of (at_root tree parts.root Execution)) GAMMA_ORDER (shown Execution)
-              (right_none a b (left_none (a ++ b) c all_ordered))),
+              (append_is_nil_right a b (append_is_nil_left (a ++ b) c all_ordered))),
         )
 
     network_is : (r : ℕ × ℕ) × (root_range tree parts.root Network ≡ Some r)
@@ -358,7 +357,7 @@ module _ {tree : PackageTree ℕ} {name : List ℕ} {parts : Parts} (flat : IsFl
         let c = reversed_range Network (at_root tree parts.root Network) in (
           t.0,
           range_by given t.0 is (not_wrong (is_reversed given) (place_of (at_root tree parts.root Network)) GAMMA_ORDER (shown Network)
-              (right_none (a ++ b) c all_ordered)),
+              (append_is_nil_right (a ++ b) c all_ordered)),
         )
 
     gamma_from : (eps : Option ℕ) (alpha mu : Option (ℕ × ℕ)) (n : ℕ) (a m : ℕ × ℕ) → eps ≡ Some n → alpha ≡ Some a → mu ≡ Some m
@@ -380,7 +379,7 @@ module _ {tree : PackageTree ℕ} {name : List ℕ} {parts : Parts} (flat : IsFl
     pub enough : least_period root_bounds.0 rate ≤ root_time.0
     enough =
         let place = place_of (at_root tree parts.root Period) in
-        let here = right_none (missing_findings tree parts.root ++ order_findings tree parts.root)
+        let here = append_is_nil_right (missing_findings tree parts.root ++ order_findings tree parts.root)
         (bound_findings place (root_period tree parts.root) (root_gamma tree parts.root) rate) clean in
         leaves_time place root_time.0 root_bounds.0 rate
         (subst (λ o. bound_findings place (Some root_time.0) o rate ≡ []) root_bounds.1
@@ -394,7 +393,7 @@ module _ {tree : PackageTree ℕ} {name : List ℕ} {parts : Parts} (flat : IsFl
         → (p : ℕ) × (own_period tree parts.root (reverse (subs_along tree parts.root path)) ≡ Some p)
     own_is path n stands =
         let lists = flat_map (lists_at tree) (subs_along tree parts.root path) ++ root_lists tree parts.root in
-        let good = all_append (LooksGood Period) (flat_map (lists_at tree) (subs_along tree parts.root path)) (root_lists tree parts.root)
+        let good = AllByRecursion-append (LooksGood Period) (flat_map (lists_at tree) (subs_along tree parts.root path)) (root_lists tree parts.root)
         (along_good path n stands) (root_good Period (λ c. period_at c true)) in
         let a = some_from (first_in Period lists) (first_behind Period (flat_map (lists_at tree) (subs_along tree parts.root path))
         (root_lists tree parts.root) has_period) in
@@ -414,7 +413,7 @@ module _ {tree : PackageTree ℕ} {name : List ℕ} {parts : Parts} (flat : IsFl
         let p = own_is path n stands in
         let t = root_time in
         let place = thread_place tree thread in
-        let here = right_none (found_if (not (is_periodic tree thread.subs)) place NOT_PERIODIC thread.path)
+        let here = append_is_nil_right (found_if (not (is_periodic tree thread.subs)) place NOT_PERIODIC thread.path)
         (period_findings place thread.path (root_period tree parts.root) (own_period tree parts.root thread.subs)) none_here' in
         let given = subst (λ o. period_findings place thread.path (Some t.0) o ≡ []) p.1
         (subst (λ o. period_findings place thread.path o (own_period tree parts.root thread.subs) ≡ []) t.1.is here) in

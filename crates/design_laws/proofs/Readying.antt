@@ -2,6 +2,7 @@
 use Rattle.std.proofs.Common.{◌≡◌, ℕ, true, [], Option, Some, None, refl, ap}
 use Rattle.std.specs.Prelude.{flat_map, slice_get, All}
 use Rattle.std.proofs.lemmas.List.Elements.{All-nil}
+use Rattle.list_lemmas.proofs.Lists.{append_is_nil_right, append_is_nil_left}
 use Rattle.pals_base.specs.Rules.{IsBehaviour}
 use Rattle.aadl_tree.specs.Annexes.{AnnexTree}
 use Rattle.aadl_tree.specs.Declarations.{Declaration, type, Implementation, implementation, PackageTree}
@@ -15,7 +16,6 @@ use Rattle.component_checks.specs.Types.{port_findings, variables_findings}
 use Rattle.model_violations.specs.Values.{ins_in, outs_in, variables_of, values_of, scope_of}
 use Rattle.model_violations.specs.Threads.{first_annex, annex_rules, behaviour_by, implementation_findings}
 use Rattle.design_laws.specs.proof.Named.{HasWords, NamesDiffer}
-use Rattle.design_laws.proofs.Differing.{left_none, right_none}
 use Rattle.design_laws.specs.proof.Behaving.{Behaves}
 use Rattle.design_laws.proofs.Naming.{IsPort, values_apart, values_words, states_apart, states_words}
 use Rattle.design_laws.proofs.Typing.{ins_typed, outs_typed, variables_typed, variables_first, scope_fits}
@@ -59,8 +59,8 @@ module _ (tree : PackageTree ℕ) (root n : ℕ) (x : Implementation ℕ) (words
     behaves_by : (o : Option (ℕ × AnnexTree ℕ)) → first_annex x ≡ o → annex_rules tree x o ≡ [] → Behaves tree x
     behaves_by None first none = absurd (cc none)
     behaves_by (Some b) first none =
-        let variables = left_none (variables_findings b.1) (annex_findings (values_of tree x b.1) (scope_of tree x b.1) b.0 b.1) none in
-        let annex = right_none (variables_findings b.1) (annex_findings (values_of tree x b.1) (scope_of tree x b.1) b.0 b.1) none in
+        let variables = append_is_nil_left (variables_findings b.1) (annex_findings (values_of tree x b.1) (scope_of tree x b.1) b.0 b.1) none in
+        let annex = append_is_nil_right (variables_findings b.1) (annex_findings (values_of tree x b.1) (scope_of tree x b.1) b.0 b.1) none in
         record {
           behaviour = behaviour_of (values_of tree x b.1) (scope_of tree x b.1) b.1;
           is_behaviour = ap (behaviour_by tree x) first;

@@ -1,14 +1,16 @@
 -- The behaviours of the threads of an instance in which nothing is found.
-use Rattle.std.proofs.Common.{◌≡◌, ◌∙◌, ℕ, suc, ◌+◌, ◌-◌, Bool, true, false, cond, List, [], ◌∷◌, ◌++◌, length, map, reverse, Option, Some}
+use Rattle.std.proofs.Common.{◌≡◌, ◌∙◌, ℕ, suc, ◌+◌, Bool, true, false, cond, List, [], ◌∷◌, ◌++◌, map, reverse, Option, Some}
 use Rattle.aadl_tree.specs.Names.{same_name}
 use Rattle.std.proofs.Common.{None, refl, sym, ap, subst, arith}
 use Rattle.std.specs.Prelude.{flat_map, slice_get, All}
 use Rattle.std.specs.List.{position_from}
 use Rattle.std.specs.Option.{option_and_then}
-use Rattle.std.proofs.lemmas.Bool.{false≢true}
-use Rattle.std.proofs.lemmas.List.{reverse-append, length_push}
+use Rattle.std.proofs.lemmas.Bool.{false≢true, and_parts as parts}
+use Rattle.std.proofs.lemmas.List.{reverse-append}
 use Rattle.std.proofs.lemmas.List.Elements.{All-map, All-weaker}
 use Rattle.std.proofs.lemmas.Option.{same_Some, option_and_then_some}
+use Rattle.list_lemmas.proofs.Lists.{append_is_nil_right, append_is_nil_left}
+use Rattle.list_lemmas.proofs.Places.{slice_get-last}
 use Rattle.pals_base.specs.Rules.{IsBehaviour}
 use Rattle.aadl_tree.specs.declared.declarations.Category.{Category}
 use Rattle.aadl_tree.specs.declared.declarations.Category.TheVariants as categories
@@ -27,25 +29,18 @@ use Rattle.component_checks.specs.Types.{port_findings}
 use Rattle.model_violations.specs.Ports.{component_of}
 use Rattle.model_violations.specs.Threads as threads
 use Rattle.design_laws.specs.proof.Named.{HasWords, NamesDiffer, AreNamed}
-use Rattle.design_laws.proofs.Differing.{left_none, right_none, where_true}
+use Rattle.design_laws.proofs.Differing.{where_true}
 use Rattle.design_laws.specs.proof.Behaving.{Behaves}
 use Rattle.model_violations.specs.Use.{IsUse}
 use Rattle.model_violations.specs.Declarations.{thread_findings}
 use Rattle.model_violations.specs.Violations.{shown_by, used_findings}
 use Rattle.design_laws.specs.Designs.{thread_behaviour, HasRules}
 use Rattle.design_laws.proofs.Clean.{names_clean, declared_at, implementation_clean, type_clean, stands_at, is_used}
-use Rattle.design_laws.proofs.Tests.{parts}
 
 -- ---- the component that stands at a path is that of its innermost subcomponent
-last_one : {X : Type 0} (xs : List X) (x : X) → slice_get (xs ++ x ∷ []) (length (xs ++ x ∷ []) - 1) ≡ Some x
-last_one [] x = refl
-last_one (y ∷ []) x = refl
-last_one (y ∷ z ∷ xs) x =
-    let e : suc (length (z ∷ xs ++ x ∷ [])) - 1 ≡ suc (length (z ∷ xs ++ x ∷ []) - 1) = let long = length_push (z ∷ xs) x in omega (arith, long) in
-    ap (slice_get (y ∷ (z ∷ xs ++ x ∷ []))) e ∙ last_one (z ∷ xs) x
 
 innermost_last : (tree : PackageTree ℕ) (front : List SubAt) (x : SubAt) → innermost tree (front ++ x ∷ []) ≡ sub_of tree x
-innermost_last tree front x = ap (option_and_then (sub_of tree)) (last_one front x)
+innermost_last tree front x = ap (option_and_then (sub_of tree)) (slice_get-last front x)
 
 component_by : (tree : PackageTree ℕ) (root s : ℕ) (path : List ℕ) (n : ℕ) → standing tree root path ≡ Some n
     → innermost tree (reverse (subs_along tree root (s ∷ path))) ≡ sub_at tree n s
@@ -160,7 +155,7 @@ module _ {tree : PackageTree ℕ} {name : List ℕ} {parts : Parts} (flat : IsFl
   ports_by n m x None in_use is number d_is = refl
   ports_by n m x (Some (implementation y)) in_use is number d_is = refl
   ports_by n m x (Some (type t)) in_use is number d_is =
-      left_none (flat_map port_findings t.features) _ (type_clean tree (shown_by tree parts) used none n m x t in_use is number d_is)
+      append_is_nil_left (flat_map port_findings t.features) _ (type_clean tree (shown_by tree parts) used none n m x t in_use is number d_is)
 
   ports_at : (n : ℕ) (x : Implementation ℕ) (o : Option ℕ) → used n ≡ true → slice_get tree.declarations n ≡ Some (implementation x)
       → type_number tree x ≡ o → flat_map port_findings (features_of (type_numbered tree o)) ≡ []
@@ -180,7 +175,7 @@ module _ {tree : PackageTree ℕ} {name : List ℕ} {parts : Parts} (flat : IsFl
         let in_use = is_used tree parts.root used is_use path t.number t.stands in
         let whole = implementation_clean tree (shown_by tree parts) used none t.number t.component in_use is in
         let own = where_true (is_thread t.component.category) (threads.implementation_findings tree t.component) t.is_thread
-        (right_none _ (thread_findings tree t.component) whole) in
+        (append_is_nil_right _ (thread_findings tree t.component) whole) in
         law tree parts.root t.number t.component named.words (named.differ parts.root t.number t.component (names_clean flat) is)
         (names_clean flat) is t.is_thread (ports_clean t.number t.component in_use is) own
 

@@ -4,8 +4,10 @@ use Rattle.std.proofs.Common.{Some, None, refl, sym, ap, subst, arith}
 use Rattle.std.specs.Prelude.{flat_map, slice_get, IsTrue}
 use Rattle.std.specs.List.{list_any, list_all, position_or_len, enumerate_from}
 use Rattle.std.specs.Option.{unwrap_or}
-use Rattle.std.proofs.lemmas.Bool.{false≢true, lt-ltb}
+use Rattle.std.proofs.lemmas.Bool.{false≢true, lt-ltb, and_from}
 use Rattle.std.proofs.lemmas.List.Recursion.{is_position_or_len}
+use Rattle.list_lemmas.proofs.Lists.{append_is_nil_right, append_is_nil_left}
+use Rattle.list_lemmas.proofs.Elements.{list_any-map, AllByRecursion-weaker}
 use Rattle.aadl_tree.specs.Names.{Identifier, same_name}
 use Rattle.aadl_tree.specs.Annexes.{Transition, AnnexTree}
 use Rattle.aadl_tree.specs.Declarations.{Declaration, Implementation, implementation, PackageTree}
@@ -20,9 +22,8 @@ use Rattle.aadl_names.specs.PackageFaults.{annex_faults, declaration_faults, wro
 use Rattle.annex_resolve.specs.declared.states.StateAt.{StateAt}
 use Rattle.annex_resolve.specs.Behaviours.{states_of, first_number, state_number, transitions_of}
 use Rattle.design_laws.specs.proof.Ready.{is_declared}
-use Rattle.design_laws.proofs.Tests.{both, none_at}
-use Rattle.design_laws.proofs.Placed.{all_weaker}
-use Rattle.design_laws.proofs.Differing.{same_turned, left_none, right_none, all_none}
+use Rattle.design_laws.proofs.Tests.{none_at}
+use Rattle.design_laws.proofs.Differing.{same_turned, all_none}
 use Rattle.design_laws.proofs.Partition.{all_true}
 use Rattle.design_laws.proofs.Naming.{same_states}
 
@@ -59,17 +60,13 @@ any_weaker : {X : Type 0} (p q : X → Bool) → ((x : X) → p x ≡ true → q
 any_weaker p q each [] some = some
 any_weaker p q each (x ∷ xs) some = any_by (p x) (q x) (list_any p xs) (list_any q xs) (each x) (any_weaker p q each xs) some
 
-any_map : {X Y : Type 0} (p : Y → Bool) (f : X → Y) (xs : List X) → list_any p (map f xs) ≡ list_any (λ x. p (f x)) xs
-any_map p f [] = refl
-any_map p f (x ∷ xs) = ap (λ b. p (f x) || b) (any_map p f xs)
-
 -- ---- states
 state_within : (annex : AnnexTree ℕ) (name : List ℕ) → is_among (names.states_of annex) name ≡ true
     → nat_lt (state_number (states_of annex) name) (length (states_of annex)) ≡ true
 state_within annex name among =
-    let spelled = any_map (same_name name) (λ (x : Identifier ℕ). x.spelling) (names.states_of annex) in
+    let spelled = list_any-map (same_name name) (λ (x : Identifier ℕ). x.spelling) (names.states_of annex) in
     let same = ap (list_any (same_name name)) (same_states annex.states) in
-    let seen = any_map (same_name name) (λ (s : StateAt). s.name) (states_of annex) in
+    let seen = list_any-map (same_name name) (λ (s : StateAt). s.name) (states_of annex) in
     let some : list_any (λ (s : StateAt). same_name name s.name) (states_of annex) ≡ true = sym seen ∙ (same ∙ (spelled ∙ among)) in
     let turned = any_weaker (λ (s : StateAt). same_name name s.name) (λ (s : StateAt). same_name s.name name) (λ s h. same_turned name s.name h)
     (states_of annex) some in
@@ -87,11 +84,11 @@ declared_by : (annex : AnnexTree ℕ) (known : Known) (t : Transition ℕ) → t
     → is_declared (states_of annex) t ≡ true
 declared_by annex known t none =
     let is_state = is_among (names.states_of annex) in
-    let ends = left_none (state_uses is_state t.source ++ state_uses is_state t.target) (guard_uses known t.guard)
-    (left_none (state_uses is_state t.source ++ state_uses is_state t.target ++ guard_uses known t.guard) (effect_uses known t.effect) none) in
-    let source = is_known is_state t.source (left_none (state_uses is_state t.source) (state_uses is_state t.target) ends) in
-    let target = is_known is_state t.target (right_none (state_uses is_state t.source) (state_uses is_state t.target) ends) in
-    both (nat_lt (state_number (states_of annex) t.source.spelling) (length (states_of annex)))
+    let ends = append_is_nil_left (state_uses is_state t.source ++ state_uses is_state t.target) (guard_uses known t.guard)
+    (append_is_nil_left (state_uses is_state t.source ++ state_uses is_state t.target ++ guard_uses known t.guard) (effect_uses known t.effect) none) in
+    let source = is_known is_state t.source (append_is_nil_left (state_uses is_state t.source) (state_uses is_state t.target) ends) in
+    let target = is_known is_state t.target (append_is_nil_right (state_uses is_state t.source) (state_uses is_state t.target) ends) in
+    and_from (nat_lt (state_number (states_of annex) t.source.spelling) (length (states_of annex)))
     (nat_lt (state_number (states_of annex) t.target.spelling) (length (states_of annex)))
     (state_within annex t.source.spelling source) (state_within annex t.target.spelling target)
 
@@ -102,12 +99,12 @@ all_declared tree x annex none =
     let uses = transition_uses (is_among (names.states_of annex)) (known_in tree x annex) in
     let each = all_none uses (transitions_of annex) none in
     all_true (is_declared (states_of annex)) (transitions_of annex)
-    (all_weaker (λ t. uses t ≡ []) (λ t. is_declared (states_of annex) t ≡ true) (λ t h. declared_by annex (known_in tree x annex) t h)
+    (AllByRecursion-weaker (λ t. uses t ≡ []) (λ t. is_declared (states_of annex) t ≡ true) (λ t h. declared_by annex (known_in tree x annex) t h)
     (transitions_of annex) each)
 
 -- ---- the first behaviour of a thread's implementation
 of_thread : {Y : Type 0} (b : Bool) (xs ys zs : List Y) → b ≡ true → cond b (xs ++ ys) zs ≡ [] → xs ≡ []
-of_thread true xs ys zs is e = left_none xs ys e
+of_thread true xs ys zs is e = append_is_nil_left xs ys e
 of_thread false xs ys zs is e = absurd (cc is)
 
 first_faults : (tree : PackageTree ℕ) (x : Implementation ℕ) (bs : List (ℕ × AnnexTree ℕ)) (b : ℕ × AnnexTree ℕ) → slice_get bs 0 ≡ Some b
@@ -124,8 +121,8 @@ pub declaration_clean : (tree : PackageTree ℕ) (root n : ℕ) (d : Declaration
     → slice_get tree.declarations n ≡ Some d → declaration_faults tree root (n, d) ≡ []
 unfolding wrong_names
 declaration_clean tree root n d none is =
-    let all = right_none _ (flat_map (declaration_faults tree root) (enumerate_from 0 tree.declarations))
-    (left_none (wrong_names tree root) (twice_names tree) none) in
+    let all = append_is_nil_right _ (flat_map (declaration_faults tree root) (enumerate_from 0 tree.declarations))
+    (append_is_nil_left (wrong_names tree root) (twice_names tree) none) in
     let here = none_at (declaration_faults tree root) 0 tree.declarations all n d is in
     let zero' : 0 + n ≡ n = omega arith in
     subst (λ k. declaration_faults tree root (k, d) ≡ []) zero' here
@@ -134,5 +131,5 @@ pub first_clean : (tree : PackageTree ℕ) (root n : ℕ) (x : Implementation �
     → slice_get tree.declarations n ≡ Some (implementation x) → is_thread x.category ≡ true
     → slice_get (names.behaviours x.annexes) 0 ≡ Some b → behaviour_faults tree x b.1 ≡ []
 first_clean tree root n x b none is thread first =
-    first_faults tree x (names.behaviours x.annexes) b first thread (right_none _ (annex_faults tree x (names.behaviours x.annexes))
+    first_faults tree x (names.behaviours x.annexes) b first thread (append_is_nil_right _ (annex_faults tree x (names.behaviours x.annexes))
     (declaration_clean tree root n (implementation x) none is))

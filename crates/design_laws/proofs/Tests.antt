@@ -1,26 +1,10 @@
 -- Tests, and lists in which nothing is found.
-use Rattle.std.proofs.Common.{◌≡◌, ℕ, ◌+◌, ◌<◌, ◌≤◌, zero, suc, Bool, true, false, not, cond, ◌&&◌, ◌||◌, List, [], ◌∷◌, ◌++◌, map, Some, refl, sym, ap, ◌∙◌, arith}
+use Rattle.std.proofs.Common.{◌≡◌, ℕ, ◌+◌, ◌<◌, ◌≤◌, zero, suc, Bool, true, false, not, cond, List, [], ◌∷◌, ◌++◌, map, Some, refl, ap, ◌∙◌, arith}
 use Rattle.std.specs.Prelude.{flat_map, filter, slice_get}
 use Rattle.std.specs.List.{list_all, enumerate_from}
-use Rattle.std.proofs.lemmas.Bool.{false≢true}
+use Rattle.std.proofs.lemmas.Bool.{and_from, not-false}
 use Rattle.pals_base.specs.Steps.{upwards}
 use Rattle.annex_resolve.specs.Scopes.{found_if}
-
-pub both : (a b : Bool) → a ≡ true → b ≡ true → (a && b) ≡ true
-both true b e f = f
-both false b e f = absurd (false≢true e)
-
-pub parts : (a b : Bool) → (a && b) ≡ true → (a ≡ true) × (b ≡ true)
-parts true b e = (refl, e)
-parts false b e = absurd (false≢true e)
-
-pub neither : (a b : Bool) → (a || b) ≡ false → (a ≡ false) × (b ≡ false)
-neither true b e = absurd (false≢true (sym e))
-neither false b e = (refl, e)
-
-pub not_false : (a : Bool) → not a ≡ false → a ≡ true
-not_false true e = refl
-not_false false e = absurd (false≢true (sym e))
 
 pub nothing_left : {X : Type 0} (xs ys : List X) → xs ++ ys ≡ [] → (xs ≡ []) × (ys ≡ [])
 nothing_left [] ys e = (refl, e)
@@ -32,7 +16,7 @@ not_wrong true at number details e = absurd (cc e)
 not_wrong false at number details e = refl
 
 pub is_right : (right : Bool) (at number : ℕ) (details : List ℕ) → found_if (not right) at number details ≡ [] → right ≡ true
-is_right right at number details e = not_false right (not_wrong (not right) at number details e)
+is_right right at number details e = not-false right (not_wrong (not right) at number details e)
 
 pub none_at : {A B : Type 0} (f : ℕ × A → List B) (from : ℕ) (xs : List A) → flat_map f (enumerate_from from xs) ≡ [] → (n : ℕ) (x : A) → slice_get xs n ≡ Some x → f (from + n, x) ≡ []
 none_at f from [] e n x is = absurd (cc is)
@@ -47,7 +31,7 @@ none_at f from (y ∷ ys) e (suc n) x is =
 
 pub all_upwards : (p : ℕ → Bool) (from n : ℕ) → ((k : ℕ) → from ≤ k → k < from + n → p k ≡ true) → list_all p (upwards from n) ≡ true
 all_upwards p from zero each = refl
-all_upwards p from (suc n) each = both (p from) (list_all p (upwards (suc from) n)) (each from (omega arith) (omega arith)) (all_upwards p (suc from) n (λ k low high. each k (omega (arith, low)) (omega (arith, high))))
+all_upwards p from (suc n) each = and_from (p from) (list_all p (upwards (suc from) n)) (each from (omega arith) (omega arith)) (all_upwards p (suc from) n (λ k low high. each k (omega (arith, low)) (omega (arith, high))))
 
 kept_by : {A B : Type 0} (f : A → B) (b : Bool) (x : A) (ys : List B) (zs : List A) → ys ≡ map f zs → cond b (f x ∷ ys) ys ≡ map f (cond b (x ∷ zs) zs)
 kept_by f true x ys zs e = ap (λ l. f x ∷ l) e

@@ -4,9 +4,10 @@ use Rattle.std.proofs.Common.{Some, None, refl, ap, subst, arith}
 use Rattle.std.specs.Prelude.{flat_map, filter, find}
 use Rattle.std.specs.List.{AllByRecursion}
 use Rattle.std.specs.Option.{option_and_then, option_or, is_some}
-use Rattle.std.proofs.lemmas.Bool.{false≢true}
+use Rattle.std.proofs.lemmas.Bool.{false≢true, le-leb, and_from, not-false, or_parts}
 use Rattle.std.proofs.lemmas.Bool.Decides.{nat_tests}
 use Rattle.std.proofs.lemmas.Option.{same_Some}
+use Rattle.list_lemmas.proofs.Lists.{append_is_nil_left}
 use Rattle.pals_base.specs.declared.limits.TheConstants.{HOUR}
 use Rattle.aadl_tree.specs.declared.declarations.Category.{Category}
 use Rattle.aadl_tree.specs.Values.{Association, Associations}
@@ -20,12 +21,12 @@ use Rattle.aadl_names.specs.Properties.{recognised, time_of, range_of, has_shape
 use Rattle.aadl_names.specs.Properties.{list_faults}
 use Rattle.aadl_names.specs.Resolving.{is_thread}
 use Rattle.aadl_names.specs.Twice.{twice}
-use Rattle.design_laws.proofs.Tests.{both, neither, not_wrong, not_false}
+use Rattle.design_laws.proofs.Tests.{not_wrong}
 use Rattle.component_checks.specs.Numbers.{within_hour, range_within}
 use Rattle.annex_resolve.specs.declared.violation.TheConstants.{NUMBER_TOO_BIG}
 use Rattle.component_checks.specs.PropertyLookup.{first_in}
 use Rattle.component_checks.specs.Times.{time_at, range_at, is_above, has_above, is_too_big, shown, big_as, association_big, counted_big, list_big}
-use Rattle.design_laws.proofs.Differing.{left_none, where_true, all_none, all_false}
+use Rattle.design_laws.proofs.Differing.{where_true, all_none, all_false}
 
 -- ---- one of a list
 abbrev pub Among : {X : Type 0} → X → List X → Type 0
@@ -90,7 +91,7 @@ good_by holder p x known shape big count named =
     let bigs = all_none (big_as x) (recognised holder) (where_true (counts x) (association_big holder x) count big) in
     let there = of_among (λ q. big_as x q ≡ []) p (recognised holder) bigs known in
     record {
-      shape = not_false (has_shape p (association_value x)) (second_false (is_named (name_of p) x)
+      shape = not-false (has_shape p (association_value x)) (second_false (is_named (name_of p) x)
           (not (has_shape p (association_value x))) here named);
       small = second_false (is_named (name_of p) x) (is_too_big p (association_value x))
           (not_wrong (is_named (name_of p) x && is_too_big p (association_value x)) (association_at x) NUMBER_TOO_BIG (shown p) there) named;
@@ -124,7 +125,7 @@ pub looks_good : (holder : Holder) (p : Property) (xs : Associations ℕ) → Am
     → list_big holder xs ≡ [] → LooksGood p xs
 looks_good holder p xs known faults big = record {
   each = λ x is.
-      let shapes = all_none (shape_fault holder) (listed xs) (left_none (flat_map (shape_fault holder) (listed xs))
+      let shapes = all_none (shape_fault holder) (listed xs) (append_is_nil_left (flat_map (shape_fault holder) (listed xs))
       (twice (property_entries xs)) faults) in
       let bigs = all_none (counted_big holder) (listed xs) big in
       let f = found_kept (λ a. (shape_fault holder a ≡ []) × (counted_big holder a ≡ [])) counts (is_named (name_of p)) (listed xs) x
@@ -163,11 +164,8 @@ pub record IsTime (given : Option ℕ) (n : ℕ) : Type 0 where
 within_by : (n : ℕ) → nat_lt HOUR n ≡ false → n ≤ HOUR
 within_by n e = grind (arith, nat_tests)
 
-le_true : (m n : ℕ) → m ≤ n → nat_le m n ≡ true
-le_true m n h = grind (arith, nat_tests)
-
 within_is : (n : ℕ) → n ≤ HOUR → within_hour n ≡ Some n
-within_is n short = ap (λ b. cond b (Some n) None) (le_true n HOUR short)
+within_is n short = ap (λ b. cond b (Some n) None) (le-leb n HOUR short)
 
 time_by : (given : Option ℕ) → is_some given ≡ true → is_above given ≡ false
     → (n : ℕ) × (given ≡ Some n) × IsTime (option_and_then within_hour given) n
@@ -186,10 +184,10 @@ skew_good x good = time_by (time_of (association_value x)) good.shape good.small
 span_by : (given : Option (ℕ × ℕ)) → is_some given ≡ true → has_above given ≡ false → (r : ℕ × ℕ) × (option_and_then range_within given ≡ Some r)
 span_by None some small = absurd (false≢true some)
 span_by (Some r) some small =
-    let h = neither (nat_lt HOUR r.0) (nat_lt HOUR r.1) small in (
+    let h = or_parts (nat_lt HOUR r.0) (nat_lt HOUR r.1) small in (
       r,
-      ap (λ b. cond b (Some r) None) (both (nat_le r.0 HOUR) (nat_le r.1 HOUR) (le_true r.0 HOUR (within_by r.0 h.0))
-          (le_true r.1 HOUR (within_by r.1 h.1))),
+      ap (λ b. cond b (Some r) None) (and_from (nat_le r.0 HOUR) (nat_le r.1 HOUR) (le-leb r.0 HOUR (within_by r.0 h.0))
+          (le-leb r.1 HOUR (within_by r.1 h.1))),
     )
 
 pub execution_good : (x : Association ℕ) → IsGood Execution x → (r : ℕ × ℕ) × (option_and_then range_within (range_at (Some x)) ≡ Some r)

@@ -9,6 +9,8 @@ use Rattle.std.proofs.lemmas.Bool.{false≢true}
 use Rattle.std.proofs.lemmas.List.{length-map}
 use Rattle.std.proofs.lemmas.Option.{slice_get-map}
 use Rattle.std.proofs.lemmas.Slice.Eq.{bytes_eq-Decides}
+use Rattle.list_lemmas.proofs.Elements.{AllByRecursion-weaker, AllByRecursion-append, AllByRecursion-map}
+use Rattle.list_lemmas.proofs.Lists.{append_is_nil_right, append_is_nil_left}
 use Rattle.pals_base.specs.declared.behaviour.Kind.{Kind}
 use Rattle.pals_base.specs.declared.behaviour.Kind.TheVariants.{Integer, Boolean}
 use Rattle.pals_base.specs.declared.behaviour.BehaviourParts.{BehaviourParts}
@@ -30,9 +32,8 @@ use Rattle.component_checks.specs.Types.{variables_findings}
 use Rattle.model_violations.specs.declared.declared.Declared.{Declared}
 use Rattle.model_violations.specs.Values.{port_of, ins_in, outs_in, value_of, value_in, first_of, variable_of, variables_in, variables_of}
 use Rattle.model_violations.specs.Values.{or_integer, named_of, var_of, in_entry, out_entry, variable_entry, scope_by}
-use Rattle.design_laws.proofs.Placed.{all_append, all_weaker}
-use Rattle.design_laws.proofs.Differing.{left_none, right_none, all_none}
-use Rattle.design_laws.proofs.Partition.{all_mapped, all_kept, all_at, numbered, found_one, all_true}
+use Rattle.design_laws.proofs.Differing.{all_none}
+use Rattle.design_laws.proofs.Partition.{all_kept, all_at, numbered, found_one, all_true}
 
 -- ---- a type that is there
 abbrev IsTyped : Declared → Type 0
@@ -47,14 +48,14 @@ HasType f = IsTyped (port_of f)
 
 ports_typed : (fs : List (Feature ℕ)) → flat_map port_findings fs ≡ [] → AllByRecursion HasType fs
 ports_typed fs none =
-    all_weaker (λ f. port_findings f ≡ []) HasType (λ f e. typed_by (kind_in f.data_type)
+    AllByRecursion-weaker (λ f. port_findings f ≡ []) HasType (λ f e. typed_by (kind_in f.data_type)
     (is_right (is_some (kind_in f.data_type)) f.name.at BAD_TYPE [] e)) fs (all_none port_findings fs none)
 
 pub ins_typed : (fs : List (Feature ℕ)) → flat_map port_findings fs ≡ [] → AllByRecursion IsTyped (ins_in fs)
-ins_typed fs none = all_mapped IsTyped port_of (filter is_in fs) (all_kept HasType is_in fs (ports_typed fs none))
+ins_typed fs none = AllByRecursion-map IsTyped port_of (filter is_in fs) (all_kept HasType is_in fs (ports_typed fs none))
 
 pub outs_typed : (fs : List (Feature ℕ)) → flat_map port_findings fs ≡ [] → AllByRecursion IsTyped (outs_in fs)
-outs_typed fs none = all_mapped IsTyped port_of (filter (λ f. not (is_in f)) fs) (all_kept HasType (λ f. not (is_in f)) fs (ports_typed fs none))
+outs_typed fs none = AllByRecursion-map IsTyped port_of (filter (λ f. not (is_in f)) fs) (all_kept HasType (λ f. not (is_in f)) fs (ports_typed fs none))
 
 -- ---- a first value of its type
 truth_by : (text : List ℕ) (a b : Bool) → bytes_eq text (codes "true") ≡ a → bytes_eq text (codes "false") ≡ b → (a || b) ≡ true
@@ -107,22 +108,22 @@ all_flat : {A B C : Type 0} (P : B → Type 0) (f : A → List B) (found : A →
     → (xs : List A) → flat_map found xs ≡ [] → AllByRecursion P (flat_map f xs)
 all_flat P f found each [] none = tt
 all_flat P f found each (x ∷ xs) none =
-    all_append P (f x) (flat_map f xs) (each x (left_none (found x) (flat_map found xs) none))
-    (all_flat P f found each xs (right_none (found x) (flat_map found xs) none))
+    AllByRecursion-append P (f x) (flat_map f xs) (each x (append_is_nil_left (found x) (flat_map found xs) none))
+    (all_flat P f found each xs (append_is_nil_right (found x) (flat_map found xs) none))
 
 variable_typed : (v : VariableDeclaration ℕ) → variable_findings v ≡ [] → AllByRecursion IsTyped (variables_in v)
 variable_typed v none =
     let kind = kind_named v.data_type in
-    let each = left_none (flat_map (name_findings kind) (identifiers v.names))
+    let each = append_is_nil_left (flat_map (name_findings kind) (identifiers v.names))
     (first_findings kind (association_named v.properties (name_of Initial))) none in
-    let first = left_none (name_findings kind v.names.first) (flat_map (name_findings kind) v.names.rest) each in
+    let first = append_is_nil_left (name_findings kind v.names.first) (flat_map (name_findings kind) v.names.rest) each in
     let is = typed_by kind (is_right (is_some kind) v.names.first.at BAD_TYPE [] first) in
     of_names IsTyped v (identifiers v.names) (λ i. is)
 
 variable_first : (v : VariableDeclaration ℕ) → variable_findings v ≡ [] → AllByRecursion HasFirst (variables_in v)
 variable_first v none =
     let kind = kind_named v.data_type in
-    let first = right_none (flat_map (name_findings kind) (identifiers v.names))
+    let first = append_is_nil_right (flat_map (name_findings kind) (identifiers v.names))
     (first_findings kind (association_named v.properties (name_of Initial))) none in
     of_names HasFirst v (identifiers v.names) (λ i. kind_first kind (association_named v.properties (name_of Initial)) first)
 
@@ -131,7 +132,7 @@ variables_typed annex none = all_flat IsTyped variables_in variable_findings var
 
 pub variables_first : (annex : AnnexTree ℕ) → variables_findings annex ≡ [] → IsTrue (list_all has_first (map var_of (variables_of annex)))
 variables_first annex none =
-    all_true has_first (map var_of (variables_of annex)) (all_mapped (λ v. has_first v ≡ true) var_of (variables_of annex)
+    all_true has_first (map var_of (variables_of annex)) (AllByRecursion-map (λ v. has_first v ≡ true) var_of (variables_of annex)
     (all_flat HasFirst variables_in variable_findings variable_first (listed_in annex.variables) none))
 
 -- ---- what names stand for
@@ -141,7 +142,7 @@ module _ (b : BehaviourParts) where
 
   ins_fit : (ds : List Declared) → AllByRecursion IsTyped ds → b.ins ≡ map named_of ds → AllByRecursion Fits (map in_entry (enumerate_from 0 ds))
   ins_fit ds typed are =
-      all_mapped Fits in_entry (enumerate_from 0 ds)
+      AllByRecursion-map Fits in_entry (enumerate_from 0 ds)
       (numbered (λ p. Fits (in_entry p)) ds (λ n d is. (
         named_of d,
         ap (λ l. slice_get l n) are
@@ -151,7 +152,7 @@ module _ (b : BehaviourParts) where
 
   outs_fit : (ds : List Declared) → AllByRecursion IsTyped ds → b.outs ≡ map named_of ds → AllByRecursion Fits (map out_entry (enumerate_from 0 ds))
   outs_fit ds typed are =
-      all_mapped Fits out_entry (enumerate_from 0 ds)
+      AllByRecursion-map Fits out_entry (enumerate_from 0 ds)
       (numbered (λ p. Fits (out_entry p)) ds (λ n d is. (
         named_of d,
         ap (λ l. slice_get l n) are
@@ -162,7 +163,7 @@ module _ (b : BehaviourParts) where
   variables_fit : (ds : List Declared) → AllByRecursion IsTyped ds → b.vars ≡ map var_of ds
       → AllByRecursion Fits (map variable_entry (enumerate_from 0 ds))
   variables_fit ds typed are =
-      all_mapped Fits variable_entry (enumerate_from 0 ds)
+      AllByRecursion-map Fits variable_entry (enumerate_from 0 ds)
       (numbered (λ p. Fits (variable_entry p)) ds (λ n d is. (
         var_of d,
         ap (λ l. slice_get l n) are
@@ -173,9 +174,9 @@ module _ (b : BehaviourParts) where
   pub scope_fits : (ins outs vars : List Declared) → AllByRecursion IsTyped ins → AllByRecursion IsTyped outs → AllByRecursion IsTyped vars
       → b.ins ≡ map named_of ins → b.outs ≡ map named_of outs → b.vars ≡ map var_of vars → FitsScope b 0 (scope_by ins outs vars)
   scope_fits ins outs vars i o v ins_are outs_are vars_are =
-      let all = all_append Fits (map in_entry (enumerate_from 0 ins) ++ map out_entry (enumerate_from 0 outs))
+      let all = AllByRecursion-append Fits (map in_entry (enumerate_from 0 ins) ++ map out_entry (enumerate_from 0 outs))
       (map variable_entry (enumerate_from 0 vars))
-      (all_append Fits (map in_entry (enumerate_from 0 ins)) (map out_entry (enumerate_from 0 outs)) (ins_fit ins i ins_are)
+      (AllByRecursion-append Fits (map in_entry (enumerate_from 0 ins)) (map out_entry (enumerate_from 0 outs)) (ins_fit ins i ins_are)
       (outs_fit outs o outs_are)) (variables_fit vars v vars_are) in
       record {
         entries = λ name e found. found_one Fits (λ k. same_name k.name name) (scope_by ins outs vars).entries e all found;

@@ -1,8 +1,9 @@
 -- A package has one instance, with one list of what is wrong with it, and one design.
-use Rattle.std.proofs.Common.{◌≡◌, ◌∙◌, ℕ, Bool, true, false, List, [], sym, ap, subst}
+use Rattle.std.proofs.Common.{◌≡◌, ◌∙◌, ℕ, Bool, List, [], sym, ap, subst}
 use Rattle.std.specs.List.{filter}
 use Rattle.std.specs.List.Sorted.{ties}
 use Rattle.std.proofs.lemmas.Option.{same_Some}
+use Rattle.std.specs.Cmp.{both_ways}
 use Rattle.pals_model.specs.declared.design.DesignParts.{DesignParts}
 use Rattle.aadl_tree.specs.Declarations.{PackageTree}
 use Rattle.aadl_uses.specs.Threads.{Lists, IsThreadAt, PathBefore}
@@ -37,15 +38,11 @@ one_instance tree name a b x y =
     λ i. record { root = root i; threads = threads i; links = links i; feeds = feeds i; taps = taps i }
 
 -- ---- what is wrong
-same_answer : (a b : Bool) → (a ≡ true → b ≡ true) → (b ≡ true → a ≡ true) → a ≡ b
-same_answer true b there back = sym (there (λ i. true))
-same_answer false true there back = back (λ i. true)
-same_answer false false there back = λ i. false
 
 -- there is one test for what is in use
 one_use : (tree : PackageTree ℕ) (root : ℕ) (f g : ℕ → Bool) → IsUse tree root f → IsUse tree root g → f ≡ g
 one_use tree root f g a b =
-    let same : (n : ℕ) → f n ≡ g n = λ n. same_answer (f n) (g n) (λ h. (b n).1 ((a n).0 h)) (λ h. (a n).1 ((b n).0 h)) in
+    let same : (n : ℕ) → f n ≡ g n = λ n. both_ways (f n) (g n) (λ h. (b n).1 ((a n).0 h)) (λ h. (a n).1 ((b n).0 h)) in
     λ i n. same n i
 
 pub one_list : (tree : PackageTree ℕ) (s : Shown) (a b : List Violation) → AreViolations tree s a → AreViolations tree s b → a ≡ b

@@ -24,6 +24,7 @@ use Rattle.aadl_tree.specs.declared.annex.Annex as source_annex
 use Rattle.aadl_tree.specs.declared.package.PackageTree as source_package
 use Rattle.std.specs.declared.alloc.Global.{Global}
 use Rattle.std.specs.declared.vec.Vec.{Vec}
+use Rattle.list_lemmas.proofs.Elements.{AllByRecursion-append}
 use Rattle.aadl_tree.specs.proof.Maps.{kept_place}
 use Rattle.aadl_tree.specs.Names.{Identifier, identifiers, listed_in}
 use Rattle.aadl_tree.specs.proof.NameViews.{identifier_view, identifiers_view}
@@ -34,7 +35,6 @@ use Rattle.aadl_tree.specs.Declarations.{Feature, Subcomponent, TypeDeclaration,
 use Rattle.aadl_tree.specs.proof.PackageViews.{placed}
 use Rattle.aadl_names.specs.Behaviours.{behaviour_in, behaviours, variables_of, states_of}
 use Rattle.design_laws.specs.proof.Named.{IsNamed, HasWords}
-use Rattle.design_laws.proofs.Placed.{all_append}
 
 -- ---- what the lexer takes for a word is one
 led : (s : List ℕ) → is_ascii_alphabetic (slice_index s 0) ≡ is_led_by_letter s
@@ -67,7 +67,7 @@ all_viewed P v each (x ∷ xs) = (each x, all_viewed P v each xs)
 all_flat : {A B C : Type 0} (P : C → Type 0) (v : A → B) (g : B → List C) → ((x : A) → AllByRecursion P (g (v x))) → (xs : List A)
     → AllByRecursion P (flat_map g (map v xs))
 all_flat P v g each [] = tt
-all_flat P v g each (x ∷ xs) = all_append P (g (v x)) (flat_map g (map v xs)) (each x) (all_flat P v g each xs)
+all_flat P v g each (x ∷ xs) = AllByRecursion-append P (g (v x)) (flat_map g (map v xs)) (each x) (all_flat P v g each xs)
 
 identifiers_words : (x : source_names.Identifiers) → AllByRecursion IsNamed (identifiers (identifiers_view kept_place x))
 identifiers_words x = (identifier_word x.first, all_viewed IsNamed (identifier_view kept_place) identifier_word x.rest.items)

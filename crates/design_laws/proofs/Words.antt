@@ -4,6 +4,7 @@ use Rattle.std.specs.Prelude.{flat_map, slice_get}
 use Rattle.std.specs.List.{AllByRecursion}
 use Rattle.std.proofs.lemmas.List.Elements.{All-from_recursion, recursion_from_All}
 use Rattle.std.proofs.lemmas.Option.{same_Some}
+use Rattle.list_lemmas.proofs.Elements.{AllByRecursion-append}
 use Rattle.aadl_lex.specs.declared.token.Token.{Token}
 use Rattle.aadl_lex.specs.declared.token.TokenKind.{TokenKind}
 use Rattle.aadl_lex.specs.declared.token.TokenKind.TheVariants as class
@@ -29,7 +30,6 @@ use Rattle.aadl_tree.specs.Declarations.{package_parts}
 use Rattle.aadl_tree.specs.Given.{IsTreeOf}
 use Rattle.aadl_names.specs.Behaviours.{behaviours, variables_of, states_of}
 use Rattle.design_laws.specs.proof.Named.{IsNamed, HasWords}
-use Rattle.design_laws.proofs.Placed.{all_append}
 use Rattle.design_laws.proofs.Wording.{same_words}
 
 -- ---- terminals that are words
@@ -142,7 +142,7 @@ ports_named x h =
 all_in : {V : Type 0} (g : V → List (Identifier ℕ)) (vs : List V) → AllByRecursion (λ v. AllByRecursion IsNamed (g v)) vs
     → AllByRecursion IsNamed (flat_map g vs)
 all_in g [] h = tt
-all_in g (v ∷ vs) h = all_append IsNamed (g v) (flat_map g vs) h.0 (all_in g vs h.1)
+all_in g (v ∷ vs) h = AllByRecursion-append IsNamed (g v) (flat_map g vs) h.0 (all_in g vs h.1)
 
 module _ {V : Type 0} (m : Mark) (f : V → List (Part ℕ)) (g : V → List (Identifier ℕ))
     (from : (v : V) → AreWords (f v) → AllByRecursion IsNamed (g v)) where

@@ -3,6 +3,7 @@ use Rattle.std.proofs.Common.{◌≡◌, ap, sym, subst, refl, zero, suc, ◌⊎
 use Rattle.std.specs.Prelude.{All, Contains}
 use Rattle.std.proofs.lemmas.Int.{fold-int_max_bounds, fold-int_max_reached, fold-int_min_bounds, fold-int_min_reached}
 use Rattle.std.proofs.lemmas.List.Elements.{All-cons, All-contains, Contains-append_right}
+use Rattle.list_lemmas.proofs.Elements.{Contains-head}
 use Rattle.pals_base.specs.declared.values.Port.{Port}
 use Rattle.pals_base.specs.declared.values.Port.TheVariants.{Absent, Present}
 use Rattle.pals_base.specs.declared.values.Adaptor.TheVariants.{Min, Max}
@@ -10,8 +11,6 @@ use Rattle.pals_base.specs.Adaptors.{present, joined, of_present, least_of, grea
 use Rattle.input_adaptors.specs.proof.Places.{IsLeast, IsGreatest}
 
 -- ---- a number is among the present ones exactly where a port has it
-pub Contains-head : {X : Type 0} (x : X) (xs : List X) → Contains (x ∷ xs) x
-Contains-head x xs = (0, omega arith, refl)
 
 pub Contains-tail : {X : Type 0} (y x : X) (xs : List X) → Contains xs x → Contains (y ∷ xs) x
 Contains-tail y x xs among = Contains-append_right (y ∷ []) xs x among

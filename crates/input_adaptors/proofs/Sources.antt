@@ -4,12 +4,13 @@ use Rattle.std.specs.Prelude.{flat_map, slice_index_or, slice_set, replicate, Al
 use Rattle.std.proofs.lemmas.Bool.{cases_lt}
 use Rattle.std.proofs.lemmas.List.{get_or_past, get_or_default}
 use Rattle.std.proofs.lemmas.List.Elements.{All-nil, All-cons, All-append, All-map, All-set, All-replicate, All-take, All-drop, All-weaker, All-contains, All-contains_itself}
+use Rattle.list_lemmas.proofs.Elements.{Contains-head}
 use Rattle.pals_base.specs.declared.values.Port.{Port}
 use Rattle.pals_base.specs.declared.values.Port.TheVariants.{Absent, Present}
 use Rattle.pals_base.specs.declared.values.Adaptor.{Adaptor}
 use Rattle.pals_base.specs.declared.values.Adaptor.TheVariants.{Repeat, First, Last, At, Latest, Max, Min, Average}
 use Rattle.pals_base.specs.Adaptors.{adapt, groups, joined, spread, present, of_present, latest_of}
-use Rattle.input_adaptors.proofs.Extremes.{Contains-head, Contains-tail, Contains-from_present, IsLeast-joined, IsGreatest-joined}
+use Rattle.input_adaptors.proofs.Extremes.{Contains-tail, Contains-from_present, IsLeast-joined, IsGreatest-joined}
 use Rattle.input_adaptors.proofs.Rates.{adapt-faster, adapt-slower}
 
 -- the number of the port, if it has one, is among those of the tuple

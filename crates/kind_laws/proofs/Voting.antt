@@ -5,6 +5,7 @@ use Rattle.std.proofs.lemmas.Bool.{and_parts, eqb-true}
 use Rattle.std.proofs.lemmas.List.{length-map}
 use Rattle.std.proofs.lemmas.List.Elements.{All-nil, All-cons, All-head, All-tail, All-weaker, All-get_or}
 use Rattle.std.proofs.lemmas.Option.{slice_get_within}
+use Rattle.std.proofs.Math.ListN.{get_or-map}
 use Rattle.pals_base.specs.declared.values.Frame.{Frame}
 use Rattle.pals_base.specs.declared.values.Port.{Port}
 use Rattle.pals_base.specs.declared.values.Port.TheVariants.{Absent}
@@ -31,7 +32,7 @@ use Rattle.pals_model.proofs.KindsOfAdaptors.{absent_fits}
 use Rattle.pals_runs.specs.declared.pairs.VoteFault.{VoteFault}
 use Rattle.triple_vote.specs.Votes.{same_port, vote, votes}
 use Rattle.triple_vote.specs.Replicas.{is_replicated, copies_of, receivers_in, Voted, frame_at, heard_by, first_frame, first_tuple, vopening, steps_in, replica_steps, tuple_at, is_fault, fault_or, own_message, sent_to, vote_of, receives_on, vnext, vcomp, vshown_by, vshown}
-use Rattle.triple_vote.proofs.Tables.{length-upwards, table-at, get_or-image, found}
+use Rattle.triple_vote.proofs.Tables.{length-upwards, table-at, found}
 use Rattle.triple_vote.proofs.Following.{has_first, has_three}
 use Rattle.kind_laws.specs.proof.Votes.{FaultFits, FaultsFit, VotesFit, ShownFit}
 use Rattle.kind_laws.proofs.Lists.{upwards_all, either_fits}
@@ -142,7 +143,7 @@ module _ (design : DesignParts) (env : Env) (replicated : List Bool) (rules : Is
     heard_fit replica = λ number link is.
         let kind = link_kind design link in
         subst (TupleFits kind) (sym
-        (get_or-image (λ (tuples : List (List Port)). slice_index_or tuples replica []) v.received number []))
+        (get_or-map (λ (tuples : List (List Port)). slice_index_or tuples replica []) v.received number []))
         (index_fits (TupleFits kind) (slice_index_or v.received number []) replica [] (keeps.received number link is)
         (All-nil (PortFits kind)))
 

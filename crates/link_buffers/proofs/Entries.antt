@@ -1,8 +1,8 @@
 -- Where entries stand in their order.
-use Rattle.std.proofs.Common.{◌≡◌, ◌≢◌, ℕ, ◌<◌, ◌≤◌, Bool, true, false, not, List, length, get_or, take, drop, insert, remove, filter, Some, slice_get, Contains, ⊎_elim, refl, sym, ap, ◌∙◌, subst, arith}
+use Rattle.std.proofs.Common.{◌≡◌, ◌≢◌, ℕ, ◌<◌, ◌≤◌, true, false, not, List, length, get_or, take, drop, insert, remove, filter, Some, slice_get, Contains, ⊎_elim, refl, sym, ap, ◌∙◌, subst, arith}
 use Rattle.std.specs.List.Sorted.{IsPartitionPoint, IsPartitionedBy}
 use Rattle.std.proofs.lemmas.Grind.{common_steps}
-use Rattle.std.proofs.lemmas.Bool.{cases_lt}
+use Rattle.std.proofs.lemmas.Bool.{cases_lt, false_from_ne_true}
 use Rattle.std.proofs.lemmas.Bool.Decides.{nat_tests}
 use Rattle.std.proofs.lemmas.Option.{slice_get-get_or, slice_get_within, get_or_from_slice_get}
 use Rattle.link_buffers.specs.declared.queue.DueEntry.{DueEntry}
@@ -54,9 +54,6 @@ rising-inserted xs entry n order within parts =
     (λ k d low lt. let yes = parts.1 k d low lt in before_is_not_after entry (get_or xs k d) (grind (arith, common_steps)))
 
 -- ---- one entry less
-false_unless : (b : Bool) → ¬ (b ≡ true) → b ≡ false
-false_unless true not = absurd (not refl)
-false_unless false not = refl
 
 module _ (xs : List DueEntry) (entry : DueEntry) (n : ℕ) (order : IsRising xs) (parts : IsPartitionPoint (λ other. comes_before other entry ≡ true) (λ other. comes_before other entry ≡ false) xs n) where
   pub removed : slice_get xs n ≡ Some entry → remove xs n ≡ without_entry entry xs
@@ -87,4 +84,4 @@ module _ (xs : List DueEntry) (entry : DueEntry) (n : ℕ) (order : IsRising xs)
   pub kept : slice_get xs n ≢ Some entry → without_entry entry xs ≡ xs
   kept other =
       without_any (is_entry entry) xs entry
-      (λ k within. false_unless (is_entry entry (get_or xs k entry)) (λ yes. other (stands k within (sym (entry_from_test entry (get_or xs k entry) yes)))))
+      (λ k within. false_from_ne_true (is_entry entry (get_or xs k entry)) (λ yes. other (stands k within (sym (entry_from_test entry (get_or xs k entry) yes)))))

@@ -1,11 +1,11 @@
 -- What lists of events have counted.
-use Rattle.std.proofs.Common.{◌≡◌, inl, inr, ℕ, zero, suc, ◌+◌, ◌*◌, ◌/◌, ◌<◌, ◌≤◌, nat_eq, Bool, true, false, cond, List, [], ◌∷◌, length, map, slice_get, Option, Some, None, refl, sym, ap, ap₂, ◌∙◌, subst, arith, add-zero, zero-add, mul_comm}
+use Rattle.std.proofs.Common.{◌≡◌, inl, inr, ℕ, zero, suc, ◌+◌, ◌*◌, ◌/◌, ◌<◌, ◌≤◌, nat_eq, false, cond, List, [], ◌∷◌, length, map, slice_get, Option, Some, None, refl, sym, ap, ap₂, ◌∙◌, subst, arith, add-zero, zero-add, mul_comm}
 use Rattle.std.specs.Prelude.{slice_index_or, count_by}
 use Rattle.std.specs.Option.{option_map_or}
-use Rattle.std.proofs.lemmas.Bool.{eqb-true}
 use Rattle.std.proofs.lemmas.List.Sums.{sum_by-cons, sum_by-append}
 use Rattle.std.proofs.lemmas.Nat.{div-mul-add}
 use Rattle.std.proofs.lemmas.Option.{slice_get-get_or}
+use Rattle.list_lemmas.proofs.Numbers.{nat_eq-swapped}
 use Rattle.pals_base.specs.Steps.{upwards}
 use Rattle.pals_model.specs.declared.design.Component.{Component}
 use Rattle.pals_model.specs.declared.design.DesignParts.{DesignParts}
@@ -50,23 +50,13 @@ event_counts run s t e node rules before (inr makes) =
     (step_counts run s.state t.state what node rules before.agrees step)
 
 -- ---- sends
-swapped_by : (a b : ℕ) (x y : Bool) → nat_eq a b ≡ x → nat_eq b a ≡ y → x ≡ y
-swapped_by a b true true one other = refl
-swapped_by a b true false one other = let same : a ≡ b = eqb-true a b one in
-    sym one ∙ ap₂ nat_eq same (sym same) ∙ other
-swapped_by a b false true one other = let same : b ≡ a = eqb-true b a other in
-    sym one ∙ ap₂ nat_eq (sym same) same ∙ other
-swapped_by a b false false one other = refl
-
-swapped : (a b : ℕ) → nat_eq a b ≡ nat_eq b a
-swapped a b = swapped_by a b (nat_eq a b) (nat_eq b a) refl refl
 
 -- one sender more
 one_more : (node : ℕ) (o : Option ℕ) (later : List ℕ)
     → sends_of node (with_sender o later) ≡ cond (option_map_or (λ j. nat_eq j node) o false) 1 0 + sends_of node later
 one_more node None later = sym (zero-add _)
 one_more node (Some j) later =
-    sum_by-cons (λ x. cond (nat_eq node x) 1 0) j later ∙ ap (λ b. cond b 1 0 + sends_of node later) (swapped node j)
+    sum_by-cons (λ x. cond (nat_eq node x) 1 0) j later ∙ ap (λ b. cond b 1 0 + sends_of node later) (nat_eq-swapped node j)
 
 -- ---- counts of all
 joined : (a b c x y z : ℕ) → b ≡ a + x → c ≡ b + y → z ≡ x + y → c ≡ a + z

@@ -3,7 +3,6 @@ pub mod ReportRows
 pub mod Turns
 pub mod Worlds
 pub mod Undergone
-pub mod Moves
 pub mod StepCounts
 pub mod Senders
 pub mod Histories

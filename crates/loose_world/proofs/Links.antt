@@ -2,13 +2,12 @@
 use Rattle.std.proofs.Common.{◌≡◌, ◌∙◌, inl, inr, ℕ, zero, suc, ◌+◌, ◌<◌, Bool, cond, List, [], ◌∷◌, ◌++◌, length, map, refl, sym, ap, subst, arith, length-append}
 use Rattle.std.specs.Prelude.{filter, nat_eq, slice_index_or}
 use Rattle.std.specs.List.{enumerate_from}
-use Rattle.std.proofs.lemmas.Bool.{cases_lt}
+use Rattle.std.proofs.lemmas.Bool.{cases_lt, cases_Bool}
 use Rattle.std.proofs.lemmas.List.{length-map, get_or-map, get_or_default, get_or_append_left, get_or_push}
 use Rattle.pals_base.specs.declared.values.LinkNo.{LinkNo}
 use Rattle.pals_model.specs.declared.design.DesignParts.{DesignParts}
 use Rattle.pals_model.specs.declared.design.Link.{Link}
 use Rattle.pals_model.specs.Inputs.{links_from}
-use Rattle.pals_bus.proofs.QueueRooms.{either}
 use Rattle.loose_world.specs.Sent.{AreOutLinks}
 
 -- those of the first nodes
@@ -56,7 +55,7 @@ below p from [] i d lt = absurd (omega (arith, lt))
 below {X = X} p from (x ∷ xs) i d lt =
     let rest = filter p (enumerate_from (from + 1) xs) in
     let numbers : List (ℕ × X) → List ℕ = λ ks. map (λ (k : ℕ × X). k.0) ks in
-    elim (either (p (from, x))) [
+    elim (cases_Bool (p (from, x))) [
       | inl holds ↦
           let is : numbers (filter p (enumerate_from from (x ∷ xs))) ≡ from ∷ numbers rest =
           ap (λ b. numbers (cond b ((from, x) ∷ rest) rest)) holds in

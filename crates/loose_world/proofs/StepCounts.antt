@@ -1,8 +1,10 @@
 -- Each step of the machine counts at each node.
-use Rattle.std.proofs.Common.{◌≡◌, ℕ, suc, ◌+◌, ◌-◌, ◌*◌, ◌<◌, ◌≤◌, nat_eq, Bool, true, false, List, length, Option, Some, None, refl, sym, ap, ap₂, ◌∙◌, subst, arith, length-append}
+use Rattle.std.proofs.Common.{◌≡◌, ℕ, ◌+◌, ◌-◌, ◌*◌, ◌<◌, ◌≤◌, nat_eq, Bool, true, false, List, length, Option, Some, None, refl, sym, ap, ap₂, ◌∙◌, subst, arith, length-append}
 use Rattle.std.specs.Prelude.{nat_lt, is_some, if◌then◌else◌}
 use Rattle.std.proofs.lemmas.Bool.{ltb-false, false≢true}
 use Rattle.std.proofs.lemmas.Option.{slice_get_within}
+use Rattle.bus_machine.proofs.Moves.{sent_at_start, sent_behind, grows_at, stays_at}
+use Rattle.list_lemmas.proofs.Numbers.{add_zero_from}
 use Rattle.pals_base.specs.declared.values.NodeNo.{NodeNo}
 use Rattle.pals_base.specs.declared.values.LinkNo.{LinkNo}
 use Rattle.pals_base.specs.declared.values.Port.{Port}
@@ -28,7 +30,6 @@ use Rattle.bus_machine.proofs.Nodes.{finish_keeps, MaySend, may_send_of}
 use Rattle.bus_machine.proofs.States.{is_component}
 use Rattle.loose_world.specs.proof.Counts.{steps_in_hand, steps_finished, IsCounted}
 use Rattle.loose_world.specs.proof.Histories.{event_of}
-use Rattle.loose_world.proofs.Moves.{grows_at, stays_at}
 
 -- ---- the two quantities
 abbrev steps_of : Run → ℕ → NodeState → ℕ
@@ -36,9 +37,6 @@ steps_of run node n = steps_finished (rate_of run.design node) n
 
 abbrev rounds_of : ℕ → NodeState → ℕ
 rounds_of node n = sent_rounds n
-
-none_more : (a b : ℕ) → a ≡ b → a ≡ b + 0
-none_more a b same = omega arith
 
 -- an event that leaves both at a node leaves both at each
 stay : (run : Run) (s : BusState) (node k : ℕ) (n : NodeState)
@@ -56,15 +54,11 @@ is_waiting_phase (Between steps) is = absurd (false≢true is)
 is_waiting_phase Holding is = absurd (false≢true is)
 is_waiting_phase Done is = absurd (false≢true is)
 
-start_sends : (sent : Bool) (count : ℕ) → sent ≡ true → count + 1 - 1 ≡ (if sent then count else (count - 1))
-start_sends true count is = omega arith
-start_sends false count is = absurd (false≢true is)
-
 counts_start : (run : Run) (s : BusState) (node : NodeNo) (reading m : Option ℕ) (k : ℕ) → Agrees run s
     → is_waiting (node_at s node.0).phase ≡ true
     → IsCounted run s (event.Start node) (after_start run s node reading m) k
 counts_start run s node reading (Some link) k agree waits =
-    record { steps = none_more _ _ refl; sends = none_more _ _ refl }
+    record { steps = add_zero_from _ _ refl; sends = add_zero_from _ _ refl }
 counts_start run s node reading None k agree waits =
     let n = node_at s node.0 in
     let c = component_at run.design node.0 in
@@ -76,23 +70,23 @@ counts_start run s node reading None k agree waits =
     let m = started (plan_of run.design node.0) (values_at run.env n.count) n in
     let both =
     stay run s node.0 k m (ap (λ p. rate_of run.design node.0 * length n.parts + steps_in_hand p) (sym phase))
-    (start_sends n.sent n.count rest.0.sent) in
-    record { steps = none_more _ _ both.0; sends = none_more _ _ both.1 }
+    (sent_at_start n.sent n.count rest.0.sent) in
+    record { steps = add_zero_from _ _ both.0; sends = add_zero_from _ _ both.1 }
 
 -- ---- Step
 counts_step : (run : Run) (s : BusState) (node : NodeNo) (p : Phase) (k : ℕ) → (node_at s node.0).phase ≡ p
     → IsCounted run s (event.Step node)
     (on_step (next_step p) s (λ step. with_node s node.0 (stepped step (node_at s node.0)))) k
-counts_step run s node Waiting k is = record { steps = none_more _ _ refl; sends = none_more _ _ refl }
-counts_step run s node (Running step) k is = record { steps = none_more _ _ refl; sends = none_more _ _ refl }
+counts_step run s node Waiting k is = record { steps = add_zero_from _ _ refl; sends = add_zero_from _ _ refl }
+counts_step run s node (Running step) k is = record { steps = add_zero_from _ _ refl; sends = add_zero_from _ _ refl }
 counts_step run s node (Between steps) k is =
     let n = node_at s node.0 in
     let both =
     stay run s node.0 k (stepped steps n)
     (ap (λ p. rate_of run.design node.0 * length n.parts + steps_in_hand p) (sym is)) refl in
-    record { steps = none_more _ _ both.0; sends = none_more _ _ both.1 }
-counts_step run s node Holding k is = record { steps = none_more _ _ refl; sends = none_more _ _ refl }
-counts_step run s node Done k is = record { steps = none_more _ _ refl; sends = none_more _ _ refl }
+    record { steps = add_zero_from _ _ both.0; sends = add_zero_from _ _ both.1 }
+counts_step run s node Holding k is = record { steps = add_zero_from _ _ refl; sends = add_zero_from _ _ refl }
+counts_step run s node Done k is = record { steps = add_zero_from _ _ refl; sends = add_zero_from _ _ refl }
 
 -- ---- Finish
 no_hand : (sent : Bool) (b : Bool) → steps_in_hand (if sent then at_rest b else Holding) ≡ 0
@@ -149,7 +143,7 @@ counts_finish run s node (Running step) k agree is may =
     (finish_counts plan run.rounds step n round.within is) in
     record {
       steps = grows_at (steps_of run) s node.0 k 1 m below steps;
-      sends = none_more _ _ (stays_at rounds_of s node.0 k m sends);
+      sends = add_zero_from _ _ (stays_at rounds_of s node.0 k m sends);
     }
 counts_finish run s node (Between steps) k agree is may = absurd (false≢true may)
 counts_finish run s node Holding k agree is may = absurd (false≢true may)
@@ -162,11 +156,6 @@ send_keeps_hand count rounds (Running step) = refl
 send_keeps_hand count rounds (Between steps) = refl
 send_keeps_hand count rounds Holding = no_hand true (nat_eq count rounds)
 send_keeps_hand count rounds Done = refl
-
-one_round : (sent : Bool) (count round : ℕ) → sent ≡ false → count ≡ suc round
-    → count ≡ (if sent then count else (count - 1)) + 1
-one_round true count round unsent some = absurd (false≢true (sym unsent))
-one_round false count round unsent some = omega arith
 
 -- the node of a send, before it
 pub sender_before : (run : Run) (s : BusState) (node : NodeNo) → Agrees run s
@@ -198,10 +187,10 @@ counts_send run s node reading k agree may =
     let hand : steps_of run node.0 m ≡ steps_of run node.0 n =
     ap (λ h. rate_of run.design node.0 * length n.parts + h) (send_keeps_hand n.count run.rounds n.phase) in
     record {
-      steps = none_more _ _ (stays_at (steps_of run) s node.0 k m hand);
+      steps = add_zero_from _ _ (stays_at (steps_of run) s node.0 k m hand);
       sends =
           grows_at rounds_of s node.0 k 1 m below
-          (one_round n.sent n.count before.under_way.round before.unsent before.under_way.count);
+          (sent_behind n.sent n.count before.under_way.round before.unsent before.under_way.count);
     }
 
 -- ---- Arrive
@@ -220,7 +209,7 @@ counts_arrive run s link round reading k =
     let tuple = arriving round (flight_at s link.0) in
     let keeps = arrival_keeps run l.target.0 n l.in_port tuple (arrived n l.in_port round) in
     let both = stay run s l.target.0 k (received n l.in_port round tuple) keeps.0 keeps.1 in
-    record { steps = none_more _ _ both.0; sends = none_more _ _ both.1 }
+    record { steps = add_zero_from _ _ both.0; sends = add_zero_from _ _ both.1 }
 
 -- ---- each event
 counts_after : (run : Run) (s : BusState) (e : BusEvent) (k : ℕ) → Agrees run s → is_allowed run s e ≡ true
@@ -231,8 +220,8 @@ counts_after run s (Step node reading) k agree may = counts_step run s node (nod
 counts_after run s (Finish node) k agree may = counts_finish run s node (node_at s node.0).phase k agree refl may
 counts_after run s (Send node reading) k agree may = counts_send run s node reading k agree may
 counts_after run s (Arrive link round reading) k agree may = counts_arrive run s link round reading k
-counts_after run s (Drop link round) k agree may = record { steps = none_more _ _ refl; sends = none_more _ _ refl }
-counts_after run s (Repeat link round) k agree may = record { steps = none_more _ _ refl; sends = none_more _ _ refl }
+counts_after run s (Drop link round) k agree may = record { steps = add_zero_from _ _ refl; sends = add_zero_from _ _ refl }
+counts_after run s (Repeat link round) k agree may = record { steps = add_zero_from _ _ refl; sends = add_zero_from _ _ refl }
 
 pub step_counts : (run : Run) (s t : BusState) (e : BusEvent) (node : ℕ) → IsRunOf run → Agrees run s → IsStep run s e t
     → IsCounted run s (event_of e) t node

@@ -5,6 +5,7 @@ use Rattle.std.specs.List.{enumerate_from}
 use Rattle.std.proofs.lemmas.Bool.{lt-ltb, le-ltb, cases_lt}
 use Rattle.std.proofs.lemmas.List.Elements.{All-head, All-tail}
 use Rattle.std.proofs.lemmas.Option.{slice_get-get_or}
+use Rattle.std.proofs.lemmas.List.{nil_from_length}
 use Rattle.pals_base.specs.Steps.{upwards}
 use Rattle.pals_model.specs.declared.design.Component.{Component}
 use Rattle.pals_model.specs.declared.design.Tap.{Tap}
@@ -64,15 +65,11 @@ least_at a [] k d within = absurd (omega (arith, within))
 least_at a (n ∷ ns) zero d within = let rest = least_at_most (min a (length n.parts)) ns in omega arith
 least_at a (n ∷ ns) (suc k) d within = least_at (min a (length n.parts)) ns k d (omega (arith, within))
 
-none_left : {X : Type 0} (xs : List X) → length xs ≡ 0 → xs ≡ []
-none_left [] none = refl
-none_left (x ∷ xs) none = absurd (omega (arith, none))
-
 pub rounds_without_nodes : (run : Run) (s : BusState) → Agrees run s → run.design.components ≡ []
     → finished_by_all run s ≡ run.rounds
 rounds_without_nodes run s agree none =
     ap (fold (λ least (n : NodeState). min least (length n.parts)) run.rounds)
-    (none_left s.nodes (agree.node_count ∙ ap (λ (cs : List Component). length cs) none))
+    (nil_from_length s.nodes (agree.node_count ∙ ap (λ (cs : List Component). length cs) none))
 
 -- ---- a row tells of components alone
 same_part_lines : (f g : ℕ → Option Part) (from : ℕ) (components : List Component)

@@ -1,12 +1,12 @@
 -- The threads of an instance are within the limits: the component of each is the one that stands at its path.
-use Rattle.std.proofs.Common.{◌≡◌, ◌∙◌, ℕ, ◌+◌, ◌-◌, true, List, [], ◌∷◌, ◌++◌, length, map, reverse, Option, Some, None, refl, sym, ap, subst, arith}
-use Rattle.std.specs.Prelude.{All, slice_get}
+use Rattle.std.proofs.Common.{◌≡◌, ◌∙◌, ℕ, true, List, [], ◌∷◌, ◌++◌, map, reverse, Option, Some, None, refl, sym, ap, subst}
+use Rattle.std.specs.Prelude.{All}
 use Rattle.std.specs.Option.{option_and_then}
 use Rattle.std.proofs.Props.{props}
 use Rattle.std.proofs.Math.Logic.{∥∥₁_elim}
-use Rattle.std.proofs.lemmas.List.{get_or_push, length-append, reverse-append}
+use Rattle.std.proofs.lemmas.List.{reverse-append}
 use Rattle.std.proofs.lemmas.List.Elements.{All-map, All-same, All-weaker}
-use Rattle.std.proofs.lemmas.Option.{slice_get_read}
+use Rattle.list_lemmas.proofs.Places.{slice_get-last}
 use Rattle.aadl_tree.specs.Declarations.{Subcomponent, Implementation, PackageTree}
 use Rattle.aadl_names.specs.Resolving.{implementation_at, referred, target_of, is_thread}
 use Rattle.aadl_uses.specs.Uses.{sub_at, below, standing, component_at}
@@ -23,11 +23,6 @@ use Rattle.model_violations.proofs.Flats.{is_small}
 use Rattle.model_checks.specs.proof.Limits.{IsWithinLimits}
 
 -- ---- the innermost subcomponent of a path
-last_of : {X : Type 0} (xs : List X) (x : X) → slice_get (xs ++ x ∷ []) (length (xs ++ x ∷ []) - 1) ≡ Some x
-last_of xs x =
-    let long : length (xs ++ x ∷ []) ≡ length xs + 1 = length-append xs (x ∷ []) in
-    let at : length xs ≡ length (xs ++ x ∷ []) - 1 = omega (arith, long) in
-    slice_get_read (xs ++ x ∷ []) (length (xs ++ x ∷ [])) (length (xs ++ x ∷ []) - 1) x refl (omega (arith, long)) (sym (get_or_push xs x x (length (xs ++ x ∷ []) - 1) at))
 
 subs_at : (tree : PackageTree ℕ) (root n s : ℕ) (path : List ℕ) → standing tree root path ≡ Some n
     → reverse (subs_along tree root (s ∷ path)) ≡ reverse (subs_along tree root path) ++ record { declaration = n; sub = s } ∷ []
@@ -38,7 +33,7 @@ subs_at tree root n s path stands =
 innermost_at : (tree : PackageTree ℕ) (root n s : ℕ) (path : List ℕ) → standing tree root path ≡ Some n → innermost tree (reverse (subs_along tree root (s ∷ path))) ≡ sub_at tree n s
 innermost_at tree root n s path stands =
     let last : SubAt = record { declaration = n; sub = s } in
-    ap (innermost tree) (subs_at tree root n s path stands) ∙ ap (option_and_then (sub_of tree)) (last_of (reverse (subs_along tree root path)) last)
+    ap (innermost tree) (subs_at tree root n s path stands) ∙ ap (option_and_then (sub_of tree)) (slice_get-last (reverse (subs_along tree root path)) last)
 
 -- ---- its component
 joined : {A B C : Type 0} (g : B → Option C) (f : A → Option B) (o : Option A) → option_and_then (λ x. option_and_then g (f x)) o ≡ option_and_then g (option_and_then f o)

@@ -1,21 +1,17 @@
 -- The connections that carry chains, one after the other.
-use Rattle.std.proofs.Common.{◌≡◌, ◌∙◌, ℕ, ◌+◌, ◌<◌, nat_eq, Bool, true, false, ◌&&◌, ◌||◌, List, [], ◌∷◌, ◌++◌, length, map, take, get_or, refl, sym, ap}
+use Rattle.std.proofs.Common.{◌≡◌, ◌∙◌, ℕ, ◌+◌, ◌<◌, nat_eq, ◌&&◌, ◌||◌, List, [], ◌∷◌, ◌++◌, length, map, take, get_or, sym, ap}
 use Rattle.std.proofs.lemmas.List.Folds.{list_any-append}
+use Rattle.std.proofs.Math.Bool.{or_assoc, or-false}
 use Rattle.annex_resolve.proofs.Listing.{map_next}
 use Rattle.aadl_instance.specs.declared.parts.Chain.{Chain}
 use Rattle.model_violations.specs.Carriers.{carries}
 use Rattle.model_violations.specs.Violations.{place_of}
-use Rattle.model_violations.proofs.Numbers.{or_nothing}
-
-or_or : (a b c : Bool) → ((a || b) || c) ≡ (a || (b || c))
-or_or true b c = refl
-or_or false b c = refl
 
 pub carries-append : (a b : List (ℕ × ℕ)) (n i : ℕ) → carries (a ++ b) n i ≡ (carries a n i || carries b n i)
 carries-append a b n i = list_any-append (λ k. nat_eq n k.0 && nat_eq i k.1) a b
 
 carries-one : (x : Chain) (n i : ℕ) → (nat_eq n x.carrier.declaration && nat_eq i x.carrier.connection) ≡ carries (place_of x ∷ []) n i
-carries-one x n i = sym (or_nothing (nat_eq n x.carrier.declaration && nat_eq i x.carrier.connection))
+carries-one x n i = sym (or-false (nat_eq n x.carrier.declaration && nat_eq i x.carrier.connection))
 
 -- one more chain
 pub carries_next : (before old new : List (ℕ × ℕ)) (chains : List Chain) (k : ℕ) (x : Chain) → k < length chains → x ≡ get_or chains k x
@@ -25,7 +21,7 @@ pub carries_next : (before old new : List (ℕ × ℕ)) (chains : List Chain) (k
 carries_next before old new chains k x within is so_far added n i =
     let front = map place_of (take k chains) in
     added n i ∙ ap (λ b. b || (nat_eq n x.carrier.declaration && nat_eq i x.carrier.connection)) (so_far n i)
-    ∙ or_or (carries before n i) (carries front n i) (nat_eq n x.carrier.declaration && nat_eq i x.carrier.connection)
+    ∙ or_assoc (carries before n i) (carries front n i) (nat_eq n x.carrier.declaration && nat_eq i x.carrier.connection)
     ∙ ap (λ b. carries before n i || (carries front n i || b)) (carries-one x n i)
     ∙ ap (λ b. carries before n i || b) (sym (carries-append front (place_of x ∷ []) n i) ∙ ap (λ l. carries l n i) (sym (map_next place_of chains k x within is)))
 

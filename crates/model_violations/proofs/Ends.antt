@@ -1,7 +1,8 @@
 -- The types of the ports that a connection joins, by the numbers of what is declared.
-use Rattle.std.proofs.Common.{◌≡◌, ◌∙◌, ℕ, Option, Some, None, slice_get, option_map, refl, sym, ap}
+use Rattle.std.proofs.Common.{◌≡◌, ◌∙◌, ℕ, Some, slice_get, option_map, sym, ap}
 use Rattle.std.specs.Option.{option_and_then}
 use Rattle.std.proofs.lemmas.Option.{same_Some, slice_get-map}
+use Rattle.list_lemmas.proofs.Options.{option_and_then_assoc}
 use Rattle.aadl_tree.specs.Declarations.{Subcomponent, Connection, Implementation, PackageTree}
 use Rattle.aadl_names.specs.declared.site.Site.TheVariants.{Own, Inner}
 use Rattle.aadl_names.specs.Resolving.{features_of, implementation_at, subcomponents_of, referred, target_of, type_number, type_numbered}
@@ -12,15 +13,10 @@ use Rattle.aadl_uses.specs.proof.Types.{type_number_at}
 use Rattle.model_violations.specs.Connections.{kind_numbered, site_kind}
 use Rattle.model_violations.specs.proof.Connections.{IsConnection}
 
-twice : {A B C : Type 0} (f : A → Option B) (g : B → Option C) (o : Option A)
-    → option_and_then g (option_and_then f o) ≡ option_and_then (λ a. option_and_then g (f a)) o
-twice f g None = refl
-twice f g (Some a) = refl
-
 -- what a subcomponent names, by the numbers of both
 pub target_below : (tree : PackageTree ℕ) (n s : ℕ)
     → option_and_then (implementation_at tree) (below tree n s) ≡ option_and_then (target_of tree) (slice_get (subcomponents_of (implementation_at tree n)) s)
-target_below tree n s = twice (λ (sub : Subcomponent ℕ). referred tree sub.classifier) (implementation_at tree) (slice_get (subcomponents_of (implementation_at tree n)) s)
+target_below tree n s = option_and_then_assoc (λ (sub : Subcomponent ℕ). referred tree sub.classifier) (implementation_at tree) (slice_get (subcomponents_of (implementation_at tree n)) s)
 
 -- ---- the type of a port, own or of a subcomponent
 module _ (tree : PackageTree ℕ) (n : ℕ) (x : Implementation ℕ) (is : implementation_at tree n ≡ Some x) where
@@ -30,7 +26,7 @@ module _ (tree : PackageTree ℕ) (n : ℕ) (x : Implementation ℕ) (is : imple
   pub inner_kind : (s p : ℕ) → kind_numbered (features_of (type_numbered tree (option_and_then (type_number_at tree) (below tree n s)))) p ≡ site_kind tree x (Inner s p)
   inner_kind s p =
       ap (λ o. kind_numbered (features_of (type_numbered tree o)) p)
-      (sym (twice (implementation_at tree) (type_number tree) (below tree n s))
+      (sym (option_and_then_assoc (implementation_at tree) (type_number tree) (below tree n s))
       ∙ ap (option_and_then (type_number tree)) (target_below tree n s ∙ ap (λ o. option_and_then (target_of tree) (slice_get (subcomponents_of o) s)) is))
 
 -- ---- a connection of a declaration joins what its ends name

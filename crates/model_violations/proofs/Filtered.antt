@@ -1,13 +1,14 @@
 -- The number that a thing has among those of its kind that are left, one thing further on.
 use Rattle.std.proofs.Common.{◌≡◌, ◌∙◌, ℕ, ◌+◌, ◌<◌, ◌≤◌, Bool, true, false, cond, List, ◌∷◌, length, map, filter, drop, get_or, Some, None, ap, add-one}
 use Rattle.std.specs.Prelude.{slice_get}
-use Rattle.aadl_names.proofs.Finds.{first_left, none_left}
+use Rattle.list_lemmas.proofs.Lists.{drop-next}
+use Rattle.aadl_names.proofs.Finds.{none_left}
 
 tested : {A B : Type 0} (p : B → Bool) (v : A → B) (xs : List A) (i : ℕ) (x : A) (b : Bool) → i < length xs → x ≡ get_or xs i x → p (v x) ≡ b
     → filter p (map v (drop i xs)) ≡ cond b (v x ∷ filter p (map v (drop (i + 1) xs))) (filter p (map v (drop (i + 1) xs)))
 tested p v xs i x b within is test =
     let rest = filter p (map v (drop (i + 1) xs)) in
-    ap (λ l. filter p (map v l)) (first_left xs i x within is) ∙ ap (λ t. cond t (v x ∷ rest) rest) test
+    ap (λ l. filter p (map v l)) (drop-next xs i x within is) ∙ ap (λ t. cond t (v x ∷ rest) rest) test
 
 -- it is the first
 pub found_here : {A B : Type 0} (p : B → Bool) (v : A → B) (xs : List A) (i n : ℕ) (x : A) → i < length xs → x ≡ get_or xs i x → p (v x) ≡ true → n ≡ 0

@@ -1,12 +1,13 @@
 -- What the package of an instance keeps: its root is a declaration, and its threads are within the limits.
-use Rattle.std.proofs.Common.{◌≡◌, ◌∙◌, inl, inr, ℕ, ◌+◌, ◌<◌, ◌≤◌, Bool, true, false, cond, List, [], ◌∷◌, length, Option, Some, None, refl, sym, ap, subst, arith, codes, length-append}
+use Rattle.std.proofs.Common.{◌≡◌, ◌∙◌, inl, inr, ℕ, ◌<◌, ◌≤◌, Bool, true, List, [], ◌∷◌, length, Option, Some, None, refl, sym, ap, subst, arith, codes, length-append}
 use Rattle.aadl_tree.specs.Names.{identifiers, listed_in}
 use Rattle.std.specs.Prelude.{flat_map, slice_get}
 use Rattle.std.specs.Option.{option_and_then}
-use Rattle.std.specs.List.{position_from}
 use Rattle.std.proofs.Props.{props}
 use Rattle.std.proofs.Math.Logic.{∥∥₁_elim}
 use Rattle.std.proofs.lemmas.List.{length-map}
+use Rattle.list_lemmas.proofs.Numbers.{le_from_not_lt}
+use Rattle.list_lemmas.proofs.Places.{position_from-within}
 use Rattle.pals_base.specs.declared.limits.TheConstants.{PORTS, VARIABLES}
 use Rattle.aadl_tree.specs.Annexes.{VariableDeclaration, AnnexTree}
 use Rattle.aadl_tree.specs.Declarations.{Implementation, PackageTree}
@@ -28,17 +29,9 @@ use Rattle.model_violations.specs.Use.{IsUse}
 use Rattle.model_violations.specs.Declarations.{AreSmall}
 
 -- ---- the root is a declaration
-position_by : {X : Type 0} (p : X → Bool) (i n : ℕ) (x : X) (xs : List X) → (position_from p (i + 1) xs ≡ Some n → n < (i + 1) + length xs)
-    → (here : Bool) → cond here (Some i) (position_from p (i + 1) xs) ≡ Some n → n < i + length (x ∷ xs)
-position_by p i n x xs later true is = let e : i ≡ n = cc in omega (arith, e)
-position_by p i n x xs later false is = let h = later is in omega (arith, h)
-
-position_below : {X : Type 0} (p : X → Bool) (i n : ℕ) (xs : List X) → position_from p i xs ≡ Some n → n < i + length xs
-position_below p i n [] is = absurd (cc is)
-position_below p i n (x ∷ xs) is = position_by p i n x xs (position_below p (i + 1) n xs) (p x) is
 
 first_below : {X : Type 0} (p : X → Bool) (n : ℕ) (xs : List X) → first_number p xs ≡ Some n → n < length xs
-first_below p n xs is = let h = position_below p 0 n xs is in omega (arith, h)
+first_below p n xs is = let h = position_from-within p 0 n xs is in omega (arith, h)
 
 root_in : {tree : PackageTree ℕ} {root : ℕ} {threads : List ThreadAt} {links feeds taps : List Chain} → IsInstance tree root threads links feeds taps → root < length tree.declarations
 root_in {tree} i = let h = first_below (is_root i.name) i.parts.root tree.declarations i.flat.root in let e = i.root_is in omega (arith, h, e)
@@ -47,19 +40,17 @@ pub root_within : {tree : PackageTree ℕ} {root : ℕ} {threads : List ThreadAt
 root_within flat = ∥∥₁_elim flat (hlevel props) (λ i. root_in i)
 
 -- ---- nothing is above a limit
-at_most : (m n : ℕ) → (m < n → ⊥) → n ≤ m
-at_most m n not_more = omega arith
 
 pub few_ports : {tree : PackageTree ℕ} {name : List ℕ} {parts : Parts} → IsFlat tree name parts → (path : List ℕ) (x : Implementation ℕ) → IsThreadOf tree parts.root path x → length (ports_of tree x) ≤ PORTS
 few_ports {tree} {name} {parts} flat path x thread =
     let what = codes "ports" in
-    at_most PORTS (length (ports_of tree x))
+    le_from_not_lt PORTS (length (ports_of tree x))
     (λ more. flat.sound 7 (TooMany what) (inr (parts.root, flat.root, inr (inr (inr (what, inr (inr (inl (refl, refl, (path, x, thread, more)))), refl))))))
 
 pub few_variables : {tree : PackageTree ℕ} {name : List ℕ} {parts : Parts} → IsFlat tree name parts → (path : List ℕ) (x : Implementation ℕ) → IsThreadOf tree parts.root path x → variable_count x ≤ VARIABLES
 few_variables {tree} {name} {parts} flat path x thread =
     let what = codes "variables" in
-    at_most VARIABLES (variable_count x)
+    le_from_not_lt VARIABLES (variable_count x)
     (λ more. flat.sound 8 (TooMany what) (inr (parts.root, flat.root, inr (inr (inr (what, inr (inr (inr (inl (refl, refl, (path, x, thread, more))))), refl))))))
 
 -- ---- the variables of an annex, by their names and with their types

@@ -5,8 +5,8 @@ use Rattle.std.specs.List.{filter_map, cons_option}
 use Rattle.std.proofs.lemmas.List.{map-append, length-map}
 use Rattle.std.proofs.lemmas.List.Filters.{length-filter_both}
 use Rattle.std.proofs.lemmas.List.Elements.{filter-append}
+use Rattle.list_lemmas.proofs.Lists.{drop-next}
 use Rattle.aadl_tree.specs.Declarations.{Feature}
-use Rattle.aadl_names.proofs.Finds.{first_left}
 use Rattle.annex_resolve.proofs.Listing.{map_next}
 use Rattle.component_checks.specs.Types.{is_in}
 use Rattle.model_violations.specs.Values.{port_of, ins_in, outs_in}
@@ -32,12 +32,12 @@ kept_next h p v xs i x b old new within is test before added =
 pub first_here : {A B C : Type 0} (f : B → Option C) (v : A → B) (xs : List A) (i : ℕ) (x : A) (y : C) → i < length xs → x ≡ get_or xs i x → f (v x) ≡ Some y
     → slice_get (filter_map f (map v (drop i xs))) 0 ≡ Some y
 first_here f v xs i x y within is made =
-    ap (λ l. slice_get (filter_map f (map v l)) 0) (first_left xs i x within is) ∙ ap (λ o. slice_get (cons_option o (filter_map f (map v (drop (i + 1) xs)))) 0) made
+    ap (λ l. slice_get (filter_map f (map v l)) 0) (drop-next xs i x within is) ∙ ap (λ o. slice_get (cons_option o (filter_map f (map v (drop (i + 1) xs)))) 0) made
 
 pub first_later : {A B C : Type 0} (f : B → Option C) (v : A → B) (xs : List A) (i : ℕ) (x : A) → i < length xs → x ≡ get_or xs i x → f (v x) ≡ None
     → slice_get (filter_map f (map v (drop i xs))) 0 ≡ slice_get (filter_map f (map v (drop (i + 1) xs))) 0
 first_later f v xs i x within is none =
-    ap (λ l. slice_get (filter_map f (map v l)) 0) (first_left xs i x within is) ∙ ap (λ o. slice_get (cons_option o (filter_map f (map v (drop (i + 1) xs)))) 0) none
+    ap (λ l. slice_get (filter_map f (map v l)) 0) (drop-next xs i x within is) ∙ ap (λ o. slice_get (cons_option o (filter_map f (map v (drop (i + 1) xs)))) 0) none
 
 -- ---- in ports and out ports are together all ports
 pub ports_both : (ports : List (Feature ℕ)) → length (ins_in ports) + length (outs_in ports) ≡ length ports

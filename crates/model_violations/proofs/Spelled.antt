@@ -4,8 +4,9 @@ use Rattle.aadl_tree.specs.Names.{same_name}
 use Rattle.std.specs.List.{list_any}
 use Rattle.std.specs.Option.{is_some, option_or}
 use Rattle.std.proofs.lemmas.List.Folds.{list_any-append}
+use Rattle.list_lemmas.proofs.Lists.{drop-next}
 use Rattle.aadl_names.specs.proof.Tables.{value_of}
-use Rattle.aadl_names.proofs.Finds.{first_left, none_left}
+use Rattle.aadl_names.proofs.Finds.{none_left}
 use Rattle.model_violations.specs.Ignored.{behind, all_behind}
 use Rattle.model_violations.specs.proof.Ignored.{KnowsAll}
 
@@ -28,7 +29,7 @@ behind_new table first more x knows is pushed = pushed ∙ sym (new_behind first
 -- one more of the names that are left
 pub turned : (names first more : List (List ℕ)) (i : ℕ) (x : List ℕ) → i < length names → x ≡ get_or names i x → more ≡ behind first x
     → all_behind [] names ≡ all_behind first (drop i names) → all_behind [] names ≡ all_behind more (drop (i + 1) names)
-turned names first more i x within is added left = left ∙ ap (all_behind first) (first_left names i x within is) ∙ ap (λ l. all_behind l (drop (i + 1) names)) (sym added)
+turned names first more i x within is added left = left ∙ ap (all_behind first) (drop-next names i x within is) ∙ ap (λ l. all_behind l (drop (i + 1) names)) (sym added)
 
 -- ---- the table, with one more
 some_or : (o : Option ℕ) (b : Bool) (n : ℕ) → is_some (option_or o (cond b (Some n) None)) ≡ (is_some o || b || false)

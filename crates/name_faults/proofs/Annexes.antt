@@ -1,6 +1,7 @@
 -- The behaviours of an implementation, one annex after the other.
 use Rattle.std.proofs.Common.{◌≡◌, ℕ, ◌+◌, ◌<◌, ◌≤◌, Bool, true, false, List, [], ◌∷◌, ◌++◌, length, drop, get_or, map, Option, refl}
 use Rattle.std.proofs.Common.{sym, ap, ◌∙◌}
+use Rattle.list_lemmas.proofs.Lists.{drop-next}
 use Rattle.aadl_tree.specs.Names.{Identifier}
 use Rattle.aadl_tree.specs.Annexes.{AnnexTree, AnnexContent, foreign, behaviour, Annex}
 use Rattle.aadl_tree.specs.Declarations.{Implementation, PackageTree}
@@ -10,7 +11,7 @@ use Rattle.aadl_names.specs.Behaviours.{behaviours}
 use Rattle.aadl_names.specs.proof.Found.{found}
 use Rattle.aadl_names.specs.Resolving.{is_thread}
 use Rattle.aadl_names.specs.PackageFaults.{behaviour_faults, annex_faults}
-use Rattle.aadl_names.proofs.Finds.{first_left, none_left, found_append}
+use Rattle.aadl_names.proofs.Finds.{none_left, found_append}
 use Rattle.name_faults.specs.proof.Expected.{annex_uses, still_expected, behaviours_left}
 
 -- each behaviour that is left is too many
@@ -38,7 +39,7 @@ pub next_annex : {A : Type 0} (view : A → Annex ℕ) (tree : PackageTree ℕ) 
     → after ≡ found before (annex_uses tree x expected (view a)) → still ≡ still_expected expected (view a)
     → whole ≡ found after (behaviours_left tree x still (behaviours (map view (drop (i + 1) items))))
 next_annex view tree x items i a expected still whole before after within is left more flag =
-    left ∙ (ap (λ l. found before (behaviours_left tree x expected (behaviours (map view l)))) (first_left items i a within is)
+    left ∙ (ap (λ l. found before (behaviours_left tree x expected (behaviours (map view l)))) (drop-next items i a within is)
     ∙ (ap (found before) (step tree x expected (view a) (map view (drop (i + 1) items)))
     ∙ (found_append before (annex_uses tree x expected (view a))
     (behaviours_left tree x (still_expected expected (view a)) (behaviours (map view (drop (i + 1) items))))

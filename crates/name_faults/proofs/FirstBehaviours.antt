@@ -1,5 +1,6 @@
 -- The first behaviour among annexes.
 use Rattle.std.proofs.Common.{◌≡◌, ℕ, ◌+◌, ◌<◌, ◌≤◌, List, ◌∷◌, length, drop, get_or, map, Option, None, sym, ap, ◌∙◌}
+use Rattle.list_lemmas.proofs.Lists.{drop-next}
 use Rattle.aadl_tree.specs.declared.annex.AnnexContent as source_content
 use Rattle.aadl_tree.specs.declared.annex.Annex.{Annex}
 use Rattle.aadl_tree.specs.Annexes.{AnnexTree, AnnexContent}
@@ -8,7 +9,7 @@ use Rattle.aadl_tree.specs.proof.Views.{annex_view, content_view}
 use Rattle.aadl_tree.specs.proof.NameViews.{identifier_view}
 use Rattle.aadl_tree.specs.proof.Maps.{kept_place}
 use Rattle.aadl_names.specs.Behaviours.{behaviours}
-use Rattle.aadl_names.proofs.Finds.{first_left, none_left}
+use Rattle.aadl_names.proofs.Finds.{none_left}
 use Rattle.aadl_names.specs.Behaviours.{first_behaviour}
 
 -- an annex of some content, and others behind it
@@ -20,7 +21,7 @@ pub here_first : (items : List Annex) (i : ℕ) (x : Annex) (content : source_co
     → whole ≡ first_behaviour (behaviours (map (annex_view kept_place) (drop i items)))
     → whole ≡ first_with x (content_view kept_place content) (map (annex_view kept_place) (drop (i + 1) items))
 here_first items i x content whole within is of left =
-    left ∙ (ap (λ l. first_behaviour (behaviours (map (annex_view kept_place) l))) (first_left items i x within is)
+    left ∙ (ap (λ l. first_behaviour (behaviours (map (annex_view kept_place) l))) (drop-next items i x within is)
     ∙ ap (λ c. first_with x (content_view kept_place c) (map (annex_view kept_place) (drop (i + 1) items))) of)
 
 -- behind the last annex there is none

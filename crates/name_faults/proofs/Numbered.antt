@@ -2,16 +2,17 @@
 use Rattle.std.proofs.Common.{◌≡◌, ℕ, ◌+◌, ◌<◌, ◌≤◌, List, [], ◌∷◌, length, drop, get_or, map, Option, Some, sym, ap, ◌∙◌, zero, suc, arith}
 use Rattle.std.specs.Prelude.{slice_get}
 use Rattle.std.specs.List.{flat_map, enumerate_from}
+use Rattle.list_lemmas.proofs.Lists.{drop-next}
 use Rattle.aadl_names.specs.declared.fault.FlatFault.{FlatFault}
 use Rattle.aadl_names.specs.proof.Found.{found}
-use Rattle.aadl_names.proofs.Finds.{first_left, none_left, found_append}
+use Rattle.aadl_names.proofs.Finds.{none_left, found_append}
 
 pub next_numbered : {A B : Type 0} (view : A → B) (here : ℕ × B → List FlatFault) (xs : List A) (i : ℕ) (x : A) (whole before after : (Option FlatFault))
     → i < length xs → x ≡ get_or xs i x
     → whole ≡ found before (flat_map here (enumerate_from i (map view (drop i xs)))) → after ≡ found before (here (i, view x))
     → whole ≡ found after (flat_map here (enumerate_from (i + 1) (map view (drop (i + 1) xs))))
 next_numbered view here xs i x whole before after within is left more =
-    left ∙ (ap (λ l. found before (flat_map here (enumerate_from i (map view l)))) (first_left xs i x within is)
+    left ∙ (ap (λ l. found before (flat_map here (enumerate_from i (map view l)))) (drop-next xs i x within is)
     ∙ (found_append before (here (i, view x)) (flat_map here (enumerate_from (i + 1) (map view (drop (i + 1) xs))))
     ∙ ap (λ o. found o (flat_map here (enumerate_from (i + 1) (map view (drop (i + 1) xs))))) (sym more)))
 

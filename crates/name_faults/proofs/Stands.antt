@@ -1,6 +1,7 @@
 -- What is looked up of the implementation of a number.
 use Rattle.std.proofs.Common.{◌≡◌, ◌∙◌, ℕ, Option, Some, None, refl, ap, slice_get, map, option_map}
 use Rattle.std.specs.Option.{option_and_then}
+use Rattle.list_lemmas.proofs.Options.{option_and_then_assoc}
 use Rattle.aadl_tree.specs.Declarations.{Subcomponent, Connection, Implementation, PackageTree}
 use Rattle.aadl_tree.specs.declared.declarations.Direction.{Direction}
 use Rattle.aadl_names.specs.declared.fault.FlatFault.{FlatFault}
@@ -19,11 +20,6 @@ use Rattle.name_faults.specs.proof.Standing.{StandsAt}
 pub of_root : (tree : PackageTree ℕ) (x : Option (Implementation ℕ)) → type_number_by tree x ≡ root_type tree x
 of_root tree None = refl
 of_root tree (Some x) = refl
-
-then_twice : {A B C : Type 0} (f : A → Option B) (g : B → Option C) (o : Option A)
-    → option_and_then g (option_and_then f o) ≡ option_and_then (λ a. option_and_then g (f a)) o
-then_twice f g None = refl
-then_twice f g (Some a) = refl
 
 module _ (tree : PackageTree ℕ) (n : ℕ) (x : Implementation ℕ) (stands : StandsAt tree n x) where
   pub type_is : type_number_at tree n ≡ type_number tree x
@@ -45,7 +41,7 @@ module _ (tree : PackageTree ℕ) (n : ℕ) (x : Implementation ℕ) (stands : S
       ≡ option_and_then (type_number tree) (option_and_then (target_of tree) (slice_get x.subcomponents s))
   type_below_is s =
       ap (option_and_then (type_number_at tree)) (below_by s)
-      ∙ then_twice (λ (sub : Subcomponent ℕ). referred tree sub.classifier) (type_number_at tree) (slice_get x.subcomponents s)
+      ∙ option_and_then_assoc (λ (sub : Subcomponent ℕ). referred tree sub.classifier) (type_number_at tree) (slice_get x.subcomponents s)
       ∙ by (slice_get x.subcomponents s)
     where
       by : (o : Option (Subcomponent ℕ)) → option_and_then (λ (sub : Subcomponent ℕ). option_and_then (type_number_at tree) (referred tree sub.classifier)) o

@@ -1,11 +1,12 @@
 -- Each step of a behaviour comes to its end.
 use Rattle.std.proofs.Common.{◌≡◌, cond, ◌∙◌, ℕ, ◌<◌, zero, suc, nat_eq, nat_lt, ℤ, pos, Bool, true, false, ◌&&◌, ◌||◌, if◌then◌else◌, List, [], ◌∷◌, length, map, Option, Some, None, refl, sym, ap, subst, arith, Ok, Err}
-use Rattle.std.specs.Prelude.{Result, IfOk, slice_get, filter, find, fold}
+use Rattle.std.specs.Prelude.{Result, IfOk, slice_get, find, fold}
 use Rattle.std.specs.List.{list_all}
 use Rattle.std.specs.Option.{unwrap_or, is_some}
 use Rattle.std.proofs.lemmas.Bool.{and_parts, ltb-true, true≢false, false≢true}
 use Rattle.std.proofs.lemmas.List.{length-map, length-replicate}
 use Rattle.std.proofs.lemmas.Option.{slice_get_within}
+use Rattle.list_lemmas.proofs.Elements.{list_all-filter, passes_by_list_all}
 use Rattle.pals_base.specs.declared.values.Trap.{Trap}
 use Rattle.pals_base.specs.declared.values.Frame.{Frame}
 use Rattle.pals_base.specs.declared.values.Port.{Port}
@@ -20,17 +21,10 @@ use Rattle.pals_base.specs.Kinds.{are_sound}
 use Rattle.pals_base.specs.Rules.{has_condition, is_edge, dispatch_count, is_always, ends_unguarded, has_ways, IsWay, IsBehaviour}
 use Rattle.pals_base.specs.proof.Settling.{settles}
 use Rattle.pals_base.proofs.Settling.{rule_at}
-use Rattle.pals_base.proofs.Ways.{incomplete_within, passed_element, settled_unless_cycle, way_is_short}
+use Rattle.pals_base.proofs.Ways.{incomplete_within, settled_unless_cycle, way_is_short}
 use Rattle.pals_base.proofs.Keeping.{HasLengths, acts_keeps}
 
 -- ---- lists
-chosen : {A : Type 0} (p : A → Bool) (taken : Bool) (x : A) (xs : List A) → p x ≡ true → list_all p xs ≡ true → list_all p (cond taken (x ∷ xs) xs) ≡ true
-chosen p true x xs here all = ap (λ b. b && list_all p xs) here ∙ all
-chosen p false x xs here all = all
-
-passed_filter : {A : Type 0} (p q : A → Bool) (xs : List A) → list_all p xs ≡ true → list_all p (filter q xs) ≡ true
-passed_filter p q [] all = refl
-passed_filter p q (x ∷ xs) all = chosen p (q x) x (filter q xs) (and_parts (p x) (list_all p xs) all).0 (passed_filter p q xs (and_parts (p x) (list_all p xs) all).1)
 
 found_passes : {A : Type 0} (p : A → Bool) (here : Bool) (x found : A) (rest : Option A) → p x ≡ true → (rest ≡ Some found → p found ≡ true) → cond here (Some x) rest ≡ Some found → p found ≡ true
 found_passes p true x found rest first later is = subst (λ y. p y ≡ true) (ap (λ o. unwrap_or o x) is) first
@@ -132,7 +126,7 @@ target_within b e sound =
     ltb-true e.target n (and_parts (nat_lt e.source n) (nat_lt e.target n) typed.0).1
 
 leaving_sound : (b : BehaviourParts) (s : ℕ) → IsBehaviour b → list_all (is_edge b) (leaving b s) ≡ true
-leaving_sound b s rules' = passed_filter (is_edge b) (λ e. nat_eq e.source s) b.transitions rules'.edges
+leaving_sound b s rules' = list_all-filter (is_edge b) (λ e. nat_eq e.source s) b.transitions rules'.edges
 
 moves : (n : ℕ) (b : BehaviourParts) (fresh : List Bool) (at : Fired) (r : Result (Option Edge) Trap) → IsBehaviour b → HasSizes b at
     → list_all (λ e. settles n b e.target) (leaving b at.frame.state) ≡ true
@@ -210,7 +204,7 @@ way_within : (b : BehaviourParts) (n s t : ℕ) → IsBehaviour b → s < length
 way_within b zero s t rules' within way = subst (λ x. x < length b.states) way within
 way_within b (suc n) s t rules' within way =
     let e = way.1.0 in
-    way_within b n e.target t rules' (target_within b e (passed_element (is_edge b) (leaving b s) e (leaving_sound b s rules') way.1.1)) way.1.2
+    way_within b n e.target t rules' (target_within b e (passes_by_list_all (is_edge b) (leaving b s) e (leaving_sound b s rules') way.1.1)) way.1.2
 
 pub ways_are_short : (b : BehaviourParts) (s t n : ℕ) → IsBehaviour b → IsWay b n s t → n < length b.states
 ways_are_short b s t zero rules' way =

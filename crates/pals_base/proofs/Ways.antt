@@ -6,9 +6,9 @@ use Rattle.std.specs.List.{list_all, list_any, Contains, AllByRecursion, IsDisti
 use Rattle.std.proofs.Math.Dec.{eqb}
 use Rattle.std.proofs.Math.Bool.{or-true}
 use Rattle.std.proofs.lemmas.Bool.{or_parts, or_cases, both_ways, true≢false, eqb-true, false_from_ne_true, cases_Bool}
-use Rattle.std.proofs.lemmas.List.Sums.{AllPass-from_list_all}
 use Rattle.std.proofs.lemmas.Map.Keys.{IsDistinct-cons}
 use Rattle.std.proofs.lemmas.Map.Steps.{length-le_from_distinct_below}
+use Rattle.list_lemmas.proofs.Elements.{passes_by_list_all}
 use Rattle.pals_base.specs.declared.behaviour.BehaviourParts.{BehaviourParts}
 use Rattle.pals_base.specs.Tree.{Edge}
 use Rattle.pals_base.specs.Fire.{is_complete, leaving}
@@ -18,8 +18,6 @@ use Rattle.pals_base.specs.proof.Settling.{settles}
 use Rattle.pals_base.proofs.Settling.{all_marked, rule_at, settles_past}
 
 -- ---- lists
-pub passed_element : {A : Type 0} (p : A → Bool) (xs : List A) (x : A) → list_all p xs ≡ true → Contains xs x → p x ≡ true
-passed_element p xs x all is = subst (λ y. p y ≡ true) is.2 (AllPass-from_list_all p xs all is.0 x is.1)
 
 abbrev pub Fails : {A : Type 0} → (A → Bool) → List A → Type 0
 Fails {A} p xs = (x : A) × Contains xs x × (p x ≡ false)
@@ -119,7 +117,7 @@ settled_unless_cycle b s acyclic =
 -- ---- where each state settles there is no cycle
 goes_further : (n : ℕ) (b : BehaviourParts) (s : ℕ) (e : Edge) → is_complete b s ≡ false → settles (suc n) b s ≡ true → Contains (leaving b s) e → settles n b e.target ≡ true
 goes_further n b s e under_way settle is =
-    passed_element (λ e. settles n b e.target) (leaving b s) e (ap (λ c. c || list_all (λ e. settles n b e.target) (leaving b s)) (sym under_way) ∙ settle) is
+    passes_by_list_all (λ e. settles n b e.target) (leaving b s) e (ap (λ c. c || list_all (λ e. settles n b e.target) (leaving b s)) (sym under_way) ∙ settle) is
 
 never_back : (m : ℕ) (b : BehaviourParts) (s at n k : ℕ) → IsWay b (suc n) s s → IsWay b k at s → settles m b at ≡ true → ⊥
 never_back zero b s at n zero cycle way settle = both_ways (is_complete b s) cycle.0 (ap (is_complete b) (sym way) ∙ settle)

@@ -1,9 +1,10 @@
 -- The entries of messages that are due, and their copies in flight.
-use Rattle.std.proofs.Common.{◌≡◌, ◌≢◌, ◌↔◌, ◌∙◌, inl, inr, ◌⊎◌, ℕ, zero, suc, ◌+◌, ◌*◌, ◌^◌, ◌<◌, ◌≤◌, nat_eq, nat_lt, nat_le, Bool, true, false, cond, List, [], ◌∷◌, length, find, Option, Some, None, is_some, All, refl, sym, ap, arith}
-use Rattle.std.specs.Prelude.{count_by, filter, slice_index_or, slice_get, ◌&&◌, ◌||◌, if◌then◌else◌}
+use Rattle.std.proofs.Common.{◌≡◌, ◌↔◌, ◌∙◌, inl, inr, ◌⊎◌, ℕ, zero, suc, ◌+◌, ◌*◌, ◌^◌, ◌<◌, ◌≤◌, nat_eq, nat_lt, nat_le, Bool, true, false, cond, List, [], ◌∷◌, length, find, Option, Some, None, is_some, All, refl, sym, ap, arith}
+use Rattle.std.specs.Prelude.{count_by, filter, slice_index_or, slice_get, ◌&&◌, if◌then◌else◌}
 use Rattle.std.specs.Option.{option_map_or}
 use Rattle.std.specs.List.Sorted.{IsNonDecreasingBy}
 use Rattle.std.proofs.lemmas.Bool.{cases_eq, cases_lt, eqb-true, and_parts, false≢true}
+use Rattle.std.proofs.lemmas.Bool.{lt-ltb, or_left, or_right, or_from, and_left, le-ltb, ne_eqb, cases_Bool, and_from, eq-eqb}
 use Rattle.std.proofs.lemmas.List.{get_or_past}
 use Rattle.std.proofs.lemmas.List.Sorted.{sum_by-IsPermutation}
 use Rattle.std.proofs.lemmas.Grind.{common_steps}
@@ -24,7 +25,7 @@ use Rattle.pals_bus.specs.proof.Absent.{no_queue}
 use Rattle.pals_bus.specs.proof.Queues.{AreDueEntries, comes_first, is_copy_of}
 use Rattle.pals_bus.specs.proof.Due.{IsDueTo, HasDue, AreLeft, flying}
 use Rattle.pals_bus.proofs.Rooms.{flight_is}
-use Rattle.pals_bus.proofs.QueueRooms.{both, either, eqb-refl, one_or_none}
+use Rattle.pals_bus.proofs.QueueRooms.{one_or_none}
 use Rattle.pals_bus.proofs.QueueMessages.{count_none}
 
 -- what stands in the place of an entry that is not there
@@ -38,7 +39,7 @@ kept_counts q e [] passes = refl
 kept_counts q e (x ∷ xs) passes =
     let rest = kept_counts q e xs passes in
     let all = sum_by-cons (λ y. cond (is_entry e y) 1 0) x xs in
-    elim (either (q x)) [
+    elim (cases_Bool (q x)) [
       | inl holds ↦
           let is : filter q (x ∷ xs) ≡ x ∷ filter q xs = ap (λ b. cond b (x ∷ filter q xs) (filter q xs)) holds in
           let here = ap (count_by (is_entry e)) is ∙ sum_by-cons (λ y. cond (is_entry e y) 1 0) x (filter q xs) in
@@ -46,7 +47,7 @@ kept_counts q e (x ∷ xs) passes =
       | inr fails ↦
           let is : filter q (x ∷ xs) ≡ filter q xs = ap (λ b. cond b (x ∷ filter q xs) (filter q xs)) fails in
           let here = ap (count_by (is_entry e)) is in
-          elim (either (is_entry e x)) [
+          elim (cases_Bool (is_entry e x)) [
             | inl same ↦ absurd (false≢true (sym fails ∙ ap q (sym (entry_from_test e x same)) ∙ passes))
             | inr other ↦
                 let none : cond {A = ℕ} (is_entry e x) 1 0 ≡ 0 = ap (λ b. cond {A = ℕ} b 1 0) other in
@@ -59,11 +60,11 @@ dropped_counts : (q : DueEntry → Bool) (e : DueEntry) (xs : List DueEntry) →
 dropped_counts q e [] fails = refl
 dropped_counts q e (x ∷ xs) fails =
     let rest = dropped_counts q e xs fails in
-    elim (either (q x)) [
+    elim (cases_Bool (q x)) [
       | inl holds ↦
           let is : filter q (x ∷ xs) ≡ x ∷ filter q xs = ap (λ b. cond b (x ∷ filter q xs) (filter q xs)) holds in
           let here = ap (count_by (is_entry e)) is ∙ sum_by-cons (λ y. cond (is_entry e y) 1 0) x (filter q xs) in
-          elim (either (is_entry e x)) [
+          elim (cases_Bool (is_entry e x)) [
             | inl same ↦ absurd (false≢true (sym fails ∙ ap q (entry_from_test e x same) ∙ holds))
             | inr other ↦
                 let none : cond {A = ℕ} (is_entry e x) 1 0 ≡ 0 = ap (λ b. cond {A = ℕ} b 1 0) other in
@@ -149,7 +150,7 @@ found_there : {X : Type 0} (p : X → Bool) (xs : List X) (i : ℕ) (x : X) → 
 found_there p [] i x is passes = absurd (cc)
 found_there p (y ∷ ys) zero x is passes = let same : y ≡ x = cc in
     ap (λ b. is_some (cond b (Some y) (find p ys))) (ap p same ∙ passes)
-found_there p (y ∷ ys) (suc i) x is passes = elim (either (p y)) [
+found_there p (y ∷ ys) (suc i) x is passes = elim (cases_Bool (p y)) [
   | inl holds ↦ ap (λ b. is_some (cond b (Some y) (find p ys))) holds
   | inr fails ↦ ap (λ b. is_some (cond b (Some y) (find p ys))) fails ∙ found_there p ys i x is passes
 ]
@@ -157,7 +158,7 @@ found_there p (y ∷ ys) (suc i) x is passes = elim (either (p y)) [
 pub flies : (copies : List FlightCopy) (place : ℕ) (copy : FlightCopy) (round : ℕ) → slice_get copies place ≡ Some copy
     → copy.round ≡ round → is_in_flight round copies ≡ true
 flies copies place copy round is of_round =
-    found_there (is_of round) copies place copy is (eqb-refl copy.round round of_round)
+    found_there (is_of round) copies place copy is (eq-eqb copy.round round of_round)
 
 -- ---- messages that are due
 pub link_there : (b : BusValue) (link place : ℕ) (copy : FlightCopy)
@@ -208,28 +209,18 @@ entry_of_due b node reading link round is_due_to =
     let here : link_at b.run.design link ≡ is_due_to.the_link =
     get_or_from_slice_get b.run.design.links link is_due_to.the_link no_link is_due_to.is_link in
     let to : nat_eq (link_at b.run.design link).target.0 node ≡ true =
-    eqb-refl (link_at b.run.design link).target.0 node (ap (λ (l : Link). l.target.0) here ∙ is_due_to.to_node) in
+    eq-eqb (link_at b.run.design link).target.0 node (ap (λ (l : Link). l.target.0) here ∙ is_due_to.to_node) in
     let due : option_map_or (nat_eq reads.0) copy.due false ≡ true =
-    ap (λ (o : Option ℕ). option_map_or (nat_eq reads.0) o false) reads.1 ∙ eqb-refl reads.0 reads.0 refl in
+    ap (λ (o : Option ℕ). option_map_or (nat_eq reads.0) o false) reads.1 ∙ eq-eqb reads.0 reads.0 refl in
     let passes : is_copy_of e copy ≡ true =
-    both (nat_eq copy.round round) (option_map_or (nat_eq reads.0) copy.due false)
-    (eqb-refl copy.round round is_due_to.of_round) due in
+    and_from (nat_eq copy.round round) (option_map_or (nat_eq reads.0) copy.due false)
+    (eq-eqb copy.round round is_due_to.of_round) due in
     let count = count_some (is_copy_of e) (flight_at b.state link) is_due_to.place copy is_due_to.is_copy passes in
     let all : flying b node e ≡ count_by (is_copy_of e) (flight_at b.state link) =
     ap (λ (t : Bool). if t then count_by (is_copy_of e) (flight_at b.state link) else 0) to in
     (e, record { link_is = refl; round_is = refl; due = reads.2; some = omega (arith, count, all) })
 
 -- ---- the order of links and rounds
-lt-refl : (a b : ℕ) → a < b → nat_lt a b ≡ true
-lt-refl a b lt = grind (arith, lt)
-
-or_left : (a b : Bool) → a ≡ true → (a || b) ≡ true
-or_left true b is = refl
-or_left false b is = absurd (false≢true is)
-
-or_right : (a b : Bool) → b ≡ true → (a || b) ≡ true
-or_right true b is = refl
-or_right false b is = is
 
 pub not_first : (x e : DueEntry) → comes_first e x ≡ false
     → (x.link.0 < e.link.0) ⊎ ((x.link.0 ≡ e.link.0) × (x.round ≤ e.round))
@@ -240,14 +231,14 @@ not_first x e not = elim (cases_lt x.link.0 e.link.0) [
       | inl less ↦
           absurd (false≢true (sym not
           ∙ or_right (nat_lt e.link.0 x.link.0) (nat_eq e.link.0 x.link.0 && nat_lt e.round x.round)
-          (both (nat_eq e.link.0 x.link.0) (nat_lt e.round x.round) (eqb-refl e.link.0 x.link.0 same)
-          (lt-refl e.round x.round less))))
+          (and_from (nat_eq e.link.0 x.link.0) (nat_lt e.round x.round) (eq-eqb e.link.0 x.link.0 same)
+          (lt-ltb e.round x.round less))))
       | inr le ↦ inr (sym same, le)
     ]
     | inr other ↦
         absurd (false≢true (sym not
         ∙ or_left (nat_lt e.link.0 x.link.0) (nat_eq e.link.0 x.link.0 && nat_lt e.round x.round)
-        (lt-refl e.link.0 x.link.0
+        (lt-ltb e.link.0 x.link.0
         (elim (cases_lt e.link.0 x.link.0)
         [ inl less ↦ less | inr le ↦ absurd (other (omega (arith, more, le))) ]))))
   ]
@@ -260,23 +251,6 @@ number_of e = e.link.0 * 2 ^ 32 + e.round
 abbrev pub IsShort : DueEntry → Type 0
 IsShort e = e.round < 2 ^ 32
 
-or_no : (a b : Bool) → a ≡ false → b ≡ false → (a || b) ≡ false
-or_no true b one other = absurd (false≢true (sym one))
-or_no false b one other = other
-
-and_none : (a b : Bool) → a ≡ false → (a && b) ≡ false
-and_none true b is = absurd (false≢true (sym is))
-and_none false b is = refl
-
-not_lt : (a b : ℕ) → b ≤ a → nat_lt a b ≡ false
-not_lt a b le = grind (arith, le)
-
-not_same : (a b : ℕ) → a ≢ b → nat_eq a b ≡ false
-not_same a b other = elim (either (nat_eq a b)) [
-  | inl holds ↦ absurd (other (eqb-true a b holds))
-  | inr fails ↦ fails
-]
-
 later_link : (l m : ℕ) (r s : ℕ) → l * 2 ^ 32 + r ≤ m * 2 ^ 32 + s → s < 2 ^ 32 → l ≤ m
 later_link l m r s le short = omega (arith, le, short)
 
@@ -286,13 +260,13 @@ later_round l m r s le same = omega (arith, le, same)
 in_order_two : (x y : DueEntry) → number_of x ≤ number_of y → IsShort y → comes_first y x ≡ false
 in_order_two x y le short =
     let link = later_link x.link.0 y.link.0 x.round y.round le short in
-    or_no (nat_lt y.link.0 x.link.0) (nat_eq y.link.0 x.link.0 && nat_lt y.round x.round)
-    (not_lt y.link.0 x.link.0 link)
+    or_from (nat_lt y.link.0 x.link.0) (nat_eq y.link.0 x.link.0 && nat_lt y.round x.round)
+    (le-ltb y.link.0 x.link.0 link)
     (elim (cases_eq y.link.0 x.link.0) [
       | inl same ↦ ap (λ b. nat_eq y.link.0 x.link.0 && b)
-          (not_lt y.round x.round (later_round x.link.0 y.link.0 x.round y.round le same))
-          ∙ ap (λ b. b && false) (eqb-refl y.link.0 x.link.0 same)
-      | inr other ↦ and_none (nat_eq y.link.0 x.link.0) (nat_lt y.round x.round) (not_same y.link.0 x.link.0 other)
+          (le-ltb y.round x.round (later_round x.link.0 y.link.0 x.round y.round le same))
+          ∙ ap (λ b. b && false) (eq-eqb y.link.0 x.link.0 same)
+      | inr other ↦ and_left (nat_eq y.link.0 x.link.0) (nat_lt y.round x.round) (ne_eqb y.link.0 x.link.0 other)
     ])
 
 pub in_order : (xs : List DueEntry) → IsNonDecreasingBy number_of xs → All IsShort xs → (i j : ℕ) (d : DueEntry) → i < j

@@ -2,11 +2,12 @@
 use Rattle.std.proofs.Common.{◌≡◌, ◌∙◌, inl, inr, ℕ, zero, suc, ◌+◌, ◌<◌, ◌≤◌, Bool, true, false, cond, List, [], ◌∷◌, ◌++◌, length, map, take, slice_get, Some, All, refl, sym, ap, subst, arith}
 use Rattle.std.specs.Prelude.{filter, slice_set, slice_index_or}
 use Rattle.std.specs.List.{enumerate_from}
-use Rattle.std.proofs.lemmas.Bool.{cases_eq, eqb-true, false≢true}
+use Rattle.std.proofs.lemmas.Bool.{cases_eq, eqb-true, false≢true, false_from_ne_true, eq-eqb}
 use Rattle.std.proofs.lemmas.List.{append-nil, length-map, length-set, map-append, get_or-set_other, take_more}
 use Rattle.std.proofs.lemmas.List.Elements.{All-nil, All-cons, All-head, All-tail, filter-append}
 use Rattle.std.proofs.lemmas.Grind.{get_or-set_at}
 use Rattle.std.proofs.lemmas.Option.{slice_get_within, get_or_from_slice_get}
+use Rattle.list_lemmas.proofs.Lists.{enumerate_from-append}
 use Rattle.pals_base.specs.declared.limits.TheConstants.{PORTS}
 use Rattle.pals_base.specs.declared.values.LinkNo.{LinkNo}
 use Rattle.pals_model.specs.declared.design.Link.{Link}
@@ -19,7 +20,6 @@ use Rattle.pals_bus.specs.proof.Absent.{no_flight, no_queue}
 use Rattle.pals_bus.specs.proof.Sending.{is_from, HasRoomFor, HasRoomOn}
 use Rattle.pals_bus.specs.proof.Queues.{HasQueueRoomFor, HasQueueRoomOn}
 use Rattle.pals_bus.specs.proof.LinksFrom.{AreOutgoing, links_from, no_numbers, number_of}
-use Rattle.pals_bus.proofs.QueueRooms.{eqb-refl}
 use Rattle.pals_bus.proofs.QueueSends.{all_the_same}
 
 -- those of the links from a node, where the first has this number
@@ -31,13 +31,6 @@ abbrev pub numbered : ℕ → LinkNo
 numbered number = record { 0 = number }
 
 -- ---- one more link
-enumerate_append : {X : Type 0} (from : ℕ) (xs ys : List X)
-    → enumerate_from from (xs ++ ys) ≡ enumerate_from from xs ++ enumerate_from (from + length xs) ys
-enumerate_append from [] ys = ap (λ n. enumerate_from n ys) (let e : from ≡ from + 0 = omega arith in e)
-enumerate_append from (x ∷ xs) ys =
-    let e : from + 1 + length xs ≡ from + suc (length xs) = omega arith in
-    ap (λ es. (from, x) ∷ es)
-    (enumerate_append (from + 1) xs ys ∙ ap (λ n. enumerate_from (from + 1) xs ++ enumerate_from n ys) e)
 
 from_push : (node : ℕ) (links : List Link) (link : Link)
     → links_from node (links ++ link ∷ []) ≡ links_from node links ++ numbers_from node (length links) (link ∷ [])
@@ -46,7 +39,7 @@ from_push node links link =
     let first = enumerate_from 0 links in
     let last = enumerate_from (0 + length links) (link ∷ []) in
     let e : 0 + length links ≡ length links = omega arith in
-    ap (λ es. map number_of (filter own es)) (enumerate_append 0 links (link ∷ []))
+    ap (λ es. map number_of (filter own es)) (enumerate_from-append 0 links (link ∷ []))
     ∙ ap (map number_of) (filter-append own first last)
     ∙ map-append number_of (filter own first) (filter own last)
     ∙ ap (λ n. links_from node links ++ numbers_from node n (link ∷ [])) e
@@ -80,10 +73,6 @@ other_more node k links within other =
     ∙ ap (λ b. links_from node (take k links) ++ map number_of (cond b ((k, link) ∷ []) [])) other
     ∙ append-nil (links_from node (take k links))
 
-not_true : (b : Bool) → (b ≡ true → ⊥) → b ≡ false
-not_true true never = absurd (never refl)
-not_true false never = refl
-
 pub outgoing_none : {X : Type 0} (xs : List X) (links : List Link) (lists : List (List LinkNo))
     → lists ≡ map (λ (_ : X). no_numbers) xs → AreOutgoing (length xs) (take 0 links) lists
 outgoing_none {X = X} xs links lists is = record {
@@ -107,12 +96,12 @@ outgoing_more nodes k source links lists list are within is_source inside is =
             ∙ is
             ∙ ap (λ n. slice_index_or lists n no_numbers ++ numbered k ∷ []) (sym here)
             ∙ ap (λ ns. ns ++ numbered k ∷ []) (are.each node lt)
-            ∙ sym (own_more node k links within (eqb-refl link.source.0 node (sym is_source ∙ sym here)))
+            ∙ sym (own_more node k links within (eq-eqb link.source.0 node (sym is_source ∙ sym here)))
         | inr other ↦
             get_or-set_other lists source node list no_numbers other
             ∙ are.each node lt
             ∙ sym (other_more node k links within
-            (not_true (is_from node link) (λ own. other (sym (is_source ∙ eqb-true link.source.0 node own)))))
+            (false_from_ne_true (is_from node link) (λ own. other (sym (is_source ∙ eqb-true link.source.0 node own)))))
       ];
     }
 
@@ -176,7 +165,7 @@ of_number P node from (suc k) n (x ∷ xs) link all at is_link is =
 pub of_one : (P : LinkNo → Type 0) (node k : ℕ) (links : List Link) (link : Link) → All P (links_from node links)
     → slice_get links k ≡ Some link → link.source.0 ≡ node → P (numbered k)
 of_one P node k links link all is_link is =
-    of_number P node 0 k k links link all (omega arith) is_link (eqb-refl link.source.0 node is)
+    of_number P node 0 k k links link all (omega arith) is_link (eq-eqb link.source.0 node is)
 
 pub numbers_within : (node : ℕ) (links : List Link)
     → All (λ (link : LinkNo). link.0 < length links) (links_from node links)

@@ -3,7 +3,7 @@ use Rattle.std.proofs.Common.{◌≡◌, ◌∙◌, inl, inr, ℕ, ◌+◌, ◌*
 use Rattle.std.specs.Prelude.{sum_by, slice_set, slice_index_or, is_some, not, if◌then◌else◌}
 use Rattle.std.specs.Arc.{arc_value}
 use Rattle.std.proofs.Math.Seq.{map-set_same}
-use Rattle.std.proofs.lemmas.Bool.{cases_eq, and_parts, false≢true}
+use Rattle.std.proofs.lemmas.Bool.{cases_eq, and_parts, not-true}
 use Rattle.std.proofs.lemmas.List.{length-map, map-set, length-set, get_or-map, get_or-set_other, get_or_default}
 use Rattle.std.proofs.lemmas.List.Elements.{All-from_get_or}
 use Rattle.std.proofs.lemmas.List.Sums.{sum_by-set, sum_by-le}
@@ -199,12 +199,8 @@ send_runs count rounds b (Between steps) = refl
 send_runs count rounds b Holding = rests_not _
 send_runs count rounds b Done = refl
 
-not_true : (b : Bool) → not b ≡ true → b ≡ false
-not_true true is = absurd (false≢true is)
-not_true false is = refl
-
 pub is_unsent : (plan : Plan) (n : NodeState) → may_send plan n ≡ true → n.sent ≡ false
-is_unsent plan n may = not_true n.sent (and_parts (not n.sent) _ may).0
+is_unsent plan n may = not-true n.sent (and_parts (not n.sent) _ may).0
 
 pub owed_sent : (n : NodeValue) (rounds : ℕ) (m : NodeValue) → n.state.sent ≡ false → m.state ≡ sent_from rounds n.state
     → owed m + 1 ≡ owed n

@@ -3,12 +3,14 @@ use Rattle.std.proofs.Common.{◌≡◌, ◌≢◌, ◌∙◌, inl, inr, ℕ, su
 use Rattle.std.specs.Prelude.{Contains, count_by, slice_set, slice_index_or, slice_get, ◌&&◌, if◌then◌else◌}
 use Rattle.std.specs.List.{before_first, after_first, position_or_len}
 use Rattle.std.specs.Option.{option_map_or}
-use Rattle.std.proofs.lemmas.Bool.{cases_eq, eqb-true, false≢true}
+use Rattle.std.proofs.lemmas.Bool.{cases_eq, false≢true, ne_eqb, eq-eqb}
 use Rattle.std.proofs.lemmas.List.{get_or-set_other}
 use Rattle.std.proofs.lemmas.List.Folds.{find_at}
 use Rattle.std.proofs.lemmas.List.Sums.{sum_by-cons, sum_by_push, split_at_first}
 use Rattle.std.proofs.lemmas.Grind.{get_or-set_at}
 use Rattle.std.proofs.lemmas.Option.{slice_get_within, get_or_from_slice_get}
+use Rattle.std.proofs.Math.Bool.{and-false}
+use Rattle.list_lemmas.proofs.Numbers.{nat_eq-swapped}
 use Rattle.pals_base.specs.declared.values.LinkNo.{LinkNo}
 use Rattle.pals_model.specs.declared.design.Link.{Link}
 use Rattle.pals_model.specs.declared.flight.FlightCopy.{FlightCopy}
@@ -21,25 +23,9 @@ use Rattle.link_buffers.proofs.Order.{entry_from_test, entry_is_itself}
 use Rattle.bus_machine.specs.States.{no_link}
 use Rattle.pals_bus.specs.proof.Absent.{no_flight, no_queue}
 use Rattle.pals_bus.specs.proof.Queues.{copies_to, is_copy_of, with_due, without_due}
-use Rattle.pals_bus.proofs.QueueRooms.{eqb-refl, one_or_none}
+use Rattle.pals_bus.proofs.QueueRooms.{one_or_none}
 
 -- ---- tests
-is_false : (b : Bool) → b ≢ true → b ≡ false
-is_false true not = absurd (not refl)
-is_false false not = refl
-
-differs : (a b : ℕ) → a ≢ b → nat_eq a b ≡ false
-differs a b other = is_false (nat_eq a b) (λ same. other (eqb-true a b same))
-
-eq_sym : (a b : ℕ) → nat_eq a b ≡ nat_eq b a
-eq_sym a b = elim (cases_eq a b) [
-  | inl e ↦ eqb-refl a b e ∙ sym (eqb-refl b a (sym e))
-  | inr other ↦ differs a b other ∙ sym (differs b a (λ e. other (sym e)))
-]
-
-and_false : (a : Bool) → (a && false) ≡ false
-and_false true = refl
-and_false false = refl
 
 tests : (a l c : Bool) → l ≡ true → (a && l && c) ≡ (c && a)
 tests true true true is = refl
@@ -78,12 +64,12 @@ without_due_counts e entries (Some due) link round has =
 
 copy_counts_of : (e : DueEntry) (due : Option ℕ) (round : ℕ) (link : LinkNo) → e.link.0 ≡ link.0
     → cond (nat_eq round e.round && option_map_or (nat_eq e.due) due false) 1 0 ≡ counts e due link round
-copy_counts_of e None round link same = ap (λ b. cond {A = ℕ} b 1 0) (and_false (nat_eq round e.round))
+copy_counts_of e None round link same = ap (λ b. cond {A = ℕ} b 1 0) (and-false (nat_eq round e.round))
 copy_counts_of e (Some due) round link same =
     ap (λ b. cond {A = ℕ} b 1 0)
-    (ap (λ c. c && nat_eq e.due due) (eq_sym round e.round)
+    (ap (λ c. c && nat_eq e.due due) (nat_eq-swapped round e.round)
     ∙ sym (tests (nat_eq e.due due) (nat_eq e.link.0 link.0) (nat_eq e.round round)
-    (eqb-refl e.link.0 link.0 same)))
+    (eq-eqb e.link.0 link.0 same)))
 
 pub copy_counts : (e : DueEntry) (copy : FlightCopy) (link : LinkNo) → e.link.0 ≡ link.0
     → cond (is_copy_of e copy) 1 0 ≡ counts e copy.due link copy.round
@@ -94,7 +80,7 @@ pub counts_elsewhere : (e : DueEntry) (due : Option ℕ) (link : LinkNo) (round 
 counts_elsewhere e None link round other = refl
 counts_elsewhere e (Some due) link round other =
     ap (λ b. cond {A = ℕ} b 1 0)
-    (tests_not (nat_eq e.due due) (nat_eq e.link.0 link.0) (nat_eq e.round round) (differs e.link.0 link.0 other))
+    (tests_not (nat_eq e.due due) (nat_eq e.link.0 link.0) (nat_eq e.round round) (ne_eqb e.link.0 link.0 other))
 
 -- ---- copies in flight to a node
 copies_here : (links : List Link) (flights : List FlightState) (node : ℕ) (e : DueEntry) (link : LinkNo)
@@ -105,7 +91,7 @@ copies_here links flights node e link flight same to is =
     let target : (slice_index_or links e.link.0 no_link).target.0 ≡ node =
     ap (λ k. (slice_index_or links k no_link).target.0) same ∙ sym to in
     ap (λ b. if b then count_by (is_copy_of e) (slice_index_or flights e.link.0 no_flight).copies else 0)
-    (eqb-refl (slice_index_or links e.link.0 no_link).target.0 node target)
+    (eq-eqb (slice_index_or links e.link.0 no_link).target.0 node target)
     ∙ ap (λ k. count_by (is_copy_of e) (slice_index_or flights k no_flight).copies) same
     ∙ ap (λ (f : FlightState). count_by (is_copy_of e) f.copies) is
 
@@ -120,7 +106,7 @@ copies_none : (links : List Link) (flights : List FlightState) (node : ℕ) (e :
     → e.link.0 ≡ link.0 → node ≢ (slice_index_or links link.0 no_link).target.0 → copies_to links flights node e ≡ 0
 copies_none links flights node e link same away =
     ap (λ b. if b then count_by (is_copy_of e) (slice_index_or flights e.link.0 no_flight).copies else 0)
-    (differs (slice_index_or links e.link.0 no_link).target.0 node
+    (ne_eqb (slice_index_or links e.link.0 no_link).target.0 node
     (λ is. away (sym is ∙ ap (λ k. (slice_index_or links k no_link).target.0) same)))
 
 -- away from the target nothing changes

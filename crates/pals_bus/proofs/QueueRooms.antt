@@ -3,6 +3,7 @@ use Rattle.std.proofs.Common.{◌≡◌, ◌≢◌, ◌∙◌, inl, inr, ◌⊎�
 use Rattle.std.specs.Prelude.{count_by, slice_set, slice_index_or, slice_get, not, ◌&&◌, if◌then◌else◌}
 use Rattle.std.proofs.Math.Seq.{map-set_same}
 use Rattle.std.proofs.lemmas.Bool.{cases_eq, cases_lt, eqb-true, and_parts, false≢true}
+use Rattle.std.proofs.lemmas.Bool.{cases_Bool, and_from, eq-eqb, not-true, and_right}
 use Rattle.std.proofs.lemmas.List.{length-map, length-set, get_or-map, get_or-set_other, get_or_past}
 use Rattle.std.proofs.lemmas.List.Sums.{sum_by-cons, sum_by-drop_more}
 use Rattle.std.proofs.lemmas.Grind.{get_or-set_at}
@@ -24,16 +25,6 @@ use Rattle.pals_bus.specs.proof.Queues.{AreQueues, AreQueuesAmid, HasQueueRoomFo
 use Rattle.pals_bus.proofs.Rooms.{flight_is}
 
 -- ---- counts
-pub either : (b : Bool) → (b ≡ true) ⊎ (b ≡ false)
-either true = inl refl
-either false = inr refl
-
-pub both : (a b : Bool) → a ≡ true → b ≡ true → (a && b) ≡ true
-both true b one other = other
-both false b one other = one
-
-pub eqb-refl : (a b : ℕ) → a ≡ b → nat_eq a b ≡ true
-eqb-refl a b e = grind (arith, e)
 
 one-less : (a b : Bool) → (a ≡ true → b ≡ true) → cond a 1 0 ≤ cond b 1 0
 one-less true true implies = omega arith
@@ -58,7 +49,7 @@ module _ {X : Type 0} where
       → ((i : ℕ) (d : X) → i < length xs → p (slice_index_or xs i d) ≡ true
       → (low ≤ f (slice_index_or xs i d)) × (f (slice_index_or xs i d) < high)) → count_by p xs + low ≤ high
   rising_few p f [] low high le rises within = omega (arith, le)
-  rising_few p f (x ∷ xs) low high le rises within = elim (either (p x)) [
+  rising_few p f (x ∷ xs) low high le rises within = elim (cases_Bool (p x)) [
     | inl holds ↦
         let here = within 0 x (omega arith) holds in
         let least = here.0 in
@@ -90,7 +81,7 @@ module _ {X : Type 0} where
       → ((i : ℕ) × (x : X) × (slice_get xs i ≡ Some x) × (p x ≡ true))
       ⊎ ((i : ℕ) (d : X) → i < length xs → p (slice_index_or xs i d) ≡ false)
   one_or_none p [] = inr (λ i d lt. absurd (omega (arith, lt)))
-  one_or_none p (x ∷ xs) = elim (either (p x)) [
+  one_or_none p (x ∷ xs) = elim (cases_Bool (p x)) [
     | inl holds ↦ inl (0, x, refl, holds)
     | inr fails ↦ elim (one_or_none p xs) [
       | inl found ↦ inl (suc found.0, found.1, found.2, found.3)
@@ -149,10 +140,6 @@ is_unsent_at nodes at k m within before unsent = elim (cases_eq k at) [
   | inr other ↦ sym (ap (λ (n : NodeValue). n.state.sent) (get_or-set_other nodes at k m no_node_value other)) ∙ unsent
 ]
 
-not_from : (b : Bool) → not b ≡ true → b ≡ false
-not_from true is = absurd (false≢true is)
-not_from false is = refl
-
 -- a node that had sent still has
 pub queues-set : (links : List Link) (nodes : List NodeValue) (flights : List FlightState) (queues : List QueueState)
     (at : ℕ) (m : NodeValue) → AreQueues links nodes flights queues → at < length nodes
@@ -168,8 +155,8 @@ queues-set links nodes flights queues at m are within before = record {
       (λ i d lt passes.
       let link = slice_index_or links i d in
       let parts = and_parts (nat_eq link.target.0 node) _ passes in
-      both (nat_eq link.target.0 node) _ parts.0
-      (ap not (is_unsent_at nodes at link.source.0 m within before (not_from _ parts.1)))) in
+      and_from (nat_eq link.target.0 node) _ parts.0
+      (ap not (is_unsent_at nodes at link.source.0 m within before (not-true _ parts.1)))) in
       omega (arith, room, less);
 }
 
@@ -204,10 +191,10 @@ queues_started links nodes flights queues at m are few rooms = record {
         (λ i d lt passes.
         let link = slice_index_or links i d in
         let parts = and_parts (nat_eq link.target.0 node) _ passes in
-        both (nat_eq link.target.0 node) _ parts.0
+        and_from (nat_eq link.target.0 node) _ parts.0
         (elim (cases_eq link.source.0 at) [
           | inl e ↦ absurd (false≢true
-              (sym (none i d lt) ∙ both (nat_eq link.target.0 node) _ parts.0 (eqb-refl link.source.0 at e)))
+              (sym (none i d lt) ∙ and_from (nat_eq link.target.0 node) _ parts.0 (eq-eqb link.source.0 at e)))
           | inr other ↦ sym (ap (λ (n : NodeValue). not n.state.sent)
               (get_or-set_other nodes at link.source.0 m no_node_value other)) ∙ parts.1
         ])) in
@@ -244,10 +231,6 @@ count-two p q r (x ∷ xs) each =
       here,
     )
 
-pub and_no : (a b : Bool) → b ≡ false → (a && b) ≡ false
-and_no true b is = is
-and_no false b is = refl
-
 -- before the first message of a round, where the round counts as sent
 pub queues_amid : (links : List Link) (nodes : List NodeValue) (flights : List FlightState) (queues : List QueueState)
     (source : ℕ) (m : NodeValue) → AreQueues links nodes flights queues → source < length nodes
@@ -267,18 +250,18 @@ queues_amid links nodes flights queues source m are within unsent sent = record 
       (is_awaited nodes node link)
       (λ from.
       let e = eqb-true link.source.0 source (and_parts (nat_eq link.source.0 source) _ from).0 in
-      and_no (nat_eq link.target.0 node) (not now)
+      and_right (nat_eq link.target.0 node) (not now)
       (ap (λ (n : NodeValue). not n.state.sent) (get_or-set_at nodes source link.source.0 m no_node_value e within)
       ∙ ap not sent))
       (λ from.
       let parts = and_parts (nat_eq link.source.0 source) _ from in
       let e = eqb-true link.source.0 source parts.0 in
-      both (nat_eq link.target.0 node) _ parts.1
+      and_from (nat_eq link.target.0 node) _ parts.1
       (ap (λ k. not (slice_index_or nodes k no_node_value).state.sent) e ∙ ap not unsent))
       (λ awaited.
       let parts = and_parts (nat_eq link.target.0 node) _ awaited in
-      both (nat_eq link.target.0 node) _ parts.0
-      (ap not (is_unsent_at nodes source link.source.0 m within (λ _. unsent) (not_from _ parts.1))))) in
+      and_from (nat_eq link.target.0 node) _ parts.0
+      (ap not (is_unsent_at nodes source link.source.0 m within (λ _. unsent) (not-true _ parts.1))))) in
       omega (arith, room, less);
 }
 
@@ -306,8 +289,8 @@ amid_room source k links nodes flights queues are within from =
     let more = sum_by-drop_more (λ l. cond (is_between source link.target.0 l) 1 0) links k no_link within in
     let one : cond {A = ℕ} (is_between source link.target.0 link) 1 0 ≡ 1 =
     ap (λ b. cond {A = ℕ} b 1 0)
-    (both (nat_eq link.source.0 source) (nat_eq link.target.0 link.target.0) (eqb-refl link.source.0 source from)
-    (eqb-refl link.target.0 link.target.0 refl)) in
+    (and_from (nat_eq link.source.0 source) (nat_eq link.target.0 link.target.0) (eq-eqb link.source.0 source from)
+    (eq-eqb link.target.0 link.target.0 refl)) in
     omega (arith, room, more, one)
 
 -- ---- the links into a node

@@ -1,7 +1,7 @@
 -- The queues of due messages before the first event, and where a message is sent.
 use Rattle.std.proofs.Common.{◌≡◌, ◌∙◌, inl, inr, ℕ, zero, suc, ◌+◌, ◌<◌, ◌≤◌, nat_eq, Bool, true, false, cond, List, [], ◌∷◌, ◌++◌, length, map, Option, Some, None, refl, sym, ap, arith}
 use Rattle.std.specs.Prelude.{count_by, slice_set, slice_index_or, not, if◌then◌else◌}
-use Rattle.std.proofs.lemmas.Bool.{cases_eq}
+use Rattle.std.proofs.lemmas.Bool.{cases_eq, and_from, eq-eqb, and_right}
 use Rattle.std.proofs.lemmas.List.{length-map, length-set, get_or-set_other}
 use Rattle.std.proofs.lemmas.List.Sums.{sum_by-drop_more}
 use Rattle.std.proofs.lemmas.Grind.{get_or-set_at}
@@ -14,7 +14,6 @@ use Rattle.bus_machine.specs.States.{no_link}
 use Rattle.pals_node.specs.proof.Values.{NodeValue}
 use Rattle.pals_bus.specs.proof.Absent.{no_node_value, no_flight, no_queue}
 use Rattle.pals_bus.specs.proof.Queues.{AreQueues, AreQueuesAmid, is_awaited, is_between, is_copy_of, with_due}
-use Rattle.pals_bus.proofs.QueueRooms.{and_no, both, eqb-refl}
 use Rattle.pals_bus.proofs.QueueMessages.{copy_added, count_none}
 
 -- ---- one message
@@ -47,8 +46,8 @@ amid_one source links nodes flights queues link copy flight queue are within fli
             | inl at ↦
                 let one : cond {A = ℕ} (is_between source node here) 1 0
                 ≡ 1 = ap (λ b. cond {A = ℕ} b 1 0)
-                (both (nat_eq here.source.0 source) (nat_eq here.target.0 node) (eqb-refl here.source.0 source from)
-                (eqb-refl here.target.0 node (sym at))) in
+                (and_from (nat_eq here.source.0 source) (nat_eq here.target.0 node) (eq-eqb here.source.0 source from)
+                (eq-eqb here.target.0 node (sym at))) in
                 let new : (slice_index_or (slice_set queues t queue) node no_queue).spare ≡ (with_due (slice_index_or queues t no_queue) copy.due link copy.round).spare =
                 ap (λ (q : QueueState). q.spare) (get_or-set_at queues t node queue no_queue at target ∙ queue_is) in
                 let old : (slice_index_or queues node no_queue).spare ≡ (slice_index_or queues t no_queue).spare =
@@ -86,6 +85,6 @@ queues_open links nodes sent = record {
       let none =
       count_none (is_awaited nodes node) links
       (λ i d lt. let link = slice_index_or links i d in
-      and_no (nat_eq link.target.0 node) _ (ap not (sent link.source.0))) in
+      and_right (nat_eq link.target.0 node) _ (ap not (sent link.source.0))) in
       omega (arith, none);
 }

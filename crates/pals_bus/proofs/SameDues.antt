@@ -8,6 +8,7 @@ use Rattle.std.proofs.lemmas.List.Folds.{find_at}
 use Rattle.std.proofs.lemmas.List.Quantifiers.{all_pairs_push, all_pairs_remove}
 use Rattle.std.proofs.lemmas.Grind.{get_or-set_at}
 use Rattle.std.proofs.lemmas.Option.{slice_get_within, slice_get-get_or, get_or_from_slice_get}
+use Rattle.list_lemmas.proofs.Lists.{length-map_enumerate_from}
 use Rattle.pals_base.specs.declared.values.NodeNo.{NodeNo}
 use Rattle.pals_model.specs.declared.design.Link.{Link}
 use Rattle.pals_model.specs.declared.flight.FlightCopy.{FlightCopy}
@@ -26,7 +27,7 @@ use Rattle.bus_machine.specs.Agreement.{Agrees}
 use Rattle.bus_machine.specs.proof.Laws.{IsRunOf}
 use Rattle.bus_machine.specs.Replay.{Replays, opens, goes_on}
 use Rattle.bus_machine.proofs.Arrivals.{replay_agrees}
-use Rattle.bus_machine.proofs.Lists.{numbered_at, length-numbered}
+use Rattle.bus_machine.proofs.Lists.{numbered_at}
 use Rattle.pals_bus.proofs.NodeChanges.{is_unsent}
 
 -- copies of one round are due at one reading
@@ -166,7 +167,7 @@ dues_after run s (Send node reading) agree may dues = λ number.
           (is_unsent (plan_of run.design node.0) (node_at s node.0) may) is refl dues)
       | inr past ↦ subst SameDue
           (sym (get_or_past (map f (enumerate_from 0 links)) number []
-          (let size = length-numbered f 0 links in omega (arith, size, past)))) same_due_none
+          (let size = length-map_enumerate_from f 0 links in omega (arith, size, past)))) same_due_none
     ]
 dues_after run s (Arrive link round reading) agree may dues =
     dues_set s.flights link.0 (without_oldest round (flight_at s link.0)) dues

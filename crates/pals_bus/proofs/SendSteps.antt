@@ -2,7 +2,7 @@
 use Rattle.std.proofs.Common.{◌≡◌, ◌∙◌, ℕ, suc, ◌+◌, ◌<◌, ◌≤◌, true, false, cond, List, [], ◌∷◌, length, drop, Option, sym, ap, subst, arith, drop-cons, length-drop}
 use Rattle.std.specs.Prelude.{◌-◌, filter, min, slice_set, slice_index_or}
 use Rattle.std.specs.Arc.{arc_value}
-use Rattle.std.proofs.lemmas.Bool.{eqb-true, false≢true}
+use Rattle.std.proofs.lemmas.Bool.{eqb-true, false≢true, eq-eqb}
 use Rattle.std.proofs.lemmas.Option.{slice_get-get_or}
 use Rattle.pals_base.specs.declared.limits.TheConstants.{HOUR}
 use Rattle.pals_base.specs.declared.values.Port.{Port}
@@ -20,7 +20,7 @@ use Rattle.pals_bus.specs.proof.Queues.{AreQueuesAmid, with_due}
 use Rattle.pals_bus.specs.proof.LinksFrom.{no_numbers}
 use Rattle.pals_bus.specs.proof.Absent.{no_flight, no_queue, no_link_no}
 use Rattle.pals_bus.proofs.NextLinks.{IsAt, Reaches, reaches_all, reaches_next}
-use Rattle.pals_bus.proofs.QueueRooms.{eqb-refl, amid_other, amid_room}
+use Rattle.pals_bus.proofs.QueueRooms.{amid_other, amid_room}
 use Rattle.pals_bus.proofs.QueueSends.{amid_one}
 use Rattle.pals_bus.proofs.Sendings.{place_next, place_within, sent_other, sent_one}
 use Rattle.pals_bus.proofs.Taken.{target_within}
@@ -59,7 +59,7 @@ sending_other first now node round reading messages left number so_far within ot
       left_are = so_far.left_are ∙ ap (λ (k : ℕ). drop k messages) place;
       queues =
           amid_other node number links first.nodes now.flights now.queues so_far.queues within
-          (λ same. false≢true (sym other ∙ eqb-refl (slice_index_or links number no_link).source.0 node same));
+          (λ same. false≢true (sym other ∙ eq-eqb (slice_index_or links number no_link).source.0 node same));
       others = so_far.others;
     }
 

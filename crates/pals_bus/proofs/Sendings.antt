@@ -2,13 +2,14 @@
 use Rattle.std.proofs.Common.{◌≡◌, ◌≢◌, ◌∙◌, inl, inr, ℕ, zero, suc, ◌+◌, ◌<◌, ◌≤◌, nat_eq, Bool, true, false, cond, List, [], ◌∷◌, ◌++◌, length, map, take, drop, slice_get, Option, Some, refl, sym, ap, ap₂, arith, length-append}
 use Rattle.std.specs.Prelude.{filter, slice_set, slice_index_or, if◌then◌else◌}
 use Rattle.std.specs.List.{enumerate_from}
-use Rattle.std.proofs.lemmas.Bool.{cases_eq, cases_lt, eqb-true, false≢true}
+use Rattle.std.proofs.lemmas.Bool.{cases_eq, cases_lt, eqb-true, false≢true, false_from_ne_true}
 use Rattle.std.proofs.lemmas.List.{length-set, length-map, get_or-map, get_or-set_other, ext_get_or, take-append-drop}
 use Rattle.std.proofs.lemmas.List.Elements.{filter-append}
 use Rattle.std.proofs.lemmas.List.Filters.{length-filter_more}
 use Rattle.std.proofs.lemmas.Grind.{get_or-set_at}
 use Rattle.std.proofs.lemmas.Option.{slice_get_within, slice_get-get_or, get_or_from_slice_get}
 use Rattle.std.proofs.Math.Seq.{map-set_same}
+use Rattle.list_lemmas.proofs.Lists.{length-map_enumerate_from}
 use Rattle.pals_base.specs.declared.values.Port.{Port}
 use Rattle.pals_base.specs.declared.values.LinkNo.{LinkNo}
 use Rattle.pals_base.specs.declared.values.NodeNo.{NodeNo}
@@ -24,7 +25,7 @@ use Rattle.bus_machine.specs.NodeEvents.{message_from, messages_from}
 use Rattle.bus_machine.specs.LinkEvents.{sent_copy}
 use Rattle.bus_machine.specs.States.{Run, BusState, node_at, flight_at, no_link}
 use Rattle.bus_machine.specs.Machine.{flight_after_send}
-use Rattle.bus_machine.proofs.Lists.{numbered_at, length-numbered}
+use Rattle.bus_machine.proofs.Lists.{numbered_at}
 use Rattle.pals_bus.specs.proof.Keeping.{copies_in}
 use Rattle.pals_bus.specs.proof.Absent.{no_flight, no_link_no}
 use Rattle.pals_bus.specs.proof.Sending.{is_from, place_of, NoLessRoom, with_copy, sent_flight, AreSent}
@@ -204,7 +205,7 @@ sends_all run s node reading messages old new count flights told are =
     let f : ℕ × Link → List FlightCopy = λ numbered. flight_after_send run s node reading numbered.0 numbered.1 in
     let size : length (copies_in new) ≡ length links = length-map new (λ (k : FlightState). k.copies)
     ∙ are.count ∙ count in
-    ext_get_or [] (copies_in new) (map f (enumerate_from 0 links)) (size ∙ sym (length-numbered f 0 links))
+    ext_get_or [] (copies_in new) (map f (enumerate_from 0 links)) (size ∙ sym (length-map_enumerate_from f 0 links))
     (λ number lt.
     let within : number < length links = omega (arith, size, lt) in
     let link = slice_index_or links number no_link in
@@ -215,10 +216,6 @@ sends_all run s node reading messages old new count flights told are =
     refl (ap (λ fs. slice_index_or fs number []) flights ∙ flight_is old number) told
     ∙ sym (numbered_at f links number link [] is))
 
-is_false : (b : Bool) → b ≢ true → b ≡ false
-is_false true not = absurd (not refl)
-is_false false not = refl
-
 -- the other links keep their room
 pub sent_elsewhere : (node : ℕ) (links : List Link) (delays : Delays) (round : ℕ) (reading : Option ℕ)
     (messages : List (List Port)) (old new : List FlightState)
@@ -226,7 +223,7 @@ pub sent_elsewhere : (node : ℕ) (links : List Link) (delays : Delays) (round :
 sent_elsewhere node links delays round reading messages old new are number link is other =
     let here : slice_index_or links number no_link ≡ link = get_or_from_slice_get links number link no_link is in
     let not_from : is_from node (slice_index_or links number no_link) ≡ false = ap (is_from node) here
-    ∙ is_false (nat_eq link.source.0 node) (λ e. other (eqb-true link.source.0 node e)) in
+    ∙ false_from_ne_true (nat_eq link.source.0 node) (λ e. other (eqb-true link.source.0 node e)) in
     let flight = slice_index_or old number no_flight in
     let same =
     are.sent number (slice_get_within links number link is)

@@ -1,9 +1,10 @@
 -- A message that leaves its flight and the queue of its target.
-use Rattle.std.proofs.Common.{◌≡◌, ◌∙◌, inl, inr, ℕ, ◌+◌, ◌<◌, ◌≤◌, Bool, true, false, cond, List, [], ◌∷◌, ◌++◌, length, find, Option, Some, None, is_some, refl, sym, ap, subst, arith}
+use Rattle.std.proofs.Common.{◌≡◌, ◌∙◌, ℕ, ◌+◌, ◌<◌, ◌≤◌, true, false, List, [], ◌∷◌, ◌++◌, length, Option, Some, None, is_some, refl, sym, ap, subst, arith}
 use Rattle.std.specs.Prelude.{IfNone, option_map, slice_set, slice_index_or, sum_by, vec_capacity}
 use Rattle.std.specs.Arc.{arc_value}
 use Rattle.std.proofs.lemmas.Bool.{eqb-true}
 use Rattle.std.proofs.lemmas.List.{length-map, length-set, set-get_or, get_or_default}
+use Rattle.list_lemmas.proofs.Elements.{find-passes}
 use Rattle.pals_base.specs.declared.values.Port.{Port}
 use Rattle.pals_base.specs.declared.values.LinkNo.{LinkNo}
 use Rattle.pals_model.specs.declared.design.DesignParts.{DesignParts}
@@ -27,25 +28,16 @@ use Rattle.pals_bus.specs.proof.Sending.{NoLessRoom}
 use Rattle.pals_bus.specs.proof.Queues.{AreQueues, without_due}
 use Rattle.pals_bus.specs.proof.Absent.{no_flight, no_queue}
 use Rattle.pals_bus.proofs.Rooms.{copies-set, flight_is, rooms_kept}
-use Rattle.pals_bus.proofs.QueueRooms.{either, queue_more}
+use Rattle.pals_bus.proofs.QueueRooms.{queue_more}
 use Rattle.pals_bus.proofs.QueueMessages.{copy_taken}
 use Rattle.pals_bus.proofs.Events.{flights_happen, keeps_room}
 use Rattle.pals_bus.proofs.NodeSteps.{longer}
 
 -- ---- the oldest copy of a round
-found_passes : {X : Type 0} (p : X → Bool) (xs : List X) (x : X) → find p xs ≡ Some x → p x ≡ true
-found_passes p [] x is = absurd (cc)
-found_passes p (y ∷ ys) x is = elim (either (p y)) [
-  | inl holds ↦
-      let two : Some y ≡ Some x = sym (ap (λ b. cond b (Some y) (find p ys)) holds) ∙ is in
-      let same : y ≡ x = cc in
-      sym (ap p same) ∙ holds
-  | inr fails ↦ found_passes p ys x (sym (ap (λ b. cond b (Some y) (find p ys)) fails) ∙ is)
-]
 
 pub oldest_round : (round : ℕ) (copies : List FlightCopy) (copy : FlightCopy) → oldest round copies ≡ Some copy
     → copy.round ≡ round
-oldest_round round copies copy is = eqb-true copy.round round (found_passes (is_of round) copies copy is)
+oldest_round round copies copy is = eqb-true copy.round round (find-passes (is_of round) copies copy is)
 
 -- where there is none, the flights stay
 pub none_taken : (flights : List FlightState) (at round : ℕ)

@@ -1,8 +1,8 @@
 -- For the laws of kinds: what holds of the elements of lists that are changed, cut or joined.
-use Rattle.std.proofs.Common.{◌≡◌, ℕ, zero, suc, Bool, true, false, cond, List, [], ◌∷◌, map, drop, slice_get, All, Option, Some, refl, ap, subst}
+use Rattle.std.proofs.Common.{◌≡◌, ℕ, zero, suc, Bool, true, false, cond, List, [], ◌∷◌, map, All, Some, refl, ap}
 use Rattle.std.specs.Prelude.{Result, Ok, Err, IfOk, slice_index_or, slice_set, flat_map, find}
 use Rattle.std.proofs.lemmas.List.Elements.{All-nil, All-cons, All-head, All-tail, All-append}
-use Rattle.std.proofs.lemmas.Option.{same_Some}
+use Rattle.list_lemmas.proofs.Elements.{found_either}
 use Rattle.pals_base.specs.declared.values.Trap.{Trap}
 use Rattle.pals_base.specs.Expressions.{on_value}
 
@@ -12,11 +12,6 @@ pub index_fits : {X : Type 0} (P : X → Type 0) (xs : List X) (k : ℕ) (d : X)
 index_fits P [] k d all none = none
 index_fits P (x ∷ xs) zero d all none = All-head P x xs all
 index_fits P (x ∷ xs) (suc k) d all none = index_fits P xs k d (All-tail P x xs all) none
-
-pub get_fits : {X : Type 0} (P : X → Type 0) (xs : List X) (k : ℕ) (x : X) → All P xs → slice_get xs k ≡ Some x → P x
-get_fits P [] k x all is = absurd (cc)
-get_fits P (y ∷ xs) zero x all is = subst P (same_Some y x is) (All-head P y xs all)
-get_fits P (y ∷ xs) (suc k) x all is = get_fits P xs k x (All-tail P y xs all) is
 
 pub set_keeps : {X : Type 0} (P : X → Type 0) (xs : List X) (x y : ℕ) (v d : X) → (y ≡ x → P v)
     → P (slice_index_or xs y d) → P (slice_index_or (slice_set xs x v) y d)
@@ -31,11 +26,6 @@ set_all P [] k v all new = all
 set_all P (x ∷ xs) zero v all new = All-cons P v xs new (All-tail P x xs all)
 set_all P (x ∷ xs) (suc k) v all new =
     All-cons P x (slice_set xs k v) (All-head P x xs all) (set_all P xs k v (All-tail P x xs all) new)
-
-pub drop_all : {X : Type 0} (P : X → Type 0) (n : ℕ) (xs : List X) → All P xs → All P (drop n xs)
-drop_all P zero xs all = all
-drop_all P (suc n) [] all = all
-drop_all P (suc n) (x ∷ xs) all = drop_all P n xs (All-tail P x xs all)
 
 pub map_all : {X Y : Type 0} (P : X → Type 0) (Q : Y → Type 0) (f : X → Y) (xs : List X) → ((x : X) → P x → Q (f x))
     → All P xs → All Q (map f xs)
@@ -53,16 +43,11 @@ pub every : {X : Type 0} (P : X → Type 0) (xs : List X) → ((x : X) → P x) 
 every P [] each = All-nil P
 every P (x ∷ xs) each = All-cons P x xs (each x) (every P xs each)
 
-find_by : {X : Type 0} (P : X → Type 0) (b : Bool) (x found : X) (rest : Option X) → P x → (rest ≡ Some found → P found)
-    → cond b (Some x) rest ≡ Some found → P found
-find_by P true x found rest here later is = subst P (same_Some x found is) here
-find_by P false x found rest here later is = later is
-
 pub find_fits : {X : Type 0} (P : X → Type 0) (test : X → Bool) (xs : List X) (found : X) → All P xs
     → find test xs ≡ Some found → P found
 find_fits P test [] found all is = absurd (cc)
 find_fits P test (x ∷ xs) found all is =
-    find_by P (test x) x found (find test xs) (All-head P x xs all) (λ later. find_fits P test xs found (All-tail P x xs all) later) is
+    found_either P (test x) x found (find test xs) (All-head P x xs all) (λ later. find_fits P test xs found (All-tail P x xs all) later) is
 
 -- ---- results
 pub any_ok : {A : Type 0} (P : A → Type 0) (r : Result A Trap) → ((x : A) → P x) → IfOk r P

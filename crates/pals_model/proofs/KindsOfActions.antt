@@ -1,9 +1,10 @@
 -- For the law that steps keep kinds: actions keep the kinds of variables and of out ports.
-use Rattle.std.proofs.Common.{◌≡◌, ℕ, ◌+◌, ◌*◌, ◌≤◌, ℤ, pos, Bool, true, false, ◌&&◌, List, [], ◌∷◌, ◌++◌, length, take, slice_get, Option, Some, refl, sym, ap, ◌∙◌, subst, arith, length-append, length-take}
+use Rattle.std.proofs.Common.{◌≡◌, ℕ, ◌+◌, ◌*◌, ◌≤◌, ℤ, pos, Bool, true, List, [], ◌∷◌, ◌++◌, length, take, slice_get, Option, Some, sym, ap, ◌∙◌, subst, arith, length-append, length-take}
 use Rattle.std.specs.Prelude.{Result, Ok, Err, IfOk, slice_index_or, slice_set}
-use Rattle.std.proofs.lemmas.Bool.{and_parts, false≢true}
+use Rattle.std.proofs.lemmas.Bool.{and_parts}
 use Rattle.std.proofs.lemmas.List.{length-set, get_or_append_left, get_or-take}
 use Rattle.std.proofs.lemmas.Option.{slice_get_within}
+use Rattle.list_lemmas.proofs.Booleans.{and_three_parts}
 use Rattle.pals_base.specs.declared.values.Trap.{Trap}
 use Rattle.pals_base.specs.declared.values.Frame.{Frame}
 use Rattle.pals_base.specs.declared.values.Port.{Port}
@@ -76,11 +77,6 @@ for_each_fits b (n ∷ ns) body keeps e fits =
     then_ok (EffectFits b) (EffectFits b) (body n e) (λ next. for_each ns body next) (keeps n e fits) (λ next so_far. for_each_fits b ns body keeps next so_far)
 
 -- ---- actions
-three : (a b c : Bool) → (a && b && c) ≡ true → (a ≡ true) × (b ≡ true) × (c ≡ true)
-three true true true all = (refl, refl, refl)
-three true true false all = absurd (false≢true all)
-three true false c all = absurd (false≢true all)
-three false b c all = absurd (false≢true all)
 
 mutual
   act_fits : (a : Action) (b : BehaviourParts) (loops around : ℕ) (frame : Frame) (fresh : List Bool) (outs : List Port)
@@ -122,7 +118,7 @@ mutual
   first_fits NoBranch b loops around frame fresh outs otherwise sound many vars held ports fits = fits
   first_fits (Where guard actions rest) b loops around frame fresh outs otherwise sound many vars held ports fits =
       let parts =
-      three (kinds_of guard b loops).boolean (are_sound actions b loops around) (branches_are_sound rest b loops around) sound in
+      and_three_parts (kinds_of guard b loops).boolean (are_sound actions b loops around) (branches_are_sound rest b loops around) sound in
       on_ok (EffectFits b) (eval guard frame fresh) _
       (λ n. if_ok (EffectFits b) (is_true n) (acts actions frame fresh outs) (act_first rest frame fresh outs otherwise) (acts_fit actions b loops around frame fresh outs parts.1 many vars held ports)
       (first_fits rest b loops around frame fresh outs otherwise parts.2 many vars held ports fits))

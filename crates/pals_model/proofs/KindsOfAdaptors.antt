@@ -2,7 +2,7 @@
 use Rattle.std.proofs.Common.{ℕ, zero, suc, ◌-◌, ◌/◌, nat_lt, ℤ, Bool, true, false, cond, List, [], ◌∷◌, length, map, take, drop, replicate, All, Option, Some, None, IsTrue}
 use Rattle.std.specs.Prelude.{flat_map}
 use Rattle.std.proofs.lemmas.Bool.{false≢true}
-use Rattle.std.proofs.lemmas.List.Elements.{All-nil, All-cons, All-head, All-tail, All-take, All-replicate}
+use Rattle.std.proofs.lemmas.List.Elements.{All-nil, All-cons, All-head, All-tail, All-take, All-replicate, All-drop}
 use Rattle.pals_base.specs.declared.values.Port.{Port}
 use Rattle.pals_base.specs.declared.values.Port.TheVariants.{Absent, Present}
 use Rattle.pals_base.specs.declared.values.Adaptor.{Adaptor}
@@ -12,7 +12,7 @@ use Rattle.pals_base.specs.declared.behaviour.Kind.TheVariants.{Integer, Boolean
 use Rattle.pals_base.specs.Adaptors.{groups, present, placed, spread, of_present, latest_of, joined, adapt}
 use Rattle.pals_base.specs.Allowed.{suits_kind}
 use Rattle.pals_model.specs.proof.FittingValues.{Fits, PortFits, TupleFits}
-use Rattle.pals_model.proofs.KindLists.{index_fits, set_all, drop_all, map_all, flat_all, every}
+use Rattle.pals_model.proofs.KindLists.{index_fits, set_all, map_all, flat_all, every}
 
 -- ---- numbers: each fits
 integer_fits : (p : Port) → PortFits Integer p
@@ -71,7 +71,7 @@ groups_fit : (kind : Kind) (count m : ℕ) (tuple : List Port) → TupleFits kin
     → All (TupleFits kind) (groups count m tuple)
 groups_fit kind zero m tuple all = All-nil (TupleFits kind)
 groups_fit kind (suc count) m tuple all =
-    All-cons (TupleFits kind) (take m tuple) (groups count m (drop m tuple)) (All-take (PortFits kind) m tuple all) (groups_fit kind count m (drop m tuple) (drop_all (PortFits kind) m tuple all))
+    All-cons (TupleFits kind) (take m tuple) (groups count m (drop m tuple)) (All-take (PortFits kind) m tuple all) (groups_fit kind count m (drop m tuple) (All-drop (PortFits kind) m tuple all))
 
 -- ---- the whole
 if_fits : (kind : Kind) (b : Bool) (xs ys : List Port) → TupleFits kind xs → TupleFits kind ys

@@ -1,7 +1,7 @@
 -- For the law that steps keep kinds: what an expression is worth fits each kind that it may have.
 use Rattle.std.proofs.Common.{◌≡◌, ◌⊎◌, inl, inr, ℕ, ◌+◌, nat_le, nat_lt, ℤ, pos, negsuc, Bool, true, false, not, ◌&&◌, ◌||◌, cond, List, length, Option, Some, None, refl, ap, arith}
 use Rattle.std.specs.Prelude.{Result, Ok, IfOk, slice_get, slice_index_or, int_le, int_lt}
-use Rattle.std.proofs.lemmas.Bool.{and_parts, leb-true, false≢true}
+use Rattle.std.proofs.lemmas.Bool.{and_parts, leb-true, false≢true, or_cases}
 use Rattle.pals_base.specs.declared.values.Trap.{Trap}
 use Rattle.pals_base.specs.declared.values.Frame.{Frame}
 use Rattle.pals_base.specs.declared.behaviour.Op.{Op}
@@ -35,10 +35,6 @@ allowed_fits Boolean kinds v is may = may is
 only_may : (kind : Kind) (v : ℤ) → Fits kind v → MayBe (only kind) v
 only_may Integer v fits = λ is. absurd (false≢true is)
 only_may Boolean v fits = λ is. fits
-
-or_cases : (a b : Bool) → (a || b) ≡ true → (a ≡ true) ⊎ (b ≡ true)
-or_cases true b is = inl refl
-or_cases false b is = inr is
 
 least_by : (n : ℕ) → ((nat_le n 0 && nat_le 0 n) ≡ true) ⊎ ((nat_le n 1 && nat_le 1 n) ≡ true) → Fits Boolean (pos n)
 least_by n (inl none) =

@@ -5,6 +5,7 @@ use Rattle.std.specs.Option.{option_map}
 use Rattle.std.proofs.lemmas.Bool.{and_parts, eqb-true}
 use Rattle.std.proofs.lemmas.List.Elements.{All-nil, All-cons, All-append, All-take, All-filter, All-weaker, filter_passes}
 use Rattle.std.proofs.lemmas.Option.{slice_get-map, slice_get_within, get_or_from_slice_get}
+use Rattle.list_lemmas.proofs.Places.{slice_get-some}
 use Rattle.pals_base.specs.declared.values.Port.{Port}
 use Rattle.pals_base.specs.declared.values.Port.TheVariants.{Absent}
 use Rattle.pals_base.specs.declared.behaviour.Kind.{Kind}
@@ -28,7 +29,7 @@ use Rattle.pals_model.proofs.ShapeLaws.{state_has_shape, is_behaviour, component
 use Rattle.pals_model.proofs.Lookups.{found_at, at_element}
 use Rattle.pals_model.specs.proof.FittingValues.{PortFits, TupleFits, PortsFit, FrameFits, link_kind, EnvFits}
 use Rattle.pals_model.specs.proof.Laws.Kinds.{StatesFit, MessagesFit, PartFits, PartsFit}
-use Rattle.pals_model.proofs.KindLists.{index_fits, get_fits, map_all, every}
+use Rattle.pals_model.proofs.KindLists.{index_fits, map_all, every}
 use Rattle.pals_model.proofs.KindsOfSteps.{frames_fit, outputs_fit, initial_fits}
 use Rattle.pals_model.proofs.KindsOfAdaptors.{absent_fits, adapt_fits}
 
@@ -52,11 +53,6 @@ twice_at R source from zero p within = absurd (omega arith)
 twice_at R source from (suc n) zero within = let here : from ≡ from + 0 = omega arith in ap (λ k. R (source k)) here
 twice_at R source from (suc n) (suc p) within =
     let next : suc from + p ≡ from + suc p = omega arith in twice_at R source (suc from) n p (omega arith) ∙ ap (λ k. R (source k)) next
-
-get_there : {X : Type 0} (xs : List X) (k : ℕ) → k < length xs → (x : X) × (slice_get xs k ≡ Some x)
-get_there [] k within = absurd (omega arith)
-get_there (x ∷ xs) zero within = (x, refl)
-get_there (x ∷ xs) (suc k) within = get_there xs k (omega arith)
 
 -- ---- what in ports bring
 abbrev MessagesAreFit : DesignParts → List (List Port) → Type 0
@@ -148,7 +144,7 @@ tuple_fits design env node round out_port c rules given before is_c within =
     let all =
     outputs_fit c.behaviour frame vectors (is_behaviour design node c rules is_c) (state_has_shape design env node round c rules is_c) (before.frames node c is_c)
     (feed_fits design env (comp design env round).messages node round c rules given before.messages is_c) in
-    let port = get_there c.behaviour.outs out_port within in
+    let port = slice_get-some c.behaviour.outs out_port within in
     let zero' : 0 + out_port ≡ out_port = omega arith in
     let here : slice_index_or (columns (length c.behaviour.outs) outs) out_port [] ≡ column out_port outs = column_at outs 0 (length c.behaviour.outs) out_port within ∙ ap (λ k. column k outs) zero' in
     subst (λ k. TupleFits k (slice_index_or (columns (length c.behaviour.outs) outs) out_port [])) (sym (ap kind_of port.1))
@@ -212,9 +208,9 @@ tap_fits : (design : DesignParts) (env : Env) (node round k : ℕ) (c : Componen
 tap_fits design env node round k c tap rules given is_c is_tap =
     let tuples = (own_steps design env node round c).tuples in
     let rule =
-    get_fits (IsTap design) (taps_of design node) k tap (All-filter (λ (t : Tap). nat_eq t.source.0 node) (IsTap design) design.taps rules.taps.each) is_tap in
+    at_element (IsTap design) (taps_of design node) k tap (All-filter (λ (t : Tap). nat_eq t.source.0 node) (IsTap design) design.taps rules.taps.each) is_tap in
     let own =
-    get_fits (λ (t : Tap). nat_eq t.source.0 node ≡ true) (taps_of design node) k tap (filter_passes (λ (t : Tap). nat_eq t.source.0 node) design.taps) is_tap in
+    at_element (λ (t : Tap). nat_eq t.source.0 node ≡ true) (taps_of design node) k tap (filter_passes (λ (t : Tap). nat_eq t.source.0 node) design.taps) is_tap in
     let here : tap.source.0 ≡ node = eqb-true tap.source.0 node own in
     let within : tap.out_port < length c.behaviour.outs = subst (λ o. tap.out_port < outs_in o) (ap (slice_get design.components) here ∙ is_c) rule.source.port_is in
     let f = λ (t : Tap). slice_index_or tuples t.out_port [] in

@@ -2,6 +2,7 @@
 use Rattle.std.proofs.Common.{◌≡◌, inl, ℕ, zero, suc, ◌≤◌, nat_eq, nat_lt, ℤ, pos, Bool, true, false, ◌&&◌, if◌then◌else◌, List, [], ◌∷◌, length, map, replicate, slice_get, All, Option, Some, None, refl, sym, subst, arith}
 use Rattle.std.specs.Prelude.{Result, Ok, Err, IfOk, slice_index_or}
 use Rattle.std.proofs.lemmas.List.Elements.{All-head, All-tail, All-filter, All-nil, All-cons}
+use Rattle.pals_model.proofs.Lookups.{at_element}
 use Rattle.pals_base.specs.declared.values.Trap.{Trap}
 use Rattle.pals_base.specs.declared.values.Frame.{Frame}
 use Rattle.pals_base.specs.declared.values.Port.{Port}
@@ -21,7 +22,7 @@ use Rattle.pals_base.proofs.Ending.{fires_well}
 use Rattle.pals_model.proofs.Words.{all_pass}
 use Rattle.pals_model.specs.proof.FittingValues.{Fits, PortFits, VarsFit, HeldFit, PortsFit, FrameFits}
 use Rattle.pals_model.specs.proof.Laws.Kinds.{FiringFits}
-use Rattle.pals_model.proofs.KindLists.{find_fits, get_fits, then_ok, if_ok}
+use Rattle.pals_model.proofs.KindLists.{find_fits, then_ok, if_ok}
 use Rattle.pals_model.proofs.KindsOfExpressions.{allowed_fits, literal_may}
 use Rattle.pals_model.proofs.KindsOfActions.{EffectFits, acts_fit}
 
@@ -181,6 +182,6 @@ first_at kind (d ∷ vars) (suc x) v is fits = first_at kind vars x v is fits
 pub initial_fits : (b : BehaviourParts) → IsBehaviour b → FrameFits b (initial b)
 initial_fits b rules = record {
   vars = λ x v is.
-      first_at v.kind b.vars x v is (allowed_fits v.kind (literal_kinds v.first) v.first (get_fits (λ (d : VarDecl). has_first d ≡ true) b.vars x v (all_pass has_first b.vars rules.firsts) is) (literal_may v.first));
+      first_at v.kind b.vars x v is (allowed_fits v.kind (literal_kinds v.first) v.first (at_element (λ (d : VarDecl). has_first d ≡ true) b.vars x v (all_pass has_first b.vars rules.firsts) is) (literal_may v.first));
   held = λ p port is. subst (Fits port.kind) (sym (zero_at (length b.ins) p)) (zero_fits port.kind);
 }

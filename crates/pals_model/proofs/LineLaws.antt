@@ -1,5 +1,5 @@
 -- Why the laws of lines hold.
-use Rattle.std.proofs.Common.{◌≡◌, ◌≢◌, ℕ, zero, suc, ◌+◌, ◌/◌, ◌%◌, ◌≤◌, Bool, true, false, not, ℤ, pos, negsuc, ◌==◌, nat_eq, nat_lt, if◌then◌else◌, List, [], ◌∷◌, ◌++◌, map, flat_map, slice_get, Some, None, All, refl, sym, ap, ◌∙◌, arith, append_assoc, ne_eqb}
+use Rattle.std.proofs.Common.{◌≡◌, ◌≢◌, ℕ, zero, suc, ◌+◌, ◌/◌, ◌%◌, Bool, true, false, not, ℤ, pos, negsuc, ◌==◌, nat_eq, nat_lt, if◌then◌else◌, List, [], ◌∷◌, ◌++◌, map, flat_map, slice_get, Some, None, All, refl, sym, ap, ◌∙◌, arith, append_assoc, ne_eqb}
 use Rattle.std.specs.Prelude.{Option, codes, decimal}
 use Rattle.std.specs.List.{list_all, enumerate_from, slice_split}
 use Rattle.std.specs.Fmt.{digits, digits_onto, digit_glyph, signed_decimal}
@@ -7,6 +7,7 @@ use Rattle.std.proofs.lemmas.Bool.{and_parts}
 use Rattle.std.proofs.lemmas.List.Elements.{All-nil, All-cons, All-append, All-head, All-tail, All-weaker}
 use Rattle.std.proofs.lemmas.List.Folds.{list_all-append, list_all-map}
 use Rattle.std.proofs.lemmas.List.Splits.{slice_split_at}
+use Rattle.list_lemmas.proofs.Numbers.{digit-at_least}
 use Rattle.pals_base.specs.declared.values.Port.{Port}
 use Rattle.pals_base.specs.declared.values.Port.TheVariants.{Absent, Present}
 use Rattle.pals_base.specs.declared.values.Frame.{Frame}
@@ -53,16 +54,13 @@ word : (name : List ℕ) → is_word name ≡ true → IsLine name
 word name is = word_without 10 name refl is
 
 -- ---- numbers
-glyph_or : (b : Bool) (d : ℕ) → 48 ≤ (if b then 48 + d else 87 + d)
-glyph_or true d = omega arith
-glyph_or false d = omega arith
 
 digit_or : (b : Bool) (one more : List ℕ) → IsLine one → IsLine more → IsLine (if b then one else more)
 digit_or true one more here there = here
 digit_or false one more here there = there
 
 digit_other : (d : ℕ) → digit_glyph false d ≢ 10
-digit_other d same = let least = glyph_or (nat_lt d 10) d in absurd (omega (arith, least, same))
+digit_other d same = let least = digit-at_least (nat_lt d 10) d in absurd (omega (arith, least, same))
 
 onto : (k base n : ℕ) (acc : List ℕ) → IsLine acc → IsLine (digits_onto k base false n acc)
 onto zero base n acc line = line

@@ -1,15 +1,10 @@
 -- The first element that passes a test.
-use Rattle.std.proofs.Common.{◌≡◌, ℕ, zero, suc, ◌+◌, ◌<◌, Bool, true, false, cond, List, [], ◌∷◌, slice_get, Some, None, All, AllPairs, refl, sym, ap, ◌∙◌, subst, subst₂, arith, add-zero}
+use Rattle.std.proofs.Common.{◌≡◌, ℕ, zero, suc, ◌+◌, ◌<◌, Bool, true, false, cond, List, [], ◌∷◌, slice_get, Some, None, All, refl, sym, ap, ◌∙◌, subst, arith, add-zero}
 use Rattle.std.specs.Prelude.{position}
 use Rattle.std.specs.List.{position_from}
 use Rattle.std.proofs.lemmas.Iterator.Adapters.{position_from-zero}
 use Rattle.std.proofs.lemmas.List.Elements.{All-head, All-tail}
 use Rattle.std.proofs.lemmas.Option.{get_or_from_slice_get, slice_get_within}
-
--- what holds of all pairs, at two elements
-pub pair_at : {X : Type 0} (R : X → X → Type 0) (xs : List X) (k n : ℕ) (x y : X) → AllPairs R xs → k < n → slice_get xs k ≡ Some x → slice_get xs n ≡ Some y → R x y
-pair_at R xs k n x y all below is_x is_y =
-    subst₂ R (get_or_from_slice_get xs k x y is_x) (get_or_from_slice_get xs n y y is_y) (all k n y below (slice_get_within xs n y is_y))
 
 -- what holds of all, at one element
 pub at_element : {X : Type 0} (P : X → Type 0) (xs : List X) (n : ℕ) (x : X) → All P xs → slice_get xs n ≡ Some x → P x

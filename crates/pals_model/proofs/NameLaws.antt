@@ -1,10 +1,11 @@
 -- Why the laws of names hold.
-use Rattle.std.proofs.Common.{◌≡◌, ◌≢◌, append_assoc, ℕ, zero, suc, ◌<◌, true, List, [], ◌∷◌, ◌++◌, length, map, Some, slice_get, IsSomeAnd, AllPairs, refl, sym, ap, ap₂, ◌∙◌, subst, arith, inl, inr, ne_of_lt}
+use Rattle.std.proofs.Common.{◌≡◌, ◌≢◌, append_assoc, ℕ, ◌<◌, true, List, [], ◌∷◌, ◌++◌, length, map, Some, slice_get, IsSomeAnd, refl, sym, ap, ap₂, ◌∙◌, subst, arith, inl, inr, ne_of_lt}
 use Rattle.std.specs.Prelude.{bytes_eq, codes}
 use Rattle.std.specs.Option.{option_map}
-use Rattle.std.proofs.lemmas.Bool.{cases_lt}
 use Rattle.std.proofs.lemmas.Slice.Eq.{bytes_eq-Decides}
 use Rattle.std.proofs.lemmas.Option.{slice_get_cases, slice_get-map}
+use Rattle.list_lemmas.proofs.Places.{slice_get-append_left}
+use Rattle.list_lemmas.proofs.Pairs.{same_place, AllPairs-slice_get}
 use Rattle.pals_base.specs.declared.behaviour.Named.{Named}
 use Rattle.pals_base.specs.declared.behaviour.VarDecl.{VarDecl}
 use Rattle.pals_base.specs.declared.behaviour.BehaviourParts.{BehaviourParts}
@@ -17,26 +18,15 @@ use Rattle.pals_model.specs.LinkNames.{port_name, in_port_name, target_name, lin
 use Rattle.pals_model.specs.Ports.{ins_in}
 use Rattle.pals_model.specs.Rules.{IsDesign, IsTarget, IsLink, LinkPrecedes, port_place}
 use Rattle.pals_model.specs.proof.Laws.Names.{NodeIsFound, FoundNodeHasPath, TargetNamesDiffer, LinkIsFound, FoundLinkHasName}
-use Rattle.pals_model.proofs.Lookups.{pair_at, at_element, first_at, found_at}
+use Rattle.pals_model.proofs.Lookups.{at_element, first_at, found_at}
 use Rattle.pals_model.proofs.ShapeLaws.{component_at, is_behaviour}
 use Rattle.pals_model.proofs.Words.{IsWithout, all_pass, word_without, same_bytes, other_bytes, splits_at_last}
-
--- elements of one name are one, where names differ
-same_place : {X : Type 0} (name : X → List ℕ) (xs : List X) (i j : ℕ) (x y : X) → AllPairs (λ a b. name a ≢ name b) xs → slice_get xs i ≡ Some x → slice_get xs j ≡ Some y → name x ≡ name y → i ≡ j
-same_place name xs i j x y apart is_x is_y same =
-    elim (cases_lt i j) [
-      | inl below ↦ absurd (pair_at (λ a b. name a ≢ name b) xs i j x y apart below is_x is_y same)
-      | inr not_below ↦ elim (cases_lt j i) [
-        | inl above ↦ absurd (pair_at (λ a b. name a ≢ name b) xs j i y x apart above is_y is_x (sym same))
-        | inr not_above ↦ omega arith
-      ]
-    ]
 
 -- ---- components
 pub node_is_found : NodeIsFound
 node_is_found design node c rules is_c =
     first_at (λ (d : Component). bytes_eq c.path d.path) design.components node c is_c (same_bytes c.path)
-    (λ k d below is_d. other_bytes c.path d.path (λ same. pair_at (λ (a b : Component). a.path ≢ b.path) design.components k node d c rules.components.paths_differ below is_d is_c (sym same)))
+    (λ k d below is_d. other_bytes c.path d.path (λ same. AllPairs-slice_get (λ (a b : Component). a.path ≢ b.path) design.components k node d c rules.components.paths_differ below is_d is_c (sym same)))
 
 some_and : {X : Type 0} (o : _) (P : X → Type 0) (x : X) → o ≡ Some x → P x → IsSomeAnd o P
 some_and o P x is holds = subst (λ e. IsSomeAnd e P) (sym is) holds
@@ -54,16 +44,11 @@ port_at ins port within =
       | inr past ↦ absurd (omega (arith, past.0))
     ]
 
-get-append : {X : Type 0} (xs ys : List X) (k : ℕ) (x : X) → slice_get xs k ≡ Some x → slice_get (xs ++ ys) k ≡ Some x
-get-append [] ys k x is = absurd (cc)
-get-append (z ∷ xs) ys zero x is = is
-get-append (z ∷ xs) ys (suc k) x is = get-append xs ys k x is
-
 -- the name of an in port, among those of a behaviour's values
 name_at : (b : BehaviourParts) (port : ℕ) (p : Named) → slice_get b.ins port ≡ Some p → slice_get (value_names b) port ≡ Some p.name
 name_at b port p is =
-    get-append (map (λ (q : Named). q.name) b.ins ++ map (λ (q : Named). q.name) b.outs) (map (λ (v : VarDecl). v.name) b.vars) port p.name
-    (get-append (map (λ (q : Named). q.name) b.ins) (map (λ (q : Named). q.name) b.outs) port p.name
+    slice_get-append_left (map (λ (q : Named). q.name) b.ins ++ map (λ (q : Named). q.name) b.outs) (map (λ (v : VarDecl). v.name) b.vars) port p.name
+    (slice_get-append_left (map (λ (q : Named). q.name) b.ins) (map (λ (q : Named). q.name) b.outs) port p.name
     (slice_get-map (λ (q : Named). q.name) b.ins port ∙ ap (option_map (λ (q : Named). q.name)) is))
 
 port_without_dot : (b : BehaviourParts) (port : ℕ) (p : Named) → IsBehaviour b → slice_get b.ins port ≡ Some p → IsWithout 46 p.name
@@ -109,7 +94,7 @@ link_is_found design number link rules is_link =
     let here = at_element (IsLink design) design.links number link rules.links.each is_link in
     let there = at_element (IsLink design) design.links k other rules.links.each is_other in
     let ports = target_names_differ design link.target.0 link.in_port other.target.0 other.in_port rules here.target there.target same in
-    ne_of_lt (pair_at LinkPrecedes design.links k number other link rules.links.order below is_other is_link) (sym (ap₂ port_place ports.0 ports.1))))
+    ne_of_lt (AllPairs-slice_get LinkPrecedes design.links k number other link rules.links.order below is_other is_link) (sym (ap₂ port_place ports.0 ports.1))))
 
 pub found_link_has_name : FoundLinkHasName
 found_link_has_name design number name found =

@@ -9,12 +9,12 @@ use Rattle.std.proofs.lemmas.List.Elements.{All-nil, All-cons, All-weaker, All-c
 use Rattle.std.proofs.lemmas.List.Kept.{AllPairs-cons}
 use Rattle.std.proofs.lemmas.List.Folds.{list_any-append}
 use Rattle.std.proofs.lemmas.Option.{slice_get-map, slice_get_within, get_or_from_slice_get}
+use Rattle.list_lemmas.proofs.Pairs.{AllPairs-slice_get}
 use Rattle.pals_model.specs.declared.design.Feed.{Feed}
 use Rattle.pals_model.specs.Inputs.{new_names, feed_names, root_inputs, place_of}
 use Rattle.pals_model.specs.Ports.{first_kind, feed_kind}
 use Rattle.pals_model.specs.Rules.{AgreeInKind}
 use Rattle.pals_model.specs.proof.Laws.RootInputs.{RootInputsDiffer, RootInputsAreFeeds, RootInputsInOrder, FeedHasRoot, FeedsHaveRootKind}
-use Rattle.pals_model.proofs.Lookups.{pair_at}
 use Rattle.pals_model.proofs.Words.{same_bytes, other_bytes}
 
 abbrev is_in : List ℕ → List (List ℕ) → Bool
@@ -198,7 +198,7 @@ feeds_have_root_kind design number feed rules is =
     let named : feed.name ≡ first.1.name = (bytes_eq-Decides feed.name first.1.name).0 first.4 in
     let agree : feed_kind design feed ≡ feed_kind design first.1
     = elim (cases_lt first.0 number) [
-      | inl before ↦ (let pair = pair_at (AgreeInKind design) design.feeds first.0 number first.1 feed rules.feeds.kinds before first.3 is in sym (pair.kinds (sym named)))
+      | inl before ↦ (let pair = AllPairs-slice_get (AgreeInKind design) design.feeds first.0 number first.1 feed rules.feeds.kinds before first.3 is in sym (pair.kinds (sym named)))
       | inr not_before ↦
           (let here : first.0 ≡ number = (let upto = first.5 in omega (arith, upto)) in
           let both : Some feed ≡ Some first.1 = sym is ∙ sym (ap (slice_get design.feeds) here) ∙ first.3 in

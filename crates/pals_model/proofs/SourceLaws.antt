@@ -3,10 +3,11 @@ use Rattle.std.proofs.Common.{◌≡◌, ◌≢◌, ℕ, true, false, ◌&&◌, 
 use Rattle.std.specs.Prelude.{position}
 use Rattle.std.proofs.lemmas.Bool.{eq-eqb, eqb-true, and_parts, false_from_ne_true}
 use Rattle.std.proofs.Common.{get_or, ne_of_lt}
+use Rattle.list_lemmas.proofs.Pairs.{AllPairs-slice_get}
 use Rattle.pals_model.specs.Inputs.{link_goes_to, feed_goes_to, from_link, from_feed}
 use Rattle.pals_model.specs.Rules.{port_place, LinkPrecedes, FeedPrecedes, IsApart}
 use Rattle.pals_model.specs.proof.Laws.Sources.{LinkIsSource, FeedIsSource, NothingIsSource}
-use Rattle.pals_model.proofs.Lookups.{pair_at, at_element, first_at, none_passes}
+use Rattle.pals_model.proofs.Lookups.{at_element, first_at, none_passes}
 
 -- two in ports of other places are not the same
 goes_elsewhere : (node port n p : ℕ) → port_place n p ≢ port_place node port → (nat_eq n node && nat_eq p port) ≡ false
@@ -25,7 +26,7 @@ link_is_source design number link rules is =
     ap (λ l. from_link l (from_feed design (position (feed_goes_to link.target.0 link.in_port) design.feeds)))
     (first_at (link_goes_to link.target.0 link.in_port) design.links number link is (goes_there link.target.0 link.in_port)
     (λ k other below is_other.
-    let order = pair_at LinkPrecedes design.links k number other link rules.links.order below is_other is in
+    let order = AllPairs-slice_get LinkPrecedes design.links k number other link rules.links.order below is_other is in
     goes_elsewhere link.target.0 link.in_port other.target.0 other.in_port (ne_of_lt order)))
 
 pub feed_is_source : FeedIsSource
@@ -34,7 +35,7 @@ feed_is_source design number feed rules is =
     let fed : position (feed_goes_to feed.target.0 feed.in_port) design.feeds ≡ Some number
     = first_at (feed_goes_to feed.target.0 feed.in_port) design.feeds number feed is (goes_there feed.target.0 feed.in_port)
     (λ k other below is_other.
-    let order = pair_at FeedPrecedes design.feeds k number other feed rules.feeds.order below is_other is in
+    let order = AllPairs-slice_get FeedPrecedes design.feeds k number other feed rules.feeds.order below is_other is in
     goes_elsewhere feed.target.0 feed.in_port other.target.0 other.in_port (ne_of_lt order)) in
     ap (λ l. from_link l (from_feed design (position (feed_goes_to feed.target.0 feed.in_port) design.feeds)))
     (none_passes (link_goes_to feed.target.0 feed.in_port) design.links

@@ -3,7 +3,7 @@ use Rattle.std.proofs.Common.{◌≡◌, ◌≢◌, ℕ, zero, suc, ◌+◌, ◌
 use Rattle.std.specs.Prelude.{Option, slice_set, slice_index_or}
 use Rattle.std.specs.List.{enumerate_from, position_from}
 use Rattle.std.proofs.lemmas.Bool.{ne_eqb, eq-eqb}
-use Rattle.std.proofs.lemmas.List.{drop_more}
+use Rattle.std.proofs.lemmas.List.{drop_more, get_or_default}
 use Rattle.std.proofs.lemmas.Iterator.Adapters.{position_from-zero}
 use Rattle.pals_base.specs.Steps.{upwards}
 use Rattle.pals_model.specs.declared.design.Component.{Component}
@@ -89,12 +89,6 @@ links_step design at link within is =
     (λ n p. one_link (link_goes_to n p link) at (position_from (link_goes_to n p) (at + 1) (drop (at + 1) design.links)) (fed_from design 0 n p)
     ∙ ap (λ ls. from_link (position_from (link_goes_to n p) at ls) (fed_from design 0 n p)) (sym split)) 0 design.components
 
--- what stands at a place that is there has no part in the default
-same_default : {X : Type 0} (xs : List X) (i : ℕ) (d e : X) → i < length xs → slice_index_or xs i d ≡ slice_index_or xs i e
-same_default [] i d e within = absurd (omega arith)
-same_default (x ∷ xs) zero d e within = refl
-same_default (x ∷ xs) (suc i) d e within = same_default xs i d e (omega arith)
-
 -- a step of the links, as a loop comes to it
 pub links_turn : (design : DesignParts) (links : List Link) (table after : List (List PortSource)) (at : ℕ) (d : Link) → links ≡ design.links → 0 < at → at ≤ length links
     → table ≡ table_of design.components (linked_from design at)
@@ -107,7 +101,7 @@ links_turn design links table after at d same some' within before is =
     is
     ∙ ap (λ ls. with_source table (slice_index_or ls (at - 1) d).target.0 (slice_index_or ls (at - 1) d).in_port (source.Link (at - 1))) same
     ∙ ap (λ t. with_source t link.target.0 link.in_port (source.Link (at - 1))) (before ∙ ap (λ n. table_of design.components (linked_from design n)) back)
-    ∙ links_step design (at - 1) link inside (same_default design.links (at - 1) d link inside)
+    ∙ links_step design (at - 1) link inside (get_or_default design.links (at - 1) d link inside)
 
 no_more : {X : Type 0} (xs : List X) (n : ℕ) → length xs ≤ n → drop n xs ≡ []
 no_more [] zero within = refl

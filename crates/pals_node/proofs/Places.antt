@@ -1,27 +1,14 @@
 -- Tuples written place by place.
-use Rattle.std.proofs.Common.{◌≡◌, ◌∙◌, ℕ, zero, suc, ◌+◌, ◌-◌, ◌<◌, ◌≤◌, inl, inr, Bool, cond, if◌then◌else◌, nat_lt, List, [], ◌∷◌, ◌++◌, length, map, take, drop, set, replicate, All, Option, Some, None, slice_index_or, refl, sym, ap, ap₂, arith, add-one}
+use Rattle.std.proofs.Common.{◌≡◌, ◌∙◌, ℕ, zero, suc, ◌+◌, ◌-◌, ◌<◌, ◌≤◌, inl, inr, Bool, cond, if◌then◌else◌, nat_lt, List, [], ◌∷◌, ◌++◌, length, map, take, drop, replicate, All, Option, Some, None, slice_index_or, refl, sym, ap, ap₂, arith, add-one}
 use Rattle.std.specs.Prelude.{slice_set, zip}
 use Rattle.std.specs.List.{position_from}
 use Rattle.std.proofs.lemmas.Bool.{lt-ltb, le-ltb, cases_lt}
-use Rattle.std.proofs.lemmas.List.{drop_all, take_more, take_more_set, length-set, append-nil, take_all, length-append, length-take, length-take-le, length-replicate, get_or-take, get_or-replicate, get_or_append_left, get_or-append_right}
+use Rattle.std.proofs.lemmas.List.{drop_all, length-set, append-nil, take_all, length-append, length-take, length-take-le, length-replicate, get_or-take, get_or-replicate, get_or_append_left, get_or-append_right}
 use Rattle.std.proofs.lemmas.List.Elements.{All-head, All-tail, All-cons}
 use Rattle.std.proofs.lemmas.Option.{slice_get-get_or, get_or_from_slice_get}
 use Rattle.pals_base.specs.declared.values.Port.{Port}
 use Rattle.pals_base.specs.declared.values.Port.TheVariants.{Absent}
 use Rattle.pals_base.specs.Steps.{column, cut, with_places}
-
--- ---- lists written over, element by element
-pub filled_more : {X : Type 0} (xs wanted : List X) (i : ℕ) (y : X) → length xs ≡ length wanted → i < length wanted
-    → y ≡ slice_index_or wanted i y → take i xs ≡ take i wanted → take (i + 1) (set xs i y) ≡ take (i + 1) wanted
-filled_more xs wanted i y size within item so_far =
-    take_more_set xs i y (omega arith)
-    ∙ ap (λ l. l ++ y ∷ []) so_far
-    ∙ ap (λ v. take i wanted ++ v ∷ []) item
-    ∙ sym (take_more wanted i y within)
-
-pub filled_all : {X : Type 0} (xs wanted : List X) (i : ℕ) → length xs ≡ length wanted → length wanted ≤ i
-    → take i xs ≡ take i wanted → xs ≡ wanted
-filled_all xs wanted i size past so_far = sym (take_all i xs (omega arith)) ∙ so_far ∙ take_all i wanted past
 
 -- ---- cut tuples
 pub length-cut : (count : ℕ) (tuple : List Port) → length (cut count tuple) ≡ length tuple

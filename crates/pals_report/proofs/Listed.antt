@@ -1,5 +1,5 @@
 -- Lines one behind the other.
-use Rattle.std.proofs.Common.{◌≡◌, Result, Ok, Err, OnOk, ℕ, List, [], ◌∷◌, ◌++◌, sym, ap, ◌∙◌, append_assoc}
+use Rattle.std.proofs.Common.{◌≡◌, ℕ, List, [], ◌∷◌, ◌++◌, sym, ap, ◌∙◌, append_assoc}
 use Rattle.std.proofs.lemmas.List.{append-nil}
 use Rattle.std.proofs.lemmas.Grind.{flat_map-append}
 use Rattle.pals_model.specs.RoundTexts.{text_of, line_end}
@@ -23,7 +23,3 @@ five_behind old a b c d e m n o p q i j k l f = f ∙ ap (λ t. t ++ e) (four_be
 
 pub six_lists : (a b c d e f : List (List ℕ)) → (text_of a ++ (text_of b ++ (text_of c ++ (text_of d ++ text_of e)))) ++ text_of f ≡ text_of (a ++ b ++ c ++ d ++ e ++ f)
 six_lists a b c d e f = sym (text_of-append (a ++ b ++ c ++ d ++ e) f ∙ ap (λ t. t ++ text_of f) (text_of-append (a ++ b ++ c ++ d) e ∙ ap (λ t. t ++ text_of e) (text_of-append (a ++ b ++ c) d ∙ ap (λ t. t ++ text_of d) (text_of-append (a ++ b) c ∙ ap (λ t. t ++ text_of c) (text_of-append a b)))) ∙ simp append_assoc)
-
-pub on_ok_also : {T E A B : Type 0} (r : Result T E) → (A → B) → OnOk r A → OnOk r B
-on_ok_also (Ok x) more told = more told
-on_ok_also (Err x) more told = tt

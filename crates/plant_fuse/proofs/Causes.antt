@@ -2,6 +2,7 @@
 use Rattle.std.proofs.Common.{◌≡◌, ◌∙◌, ℕ, zero, suc, ◌+◌, ◌*◌, ◌/◌, ◌%◌, ◌<◌, ◌≤◌, Bool, true, false, List, [], ◌∷◌, length, map, Option, Some, None, slice_get, slice_index_or, refl, sym, ap, ap₂, subst, arith}
 use Rattle.std.specs.Prelude.{if◌then◌else◌}
 use Rattle.std.proofs.lemmas.Option.{same_Some}
+use Rattle.list_lemmas.proofs.Lists.{map-same}
 use Rattle.pals_base.specs.declared.values.Port.{Port}
 use Rattle.pals_base.specs.declared.values.Port.TheVariants.{Absent}
 use Rattle.pals_base.specs.declared.values.Frame.{Frame}
@@ -19,7 +20,7 @@ use Rattle.pals_model.specs.Inputs.{rate_of, rate_in, source_of, reading, values
 use Rattle.pals_model.specs.Rules.{IsDesign}
 use Rattle.pals_runs.specs.declared.pairs.Pair.{Pair}
 use Rattle.plant_fuse.specs.Fused.{ArePairs, is_back, is_forth, Inputs, inputs_to, outputs_in, left_by, left_before, round_tuple, message_on, messages_before, from_round, value_on, value_read, vector_of, reads}
-use Rattle.plant_fuse.proofs.Numbered.{map_each, map_upwards_same, get_upwards_same, table_at, table_past, table_same}
+use Rattle.plant_fuse.proofs.Numbered.{map_upwards_same, get_upwards_same, table_at, table_past, table_same}
 use Rattle.plant_fuse.proofs.Ranks.{is_controller, rank, rank_upto, rank_before, rank_beside, rank_in_round, rank_from_round, rank_of_rounds}
 use Rattle.plant_fuse.proofs.Inside.{back_rates, forth_is, read_from_target}
 
@@ -69,7 +70,7 @@ module _ (design : DesignParts) (pairs : List Pair) (sound : IsDesign design) (a
     pub same_messages : (round : ℕ) → round * 128 ≤ m → messages_before design pairs v round ≡ messages_before design pairs w round
     same_messages zero past = refl
     same_messages (suc round) past =
-        map_each (message_on design pairs v round) (message_on design pairs w round) (λ link. same_message round link (omega (arith, past))) design.links
+        map-same (message_on design pairs v round) (message_on design pairs w round) (λ link. same_message round link (omega (arith, past))) design.links
 
     same_from_round : (rate step : ℕ) (source : PortSource) → step / rate * 128 ≤ m → from_round design pairs env v rate step source ≡ from_round design pairs env w rate step source
     same_from_round rate step source past =

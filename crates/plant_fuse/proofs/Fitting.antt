@@ -1,8 +1,8 @@
 -- When pairs can be fused.
 use Rattle.std.proofs.Common.{◌≡◌, ◌≢◌, ℕ, ◌<◌, Bool, true, false, nat_eq, List, [], ◌∷◌, length, All, refl, sym, arith}
-use Rattle.std.specs.Prelude.{not, ◌&&◌, ◌||◌, slice_index_or}
+use Rattle.std.specs.Prelude.{not, ◌||◌, slice_index_or}
 use Rattle.std.specs.List.{list_all}
-use Rattle.std.proofs.lemmas.Bool.{eqb-true, eq-eqb, and_parts, true≢false}
+use Rattle.std.proofs.lemmas.Bool.{eqb-true, eq-eqb, and_parts, true≢false, and_from}
 use Rattle.std.proofs.lemmas.List.Elements.{All-nil, All-cons, All-head, All-tail}
 use Rattle.std.proofs.lemmas.Option.{slice_get-get_or}
 use Rattle.pals_model.specs.declared.design.Link.{Link}
@@ -34,11 +34,6 @@ implies s p t c then =
       | false ↦ λ is. refl
     ]) refl
 
-both : (a b : Bool) → a ≡ true → b ≡ true → (a && b) ≡ true
-both true true first second = refl
-both true false first second = second
-both false b first second = first
-
 pub from_plant : (pair : Pair) (links : List Link) → list_all (stays_inside pair) links ≡ true → All (FromPlant pair) links
 from_plant pair [] all = All-nil (FromPlant pair)
 from_plant pair (link ∷ links) all =
@@ -56,8 +51,8 @@ to_plant pair (link ∷ links) all =
 pub all_inside : (pair : Pair) (links : List Link) → All (FromPlant pair) links → All (ToPlant pair) links → list_all (stays_inside pair) links ≡ true
 all_inside pair [] from to = refl
 all_inside pair (link ∷ links) from to =
-    both (stays_inside pair link) (list_all (stays_inside pair) links)
-    (both (not (nat_eq link.source.0 pair.plant.0) || nat_eq link.target.0 pair.controller.0) (not (nat_eq link.target.0 pair.plant.0) || nat_eq link.source.0 pair.controller.0)
+    and_from (stays_inside pair link) (list_all (stays_inside pair) links)
+    (and_from (not (nat_eq link.source.0 pair.plant.0) || nat_eq link.target.0 pair.controller.0) (not (nat_eq link.target.0 pair.plant.0) || nat_eq link.source.0 pair.controller.0)
     (implies link.source.0 pair.plant.0 link.target.0 pair.controller.0 (All-head (FromPlant pair) link links from))
     (implies link.target.0 pair.plant.0 link.source.0 pair.controller.0 (All-head (ToPlant pair) link links to)))
     (all_inside pair links (All-tail (FromPlant pair) link links from) (All-tail (ToPlant pair) link links to))

@@ -2,6 +2,7 @@
 use Rattle.std.proofs.Common.{◌≡◌, ◌∙◌, ℕ, suc, ◌*◌, ◌<◌, ◌≤◌, List, [], take, drop, Some, slice_get, sym, ap, ap₂, arith}
 use Rattle.std.proofs.lemmas.Nat.{mul-le}
 use Rattle.std.proofs.lemmas.List.{take-append-drop, take-take, take_all}
+use Rattle.list_lemmas.proofs.Lists.{map-same}
 use Rattle.pals_base.specs.declared.values.Port.{Port}
 use Rattle.pals_base.specs.declared.values.Frame.{Frame}
 use Rattle.pals_base.specs.Fire.{initial}
@@ -19,7 +20,7 @@ use Rattle.plant_fuse.specs.Fused.{ArePairs, Inputs, inputs_to, round_tuple, fra
 use Rattle.plant_fuse.specs.proof.Rounds.{tuple_from}
 use Rattle.plant_fuse.specs.proof.State.{part_after, parts_after}
 use Rattle.plant_fuse.specs.FusedText.{fused_part, fused_parts}
-use Rattle.plant_fuse.proofs.Numbered.{map_each, table_at, table_same}
+use Rattle.plant_fuse.proofs.Numbered.{table_at, table_same}
 use Rattle.plant_fuse.proofs.Causes.{same_tuple}
 use Rattle.plant_fuse.proofs.Prefixes.{begun, agree}
 use Rattle.plant_fuse.proofs.Onward as onward
@@ -47,7 +48,7 @@ module _ (design : DesignParts) (pairs : List Pair) (env : Env) (rounds : ℕ) (
   last_part node c is_c =
       ap₂ (λ (frame : Frame) (outs : List (List Port)). let p : Part = record { frame = frame; outs = outs } in p)
       (frame_is node c is_c)
-      (map_each
+      (map-same
       (λ (tap : Tap). tuple_from design (onward.before design pairs env rounds ins sound are is) (onward.vectors design pairs env rounds ins sound are is) node tap.out_port)
       (λ (tap : Tap). round_tuple design ins node tap.out_port rounds)
       (λ tap. sym (onward.same_tuple design pairs env rounds ins sound are is node tap.out_port)) (taps_of design node))
@@ -65,7 +66,7 @@ module _ (design : DesignParts) (pairs : List Pair) (env : Env) (rounds : ℕ) (
         ap₂ (λ (frame : Frame) (outs : List (List Port)). let p : Part = record { frame = frame; outs = outs } in p)
         (ap (λ ys. frame_after c.behaviour (initial c.behaviour) (take (suc round * c.rate) ys)) (table_at (begun design pairs env rounds ins sound are is) 0 design.components node node c [] (omega arith) is_c)
         ∙ ap (frame_after c.behaviour (initial c.behaviour)) (take-take (suc round * c.rate) (rounds * c.rate) xs less))
-        (map_each (λ (tap : Tap). round_tuple design first node tap.out_port round) (λ (tap : Tap). round_tuple design ins node tap.out_port round)
+        (map-same (λ (tap : Tap). round_tuple design first node tap.out_port round) (λ (tap : Tap). round_tuple design ins node tap.out_port round)
         (λ tap. same_tuple design pairs sound are env (rounds * 128) first ins (agree design pairs env rounds ins sound are is) node tap.out_port round (omega (arith, below))) (taps_of design node))
 
     pub earlier_parts : fused_parts design first round ≡ fused_parts design ins round

@@ -24,4 +24,3 @@ pub mod Following
 pub mod Reports
 pub mod AloneReports
 pub mod Sending
-pub mod Outcomes

@@ -5,6 +5,7 @@ use Rattle.std.proofs.lemmas.Nat.{div-mul-add, mod-mul-add}
 use Rattle.std.proofs.lemmas.List.{take-append-drop, length-take-le}
 use Rattle.std.proofs.lemmas.Option.{slice_get-map, get_or_from_slice_get}
 use Rattle.std.specs.Option.{option_map}
+use Rattle.list_lemmas.proofs.Lists.{map-same}
 use Rattle.pals_base.specs.declared.values.Port.{Port}
 use Rattle.pals_base.specs.declared.values.Port.TheVariants.{Absent}
 use Rattle.pals_base.specs.declared.values.Frame.{Frame}
@@ -27,7 +28,7 @@ use Rattle.plant_fuse.specs.Fused.{ArePairs, is_back, is_forth, Inputs, inputs_t
 use Rattle.plant_fuse.specs.proof.Fused.{first_rounds, frame_of, fused}
 use Rattle.plant_fuse.specs.proof.Rounds.{frame_at, outputs_from, left_in, left_before_by, brought, link_by, read_by, round_vector, IsFusedRound, tuple_from, message_in, after_round, last_round}
 use Rattle.plant_fuse.specs.proof.Laws.{RoundsGoOn}
-use Rattle.plant_fuse.proofs.Numbered.{map_each, map_upwards_same, length_map_upwards, table, table_at, table_same}
+use Rattle.plant_fuse.proofs.Numbered.{map_upwards_same, length_map_upwards, table, table_at, table_same}
 use Rattle.plant_fuse.proofs.Ranks.{IsSmall, small_rate}
 use Rattle.plant_fuse.proofs.Inside.{back_rates, forth_is, read_from_target}
 use Rattle.plant_fuse.proofs.Causes.{read_at, same_messages}
@@ -239,7 +240,7 @@ module _ (design : DesignParts) (pairs : List Pair) (env : Env) (rounds : ℕ) (
 
   is_after : fused design pairs (suc rounds) ins ≡ after_round design pairs before vectors
   is_after = whole ∙ ap₂ (λ (frames : List Frame) (messages : List (List Port)). let at : Configuration = record { frames = frames; messages = messages } in at)
-      next_frames (map_each (message_on design pairs ins rounds) (message_in design pairs before vectors) same_message design.links)
+      next_frames (map-same (message_on design pairs ins rounds) (message_in design pairs before vectors) same_message design.links)
     where
       whole : fused design pairs (suc rounds) ins ≡ record { frames = table (frame_of ins) 0 design.components; messages = messages_before design pairs ins (suc rounds) }
       whole = fused_is design pairs (suc rounds) ins

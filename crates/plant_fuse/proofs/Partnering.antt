@@ -1,7 +1,7 @@
 -- The pair in which a component stands.
 use Rattle.std.proofs.Common.{◌≡◌, ◌≢◌, ◌∙◌, ◌⊎◌, inl, inr, ℕ, zero, suc, ◌<◌, Bool, true, false, nat_eq, List, [], ◌∷◌, length, Option, Some, None, slice_get, slice_index_or, refl, sym, ap, subst, subst₂}
 use Rattle.std.specs.Prelude.{if◌then◌else◌, ◌&&◌}
-use Rattle.std.proofs.lemmas.Bool.{eqb-true, eq-eqb, true≢false, cases_order, cases_Bool}
+use Rattle.std.proofs.lemmas.Bool.{eqb-true, eq-eqb, true≢false, cases_order, cases_Bool, eqb-false}
 use Rattle.std.proofs.lemmas.List.Folds.{Any-from_list_any, list_any_at}
 use Rattle.std.proofs.lemmas.Option.{slice_get-get_or, slice_get_within, get_or_from_slice_get, same_Some}
 use Rattle.pals_base.specs.declared.values.NodeNo.{NodeNo}
@@ -18,16 +18,13 @@ none_by pair rest true b is = absurd (cc)
 none_by pair rest false true is = absurd (cc)
 none_by pair rest false false is = (refl, (refl, is))
 
-differ : (a b : ℕ) → nat_eq a b ≡ false → a ≢ b
-differ a b is same = true≢false (sym (eq-eqb a b same) ∙ is)
-
 pub none_apart : (pairs : List Pair) (node k : ℕ) (pair : Pair) → partner_of pairs node ≡ None → slice_get pairs k ≡ Some pair → (pair.plant.0 ≢ node) × (pair.controller.0 ≢ node)
 none_apart [] node k pair none is = absurd (cc)
 none_apart (first ∷ pairs) node zero pair none is =
     let parts = none_by first (partner_of pairs node) (nat_eq first.plant.0 node) (nat_eq first.controller.0 node) none in
     let same : first ≡ pair = same_Some first pair is in (
-      differ pair.plant.0 node (sym (ap (λ (p : Pair). nat_eq p.plant.0 node) same) ∙ parts.0),
-      differ pair.controller.0 node (sym (ap (λ (p : Pair). nat_eq p.controller.0 node) same) ∙ parts.1.0),
+      eqb-false pair.plant.0 node (sym (ap (λ (p : Pair). nat_eq p.plant.0 node) same) ∙ parts.0),
+      eqb-false pair.controller.0 node (sym (ap (λ (p : Pair). nat_eq p.controller.0 node) same) ∙ parts.1.0),
     )
 none_apart (first ∷ pairs) node (suc k) pair none is =
     let parts = none_by first (partner_of pairs node) (nat_eq first.plant.0 node) (nat_eq first.controller.0 node) none in
@@ -197,7 +194,7 @@ module _ (design : DesignParts) (pairs : List Pair) (are : ArePairs design pairs
           | inr other ↦ not_true (is_back pairs link)
               (λ back. (let goes_there = back_goes link back in
               elim (one_or_apart goes_there.k k goes_there.pair pair goes_there.is_at is) [
-                | inl one ↦ differ link.source.0 pair.controller.0 other (goes_there.source ∙ ap (λ (p : Pair). p.controller.0) one)
+                | inl one ↦ eqb-false link.source.0 pair.controller.0 other (goes_there.source ∙ ap (λ (p : Pair). p.controller.0) one)
                 | inr apart ↦ apart.plants (sym goes_there.target ∙ target)
               ]))
               ∙ sym other
@@ -217,7 +214,7 @@ module _ (design : DesignParts) (pairs : List Pair) (are : ArePairs design pairs
           | inr other ↦ not_true (is_forth pairs link)
               (λ forth. (let goes_there = forth_goes link forth in
               elim (one_or_apart goes_there.k k goes_there.pair pair goes_there.is_at is) [
-                | inl one ↦ differ link.source.0 pair.plant.0 other (goes_there.source ∙ ap (λ (p : Pair). p.plant.0) one)
+                | inl one ↦ eqb-false link.source.0 pair.plant.0 other (goes_there.source ∙ ap (λ (p : Pair). p.plant.0) one)
                 | inr apart ↦ apart.controllers (sym goes_there.target ∙ target)
               ]))
               ∙ sym other

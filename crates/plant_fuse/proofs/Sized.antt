@@ -2,6 +2,7 @@
 use Rattle.std.proofs.Common.{◌≡◌, ◌∙◌, ℕ, ◌<◌, List, [], length, map, Some, slice_get, slice_index_or, refl, sym, ap, arith}
 use Rattle.std.proofs.lemmas.List.{length-map, get_or-map}
 use Rattle.std.proofs.lemmas.Option.{slice_get-get_or, slice_get_read, slice_get_within, get_or_from_slice_get}
+use Rattle.list_lemmas.proofs.Places.{slice_get-map_some}
 use Rattle.pals_base.specs.Bound.{sent_steps}
 use Rattle.pals_base.specs.Steps.{upwards}
 use Rattle.pals_model.specs.declared.design.Component.{Component}
@@ -13,7 +14,7 @@ use Rattle.sync_product.specs.declared.stage.Stage.{Stage}
 use Rattle.sync_product.specs.proof.Sizes.{PartSize, StageSize, tap_ports, frame_size, frame_size_of, part_size, part_size_of, part_sizes, stage_size, stage_size_of, stage_sizes}
 use Rattle.sync_product.specs.proof.Rounds.{frames_of}
 use Rattle.sync_product.proofs.Sizing.{length-upwards}
-use Rattle.sync_product.proofs.Tables.{numbered-at, mapped-at, sized_at}
+use Rattle.sync_product.proofs.Tables.{numbered-at, sized_at}
 use Rattle.plant_fuse.specs.declared.sides.Given.{Given}
 use Rattle.plant_fuse.specs.proof.Sides.{FitsGiven}
 use Rattle.plant_fuse.specs.proof.Runs.{IsGiven}
@@ -35,7 +36,7 @@ module _ (design : DesignParts) (node : ℕ) (c : Component) (is : slice_get des
   stage_fits_at stages stage fit at =
       let sent = sent_steps design.gamma design.period c.rate in
       let sized = sized_at stage_size stages (stage_sizes design) node stage (stage_size_of sent c) fit
-      (mapped-at (λ (d : Component). stage_size_of (sent_steps design.gamma design.period d.rate) d) design.components node c is)
+      (slice_get-map_some (λ (d : Component). stage_size_of (sent_steps design.gamma design.period d.rate) d) design.components node c is)
       (sym (get_or_from_slice_get stages node stage stage at)) in
       sized ∙ ap (λ n. stage_size_of n c) (sym (ap (λ (s : StageSize). s.sent) sized))
 

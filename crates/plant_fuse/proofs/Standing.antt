@@ -6,6 +6,8 @@ use Rattle.std.proofs.lemmas.Bool.{cases_Bool}
 use Rattle.std.proofs.lemmas.List.{length-map}
 use Rattle.std.proofs.lemmas.List.Elements.{All-head, All-tail}
 use Rattle.std.proofs.lemmas.Option.{slice_get_cases, get_or_from_slice_get}
+use Rattle.list_lemmas.proofs.Places.{slice_get-map_some}
+use Rattle.list_lemmas.proofs.Lists.{length-map_enumerate_from, map-same, same_from_places}
 use Rattle.pals_base.specs.declared.values.Port.{Port}
 use Rattle.pals_base.specs.declared.values.Port.TheVariants.{Absent}
 use Rattle.pals_base.specs.declared.values.Frame.{Frame}
@@ -26,18 +28,17 @@ use Rattle.sync_product.specs.declared.stage.Stage.{Stage}
 use Rattle.sync_product.specs.proof.Sizes.{StageSize, stage_size, stage_size_of, stage_sizes}
 use Rattle.sync_product.specs.proof.Rounds.{frames_of}
 use Rattle.sync_product.proofs.Columns.{cut_whole, length-column}
-use Rattle.sync_product.proofs.Tables.{length-numbered, numbered-at, mapped-at, sized_at}
+use Rattle.sync_product.proofs.Tables.{numbered-at, sized_at}
 use Rattle.plant_fuse.specs.Fused.{is_back, is_forth, ArePairs, Inputs, inputs_to}
 use Rattle.plant_fuse.specs.proof.Partners.{partner_of, is_inside}
 use Rattle.plant_fuse.specs.proof.Messages.{sent_from, sent_on}
 use Rattle.plant_fuse.specs.proof.Rounds.{frame_at, place_at, left_in, tuple_from, tuple_in, message_in, after_round}
 use Rattle.plant_fuse.specs.proof.Runs.{rows_of, AreRun}
 use Rattle.plant_fuse.specs.proof.State.{FuseState, part_after, parts_after, IsAdvanced}
-use Rattle.plant_fuse.proofs.Numbered.{map_map, map_each, length_map_upwards}
+use Rattle.plant_fuse.proofs.Numbered.{map_map, length_map_upwards}
 use Rattle.plant_fuse.proofs.Alone.{by_place}
 use Rattle.plant_fuse.proofs.Counts.{count_of_stages}
 use Rattle.plant_fuse.proofs.Partnering.{inside_goes, outside_back, outside_forth}
-use Rattle.plant_fuse.proofs.TakenOut.{same_places}
 use Rattle.plant_fuse.proofs.Assembled.{before, all_read, inputs_at, reads_round, rows_at_node, left_at_node, part_at_node}
 
 either_same : (t u : List Port) (b f : Bool) → (b ≡ true) ⊎ (f ≡ true) → (if b then t else if f then t else u) ≡ t
@@ -88,25 +89,25 @@ module _ (round : RoundInputs) (pairs : List Pair) (are : ArePairs round.design.
       part_at_node round pairs are frames next stages run many node c is_c
       ∙ ap (λ (outs : List (List Port)). let p : Part = record { frame = frame_after c.behaviour (frame_at at node) (inputs_to vs node); outs = outs } in Some p)
       (map_map (λ (tap : Tap). tap.out_port) (λ port. column port (rows node)) (taps_of design node)
-      ∙ map_each (λ (tap : Tap). column tap.out_port (rows node)) (λ (tap : Tap). tuple_from design at vs node tap.out_port) (λ tap. sym (tuple_is node c tap.out_port is_c)) (taps_of design node))
+      ∙ map-same (λ (tap : Tap). column tap.out_port (rows node)) (λ (tap : Tap). tuple_from design at vs node tap.out_port) (λ tap. sym (tuple_is node c tap.out_port is_c)) (taps_of design node))
 
   frames_stand : frames_of next ≡ (after_round design pairs at vs).frames
   frames_stand =
       let f = λ (numbered : ℕ × Component). frame_after numbered.1.behaviour (frame_at at numbered.0) (inputs_to vs numbered.0) in
       let size = length-map next (λ (p : Part). p.frame) in
-      let all = length-numbered f 0 design.components in
-      same_places (frames_of next) (map f (enumerate_from 0 design.components)) (size ∙ count ∙ sym all)
+      let all = length-map_enumerate_from f 0 design.components in
+      same_from_places (frames_of next) (map f (enumerate_from 0 design.components)) (size ∙ count ∙ sym all)
       (λ k within.
       elim (slice_get_cases design.components k).1 [
-        | inl found ↦ mapped-at (λ (p : Part). p.frame) next k _ (part_is k found.0 found.2) ∙ sym (numbered-at f design.components k found.0 found.2)
+        | inl found ↦ slice_get-map_some (λ (p : Part). p.frame) next k _ (part_is k found.0 found.2) ∙ sym (numbered-at f design.components k found.0 found.2)
         | inr past ↦ absurd (let low = past.0 in omega (arith, low, within, size, count))
       ])
 
   parts_stand : next ≡ parts_after design at vs
   parts_stand =
       let f = λ (numbered : ℕ × Component). part_after design at vs numbered.0 numbered.1 in
-      let all = length-numbered f 0 design.components in
-      same_places next (map f (enumerate_from 0 design.components)) (count ∙ sym all)
+      let all = length-map_enumerate_from f 0 design.components in
+      same_from_places next (map f (enumerate_from 0 design.components)) (count ∙ sym all)
       (λ k within.
       elim (slice_get_cases design.components k).1 [
         | inl found ↦ part_is k found.0 found.2 ∙ sym (numbered-at f design.components k found.0 found.2)
@@ -124,10 +125,10 @@ module _ (round : RoundInputs) (pairs : List Pair) (are : ArePairs round.design.
       elim (slice_get_cases stages node).1 [
         | inl staged ↦ (
             let stage : Stage = staged.0 in
-            let rows_are : rows node ≡ stage.rows = get_or_from_slice_get (rows_of stages) node stage.rows [] (mapped-at (λ (s : Stage). s.rows) stages node stage staged.2) in
+            let rows_are : rows node ≡ stage.rows = get_or_from_slice_get (rows_of stages) node stage.rows [] (slice_get-map_some (λ (s : Stage). s.rows) stages node stage staged.2) in
             let sent = sent_steps design.gamma design.period c.rate in
             let room = sized_at stage_size stages (stage_sizes design) node stage (stage_size_of sent c) fit
-            (mapped-at (λ (d : Component). stage_size_of (sent_steps design.gamma design.period d.rate) d) design.components node c is_c) (sym staged.3) in
+            (slice_get-map_some (λ (d : Component). stage_size_of (sent_steps design.gamma design.period d.rate) d) design.components node c is_c) (sym staged.3) in
             let tuple : tuple_in design at vs link ≡ column port stage.rows = tuple_is node c port is_c ∙ ap (column port) rows_are in
             let inside = is_inside (partner_of pairs node) link in
             elim (cases_Bool inside) [

@@ -1,9 +1,10 @@
 -- A list of which one element is taken out, another is changed, and the first is put back.
-use Rattle.std.proofs.Common.{◌≡◌, ◌≢◌, ◌∙◌, ◌⊎◌, inl, inr, ℕ, zero, suc, ◌<◌, List, [], ◌∷◌, length, map, set, Some, slice_get, slice_index_or, refl, sym, ap, ap₂, arith}
+use Rattle.std.proofs.Common.{◌≡◌, ◌≢◌, ◌∙◌, ◌⊎◌, inl, inr, ℕ, zero, suc, ◌<◌, List, [], ◌∷◌, length, map, set, Some, slice_get, slice_index_or, refl, sym, ap, arith}
 use Rattle.std.specs.Option.{option_map}
 use Rattle.std.proofs.lemmas.List.{length-set, length-map}
-use Rattle.std.proofs.lemmas.Option.{slice_get-map, slice_get_read, same_Some}
+use Rattle.std.proofs.lemmas.Option.{slice_get-map, slice_get_read}
 use Rattle.std.proofs.lemmas.Bool.{cases_order}
+use Rattle.list_lemmas.proofs.Lists.{same_from_places}
 use Rattle.sync_product.proofs.Tables.{slice_get-set_same}
 use Rattle.plant_fuse.specs.proof.TakenFrom.{TakenFrom}
 
@@ -13,14 +14,6 @@ get_set_other (x ∷ xs) zero zero y other = absurd (other refl)
 get_set_other (x ∷ xs) zero (suc k) y other = refl
 get_set_other (x ∷ xs) (suc i) zero y other = refl
 get_set_other (x ∷ xs) (suc i) (suc k) y other = get_set_other xs i k y (λ same. other (ap suc same))
-
--- lists with equal elements
-pub same_places : {X : Type 0} (xs ys : List X) → length xs ≡ length ys → ((k : ℕ) → k < length xs → slice_get xs k ≡ slice_get ys k) → xs ≡ ys
-same_places [] [] size same = refl
-same_places [] (y ∷ ys) size same = absurd (omega arith)
-same_places (x ∷ xs) [] size same = absurd (omega arith)
-same_places (x ∷ xs) (y ∷ ys) size same =
-    ap₂ (λ z zs. z ∷ zs) (same_Some x y (same 0 (omega arith))) (same_places xs ys (omega arith) (λ k within. same (suc k) (omega arith)))
 
 -- ---- one that is taken out
 -- the others stay
@@ -92,4 +85,4 @@ module _ {X : Type 0} (old new last : List X) (i j : ℕ) (was x y : X) (taken :
     seen_back =
         let many = length-map last size in
         let all = length-map old size in
-        same_places (map size last) (map size old) (many ∙ length_back ∙ sym all) (λ k within. seen_at k)
+        same_from_places (map size last) (map size old) (many ∙ length_back ∙ sym all) (λ k within. seen_at k)

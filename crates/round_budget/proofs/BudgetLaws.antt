@@ -5,6 +5,7 @@ use Rattle.std.proofs.lemmas.Nat.{mul-le}
 use Rattle.std.proofs.lemmas.List.Sums.{sum_by-cons}
 use Rattle.std.proofs.lemmas.List.Elements.{All-from_recursion}
 use Rattle.std.proofs.lemmas.Bool.{cases_lt}
+use Rattle.list_lemmas.proofs.Elements.{AllByRecursion-weaker}
 use Rattle.pals_base.specs.declared.values.Frame.{Frame}
 use Rattle.pals_base.specs.declared.values.Port.{Port}
 use Rattle.pals_base.specs.declared.limits.TheConstants.{HOUR}
@@ -19,7 +20,7 @@ use Rattle.pals_model.specs.Rules.{IsDesign}
 use Rattle.round_budget.specs.Budgets.{Release, Served, releases, in_order, precedes, serve, most_of, most_in, by_most}
 use Rattle.round_budget.specs.Responses.{response, AreAtMost, made_in, frame_before, inputs_at, by_exec}
 use Rattle.round_budget.specs.proof.Laws.{AreMembers, IsWithinBudget, EachIsServed, ServedOnce, ServedInOrder, NoneBeginsEarly, OneAtATime, ResponsesFit, MostResponsesFit, ExecResponsesFit, RoundsAreApart}
-use Rattle.round_budget.proofs.Elements.{every_weaker, every_both, Pairs, pairs_weaker, pairs_both, all_pairs_from, Member, member_of, contains_of}
+use Rattle.round_budget.proofs.Elements.{every_both, Pairs, pairs_weaker, pairs_both, all_pairs_from, Member, member_of, contains_of}
 use Rattle.round_budget.proofs.Orders.{NotAfter, every_in_order, pairs_in_order, sorted_in_order, length_in_order, member_in_order, in_order_member, strict_numbers}
 use Rattle.round_budget.proofs.Weights.{one_le}
 use Rattle.round_budget.proofs.Times.{rate_fits, gap_of, AreFar, far_either, IsRelease, releases_are, releases_are_far}
@@ -134,7 +135,7 @@ module _ (design : DesignParts) (members : List ℕ) (sound : IsDesign design) (
       (most : (x : Release) → Member members x.node → cost x ≤ w x.node) where
     weighed : Every (IsWeighed w members cost) ordered
     weighed =
-        every_weaker (IsRelease design members) (IsWeighed w members cost)
+        AllByRecursion-weaker (IsRelease design members) (IsWeighed w members cost)
         (λ x is. record { member = is.member; cost_is = most x is.member }) ordered ordered_are
 
     done_in_time : Every (λ (s : Served). s.done ≤ s.release.time + design.gamma.alpha_max) (serve cost 0 ordered)
@@ -145,7 +146,7 @@ module _ (design : DesignParts) (members : List ℕ) (sound : IsDesign design) (
     pub responses_in_time : All (λ s. response s ≤ design.gamma.alpha_max) (serve cost 0 ordered)
     responses_in_time =
         All-from_recursion (λ s. response s ≤ design.gamma.alpha_max) (serve cost 0 ordered)
-        (every_weaker (λ (s : Served). s.done ≤ s.release.time + design.gamma.alpha_max)
+        (AllByRecursion-weaker (λ (s : Served). s.done ≤ s.release.time + design.gamma.alpha_max)
         (λ (s : Served). response s ≤ design.gamma.alpha_max)
         (λ s soon. omega (arith, soon)) (serve cost 0 ordered) done_in_time)
 

@@ -1,10 +1,11 @@
 -- Why a processor is in time: while it is busy, no member has more than one step in its queue.
-use Rattle.std.proofs.Common.{◌≡◌, ◌⊎◌, inl, inr, ℕ, suc, ◌+◌, ◌<◌, ◌≤◌, Bool, true, false, List, [], ◌∷◌, length, map, refl, sym, ap, arith}
-use Rattle.std.specs.Prelude.{max, nat_eq, ◌||◌}
+use Rattle.std.proofs.Common.{◌≡◌, inl, inr, ℕ, suc, ◌+◌, ◌<◌, ◌≤◌, Bool, true, false, List, [], ◌∷◌, length, map, refl, sym, ap, arith}
+use Rattle.std.specs.Prelude.{max, nat_eq}
 use Rattle.std.specs.List.{sum_by, AllByRecursion as Every}
-use Rattle.std.proofs.lemmas.Bool.{cases_lt, eqb-true}
+use Rattle.std.proofs.lemmas.Bool.{cases_lt, eqb-true, or_cases}
+use Rattle.list_lemmas.proofs.Elements.{AllByRecursion-weaker}
 use Rattle.round_budget.specs.Budgets.{Release, Served, begins, serve}
-use Rattle.round_budget.proofs.Elements.{every_weaker, every_both, Pairs, Member}
+use Rattle.round_budget.proofs.Elements.{every_both, Pairs, Member}
 use Rattle.round_budget.proofs.Weights.{part, with_one, part_le, part_more}
 
 -- ---- what is served
@@ -75,16 +76,12 @@ pub record ComesLater (gap start : ℕ) (used : ℕ → Bool) (y : Release) : Ty
 abbrev none : ℕ → Bool
 none n = false
 
-or_true : (b c : Bool) → (b || c) ≡ true → (b ≡ true) ⊎ (c ≡ true)
-or_true true c is = inl refl
-or_true false c is = inr is
-
 module _ (gap : ℕ) (w : ℕ → ℕ) (members : List ℕ) (cost : Release → ℕ) (few : sum_by w members ≤ gap) where
   -- a new stretch begins
   anew : (x y : Release) → IsApart gap x y → ComesLater gap x.time (with_one x.node none) y
   anew x y apart = record {
     after = apart.order;
-    again = λ is. elim (or_true (nat_eq y.node x.node) false is) [
+    again = λ is. elim (or_cases (nat_eq y.node x.node) false is) [
       | inl same ↦ apart.apart (sym (eqb-true y.node x.node same))
       | inr other ↦ absurd (cc)
     ];
@@ -95,7 +92,7 @@ module _ (gap : ℕ) (w : ℕ → ℕ) (members : List ℕ) (cost : Release → 
       → ComesLater gap start used y → ComesLater gap start (with_one x.node used) y
   onward start used x y first apart later = record {
     after = later.after;
-    again = λ is. elim (or_true (nat_eq y.node x.node) (used y.node) is) [
+    again = λ is. elim (or_cases (nat_eq y.node x.node) (used y.node) is) [
       | inl same ↦ (let far = apart.apart (sym (eqb-true y.node x.node same)) in omega (arith, far, first))
       | inr before ↦ later.again before
     ];
@@ -137,7 +134,7 @@ module _ (gap : ℕ) (w : ℕ → ℕ) (members : List ℕ) (cost : Release → 
             omega (arith, idle, more, here) in (
               (let bound : max x.time free + cost x ≤ x.time + gap = omega (arith, done_in, whole, few) in bound),
               in_time x.time (begins free x + cost x) (with_one x.node none) xs done_in
-                  (every_weaker (IsApart gap x) (ComesLater gap x.time (with_one x.node none)) (anew x) xs apart.0)
+                  (AllByRecursion-weaker (IsApart gap x) (ComesLater gap x.time (with_one x.node none)) (anew x) xs apart.0)
                   apart.1 weighed.1,
             ))
       ]
@@ -147,5 +144,5 @@ module _ (gap : ℕ) (w : ℕ → ℕ) (members : List ℕ) (cost : Release → 
       → Every (λ (s : Served). s.done ≤ s.release.time + gap) (serve cost 0 xs)
   all_in_time xs apart weighed =
       in_time 0 0 none xs (omega arith)
-      (every_weaker (IsWeighed w members cost) (ComesLater gap 0 none)
+      (AllByRecursion-weaker (IsWeighed w members cost) (ComesLater gap 0 none)
       (λ y is. record { after = omega arith; again = λ other. absurd (cc) }) xs weighed) apart weighed

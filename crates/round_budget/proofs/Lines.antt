@@ -1,17 +1,12 @@
 -- The next element of a list, in the code's loops.
-use Rattle.std.proofs.Common.{◌≡◌, ℕ, ◌+◌, ◌<◌, List, [], ◌∷◌, ◌++◌, length, map, drop, refl, ap, ap₂, sym, ◌∙◌, append_assoc, add-one, drop-cons, arith}
+use Rattle.std.proofs.Common.{◌≡◌, ℕ, ◌+◌, ◌<◌, List, [], ◌∷◌, ◌++◌, length, map, drop, ap, ap₂, sym, ◌∙◌, append_assoc, add-one, drop-cons}
 use Rattle.std.specs.Prelude.{slice_index_or}
-use Rattle.std.specs.List.{sum_by}
-use Rattle.std.proofs.lemmas.List.Sums.{sum_by-cons}
+use Rattle.std.proofs.lemmas.List.{map_push}
 use Rattle.round_budget.specs.Budgets as budgets
 use Rattle.round_budget.specs.Budgets.{begins, served_at, serve, line_from}
 use Rattle.round_budget.specs.declared.releases.Release.{Release}
 use Rattle.round_budget.specs.declared.serving.Line.{Line}
 use Rattle.round_budget.specs.proof.Values.{release_value, line_value}
-
-pub map_push : {X Y : Type 0} (f : X → Y) (xs : List X) (x : X) → map f (xs ++ x ∷ []) ≡ map f xs ++ f x ∷ []
-map_push f [] x = refl
-map_push f (y ∷ ys) x = ap (λ zs. f y ∷ zs) (map_push f ys x)
 
 drop_next : (rs : List Release) (i : ℕ) (x d : Release) → i < length rs → x ≡ slice_index_or rs i d
     → drop i rs ≡ x ∷ drop (i + 1) rs
@@ -37,12 +32,3 @@ serve_next cost start free after i rs x d lines y whole within is line then befo
     ∙ ap (λ (l : List Release). map line_value lines ++ map (line_from start) (serve cost free (map release_value l)))
     (sym (drop_next rs i x d within is))
     ∙ before
-
--- the sum with one more
-pub sum_next : {X : Type 0} (f : X → ℕ) (xs : List X) (x : X) → sum_by f (xs ++ x ∷ []) ≡ sum_by f xs + f x
-sum_next f [] x = (let a = sum_by-cons f x [] in omega (arith, a))
-sum_next f (y ∷ ys) x =
-    let later = sum_next f ys x in
-    let a = sum_by-cons f y (ys ++ x ∷ []) in
-    let b = sum_by-cons f y ys in
-    omega (arith, later, a, b)

@@ -3,8 +3,9 @@ use Rattle.std.proofs.Common.{◌≡◌, ◌⊎◌, inl, inr, ℕ, suc, ◌<◌,
 use Rattle.std.specs.Prelude.{nat_eq, nat_lt, ◌&&◌, ◌||◌, if◌then◌else◌}
 use Rattle.std.specs.List.{AllByRecursion as Every}
 use Rattle.std.proofs.lemmas.Bool.Decides.{nat_tests}
+use Rattle.list_lemmas.proofs.Elements.{AllByRecursion-weaker}
 use Rattle.round_budget.specs.Budgets.{Release, precedes, put, in_order}
-use Rattle.round_budget.proofs.Elements.{every_weaker, Pairs, Member}
+use Rattle.round_budget.proofs.Elements.{Pairs, Member}
 
 -- ---- all elements
 every_put : (P : Release → Type 0) (x : Release) (ys : List Release) → P x → Every P ys → Every P (put x ys)
@@ -68,7 +69,7 @@ sorted_put x (y ∷ ys) all =
     (elim (precedes y x) as (λ b. precedes y x ≡ b → Pairs NotAfter (if b then y ∷ put x ys else x ∷ y ∷ ys)) [
       | true ↦ λ is. (every_put (NotAfter y) x ys (not_after_before x y is) all.0, sorted_put x ys all.1)
       | false ↦ λ is. (let here = not_after_other x y is in
-          ((here, every_weaker (NotAfter y) (NotAfter x) (λ z. not_after_both x y z here) ys all.0), all))
+          ((here, AllByRecursion-weaker (NotAfter y) (NotAfter x) (λ z. not_after_both x y z here) ys all.0), all))
     ]) refl
 
 pub sorted_in_order : (xs : List Release) → Pairs NotAfter (in_order xs)

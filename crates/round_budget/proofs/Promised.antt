@@ -1,7 +1,6 @@
 -- What holds where the sum fits.
-use Rattle.std.proofs.Common.{◌≡◌, ℕ, ◌≤◌, true, List, arith}
-use Rattle.std.specs.Prelude.{nat_le}
-use Rattle.std.proofs.lemmas.Bool.Decides.{nat_tests}
+use Rattle.std.proofs.Common.{◌≡◌, ℕ, ◌≤◌, true, List}
+use Rattle.std.proofs.lemmas.Bool.{leb-true}
 use Rattle.step_code.specs.declared.instr.CodeParts.{CodeParts}
 use Rattle.pals_model.specs.declared.design.DesignParts.{DesignParts}
 use Rattle.pals_model.specs.Rules.{IsDesign}
@@ -12,14 +11,11 @@ use Rattle.round_budget.proofs.BudgetLaws.{responses_fit, exec_at_most, rounds_a
 use Rattle.round_budget.proofs.Repeating.{timetable_repeats}
 use Rattle.round_budget.specs.proof.Promises.{TimetableIsEach}
 
-le_of_test : (n m : ℕ) → nat_le n m ≡ true → n ≤ m
-le_of_test n m is = grind (arith, nat_tests)
-
 pub budgeted_by : (design : DesignParts) (codes : List CodeParts) (nanos : ℕ) (members : List ℕ)
     → AreMembers design members
     → fits design.gamma (total nanos codes members) ≡ true → IsWithinBudget design codes nanos members
 budgeted_by design codes nanos members are is =
-    record { members_are = are; fits = le_of_test (total nanos codes members) design.gamma.alpha_max is }
+    record { members_are = are; fits = leb-true (total nanos codes members) design.gamma.alpha_max is }
 
 pub timetable_is_each : (design : DesignParts) (codes : List CodeParts) (nanos : ℕ) (members : List ℕ) → IsDesign design
     → IsWithinBudget design codes nanos members → TimetableIsEach design codes nanos members

@@ -6,6 +6,8 @@ use Rattle.std.proofs.lemmas.Bool.Decides.{nat_tests}
 use Rattle.std.proofs.lemmas.Nat.{mul-le}
 use Rattle.std.proofs.lemmas.List.{map-append}
 use Rattle.std.proofs.lemmas.List.Elements.{recursion_from_All}
+use Rattle.std.proofs.Math.Nat.{add-max-add_right}
+use Rattle.list_lemmas.proofs.Elements.{AllByRecursion-weaker, AllByRecursion-map}
 use Rattle.pals_base.specs.Bound.{alarm, step_period}
 use Rattle.pals_base.specs.Steps.{upwards}
 use Rattle.step_code.specs.declared.instr.CodeParts.{CodeParts}
@@ -15,7 +17,7 @@ use Rattle.pals_model.specs.Rules.{IsDesign}
 use Rattle.round_budget.specs.Budgets.{Release, Served, Line, release_of, releases_of, releases_in, releases, precedes, put, in_order, begins, served_at, serve, budget, by_most, line_from, timetable}
 use Rattle.round_budget.specs.proof.Budgets.{line_in_round}
 use Rattle.round_budget.specs.proof.Laws.{IsWithinBudget, TimetableRepeats}
-use Rattle.round_budget.proofs.Elements.{every_weaker, every_both, every_map, every_flat_map, every_upwards}
+use Rattle.round_budget.proofs.Elements.{every_both, every_flat_map, every_upwards}
 use Rattle.round_budget.proofs.Orders.{every_in_order}
 use Rattle.round_budget.proofs.Times.{IsIn, in_round, rate_fits}
 use Rattle.round_budget.proofs.BudgetLaws.{rounds_are_apart}
@@ -82,8 +84,6 @@ in_order_later t round (x ∷ xs) =
     ap (put (later t round x)) (in_order_later t round xs) ∙ put_later t round x (in_order xs)
 
 -- ---- served later
-later_max : (a b k : ℕ) → max (a + k) (b + k) ≡ max a b + k
-later_max a b k = omega arith
 
 served_at_later : (release : Release) (b b' d d' : ℕ) → b ≡ b' → d ≡ d'
     → ◌≡◌ {A = Served} (record { release = release; begin = b; done = d })
@@ -96,7 +96,7 @@ serve_later : (t round : ℕ) (cost : Release → ℕ) → ((x : Release) → co
 serve_later t round cost same free [] = refl
 serve_later t round cost same free (x ∷ xs) =
     let begin : max (x.time + round * t) (free + round * t) ≡ max x.time free + round * t =
-    later_max x.time free (round * t) in
+    add-max-add_right x.time free (round * t) in
     let one = same x in
     let done : max (x.time + round * t) (free + round * t) + cost (later t round x) ≡ max x.time free + cost x + round * t = omega (arith, begin, one) in
     ap₂ (λ s ss. s ∷ ss)
@@ -177,13 +177,13 @@ module _ (design : DesignParts) (codes : List CodeParts) (nanos : ℕ) (members 
       every_flat_map (λ y. alarm t from ≤ y.time) (releases_in design members) (upwards from n)
       (every_upwards (λ r. Every (λ y. alarm t from ≤ y.time) (releases_in design members r)) from n
       (λ r above below.
-      every_weaker (IsIn design members sound budgeted.members_are r) (λ y. alarm t from ≤ y.time)
+      AllByRecursion-weaker (IsIn design members sound budgeted.members_are r) (λ y. alarm t from ≤ y.time)
       (λ y is. (let first = alarm_upto from r above in let starts = is.begins in omega (arith, first, starts)))
       (releases_in design members r) (is_in r)))
 
   ends_soon : (round : ℕ) → Every (λ x. x.time < alarm t (suc round)) (releases_in design members round)
   ends_soon round =
-      every_weaker (IsIn design members sound budgeted.members_are round) (λ x. x.time < alarm t (suc round))
+      AllByRecursion-weaker (IsIn design members sound budgeted.members_are round) (λ x. x.time < alarm t (suc round))
       (λ x is. (
       let ends = is.is_release.ends in
       let real = (rate_fits design sound x.node is.is_release.within).real in
@@ -196,10 +196,10 @@ module _ (design : DesignParts) (codes : List CodeParts) (nanos : ℕ) (members 
   all_in_order from zero = refl
   all_in_order from (suc n) =
       in_order_both (releases_in design members from) (flat_map (releases_in design members) (upwards (suc from) n))
-      (every_weaker (λ x. x.time < alarm t (suc from))
+      (AllByRecursion-weaker (λ x. x.time < alarm t (suc from))
       (λ x. Every (λ y. precedes y x ≡ false) (flat_map (releases_in design members) (upwards (suc from) n)))
       (λ x soon.
-      every_weaker (λ y. alarm t (suc from) ≤ y.time) (λ y. precedes y x ≡ false)
+      AllByRecursion-weaker (λ y. alarm t (suc from) ≤ y.time) (λ y. precedes y x ≡ false)
       (λ y late. later_number y.time x.time y.node x.node (omega (arith, soon, late)))
       (flat_map (releases_in design members) (upwards (suc from) n)) (begins_late (suc from) n))
       (releases_in design members from) (ends_soon from))
@@ -226,7 +226,7 @@ module _ (design : DesignParts) (codes : List CodeParts) (nanos : ℕ) (members 
 
   first_is_zero : Every (λ (s : Served). s.release.round ≡ 0) first
   first_is_zero = zero_served 0 (of_round 0) (every_in_order (λ x. x.round ≡ 0) (releases_in design members 0)
-      (every_weaker (IsIn design members sound budgeted.members_are 0) (λ x. x.round ≡ 0) (λ x is. is.round_is)
+      (AllByRecursion-weaker (IsIn design members sound budgeted.members_are 0) (λ x. x.round ≡ 0) (λ x is. is.round_is)
       (releases_in design members 0) (is_in 0)))
     where
       zero_served : (free : ℕ) (xs : List Release) → Every (λ x. x.round ≡ 0) xs
@@ -239,7 +239,7 @@ module _ (design : DesignParts) (codes : List CodeParts) (nanos : ℕ) (members 
       → Every (λ x. (free ≤ x.time) × (0 + round * t ≤ x.time)) (of_round round)
   round_times round free low =
       every_in_order (λ x. (free ≤ x.time) × (0 + round * t ≤ x.time)) (releases_in design members round)
-      (every_weaker (IsIn design members sound budgeted.members_are round)
+      (AllByRecursion-weaker (IsIn design members sound budgeted.members_are round)
       (λ x. (free ≤ x.time) × (0 + round * t ≤ x.time))
       (λ x is. (let starts = is.begins in (omega (arith, starts, low), omega (arith, starts))))
       (releases_in design members round) (is_in round))
@@ -268,7 +268,7 @@ module _ (design : DesignParts) (codes : List CodeParts) (nanos : ℕ) (members 
       let more = alarm_upto round (suc round) (omega arith) in
       after_upto cost free (alarm t (suc round)) (of_round round) (omega (arith, low, more))
       (subst (Every (λ (s : Served). s.done ≤ alarm t (suc round))) (sym (serve_round round free low))
-      (every_map (λ (s : Served). s.done ≤ alarm t (suc round)) (served_later t round) first
+      (AllByRecursion-map (λ (s : Served). s.done ≤ alarm t (suc round)) (served_later t round) first
       (every_both (λ (s : Served). s.done ≤ alarm t (suc s.release.round)) (λ (s : Served). s.release.round ≡ 0)
       (λ (s : Served). s.done + round * t ≤ alarm t (suc round))
       (λ s soon is. (

@@ -3,6 +3,7 @@ use Rattle.std.proofs.Common.{◌≡◌, ℕ, ◌+◌, ◌*◌, ◌≤◌, List,
 use Rattle.std.specs.List.{sum_by, AllByRecursion as Every}
 use Rattle.std.proofs.lemmas.Nat.{mul-le}
 use Rattle.std.proofs.lemmas.List.Elements.{All-from_recursion}
+use Rattle.list_lemmas.proofs.Elements.{AllByRecursion-map}
 use Rattle.pals_base.specs.declared.limits.TheConstants.{HOUR}
 use Rattle.pals_base.specs.Bound.{alarm, step_period}
 use Rattle.pals_base.specs.Steps.{upwards}
@@ -13,7 +14,7 @@ use Rattle.pals_model.specs.Rules.{IsDesign}
 use Rattle.round_budget.specs.Budgets as budgets
 use Rattle.round_budget.specs.Budgets.{release_of, releases_of, releases_in, releases, in_order, most_of, by_most}
 use Rattle.round_budget.specs.proof.Laws.{IsWithinBudget}
-use Rattle.round_budget.proofs.Elements.{every_both, every_map, every_flat_map, every_upwards}
+use Rattle.round_budget.proofs.Elements.{every_both, every_flat_map, every_upwards}
 use Rattle.round_budget.proofs.Orders.{every_in_order}
 use Rattle.round_budget.proofs.Weights.{one_le}
 use Rattle.round_budget.proofs.Times.{IsRelease, releases_are}
@@ -36,7 +37,7 @@ all_late design members =
     all_of : (ms : List ℕ) → Every (λ node. Every (ComesLate design) (releases_of design 0 node)) ms
     all_of [] = tt
     all_of (m ∷ ms) = (
-      every_map (ComesLate design) (release_of design 0 m) (upwards 0 (rate_of design m))
+      AllByRecursion-map (ComesLate design) (release_of design 0 m) (upwards 0 (rate_of design m))
           (every_upwards (λ step. ComesLate design (release_of design 0 m step)) 0 (rate_of design m)
           (λ step above below. record {
             late =

@@ -7,8 +7,9 @@ use Rattle.std.specs.List.Sorted.{IsSortedBy}
 use Rattle.std.specs.List.{sum_by, AllByRecursion as Every}
 use Rattle.std.proofs.lemmas.List.Sums.{sum_by-cons}
 use Rattle.std.proofs.lemmas.Bool.Decides.{nat_tests}
+use Rattle.list_lemmas.proofs.Elements.{AllByRecursion-weaker}
 use Rattle.round_budget.specs.Budgets.{Release, Served, precedes, put, in_order, begins, serve}
-use Rattle.round_budget.proofs.Elements.{every_weaker, Pairs, Member}
+use Rattle.round_budget.proofs.Elements.{Pairs, Member}
 use Rattle.round_budget.proofs.Orders.{NotAfter}
 use Rattle.round_budget.specs.declared.releases.Release as steps
 use Rattle.round_budget.specs.proof.Values.{release_value}
@@ -186,7 +187,7 @@ all_not_after (x ∷ y ∷ rest) sorted =
     (sorted (suc k) d (omega arith) (omega (arith, within))))) in (
       (
         first,
-        every_weaker (NotAfter (release_value y)) (NotAfter (release_value x))
+        AllByRecursion-weaker (NotAfter (release_value y)) (NotAfter (release_value x))
             (λ z. not_after_both (release_value x) (release_value y) z first) (map release_value rest) later.0,
       ),
       later,
@@ -208,7 +209,7 @@ pub all_before : (cost : Release → ℕ) (free : ℕ) (xs : List Release)
     → Pairs (λ (s t : Served). IsTrue (precedes s.release t.release)) (serve cost free xs) → Pairs IsBefore xs
 all_before cost free [] all = tt
 all_before cost free (x ∷ xs) all = (
-  every_weaker (λ y. IsTrue (precedes x y)) (IsBefore x) (is_before x) xs
+  AllByRecursion-weaker (λ y. IsTrue (precedes x y)) (IsBefore x) (is_before x) xs
       (every_unserved (λ y. IsTrue (precedes x y)) cost (begins free x + cost x) xs all.0),
   all_before cost (begins free x + cost x) xs all.1,
 )

@@ -5,6 +5,7 @@ use Rattle.std.specs.List.{AllByRecursion as Every}
 use Rattle.std.proofs.lemmas.Nat.{mul-le, le-div, div-add-mod'}
 use Rattle.std.proofs.lemmas.List.Elements.{recursion_from_All, All-contains_itself}
 use Rattle.std.proofs.lemmas.List.Kept.{AllPairs-from_increasing}
+use Rattle.list_lemmas.proofs.Elements.{AllByRecursion-weaker, AllByRecursion-map}
 use Rattle.pals_base.specs.Bound.{alarm, step_period, backoff}
 use Rattle.pals_base.specs.Steps.{upwards}
 use Rattle.pals_model.specs.declared.design.Component.{Component}
@@ -15,7 +16,7 @@ use Rattle.pals_model.proofs.Lookups.{at_element}
 use Rattle.pals_model.proofs.ShapeLaws.{component_at}
 use Rattle.round_budget.specs.Budgets.{Release, release_of, releases_of, releases_in, releases}
 use Rattle.round_budget.specs.proof.Laws.{AreMembers}
-use Rattle.round_budget.proofs.Elements.{every_weaker, every_both, every_map, every_flat_map, every_upwards, Pairs, pairs_weaker, pairs_map, pairs_flat_map, pairs_upwards, pairs_from, Member, member_of}
+use Rattle.round_budget.proofs.Elements.{every_both, every_flat_map, every_upwards, Pairs, pairs_weaker, pairs_map, pairs_flat_map, pairs_upwards, pairs_from, Member, member_of}
 
 -- ---- rates
 first_le : (from : ℕ) (cs : List Component) → from ≤ fold (λ k (c : Component). max k c.rate) from cs
@@ -136,9 +137,9 @@ module _ (design : DesignParts) (members : List ℕ) (sound : IsDesign design) (
       (every_upwards (λ round. Every (IsRelease design members) (releases_in design members round)) 0 rounds
       (λ round above below.
       every_flat_map (IsRelease design members) (releases_of design round) members
-      (every_weaker (IsOne design members) (λ node. Every (IsRelease design members) (releases_of design round node))
+      (AllByRecursion-weaker (IsOne design members) (λ node. Every (IsRelease design members) (releases_of design round node))
       (λ node one.
-      every_map (IsRelease design members) (release_of design round node) (upwards 0 (rate_of design node))
+      AllByRecursion-map (IsRelease design members) (release_of design round node) (upwards 0 (rate_of design node))
       (every_upwards (λ step. IsRelease design members (release_of design round node step)) 0 (rate_of design node)
       (λ step low high. release_is round node step one (omega (arith, high)))))
       members each_one)))
@@ -156,12 +157,12 @@ module _ (design : DesignParts) (members : List ℕ) (sound : IsDesign design) (
   far_members : (round a b : ℕ) → a < b
       → Every (λ u. Every (AreFar design u) (releases_of design round b)) (releases_of design round a)
   far_members round a b less =
-      every_map (λ u. Every (AreFar design u) (releases_of design round b)) (release_of design round a)
+      AllByRecursion-map (λ u. Every (AreFar design u) (releases_of design round b)) (release_of design round a)
       (upwards 0 (rate_of design a))
       (every_upwards (λ i. Every (AreFar design (release_of design round a i)) (releases_of design round b)) 0
       (rate_of design a)
       (λ i low high.
-      every_map (AreFar design (release_of design round a i)) (release_of design round b) (upwards 0 (rate_of design b))
+      AllByRecursion-map (AreFar design (release_of design round a i)) (release_of design round b) (upwards 0 (rate_of design b))
       (every_upwards (λ j. AreFar design (release_of design round a i) (release_of design round b j)) 0
       (rate_of design b)
       (λ j under over. record { far = λ same. absurd (omega (arith, same, less)) }))))
@@ -169,7 +170,7 @@ module _ (design : DesignParts) (members : List ℕ) (sound : IsDesign design) (
   far_round : (round : ℕ) → Pairs (AreFar design) (releases_in design members round)
   far_round round =
       pairs_flat_map (AreFar design) (releases_of design round) members
-      (every_weaker (IsOne design members) (λ node. Pairs (AreFar design) (releases_of design round node))
+      (AllByRecursion-weaker (IsOne design members) (λ node. Pairs (AreFar design) (releases_of design round node))
       (λ node one. far_steps round node) members each_one)
       (pairs_weaker (λ a b. a < b)
       (λ a b. Every (λ u. Every (AreFar design u) (releases_of design round b)) (releases_of design round a))
@@ -185,9 +186,9 @@ module _ (design : DesignParts) (members : List ℕ) (sound : IsDesign design) (
   pub in_round : (round : ℕ) → Every (IsIn round) (releases_in design members round)
   in_round round =
       every_flat_map (IsIn round) (releases_of design round) members
-      (every_weaker (IsOne design members) (λ node. Every (IsIn round) (releases_of design round node))
+      (AllByRecursion-weaker (IsOne design members) (λ node. Every (IsIn round) (releases_of design round node))
       (λ node one.
-      every_map (IsIn round) (release_of design round node) (upwards 0 (rate_of design node))
+      AllByRecursion-map (IsIn round) (release_of design round node) (upwards 0 (rate_of design node))
       (every_upwards (λ step. IsIn round (release_of design round node step)) 0 (rate_of design node)
       (λ step low high. record {
         is_release = release_is round node step one (omega (arith, high));
@@ -214,8 +215,8 @@ module _ (design : DesignParts) (members : List ℕ) (sound : IsDesign design) (
   far_rounds : (r s : ℕ) → r < s
       → Every (λ u. Every (AreFar design u) (releases_in design members s)) (releases_in design members r)
   far_rounds r s less =
-      every_weaker (IsIn r) (λ u. Every (AreFar design u) (releases_in design members s))
-      (λ u first. every_weaker (IsIn s) (AreFar design u) (λ v second. far_apart r s u v less first second)
+      AllByRecursion-weaker (IsIn r) (λ u. Every (AreFar design u) (releases_in design members s))
+      (λ u first. AllByRecursion-weaker (IsIn s) (AreFar design u) (λ v second. far_apart r s u v less first second)
       (releases_in design members s) (in_round s))
       (releases_in design members r) (in_round r)
 

@@ -5,6 +5,7 @@ use Rattle.std.specs.Option.{option_map}
 use Rattle.std.proofs.lemmas.Bool.{ltb-false, eqb-true, leb-true, false≢true, false_from_ne_true, cases_lt}
 use Rattle.std.proofs.lemmas.Grind.{common_steps}
 use Rattle.std.proofs.lemmas.Option.{same_Some}
+use Rattle.list_lemmas.proofs.Booleans.{or_second}
 use Rattle.pals_base.specs.declared.values.Port.{Port}
 use Rattle.pals_base.specs.Bound.{step_period, sent_steps, alarm}
 use Rattle.pals_model.specs.Rules.{IsComponent}
@@ -153,10 +154,6 @@ yet x y true is = absurd (false≢true is)
 yet true true false is = (refl, refl)
 yet true false false is = absurd (false≢true is)
 yet false y false is = absurd (false≢true is)
-
-or_second : (a b : Bool) → a ≡ false → (a || b) ≡ true → b ≡ true
-or_second true b none is = absurd (false≢true (sym none))
-or_second false b none is = is
 
 after_steps : (plan : Plan) (round steps : ℕ) (more : Bool) → IsTimedPlan plan → nat_lt steps plan.rate ≡ more → steps < plan.rate → plan.release_offset ≤ steps * plan.step_period
     → alarm plan.period round + plan.release_offset ≤ target plan (cond more (action.Step round steps) (action.Start (round + 1)))

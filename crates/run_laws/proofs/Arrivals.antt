@@ -4,6 +4,8 @@ use Rattle.std.specs.Prelude.{nat_lt, is_some}
 use Rattle.std.proofs.lemmas.Bool.{and_left, and_right, and_from, eqb-true, eq-eqb, ne_eqb, cases_eq, cases_order, false≢true}
 use Rattle.std.proofs.lemmas.Grind.{get_or-set_at}
 use Rattle.std.proofs.lemmas.List.{get_or-set_other}
+use Rattle.list_lemmas.proofs.Elements.{find-passes}
+use Rattle.list_lemmas.proofs.Pairs.{AllPairs-slice_get}
 use Rattle.pals_base.specs.declared.values.LinkNo.{LinkNo}
 use Rattle.pals_base.specs.declared.values.Port.{Port}
 use Rattle.pals_model.specs.declared.design.Link.{Link}
@@ -11,7 +13,6 @@ use Rattle.pals_model.specs.declared.flight.FlightCopy.{FlightCopy}
 use Rattle.pals_model.specs.Flights.{is_of, oldest, without_oldest}
 use Rattle.pals_model.specs.Ports.{ins_in}
 use Rattle.pals_model.specs.Rules.{LinkPrecedes, port_place}
-use Rattle.pals_model.proofs.Lookups.{pair_at}
 use Rattle.pals_runs.specs.declared.events.Event.TheVariants as event
 use Rattle.pals_runs.specs.declared.journal.Arrived.{Arrived}
 use Rattle.pals_runs.specs.declared.journal.Arrived.TheVariants.{Kept}
@@ -28,7 +29,7 @@ use Rattle.run_laws.specs.Worlds.{World, reading_at, since_at, ready_at, sending
 use Rattle.bus_machine.proofs.Arrivals.{step_keeps_agreement}
 use Rattle.bus_machine.proofs.States.{node_set, node_stays}
 use Rattle.run_laws.specs.proof.Kept.{IsOnce, copies, waits, taken, one_if, KeepsLink, KeepsTime}
-use Rattle.run_laws.proofs.Lists.{count_without, found_passes}
+use Rattle.run_laws.proofs.Lists.{count_without}
 use Rattle.run_laws.proofs.Nodes.{Stands, stands_at, component_is}
 use Rattle.run_laws.proofs.Links.{comes_in_time, ComesInTime, is_kept, link_is, rule_of, one_of_true, one_of_false, in_flight_counts, counts_in_flight}
 use Rattle.run_laws.proofs.Changes.{same_at, changed, stands_put, keeps_again}
@@ -73,8 +74,8 @@ same_link run one two a b rules is_a is_b node port =
     elim (cases_order one two) [
       | inl same_number ↦ same_number
       | inr apart ↦ elim apart [
-        | inl before ↦ let less : port_place a.target.0 a.in_port < port_place b.target.0 b.in_port = pair_at LinkPrecedes run.design.links one two a b rules.design.links.order before is_a is_b in absurd (omega arith)
-        | inr after ↦ let less : port_place b.target.0 b.in_port < port_place a.target.0 a.in_port = pair_at LinkPrecedes run.design.links two one b a rules.design.links.order after is_b is_a in absurd (omega arith)
+        | inl before ↦ let less : port_place a.target.0 a.in_port < port_place b.target.0 b.in_port = AllPairs-slice_get LinkPrecedes run.design.links one two a b rules.design.links.order before is_a is_b in absurd (omega arith)
+        | inr after ↦ let less : port_place b.target.0 b.in_port < port_place a.target.0 a.in_port = AllPairs-slice_get LinkPrecedes run.design.links two one b a rules.design.links.order after is_b is_a in absurd (omega arith)
       ]
     ]
 
@@ -154,7 +155,7 @@ module _ (run : Run) (w : World) (rules : IsRunOf run) (keeps : KeepsTime run w)
       let source = (link_at run.design link.0).source.0 in
       let before = keeps.links link.0 fine.within in
       let old = the_oldest (oldest round flight) fine.flies in
-      let of_round : old.0.round ≡ round = eqb-true old.0.round round (found_passes (is_of round) flight old.0 old.1) in
+      let of_round : old.0.round ≡ round = eqb-true old.0.round round (find-passes (is_of round) flight old.0 old.1) in
       let flies : flight_at (bus_arrived Kept) link.0 ≡ without_oldest round flight = get_or-set_at w.bus.flights link.0 link.0 (without_oldest round flight) [] refl in_flights in
       let slot : slot_at (node_at (bus_arrived Kept) target) port ≡ Some tuple =
       ap (λ (n : NodeState). slot_at n port) (node_set w.bus target holds in_bus) ∙ get_or-set_at here.slots port port (Some tuple) None refl has_slot in

@@ -1,9 +1,11 @@
 -- The journal shows each start and each send of a node.
-use Rattle.std.proofs.Common.{◌≡◌, inl, inr, ℕ, suc, ◌+◌, ◌-◌, ◌<◌, ◌≤◌, nat_eq, Bool, true, false, cond, List, [], ◌∷◌, ◌++◌, length, Option, Some, None, refl, sym, ap, ap₂, ◌∙◌, subst, arith, length-append}
+use Rattle.std.proofs.Common.{◌≡◌, inl, inr, ℕ, ◌+◌, ◌-◌, ◌<◌, ◌≤◌, nat_eq, Bool, true, false, cond, List, [], ◌∷◌, ◌++◌, length, Option, Some, None, refl, sym, ap, ap₂, ◌∙◌, subst, arith, length-append}
 use Rattle.std.specs.Prelude.{if◌then◌else◌, slice_index_or}
 use Rattle.std.proofs.lemmas.Bool.{false≢true, cases_lt}
 use Rattle.std.proofs.lemmas.Grind.{flat_map-append}
 use Rattle.std.proofs.lemmas.List.{get_or_past, length-map}
+use Rattle.bus_machine.proofs.Moves.{sent_at_start, sent_behind, grows_at, stays_at}
+use Rattle.list_lemmas.proofs.Numbers.{add_zero_from}
 use Rattle.pals_base.specs.declared.values.NodeNo.{NodeNo}
 use Rattle.pals_base.specs.declared.values.LinkNo.{LinkNo}
 use Rattle.pals_base.specs.declared.values.Port.{Port}
@@ -32,7 +34,6 @@ use Rattle.run_laws.specs.Shown.{listed, start_in, send_in, starts, sends}
 use Rattle.pals_clock.specs.declared.clock.Clocks.{Clocks}
 use Rattle.pals_clock.specs.declared.clock.Clocks.TheVariants.{Lists}
 use Rattle.run_laws.specs.Runs.{Runs, KeepsTo, opens, picks_for, goes_on}
-use Rattle.run_laws.proofs.Moves.{grows_at, stays_at}
 use Rattle.run_laws.proofs.Picking.{runs_agree, node_opens, length-upwards}
 
 -- ---- the two numbers
@@ -46,17 +47,14 @@ pub record Grow (s t : BusState) (k begun sent : ℕ) : Type 0 where
   pub count : (node_at t k).count ≡ (node_at s k).count + begun
   pub sends : sent_rounds (node_at t k) ≡ sent_rounds (node_at s k) + sent
 
-none_more : (a b : ℕ) → a ≡ b → a ≡ b + 0
-none_more a b same = omega arith
-
 nothing : (s t : BusState) (k : ℕ) → t.nodes ≡ s.nodes → Grow s t k 0 0
 nothing s t k same = record {
-  count = none_more _ _ (ap (λ (ns : List NodeState). (slice_index_or ns k no_node).count) same);
-  sends = none_more _ _ (ap (λ (ns : List NodeState). sent_rounds (slice_index_or ns k no_node)) same);
+  count = add_zero_from _ _ (ap (λ (ns : List NodeState). (slice_index_or ns k no_node).count) same);
+  sends = add_zero_from _ _ (ap (λ (ns : List NodeState). sent_rounds (slice_index_or ns k no_node)) same);
 }
 
 stay : (s : BusState) (j k : ℕ) (m : NodeState) → m.count ≡ (node_at s j).count → sent_rounds m ≡ sent_rounds (node_at s j) → Grow s (with_node s j m) k 0 0
-stay s j k m count sent = record { count = none_more _ _ (stays_at count_of s j k m count); sends = none_more _ _ (stays_at rounds_of s j k m sent) }
+stay s j k m count sent = record { count = add_zero_from _ _ (stays_at count_of s j k m count); sends = add_zero_from _ _ (stays_at rounds_of s j k m sent) }
 
 -- ---- what an event tells
 shown : Option ℕ → Bool → ℕ
@@ -81,10 +79,6 @@ is_waiting_phase (Between steps) is = absurd (false≢true is)
 is_waiting_phase Holding is = absurd (false≢true is)
 is_waiting_phase Done is = absurd (false≢true is)
 
-start_sends : (sent : Bool) (count : ℕ) → sent ≡ true → count + 1 - 1 ≡ (if sent then count else (count - 1))
-start_sends true count is = omega arith
-start_sends false count is = absurd (false≢true is)
-
 below : (run : Run) (s : BusState) (j : ℕ) → Agrees run s → j < length run.design.components → j < length s.nodes
 below run s j agree within = let count = agree.node_count in omega arith
 
@@ -99,7 +93,7 @@ counts_start run s node reading None at k agree within is waits =
     let m = started (plan_of run.design node.0) (values_at run.env n.count) n in
     one_start s (with_node s node.0 m) k 0 reading at (nat_eq node.0 k) is (record {
       count = grows_at count_of s node.0 k 1 m (below run s node.0 agree within) refl;
-      sends = none_more _ _ (stays_at rounds_of s node.0 k m (start_sends n.sent n.count rest.0.sent));
+      sends = add_zero_from _ _ (stays_at rounds_of s node.0 k m (sent_at_start n.sent n.count rest.0.sent));
     })
 
 -- ---- Step and Finish
@@ -121,9 +115,6 @@ counts_finish run s node Holding k = nothing s s k refl
 counts_finish run s node Done k = nothing s s k refl
 
 -- ---- Send
-one_round : (sent : Bool) (count round : ℕ) → sent ≡ false → count ≡ suc round → count ≡ (if sent then count else (count - 1)) + 1
-one_round true count round unsent some = absurd (false≢true (sym unsent))
-one_round false count round unsent some = omega arith
 
 -- the node of a send, before it
 pub sender_before : (run : Run) (s : BusState) (node : NodeNo) → Agrees run s → may_send (plan_of run.design node.0) (node_at s node.0) ≡ true → MaySend run node.0 (component_at run.design node.0) (node_at s node.0)
@@ -141,8 +132,8 @@ counts_send run s node reading at k round agree within is may =
     let m = sent_from run.rounds n in
     let before : MaySend run node.0 (component_at run.design node.0) n = sender_before run s node agree may in
     let grows : Grow s (with_node s node.0 m) k 0 (cond (nat_eq node.0 k) 1 0) = record {
-      count = none_more _ _ (stays_at count_of s node.0 k m refl);
-      sends = grows_at rounds_of s node.0 k 1 m (below run s node.0 agree within) (one_round n.sent n.count before.under_way.round before.unsent before.under_way.count);
+      count = add_zero_from _ _ (stays_at count_of s node.0 k m refl);
+      sends = grows_at rounds_of s node.0 k 1 m (below run s node.0 agree within) (sent_behind n.sent n.count before.under_way.round before.unsent before.under_way.count);
     } in
     let all = one_send s (with_node s node.0 m) k reading at (nat_eq node.0 k) is grows in
     record { count = all.count; sends = all.sends }

@@ -1,9 +1,10 @@
 -- Where the actions of a node bring it.
 use Rattle.std.proofs.Common.{◌≡◌, ◌≢◌, inl, inr, ℕ, suc, ◌+◌, ◌-◌, ◌*◌, ◌<◌, ◌≤◌, nat_eq, nat_le, nat_lt, Bool, true, false, ◌&&◌, ◌||◌, cond, List, slice_get, Some, refl, sym, ap, ap₂, ◌∙◌, subst, arith, add-one}
 use Rattle.std.specs.Prelude.{if◌then◌else◌}
-use Rattle.std.proofs.lemmas.Bool.{ltb-true, ltb-false, false_from_ne_true}
+use Rattle.std.proofs.lemmas.Bool.{ltb-false}
 use Rattle.std.proofs.lemmas.Grind.{common_steps}
 use Rattle.std.proofs.lemmas.Option.{same_Some}
+use Rattle.list_lemmas.proofs.Numbers.{nat_lt-self}
 use Rattle.pals_base.specs.declared.values.Port.{Port}
 use Rattle.pals_runs.specs.declared.journal.Phase.{Phase}
 use Rattle.pals_runs.specs.declared.journal.Phase.TheVariants.{Waiting, Running, Between, Holding, Done}
@@ -19,8 +20,6 @@ use Rattle.run_laws.specs.NodeActions.{Turn, turn, progress_in, upcoming, Follow
 use Rattle.run_laws.proofs.Turns.{IsPlan, turn_next, sized, size, bit, action_at, target_at}
 
 -- ---- the next action
-not_below : (k : ℕ) → nat_lt k k ≡ false
-not_below k = false_from_ne_true (nat_lt k k) (λ below. let less = ltb-true k k below in absurd (omega arith))
 
 pub turn_acts : (plan : Plan) (n : ℕ) → (turn plan (suc n)).action ≡ next_action plan (turn plan (suc n)).before
 turn_acts plan n = ap (λ (t : Turn). t.action) (turn_next plan n) ∙ ap (λ (t : Turn). next_action plan t.before) (sym (turn_next plan n))
@@ -41,7 +40,7 @@ next_from : (plan : Plan) (n : NodeState) (p : Phase) (what : Action) → IsPlan
     → next_action plan (progress_in plan n p) ≡ what
 next_from plan n Waiting what rules some held is =
     let next : round_of n + 1 ≡ n.count = omega arith in
-    ap (λ b. cond b (action.Step (round_of n) plan.rate) (action.Start (round_of n + 1))) (not_below plan.rate) ∙ ap action.Start next ∙ same_Some (action.Start n.count) what is
+    ap (λ b. cond b (action.Step (round_of n) plan.rate) (action.Start (round_of n + 1))) (nat_lt-self plan.rate) ∙ ap action.Start next ∙ same_Some (action.Start n.count) what is
 next_from plan n (Running step) what rules some held is = absurd (cc)
 next_from plan n (Between steps) what rules some held is = same_Some _ what is
 next_from plan n Holding what rules some held is = held_sends plan (round_of n) n.sent rules (held refl) ∙ same_Some (action.Send (round_of n)) what is

@@ -4,6 +4,7 @@ use Rattle.std.specs.Option.{unwrap_or}
 use Rattle.std.proofs.lemmas.List.{append-nil, append_assoc}
 use Rattle.std.proofs.lemmas.List.Elements.{All-nil, All-cons, All-append}
 use Rattle.std.proofs.lemmas.Option.{same_Some, get_or_from_slice_get}
+use Rattle.list_lemmas.proofs.Numbers.{nat_eq-self}
 use Rattle.pals_base.specs.Bound.{alarm}
 use Rattle.pals_base.specs.declared.values.NodeNo.{NodeNo}
 use Rattle.pals_base.specs.declared.values.LinkNo.{LinkNo}
@@ -24,7 +25,6 @@ use Rattle.bus_machine.specs.Replay.{Replays, entries, start_entry, stop_entry}
 use Rattle.run_laws.specs.Shown.{last_of, latest}
 use Rattle.run_laws.specs.TraceLines.{Timed, timed}
 use Rattle.run_laws.specs.proof.Hours.{LinesRise}
-use Rattle.run_laws.proofs.Judged.{same_nat}
 use Rattle.run_laws.proofs.Missing.{missed_link}
 use Rattle.run_laws.specs.Histories.{IsRead, IsInTime, History, opens, goes_on}
 use Rattle.run_laws.specs.proof.SoundTraces.{ShowsFrom, ShowsTime}
@@ -59,7 +59,7 @@ start_rises run front s node reading least (Some link) read misses =
 again_rises : (run : Run) (front : List JournalEntry) (node : ℕ) (reading : Option ℕ) (x : JournalEntry) → timed run.design x ≡ Some (record { node = node; reading = reading }) → Rises run (front ++ x ∷ []) (Some (record { node = node; reading = reading }))
 again_rises run front node reading x is = λ t same.
     let here : latest run.design node (front ++ x ∷ []) ≡ unwrap_or reading 0 =
-    latest_one run.design node front x ∙ ap (last_of node (latest run.design node front)) is ∙ ap (λ b. cond b (unwrap_or reading 0) (latest run.design node front)) (same_nat node) in
+    latest_one run.design node front x ∙ ap (last_of node (latest run.design node front)) is ∙ ap (λ b. cond b (unwrap_or reading 0) (latest run.design node front)) (nat_eq-self node) in
     subst (λ (u : Timed). latest run.design u.node (front ++ x ∷ []) ≤ unwrap_or u.reading 0) (same_Some _ _ same) (omega arith)
 
 arrive_rises : (run : Run) (front : List JournalEntry) (link : LinkNo) (round : ℕ) (reading : Option ℕ) (a : Arrived) → IsRead run front (link_at run.design link.0).target.0 reading 0

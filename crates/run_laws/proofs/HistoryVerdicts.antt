@@ -6,6 +6,9 @@ use Rattle.std.specs.Option.{option_map_or, unwrap_or}
 use Rattle.std.proofs.lemmas.List.Elements.{All-nil, All-cons, All-head, All-tail, All-from_get_or}
 use Rattle.std.proofs.lemmas.List.Sums.{fold-append}
 use Rattle.std.proofs.lemmas.Option.{get_or_from_slice_get}
+use Rattle.std.proofs.lemmas.Bool.{eq-eqb, le-ltb}
+use Rattle.list_lemmas.proofs.Numbers.{nat_eq-self}
+use Rattle.list_lemmas.proofs.Elements.{All-append_right}
 use Rattle.pals_base.specs.declared.values.NodeNo.{NodeNo}
 use Rattle.pals_base.specs.declared.values.LinkNo.{LinkNo}
 use Rattle.pals_model.specs.declared.design.Link.{Link}
@@ -42,7 +45,7 @@ use Rattle.run_laws.specs.Histories.{IsStoppedOrDone}
 use Rattle.run_laws.proofs.Entries.{lines_tell_entries}
 use Rattle.run_laws.proofs.Forms.{lines_have_forms}
 use Rattle.run_laws.proofs.Missing.{missed_link}
-use Rattle.run_laws.proofs.Judged.{BreakNone, audited, break_append, verdict_is, same_nat, equal_nat, not_less, not_before, none_of, none_due}
+use Rattle.run_laws.proofs.Judged.{BreakNone, audited, break_append, verdict_is, not_before, none_of, none_due}
 use Rattle.run_laws.proofs.ReportEnds.{FirstHasForm, behind_report}
 use Rattle.run_laws.specs.Histories.{IsRead, StepsInTime, StartsInTime, ArrivesInTime, IsInTime, History, opens, goes_on}
 use Rattle.run_laws.specs.proof.SoundTraces.{TracesAreSound}
@@ -94,7 +97,7 @@ no_fall : (run : Run) (front : List JournalEntry) (node least : ℕ) (reading : 
     → falls readings (Some (record { node = node; reading = reading })) ≡ false
 no_fall run front node least reading readings read within are =
     let le = read.rises in
-    ap₂ (λ o l. nat_lt (unwrap_or o 0) l) read.reading_is (are node within) ∙ not_less read.at (latest run.design node front) le
+    ap₂ (λ o l. nat_lt (unwrap_or o 0) l) read.reading_is (are node within) ∙ le-ltb read.at (latest run.design node front) le
 
 its_line : (design : DesignParts) (x : JournalEntry) → is_line_of design x (Some x) ≡ true
 its_line design x = same_bytes (entry_line design x)
@@ -126,7 +129,7 @@ start_passes run front s node reading rules b may going misses of =
     one_line run front s x (Start node reading) rules of refl (ap (λ m. second_entry (start_entry run s node reading m ∷ [])) misses) (has_one run front node.0 least reading b.read)
     (λ readings are.
     none_of (is_in_order run s x) (falls readings (timed run.design x)) (waits run s x) (tells_stop run s x (event_of run.design x)) (too_early run s x)
-    (in_order s.stop (is_waiting n.phase) (nat_eq n.count n.count) going may (same_nat n.count))
+    (in_order s.stop (is_waiting n.phase) (nat_eq n.count n.count) going may (nat_eq-self n.count))
     (no_fall run front node.0 least reading readings b.read of.0 are)
     (not_early run front node.0 least reading rule.Alarm b.read)
     (none_due run s node.0 reading b.taken)
@@ -144,7 +147,7 @@ missed_passes run front s link reading rules b may going misses some of =
     one_line run front s x (Start node reading) rules of refl (ap (λ m. second_entry (start_entry run s node reading m ∷ [])) misses) (has_one run front node.0 least reading b.read)
     (λ readings are.
     none_of (is_in_order run s x) (falls readings (timed run.design x)) (waits run s x) (tells_stop run s x (event_of run.design x)) (too_early run s x)
-    (in_order s.stop (is_waiting n.phase) (nat_eq (round_of n + 1) n.count) going may (equal_nat (round_of n + 1) n.count next))
+    (in_order s.stop (is_waiting n.phase) (nat_eq (round_of n + 1) n.count) going may (eq-eqb (round_of n + 1) n.count next))
     (no_fall run front node.0 least reading readings b.read (target_within run.design link rules of.0) are)
     (not_early run front node.0 least reading rule.Alarm b.read)
     (none_due run s node.0 reading b.taken)
@@ -179,7 +182,7 @@ step_passes run front s node reading rules b may going all =
     one_line run front s x (Step node reading) rules of refl refl (has_one run front node.0 least reading read)
     (λ readings are.
     none_of (is_in_order run s x) (falls readings (timed run.design x)) (waits run s x) (tells_stop run s x (event_of run.design x)) (too_early run s x)
-    (in_order s.stop (is_allowed run s (Step node reading)) (nat_eq (round_of n) (round_of n) && nat_eq i i) going may (ap₂ (λ c d. c && d) (same_nat (round_of n)) (same_nat i)))
+    (in_order s.stop (is_allowed run s (Step node reading)) (nat_eq (round_of n) (round_of n) && nat_eq i i) going may (ap₂ (λ c d. c && d) (nat_eq-self (round_of n)) (nat_eq-self i)))
     (no_fall run front node.0 least reading readings read of.0.0 are)
     (not_early run front node.0 least reading rule.Alarm read)
     refl (its_line run.design x))
@@ -193,7 +196,7 @@ finish_passes run front s node rules may going all =
     one_line run front s x (Finish node) rules (All-head (IsEntryIn run.design) x [] all) refl refl refl
     (λ readings are.
     none_of (is_in_order run s x) false false (tells_stop run s x (event_of run.design x)) None
-    (in_order s.stop (is_allowed run s (Finish node)) (nat_eq (round_of n) (round_of n)) going may (same_nat (round_of n))) refl refl refl (its_line run.design x))
+    (in_order s.stop (is_allowed run s (Finish node)) (nat_eq (round_of n) (round_of n)) going may (nat_eq-self (round_of n))) refl refl refl (its_line run.design x))
 
 -- ---- Send
 send_passes : (run : Run) (front : List JournalEntry) (s : BusState) (node : NodeNo) (reading : Option ℕ) → IsDesign run.design → IsRead run front node.0 reading (release_alarm (plan_of run.design node.0) (node_at s node.0)) → is_allowed run s (Send node reading) ≡ true → s.stop ≡ None
@@ -206,7 +209,7 @@ send_passes run front s node reading rules read may going all =
     one_line run front s x (Send node reading) rules of refl refl (has_one run front node.0 least reading read)
     (λ readings are.
     none_of (is_in_order run s x) (falls readings (timed run.design x)) (waits run s x) (tells_stop run s x (event_of run.design x)) (too_early run s x)
-    (in_order s.stop (is_allowed run s (Send node reading)) (nat_eq (round_of n) (round_of n)) going may (same_nat (round_of n)))
+    (in_order s.stop (is_allowed run s (Send node reading)) (nat_eq (round_of n) (round_of n)) going may (nat_eq-self (round_of n)))
     (no_fall run front node.0 least reading readings read of.0 are)
     (not_early run front node.0 least reading rule.Release read)
     refl (its_line run.design x))
@@ -279,15 +282,11 @@ front_of : {X : Type 0} (P : X → Type 0) (xs ys : List X) → All P (xs ++ ys)
 front_of P [] ys all = All-nil P
 front_of P (x ∷ xs) ys all = All-cons P x xs (All-head P x (xs ++ ys) all) (front_of P xs ys (All-tail P x (xs ++ ys) all))
 
-back_of : {X : Type 0} (P : X → Type 0) (xs ys : List X) → All P (xs ++ ys) → All P ys
-back_of P [] ys all = all
-back_of P (x ∷ xs) ys all = back_of P xs ys (All-tail P x (xs ++ ys) all)
-
 passes : (run : Run) (journal : List JournalEntry) (s : BusState) → IsDesign run.design → History run journal s → All (IsEntryIn run.design) journal → BreakNone run (opening_audit run) journal × IsAt run journal s (audited run (opening_audit run) journal)
 passes run journal s rules opens of = (tt, record { bus = refl; owed = refl; many = opening_many run; last = opening_last run })
 passes run journal s rules (goes_on {journal = before} {s = t} e history step in_time) of =
     let old = passes run before t rules history (front_of (IsEntryIn run.design) before (entries run t e) of) in
-    let new = event_passes run before t e rules in_time step.allowed step.going (back_of (IsEntryIn run.design) before (entries run t e) of) (audited run (opening_audit run) before) old.1 in (
+    let new = event_passes run before t e rules in_time step.allowed step.going (All-append_right (IsEntryIn run.design) before (entries run t e) of) (audited run (opening_audit run) before) old.1 in (
       break_append run (opening_audit run) before (entries run t e) old.0 new.0,
       subst (IsAt run (before ++ entries run t e) s) (sym (fold-append (audit_after run) (opening_audit run) before (entries run t e)))
           (subst (λ u. IsAt run (before ++ entries run t e) u (audited run (audited run (opening_audit run) before) (entries run t e))) (sym step.state) new.1),
@@ -331,5 +330,5 @@ traces_are_sound run lines rounds why rules t =
     ∙ verdict_is run rows (length report) (opening_audit run) journal at.0
     ∙ ap₂ (λ b o. wrong_or i (cond (is_some o) (Some rule.Stop) (cond (is_none b.stop && not (list_all (λ (n : NodeState). is_done n.phase) b.nodes)) (Some rule.Unfinished) (cond (nat_eq rows (finished_by_all run b)) None (Some rule.Count)))) (Sound rows b.stop)) at.1.bus at.1.owed
     ∙ ap (λ b. wrong_or i (cond b (Some rule.Unfinished) (cond (nat_eq rows rows) None (Some rule.Count))) (Sound rows s.stop)) (over_is run s many t.over)
-    ∙ ap (λ b. wrong_or i (cond b None (Some rule.Count)) (Sound rows s.stop)) (same_nat rows)
+    ∙ ap (λ b. wrong_or i (cond b None (Some rule.Count)) (Sound rows s.stop)) (nat_eq-self rows)
     ∙ ap₂ (λ n o. Sound n o) (sym t.rounds_are) (sym t.stop_is)

@@ -1,9 +1,8 @@
 -- Lines that break no rule, one after another.
-use Rattle.std.proofs.Common.{◌≡◌, ℕ, suc, ◌+◌, ◌≤◌, nat_eq, nat_lt, Bool, true, false, not, ◌||◌, cond, List, [], ◌∷◌, ◌++◌, length, map, filter, slice_get, All, Option, Some, None, refl, sym, ap, ap₂, ◌∙◌, arith}
+use Rattle.std.proofs.Common.{◌≡◌, ℕ, suc, ◌+◌, ◌≤◌, nat_eq, Bool, true, false, not, ◌||◌, cond, List, [], ◌∷◌, ◌++◌, length, map, filter, slice_get, All, Option, Some, None, refl, sym, ap, ap₂, ◌∙◌, arith}
 use Rattle.std.specs.Prelude.{is_some}
 use Rattle.std.specs.List.{list_any, enumerate_from, fold}
-use Rattle.std.proofs.lemmas.Bool.{eqb-true, ltb-true, false_from_ne_true}
-use Rattle.std.proofs.lemmas.Grind.{common_steps}
+use Rattle.std.proofs.lemmas.Bool.{eqb-true, le-ltb}
 use Rattle.std.proofs.lemmas.List.Elements.{All-head, All-tail}
 use Rattle.pals_model.specs.declared.design.Link.{Link}
 use Rattle.pals_model.specs.declared.flight.FlightCopy.{FlightCopy}
@@ -42,17 +41,9 @@ verdict_is run rows index a (e ∷ es) none =
     ∙ ap (λ i. wrong_or i (end_broken run rows (audited run a (e ∷ es))) (Sound rows (audited run a (e ∷ es)).bus.stop)) place
 
 -- ---- tests
-pub same_nat : (n : ℕ) → nat_eq n n ≡ true
-same_nat n = grind (arith, common_steps)
-
-pub equal_nat : (a b : ℕ) → a ≡ b → nat_eq a b ≡ true
-equal_nat a b same = grind (arith, common_steps)
-
-pub not_less : (a b : ℕ) → b ≤ a → nat_lt a b ≡ false
-not_less a b le = false_from_ne_true (nat_lt a b) (λ less. let below = ltb-true a b less in absurd (omega arith))
 
 pub not_before : (reading : Option ℕ) (at alarm : ℕ) → reading ≡ Some at → alarm ≤ at → is_before reading alarm ≡ false
-not_before reading at alarm is le = ap (λ o. is_before o alarm) is ∙ not_less at alarm le
+not_before reading at alarm is le = ap (λ o. is_before o alarm) is ∙ le-ltb at alarm le
 
 -- where each rule is kept, none is broken
 pub none_of : (order falls waits tells : Bool) (early : Option TraceRule) → order ≡ true → falls ≡ false → early ≡ None → waits ≡ false → tells ≡ true

@@ -2,7 +2,6 @@ pub mod Turns
 pub mod Clocks
 pub mod Follows
 pub mod Picking
-pub mod Moves
 pub mod Counting
 pub mod Timed
 pub mod Missing

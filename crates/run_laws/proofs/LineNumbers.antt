@@ -6,7 +6,7 @@ use Rattle.std.specs.List.{list_all}
 use Rattle.std.specs.Str.Parse.{AllDigits}
 use Rattle.std.proofs.lemmas.Fmt.{digits_value-decimal, decimal_is_IsNumeral}
 use Rattle.std.proofs.lemmas.Str.Parse.{numerals_by_fold, tells_digits, digit_from_value}
-use Rattle.std.proofs.lemmas.Grind.{common_steps}
+use Rattle.std.proofs.lemmas.Bool.{le-leb}
 use Rattle.pals_base.specs.declared.limits.TheConstants.{ROUNDS, READING}
 use Rattle.pals_model.proofs.Words.{same_bytes, other_bytes}
 use Rattle.pals_runs.specs.Journal.{reading_word}
@@ -22,14 +22,11 @@ spelled_decimal : (n : ℕ) → n < 2 ^ 64 → spelled (decimal n) ≡ n
 spelled_decimal n small =
     digits_value-decimal (numerals_by_fold (AllDigits 10) tells_digits spelled_on (record { empty = λ m. refl; more = λ m c cs k. refl })) n small
 
-nat_le_true : (a b : ℕ) → a ≤ b → nat_le a b ≡ true
-nat_le_true a b le = grind (arith, common_steps)
-
 number_is : (most n : ℕ) → n ≤ most → n < 2 ^ 64 → number_up_to most (decimal n) ≡ Some n
 number_is most n le small =
     let same = spelled_decimal n small in
     let here : is (decimal n) (decimal (spelled (decimal n))) ≡ true = ap (λ m. is (decimal n) (decimal m)) same ∙ same_bytes (decimal n) in
-    let within : nat_le (spelled (decimal n)) most ≡ true = ap (λ m. nat_le m most) same ∙ nat_le_true n most le in
+    let within : nat_le (spelled (decimal n)) most ≡ true = ap (λ m. nat_le m most) same ∙ le-leb n most le in
     ap₂ (λ a b. cond (a && b) (Some (spelled (decimal n))) None) here within ∙ ap Some same
 
 pub round_is : (n : ℕ) → n ≤ ROUNDS → round_in (decimal n) ≡ Some n

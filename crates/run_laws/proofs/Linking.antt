@@ -2,10 +2,11 @@
 use Rattle.std.proofs.Common.{◌≡◌, ◌≢◌, inl, inr, ℕ, zero, suc, ◌+◌, ◌<◌, ◌≤◌, nat_eq, Bool, true, false, cond, List, [], ◌∷◌, ◌++◌, length, map, slice_get, Option, Some, None, refl, sym, ap, ap₂, ◌∙◌, subst, arith}
 use Rattle.std.specs.Prelude.{slice_index_or, if◌then◌else◌}
 use Rattle.std.specs.Option.{option_map}
-use Rattle.std.proofs.lemmas.Bool.{cases_eq, cases_lt, cases_order, eqb-true, false≢true}
-use Rattle.std.proofs.lemmas.Grind.{common_steps, get_or-set_at, flat_map-append}
+use Rattle.std.proofs.lemmas.Bool.{cases_eq, cases_lt, cases_order, eqb-true, false≢true, eq-eqb, ne_eqb}
+use Rattle.std.proofs.lemmas.Grind.{get_or-set_at, flat_map-append}
 use Rattle.std.proofs.lemmas.List.{length-set, get_or-set_other, get_or_past, append-nil}
 use Rattle.std.proofs.lemmas.Option.{slice_get-get_or}
+use Rattle.list_lemmas.proofs.Pairs.{AllPairs-slice_get}
 use Rattle.pals_base.specs.declared.values.NodeNo.{NodeNo}
 use Rattle.pals_base.specs.declared.values.LinkNo.{LinkNo}
 use Rattle.pals_base.specs.declared.values.Port.{Port}
@@ -16,7 +17,7 @@ use Rattle.pals_model.specs.Delays.{delay_of}
 use Rattle.pals_model.specs.Flights.{oldest, without_oldest}
 use Rattle.pals_model.specs.Ports.{ins_in}
 use Rattle.pals_model.specs.Rules.{IsLink, LinkPrecedes, port_place}
-use Rattle.pals_model.proofs.Lookups.{at_element, pair_at}
+use Rattle.pals_model.proofs.Lookups.{at_element}
 use Rattle.pals_runs.specs.declared.journal.Phase.{Phase}
 use Rattle.pals_runs.specs.declared.journal.Phase.TheVariants.{Waiting, Running, Between, Holding, Done}
 use Rattle.pals_runs.specs.declared.journal.Arrived.{Arrived}
@@ -56,18 +57,12 @@ same_view : (delay : ℕ → ℕ) (v w : LinkView) → v.sends ≡ w.sends → v
 same_view delay v w a b c d e f g timed =
     subst (IsTimed delay) (sym (λ i. record { sends = a i; starts = b i; latest = c i; count = d i; slot = e i; flight = f i; taken = g i })) timed
 
-same_eq : (a b : ℕ) → a ≡ b → nat_eq a b ≡ true
-same_eq a b same = grind (arith, common_steps)
-
-other_eq : (a b : ℕ) → a ≢ b → nat_eq a b ≡ false
-other_eq a b other = grind (arith, common_steps)
-
 -- ---- what entries add to what is shown
 send_at : (j k : ℕ) (node : NodeNo) (at : ℕ) (reading : Option ℕ) → node.0 ≡ j → j ≡ k → reading ≡ Some at → if_at k node reading ++ [] ≡ at ∷ []
-send_at j k node at reading is same shows = ap₂ (λ b o. cond b (listed o) [] ++ []) (same_eq node.0 k (is ∙ same)) shows
+send_at j k node at reading is same shows = ap₂ (λ b o. cond b (listed o) [] ++ []) (eq-eqb node.0 k (is ∙ same)) shows
 
 none_at : (k : ℕ) (node : NodeNo) (reading : Option ℕ) → node.0 ≢ k → if_at k node reading ++ [] ≡ []
-none_at k node reading other = ap (λ b. cond b (listed reading) [] ++ []) (other_eq node.0 k other)
+none_at k node reading other = ap (λ b. cond b (listed reading) [] ++ []) (ne_eqb node.0 k other)
 
 sends_more : (k : ℕ) (journal told : List JournalEntry) (more : List ℕ) → sends k told ≡ more → sends k (journal ++ told) ≡ sends k journal ++ more
 sends_more k journal told more is = flat_map-append (send_in k) journal told ∙ ap (λ xs. sends k journal ++ xs) is
@@ -221,13 +216,13 @@ send_timed run s node reading at journal number link rules agree is may shows ti
           (record v { sends = v.sends ++ at ∷ []; flight = v.flight ++ copy ∷ []; latest = latest run.design link.target.0 (journal ++ told ∷ []) })
           (sends_more link.source.0 journal (told ∷ []) (at ∷ []) (ap (λ xs. xs ++ []) (tells link.source.0) ∙ send_at node.0 link.source.0 node at reading refl (sym same) shows))
           (starts_more link.target.0 journal (told ∷ []) [] start ∙ append-nil (starts link.target.0 journal))
-          refl count slot (flight ∙ ap (λ b. if b then flight_at s number ++ copy ∷ [] else flight_at s number) (same_eq link.source.0 node.0 same)) refl
+          refl count slot (flight ∙ ap (λ b. if b then flight_at s number ++ copy ∷ [] else flight_at s number) (eq-eqb link.source.0 node.0 same)) refl
           (goes_send (delay_of run.delays number) v at (latest run.design link.target.0 (journal ++ told ∷ [])) copy timed (ap (early_on number) going) most round
           (ap (option_map (λ x. x + delay_of run.delays number (round_of n))) shows ∙ ap (λ r. Some (at + delay_of run.delays number r)) round))
       | inr other ↦
           stays_timed run s t journal (told ∷ []) number link timed going most
           (ap (λ xs. xs ++ []) (tells link.source.0) ∙ none_at link.source.0 node reading (λ e. other (sym e))) start count slot
-          (flight ∙ ap (λ b. if b then flight_at s number ++ copy ∷ [] else flight_at s number) (other_eq link.source.0 node.0 other)) (ap (early_on number) going)
+          (flight ∙ ap (λ b. if b then flight_at s number ++ copy ∷ [] else flight_at s number) (ne_eqb link.source.0 node.0 other)) (ap (early_on number) going)
     ]
 
 -- ---- Arrive
@@ -238,8 +233,8 @@ same_link run one two a b rules is_a is_b node port =
     elim (cases_order one two) [
       | inl same_number ↦ same_number
       | inr apart ↦ elim apart [
-        | inl before ↦ let less : port_place a.target.0 a.in_port < port_place b.target.0 b.in_port = pair_at LinkPrecedes run.design.links one two a b rules.design.links.order before is_a is_b in absurd (omega arith)
-        | inr after' ↦ let less : port_place b.target.0 b.in_port < port_place a.target.0 a.in_port = pair_at LinkPrecedes run.design.links two one b a rules.design.links.order after' is_b is_a in absurd (omega arith)
+        | inl before ↦ let less : port_place a.target.0 a.in_port < port_place b.target.0 b.in_port = AllPairs-slice_get LinkPrecedes run.design.links one two a b rules.design.links.order before is_a is_b in absurd (omega arith)
+        | inr after' ↦ let less : port_place b.target.0 b.in_port < port_place a.target.0 a.in_port = AllPairs-slice_get LinkPrecedes run.design.links two one b a rules.design.links.order after' is_b is_a in absurd (omega arith)
       ]
     ]
 
@@ -261,12 +256,12 @@ own_slot n port tuple Early within = refl
 own_stop : (link : LinkNo) (number round : ℕ) (reading : Option ℕ) (a : Arrived) → link.0 ≡ number → early_on number (early_stop link round reading a) ≡ taken_after round a
 own_stop link number round reading Kept same = refl
 own_stop link number round reading Ignored same = refl
-own_stop link number round reading Early same = ap (λ b. if b then Some round else None) (same_eq link.0 number same)
+own_stop link number round reading Early same = ap (λ b. if b then Some round else None) (eq-eqb link.0 number same)
 
 other_stop : (link : LinkNo) (number round : ℕ) (reading : Option ℕ) (a : Arrived) → link.0 ≢ number → early_on number (early_stop link round reading a) ≡ None
 other_stop link number round reading Kept other = refl
 other_stop link number round reading Ignored other = refl
-other_stop link number round reading Early other = ap (λ b. if b then Some round else None) (other_eq link.0 number other)
+other_stop link number round reading Early other = ap (λ b. if b then Some round else None) (ne_eqb link.0 number other)
 
 stop_shows : (k : ℕ) (o : Option Stop) → (starts k (stop_entry o) ≡ []) × (sends k (stop_entry o) ≡ [])
 stop_shows k None = (refl, refl)
@@ -343,7 +338,7 @@ arrive_timed run clocks s from round reading journal number link rules agree is 
 -- ---- each event
 -- the last reading of the node that it reads
 last_is : (run : Run) (s : BusState) (e : BusEvent) (journal : List JournalEntry) (j k at : ℕ) → ((i before : ℕ) → later run.design i before (entries run s e) ≡ cond (nat_eq j i) at before) → j ≡ k → latest run.design k (journal ++ entries run s e) ≡ at
-last_is run s e journal j k at tells same = latest_after run.design k journal (entries run s e) ∙ tells k (latest run.design k journal) ∙ ap (λ b. cond b at (latest run.design k journal)) (same_eq j k same)
+last_is run s e journal j k at tells same = latest_after run.design k journal (entries run s e) ∙ tells k (latest run.design k journal) ∙ ap (λ b. cond b at (latest run.design k journal)) (eq-eqb j k same)
 
 event_timed : (run : Run) (clocks : Clocks) (s : BusState) (e : BusEvent) (journal : List JournalEntry) (number : ℕ) (link : Link) → IsRunOf run → Agrees run s → slice_get run.design.links number ≡ Some link → KeepsTo run clocks s e → is_allowed run s e ≡ true
     → s.stop ≡ None → NoFall run clocks journal s → ((node : ℕ) → length (sends node journal) ≡ sent_rounds (node_at s node))

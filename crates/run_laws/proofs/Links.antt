@@ -3,6 +3,7 @@ use Rattle.std.proofs.Common.{◌≡◌, inl, inr, ℕ, suc, ◌+◌, ◌-◌, �
 use Rattle.std.specs.Prelude.{nat_lt, nat_le, ◌&&◌, is_some, is_none, if◌then◌else◌}
 use Rattle.std.proofs.lemmas.Bool.{and_parts, and_from, eq-eqb, ltb-true, lt-ltb, le-ltb, lt-leb, cases_lt, false≢true, false_from_ne_true}
 use Rattle.std.proofs.lemmas.Option.{slice_get-get_or}
+use Rattle.bus_machine.proofs.Moves.{sent_most}
 use Rattle.pals_base.specs.declared.values.Port.{Port}
 use Rattle.pals_base.specs.Bound.{alarm}
 use Rattle.pals_model.specs.declared.flight.FlightCopy.{FlightCopy}
@@ -81,10 +82,6 @@ link_is run number within = slice_get-get_or run.design.links number no_link wit
 
 pub rule_of : (run : Run) (number : ℕ) → IsRunOf run → number < length run.design.links → IsLink run.design (link_at run.design number)
 rule_of run number rules within = at_element (IsLink run.design) run.design.links number (link_at run.design number) rules.design.links.each (link_is run number within)
-
-pub sent_most : (sent : Bool) (count : ℕ) → (if sent then count else (count - 1)) ≤ count
-sent_most true count = omega arith
-sent_most false count = omega arith
 
 not_waiting : (count : ℕ) (slot : Option (List Port)) (round : ℕ) → count ≡ suc round → waits count slot round ≡ false → is_some slot ≡ false
 not_waiting count slot round last apart =

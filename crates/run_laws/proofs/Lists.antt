@@ -8,6 +8,7 @@ use Rattle.pals_base.specs.Steps.{upwards}
 use Rattle.pals_runs.specs.declared.events.EventFault.{EventFault}
 use Rattle.run_laws.specs.Faults.{or_else, first_of}
 use Rattle.std.proofs.lemmas.Option.{slice_get_within, get_or_from_slice_get}
+use Rattle.list_lemmas.proofs.Elements.{find-passes}
 
 -- ---- counts
 pub count_more : {X : Type 0} (p : X → Bool) (xs : List X) (x : X) → count_by p (xs ++ x ∷ []) ≡ count_by p xs + cond (p x) 1 0
@@ -38,19 +39,11 @@ one_is_found p (x ∷ xs) some =
     let parts = sum_by-cons (λ y. cond (p y) 1 0) x xs in
     one_or p x xs (p x) (omega arith) (one_is_found p xs)
 
-found_or : {X : Type 0} (p : X → Bool) (y : X) (ys : List X) (x : X) (b : Bool) → p y ≡ b → cond b (Some y) (find p ys) ≡ Some x → (find p ys ≡ Some x → p x ≡ true) → p x ≡ true
-found_or p y ys x true passes found later = let same : y ≡ x = cc in ap p (sym same) ∙ passes
-found_or p y ys x false fails found later = later found
-
-pub found_passes : {X : Type 0} (p : X → Bool) (xs : List X) (x : X) → find p xs ≡ Some x → p x ≡ true
-found_passes p [] x found = absurd (cc)
-found_passes p (y ∷ ys) x found = found_or p y ys x (p y) refl found (found_passes p ys x)
-
 -- a first one that is found is one
 pub found_is_one : {X : Type 0} (p : X → Bool) (xs : List X) (x : X) → find p xs ≡ Some x → 1 ≤ count_by p xs
 found_is_one p xs x found =
     let whole = count_without p p xs x found in
-    let passes : cond {A = ℕ} (p x) 1 0 ≡ 1 = ap (λ (b : Bool). cond {A = ℕ} b 1 0) (found_passes p xs x found) in
+    let passes : cond {A = ℕ} (p x) 1 0 ≡ 1 = ap (λ (b : Bool). cond {A = ℕ} b 1 0) (find-passes p xs x found) in
     omega arith
 
 -- ---- first faults

@@ -1,9 +1,12 @@
 -- The link whose message a start misses.
-use Rattle.std.proofs.Common.{◌≡◌, ◌≢◌, ℕ, zero, suc, ◌+◌, ◌<◌, ◌≤◌, nat_eq, Bool, true, false, List, [], ◌∷◌, length, map, slice_get, Option, Some, None, refl, sym, ap, ap₂, ◌∙◌, subst, arith}
+use Rattle.std.proofs.Common.{◌≡◌, ◌≢◌, ℕ, zero, suc, ◌+◌, ◌<◌, ◌≤◌, nat_eq, Bool, true, false, List, length, map, slice_get, Option, Some, None, refl, sym, ap, ◌∙◌, subst, arith}
 use Rattle.std.specs.Prelude.{position, zip, is_none, is_some, if◌then◌else◌}
 use Rattle.std.specs.Option.{option_map, unwrap_or}
 use Rattle.std.proofs.lemmas.Bool.{and_parts, eqb-true, eqb-false, false≢true}
 use Rattle.std.proofs.lemmas.Option.{slice_get-map, get_or_from_slice_get, slice_get-get_or}
+use Rattle.list_lemmas.proofs.Places.{slice_get-zip}
+use Rattle.list_lemmas.proofs.Options.{option_map-parts, option_map-none}
+use Rattle.run_laws.proofs.Lists.{zipped_at}
 use Rattle.pals_base.specs.declared.values.Port.{Port}
 use Rattle.pals_base.specs.Steps.{upwards}
 use Rattle.pals_model.specs.declared.design.Link.{Link}
@@ -26,15 +29,6 @@ use Rattle.bus_machine.specs.proof.Laws.{IsRunOf}
 use Rattle.bus_machine.proofs.Lists.{none_found}
 
 -- ---- lists
-zip_parts : {X Y : Type 0} (xs : List X) (ys : List Y) (k : ℕ) (p : X × Y) → slice_get (zip xs ys) k ≡ Some p → (slice_get xs k ≡ Some p.0) × (slice_get ys k ≡ Some p.1)
-zip_parts [] ys k p is = absurd (cc)
-zip_parts (x ∷ xs) [] k p is = absurd (cc)
-zip_parts (x ∷ xs) (y ∷ ys) zero p is = let same : (x, y) ≡ p = cc in (ap (λ q. Some q.0) same, ap (λ q. Some q.1) same)
-zip_parts (x ∷ xs) (y ∷ ys) (suc k) p is = zip_parts xs ys k p is
-
-mapped : {X Y : Type 0} (f : X → Y) (o : Option X) (y : Y) → option_map f o ≡ Some y → (x : X) × (o ≡ Some x) × (f x ≡ y)
-mapped f None y is = absurd (cc)
-mapped f (Some x) y is = (x, refl, cc)
 
 upwards_at : (from n k p : ℕ) → slice_get (upwards from n) k ≡ Some p → p ≡ from + k
 upwards_at from zero k p is = absurd (cc)
@@ -86,16 +80,16 @@ pub missed_link : (run : Run) (s : BusState) (node link : ℕ) → missing_link 
 missed_link run s node link is =
     let n = node_at s node in
     let c = component_at run.design node in
-    let port = mapped (link_into run.design node) (missing (plan_of run.design node) n) link is in
+    let port = option_map-parts (link_into run.design node) (missing (plan_of run.design node) n) link is in
     let sources = sources_of run.design node c in
     let inputs = map (input_of run.design) sources in
     let found' = port_by n.count (position (λ (p : Input × Option (List Port)). lacks p.0 p.1) (zip inputs n.slots)) port.0 (nat_eq n.count 0) refl port.1 in
     let at = found_at (λ (p : Input × Option (List Port)). lacks p.0 p.1) (zip inputs n.slots) port.0 found'.1 in
-    let parts = zip_parts inputs n.slots port.0 at.0 at.1 in
-    let src = mapped (input_of run.design) (slice_get sources port.0) at.0.0 (sym (slice_get-map (input_of run.design) sources port.0) ∙ parts.0) in
+    let parts = zipped_at inputs n.slots port.0 at.0 at.1 in
+    let src = option_map-parts (input_of run.design) (slice_get sources port.0) at.0.0 (sym (slice_get-map (input_of run.design) sources port.0) ∙ parts.0) in
     let lacking = port_lacks run.design src.0 at.0.1 (ap (λ i. lacks i at.0.1) src.2 ∙ at.2) in
     let ports = upwards 0 (length c.behaviour.ins) in
-    let own = mapped (λ p. source_of run.design node p) (slice_get ports port.0) src.0 (sym (slice_get-map (λ p. source_of run.design node p) ports port.0) ∙ src.1) in
+    let own = option_map-parts (λ p. source_of run.design node p) (slice_get ports port.0) src.0 (sym (slice_get-map (λ p. source_of run.design node p) ports port.0) ∙ src.1) in
     let this : own.0 ≡ port.0 = let place : own.0 ≡ 0 + port.0 = upwards_at 0 (length c.behaviour.ins) port.0 own.0 own.1 in omega arith in
     let reads : source_of run.design node port.0 ≡ source.Link lacking.0 = ap (source_of run.design node) (sym this) ∙ own.2 ∙ lacking.2 in
     let number : position (link_goes_to node port.0) run.design.links ≡ Some lacking.0 = from_link_is run.design (position (link_goes_to node port.0) run.design.links) (position (feed_goes_to node port.0) run.design.feeds) lacking.0 reads in
@@ -111,11 +105,6 @@ missed_link run s node link is =
     }
 
 -- ---- where none is missing, each slot is full
-zip_at : {X Y : Type 0} (xs : List X) (ys : List Y) (k : ℕ) (x : X) (y : Y) → slice_get xs k ≡ Some x → slice_get ys k ≡ Some y → slice_get (zip xs ys) k ≡ Some (x, y)
-zip_at [] ys k x y is_x is_y = absurd (cc)
-zip_at (z ∷ xs) [] k x y is_x is_y = absurd (cc)
-zip_at (z ∷ xs) (w ∷ ys) zero x y is_x is_y = let one : z ≡ x = cc in let two : w ≡ y = cc in ap₂ (λ a b. Some (a, b)) one two
-zip_at (z ∷ xs) (w ∷ ys) (suc k) x y is_x is_y = zip_at xs ys k x y is_x is_y
 
 pub upwards_get : (from n k : ℕ) → k < n → slice_get (upwards from n) k ≡ Some (from + k)
 upwards_get from zero k within = absurd (omega arith)
@@ -125,10 +114,6 @@ upwards_get from (suc n) (suc k) within = upwards_get (suc from) n k (omega arit
 none_by : (count : ℕ) (o : Option ℕ) (b : Bool) → nat_eq count 0 ≡ b → 1 ≤ count → (if b then None else o) ≡ None → o ≡ None
 none_by count o true is some none = absurd (let zero' = eqb-true count 0 is in omega arith)
 none_by count o false is some none = none
-
-unmapped : (f : ℕ → ℕ) (o : Option ℕ) → option_map f o ≡ None → o ≡ None
-unmapped f None is = refl
-unmapped f (Some x) is = absurd (cc)
 
 full_by : (slot : Option (List Port)) → is_none slot ≡ false → is_some slot ≡ true
 full_by None is = absurd (false≢true (sym is))
@@ -156,6 +141,6 @@ full_slot run s number link rules agree is none some =
     let is_input : slice_get inputs link.in_port ≡ Some (input_from_link run.design (Some link)) =
     slice_get-map (input_of run.design) sources link.in_port ∙ ap (option_map (input_of run.design)) is_src ∙ ap (λ l. Some (input_from_link run.design l)) is in
     let is_slot : slice_get n.slots link.in_port ≡ Some (slot_at n link.in_port) = slice_get-get_or n.slots link.in_port None (omega arith) in
-    let all : position (λ (p : Input × Option (List Port)). lacks p.0 p.1) (zip inputs n.slots) ≡ None = none_by n.count _ (nat_eq n.count 0) refl some (unmapped (link_into run.design node) (missing (plan_of run.design node) n) none) in
+    let all : position (λ (p : Input × Option (List Port)). lacks p.0 p.1) (zip inputs n.slots) ≡ None = none_by n.count _ (nat_eq n.count 0) refl some (option_map-none (link_into run.design node) (missing (plan_of run.design node) n) none) in
     full_by (slot_at n link.in_port)
-    (none_found (λ (p : Input × Option (List Port)). lacks p.0 p.1) (zip inputs n.slots) link.in_port (input_from_link run.design (Some link), slot_at n link.in_port) all (zip_at inputs n.slots link.in_port _ _ is_input is_slot))
+    (none_found (λ (p : Input × Option (List Port)). lacks p.0 p.1) (zip inputs n.slots) link.in_port (input_from_link run.design (Some link), slot_at n link.in_port) all (slice_get-zip inputs n.slots link.in_port _ _ is_input is_slot))

@@ -5,6 +5,7 @@ use Rattle.std.specs.List.{enumerate_from, position_or_len}
 use Rattle.std.proofs.lemmas.Bool.{ltb-false, leb-false, eqb-true, false≢true}
 use Rattle.std.proofs.lemmas.Option.{slice_get-get_or}
 use Rattle.std.proofs.lemmas.List.Folds.{find_at}
+use Rattle.list_lemmas.proofs.Elements.{find-passes}
 use Rattle.pals_base.specs.Steps.{upwards}
 use Rattle.pals_model.specs.declared.flight.FlightCopy.{FlightCopy}
 use Rattle.pals_model.specs.Flights.{is_of, oldest}
@@ -20,7 +21,7 @@ use Rattle.run_laws.specs.Worlds.{World, since_at, ready_at, sendings, world_aft
 use Rattle.run_laws.specs.Deadlines.{node_deadline, message_deadline}
 use Rattle.run_laws.specs.Faults.{fault_of, found_if, first_of, apart, clock_back, clock_apart, past, node_past, copy_past, link_past}
 use Rattle.run_laws.specs.proof.Kept.{IsInTime, KeepsNode, KeepsSends, KeepsTime}
-use Rattle.run_laws.proofs.Lists.{both_none, none_first, upwards_at, enumerated_at, found_passes}
+use Rattle.run_laws.proofs.Lists.{both_none, none_first, upwards_at, enumerated_at}
 use Rattle.run_laws.proofs.Nodes.{deadline_is}
 use Rattle.run_laws.proofs.Faults.{named, none_if}
 
@@ -57,7 +58,7 @@ module _ (run : Run) (w : World) (time : ℕ) (readings : List ℕ) where
       let one = none_first (copy_past run w time number) flight (position_or_len (is_of round) flight) copy none at in
       let in_time : time ≤ message_deadline run w number copy.round =
       none_past time (which.Message (record { 0 = number }) copy.round) (Some (message_deadline run w number copy.round)) one in
-      let same : copy.round ≡ round = eqb-true copy.round round (found_passes (is_of round) flight copy is) in
+      let same : copy.round ≡ round = eqb-true copy.round round (find-passes (is_of round) flight copy is) in
       subst (λ r. time ≤ message_deadline run w number r) same in_time
 
   pub passes_in_time : fault_of run w (event.Pass time readings) ≡ None → PassesInTime run w time readings

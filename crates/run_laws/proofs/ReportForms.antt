@@ -8,6 +8,7 @@ use Rattle.std.proofs.lemmas.Bool.{ltb-false, false_from_ne_true, eqb-true}
 use Rattle.std.proofs.lemmas.List.{append-nil}
 use Rattle.std.proofs.lemmas.List.Elements.{All-nil, All-cons, All-head, All-tail, All-append, All-weaker}
 use Rattle.std.proofs.lemmas.List.Splits.{slice_split_none, slice_split_at}
+use Rattle.list_lemmas.proofs.Elements.{All-append_right}
 use Rattle.pals_base.specs.declared.limits.TheConstants.{ROUNDS}
 use Rattle.pals_base.specs.declared.values.Port.{Port}
 use Rattle.pals_base.specs.declared.values.Trap.{Trap}
@@ -191,10 +192,6 @@ state_plain b frame None all = state_by b.states frame.state (slice_get b.states
 state_plain b frame (Some Overflow) all = no_space (codes "halted(overflow)") refl
 state_plain b frame (Some ZeroDivisor) all = no_space (codes "halted(zero-divisor)") refl
 
-back_of : {X : Type 0} (P : X → Type 0) (xs ys : List X) → All P (xs ++ ys) → All P ys
-back_of P [] ys all = all
-back_of P (x ∷ xs) ys all = back_of P xs ys (All-tail P x (xs ++ ys) all)
-
 vars_plain : (vars : List VarDecl) → All (λ name. is_word name ≡ true) (map (λ (v : VarDecl). v.name) vars) → All (λ (v : VarDecl). NoSpace v.name) vars
 vars_plain [] all = All-nil (λ (v : VarDecl). NoSpace v.name)
 vars_plain (v ∷ vars) all =
@@ -202,7 +199,7 @@ vars_plain (v ∷ vars) all =
 
 -- the names of ports and variables group to the left
 named_vars : (ins outs vars : List (List ℕ)) → All (λ name. is_word name ≡ true) (ins ++ outs ++ vars) → All (λ name. is_word name ≡ true) vars
-named_vars ins outs vars all = back_of (λ name. is_word name ≡ true) (ins ++ outs) vars all
+named_vars ins outs vars all = All-append_right (λ name. is_word name ≡ true) (ins ++ outs) vars all
 
 behaviour_vars : (b : BehaviourParts) → IsBehaviour b → All (λ (v : VarDecl). NoSpace v.name) b.vars
 behaviour_vars b rules =

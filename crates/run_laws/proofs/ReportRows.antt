@@ -1,5 +1,5 @@
 -- The lines of a report are the composition's, row by row.
-use Rattle.std.proofs.Common.{◌≡◌, ℕ, zero, suc, ◌+◌, ◌*◌, ◌%◌, ◌<◌, nat_eq, Bool, true, false, not, cond, List, [], ◌∷◌, ◌++◌, length, flat_map, slice_get, All, Some, None, refl, sym, ap, ap₂, ◌∙◌, subst, arith, length-append}
+use Rattle.std.proofs.Common.{◌≡◌, ℕ, zero, suc, ◌+◌, ◌*◌, ◌%◌, ◌<◌, nat_eq, Bool, true, false, not, cond, List, [], ◌∷◌, length, flat_map, slice_get, All, Some, None, refl, sym, ap, ap₂, ◌∙◌, subst, arith, length-append}
 use Rattle.std.specs.Prelude.{bytes_eq, position, is_some, slice_index_or}
 use Rattle.std.specs.List.{enumerate_from}
 use Rattle.std.proofs.lemmas.Grind.{common_steps}
@@ -7,6 +7,7 @@ use Rattle.std.proofs.lemmas.List.Concat.{flat_map_single}
 use Rattle.std.proofs.lemmas.List.Elements.{All-nil, All-cons, All-append}
 use Rattle.std.proofs.lemmas.Nat.{div-mul-add, mod-mul-add}
 use Rattle.std.proofs.lemmas.Option.{get_or_from_slice_get, slice_get_within}
+use Rattle.list_lemmas.proofs.Lists.{enumerate_from-append, length-map_enumerate_from}
 use Rattle.pals_base.specs.Steps.{upwards}
 use Rattle.pals_model.specs.declared.design.Component.{Component}
 use Rattle.pals_model.specs.declared.design.Tap.{Tap}
@@ -17,7 +18,6 @@ use Rattle.pals_model.specs.RoundTexts.{component_line, part_lines, tap_lines, c
 use Rattle.pals_model.proofs.Lookups.{none_passes}
 use Rattle.pals_model.proofs.Words.{same_bytes}
 use Rattle.run_laws.specs.Traces.{row_size, line_at}
-use Rattle.bus_machine.proofs.Lists.{length-numbered}
 use Rattle.run_laws.specs.proof.Reports.{ReportsHaveRows}
 
 -- ---- numbered lists
@@ -28,17 +28,11 @@ numbered_all P from (x ∷ xs) holds =
     All-cons P (from, x) (enumerate_from (from + 1) xs) (subst (λ n. P (n, x)) here (holds 0 x refl))
     (numbered_all P (from + 1) xs (λ i y is. let next : from + suc i ≡ from + 1 + i = omega arith in subst (λ n. P (n, y)) next (holds (suc i) y is)))
 
-numbered_append : {X : Type 0} (from : ℕ) (xs ys : List X) → enumerate_from from (xs ++ ys) ≡ enumerate_from from xs ++ enumerate_from (from + length xs) ys
-numbered_append from [] ys = let here : from ≡ from + 0 = omega arith in ap (λ n. enumerate_from n ys) here
-numbered_append from (x ∷ xs) ys =
-    let next : from + 1 + length xs ≡ from + length (x ∷ xs) = omega arith in
-    ap (λ ps. (from, x) ∷ ps) (numbered_append (from + 1) xs ys ∙ ap (λ n. enumerate_from (from + 1) xs ++ enumerate_from n ys) next)
-
 -- ---- the size of a row
 component_lines : (design : DesignParts) (env : Env) (round : ℕ) → length (flat_map (λ numbered. part_lines numbered.1 (Some (part design env numbered.0 round))) (enumerate_from 0 design.components)) ≡ length design.components
 component_lines design env round =
     let f = λ (numbered : ℕ × Component). component_line numbered.1.path numbered.1.behaviour (part design env numbered.0 round).frame in
-    ap length (flat_map_single f (enumerate_from 0 design.components)) ∙ length-numbered f 0 design.components
+    ap length (flat_map_single f (enumerate_from 0 design.components)) ∙ length-map_enumerate_from f 0 design.components
 
 pub tap_line_of : DesignParts → Env → ℕ → ℕ × Tap → List ℕ
 tap_line_of design env round numbered = slice_index_or (tap_lines design numbered.0 numbered.1 (Some (part design env numbered.1.source.0 round))) 0 []
@@ -46,7 +40,7 @@ tap_line_of design env round numbered = slice_index_or (tap_lines design numbere
 root_lines : (design : DesignParts) (env : Env) (round : ℕ) → length (flat_map (λ numbered. tap_lines design numbered.0 numbered.1 (Some (part design env numbered.1.source.0 round))) (enumerate_from 0 design.taps)) ≡ length design.taps
 unfolding tap_line_of
 root_lines design env round =
-    ap length (flat_map_single (tap_line_of design env round) (enumerate_from 0 design.taps)) ∙ length-numbered (tap_line_of design env round) 0 design.taps
+    ap length (flat_map_single (tap_line_of design env round) (enumerate_from 0 design.taps)) ∙ length-map_enumerate_from (tap_line_of design env round) 0 design.taps
 
 row_length : (design : DesignParts) (env : Env) (round : ℕ) → length (composed_lines design env round) ≡ row_size design
 row_length design env round =
@@ -73,7 +67,7 @@ rows_fit design env round (suc more) =
     let row = composed_lines design env round in
     let rest = flat_map (composed_lines design env) (upwards (suc round) more) in
     let next : suc round * row_size design ≡ round * row_size design + length row = (let size = row_length design env round in let one : suc round * row_size design ≡ round * row_size design + row_size design = grind arith in omega arith) in
-    subst (All (λ numbered. IsOther design env numbered ≡ false)) (sym (numbered_append (round * row_size design) row rest))
+    subst (All (λ numbered. IsOther design env numbered ≡ false)) (sym (enumerate_from-append (round * row_size design) row rest))
     (All-append (λ numbered. IsOther design env numbered ≡ false) (enumerate_from (round * row_size design) row) (enumerate_from (round * row_size design + length row) rest) (row_fits design env round)
     (subst (λ n. All (λ numbered. IsOther design env numbered ≡ false) (enumerate_from n rest)) next (rows_fit design env (suc round) more)))
 

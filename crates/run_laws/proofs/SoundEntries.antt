@@ -2,10 +2,11 @@
 use Rattle.std.proofs.Common.{◌≡◌, ℕ, ◌+◌, ◌<◌, ◌≤◌, nat_eq, nat_lt, true, false, not, ◌&&◌, cond, List, [], ◌∷◌, length, All, Option, Some, None, refl, sym, ap, ap₂, ◌∙◌, subst, arith}
 use Rattle.std.specs.Prelude.{is_some, is_none, slice_index_or}
 use Rattle.std.specs.Option.{option_map_or, unwrap_or}
-use Rattle.std.proofs.lemmas.Bool.{and_parts, eqb-true, ltb-false, false≢true, true≢false}
+use Rattle.std.proofs.lemmas.Bool.{and_parts, eqb-true, ltb-false, false≢true, true≢false, not-false}
 use Rattle.std.proofs.lemmas.List.Elements.{All-nil, All-cons}
 use Rattle.std.proofs.lemmas.Option.{slice_get_within, slice_get-get_or}
 use Rattle.std.proofs.lemmas.Slice.Eq.{bytes_eq-Decides}
+use Rattle.list_lemmas.proofs.Booleans.{and_three_parts}
 use Rattle.pals_base.specs.declared.limits.TheConstants.{ROUNDS}
 use Rattle.pals_base.specs.declared.values.NodeNo.{NodeNo}
 use Rattle.pals_base.specs.declared.values.LinkNo.{LinkNo}
@@ -38,7 +39,7 @@ use Rattle.run_laws.specs.Entries.{IsEntryIn}
 use Rattle.run_laws.proofs.Entries.{lines_differ}
 use Rattle.run_laws.proofs.Missing.{missed_link}
 use Rattle.run_laws.specs.Histories.{IsRead, IsInTime}
-use Rattle.run_laws.proofs.BrokenTests.{none_broken, three_parts, if_none, not_false, none_is_due}
+use Rattle.run_laws.proofs.BrokenTests.{none_broken, if_none, none_is_due}
 
 -- ---- what comes next
 abbrev pub listed : Option JournalEntry → List JournalEntry
@@ -114,7 +115,7 @@ start_next run front s readings node round (Some at) are of has none =
     let e = entry.Start node round (Some at) in
     let n = node_at s node.0 in
     let kept = none_broken (is_in_order run s e) (falls readings (timed run.design e)) (waits run s e) (tells_stop run s e (event_of run.design e)) (too_early run s e) none in
-    let order = three_parts (is_none s.stop) (is_waiting n.phase) (nat_eq round n.count) kept.0 in
+    let order = and_three_parts (is_none s.stop) (is_waiting n.phase) (nat_eq round n.count) kept.0 in
     let same : round ≡ n.count = eqb-true round n.count order.2 in
     record {
       event = Start node (Some at);
@@ -139,7 +140,7 @@ step_next run front s readings node round step (Some at) are of has none =
     let n = node_at s node.0 in
     let least = step_alarm (plan_of run.design node.0) n step in
     let kept = none_broken (is_in_order run s e) (falls readings (timed run.design e)) (waits run s e) (tells_stop run s e (event_of run.design e)) (too_early run s e) none in
-    let order = three_parts (is_none s.stop) (is_some (next_step n.phase)) (nat_eq round (round_of n) && nat_eq step (unwrap_or (next_step n.phase) 0)) kept.0 in
+    let order = and_three_parts (is_none s.stop) (is_some (next_step n.phase)) (nat_eq round (round_of n) && nat_eq step (unwrap_or (next_step n.phase) 0)) kept.0 in
     let both = and_parts (nat_eq round (round_of n)) (nat_eq step (unwrap_or (next_step n.phase) 0)) order.2 in
     let same_round : round ≡ round_of n = eqb-true round (round_of n) both.0 in
     let same_step : step ≡ unwrap_or (next_step n.phase) 0 = eqb-true step (unwrap_or (next_step n.phase) 0) both.1 in
@@ -159,7 +160,7 @@ finish_next run front s readings node round none =
     let e = entry.Finish node round in
     let n = node_at s node.0 in
     let kept = none_broken (is_in_order run s e) (falls readings (timed run.design e)) (waits run s e) (tells_stop run s e (event_of run.design e)) (too_early run s e) none in
-    let order = three_parts (is_none s.stop) (is_allowed run s (Finish node)) (nat_eq round (round_of n)) kept.0 in
+    let order = and_three_parts (is_none s.stop) (is_allowed run s (Finish node)) (nat_eq round (round_of n)) kept.0 in
     record {
       event = Finish node;
       is_event = refl;
@@ -179,7 +180,7 @@ send_next run front s readings node round (Some at) are of has none =
     let n = node_at s node.0 in
     let least = release_alarm (plan_of run.design node.0) n in
     let kept = none_broken (is_in_order run s e) (falls readings (timed run.design e)) (waits run s e) (tells_stop run s e (event_of run.design e)) (too_early run s e) none in
-    let order = three_parts (is_none s.stop) (is_allowed run s (Send node (Some at))) (nat_eq round (round_of n)) kept.0 in
+    let order = and_three_parts (is_none s.stop) (is_allowed run s (Send node (Some at))) (nat_eq round (round_of n)) kept.0 in
     record {
       event = Send node (Some at);
       is_event = refl;
@@ -223,7 +224,7 @@ DueCopy reading o = (copy : FlightCopy) × (o ≡ Some copy) × (is_due reading 
 
 due_copy : (reading : Option ℕ) (o : Option FlightCopy) → not (option_map_or (is_due reading) o false) ≡ false → DueCopy reading o
 due_copy reading None due = absurd (true≢false due)
-due_copy reading (Some copy) due = (copy, refl, not_false (is_due reading copy) due)
+due_copy reading (Some copy) due = (copy, refl, not-false (is_due reading copy) due)
 
 arrive_next : (run : Run) (front : List JournalEntry) (s : BusState) (readings : List ℕ) (link : LinkNo) (round : ℕ) (reading : Option ℕ) (result : Arrived) → IsDesign run.design → AreLast run front readings → IsEntryIn run.design (entry.Arrive link round reading result)
     → is_some reading ≡ true → broken run s readings (entry.Arrive link round reading result) ≡ None → IsNext run front s (entry.Arrive link round reading result)
@@ -232,7 +233,7 @@ arrive_next run front s readings link round (Some at) result rules are of has no
     let e = entry.Arrive link round (Some at) result in
     let a = arrival run s link round in
     let kept = none_broken (is_in_order run s e) (falls readings (timed run.design e)) (waits run s e) (tells_stop run s e (event_of run.design e)) (too_early run s e) none in
-    let order = three_parts (is_none s.stop) (is_allowed run s (Arrive link round (Some at))) (same_result result a) kept.0 in
+    let order = and_three_parts (is_none s.stop) (is_allowed run s (Arrive link round (Some at))) (same_result result a) kept.0 in
     let same : result ≡ a = same_arrived result a order.2 in
     let due = due_copy (Some at) (oldest round (flight_at s link.0)) kept.3 in
     record {
@@ -271,7 +272,7 @@ missed_next run front s readings link round (Some at) cause rules are of has non
     let n = node_at s node.0 in
     let least = start_alarm (plan_of run.design node.0) n in
     let kept = none_broken (is_in_order run s e) (falls readings (timed run.design e)) (waits run s e) (tells_stop run s e (event_of run.design e)) (too_early run s e) none in
-    let order = three_parts (is_none s.stop) (is_waiting n.phase) (nat_eq (round + 1) n.count) kept.0 in
+    let order = and_three_parts (is_none s.stop) (is_waiting n.phase) (nat_eq (round + 1) n.count) kept.0 in
     record {
       event = Start node (Some at);
       is_event = refl;
@@ -286,7 +287,7 @@ missed_next run front s readings link round (Some at) cause rules are of has non
 no_loss : (run : Run) (front : List JournalEntry) (s : BusState) (readings : List ℕ) (e : JournalEntry) → fits run s e ≡ false → broken run s readings e ≡ None → IsNext run front s e
 no_loss run front s readings e other none =
     let kept = none_broken (is_in_order run s e) (falls readings (timed run.design e)) (waits run s e) (tells_stop run s e (event_of run.design e)) (too_early run s e) none in
-    let order = three_parts (is_none s.stop) (option_map_or (is_allowed run s) (event_of run.design e) true) (fits run s e) kept.0 in
+    let order = and_three_parts (is_none s.stop) (option_map_or (is_allowed run s) (event_of run.design e) true) (fits run s e) kept.0 in
     absurd (false≢true (sym other ∙ order.2))
 
 no_early : (run : Run) (front : List JournalEntry) (s : BusState) (readings : List ℕ) (link : LinkNo) (round : ℕ) (reading : Option ℕ) → broken run s readings (entry.Stopped (stop.Early link round reading)) ≡ None → IsNext run front s (entry.Stopped (stop.Early link round reading))

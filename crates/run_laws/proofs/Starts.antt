@@ -5,6 +5,7 @@ use Rattle.std.proofs.lemmas.Bool.{and_right, and_left, and_from, eqb-false, eq-
 use Rattle.std.proofs.lemmas.Grind.{get_or-set_at}
 use Rattle.std.proofs.lemmas.List.{length-set, get_or-set_other}
 use Rattle.std.proofs.lemmas.Option.{slice_get-get_or, slice_get_within, slice_get-map, get_or_from_slice_get, same_Some}
+use Rattle.list_lemmas.proofs.Options.{option_map-parts}
 use Rattle.pals_base.specs.declared.values.NodeNo.{NodeNo}
 use Rattle.pals_base.specs.declared.values.Port.{Port}
 use Rattle.pals_base.specs.Bound.{alarm}
@@ -62,10 +63,6 @@ source_lacks design source.Nothing slot full = refl
 source_lacks design (source.Feed f root) slot full = feed_lacks root (slice_get design.feeds f) slot
 source_lacks design (source.Link number) slot full = link_lacks design (slice_get design.links number) slot (λ link is. full number link refl is)
 
-mapped : {X Y : Type 0} (f : X → Y) (o : Option X) (y : Y) → option_map f o ≡ Some y → (x : X) × (o ≡ Some x) × (f x ≡ y)
-mapped f None y is = absurd (cc)
-mapped f (Some x) y is = (x, refl, cc)
-
 within_ports : (design : DesignParts) (node k : ℕ) (c : Component) (src : PortSource) → slice_get (sources_of design node c) k ≡ Some src → k < length c.behaviour.ins
 within_ports design node k c src is =
     let below : k < length (sources_of design node c) = slice_get_within (sources_of design node c) k src is in
@@ -75,7 +72,7 @@ within_ports design node k c src is =
 source_at : (design : DesignParts) (node k : ℕ) (c : Component) (src : PortSource) → slice_get (sources_of design node c) k ≡ Some src → source_of design node k ≡ src
 source_at design node k c src is =
     let ports = upwards 0 (length c.behaviour.ins) in
-    let found = mapped (λ port. source_of design node port) (slice_get ports k) src (sym (slice_get-map (λ port. source_of design node port) ports k) ∙ is) in
+    let found = option_map-parts (λ port. source_of design node port) (slice_get ports k) src (sym (slice_get-map (λ port. source_of design node port) ports k) ∙ is) in
     let same : k ≡ found.0 = same_Some k found.0 (sym (upwards_at (length c.behaviour.ins) k (within_ports design node k c src is)) ∙ found.1) in
     ap (source_of design node) same ∙ found.2
 
@@ -108,7 +105,7 @@ module _ (run : Run) (w : World) (rules : IsRunOf run) (keeps : KeepsTime run w)
       let c = component_at design node in
       let sources = sources_of design node c in
       let both = zipped_at (plan_of design node).inputs n.slots k p is in
-      let found = mapped (input_of design) (slice_get sources k) p.0 (sym (slice_get-map (input_of design) sources k) ∙ both.0) in
+      let found = option_map-parts (input_of design) (slice_get sources k) p.0 (sym (slice_get-map (input_of design) sources k) ∙ both.0) in
       let slot : slot_at n k ≡ p.1 = get_or_from_slice_get n.slots k p.1 None both.1 in
       subst (λ (i : Input). lacks i p.1 ≡ false) found.2
       (source_lacks design found.0 p.1 (λ number link is_source is_link.

@@ -3,10 +3,11 @@ use Rattle.std.proofs.Common.{◌≡◌, ◌≢◌, inl, inr, ℕ, zero, suc, �
 use Rattle.std.specs.Prelude.{is_some, is_none, if◌then◌else◌}
 use Rattle.std.specs.Option.{option_map, option_map_or, unwrap_or}
 use Rattle.std.specs.List.{position_or_len}
-use Rattle.std.proofs.lemmas.Bool.{cases_eq, cases_lt, eqb-true, leb-true, false≢true, false_from_ne_true}
+use Rattle.std.proofs.lemmas.Bool.{cases_eq, cases_lt, eqb-true, leb-true, false≢true, false_from_ne_true, leb-false}
 use Rattle.std.proofs.lemmas.Grind.{common_steps}
 use Rattle.std.proofs.lemmas.List.Elements.{All-nil, All-cons, All-head, All-tail, All-append, All-weaker}
 use Rattle.std.proofs.lemmas.Option.{same_Some, slice_get_within, slice_get-get_or}
+use Rattle.list_lemmas.proofs.Places.{slice_get-push}
 use Rattle.pals_base.specs.declared.values.Port.{Port}
 use Rattle.pals_model.specs.declared.flight.FlightCopy.{FlightCopy}
 use Rattle.pals_model.specs.Flights.{is_of, oldest, without_oldest}
@@ -21,10 +22,6 @@ get_more : (xs ys : List ℕ) (k x : ℕ) → slice_get xs k ≡ Some x → slic
 get_more [] ys k x is = absurd (cc)
 get_more (z ∷ xs) ys zero x is = is
 get_more (z ∷ xs) ys (suc k) x is = get_more xs ys k x is
-
-get_last : (xs : List ℕ) (x : ℕ) → slice_get (xs ++ x ∷ []) (length xs) ≡ Some x
-get_last [] x = refl
-get_last (z ∷ xs) x = get_last xs x
 
 some_of : (delay : ℕ → ℕ) (sends : List ℕ) (round due : ℕ) → due_of delay sends round ≡ Some due → (at : ℕ) × (slice_get sends round ≡ Some at) × (due ≡ at + delay round)
 some_of delay sends round due is = parts (slice_get sends round) refl is
@@ -146,7 +143,7 @@ goes_start delay v at timed going most full = record {
           due = old.due;
           at = at;
           due_is = ap (due_of delay v.sends) (sym this) ∙ old.due_is;
-          at_is = ap (slice_get (v.starts ++ at ∷ [])) (sym place) ∙ get_last v.starts at;
+          at_is = ap (slice_get (v.starts ++ at ∷ [])) (sym place) ∙ slice_get-push v.starts at;
           before = (let before = old.before in omega arith);
         }
   ];
@@ -168,7 +165,7 @@ pub goes_send : (delay : ℕ → ℕ) (v : LinkView) (at t : ℕ) (copy : Flight
     → IsTimed delay (after_send v at copy t)
 goes_send delay v at t copy timed going most round_is due_is' =
     let size : length (v.sends ++ at ∷ []) ≡ length v.sends + 1 = length-append v.sends (at ∷ []) in
-    let due_new : due_of delay (v.sends ++ at ∷ []) (length v.sends) ≡ Some (at + delay (length v.sends)) = ap (option_map (λ x. x + delay (length v.sends))) (get_last v.sends at) in
+    let due_new : due_of delay (v.sends ++ at ∷ []) (length v.sends) ≡ Some (at + delay (length v.sends)) = ap (option_map (λ x. x + delay (length v.sends))) (slice_get-push v.sends at) in
     let new : IsDueCopy delay (v.sends ++ at ∷ []) copy = record {
       sent = omega arith;
       due = due_is' ∙ sym (ap (due_of delay (v.sends ++ at ∷ [])) round_is ∙ due_new);
@@ -232,18 +229,12 @@ due_before due at d is same =
     let here : nat_le d at ≡ true = sym (ap (λ o. option_map_or (λ x. nat_le x (unwrap_or (Some at) 0)) o false) same) ∙ is in
     leb-true d at here
 
-over : (count round : ℕ) → nat_le count round ≡ false → round < count
-over count round is = elim (cases_lt round count) [
-  | inl past ↦ past
-  | inr not_past ↦ absurd (let yes' : nat_le count round ≡ true = grind (arith, common_steps) in false≢true (sym is ∙ yes'))
-]
-
 -- it is kept, or comes early
 kept_or_early : (round count flying : ℕ) (slot : Option (List Port)) (taken : Option ℕ) (late next : Bool) → nat_le count round ≡ late → nat_eq (round + 1) count ≡ next → taken ≡ None → 1 ≤ flying → Whereabouts round count slot flying taken
     → (if late then Early else if next && is_none slot then Kept else Ignored) ≢ Ignored
 kept_or_early round count flying slot taken true next is other going some place = λ same. absurd (cc)
 kept_or_early round count flying slot taken false next is other going some (in_flight one most free) =
-    let past : round < count = over count round is in
+    let past : round < count = leb-false count round is in
     let same : count ≡ round + 1 = omega arith in
     let yes' : nat_eq (round + 1) count ≡ true = grind (arith, common_steps) in
     λ ignored. absurd (let kept : Kept ≡ Ignored = sym (ap₂ (λ a o. if a && is_none o then Kept else Ignored) (sym other ∙ yes') (free same)) ∙ ignored in cc)

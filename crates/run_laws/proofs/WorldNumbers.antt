@@ -3,6 +3,7 @@ use Rattle.std.proofs.Common.{◌≡◌, ◌≢◌, ℕ, suc, ◌+◌, ◌-◌, 
 use Rattle.std.specs.Prelude.{max, min, if◌then◌else◌}
 use Rattle.std.proofs.lemmas.Nat.{mul-le}
 use Rattle.std.proofs.lemmas.Option.{same_Some, none-some}
+use Rattle.bus_machine.proofs.Moves.{sent_most}
 use Rattle.pals_base.specs.declared.limits.TheConstants.{READING, ROUNDS, HOUR}
 use Rattle.pals_base.specs.Bound.{alarm}
 use Rattle.pals_runs.specs.declared.journal.Phase.{Phase}
@@ -21,7 +22,7 @@ use Rattle.run_laws.specs.proof.Kept.{KeepsTime}
 use Rattle.run_laws.specs.proof.Laws.{TimesAreReadings}
 use Rattle.run_laws.proofs.WorldTimes.{alarm_more}
 use Rattle.run_laws.proofs.Nodes.{fits_at, phase_last, send_last, deadline_is, next_alarm, phase_agrees, rounds_at_most, late}
-use Rattle.run_laws.proofs.Links.{rule_of, sent_most}
+use Rattle.run_laws.proofs.Links.{rule_of}
 
 -- ---- products
 small : (t rounds count : ℕ) → t ≤ HOUR → rounds ≤ ROUNDS → count ≤ rounds → (count + 1) * t + 4 * HOUR ≤ READING

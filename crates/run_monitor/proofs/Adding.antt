@@ -1,9 +1,10 @@
 -- Forms that stand behind their parts.
 use Rattle.std.proofs.Common.{◌≡◌, ◌∙◌, ◌⊎◌, inl, inr, ℕ, zero, suc, ◌+◌, ◌<◌, true, List, [], ◌∷◌, ◌++◌, length, Some, slice_get, refl, sym, ap, ap₂, subst, arith, length-append, append_assoc}
-use Rattle.std.specs.Prelude.{Result, Ok, Err, IfOk}
+use Rattle.std.specs.Prelude.{Result, IfOk}
 use Rattle.std.proofs.lemmas.Bool.{cases_lt, false≢true}
 use Rattle.std.proofs.lemmas.List.{get_or_append_left}
 use Rattle.std.proofs.Math.Seq.{get_or-append_seam}
+use Rattle.std.proofs.lemmas.Result.{IfOk-weaker}
 use Rattle.pals_runs.specs.Formula.{Formula, Var, Not, And, Or, Previous, Once, Historically, Since, Halted}
 use Rattle.run_monitor.specs.declared.forms.FlatForm.{FlatForm}
 use Rattle.run_monitor.specs.declared.forms.FlatForm.TheVariants as flat
@@ -147,13 +148,9 @@ pub still : (old mid new : List FlatForm) (at : ℕ) (f : Formula) → Adds old 
 still old mid new at f adds more =
     ap (λ es. formula_at (forms_of es) at) more.1 ∙ form-stays mid more.0 at (part_place old mid at f adds) ∙ adds.is
 
-if_ok : {A E : Type 0} (r : Result A E) (P Q : A → Type 0) → ((x : A) → P x → Q x) → IfOk r P → IfOk r Q
-if_ok (Ok x) P Q f p = f x p
-if_ok (Err e) P Q f p = p
-
 pub leaf : {E : Type 0} (r : Result ℕ E) (old new : List FlatForm) (f g : Formula) → f ≡ g → IfOk r (λ at. Adds old new at f)
     → IfOk r (λ at. Adds old new at g)
-leaf r old new f g same = if_ok r (λ at. Adds old new at f) (λ at. Adds old new at g) (λ at adds. subst (Adds old new at) same adds)
+leaf r old new f g same = IfOk-weaker r (λ at. Adds old new at f) (λ at. Adds old new at g) (λ at adds. subst (Adds old new at) same adds)
 
 -- a form that was there reads the same with more behind
 still_reads : (mid new : List FlatForm) (k node : ℕ) → (more : List FlatForm) × (new ≡ mid ++ more) → k < length mid
@@ -170,7 +167,7 @@ pub over_one : {E : Type 0} (r : Result ℕ E) (old mid new : List FlatForm) (p 
     → Keeps wrap → Adds old mid p f
     → IfOk r (λ at. Adds mid new at (wrap (formula_at (forms_of mid) p))) → IfOk r (λ at. Adds old new at g)
 over_one r old mid new p wrap f g same keeps first =
-    if_ok r (λ at. Adds mid new at (wrap (formula_at (forms_of mid) p))) (λ at. Adds old new at g)
+    IfOk-weaker r (λ at. Adds mid new at (wrap (formula_at (forms_of mid) p))) (λ at. Adds old new at g)
     (λ at adds. record {
       added = both_added old mid new first.added adds.added;
       order = adds.order;
@@ -189,7 +186,7 @@ pub over_two : {E : Type 0} (r : Result ℕ E) (old mid next new : List FlatForm
     → KeepsBoth wrap → Adds old mid p f → Adds mid next q g
     → IfOk r (λ at. Adds next new at (wrap (formula_at (forms_of next) p) (formula_at (forms_of next) q))) → IfOk r (λ at. Adds old new at h)
 over_two r old mid next new p q wrap f g h same keeps first second =
-    if_ok r (λ at. Adds next new at (wrap (formula_at (forms_of next) p) (formula_at (forms_of next) q))) (λ at. Adds old new at h)
+    IfOk-weaker r (λ at. Adds next new at (wrap (formula_at (forms_of next) p) (formula_at (forms_of next) q))) (λ at. Adds old new at h)
     (λ at adds. record {
       added = both_added old next new (both_added old mid next first.added second.added) adds.added;
       order = adds.order;

@@ -6,6 +6,7 @@ use Rattle.std.proofs.lemmas.List.{get_or-set_other, map-append}
 use Rattle.std.proofs.lemmas.List.Elements.{All-nil, All-push}
 use Rattle.std.proofs.lemmas.Grind.{get_or-set_at}
 use Rattle.std.proofs.lemmas.Iterator.Adapters.{position_from-zero}
+use Rattle.std.proofs.lemmas.Simd.{map-map}
 use Rattle.pals_base.specs.declared.values.Frame.{Frame}
 use Rattle.pals_model.specs.declared.design.DesignParts.{DesignParts}
 use Rattle.pals_model.specs.declared.rounds.Env.{Env}
@@ -71,10 +72,6 @@ all-same f g [] (y ∷ ys) size same = absurd (omega arith)
 all-same f g (x ∷ xs) [] size same = absurd (omega arith)
 all-same f g (x ∷ xs) (y ∷ ys) size same =
     ap₂ (λ a bs. a ∷ bs) (same 0 (omega arith)) (all-same f g xs ys (omega arith) (λ k within. same (suc k) (omega arith)))
-
-map-map : {X Y Z : Type 0} (f : Y → Z) (g : X → Y) (xs : List X) → map f (map g xs) ≡ map (λ x. f (g x)) xs
-map-map f g [] = refl
-map-map f g (x ∷ xs) = ap (λ rest. f (g x) ∷ rest) (map-map f g xs)
 
 module _ (old new : List MonitorState) (fs : List Formula) (h : List (List Frame)) (row : List Frame) (each : EachGoesOn old new row)
     (formulas : map whole old ≡ fs) (stand : All (λ m. StandsFor m h) old) where

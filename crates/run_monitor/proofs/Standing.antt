@@ -1,7 +1,7 @@
 -- A monitor stands for the history that it went through.
-use Rattle.std.proofs.Common.{◌≡◌, ◌≢◌, ◌∙◌, ℕ, zero, suc, ◌-◌, ◌<◌, nat_eq, Bool, true, false, if◌then◌else◌, not, ◌&&◌, ◌||◌, List, [], ◌∷◌, ◌++◌, length, map, get_or, Some, None, slice_get, refl, sym, ap, ap₂, arith, length-append}
+use Rattle.std.proofs.Common.{◌≡◌, ◌≢◌, ◌∙◌, ℕ, zero, suc, ◌-◌, ◌<◌, nat_eq, Bool, true, false, if◌then◌else◌, not, ◌&&◌, ◌||◌, List, [], ◌∷◌, ◌++◌, length, map, Some, None, slice_get, refl, sym, ap, ap₂, arith, length-append}
 use Rattle.std.proofs.lemmas.Bool.{eqb-true, eq-eqb, ne_eqb, false≢true}
-use Rattle.std.proofs.lemmas.List.{length-map, ext_get_or}
+use Rattle.std.proofs.lemmas.List.{length-map, ext_get_or, get_or-map}
 use Rattle.std.proofs.lemmas.Option.{slice_get_within, slice_get-get_or, get_or_from_slice_get}
 use Rattle.pals_base.specs.declared.values.Frame.{Frame}
 use Rattle.pals_runs.specs.Formula.{Formula, Var, Halted}
@@ -147,24 +147,20 @@ is_ready es at f kept seen adds kept_size seen_size =
     }
 
 -- ---- what was kept
-get_or-mapped : {A B : Type 0} (f : A → B) (xs : List A) (k : ℕ) (d : A) (e : B) → k < length xs → get_or (map f xs) k e ≡ f (get_or xs k d)
-get_or-mapped f [] k d e within = absurd (omega arith)
-get_or-mapped f (x ∷ xs) zero d e within = refl
-get_or-mapped f (x ∷ xs) (suc k) d e within = get_or-mapped f xs k d e (omega arith)
 
 kept-before : (fs : List Formula) (begun : Bool) (kept : List Bool) (h : List (List Frame)) (k : ℕ) → HasKept begun fs kept h → k < length fs
     → (begun && bit_at kept k) ≡ bit_of false (bits_after h) (formula_at fs k)
 kept-before fs false kept h k is within = ap (λ x. bit_of false (bits_after x) (formula_at fs k)) (sym is)
 kept-before fs true kept [] k is within = absurd is
 kept-before fs true kept (row ∷ h) k is within =
-    ap (λ (bs : List Bool). bit_at bs k) is ∙ get_or-mapped (λ f. holds f (row ∷ h) (length h)) fs k (Halted 0) false within
+    ap (λ (bs : List Bool). bit_at bs k) is ∙ get_or-map (λ f. holds f (row ∷ h) (length h)) fs k (Halted 0) false within
 
 kept-always : (fs : List Formula) (begun : Bool) (kept : List Bool) (h : List (List Frame)) (k : ℕ) → HasKept begun fs kept h → k < length fs
     → (not begun || bit_at kept k) ≡ bit_of true (bits_after h) (formula_at fs k)
 kept-always fs false kept h k is within = ap (λ x. bit_of true (bits_after x) (formula_at fs k)) (sym is)
 kept-always fs true kept [] k is within = absurd is
 kept-always fs true kept (row ∷ h) k is within =
-    ap (λ (bs : List Bool). bit_at bs k) is ∙ get_or-mapped (λ f. holds f (row ∷ h) (length h)) fs k (Halted 0) false within
+    ap (λ (bs : List Bool). bit_at bs k) is ∙ get_or-map (λ f. holds f (row ∷ h) (length h)) fs k (Halted 0) false within
 
 -- ---- a further round
 module _ (es : List FlatForm) (begun : Bool) (kept seen new : List Bool) (order : IsFlat es) (each : AreNext es begun kept seen new)
@@ -223,7 +219,7 @@ module _ (es : List FlatForm) (begun : Bool) (kept seen new : List Bool) (order 
       ext_get_or false new (map there fs) (size ∙ sym (length-forms es) ∙ sym many)
       (λ k within.
       let inside : k < length es = omega (arith, within, size) in
-      says-there k inside ∙ sym (get_or-mapped there fs k (Halted 0) false (omega (arith, inside, length-forms es))))
+      says-there k inside ∙ sym (get_or-map there fs k (Halted 0) false (omega (arith, inside, length-forms es))))
 
 -- the last round of a history with one more
 kept-one_more : (fs : List Formula) (new : List Bool) (h : List (List Frame)) (row : List Frame)

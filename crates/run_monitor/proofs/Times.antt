@@ -3,18 +3,13 @@ use Rattle.std.proofs.Common.{◌≡◌, ◌∙◌, inl, inr, ℕ, zero, suc, �
 use Rattle.std.specs.List.{list_any, list_all}
 use Rattle.std.proofs.lemmas.Bool.{and_parts, and_from, or_left, or_right, or_cases}
 use Rattle.std.proofs.lemmas.List.Folds.{list_any-append, list_all-append}
+use Rattle.std.proofs.Math.Bool.{or-false, and-true}
+use Rattle.list_lemmas.proofs.Booleans.{and_assoc_left}
 use Rattle.pals_base.specs.Steps.{upwards}
 use Rattle.pals_base.proofs.Upwards.{upwards-more}
 use Rattle.run_monitor.specs.Times.{rounds_to, rounds_after, previously, once, always, since}
 
 -- ---- tests
-or_false : (a : Bool) → (a || false) ≡ a
-or_false true = refl
-or_false false = refl
-
-and_true : (a : Bool) → (a && true) ≡ a
-and_true true = refl
-and_true false = refl
 
 either_and : (a b c : Bool) → ((a && c) || (b && c)) ≡ ((a || b) && c)
 either_and true true true = refl
@@ -23,27 +18,23 @@ either_and true false true = refl
 either_and true false false = refl
 either_and false b c = refl
 
-and_assoc : (a b c : Bool) → (a && (b && c)) ≡ ((a && b) && c)
-and_assoc true b c = refl
-and_assoc false b c = refl
-
 -- ---- one round more
 rounds-more : (n : ℕ) → rounds_to (suc n) ≡ rounds_to n ++ suc n ∷ []
 rounds-more n = upwards-more 0 (suc n) ∙ ap (λ k. rounds_to n ++ k ∷ []) (omega arith)
 
 pub once-first : (p : ℕ → Bool) → once p 0 ≡ p 0
-once-first p = or_false (p 0)
+once-first p = or-false (p 0)
 
 pub once-next : (p : ℕ → Bool) (n : ℕ) → once p (suc n) ≡ (once p n || p (suc n))
 once-next p n =
-    ap (list_any p) (rounds-more n) ∙ list_any-append p (rounds_to n) (suc n ∷ []) ∙ ap (λ b. once p n || b) (or_false (p (suc n)))
+    ap (list_any p) (rounds-more n) ∙ list_any-append p (rounds_to n) (suc n ∷ []) ∙ ap (λ b. once p n || b) (or-false (p (suc n)))
 
 pub always-first : (p : ℕ → Bool) → always p 0 ≡ p 0
-always-first p = and_true (p 0)
+always-first p = and-true (p 0)
 
 pub always-next : (p : ℕ → Bool) (n : ℕ) → always p (suc n) ≡ (always p n && p (suc n))
 always-next p n =
-    ap (list_all p) (rounds-more n) ∙ list_all-append p (rounds_to n) (suc n ∷ []) ∙ ap (λ b. always p n && b) (and_true (p (suc n)))
+    ap (list_all p) (rounds-more n) ∙ list_all-append p (rounds_to n) (suc n ∷ []) ∙ ap (λ b. always p n && b) (and-true (p (suc n)))
 
 -- the rounds after m are one more, where m is not the last
 after-more : (m n : ℕ) → m ≤ n → rounds_after m (suc n) ≡ rounds_after m n ++ suc n ∷ []
@@ -61,11 +52,11 @@ held_since p q n m = q m && list_all p (rounds_after m n)
 held-more : (p q : ℕ → Bool) (m n : ℕ) → m ≤ n → held_since p q (suc n) m ≡ (held_since p q n m && p (suc n))
 held-more p q m n within =
     ap (λ ks. q m && list_all p ks) (after-more m n within)
-    ∙ ap (λ b. q m && b) (list_all-append p (rounds_after m n) (suc n ∷ []) ∙ ap (λ b. list_all p (rounds_after m n) && b) (and_true (p (suc n))))
-    ∙ and_assoc (q m) (list_all p (rounds_after m n)) (p (suc n))
+    ∙ ap (λ b. q m && b) (list_all-append p (rounds_after m n) (suc n ∷ []) ∙ ap (λ b. list_all p (rounds_after m n) && b) (and-true (p (suc n))))
+    ∙ and_assoc_left (q m) (list_all p (rounds_after m n)) (p (suc n))
 
 held-now : (p q : ℕ → Bool) (n : ℕ) → held_since p q n n ≡ q n
-held-now p q n = ap (λ ks. q n && list_all p ks) (after-none n) ∙ and_true (q n)
+held-now p q n = ap (λ ks. q n && list_all p ks) (after-none n) ∙ and-true (q n)
 
 any-more : (p q : ℕ → Bool) (n from count : ℕ) → from + count ≤ suc n
     → list_any (held_since p q (suc n)) (upwards from count) ≡ (list_any (held_since p q n) (upwards from count) && p (suc n))
@@ -75,13 +66,13 @@ any-more p q n from (suc count) within =
     ∙ either_and (held_since p q n from) (list_any (held_since p q n) (upwards (suc from) count)) (p (suc n))
 
 pub since-first : (p q : ℕ → Bool) → since p q 0 ≡ q 0
-since-first p q = or_false (held_since p q 0 0) ∙ held-now p q 0
+since-first p q = or-false (held_since p q 0 0) ∙ held-now p q 0
 
 pub since-next : (p q : ℕ → Bool) (n : ℕ) → since p q (suc n) ≡ ((since p q n && p (suc n)) || q (suc n))
 since-next p q n =
     ap (list_any (held_since p q (suc n))) (rounds-more n)
     ∙ list_any-append (held_since p q (suc n)) (rounds_to n) (suc n ∷ [])
-    ∙ ap₂ (λ a b. a || b) (any-more p q n 0 (suc n) (omega arith)) (or_false (held_since p q (suc n) (suc n)) ∙ held-now p q (suc n))
+    ∙ ap₂ (λ a b. a || b) (any-more p q n 0 (suc n) (omega arith)) (or-false (held_since p q (suc n) (suc n)) ∙ held-now p q (suc n))
 
 -- ---- what they say of the rounds up to one is all that they look at
 abbrev pub AgreeTo : (ℕ → Bool) → (ℕ → Bool) → ℕ → Type 0

@@ -4,7 +4,7 @@ use Rattle.std.specs.List.{list_any, position_from}
 use Rattle.std.specs.Option.{option_map, option_or}
 use Rattle.std.proofs.lemmas.Bool.{or_from, or_left, or_right, false≢true}
 use Rattle.std.proofs.lemmas.Iterator.Adapters.{position_from-zero}
-use Rattle.std.proofs.lemmas.Option.{slice_get-map}
+use Rattle.list_lemmas.proofs.Places.{slice_get-map_some}
 use Rattle.pals_base.specs.declared.values.Frame.{Frame}
 use Rattle.pals_base.specs.Steps.{upwards}
 use Rattle.pals_base.proofs.Upwards.{upwards-more}
@@ -70,9 +70,6 @@ said_of test [] k b is = absurd (cc)
 said_of test (f ∷ fs) zero b is = (f, refl, cc)
 said_of test (f ∷ fs) (suc k) b is = said_of test fs k b is
 
-pub mapped_at : {X Y : Type 0} (f : X → Y) (xs : List X) (k : ℕ) (x : X) → slice_get xs k ≡ Some x → slice_get (map f xs) k ≡ Some (f x)
-mapped_at f xs k x is = slice_get-map f xs k ∙ ap (option_map f) is
-
 -- ---- the first round
 module _ (fs : List Formula) (h : List (List Frame)) where
   abbrev violated_at : ℕ → Bool
@@ -102,7 +99,7 @@ module _ (fs : List Formula) (h : List (List Frame)) where
     any : list_any violated_at (upwards from count) ≡ true
 
   all_hold : (round : ℕ) → AllTrue 0 (verdicts fs h round) → Holds round
-  all_hold round none k f is = none.each k (holds f h round) (mapped_at (says round) fs k f is)
+  all_hold round none k f is = none.each k (holds f h round) (slice_get-map_some (says round) fs k f is)
 
   no_violation : (round : ℕ) → AllTrue 0 (verdicts fs h round) → violation_at fs h round ≡ None
   no_violation round none =
@@ -137,7 +134,7 @@ module _ (fs : List Formula) (h : List (List Frame)) where
         is = there.1;
         false_there = there.2;
         before = λ r low high. absurd (omega arith);
-        first = λ j g below is. found.before j (holds g h from) below (mapped_at (says from) fs j g is);
+        first = λ j g below is. found.before j (holds g h from) below (slice_get-map_some (says from) fs j g is);
         finds = ap (λ o. option_or o (later from count)) (a_violation from found);
         any = or_left (violated_at from) (list_any violated_at (upwards (suc from) count)) found.any;
       })

@@ -12,6 +12,7 @@ use Rattle.std.proofs.lemmas.Iterator.Adapters.{position_from-zero}
 use Rattle.std.proofs.lemmas.Map.Text.{btree_map_updates_text}
 use Rattle.std.proofs.lemmas.Option.{slice_get_within}
 use Rattle.std.proofs.lemmas.Slice.Eq.{bytes_eq-Decides}
+use Rattle.std.specs.Cmp.{both_ways}
 use Rattle.pals_model.proofs.Lookups.{found_at}
 use Rattle.scenario_values.specs.proof.NameTables.{Numbers}
 
@@ -57,16 +58,9 @@ find_at test xs n found =
 pub find_none : {X : Type 0} (test : X → Bool) (xs : List X) → position test xs ≡ None → find test xs ≡ None
 find_none test xs none = none_seen test xs 0 (sym (position_from-zero test xs) ∙ none)
 
--- equality of bytes, from the other side
-both : (a b : Bool) → (a ≡ true → b ≡ true) → (b ≡ true → a ≡ true) → a ≡ b
-both true true there back = refl
-both true false there back = sym (there refl)
-both false true there back = back refl
-both false false there back = refl
-
 pub bytes_eq_turned : (xs ys : List ℕ) → bytes_eq xs ys ≡ bytes_eq ys xs
 bytes_eq_turned xs ys =
-    both (bytes_eq xs ys) (bytes_eq ys xs) (λ e. (bytes_eq-Decides ys xs).1 (sym ((bytes_eq-Decides xs ys).0 e))) (λ e. (bytes_eq-Decides xs ys).1 (sym ((bytes_eq-Decides ys xs).0 e)))
+    both_ways (bytes_eq xs ys) (bytes_eq ys xs) (λ e. (bytes_eq-Decides ys xs).1 (sym ((bytes_eq-Decides xs ys).0 e))) (λ e. (bytes_eq-Decides xs ys).1 (sym ((bytes_eq-Decides ys xs).0 e)))
 
 -- one more name in a table, before those that are in it
 pub table_turn : (table new : BTreeMap (String Global) ℕ) (names : List (String Global)) (n m : ℕ) (name : String Global) → m ≡ n → n < length names → name ≡ get_or names n name

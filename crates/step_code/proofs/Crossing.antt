@@ -2,34 +2,29 @@
 use Rattle.std.proofs.Common.{◌≡◌, ◌∙◌, ℕ, zero, suc, ◌<◌, ◌≤◌, Bool, true, false, ◌&&◌, ◌||◌, if◌then◌else◌, cond, List, [], ◌∷◌, length, Option, Some, None, refl, sym, ap, subst, ⊎_elim, arith, nat_lt, nat_eq, slice_index_or}
 use Rattle.std.specs.Prelude.{not, filter}
 use Rattle.std.specs.List.{list_all, list_any}
-use Rattle.std.proofs.lemmas.Bool.{and_parts, ltb-true, cases_lt, false≢true}
+use Rattle.std.proofs.lemmas.Bool.{and_parts, ltb-true, cases_lt, false≢true, le-ltb, lt-ltb}
+use Rattle.std.proofs.Math.Bool.{and-false}
+use Rattle.std.specs.Cmp.{both_ways}
 use Rattle.step_code.specs.declared.instr.Instr.{Instr}
 use Rattle.step_code.specs.declared.loops.Loop.{Loop}
 use Rattle.step_code.specs.Loops.{loop_at, with_loop, loops_below, around}
 use Rattle.step_code.specs.proof.Innermost.{first, innermost, AreInnermost, ends_by, starts_from}
 use Rattle.step_code.specs.proof.Rules.{inside, agrees, stays, strays}
-use Rattle.step_code.proofs.Nesting.{loop_is, lt_true, all_below, agree_same, filter_below}
+use Rattle.step_code.proofs.Nesting.{loop_is, all_below, agree_same, filter_below}
 use Rattle.step_code.proofs.Innermost.{is_found, read_innermost}
 
 -- the exit jumps of the loops that start below a place part no bodies and go forward
 pub record AreClosed (code : List Instr) (p : ℕ) : Type 0 where
   pub each : (k : ℕ) (l : Loop) → k < p → loop_at code k ≡ Some l → (stays code k l.exit ≡ true) × (k < l.exit)
 
-pub lt_false : (a b : ℕ) → b ≤ a → nat_lt a b ≡ false
-lt_false a b le = grind arith
-
 pub is_inside : (p : ℕ) (l : Loop) → l.start < p → p < l.exit → inside p l ≡ true
-is_inside p l after before = ap (λ b. b && nat_lt p l.exit) (lt_true l.start p after) ∙ lt_true p l.exit before
+is_inside p l after before = ap (λ b. b && nat_lt p l.exit) (lt-ltb l.start p after) ∙ lt-ltb p l.exit before
 
 pub not_after : (p : ℕ) (l : Loop) → p ≤ l.start → inside p l ≡ false
-not_after p l le = ap (λ b. b && nat_lt p l.exit) (lt_false l.start p le)
-
-not_before_by : (b : Bool) → (b && false) ≡ false
-not_before_by true = refl
-not_before_by false = refl
+not_after p l le = ap (λ b. b && nat_lt p l.exit) (le-ltb l.start p le)
 
 pub not_before : (p : ℕ) (l : Loop) → l.exit ≤ p → inside p l ≡ false
-not_before p l le = ap (λ b. nat_lt l.start p && b) (lt_false p l.exit le) ∙ not_before_by (nat_lt l.start p)
+not_before p l le = ap (λ b. nat_lt l.start p && b) (le-ltb p l.exit le) ∙ and-false (nat_lt l.start p)
 
 not_le_by : (a b : ℕ) (t : Bool) → nat_lt a b ≡ t → not t ≡ false → a < b
 not_le_by a b true is not_it = ltb-true a b is
@@ -148,7 +143,7 @@ stay_low code low high k m None le small closed is ends at lies =
     let before = a.before in
     let start = (loop_is code k m at).start in
     let none = subst (IsInnermost code low) is (innermost_is code low) in
-    absurd (none k m (omega arith) at (lt_true low m.exit before))
+    absurd (none k m (omega arith) at (lt-ltb low m.exit before))
 stay_low code low high k m (Some l) le small closed is ends at lies =
     let a = inside_is low m lies in
     let after = a.after in
@@ -157,7 +152,7 @@ stay_low code low high k m (Some l) le small closed is ends at lies =
     let f = is_found code low (λ x. nat_lt low x.exit) l is in
     let below = f.below in
     let top =
-    (subst (IsInnermost code low) is (innermost_is code low)) k m (omega arith) at (lt_true low m.exit before) in
+    (subst (IsInnermost code low) is (innermost_is code low)) k m (omega arith) at (lt-ltb low m.exit before) in
     let going : high < l.exit = not_le high l.exit ends in
     let exits : l.exit ≤ m.exit =
     ⊎_elim
@@ -175,14 +170,14 @@ stay_high code low high k m None le is starts at out lies =
     let a = inside_is high m lies in
     let after = a.after in
     let start = (loop_is code k m at).start in
-    (subst (IsInnermost code high) is (innermost_is code high)) k m (omega arith) at (lt_true high m.exit a.before)
+    (subst (IsInnermost code high) is (innermost_is code high)) k m (omega arith) at (lt-ltb high m.exit a.before)
 stay_high code low high k m (Some h) le is starts at out lies =
     let a = inside_is high m lies in
     let after = a.after in
     let before = a.before in
     let start = (loop_is code k m at).start in
     let top =
-    (subst (IsInnermost code high) is (innermost_is code high)) k m (omega arith) at (lt_true high m.exit before) in
+    (subst (IsInnermost code high) is (innermost_is code high)) k m (omega arith) at (lt-ltb high m.exit before) in
     let less : h.start < low = not_le h.start low starts in
     false≢true (sym out ∙ is_inside low m (omega arith) (omega arith))
 
@@ -252,7 +247,7 @@ stays-swapped code p q =
 
 -- ---- whether a jump goes to no place, or into or out of a body, from a list of innermost loops
 there_not : (code : List Instr) (p q : ℕ) → q < length code → not (stays code p q) ≡ strays code p q
-there_not code p q there = sym (ap (λ b. not (b && stays code p q)) (lt_true q (length code) there))
+there_not code p q there = sym (ap (λ b. not (b && stays code p q)) (lt-ltb q (length code) there))
 
 pub strays_up : (code : List Instr) (found : List (Option Loop)) (from to : ℕ) (e s : Bool) (d : Option Loop)
     → AreInnermost code found → length found ≡ length code → from ≤ to → to < length code → AreClosed code from
@@ -278,10 +273,6 @@ strays_down code found from to e s d are count le there closed ends starts =
     ∙ there_not code from to (omega arith)
 
 -- ---- the loops round a place are the innermost one and those round its start
-cases_same : (b c : Bool) → (b ≡ true → c ≡ true) → (c ≡ true → b ≡ true) → b ≡ c
-cases_same true c to back = sym (to refl)
-cases_same false true to back = back refl
-cases_same false false to back = refl
 
 pub around_outer : (code : List Instr) (p : ℕ) (l : Loop) → p ≤ length code → AreClosed code p
     → innermost code p ≡ Some l → around code p ≡ l ∷ around code l.start
@@ -293,10 +284,10 @@ around_outer code p l small closed is =
     f.rest g (λ m kept. kept)
     ∙ ap (λ b. cond b (l ∷ filter g (loops_below code l.start)) (filter g (loops_below code l.start))) f.kept
     ∙ ap (λ ls. l ∷ ls) (filter_below code g (λ m. nat_lt l.start m.exit) l.start (λ k m less at.
-    cases_same (nat_lt p m.exit) (nat_lt l.start m.exit)
-    (λ kept. let beyond = ltb-true p m.exit kept in lt_true l.start m.exit (omega arith))
+    both_ways (nat_lt p m.exit) (nat_lt l.start m.exit)
+    (λ kept. let beyond = ltb-true p m.exit kept in lt-ltb l.start m.exit (omega arith))
     (λ kept. let more = within_exit code p k l m small closed f.is f.below at less (ltb-true l.start m.exit kept) in
-    lt_true p m.exit (omega arith))))
+    lt-ltb p m.exit (omega arith))))
 
 -- ---- whether one of them has a slot
 abbrev pub has_slot : ℕ → List Loop → Bool

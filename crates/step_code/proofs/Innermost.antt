@@ -2,13 +2,13 @@
 use Rattle.std.proofs.Common.{◌≡◌, ◌∙◌, ℕ, zero, suc, ◌+◌, ◌-◌, ◌<◌, ◌≤◌, Bool, true, false, cond, List, [], ◌∷◌, length, Option, Some, None, refl, sym, ap, subst, arith, nat_lt, slice_index_or}
 use Rattle.std.specs.Prelude.{filter}
 use Rattle.std.specs.Option.{option_or}
-use Rattle.std.proofs.lemmas.Bool.{ltb-true}
+use Rattle.std.proofs.lemmas.Bool.{ltb-true, lt-ltb}
 use Rattle.std.proofs.lemmas.Option.{get_or_from_slice_get}
 use Rattle.step_code.specs.declared.instr.Instr.{Instr}
 use Rattle.step_code.specs.declared.loops.Loop.{Loop}
 use Rattle.step_code.specs.Loops.{loop_at, with_loop, loops_below}
 use Rattle.step_code.specs.proof.Innermost.{first, innermost, AreInnermost, outwards, StartsBelow, ComesFrom}
-use Rattle.step_code.proofs.Nesting.{loop_is, lt_true}
+use Rattle.step_code.proofs.Nesting.{loop_is}
 
 -- the first loop that a test keeps: it is a loop, and what a stricter test keeps is it or starts below it
 pub record IsFound (code : List Instr) (n : ℕ) (g : Loop → Bool) (l : Loop) : Type 0 where
@@ -85,7 +85,7 @@ none_found g h (x ∷ xs) stricter is = none_cons g h x xs (g x) refl stricter (
 
 -- ---- candidates
 later_strict : (p q : ℕ) → p ≤ q → (m : Loop) → nat_lt q m.exit ≡ true → nat_lt p m.exit ≡ true
-later_strict p q le m is = let less = ltb-true q m.exit is in lt_true p m.exit (omega arith)
+later_strict p q le m is = let less = ltb-true q m.exit is in lt-ltb p m.exit (omega arith)
 
 starts_by : (code : List Instr) (p q : ℕ) (o : Option Loop) → innermost code p ≡ o → p ≤ q → StartsBelow q o
 starts_by code p q None is le = tt

@@ -2,6 +2,7 @@
 use Rattle.std.proofs.Common.{◌≡◌, ◌∙◌, ℕ, ◌+◌, ◌<◌, Bool, true, false, ◌&&◌, ◌||◌, List, [], ◌∷◌, ◌++◌, length, Option, Some, None, refl, sym, ap, arith, take, slice_index_or, nat_eq}
 use Rattle.std.proofs.lemmas.List.{take_more}
 use Rattle.std.proofs.lemmas.List.Folds.{list_any-append}
+use Rattle.std.proofs.Math.Bool.{and-false, or-false}
 use Rattle.step_code.specs.declared.instr.Instr.{Instr}
 use Rattle.step_code.specs.proof.Rules.{on_some, enters_badly, is_entry, is_bad_entry}
 use Rattle.step_code.specs.proof.Checks.{IsLeast}
@@ -11,18 +12,11 @@ pub least_same : (test other : ℕ → Bool) (o : Option ℕ) → ((q : ℕ) →
 least_same test other None same least = λ q. same q ∙ least q
 least_same test other (Some e) same least = (same e ∙ least.0, λ q less. same q ∙ least.1 q less)
 
-and_false : (a : Bool) → (a && false) ≡ false
-and_false true = refl
-and_false false = refl
-
 -- ---- one more entry
-or_zero : (b : Bool) → (b || false) ≡ b
-or_zero true = refl
-or_zero false = refl
 
 shared : (a b t : Bool) → ((a || b) && t) ≡ ((a && t) || (b && t))
 shared true b true = refl
-shared true b false = sym (and_false b)
+shared true b false = sym (and-false b)
 shared false b t = refl
 
 one_entry : (code : List Instr) (es : List (Option ℕ)) (x : Option ℕ) (q : ℕ)
@@ -30,7 +24,7 @@ one_entry : (code : List Instr) (es : List (Option ℕ)) (x : Option ℕ) (q : �
 one_entry code es x q =
     ap (λ b. b && enters_badly code q)
     (list_any-append (λ entry. on_some entry (nat_eq q)) es (x ∷ [])
-    ∙ ap (λ b. is_entry es q || b) (or_zero (on_some x (nat_eq q))))
+    ∙ ap (λ b. is_entry es q || b) (or-false (on_some x (nat_eq q))))
     ∙ shared (is_entry es q) (on_some x (nat_eq q)) (enters_badly code q)
 
 pub least_more : (code : List Instr) (es all : List (Option ℕ)) (i : ℕ) (x : Option ℕ) (o : Option ℕ) → all ≡ es
@@ -51,4 +45,4 @@ pub least_none : (code : List Instr) (es all : List (Option ℕ)) (i : ℕ) (o :
 least_none code es all i o same within is least =
     least_more code es all i None o same within is
     (least_same (is_bad_entry code (take i es)) (λ q. is_bad_entry code (take i es) q || false) o
-    (λ q. or_zero (is_bad_entry code (take i es) q)) least)
+    (λ q. or-false (is_bad_entry code (take i es) q)) least)

@@ -1,8 +1,9 @@
 -- What the verifier knows while it goes through the places.
-use Rattle.std.proofs.Common.{◌≡◌, ◌∙◌, ℕ, ◌<◌, ◌≤◌, Bool, true, ◌||◌, List, length, Option, Some, None, sym, ap, subst, arith}
+use Rattle.std.proofs.Common.{◌≡◌, ◌∙◌, ℕ, ◌<◌, ◌≤◌, Bool, true, List, length, Option, Some, None, sym, ap, subst, arith}
 use Rattle.std.proofs.lemmas.Bool.Decides.{nat_tests}
 use Rattle.std.specs.Option.{option_eq}
 use lib.Dec.{eqb}
+use Rattle.std.proofs.lemmas.Bool.{or_left}
 use Rattle.step_code.specs.declared.instr.CodeParts.{CodeParts}
 use Rattle.pals_base.specs.declared.limits.TheConstants.{INSTRUCTIONS}
 use Rattle.step_code.specs.proof.Rules.{is_bad_entry, jumps_badly, finds, Rule, BadJump, rank, Finds, IsCleanBelow, IsFirst}
@@ -22,15 +23,12 @@ pub record Looked (c : CodeParts) (at : ℕ) (heights : List (Option ℕ)) (entr
 none_sooner : (c : CodeParts) (p : ℕ) (r : Rule) → rank r < 0 → ¬ Finds c r p
 none_sooner c p r less = absurd (omega arith)
 
-left_true : (a b : Bool) → a ≡ true → (a || b) ≡ true
-left_true a b is = ap (λ x. x || b) is
-
 -- a bad entry is found first
 bad_first : (c : CodeParts) (e : ℕ) → length c.instrs ≤ INSTRUCTIONS → IsCleanBelow c e
     → is_bad_entry c.instrs c.entries e ≡ true → IsFirst c BadJump e
 bad_first c e short clean bad = record {
   short = short;
-  here = left_true (is_bad_entry c.instrs c.entries e) (finds c (jumps_badly c.instrs e) e) bad;
+  here = or_left (is_bad_entry c.instrs c.entries e) (finds c (jumps_badly c.instrs e) e) bad;
   earlier_places = clean;
   earlier_rules = λ r less. none_sooner c e r less;
 }

@@ -2,7 +2,7 @@
 use Rattle.std.proofs.Common.{◌≡◌, ◌∙◌, ℕ, zero, suc, ◌+◌, ◌-◌, ◌<◌, ◌≤◌, ℤ, Bool, true, false, ◌&&◌, if◌then◌else◌, cond, List, [], ◌∷◌, length, Option, Some, None, refl, sym, ap, subst, ⊎_elim, arith, add-one, nat_eq, nat_lt}
 use Rattle.std.specs.Prelude.{not, filter, slice_get, int_le}
 use Rattle.std.specs.List.{list_all}
-use Rattle.std.proofs.lemmas.Bool.{and_parts, ltb-true, false≢true, true≢false, cases_lt}
+use Rattle.std.proofs.lemmas.Bool.{and_parts, ltb-true, false≢true, true≢false, cases_lt, lt-ltb, eqb-true}
 use Rattle.std.proofs.lemmas.Option.{slice_get_within}
 use Rattle.std.proofs.lemmas.Int.{ints}
 use Rattle.pals_base.specs.Expressions.{same_number}
@@ -13,12 +13,6 @@ use Rattle.step_code.specs.Loops.{closes, loop_from, loop_at, with_loop, loops_b
 use Rattle.step_code.proofs.Nested.{Free, On, Nests, IsNested}
 use Rattle.step_code.specs.proof.Rules.{inside, agrees, stays}
 use Rattle.step_code.proofs.Clean.{Jumps, IsEnd, Clean, IsClean}
-
-pub lt_true : (a b : ℕ) → a < b → nat_lt a b ≡ true
-lt_true a b lt = grind arith
-
-same_nat : (a b : ℕ) → nat_eq a b ≡ true → a ≡ b
-same_nat a b is = grind arith
 
 same_int : (a b : ℤ) → same_number a b ≡ true → a ≡ b
 same_int a b is = let both = and_parts (int_le a b) (int_le b a) is in grind (arith, ints)
@@ -57,7 +51,7 @@ next_by : (l : Loop) (o : Option Instr) → closes l o ≡ true → IsNext l o
 next_by l (Some (LoopNext slot high to)) is =
     let parts = and_parts (nat_eq slot l.slot && same_number high l.high) (nat_eq to (l.start + 1)) is in
     let more = and_parts (nat_eq slot l.slot) (same_number high l.high) parts.0 in
-    (same_nat slot l.slot more.0, same_int high l.high more.1, same_nat to (l.start + 1) parts.1)
+    (eqb-true slot l.slot more.0, same_int high l.high more.1, eqb-true to (l.start + 1) parts.1)
 next_by l None is = absurd (false≢true is)
 next_by l (Some other) is = absurd (false≢true is)
 
@@ -140,7 +134,7 @@ start_inside : (code : List Instr) (p : ℕ) (i : Instr) (l : Loop) → slice_ge
     → loop_at code p ≡ Some l → p < l.exit → around code (p + 1) ≡ l ∷ around code p
 start_inside code p i l is not_next opens later =
     let lies : nat_lt (p + 1) l.exit ≡ true = beyond p l.exit (no_end code p i p l is not_next opens)
-    ∙ lt_true p l.exit later in
+    ∙ lt-ltb p l.exit later in
     around_next code p (Some l) opens
     ∙ ap (λ b. cond b (l ∷ filter (λ m. nat_lt (p + 1) m.exit) (loops_below code p))
     (filter (λ m. nat_lt (p + 1) m.exit) (loops_below code p))) lies
@@ -221,8 +215,8 @@ module _ (code : List Instr) (vars : ℕ) (clean : IsClean code vars) where
       let same =
       agree_same (inside k l) (inside m.exit l)
       (all_below (agrees k m.exit) code (length code) s l jumps.within n_s outer) in
-      let lies : inside k l ≡ true = ap (λ x. x && nat_lt k l.exit) (lt_true l.start k (omega arith))
-      ∙ lt_true k l.exit within in
+      let lies : inside k l ≡ true = ap (λ x. x && nat_lt k l.exit) (lt-ltb l.start k (omega arith))
+      ∙ lt-ltb k l.exit within in
       ltb-true m.exit l.exit (and_parts (nat_lt l.start m.exit) (nat_lt m.exit l.exit) (sym same ∙ lies)).1
 
   -- the loops round the last place of a body, seen from a place q there

@@ -1,9 +1,9 @@
 -- Heights that are passed on.
-use Rattle.std.proofs.Common.{◌≡◌, inl, inr, ℕ, ◌<◌, ◌≤◌, List, [], ◌∷◌, ◌++◌, length, Option, Some, None, option_to_list, refl, sym, subst, ⊎_elim, arith}
+use Rattle.std.proofs.Common.{◌≡◌, inl, inr, ℕ, ◌<◌, List, [], ◌∷◌, ◌++◌, length, Option, Some, None, option_to_list, refl, sym, subst, ⊎_elim}
 use Rattle.std.specs.Prelude.{◌⊎◌, slice_set}
-use Rattle.std.proofs.lemmas.Bool.{cases_lt}
 use Rattle.std.proofs.lemmas.List.{length-set}
 use Rattle.std.proofs.lemmas.Option.{slice_get-get_or}
+use Rattle.std.proofs.lemmas.Bool.{cases_eq}
 use Rattle.step_code.specs.declared.instr.Instr.{Instr}
 use Rattle.step_code.specs.Paths.{jump_of, next_of, onward}
 use Rattle.step_code.specs.proof.Heights.{Member}
@@ -24,12 +24,6 @@ member_either [] ys x among = inr among
 member_either (z ∷ xs) ys x among =
     ⊎_elim (λ e. inl (inl e)) (λ later. ⊎_elim (λ a. inl (inr a)) (λ b. inr b) (member_either xs ys x later)) among
 
-pub same_or_not : (p q : ℕ) → (p ≡ q) ⊎ (p ≡ q → ⊥)
-same_or_not p q =
-    ⊎_elim (λ (less : p < q). inr (λ e. omega arith))
-    (λ (ge : q ≤ p). ⊎_elim (λ (less : q < p). inr (λ e. omega arith)) (λ (le : p ≤ q). inl (omega arith))
-    (cases_lt q p)) (cases_lt p q)
-
 pub member_or_not : (ps : List ℕ) (p : ℕ) → Member ps p ⊎ (Member ps p → ⊥)
 member_or_not [] p = inr (λ among. among)
 member_or_not (q ∷ ps) p =
@@ -38,7 +32,7 @@ member_or_not (q ∷ ps) p =
     (λ (other : q ≡ p → ⊥). ⊎_elim (λ (a : Member ps p). inl (inr a))
     (λ (none : Member ps p → ⊥). inr (λ among. ⊎_elim (λ e. other e) (λ later. none later) among))
     (member_or_not ps p))
-    (same_or_not q p)
+    (cases_eq q p)
 
 -- ---- one place set
 pub place_there : (n : ℕ) (o : Option ℕ) (p : ℕ) → o ≡ Some p → AreThere (option_to_list o) n → p < n

@@ -1,8 +1,9 @@
 -- What the verifier knows behind a place.
 use Rattle.std.proofs.Common.{◌≡◌, ◌∙◌, ℕ, zero, suc, ◌+◌, ◌<◌, ◌≤◌, Bool, true, false, ◌||◌, List, length, Option, Some, None, option_to_list, sym, ap, subst, ⊎_elim, arith, slice_index_or}
 use Rattle.std.specs.Prelude.{not, nat_lt, if◌then◌else◌, Result, Ok, Err, IfErr, OnOk, slice_get}
-use Rattle.std.proofs.lemmas.Bool.{cases_lt, false≢true}
+use Rattle.std.proofs.lemmas.Bool.{cases_lt, false≢true, cases_eq}
 use Rattle.std.proofs.lemmas.Option.{slice_get_within, slice_get-get_or}
+use Rattle.list_lemmas.proofs.Booleans.{or_false_left, or_false_right}
 use Rattle.step_code.specs.declared.instr.Instr.{Instr}
 use Rattle.step_code.specs.declared.instr.Instr.TheVariants.{Store, Jump, JumpZero, LoopStart, LoopNext, Emit, End}
 use Rattle.step_code.specs.declared.instr.CodeParts.{CodeParts}
@@ -13,9 +14,9 @@ use Rattle.step_code.specs.Paths.{jump_of, may_go_on, next_of, onward}
 use Rattle.step_code.specs.proof.Heights.{takes, after, Member, Reaches, ComesFromBelow, Given, ways}
 use Rattle.step_code.specs.proof.Rules.{strays, lacks_next, jumps_badly, jumps_back, lacks_loop, misses_slot, is_bad_entry, on_some, finds, Underflows, Differs, Rule, BadJump, BackJump, BadSlot, Underflow, HeightsDiffer, rank, Finds, IsCleanBelow, IsFirst, IsFaultOf}
 use Rattle.step_code.specs.proof.Checks.{Holds, Clashes, AreThere, AreHeights, PassesOn, Disagrees, Passed}
-use Rattle.step_code.proofs.Refusals.{IsSound, or_left, or_right, goes_well}
+use Rattle.step_code.proofs.Refusals.{IsSound, goes_well}
 use Rattle.step_code.proofs.Crossing.{not_le}
-use Rattle.step_code.proofs.Passing.{member_right, member_either, same_or_not, member_or_not}
+use Rattle.step_code.proofs.Passing.{member_right, member_either, member_or_not}
 
 -- ---- the stack is no higher than the place
 after_little : (h : ℕ) (i : Instr) → after h i ≤ h + 1
@@ -99,7 +100,7 @@ agreed : (heights : List (Option ℕ)) (places : List ℕ) (t k a : ℕ) → ¬ 
 agreed heights places t k a none among held =
     ⊎_elim (λ (e : k ≡ a). e)
     (λ (other : k ≡ a → ⊥). absurd
-    (none (record { place = t; among = among; other = k; held = held; differs = other }))) (same_or_not k a)
+    (none (record { place = t; among = among; other = k; held = held; differs = other }))) (cases_eq k a)
 
 still_held : (old new : List (Option ℕ)) (p h t k : ℕ) (i : Instr) → PassesOn old new p i h → Holds old t k
     → Holds new t k
@@ -192,11 +193,11 @@ known_there c p i known =
           ⊎_elim
           (λ (a : Member (option_to_list (jump_of i)) t).
           (goes_well c.instrs p t (on_jump (jump_of i) t (strays c.instrs p)
-          (or_left (on_some (jump_of i) (strays c.instrs p)) (lacks_next c.instrs p i) jumps) a)).there)
+          (or_false_left (on_some (jump_of i) (strays c.instrs p)) (lacks_next c.instrs p i) jumps) a)).there)
           (λ (b : Member (option_to_list (next_of p i)) t).
           not_le t (length c.instrs)
           (on_jump (next_of p i) t (λ next. not (nat_lt next (length c.instrs)))
-          (or_right (on_some (jump_of i) (strays c.instrs p)) (lacks_next c.instrs p i) jumps) b))
+          (or_false_right (on_some (jump_of i) (strays c.instrs p)) (lacks_next c.instrs p i) jumps) b))
           (member_either (option_to_list (jump_of i)) (option_to_list (next_of p i)) t among);
     }
 
@@ -206,7 +207,7 @@ known_later c p i known = record {
       ⊎_elim
       (λ (a : Member (option_to_list (jump_of i)) t).
       not_le p t (on_jump (jump_of i) t (λ to. not (nat_lt p to))
-      (or_left (on_some (jump_of i) (λ to. not (nat_lt p to))) (lacks_loop c.instrs p i)
+      (or_false_left (on_some (jump_of i) (λ to. not (nat_lt p to))) (lacks_loop c.instrs p i)
       known.sound.forward) a))
       (λ (b : Member (option_to_list (next_of p i)) t). next_by p t (may_go_on i) b)
       (member_either (option_to_list (jump_of i)) (option_to_list (next_of p i)) t among);

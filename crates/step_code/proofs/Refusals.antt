@@ -1,7 +1,8 @@
 -- What it says of an instruction that a rule finds nothing there.
 use Rattle.std.proofs.Common.{◌≡◌, ◌∙◌, ℕ, ◌<◌, Bool, true, false, ◌&&◌, ◌||◌, IsTrue, List, length, Some, refl, sym, ap, nat_lt}
 use Rattle.std.specs.Prelude.{not, slice_get}
-use Rattle.std.proofs.lemmas.Bool.{and_parts, ltb-true}
+use Rattle.std.proofs.lemmas.Bool.{and_parts, ltb-true, not-false}
+use Rattle.list_lemmas.proofs.Booleans.{or_false_left, or_false_right}
 use Rattle.step_code.specs.declared.instr.Instr.{Instr}
 use Rattle.step_code.specs.declared.instr.Instr.TheVariants.{LoopStart}
 use Rattle.step_code.specs.declared.instr.CodeParts.{CodeParts}
@@ -12,18 +13,6 @@ use Rattle.step_code.proofs.Crossing.{AreClosed, not_le}
 pub untrue : (b : Bool) → ¬ IsTrue b → b ≡ false
 untrue true none = absurd (none refl)
 untrue false none = refl
-
-pub or_left : (a b : Bool) → (a || b) ≡ false → a ≡ false
-or_left true b is = is
-or_left false b is = refl
-
-pub or_right : (a b : Bool) → (a || b) ≡ false → b ≡ false
-or_right true b is = cc
-or_right false b is = is
-
-pub not_false : (b : Bool) → not b ≡ false → b ≡ true
-not_false true is = refl
-not_false false is = cc
 
 -- what no rule finds at an instruction
 pub record IsSound (c : CodeParts) (p : ℕ) (i : Instr) : Type 0 where
@@ -38,7 +27,7 @@ is_sound c p i none is =
     record {
       jumps =
           sym (here (jumps_badly c.instrs p))
-          ∙ or_right (is_bad_entry c.instrs c.entries p) (finds c (jumps_badly c.instrs p) p)
+          ∙ or_false_right (is_bad_entry c.instrs c.entries p) (finds c (jumps_badly c.instrs p) p)
           (untrue (is_bad_entry c.instrs c.entries p || finds c (jumps_badly c.instrs p) p) (none BadJump));
       forward = sym (here (jumps_back c.instrs p)) ∙ untrue (finds c (jumps_back c.instrs p) p) (none BackJump);
       slots = sym (here (misses_slot c p)) ∙ untrue (finds c (misses_slot c p) p) (none BadSlot);
@@ -53,7 +42,7 @@ pub goes_well : (code : List Instr) (p to : ℕ) → strays code p to ≡ false 
 goes_well code p to is =
     let both =
     and_parts (nat_lt to (length code)) (stays code p to)
-    (not_false (nat_lt to (length code) && stays code p to) is) in
+    (not-false (nat_lt to (length code) && stays code p to) is) in
     record { there = ltb-true to (length code) both.0; within = both.1 }
 
 pub clean_closed : (c : CodeParts) (p : ℕ) → IsCleanBelow c p → AreClosed c.instrs p
@@ -61,6 +50,6 @@ clean_closed c p clean = record {
   each = λ k l less at.
       let i = LoopStart l.slot l.low l.high l.exit in
       let sound = is_sound c k i (λ r. clean.none k r less) (loop_is c.instrs k l at).opens in
-      let well = goes_well c.instrs k l.exit (or_left (strays c.instrs k l.exit) _ sound.jumps) in
-      (well.within, not_le k l.exit (or_left (not (nat_lt k l.exit)) _ sound.forward));
+      let well = goes_well c.instrs k l.exit (or_false_left (strays c.instrs k l.exit) _ sound.jumps) in
+      (well.within, not_le k l.exit (or_false_left (not (nat_lt k l.exit)) _ sound.forward));
 }

@@ -1,7 +1,8 @@
 -- Verified code is clean, level and fed, as the laws take it.
 use Rattle.std.proofs.Common.{◌≡◌, ◌∙◌, ℕ, zero, suc, ◌+◌, ◌<◌, ◌≤◌, true, false, List, [], ◌∷◌, length, Option, Some, None, refl, sym, ap, ⊎_elim, arith, nat_eq, nat_lt}
-use Rattle.std.specs.Prelude.{ℤ, ◌≢◌, not, slice_get}
-use Rattle.std.proofs.lemmas.Bool.{cases_lt, false≢true}
+use Rattle.std.specs.Prelude.{ℤ, not, slice_get}
+use Rattle.std.proofs.lemmas.Bool.{cases_lt, false≢true, ltb-false, eqb-true, eqb-false, cases_eq, not-false}
+use Rattle.list_lemmas.proofs.Booleans.{or_false_left, or_false_right}
 use Rattle.step_code.specs.declared.instr.Instr.{Instr}
 use Rattle.step_code.specs.declared.instr.Instr.TheVariants.{Load, Store, Port, Fresh, Jump, JumpZero, LoopStart, LoopNext, Emit, End}
 use Rattle.step_code.specs.declared.instr.CodeParts.{CodeParts}
@@ -15,8 +16,7 @@ use Rattle.step_code.proofs.Clean.{Jumps, IsEnd, Clean}
 use Rattle.step_code.proofs.Nesting.{loop_is, clean_nested}
 use Rattle.step_code.proofs.Steady.{IsLevel, IsFed}
 use Rattle.step_code.proofs.Crossing.{not_le, has_slot}
-use Rattle.step_code.proofs.Refusals.{or_left, or_right, not_false, goes_well}
-use Rattle.step_code.proofs.Passing.{same_or_not}
+use Rattle.step_code.proofs.Refusals.{goes_well}
 use Rattle.step_code.proofs.Placing.{IsKnown, known_there}
 use Rattle.step_code.proofs.Verified.{verified_known, verified_closed}
 
@@ -29,20 +29,11 @@ loop_there : (o : Option Loop) → not (on_some o (λ l. true)) ≡ false → (l
 loop_there None is = cc
 loop_there (Some l) is = (l, refl)
 
-le_of : (a b : ℕ) → nat_lt a b ≡ false → b ≤ a
-le_of a b is = grind arith
-
-eq_of : (a b : ℕ) → nat_eq a b ≡ true → a ≡ b
-eq_of a b is = grind arith
-
-differ_by : (a b : ℕ) → nat_eq a b ≡ false → a ≢ b
-differ_by a b is = grind arith
-
 free_of : (ls : List Loop) (slot : ℕ) → has_slot slot ls ≡ false → Free ls slot
 free_of [] slot is = tt
 free_of (l ∷ ls) slot is = (
-  differ_by l.slot slot (or_left (nat_eq l.slot slot) (has_slot slot ls) is),
-  free_of ls slot (or_right (nat_eq l.slot slot) (has_slot slot ls) is),
+  eqb-false l.slot slot (or_false_left (nat_eq l.slot slot) (has_slot slot ls) is),
+  free_of ls slot (or_false_right (nat_eq l.slot slot) (has_slot slot ls) is),
 )
 
 end_by : (c : CodeParts) (p slot to start : ℕ) (high : ℤ) (o : Option Loop) → IsVerified c
@@ -51,7 +42,7 @@ end_by : (c : CodeParts) (p slot to start : ℕ) (high : ℤ) (o : Option Loop) 
 end_by c p slot to start high None v is at found = absurd (false≢true found)
 end_by c p slot to start high (Some l) v is at found =
     let opens = (loop_is c.instrs start l at).opens in
-    let exit = eq_of l.exit (p + 1) found in
+    let exit = eqb-true l.exit (p + 1) found in
     let forward = ((verified_closed c (start + 1) v).each start l (omega arith) at).1 in
     let below : start < p = ⊎_elim
     (λ (less : start < p). less)
@@ -70,28 +61,28 @@ is_end c p slot (suc start) high v is found =
 
 cleans : (c : CodeParts) (p : ℕ) (i : Instr) → IsVerified c → IsKnown c p i → Clean c.instrs c.vars p i
 cleans c p (Jump to) v k =
-    goes c p to (or_left (strays c.instrs p to) false k.sound.jumps) (or_left (not (nat_lt p to)) false k.sound.forward)
+    goes c p to (or_false_left (strays c.instrs p to) false k.sound.jumps) (or_false_left (not (nat_lt p to)) false k.sound.forward)
 cleans c p (JumpZero to) v k = (
-  goes c p to (or_left (strays c.instrs p to) (lacks_next c.instrs p (JumpZero to)) k.sound.jumps)
-      (or_left (not (nat_lt p to)) false k.sound.forward),
+  goes c p to (or_false_left (strays c.instrs p to) (lacks_next c.instrs p (JumpZero to)) k.sound.jumps)
+      (or_false_left (not (nat_lt p to)) false k.sound.forward),
   not_le (p + 1) (length c.instrs)
-      (or_right (strays c.instrs p to) (lacks_next c.instrs p (JumpZero to)) k.sound.jumps),
+      (or_false_right (strays c.instrs p to) (lacks_next c.instrs p (JumpZero to)) k.sound.jumps),
 )
 cleans c p (LoopStart slot low high exit) v k =
     let i = LoopStart slot low high exit in
     let slots = k.sound.slots in
-    let no_loop = or_left (is_no_loop_slot c slot) (has_slot slot (around c.instrs p)) slots in (
-      goes c p exit (or_left (strays c.instrs p exit) (lacks_next c.instrs p i) k.sound.jumps)
-          (or_left (not (nat_lt p exit)) (not (on_some (loop_at c.instrs p) (λ l. true))) k.sound.forward),
-      not_le (p + 1) (length c.instrs) (or_right (strays c.instrs p exit) (lacks_next c.instrs p i) k.sound.jumps),
+    let no_loop = or_false_left (is_no_loop_slot c slot) (has_slot slot (around c.instrs p)) slots in (
+      goes c p exit (or_false_left (strays c.instrs p exit) (lacks_next c.instrs p i) k.sound.jumps)
+          (or_false_left (not (nat_lt p exit)) (not (on_some (loop_at c.instrs p) (λ l. true))) k.sound.forward),
+      not_le (p + 1) (length c.instrs) (or_false_right (strays c.instrs p exit) (lacks_next c.instrs p i) k.sound.jumps),
       loop_there (loop_at c.instrs p)
-          (or_right (not (nat_lt p exit)) (not (on_some (loop_at c.instrs p) (λ l. true))) k.sound.forward),
-      le_of slot c.vars (or_left (nat_lt slot c.vars) (not (nat_lt slot (c.vars + c.loops))) no_loop),
-      free_of (around c.instrs p) slot (or_right (is_no_loop_slot c slot) (has_slot slot (around c.instrs p)) slots),
+          (or_false_right (not (nat_lt p exit)) (not (on_some (loop_at c.instrs p) (λ l. true))) k.sound.forward),
+      ltb-false slot c.vars (or_false_left (nat_lt slot c.vars) (not (nat_lt slot (c.vars + c.loops))) no_loop),
+      free_of (around c.instrs p) slot (or_false_right (is_no_loop_slot c slot) (has_slot slot (around c.instrs p)) slots),
     )
 cleans c p (LoopNext slot high to) v k = (
   not_le (p + 1) (length c.instrs) k.sound.jumps,
-  is_end c p slot to high v k.here (not_false (ends_loop c.instrs p to) k.sound.forward),
+  is_end c p slot to high v k.here (not-false (ends_loop c.instrs p to) k.sound.forward),
 )
 cleans c p (Store x) v k = (not_le (p + 1) (length c.instrs) k.sound.jumps, not_le x c.vars k.sound.slots)
 cleans c p (End state) v k = tt
@@ -110,10 +101,10 @@ feeds c p (Fresh x) k = not_le x c.ins k.sound.slots
 feeds c p (Emit x) k = not_le x c.outs k.sound.slots
 feeds c p (LoopStart slot low high exit) k =
     not_le slot (c.vars + c.loops)
-    (or_right (nat_lt slot c.vars) (not (nat_lt slot (c.vars + c.loops)))
-    (or_left (is_no_loop_slot c slot) (has_slot slot (around c.instrs p)) k.sound.slots))
+    (or_false_right (nat_lt slot c.vars) (not (nat_lt slot (c.vars + c.loops)))
+    (or_false_left (is_no_loop_slot c slot) (has_slot slot (around c.instrs p)) k.sound.slots))
 feeds c p (LoopNext slot high to) k =
-    not_le slot (c.vars + c.loops) (or_right (nat_lt slot c.vars) (not (nat_lt slot (c.vars + c.loops))) k.sound.slots)
+    not_le slot (c.vars + c.loops) (or_false_right (nat_lt slot c.vars) (not (nat_lt slot (c.vars + c.loops))) k.sound.slots)
 feeds c p other k = tt
 
 pub verified_fed : (c : CodeParts) → IsVerified c → IsFed c.instrs (c.vars + c.loops) c.ins c.outs
@@ -158,7 +149,7 @@ same_by c v n m p q h k t i j reached is way reached' is' way' less later =
           };
       differs = differs;
     })))
-    (same_or_not (after k j) (after h i))
+    (cases_eq (after k j) (after h i))
 
 pub verified_level : (c : CodeParts) → IsVerified c → IsLevel c.instrs c.entries
 verified_level c v = record { enough = λ n p h i reached is. enough_by c n p h i v reached is; same = same_by c v }

@@ -1,14 +1,16 @@
 -- What verified code keeps.
-use Rattle.std.proofs.Common.{◌≡◌, ◌∙◌, ℕ, ◌<◌, Bool, true, false, ◌&&◌, ◌||◌, List, [], ◌∷◌, length, Option, Some, refl, sym, ap, ⊎_elim, arith, nat_eq, nat_lt}
+use Rattle.std.proofs.Common.{◌≡◌, ◌∙◌, ℕ, ◌<◌, Bool, true, false, ◌&&◌, ◌||◌, List, [], ◌∷◌, length, Option, Some, refl, sym, ap, ⊎_elim, nat_eq, nat_lt}
 use Rattle.std.specs.Prelude.{slice_get}
-use Rattle.std.proofs.lemmas.Bool.{and_parts, ltb-true, false≢true}
+use Rattle.std.proofs.lemmas.Bool.{and_parts, ltb-true, false≢true, or_right, not-false}
+use Rattle.list_lemmas.proofs.Booleans.{or_false_left}
+use Rattle.list_lemmas.proofs.Numbers.{nat_eq-self}
 use Rattle.step_code.specs.declared.instr.Instr.{Instr}
 use Rattle.step_code.specs.declared.instr.CodeParts.{CodeParts}
 use Rattle.step_code.specs.declared.loops.Loop.{Loop}
 use Rattle.step_code.specs.Loops.{around}
 use Rattle.step_code.specs.proof.Heights.{Member}
 use Rattle.step_code.specs.proof.Rules.{is_none, enters_badly, is_entry, is_bad_entry, on_some, finds, jumps_badly, BadJump, IsVerified}
-use Rattle.step_code.proofs.Refusals.{untrue, or_left, not_false, is_sound, clean_closed}
+use Rattle.step_code.proofs.Refusals.{untrue, is_sound, clean_closed}
 use Rattle.step_code.proofs.Crossing.{AreClosed}
 use Rattle.step_code.proofs.Placing.{IsKnown}
 
@@ -17,27 +19,21 @@ verified_closed c p v = clean_closed c p (record { none = λ q r less. v.clean q
 
 good_entry : (c : CodeParts) (p : ℕ) → IsVerified c → is_bad_entry c.instrs c.entries p ≡ false
 good_entry c p v =
-    or_left (is_bad_entry c.instrs c.entries p) (finds c (jumps_badly c.instrs p) p)
+    or_false_left (is_bad_entry c.instrs c.entries p) (finds c (jumps_badly c.instrs p) p)
     (untrue (is_bad_entry c.instrs c.entries p || finds c (jumps_badly c.instrs p) p) (v.clean p BadJump))
 
 pub verified_known : (c : CodeParts) (p : ℕ) (i : Instr) → IsVerified c → slice_get c.instrs p ≡ Some i → IsKnown c p i
 verified_known c p i v here = record { here = here; entry = good_entry c p v; sound = is_sound c p i (v.clean p) here }
 
 -- ---- entries
-same_is : (p : ℕ) → nat_eq p p ≡ true
-same_is p = grind arith
-
-or_true : (a b : Bool) → b ≡ true → (a || b) ≡ true
-or_true true b is = refl
-or_true false b is = is
 
 member_entry : (entries : List (Option ℕ)) (e : ℕ) → Member entries (Some e) → is_entry entries e ≡ true
 member_entry [] e among = absurd among
 member_entry (x ∷ entries) e among =
     ⊎_elim
     (λ (is : x ≡ Some e). ap (λ o. on_some o (nat_eq e) || is_entry entries e) is
-    ∙ ap (λ b. b || is_entry entries e) (same_is e))
-    (λ later. or_true (on_some x (nat_eq e)) (is_entry entries e) (member_entry entries e later))
+    ∙ ap (λ b. b || is_entry entries e) (nat_eq-self e))
+    (λ later. or_right (on_some x (nat_eq e)) (is_entry entries e) (member_entry entries e later))
     among
 
 pub record EntersWell (code : List Instr) (e : ℕ) : Type 0 where
@@ -58,5 +54,5 @@ verified_entry c e v among =
     (good_entry c e v) in
     let both =
     and_parts (nat_lt e (length c.instrs)) (is_none (around c.instrs e))
-    (not_false (nat_lt e (length c.instrs) && is_none (around c.instrs e)) bad) in
+    (not-false (nat_lt e (length c.instrs) && is_none (around c.instrs e)) bad) in
     record { there = ltb-true e (length c.instrs) both.0; outside = none_is (around c.instrs e) both.1 }

@@ -2,7 +2,7 @@
 use Rattle.std.proofs.Common.{◌≡◌, ◌∙◌, ◌⊎◌, ℕ, zero, suc, ◌+◌, ◌<◌, ◌≤◌, ℤ, pos, Bool, true, false, ◌&&◌, if◌then◌else◌, List, [], ◌∷◌, ◌++◌, length, Option, Some, None, refl, sym, ap, subst, ⊎_elim, arith, nat_lt}
 use Rattle.std.specs.Prelude.{not, slice_get}
 use Rattle.std.specs.List.{list_all}
-use Rattle.std.proofs.lemmas.Bool.{cases_lt, both_ways, and_parts}
+use Rattle.std.proofs.lemmas.Bool.{cases_lt, both_ways, and_parts, le-ltb, lt-ltb}
 use Rattle.pals_base.specs.declared.behaviour.Op.{Op}
 use Rattle.pals_base.specs.declared.behaviour.Op.TheVariants as op
 use Rattle.pals_base.specs.Tree.{Expression, Literal, Variable, PortValue, Fresh, Neg, Abs, Not, Chain, Operands, NoMore, Then, Action, Assign, Emit, If, For, Actions, Nothing, Do, Branches, NoBranch, Where}
@@ -14,7 +14,7 @@ use Rattle.step_code.specs.proof.Rules.{inside, agrees, stays}
 use Rattle.step_code.specs.Lengths.{operand_length, length_of, length_act, length_acts, length_branches}
 use Rattle.step_compiler.specs.Layout.{operand_code, code_of, code_rest, code_act, code_acts, code_branches}
 use Rattle.step_compiler.proofs.Standing.{HasAt, has_front, has_back, code-length, act-length, acts-length, branches-length}
-use Rattle.step_code.proofs.Nesting.{loop_is, lt_true}
+use Rattle.step_code.proofs.Nesting.{loop_is}
 
 -- the loops that start before a stretch end before it, or have all of it in their bodies
 pub record Outer (whole : List Instr) (p q : ℕ) : Type 0 where
@@ -23,9 +23,6 @@ pub record Outer (whole : List Instr) (p q : ℕ) : Type 0 where
 -- the loops that start in a stretch end in it
 pub record Closed (whole : List Instr) (p q : ℕ) : Type 0 where
   pub each : (k : ℕ) (l : Loop) → loop_at whole k ≡ Some l → p ≤ k → k < q → l.exit ≤ q
-
-pub lt_false : (a b : ℕ) → b ≤ a → nat_lt a b ≡ false
-lt_false a b le = grind arith
 
 both_same : (b c : Bool) → b ≡ c → (if b then c else not c) ≡ true
 both_same true true e = refl
@@ -40,19 +37,19 @@ agree whole p q k l later outer closed is =
     let start = (loop_is whole k l is).start in
     ⊎_elim
     (λ (before : k < p).
-    let a = lt_true l.start p (omega arith) in
-    let b = lt_true l.start q (omega arith) in
+    let a = lt-ltb l.start p (omega arith) in
+    let b = lt-ltb l.start q (omega arith) in
     ap (λ x. x && nat_lt p l.exit) a
-    ∙ ⊎_elim (λ (ended : l.exit ≤ p). lt_false p l.exit ended ∙ sym (lt_false q l.exit (omega arith)))
-    (λ (round : q < l.exit). lt_true p l.exit (omega arith) ∙ sym (lt_true q l.exit round))
+    ∙ ⊎_elim (λ (ended : l.exit ≤ p). le-ltb p l.exit ended ∙ sym (le-ltb q l.exit (omega arith)))
+    (λ (round : q < l.exit). lt-ltb p l.exit (omega arith) ∙ sym (lt-ltb q l.exit round))
     (outer.each k l is before)
     ∙ sym (ap (λ x. x && nat_lt q l.exit) b))
     (λ (from : p ≤ k).
-    ap (λ x. x && nat_lt p l.exit) (lt_false l.start p (omega arith))
+    ap (λ x. x && nat_lt p l.exit) (le-ltb l.start p (omega arith))
     ∙ sym (⊎_elim
-    (λ (among : k < q). ap (λ x. x && nat_lt q l.exit) (lt_true l.start q (omega arith))
-    ∙ lt_false q l.exit (closed.each k l is from among))
-    (λ (past : q ≤ k). ap (λ x. x && nat_lt q l.exit) (lt_false l.start q (omega arith)))
+    (λ (among : k < q). ap (λ x. x && nat_lt q l.exit) (lt-ltb l.start q (omega arith))
+    ∙ le-ltb q l.exit (closed.each k l is from among))
+    (λ (past : q ≤ k). ap (λ x. x && nat_lt q l.exit) (le-ltb l.start q (omega arith)))
     (cases_lt k q)))
     (cases_lt k p)
 

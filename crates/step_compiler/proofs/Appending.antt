@@ -1,15 +1,11 @@
 -- Code that grows by one part after the other.
-use Rattle.std.proofs.Common.{◌≡◌, ◌∙◌, ℕ, suc, ◌+◌, ◌<◌, List, [], ◌∷◌, ◌++◌, length, drop, slice_index_or, refl, sym, ap, arith, add-one, append_assoc, length-append, drop-cons}
-use Rattle.std.specs.Prelude.{Result, Ok, Err, OnOk}
+use Rattle.std.proofs.Common.{◌≡◌, ◌∙◌, ℕ, ◌+◌, ◌<◌, List, [], ◌∷◌, ◌++◌, length, drop, slice_index_or, refl, ap, arith, append_assoc, length-append}
+use Rattle.list_lemmas.proofs.Lists.{drop-next}
 use Rattle.pals_base.specs.declared.behaviour.Operand.{Operand}
 use Rattle.pals_base.specs.declared.behaviour.Act.{Act}
 use Rattle.pals_base.specs.declared.behaviour.Branch.{Branch}
 use Rattle.pals_base.specs.Tree.{Then, Do, Where}
 use Rattle.pals_base.specs.proof.Seen.{tree_of, operands_along, action_of, actions_along, branches_along}
-
-pub on_ok : {A E : Type 0} (r : Result A E) (P Q : Type 0) → (P → Q) → OnOk r P → OnOk r Q
-on_ok (Ok x) P Q f p = f p
-on_ok (Err e) P Q f p = p
 
 -- a part of n items, and what is laid out behind it
 pub both_parts : {A : Type 0} (old mid new a : List A) (n : ℕ) (rest : ℕ → List A) → mid ≡ old ++ a → length a ≡ n
@@ -24,23 +20,19 @@ pub more_parts : {A : Type 0} (old mid a : List A) (n : ℕ) (rest : ℕ → Lis
 more_parts old mid a n rest first len = both_parts old mid (mid ++ rest (length mid)) a n rest first len refl
 
 -- ---- what is left of a list
-pub drop_item : {A : Type 0} (xs : List A) (i : ℕ) (x : A) → i < length xs → x ≡ slice_index_or xs i x
-    → drop i xs ≡ x ∷ drop (i + 1) xs
-drop_item xs i x within is =
-    drop-cons xs i x within ∙ ap (λ y. y ∷ drop (suc i) xs) (sym is) ∙ ap (λ k. x ∷ drop k xs) (sym (add-one i))
 
 pub next_operand : (xs : List Operand) (i : ℕ) (x : Operand) → i < length xs → x ≡ slice_index_or xs i x
     → operands_along (drop i xs) ≡ Then x.op (tree_of x.right) (operands_along (drop (i + 1) xs))
-next_operand xs i x within is = ap operands_along (drop_item xs i x within is)
+next_operand xs i x within is = ap operands_along (drop-next xs i x within is)
 
 pub next_act : (xs : List Act) (i : ℕ) (x : Act) → i < length xs → x ≡ slice_index_or xs i x
     → actions_along (drop i xs) ≡ Do (action_of x) (actions_along (drop (i + 1) xs))
-next_act xs i x within is = ap actions_along (drop_item xs i x within is)
+next_act xs i x within is = ap actions_along (drop-next xs i x within is)
 
 pub next_branch : (xs : List Branch) (i : ℕ) (x : Branch) → i < length xs → x ≡ slice_index_or xs i x
     → branches_along (drop i xs)
     ≡ Where (tree_of x.guard) (actions_along x.acts.items) (branches_along (drop (i + 1) xs))
-next_branch xs i x within is = ap branches_along (drop_item xs i x within is)
+next_branch xs i x within is = ap branches_along (drop-next xs i x within is)
 
 -- ---- parts with instructions between them
 pub one_more : {A : Type 0} (old mid new a : List A) (i : A) → mid ≡ old ++ a → new ≡ mid ++ i ∷ []

@@ -2,10 +2,11 @@
 use Rattle.std.proofs.Common.{◌≡◌, ◌∙◌, inl, inr, ℕ, zero, suc, ◌+◌, ◌<◌, ◌≤◌, Bool, true, false, List, [], ◌∷◌, ◌++◌, length, take, Option, Some, None, Contains, slice_get, refl, sym, ap, ap₂, subst, arith}
 use Rattle.std.specs.Prelude.{not, ◌&&◌, nat_eq}
 use Rattle.std.specs.Option.{option_to_list}
-use Rattle.std.proofs.lemmas.Bool.{eqb-true, eq-eqb, and_parts, cases_lt, cases_order, cases_Bool, true≢false}
+use Rattle.std.proofs.lemmas.Bool.{eqb-true, eq-eqb, and_parts, cases_lt, cases_order, cases_Bool, true≢false, not-true}
 use Rattle.std.proofs.lemmas.List.{take_all, take-append-le, length-append}
 use Rattle.std.proofs.lemmas.List.Folds.{Any-from_list_any, list_any_at}
 use Rattle.std.proofs.lemmas.Option.{slice_get_within}
+use Rattle.list_lemmas.proofs.Places.{slice_get-push}
 use Rattle.pals_base.specs.declared.behaviour.BehaviourParts.{BehaviourParts}
 use Rattle.pals_base.specs.Rules.{IsBehaviour}
 use Rattle.pals_base.specs.Tree.{Edge}
@@ -15,12 +16,9 @@ use Rattle.step_compiler.proofs.Listing.{found_is}
 use Rattle.step_compiler.proofs.Covered.{order_full}
 use Rattle.step_compiler.specs.LaidOut.{MayFollow, IsNext, IsBlockOrder}
 use Rattle.step_compiler.specs.proof.Laws.{OrderIsOne}
-use Rattle.step_compiler.proofs.Placing.{placed_contains, contains_placed, find_least, get_take, take_next, get_front, get_seam}
+use Rattle.step_compiler.proofs.Placing.{placed_contains, contains_placed, find_least, get_take, take_next, get_front}
 
 -- ---- what may follow
-negated : (x : Bool) → not x ≡ true → x ≡ false
-negated true is = absurd (cc)
-negated false is = refl
 
 not_from : (x : Bool) → (x ≡ true → ⊥) → not x ≡ true
 not_from true never = absurd (never refl)
@@ -34,8 +32,8 @@ module _ (b : BehaviourParts) (order : List ℕ) (s : ℕ) where
   follows : may_follow b order s ≡ true → s < length b.states → MayFollow b order s
   follows is within =
       let both = and_parts (not (is_placed order s)) (not (is_awaited b order s)) is in
-      let out = negated (is_placed order s) both.0 in
-      let free = negated (is_awaited b order s) both.1 in
+      let out = not-true (is_placed order s) both.0 in
+      let free = not-true (is_awaited b order s) both.1 in
       record {
         is_state = within;
         new = λ among. true≢false (sym (contains_placed order s among) ∙ out);
@@ -63,7 +61,7 @@ module _ (b : BehaviourParts) (order : List ℕ) (s : ℕ) where
       let e : Edge = found.1 in
       let both = and_parts (not (is_placed order e.source)) (nat_eq e.target s) found.4 in
       let among = known.awaits_none e (found.0, found.2, found.3) (eqb-true e.target s both.1) in
-      true≢false (sym (contains_placed order e.source among) ∙ negated (is_placed order e.source) both.0)))
+      true≢false (sym (contains_placed order e.source among) ∙ not-true (is_placed order e.source) both.0)))
 
 next_is : (b : BehaviourParts) (order : List ℕ) (s : ℕ) → next_state b order ≡ Some s → IsNext b order s
 next_is b order s found =
@@ -107,7 +105,7 @@ grown_more b order s before next =
     others k state past is =
         elim (cases_order k (length order)) [
           | inl last ↦ (
-              let here : Some s ≡ Some state = sym (get_seam order s)
+              let here : Some s ≡ Some state = sym (slice_get-push order s)
               ∙ ap (slice_get (order ++ s ∷ [])) (sym last) ∙ is in
               let same : s ≡ state = cc in
               let front : take k (order ++ s ∷ []) ≡ order = take-append-le k order (s ∷ []) (omega (arith, last))

@@ -1,7 +1,9 @@
 -- What an order of blocks keeps while it grows.
-use Rattle.std.proofs.Common.{◌≡◌, ◌∙◌, inl, inr, ◌⊎◌, ℕ, zero, suc, ◌+◌, ◌<◌, ◌≤◌, Bool, true, false, ◌||◌, if◌then◌else◌, List, [], ◌∷◌, ◌++◌, length, refl, sym, ap, subst, ⊎_elim, arith, add-one, append-nil, nat_eq}
+use Rattle.std.proofs.Common.{◌≡◌, ◌∙◌, inl, inr, ℕ, zero, suc, ◌+◌, ◌<◌, ◌≤◌, Bool, true, false, ◌||◌, if◌then◌else◌, List, [], ◌∷◌, ◌++◌, length, refl, sym, ap, subst, ⊎_elim, arith, add-one, append-nil, nat_eq}
 use Rattle.std.specs.Prelude.{filter}
-use Rattle.std.proofs.lemmas.Bool.{cases_Bool, true≢false, false≢true}
+use Rattle.std.proofs.lemmas.Bool.{cases_Bool, true≢false, false≢true, or_parts, or_cases}
+use Rattle.std.proofs.Math.Bool.{or-false}
+use Rattle.list_lemmas.proofs.Numbers.{nat_eq-self}
 use Rattle.pals_base.specs.declared.behaviour.BehaviourParts.{BehaviourParts}
 use Rattle.pals_base.specs.Tree.{Edge}
 use Rattle.pals_base.specs.Fire.{is_complete}
@@ -15,29 +17,15 @@ use Rattle.step_compiler.specs.Blocks.{block_length, start_of}
 use Rattle.step_compiler.proofs.Listing.{filter_more}
 
 -- ---- one more block
-or_last : (x : Bool) → (x || false) ≡ x
-or_last true = refl
-or_last false = refl
 
 or_assoc : (x y z : Bool) → (x || (y || z)) ≡ ((x || y) || z)
 or_assoc true y z = refl
 or_assoc false y z = refl
 
 pub placed_more : (order : List ℕ) (s t : ℕ) → is_placed (order ++ s ∷ []) t ≡ (is_placed order t || nat_eq s t)
-placed_more [] s t = or_last (nat_eq s t)
+placed_more [] s t = or-false (nat_eq s t)
 placed_more (u ∷ order) s t =
     ap (λ x. nat_eq u t || x) (placed_more order s t) ∙ or_assoc (nat_eq u t) (is_placed order t) (nat_eq s t)
-
-same_state : (s : ℕ) → nat_eq s s ≡ true
-same_state s = grind arith
-
-or_false : (x y : Bool) → (x || y) ≡ false → (x ≡ false) × (y ≡ false)
-or_false true y is = absurd (true≢false is)
-or_false false y is = (refl, is)
-
-or_true : (x y : Bool) → (x || y) ≡ true → (x ≡ true) ⊎ (y ≡ true)
-or_true true y is = inl refl
-or_true false y is = inr is
 
 kept_by : (b : BehaviourParts) (u t x y : ℕ) (r : Bool) → (r ≡ false → x ≡ y)
     → (if r then 0 else block_length b u + x) ≡ (if r then 0 else block_length b u + y)
@@ -56,9 +44,9 @@ start_kept b (u ∷ order) s t placed =
 
 pub start_last : (b : BehaviourParts) (order : List ℕ) (s : ℕ) → is_placed order s ≡ false
     → start_of b (order ++ s ∷ []) s ≡ order_length b order
-start_last b [] s placed = ap (λ x. if x then 0 else block_length b s + 0) (same_state s)
+start_last b [] s placed = ap (λ x. if x then 0 else block_length b s + 0) (nat_eq-self s)
 start_last b (u ∷ order) s placed =
-    let parts = or_false (nat_eq u s) (is_placed order s) placed in
+    let parts = or_parts (nat_eq u s) (is_placed order s) placed in
     ap (λ x. if x then 0 else block_length b u + start_of b (order ++ s ∷ []) s) parts.0
     ∙ ap (λ k. block_length b u + k) (start_last b order s parts.1)
 
@@ -129,7 +117,7 @@ AreOnce (s ∷ order) = (is_placed order s ≡ false) × AreOnce order
 once_more : (order : List ℕ) (s : ℕ) → AreOnce order → is_placed order s ≡ false → AreOnce (order ++ s ∷ [])
 once_more [] s once placed = (refl, tt)
 once_more (u ∷ order) s once placed =
-    let parts = or_false (nat_eq u s) (is_placed order s) placed in
+    let parts = or_parts (nat_eq u s) (is_placed order s) placed in
     let apart : nat_eq s u ≡ false = (let e = parts.0 in grind arith) in
     (placed_more order s u ∙ ap (λ x. x || nat_eq s u) once.0 ∙ apart, once_more order s once.1 parts.1)
 
@@ -162,7 +150,7 @@ built_more b order s built inside placed sources = record {
   within = λ t is.
       ⊎_elim (λ before. built.within t before)
       (λ here. let at : s ≡ t = grind arith in subst (λ k. k < length b.states) at inside)
-      (or_true (is_placed order t) (nat_eq s t) (sym (placed_more order s t) ∙ is));
+      (or_cases (is_placed order t) (nat_eq s t) (sym (placed_more order s t) ∙ is));
   sum =
       length_more b order s ∙ ap (λ k. k + block_length b s) built.sum
       ∙ sym (placed_length_more order s b.transitions placed);
@@ -182,7 +170,7 @@ built_more b order s built inside placed sources = record {
       let last = ap (start_of b (order ++ s ∷ [])) at ∙ start_last b order s placed in
       let le = start_below b order e.source was in
       (more_true order s e.source was, omega arith))
-      (or_true (is_placed order e.target) (nat_eq s e.target) (sym (placed_more order s e.target) ∙ is));
+      (or_cases (is_placed order e.target) (nat_eq s e.target) (sym (placed_more order s e.target) ∙ is));
 }
 
 -- ---- the complete states
@@ -201,7 +189,7 @@ first_by b k order true is inside first = record {
   below =
       λ s placed. ⊎_elim (λ before. let less = first.below s before in omega arith)
       (λ here. let at : k ≡ s = grind arith in omega arith)
-      (or_true (is_placed order s) (nat_eq k s) (sym (placed_more order k s) ∙ placed));
+      (or_cases (is_placed order s) (nat_eq k s) (sym (placed_more order k s) ∙ placed));
   all = λ s less complete.
       placed_more order k s
       ∙ ⊎_elim (λ (here : nat_eq k s ≡ true). ap (λ x. is_placed order s || x) here ∙ or_yes (is_placed order s))

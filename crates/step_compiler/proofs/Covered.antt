@@ -2,7 +2,7 @@
 use Rattle.std.proofs.Common.{◌≡◌, ◌∙◌, inl, inr, ℕ, zero, suc, ◌+◌, ◌<◌, ◌≤◌, Bool, true, false, ◌&&◌, ◌||◌, not, if◌then◌else◌, List, [], ◌∷◌, ◌++◌, length, Option, Some, None, slice_index_or, refl, sym, ap, subst, ⊎_elim, arith, nat_eq}
 use Rattle.std.specs.Prelude.{filter}
 use Rattle.std.specs.List.{list_all, list_any, All}
-use Rattle.std.proofs.lemmas.Bool.{and_parts, cases_Bool, true≢false, false≢true}
+use Rattle.std.proofs.lemmas.Bool.{and_parts, cases_Bool, true≢false, false≢true, not-true}
 use Rattle.pals_base.specs.declared.behaviour.BehaviourParts.{BehaviourParts}
 use Rattle.pals_base.specs.Tree.{Edge}
 use Rattle.pals_base.specs.Fire.{is_complete, leaving}
@@ -71,10 +71,6 @@ leaving_member (x ∷ es) s e among is =
     by true m = inr m
     by false m = m
 
-negated : (x : Bool) → not x ≡ true → x ≡ false
-negated true is = absurd (false≢true is)
-negated false is = refl
-
 -- ---- a block that may come next
 abbrev Firsts : BehaviourParts → List ℕ → Type 0
 Firsts b order = (s : ℕ) → s < length b.states → is_complete b s ≡ true → is_placed order s ≡ true
@@ -105,7 +101,7 @@ ready b order rules firsts (suc k) m s sum within placed unsettled =
     let w = some_member (leads_from_outside order s) b.transitions awaited in
     let e = w.item in
     let both = and_parts (not (is_placed order e.source)) (nat_eq e.target s) w.holds in
-    let out : is_placed order e.source ≡ false = negated (is_placed order e.source) both.0 in
+    let out : is_placed order e.source ≡ false = not-true (is_placed order e.source) both.0 in
     let to : e.target ≡ s = (let is = both.1 in grind arith) in
     let from = (edge_has b e (all_member (is_edge b) b.transitions e rules.edges w.among)).source in
     let later : settles m b e.target ≡ false = ap (settles m b) to ∙ unsettled in
@@ -237,8 +233,8 @@ full_by b k order None rules again built firsts most is =
 full_by b k order (Some s) rules again built firsts most is =
     let x = found_is (may_follow b order) (length b.states) s is in
     let both = and_parts (not (is_placed order s)) (not (is_awaited b order s)) x.0 in
-    let out = negated (is_placed order s) both.0 in
-    let free = negated (is_awaited b order s) both.1 in
+    let out = not-true (is_placed order s) both.0 in
+    let free = not-true (is_awaited b order s) both.1 in
     let fewer = unplaced_fewer order s (states_of b) (member_upwards (length b.states) s x.1) out in
     again (order ++ s ∷ []) (built_more b order s built x.1 out
     (λ e among to isnt. sources_of b order s free e among to))

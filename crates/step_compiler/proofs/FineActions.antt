@@ -4,6 +4,7 @@ use Rattle.std.specs.Prelude.{slice_get, filter}
 use Rattle.std.specs.List.{list_any}
 use Rattle.std.proofs.lemmas.Bool.{and_parts, cases_lt}
 use Rattle.std.proofs.lemmas.Int.{ints}
+use Rattle.list_lemmas.proofs.Numbers.{nat_eq-self}
 use Rattle.pals_base.specs.Expressions.{same_number}
 use Rattle.pals_base.specs.Tree.{Expression, Action, Assign, Emit, If, For, Actions, Nothing, Do, Branches, NoBranch, Where}
 use Rattle.step_code.specs.declared.instr.Instr.{Instr}
@@ -78,8 +79,6 @@ stays_in whole e p n k t has round from later before =
     (record { each = λ j l is at under. absurd (none j l is (omega arith) (omega arith)) })
 
 -- ---- loops
-same_is : (n : ℕ) → nat_eq n n ≡ true
-same_is n = grind arith
 
 same_int : (v : ℤ) → same_number v v ≡ true
 same_int v = grind (arith, ints)
@@ -94,8 +93,8 @@ loop_there whole p n m low high start next =
     let place : exit - 1 ≡ p + 1 + m = omega arith in
     let closed : closes l (slice_get whole (exit - 1)) ≡ true =
     ap (closes l) (ap (slice_get whole) place ∙ next)
-    ∙ ap (λ x. x && same_number high high && nat_eq (p + 1) (p + 1)) (same_is n)
-    ∙ ap (λ x. x && nat_eq (p + 1) (p + 1)) (same_int high) ∙ same_is (p + 1) in
+    ∙ ap (λ x. x && same_number high high && nat_eq (p + 1) (p + 1)) (nat_eq-self n)
+    ∙ ap (λ x. x && nat_eq (p + 1) (p + 1)) (same_int high) ∙ nat_eq-self (p + 1) in
     let some : nat_lt 0 exit ≡ true = (let less : 0 < exit = omega arith in grind arith) in
     ap (loop_from whole p) start ∙ ap (λ x. if x && closes l (slice_get whole (exit - 1)) then Some l else None) some
     ∙ ap (λ x. if x then Some l else None) closed
@@ -196,7 +195,7 @@ module _ (c : CodeParts) (z : Sizes) (fits : Matches c z) where
       let ends : ends_loop c.instrs q (p + 1) ≡ true =
       ap (ends_loop c.instrs q) (add-one p)
       ∙ ap (λ o. on_some o (λ x. nat_eq x.exit (q + 1))) (loop_there c.instrs p n m low high start next)
-      ∙ (let e : p + m + 2 ≡ q + 1 = omega arith in ap (λ x. nat_eq x (q + 1)) e ∙ same_is (q + 1)) in
+      ∙ (let e : p + m + 2 ≡ q + 1 = omega arith in ap (λ x. nat_eq x (q + 1)) e ∙ nat_eq-self (q + 1)) in
       one_fine c q (q + 1) (code.LoopNext n high (p + 1)) next refl (record {
         jump = λ t is. cc;
         next = λ goes. omega arith;

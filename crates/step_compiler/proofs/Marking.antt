@@ -4,6 +4,7 @@ use Rattle.std.specs.Prelude.{fold, replicate}
 use Rattle.std.specs.List.{list_all, list_any}
 use Rattle.std.proofs.lemmas.Bool.{and_parts, ltb-true}
 use Rattle.std.proofs.lemmas.List.{get_or-set_same, get_or-set_other, length-set, length-replicate, length-map}
+use Rattle.std.proofs.Math.Bool.{or_assoc}
 use Rattle.pals_base.specs.declared.behaviour.BehaviourParts.{BehaviourParts}
 use Rattle.pals_base.specs.Steps.{upwards}
 use Rattle.pals_base.specs.Tree.{Edge}
@@ -65,10 +66,6 @@ if_marked false marks at s within = stays (slice_index_or marks s false)
 if_size : (o : Bool) (marks : List Bool) (at : ℕ) → length (if o then slice_set marks at true else marks) ≡ length marks
 if_size true marks at = length-set marks at true
 if_size false marks at = refl
-
-or_assoc : (x y z : Bool) → ((x || y) || z) ≡ (x || (y || z))
-or_assoc true y z = refl
-or_assoc false y z = refl
 
 outside_at : (order : List ℕ) (n s : ℕ) → s < n
     → slice_index_or (states_outside order n) s false ≡ not (is_placed order s)

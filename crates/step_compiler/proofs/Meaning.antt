@@ -5,6 +5,7 @@ use Rattle.std.specs.List.{list_all}
 use Rattle.std.proofs.lemmas.Bool.{and_parts}
 use Rattle.std.proofs.lemmas.List.{length-map, length-replicate, get_or_append_left}
 use Rattle.std.proofs.lemmas.Option.{slice_get-get_or, slice_get_within}
+use Rattle.list_lemmas.proofs.Elements.{list_all-filter}
 use Rattle.pals_base.specs.declared.values.Trap.{Trap}
 use Rattle.pals_base.specs.declared.values.Frame.{Frame}
 use Rattle.pals_base.specs.declared.values.Port.{Port as Value}
@@ -50,14 +51,6 @@ use Rattle.step_compiler.proofs.ActionRuns.{Fits}
 use Rattle.step_compiler.proofs.BlockRuns.{Finishes, taken, blocks_run}
 
 -- ---- what transitions that leave a state have
-kept_all : {A : Type 0} (f g : A → Bool) (xs : List A) → list_all f xs ≡ true → list_all f (filter g xs) ≡ true
-kept_all f g [] all = refl
-kept_all f g (x ∷ xs) all = let both = and_parts (f x) (list_all f xs) all in by (g x) both.0 (kept_all f g xs both.1)
-  where
-    by : (t : Bool) → f x ≡ true → list_all f (filter g xs) ≡ true
-        → list_all f (if t then x ∷ filter g xs else filter g xs) ≡ true
-    by true here rest = ap (λ y. y && list_all f (filter g xs)) here ∙ rest
-    by false here rest = rest
 
 kept_depth : (g : Edge → Bool) (es : List Edge) → depth_edges (filter g es) ≤ depth_edges es
 kept_depth g [] = omega arith
@@ -108,7 +101,7 @@ goods b m (e ∷ es) sound settle none room =
     (good b m e s.0 t.0 (omega arith), d.0, goods b m es s.1 t.1 d.1 (omega arith))
 
 pub leaving_sound : (b : BehaviourParts) (s : ℕ) → IsBehaviour b → list_all (is_edge b) (leaving b s) ≡ true
-leaving_sound b s rules = kept_all (is_edge b) (λ e. nat_eq e.source s) b.transitions rules.edges
+leaving_sound b s rules = list_all-filter (is_edge b) (λ e. nat_eq e.source s) b.transitions rules.edges
 
 -- ---- ways
 pub record HasOnward (b : BehaviourParts) (s : ℕ) : Type 0 where

@@ -1,15 +1,13 @@
 -- Where blocks begin, by lengths that are listed and stopped.
-use Rattle.std.proofs.Common.{◌≡◌, ℕ, suc, ◌+◌, ◌<◌, Bool, true, false, if◌then◌else◌, List, [], ◌∷◌, length, map, slice_index_or, refl, arith, nat_eq}
+use Rattle.std.proofs.Common.{◌≡◌, ℕ, ◌+◌, ◌<◌, Bool, true, false, if◌then◌else◌, List, [], ◌∷◌, length, map, slice_index_or, refl, arith, nat_eq}
 use Rattle.std.specs.List.{All}
+use Rattle.std.proofs.lemmas.List.Elements.{All-tail}
 use Rattle.pals_base.specs.declared.behaviour.BehaviourParts.{BehaviourParts}
 use Rattle.step_code.specs.Capped.{capped}
 use Rattle.step_compiler.specs.LaidOut.{states_of}
 use Rattle.step_compiler.specs.Blocks.{block_length, start_of}
 use Rattle.step_compiler.specs.proof.Blocks.{capped_length, start_in}
 use Rattle.step_compiler.proofs.Listing.{listed}
-
-later : {A : Type 0} (P : A → Type 0) (x : A) (xs : List A) → All P (x ∷ xs) → All P xs
-later P x xs all i d within = all (suc i) d (omega arith)
 
 capped_sum : (a b x y : ℕ) → a ≡ capped b → capped x ≡ capped y → capped (a + x) ≡ capped (b + y)
 capped_sum a b x y first rest = omega (arith, first, rest)
@@ -27,4 +25,4 @@ starts_capped b (t ∷ order) s all =
     by_test (nat_eq t s) (slice_index_or (map (capped_length b) (states_of b)) t 0) (block_length b t)
     (start_in (map (capped_length b) (states_of b)) order s) (start_of b order s)
     (listed (capped_length b) (length b.states) t 0 within)
-    (starts_capped b order s (later (λ t. t < length b.states) t order all))
+    (starts_capped b order s (All-tail (λ t. t < length b.states) t order all))

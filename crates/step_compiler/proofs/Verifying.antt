@@ -2,7 +2,7 @@
 use Rattle.std.proofs.Common.{◌≡◌, ◌∙◌, inl, inr, ⊎_elim, ℕ, zero, suc, ◌+◌, ◌-◌, ◌<◌, ◌≤◌, Bool, true, false, ◌&&◌, ◌||◌, not, if◌then◌else◌, List, [], ◌∷◌, ◌++◌, length, map, Option, Some, None, refl, sym, ap, subst, arith, nat_lt, nat_eq}
 use Rattle.std.specs.Prelude.{slice_get, filter, find, fold, IsTrue, option_to_list}
 use Rattle.std.specs.List.{list_any}
-use Rattle.std.proofs.lemmas.Bool.{cases_lt, true≢false, false≢true}
+use Rattle.std.proofs.lemmas.Bool.{cases_lt, true≢false, false≢true, or_right}
 use Rattle.std.proofs.lemmas.Option.{slice_get_within}
 use Rattle.pals_base.specs.declared.behaviour.BehaviourParts.{BehaviourParts}
 use Rattle.pals_base.specs.declared.limits.TheConstants.{INSTRUCTIONS}
@@ -172,10 +172,6 @@ lies_later b t s order p k true is out placed from before = let same : t ≡ s =
     absurd (true≢false (sym placed ∙ ap (is_placed order) (sym same) ∙ out))
 lies_later b t s order p k false is out placed from before = (omega arith, omega arith)
 
-or_second : (x y : Bool) → y ≡ true → (x || y) ≡ true
-or_second true y is = refl
-or_second false y is = is
-
 lies_in : (b : BehaviourParts) (order : List ℕ) (p k : ℕ) → AreOnce order → p ≤ k → k < p + order_length b order
     → LiesIn b order p k
 lies_in b [] p k once from before = absurd (omega arith)
@@ -194,7 +190,7 @@ lies_in b (t ∷ order) p k once from before =
     let x = lies_later b t w.state order p k (nat_eq t w.state) refl once.0 w.placed w.from w.before in
     record {
       state = w.state;
-      placed = or_second (nat_eq t w.state) (is_placed order w.state) w.placed;
+      placed = or_right (nat_eq t w.state) (is_placed order w.state) w.placed;
       from = x.0;
       before = x.1;
     })

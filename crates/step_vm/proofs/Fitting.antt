@@ -2,6 +2,7 @@
 use Rattle.std.proofs.Common.{◌≡◌, ◌∙◌, ℕ, zero, suc, ◌+◌, ℤ, pos, ◌+ℤ◌, Bool, true, false, if◌then◌else◌, List, [], ◌∷◌, length, take, replicate, Option, Some, None, refl, sym, ap, subst, arith, length-append}
 use Rattle.std.specs.Prelude.{slice_get, int_lt, Result, Ok, Err}
 use Rattle.std.proofs.lemmas.List.{length-set, length-replicate, length-take-le}
+use Rattle.std.proofs.lemmas.Bool.{not-false}
 use Rattle.pals_base.specs.declared.values.Trap.{Trap}
 use Rattle.pals_base.specs.declared.values.Frame.{Frame}
 use Rattle.pals_base.specs.declared.values.Port.{Port as Value}
@@ -17,7 +18,7 @@ use Rattle.step_code.specs.Step.{Next, Goes, Ends, Traps, Sticks, Senses, on_top
 use Rattle.step_code.specs.proof.Exec.{Outcome, Ended, Trapped, Stuck, Unfinished, then_run, run, left, from_entry, unless_halted, exec, Leaves, has_entry, FitsCode}
 use Rattle.step_code.specs.Made.{silent, senses, slots_of}
 use Rattle.step_code.specs.proof.Rules.{finds, misses_slot, on_some, BadSlot, IsVerified}
-use Rattle.step_code.proofs.Refusals.{untrue, not_false}
+use Rattle.step_code.proofs.Refusals.{untrue}
 use Rattle.step_code.proofs.Ending.{length-holding, begins}
 
 -- the slots stay as many, and only an End ends the step
@@ -142,7 +143,7 @@ ends_at code s (suc m) n p state stack slots slots' outs outs' size ended =
 entered : (c : CodeParts) (p state : ℕ) → IsVerified c → slice_get c.instrs p ≡ Some (End state)
     → has_entry (slice_get c.entries state) ≡ true
 entered c p state v here =
-    not_false (has_entry (slice_get c.entries state))
+    not-false (has_entry (slice_get c.entries state))
     (ap (λ o. on_some o (misses_slot c p)) (sym here) ∙ untrue (finds c (misses_slot c p) p) (v.clean p BadSlot))
 
 ended_fits : (c : CodeParts) (held : Frame) (o : Outcome) (f : Fired) → IsVerified c → FitsCode c held

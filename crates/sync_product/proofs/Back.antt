@@ -4,6 +4,7 @@ use Rattle.std.proofs.Common.{get_or, Some, slice_get, Contains, sym, ap, ap₂,
 use Rattle.std.proofs.lemmas.Bool.{eqb-true, eq-eqb, true≢false}
 use Rattle.std.proofs.lemmas.List.Elements.{All-contains, Contains-get_or}
 use Rattle.std.proofs.lemmas.Option.{slice_get_within}
+use Rattle.list_lemmas.proofs.Places.{Contains-from_slice_get, slice_get-from_Contains, slice_get-map_some, slice_get-map_parts}
 use Rattle.pals_model.specs.declared.design.Link.{Link}
 use Rattle.pals_model.specs.declared.design.Feed.{Feed}
 use Rattle.pals_model.specs.declared.design.DesignParts.{DesignParts}
@@ -15,7 +16,6 @@ use Rattle.pals_model.proofs.RootInputLaws.{root_inputs_are_feeds}
 use Rattle.pals_model.proofs.ShapeLaws.{component_at}
 use Rattle.sync_product.specs.proof.Renumbered.{renumbered_link, renumbered_feed, values_of, IsRenumbered, AreSameInputs}
 use Rattle.sync_product.proofs.Counting.{Search, search_below, too_many}
-use Rattle.sync_product.proofs.Elements.{contains_at, at_contains, image_at, from_image}
 use Rattle.sync_product.proofs.Images.{images_back}
 use Rattle.sync_product.proofs.Parts.{feed_back}
 
@@ -101,10 +101,10 @@ module _ (to : ℕ → ℕ) (a b : DesignParts) (r : IsRenumbered to a b) where
   root_of_both : (name : List ℕ) → Contains (root_inputs b) name → Contains (root_inputs a) name
   root_of_both name is =
       let among = (root_inputs_are_feeds b name).0 is in
-      let fed = from_image (λ (f : Feed). f.name) b.feeds among.0 name (at_contains (feed_names b) name among) in
+      let fed = slice_get-map_parts (λ (f : Feed). f.name) b.feeds among.0 name (slice_get-from_Contains (feed_names b) name among) in
       let first = feed_back to a b r among.0 fed.0 fed.1 in
       let feed : Feed = first.1 in
-      let named = contains_at (feed_names a) first.0 feed.name (image_at (λ (f : Feed). f.name) a.feeds first.0 feed first.2) in
+      let named = Contains-from_slice_get (feed_names a) first.0 feed.name (slice_get-map_some (λ (f : Feed). f.name) a.feeds first.0 feed first.2) in
       subst (Contains (root_inputs a)) (ap (λ (f : Feed). f.name) first.3 ∙ fed.2) ((root_inputs_are_feeds a feed.name).1 named)
 
   pub same_inputs_back : (env_a env_b : Env) → AreSameInputs a b env_a env_b → AreSameInputs b a env_b env_a

@@ -1,11 +1,11 @@
 -- What a counter does is a behaviour.
-use Rattle.std.proofs.Common.{◌≡◌, ◌≢◌, ◌∙◌, ℕ, zero, suc, false, List, [], ◌∷◌, Option, None, Some, All, AllPairs, Contains}
-use Rattle.std.proofs.Common.{cond, slice_get, refl, sym, ap, subst, arith}
-use Rattle.std.specs.Prelude.{bytes_eq, codes}
+use Rattle.std.proofs.Common.{◌≡◌, ◌≢◌, ℕ, zero, suc, List, [], ◌∷◌, Option, None, Some, All, AllPairs, Contains}
+use Rattle.std.proofs.Common.{cond, slice_get, refl, ap, subst, arith}
+use Rattle.std.specs.Prelude.{codes}
 use Rattle.std.proofs.lemmas.Bool.{ne_eqb, true≢false}
 use Rattle.std.proofs.lemmas.List.Elements.{All-nil, All-cons}
 use Rattle.std.proofs.lemmas.List.Kept.{AllPairs-cons}
-use Rattle.std.proofs.lemmas.Slice.Eq.{bytes_eq-Decides}
+use Rattle.list_lemmas.proofs.Pairs.{AllPairs-one, AllPairs-three, bytes_ne_by_test}
 use Rattle.pals_base.specs.declared.behaviour.BehaviourParts.{BehaviourParts}
 use Rattle.pals_base.specs.declared.behaviour.StateDecl.{StateDecl}
 use Rattle.pals_base.specs.Rules.{IsBehaviour, IsAcyclic}
@@ -18,20 +18,8 @@ use Rattle.pals_model.specs.proof.Counters.{two_counters}
 pub all_of_two : {X : Type 0} (P : X → Type 0) (x y : X) → P x → P y → All P (x ∷ y ∷ [])
 all_of_two P x y first second = All-cons P x (y ∷ []) first (All-cons P y [] second (All-nil P))
 
-pub no_pairs : {X : Type 0} (R : X → X → Type 0) → AllPairs R []
-no_pairs R i j d less within = absurd (omega arith)
-
-no_pair_of_one : {X : Type 0} (R : X → X → Type 0) (x : X) → AllPairs R (x ∷ [])
-no_pair_of_one R x = AllPairs-cons R x [] (All-nil (R x)) (no_pairs R)
-
 pub pair_of_two : {X : Type 0} (R : X → X → Type 0) (x y : X) → R x y → AllPairs R (x ∷ y ∷ [])
-pair_of_two R x y both = AllPairs-cons R x (y ∷ []) (All-cons (R x) y [] both (All-nil (R x))) (no_pair_of_one R y)
-
-pairs_of_three : {X : Type 0} (R : X → X → Type 0) (x y z : X) → R x y → R x z → R y z → AllPairs R (x ∷ y ∷ z ∷ [])
-pairs_of_three R x y z xy xz yz = AllPairs-cons R x (y ∷ z ∷ []) (all_of_two (R x) y z xy xz) (pair_of_two R y z yz)
-
-pub unlike : (x y : List ℕ) → bytes_eq x y ≡ false → x ≢ y
-unlike x y differ same = true≢false (sym ((bytes_eq-Decides x y).1 same) ∙ differ)
+pair_of_two R x y both = AllPairs-cons R x (y ∷ []) (All-cons (R x) y [] both (All-nil (R x))) (AllPairs-one R y)
 
 -- ---- a counter
 abbrev behaviour_in : Option Component → BehaviourParts
@@ -58,9 +46,9 @@ pub counter_behaves : IsBehaviour counter
 counter_behaves = record {
   names = record {
     values = refl;
-    values_differ = pairs_of_three (λ (x y : List ℕ). x ≢ y) (codes "i") (codes "o") (codes "x") (unlike _ _ refl) (unlike _ _ refl) (unlike _ _ refl);
+    values_differ = AllPairs-three (λ (x y : List ℕ). x ≢ y) (codes "i") (codes "o") (codes "x") (bytes_ne_by_test _ _ refl) (bytes_ne_by_test _ _ refl) (bytes_ne_by_test _ _ refl);
     states = refl;
-    states_differ = no_pair_of_one (λ (s t : StateDecl). s.name ≢ t.name) _;
+    states_differ = AllPairs-one (λ (s t : StateDecl). s.name ≢ t.name) _;
   };
   firsts = refl;
   initial = refl;

@@ -2,6 +2,7 @@
 use Rattle.std.proofs.Common.{◌≢◌, ◌≤◌, ℕ, List, [], ◌∷◌, length, All, IsTrue, refl, arith}
 use Rattle.std.specs.Prelude.{codes}
 use Rattle.std.proofs.lemmas.List.Elements.{All-nil}
+use Rattle.list_lemmas.proofs.Pairs.{AllPairs-nil, bytes_ne_by_test}
 use Rattle.pals_base.specs.declared.limits.TheConstants.{PATH_BYTES}
 use Rattle.pals_base.specs.Names.{is_word, is_path}
 use Rattle.pals_model.specs.declared.design.Component.{Component}
@@ -12,7 +13,7 @@ use Rattle.pals_model.specs.declared.design.DesignParts.{DesignParts}
 use Rattle.pals_model.specs.proof.Counters.{two_counters}
 use Rattle.pals_model.specs.Rules.{IsComponent, IsLink, IsFeed, IsTap, IsApart, LinkPrecedes, FeedPrecedes, AgreeInKind, AreLinks, AreFeeds, IsDesign}
 use Rattle.sync_product.specs.proof.Exchanged.{exchanged_counters, fed, fed_counters, exchanged_fed_counters}
-use Rattle.sync_product.proofs.Counter.{all_of_two, no_pairs, pair_of_two, unlike, counter, counter_behaves}
+use Rattle.sync_product.proofs.Counter.{all_of_two, pair_of_two, counter, counter_behaves}
 
 abbrev counter_at : List ℕ → Component
 counter_at path = record { path = path; rate = 1; behaviour = counter }
@@ -42,7 +43,7 @@ no_links : (feeds : List Feed) (first second : List ℕ) → AreLinks (design_of
 no_links feeds first second = record {
   each = All-nil (IsLink (design_of [] feeds first second));
   count = omega arith;
-  order = no_pairs LinkPrecedes;
+  order = AllPairs-nil LinkPrecedes;
 }
 
 links_are : (first second : List ℕ) → AreLinks (design_of two_counters.links [] first second)
@@ -76,8 +77,8 @@ no_feeds links first second =
     let design = design_of links [] first second in
     record {
       each = All-nil (IsFeed design);
-      order = no_pairs FeedPrecedes;
-      kinds = no_pairs (AgreeInKind design);
+      order = AllPairs-nil FeedPrecedes;
+      kinds = AllPairs-nil (AgreeInKind design);
       apart = All-nil (λ (feed : Feed). All (IsApart feed) links);
     }
 
@@ -109,17 +110,17 @@ design_is links feeds first second is_first is_second differ are_links are_feeds
       };
       links = are_links;
       feeds = are_feeds;
-      taps = record { each = All-nil (IsTap design); names_differ = no_pairs (λ (x y : Tap). x.name ≢ y.name) };
+      taps = record { each = All-nil (IsTap design); names_differ = AllPairs-nil (λ (x y : Tap). x.name ≢ y.name) };
       bound = omega arith;
     }
 
 a_then_b : (links : List Link) (feeds : List Feed) → AreLinks (design_of links feeds (codes "p.a") (codes "p.b"))
     → AreFeeds (design_of links feeds (codes "p.a") (codes "p.b")) → IsDesign (design_of links feeds (codes "p.a") (codes "p.b"))
-a_then_b links feeds = design_is links feeds (codes "p.a") (codes "p.b") a_is b_is (unlike (codes "p.a") (codes "p.b") refl)
+a_then_b links feeds = design_is links feeds (codes "p.a") (codes "p.b") a_is b_is (bytes_ne_by_test (codes "p.a") (codes "p.b") refl)
 
 b_then_a : (links : List Link) (feeds : List Feed) → AreLinks (design_of links feeds (codes "p.b") (codes "p.a"))
     → AreFeeds (design_of links feeds (codes "p.b") (codes "p.a")) → IsDesign (design_of links feeds (codes "p.b") (codes "p.a"))
-b_then_a links feeds = design_is links feeds (codes "p.b") (codes "p.a") b_is a_is (unlike (codes "p.b") (codes "p.a") refl)
+b_then_a links feeds = design_is links feeds (codes "p.b") (codes "p.a") b_is a_is (bytes_ne_by_test (codes "p.b") (codes "p.a") refl)
 
 pub counters_are_designs : IsDesign two_counters × IsDesign exchanged_counters
 counters_are_designs = (

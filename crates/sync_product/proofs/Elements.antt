@@ -1,28 +1,10 @@
 -- Elements of lists, by their places.
-use Rattle.std.proofs.Common.{◌≡◌, ◌⊎◌, ◌∙◌, inl, inr, ℕ, zero, suc, Bool, true, false, List, [], ◌∷◌, map, Some, All}
-use Rattle.std.proofs.Common.{Contains, slice_get, slice_index_or, refl, ap}
-use Rattle.std.specs.Option.{option_map}
+use Rattle.std.proofs.Common.{◌≡◌, ◌⊎◌, inl, inr, ℕ, zero, suc, Bool, true, false, List, [], ◌∷◌, Some, All}
+use Rattle.std.proofs.Common.{slice_get, slice_index_or, refl}
 use Rattle.std.proofs.lemmas.List.Elements.{All-nil, All-cons}
-use Rattle.std.proofs.lemmas.Option.{slice_get_within, slice_get-get_or, slice_get-map, get_or_from_slice_get, same_Some}
 use Rattle.pals_base.specs.declared.values.Port.{Port}
 use Rattle.pals_base.specs.declared.values.Port.TheVariants.{Absent}
 use Rattle.pals_base.specs.Steps.{column}
-
-pub contains_at : {X : Type 0} (xs : List X) (k : ℕ) (x : X) → slice_get xs k ≡ Some x → Contains xs x
-contains_at xs k x is = (k, slice_get_within xs k x is, get_or_from_slice_get xs k x x is)
-
-pub at_contains : {X : Type 0} (xs : List X) (x : X) → (h : Contains xs x) → slice_get xs h.0 ≡ Some x
-at_contains xs x h = slice_get-get_or xs h.0 x h.1 ∙ ap Some h.2
-
--- ---- images
-pub image_at : {X Y : Type 0} (f : X → Y) (xs : List X) (k : ℕ) (x : X) → slice_get xs k ≡ Some x → slice_get (map f xs) k ≡ Some (f x)
-image_at f xs k x is = slice_get-map f xs k ∙ ap (option_map f) is
-
-pub from_image : {X Y : Type 0} (f : X → Y) (xs : List X) (k : ℕ) (y : Y) → slice_get (map f xs) k ≡ Some y
-    → (x : X) × (slice_get xs k ≡ Some x) × (f x ≡ y)
-from_image f [] k y is = absurd (cc)
-from_image f (x ∷ xs) zero y is = (x, refl, same_Some (f x) y is)
-from_image f (x ∷ xs) (suc k) y is = from_image f xs k y is
 
 -- ---- an element passes a test, or none does
 abbrev pub Passes : {X : Type 0} → (X → Bool) → List X → Type 0

@@ -4,6 +4,7 @@ use Rattle.std.proofs.Common.{slice_index_or, sym, ap, ap₂, subst}
 use Rattle.std.proofs.lemmas.Bool.{eqb-true, and_parts}
 use Rattle.std.proofs.lemmas.List.Elements.{All-contains}
 use Rattle.std.proofs.lemmas.Option.{get_or_from_slice_get}
+use Rattle.list_lemmas.proofs.Places.{Contains-from_slice_get, slice_get-map_some}
 use Rattle.pals_base.specs.declared.values.Port.{Port}
 use Rattle.pals_base.specs.declared.values.Port.TheVariants.{Absent}
 use Rattle.pals_base.specs.Adaptors.{adapt}
@@ -17,13 +18,13 @@ use Rattle.pals_model.proofs.Lookups.{at_element}
 use Rattle.pals_model.proofs.SourceLaws.{link_is_source, feed_is_source, nothing_is_source}
 use Rattle.pals_model.proofs.RootInputLaws.{root_inputs_are_feeds}
 use Rattle.sync_product.specs.proof.Renumbered.{renumbered_link, renumbered_feed, IsRenumbered, values_of, AreSameInputs}
-use Rattle.sync_product.proofs.Elements.{Passes, some_or_none, contains_at, image_at, column_at}
+use Rattle.sync_product.proofs.Elements.{Passes, some_or_none, column_at}
 use Rattle.sync_product.proofs.Images.{none_there}
 use Rattle.sync_product.proofs.Parts.{rate_there, same_number, link_there, feed_there}
 
 -- ---- root in ports
 feed_name : (design : DesignParts) (f : ℕ) (feed : Feed) → slice_get design.feeds f ≡ Some feed → slice_get (feed_names design) f ≡ Some feed.name
-feed_name design f feed is = image_at (λ (x : Feed). x.name) design.feeds f feed is
+feed_name design f feed is = slice_get-map_some (λ (x : Feed). x.name) design.feeds f feed is
 
 -- the value that a feed reads in a round
 value_is : (design : DesignParts) (env : Env) (round f : ℕ) (feed : Feed) → slice_get design.feeds f ≡ Some feed
@@ -85,7 +86,7 @@ module _ (to : ℕ → ℕ) (a b : DesignParts) (sound_a : IsDesign a) (sound_b 
     value_there : (f g : ℕ) (feed : Feed) → slice_get a.feeds f ≡ Some feed → slice_get b.feeds g ≡ Some (renumbered_feed to feed)
         → slice_index_or (values_at env_b round) (root_of b g) Absent ≡ slice_index_or (values_at env_a round) (root_of a f) Absent
     value_there f g feed is_a is_b =
-        let named = contains_at (feed_names a) f feed.name (feed_name a f feed is_a) in
+        let named = Contains-from_slice_get (feed_names a) f feed.name (feed_name a f feed is_a) in
         let root = (root_inputs_are_feeds a feed.name).1 named in
         value_is b env_b round g (renumbered_feed to feed) is_b
         ∙ ap (λ list. slice_index_or list round Absent)

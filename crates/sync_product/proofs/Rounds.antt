@@ -3,6 +3,7 @@ use Rattle.std.proofs.Common.{◌≡◌, ◌∙◌, ℕ, zero, suc, ◌<◌, nat
 use Rattle.std.proofs.Common.{slice_get, slice_index_or, refl, sym, ap, ap₂}
 use Rattle.std.proofs.lemmas.List.Elements.{All-weaker}
 use Rattle.std.proofs.lemmas.Option.{slice_get_within, get_or_from_slice_get}
+use Rattle.list_lemmas.proofs.Places.{slice_get-map_some}
 use Rattle.pals_base.specs.declared.values.Port.{Port}
 use Rattle.pals_base.specs.declared.values.Port.TheVariants.{Absent}
 use Rattle.pals_base.specs.declared.values.Frame.{Frame}
@@ -23,7 +24,6 @@ use Rattle.pals_model.proofs.Lookups.{at_element}
 use Rattle.pals_model.proofs.ShapeLaws.{component_at}
 use Rattle.pals_model.proofs.CompositionLaws.{state_begins, state_goes_on, message_from_source, part_from_steps}
 use Rattle.sync_product.specs.proof.Renumbered.{renumbered_link, renumbered_tap, IsRenumbered, AreSameInputs}
-use Rattle.sync_product.proofs.Elements.{image_at}
 use Rattle.sync_product.proofs.Parts.{component_there, rate_there}
 use Rattle.sync_product.proofs.Readings.{SameMessages, brings}
 use Rattle.sync_product.proofs.RenumberedTaps.{shown, same_shown}
@@ -34,7 +34,7 @@ link_begins : (design : DesignParts) (env : Env) (l : ℕ) (link : Link) → sli
 unfolding comp
 link_begins design env l link is =
     let begins : Link → List Port = λ (x : Link). replicate (rate_of design x.source.0) Absent in
-    get_or_from_slice_get (map begins design.links) l (begins link) [] (image_at begins design.links l link is)
+    get_or_from_slice_get (map begins design.links) l (begins link) [] (slice_get-map_some begins design.links l link is)
 
 abbrev part_with : Frame → List (List Port) → Part
 part_with frame outs = record { frame = frame; outs = outs }

@@ -13,8 +13,9 @@ use Rattle.pals_model.specs.Inputs.{rate_of, rate_in}
 use Rattle.sync_product.specs.declared.stage.Stage.{Stage}
 use Rattle.sync_product.specs.proof.Sizes.{StageSize, stage_size, stage_size_of, stage_sizes, message_sizes}
 use Rattle.sync_product.proofs.Sizing.{count_of_rows}
-use Rattle.sync_product.proofs.Tables.{sized_at, mapped-at}
+use Rattle.sync_product.proofs.Tables.{sized_at}
 use Rattle.std.proofs.Common.{Some}
+use Rattle.list_lemmas.proofs.Places.{slice_get-map_some}
 
 -- a message has a place for each row of its source
 pub sized_message : (design : DesignParts) (stages : List Stage) (messages : List (List Port)) (number source : ℕ) (link : Link) (message : List Port) (stage : Stage)
@@ -24,13 +25,13 @@ pub sized_message : (design : DesignParts) (stages : List Stage) (messages : Lis
     → length message ≡ length stage.rows
 sized_message design stages messages number source link message stage stages_fit messages_fit is_link from within message_is stage_is =
     let size = sized_at (λ (tuple : List Port). length tuple) messages (message_sizes design) number message (rate_of design link.source.0) messages_fit
-    (mapped-at (λ (l : Link). rate_of design l.source.0) design.links number link is_link) message_is in
+    (slice_get-map_some (λ (l : Link). rate_of design l.source.0) design.links number link is_link) message_is in
     elim (slice_get_cases design.components source).1 [
       | inl found ↦
           let comp = found.0 in
           let sent = sent_steps design.gamma design.period comp.rate in
           let room = sized_at stage_size stages (stage_sizes design) source stage (stage_size_of sent comp) stages_fit
-          (mapped-at (λ (d : Component). stage_size_of (sent_steps design.gamma design.period d.rate) d) design.components source comp found.2) stage_is in
+          (slice_get-map_some (λ (d : Component). stage_size_of (sent_steps design.gamma design.period d.rate) d) design.components source comp found.2) stage_is in
           size
           ∙ ap (rate_of design) (sym from)
           ∙ ap rate_in found.2

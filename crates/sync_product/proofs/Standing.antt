@@ -5,6 +5,8 @@ use Rattle.std.proofs.lemmas.Bool.{eqb-true}
 use Rattle.std.proofs.lemmas.List.{length-map}
 use Rattle.std.proofs.lemmas.List.Elements.{All-head, All-tail}
 use Rattle.std.proofs.lemmas.Option.{slice_get_cases, get_or_from_slice_get}
+use Rattle.list_lemmas.proofs.Places.{slice_get-map_some}
+use Rattle.list_lemmas.proofs.Lists.{same_from_places}
 use Rattle.pals_base.specs.declared.values.Port.{Port}
 use Rattle.pals_base.specs.declared.values.Frame.{Frame}
 use Rattle.pals_base.specs.Bound.{sent_steps}
@@ -25,17 +27,9 @@ use Rattle.sync_product.specs.proof.Sizes.{StageSize, stage_size, stage_size_of,
 use Rattle.sync_product.specs.proof.Rounds.{AreStepped, frames_of, own_part, own_rows, sent_by, sent_from}
 use Rattle.sync_product.specs.proof.State.{ProductState, advanced, parts_of}
 use Rattle.sync_product.proofs.Sizing.{length-upwards}
-use Rattle.sync_product.proofs.Tables.{mapped-at, sized_at, count_of_sized}
+use Rattle.sync_product.proofs.Tables.{sized_at, count_of_sized}
 
 -- ---- lists with equal elements
-same_elements : {X : Type 0} (xs ys : List X) → length xs ≡ length ys → ((k : ℕ) → k < length xs → slice_get xs k ≡ slice_get ys k) → xs ≡ ys
-same_elements [] [] size same = refl
-same_elements [] (y ∷ ys) size same = absurd (omega arith)
-same_elements (x ∷ xs) [] size same = absurd (omega arith)
-same_elements (x ∷ xs) (y ∷ ys) size same =
-    let first : Some x ≡ Some y = same 0 (omega arith) in
-    let is : x ≡ y = cc in
-    ap₂ (λ z zs. z ∷ zs) is (same_elements xs ys (omega arith) (λ k within. same (suc k) (omega arith)))
 
 counted-at : {A : Type 0} (f : ℕ → A) (from n k : ℕ) → k < n → slice_get (map f (upwards from n)) k ≡ Some (f (from + k))
 counted-at f from zero k within = absurd (omega arith)
@@ -95,7 +89,7 @@ own_part-is round frames node c rules size is =
     let all = all_of round frames in
     let found = all-at round frames node c size is in
     ap₂ (λ (f : Frame) (os : List (List Port)). let p : Part = record { frame = f; outs = os } in p)
-    (sym (get_or_from_slice_get (map (λ (s : Stepped). s.frame) all) node _ no_frame (mapped-at (λ (s : Stepped). s.frame) all node _ found)))
+    (sym (get_or_from_slice_get (map (λ (s : Stepped). s.frame) all) node _ no_frame (slice_get-map_some (λ (s : Stepped). s.frame) all node _ found)))
     (shown round.design.now node c (own_rows round frames node c) round.design.now.taps is rules.taps.each
     ∙ sym (ap (λ o. map (λ (tap : Tap). tuple_in o tap.out_port) (taps_of round.design.now node)) found))
 
@@ -105,7 +99,7 @@ standing_parts round frames parts stages rules size count stepped =
     let design = round.design.now in
     let made = part_of design (all_of round frames) in
     let many : length (map made (upwards 0 (length design.components))) ≡ length design.components = length-map (upwards 0 (length design.components)) made ∙ length-upwards 0 (length design.components) in
-    same_elements parts (map made (upwards 0 (length design.components))) (omega arith)
+    same_from_places parts (map made (upwards 0 (length design.components))) (omega arith)
     (λ k within.
     elim (slice_get_cases design.components k).1 [
       | inl found ↦
@@ -123,12 +117,12 @@ standing_frames round frames parts stages size count stepped =
     let ours = length-map parts (λ (p : Part). p.frame) in
     let theirs = length-map all (λ (s : Stepped). s.frame) in
     let made = length-steps design round.values.now round.messages.now 0 design.components frames size in
-    same_elements (frames_of parts) (map (λ (s : Stepped). s.frame) all) (omega arith)
+    same_from_places (frames_of parts) (map (λ (s : Stepped). s.frame) all) (omega arith)
     (λ k within.
     elim (slice_get_cases design.components k).1 [
       | inl found ↦
-          mapped-at (λ (p : Part). p.frame) parts k _ (stepped k found.0 found.2).part
-          ∙ sym (mapped-at (λ (s : Stepped). s.frame) all k _ (all-at round frames k found.0 size found.2))
+          slice_get-map_some (λ (p : Part). p.frame) parts k _ (stepped k found.0 found.2).part
+          ∙ sym (slice_get-map_some (λ (s : Stepped). s.frame) all k _ (all-at round frames k found.0 size found.2))
       | inr past ↦ absurd (omega (arith, past.0))
     ])
 
@@ -150,10 +144,10 @@ message_is round frames parts stages link size stepped fit kept =
                 let stage = staged.0 in
                 let rows = own_rows round frames source c in
                 let sent = sent_steps design.gamma design.period c.rate in
-                let rows_are : Some stage.rows ≡ Some rows = sym (mapped-at (λ (s : Stage). s.rows) stages source stage staged.2) ∙ (stepped source c found.2).rows in
+                let rows_are : Some stage.rows ≡ Some rows = sym (slice_get-map_some (λ (s : Stage). s.rows) stages source stage staged.2) ∙ (stepped source c found.2).rows in
                 let same : stage.rows ≡ rows = cc in
                 let room = sized_at stage_size stages (stage_sizes design) source stage (stage_size_of sent c) fit
-                (mapped-at (λ (d : Component). stage_size_of (sent_steps design.gamma design.period d.rate) d) design.components source c found.2) (sym staged.3) in
+                (slice_get-map_some (λ (d : Component). stage_size_of (sent_steps design.gamma design.period d.rate) d) design.components source c found.2) (sym staged.3) in
                 let within : port < length c.behaviour.outs = omega (arith, kept.source.port_is, ap outs_in found.2) in
                 let tuple = get_or_from_slice_get (columns (length c.behaviour.outs) rows) port (column port rows) [] (slice_get-columns (length c.behaviour.outs) rows port within) in
                 ap (λ o. sent_from o port) staged.2

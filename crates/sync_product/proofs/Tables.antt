@@ -1,14 +1,11 @@
 -- Lists with an element for each component, and their elements.
 use Rattle.std.proofs.Common.{◌≡◌, ◌∙◌, ℕ, zero, suc, ◌+◌, ◌<◌, List, [], ◌∷◌, length, map, set, slice_get, slice_index_or, Some, refl, sym, ap, arith}
-use Rattle.std.specs.Option.{option_map}
 use Rattle.std.specs.List.{enumerate_from}
 use Rattle.std.proofs.lemmas.List.{length-map, get_or-map}
-use Rattle.std.proofs.lemmas.Option.{slice_get-map, slice_get_within, slice_get_read, get_or_from_slice_get}
+use Rattle.std.proofs.lemmas.Option.{slice_get_within, slice_get_read, get_or_from_slice_get}
+use Rattle.list_lemmas.proofs.Lists.{length-map_enumerate_from}
 
 -- ---- numbered elements
-pub length-numbered : {X Y : Type 0} (f : ℕ × X → Y) (from : ℕ) (xs : List X) → length (map f (enumerate_from from xs)) ≡ length xs
-length-numbered f from [] = refl
-length-numbered f from (x ∷ xs) = ap suc (length-numbered f (from + 1) xs)
 
 numbered-from : {X Y : Type 0} (f : ℕ × X → Y) (from : ℕ) (xs : List X) (k n : ℕ) (x : X) → n ≡ from + k → slice_get xs k ≡ Some x → slice_get (map f (enumerate_from from xs)) k ≡ Some (f (n, x))
 numbered-from f from [] k n x at is = absurd (cc)
@@ -35,9 +32,6 @@ sized_at size xs wanted k x s same is item =
 pub count_of_sized : {X S : Type 0} (size : X → S) (xs : List X) (wanted : List S) → map size xs ≡ wanted → length xs ≡ length wanted
 count_of_sized size xs wanted same = sym (length-map xs size) ∙ ap length same
 
-pub mapped-at : {X Y : Type 0} (f : X → Y) (xs : List X) (k : ℕ) (x : X) → slice_get xs k ≡ Some x → slice_get (map f xs) k ≡ Some (f x)
-mapped-at f xs k x is = slice_get-map f xs k ∙ ap (option_map f) is
-
 -- ---- what is written
 pub slice_get-set_same : {X : Type 0} (xs : List X) (i : ℕ) (y : X) → i < length xs → slice_get (set xs i y) i ≡ Some y
 slice_get-set_same [] i y within = absurd (omega arith)
@@ -52,10 +46,10 @@ slice_get-set_other (x ∷ xs) (suc i) (suc k) y other = slice_get-set_other xs 
 
 -- ---- places that are there
 pub within_table : {X Y : Type 0} (f : ℕ × X → Y) (table : List Y) (xs items : List X) (k : ℕ) → table ≡ map f (enumerate_from 0 xs) → items ≡ xs → k < length items → k < length table
-within_table f table xs items k same is within = omega (arith, ap length same, length-numbered f 0 xs, ap length is)
+within_table f table xs items k same is within = omega (arith, ap length same, length-map_enumerate_from f 0 xs, ap length is)
 
 pub within_sized : {X S Y : Type 0} (size : X → S) (xs : List X) (f : ℕ × Y → S) (ys items : List Y) (k : ℕ) → map size xs ≡ map f (enumerate_from 0 ys) → items ≡ ys → k < length items → k < length xs
-within_sized size xs f ys items k same is within = omega (arith, length-map xs size, ap length same, length-numbered f 0 ys, ap length is)
+within_sized size xs f ys items k same is within = omega (arith, length-map xs size, ap length same, length-map_enumerate_from f 0 ys, ap length is)
 
 -- the element of a loop
 pub item_at : {X : Type 0} (xs items : List X) (k : ℕ) (x : X) → items ≡ xs → k < length items → x ≡ slice_index_or items k x → slice_get xs k ≡ Some x

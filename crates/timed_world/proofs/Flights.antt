@@ -3,6 +3,7 @@ use Rattle.std.proofs.Common.{◌≡◌, ◌⊎◌, inl, inr, ℕ, suc, ◌+◌,
 use Rattle.std.specs.Prelude.{is_some, if◌then◌else◌}
 use Rattle.std.proofs.lemmas.Bool.{cases_order, cases_lt, cases_eq, eq-eqb, ne_eqb}
 use Rattle.std.proofs.lemmas.List.Sums.{sum_by-cons}
+use Rattle.bus_machine.proofs.Moves.{sent_most}
 use Rattle.pals_base.specs.declared.limits.TheConstants.{READING, ROUNDS}
 use Rattle.pals_base.specs.Bound.{alarm}
 use Rattle.pals_model.specs.declared.flight.FlightCopy.{FlightCopy}
@@ -20,7 +21,7 @@ use Rattle.run_laws.specs.Faults.{or_else, first_of, past, copy_past, link_past}
 use Rattle.run_laws.specs.proof.Kept.{KeepsTime, copies}
 use Rattle.run_laws.proofs.WorldTimes.{alarm_next, alarm_more, arrives_before}
 use Rattle.run_laws.proofs.Nodes.{fits_at, counts_close}
-use Rattle.run_laws.proofs.Links.{under_way, in_flight_counts, counts_in_flight, rule_of, sent_most}
+use Rattle.run_laws.proofs.Links.{under_way, in_flight_counts, counts_in_flight, rule_of}
 use Rattle.run_laws.proofs.WorldNumbers.{times_are_readings}
 use Rattle.timed_world.specs.proof.Passes.{flying_past}
 use Rattle.timed_world.proofs.Rows.{goes_past, has_found}

@@ -2,6 +2,8 @@
 use Rattle.std.proofs.Common.{◌≡◌, ℕ, Bool, true, false, ◌&&◌, List, Option, Some, None, refl, sym, ap, ◌∙◌}
 use Rattle.std.specs.Prelude.{is_none}
 use Rattle.std.specs.Option.{option_map_or}
+use Rattle.std.proofs.Math.Bool.{and-true}
+use Rattle.std.proofs.lemmas.Bool.{and_left, and_right}
 use Rattle.pals_model.proofs.Words.{same_bytes}
 use Rattle.pals_runs.specs.declared.journal.JournalEntry.{JournalEntry}
 use Rattle.pals_runs.specs.Journal.{entry_line}
@@ -13,10 +15,6 @@ use Rattle.bus_machine.specs.Replay.{entries}
 use Rattle.run_laws.specs.TraceLines.{timed, event_of}
 use Rattle.run_laws.specs.TraceRules.{broken, falls, first_entry, fits, is_in_order, is_line_of, tells_stop, too_early, waits}
 use Rattle.trace_audit.specs.proof.FirstRules.{first_rule}
-
-and_true : (b : Bool) → (b && true) ≡ b
-and_true true = refl
-and_true false = refl
 
 -- an entry that tells an event with its own numbers, where no stop stands
 told_rule : (run : Run) (s : BusState) (readings : List ℕ) (e : JournalEntry) (event : BusEvent)
@@ -34,7 +32,7 @@ told_rule run s readings e event early falling waiting telling going is fit fall
     ∙ ap (λ b. first_rule (is_allowed run s event && b) (falls readings (timed run.design e)) (too_early run s e)
     (waits run s e) (is_line_of run.design e (first_entry (entries run s event)))) fit
     ∙ ap (λ b. first_rule b (falls readings (timed run.design e)) (too_early run s e) (waits run s e)
-    (is_line_of run.design e (first_entry (entries run s event)))) (and_true (is_allowed run s event))
+    (is_line_of run.design e (first_entry (entries run s event)))) (and-true (is_allowed run s event))
     ∙ ap (λ b. first_rule (is_allowed run s event) b (too_early run s e) (waits run s e)
     (is_line_of run.design e (first_entry (entries run s event)))) falls_is
     ∙ ap (λ o. first_rule (is_allowed run s event) falling o (waits run s e)
@@ -50,27 +48,20 @@ disordered run s readings e is =
     ap (λ b. first_rule b (falls readings (timed run.design e)) (too_early run s e) (waits run s e)
     (tells_stop run s e (event_of run.design e))) is
 
-no_left : (a b : Bool) → a ≡ false → (a && b) ≡ false
-no_left a b none = ap (λ x. x && b) none
-
-no_right : (a b : Bool) → b ≡ false → (a && b) ≡ false
-no_right true b none = none
-no_right false b none = refl
-
 -- an entry that tells other numbers than its event's
 pub unfit : (run : Run) (s : BusState) (readings : List ℕ) (e : JournalEntry) → fits run s e ≡ false
     → Some rule.Order ≡ broken run s readings e
 unfit run s readings e none =
     sym (disordered run s readings e
-    (no_right (is_none s.stop && option_map_or (is_allowed run s) (event_of run.design e) true) (fits run s e) none))
+    (and_right (is_none s.stop && option_map_or (is_allowed run s) (event_of run.design e) true) (fits run s e) none))
 
 -- an entry behind a stop
 pub stopped : (run : Run) (s : BusState) (readings : List ℕ) (e : JournalEntry) → is_none s.stop ≡ false
     → Some rule.Order ≡ broken run s readings e
 stopped run s readings e none =
     sym (disordered run s readings e
-    (no_left (is_none s.stop && option_map_or (is_allowed run s) (event_of run.design e) true) (fits run s e)
-    (no_left (is_none s.stop) (option_map_or (is_allowed run s) (event_of run.design e) true) none)))
+    (and_left (is_none s.stop && option_map_or (is_allowed run s) (event_of run.design e) true) (fits run s e)
+    (and_left (is_none s.stop) (option_map_or (is_allowed run s) (event_of run.design e) true) none)))
 
 -- an event that the machine does not allow
 pub refused : (run : Run) (s : BusState) (readings : List ℕ) (e : JournalEntry) (event : BusEvent)
@@ -79,8 +70,8 @@ refused run s readings e event is none =
     let here : option_map_or (is_allowed run s) (event_of run.design e) true ≡ false =
     ap (λ o. option_map_or (is_allowed run s) o true) is ∙ none in
     sym (disordered run s readings e
-    (no_left (is_none s.stop && option_map_or (is_allowed run s) (event_of run.design e) true) (fits run s e)
-    (no_right (is_none s.stop) (option_map_or (is_allowed run s) (event_of run.design e) true) here)))
+    (and_left (is_none s.stop && option_map_or (is_allowed run s) (event_of run.design e) true) (fits run s e)
+    (and_right (is_none s.stop) (option_map_or (is_allowed run s) (event_of run.design e) true) here)))
 
 -- ---- an event that it allows, before its alarm or release, and at its time
 pub early_breaks : (run : Run) (s : BusState) (readings : List ℕ) (e : JournalEntry) (event : BusEvent)

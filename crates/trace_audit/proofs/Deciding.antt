@@ -2,6 +2,9 @@
 use Rattle.std.proofs.Common.{◌≡◌, ◌↔◌, ℕ, zero, suc, ◌+◌, nat_eq, Bool, true, false, ◌||◌, cond, List, [], ◌∷◌, map, filter, slice_get, Some, IsTrue, refl, sym, ap, ◌∙◌, arith}
 use Rattle.std.specs.List.{list_any, enumerate_from}
 use Rattle.std.proofs.lemmas.Bool.{eq-eqb, eqb-true, false≢true}
+use Rattle.std.proofs.Math.Bool.{or-true}
+use Rattle.std.proofs.lemmas.Map.Keys.{any_passes_from_place}
+use Rattle.std.specs.Cmp.{both_ways}
 use Rattle.pals_model.specs.declared.design.Link.{Link}
 use Rattle.bus_machine.specs.States.{flight_at}
 use Rattle.run_laws.specs.TraceRules.{is_due, has_due}
@@ -9,15 +12,6 @@ use Rattle.pals_bus.specs.proof.Due.{HasDue}
 use Rattle.pals_bus.specs.Values.{BusValue}
 
 -- ---- one of a list
-or_right : (b : Bool) → (b || true) ≡ true
-or_right true = refl
-or_right false = refl
-
-any_at : {X : Type 0} (p : X → Bool) (xs : List X) (k : ℕ) (x : X) → slice_get xs k ≡ Some x → p x ≡ true
-    → list_any p xs ≡ true
-any_at p [] k x is passes = absurd (cc)
-any_at p (y ∷ ys) zero x is passes = let same : y ≡ x = cc in ap (λ b. b || list_any p ys) (ap p same ∙ passes)
-any_at p (y ∷ ys) (suc k) x is passes = ap (λ b. p y || b) (any_at p ys k x is passes) ∙ or_right (p y)
 
 abbrev AnyOf : {X : Type 0} → (X → Bool) → List X → Type 0
 AnyOf {X} p xs = (k : ℕ) × (x : X) × (slice_get xs k ≡ Some x) × (p x ≡ true)
@@ -57,7 +51,7 @@ into_at p node from (m ∷ links) (suc k) n l place is goes passes =
         → list_any p (map (λ numbered. numbered.0)
         (cond b ((from, m) ∷ filter (goes_to node) (enumerate_from (from + 1) links))
         (filter (goes_to node) (enumerate_from (from + 1) links)))) ≡ true
-    by true rest = ap (λ b. p from || b) rest ∙ or_right (p from)
+    by true rest = ap (λ b. p from || b) rest ∙ or-true (p from)
     by false rest = rest
 
 abbrev IntoOf : (ℕ → Bool) → ℕ → ℕ → List Link → Type 0
@@ -98,7 +92,7 @@ flies_due b reading link = list_any (is_due (Some reading)) (flight_at b.state l
 due_shown : (b : BusValue) (node reading : ℕ) → HasDue b node reading → has_due b.run b.state node (Some reading) ≡ true
 due_shown b node reading due =
     let d = due.is_due in
-    let flies = any_at (is_due (Some reading)) (flight_at b.state due.link) d.place d.copy d.is_copy d.due in
+    let flies = any_passes_from_place (is_due (Some reading)) (flight_at b.state due.link) d.place d.copy d.is_copy d.due in
     into_at (flies_due b reading) node 0 b.run.design.links due.link due.link d.the_link (omega arith) d.is_link
     (eq-eqb d.the_link.target.0 node d.to_node) flies
 
@@ -122,13 +116,8 @@ shown_due b node reading is =
       };
     }
 
-decided : (r s : Bool) → (r ≡ true → s ≡ true) → (s ≡ true → r ≡ true) → r ≡ s
-decided true s to from = sym (to refl)
-decided false true to from = from refl
-decided false false to from = refl
-
 pub due_is : (b : BusValue) (node reading : ℕ) (r : Bool) → (IsTrue r ↔ HasDue b node reading)
     → r ≡ has_due b.run b.state node (Some reading)
 due_is b node reading r both =
-    decided r (has_due b.run b.state node (Some reading)) (λ yes. due_shown b node reading (both.0 yes))
+    both_ways r (has_due b.run b.state node (Some reading)) (λ yes. due_shown b node reading (both.0 yes))
     (λ yes. both.1 (shown_due b node reading yes))

@@ -1,7 +1,7 @@
 -- The rows of rounds, made one after the other.
-use Rattle.std.proofs.Common.{Result, Ok, Err, OnOk, ◌≡◌, ℕ, zero, suc, ◌+◌, ◌<◌, List, ◌++◌, length, map, take, drop, sym, ap, ap₂, ◌∙◌, subst, arith, zero-add, append-nil}
+use Rattle.std.proofs.Common.{◌≡◌, ℕ, zero, suc, ◌+◌, ◌<◌, List, length, map, sym, ap, ap₂, ◌∙◌, subst, arith, zero-add}
 use Rattle.std.specs.Prelude.{Some, slice_get, slice_index_or}
-use Rattle.std.proofs.lemmas.List.{drop_all, length-map, take_all}
+use Rattle.std.proofs.lemmas.List.{length-map}
 use Rattle.pals_base.specs.declared.values.Port.{Port}
 use Rattle.pals_base.specs.declared.values.Port.TheVariants.{Absent}
 use Rattle.pals_base.specs.Steps.{upwards}
@@ -22,13 +22,6 @@ at_place f from (suc n) zero h = ap (λ m. Some (f m)) (omega arith)
 at_place f from (suc n) (suc k) h = let below : k < n = omega arith in
     at_place f (suc from) n k below ∙ ap (λ m. Some (f m)) (omega arith)
 
--- values that are written over others
-pub written_whole : {A : Type 0} (n : ℕ) (new old : List A) → n ≡ length old → length new ≡ length old
-    → take n (new ++ drop (length new) old) ≡ new
-written_whole n new old all same =
-    ap (λ rest. take n (new ++ rest)) (drop_all (length new) old (omega arith)) ∙ ap (take n) (append-nil new)
-    ∙ take_all n new (omega arith)
-
 pub length-values_at : (env : Env) (round : ℕ) → length (values_at env round) ≡ length env.lists
 length-values_at env round = length-map env.lists (λ list. slice_index_or list round Absent)
 
@@ -45,10 +38,6 @@ parts_made design shown env round old new values parts before here is parts_are 
     (parts_are ∙ ap (λ (s : ProductState). s.parts) after' ∙ has_parts_of_round design env round)
     ∙ at_place (λ n. part design env n round) 0 (length design.components) node below
     ∙ ap (λ n. Some (part design env n round)) (zero-add node))
-
-pub on_ok : {T E : Type 0} (r : Result T E) (P Q : Type 0) → (P → Q) → OnOk r P → OnOk r Q
-on_ok (Ok x) P Q go holds = go holds
-on_ok (Err e) P Q go holds = tt
 
 -- rows are of their product's design
 pub own_design : (design : DesignParts) (env : Env) (r : Rows) (rounds : ℕ) → AreRows design env r rounds

@@ -2,7 +2,7 @@
 use Rattle.std.proofs.Common.{◌≡◌, ◌≢◌, ℕ, nat_eq, Bool, true, false, ◌&&◌, List, ◌∷◌, Option, Some, None, refl, sym, ap, ap₂, ◌∙◌}
 use Rattle.std.specs.Prelude.{is_some, is_none, option_and_then}
 use Rattle.std.specs.Option.{option_map_or, unwrap_or}
-use Rattle.std.proofs.lemmas.Bool.{and_parts, eqb-true, eq-eqb}
+use Rattle.std.proofs.lemmas.Bool.{and_parts, eqb-true, eq-eqb, and_right}
 use Rattle.pals_base.specs.declared.values.NodeNo.{NodeNo}
 use Rattle.pals_runs.specs.declared.journal.Arrived.{Arrived}
 use Rattle.pals_runs.specs.declared.journal.Arrived.TheVariants.{Kept, Ignored, Early}
@@ -69,10 +69,6 @@ pub step_first : (run : Run) (s : BusState) (node : NodeNo) (round step : ℕ) (
 step_first run s node round step reading here next =
     ap₂ (λ r o. Some (entry.Step node r (unwrap_or o 0) reading)) (sym here) next
 
-no_right : (a b : Bool) → b ≡ false → (a && b) ≡ false
-no_right true b none = none
-no_right false b none = refl
-
 -- another step than the next one, or none
 pub step_breaks : (run : Run) (s : BusState) (readings : List ℕ) (node : NodeNo) (round step : ℕ) (reading : Option ℕ)
     → option_map_or (nat_eq step) (next_step (node_at s node.0).phase) false ≡ false
@@ -85,7 +81,7 @@ step_breaks run s readings node round step reading is = by (next_step (node_at s
         refused run s readings (entry.Step node round step reading) (Step node reading) refl (ap is_some none)
     by (Some i) next is' =
         unfit run s readings (entry.Step node round step reading)
-        (no_right (nat_eq round (round_of (node_at s node.0)))
+        (and_right (nat_eq round (round_of (node_at s node.0)))
         (nat_eq step (unwrap_or (next_step (node_at s node.0).phase) 0))
         (ap (λ o. nat_eq step (unwrap_or o 0)) next ∙ is'))
 

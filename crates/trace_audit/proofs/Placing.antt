@@ -7,7 +7,8 @@ use Rattle.std.proofs.lemmas.List.{drop_more}
 use Rattle.std.proofs.lemmas.List.Concat.{flat_map_single}
 use Rattle.std.proofs.lemmas.List.Elements.{All-get_or}
 use Rattle.std.proofs.lemmas.Nat.{div-mul-add, mod-mul-add}
-use Rattle.std.proofs.Math.Nat.{div-add-mod', mod-lt}
+use Rattle.std.proofs.Math.Nat.{div-add-mod', mod-lt, add_assoc}
+use Rattle.list_lemmas.proofs.Lists.{length-map_enumerate_from}
 use Rattle.pals_model.specs.declared.design.Component.{Component}
 use Rattle.pals_model.specs.declared.design.Tap.{Tap}
 use Rattle.pals_model.specs.declared.design.DesignParts.{DesignParts}
@@ -17,7 +18,6 @@ use Rattle.pals_model.specs.proof.Laws.Lines.{IsLine}
 use Rattle.pals_model.specs.RoundTexts.{component_line, part_lines, tap_lines, composed_lines}
 use Rattle.pals_model.specs.Rules.{IsDesign}
 use Rattle.pals_model.proofs.LineLaws.{row_has_lines}
-use Rattle.bus_machine.proofs.Lists.{length-numbered}
 use Rattle.run_laws.specs.Traces.{row_size, line_at}
 use Rattle.trace_audit.specs.proof.Rows.{rows_begun, left_at}
 
@@ -67,9 +67,6 @@ place_within design index = mod-lt index (some_rows design)
 split : (design : DesignParts) (index : ℕ) → index ≡ index / row_size design * row_size design + index % row_size design
 split design index = sym (div-add-mod' index (row_size design))
 
-apart : (index a b : ℕ) → index + a + b ≡ index + (a + b)
-apart index a b = omega arith
-
 size_is : (a b : ℕ) → 1 + a + b ≡ 1 + (a + b)
 size_is a b = omega arith
 
@@ -88,7 +85,7 @@ begun_first design index none =
     let a = length design.components in
     let b = length design.taps in
     let size = row_size design in
-    ap (λ k. k / size) (apart index a b) ∙ ap (λ k. (k + (a + b)) / size) (split design index)
+    ap (λ k. k / size) (add_assoc index a b) ∙ ap (λ k. (k + (a + b)) / size) (split design index)
     ∙ begun_at (index / size) size (index % size) (a + b) (size_is a b) none
 
 pub none_begun : (design : DesignParts) → rows_begun design 0 ≡ 0
@@ -100,7 +97,7 @@ begun_later design index some =
     let a = length design.components in
     let b = length design.taps in
     let size = row_size design in
-    ap (λ k. k / size) (apart index a b) ∙ ap (λ k. (k + (a + b)) / size) (split design index)
+    ap (λ k. k / size) (add_assoc index a b) ∙ ap (λ k. (k + (a + b)) / size) (split design index)
     ∙ begun_in (index / size) size (index % size) (a + b) (size_is a b) some (place_within design index)
 
 pub begun_after : (design : DesignParts) (index : ℕ) → rows_begun design (index + 1) ≡ index / row_size design + 1
@@ -108,7 +105,7 @@ begun_after design index =
     let a = length design.components in
     let b = length design.taps in
     let size = row_size design in
-    ap (λ k. k / size) (apart (index + 1) a b) ∙ ap (λ k. (k + 1 + (a + b)) / size) (split design index)
+    ap (λ k. k / size) (add_assoc (index + 1) a b) ∙ ap (λ k. (k + 1 + (a + b)) / size) (split design index)
     ∙ begun_next (index / size) size (index % size) (a + b) (size_is a b) (place_within design index)
 
 -- ---- the lines of a row
@@ -119,7 +116,7 @@ component_count design env round =
     let f =
     λ (numbered : ℕ × Component).
     component_line numbered.1.path numbered.1.behaviour (part design env numbered.0 round).frame in
-    ap length (flat_map_single f (enumerate_from 0 design.components)) ∙ length-numbered f 0 design.components
+    ap length (flat_map_single f (enumerate_from 0 design.components)) ∙ length-map_enumerate_from f 0 design.components
 
 abbrev tap_at : DesignParts → Env → ℕ → ℕ × Tap → List ℕ
 tap_at design env round numbered =
@@ -131,7 +128,7 @@ tap_count : (design : DesignParts) (env : Env) (round : ℕ)
     (enumerate_from 0 design.taps)) ≡ length design.taps
 tap_count design env round =
     ap length (flat_map_single (tap_at design env round) (enumerate_from 0 design.taps))
-    ∙ length-numbered (tap_at design env round) 0 design.taps
+    ∙ length-map_enumerate_from (tap_at design env round) 0 design.taps
 
 row_length : (design : DesignParts) (env : Env) (round : ℕ) → length (composed_lines design env round) ≡ row_size design
 row_length design env round =

@@ -4,20 +4,18 @@ use Rattle.std.specs.Option.{MatchOption}
 use Rattle.std.specs.List.{slice_split}
 use Rattle.std.proofs.Common.{get_or}
 use Rattle.std.proofs.lemmas.Bool.{eqb-true, false_from_ne_true}
-use Rattle.std.proofs.lemmas.Bool.Decides.{nat_tests}
 use Rattle.std.proofs.lemmas.List.Elements.{All-from_get_or}
 use Rattle.std.proofs.lemmas.List.Splits.{length-slice_split, slice_split_none, slice_split_at}
 use Rattle.std.proofs.lemmas.Str.Pattern.{IsSplitOnceResult, split_parts}
 use denote.Ref.{Bor}
+use Rattle.list_lemmas.proofs.Numbers.{nat_eq-swapped}
 use Rattle.run_laws.specs.LineForms.{Form, at_end, words_of}
 use Rattle.trace_audit.specs.proof.Words.{is_space}
 
 -- ---- the space on either side
-turned : (a b : ℕ) → nat_eq a b ≡ nat_eq b a
-turned a b = grind (arith, nat_tests)
 
 pub same_words : (line : List ℕ) → slice_split is_space line ≡ words_of line
-same_words line = λ i. slice_split (λ b. turned b 32 i) line
+same_words line = λ i. slice_split (λ b. nat_eq-swapped b 32 i) line
 
 -- ---- a line cut at its first space
 differs : (b : ℕ) → b ≢ 32 → nat_eq 32 b ≡ false

@@ -2,6 +2,7 @@
 use Rattle.std.proofs.Common.{◌≡◌, ◌∙◌, ℕ, ◌-◌, ◌<◌, ◌≤◌, Bool, List, [], length, map, replicate, slice_get, slice_index_or, Some, sym, ap, ap₂, subst, arith}
 use Rattle.std.proofs.lemmas.List.{length-map, get_or-map, get_or-replicate, get_or_default}
 use Rattle.std.proofs.lemmas.Option.{get_or_from_slice_get}
+use Rattle.list_lemmas.proofs.Places.{slice_get-map_some}
 use Rattle.pals_base.specs.declared.values.Port.{Port}
 use Rattle.pals_base.specs.declared.values.Port.TheVariants.{Absent}
 use Rattle.pals_base.specs.declared.values.Frame.{Frame}
@@ -20,7 +21,7 @@ use Rattle.pals_runs.specs.declared.pairs.VoteFault.{VoteFault}
 use Rattle.sync_product.specs.declared.stage.Stage.{Stage}
 use Rattle.sync_product.specs.proof.Sizes.{part_size, part_size_of, stage_size}
 use Rattle.sync_product.specs.proof.Rounds.{frames_of}
-use Rattle.sync_product.proofs.Tables.{count_of_sized, mapped-at}
+use Rattle.sync_product.proofs.Tables.{count_of_sized}
 use Rattle.triple_vote.specs.declared.layer.Layer.{Layer}
 use Rattle.triple_vote.specs.Replicas.{copies_of, Voted, frame_at, received_at, first_frame, first_tuple, vopening, vshown_by}
 use Rattle.triple_vote.specs.proof.States.{VotedState, vbegun, vadvanced}
@@ -46,13 +47,13 @@ voted_opened design replicated layers heard opened silent =
     let found = component_at design node within in
     let c : Component = found.0 in
     ap (λ frames. slice_index_or frames node no_frame) (opened.frames replica (within_three replicated node replica below))
-    ∙ get_or_from_slice_get (map begins design.components) node (begins c) no_frame (mapped-at begins design.components node c found.1)
+    ∙ get_or_from_slice_get (map begins design.components) node (begins c) no_frame (slice_get-map_some begins design.components node c found.1)
     ∙ sym (ap first_frame found.1)))
     (receivers-same design replicated (λ l target. tuple_of heard target l) (λ l target. first_tuple design (slice_get design.links l))
     (λ l target link is below.
     ap (λ hs. slice_index_or (slice_index_or hs target []) l []) silent
     ∙ ap (λ ts. slice_index_or ts l []) (get_or-replicate 3 target messages [] (within_three replicated link.target.0 target below))
-    ∙ get_or_from_slice_get messages l (first link) [] (mapped-at first design.links l link is)
+    ∙ get_or_from_slice_get messages l (first link) [] (slice_get-map_some first design.links l link is)
     ∙ sym (ap (first_tuple design) is)))
 
 pub state_begun : (design : DesignParts) (replicated : List Bool) (layers : List Layer) (heard : List (List (List Port))) (shown : List (List Port))

@@ -2,6 +2,7 @@
 use Rattle.std.proofs.Common.{◌≡◌, ◌∙◌, ℕ, zero, suc, ◌<◌, Bool, false, if◌then◌else◌, List, [], ◌∷◌, length, map, None, Some, slice_get, slice_index_or, sym, ap, ap₂, arith, true≢false}
 use Rattle.std.proofs.lemmas.List.{length-map}
 use Rattle.std.proofs.lemmas.Option.{slice_get-get_or}
+use Rattle.std.proofs.Math.ListN.{get_or-map}
 use Rattle.pals_base.specs.declared.values.Port.{Port}
 use Rattle.pals_base.specs.declared.values.Frame.{Frame}
 use Rattle.pals_base.specs.Steps.{upwards}
@@ -14,7 +15,7 @@ use Rattle.pals_model.proofs.CompositionLaws.{one_frame_each, one_message_each}
 use Rattle.pals_runs.specs.declared.pairs.VoteFault.{VoteFault}
 use Rattle.triple_vote.specs.Replicas.{is_replicated, copies_of, receivers_in, Voted, for_replicas, for_receivers, first_frame, first_tuple, replica_steps, receives_on, vcomp}
 use Rattle.triple_vote.specs.proof.Laws.{ReplicasAreStates, ReceivedAreMessages, TapsShowTuples, alone, NoReplicasAreComposition}
-use Rattle.triple_vote.proofs.Tables.{table-is, get_or-image}
+use Rattle.triple_vote.proofs.Tables.{table-is}
 use Rattle.triple_vote.proofs.Faults.{vote_is}
 use Rattle.triple_vote.proofs.Following.{replica_at, receiver_at, Agrees, AreOverruled, agrees_after, shows_after}
 
@@ -64,7 +65,7 @@ module _ (design : DesignParts) (env : Env) (replicated : List Bool) (none : (no
         let inside : node < length design.components = omega (arith, within, size) in
         one_each (f node) node
         ∙ ap only (sym (replica_at design replicated f node 0 inside (one_of node)) ∙ agrees.frames node 0 inside (one_of node))
-        ∙ sym (get_or-image only frames node no_frame))
+        ∙ sym (get_or-map only frames node no_frame))
 
     same_received : for_receivers design replicated g ≡ map (λ (message : List Port). message ∷ []) messages
     same_received =
@@ -79,7 +80,7 @@ module _ (design : DesignParts) (env : Env) (replicated : List Bool) (none : (no
         ap (λ o. map (g l) (upwards 0 (receivers_in replicated o))) is
         ∙ one_each (g l) link.target.0
         ∙ ap only (sym (receiver_at design replicated g l 0 link is (one_of link.target.0)) ∙ agrees.received l 0 link is (one_of link.target.0))
-        ∙ sym (get_or-image only messages l []))
+        ∙ sym (get_or-map only messages l []))
 
     composed : voted_with (for_replicas design replicated f) (for_receivers design replicated g) ≡ alone (comp design env rounds)
     composed = ap₂ voted_with same_frames same_received

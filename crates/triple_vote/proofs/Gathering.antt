@@ -4,6 +4,7 @@ use Rattle.std.proofs.lemmas.Bool.{eqb-true, and_parts}
 use Rattle.std.proofs.lemmas.List.{get_or-map}
 use Rattle.std.proofs.lemmas.List.Elements.{All-contains}
 use Rattle.std.proofs.lemmas.Option.{slice_get_cases, slice_get-get_or, get_or_from_slice_get}
+use Rattle.list_lemmas.proofs.Places.{slice_get-map_some}
 use Rattle.pals_base.specs.declared.values.Port.{Port}
 use Rattle.pals_model.specs.declared.design.Link.{Link}
 use Rattle.pals_model.specs.declared.design.Tap.{Tap}
@@ -12,7 +13,7 @@ use Rattle.pals_model.specs.Inputs.{rate_of}
 use Rattle.pals_model.proofs.Lookups.{at_element}
 use Rattle.pals_runs.specs.declared.pairs.VoteFault.{VoteFault}
 use Rattle.sync_product.specs.proof.Sizes.{message_sizes}
-use Rattle.sync_product.proofs.Tables.{item_at, mapped-at}
+use Rattle.sync_product.proofs.Tables.{item_at}
 use Rattle.triple_vote.specs.declared.layer.Layer.{Layer}
 use Rattle.triple_vote.specs.Votes.{votes}
 use Rattle.triple_vote.specs.Replicas.{source_in, is_replicated, is_fault, fault_or, vote_of}
@@ -34,7 +35,7 @@ layer_tuple field size items layers replica at item fit within is =
       | inl got ↦
           let layer : Layer = got.0 in
           let tuples = field layer in
-          ap (λ ts. length (slice_index_or ts at [])) (get_or_from_slice_get (map field layers) replica tuples [] (mapped-at field layers replica layer got.2))
+          ap (λ ts. length (slice_index_or ts at [])) (get_or_from_slice_get (map field layers) replica tuples [] (slice_get-map_some field layers replica layer got.2))
           ∙ tuple_size size items tuples (fit layer got.2) at item (slice_index_or tuples at []) is (sym (read_again tuples at []))
       | inr past ↦ absurd (omega (arith, past.0, within))
     ]

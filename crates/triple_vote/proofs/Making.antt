@@ -2,6 +2,7 @@
 use Rattle.std.proofs.Common.{◌≡◌, ◌∙◌, ℕ, inl, inr, true, List, length, map, slice_get, Some, sym, ap, ap₂, arith}
 use Rattle.std.proofs.lemmas.List.{length-map}
 use Rattle.std.proofs.lemmas.Option.{slice_get_cases, slice_get_within}
+use Rattle.list_lemmas.proofs.Places.{slice_get-map_some}
 use Rattle.pals_base.specs.declared.values.Port.{Port}
 use Rattle.pals_base.specs.Bound.{sent_steps}
 use Rattle.pals_base.specs.Steps.{column, cut}
@@ -10,7 +11,7 @@ use Rattle.pals_model.specs.declared.design.DesignParts.{DesignParts}
 use Rattle.sync_product.specs.declared.stage.Stage.{Stage}
 use Rattle.sync_product.specs.proof.Sizes.{StageSize, stage_size, stage_size_of, stage_sizes}
 use Rattle.sync_product.specs.proof.Rounds.{frames_of, sent_from}
-use Rattle.sync_product.proofs.Tables.{mapped-at, sized_at}
+use Rattle.sync_product.proofs.Tables.{sized_at}
 use Rattle.triple_vote.specs.declared.layer.Layer.{Layer}
 use Rattle.triple_vote.specs.proof.Layers.{whole_from, is_there, rows_made, AreRun, AreSent, AreWhole, IsMade}
 
@@ -29,12 +30,12 @@ module _ (design : DesignParts) (values : List Port) (heard : List (List Port)) 
   staged : (node : ℕ) (c : Component) → slice_get design.components node ≡ Some c → is_there layer.there node ≡ true → IsStaged node c
   staged node c is present =
       let size_of : Component → StageSize = λ d. stage_size_of (sent_steps design.gamma design.period d.rate) d in
-      let wanted = mapped-at size_of design.components node c is in
+      let wanted = slice_get-map_some size_of design.components node c is in
       let rows_there = (run node c is present).rows in
       elim (slice_get_cases stages node).1 [
         | inl found ↦
             let stage : Stage = found.0 in
-            let both : Some stage.rows ≡ Some (rows node c) = sym (mapped-at (λ (s : Stage). s.rows) stages node stage found.2) ∙ rows_there in
+            let both : Some stage.rows ≡ Some (rows node c) = sym (slice_get-map_some (λ (s : Stage). s.rows) stages node stage found.2) ∙ rows_there in
             let room = sized_at stage_size stages (stage_sizes design) node stage (size_of c) fit wanted (sym found.3) in
             record { stage = stage; is = found.2; rows_are = cc; sent_is = ap (λ (s : StageSize). s.sent) room }
         | inr past ↦

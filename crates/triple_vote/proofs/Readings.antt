@@ -2,6 +2,7 @@
 use Rattle.std.proofs.Common.{◌≡◌, ◌∙◌, ℕ, nat_eq, List, [], ◌∷◌, length, map, Option, Some, None, slice_get, slice_index_or, refl, ap, ap₂}
 use Rattle.std.specs.Prelude.{position}
 use Rattle.std.proofs.lemmas.Bool.{eqb-true, and_parts}
+use Rattle.std.proofs.Math.ListN.{get_or-map}
 use Rattle.pals_base.specs.declared.values.Port.{Port}
 use Rattle.pals_base.specs.Steps.{columns, upwards}
 use Rattle.pals_model.specs.declared.design.Component.{Component}
@@ -10,7 +11,6 @@ use Rattle.pals_model.specs.declared.design.DesignParts.{DesignParts}
 use Rattle.pals_model.specs.Inputs.{inputs_of, source_of, from_link, from_feed, link_goes_to, feed_goes_to, reading, read_link}
 use Rattle.pals_model.proofs.Lookups.{found_at}
 use Rattle.triple_vote.specs.Replicas.{Voted, received_at, heard_by}
-use Rattle.triple_vote.proofs.Tables.{get_or-image}
 
 module _ (design : DesignParts) (values : List Port) (v : Voted) (messages : List (List Port)) (replica : ℕ) where
   -- on each link to a component, the replica received the message
@@ -18,7 +18,7 @@ module _ (design : DesignParts) (values : List Port) (v : Voted) (messages : Lis
   SameHeard node = (l : ℕ) (link : Link) → slice_get design.links l ≡ Some link → link.target.0 ≡ node → received_at v l replica ≡ slice_index_or messages l []
 
   heard_is : (l : ℕ) → slice_index_or (heard_by replica v) l [] ≡ received_at v l replica
-  heard_is l = get_or-image (λ (tuples : List (List Port)). slice_index_or tuples replica []) v.received l []
+  heard_is l = get_or-map (λ (tuples : List (List Port)). slice_index_or tuples replica []) v.received l []
 
   brings_by : (rate node port : ℕ) → SameHeard node → (o : Option ℕ) → position (link_goes_to node port) design.links ≡ o → (other : Option ℕ)
       → reading design values (heard_by replica v) rate (from_link o (from_feed design other)) ≡ reading design values messages rate (from_link o (from_feed design other))

@@ -2,6 +2,7 @@
 use Rattle.std.proofs.Common.{◌≡◌, ◌∙◌, ℕ, ◌+◌, ◌<◌, ◌≤◌, inl, inr, Bool, true, false, List, [], length, map, set, slice_get, slice_index_or, Some, sym, ap, ap₂, arith, eq-or-lt_of_le}
 use Rattle.std.proofs.lemmas.Bool.{false≢true}
 use Rattle.std.proofs.lemmas.List.{map-set, length-map, get_or-map}
+use Rattle.list_lemmas.proofs.Places.{slice_get-map_some}
 use Rattle.pals_base.specs.declared.values.Port.{Port}
 use Rattle.pals_base.specs.declared.values.Frame.{Frame}
 use Rattle.pals_base.specs.Bound.{sent_steps}
@@ -16,7 +17,7 @@ use Rattle.sync_product.specs.declared.stage.Stage.{Stage}
 use Rattle.sync_product.specs.proof.Sizes.{PartSize, StageSize, part_size, part_size_of, stage_size, stage_size_of, stage_sizes}
 use Rattle.sync_product.specs.proof.Rounds.{frames_of}
 use Rattle.sync_product.proofs.Sizing.{length-upwards}
-use Rattle.sync_product.proofs.Tables.{numbered-at, mapped-at, entry_at, sized_at, within_table, count_of_sized, item_at, slice_get-set_same, slice_get-set_other}
+use Rattle.sync_product.proofs.Tables.{numbered-at, entry_at, sized_at, within_table, count_of_sized, item_at, slice_get-set_same, slice_get-set_other}
 use Rattle.triple_vote.specs.proof.Layers.{frame_sizes, is_there, frame_made, rows_made, IsRun}
 
 abbrev rows_of : List Stage → List (List (List Port))
@@ -97,13 +98,13 @@ module _ (design : DesignParts) (items : List Component) (node : ℕ) (item : Co
   part_within parts fit = omega (arith, count_of_sized part_size parts (frame_sizes design) fit, length-map design.components frame_room, node_within)
 
   pub part_room : (parts : List Part) (part : Part) → map part_size parts ≡ frame_sizes design → part ≡ slice_index_or parts node part → part_size part ≡ part_size_of item []
-  part_room parts part fit is = sized_at part_size parts (frame_sizes design) node part (part_size_of item []) fit (mapped-at frame_room design.components node item component_is) is
+  part_room parts part fit is = sized_at part_size parts (frame_sizes design) node part (part_size_of item []) fit (slice_get-map_some frame_room design.components node item component_is) is
 
   pub stage_room : (stages : List Stage) (stage : Stage) → map stage_size stages ≡ stage_sizes design → stage ≡ slice_index_or stages node stage
       → stage_size stage ≡ stage_size_of stage.sent item
   stage_room stages stage fit is =
       let size_of : Component → StageSize = λ d. stage_size_of (sent_steps design.gamma design.period d.rate) d in
-      let sized = sized_at stage_size stages (stage_sizes design) node stage (size_of item) fit (mapped-at size_of design.components node item component_is) is in
+      let sized = sized_at stage_size stages (stage_sizes design) node stage (size_of item) fit (slice_get-map_some size_of design.components node item component_is) is in
       sized ∙ ap (λ n. stage_size_of n item) (sym (ap (λ (s : StageSize). s.sent) sized))
 
   pub sources_within : (table : List (List PortSource)) → table ≡ all_sources design → node < length table

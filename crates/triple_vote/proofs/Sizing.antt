@@ -2,6 +2,7 @@
 use Rattle.std.proofs.Common.{◌≡◌, ◌∙◌, ℕ, ◌<◌, inl, inr, List, length, map, slice_get, slice_set, slice_index_or, Some, sym, ap, arith}
 use Rattle.std.proofs.lemmas.List.{length-map}
 use Rattle.std.proofs.lemmas.Option.{slice_get_cases}
+use Rattle.list_lemmas.proofs.Places.{slice_get-map_some}
 use Rattle.pals_base.specs.declared.values.Port.{Port}
 use Rattle.pals_base.specs.Bound.{sent_steps}
 use Rattle.pals_base.specs.Steps.{column, cut}
@@ -13,7 +14,7 @@ use Rattle.sync_product.specs.proof.Sizes.{StageSize, stage_size, stage_size_of,
 use Rattle.sync_product.proofs.Columns.{length-cut, length-column}
 use Rattle.sync_product.proofs.Filling.{same_sizes}
 use Rattle.sync_product.proofs.Sizing.{count_of_rows}
-use Rattle.sync_product.proofs.Tables.{sized_at, mapped-at, count_of_sized}
+use Rattle.sync_product.proofs.Tables.{sized_at, count_of_sized}
 use Rattle.triple_vote.specs.proof.Layers.{lengths}
 
 -- ---- stages
@@ -31,7 +32,7 @@ module _ (design : DesignParts) (stages : List Stage) (fit : map stage_size stag
       elim (slice_get_cases design.components source).1 [
         | inl found ↦
             let c : Component = found.0 in
-            let room = sized_at stage_size stages (stage_sizes design) source stage (size_of c) fit (mapped-at size_of design.components source c found.2) is in
+            let room = sized_at stage_size stages (stage_sizes design) source stage (size_of c) fit (slice_get-map_some size_of design.components source c found.2) is in
             count_of_rows stage.rows c.rate (length c.behaviour.outs) (ap (λ (s : StageSize). s.rows) room) ∙ sym (ap rate_in found.2)
         | inr past ↦ absurd (omega (arith, past.0, within))
       ]
@@ -43,7 +44,7 @@ module _ {L : Type 0} (size : L → ℕ) (items : List L) (tuples : List (List P
 
   pub tuple_size : (at : ℕ) (item : L) (tuple : List Port) → slice_get items at ≡ Some item → tuple ≡ slice_index_or tuples at tuple → length tuple ≡ size item
   tuple_size at item tuple is tuple_is =
-      sized_at (λ (t : List Port). length t) tuples (map size items) at tuple (size item) fit (mapped-at size items at item is) tuple_is
+      sized_at (λ (t : List Port). length t) tuples (map size items) at tuple (size item) fit (slice_get-map_some size items at item is) tuple_is
 
   pub sizes_stay : (at : ℕ) (old new : List Port) → at < length items → old ≡ slice_index_or tuples at old → length new ≡ length old
       → lengths (slice_set tuples at new) ≡ map size items

@@ -3,6 +3,7 @@ use Rattle.std.proofs.Common.{◌≡◌, ◌∙◌, ℕ, zero, suc, ◌+◌, ◌
 use Rattle.std.proofs.lemmas.Bool.{lt-ltb}
 use Rattle.std.proofs.lemmas.List.{length-map, ext_get_or}
 use Rattle.std.proofs.lemmas.Option.{slice_get_within, slice_get_cases, get_or_from_slice_get}
+use Rattle.list_lemmas.proofs.Places.{slice_get-map_some}
 use Rattle.pals_base.specs.declared.values.Port.{Port}
 use Rattle.pals_base.specs.declared.values.Frame.{Frame}
 use Rattle.pals_base.specs.Bound.{sent_steps}
@@ -20,7 +21,6 @@ use Rattle.pals_model.proofs.Lookups.{at_element}
 use Rattle.pals_model.proofs.ShapeLaws.{component_at}
 use Rattle.pals_runs.specs.declared.pairs.VoteFault.{VoteFault}
 use Rattle.sync_product.specs.proof.Rounds.{frames_of}
-use Rattle.sync_product.proofs.Tables.{mapped-at}
 use Rattle.triple_vote.specs.declared.layer.Layer.{Layer}
 use Rattle.triple_vote.specs.Votes.{votes}
 use Rattle.triple_vote.specs.Replicas.{is_replicated, copies_of, receivers_in, Voted, for_replicas, for_receivers, steps_in, replica_steps, tuple_at, is_fault, fault_or, own_message, sent_to, vote_of, receives_on, vnext, vshown_by}
@@ -66,7 +66,7 @@ within_three replicated node replica below = at_most_three (is_replicated replic
 -- an element of one of the lists of layers
 of_layer : {X : Type 0} (field : Layer → List X) (layers : List Layer) (replica : ℕ) (layer : Layer) → slice_get layers replica ≡ Some layer
     → slice_index_or (map field layers) replica [] ≡ field layer
-of_layer field layers replica layer is = get_or_from_slice_get (map field layers) replica (field layer) [] (mapped-at field layers replica layer is)
+of_layer field layers replica layer is = get_or_from_slice_get (map field layers) replica (field layer) [] (slice_get-map_some field layers replica layer is)
 
 module _ (design : DesignParts) (replicated : List Bool) (values : List Port) (heard : List (List (List Port))) (layers : List Layer)
     (rules : IsDesign design) (three : length layers ≡ 3) (are : HaveReplicas design replicated (there_in layers)) (made : AreMade design values heard layers) where
@@ -225,6 +225,6 @@ module _ (design : DesignParts) (replicated : List Bool) (values : List Port) (h
             let tap : Tap = found.0 in
             get_or_from_slice_get shown n _ [] (shows n tap found.2)
             ∙ shown_by n tap (is_replicated replicated tap.source.0) found.2 refl
-            ∙ sym (get_or_from_slice_get (map shows_tap design.taps) n (shows_tap tap) [] (mapped-at shows_tap design.taps n tap found.2))
+            ∙ sym (get_or_from_slice_get (map shows_tap design.taps) n (shows_tap tap) [] (slice_get-map_some shows_tap design.taps n tap found.2))
         | inr past ↦ absurd (omega (arith, past.0, within, size))
       ])

@@ -1,10 +1,8 @@
 -- What a component of a ring does is a behaviour.
-use Rattle.std.proofs.Common.{◌≡◌, ◌≢◌, ◌∙◌, ℕ, zero, suc, List, [], ◌∷◌, AllPairs, Contains, cond, refl, sym, ap, ap₂, subst, arith}
-use Rattle.std.specs.Prelude.{bytes_eq, codes, false}
+use Rattle.std.proofs.Common.{◌≡◌, ◌≢◌, ◌∙◌, ℕ, zero, suc, List, [], Contains, cond, refl, sym, ap, ap₂, subst, arith}
+use Rattle.std.specs.Prelude.{codes}
 use Rattle.std.proofs.lemmas.Bool.{ne_eqb, true≢false}
-use Rattle.std.proofs.lemmas.List.Elements.{All-nil, All-cons}
-use Rattle.std.proofs.lemmas.List.Kept.{AllPairs-cons}
-use Rattle.std.proofs.lemmas.Slice.Eq.{bytes_eq-Decides}
+use Rattle.list_lemmas.proofs.Pairs.{AllPairs-one, AllPairs-three, bytes_ne_by_test}
 use Rattle.pals_base.specs.declared.behaviour.BehaviourParts.{BehaviourParts}
 use Rattle.pals_base.specs.declared.behaviour.Named.{Named}
 use Rattle.pals_base.specs.declared.behaviour.VarDecl.{VarDecl}
@@ -13,20 +11,6 @@ use Rattle.pals_base.specs.Rules.{IsBehaviour, IsAcyclic}
 use Rattle.pals_base.specs.Tree.{Edge}
 use Rattle.pals_base.specs.Fire.{leaving}
 use Rattle.world_gen.specs.Rings.{ring_behaviour, ring_state}
-
-pub no_pairs : {X : Type 0} (R : X → X → Type 0) → AllPairs R []
-no_pairs R i j d less within = absurd (omega arith)
-
-no_pair_of_one : {X : Type 0} (R : X → X → Type 0) (x : X) → AllPairs R (x ∷ [])
-no_pair_of_one R x = AllPairs-cons R x [] (All-nil (R x)) (no_pairs R)
-
-pairs_of_three : {X : Type 0} (R : X → X → Type 0) (x y z : X) → R x y → R x z → R y z → AllPairs R (x ∷ y ∷ z ∷ [])
-pairs_of_three R x y z xy xz yz =
-    AllPairs-cons R x (y ∷ z ∷ []) (All-cons (R x) y (z ∷ []) xy (All-cons (R x) z [] xz (All-nil (R x))))
-    (AllPairs-cons R y (z ∷ []) (All-cons (R y) z [] yz (All-nil (R y))) (no_pair_of_one R z))
-
-unlike : (x y : List ℕ) → bytes_eq x y ≡ false → x ≢ y
-unlike x y differ same = true≢false (sym ((bytes_eq-Decides x y).1 same) ∙ differ)
 
 no_edge : (k : ℕ) (e : Edge) → Contains (leaving ring_behaviour (suc k)) e → ⊥
 no_edge k e among =
@@ -45,9 +29,9 @@ pub ring_behaves : IsBehaviour ring_behaviour
 ring_behaves = record {
   names = record {
     values = refl;
-    values_differ = pairs_of_three (λ (x y : List ℕ). x ≢ y) (codes "i") (codes "o") (codes "x") (unlike _ _ refl) (unlike _ _ refl) (unlike _ _ refl);
+    values_differ = AllPairs-three (λ (x y : List ℕ). x ≢ y) (codes "i") (codes "o") (codes "x") (bytes_ne_by_test _ _ refl) (bytes_ne_by_test _ _ refl) (bytes_ne_by_test _ _ refl);
     states = refl;
-    states_differ = no_pair_of_one (λ (s t : StateDecl). s.name ≢ t.name) ring_state;
+    states_differ = AllPairs-one (λ (s t : StateDecl). s.name ≢ t.name) ring_state;
   };
   firsts = refl;
   initial = refl;

@@ -5,6 +5,7 @@ use Rattle.std.specs.Fmt.{decimal, digits}
 use Rattle.std.proofs.lemmas.Bool.{and_parts, leb-true}
 use Rattle.std.proofs.lemmas.Fmt.{decimal_injective}
 use Rattle.std.proofs.lemmas.List.Elements.{All-nil, All-head, All-tail}
+use Rattle.list_lemmas.proofs.Pairs.{AllPairs-nil}
 use Rattle.pals_base.specs.declared.limits.TheConstants.{COMPONENTS, PATH_BYTES}
 use Rattle.pals_base.specs.Names.{is_path}
 use Rattle.pals_base.specs.Allowed.{divides_or_divided, is_allowed, suits_kind}
@@ -26,7 +27,7 @@ use Rattle.run_laws.proofs.Lists.{upwards_at}
 use Rattle.world_gen.specs.Rings.{ring_rate, ring_path, rate_by, ring_adaptor, before_in, ring_component, ring_link, ring_bounds, ring}
 use Rattle.world_gen.specs.proof.RingLaws.{RingsAreDesigns, RingsAddUp}
 use Rattle.world_gen.proofs.Numbered.{length-numbered, numbered_get, numbered_all, numbered_pairs}
-use Rattle.world_gen.proofs.RingBehaviours.{no_pairs, ring_behaves}
+use Rattle.world_gen.proofs.RingBehaviours.{ring_behaves}
 
 -- ---- rates
 record IsRingRate (rate : ℕ) : Type 0 where
@@ -172,11 +173,11 @@ module _ (n : ℕ) (some : 2 ≤ n) (most : n ≤ COMPONENTS) where
         };
         feeds = record {
           each = All-nil (IsFeed (ring n));
-          order = no_pairs FeedPrecedes;
-          kinds = no_pairs (AgreeInKind (ring n));
+          order = AllPairs-nil FeedPrecedes;
+          kinds = AllPairs-nil (AgreeInKind (ring n));
           apart = All-nil (λ (feed : Feed). All (IsApart feed) (ring n).links);
         };
-        taps = record { each = All-nil (IsTap (ring n)); names_differ = no_pairs (λ (a b : Tap). a.name ≢ b.name) };
+        taps = record { each = All-nil (IsTap (ring n)); names_differ = AllPairs-nil (λ (a b : Tap). a.name ≢ b.name) };
         bound = let few = slow in omega arith;
       }
 

@@ -3,6 +3,7 @@ use Rattle.std.proofs.Common.{◌≡◌, ◌≢◌, inl, inr, ℕ, suc, ◌+◌,
 use Rattle.std.proofs.lemmas.Bool.{eqb-true, eq-eqb, ne_eqb, cases_eq, cases_lt, cases_order}
 use Rattle.std.proofs.lemmas.Grind.{get_or-set_at}
 use Rattle.std.proofs.lemmas.List.{get_or-set_other}
+use Rattle.list_lemmas.proofs.Elements.{find-passes}
 use Rattle.pals_base.specs.declared.values.LinkNo.{LinkNo}
 use Rattle.pals_model.specs.declared.flight.FlightCopy.{FlightCopy}
 use Rattle.pals_model.specs.Flights.{is_of, oldest, without_oldest}
@@ -18,7 +19,7 @@ use Rattle.run_laws.specs.Faults.{fault_of}
 use Rattle.bus_machine.proofs.States.{node_set, node_stays}
 use Rattle.run_laws.specs.proof.Kept.{copies, one_if}
 use Rattle.world_gen.specs.proof.Schedules.{send_time, arrive_time, which}
-use Rattle.run_laws.proofs.Lists.{count_without, found_passes}
+use Rattle.run_laws.proofs.Lists.{count_without}
 use Rattle.run_laws.proofs.Links.{rule_of, under_way, counts_in_flight, one_of_true, one_of_false}
 use Rattle.run_laws.proofs.Faults.{ArrivesInTime, arrives_in_time}
 use Rattle.world_gen.proofs.NoFaults.{arrival_is_fine}
@@ -93,7 +94,7 @@ module _ (run : Run) (rules : IsRunOf run) (w : World) (moment : ℕ) (fin st se
     this_link : LinkFollows run l (rounds_sent_on run w.bus l) (without_oldest round flight) (later l)
     this_link =
         let copy = copy_is.0 in
-        let of_round : copy.round ≡ round = eqb-true copy.round round (found_passes (is_of round) flight copy copy_is.1) in
+        let of_round : copy.round ≡ round = eqb-true copy.round round (find-passes (is_of round) flight copy copy_is.1) in
         let n = node_at w.bus target in
         let u = under_way n.count (slot_at n (link_at run.design l).in_port) (rounds_sent_on run w.bus l) flight round ((follows.keeps.links l within).once round) some in
         let one = u.one in

@@ -6,6 +6,7 @@ use Rattle.std.proofs.lemmas.List.{get_or_past}
 use Rattle.std.proofs.lemmas.List.Sums.{get_or-le-sum_by}
 use Rattle.std.proofs.lemmas.Nat.{mul-le}
 use Rattle.std.proofs.lemmas.Option.{slice_get_within, get_or_from_slice_get}
+use Rattle.bus_machine.proofs.Moves.{sent_most}
 use Rattle.pals_base.specs.Bound.{alarm}
 use Rattle.pals_model.specs.declared.flight.FlightCopy.{FlightCopy}
 use Rattle.pals_model.specs.Flights.{is_of}
@@ -27,7 +28,7 @@ use Rattle.bus_machine.proofs.Nodes.{MaySend, may_send_of}
 use Rattle.run_laws.specs.proof.Kept.{IsInTime, copies}
 use Rattle.world_gen.specs.proof.Schedules.{step_time, finish_time, send_time, arrive_time, step_count, events_at}
 use Rattle.run_laws.proofs.Nodes.{may_is, component_is, phase_agrees, rounds_at_most, both_in_time, sends_in_time, phase_last, send_last, deadline_is}
-use Rattle.run_laws.proofs.Links.{rule_of, one_of_true, under_way, sent_most}
+use Rattle.run_laws.proofs.Links.{rule_of, one_of_true, under_way}
 use Rattle.world_gen.proofs.NoFaults.{pass_is_fine, replicate_at}
 use Rattle.run_laws.proofs.Passes.{passes_in_time, pass_keeps_time}
 use Rattle.world_gen.proofs.ScheduleTimes.{Made, made_later, which_none, step_is, some_rate}

@@ -2,6 +2,7 @@
 use Rattle.std.proofs.Common.{◌≡◌, ◌≢◌, inl, inr, ℕ, zero, suc, ◌+◌, ◌<◌, ◌≤◌, nat_eq, Bool, true, false, List, [], ◌∷◌, ◌++◌, length, Option, Some, None, refl, sym, subst, arith}
 use Rattle.std.specs.Prelude.{flat_map, if◌then◌else◌}
 use Rattle.std.proofs.lemmas.Bool.{cases_eq}
+use Rattle.bus_machine.proofs.Moves.{sent_most}
 use Rattle.pals_base.specs.Steps.{upwards}
 use Rattle.pals_model.specs.declared.design.DesignParts.{DesignParts}
 use Rattle.pals_runs.specs.declared.events.Event.{Event}
@@ -17,7 +18,7 @@ use Rattle.world_gen.proofs.ScheduleTimes.{Made, which_none, made_none}
 use Rattle.pals_model.specs.declared.flight.FlightCopy.{FlightCopy}
 use Rattle.run_laws.specs.proof.Kept.{copies}
 use Rattle.run_laws.proofs.Nodes.{rounds_at_most}
-use Rattle.run_laws.proofs.Links.{rule_of, sent_most, under_way}
+use Rattle.run_laws.proofs.Links.{rule_of, under_way}
 use Rattle.world_gen.proofs.Follows.{begun_by, ended_by, NodeFollows, LinkFollows, Follows, bump, bump_done, bump_left, bump_other}
 
 -- ---- nothing comes at a time

@@ -9,7 +9,8 @@ use Rattle.aadl_grammar.specs.proof.Machine.{Stack, Move, takes, omitted, refuse
 use Rattle.aadl_grammar.proofs.Derived.Tails.{among, firsts, first_of, tail, distinct, rows_settled, distinct_firsts, settled, settled_rows}
 use Rattle.aadl_grammar.proofs.Derived.Settled.{among_left, among_right, Clear, firsts_in_tail, clear_behind}
 use Rattle.std.proofs.lemmas.Bool.{false_from_ne_true, or_left, or_right}
-use Rattle.aadl_lex.proofs.Basics.{both_left, both_right, some_is}
+use Rattle.std.specs.Cmp.{first_so, second_so}
+use Rattle.std.proofs.lemmas.Option.{same_Some}
 use Rattle.aadl_grammar.proofs.Basics.{not_both}
 
 -- the row is one of these
@@ -37,8 +38,8 @@ begins (x ∷ below) kind ks (omit _ _ _ o d) =
 
 row_settled : (outer : List Class) (r : Row) (rs : List Row) → Member r rs → rows_settled outer rs ≡ true → settled outer r.wanted ≡ true
 row_settled outer r [] m e = absurd m
-row_settled outer r (x ∷ rs) (inl m) e = ap (λ (q : Row). settled outer q.wanted) m ∙ both_left _ _ e
-row_settled outer r (x ∷ rs) (inr m) e = row_settled outer r rs m (both_right (settled outer x.wanted) _ e)
+row_settled outer r (x ∷ rs) (inl m) e = ap (λ (q : Row). settled outer q.wanted) m ∙ first_so _ _ e
+row_settled outer r (x ∷ rs) (inr m) e = row_settled outer r rs m (second_so (settled outer x.wanted) _ e)
 
 pub clear_taken : (x : Symbol) (below : Stack) (r : Row) → Member r (rows x) → Clear (x ∷ below) → Clear (r.wanted ++ below)
 clear_taken x below r m (h, c) = clear_behind (tail x) r.wanted below (row_settled (tail x) r (rows x) m (settled_rows x)) h c
@@ -55,8 +56,8 @@ move_is r [] b kind m e d = absurd m
 move_is r (x ∷ rs) b kind (inl m) e d =
     ap (λ z. cond z (takes x.wanted) (move_by rs b kind)) (ap (λ (q : Row). fits q.first kind) (sym m) ∙ e) ∙ ap (λ (q : Row). takes q.wanted) (sym m)
 move_is r (x ∷ rs) b kind (inr m) e d =
-    ap (λ z. cond z (takes x.wanted) (move_by rs b kind)) (false_from_ne_true (fits x.first kind) (clash x.first kind (firsts rs) (both_left _ _ d) (member_first r rs kind m e)))
-    ∙ move_is r rs b kind m e (both_right (not (among (class_number x.first) (firsts rs))) _ d)
+    ap (λ z. cond z (takes x.wanted) (move_by rs b kind)) (false_from_ne_true (fits x.first kind) (clash x.first kind (firsts rs) (first_so _ _ d) (member_first r rs kind m e)))
+    ∙ move_is r rs b kind m e (second_so (not (among (class_number x.first) (firsts rs))) _ d)
 
 pub move_takes : (x : Symbol) (r : Row) (kind : Kind) → Member r (rows x) → fits r.first kind ≡ true → move x kind ≡ takes r.wanted
 unfolding move
@@ -102,7 +103,7 @@ derived_ends (x ∷ below) (omit _ _ _ o d) = ap (λ b. b && ends below) o ∙ d
 pub ends_derived : (wanted : Stack) → ends wanted ≡ true → Derives wanted []
 unfolding ends
 ends_derived [] e = nothing
-ends_derived (x ∷ below) e = omit x below [] (both_left _ _ e) (ends_derived below (both_right (can_omit x) _ e))
+ends_derived (x ∷ below) e = omit x below [] (first_so _ _ e) (ends_derived below (second_so (can_omit x) _ e))
 
 -- And what it goes on with can be derived.
 abbrev pub Goes : List Row → Bool → Kind → Move → Type 0
@@ -130,7 +131,7 @@ goes (x ∷ rs) b kind = goes_by x rs b kind (goes rs b kind) (fits x.first kind
 by_move : (x : Symbol) (below next : Stack) (kind : Kind) (ks : List Kind) (y : Move) (later : Option Stack) → Goes (rows x) (can_omit x) kind y → (later ≡ Some next → Derives below (kind ∷ ks))
     → chosen y below later ≡ Some next → Derives next ks → Derives (x ∷ below) (kind ∷ ks)
 by_move x below next kind ks (takes f) later (r, m, e, w) go h d =
-    take x below r kind ks m e (subst (λ (z : Stack). Derives z ks) (sym (ap (λ z. z ++ below) w ∙ some_is (f ++ below) next h)) d)
+    take x below r kind ks m e (subst (λ (z : Stack). Derives z ks) (sym (ap (λ z. z ++ below) w ∙ same_Some (f ++ below) next h)) d)
 by_move x below next kind ks omitted later o go h d = omit x below (kind ∷ ks) o (go h)
 by_move x below next kind ks refuses later g go h d = absurd cc
 

@@ -7,7 +7,7 @@ use Rattle.aadl_grammar.specs.proof.Table.{rows, can_omit}
 use Rattle.aadl_grammar.specs.proof.Machine.{Stack, class_number}
 use Rattle.aadl_grammar.proofs.Derived.Tails.{among, firsts, first_of, nullable, tail, apart, covers, settled, omits_settled, settled_omits}
 use Rattle.std.proofs.lemmas.Bool.{or_cases, or_left, or_right}
-use Rattle.aadl_lex.proofs.Basics.{both_left, both_right}
+use Rattle.std.specs.Cmp.{first_so, second_so}
 use Rattle.aadl_grammar.proofs.Basics.{not_both}
 
 pub among_left : (n : ℕ) (cs ds : List Class) → among n cs ≡ true → among n (cs ++ ds) ≡ true
@@ -35,15 +35,15 @@ Covers cs ds = (n : ℕ) → among n cs ≡ true → among n ds ≡ true
 pub apart_means : (cs ds : List Class) → apart cs ds ≡ true → Apart cs ds
 apart_means [] ds e n h g = cc
 apart_means (c ∷ cs) ds e n h g = elim (or_cases (n == class_number c) (among n cs) h) [
-  | inl i ↦ not_both (among (class_number c) ds) (both_left _ _ e) (ap (λ x. among x ds) (sym (eqb-true n (class_number c) i)) ∙ g)
-  | inr i ↦ apart_means cs ds (both_right (not (among (class_number c) ds)) _ e) n i g
+  | inl i ↦ not_both (among (class_number c) ds) (first_so _ _ e) (ap (λ x. among x ds) (sym (eqb-true n (class_number c) i)) ∙ g)
+  | inr i ↦ apart_means cs ds (second_so (not (among (class_number c) ds)) _ e) n i g
 ]
 
 pub covers_means : (cs ds : List Class) → covers cs ds ≡ true → Covers cs ds
 covers_means [] ds e n h = cc
 covers_means (c ∷ cs) ds e n h = elim (or_cases (n == class_number c) (among n cs) h) [
-  | inl i ↦ ap (λ x. among x ds) (eqb-true n (class_number c) i) ∙ both_left _ _ e
-  | inr i ↦ covers_means cs ds (both_right (among (class_number c) ds) _ e) n i
+  | inl i ↦ ap (λ x. among x ds) (eqb-true n (class_number c) i) ∙ first_so _ _ e
+  | inr i ↦ covers_means cs ds (second_so (among (class_number c) ds) _ e) n i
 ]
 
 -- nothing that may stand behind a symbol of the stack belongs to it
@@ -82,8 +82,8 @@ covers_if false b e h = cc
 pub clear_behind : (outer : List Class) (f : List Symbol) (below : Stack) → settled outer f ≡ true → Apart (first_of below) outer → Clear below → Clear (f ++ below)
 clear_behind outer [] below e h c = c
 clear_behind outer (x ∷ f) below e h c =
-    let rest : ((not (nullable f) || covers (tail x) outer) && settled outer f) ≡ true = both_right (apart (first_of f) (tail x)) _ e in (
-      first_behind f below (tail x) (apart_means (first_of f) (tail x) (both_left _ _ e))
-          (λ null n p q. h n p (covers_means (tail x) outer (covers_if (nullable f) (covers (tail x) outer) (both_left _ _ rest) null) n q)),
-      clear_behind outer f below (both_right (not (nullable f) || covers (tail x) outer) _ rest) h c,
+    let rest : ((not (nullable f) || covers (tail x) outer) && settled outer f) ≡ true = second_so (apart (first_of f) (tail x)) _ e in (
+      first_behind f below (tail x) (apart_means (first_of f) (tail x) (first_so _ _ e))
+          (λ null n p q. h n p (covers_means (tail x) outer (covers_if (nullable f) (covers (tail x) outer) (first_so _ _ rest) null) n q)),
+      clear_behind outer f below (second_so (not (nullable f) || covers (tail x) outer) _ rest) h c,
     )

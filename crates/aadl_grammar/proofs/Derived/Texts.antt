@@ -1,5 +1,6 @@
 -- Each stack has a text.
 use Rattle.std.proofs.Common.{◌≡◌, ℕ, zero, suc, Bool, true, false, cond, subst, refl, List, [], ◌∷◌, ◌++◌, Option, Some, None, append_assoc, is_some, inl, pos}
+use Rattle.std.proofs.lemmas.Option.{same_Some}
 use Rattle.aadl_tree.specs.Kinds.{Kind}
 use Rattle.aadl_grammar.specs.proof.Symbols.{Class, a_word, a_whole, a_real, a_quoted, an_unread, the, Symbol, Row}
 use Rattle.aadl_grammar.specs.proof.Symbols as s
@@ -8,7 +9,6 @@ use Rattle.aadl_grammar.specs.proof.Machine.{Stack}
 use Rattle.aadl_grammar.proofs.Derived.Derivations.{Member, Derives, nothing, take, omit}
 use Rattle.aadl_grammar.proofs.Derived.Trees.{Content, kind_with}
 use Rattle.aadl_grammar.proofs.Derived.Contents.{fits_with}
-use Rattle.aadl_lex.proofs.Basics.{some_is}
 
 sample : (c : Class) → Content c
 sample a_word = []
@@ -36,7 +36,7 @@ with_derives : (x : Symbol) (below : Stack) (r : Row) (o : Option (List Kind)) (
     → with_first (kind_with r.first (sample r.first)) o ≡ Some ks → Derives (x ∷ below) ks
 with_derives x below r None ks m h e = absurd cc
 with_derives x below r (Some more) ks m h e =
-    subst (λ (l : List Kind). Derives (x ∷ below) l) (some_is _ ks e) (take x below r (kind_with r.first (sample r.first)) more m (fits_with r.first (sample r.first)) (h more refl))
+    subst (λ (l : List Kind). Derives (x ∷ below) l) (same_Some _ ks e) (take x below r (kind_with r.first (sample r.first)) more m (fits_with r.first (sample r.first)) (h more refl))
 
 first_derives : (x : Symbol) (below : Stack) (rs : List Row) (later : Stack → Option (List Kind)) (ks : List Kind) → ((r : Row) → Member r rs → Member r (rows x))
     → ((wanted : Stack) (more : List Kind) → later wanted ≡ Some more → Derives wanted more) → by_first rs later below ≡ Some ks → Derives (x ∷ below) ks
@@ -50,7 +50,7 @@ omit_derives x below n ks h false o e = first_derives x below (rows x) (text n) 
 
 text_derives : (n : ℕ) (wanted : Stack) (ks : List Kind) → text n wanted ≡ Some ks → Derives wanted ks
 text_derives zero wanted ks e = absurd cc
-text_derives (suc n) [] ks e = subst (λ (l : List Kind). Derives [] l) (some_is [] ks e) nothing
+text_derives (suc n) [] ks e = subst (λ (l : List Kind). Derives [] l) (same_Some [] ks e) nothing
 text_derives (suc n) (x ∷ below) ks e = omit_derives x below n ks (λ wanted more h. text_derives n wanted more h) (can_omit x) refl e
 
 has_text : (x : Symbol) → is_some (text 40 (x ∷ [])) ≡ true

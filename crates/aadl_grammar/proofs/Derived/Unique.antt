@@ -15,7 +15,7 @@ use Rattle.aadl_grammar.proofs.Derived.Contents.{number_of, same_content}
 use Rattle.aadl_grammar.proofs.Opens.All.{Omitted, Opened, opens}
 use Rattle.aadl_grammar.proofs.Derived.Languages.{never_nil, derives}
 use Rattle.std.proofs.lemmas.Bool.{or_left, or_right}
-use Rattle.aadl_lex.proofs.Basics.{both_left, both_right}
+use Rattle.std.specs.Cmp.{first_so, second_so}
 use Rattle.aadl_grammar.proofs.Basics.{not_both, heads, tails}
 
 abbrev Spelled : (wanted : Stack) → Trees wanted → List Kind → Type 0
@@ -41,7 +41,7 @@ other_row : (y : Symbol) (r : Row) (rs : List Row) (bs : Builders y (r ∷ rs)) 
 other_row y r rs bs t u ks mid nid d i j =
     let h = headed y rs bs.1 u ks nid j in
     let same : kind_with r.first i.content ≡ h.kind = heads _ _ _ _ (sym i.whole ∙ h.whole) in
-    not_both (among (class_number r.first) (firsts rs)) (both_left _ _ d) (ap (λ n. among n (firsts rs)) (sym (number_of r.first i.content) ∙ ap kind_number same) ∙ h.first)
+    not_both (among (class_number r.first) (firsts rs)) (first_so _ _ d) (ap (λ n. among n (firsts rs)) (sym (number_of r.first i.content) ∙ ap kind_number same) ∙ h.first)
 
 abbrev Same : List Kind → Type 0
 Same ks = (kind : Kind) (more : List Kind) → ks ≡ kind ∷ more → (wanted : Stack) → Clear wanted → (ts us : Trees wanted) → Spelled wanted ts more → Spelled wanted us more → ts ≡ us
@@ -69,7 +69,7 @@ one_row y below (r ∷ rs) bs t u v w ks mid nid again c m d (inl i) (inl j) sp 
 one_row y below (r ∷ rs) bs t u v w ks mid nid again c m d (inl i) (inr j) sp sq = absurd (other_row y r rs bs t u ks mid nid d i j)
 one_row y below (r ∷ rs) bs t u v w ks mid nid again c m d (inr i) (inl j) sp sq = absurd (other_row y r rs bs u t ks nid mid d j i)
 one_row y below (r ∷ rs) bs t u v w ks mid nid again c m d (inr i) (inr j) sp sq =
-    one_row y below rs bs.1 t u v w ks mid nid again c (λ q n. m q (inr n)) (both_right (not (among (class_number r.first) (firsts rs))) _ d) i j sp sq
+    one_row y below rs bs.1 t u v w ks mid nid again c (λ q n. m q (inr n)) (second_so (not (among (class_number r.first) (firsts rs))) _ d) i j sp sq
 
 -- a symbol that is left out does not begin as what stands behind it
 clash : (y : Symbol) (below : Stack) (t : TreeOf y) (w : Trees below) (ks mid nid : List Kind) → Clear (y ∷ below) → can_omit y ≡ true → InRows y (rows y) (builders y) t ks mid → ks ≡ nid → Spelled below w nid → ⊥

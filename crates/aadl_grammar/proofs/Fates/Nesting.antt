@@ -13,7 +13,8 @@ use Rattle.aadl_grammar.proofs.Derived.Derivations.{Member, Goes, goes, member_f
 use Rattle.aadl_grammar.proofs.Derived.Contents.{Said, said}
 use Rattle.aadl_grammar.proofs.Fates.Shifts.{openers, closers, shift, shift_is, end_is, opened_same, closing, odd, plain, blunt, closing_first, good, changes, row_shifts, rows_shift, rows_shifted, omits_close_nothing}
 use Rattle.std.proofs.lemmas.Bool.{and_from, false_from_ne_true, or_cases}
-use Rattle.aadl_lex.proofs.Basics.{both_left, both_right, some_is}
+use Rattle.std.specs.Cmp.{first_so, second_so}
+use Rattle.std.proofs.lemmas.Option.{same_Some}
 use Rattle.aadl_grammar.proofs.Basics.{not_both}
 
 abbrev pub Good : Bool → Stack → Type 0
@@ -26,12 +27,12 @@ depth_append (x ∷ f) below = let e = depth_append f below in omega arith
 
 plain_append : (f below : Stack) → plain f ≡ true → plain below ≡ true → plain (f ++ below) ≡ true
 plain_append [] below e h = h
-plain_append (x ∷ f) below e h = and_from (not (odd x)) _ (both_left _ _ e) (plain_append f below (both_right (not (odd x)) _ e) h)
+plain_append (x ∷ f) below e h = and_from (not (odd x)) _ (first_so _ _ e) (plain_append f below (second_so (not (odd x)) _ e) h)
 
 good_append : (ended : Bool) (f below : Stack) → good ended f ≡ true → plain below ≡ true → good ended (f ++ below) ≡ true
 good_append false f below e h = plain_append f below e h
 good_append true [] below e h = cc
-good_append true (x ∷ f) below e h = and_from (closing x || blunt x) _ (both_left _ _ e) (plain_append f below (both_right (closing x || blunt x) _ e) h)
+good_append true (x ∷ f) below e h = and_from (closing x || blunt x) _ (first_so _ _ e) (plain_append f below (second_so (closing x || blunt x) _ e) h)
 
 shift_by : (outer x before behind rest : ℕ) (a b : Bool) → cond a (behind == before + 1) (cond b (behind + 1 == before) (behind == before)) ≡ true
     → cond a (outer + (before + rest) + 1) (cond b (outer + (before + rest) - 1) (outer + (before + rest))) ≡ outer + (behind + rest)
@@ -46,8 +47,8 @@ pub record Moved (outer : ℕ) (wanted next : Stack) (ended : Bool) (kind : Kind
 row_of : (x : Symbol) (r : Row) (rs : List Row) → Member r rs → rows_shift x rs ≡ true → row_shifts x r ≡ true
 unfolding depth
 row_of x r [] m e = absurd m
-row_of x r (q ∷ rs) (inl m) e = ap (row_shifts x) m ∙ both_left _ _ e
-row_of x r (q ∷ rs) (inr m) e = row_of x r rs m (both_right (row_shifts x q) _ e)
+row_of x r (q ∷ rs) (inl m) e = ap (row_shifts x) m ∙ first_so _ _ e
+row_of x r (q ∷ rs) (inr m) e = row_of x r rs m (second_so (row_shifts x q) _ e)
 
 or_else : (a b : Bool) → (a || b) ≡ true → not a ≡ true → b ≡ true
 or_else true b e h = cc
@@ -60,8 +61,8 @@ row_moved outer x below r kind n p m e =
     let row = row_of x r (rows x) m (or_else (odd x) _ (rows_shifted x) n) in
     let number = eqb-true (kind_number kind) (class_number r.first) e in
     let ended : is_end kind ≡ (class_number r.first == class_number (the k.End)) = end_is kind ∙ ap (λ z. z == class_number (the k.End)) number in
-    let changed = both_left (changes (class_number r.first) (closes x) (depth r.wanted)) _ row in
-    let after = both_right (changes (class_number r.first) (closes x) (depth r.wanted)) _ row in
+    let changed = first_so (changes (class_number r.first) (closes x) (depth r.wanted)) _ row in
+    let after = second_so (changes (class_number r.first) (closes x) (depth r.wanted)) _ row in
     record {
       after = ap (λ z. good z (r.wanted ++ below)) ended ∙ good_append (class_number r.first == class_number (the k.End)) r.wanted below after p;
       counts =
@@ -76,7 +77,7 @@ by_move : (outer : ℕ) (x : Symbol) (below next : Stack) (kind : Kind) (y : Mov
     → (later ≡ Some next → Moved outer below next false kind) → chosen y below later ≡ Some next → Moved outer (x ∷ below) next false kind
 unfolding depth
 by_move outer x below next kind (takes f) later (r, m, e, w) n p go h =
-    subst (λ (z : Stack). Moved outer (x ∷ below) z false kind) (ap (λ z. z ++ below) w ∙ some_is (f ++ below) next h) (row_moved outer x below r kind n p m e)
+    subst (λ (z : Stack). Moved outer (x ∷ below) z false kind) (ap (λ z. z ++ below) w ∙ same_Some (f ++ below) next h) (row_moved outer x below r kind n p m e)
 by_move outer x below next kind omitted later o n p go h =
     let more = go h in
     let none = eqb-true (closes x) 0 (or_else (not (can_omit x)) _ (omits_close_nothing x) (ap (λ b. not (not b)) o)) in
@@ -88,8 +89,8 @@ step_moves : (outer : ℕ) (wanted next : Stack) (kind : Kind) → plain wanted 
 unfolding step move
 step_moves outer [] next kind p e = absurd cc
 step_moves outer (x ∷ below) next kind p e =
-    let rest = both_right (not (odd x)) _ p in
-    by_move outer x below next kind (move x kind) (step below kind) (goes (rows x) (can_omit x) kind) (both_left _ _ p) rest (λ h. step_moves outer below next kind rest h) e
+    let rest = second_so (not (odd x)) _ p in
+    by_move outer x below next kind (move x kind) (step below kind) (goes (rows x) (can_omit x) kind) (first_so _ _ p) rest (λ h. step_moves outer below next kind rest h) e
 
 -- Behind `end`.
 
@@ -100,7 +101,7 @@ closing_is _ e = absurd cc
 
 closing_row : (y : Move) (kind : Kind) (below next : Stack) (later : Option Stack) → Goes (rows s.closing_if) false kind y → chosen y below later ≡ Some next → (kind ≡ mark k.If) × (below ≡ next)
 closing_row (takes f) kind below next later (r, inl m, e, w) h =
-    (Said.whole (said (the k.If) kind (ap (λ (q : Row). fits q.first kind) (sym m) ∙ e)), ap (λ (q : Row). q.wanted ++ below) (sym m) ∙ ap (λ z. z ++ below) w ∙ some_is (f ++ below) next h)
+    (Said.whole (said (the k.If) kind (ap (λ (q : Row). fits q.first kind) (sym m) ∙ e)), ap (λ (q : Row). q.wanted ++ below) (sym m) ∙ ap (λ z. z ++ below) w ∙ same_Some (f ++ below) next h)
 closing_row (takes f) kind below next later (r, inr m, e, w) h = absurd m
 closing_row omitted kind below next later o h = cc
 closing_row refuses kind below next later g h = absurd cc
@@ -117,22 +118,22 @@ closing_moves outer below next kind p e =
 blunt_move : (outer : ℕ) (x : Symbol) (below next : Stack) (kind : Kind) (y : Move) (later : Option Stack) → Goes (rows x) (can_omit x) kind y → blunt x ≡ true → plain below ≡ true
     → chosen y below later ≡ Some next → Moved outer (x ∷ below) next true kind
 blunt_move outer x below next kind (takes f) later (r, m, e, w) b p h =
-    let rest = both_right (not (can_omit x)) _ b in
-    let moved = row_moved outer x below r kind (both_right (not (among (class_number (the k.If)) (firsts (rows x)))) _ rest) p m e in
+    let rest = second_so (not (can_omit x)) _ b in
+    let moved = row_moved outer x below r kind (second_so (not (among (class_number (the k.If)) (firsts (rows x)))) _ rest) p m e in
     let never = false_from_ne_true (kind_number kind == class_number (the k.If))
-    (λ i. not_both (among (class_number (the k.If)) (firsts (rows x))) (both_left _ _ rest)
+    (λ i. not_both (among (class_number (the k.If)) (firsts (rows x))) (first_so _ _ rest)
     (ap (λ z. among z (firsts (rows x))) (sym (eqb-true (kind_number kind) (class_number (the k.If)) i)) ∙ member_first r (rows x) kind m e)) in
-    let same : r.wanted ++ below ≡ next = ap (λ z. z ++ below) w ∙ some_is (f ++ below) next h in
+    let same : r.wanted ++ below ≡ next = ap (λ z. z ++ below) w ∙ same_Some (f ++ below) next h in
     subst (λ (z : Stack). Moved outer (x ∷ below) z true kind) same (record { after = moved.after; counts = opened_same (outer + depth (x ∷ below)) true kind never ∙ moved.counts })
-blunt_move outer x below next kind omitted later o b p h = absurd (not_both (can_omit x) (both_left _ _ b) o)
+blunt_move outer x below next kind omitted later o b p h = absurd (not_both (can_omit x) (first_so _ _ b) o)
 blunt_move outer x below next kind refuses later g b p h = absurd cc
 
 ended_moves : (outer : ℕ) (wanted next : Stack) (kind : Kind) → closing_first wanted ≡ true → step wanted kind ≡ Some next → Moved outer wanted next true kind
 unfolding step move
 ended_moves outer [] next kind g e = absurd cc
 ended_moves outer (x ∷ below) next kind g e =
-    let p = both_right (closing x || blunt x) _ g in
-    elim (or_cases (closing x) (blunt x) (both_left _ _ g)) [
+    let p = second_so (closing x || blunt x) _ g in
+    elim (or_cases (closing x) (blunt x) (first_so _ _ g)) [
       | inl i ↦ subst (λ (z : Symbol). Moved outer (z ∷ below) next true kind) (sym (closing_is x i)) (closing_moves outer below next kind p (ap (λ z. step (z ∷ below) kind) (sym (closing_is x i)) ∙ e))
       | inr i ↦ blunt_move outer x below next kind (move x kind) (step below kind) (goes (rows x) (can_omit x) kind) i p e
     ]

@@ -1,6 +1,7 @@
 -- What the machine's fate of a list of terminals says of a language.
 use Rattle.std.proofs.Common.{◌≡◌, ℕ, ◌+◌, ◌≤◌, Bool, true, false, ◌∙◌, sym, ap, subst, refl, List, [], ◌∷◌, ◌++◌, Some, None, arith, append_assoc}
 use Rattle.std.proofs.lemmas.List.{append-nil, map-append}
+use Rattle.std.proofs.lemmas.Bool.{true≢false}
 use Rattle.aadl_tree.specs.declared.limits.TheConstants.{GREATEST_NESTING}
 use Rattle.aadl_tree.specs.declared.mark.Mark.TheVariants as k
 use Rattle.aadl_tree.specs.Kinds.{Kind, word, whole, real, quoted, unread, mark, other, Spot, kinds_of}
@@ -34,13 +35,10 @@ begins IsText outer l ks last e =
 nothing_is_some : (a : Stack) → Some a ≡ None → ⊥
 nothing_is_some a e = cc
 
-true_is_false : true ≡ false → ⊥
-true_is_false e = cc
-
 stuck : (IsText : List Kind → Type 0) (outer : ℕ) (l : Language IsText outer) (seen : List Kind) (left : List Spot) (last : Stack) → walk l.start seen ≡ Some last → StopsBy last left → IsStuck IsText seen left
 stuck IsText outer l seen [] last e h = λ (text : IsText seen).
     let r = derived_left seen l.start last [] l.clear e (subst (λ (x : List Kind). Derives l.start x) (sym (append-nil seen)) (l.derived seen text)) in
-    true_is_false (sym (derived_ends last r.derived) ∙ h)
+    true≢false (sym (derived_ends last r.derived) ∙ h)
 stuck IsText outer l seen (t ∷ ts) last e h = λ (b : Begins IsText (seen ++ t.kind ∷ [])).
     let d = subst (λ (x : List Kind). Derives l.start x) (append_assoc seen (t.kind ∷ []) b.more) (l.derived _ b.text) in
     let r = derived_left seen l.start last (t.kind ∷ b.more) l.clear e d in

@@ -1,5 +1,6 @@
 -- The machine over several terminals.
 use Rattle.std.proofs.Common.{◌≡◌, ℕ, ◌+◌, ◌≤◌, Bool, ◌∙◌, sym, ap, subst, refl, List, [], ◌∷◌, ◌++◌, Option, Some, None, option_and_then, unwrap_or}
+use Rattle.std.proofs.lemmas.Option.{same_Some}
 use Rattle.aadl_tree.specs.declared.limits.TheConstants.{GREATEST_NESTING}
 use Rattle.aadl_tree.specs.Kinds.{Kind}
 use Rattle.aadl_tree.specs.Grammar.{is_end, nesting_from}
@@ -7,7 +8,6 @@ use Rattle.aadl_grammar.specs.proof.Machine.{Stack, step, depth}
 use Rattle.aadl_grammar.proofs.Derived.Settled.{Clear}
 use Rattle.aadl_grammar.proofs.Derived.Derivations.{Derives, steps, step_derives}
 use Rattle.aadl_grammar.proofs.Fates.Nesting.{Good, step_depth}
-use Rattle.aadl_lex.proofs.Basics.{some_is}
 use Rattle.aadl_grammar.proofs.Basics.{heads, tails}
 
 -- the stack behind the terminals
@@ -47,7 +47,7 @@ derived_left [] wanted last more c e d = subst (λ (x : Stack). Left x more) (wa
 derived_left (kind ∷ ks) wanted last more c e d =
     let got = walk_first wanted kind ks last e in
     let s = steps wanted kind (ks ++ more) c d in
-    derived_left ks s.next last more s.clear (ap (λ x. walk x ks) (some_is s.next got.0 (sym s.stepped ∙ got.1)) ∙ got.2) s.derived
+    derived_left ks s.next last more s.clear (ap (λ x. walk x ks) (same_Some s.next got.0 (sym s.stepped ∙ got.1)) ∙ got.2) s.derived
 
 pub walk_depth : (outer : ℕ) (ks : List Kind) (wanted last : Stack) (ended : Bool) → Good ended wanted → walk wanted ks ≡ Some last → nesting_from (outer + depth wanted) ended ks ≡ outer + depth last
 walk_depth outer [] wanted last ended good e = ap (λ x. outer + depth x) (walk_none wanted last e)

@@ -1,12 +1,12 @@
 -- Values and properties are fixed by what is left without places, and by their places.
 use Rattle.std.proofs.Common.{◌≡◌, ℕ, ◌∙◌, sym, ap, ap₂, Bool, true, false, List, [], ◌∷◌, ◌++◌, map, flat_map, Option, Some, None, option_map, refl}
+use Rattle.std.proofs.lemmas.Option.{same_Some}
 use Rattle.aadl_tree.specs.declared.mark.Mark.{Mark}
 use Rattle.aadl_tree.specs.declared.mark.Mark.TheVariants as k
 use Rattle.aadl_tree.specs.declared.expressions.Sign.{Sign}
 use Rattle.aadl_tree.specs.Parts.{Part, plain, parts_if, behind, marked_if}
 use Rattle.aadl_tree.specs.Names as n
 use Rattle.aadl_tree.specs.Values as v
-use Rattle.aadl_lex.proofs.Basics.{some_is}
 use Rattle.aadl_grammar.proofs.Basics.{heads, tails}
 use Rattle.aadl_tree.specs.proof.Maps.{no_place, identifier_to, path_to, identifiers_to, reference_to, quantity_to, value_to, values_to, association_to, associations_to}
 use Rattle.aadl_grammar.proofs.Placed.Order.{placed, in_turn}
@@ -24,7 +24,7 @@ list_fixed to parts f (t ∷ ts) [] xs ys s h = absurd cc
 
 pub option_fixed : {T U : Type 0} (to : T → U) (parts : T → List (Part ℕ)) → Fixed T U to parts → Fixed (Option T) (Option U) (option_map to) (parts_if parts)
 option_fixed to parts f None None xs ys s h = record { tree = refl; rest = h }
-option_fixed to parts f (Some t) (Some u) xs ys s h = let a = f t u xs ys (some_is (to t) (to u) s) h in record { tree = ap Some a.tree; rest = a.rest }
+option_fixed to parts f (Some t) (Some u) xs ys s h = let a = f t u xs ys (same_Some (to t) (to u) s) h in record { tree = ap Some a.tree; rest = a.rest }
 option_fixed to parts f None (Some u) xs ys s h = absurd cc
 option_fixed to parts f (Some t) None xs ys s h = absurd cc
 

@@ -1,6 +1,6 @@
 use Rattle.std.proofs.Common.{◌∙◌, subst, sym}
+use Rattle.std.proofs.lemmas.Result.{on_ok_weaker}
 use Rattle.aadl_tree.specs.proof.PackageViews.{placed}
-use Rattle.aadl_names.proofs.Finds.{on_ok}
 use Rattle.aadl_chains.specs.proof.Inside.{IsJoined}
 use Rattle.aadl_chains.proofs.Joining.{one_joined, none_joined}
 use Rattle.aadl_chains.proofs.inside.join.Goals as goal
@@ -8,7 +8,7 @@ use Rattle.aadl_chains.proofs.inside.join.Goals as goal
 pub returns-in-Some : goal.returns-in-Some
 returns-in-Some c =
     let tree = placed c.args.wires.now.uses.names.tree.now in
-    on_ok c.add.result
+    on_ok_weaker c.add.result
     (λ e. subst (IsJoined tree c.args.direction c.args.number c.args.wire c.args.ports.now) (sym e)
     (one_joined tree c.args.direction c.args.ports.now c.args.number c.in-Some.port c.args.wire (sym c.joined.ensures ∙ c.in-Some.is)))
     c.add.ensures

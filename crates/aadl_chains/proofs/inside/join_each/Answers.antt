@@ -1,7 +1,7 @@
 use Rattle.std.proofs.Common.{◌≡◌, ◌∙◌, ap, arith, get_or, length, slice_get, sym, Some, None, List}
 use Rattle.std.proofs.lemmas.Option.{slice_get-get_or}
+use Rattle.list_lemmas.proofs.Places.{Contains-from_slice_get}
 use Rattle.aadl_tree.specs.proof.PackageViews.{placed}
-use Rattle.aadl_uses.proofs.Searches.{contains_at}
 use Rattle.aadl_uses.specs.declared.connections.Wire.{Wire}
 use Rattle.aadl_uses.specs.Wiring.{wires_at}
 use Rattle.aadl_chains.proofs.Joining.{none_yet, one_more, all_joined}
@@ -20,7 +20,7 @@ loop-wire-preserved c =
     let is : slice_get (wires_at tree n) i ≡ Some wire =
     ap (λ (l : List Wire). slice_get l i) (sym c.wires-wire-items.ensures)
     ∙ slice_get-get_or items i (record { source = None; target = None }) c.loop-wire-test.true in
-    one_more tree c.args.direction n i wire c.args.ports.now c.loop-wire.ports c.join.new.ports c.requires is (contains_at (wires_at tree n) i wire is)
+    one_more tree c.args.direction n i wire c.args.ports.now c.loop-wire.ports c.join.new.ports c.requires is (Contains-from_slice_get (wires_at tree n) i wire is)
     c.in_ok-join.ensures c.loop-wire.invariant
 
 pub returns : goal.returns

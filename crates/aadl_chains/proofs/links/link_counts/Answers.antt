@@ -2,9 +2,9 @@ use Rattle.std.proofs.Common.{ℕ, ◌+◌, ◌∙◌, arith, get_or, subst, sym
 use Rattle.aadl_tree.specs.proof.PackageViews.{placed}
 use Rattle.aadl_uses.specs.proof.Uses.{containment}
 use Rattle.aadl_uses.proofs.Containing.{below-same}
-use Rattle.aadl_uses.proofs.Searches.{contains_at}
 use Rattle.aadl_uses.proofs.Fronts.{FrontOf, no_front, front_known, front_more, front_past, front_all}
 use Rattle.std.proofs.lemmas.List.{length-map}
+use Rattle.list_lemmas.proofs.Places.{Contains-from_slice_get}
 use Rattle.aadl_uses.specs.proof.Uses.{targets_in}
 use Rattle.aadl_chains.specs.proof.Numbers.{IsNumber}
 use Rattle.aadl_chains.specs.proof.PortCounts.{EndsLink}
@@ -16,7 +16,7 @@ pub links_below-count-requires-clause-takes : goal.links_below-count-requires-cl
 links_below-count-requires-clause-takes c =
     let keys = c.args.order.now.keys in
     known_below (placed c.args.wires.now.uses.names.tree.now) c.args.limit keys c.requires.order.sequence c.loop-at.at c.in-Some.number.now _
-    (sym c.in-Some.ensures.key) (λ k m lt e. c.in_ok-takes.ensures m (contains_at keys k m e))
+    (sym c.in-Some.ensures.key) (λ k m lt e. c.in_ok-takes.ensures m (Contains-from_slice_get keys k m e))
 
 pub links_below-count-requires-clause-counts : goal.links_below-count-requires-clause-counts
 links_below-count-requires-clause-counts c = λ s m e.
@@ -34,7 +34,7 @@ loop-at-init c =
 pub put-requires : goal.put-requires
 put-requires c =
     let least = c.requires.order.sequence.declared c.in-Some.number.now
-    (contains_at c.args.order.now.keys c.loop-at.at c.in-Some.number.now (sym c.in-Some.ensures.key)) in
+    (Contains-from_slice_get c.args.order.now.keys c.loop-at.at c.in-Some.number.now (sym c.in-Some.ensures.key)) in
     omega (arith, least, c.loop-at.invariant.size)
 
 pub loop-at-preserved : goal.loop-at-preserved

@@ -1,6 +1,6 @@
 use Rattle.std.proofs.Common.{◌∙◌, subst, sym}
+use Rattle.std.proofs.lemmas.Result.{on_ok_weaker}
 use Rattle.aadl_tree.specs.proof.PackageViews.{placed}
-use Rattle.aadl_names.proofs.Finds.{on_ok}
 use Rattle.aadl_chains.specs.proof.Outside.{IsLed}
 use Rattle.aadl_chains.proofs.Leading.{one_led, none_led}
 use Rattle.aadl_chains.proofs.outside.lead.Goals as goal
@@ -11,7 +11,7 @@ returns-in-Some c =
     let root = c.args.side.root in
     let d = c.args.side.direction in
     let inside = c.args.inside.now.ports in
-    on_ok c.add.result
+    on_ok_weaker c.add.result
     (λ e. subst (IsLed tree root d inside c.args.number c.args.wire c.args.ports.now) (sym e)
     (one_led tree root d inside c.requires.inside c.args.ports.now c.args.number c.args.wire c.in-Some.port (sym c.led.ensures ∙ c.in-Some.is)))
     c.add.ensures

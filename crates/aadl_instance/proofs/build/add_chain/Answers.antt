@@ -1,7 +1,7 @@
 use Rattle.std.proofs.Common.{◌∙◌, ap, reverse, subst}
+use Rattle.std.proofs.lemmas.Result.{on_ok_weaker}
 use Rattle.aadl_tree.specs.proof.PackageViews.{placed}
 use Rattle.aadl_names.specs.Resolving.{ports_at}
-use Rattle.aadl_names.proofs.Finds.{on_ok}
 use Rattle.aadl_uses.specs.Uses.{component_at}
 use Rattle.aadl_chains.proofs.OnChains.{port, is_in-at}
 use Rattle.aadl_chains.specs.proof.Routes.{Traces}
@@ -43,7 +43,7 @@ returns-in_ok-chain-in-Some c =
     let path = reverse c.args.node.now.path.now in
     let to = port path c.args.port in
     let route = c.in-Some.route in
-    on_ok c.push.result
+    on_ok_weaker c.push.result
     (λ added into.
     route_added tree net.root c.requires.ready.settled.no_thread paths c.requires.ready.settled.threads.in_order c.args.node.now.number.0 c.args.port path
     c.requires.node.numbered route

@@ -1,6 +1,6 @@
 use Rattle.std.proofs.Common.{◌∙◌, [], ap, refl, subst, sym}
+use Rattle.std.proofs.lemmas.Result.{on_ok_weaker}
 use Rattle.aadl_tree.specs.proof.PackageViews.{placed}
-use Rattle.aadl_names.proofs.Finds.{on_ok}
 use Rattle.aadl_chains.proofs.OnChains.{port, is_in-at}
 use Rattle.aadl_chains.specs.proof.Routes.{TracesTap}
 use Rattle.aadl_instance.specs.proof.Passed.{paths_of, chain_by}
@@ -28,7 +28,7 @@ returns-in_ok-chain_by-in-Some c =
     let paths = paths_of net.threads.now in
     let to = port [] c.args.port in
     let route = c.in-Some.route in
-    on_ok c.push.result
+    on_ok_weaker c.push.result
     (λ added taps.
     tap_added tree net.root paths c.args.port route c.in_ok-chain_by-in-Some.field-0 c.args.taps.now c.push.new.self
     (subst (TracesTap tree net.root to) c.in-Some.is c.in_ok-route.ensures)

@@ -1,12 +1,12 @@
 use Rattle.std.proofs.Common.{sym, ◌∙◌, ap}
+use Rattle.std.proofs.lemmas.Result.{on_ok_weaker}
 use Rattle.aadl_names.specs.proof.Earliest.{is_sooner}
-use Rattle.aadl_names.proofs.Finds.{on_ok}
 use Rattle.aadl_names.proofs.Spots.{spot_set, spot_kept}
 use Rattle.aadl_names.proofs.earliest.add_spot.Goals as goal
 
 pub returns-then-is_sooner : goal.returns-then-is_sooner
 returns-then-is_sooner c =
-    on_ok c.set.result
+    on_ok_weaker c.set.result
     (spot_set c.args.table.now c.set.new.self c.args.name.now c.args.spot
     (ap (is_sooner c.args.spot) (sym c.in_ok-earliest.ensures) ∙ (sym c.is_sooner.ensures ∙ c.if-is_sooner.true)))
     c.set.ensures

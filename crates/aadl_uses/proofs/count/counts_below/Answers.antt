@@ -1,6 +1,6 @@
 use Rattle.std.proofs.Common.{◌+◌, ◌∙◌, arith, subst, sym}
+use Rattle.list_lemmas.proofs.Places.{Contains-from_slice_get}
 use Rattle.aadl_uses.specs.proof.Counts.{Counted}
-use Rattle.aadl_uses.proofs.Searches.{contains_at}
 use Rattle.aadl_uses.proofs.Fronts.{FrontOf, no_front, front_more, front_past, front_all}
 use Rattle.aadl_uses.proofs.count.counts_below.Goals.{in-Some, in_default}
 use Rattle.aadl_uses.proofs.count.counts_below.Goals as goal
@@ -10,7 +10,7 @@ loop-at-init c = no_front (Counted c.args.limit c.args.graph.now c.args.marks.no
 
 pub put-requires : goal.put-requires
 put-requires c =
-    let least = c.requires.sequence.declared c.in-Some.number.now (contains_at c.args.order.now.keys c.loop-at.at c.in-Some.number.now (sym c.in-Some.ensures.key)) in
+    let least = c.requires.sequence.declared c.in-Some.number.now (Contains-from_slice_get c.args.order.now.keys c.loop-at.at c.in-Some.number.now (sym c.in-Some.ensures.key)) in
     omega (arith, least, c.loop-at.invariant.size)
 
 pub loop-at-preserved : goal.loop-at-preserved

@@ -1,5 +1,5 @@
 use Rattle.std.proofs.Common.{◌+◌, None, arith, subst, sym}
-use Rattle.aadl_uses.proofs.Searches.{contains_at}
+use Rattle.list_lemmas.proofs.Places.{Contains-from_slice_get}
 use Rattle.aadl_uses.proofs.Fronts.{FrontOf, front_past, front_more, front_all}
 use Rattle.aadl_uses.specs.proof.Weights.{IsHeaviest}
 use Rattle.aadl_uses.proofs.heaviest.heaviest_below.Goals.{in-Some, in_default}
@@ -7,7 +7,7 @@ use Rattle.aadl_uses.proofs.heaviest.heaviest_below.Goals as goal
 
 pub put-requires : goal.put-requires
 put-requires c =
-    let least = c.requires.sequence.declared c.in-Some.number.now (contains_at c.args.order.now.keys c.loop-at.at c.in-Some.number.now (sym c.in-Some.ensures.key)) in
+    let least = c.requires.sequence.declared c.in-Some.number.now (Contains-from_slice_get c.args.order.now.keys c.loop-at.at c.in-Some.number.now (sym c.in-Some.ensures.key)) in
     omega (arith, least, c.loop-at.invariant.size)
 
 pub loop-at-preserved : goal.loop-at-preserved

@@ -1,7 +1,7 @@
 use Rattle.std.proofs.Common.{◌+◌, ◌∙◌, [], Contains, arith, map, subst, sym}
 use Rattle.std.proofs.lemmas.Option.{same_Some}
+use Rattle.list_lemmas.proofs.Places.{Contains-from_slice_get}
 use Rattle.aadl_uses.proofs.Fronts.{FrontOf, no_front, front_known, front_same, front_past, front_more, front_all}
-use Rattle.aadl_uses.proofs.Searches.{contains_at}
 use Rattle.aadl_uses.proofs.Sequences.{of_any, not_of_any}
 use Rattle.aadl_uses.proofs.Listed.{IsListedIn}
 use Rattle.aadl_uses.proofs.paths.paths_below.Goals.{in-Some+then-contains+in_ok-row, in-Some+else-contains, in_default}
@@ -19,7 +19,7 @@ paths_of-requires c = λ s m e.
 
 pub put-requires : goal.put-requires
 put-requires c =
-    let least = c.requires.order.sequence.declared c.in-Some.number.now (contains_at c.args.order.now.keys c.loop-at.at c.in-Some.number.now (sym c.in-Some.ensures.key)) in
+    let least = c.requires.order.sequence.declared c.in-Some.number.now (Contains-from_slice_get c.args.order.now.keys c.loop-at.at c.in-Some.number.now (sym c.in-Some.ensures.key)) in
     omega (arith, least, c.loop-at.invariant.size)
 
 pub loop-at-preserved : goal.loop-at-preserved

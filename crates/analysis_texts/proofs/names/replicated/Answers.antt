@@ -1,9 +1,9 @@
 use Rattle.std.proofs.Common.{rules, ◌≡◌, ◌∙◌, false, true, length, replicate, ap, arith}
 use Rattle.std.specs.Prelude.{slice_index_or, slice_set}
 use Rattle.std.proofs.lemmas.List.{length-set}
+use Rattle.list_lemmas.proofs.Lists.{take-written_whole}
 use Rattle.pals_base.specs.declared.values.NodeNo.{NodeNo}
 use Rattle.analysis_texts.proofs.Filing.{marked_more, none_marked}
-use Rattle.analysis_texts.proofs.Rounds.{written_whole}
 use Rattle.analysis_texts.proofs.names.replicated.Goals as goal
 
 pub loop-replica-init : goal.loop-replica-init
@@ -21,5 +21,5 @@ loop-replica-preserved c =
     let new = c.mark.new.marks in
     let is : new ≡ slice_set marks.items node true = c.mark.ensures
     ∙ ap (λ ms. slice_set ms node true) c.deref_mut.ensures.value in
-    written_whole marks.len new marks.items (omega arith) (ap length is ∙ length-set marks.items node true)
+    take-written_whole marks.len new marks.items (omega arith) (ap length is ∙ length-set marks.items node true)
     ∙ is ∙ marked_more replicas at none c.args.count marks.items c.loop-replica-test.true c.loop-replica.invariant

@@ -1,12 +1,12 @@
 use Rattle.std.proofs.Common.{◌++◌, ap, ◌∙◌, sym, arith}
 use Rattle.std.specs.Prelude.{slice_index_or}
 use Rattle.std.proofs.lemmas.List.{get_or_default}
+use Rattle.std.proofs.lemmas.Simd.{map-map}
 use Rattle.pals_model.specs.RoundTexts.{line_end, text_of}
 use Rattle.pals_report.proofs.WordLines.{lines_turn, lines_all}
 use Rattle.round_budget.specs.BudgetText.{slot_line}
 use Rattle.round_budget.specs.proof.Values.{line_value}
 use Rattle.round_budget.specs.declared.serving.Line.{Line}
-use Rattle.analysis_texts.proofs.Mapped.{map-map}
 use Rattle.analysis_texts.proofs.processors.add_slots.Goals as goal
 
 pub loop-line-preserved : goal.loop-line-preserved

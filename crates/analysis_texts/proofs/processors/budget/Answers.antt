@@ -2,12 +2,12 @@ use Rattle.std.proofs.Common.{not, ap, ◌∙◌, sym, arith}
 use Rattle.std.specs.List.{list_any}
 use Rattle.std.proofs.lemmas.List.{take_all}
 use Rattle.std.proofs.lemmas.List.Folds.{flat_map-map}
+use Rattle.list_lemmas.proofs.Elements.{list_any-map}
 use Rattle.pals_model.specs.RoundTexts.{text_of}
 use Rattle.analysis_fields.specs.declared.processors.Processor.{Processor}
 use Rattle.round_budget.specs.BudgetText.{Processor as Served, fits_on, processor_lines}
 use Rattle.analysis_texts.specs.Budgeted.{processor_of}
 use Rattle.analysis_texts.proofs.Blocks.{blocks_all}
-use Rattle.analysis_texts.proofs.Mapped.{list_any-map}
 use Rattle.analysis_texts.proofs.processors.budget.Goals as goal
 
 pub returns-clause-text : goal.returns-clause-text

@@ -1,4 +1,5 @@
 use Rattle.std.proofs.Common.{rules, refl, ◌≡◌, ◌<◌, ◌+◌, ◌++◌, length, take, drop, IfSome, is_some, sym, ap, ◌∙◌, subst, arith}
+use Rattle.list_lemmas.proofs.Lists.{take-written_whole}
 use Rattle.pals_model.specs.Composition.{comp}
 use Rattle.pals_model.specs.Inputs.{values_at}
 use Rattle.pals_model.specs.RoundTexts.{text_of}
@@ -6,7 +7,7 @@ use Rattle.run_monitor.specs.proof.MonitorStates.{HasWatched}
 use Rattle.run_monitor.specs.WatchText.{watched_lines, watched_rows}
 use Rattle.run_monitor.specs.Violations.{history, violation, is_violated}
 use Rattle.analysis_texts.specs.Watched.{named, formulas}
-use Rattle.analysis_texts.proofs.Rounds.{written_whole, length_values_at}
+use Rattle.analysis_texts.proofs.Rounds.{length_values_at}
 use Rattle.analysis_texts.proofs.WatchedLines.{found_is, found_tells, found_within, rows_more, watched_whole}
 use Rattle.analysis_texts.proofs.properties.watch_rounds.Goals as goal
 
@@ -29,7 +30,7 @@ loop-round-preserved c =
     let written = c.write_values.new.values in
     let wide : length written ≡ length env.lists = ap length c.write_values.ensures ∙ length_values_at env round in
     let whole : take values.len (written ++ drop (length written) values.items) ≡ written =
-    written_whole values.len written values.items (omega arith) (wide ∙ sym c.loop-round.invariant.values) in
+    take-written_whole values.len written values.items (omega arith) (wide ∙ sym c.loop-round.invariant.values) in
     let here : c.as_slice.result.now ≡ values_at env round = c.as_slice.ensures.value ∙ whole
     ∙ c.write_values.ensures in
     let same = c.loop-round.invariant.design in

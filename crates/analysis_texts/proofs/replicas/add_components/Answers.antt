@@ -1,11 +1,12 @@
 use Rattle.std.proofs.Common.{◌≡◌, ◌∙◌, ℕ, ◌+◌, ◌++◌, ◌∷◌, List, length, drop, refl, sym, ap, arith}
 use Rattle.std.proofs.lemmas.List.{drop_more}
+use Rattle.list_lemmas.proofs.Lists.{length-map_enumerate_from}
 use Rattle.pals_model.specs.declared.design.Component.{Component}
 use Rattle.pals_model.specs.declared.design.DesignParts.{DesignParts}
 use Rattle.pals_model.specs.RoundTexts.{text_of}
 use Rattle.triple_vote.specs.Replicas.{is_replicated, frame_at}
 use Rattle.triple_vote.specs.VotedText.{replica_lines}
-use Rattle.sync_product.proofs.Tables.{entry_at, item_at, length-numbered, numbered-at}
+use Rattle.sync_product.proofs.Tables.{entry_at, item_at, numbered-at}
 use Rattle.pals_report.proofs.RowLines.{lines_turn}
 use Rattle.analysis_texts.specs.proof.Voted.{names_of, all_names, all_lines}
 use Rattle.analysis_texts.proofs.replicas.add_components.Goals as goal
@@ -17,7 +18,7 @@ bounds-names-node c =
     omega (
       arith,
       ap length c.requires,
-      length-numbered (λ (numbered : ℕ × Component).
+      length-map_enumerate_from (λ (numbered : ℕ × Component).
           names_of numbered.1.path (is_replicated product.replicated numbered.0)) 0 product.design.components,
       ap length same,
       c.loop-node-test.true,

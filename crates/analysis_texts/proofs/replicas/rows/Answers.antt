@@ -1,6 +1,7 @@
 use Rattle.std.proofs.Common.{rules, ◌≡◌, ◌∙◌, ◌++◌, Bool, List, length, take, drop, All, refl, sym, ap, ap₂, subst, arith}
 use Rattle.std.specs.Prelude.{slice_index_or}
 use Rattle.std.proofs.lemmas.List.{length-map}
+use Rattle.list_lemmas.proofs.Lists.{take-written_whole}
 use Rattle.pals_model.specs.declared.design.DesignParts.{DesignParts}
 use Rattle.pals_model.specs.Inputs.{values_at}
 use Rattle.pals_runs.specs.declared.pairs.VoteFault.{VoteFault}
@@ -10,7 +11,7 @@ use Rattle.triple_vote.specs.proof.States.{VotedState, vadvanced}
 use Rattle.triple_vote.specs.VotedText.{vreport}
 use Rattle.triple_vote.proofs.Tables.{table-at}
 use Rattle.analysis_texts.specs.proof.Voted.{all_names}
-use Rattle.analysis_texts.proofs.Rounds.{written_whole, length_values_at}
+use Rattle.analysis_texts.proofs.Rounds.{length_values_at}
 use Rattle.analysis_texts.proofs.VotedRows.{MakesRound, voted_more}
 use Rattle.analysis_texts.proofs.replicas.rows.Goals as goal
 
@@ -63,7 +64,7 @@ loop-round-preserved c =
     let new = c.advance.new.self in
     let wide : length written ≡ length env.lists = ap length c.write_values.ensures ∙ length_values_at env round in
     let whole : take values.len (written ++ drop (length written) values.items) ≡ written =
-    written_whole values.len written values.items (omega arith) (wide ∙ sym c.loop-round.invariant.values) in
+    take-written_whole values.len written values.items (omega arith) (wide ∙ sym c.loop-round.invariant.values) in
     let here : c.as_slice.result.now ≡ values_at env round = c.as_slice.ensures.value ∙ whole
     ∙ c.write_values.ensures in
     let advanced : new ≡ vadvanced old c.as_slice.result.now c.as_slice-in-loop-round.result.now =

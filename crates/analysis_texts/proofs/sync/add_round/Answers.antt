@@ -1,8 +1,9 @@
 use Rattle.std.proofs.Common.{◌≡◌, ◌++◌, OnOk, refl, ap, ◌∙◌, sym, subst}
+use Rattle.list_lemmas.proofs.Results.{OnOk-always}
 use Rattle.pals_model.specs.Composition.{comp}
 use Rattle.pals_model.specs.RoundTexts.{row}
 use Rattle.sync_product.specs.proof.State.{ProductState, advanced}
-use Rattle.analysis_texts.proofs.Rounds.{on_ok, further, parts_after}
+use Rattle.analysis_texts.proofs.Rounds.{further, parts_after}
 use Rattle.analysis_texts.proofs.sync.add_round.Goals as goal
 
 pub returns-clause-row : goal.returns-clause-row
@@ -19,6 +20,6 @@ returns-clause-row c env here at =
 
 pub returns-clause-further : goal.returns-clause-further
 returns-clause-further c env here at =
-    on_ok c.add_row.result _
+    OnOk-always c.add_row.result _
     (ap (λ (s : ProductState). s.configuration) c.in_ok-advance.ensures.ok
     ∙ further c.args.product.now.design env c.args.round c.args.values.now c.args.product.now refl here at)

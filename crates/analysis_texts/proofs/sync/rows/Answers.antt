@@ -1,10 +1,11 @@
 use Rattle.std.proofs.Common.{rules, refl, ◌≡◌, ◌+◌, ◌++◌, length, take, drop, sym, ap, ◌∙◌, arith}
+use Rattle.list_lemmas.proofs.Lists.{take-written_whole}
 use Rattle.pals_model.specs.declared.design.DesignParts.{DesignParts}
 use Rattle.pals_model.specs.Composition.{comp}
 use Rattle.pals_model.specs.Inputs.{values_at}
 use Rattle.pals_model.specs.RoundTexts.{row, report}
 use Rattle.pals_report.specs.proof.TapPlaces.{tap_places}
-use Rattle.analysis_texts.proofs.Rounds.{written_whole, length_values_at, report_more}
+use Rattle.analysis_texts.proofs.Rounds.{length_values_at, report_more}
 use Rattle.analysis_texts.proofs.sync.rows.Goals as goal
 
 pub loop-round-init : goal.loop-round-init
@@ -31,7 +32,7 @@ loop-round-preserved c =
     let written = c.write_values.new.values in
     let wide : length written ≡ length env.lists = ap length c.write_values.ensures ∙ length_values_at env round in
     let whole : take values.len (written ++ drop (length written) values.items) ≡ written =
-    written_whole values.len written values.items (omega arith) (wide ∙ sym c.loop-round.invariant.values) in
+    take-written_whole values.len written values.items (omega arith) (wide ∙ sym c.loop-round.invariant.values) in
     let here : c.as_slice.result.now ≡ values_at env round = c.as_slice.ensures.value ∙ whole
     ∙ c.write_values.ensures in
     let same = c.loop-round.invariant.design in

@@ -1,8 +1,8 @@
 use Rattle.std.proofs.Common.{refl}
+use Rattle.aadl_names.proofs.Adds.{next_added}
 use Rattle.aadl_tree.specs.proof.ValueViews.{association_view, associations_view}
 use Rattle.aadl_tree.specs.proof.Maps.{kept_place}
 use Rattle.component_checks.specs.Times.{counted_big, list_big}
-use Rattle.component_checks.proofs.Added.{next_added}
 use Rattle.component_checks.proofs.times.add_list_big.Goals as goal
 
 pub loop-association-preserved : goal.loop-association-preserved

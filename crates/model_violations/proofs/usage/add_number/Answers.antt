@@ -1,8 +1,9 @@
 use Rattle.std.proofs.Common.{◌∙◌, sym, ap}
 use Rattle.std.specs.Prelude.{◌||◌}
+use Rattle.std.proofs.Math.Bool.{or-false}
 use Rattle.model_violations.specs.Ignored.{is_number}
 use Rattle.model_violations.specs.Use.{has}
-use Rattle.model_violations.proofs.Numbers.{or_nothing, has_inserted}
+use Rattle.model_violations.proofs.Numbers.{has_inserted}
 use Rattle.model_violations.proofs.usage.add_number.Goals as goal
 
 pub returns-in_ok-insert-in-Some : goal.returns-in_ok-insert-in-Some
@@ -10,4 +11,4 @@ returns-in_ok-insert-in-Some c = λ n.
     has_inserted c.args.numbers.now.keys _ c.in-Some.number n c.in_ok-insert-in-Some.ensures.keys ∙ ap (λ o. has c.args.numbers.now.keys n || is_number n o) (sym c.in-Some.is)
 
 pub returns-in-None : goal.returns-in-None
-returns-in-None c = λ n. sym (or_nothing (has c.args.numbers.now.keys n)) ∙ ap (λ o. has c.args.numbers.now.keys n || is_number n o) (sym c.in-None.is)
+returns-in-None c = λ n. sym (or-false (has c.args.numbers.now.keys n)) ∙ ap (λ o. has c.args.numbers.now.keys n || is_number n o) (sym c.in-None.is)

@@ -1,9 +1,10 @@
 use Rattle.std.proofs.Common.{◌≡◌, ◌∙◌, ◌<◌, ℕ, [], sym, ap, length, map, slice_index_or, arith, List}
 use Rattle.std.proofs.lemmas.List.{length-set, length-map, get_or-map}
 use Rattle.std.proofs.lemmas.List.Elements.{All-set}
+use Rattle.list_lemmas.proofs.Lists.{filled_more, filled_all}
 use Rattle.pals_base.specs.declared.values.Port.{Port}
 use Rattle.pals_base.specs.Steps.{cut}
-use Rattle.pals_node.proofs.Places.{filled_more, filled_all, length-cut}
+use Rattle.pals_node.proofs.Places.{length-cut}
 use Rattle.pals_node.proofs.buffers.write_ports.Goals as goal
 
 pub loop-at-preserved : goal.loop-at-preserved

@@ -1,11 +1,12 @@
 use Rattle.std.proofs.Common.{◌≡◌, ◌∙◌, ◌++◌, ℕ, List, [], length, map, drop, slice_index_or, sym, ap, arith}
 use Rattle.std.proofs.lemmas.List.{append-nil, drop_all}
 use Rattle.std.proofs.lemmas.Option.{slice_get-get_or}
+use Rattle.list_lemmas.proofs.Lists.{length-map_enumerate_from}
 use Rattle.pals_model.specs.declared.design.Component.{Component}
 use Rattle.pals_model.specs.declared.sources.PortSource.{PortSource}
 use Rattle.pals_model.specs.Inputs.{sources_of}
 use Rattle.bus_machine.specs.Plans.{component_at, no_component, input_of}
-use Rattle.bus_machine.proofs.Lists.{length-numbered, numbered_at}
+use Rattle.bus_machine.proofs.Lists.{numbered_at}
 use Rattle.pals_node.proofs.plan.inputs_of.Goals as goal
 
 pub index-requires : goal.index-requires
@@ -13,7 +14,7 @@ index-requires c =
     let design = c.args.design.now in
     let f : ℕ × Component → List PortSource = λ numbered. sources_of design numbered.0 numbered.1 in
     let count : length c.in_ok-table.table ≡ length design.components = ap length c.in_ok-table.ensures
-    ∙ length-numbered f 0 design.components in
+    ∙ length-map_enumerate_from f 0 design.components in
     let within = c.requires in
     omega arith
 

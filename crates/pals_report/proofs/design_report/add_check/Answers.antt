@@ -1,12 +1,12 @@
 use Rattle.std.proofs.Common.{map, sym, ap, ◌∙◌, subst, refl}
 use Rattle.std.specs.Prelude.{All, MatchOption}
 use Rattle.std.proofs.lemmas.List.Elements.{All-map}
+use Rattle.std.proofs.lemmas.Result.{on_ok_weaker}
 use Rattle.pals_model.specs.RoundTexts.{text_of}
 use Rattle.bound_checker.specs.proof.Limits.{IsRate}
 use Rattle.bound_checker.specs.Multiple.{IsLeastMultiple, HasNoMultiple}
 use Rattle.pals_report.proofs.Begins.{joined_on_ok}
 use Rattle.pals_report.specs.CheckReports.{rate_of, check_lines, IsShortest}
-use Rattle.pals_report.proofs.Listed.{on_ok_also}
 use Rattle.pals_report.proofs.design_report.add_check.Goals as goal
 
 pub least_multiple-shortest-requires-clause-rates : goal.least_multiple-shortest-requires-clause-rates
@@ -26,4 +26,4 @@ returns-clause-ok c =
     (subst (λ g. MatchOption shortest (HasNoMultiple g c.as_slice.result.now) (IsLeastMultiple g c.as_slice.result.now)) c.gamma-gamma.ensures.value c.least_multiple-shortest.ensures) in
     let written = joined_on_ok c.whole_or_none.result c.add_lines-written.result _ _ _ _ (text_of (check_lines design shortest)) c.whole_or_none.ensures.same c.whole_or_none.ensures.ok c.add_lines-written.ensures.ok
     (ap (λ d. text_of (check_lines d shortest)) c.parts.ensures.value) in
-    on_ok_also c.whole_or_none.result (λ e. (text_of (check_lines design shortest), e, record { shortest = shortest; is_shortest = is_shortest; text_is = refl })) written
+    on_ok_weaker c.whole_or_none.result (λ e. (text_of (check_lines design shortest), e, record { shortest = shortest; is_shortest = is_shortest; text_is = refl })) written

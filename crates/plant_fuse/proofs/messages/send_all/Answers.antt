@@ -1,6 +1,7 @@
 use Rattle.std.proofs.Common.{◌≡◌, ◌∙◌, ℕ, ◌<◌, List, None, Some, ap, sym, refl, length, map, slice_get, slice_index_or, arith}
 use Rattle.std.proofs.lemmas.List.{length-map}
 use Rattle.std.proofs.lemmas.Option.{slice_get-get_or}
+use Rattle.list_lemmas.proofs.Lists.{filled_more}
 use Rattle.pals_base.specs.declared.values.Port.{Port}
 use Rattle.pals_model.specs.declared.design.DesignParts.{DesignParts}
 use Rattle.pals_model.specs.declared.design.Link.{Link}
@@ -8,7 +9,7 @@ use Rattle.pals_model.specs.Inputs.{rate_of}
 use Rattle.pals_model.specs.Rules.{IsLink}
 use Rattle.pals_model.proofs.Lookups.{at_element}
 use Rattle.sync_product.specs.proof.Sizes.{message_sizes}
-use Rattle.sync_product.proofs.Filling.{filled_more, same_sizes}
+use Rattle.sync_product.proofs.Filling.{same_sizes}
 use Rattle.sync_product.proofs.Tables.{count_of_sized}
 use Rattle.sync_product.proofs.Sending.{sized_message}
 use Rattle.sync_product.proofs.Columns.{length-cut, length-column}

@@ -2,6 +2,7 @@ use Rattle.std.proofs.Common.{◌≡◌, ◌≢◌, ◌∙◌, ◌<◌, List, So
 use Rattle.std.specs.Option.{option_map}
 use Rattle.std.proofs.lemmas.List.{length-set}
 use Rattle.std.proofs.lemmas.Option.{slice_get-map}
+use Rattle.list_lemmas.proofs.Results.{OnOk-always, OnOk-weaker}
 use Rattle.pals_runs.specs.declared.pairs.Pair.{Pair}
 use Rattle.sync_product.specs.declared.stage.Stage.{Stage}
 use Rattle.sync_product.specs.proof.Rounds.{frames_of}
@@ -11,7 +12,6 @@ use Rattle.plant_fuse.specs.proof.Sides.{AreSidesRun}
 use Rattle.plant_fuse.specs.declared.sides.Side.{Side}
 use Rattle.plant_fuse.specs.proof.TakenFrom.{TakenFrom}
 use Rattle.plant_fuse.proofs.Counts.{count_of_parts, count_of_stages}
-use Rattle.plant_fuse.proofs.Outcomes.{on_ok, on_ok_map}
 use Rattle.plant_fuse.proofs.PairRuns.{pair_is_run}
 use Rattle.plant_fuse.proofs.Sized.{given_fits}
 use Rattle.plant_fuse.proofs.TakenOut.{kept_get, kept_length, back_first, back_second, back_other, seen_back}
@@ -98,7 +98,7 @@ returns c =
     let second_side : Side = record { partner = plant; given = c.given-2.result } in
     record {
       run =
-          on_ok_map c.run_sides-run.result (AreSidesRun round first_side second_side plant_stage controller_stage plant_part controller_part) (IsRun round (frames_of parts) next' stages' pair)
+          OnOk-weaker c.run_sides-run.result (AreSidesRun round first_side second_side plant_stage controller_stage plant_part controller_part) (IsRun round (frames_of parts) next' stages' pair)
           (pair_is_run round parts next' stages' pair first_side second_side plant_stage controller_stage plant_part controller_part c.given.ensures c.given-2.ensures refl refl
           (back_first next mid next' plant controller c.take_part-part.result plant_part controller_part taken put is_pair.two plant_in controller_in)
           (back_second next mid next' plant controller c.take_part-part.result plant_part controller_part taken put is_pair.two plant_in controller_in)
@@ -106,7 +106,7 @@ returns c =
           (back_second stages mid_s stages' plant controller c.take_stage-stage.result plant_stage controller_stage taken_s put_s is_pair.two plant_in_s controller_in_s))
           c.run_sides-run.ensures.run;
       others =
-          on_ok c.run_sides-run.result (StayBeside plant controller next next' stages stages')
+          OnOk-always c.run_sides-run.result (StayBeside plant controller next next' stages stages')
           (record {
             parts_stay = back_other next mid next' plant controller c.take_part-part.result plant_part controller_part taken put is_pair.two plant_in controller_in;
             rows_stay = λ k not_plant not_controller.

@@ -1,4 +1,5 @@
 use Rattle.std.proofs.Common.{◌≡◌, ◌∙◌, ℕ, ◌+◌, ◌*◌, [], ◌∷◌, ◌++◌, map, ap, sym, append_assoc, arith}
+use Rattle.std.proofs.lemmas.List.{map_push}
 use Rattle.pals_base.specs.Bound.{alarm, step_period}
 use Rattle.pals_base.specs.Steps.{upwards}
 use Rattle.pals_base.proofs.Upwards.{map_upwards_more}
@@ -8,7 +9,6 @@ use Rattle.round_budget.specs.Budgets as budgets
 use Rattle.round_budget.specs.Budgets.{release_of}
 use Rattle.round_budget.specs.declared.releases.Release.{Release}
 use Rattle.round_budget.specs.proof.Values.{release_value}
-use Rattle.round_budget.proofs.Lines.{map_push}
 use Rattle.round_budget.proofs.releases.add_releases.Goals as goal
 
 first_alarm : (t k : ℕ) → t + k ≡ (0 + 1) * t + k

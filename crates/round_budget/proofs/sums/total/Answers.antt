@@ -1,15 +1,15 @@
 use Rattle.std.proofs.Common.{◌≡◌, ◌∙◌, ◌+◌, ◌<◌, ◌++◌, [], ◌∷◌, length, take, ap, sym, arith}
 use Rattle.std.specs.Prelude.{slice_index_or}
 use Rattle.std.specs.List.{sum_by}
-use Rattle.std.proofs.lemmas.List.{take_more}
+use Rattle.std.proofs.lemmas.List.{take_more, map_push}
 use Rattle.std.proofs.lemmas.Option.{slice_get-get_or}
+use Rattle.std.proofs.lemmas.List.Sums.{sum_by_push}
 use Rattle.pals_base.specs.declared.values.NodeNo.{NodeNo}
 use Rattle.step_code.specs.declared.instr.CodeParts.{CodeParts}
 use Rattle.step_code.specs.Capped.{capped}
 use Rattle.step_code.specs.Paths.{weight_of}
 use Rattle.round_budget.specs.Budgets.{most_in, most_of}
 use Rattle.round_budget.specs.Budgets.{numbers}
-use Rattle.round_budget.proofs.Lines.{map_push, sum_next}
 use Rattle.round_budget.proofs.Members.{member_at}
 use Rattle.round_budget.proofs.sums.total.Goals as goal
 
@@ -40,7 +40,7 @@ loop-member-preserved c =
       is =
           ap (λ n. n + c.from-most.result) c.loop-member.invariant.is
           ∙ ap (λ n. sum_by (most_of codes) all + n) most
-          ∙ sym (sum_next (most_of codes) all member.0)
+          ∙ sym (sum_by_push (most_of codes) all member.0)
           ∙ sym (ap (sum_by (most_of codes)) next);
       small = omega (arith, one, c.loop-member.invariant.small);
     }

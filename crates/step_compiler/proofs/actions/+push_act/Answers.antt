@@ -2,6 +2,7 @@ use Rattle.std.proofs.Common.{◌≡◌, ◌∙◌, ◌+◌, [], ◌∷◌, ◌+
 use Rattle.std.proofs.lemmas.Int.{to_z-of_z}
 use mir.Syntax.{w64}
 use mir.Val.{SFits}
+use Rattle.list_lemmas.proofs.Results.{OnOk-weaker}
 use Rattle.pals_base.specs.proof.Seen.{tree_of, action_of, actions_along, branches_along}
 use Rattle.pals_base.specs.Tree.{For, Where, NoBranch}
 use Rattle.pals_base.proofs.Trees.{action_of-If, action_of-For}
@@ -9,7 +10,7 @@ use Rattle.step_code.specs.declared.instr.Instr.TheVariants as code
 use Rattle.step_code.specs.Lengths.{length_of, length_act, length_acts, length_branches}
 use Rattle.step_compiler.specs.Layout.{code_of, code_act, code_acts, code_branches}
 use Rattle.step_compiler.proofs.Standing.{code-length, act-length, branches-length}
-use Rattle.step_compiler.proofs.Appending.{on_ok, both_parts, more_parts, next_act, next_branch, between, between_two}
+use Rattle.step_compiler.proofs.Appending.{both_parts, more_parts, next_act, next_branch, between, between_two}
 use Rattle.step_compiler.proofs.Splitting.{branches_split}
 use Rattle.step_compiler.proofs.actions.+push_act.Goals as goal
 
@@ -23,7 +24,7 @@ push_act-returns-in-For t c =
     let whole =
     ap action_of c.in-For.is ∙ action_of-For c.in-For.low c.in-For.high c.in-For.body
     ∙ ap (λ xs. For c.in-For.low c.in-For.high (actions_along xs)) (sym c.deref-in-For.ensures.value) in
-    on_ok c.push_for.result _ _ (λ is. is ∙ ap (λ a. old ++ code_act a n (length old)) (sym whole)) done
+    OnOk-weaker c.push_for.result _ _ (λ is. is ∙ ap (λ a. old ++ code_act a n (length old)) (sym whole)) done
 
 pub push_acts-loop-act-preserved : goal.push_acts-loop-act-preserved
 push_acts-loop-act-preserved t c =
@@ -57,7 +58,7 @@ push_branch-returns t c =
       c.saturating_add.ensures,
     )) in
     let next_is : c.in_ok-next.next ≡ length old + length_of g + m + 2 = omega (arith, c.len.ensures) in
-    on_ok c.push-2.result _ _
+    OnOk-weaker c.push-2.result _ _
     (λ is. between_two old c.push_expr.new.code c.push.new.self c.push_acts.new.code c.push-2.new.self
     (code_of g (length old)) (code.JumpZero c.in_ok-next.next) (code.Jump c.args.end) (length_of g)
     (code_acts acts n)
@@ -100,7 +101,7 @@ push_for-returns t c =
     let high : SFits w64 c.args.high = search rules in
     let start = simp to_z-of_z at c.in_ok-push.ensures.ok in
     let last = simp to_z-of_z at c.push-2.ensures.ok in
-    on_ok c.push-2.result _ _
+    OnOk-weaker c.push-2.result _ _
     (λ is. between old c.push.new.self c.push_acts.new.code c.push-2.new.self
     (code.LoopStart n c.args.low c.args.high c.in_ok-exit.exit ∷ []) (code.LoopNext n c.args.high c.in_ok-to.to) 1
     (code_acts body c.in_ok-deeper.field-0)
@@ -133,7 +134,7 @@ push_act-returns-in_ok-push_branches-in-If t c =
     (omega (arith, c.branches_length.ensures, c.acts_length.ensures, c.saturating_add-length.ensures)) in
     let end_is : end ≡ p + lb + la = omega (arith, c.len.ensures) in
     let first = c.in_ok-push_branches-in-If.ensures ∙ ap (λ x. old ++ code_branches x n end p) bs2 in
-    on_ok c.push_acts.result _ _
+    OnOk-weaker c.push_acts.result _ _
     (λ is. both_parts old c.push_branches.new.code c.push_acts.new.code (code_branches bs n end p) lb (code_acts os n)
     first (branches-length bs n end p)
     (is ∙ ap (λ x. c.push_branches.new.code ++ code_acts x n (length c.push_branches.new.code)) os2)

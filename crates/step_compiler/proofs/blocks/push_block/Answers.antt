@@ -1,10 +1,11 @@
 use Rattle.std.proofs.Common.{◌∙◌, ◌+◌, ◌<◌, [], ◌∷◌, ◌++◌, length, drop, slice_index_or, sym, ap, arith}
+use Rattle.list_lemmas.proofs.Lists.{drop-next}
 use Rattle.pals_base.specs.Fire.{is_complete}
 use Rattle.step_code.specs.Lengths.{length_edges}
 use Rattle.step_compiler.specs.Blocks.{block_code}
 use Rattle.step_compiler.specs.proof.Blocks.{in_list, leaving_among}
 use Rattle.step_compiler.proofs.Standing.{block-length}
-use Rattle.step_compiler.proofs.Appending.{more_parts, drop_item}
+use Rattle.step_compiler.proofs.Appending.{more_parts}
 use Rattle.step_compiler.proofs.Splitting.{leaving_split}
 use Rattle.step_compiler.proofs.blocks.push_block.Goals as goal
 
@@ -20,7 +21,7 @@ loop-transition-preserved c =
     let all = c.transitions-transition-items.ensures.value in
     let size = c.transitions-transition-items.ensures.len in
     let within : i < length b.transitions = omega (arith, c.loop-transition-test.true) in
-    let left = drop_item b.transitions i e within (c.transition-item.is ∙ ap (λ xs. slice_index_or xs i e) all) in
+    let left = drop-next b.transitions i e within (c.transition-item.is ∙ ap (λ xs. slice_index_or xs i e) all) in
     let rest = drop (i + 1) b.transitions in
     let one = leaving_among s (e ∷ []) in
     more_parts cur c.push_if_leaving.new.code (block_code b starts complete one (length cur)) (length_edges one)

@@ -1,4 +1,5 @@
 use Rattle.std.proofs.Common.{◌≡◌, ◌∙◌, ◌+◌, pos, ◌∷◌, ◌++◌, length, drop, refl, sym, ap, arith}
+use Rattle.list_lemmas.proofs.Results.{OnOk-weaker}
 use Rattle.pals_base.specs.proof.Seen.{tree_of, operands_along}
 use Rattle.pals_base.specs.Tree.{Chain}
 use Rattle.pals_base.proofs.Trees.{tree_of-Chain}
@@ -6,7 +7,7 @@ use Rattle.step_code.specs.declared.instr.Instr.TheVariants as code
 use Rattle.step_code.specs.Lengths.{operand_length, length_of}
 use Rattle.step_compiler.specs.Layout.{operand_code, code_of, code_rest}
 use Rattle.step_compiler.proofs.Standing.{code-length, operand-length}
-use Rattle.step_compiler.proofs.Appending.{on_ok, both_parts, more_parts, next_operand, behind_three}
+use Rattle.step_compiler.proofs.Appending.{both_parts, more_parts, next_operand, behind_three}
 use Rattle.step_compiler.proofs.expressions.+push_expr.Goals as goal
 
 pub push_expr-returns-in_ok-push_expr-in-Chain : goal.push_expr-returns-in_ok-push_expr-in-Chain
@@ -18,7 +19,7 @@ push_expr-returns-in_ok-push_expr-in-Chain t c =
     ap (λ f. Chain (tree_of f) (operands_along c.in-Chain.rest.items)) (sym c.deref-in-Chain.ensures)
     ∙ ap (λ xs. Chain e (operands_along xs)) (sym c.deref-in-Chain-2.ensures.value) in
     let os = operands_along c.deref-in-Chain-2.result.now in
-    on_ok c.push_rest.result _ _
+    OnOk-weaker c.push_rest.result _ _
     (λ is. both_parts old c.push_expr-in-Chain.new.code c.push_rest.new.code (code_of e (length old)) (length_of e)
     (code_rest os) c.in_ok-push_expr-in-Chain.ensures (code-length e (length old)) is
     ∙ ap (λ x. old ++ code_of x (length old)) (sym (whole ∙ parts)))
@@ -47,7 +48,7 @@ push_or_else-returns t c =
     let end = c.in_ok-end.ensures (n + 3) (omega (arith, c.expr_length.ensures, c.saturating_add.ensures)) in
     let other_is : c.in_ok-other.other ≡ length old + 3 = omega (arith, c.len.ensures) in
     let end_is : c.in_ok-end.end ≡ length old + n + 3 = omega (arith, c.len-2.ensures) in
-    on_ok c.push_expr.result _ _
+    OnOk-weaker c.push_expr.result _ _
     (λ is. behind_three old c.push.new.self c.push-2.new.self c.push-3.new.self c.push_expr.new.code
     (code.JumpZero c.in_ok-other.other) (code.Push (pos 1)) (code.Jump c.in_ok-end.end)
     (code_of (tree_of c.args.right.now))

@@ -1,5 +1,6 @@
 use Rattle.std.proofs.Common.{◌≡◌, ◌∙◌, [], ◌∷◌, ◌++◌, length, ap}
 use Rattle.std.specs.Prelude.{slice_get}
+use Rattle.list_lemmas.proofs.Results.{OnOk-weaker}
 use Rattle.pals_base.specs.Fire.{completes, is_complete}
 use Rattle.pals_base.specs.Tree.{Edge}
 use Rattle.pals_base.specs.proof.Seen.{trigger_of, actions_along}
@@ -8,7 +9,7 @@ use Rattle.step_compiler.specs.Layout.{code_acts}
 use Rattle.step_compiler.specs.Blocks.{trigger_code, last_instr, past}
 use Rattle.step_compiler.specs.proof.Blocks.{in_list}
 use Rattle.step_compiler.proofs.Standing.{trigger-length}
-use Rattle.step_compiler.proofs.Appending.{on_ok, between}
+use Rattle.step_compiler.proofs.Appending.{between}
 use Rattle.step_compiler.proofs.transitions.push_transition.Goals as goal
 
 pub returns : goal.returns
@@ -40,7 +41,7 @@ returns c =
     let second : c2 ≡ c1 ++ code_acts e.actions (length b.vars) (length c1) =
     c.in_ok-push_acts.ensures ∙ ap (λ as'. c1 ++ code_acts as' c.in_ok-variables.variables (length c1)) actions
     ∙ ap (λ n. c1 ++ code_acts e.actions n (length c1)) vars in
-    on_ok c.push.result _ _
+    OnOk-weaker c.push.result _ _
     (λ is. between old c1 c2 c.push.new.self (trigger_code e.trigger (past complete e p) p)
     (last_instr b starts e.target) (length_trigger e.trigger) (code_acts e.actions (length b.vars))
     first (trigger-length e.trigger (past complete e p) p) second (is ∙ ap (λ i. c2 ++ i ∷ []) last))

@@ -1,6 +1,7 @@
 use Rattle.std.proofs.Common.{◌≡◌, ◌∙◌, List, ap, sym, refl, length, map, slice_get, arith}
 use Rattle.std.proofs.lemmas.List.{length-map}
 use Rattle.std.proofs.lemmas.Option.{slice_get-get_or}
+use Rattle.list_lemmas.proofs.Lists.{filled_more}
 use Rattle.pals_base.specs.declared.values.Port.{Port}
 use Rattle.pals_base.specs.Bound.{sent_steps}
 use Rattle.pals_model.specs.declared.design.Component.{Component}
@@ -9,7 +10,7 @@ use Rattle.pals_model.specs.Rules.{IsLink}
 use Rattle.pals_model.proofs.Lookups.{at_element}
 use Rattle.sync_product.specs.proof.Sizes.{stage_size, stage_size_of, stage_sizes, message_sizes}
 use Rattle.sync_product.specs.proof.Rounds.{sent_by}
-use Rattle.sync_product.proofs.Filling.{filled_more, same_sizes}
+use Rattle.sync_product.proofs.Filling.{same_sizes}
 use Rattle.sync_product.proofs.Tables.{count_of_sized, within_same}
 use Rattle.sync_product.proofs.Sending.{sized_message, sent_item}
 use Rattle.sync_product.proofs.Columns.{length-cut, length-column}

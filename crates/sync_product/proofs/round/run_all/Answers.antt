@@ -1,6 +1,7 @@
 use Rattle.std.proofs.Common.{◌∙◌, ℕ, ◌<◌, ap, sym, length, slice_index_or, arith}
 use Rattle.std.proofs.lemmas.List.{length-map, get_or_default}
 use Rattle.std.proofs.lemmas.Option.{slice_get_within}
+use Rattle.list_lemmas.proofs.Places.{slice_get-map_some}
 use Rattle.pals_base.specs.Bound.{sent_steps}
 use Rattle.pals_base.specs.Steps.{upwards}
 use Rattle.pals_model.specs.declared.design.Component.{Component}
@@ -8,7 +9,7 @@ use Rattle.pals_model.specs.declared.rounds.Part.{Part}
 use Rattle.pals_model.specs.Inputs.{source_of, sources_of}
 use Rattle.sync_product.specs.proof.Sizes.{PartSize, StageSize, frame_size, part_size, part_size_of, part_sizes, stage_size, stage_size_of, stage_sizes, tap_ports}
 use Rattle.sync_product.proofs.Filling.{same_sizes}
-use Rattle.sync_product.proofs.Tables.{numbered-at, mapped-at, entry_at, sized_at, within_table, within_sized, count_of_sized, item_at}
+use Rattle.sync_product.proofs.Tables.{numbered-at, entry_at, sized_at, within_table, within_sized, count_of_sized, item_at}
 use Rattle.sync_product.proofs.Sizing.{length-upwards}
 use Rattle.sync_product.proofs.Stepping.{stepped_more, rows_by, part_by}
 use Rattle.sync_product.proofs.round.run_all.Goals as goal
@@ -44,7 +45,7 @@ run-requires-clause-stage c =
     let is = item_at design.components items node item same c.loop-node-test.true c.component-item.is in
     let sent = sent_steps design.gamma design.period item.rate in
     let sized = sized_at stage_size c.loop-node.stages.items (stage_sizes design) node c.index_mut.result.now (stage_size_of sent item) (c.loop-node.invariant.stages ∙ c.requires.stages)
-    (mapped-at (λ (d : Component). stage_size_of (sent_steps design.gamma design.period d.rate) d) design.components node item is) c.index_mut.ensures.value in
+    (slice_get-map_some (λ (d : Component). stage_size_of (sent_steps design.gamma design.period d.rate) d) design.components node item is) c.index_mut.ensures.value in
     sized ∙ ap (λ n. stage_size_of n item) (sym (ap (λ (s : StageSize). s.sent) sized))
 
 pub run-requires-clause-sources : goal.run-requires-clause-sources

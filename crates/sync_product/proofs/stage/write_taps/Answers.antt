@@ -1,8 +1,9 @@
 use Rattle.std.proofs.Common.{◌≡◌, ◌∙◌, ℕ, List, ap, sym, length, map, slice_index_or, arith}
 use Rattle.std.proofs.lemmas.List.{length-map, get_or-map}
+use Rattle.list_lemmas.proofs.Lists.{filled_more}
 use Rattle.pals_base.specs.declared.values.Port.{Port}
 use Rattle.pals_base.specs.Steps.{column}
-use Rattle.sync_product.proofs.Filling.{filled_more, same_sizes}
+use Rattle.sync_product.proofs.Filling.{same_sizes}
 use Rattle.sync_product.proofs.Columns.{cut_whole, length-column}
 use Rattle.sync_product.proofs.Sizing.{size_of_out, count_of_outs}
 use Rattle.sync_product.proofs.stage.write_taps.Goals as goal

@@ -1,10 +1,11 @@
 use Rattle.std.proofs.Common.{◌∙◌, ◌++◌, ◌∷◌, ℕ, List, [], ap, sym, length, map, take, set, slice_index_or, arith}
 use Rattle.std.proofs.lemmas.List.{take_all, take_more}
+use Rattle.list_lemmas.proofs.Lists.{length-map_enumerate_from}
 use Rattle.pals_model.specs.declared.design.Component.{Component}
 use Rattle.pals_model.specs.Rules.{IsTap}
 use Rattle.pals_model.proofs.Lookups.{at_element}
 use Rattle.sync_product.specs.proof.Sizes.{tap_ports}
-use Rattle.sync_product.proofs.Tables.{item_at, length-numbered}
+use Rattle.sync_product.proofs.Tables.{item_at}
 use Rattle.sync_product.proofs.TapPorts.{table_from, no_taps, with_tap}
 use Rattle.sync_product.proofs.taps.all_taps.Goals as goal
 
@@ -23,7 +24,7 @@ index_mut-ports-requires c =
     let at = c.loop-tap.tap-index in
     let tap = c.tap-item.result in
     let kept = at_element (IsTap design) design.taps at tap c.taps-tap-items.ensures.rules.taps.each (item_at design.taps items at tap c.taps-tap-items.ensures.value c.loop-tap-test.true c.tap-item.is) in
-    omega (arith, ap length c.loop-tap.invariant, length-numbered (λ (numbered : ℕ × Component). tap_ports (take at items) numbered.0) 0 design.components, kept.source.node_is)
+    omega (arith, ap length c.loop-tap.invariant, length-map_enumerate_from (λ (numbered : ℕ × Component). tap_ports (take at items) numbered.0) 0 design.components, kept.source.node_is)
 
 pub loop-tap-preserved : goal.loop-tap-preserved
 loop-tap-preserved c =

@@ -1,5 +1,6 @@
 use Rattle.std.proofs.Common.{◌≡◌, ◌∙◌, ℕ, ap, sym, subst, length, map, arith}
 use Rattle.std.specs.Arc.{arc_value}
+use Rattle.list_lemmas.proofs.Lists.{length-map_enumerate_from}
 use Rattle.pals_model.specs.declared.design.Component.{Component}
 use Rattle.pals_model.specs.declared.design.DesignParts.{DesignParts}
 use Rattle.pals_model.specs.Rules.{IsDesign}
@@ -7,7 +8,7 @@ use Rattle.sync_product.specs.declared.reads.RoundInputs.{RoundInputs}
 use Rattle.sync_product.specs.proof.Sizes.{part_size, part_size_of, part_sizes, stage_size, stage_sizes, tap_ports}
 use Rattle.sync_product.specs.proof.Rounds.{frames_of, sent_by}
 use Rattle.sync_product.specs.proof.State.{ProductState, advanced}
-use Rattle.sync_product.proofs.Tables.{count_of_sized, length-numbered}
+use Rattle.sync_product.proofs.Tables.{count_of_sized}
 use Rattle.sync_product.proofs.Standing.{standing, advanced-by}
 use Rattle.sync_product.proofs.product.Product.advance.Goals as goal
 
@@ -24,7 +25,7 @@ returns-clause-ok c =
     let messages = c.send_all.new.messages in
     let same = c.deref-2.ensures ∙ sym c.deref.ensures in
     let rules : IsDesign here = subst IsDesign same c.send_all.ensures.rules in
-    let sizes = length-numbered (λ (numbered : ℕ × Component). part_size_of numbered.1 (tap_ports design.taps numbered.0)) 0 design.components in
+    let sizes = length-map_enumerate_from (λ (numbered : ℕ × Component). part_size_of numbered.1 (tap_ports design.taps numbered.0)) 0 design.components in
     let components = ap (λ (d : DesignParts). length d.components) c.deref.ensures in
     let size : length before ≡ length here.components =
     omega (arith, c.as_slice-4.ensures.len, count_of_sized part_size inside.parts (part_sizes design) c.self.invariant.1.parts_fit) in

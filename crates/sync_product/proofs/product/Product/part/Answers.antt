@@ -1,10 +1,11 @@
 use Rattle.std.proofs.Common.{◌∙◌, ℕ, ◌<◌, ap, sym, refl, length, slice_get, arith}
 use Rattle.std.proofs.lemmas.Option.{slice_get_read}
 use Rattle.std.specs.Arc.{arc_value}
+use Rattle.list_lemmas.proofs.Lists.{length-map_enumerate_from}
 use Rattle.pals_model.specs.declared.design.Component.{Component}
 use Rattle.sync_product.specs.proof.State.{ProductState}
 use Rattle.sync_product.specs.proof.Sizes.{part_size, part_size_of, part_sizes, tap_ports}
-use Rattle.sync_product.proofs.Tables.{count_of_sized, length-numbered}
+use Rattle.sync_product.proofs.Tables.{count_of_sized}
 use Rattle.sync_product.proofs.product.Product.part.Goals as goal
 
 pub bounds-as_slice-node : goal.bounds-as_slice-node
@@ -13,7 +14,7 @@ bounds-as_slice-node c =
     omega (
       arith,
       count_of_sized part_size c.self.inside.parts (part_sizes design) c.self.invariant.1.parts_fit,
-      length-numbered (λ (numbered : ℕ × Component). part_size_of numbered.1 (tap_ports design.taps numbered.0)) 0 design.components,
+      length-map_enumerate_from (λ (numbered : ℕ × Component). part_size_of numbered.1 (tap_ports design.taps numbered.0)) 0 design.components,
       ap (λ (s : ProductState). length s.design.components) c.self.view_is,
       c.as_slice.ensures.len,
       c.requires,
@@ -27,7 +28,7 @@ returns c =
     let within : node < length parts = omega (
       arith,
       count_of_sized part_size c.self.inside.parts (part_sizes design) c.self.invariant.1.parts_fit,
-      length-numbered (λ (numbered : ℕ × Component). part_size_of numbered.1 (tap_ports design.taps numbered.0)) 0 design.components,
+      length-map_enumerate_from (λ (numbered : ℕ × Component). part_size_of numbered.1 (tap_ports design.taps numbered.0)) 0 design.components,
       ap (λ (s : ProductState). length s.design.components) c.self.view_is,
       c.as_slice.ensures.len,
       c.requires,

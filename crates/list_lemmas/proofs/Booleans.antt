@@ -1,0 +1,41 @@
+-- Tests joined by `&&` and `||`.
+use Rattle.std.proofs.Common.{◌≡◌, ◌⊎◌, inl, inr, Bool, true, false, ◌&&◌, ◌||◌, refl}
+use Rattle.std.proofs.lemmas.Bool.{false≢true}
+
+-- a goal by the two answers of a test
+pub by_test : (b : Bool) (P : Type 0) → (b ≡ true → P) → (b ≡ false → P) → P
+by_test true P holds fails = holds refl
+by_test false P holds fails = fails refl
+
+pub and_assoc_left : (a b c : Bool) → (a && (b && c)) ≡ ((a && b) && c)
+and_assoc_left true b c = refl
+and_assoc_left false b c = refl
+
+pub and_three_parts : (a b c : Bool) → (a && b && c) ≡ true → (a ≡ true) × (b ≡ true) × (c ≡ true)
+and_three_parts true true true all = (refl, refl, refl)
+and_three_parts true true false all = absurd (false≢true all)
+and_three_parts true false c all = absurd (false≢true all)
+and_three_parts false b c all = absurd (false≢true all)
+
+pub or_false_left : (a b : Bool) → (a || b) ≡ false → a ≡ false
+or_false_left true b none = none
+or_false_left false b none = refl
+
+pub or_false_right : (a b : Bool) → (a || b) ≡ false → b ≡ false
+or_false_right true b none = absurd (cc)
+or_false_right false b none = none
+
+-- where the first of two fails, the second holds
+pub or_second : (a b : Bool) → a ≡ false → (a || b) ≡ true → b ≡ true
+or_second true b fails one = absurd (cc)
+or_second false b fails one = one
+
+pub or_and_cases : (a b c : Bool) → (a || (b && c)) ≡ true → (a ≡ true) ⊎ ((b ≡ true) × (c ≡ true))
+or_and_cases true b c one = inl refl
+or_and_cases false true c one = inr (refl, one)
+or_and_cases false false c one = absurd (false≢true one)
+
+pub or_and_right : (a b c : Bool) → a ≡ false → (a || (b && c)) ≡ true → c ≡ true
+or_and_right true b c fails one = absurd (cc)
+or_and_right false true c fails one = one
+or_and_right false false c fails one = absurd (cc)

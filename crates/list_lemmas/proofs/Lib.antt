@@ -1,0 +1,8 @@
+pub mod Booleans
+pub mod Numbers
+pub mod Lists
+pub mod Places
+pub mod Elements
+pub mod Pairs
+pub mod Options
+pub mod Results

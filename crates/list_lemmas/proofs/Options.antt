@@ -1,0 +1,31 @@
+-- Options that are mapped, chained and joined.
+use Rattle.std.proofs.Common.{◌≡◌, Bool, true, false, cond, Option, Some, None, refl}
+use Rattle.std.specs.Prelude.{option_map}
+use Rattle.std.specs.Option.{option_and_then, option_or}
+
+pub option_map-parts : {X Y : Type 0} (f : X → Y) (o : Option X) (y : Y) → option_map f o ≡ Some y
+    → (x : X) × (o ≡ Some x) × (f x ≡ y)
+option_map-parts f None y is = absurd (cc)
+option_map-parts f (Some x) y is = (x, refl, cc)
+
+pub option_map-none : {X Y : Type 0} (f : X → Y) (o : Option X) → option_map f o ≡ None → o ≡ None
+option_map-none f None none = refl
+option_map-none f (Some x) none = absurd (cc)
+
+pub option_and_then_assoc : {A B C : Type 0} (f : A → Option B) (g : B → Option C) (o : Option A)
+    → option_and_then g (option_and_then f o) ≡ option_and_then (λ a. option_and_then g (f a)) o
+option_and_then_assoc f g None = refl
+option_and_then_assoc f g (Some a) = refl
+
+pub option_or-none : {A : Type 0} (x : Option A) → option_or x None ≡ x
+option_or-none None = refl
+option_or-none (Some x) = refl
+
+pub option_or_assoc : {A : Type 0} (x y z : Option A) → option_or (option_or x y) z ≡ option_or x (option_or y z)
+option_or_assoc None y z = refl
+option_or_assoc (Some x) y z = refl
+
+pub option_or-cond : {X : Type 0} (b : Bool) (n : X) (old new more : Option X) → new ≡ option_or old more
+    → cond b (Some n) new ≡ option_or (cond b (Some n) old) more
+option_or-cond true n old new more is = refl
+option_or-cond false n old new more is = is
