@@ -7,8 +7,8 @@ use Rattle.std.proofs.lemmas.List.{reverse-append, length-map}
 use Rattle.std.proofs.lemmas.Option.{none-some, slice_get_past}
 use Rattle.list_lemmas.proofs.Places.{slice_get-from_Contains}
 use Rattle.aadl_tree.specs.Declarations.{Subcomponent, PackageTree}
-use Rattle.aadl_names.specs.declared.site.Site.{Site}
-use Rattle.aadl_names.specs.declared.site.Site.TheVariants.{Own, Inner}
+use Rattle.aadl_names.specs.declared.site.PortPlace.{PortPlace}
+use Rattle.aadl_names.specs.declared.site.PortPlace.TheVariants.{Own, Inner}
 use Rattle.aadl_names.specs.Resolving.{first_number, implementation_in, subcomponents_of, referred}
 use Rattle.aadl_uses.specs.Uses.{below, standing}
 use Rattle.aadl_uses.specs.proof.Uses.{containment, targets_in}
@@ -18,7 +18,7 @@ use Rattle.aadl_uses.specs.proof.Orders.{IsOrder}
 use Rattle.aadl_chains.specs.proof.Inside.{is_in_at}
 use Rattle.aadl_chains.specs.proof.Sound.{MayLeave, AreDeclared}
 use Rattle.aadl_chains.proofs.OnChains.{next_at}
-use Rattle.aadl_chains.specs.declared.walks.Entry.{Entry}
+use Rattle.aadl_chains.specs.declared.walks.ConnectionInto.{ConnectionInto}
 use Rattle.aadl_chains.specs.proof.Walks.{Crossing, Climb, nowhere, crosses, climb, climb_by, climb_along, climb_into}
 use Rattle.aadl_chains.specs.proof.Climbing.{entry}
 use Rattle.aadl_chains.proofs.Steps.{known, some_first, first_at}
@@ -37,11 +37,11 @@ reversed_more path d lt = ap reverse (taken_more path d lt) ∙ reverse-append (
 
 module _ (tree : PackageTree ℕ) (root : ℕ) where
   -- where the walk is behind a connection
-  climb_on : List ℕ → Option Entry → Climb
+  climb_on : List ℕ → Option ConnectionInto → Climb
   climb_on path None = nowhere
   climb_on path (Some e) = climb_by (λ k q. climb tree root (Some k) path q) path e.declaration e.connection e.source
 
-  on_into : (path : List ℕ) (n : ℕ) (o : Option (ℕ × Site))
+  on_into : (path : List ℕ) (n : ℕ) (o : Option (ℕ × PortPlace))
       → climb_along (λ k q. climb tree root (Some k) path q) path n o
       ≡ climb_on path (option_map (λ from. record { declaration = n; connection = from.0; source = from.1 }) o)
   unfolding climb_on
@@ -67,13 +67,13 @@ module _ (tree : PackageTree ℕ) (root : ℕ) where
     unfolding climb_on
     climbs_nowhere e = climbs_on last path d p lt ∙ ap (climb_on (reverse (take d path))) e
 
-    pub climbs_own : (x : Entry) (q : ℕ) → entry tree (standing tree root (reverse (take d path))) (get_or path d 0) p ≡ Some x → x.source ≡ Own q
+    pub climbs_own : (x : ConnectionInto) (q : ℕ) → entry tree (standing tree root (reverse (take d path))) (get_or path d 0) p ≡ Some x → x.source ≡ Own q
         → climb tree root last (reverse (take (d + 1) path)) p ≡ climb tree root (Some x.connection) (reverse (take d path)) q
     unfolding climb_on
     climbs_own x q e own = climbs_on last path d p lt ∙ (ap (climb_on (reverse (take d path))) e
         ∙ ap (climb_by (λ k q. climb tree root (Some k) (reverse (take d path)) q) (reverse (take d path)) x.declaration x.connection) own)
 
-    pub climbs_inner : (x : Entry) (t q : ℕ) → entry tree (standing tree root (reverse (take d path))) (get_or path d 0) p ≡ Some x
+    pub climbs_inner : (x : ConnectionInto) (t q : ℕ) → entry tree (standing tree root (reverse (take d path))) (get_or path d 0) p ≡ Some x
         → x.source ≡ Inner t q
         → climb tree root last (reverse (take (d + 1) path)) p
         ≡ crosses (record { path = reverse (take d path); declaration = x.declaration; connection = x.connection; sub = t; port = q })
@@ -102,7 +102,7 @@ module _ (tree : PackageTree ℕ) (root : ℕ) where
         stands = next_at tree root c.path c.declaration c.sub m.0 (g.stands ∙ ap Some x.number_is) names;
       }
     where
-      leaves_by : (n : ℕ) (source : Site) → MayLeave tree n source → source ≡ Inner c.sub c.port
+      leaves_by : (n : ℕ) (source : PortPlace) → MayLeave tree n source → source ≡ Inner c.sub c.port
           → (m : ℕ) × (below tree n c.sub ≡ Some m) × (is_in_at tree m c.port ≡ false)
       leaves_by n source may e = subst (MayLeave tree n) e may
 

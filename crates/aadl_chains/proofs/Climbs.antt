@@ -5,8 +5,8 @@ use Rattle.std.proofs.lemmas.List.Elements.{Contains-append_right}
 use Rattle.std.proofs.lemmas.Option.{same_Some}
 use Rattle.list_lemmas.proofs.Elements.{Contains-head}
 use Rattle.aadl_tree.specs.Declarations.{PackageTree}
-use Rattle.aadl_names.specs.declared.site.Site.{Site}
-use Rattle.aadl_names.specs.declared.site.Site.TheVariants.{Own, Inner}
+use Rattle.aadl_names.specs.declared.site.PortPlace.{PortPlace}
+use Rattle.aadl_names.specs.declared.site.PortPlace.TheVariants.{Own, Inner}
 use Rattle.aadl_uses.specs.Uses.{standing}
 use Rattle.aadl_uses.specs.proof.Wiring.{into}
 use Rattle.aadl_chains.specs.Chains.{Port, Place, Goes, Leads}
@@ -48,13 +48,13 @@ module _ (tree : PackageTree ℕ) (root : ℕ) where
     over : (n k t q : ℕ) → standing tree root path ≡ Some n → Entered tree n (Inner s p) k (Inner t q)
         → r ≡ crosses (record { path = path; declaration = n; connection = k; sub = t; port = q }) → Turn last path s p r
 
-  turn_at : (last : Option ℕ) (path : List ℕ) (s p n k : ℕ) (r : Climb) (source : Site) → standing tree root path ≡ Some n
+  turn_at : (last : Option ℕ) (path : List ℕ) (s p n k : ℕ) (r : Climb) (source : PortPlace) → standing tree root path ≡ Some n
       → into tree n (Inner s p) ≡ Some (k, source) → climb tree root last (s ∷ path) p ≡ r → Turn last path s p r
   turn_at last path s p n k r (Own q) e i is = up n k q e (entered tree n (Inner s p) (k, Own q) i) (sym (climb_own last path s p n k q e i) ∙ is)
   turn_at last path s p n k r (Inner t q) e i is = over n k t q e (entered tree n (Inner s p) (k, Inner t q) i)
       (sym is ∙ climb_inner last path s p n k t q e i)
 
-  turn_along : (last : Option ℕ) (path : List ℕ) (s p n : ℕ) (r : Climb) (o : Option (ℕ × Site)) → standing tree root path ≡ Some n
+  turn_along : (last : Option ℕ) (path : List ℕ) (s p n : ℕ) (r : Climb) (o : Option (ℕ × PortPlace)) → standing tree root path ≡ Some n
       → into tree n (Inner s p) ≡ o → climb tree root last (s ∷ path) p ≡ r → Turn last path s p r
   turn_along last path s p n r None e i is = stops (sym is ∙ climb_none last path s p n e i)
   turn_along last path s p n r (Some from) e i is = turn_at last path s p n from.0 r from.1 e i is

@@ -6,8 +6,8 @@ use Rattle.std.proofs.lemmas.Option.{same_Some}
 use Rattle.list_lemmas.proofs.Elements.{Contains-nil, Contains-cons_cases}
 use Rattle.aadl_tree.specs.declared.declarations.Direction.TheVariants as directions
 use Rattle.aadl_tree.specs.Declarations.{Connection, Implementation, PackageTree}
-use Rattle.aadl_names.specs.declared.site.Site.{Site}
-use Rattle.aadl_names.specs.declared.site.Site.TheVariants.{Own, Inner}
+use Rattle.aadl_names.specs.declared.site.PortPlace.{PortPlace}
+use Rattle.aadl_names.specs.declared.site.PortPlace.TheVariants.{Own, Inner}
 use Rattle.aadl_names.specs.Resolving.{implementation_at, site}
 use Rattle.aadl_uses.specs.Uses.{below, standing}
 use Rattle.aadl_uses.specs.Threads.{IsThreadAt}
@@ -53,7 +53,7 @@ module _ (tree : PackageTree ℕ) (root : ℕ) where
       k : Known tree root g.number g.source g.target
       k = known tree root sound c mid p g
 
-      into_inner : (x : Site) → g.target ≡ x → (n : ℕ) → standing tree root p.path ≡ Some n → is_in_at tree n p.port ≡ true
+      into_inner : (x : PortPlace) → g.target ≡ x → (n : ℕ) → standing tree root p.path ≡ Some n → is_in_at tree n p.port ≡ true
           → (s q : ℕ) × (x ≡ Inner s q) × (p ≡ port (s ∷ c.path) q)
       into_inner (Inner s q) e n stands into = (s, q, refl, g.enters ∙ ap (port_at c.path) e)
       into_inner (Own q) e n stands into =
@@ -62,7 +62,7 @@ module _ (tree : PackageTree ℕ) (root : ℕ) where
           let out : is_in_at tree g.number q ≡ false = subst (MayEnter tree g.number) e k.enters in
           absurd (opposed (is_in_at tree n p.port) into (ap (is_in_at tree n) (ap (λ (o : Port). o.port) is) ∙ (ap (λ i. is_in_at tree i q) m ∙ out)))
 
-      pub into_own : (x : Site) → g.target ≡ x → (n : ℕ) → standing tree root p.path ≡ Some n → is_in_at tree n p.port ≡ false
+      pub into_own : (x : PortPlace) → g.target ≡ x → (n : ℕ) → standing tree root p.path ≡ Some n → is_in_at tree n p.port ≡ false
           → (q : ℕ) × (x ≡ Own q) × (p ≡ port c.path q) × (n ≡ g.number)
       into_own (Own q) e n stands out =
           let is : p ≡ port c.path q = g.enters ∙ ap (port_at c.path) e in
@@ -110,7 +110,7 @@ module _ (tree : PackageTree ℕ) (root : ℕ) where
     }
     down_start p n (inr s) stands out = absurd (opposed (is_in tree root p) s.1 (is_in-at tree root p n stands ∙ out))
 
-    down_step : (c : Place) (cs : List Place) (from mid p : Port) (n : ℕ) (g : Goes tree root c mid p) → (x y : Site) → g.source ≡ x → g.target ≡ y
+    down_step : (c : Place) (cs : List Place) (from mid p : Port) (n : ℕ) (g : Goes tree root c mid p) → (x y : PortPlace) → g.source ≡ x → g.target ≡ y
         → standing tree root p.path ≡ Some n → is_in_at tree n p.port ≡ false
         → ((m : ℕ) → standing tree root mid.path ≡ Some m → is_in_at tree m mid.port ≡ false → Down cs from mid m) → Down (c ∷ cs) from p n
     down_step c cs from mid p n g (Own q) y e f stands out rest =
@@ -137,7 +137,7 @@ module _ (tree : PackageTree ℕ) (root : ℕ) where
         by_crossing : (place : Place) → Crosses place → {r : ℕ} → g.target ≡ Own r → (c ≡ place) ⊎ Contains cs place → {m : ℕ} → Down cs from mid m → ⊥
         by_crossing place x is (inl same) d =
             let b = both_inner c mid p g (subst Crosses (sym same) x) in
-            true≢false (sym b.1 ∙ ap (λ (s : Site). not_own (Some s)) is)
+            true≢false (sym b.1 ∙ ap (λ (s : PortPlace). not_own (Some s)) is)
         by_crossing place x is (inr h) d = d.none_crosses place h x
 
         by_outside : (place : Place) → place.path ≡ [] → mid.path ≡ t ∷ c.path → p.path ≡ c.path → (c ≡ place) ⊎ Contains cs place → {m : ℕ}
@@ -244,7 +244,7 @@ module _ (tree : PackageTree ℕ) (root : ℕ) where
               → (standing tree root place.path ≡ Some m.crossing.declaration) × (place.connection ≡ m.crossing.connection)
           by place x (inl same) =
               let b = both_inner c mid p g (subst Crosses (sym same) x) in
-              absurd (true≢false (sym b.0 ∙ ap (λ (s : Site). not_own (Some s)) e))
+              absurd (true≢false (sym b.0 ∙ ap (λ (s : PortPlace). not_own (Some s)) e))
           by place x (inr h) = m.only place h x
 
       over_crossing : (last : Option ℕ) (c : Place) (cs : List Place) (from mid p : Port) (g : Goes tree root c mid p) (s r t q : ℕ) → g.source ≡ Inner t q
@@ -284,7 +284,7 @@ module _ (tree : PackageTree ℕ) (root : ℕ) where
               (ap (λ (y : Place). standing tree root y.path) (sym same) ∙ g.stands, ap (λ (y : Place). y.connection) (sym same))
           by place x (inr h) = absurd (d.none_crosses place h x)
 
-      met_step : (last : Option ℕ) (c : Place) (cs : List Place) (from mid p : Port) (n : ℕ) (g : Goes tree root c mid p) → (x y : Site) → g.source ≡ x
+      met_step : (last : Option ℕ) (c : Place) (cs : List Place) (from mid p : Port) (n : ℕ) (g : Goes tree root c mid p) → (x y : PortPlace) → g.source ≡ x
           → g.target ≡ y → standing tree root p.path ≡ Some n → is_in_at tree n p.port ≡ true → Leads tree root cs from mid → IsStart tree root from
           → ((m : ℕ) → standing tree root mid.path ≡ Some m → is_in_at tree m mid.port ≡ true
           → MetRoot (Some c.connection) cs from mid ⊎ MetCrossing (Some c.connection) cs from mid)

@@ -13,18 +13,18 @@ use Rattle.list_lemmas.proofs.Places.{slice_get-from_Contains, Contains-from_sli
 use Rattle.aadl_uses.specs.proof.Counts.{Among, count_of}
 use Rattle.aadl_tree.specs.declared.declarations.Direction.TheVariants as directions
 use Rattle.aadl_tree.specs.Declarations.{Connection, Implementation, PackageTree}
-use Rattle.aadl_names.specs.declared.site.Site.TheVariants.{Own, Inner}
-use Rattle.aadl_names.specs.declared.fault.FlatFault.{FlatFault}
-use Rattle.aadl_names.specs.declared.fault.FlatFault.TheVariants.{TwoSources}
+use Rattle.aadl_names.specs.declared.site.PortPlace.TheVariants.{Own, Inner}
+use Rattle.aadl_names.specs.declared.fault.PackageFault.{PackageFault}
+use Rattle.aadl_names.specs.declared.fault.PackageFault.TheVariants.{TwoSources}
 use Rattle.aadl_names.specs.Resolving.{implementation_at, is_thread, subcomponents_of, connections_of, referred}
 use Rattle.aadl_uses.specs.Uses.{sub_at, below, standing}
 use Rattle.aadl_uses.specs.proof.Uses.{targets_of}
 use Rattle.aadl_uses.specs.Threads.{IsThreadAt, MoreThan}
 use Rattle.aadl_uses.specs.proof.Threads.{is_thread_in}
 use Rattle.aadl_uses.specs.declared.connections.Wire.{Wire}
-use Rattle.aadl_uses.specs.Firsts.{target_in}
+use Rattle.aadl_uses.specs.FirstConnections.{target_in}
 use Rattle.aadl_uses.specs.Wiring.{wire_of, wires_of, wires_at}
-use Rattle.aadl_uses.proofs.Rows.{listed}
+use Rattle.aadl_uses.proofs.DeclarationRows.{listed}
 use Rattle.aadl_chains.specs.proof.Inside.{is_thread_at, Reaches, ReachesIn, of_thread, of_inner}
 use Rattle.aadl_chains.specs.Chains.{Port, Place, Leads, is_in, IsEndFault}
 use Rattle.aadl_chains.specs.proof.Sound.{AreDeclared}
@@ -251,7 +251,7 @@ module _ (tree : PackageTree ℕ) (limit n : ℕ) where
       (λ z e. link_parts tree n z e) x y is
 
 -- ---- where no connection of an implementation in use is behind another into one port
-pub one_each : (tree : PackageTree ℕ) (root : ℕ) → ((fault : FlatFault) → IsEndFault tree root fault → ⊥) → OneEach tree root
+pub one_each : (tree : PackageTree ℕ) (root : ℕ) → ((fault : PackageFault) → IsEndFault tree root fault → ⊥) → OneEach tree root
 one_each tree root none n i j target used a b = by (cases_order i j)
   where
     listed_at : (o : Option (Implementation ℕ)) (k : ℕ) → target_in (wires_of tree o) k ≡ Some target

@@ -14,9 +14,9 @@ use Rattle.aadl_tree.specs.declared.declarations.Category.{Category}
 use Rattle.aadl_tree.specs.declared.declarations.Category.TheVariants as categories
 use Rattle.aadl_tree.specs.Names.{Identifier}
 use Rattle.aadl_tree.specs.Declarations.{Feature, Subcomponent, ConnectionEnd, Connection, Implementation, Declaration, type, implementation, PackageTree}
-use Rattle.aadl_names.specs.declared.holder.Holder.TheVariants as holders
-use Rattle.aadl_names.specs.declared.site.Site.{Site}
-use Rattle.aadl_names.specs.declared.site.Site.TheVariants.{Own, Inner}
+use Rattle.aadl_names.specs.declared.holder.PropertyHolder.TheVariants as holders
+use Rattle.aadl_names.specs.declared.site.PortPlace.{PortPlace}
+use Rattle.aadl_names.specs.declared.site.PortPlace.TheVariants.{Own, Inner}
 use Rattle.aadl_names.specs.Findings.{wrong_if}
 use Rattle.aadl_names.specs.Properties.{list_faults}
 use Rattle.aadl_names.specs.Behaviours.{behaviours}
@@ -29,7 +29,7 @@ use Rattle.aadl_uses.specs.Uses.{below}
 use Rattle.aadl_uses.specs.proof.Threads.{is_thread_in}
 use Rattle.aadl_uses.specs.declared.connections.Wire.{Wire}
 use Rattle.aadl_uses.specs.Wiring.{wire_of, wires_of}
-use Rattle.aadl_uses.proofs.Rows.{listed}
+use Rattle.aadl_uses.proofs.DeclarationRows.{listed}
 use Rattle.aadl_chains.specs.proof.Inside.{is_in_at}
 use Rattle.aadl_chains.specs.proof.Sound.{MayLeave, MayEnter, NotBothOwn, IsDeclared, AreDeclared}
 
@@ -45,8 +45,8 @@ not_wrong true at e = absurd (cc e)
 not_wrong false at e = refl
 
 -- ---- ends
-port_there : (may : Site × Option Direction → Bool) (end : ConnectionEnd ℕ) (at : ℕ) (o : Option (Site × Option Direction)) → end_faults may end at o ≡ []
-    → (port : Site × Option Direction) × (o ≡ Some port) × (may port ≡ true)
+port_there : (may : PortPlace × Option Direction → Bool) (end : ConnectionEnd ℕ) (at : ℕ) (o : Option (PortPlace × Option Direction)) → end_faults may end at o ≡ []
+    → (port : PortPlace × Option Direction) × (o ≡ Some port) × (may port ≡ true)
 port_there may end at None e = absurd (cc e)
 port_there may end at (Some port) e = (port, refl, not-false (may port) (not_wrong (not (may port)) at e))
 
@@ -105,12 +105,12 @@ module _ (tree : PackageTree ℕ) (x : Implementation ℕ) where
         ∙ sym (ap (λ (o : Option (Implementation ℕ)). goes_in (option_map (λ (f : Feature ℕ). f.direction) (slice_get (ports_at tree o) p)))
         (ap (option_and_then (target_of tree)) i.is_sub ∙ (ap (option_and_then (implementation_at tree)) i.names ∙ i.is_named)))
 
-    leaves : (end : ConnectionEnd ℕ) (s : Site) → site tree x end ≡ Some s → may_leave (with_direction tree x s) ≡ true → MayLeave tree n s
+    leaves : (end : ConnectionEnd ℕ) (s : PortPlace) → site tree x end ≡ Some s → may_leave (with_direction tree x s) ≡ true → MayLeave tree n s
     leaves end (Own p) e m = own_way p ∙ m
     leaves end (Inner s p) e m = let i = inner_port s p end e in
         (i.target, below_is s p i, inner_way s p i ∙ not-true (goes_in (direction_of tree x (Inner s p))) m)
 
-    enters : (end : ConnectionEnd ℕ) (s : Site) → site tree x end ≡ Some s → may_enter (with_direction tree x s) ≡ true → MayEnter tree n s
+    enters : (end : ConnectionEnd ℕ) (s : PortPlace) → site tree x end ≡ Some s → may_enter (with_direction tree x s) ≡ true → MayEnter tree n s
     enters end (Own p) e m = own_way p ∙ not-true (goes_in (direction_of tree x (Own p))) m
     enters end (Inner s p) e m = let i = inner_port s p end e in (
       i.target,
@@ -119,7 +119,7 @@ module _ (tree : PackageTree ℕ) (x : Implementation ℕ) where
           (not-true (not (goes_in (direction_of tree x (Inner s p)))) m),
     )
 
-    not_both : (s t : Site) → (is_own (Some (with_direction tree x s)) && is_own (Some (with_direction tree x t))) ≡ false → NotBothOwn s t
+    not_both : (s t : PortPlace) → (is_own (Some (with_direction tree x s)) && is_own (Some (with_direction tree x t))) ≡ false → NotBothOwn s t
     not_both (Own p) (Own q) e = true≢false e
     not_both (Own p) (Inner t q) e = tt
     not_both (Inner s p) (Own q) e = tt
@@ -127,8 +127,8 @@ module _ (tree : PackageTree ℕ) (x : Implementation ℕ) where
 
     -- a connection with which nothing is wrong
     pub record Declares (c : Connection ℕ) : Type 0 where
-      pub source : Site
-      pub target : Site
+      pub source : PortPlace
+      pub target : PortPlace
       pub source_is : site tree x c.source ≡ Some source
       pub target_is : site tree x c.target ≡ Some target
       pub leaves : MayLeave tree n source
@@ -194,7 +194,7 @@ module _ (tree : PackageTree ℕ) (x : Implementation ℕ) where
     no_connection : (c : Connection ℕ) → is_thread x.category ≡ true → flat_map (subcomponent_faults tree x.category) x.subcomponents ≡ [] → Declares c → ⊥
     no_connection c thread clean d = by d.source d.target d.source_is d.target_is d.not_both
       where
-        by : (s t : Site) → site tree x c.source ≡ Some s → site tree x c.target ≡ Some t → NotBothOwn s t → ⊥
+        by : (s t : PortPlace) → site tree x c.source ≡ Some s → site tree x c.target ≡ Some t → NotBothOwn s t → ⊥
         by (Own p) (Own q) e f b = b
         by (Own p) (Inner t q) e f b = no_subs t q thread clean (inner_port t q c.target f)
         by (Inner s p) t e f b = no_subs s p thread clean (inner_port s p c.source e)

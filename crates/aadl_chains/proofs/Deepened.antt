@@ -4,8 +4,8 @@ use Rattle.std.proofs.Common.{Option, Some, None, option_map, refl, sym, ap, sub
 use Rattle.std.specs.Option.{option_and_then}
 use Rattle.std.proofs.lemmas.Option.{none-some}
 use Rattle.aadl_tree.specs.Declarations.{Feature, PackageTree}
-use Rattle.aadl_names.specs.declared.site.Site.{Site}
-use Rattle.aadl_names.specs.declared.site.Site.TheVariants.{Own, Inner}
+use Rattle.aadl_names.specs.declared.site.PortPlace.{PortPlace}
+use Rattle.aadl_names.specs.declared.site.PortPlace.TheVariants.{Own, Inner}
 use Rattle.aadl_names.specs.Resolving.{implementation_at, ports_at}
 use Rattle.aadl_names.specs.PackageFaults.{goes_in}
 use Rattle.aadl_uses.specs.Uses.{below, standing, component_at}
@@ -69,13 +69,13 @@ module _ (tree : PackageTree ℕ) where
     outer (at_root l p) = climb_along (λ k q. at_root (Some k) q) [] n (into tree n (Inner s p))
     outer (crosses c) = crosses (record { path = c.path ++ s ∷ []; declaration = c.declaration; connection = c.connection; sub = c.sub; port = c.port })
 
-    outer_by : (up wide : ℕ → ℕ → Climb) → ((k q : ℕ) → wide k q ≡ outer (up k q)) → (path : List ℕ) (j k : ℕ) (source : Site)
+    outer_by : (up wide : ℕ → ℕ → Climb) → ((k q : ℕ) → wide k q ≡ outer (up k q)) → (path : List ℕ) (j k : ℕ) (source : PortPlace)
         → climb_by wide (path ++ s ∷ []) j k source ≡ outer (climb_by up path j k source)
     unfolding outer
     outer_by up wide same path j k (Own q) = same k q
     outer_by up wide same path j k (Inner t q) = refl
 
-    outer_along : (up wide : ℕ → ℕ → Climb) → ((k q : ℕ) → wide k q ≡ outer (up k q)) → (path : List ℕ) (j : ℕ) (o : Option (ℕ × Site))
+    outer_along : (up wide : ℕ → ℕ → Climb) → ((k q : ℕ) → wide k q ≡ outer (up k q)) → (path : List ℕ) (j : ℕ) (o : Option (ℕ × PortPlace))
         → climb_along wide (path ++ s ∷ []) j o ≡ outer (climb_along up path j o)
     unfolding outer
     outer_along up wide same path j None = refl
@@ -96,14 +96,14 @@ module _ (tree : PackageTree ℕ) where
         (standing tree m path)
 
     -- ---- what a walk one level further out comes from
-    root_by : (p k : ℕ) (l : Option ℕ) (q : ℕ) (source : Site) → into tree n (Inner s p) ≡ Some (k, source)
+    root_by : (p k : ℕ) (l : Option ℕ) (q : ℕ) (source : PortPlace) → into tree n (Inner s p) ≡ Some (k, source)
         → climb_by (λ k q. at_root (Some k) q) [] n k source ≡ at_root l q → Entered tree n (Inner s p) k (Own q)
     root_by p k l q (Own r) i is =
         let same : r ≡ q = cc is in
         subst (λ x. Entered tree n (Inner s p) k (Own x)) same (entered tree n (Inner s p) (k, Own r) i)
     root_by p k l q (Inner t r) i is = absurd (cc is)
 
-    root_along : (p : ℕ) (l : Option ℕ) (q : ℕ) (o : Option (ℕ × Site)) → into tree n (Inner s p) ≡ o
+    root_along : (p : ℕ) (l : Option ℕ) (q : ℕ) (o : Option (ℕ × PortPlace)) → into tree n (Inner s p) ≡ o
         → climb_along (λ k q. at_root (Some k) q) [] n o ≡ at_root l q → (k : ℕ) × Entered tree n (Inner s p) k (Own q)
     root_along p l q None i is = absurd (cc is)
     root_along p l q (Some from) i is = (from.0, root_by p from.0 l q from.1 i is)
@@ -131,7 +131,7 @@ module _ (tree : PackageTree ℕ) where
       pub enters : Entered tree n (Inner s port) connection (Inner c.sub c.port)
       pub declaration_is : c.declaration ≡ n
 
-    crossing_by : (last : Option ℕ) (p k : ℕ) (c : Crossing) (source : Site) → into tree n (Inner s p) ≡ Some (k, source)
+    crossing_by : (last : Option ℕ) (p k : ℕ) (c : Crossing) (source : PortPlace) → into tree n (Inner s p) ≡ Some (k, source)
         → climb_by (λ k q. at_root (Some k) q) [] n k source ≡ crosses c → Itself (at_root last p) c
     crossing_by last p k c (Own r) i is = absurd (cc is)
     crossing_by last p k c (Inner t r) i is =
@@ -145,7 +145,7 @@ module _ (tree : PackageTree ℕ) where
           declaration_is = ap (λ (x : Crossing). x.declaration) (sym same);
         }
 
-    crossing_along : (last : Option ℕ) (p : ℕ) (c : Crossing) (o : Option (ℕ × Site)) → into tree n (Inner s p) ≡ o
+    crossing_along : (last : Option ℕ) (p : ℕ) (c : Crossing) (o : Option (ℕ × PortPlace)) → into tree n (Inner s p) ≡ o
         → climb_along (λ k q. at_root (Some k) q) [] n o ≡ crosses c → Itself (at_root last p) c
     crossing_along last p c None i is = absurd (cc is)
     crossing_along last p c (Some from) i is = crossing_by last p from.0 c from.1 i is

@@ -9,16 +9,16 @@ use Rattle.list_lemmas.proofs.Elements.{Contains-nil}
 use Rattle.list_lemmas.proofs.Places.{slice_get-from_Contains, Contains-from_slice_get}
 use Rattle.aadl_tree.specs.declared.declarations.Direction.TheVariants as directions
 use Rattle.aadl_tree.specs.Declarations.{Connection, Implementation, PackageTree}
-use Rattle.aadl_names.specs.declared.fault.FlatFault.{FlatFault}
-use Rattle.aadl_names.specs.declared.fault.FlatFault.TheVariants.{DeadEnd, TwoSources}
+use Rattle.aadl_names.specs.declared.fault.PackageFault.{PackageFault}
+use Rattle.aadl_names.specs.declared.fault.PackageFault.TheVariants.{DeadEnd, TwoSources}
 use Rattle.aadl_names.specs.Resolving.{implementation_at, connections_of}
-use Rattle.aadl_names.specs.declared.site.Site.{Site}
+use Rattle.aadl_names.specs.declared.site.PortPlace.{PortPlace}
 use Rattle.aadl_names.specs.proof.Found.{found}
 use Rattle.aadl_names.proofs.Finds.{found_append}
 use Rattle.aadl_uses.specs.Uses.{IsInUse}
 use Rattle.aadl_uses.specs.proof.Uses.{FirstIn}
 use Rattle.aadl_uses.specs.declared.connections.Wire.{Wire}
-use Rattle.aadl_uses.specs.Firsts.{IsSecond}
+use Rattle.aadl_uses.specs.FirstConnections.{IsSecond}
 use Rattle.aadl_uses.specs.Wiring.{wire_of, wires_of, wires_at}
 use Rattle.aadl_chains.specs.proof.Outside.{LeadsFrom}
 use Rattle.aadl_chains.proofs.Ordered.{one_of_two}
@@ -69,7 +69,7 @@ module _ (tree : PackageTree ℕ) (root : ℕ) (sound : AreDeclared tree) where
       let c = chained tree root sound d.number w.0 d.used h w.2 in
       d.on_none c.chain c.from c.to c.place c.is_chain c.among c.stands c.is_connection
 
-  pub end_fault : (n : ℕ) (fault : FlatFault) → IsInUse tree root n → IsFoundIn tree root n fault → IsEndFault tree root fault
+  pub end_fault : (n : ℕ) (fault : PackageFault) → IsInUse tree root n → IsFoundIn tree root n fault → IsEndFault tree root fault
   end_fault n fault used f = by f.1.kind
     where
       by : ((IsOnWayAt tree root n f.0 → ⊥) × (fault ≡ DeadEnd f.1.link.name.spelling f.1.link.name.at))
@@ -77,7 +77,7 @@ module _ (tree : PackageTree ℕ) (root : ℕ) (sound : AreDeclared tree) where
       by (inl d) = inl (f.1.link, dead_to n f.0 f.1.link used f.1.is_connection d.0, d.1)
       by (inr s) = inr (f.1.link, record { number = n; connection = f.0; used = used; is_connection = f.1.is_connection; is_second = s.0 }, s.1)
 
-  pub found_fault : (fault : FlatFault) → IsEndFault tree root fault → (n : ℕ) × IsInUse tree root n × IsFoundIn tree root n fault
+  pub found_fault : (fault : PackageFault) → IsEndFault tree root fault → (n : ℕ) × IsInUse tree root n × IsFoundIn tree root n fault
   found_fault fault (inl d) = (
     d.1.number,
     d.1.used,
@@ -92,7 +92,7 @@ module _ (tree : PackageTree ℕ) (root : ℕ) (sound : AreDeclared tree) where
 -- ---- at one connection
 module _ (tree : PackageTree ℕ) (root n k : ℕ) (link : Connection ℕ) (wire : Wire)
     (is_link : slice_get (connections_of (implementation_at tree n)) k ≡ Some link) (is_wire : slice_get (wires_at tree n) k ≡ Some wire) where
-  dead_each : (b : Bool) (fault : FlatFault) → (IsTrue b ↔ IsOnWay tree root n wire) → Contains (dead_end b link) fault → IsFoundAt tree root n k fault
+  dead_each : (b : Bool) (fault : PackageFault) → (IsTrue b ↔ IsOnWay tree root n wire) → Contains (dead_end b link) fault → IsFoundAt tree root n k fault
   dead_each true fault tells h = absurd (Contains-nil fault h)
   dead_each false fault tells h = by (Contains-push_cases [] (DeadEnd link.name.spelling link.name.at) fault h)
     where
@@ -104,7 +104,7 @@ module _ (tree : PackageTree ℕ) (root n k : ℕ) (link : Connection ℕ) (wire
         kind = inl ((λ w. false≢true (tells.1 (subst (IsOnWay tree root n) (same_Some w.0 wire (sym w.1 ∙ is_wire)) w.2))), sym e);
       }
 
-  second_each : (b : Bool) (fault : FlatFault) → (IsTrue b ↔ IsSecond (wires_at tree n) k) → Contains (second b link) fault → IsFoundAt tree root n k fault
+  second_each : (b : Bool) (fault : PackageFault) → (IsTrue b ↔ IsSecond (wires_at tree n) k) → Contains (second b link) fault → IsFoundAt tree root n k fault
   second_each false fault tells h = absurd (Contains-nil fault h)
   second_each true fault tells h = by (Contains-push_cases [] (TwoSources link.name.spelling link.name.at) fault h)
     where
@@ -112,19 +112,19 @@ module _ (tree : PackageTree ℕ) (root n k : ℕ) (link : Connection ℕ) (wire
       by (inl c) = absurd (Contains-nil fault c)
       by (inr e) = record { link = link; is_connection = is_link; kind = inr (tells.0 refl, sym e) }
 
-  dead_all : (b : Bool) (fault : FlatFault) → (IsTrue b ↔ IsOnWay tree root n wire) → (IsOnWayAt tree root n k → ⊥)
+  dead_all : (b : Bool) (fault : PackageFault) → (IsTrue b ↔ IsOnWay tree root n wire) → (IsOnWayAt tree root n k → ⊥)
       → DeadEnd link.name.spelling link.name.at ≡ fault → Contains (dead_end b link) fault
   dead_all true fault tells none e = absurd (none (wire, is_wire, tells.0 refl))
   dead_all false fault tells none e = subst (Contains (DeadEnd link.name.spelling link.name.at ∷ [])) e
       (Contains-push [] (DeadEnd link.name.spelling link.name.at))
 
-  second_all : (b : Bool) (fault : FlatFault) → (IsTrue b ↔ IsSecond (wires_at tree n) k) → IsSecond (wires_at tree n) k
+  second_all : (b : Bool) (fault : PackageFault) → (IsTrue b ↔ IsSecond (wires_at tree n) k) → IsSecond (wires_at tree n) k
       → TwoSources link.name.spelling link.name.at ≡ fault → Contains (second b link) fault
   second_all true fault tells s e = subst (Contains (TwoSources link.name.spelling link.name.at ∷ [])) e
       (Contains-push [] (TwoSources link.name.spelling link.name.at))
   second_all false fault tells s e = absurd (false≢true (tells.1 s))
 
-  pub both_found : (b c : Bool) (old new : Option FlatFault) → (IsTrue b ↔ IsOnWay tree root n wire) → (IsTrue c ↔ IsSecond (wires_at tree n) k)
+  pub both_found : (b c : Bool) (old new : Option PackageFault) → (IsTrue b ↔ IsOnWay tree root n wire) → (IsTrue c ↔ IsSecond (wires_at tree n) k)
       → new ≡ found (found old (dead_end b link)) (second c link)
       → FindsAll (IsFoundAt tree root n k) old new
   both_found b c old new way is_second is = record {
@@ -134,11 +134,11 @@ module _ (tree : PackageTree ℕ) (root n k : ℕ) (link : Connection ℕ) (wire
     all = λ f a. by_kind f a (same_Some a.link link (sym a.is_connection ∙ is_link)) a.kind;
   }
     where
-      by_part : (f : FlatFault) → Contains (dead_end b link) f ⊎ Contains (second c link) f → IsFoundAt tree root n k f
+      by_part : (f : PackageFault) → Contains (dead_end b link) f ⊎ Contains (second c link) f → IsFoundAt tree root n k f
       by_part f (inl h) = dead_each b f way h
       by_part f (inr h) = second_each c f is_second h
 
-      by_kind : (f : FlatFault) → (a : IsFoundAt tree root n k f) → a.link ≡ link
+      by_kind : (f : PackageFault) → (a : IsFoundAt tree root n k f) → a.link ≡ link
           → ((IsOnWayAt tree root n k → ⊥) × (f ≡ DeadEnd a.link.name.spelling a.link.name.at))
           ⊎ (IsSecond (wires_at tree n) k × (f ≡ TwoSources a.link.name.spelling a.link.name.at)) → Contains (dead_end b link ++ second c link) f
       by_kind f a same (inl d) = Contains-append_left (dead_end b link) (second c link) f
@@ -149,27 +149,27 @@ module _ (tree : PackageTree ℕ) (root n k : ℕ) (link : Connection ℕ) (wire
 -- ---- at all of them
 module _ (tree : PackageTree ℕ) (root n : ℕ) where
   -- what is found at the first i connections
-  abbrev pub FoundBelow : ℕ → FlatFault → Type 0
+  abbrev pub FoundBelow : ℕ → PackageFault → Type 0
   FoundBelow i fault = (k : ℕ) × (k < i) × IsFoundAt tree root n k fault
 
-  pub found_none : (old : Option FlatFault) → FindsAll (FoundBelow 0) old old
+  pub found_none : (old : Option PackageFault) → FindsAll (FoundBelow 0) old old
   found_none old = finds_nothing (FoundBelow 0) old (λ f h. let lt = h.1 in absurd (omega arith))
 
-  pub found_more : (i : ℕ) (old mid new : Option FlatFault) → FindsAll (FoundBelow i) old mid → FindsAll (IsFoundAt tree root n i) mid new
+  pub found_more : (i : ℕ) (old mid new : Option PackageFault) → FindsAll (FoundBelow i) old mid → FindsAll (IsFoundAt tree root n i) mid new
       → FindsAll (FoundBelow (i + 1)) old new
   found_more i old mid new front here =
       finds_both (FoundBelow i) (IsFoundAt tree root n i) (FoundBelow (i + 1)) old mid new
       (λ f h. let lt = h.1 in (h.0, omega arith, h.2)) (λ f h. (i, omega arith, h)) (λ f h. which f h (one_of_two h.0 i h.1)) front here
     where
-      which : (f : FlatFault) → (h : FoundBelow (i + 1) f) → (h.0 < i) ⊎ (h.0 ≡ i) → FoundBelow i f ⊎ IsFoundAt tree root n i f
+      which : (f : PackageFault) → (h : FoundBelow (i + 1) f) → (h.0 < i) ⊎ (h.0 ≡ i) → FoundBelow i f ⊎ IsFoundAt tree root n i f
       which f h (inl lt) = inl (h.0, lt, h.2)
       which f h (inr e) = inr (subst (λ k. IsFoundAt tree root n k f) e h.2)
 
-  pub found_all : (i : ℕ) (old new : Option FlatFault) → length (wires_at tree n) ≤ i → FindsAll (FoundBelow i) old new
+  pub found_all : (i : ℕ) (old new : Option PackageFault) → length (wires_at tree n) ≤ i → FindsAll (FoundBelow i) old new
       → FindsAll (IsFoundIn tree root n) old new
   found_all i old new past front = finds_same (FoundBelow i) (IsFoundIn tree root n) old new (λ f h. (h.0, h.2)) (λ f h. by f h) front
     where
-      by : (f : FlatFault) → IsFoundIn tree root n f → FoundBelow i f
+      by : (f : PackageFault) → IsFoundIn tree root n f → FoundBelow i f
       by f h =
           let w = wire_if tree (implementation_at tree n) h.0 h.1.link h.1.is_connection in
           let lt = slice_get_within (wires_at tree n) h.0 w.0 w.1 in
@@ -177,32 +177,32 @@ module _ (tree : PackageTree ℕ) (root n : ℕ) where
 
 -- ---- at all declarations in use
 module _ (tree : PackageTree ℕ) (root : ℕ) (keys : List ℕ) where
-  abbrev pub FoundAmong : ℕ → FlatFault → Type 0
+  abbrev pub FoundAmong : ℕ → PackageFault → Type 0
   FoundAmong i fault = (k n : ℕ) × (k < i) × (slice_get keys k ≡ Some n) × IsFoundIn tree root n fault
 
-  pub among_none : (old : Option FlatFault) → FindsAll (FoundAmong 0) old old
+  pub among_none : (old : Option PackageFault) → FindsAll (FoundAmong 0) old old
   among_none old = finds_nothing (FoundAmong 0) old (λ f h. let lt = h.2 in absurd (omega arith))
 
-  pub among_more : (i n : ℕ) (old mid new : Option FlatFault) → slice_get keys i ≡ Some n → FindsAll (FoundAmong i) old mid
+  pub among_more : (i n : ℕ) (old mid new : Option PackageFault) → slice_get keys i ≡ Some n → FindsAll (FoundAmong i) old mid
       → FindsAll (IsFoundIn tree root n) mid new → FindsAll (FoundAmong (i + 1)) old new
   among_more i n old mid new is front here =
       finds_both (FoundAmong i) (IsFoundIn tree root n) (FoundAmong (i + 1)) old mid new
       (λ f h. let lt = h.2 in (h.0, h.1, omega arith, h.3, h.4)) (λ f h. (i, n, omega arith, is, h)) (λ f h. which f h (one_of_two h.0 i h.2)) front here
     where
-      which : (f : FlatFault) → (h : FoundAmong (i + 1) f) → (h.0 < i) ⊎ (h.0 ≡ i) → FoundAmong i f ⊎ IsFoundIn tree root n f
+      which : (f : PackageFault) → (h : FoundAmong (i + 1) f) → (h.0 < i) ⊎ (h.0 ≡ i) → FoundAmong i f ⊎ IsFoundIn tree root n f
       which f h (inl lt) = inl (h.0, h.1, lt, h.3, h.4)
       which f h (inr e) = inr (subst (λ m. IsFoundIn tree root m f) (same_Some h.1 n (sym h.3 ∙ (ap (slice_get keys) e ∙ is))) h.4)
 
-  pub among_past : (i : ℕ) (old new : Option FlatFault) → slice_get keys i ≡ None → FindsAll (FoundAmong i) old new → FindsAll (FoundAmong (i + 1)) old new
+  pub among_past : (i : ℕ) (old new : Option PackageFault) → slice_get keys i ≡ None → FindsAll (FoundAmong i) old new → FindsAll (FoundAmong (i + 1)) old new
   among_past i old new is front =
       finds_same (FoundAmong i) (FoundAmong (i + 1)) old new (λ f h. let lt = h.2 in (h.0, h.1, omega arith, h.3, h.4))
       (λ f h. which f h (one_of_two h.0 i h.2)) front
     where
-      which : (f : FlatFault) → (h : FoundAmong (i + 1) f) → (h.0 < i) ⊎ (h.0 ≡ i) → FoundAmong i f
+      which : (f : PackageFault) → (h : FoundAmong (i + 1) f) → (h.0 < i) ⊎ (h.0 ≡ i) → FoundAmong i f
       which f h (inl lt) = (h.0, h.1, lt, h.3, h.4)
       which f h (inr e) = absurd (none-some h.1 (sym is ∙ (ap (slice_get keys) (sym e) ∙ h.3)))
 
-  pub first_end : AreDeclared tree → ((n : ℕ) → Contains keys n ↔ IsInUse tree root n) → (i : ℕ) (new : Option FlatFault) → length keys ≤ i
+  pub first_end : AreDeclared tree → ((n : ℕ) → Contains keys n ↔ IsInUse tree root n) → (i : ℕ) (new : Option PackageFault) → length keys ≤ i
       → FindsAll (FoundAmong i) None new → FirstIn (IsEndFault tree root) new
   first_end sound used i new past front =
       first_found (IsEndFault tree root) new
@@ -216,12 +216,12 @@ module _ (tree : PackageTree ℕ) (root : ℕ) (keys : List ℕ) where
       front)
 
 -- where there is no connection nothing is found
-pub nothing_at : (tree : PackageTree ℕ) (root n k : ℕ) (old : Option FlatFault) → slice_get (connections_of (implementation_at tree n)) k ≡ None
+pub nothing_at : (tree : PackageTree ℕ) (root n k : ℕ) (old : Option PackageFault) → slice_get (connections_of (implementation_at tree n)) k ≡ None
     → FindsAll (IsFoundAt tree root n k) old old
 nothing_at tree root n k old none = finds_nothing (IsFoundAt tree root n k) old (λ f h. none-some h.link (sym none ∙ h.is_connection))
 
 -- ---- whether a connection is on a chain
-pub ways_tell : (tree : PackageTree ℕ) (root n : ℕ) (wire : Wire) (s t : Site) (a b : Bool) → wire.source ≡ Some s → wire.target ≡ Some t
+pub ways_tell : (tree : PackageTree ℕ) (root n : ℕ) (wire : Wire) (s t : PortPlace) (a b : Bool) → wire.source ≡ Some s → wire.target ≡ Some t
     → (IsTrue a ↔ LeadsFrom tree root directions.In n s) → (IsTrue b ↔ LeadsFrom tree root directions.Out n t) → IsTrue (a && b) ↔ IsOnWay tree root n wire
 ways_tell tree root n wire s t a b source target comes goes = (
   λ e. let both = both_true a b e in

@@ -9,8 +9,8 @@ use Rattle.list_lemmas.proofs.Elements.{Contains-nil}
 use Rattle.list_lemmas.proofs.Places.{slice_get-from_Contains}
 use Rattle.aadl_tree.specs.declared.declarations.Direction.{Direction}
 use Rattle.aadl_tree.specs.Declarations.{PackageTree}
-use Rattle.aadl_names.specs.declared.site.Site.{Site}
-use Rattle.aadl_names.specs.declared.site.Site.TheVariants.{Own, Inner}
+use Rattle.aadl_names.specs.declared.site.PortPlace.{PortPlace}
+use Rattle.aadl_names.specs.declared.site.PortPlace.TheVariants.{Own, Inner}
 use Rattle.aadl_uses.specs.Uses.{below, IsInUse}
 use Rattle.aadl_uses.specs.proof.Uses.{containment, targets_in}
 use Rattle.aadl_uses.proofs.Containing.{below-same}
@@ -41,7 +41,7 @@ module _ (tree : PackageTree ℕ) (root : ℕ) (d : Direction) (keys : List ℕ)
   -- the ports that the last `at` declarations of an order lead
   pub record BackLed (at : ℕ) (ports : List PortAt) : Type 0 where
     pub sound : AreLeading tree root d ports
-    pub complete : (k n : ℕ) (wire : Wire) (s port m : ℕ) (site : Site) → length keys ≤ k + at → slice_get keys k ≡ Some n → IsInUse tree root n
+    pub complete : (k n : ℕ) (wire : Wire) (s port m : ℕ) (site : PortPlace) → length keys ≤ k + at → slice_get keys k ≡ Some n → IsInUse tree root n
         → Contains (wires_at tree n) wire → inner_end d wire ≡ Some (Inner s port)
         → outer_end d wire ≡ Some site → below tree n s ≡ Some m → LeadsFrom tree root d n site → Contains ports (port_at m port)
 
@@ -62,7 +62,7 @@ module _ (tree : PackageTree ℕ) (root : ℕ) (d : Direction) (keys : List ℕ)
 
     module _ (at : ℕ) (ports : List PortAt) (back : BackLed at ports) where
       -- a declaration around one that stands at the place in the order stands behind it
-      led_around : (n k s port : ℕ) (wire : Wire) (site : Site) → ((j : ℕ) → slice_get keys j ≡ Some k → length keys ≤ j + at) → IsInUse tree root k
+      led_around : (n k s port : ℕ) (wire : Wire) (site : PortPlace) → ((j : ℕ) → slice_get keys j ≡ Some k → length keys ≤ j + at) → IsInUse tree root k
           → Contains (wires_at tree k) wire → inner_end d wire ≡ Some (Inner s port)
           → outer_end d wire ≡ Some site → below tree k s ≡ Some n → LeadsFrom tree root d k site → Contains ports (port_at n port)
       led_around n k s port wire site behind used among e o b l =
@@ -95,7 +95,7 @@ module _ (tree : PackageTree ℕ) (root : ℕ) (d : Direction) (keys : List ℕ)
         complete = λ j m wire s port t site past e used among i o b l. which j m wire s port t site e used among i o b l (split tree d k j) past;
       }
         where
-          which : (j m : ℕ) (wire : Wire) (s port t : ℕ) (site : Site) → slice_get keys j ≡ Some m → IsInUse tree root m → Contains (wires_at tree m) wire
+          which : (j m : ℕ) (wire : Wire) (s port t : ℕ) (site : PortPlace) → slice_get keys j ≡ Some m → IsInUse tree root m → Contains (wires_at tree m) wire
               → inner_end d wire ≡ Some (Inner s port) → outer_end d wire ≡ Some site
               → below tree m s ≡ Some t → LeadsFrom tree root d m site → (k < j) ⊎ (j ≤ k) → length keys ≤ j + (at + 1) → Contains new (port_at t port)
           which j m wire s port t site e used among i o b l (inl h) past = led.kept (port_at t port)
@@ -113,7 +113,7 @@ module _ (tree : PackageTree ℕ) (root : ℕ) (d : Direction) (keys : List ℕ)
         complete = λ j m wire s port t site past e used among i o b l. which j m wire s port t site e used among i o b l (split tree d k j) past;
       }
         where
-          which : (j m : ℕ) (wire : Wire) (s port t : ℕ) (site : Site) → slice_get keys j ≡ Some m → IsInUse tree root m → Contains (wires_at tree m) wire
+          which : (j m : ℕ) (wire : Wire) (s port t : ℕ) (site : PortPlace) → slice_get keys j ≡ Some m → IsInUse tree root m → Contains (wires_at tree m) wire
               → inner_end d wire ≡ Some (Inner s port) → outer_end d wire ≡ Some site
               → below tree m s ≡ Some t → LeadsFrom tree root d m site → (k < j) ⊎ (j ≤ k) → length keys ≤ j + (at + 1) → Contains ports (port_at t port)
           which j m wire s port t site e used among i o b l (inl h) past = back.complete j m wire s port t site (omega arith) e used among i o b l

@@ -6,8 +6,8 @@ use Rattle.list_lemmas.proofs.Elements.{Contains-nil}
 use Rattle.list_lemmas.proofs.Places.{slice_get-from_Contains, Contains-from_slice_get}
 use Rattle.aadl_tree.specs.declared.declarations.Direction.TheVariants as directions
 use Rattle.aadl_tree.specs.Declarations.{PackageTree}
-use Rattle.aadl_names.specs.declared.site.Site.{Site}
-use Rattle.aadl_names.specs.declared.site.Site.TheVariants.{Own, Inner}
+use Rattle.aadl_names.specs.declared.site.PortPlace.{PortPlace}
+use Rattle.aadl_names.specs.declared.site.PortPlace.TheVariants.{Own, Inner}
 use Rattle.aadl_uses.specs.Uses.{below, standing}
 use Rattle.aadl_uses.specs.declared.connections.Wire.{Wire}
 use Rattle.aadl_uses.specs.Wiring.{wires_at}
@@ -32,7 +32,7 @@ module _ (tree : PackageTree ℕ) (root : ℕ) where
   module _ (sound : AreDeclared tree) where
     -- ---- from chains to what ends lead to
     -- what is known of both ends of a connection of a chain
-    pub record Step (n : ℕ) (source target : Site) : Type 0 where
+    pub record Step (n : ℕ) (source target : PortPlace) : Type 0 where
       pub wire : Wire
       pub among : Contains (wires_at tree n) wire
       pub source_is : wire.source ≡ Some source
@@ -114,13 +114,13 @@ module _ (tree : PackageTree ℕ) (root : ℕ) where
       st : Step g.number g.source g.target
       st = step c mid p g
 
-      from_at : (x : Site) → g.source ≡ x → mid ≡ port_at c.path x
+      from_at : (x : PortPlace) → g.source ≡ x → mid ≡ port_at c.path x
       from_at x e = g.leaves ∙ ap (port_at c.path) e
 
-      to_at : (x : Site) → g.target ≡ x → p ≡ port_at c.path x
+      to_at : (x : PortPlace) → g.target ≡ x → p ≡ port_at c.path x
       to_at x e = g.enters ∙ ap (port_at c.path) e
 
-      both_at : (x y : Site) → g.source ≡ x → g.target ≡ y → NotBothOwn x y
+      both_at : (x y : PortPlace) → g.source ≡ x → g.target ≡ y → NotBothOwn x y
       both_at x y e f = subst (λ a. NotBothOwn a y) e (subst (NotBothOwn g.source) f st.not_both)
 
       own_source : (q : ℕ) → g.source ≡ Own q → is_in_at tree g.number q ≡ true
@@ -165,7 +165,7 @@ module _ (tree : PackageTree ℕ) (root : ℕ) where
           opposed (is_in_at tree n mid.port) (ap (is_in_at tree n) (port_is (from_at (Own q) e))
           ∙ (ap (λ i. is_in_at tree i q) (sym same) ∙ own_source q e)) out
 
-      gives_step : (n : ℕ) (x y : Site) → g.source ≡ x → g.target ≡ y → standing tree root p.path ≡ Some n → is_in_at tree n p.port ≡ false
+      gives_step : (n : ℕ) (x y : PortPlace) → g.source ≡ x → g.target ≡ y → standing tree root p.path ≡ Some n → is_in_at tree n p.port ≡ false
           → ((m : ℕ) → standing tree root mid.path ≡ Some m → is_in_at tree m mid.port ≡ false → Reaches tree directions.Out m mid.port)
           → Reaches tree directions.Out n p.port
       gives_step n x (Inner s q) f e stands out rest = absurd (no_inner_target n s q e stands out)
@@ -181,7 +181,7 @@ module _ (tree : PackageTree ℕ) (root : ℕ) where
           subst (λ i. Reaches tree directions.Out i p.port) (own_at p q n (to_at (Own q) e) stands)
           (subst (Reaches tree directions.Out g.number) (sym (port_is (to_at (Own q) e))) here)
 
-      takes_step : (n : ℕ) (x y : Site) → g.source ≡ x → g.target ≡ y → standing tree root mid.path ≡ Some n → is_in_at tree n mid.port ≡ true
+      takes_step : (n : ℕ) (x y : PortPlace) → g.source ≡ x → g.target ≡ y → standing tree root mid.path ≡ Some n → is_in_at tree n mid.port ≡ true
           → ((m : ℕ) → standing tree root p.path ≡ Some m → is_in_at tree m p.port ≡ true → Reaches tree directions.In m p.port)
           → Reaches tree directions.In n mid.port
       takes_step n (Inner s o) y f e stands into rest = absurd (no_inner_source n s o f stands into)
@@ -198,7 +198,7 @@ module _ (tree : PackageTree ℕ) (root : ℕ) where
           (subst (Reaches tree directions.In g.number) (sym (port_is (from_at (Own o) f))) here)
 
       -- a port of what stands inside the component of the connection
-      fed_step : (n : ℕ) (x y : Site) → g.source ≡ x → g.target ≡ y → standing tree root p.path ≡ Some n → is_in_at tree n p.port ≡ true
+      fed_step : (n : ℕ) (x y : PortPlace) → g.source ≡ x → g.target ≡ y → standing tree root p.path ≡ Some n → is_in_at tree n p.port ≡ true
           → ((m : ℕ) → standing tree root mid.path ≡ Some m → is_in_at tree m mid.port ≡ true → LeadsOut tree root directions.In m mid.port)
           → ((m : ℕ) → standing tree root mid.path ≡ Some m → is_in_at tree m mid.port ≡ false → Reaches tree directions.Out m mid.port)
           → LeadsOut tree root directions.In n p.port
@@ -220,7 +220,7 @@ module _ (tree : PackageTree ℕ) (root : ℕ) where
           (of_beside g.number s t o m.0 st.wire (c.path, g.stands) st.among (st.target_is ∙ ap Some e) (st.source_is ∙ ap Some f)
           (sub_at p s q n to_is stands) m.1 (subst (Reaches tree directions.Out m.0) (port_is mid_is) r))
 
-      led_step : (n : ℕ) (x y : Site) → g.source ≡ x → g.target ≡ y → standing tree root mid.path ≡ Some n → is_in_at tree n mid.port ≡ false
+      led_step : (n : ℕ) (x y : PortPlace) → g.source ≡ x → g.target ≡ y → standing tree root mid.path ≡ Some n → is_in_at tree n mid.port ≡ false
           → ((m : ℕ) → standing tree root p.path ≡ Some m → is_in_at tree m p.port ≡ false → LeadsOut tree root directions.Out m p.port)
           → ((m : ℕ) → standing tree root p.path ≡ Some m → is_in_at tree m p.port ≡ true → Reaches tree directions.In m p.port)
           → LeadsOut tree root directions.Out n mid.port
@@ -297,7 +297,7 @@ module _ (tree : PackageTree ℕ) (root : ℕ) where
         record { earlier = p.earlier; later = c ∷ p.later; before = p.before; behind = p.behind; comes = p.comes; here = p.here; goes = (l.0, p.goes, l.2) }
 
     comes_by : (place : Place) (before behind : Port) (g : Goes tree root place before behind) (cs : List Place) (from : Port)
-        → Leads tree root cs from before → IsStart tree root from → (x : Site) → g.source ≡ x
+        → Leads tree root cs from before → IsStart tree root from → (x : PortPlace) → g.source ≡ x
         → LeadsFrom tree root directions.In g.number x
     comes_by place before behind g cs from l start (Own q) e =
         let at = from_at place before behind g (Own q) e in
@@ -315,7 +315,7 @@ module _ (tree : PackageTree ℕ) (root : ℕ) where
         )
 
     goes_on_by : (place : Place) (before behind : Port) (g : Goes tree root place before behind) (cs : List Place) (to : Port) → Ahead cs behind to
-        → IsEnd tree root to → (x : Site) → g.target ≡ x
+        → IsEnd tree root to → (x : PortPlace) → g.target ≡ x
         → LeadsFrom tree root directions.Out g.number x
     goes_on_by place before behind g cs to l ends (Own q) e =
         let at = to_at place before behind g (Own q) e in

@@ -5,8 +5,8 @@ use Rattle.std.proofs.lemmas.Bool.{true≢false}
 use Rattle.std.proofs.lemmas.Option.{same_Some, none-some}
 use Rattle.aadl_tree.specs.declared.declarations.Direction.{Direction}
 use Rattle.aadl_tree.specs.Declarations.{PackageTree}
-use Rattle.aadl_names.specs.declared.site.Site.{Site}
-use Rattle.aadl_names.specs.declared.site.Site.TheVariants.{Own, Inner}
+use Rattle.aadl_names.specs.declared.site.PortPlace.{PortPlace}
+use Rattle.aadl_names.specs.declared.site.PortPlace.TheVariants.{Own, Inner}
 use Rattle.aadl_uses.specs.Uses.{below}
 use Rattle.aadl_uses.specs.declared.connections.Wire.{Wire}
 use Rattle.aadl_uses.specs.Wiring.{wires_at}
@@ -48,7 +48,7 @@ module _ (tree : PackageTree ℕ) (d : Direction) where
   reaches_in_from ports o port all r = ap (λ x. reaches_in ports tree d x port) r.1 ∙ reaches_from ports r.0 port (all.complete r.0) r.2
 
   -- ---- one connection
-  pub record Joined (ports : List PortAt) (n : ℕ) (outer inner : Option Site) (port : ℕ) : Type 0 where
+  pub record Joined (ports : List PortAt) (n : ℕ) (outer inner : Option PortPlace) (port : ℕ) : Type 0 where
     pub sub : ℕ
     pub other : ℕ
     pub outer_is : outer ≡ Some (Own port)
@@ -60,7 +60,7 @@ module _ (tree : PackageTree ℕ) (d : Direction) where
   joined_if ports n q s p port true e is = record { sub = s; other = p; outer_is = ap (λ k. Some (Own k)) (same_Some q port is); inner_is = refl; reaches = e }
   joined_if ports n q s p port false e is = absurd (none-some port is)
 
-  joined_to : (ports : List PortAt) (n : ℕ) (outer inner : Option Site) (port : ℕ) → joined_by ports tree d n outer inner ≡ Some port
+  joined_to : (ports : List PortAt) (n : ℕ) (outer inner : Option PortPlace) (port : ℕ) → joined_by ports tree d n outer inner ≡ Some port
       → Joined ports n outer inner port
   joined_to ports n None inner port is = absurd (none-some port is)
   joined_to ports n (Some (Inner t q)) inner port is = absurd (none-some port is)
@@ -68,7 +68,7 @@ module _ (tree : PackageTree ℕ) (d : Direction) where
   joined_to ports n (Some (Own q)) (Some (Own p)) port is = absurd (none-some port is)
   joined_to ports n (Some (Own q)) (Some (Inner s p)) port is = joined_if ports n q s p port (reaches_in ports tree d (below tree n s) p) refl is
 
-  joined_from : (ports : List PortAt) (n port s p : ℕ) (outer inner : Option Site) → outer ≡ Some (Own port) → inner ≡ Some (Inner s p)
+  joined_from : (ports : List PortAt) (n port s p : ℕ) (outer inner : Option PortPlace) → outer ≡ Some (Own port) → inner ≡ Some (Inner s p)
       → reaches_in ports tree d (below tree n s) p ≡ true → joined_by ports tree d n outer inner ≡ Some port
   joined_from ports n port s p outer inner o i r =
       ap (λ x. joined_by ports tree d n x inner) o ∙ (ap (joined_inner ports tree d n port) i ∙ ap (λ b. cond b (Some port) None) r)

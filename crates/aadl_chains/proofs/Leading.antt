@@ -7,8 +7,8 @@ use Rattle.std.proofs.lemmas.Option.{same_Some, none-some}
 use Rattle.list_lemmas.proofs.Places.{slice_get-from_Contains, Contains-from_slice_get}
 use Rattle.aadl_tree.specs.declared.declarations.Direction.{Direction}
 use Rattle.aadl_tree.specs.Declarations.{PackageTree}
-use Rattle.aadl_names.specs.declared.site.Site.{Site}
-use Rattle.aadl_names.specs.declared.site.Site.TheVariants.{Own, Inner}
+use Rattle.aadl_names.specs.declared.site.PortPlace.{PortPlace}
+use Rattle.aadl_names.specs.declared.site.PortPlace.TheVariants.{Own, Inner}
 use Rattle.aadl_uses.specs.Uses.{below, IsInUse}
 use Rattle.aadl_uses.specs.declared.connections.Wire.{Wire}
 use Rattle.aadl_uses.specs.Wiring.{wires_at}
@@ -34,7 +34,7 @@ module _ (tree : PackageTree ℕ) (root : ℕ) (d : Direction) where
   pub record FrontLed (n i : ℕ) (old new : List PortAt) : Type 0 where
     pub kept : (port : PortAt) → Contains old port → Contains new port
     pub sound : AreLeading tree root d old → AreLeading tree root d new
-    pub here : (k : ℕ) (wire : Wire) (s port m : ℕ) (site : Site) → k < i → HasLeading tree root d old n → slice_get (wires_at tree n) k ≡ Some wire
+    pub here : (k : ℕ) (wire : Wire) (s port m : ℕ) (site : PortPlace) → k < i → HasLeading tree root d old n → slice_get (wires_at tree n) k ≡ Some wire
         → inner_end d wire ≡ Some (Inner s port)
         → outer_end d wire ≡ Some site → below tree n s ≡ Some m → LeadsFrom tree root d n site → Contains new (port_at m port)
 
@@ -47,7 +47,7 @@ module _ (tree : PackageTree ℕ) (root : ℕ) (d : Direction) where
 
   module _ (inside : List PortAt) (all : IsInside tree (opposite d) inside) where
     -- ---- one end
-    pub leads_to : (outside : List PortAt) (n : ℕ) (site : Site) → AreLeading tree root d outside
+    pub leads_to : (outside : List PortAt) (n : ℕ) (site : PortPlace) → AreLeading tree root d outside
         → leads_from outside inside tree root d n (Some site) ≡ true → LeadsFrom tree root d n site
     leads_to outside n (Own port) sound e = by (or_cases (nat_eq n root) (has outside (port_at n port)) e)
       where
@@ -60,14 +60,14 @@ module _ (tree : PackageTree ℕ) (root : ℕ) (d : Direction) where
     own_found outside n port (inl e) = ap (λ b. b || has outside (port_at n port)) (eq-eqb n root e)
     own_found outside n port (inr h) = or_right (nat_eq n root) (has outside (port_at n port)) (has-from outside (port_at n port) h)
 
-    pub leads_found : (outside : List PortAt) (n : ℕ) (site : Site) → HasLeading tree root d outside n → LeadsFrom tree root d n site
+    pub leads_found : (outside : List PortAt) (n : ℕ) (site : PortPlace) → HasLeading tree root d outside n → LeadsFrom tree root d n site
         → leads_from outside inside tree root d n (Some site) ≡ true
     leads_found outside n (Own port) has_all l = own_found outside n port (has_all port l)
     leads_found outside n (Inner s port) has_all r = ap (λ o. reaches_in inside tree (opposite d) o port) r.1
         ∙ reaches_from tree (opposite d) inside r.0 port (all.complete r.0) r.2
 
     -- ---- one connection
-    record InnerPort (n : ℕ) (o : Option Site) (port : PortAt) : Type 0 where
+    record InnerPort (n : ℕ) (o : Option PortPlace) (port : PortAt) : Type 0 where
       pub sub : ℕ
       pub number : ℕ
       pub target : ℕ
@@ -79,7 +79,7 @@ module _ (tree : PackageTree ℕ) (root : ℕ) (d : Direction) where
     inner_below n s q port None e is = absurd (none-some port is)
     inner_below n s q port (Some m) e is = record { sub = s; number = q; target = m; end_is = refl; names = e; port_is = same_Some (port_at m q) port is }
 
-    inner_port : (n : ℕ) (o : Option Site) (port : PortAt) → port_in tree n o ≡ Some port → InnerPort n o port
+    inner_port : (n : ℕ) (o : Option PortPlace) (port : PortAt) → port_in tree n o ≡ Some port → InnerPort n o port
     inner_port n None port e = absurd (none-some port e)
     inner_port n (Some (Own q)) port e = absurd (none-some port e)
     inner_port n (Some (Inner s q)) port e = inner_below n s q port (below tree n s) refl e
@@ -88,7 +88,7 @@ module _ (tree : PackageTree ℕ) (root : ℕ) (d : Direction) where
     chosen true o x e = (refl, e)
     chosen false o x e = absurd (none-some x e)
 
-    led_new : (outside : List PortAt) (n : ℕ) (wire : Wire) (s q m : ℕ) (o : Option Site) → outer_end d wire ≡ o
+    led_new : (outside : List PortAt) (n : ℕ) (wire : Wire) (s q m : ℕ) (o : Option PortPlace) → outer_end d wire ≡ o
         → leads_from outside inside tree root d n o ≡ true → IsInUse tree root n → Contains (wires_at tree n) wire
         → AreLeading tree root d outside → inner_end d wire ≡ Some (Inner s q) → below tree n s ≡ Some m → LeadsOut tree root d m q
     led_new outside n wire s q m None e t used among sound inner b = absurd (true≢false (sym t))
@@ -139,7 +139,7 @@ module _ (tree : PackageTree ℕ) (root : ℕ) (d : Direction) where
       here = λ k w s port m site lt has_all at e o b l. which k w s port m site has_all at e o b l (one_of_two k i lt);
     }
       where
-        which : (k : ℕ) (w : Wire) (s port m : ℕ) (site : Site) → HasLeading tree root d old n → slice_get (wires_at tree n) k ≡ Some w
+        which : (k : ℕ) (w : Wire) (s port m : ℕ) (site : PortPlace) → HasLeading tree root d old n → slice_get (wires_at tree n) k ≡ Some w
             → inner_end d w ≡ Some (Inner s port)
             → outer_end d w ≡ Some site → below tree n s ≡ Some m → LeadsFrom tree root d n site → (k < i) ⊎ (k ≡ i) → Contains new (port_at m port)
         which k w s port m site has_all at e o b l (inl h) = led.kept (port_at m port) (front.here k w s port m site h has_all at e o b l)

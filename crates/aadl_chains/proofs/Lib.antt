@@ -8,7 +8,7 @@ pub mod FromChains
 pub mod Findings
 pub mod EndFaults
 pub mod Declared
-pub mod Passing
+pub mod ChainsFromEnds
 pub mod Numbers
 pub mod Steps
 pub mod Climbs

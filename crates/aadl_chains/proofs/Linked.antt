@@ -6,8 +6,8 @@ use Rattle.std.proofs.lemmas.List.Elements.{Contains-append_right}
 use Rattle.std.proofs.lemmas.Option.{same_Some, none-some, option_and_then_some}
 use Rattle.list_lemmas.proofs.Elements.{Contains-cons_cases, Contains-head}
 use Rattle.aadl_tree.specs.Declarations.{PackageTree}
-use Rattle.aadl_names.specs.declared.site.Site.{Site}
-use Rattle.aadl_names.specs.declared.site.Site.TheVariants.{Own, Inner}
+use Rattle.aadl_names.specs.declared.site.PortPlace.{PortPlace}
+use Rattle.aadl_names.specs.declared.site.PortPlace.TheVariants.{Own, Inner}
 use Rattle.aadl_names.specs.Resolving.{implementation_at, site}
 use Rattle.aadl_uses.specs.Uses.{below, standing, component_at}
 use Rattle.aadl_uses.specs.Threads.{IsThreadAt}
@@ -72,7 +72,7 @@ module _ (tree : PackageTree ℕ) (root : ℕ) where
           is_link = ap (slice_get g.component.connections) k ∙ g.is_link;
           kind = inl (
             refl,
-            ap (λ (o : Option Site). not_own o && not_own (site tree g.component g.link.target)) (g.is_source ∙ ap Some x.source_is)
+            ap (λ (o : Option PortPlace). not_own o && not_own (site tree g.component g.link.target)) (g.is_source ∙ ap Some x.source_is)
                 ∙ ap not_own (g.is_target ∙ ap Some x.target_is),
           );
         },
@@ -266,7 +266,7 @@ module _ (tree : PackageTree ℕ) (root : ℕ) where
       pub start : IsStart tree root ends.from
       pub declaration_is : ends.declaration ≡ root
 
-    tap_step : (ends : Ends) (c : Place) (cs : List Place) (mid : Port) (g : Goes tree root c mid ends.to) → (x : Site) → g.source ≡ x
+    tap_step : (ends : Ends) (c : Place) (cs : List Place) (mid : Port) (g : Goes tree root c mid ends.to) → (x : PortPlace) → g.source ≡ x
         → Leads tree root cs ends.from mid → IsStart tree root ends.from → ends.to.path ≡ [] → is_in tree root ends.to ≡ false
         → Carries tree root false (c ∷ cs) ends → TapMet ends
     tap_step ends c cs mid g (Own r) e leads start outside out carried =
@@ -292,7 +292,7 @@ module _ (tree : PackageTree ℕ) (root : ℕ) where
               ∙ (ap (λ n. into tree n (Own o.0)) o.3
               ∙ (ap (into tree g.number) (sym o.1)
               ∙ (into_of_goes tree root one c mid ends.to g
-              ∙ (ap (λ (y : Site). Some (c.connection, y)) e
+              ∙ (ap (λ (y : PortPlace). Some (c.connection, y)) e
               ∙ ap (λ k. Some (k, Inner t q)) (ap (λ (y : Place). y.connection) here ∙ carried.number)))));
           earlier = cs;
           leads = subst (Leads tree root cs ends.from) mid_is leads;

@@ -9,8 +9,8 @@ use Rattle.list_lemmas.proofs.Elements.{Contains-nil}
 use Rattle.list_lemmas.proofs.Places.{slice_get-from_Contains, Contains-from_slice_get}
 use Rattle.aadl_tree.specs.declared.declarations.Direction.TheVariants as directions
 use Rattle.aadl_tree.specs.Declarations.{Feature, Connection, Implementation, PackageTree}
-use Rattle.aadl_names.specs.declared.site.Site.{Site}
-use Rattle.aadl_names.specs.declared.site.Site.TheVariants.{Own, Inner}
+use Rattle.aadl_names.specs.declared.site.PortPlace.{PortPlace}
+use Rattle.aadl_names.specs.declared.site.PortPlace.TheVariants.{Own, Inner}
 use Rattle.aadl_names.specs.Resolving.{implementation_at, ports_at, is_thread, site}
 use Rattle.aadl_names.specs.PackageFaults.{goes_in}
 use Rattle.aadl_uses.specs.Uses.{below, standing, IsInUse}
@@ -18,7 +18,7 @@ use Rattle.aadl_uses.specs.Threads.{IsThreadAt}
 use Rattle.aadl_uses.specs.proof.Threads.{is_thread_in}
 use Rattle.aadl_uses.specs.declared.connections.Wire.{Wire}
 use Rattle.aadl_uses.specs.Wiring.{wire_of, wires_of, wires_at}
-use Rattle.aadl_uses.proofs.Rows.{listed}
+use Rattle.aadl_uses.proofs.DeclarationRows.{listed}
 use Rattle.aadl_chains.specs.proof.Inside.{is_thread_at, is_in_at, Reaches, of_thread, of_inner}
 use Rattle.aadl_chains.specs.proof.Outside.{LeadsOut, of_root, of_own, of_beside, LeadsFrom}
 use Rattle.aadl_chains.specs.Chains.{Port, Place, port_at, Goes, Leads, is_in, IsStart, IsEnd, IsChain}
@@ -54,7 +54,7 @@ module _ (tree : PackageTree ℕ) (root : ℕ) where
   thread_from path n e t = ap is_thread_in (sym (ap (option_and_then (implementation_at tree)) e) ∙ t.1.0) ∙ t.1.1
 
   -- ---- connections
-  goes_if : (place : Place) (n : ℕ) (wire : Wire) (source target : Site) (o : Option (Implementation ℕ)) → implementation_at tree n ≡ o
+  goes_if : (place : Place) (n : ℕ) (wire : Wire) (source target : PortPlace) (o : Option (Implementation ℕ)) → implementation_at tree n ≡ o
       → standing tree root place.path ≡ Some n
       → slice_get (wires_of tree o) place.connection ≡ Some wire → wire.source ≡ Some source → wire.target ≡ Some target
       → Goes tree root place (port_at place.path source) (port_at place.path target)
@@ -76,13 +76,13 @@ module _ (tree : PackageTree ℕ) (root : ℕ) where
         enters = refl;
       }
 
-  goes_by : (path : List ℕ) (n : ℕ) (wire : Wire) (source target : Site) → standing tree root path ≡ Some n → (h : Contains (wires_at tree n) wire)
+  goes_by : (path : List ℕ) (n : ℕ) (wire : Wire) (source target : PortPlace) → standing tree root path ≡ Some n → (h : Contains (wires_at tree n) wire)
       → wire.source ≡ Some source → wire.target ≡ Some target
       → Goes tree root (record { path = path; connection = h.0 }) (port_at path source) (port_at path target)
   goes_by path n wire source target stands h s t = goes_if (record { path = path; connection = h.0 }) n wire source target (implementation_at tree n) refl
       stands (slice_get-from_Contains (wires_at tree n) wire h) s t
 
-  wire_if : (n k : ℕ) (x : Implementation ℕ) (link : Connection ℕ) (source target : Site) (o : Option (Implementation ℕ)) → o ≡ Some x
+  wire_if : (n k : ℕ) (x : Implementation ℕ) (link : Connection ℕ) (source target : PortPlace) (o : Option (Implementation ℕ)) → o ≡ Some x
       → slice_get x.connections k ≡ Some link → site tree x link.source ≡ Some source → site tree x link.target ≡ Some target
       → slice_get (wires_of tree o) k ≡ Some (record { source = Some source; target = Some target })
   wire_if n k x link source target o e is s t =
@@ -253,7 +253,7 @@ module _ (tree : PackageTree ℕ) (root : ℕ) where
       pub is_connection : place.connection ≡ connection
 
     -- chains that lead to it and on from it are one
-    through_it : (path : List ℕ) (n : ℕ) (wire : Wire) (source target : Site) (h : Contains (wires_at tree n) wire) → standing tree root path ≡ Some n
+    through_it : (path : List ℕ) (n : ℕ) (wire : Wire) (source target : PortPlace) (h : Contains (wires_at tree n) wire) → standing tree root path ≡ Some n
         → wire.source ≡ Some source → wire.target ≡ Some target
         → (cs ds : List Place) (from to : Port) → Leads tree root cs from (port_at path source) → IsStart tree root from
         → Leads tree root ds (port_at path target) to → IsEnd tree root to → Chained n h.0
@@ -274,7 +274,7 @@ module _ (tree : PackageTree ℕ) (root : ℕ) where
           is_connection = refl;
         }
 
-    chained_by : (n : ℕ) (wire : Wire) (source target : Site) → IsInUse tree root n → (h : Contains (wires_at tree n) wire) → wire.source ≡ Some source
+    chained_by : (n : ℕ) (wire : Wire) (source target : PortPlace) → IsInUse tree root n → (h : Contains (wires_at tree n) wire) → wire.source ≡ Some source
         → wire.target ≡ Some target → NotBothOwn source target
         → LeadsFrom tree root directions.In n source → LeadsFrom tree root directions.Out n target → Chained n h.0
     chained_by n wire (Own p) (Own q) used h s t both comes goes = absurd both

@@ -4,8 +4,8 @@ use Rattle.std.proofs.Common.{Some, None, refl, sym, ap, subst, ◌∙◌}
 use Rattle.std.proofs.lemmas.List.{reverse-append}
 use Rattle.std.proofs.lemmas.Option.{same_Some, none-some}
 use Rattle.aadl_tree.specs.Declarations.{PackageTree}
-use Rattle.aadl_names.specs.declared.site.Site.{Site}
-use Rattle.aadl_names.specs.declared.site.Site.TheVariants.{Own, Inner}
+use Rattle.aadl_names.specs.declared.site.PortPlace.{PortPlace}
+use Rattle.aadl_names.specs.declared.site.PortPlace.TheVariants.{Own, Inner}
 use Rattle.aadl_uses.specs.Uses.{below, standing}
 use Rattle.aadl_uses.specs.Threads.{IsThreadAt}
 use Rattle.aadl_uses.specs.proof.Wiring.{into}
@@ -13,14 +13,14 @@ use Rattle.aadl_chains.specs.proof.Inside.{is_thread_at, is_in_at}
 use Rattle.aadl_chains.specs.Chains.{Port, Place, Goes, Leads, is_in, IsStart}
 use Rattle.aadl_chains.specs.proof.Sound.{AreDeclared}
 use Rattle.aadl_chains.proofs.OnChains.{opposed, next_at, is_in-at, thread_from}
-use Rattle.aadl_chains.specs.declared.walks.Begin.{Begin}
-use Rattle.aadl_chains.specs.declared.walks.Begin.TheVariants as begins
-use Rattle.aadl_chains.specs.declared.walks.Route.{Route}
+use Rattle.aadl_chains.specs.declared.walks.ChainStart.{ChainStart}
+use Rattle.aadl_chains.specs.declared.walks.ChainStart.TheVariants as begins
+use Rattle.aadl_chains.specs.declared.walks.ChainRoute.{ChainRoute}
 use Rattle.aadl_chains.specs.proof.Walked.{Passes}
 use Rattle.aadl_chains.specs.proof.Walks.{Crossing, nowhere, at_root, crosses, climb, OneEach, IsThreadPort}
 use Rattle.aadl_chains.specs.Links.{Ends, IsLink, IsFeed, IsTap}
 use Rattle.aadl_chains.specs.proof.Routes.{route_ends, IsGiver, Descends, Traces, TracesTap}
-use Rattle.aadl_chains.proofs.Passing.{passes_end, passes_before, only_start, no_chain}
+use Rattle.aadl_chains.proofs.ChainsFromEnds.{passes_end, passes_before, only_start, no_chain}
 use Rattle.aadl_chains.proofs.Steps.{entered, goes_into, into_of_goes, inner_of}
 use Rattle.aadl_chains.proofs.Coming.{into_own}
 use Rattle.aadl_chains.proofs.Linked.{link_from, feed_from, tap_from, LinkMet, link_met, FeedMet, feed_met, TapMet, tap_met}
@@ -142,7 +142,7 @@ module _ (tree : PackageTree ℕ) (root : ℕ) (sound : AreDeclared tree) (one :
         let none : None ≡ Some m.0.connection = cc same in
         none-some m.0.connection none
 
-    pub traces_root : (k q : ℕ) (route : Route) → IsThreadPort tree root to → climb tree root None to.path to.port ≡ at_root (Some k) q
+    pub traces_root : (k q : ℕ) (route : ChainRoute) → IsThreadPort tree root to → climb tree root None to.path to.port ≡ at_root (Some k) q
         → route ≡ record { begin = begins.Root q; declaration = root; connection = k } → Traces tree root to (Some route)
     traces_root k q route port is e = subst (λ r. Traces tree root to (Some r)) (sym e) (record {
       kind = feed_from tree root sound found k q port is refl refl refl;
@@ -180,7 +180,7 @@ module _ (tree : PackageTree ℕ) (root : ℕ) (sound : AreDeclared tree) (one :
           let none : at_root (Some m.0.connection) ends.from.port ≡ crosses c = sym m.1 ∙ is in
           cc none
 
-      pub traces_over : (begin : Begin) (route : Route) → IsThreadPort tree root to
+      pub traces_over : (begin : ChainStart) (route : ChainRoute) → IsThreadPort tree root to
           → Descends tree root (record { path = c.sub ∷ c.path; port = c.port }) (Some begin)
           → route ≡ record { begin = begin; declaration = c.declaration; connection = c.connection } → Traces tree root to (Some route)
       traces_over (begins.Root p) route port giver e = absurd giver
@@ -216,14 +216,14 @@ module _ (tree : PackageTree ℕ) (root : ℕ) (sound : AreDeclared tree) (one :
     no_tap none ends l e = let m = met_tap ends l e in none-some (ends.connection, Inner m.0.sub m.0.port) (sym none ∙ m.1)
 
     module _ (k t q : ℕ) (is : into tree root (Own port) ≡ Some (k, Inner t q)) where
-      abbrev pair : ℕ → ℕ → ℕ → ℕ × Site
+      abbrev pair : ℕ → ℕ → ℕ → ℕ × PortPlace
       pair k s p = (k, Inner s p)
 
       same_into : (a b s p t q : ℕ) → Some (pair a s p) ≡ Some (pair b t q) → (a ≡ b) × (s ≡ t) × (p ≡ q)
       same_into a b s p t q e =
           let both : pair a s p ≡ pair b t q = same_Some (pair a s p) (pair b t q) e in
-          let site : Inner s p ≡ Inner t q = ap (λ (x : ℕ × Site). x.1) both in
-          (ap (λ (x : ℕ × Site). x.0) both, cc site, cc site)
+          let site : Inner s p ≡ Inner t q = ap (λ (x : ℕ × PortPlace). x.1) both in
+          (ap (λ (x : ℕ × PortPlace). x.0) both, cc site, cc site)
 
       there : (ends : Ends) (m : TapMet tree root sound one no_thread ends) → into tree root (Own port) ≡ Some (ends.connection, Inner m.sub m.port)
           → Leads tree root m.earlier ends.from (record { path = t ∷ []; port = q })
@@ -235,7 +235,7 @@ module _ (tree : PackageTree ℕ) (root : ℕ) (sound : AreDeclared tree) (one :
       pub no_tap_over : Descends tree root (record { path = t ∷ []; port = q }) None → TracesTap tree root (record { path = []; port = port }) None
       no_tap_over none ends l e = let m = met_tap ends l e in none m.0.earlier ends.from m.0.start (there ends m.0 m.1)
 
-      pub tap_over : (begin : Begin) (route : Route) → is_in_at tree root port ≡ false → Descends tree root (record { path = t ∷ []; port = q }) (Some begin)
+      pub tap_over : (begin : ChainStart) (route : ChainRoute) → is_in_at tree root port ≡ false → Descends tree root (record { path = t ∷ []; port = q }) (Some begin)
           → route ≡ record { begin = begin; declaration = root; connection = k } → TracesTap tree root (record { path = []; port = port }) (Some route)
       tap_over (begins.Root p) route out giver e = absurd giver
       tap_over (begins.Thread path p) route out giver e = subst (λ r. TracesTap tree root (record { path = []; port = port }) (Some r)) (sym e) (record {

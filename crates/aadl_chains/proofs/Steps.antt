@@ -9,17 +9,17 @@ use Rattle.std.proofs.lemmas.Option.{same_Some, none-some, option_and_then_some}
 use Rattle.list_lemmas.proofs.Places.{Contains-from_slice_get}
 use Rattle.list_lemmas.proofs.Elements.{Contains-nil}
 use Rattle.aadl_tree.specs.Declarations.{Implementation, PackageTree}
-use Rattle.aadl_names.specs.declared.site.Site.{Site}
-use Rattle.aadl_names.specs.declared.site.Site.TheVariants.{Own, Inner}
+use Rattle.aadl_names.specs.declared.site.PortPlace.{PortPlace}
+use Rattle.aadl_names.specs.declared.site.PortPlace.TheVariants.{Own, Inner}
 use Rattle.aadl_names.specs.Resolving.{implementation_at}
 use Rattle.aadl_uses.specs.Uses.{standing}
 use Rattle.aadl_uses.specs.declared.connections.Wire.{Wire}
 use Rattle.aadl_uses.specs.proof.PortNumbers.{is_site}
-use Rattle.aadl_uses.specs.Firsts.{target_in, IsSecond}
-use Rattle.aadl_uses.specs.proof.Firsts.{is_before}
+use Rattle.aadl_uses.specs.FirstConnections.{target_in, IsSecond}
+use Rattle.aadl_uses.specs.proof.FirstConnections.{is_before}
 use Rattle.aadl_uses.specs.Wiring.{wire_of, wires_of, wires_at}
 use Rattle.aadl_uses.specs.proof.Wiring.{first_into_at, with_source, sourced, into}
-use Rattle.aadl_uses.proofs.Rows.{listed}
+use Rattle.aadl_uses.proofs.DeclarationRows.{listed}
 use Rattle.aadl_uses.proofs.Tables.{same_site-true, itself, second_from}
 use Rattle.aadl_chains.specs.proof.Inside.{is_thread_at, is_in_at}
 use Rattle.aadl_chains.specs.Chains.{Port, Place, port_at, Goes}
@@ -61,29 +61,29 @@ module _ {X : Type 0} (test : X → Bool) where
   some_first (x ∷ xs) k i y is t = some_if x y xs k i (test x) refl is t (λ j h. some_first xs (k + 1) j y h t)
 
 -- ---- ends of connections
-pub own_no_inner : (o : Option Site) (x : Site) (q s p : ℕ) → o ≡ Some x → x ≡ Own q → o ≡ Some (Inner s p) → ⊥
+pub own_no_inner : (o : Option PortPlace) (x : PortPlace) (q s p : ℕ) → o ≡ Some x → x ≡ Own q → o ≡ Some (Inner s p) → ⊥
 own_no_inner o x q s p a b c = let e : Some (Own q) ≡ Some (Inner s p) = sym (a ∙ ap Some b) ∙ c in cc e
 
-pub none_no_inner : (o : Option Site) (s p : ℕ) → o ≡ None → o ≡ Some (Inner s p) → ⊥
+pub none_no_inner : (o : Option PortPlace) (s p : ℕ) → o ≡ None → o ≡ Some (Inner s p) → ⊥
 none_no_inner o s p a c = none-some (Inner s p) (sym a ∙ c)
 
-is_site-true : (a : Site) (o : Option Site) → is_site a o ≡ true → o ≡ Some a
+is_site-true : (a : PortPlace) (o : Option PortPlace) → is_site a o ≡ true → o ≡ Some a
 is_site-true a None e = absurd (true≢false (sym e))
 is_site-true a (Some b) e = ap Some (sym (same_site-true a b e))
 
-of_site : (a : Site) (o : Option Site) → o ≡ Some a → is_site a o ≡ true
+of_site : (a : PortPlace) (o : Option PortPlace) → o ≡ Some a → is_site a o ≡ true
 of_site a o e = ap (is_site a) e ∙ itself a
 
 module _ (tree : PackageTree ℕ) where
   -- the first connection of a declaration into a port
-  pub record Entered (n : ℕ) (target : Site) (k : ℕ) (source : Site) : Type 0 where
+  pub record Entered (n : ℕ) (target : PortPlace) (k : ℕ) (source : PortPlace) : Type 0 where
     pub wire : Wire
     pub is_wire : slice_get (wires_at tree n) k ≡ Some wire
     pub source_is : wire.source ≡ Some source
     pub target_is : wire.target ≡ Some target
     pub first : first_into_at tree n target ≡ Some k
 
-  pub first_wire : (n : ℕ) (target : Site) (k : ℕ) → first_into_at tree n target ≡ Some k
+  pub first_wire : (n : ℕ) (target : PortPlace) (k : ℕ) → first_into_at tree n target ≡ Some k
       → (wire : Wire) × (slice_get (wires_at tree n) k ≡ Some wire) × (wire.target ≡ Some target)
   first_wire n target k e =
       let f = first_at (λ (w : Wire). is_site target w.target) (wires_at tree n) 0 k e in
@@ -91,14 +91,14 @@ module _ (tree : PackageTree ℕ) where
       let same : f.index ≡ k = omega arith in
       (f.item, ap (slice_get (wires_at tree n)) (sym same) ∙ f.is_item, is_site-true target f.item.target f.passes)
 
-  source_if : (k : ℕ) (o : Option Site) (from : ℕ × Site) → option_map_or (λ (source : Site). Some (k, source)) o None ≡ Some from
+  source_if : (k : ℕ) (o : Option PortPlace) (from : ℕ × PortPlace) → option_map_or (λ (source : PortPlace). Some (k, source)) o None ≡ Some from
       → (o ≡ Some from.1) × (k ≡ from.0)
   source_if k None from e = absurd (none-some from e)
   source_if k (Some source) from e =
       let same : (k, source) ≡ from = same_Some (k, source) from e in
-      (ap (λ (x : ℕ × Site). Some x.1) same, ap (λ (x : ℕ × Site). x.0) same)
+      (ap (λ (x : ℕ × PortPlace). Some x.1) same, ap (λ (x : ℕ × PortPlace). x.0) same)
 
-  pub entered : (n : ℕ) (target : Site) (from : ℕ × Site) → into tree n target ≡ Some from → Entered n target from.0 from.1
+  pub entered : (n : ℕ) (target : PortPlace) (from : ℕ × PortPlace) → into tree n target ≡ Some from → Entered n target from.0 from.1
   entered n target from e =
       option_and_then_some (sourced (wires_at tree n)) (first_into_at tree n target) from e
       (λ k a b.
@@ -112,18 +112,18 @@ module _ (tree : PackageTree ℕ) where
         first = a ∙ ap Some s.1;
       })
 
-  pub into_first : (n : ℕ) (target source : Site) (k : ℕ) (wire : Wire) → first_into_at tree n target ≡ Some k → slice_get (wires_at tree n) k ≡ Some wire
+  pub into_first : (n : ℕ) (target source : PortPlace) (k : ℕ) (wire : Wire) → first_into_at tree n target ≡ Some k → slice_get (wires_at tree n) k ≡ Some wire
       → wire.source ≡ Some source → into tree n target ≡ Some (k, source)
   into_first n target source k wire first is s =
       ap (option_and_then (sourced (wires_at tree n))) first
-      ∙ (ap (option_and_then (with_source k)) is ∙ ap (λ (o : Option Site). option_map_or (λ (source : Site). Some (k, source)) o None) s)
+      ∙ (ap (option_and_then (with_source k)) is ∙ ap (λ (o : Option PortPlace). option_map_or (λ (source : PortPlace). Some (k, source)) o None) s)
 
-  target_of : (n k : ℕ) (wire : Wire) (target : Site) → slice_get (wires_at tree n) k ≡ Some wire → wire.target ≡ Some target
+  target_of : (n k : ℕ) (wire : Wire) (target : PortPlace) → slice_get (wires_at tree n) k ≡ Some wire → wire.target ≡ Some target
       → target_in (wires_at tree n) k ≡ Some target
   target_of n k wire target is e = ap (option_and_then (λ (w : Wire). w.target)) is ∙ e
 
   -- a connection that is not behind another one into its port is the first into it
-  pub first_if : (n k : ℕ) (wire : Wire) (target : Site) → slice_get (wires_at tree n) k ≡ Some wire → wire.target ≡ Some target
+  pub first_if : (n k : ℕ) (wire : Wire) (target : PortPlace) → slice_get (wires_at tree n) k ≡ Some wire → wire.target ≡ Some target
       → (IsSecond (wires_at tree n) k → ⊥) → first_into_at tree n target ≡ Some k
   first_if n k wire target is e only =
       let some = some_first (λ (w : Wire). is_site target w.target) (wires_at tree n) 0 k wire is (of_site target wire.target e) in
@@ -138,7 +138,7 @@ module _ (tree : PackageTree ℕ) where
       by m w at f least (inr (inr more)) = absurd (omega arith)
 
   -- one behind another is not
-  pub second_never : (n k : ℕ) (target : Site) → IsSecond (wires_at tree n) k → first_into_at tree n target ≡ Some k → ⊥
+  pub second_never : (n k : ℕ) (target : PortPlace) → IsSecond (wires_at tree n) k → first_into_at tree n target ≡ Some k → ⊥
   second_never n k target second first =
       let w = first_wire n target k first in
       let e = second_from (wires_at tree n) k target (target_of n k w.0 target w.1 w.2) second in
@@ -148,7 +148,7 @@ module _ (tree : PackageTree ℕ) where
       never k e = grind (arith, nat_tests)
 
   module _ (root : ℕ) where
-    goes_if : (place : Place) (n : ℕ) (wire : Wire) (source target : Site) (o : Option (Implementation ℕ)) → implementation_at tree n ≡ o
+    goes_if : (place : Place) (n : ℕ) (wire : Wire) (source target : PortPlace) (o : Option (Implementation ℕ)) → implementation_at tree n ≡ o
         → standing tree root place.path ≡ Some n → slice_get (wires_of tree o) place.connection ≡ Some wire → wire.source ≡ Some source
         → wire.target ≡ Some target
         → (g : Goes tree root place (port_at place.path source) (port_at place.path target)) × (g.number ≡ n) × (g.source ≡ source) × (g.target ≡ target)
@@ -174,14 +174,14 @@ module _ (tree : PackageTree ℕ) where
           refl,
         )
 
-    pub goes_at : (path : List ℕ) (n k : ℕ) (wire : Wire) (source target : Site) → standing tree root path ≡ Some n
+    pub goes_at : (path : List ℕ) (n k : ℕ) (wire : Wire) (source target : PortPlace) → standing tree root path ≡ Some n
         → slice_get (wires_at tree n) k ≡ Some wire → wire.source ≡ Some source → wire.target ≡ Some target
         → Goes tree root (record { path = path; connection = k }) (port_at path source) (port_at path target)
     goes_at path n k wire source target stands is s t =
         (goes_if (record { path = path; connection = k }) n wire source target (implementation_at tree n) refl stands is s t).0
 
     -- the first connection into a port goes there
-    pub goes_into : (path : List ℕ) (n : ℕ) (target : Site) (k : ℕ) (source : Site) → standing tree root path ≡ Some n → Entered n target k source
+    pub goes_into : (path : List ℕ) (n : ℕ) (target : PortPlace) (k : ℕ) (source : PortPlace) → standing tree root path ≡ Some n → Entered n target k source
         → (g : Goes tree root (record { path = path; connection = k }) (port_at path source) (port_at path target))
         × (g.number ≡ n) × (g.source ≡ source) × (g.target ≡ target)
     goes_into path n target k source stands x =
@@ -205,7 +205,7 @@ module _ (tree : PackageTree ℕ) where
           (first_of_goes place from to g) (wire_of_goes tree root place from to g) refl
 
     -- what is known of both ends of a connection
-    pub record Known (n : ℕ) (source target : Site) : Type 0 where
+    pub record Known (n : ℕ) (source target : PortPlace) : Type 0 where
       pub wire : Wire
       pub among : Contains (wires_at tree n) wire
       pub source_is : wire.source ≡ Some source
@@ -216,7 +216,7 @@ module _ (tree : PackageTree ℕ) where
       pub no_thread : is_thread_at tree n ≡ false
 
     module _ (sound : AreDeclared tree) where
-      known_wire : (n : ℕ) (wire : Wire) (source target : Site) → Contains (wires_at tree n) wire → wire.source ≡ Some source → wire.target ≡ Some target
+      known_wire : (n : ℕ) (wire : Wire) (source target : PortPlace) → Contains (wires_at tree n) wire → wire.source ≡ Some source → wire.target ≡ Some target
           → Known n source target
       known_wire n wire source target h es et =
           let d = sound.each n wire h in
@@ -241,11 +241,11 @@ module _ (tree : PackageTree ℕ) where
       known place from to g = known_wire g.number (record { source = Some g.source; target = Some g.target }) g.source g.target
           (among_goes tree root place from to g) refl refl
 
-      pub known_into : (n : ℕ) (target : Site) (k : ℕ) (source : Site) → Entered n target k source → Known n source target
+      pub known_into : (n : ℕ) (target : PortPlace) (k : ℕ) (source : PortPlace) → Entered n target k source → Known n source target
       known_into n target k source x = known_wire n x.wire source target (Contains-from_slice_get (wires_at tree n) k x.wire x.is_wire) x.source_is x.target_is
 
 -- into an own out port a connection goes from an out port of a subcomponent
-pub inner_of : (tree : PackageTree ℕ) → AreDeclared tree → (here out k : ℕ) (source : Site) → is_in_at tree here out ≡ false
+pub inner_of : (tree : PackageTree ℕ) → AreDeclared tree → (here out k : ℕ) (source : PortPlace) → is_in_at tree here out ≡ false
     → into tree here (Own out) ≡ Some (k, source) → IsFromInner tree here source
 inner_of tree sound here out k (Own q) goes_out e =
     absurd (known_into tree 0 sound here (Own out) k (Own q) (entered tree here (Own out) (k, Own q) e)).not_both

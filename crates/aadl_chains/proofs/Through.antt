@@ -4,8 +4,8 @@ use Rattle.std.proofs.Common.{Option, Some, None, refl, sym, ap, subst, ◌∙�
 use Rattle.std.proofs.lemmas.Option.{same_Some, none-some}
 use Rattle.aadl_tree.specs.declared.declarations.Direction.TheVariants as directions
 use Rattle.aadl_tree.specs.Declarations.{PackageTree}
-use Rattle.aadl_names.specs.declared.site.Site.{Site}
-use Rattle.aadl_names.specs.declared.site.Site.TheVariants.{Own, Inner}
+use Rattle.aadl_names.specs.declared.site.PortPlace.{PortPlace}
+use Rattle.aadl_names.specs.declared.site.PortPlace.TheVariants.{Own, Inner}
 use Rattle.aadl_uses.specs.Uses.{below}
 use Rattle.aadl_uses.specs.declared.connections.Wire.{Wire}
 use Rattle.aadl_uses.specs.Wiring.{wires_at}
@@ -62,7 +62,7 @@ module _ (tree : PackageTree ℕ) (n : ℕ) where
       by (inl e) = absurd (opposed (is_thread_at tree n) (thread_itself tree n (at_path (IsThreadPort tree n) x [] e c.0).0) none)
       by (inr h) = own_by q x h.0 h.1 h.2 (at_path (ComesFrom tree n q) x (h.1 ++ h.0 ∷ []) h.2 c)
 
-  into_of : (k : ℕ) (x : Port) (source : Site) (wire : Wire) → (t : Through tree n k x) → slice_get (wires_at tree n) k ≡ Some wire
+  into_of : (k : ℕ) (x : Port) (source : PortPlace) (wire : Wire) → (t : Through tree n k x) → slice_get (wires_at tree n) k ≡ Some wire
       → wire.source ≡ Some source → into tree n (Inner t.sub t.inner_port) ≡ Some (k, source)
   into_of k x source wire t is e = into_first tree n (Inner t.sub t.inner_port) source k wire t.first is e
 

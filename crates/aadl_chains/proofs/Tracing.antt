@@ -2,15 +2,15 @@
 use Rattle.std.proofs.Common.{◌≡◌, ℕ, false, List, [], ◌∷◌, reverse, Option, Some, None, refl, sym, ap, subst, ◌∙◌}
 use Rattle.std.proofs.lemmas.Option.{same_Some}
 use Rattle.aadl_tree.specs.Declarations.{PackageTree}
-use Rattle.aadl_names.specs.declared.site.Site.{Site}
-use Rattle.aadl_names.specs.declared.site.Site.TheVariants.{Own, Inner}
+use Rattle.aadl_names.specs.declared.site.PortPlace.{PortPlace}
+use Rattle.aadl_names.specs.declared.site.PortPlace.TheVariants.{Own, Inner}
 use Rattle.aadl_uses.specs.Uses.{below, standing}
 use Rattle.aadl_uses.specs.proof.Wiring.{into}
 use Rattle.aadl_chains.specs.proof.Inside.{is_thread_at, is_in_at}
 use Rattle.aadl_chains.specs.Chains.{Port}
 use Rattle.aadl_chains.specs.proof.Sound.{AreDeclared}
-use Rattle.aadl_chains.specs.declared.walks.Begin.{Begin}
-use Rattle.aadl_chains.specs.declared.walks.Lower.{Lower}
+use Rattle.aadl_chains.specs.declared.walks.ChainStart.{ChainStart}
+use Rattle.aadl_chains.specs.declared.walks.PortBelow.{PortBelow}
 use Rattle.aadl_chains.specs.proof.Walks.{Crossing, at_root, crosses, climb, OneEach, IsThreadPort}
 use Rattle.aadl_chains.specs.proof.Routes.{Descends, Traces, TracesTap}
 use Rattle.aadl_chains.specs.proof.Climbing.{route_from, route_from_root}
@@ -31,12 +31,12 @@ module _ (tree : PackageTree ℕ) (root : ℕ) (sound : AreDeclared tree) (one :
   root_route to (Some k) q port is = traces_root tree root sound one no_thread to k q _ port is refl
 
   -- over a crossing
-  over_by : (to : Port) (c : Crossing) (begin : Option Begin) → IsThreadPort tree root to → climb tree root None to.path to.port ≡ crosses c
+  over_by : (to : Port) (c : Crossing) (begin : Option ChainStart) → IsThreadPort tree root to → climb tree root None to.path to.port ≡ crosses c
       → Descends tree root (record { path = c.sub ∷ c.path; port = c.port }) begin → Traces tree root to (route_from begin c.declaration c.connection)
   over_by to c None port is d = traces_none_over tree root sound one no_thread to c is d
   over_by to c (Some begin) port is d = traces_over tree root sound one no_thread to c is begin _ port d refl
 
-  pub over_route : (to : Port) (c : Crossing) (begin : Option Begin) (way : List ℕ) (lower : Lower) → IsThreadPort tree root to
+  pub over_route : (to : Port) (c : Crossing) (begin : Option ChainStart) (way : List ℕ) (lower : PortBelow) → IsThreadPort tree root to
       → climb tree root None to.path to.port ≡ crosses c → reverse way ≡ c.sub ∷ c.path → Inner c.sub c.port ≡ Inner lower.sub lower.port
       → below tree c.declaration lower.sub ≡ Some lower.number
       → (standing tree root (reverse way) ≡ Some lower.number → Descends tree root (record { path = reverse way; port = lower.port }) begin)
@@ -52,12 +52,12 @@ module _ (tree : PackageTree ℕ) (root : ℕ) (sound : AreDeclared tree) (one :
       (subst (λ l. Descends tree root (record { path = l; port = lower.port }) begin) turned d))
 
   -- into an out port of the root
-  tap_by : (port k t q : ℕ) (begin : Option Begin) → into tree root (Own port) ≡ Some (k, Inner t q) → is_in_at tree root port ≡ false
+  tap_by : (port k t q : ℕ) (begin : Option ChainStart) → into tree root (Own port) ≡ Some (k, Inner t q) → is_in_at tree root port ≡ false
       → Descends tree root (record { path = t ∷ []; port = q }) begin → TracesTap tree root (record { path = []; port = port }) (route_from begin root k)
   tap_by port k t q None is out d = no_tap_over tree root sound one no_thread port k t q is d
   tap_by port k t q (Some begin) is out d = tap_over tree root sound one no_thread port k t q is begin _ out d refl
 
-  pub tap_route : (port k : ℕ) (source : Site) (begin : Option Begin) (way : List ℕ) (lower : Lower) → into tree root (Own port) ≡ Some (k, source)
+  pub tap_route : (port k : ℕ) (source : PortPlace) (begin : Option ChainStart) (way : List ℕ) (lower : PortBelow) → into tree root (Own port) ≡ Some (k, source)
       → is_in_at tree root port ≡ false → reverse way ≡ lower.sub ∷ [] → source ≡ Inner lower.sub lower.port → below tree root lower.sub ≡ Some lower.number
       → (standing tree root (reverse way) ≡ Some lower.number → Descends tree root (record { path = reverse way; port = lower.port }) begin)
       → TracesTap tree root (record { path = []; port = port }) (route_from begin root k)

@@ -10,15 +10,15 @@ use Rattle.std.proofs.lemmas.Option.{same_Some, none-some, slice_get_within, sli
 use Rattle.list_lemmas.proofs.Places.{slice_get-from_Contains, Contains-from_slice_get}
 use Rattle.aadl_uses.specs.proof.Orders.{IsSequence}
 use Rattle.aadl_tree.specs.Declarations.{Implementation, PackageTree}
-use Rattle.aadl_names.specs.declared.site.Site.{Site}
-use Rattle.aadl_names.specs.declared.site.Site.TheVariants.{Own, Inner}
+use Rattle.aadl_names.specs.declared.site.PortPlace.{PortPlace}
+use Rattle.aadl_names.specs.declared.site.PortPlace.TheVariants.{Own, Inner}
 use Rattle.aadl_names.specs.Resolving.{implementation_at, is_thread}
 use Rattle.aadl_uses.specs.Uses.{below}
 use Rattle.aadl_uses.specs.proof.Uses.{containment}
 use Rattle.aadl_uses.specs.proof.Threads.{is_thread_in}
 use Rattle.aadl_uses.proofs.Containing.{below-same}
 use Rattle.aadl_uses.specs.declared.connections.Wire.{Wire}
-use Rattle.aadl_uses.specs.Firsts.{IsSecond}
+use Rattle.aadl_uses.specs.FirstConnections.{IsSecond}
 use Rattle.aadl_uses.specs.Wiring.{wires_at}
 use Rattle.aadl_chains.specs.declared.ports.PortAt.{PortAt}
 use Rattle.aadl_chains.specs.proof.Ports.{same_port}
@@ -111,7 +111,7 @@ module _ (tree : PackageTree ℕ) (limit n : ℕ) where
       subst (IsNumber limit (ComesFrom tree m q)) (sym (same m q (fresh.apart s m b))) (known s m b q none)
 
   one_more : (i : ℕ) (wire : Wire) (old mid new : List (PortAt × ℕ)) → slice_get (wires_at tree n) i ≡ Some wire → IsTaken tree limit n i wire mid new
-      → FrontTaken tree limit n i old mid → IsNew tree n old → AreTakenBelow tree limit old n → (q : ℕ) (o : Option Site) → wire.source ≡ o
+      → FrontTaken tree limit n i old mid → IsNew tree n old → AreTakenBelow tree limit old n → (q : ℕ) (o : Option PortPlace) → wire.source ≡ o
       → IsNumber limit (AmongFirst (FromOwn tree n q) (i + 1)) (taken new (port_at n q))
   one_more i wire old mid new is step front fresh known q o e = by o e
     where
@@ -141,7 +141,7 @@ module _ (tree : PackageTree ℕ) (limit n : ℕ) where
       own p f (inr (inl less)) = kept (never_own p f (λ same. omega arith))
       own p f (inr (inr more)) = kept (never_own p f (λ same. omega arith))
 
-      by : (o : Option Site) → wire.source ≡ o → IsNumber limit (AmongFirst (FromOwn tree n q) (i + 1)) (taken new (port_at n q))
+      by : (o : Option PortPlace) → wire.source ≡ o → IsNumber limit (AmongFirst (FromOwn tree n q) (i + 1)) (taken new (port_at n q))
       by None f = kept (λ g. let none : None ≡ Some (Own q) = sym f ∙ g in cc none)
       by (Some (Inner t p)) f = kept (λ g. let none : Some (Inner t p) ≡ Some (Own q) = sym f ∙ g in cc none)
       by (Some (Own p)) f = own p f (cases_order p q)

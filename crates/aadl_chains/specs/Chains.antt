@@ -1,15 +1,15 @@
 -- Ports and connections of the flattened design, and the chains that connections make.
 use Rattle.std.specs.Prelude.{◌≡◌, ◌⊎◌, ◌≢◌, ℕ, Bool, true, false, List, [], ◌∷◌, Option, Some, option_map, slice_get, Contains}
 use Rattle.aadl_tree.specs.Declarations.{Feature, Connection, Implementation, PackageTree}
-use Rattle.aadl_names.specs.declared.fault.FlatFault.{FlatFault}
-use Rattle.aadl_names.specs.declared.fault.FlatFault.TheVariants.{DeadEnd, TwoSources}
-use Rattle.aadl_names.specs.declared.site.Site.{Site}
-use Rattle.aadl_names.specs.declared.site.Site.TheVariants.{Own, Inner}
+use Rattle.aadl_names.specs.declared.fault.PackageFault.{PackageFault}
+use Rattle.aadl_names.specs.declared.fault.PackageFault.TheVariants.{DeadEnd, TwoSources}
+use Rattle.aadl_names.specs.declared.site.PortPlace.{PortPlace}
+use Rattle.aadl_names.specs.declared.site.PortPlace.TheVariants.{Own, Inner}
 use Rattle.aadl_names.specs.Resolving.{implementation_at, connections_of, ports_at, site}
 use Rattle.aadl_names.specs.PackageFaults.{goes_in}
 use Rattle.aadl_uses.specs.Uses.{standing, component_at, IsInUse}
 use Rattle.aadl_uses.specs.Threads.{IsThreadAt}
-use Rattle.aadl_uses.specs.Firsts.{IsSecond}
+use Rattle.aadl_uses.specs.FirstConnections.{IsSecond}
 use Rattle.aadl_uses.specs.Wiring.{wires_at}
 
 -- a port of the component at a path
@@ -23,7 +23,7 @@ pub record Place : Type 0 where
   pub connection : ℕ
 
 -- the port of a site, seen from the component at the path
-abbrev pub port_at : List ℕ → Site → Port
+abbrev pub port_at : List ℕ → PortPlace → Port
 port_at path (Own p) = record { path = path; port = p }
 port_at path (Inner s p) = record { path = s ∷ path; port = p }
 
@@ -32,8 +32,8 @@ pub record Goes (tree : PackageTree ℕ) (root : ℕ) (place : Place) (from to :
   pub number : ℕ
   pub component : Implementation ℕ
   pub link : Connection ℕ
-  pub source : Site
-  pub target : Site
+  pub source : PortPlace
+  pub target : PortPlace
   pub stands : standing tree root place.path ≡ Some number
   pub is_component : implementation_at tree number ≡ Some component
   pub is_link : slice_get component.connections place.connection ≡ Some link
@@ -84,7 +84,7 @@ pub record IsSecondEnd (tree : PackageTree ℕ) (root : ℕ) (x : Connection ℕ
   pub is_connection : slice_get (connections_of (implementation_at tree number)) connection ≡ Some x
   pub is_second : IsSecond (wires_at tree number) connection
 
-abbrev pub IsEndFault : PackageTree ℕ → ℕ → FlatFault → Type 0
+abbrev pub IsEndFault : PackageTree ℕ → ℕ → PackageFault → Type 0
 IsEndFault tree root fault =
     ((x : Connection ℕ) × IsDeadEnd tree root x × (fault ≡ DeadEnd x.name.spelling x.name.at))
     ⊎ ((x : Connection ℕ) × IsSecondEnd tree root x × (fault ≡ TwoSources x.name.spelling x.name.at))

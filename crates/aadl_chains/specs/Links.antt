@@ -1,8 +1,8 @@
 -- Links, feeds and taps: the chains between threads, from the root to threads, and from threads to the root.
 use Rattle.std.specs.Prelude.{◌≡◌, ◌⊎◌, ℕ, Bool, true, false, ◌&&◌, ◌||◌, nat_eq, nat_lt, List, [], ◌∷◌, reverse, Contains, Option, Some, None, slice_get}
 use Rattle.aadl_tree.specs.Declarations.{Connection, Implementation, PackageTree}
-use Rattle.aadl_names.specs.declared.site.Site.{Site}
-use Rattle.aadl_names.specs.declared.site.Site.TheVariants.{Own, Inner}
+use Rattle.aadl_names.specs.declared.site.PortPlace.{PortPlace}
+use Rattle.aadl_names.specs.declared.site.PortPlace.TheVariants.{Own, Inner}
 use Rattle.aadl_names.specs.Resolving.{implementation_at, site}
 use Rattle.aadl_uses.specs.Uses.{standing}
 use Rattle.aadl_uses.specs.Threads.{IsThreadAt, path_before}
@@ -15,7 +15,7 @@ pub record Ends : Type 0 where
   pub declaration : ℕ
   pub connection : ℕ
 
-abbrev pub not_own : Option Site → Bool
+abbrev pub not_own : Option PortPlace → Bool
 not_own None = false
 not_own (Some (Own p)) = false
 not_own (Some (Inner s p)) = true

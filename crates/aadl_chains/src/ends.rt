@@ -13,8 +13,8 @@ ghost use Rattle.aadl_chains.specs.proof.Sound.{AreDeclared};
 ghost use Rattle.aadl_chains.specs.proof.OnChains.{AreWays};
 ghost use Rattle.aadl_chains.specs.proof.Findings.{FindsAll, IsFoundIn, IsFoundAt, dead_end, second};
 
-use crate::ways::Ways;
-use aadl_names::{Finder, FlatFault};
+use crate::ways::JoinedPorts;
+use aadl_names::{Finder, PackageFault};
 use aadl_tree::Connection;
 use aadl_uses::{Wire, Wires};
 use indexmap::IndexSet;
@@ -28,13 +28,13 @@ pub fn first_end_fault(
     order: &IndexSet<usize>,
     used: &IndexSet<usize>,
     root: usize,
-) -> Result<Option<FlatFault>, AllocError>
+) -> Result<Option<PackageFault>, AllocError>
     requires order { IsOrder (containment (placed wires.now.uses.names.tree.now)) order.now.keys }
     requires used { (n : ℕ) → Contains used.now.keys n ↔ IsInUse (placed wires.now.uses.names.tree.now) root n }
     requires declared { AreDeclared (placed wires.now.uses.names.tree.now) }
     ensures { IfOk result (FirstIn (IsEndFault (placed wires.now.uses.names.tree.now) root)) }
 {
-    let ways = Ways::of(alloc, wires, order, used, root)?;
+    let ways = JoinedPorts::of(alloc, wires, order, used, root)?;
     let mut finder = Finder::new(alloc);
     for at in 0..used.len() {
         if let Some(number) = used.get_index(at) {
@@ -49,7 +49,7 @@ pub fn first_end_fault(
 fn check_all(
     finder: &mut Finder,
     wires: &Wires<'_>,
-    ways: &Ways,
+    ways: &JoinedPorts,
     number: usize,
 ) -> Result<(), AllocError>
     requires { AreWays (placed wires.now.uses.names.tree.now) ways.now }
@@ -65,7 +65,7 @@ fn check_all(
 fn check(
     finder: &mut Finder,
     wires: &Wires<'_>,
-    ways: &Ways,
+    ways: &JoinedPorts,
     number: usize,
     at: usize,
     wire: Wire,

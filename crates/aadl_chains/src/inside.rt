@@ -7,7 +7,7 @@ ghost use Rattle.aadl_chains.specs.proof.Inside as spec;
 ghost use Rattle.aadl_chains.specs.proof.Inside.{ReachesIn, IsInside, IsJoined, AreJoined};
 
 use crate::ports::{PortAt, Ports};
-use aadl_names::Site;
+use aadl_names::PortPlace;
 use aadl_tree::Direction;
 use aadl_uses::{Wire, Wires};
 use indexmap::IndexSet;
@@ -16,12 +16,12 @@ use std::alloc::{AllocError, Global};
 /// The ports of implementations that connections join to threads below: in ports from which they lead to some in
 /// port of a thread, or out ports to which they lead from some out port of a thread.
 #[derive(Drop)]
-pub struct Inside {
+pub struct InnerJoins {
     pub direction: Direction,
     pub ports: Ports,
 }
 
-impl Inside {
+impl InnerJoins {
     /// The ports of a package that are joined to threads below. The order has each declaration
     /// behind those that it contains.
     pub fn of(
@@ -29,12 +29,12 @@ impl Inside {
         wires: &Wires<'_>,
         order: &IndexSet<usize>,
         direction: Direction,
-    ) -> Result<Inside, AllocError>
+    ) -> Result<InnerJoins, AllocError>
         requires { IsOrder (containment (placed wires.now.uses.names.tree.now)) order.now.keys }
         ensures { IfOk result (λ inside. (inside.direction ≡ direction) × IsInside (placed wires.now.uses.names.tree.now) direction inside.ports) }
     {
         let ports = ports_of(alloc, wires, order, direction)?;
-        Ok(Inside { direction, ports })
+        Ok(InnerJoins { direction, ports })
     }
 
     /// Whether connections join a port of a subcomponent to a thread below.
@@ -134,7 +134,7 @@ fn joined(
         (spec.inner_end direction wire) }
 {
     match outer_end(direction, wire) {
-        Some(Site::Own(port)) => {
+        Some(PortPlace::Own(port)) => {
             joined_inner(
                 ports,
                 wires,
@@ -144,7 +144,7 @@ fn joined(
                 inner_end(direction, wire),
             )
         }
-        Some(Site::Inner(_, _)) => None,
+        Some(PortPlace::Inner(_, _)) => None,
         None => None,
     }
 }
@@ -155,12 +155,12 @@ fn joined_inner(
     direction: Direction,
     number: usize,
     port: usize,
-    inner: Option<Site>,
+    inner: Option<PortPlace>,
 ) -> Option<usize>
     ensures { result ≡ spec.joined_inner ports.now (placed wires.now.uses.names.tree.now) direction number port inner }
 {
     match inner {
-        Some(Site::Inner(sub, other)) => {
+        Some(PortPlace::Inner(sub, other)) => {
             if reaches_in(
                 ports,
                 wires,
@@ -173,7 +173,7 @@ fn joined_inner(
                 None
             }
         }
-        Some(Site::Own(_)) => None,
+        Some(PortPlace::Own(_)) => None,
         None => None,
     }
 }
@@ -222,7 +222,7 @@ fn is_way(direction: Direction, goes_in: bool) -> bool
 
 /// The end of a connection at the subcomponent that a port of this direction belongs to: of an in port the
 /// target, of an out port the source.
-pub fn inner_end(direction: Direction, wire: Wire) -> Option<Site>
+pub fn inner_end(direction: Direction, wire: Wire) -> Option<PortPlace>
     ensures { result ≡ spec.inner_end direction wire }
 {
     match direction {
@@ -232,7 +232,7 @@ pub fn inner_end(direction: Direction, wire: Wire) -> Option<Site>
 }
 
 /// The other end.
-pub fn outer_end(direction: Direction, wire: Wire) -> Option<Site>
+pub fn outer_end(direction: Direction, wire: Wire) -> Option<PortPlace>
     ensures { result ≡ spec.outer_end direction wire }
 {
     match direction {

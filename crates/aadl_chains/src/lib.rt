@@ -11,9 +11,9 @@ pub mod walks;
 pub mod ways;
 
 pub use ends::first_end_fault;
-pub use inside::Inside;
+pub use inside::InnerJoins;
 pub use links::has_too_many_links;
-pub use outside::{Outside, Side};
+pub use outside::{OuterJoins, PortSearch};
 pub use ports::{PortAt, Ports};
-pub use walks::{Begin, Route, trace_back, trace_tap};
-pub use ways::Ways;
+pub use walks::{ChainStart, ChainRoute, trace_back, trace_tap};
+pub use ways::JoinedPorts;

@@ -3,7 +3,7 @@ ghost use Rattle.std.specs.Prelude.{◌≡◌, ◌↔◌, ◌<◌, ℕ, false, S
 ghost use Rattle.pals_base.specs.declared.limits.TheConstants.{LINKS};
 ghost use Rattle.aadl_tree.specs.proof.PackageViews.{placed};
 ghost use Rattle.aadl_tree.specs.declared.declarations.Direction.TheVariants as directions;
-ghost use Rattle.aadl_names.specs.declared.fault.FlatFault.{FlatFault};
+ghost use Rattle.aadl_names.specs.declared.fault.PackageFault.{PackageFault};
 ghost use Rattle.aadl_uses.specs.proof.Uses.{containment};
 ghost use Rattle.aadl_uses.specs.Uses.{below};
 ghost use Rattle.aadl_uses.specs.Threads.{MoreThan};
@@ -17,9 +17,9 @@ ghost use Rattle.aadl_chains.specs.proof.Numbers.{IsNumber};
 ghost use Rattle.aadl_chains.specs.Links.{IsLink, OtherTarget};
 ghost use Rattle.aadl_chains.specs.proof.PortCounts.{EndsLink, Deeper, FromThread, AreTakenBelow};
 
-use crate::Inside;
+use crate::InnerJoins;
 use crate::port_counts::PortCounts;
-use aadl_names::Site;
+use aadl_names::PortPlace;
 use aadl_tree::Direction;
 use aadl_uses::count::add_up_to;
 use aadl_uses::{Wire, Wires};
@@ -37,7 +37,7 @@ pub fn has_too_many_links(
 ) -> Result<bool, AllocError>
     requires order { IsOrder (containment (placed wires.now.uses.names.tree.now)) order.now.keys }
     requires declared { AreDeclared (placed wires.now.uses.names.tree.now) }
-    requires ends { (fault : FlatFault) → ¬ IsEndFault (placed wires.now.uses.names.tree.now) root fault }
+    requires ends { (fault : PackageFault) → ¬ IsEndFault (placed wires.now.uses.names.tree.now) root fault }
     requires root { root < length (placed wires.now.uses.names.tree.now).declarations }
     requires no_thread { is_thread_at (placed wires.now.uses.names.tree.now) root ≡ false }
     ensures { IfOk result (λ more. IsTrue more ↔ MoreThan LINKS (IsLink (placed wires.now.uses.names.tree.now) root) OtherTarget) }
@@ -59,7 +59,7 @@ fn link_counts(
         → IsNumber limit (EndsLink (placed wires.now.uses.names.tree.now) n) (slice_index counts.items n)) }
 {
     let takes = PortCounts::of(alloc, wires, order, limit)?;
-    let gives = Inside::of(alloc, wires, order, Direction::Out)?;
+    let gives = InnerJoins::of(alloc, wires, order, Direction::Out)?;
     let mut counts = zeros(alloc, wires.uses.len())?;
     for at in 0..order.len() {
         if let Some(number) = order.get_index(at) {
@@ -94,7 +94,7 @@ fn put(counts: &mut Vec<usize>, number: usize, count: usize)
 fn links_below(
     wires: &Wires<'_>,
     takes: &PortCounts,
-    gives: &Inside,
+    gives: &InnerJoins,
     counts: &[usize],
     number: usize,
     limit: usize,
@@ -129,7 +129,7 @@ fn links_deeper(wires: &Wires<'_>, counts: &[usize], number: usize, limit: usize
 fn links_carried(
     wires: &Wires<'_>,
     takes: &PortCounts,
-    gives: &Inside,
+    gives: &InnerJoins,
     number: usize,
     limit: usize,
 ) -> usize
@@ -154,7 +154,7 @@ fn links_carried(
 fn carried(
     wires: &Wires<'_>,
     takes: &PortCounts,
-    gives: &Inside,
+    gives: &InnerJoins,
     number: usize,
     at: usize,
     wire: Wire,
@@ -169,14 +169,14 @@ fn carried(
 {
     match wire.source {
         Some(source) => match source {
-            Site::Inner(sub, port) => {
+            PortPlace::Inner(sub, port) => {
                 if gives.reaches(wires, number, sub, port) {
                     takes.through(wires, number, at, wire, limit)
                 } else {
                     0
                 }
             }
-            Site::Own(_) => 0,
+            PortPlace::Own(_) => 0,
         },
         None => 0,
     }

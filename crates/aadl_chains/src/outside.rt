@@ -8,9 +8,9 @@ ghost use Rattle.aadl_chains.specs.proof.Inside.{IsInside};
 ghost use Rattle.aadl_chains.specs.proof.Outside as spec;
 ghost use Rattle.aadl_chains.specs.proof.Outside.{opposite, LeadsFrom, IsOutside, IsLed, AreLed, AreLedIfUsed};
 
-use crate::inside::{Inside, inner_end, outer_end, reaches_in};
+use crate::inside::{InnerJoins, inner_end, outer_end, reaches_in};
 use crate::ports::{PortAt, Ports};
-use aadl_names::Site;
+use aadl_names::PortPlace;
 use aadl_tree::Direction;
 use aadl_uses::{Wire, Wires};
 use indexmap::IndexSet;
@@ -19,7 +19,7 @@ use std::alloc::{AllocError, Global};
 /// Which ports are looked for below which root: in ports to which connections lead from where messages come from,
 /// or out ports from which they lead to where messages go.
 #[derive(Clone, Copy)]
-pub struct Side {
+pub struct PortSearch {
     pub root: usize,
     pub direction: Direction,
 }
@@ -27,23 +27,23 @@ pub struct Side {
 /// The ports of implementations that connections join, at some place where these stand, to threads or the root's
 /// ports outside.
 #[derive(Drop)]
-pub struct Outside {
-    pub side: Side,
+pub struct OuterJoins {
+    pub side: PortSearch,
     pub ports: Ports,
 }
 
-impl Outside {
+impl OuterJoins {
     /// The ports of a package that are joined to threads or the root's ports outside. The order has
     /// each declaration behind those that it contains, those in use are below the root, and the
     /// ports inside are of the opposite direction.
     pub fn of(
         alloc: Global,
         wires: &Wires<'_>,
-        inside: &Inside,
+        inside: &InnerJoins,
         order: &IndexSet<usize>,
         used: &IndexSet<usize>,
-        side: Side,
-    ) -> Result<Outside, AllocError>
+        side: PortSearch,
+    ) -> Result<OuterJoins, AllocError>
         requires order { IsOrder (containment (placed wires.now.uses.names.tree.now)) order.now.keys }
         requires used { (n : ℕ) → Contains used.now.keys n ↔ IsInUse (placed wires.now.uses.names.tree.now) side.root n }
         requires opposite { inside.now.direction ≡ opposite side.direction }
@@ -51,11 +51,11 @@ impl Outside {
         ensures { IfOk result (λ outside. (outside.side ≡ side) × IsOutside (placed wires.now.uses.names.tree.now) side.root side.direction outside.ports) }
     {
         let ports = ports_of(alloc, wires, inside, order, used, side)?;
-        Ok(Outside { side, ports })
+        Ok(OuterJoins { side, ports })
     }
 
     /// Whether connections lead from an end of a connection of an implementation in use to a thread or the root.
-    pub fn leads(&self, wires: &Wires<'_>, inside: &Inside, declaration: usize, site: Site) -> bool
+    pub fn leads(&self, wires: &Wires<'_>, inside: &InnerJoins, declaration: usize, site: PortPlace) -> bool
         requires outside { IsOutside (placed wires.now.uses.names.tree.now) self.now.side.root self.now.side.direction self.now.ports }
         requires opposite { inside.now.direction ≡ opposite self.now.side.direction }
         requires inside { IsInside (placed wires.now.uses.names.tree.now) (opposite self.now.side.direction) inside.now.ports }
@@ -76,10 +76,10 @@ impl Outside {
 fn ports_of(
     alloc: Global,
     wires: &Wires<'_>,
-    inside: &Inside,
+    inside: &InnerJoins,
     order: &IndexSet<usize>,
     used: &IndexSet<usize>,
-    side: Side,
+    side: PortSearch,
 ) -> Result<Ports, AllocError>
     requires order { IsOrder (containment (placed wires.now.uses.names.tree.now)) order.now.keys }
     requires used { (n : ℕ) → Contains used.now.keys n ↔ IsInUse (placed wires.now.uses.names.tree.now) side.root n }
@@ -101,9 +101,9 @@ fn ports_of(
 fn lead_if_used(
     ports: &mut Ports,
     wires: &Wires<'_>,
-    inside: &Inside,
+    inside: &InnerJoins,
     used: &IndexSet<usize>,
-    side: Side,
+    side: PortSearch,
     number: usize,
 ) -> Result<(), AllocError>
     requires used { (n : ℕ) → Contains used.now.keys n ↔ IsInUse (placed wires.now.uses.names.tree.now) side.root n }
@@ -122,8 +122,8 @@ fn lead_if_used(
 fn lead_each(
     ports: &mut Ports,
     wires: &Wires<'_>,
-    inside: &Inside,
-    side: Side,
+    inside: &InnerJoins,
+    side: PortSearch,
     number: usize,
 ) -> Result<(), AllocError>
     requires used { IsInUse (placed wires.now.uses.names.tree.now) side.root number }
@@ -141,8 +141,8 @@ fn lead_each(
 fn lead(
     ports: &mut Ports,
     wires: &Wires<'_>,
-    inside: &Inside,
-    side: Side,
+    inside: &InnerJoins,
+    side: PortSearch,
     number: usize,
     wire: Wire,
 ) -> Result<(), AllocError>
@@ -160,8 +160,8 @@ fn lead(
 fn led(
     ports: &Ports,
     wires: &Wires<'_>,
-    inside: &Inside,
-    side: Side,
+    inside: &InnerJoins,
+    side: PortSearch,
     number: usize,
     wire: Wire,
 ) -> Option<PortAt>
@@ -186,23 +186,23 @@ fn led(
 fn leads_from(
     ports: &Ports,
     wires: &Wires<'_>,
-    inside: &Inside,
-    side: Side,
+    inside: &InnerJoins,
+    side: PortSearch,
     number: usize,
-    site: Option<Site>,
+    site: Option<PortPlace>,
 ) -> bool
     requires { inside.now.direction ≡ opposite side.direction }
     ensures { result ≡ spec.leads_from ports.now inside.now.ports (placed wires.now.uses.names.tree.now) side.root side.direction number site }
 {
     match site {
-        Some(Site::Own(port)) => {
+        Some(PortPlace::Own(port)) => {
             number == side.root
                 || ports.has(PortAt {
                     declaration: number,
                     port,
                 })
         }
-        Some(Site::Inner(sub, port)) => {
+        Some(PortPlace::Inner(sub, port)) => {
             let below = wires.uses.below(number, sub);
             reaches_in(&inside.ports, wires, inside.direction, below, port)
         }
@@ -211,12 +211,12 @@ fn leads_from(
 }
 
 // The port of a subcomponent that an end of a connection names.
-fn port_in(wires: &Wires<'_>, number: usize, site: Option<Site>) -> Option<PortAt>
+fn port_in(wires: &Wires<'_>, number: usize, site: Option<PortPlace>) -> Option<PortAt>
     ensures { result ≡ spec.port_in (placed wires.now.uses.names.tree.now) number site }
 {
     match site {
-        Some(Site::Inner(sub, port)) => port_below(wires.uses.below(number, sub), port),
-        Some(Site::Own(_)) => None,
+        Some(PortPlace::Inner(sub, port)) => port_below(wires.uses.below(number, sub), port),
+        Some(PortPlace::Own(_)) => None,
         None => None,
     }
 }

@@ -11,7 +11,7 @@ ghost use Rattle.aadl_chains.specs.proof.Numbers.{IsNumber};
 ghost use Rattle.aadl_chains.specs.proof.PortCounts.{taken, taken_by, Through, AreTaken, AreTakenBelow, IsTaken, AreAdded};
 
 use crate::PortAt;
-use aadl_names::Site;
+use aadl_names::PortPlace;
 use aadl_uses::count::add_up_to;
 use aadl_uses::{Wire, Wires};
 use indexmap::{IndexMap, IndexSet};
@@ -81,14 +81,14 @@ impl PortCounts {
     {
         match wire.target {
             Some(target) => match target {
-                Site::Inner(sub, port) => {
+                PortPlace::Inner(sub, port) => {
                     if wires.is_second(number, at) {
                         0
                     } else {
                         self.below(wires, wires.uses.below(number, sub), port, limit)
                     }
                 }
-                Site::Own(_) => 0,
+                PortPlace::Own(_) => 0,
             },
             None => 0,
         }
@@ -156,7 +156,7 @@ impl PortCounts {
     {
         match wire.source {
             Some(source) => match source {
-                Site::Own(port) => {
+                PortPlace::Own(port) => {
                     let more = self.through(wires, number, at, wire, limit);
                     let port = PortAt {
                         declaration: number,
@@ -164,7 +164,7 @@ impl PortCounts {
                     };
                     self.increase(port, more, limit)
                 }
-                Site::Inner(_, _) => Ok(()),
+                PortPlace::Inner(_, _) => Ok(()),
             },
             None => Ok(()),
         }

@@ -1,7 +1,7 @@
 //! Chains, walked back from where they end.
 ghost use Rattle.std.specs.Prelude.{◌≡◌, ◌++◌, ◌∷◌, ◌<◌, ℕ, false, take, reverse, length, None, Some, [], slice_index, IfOk};
 ghost use Rattle.aadl_tree.specs.proof.PackageViews.{placed};
-ghost use Rattle.aadl_names.specs.declared.site.Site.TheVariants.{Own};
+ghost use Rattle.aadl_names.specs.declared.site.PortPlace.TheVariants.{Own};
 ghost use Rattle.aadl_uses.specs.Uses as uses;
 ghost use Rattle.aadl_uses.specs.proof.Uses as inner;
 ghost use Rattle.aadl_uses.specs.proof.Orders.{IsOrder};
@@ -13,14 +13,14 @@ ghost use Rattle.aadl_chains.specs.proof.Routes.{Descends, Traces, TracesTap};
 ghost use Rattle.aadl_chains.specs.proof.Climbing as spec;
 ghost use Rattle.aadl_chains.specs.proof.Climbing.{IsFromInner, IsLower, LeadsDown};
 
-use aadl_names::Site;
+use aadl_names::PortPlace;
 use aadl_uses::{Wires, standing};
 use indexmap::IndexSet;
 use std::alloc::{AllocError, Global};
 
 /// Where a chain begins.
 #[derive(Drop)]
-pub enum Begin {
+pub enum ChainStart {
     /// A port of the root.
     Root(usize),
     /// A port of the thread at the end of a path of subcomponents, the outermost first.
@@ -30,8 +30,8 @@ pub enum Begin {
 /// A chain by its beginning and the connection that carries it: the one between two subcomponents, or the one in the
 /// root's implementation.
 #[derive(Drop)]
-pub struct Route {
-    pub begin: Begin,
+pub struct ChainRoute {
+    pub begin: ChainStart,
     /// The declaration in which the connection stands.
     pub declaration: usize,
     /// Its number there.
@@ -40,16 +40,16 @@ pub struct Route {
 
 /// A connection into a port, and where it comes from.
 #[derive(Clone, Copy)]
-pub struct Entry {
+pub struct ConnectionInto {
     pub declaration: usize,
     pub connection: usize,
-    pub source: Site,
+    pub source: PortPlace,
 }
 
 /// A connection between two subcomponents of the component at the end of the first `depth` steps of
 /// a path, and the port from which it comes.
 #[derive(Clone, Copy)]
-pub struct Crossed {
+pub struct CrossConnection {
     pub depth: usize,
     pub declaration: usize,
     pub connection: usize,
@@ -59,18 +59,18 @@ pub struct Crossed {
 
 /// Where the walk up from a port ends.
 #[derive(Clone, Copy)]
-pub enum Climbed {
+pub enum ClimbResult {
     /// At a port into which no connection goes.
     Nowhere,
     /// At a port of the root, by the last connection, if there was one.
     Root(Option<usize>, usize),
     /// At a connection between two subcomponents.
-    Crossing(Crossed),
+    Crossing(CrossConnection),
 }
 
 /// A port of a subcomponent, with the implementation that it names.
 #[derive(Clone, Copy)]
-pub struct Lower {
+pub struct PortBelow {
     pub sub: usize,
     pub number: usize,
     pub port: usize,
@@ -85,7 +85,7 @@ pub fn trace_back(
     root: usize,
     path: &[usize],
     port: usize,
-) -> Result<Option<Route>, AllocError>
+) -> Result<Option<ChainRoute>, AllocError>
     requires order { IsOrder (inner.containment (placed wires.now.uses.names.tree.now)) order.now.keys }
     requires declared { AreDeclared (placed wires.now.uses.names.tree.now) }
     requires one { OneEach (placed wires.now.uses.names.tree.now) root }
@@ -94,9 +94,9 @@ pub fn trace_back(
     ensures { IfOk result (Traces (placed wires.now.uses.names.tree.now) root (record { path = reverse path.now; port = port })) }
 {
     match climb(wires, root, path, port) {
-        Climbed::Nowhere => Ok(None),
-        Climbed::Root(last, from) => Ok(route_from_root(root, last, from)),
-        Climbed::Crossing(crossed) => { trace_over(alloc, wires, order, root, path, port, crossed) }
+        ClimbResult::Nowhere => Ok(None),
+        ClimbResult::Root(last, from) => Ok(route_from_root(root, last, from)),
+        ClimbResult::Crossing(crossed) => { trace_over(alloc, wires, order, root, path, port, crossed) }
     }
 }
 
@@ -107,7 +107,7 @@ pub fn trace_tap(
     order: &IndexSet<usize>,
     root: usize,
     port: usize,
-) -> Result<Option<Route>, AllocError>
+) -> Result<Option<ChainRoute>, AllocError>
     requires order { IsOrder (inner.containment (placed wires.now.uses.names.tree.now)) order.now.keys }
     requires declared { AreDeclared (placed wires.now.uses.names.tree.now) }
     requires one { OneEach (placed wires.now.uses.names.tree.now) root }
@@ -115,7 +115,7 @@ pub fn trace_tap(
     requires out { is_in_at (placed wires.now.uses.names.tree.now) root port ≡ false }
     ensures { IfOk result (TracesTap (placed wires.now.uses.names.tree.now) root (record { path = []; port = port })) }
 {
-    match wires.into(root, Site::Own(port)) {
+    match wires.into(root, PortPlace::Own(port)) {
         Some(from) => {
             let lower = lower_of(wires, root, from.1);
             let path = way_to(alloc, &[], 0, lower.sub)?;
@@ -127,12 +127,12 @@ pub fn trace_tap(
 }
 
 // The chain from a port of the root by a connection, if there is one.
-fn route_from_root(root: usize, last: Option<usize>, port: usize) -> Option<Route>
+fn route_from_root(root: usize, last: Option<usize>, port: usize) -> Option<ChainRoute>
     ensures { result ≡ spec.route_from_root root last port }
 {
     match last {
-        Some(connection) => Some(Route {
-            begin: Begin::Root(port),
+        Some(connection) => Some(ChainRoute {
+            begin: ChainStart::Root(port),
             declaration: root,
             connection,
         }),
@@ -141,11 +141,11 @@ fn route_from_root(root: usize, last: Option<usize>, port: usize) -> Option<Rout
 }
 
 // The chain from a beginning, if there is one, by a connection.
-fn route_from(begin: Option<Begin>, declaration: usize, connection: usize) -> Option<Route>
+fn route_from(begin: Option<ChainStart>, declaration: usize, connection: usize) -> Option<ChainRoute>
     ensures { result ≡ spec.route_from begin declaration connection }
 {
     match begin {
-        Some(begin) => Some(Route {
+        Some(begin) => Some(ChainRoute {
             begin,
             declaration,
             connection,
@@ -155,7 +155,7 @@ fn route_from(begin: Option<Begin>, declaration: usize, connection: usize) -> Op
 }
 
 // Walks up from a port of the component at a path.
-fn climb(wires: &Wires<'_>, root: usize, path: &[usize], port: usize) -> Climbed
+fn climb(wires: &Wires<'_>, root: usize, path: &[usize], port: usize) -> ClimbResult
     ensures { spec.climbed path.now result ≡ walks.climb (placed wires.now.uses.names.tree.now) root None (reverse path.now) port }
 {
     let mut depth = path.len();
@@ -164,13 +164,13 @@ fn climb(wires: &Wires<'_>, root: usize, path: &[usize], port: usize) -> Climbed
     'up: while depth > 0 {
         match entry_at(wires, root, path, depth - 1, here) {
             Some(entry) => match entry.source {
-                Site::Own(own) => {
+                PortPlace::Own(own) => {
                     depth -= 1;
                     here = own;
                     last = Some(entry.connection);
                 }
-                Site::Inner(sub, port) => {
-                    return Climbed::Crossing(Crossed {
+                PortPlace::Inner(sub, port) => {
+                    return ClimbResult::Crossing(CrossConnection {
                         depth: depth - 1,
                         declaration: entry.declaration,
                         connection: entry.connection,
@@ -179,10 +179,10 @@ fn climb(wires: &Wires<'_>, root: usize, path: &[usize], port: usize) -> Climbed
                     });
                 }
             },
-            None => return Climbed::Nowhere,
+            None => return ClimbResult::Nowhere,
         }
     }
-    Climbed::Root(last, here)
+    ClimbResult::Root(last, here)
 }
 
 // The connection into a port of the component behind the first `depth` steps of a path and one
@@ -193,7 +193,7 @@ fn entry_at(
     path: &[usize],
     depth: usize,
     port: usize,
-) -> Option<Entry>
+) -> Option<ConnectionInto>
     requires { depth < length path.now }
     ensures { result ≡ spec.entry (placed wires.now.uses.names.tree.now)
         (uses.standing (placed wires.now.uses.names.tree.now) root (reverse (take depth path.now))) (slice_index path.now depth) port }
@@ -205,11 +205,11 @@ fn entry_at(
 }
 
 // The connection of a declaration into a port of a subcomponent.
-fn entry_into(wires: &Wires<'_>, declaration: usize, sub: usize, port: usize) -> Option<Entry>
+fn entry_into(wires: &Wires<'_>, declaration: usize, sub: usize, port: usize) -> Option<ConnectionInto>
     ensures { result ≡ spec.entry (placed wires.now.uses.names.tree.now) (Some declaration) sub port }
 {
-    match wires.into(declaration, Site::Inner(sub, port)) {
-        Some(from) => Some(Entry {
+    match wires.into(declaration, PortPlace::Inner(sub, port)) {
+        Some(from) => Some(ConnectionInto {
             declaration,
             connection: from.0,
             source: from.1,
@@ -226,8 +226,8 @@ fn trace_over(
     root: usize,
     path: &[usize],
     port: usize,
-    crossed: Crossed,
-) -> Result<Option<Route>, AllocError>
+    crossed: CrossConnection,
+) -> Result<Option<ChainRoute>, AllocError>
     requires order { IsOrder (inner.containment (placed wires.now.uses.names.tree.now)) order.now.keys }
     requires declared { AreDeclared (placed wires.now.uses.names.tree.now) }
     requires one { OneEach (placed wires.now.uses.names.tree.now) root }
@@ -239,7 +239,7 @@ fn trace_over(
     let lower = lower_of(
         wires,
         crossed.declaration,
-        Site::Inner(crossed.sub, crossed.port),
+        PortPlace::Inner(crossed.sub, crossed.port),
     );
     let way = way_to(alloc, path, crossed.depth, crossed.sub)?;
     let begin = descend(wires, order, way, lower.number, lower.port)?;
@@ -262,7 +262,7 @@ fn descend(
     path: Vec<usize>,
     number: usize,
     port: usize,
-) -> Result<Option<Begin>, AllocError>
+) -> Result<Option<ChainStart>, AllocError>
     requires order { IsOrder (inner.containment (placed wires.now.uses.names.tree.now)) order.now.keys }
     requires declared { AreDeclared (placed wires.now.uses.names.tree.now) }
     requires out { is_in_at (placed wires.now.uses.names.tree.now) number port ≡ false }
@@ -283,31 +283,31 @@ fn descend(
             None => return Ok(None),
         }
     }
-    Ok(Some(Begin::Thread(way, out)))
+    Ok(Some(ChainStart::Thread(way, out)))
 }
 
 // The port of a subcomponent that gives to an own out port, if there is one.
-fn step_down(wires: &Wires<'_>, here: usize, out: usize) -> Option<Lower>
+fn step_down(wires: &Wires<'_>, here: usize, out: usize) -> Option<PortBelow>
     requires declared { AreDeclared (placed wires.now.uses.names.tree.now) }
     requires out { is_in_at (placed wires.now.uses.names.tree.now) here out ≡ false }
     ensures { LeadsDown (placed wires.now.uses.names.tree.now) here out result }
 {
-    match wires.into(here, Site::Own(out)) {
+    match wires.into(here, PortPlace::Own(out)) {
         Some(from) => Some(lower_of(wires, here, from.1)),
         None => None,
     }
 }
 
 // An out port of a subcomponent, with what the subcomponent names.
-fn lower_of(wires: &Wires<'_>, here: usize, source: Site) -> Lower
+fn lower_of(wires: &Wires<'_>, here: usize, source: PortPlace) -> PortBelow
     requires { IsFromInner (placed wires.now.uses.names.tree.now) here source }
     ensures { IsLower (placed wires.now.uses.names.tree.now) here source result }
 {
     match source {
-        Site::Inner(sub, port) => match wires.uses.below(here, sub) {
-            Some(number) => Lower { sub, number, port },
+        PortPlace::Inner(sub, port) => match wires.uses.below(here, sub) {
+            Some(number) => PortBelow { sub, number, port },
             None => unreachable!(),
         },
-        Site::Own(_) => unreachable!(),
+        PortPlace::Own(_) => unreachable!(),
     }
 }

@@ -6,30 +6,30 @@ ghost use Rattle.aadl_uses.specs.Uses.{IsInUse};
 ghost use Rattle.aadl_uses.specs.proof.Orders.{IsOrder};
 ghost use Rattle.aadl_chains.specs.proof.OnChains.{IsOnWay, AreWays};
 
-use crate::{Inside, Outside, Side};
-use aadl_names::Site;
+use crate::{InnerJoins, OuterJoins, PortSearch};
+use aadl_names::PortPlace;
 use aadl_tree::Direction;
 use aadl_uses::{Wire, Wires};
 use indexmap::IndexSet;
 use std::alloc::{AllocError, Global};
 
 /// The ports that connections join to threads below, and to threads or the root outside.
-pub struct Ways {
+pub struct JoinedPorts {
     /// The number of the root.
     pub root: usize,
     /// Out ports to which threads below give.
-    pub gives: Inside,
+    pub gives: InnerJoins,
     /// In ports from which threads below take.
-    pub takes: Inside,
+    pub takes: InnerJoins,
     /// In ports to which something outside gives.
-    pub fed: Outside,
+    pub fed: OuterJoins,
     /// Out ports from which something outside takes.
-    pub led: Outside,
+    pub led: OuterJoins,
 }
 
-impl Drop for Ways {
+impl Drop for JoinedPorts {
     fn drop(self) {
-        let Ways {
+        let JoinedPorts {
             root: _,
             gives: _,
             takes: _,
@@ -39,7 +39,7 @@ impl Drop for Ways {
     }
 }
 
-impl Ways {
+impl JoinedPorts {
     /// The ports of a package below a root. The order has each declaration behind those that it contains, and those
     /// in use are below the root.
     pub fn of(
@@ -48,24 +48,24 @@ impl Ways {
         order: &IndexSet<usize>,
         used: &IndexSet<usize>,
         root: usize,
-    ) -> Result<Ways, AllocError>
+    ) -> Result<JoinedPorts, AllocError>
         requires order { IsOrder (containment (placed wires.now.uses.names.tree.now)) order.now.keys }
         requires used { (n : ℕ) → Contains used.now.keys n ↔ IsInUse (placed wires.now.uses.names.tree.now) root n }
         ensures { IfOk result (λ ways. (ways.root ≡ root) × AreWays (placed wires.now.uses.names.tree.now) ways) }
     {
-        let gives = Inside::of(alloc, wires, order, Direction::Out)?;
-        let takes = Inside::of(alloc, wires, order, Direction::In)?;
-        let inward = Side {
+        let gives = InnerJoins::of(alloc, wires, order, Direction::Out)?;
+        let takes = InnerJoins::of(alloc, wires, order, Direction::In)?;
+        let inward = PortSearch {
             root,
             direction: Direction::In,
         };
-        let fed = Outside::of(alloc, wires, &gives, order, used, inward)?;
-        let outward = Side {
+        let fed = OuterJoins::of(alloc, wires, &gives, order, used, inward)?;
+        let outward = PortSearch {
             root,
             direction: Direction::Out,
         };
-        let led = Outside::of(alloc, wires, &takes, order, used, outward)?;
-        Ok(Ways {
+        let led = OuterJoins::of(alloc, wires, &takes, order, used, outward)?;
+        Ok(JoinedPorts {
             root,
             gives,
             takes,
@@ -87,7 +87,7 @@ impl Ways {
     }
 
     // Whether a connection from this port is on a chain.
-    fn goes_on(&self, wires: &Wires<'_>, number: usize, wire: Wire, source: Site) -> bool
+    fn goes_on(&self, wires: &Wires<'_>, number: usize, wire: Wire, source: PortPlace) -> bool
         requires ways { AreWays (placed wires.now.uses.names.tree.now) self.now }
         requires source { wire.source ≡ Some source }
         ensures { IsTrue result ↔ IsOnWay (placed wires.now.uses.names.tree.now) self.now.root number wire }

@@ -16,7 +16,7 @@ use Rattle.aadl_tree.specs.Canon.{kind_text, line_end, between, text_behind}
 use Rattle.aadl_grammar.specs.proof.Machine.{kind_number}
 use Rattle.aadl_grammar.proofs.SideBySide.{AreNeighbours}
 use Rattle.aadl_grammar.proofs.Literals.{body_first}
-use Rattle.aadl_grammar.proofs.Spoken.{is_inside, Spoken, a_word, a_number, a_real, a_string, an_annex, a_keyword, a_symbol, opens, closes, behind, Said}
+use Rattle.aadl_grammar.proofs.TextTerminals.{is_inside, Spoken, a_word, a_number, a_real, a_string, an_annex, a_keyword, a_symbol, opens, closes, behind, Said}
 use Rattle.aadl_grammar.proofs.Tokens.{Ends, Lexed, IsPlain, lexed}
 use Rattle.aadl_grammar.proofs.Meets.{ends_behind}
 use Rattle.aadl_grammar.proofs.Closes.{close_past, kind_past, close_at}

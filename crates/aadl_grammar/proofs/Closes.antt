@@ -18,7 +18,7 @@ use Rattle.aadl_grammar.proofs.FirstTokens.{other_bytes}
 use Rattle.aadl_lex.proofs.Closes.{none_parts}
 use Rattle.aadl_lex.specs.proof.Spelled.{IsReal, IsString}
 use Rattle.aadl_grammar.proofs.Literals.{number_digits}
-use Rattle.aadl_grammar.proofs.Spoken.{Spoken, a_word, a_number, a_real, a_string, a_keyword, a_symbol, closes}
+use Rattle.aadl_grammar.proofs.TextTerminals.{Spoken, a_word, a_number, a_real, a_string, a_keyword, a_symbol, closes}
 use Rattle.aadl_grammar.proofs.Tokens.{Ends, IsPlain, keyword_is_word}
 
 -- bytes that are no `*` are passed over

@@ -3,7 +3,7 @@ pub mod Settled
 pub mod Derivations
 pub mod Trees
 pub mod References
-pub mod Rows
+pub mod RowTrees
 pub mod Contents
 pub mod Languages
 pub mod Unique

@@ -7,9 +7,9 @@ pub mod Fates
 pub mod Places
 pub mod Deciding
 pub mod Placed
-pub mod Firsts
+pub mod FirstTerminals
 pub mod FirstTokens
-pub mod Rows
+pub mod SymbolRows
 pub mod Written
 pub mod Qualified
 pub mod Signs
@@ -27,13 +27,13 @@ pub mod Forms
 pub mod Neighbours
 pub mod Shallow
 pub mod Literals
-pub mod Spoken
+pub mod TextTerminals
 pub mod Tokens
 pub mod Meets
 pub mod Closes
 pub mod Pieces
 pub mod CanonLexing
 pub mod Keywords
-pub mod Sayings
+pub mod TokenTerminals
 pub mod Utf8
 pub mod Reading

@@ -16,7 +16,7 @@ use Rattle.aadl_tree.specs.Canon.{kind_text, holds_left, holds_right, ends_line,
 use Rattle.aadl_grammar.specs.proof.Machine.{kind_number}
 use Rattle.aadl_grammar.proofs.SideBySide.{may_stand_behind, AreNeighbours}
 use Rattle.aadl_grammar.proofs.FirstTokens.{other_bytes}
-use Rattle.aadl_grammar.proofs.Spoken.{Spoken, a_word, Said}
+use Rattle.aadl_grammar.proofs.TextTerminals.{Spoken, a_word, Said}
 use Rattle.aadl_grammar.proofs.Tokens.{goes_on, Ends}
 
 -- a blank goes on with nothing

@@ -26,9 +26,9 @@ use Rattle.aadl_grammar.proofs.Fates.Starts.{packages}
 use Rattle.aadl_grammar.specs.proof.Reads.{HasTree}
 use Rattle.aadl_grammar.proofs.Neighbours.{neighbours}
 use Rattle.aadl_grammar.proofs.Shallow.{kept_shallow}
-use Rattle.aadl_grammar.proofs.Spoken.{Said, kept_said}
+use Rattle.aadl_grammar.proofs.TextTerminals.{Said, kept_said}
 use Rattle.aadl_grammar.proofs.CanonLexing.{outer}
-use Rattle.aadl_grammar.proofs.Sayings.{text_said}
+use Rattle.aadl_grammar.proofs.TokenTerminals.{text_said}
 use Rattle.aadl_grammar.proofs.Utf8.{text_utf8}
 
 -- tokens in order stand one behind the other

@@ -18,7 +18,7 @@ use Rattle.aadl_tree.specs.Kinds.{Kind, word, whole, real, quoted, mark, word_ki
 use Rattle.aadl_tree.specs.Canon.{kind_text}
 use Rattle.aadl_grammar.proofs.FirstTokens.{stops, extends, word_first, symbol_first}
 use Rattle.aadl_grammar.proofs.Literals.{in_number, number_first, number_some, real_first, string_first, unread_first}
-use Rattle.aadl_grammar.proofs.Spoken.{is_inside, Spoken, a_word, a_number, a_real, a_string, an_annex, a_keyword, a_symbol, opens, closes, behind}
+use Rattle.aadl_grammar.proofs.TextTerminals.{is_inside, Spoken, a_word, a_number, a_real, a_string, an_annex, a_keyword, a_symbol, opens, closes, behind}
 
 -- bytes that would go on with a terminal
 abbrev pub goes_on : Kind → ℕ → Bool

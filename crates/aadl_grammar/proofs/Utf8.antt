@@ -17,7 +17,7 @@ use Rattle.aadl_tree.specs.Kinds.{Kind}
 use Rattle.aadl_tree.specs.Canon.{kind_text, line_end, between, text_behind}
 use Rattle.aadl_lex.specs.proof.Spelled.{IsReal}
 use Rattle.aadl_grammar.proofs.Literals.{number_digits}
-use Rattle.aadl_grammar.proofs.Spoken.{Spoken, a_word, a_number, a_real, a_string, an_annex, a_keyword, a_symbol, opens, closes, behind, Said}
+use Rattle.aadl_grammar.proofs.TextTerminals.{Spoken, a_word, a_number, a_real, a_string, an_annex, a_keyword, a_symbol, opens, closes, behind, Said}
 use Rattle.aadl_grammar.proofs.Closes.{all_weaker, all_append}
 use Rattle.aadl_grammar.proofs.Pieces.{is_gap, gap_blank}
 

@@ -6,49 +6,49 @@ use Rattle.aadl_uses.specs.Threads.{IsThreadAt, PathBefore}
 use Rattle.aadl_chains.specs.proof.Inside.{is_thread_at}
 use Rattle.aadl_chains.specs.Chains.{Port, is_in, IsEnd}
 use Rattle.aadl_chains.specs.Links.{Ends, IsLink, IsFeed, IsTap}
-use Rattle.aadl_chains.specs.declared.walks.Begin.{Begin}
-use Rattle.aadl_chains.specs.declared.walks.Begin.TheVariants as begins
-use Rattle.aadl_chains.specs.declared.walks.Route.{Route}
+use Rattle.aadl_chains.specs.declared.walks.ChainStart.{ChainStart}
+use Rattle.aadl_chains.specs.declared.walks.ChainStart.TheVariants as begins
+use Rattle.aadl_chains.specs.declared.walks.ChainRoute.{ChainRoute}
 use Rattle.aadl_chains.specs.proof.Routes.{begin_port, route_ends, IsOfKind, IsRoute, IsTapRoute, Traces, TracesTap}
 use Rattle.aadl_instance.specs.declared.parts.Chain.{Chain}
 use Rattle.aadl_instance.specs.declared.build.Incoming.{Incoming}
 use Rattle.aadl_instance.specs.Instances.{chain_in}
 use Rattle.aadl_instance.specs.proof.Passed.{HasPort, IsBegin, AreInto, AreTapsTo, with_chain}
 use Rattle.aadl_instance.proofs.Ports.{begins_there}
-use Rattle.aadl_instance.proofs.Passing.{into_skip, into_link, into_feed, in_by, taps_more, taps_skip, not_root}
+use Rattle.aadl_instance.proofs.PortByPort.{into_skip, into_link, into_feed, in_by, taps_more, taps_skip, not_root}
 
 module _ (tree : PackageTree ℕ) (root : ℕ) where
   -- ---- where routes begin
-  begins_of : (begin : Begin) (ends : Ends) → ends.from ≡ begin_port begin → IsOfKind tree root begin ends → IsBegin tree root begin
+  begins_of : (begin : ChainStart) (ends : Ends) → ends.from ≡ begin_port begin → IsOfKind tree root begin ends → IsBegin tree root begin
   begins_of (begins.Root port) ends e f = subst (HasPort tree root) e (begins_there tree root f.0 f.4.place ends.from ends.to f.4.among f.1.leads)
   begins_of (begins.Thread path port) ends e l = (
     subst (λ (p : Port). IsThreadAt tree root p.path) e l.2,
     subst (HasPort tree root) e (begins_there tree root l.0 l.4.place ends.from ends.to l.4.among l.1.leads),
   )
 
-  pub route_begins : (to : Port) (route : Route) → IsRoute tree root to route → IsBegin tree root route.begin
+  pub route_begins : (to : Port) (route : ChainRoute) → IsRoute tree root to route → IsBegin tree root route.begin
   route_begins to route r = begins_of route.begin (route_ends to route) refl r.kind
 
-  tap_begins_of : (begin : Begin) (ends : Ends) → ends.from ≡ begin_port begin → IsTap tree root ends → IsBegin tree root begin
+  tap_begins_of : (begin : ChainStart) (ends : Ends) → ends.from ≡ begin_port begin → IsTap tree root ends → IsBegin tree root begin
   tap_begins_of (begins.Root port) ends e t = subst (HasPort tree root) e (begins_there tree root t.0 t.4.place ends.from ends.to t.4.among t.1.leads)
   tap_begins_of (begins.Thread path port) ends e t = (
     subst (λ (p : Port). IsThreadAt tree root p.path) e t.2,
     subst (HasPort tree root) e (begins_there tree root t.0 t.4.place ends.from ends.to t.4.among t.1.leads),
   )
 
-  pub tap_begins : (to : Port) (route : Route) → IsTapRoute tree root to route → IsBegin tree root route.begin
+  pub tap_begins : (to : Port) (route : ChainRoute) → IsTapRoute tree root to route → IsBegin tree root route.begin
   tap_begins to route r = tap_begins_of route.begin (route_ends to route) refl r.is_tap
 
   -- ---- links and feeds
   module _ (no_thread : is_thread_at tree root ≡ false) (paths : List (List ℕ)) (pairs : AllPairs PathBefore paths) (node port : ℕ) (path : List ℕ)
       (at : slice_get paths node ≡ Some path) where
-    added_by : (begin : Begin) (one : Ends) (incoming : Incoming) → one.to ≡ record { path = path; port = port } → IsOfKind tree root begin one
+    added_by : (begin : ChainStart) (one : Ends) (incoming : Incoming) → one.to ≡ record { path = path; port = port } → IsOfKind tree root begin one
         → ((x : Ends) → IsLink tree root x ⊎ IsFeed tree root x → x.to ≡ record { path = path; port = port } → x ≡ one)
         → AreInto tree root paths node port incoming → AreInto tree root paths node (port + 1) (with_chain incoming begin (chain_in tree root paths one))
     added_by (begins.Root p) one incoming there kind only i = into_feed tree root paths no_thread node port path at pairs one there only incoming kind i
     added_by (begins.Thread q p) one incoming there kind only i = into_link tree root paths no_thread node port path at pairs one there only incoming kind i
 
-    pub route_added : (route : Route) (chain : Chain) (old new : Incoming) → IsRoute tree root (record { path = path; port = port }) route
+    pub route_added : (route : ChainRoute) (chain : Chain) (old new : Incoming) → IsRoute tree root (record { path = path; port = port }) route
         → chain ≡ chain_in tree root paths (route_ends (record { path = path; port = port }) route) → new ≡ with_chain old route.begin chain
         → AreInto tree root paths node port old → AreInto tree root paths node (port + 1) new
     route_added route chain old new r is added i =
@@ -74,7 +74,7 @@ module _ (tree : PackageTree ℕ) (root : ℕ) where
 
   -- ---- taps
   module _ (paths : List (List ℕ)) (port : ℕ) where
-    pub tap_added : (route : Route) (chain : Chain) (old new : List Chain) → IsTapRoute tree root (record { path = []; port = port }) route
+    pub tap_added : (route : ChainRoute) (chain : Chain) (old new : List Chain) → IsTapRoute tree root (record { path = []; port = port }) route
         → chain ≡ chain_in tree root paths (route_ends (record { path = []; port = port }) route) → new ≡ old ++ chain ∷ []
         → AreTapsTo tree root paths port old → AreTapsTo tree root paths (port + 1) new
     tap_added route chain old new r is added t =

@@ -14,7 +14,7 @@ use Rattle.aadl_tree.specs.proof.Views.{feature_view}
 use Rattle.aadl_names.specs.Resolving.{type_in, type_numbered, features_of}
 use Rattle.aadl_instance.specs.Instances.{same_direction, goes_as, number_among}
 use Rattle.aadl_instance.specs.proof.Numbers.{AreAmong, AreNumbers, seen, with_port}
-use Rattle.aadl_instance.specs.declared.numbers.Seen.{Seen}
+use Rattle.aadl_instance.specs.declared.numbers.SeenPorts.{SeenPorts}
 use Rattle.aadl_instance.proofs.Shown.{number_is}
 
 -- ---- lists
@@ -32,10 +32,10 @@ more_at P xs x d n size before here k lt = by (cases_lt k n)
 abbrev pub tally : Direction → List source.Feature → ℕ
 tally d ports = count_by (λ port. same_direction d port.direction) ports
 
-abbrev pub AreSeen : List source.Feature → ℕ → Seen → Type 0
+abbrev pub AreSeen : List source.Feature → ℕ → SeenPorts → Type 0
 AreSeen ports i s = (d : Direction) → seen s d ≡ tally d (take i ports)
 
-one_seen : (s : Seen) (a d : Direction) → seen (with_port s a) d ≡ seen s d + cond (same_direction d a) 1 0
+one_seen : (s : SeenPorts) (a d : Direction) → seen (with_port s a) d ≡ seen s d + cond (same_direction d a) 1 0
 one_seen s directions.In directions.In = refl
 one_seen s directions.In directions.Out = omega arith
 one_seen s directions.Out directions.In = omega arith
@@ -52,20 +52,20 @@ tally_more ports i x d lt e = by (same_direction d x.direction) refl
         (ap (λ (port : source.Feature). same_direction d port.direction) (sym e) ∙ t) in
         omega arith
 
-pub seen_more : (ports : List source.Feature) (i : ℕ) (x : source.Feature) (s new : Seen) → i < length ports → x ≡ get_or ports i x → new ≡ with_port s x.direction
+pub seen_more : (ports : List source.Feature) (i : ℕ) (x : source.Feature) (s new : SeenPorts) → i < length ports → x ≡ get_or ports i x → new ≡ with_port s x.direction
     → AreSeen ports i s → AreSeen ports (i + 1) new
 seen_more ports i x s new lt e is before d =
     ap (λ t. seen t d) is
     ∙ (one_seen s x.direction d ∙ (ap (λ n. n + cond (same_direction d x.direction) 1 0) (before d) ∙ sym (tally_more ports i x d lt e)))
 
-pub few_seen : (ports : List source.Feature) (i : ℕ) (s : Seen) (d : Direction) → i ≤ length ports → AreSeen ports i s → seen s d ≤ i
+pub few_seen : (ports : List source.Feature) (i : ℕ) (s : SeenPorts) (d : Direction) → i ≤ length ports → AreSeen ports i s → seen s d ≤ i
 few_seen ports i s d within before =
     let same = before d in
     let counted = count_by-le-length (λ port. same_direction d port.direction) (take i ports) in
     let taken = length-take-le i ports within in
     omega (arith, same, counted, taken)
 
-pub number_seen : (ports : List source.Feature) (i : ℕ) (x : source.Feature) (s : Seen) → i < length ports → x ≡ get_or ports i x → AreSeen ports i s
+pub number_seen : (ports : List source.Feature) (i : ℕ) (x : source.Feature) (s : SeenPorts) → i < length ports → x ≡ get_or ports i x → AreSeen ports i s
     → seen s x.direction ≡ number_among (map (feature_view kept_place) ports) i
 number_seen ports i x s lt e before = before x.direction ∙ number_is ports i x (slice_get_read ports (length ports) i x refl lt e)
 

@@ -6,7 +6,7 @@ pub mod Roots
 pub mod First
 pub mod Lists
 pub mod Ports
-pub mod Passing
+pub mod PortByPort
 pub mod Shown
 pub mod Before
 pub mod Adding

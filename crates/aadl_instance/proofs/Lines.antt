@@ -5,8 +5,8 @@ use Rattle.std.proofs.lemmas.Bool.{cases_order}
 use Rattle.std.proofs.lemmas.Option.{same_Some, none-some}
 use Rattle.list_lemmas.proofs.Elements.{Contains-nil}
 use Rattle.aadl_tree.specs.Declarations.{PackageTree}
-use Rattle.aadl_names.specs.declared.fault.FlatFault.{FlatFault}
-use Rattle.aadl_names.specs.declared.fault.FlatFault.TheVariants.{NoRoot, TooMany}
+use Rattle.aadl_names.specs.declared.fault.PackageFault.{PackageFault}
+use Rattle.aadl_names.specs.declared.fault.PackageFault.TheVariants.{NoRoot, TooMany}
 use Rattle.aadl_names.specs.Findings.{precedes, IsFirst, IsFirstByLine}
 use Rattle.aadl_names.specs.Resolving.{root_number}
 use Rattle.aadl_names.specs.PackageFaults.{package_faults}
@@ -48,7 +48,7 @@ same_limit : (a b : Limit) → line_of a ≡ line_of b → a ≡ b
 same_limit a b e = sym (of_line a) ∙ (ap (λ n. limit_of (n - 5)) e ∙ of_line b)
 
 -- a first fault of the same findings
-first_by : (P Q : FlatFault → Type 0) (fault : FlatFault) → ((f : FlatFault) → P f → Q f) → ((f : FlatFault) → Q f → P f) → IsFirst P fault → IsFirst Q fault
+first_by : (P Q : PackageFault → Type 0) (fault : PackageFault) → ((f : PackageFault) → P f → Q f) → ((f : PackageFault) → Q f → P f) → IsFirst P fault → IsFirst Q fault
 first_by P Q fault to from x = record { found = to fault x.found; first = λ other q. x.first other (from other q) }
 
 module _ (tree : PackageTree ℕ) (root : ℕ) where
@@ -72,38 +72,38 @@ module _ (tree : PackageTree ℕ) (root : ℕ) where
   over_of States what e h = inr (inr (inr (inr (inl (refl, e, h)))))
   over_of Path what e h = inr (inr (inr (inr (inr (refl, e, h)))))
 
-  over_line : (line : ℕ) (fault : FlatFault) → ((what : List ℕ) × IsOver tree root line what × (fault ≡ TooMany what)) → 5 ≤ line
+  over_line : (line : ℕ) (fault : PackageFault) → ((what : List ℕ) × IsOver tree root line what × (fault ≡ TooMany what)) → 5 ≤ line
   over_line line fault h =
       let p = passed_of line h.0 h.1 in
       let least = limit_lines p.0 in
       let is = p.1 in
       omega (arith, least, is)
 
-  pub from_two : (line : ℕ) (fault : FlatFault) → FoundIn tree root line fault → 2 ≤ line
+  pub from_two : (line : ℕ) (fault : PackageFault) → FoundIn tree root line fault → 2 ≤ line
   from_two line fault (inl h) = let is = h.0 in omega (arith, is)
   from_two line fault (inr (inl h)) = let is = h.0 in omega (arith, is)
   from_two line fault (inr (inr (inl h))) = let is = h.0 in omega (arith, is)
   from_two line fault (inr (inr (inr h))) = let least = over_line line fault h in omega arith
 
-  in_two : (line : ℕ) (fault : FlatFault) → line ≡ 2 → FoundIn tree root line fault → Contains (package_faults tree root) fault
+  in_two : (line : ℕ) (fault : PackageFault) → line ≡ 2 → FoundIn tree root line fault → Contains (package_faults tree root) fault
   in_two line fault e (inl h) = h.1
   in_two line fault e (inr (inl h)) = let is = h.0 in absurd (omega (arith, is))
   in_two line fault e (inr (inr (inl h))) = let is = h.0 in absurd (omega (arith, is))
   in_two line fault e (inr (inr (inr h))) = let least = over_line line fault h in absurd (omega arith)
 
-  in_three : (line : ℕ) (fault : FlatFault) → line ≡ 3 → FoundIn tree root line fault → IsRecursive tree fault
+  in_three : (line : ℕ) (fault : PackageFault) → line ≡ 3 → FoundIn tree root line fault → IsRecursive tree fault
   in_three line fault e (inl h) = let is = h.0 in absurd (omega (arith, is))
   in_three line fault e (inr (inl h)) = h.1
   in_three line fault e (inr (inr (inl h))) = let is = h.0 in absurd (omega (arith, is))
   in_three line fault e (inr (inr (inr h))) = let least = over_line line fault h in absurd (omega arith)
 
-  in_four : (line : ℕ) (fault : FlatFault) → line ≡ 4 → FoundIn tree root line fault → IsEndFault tree root fault
+  in_four : (line : ℕ) (fault : PackageFault) → line ≡ 4 → FoundIn tree root line fault → IsEndFault tree root fault
   in_four line fault e (inl h) = let is = h.0 in absurd (omega (arith, is))
   in_four line fault e (inr (inl h)) = let is = h.0 in absurd (omega (arith, is))
   in_four line fault e (inr (inr (inl h))) = h.1
   in_four line fault e (inr (inr (inr h))) = let least = over_line line fault h in absurd (omega arith)
 
-  in_limits : (line : ℕ) (fault : FlatFault) → 5 ≤ line → FoundIn tree root line fault → (what : List ℕ) × IsOver tree root line what × (fault ≡ TooMany what)
+  in_limits : (line : ℕ) (fault : PackageFault) → 5 ≤ line → FoundIn tree root line fault → (what : List ℕ) × IsOver tree root line what × (fault ≡ TooMany what)
   in_limits line fault e (inl h) = let is = h.0 in absurd (omega (arith, is))
   in_limits line fault e (inr (inl h)) = let is = h.0 in absurd (omega (arith, is))
   in_limits line fault e (inr (inr (inl h))) = let is = h.0 in absurd (omega (arith, is))
@@ -118,7 +118,7 @@ module _ (tree : PackageTree ℕ) (root : ℕ) where
   one_of_two line end lt (inr (inl h)) = inl h
   one_of_two line end lt (inr (inr h)) = absurd (omega arith)
 
-  silent_next : (end : ℕ) → IsSilentTo tree root end → ((line : ℕ) (fault : FlatFault) → line ≡ end → FoundIn tree root line fault → ⊥)
+  silent_next : (end : ℕ) → IsSilentTo tree root end → ((line : ℕ) (fault : PackageFault) → line ≡ end → FoundIn tree root line fault → ⊥)
       → IsSilentTo tree root (end + 1)
   silent_next end before here line fault lt h = by (one_of_two line end lt (cases_order line end))
     where
@@ -129,10 +129,10 @@ module _ (tree : PackageTree ℕ) (root : ℕ) where
   pub silent_three : package_faults tree root ≡ [] → IsSilentTo tree root 3
   silent_three none = silent_next 2 silent_two (λ line fault e h. Contains-nil fault (subst (λ xs. Contains xs fault) none (in_two line fault e h)))
 
-  pub silent_four : package_faults tree root ≡ [] → ((fault : FlatFault) → IsRecursive tree fault → ⊥) → IsSilentTo tree root 4
+  pub silent_four : package_faults tree root ≡ [] → ((fault : PackageFault) → IsRecursive tree fault → ⊥) → IsSilentTo tree root 4
   silent_four none never = silent_next 3 (silent_three none) (λ line fault e h. never fault (in_three line fault e h))
 
-  pub silent_five : package_faults tree root ≡ [] → ((fault : FlatFault) → IsRecursive tree fault → ⊥) → ((fault : FlatFault) → IsEndFault tree root fault → ⊥)
+  pub silent_five : package_faults tree root ≡ [] → ((fault : PackageFault) → IsRecursive tree fault → ⊥) → ((fault : PackageFault) → IsEndFault tree root fault → ⊥)
       → IsSilentTo tree root 5
   silent_five none never ends = silent_next 4 (silent_four none never) (λ line fault e h. ends fault (in_four line fault e h))
 
@@ -145,7 +145,7 @@ module _ (tree : PackageTree ℕ) (root : ℕ) where
       by (inr (inr gt)) = inr (omega arith)
 
   -- no limit is passed
-  pub all_silent : IsSilentTo tree root 5 → ((limit : Limit) → IsPassed tree root limit → ⊥) → (line : ℕ) (fault : FlatFault) → FoundIn tree root line fault → ⊥
+  pub all_silent : IsSilentTo tree root 5 → ((limit : Limit) → IsPassed tree root limit → ⊥) → (line : ℕ) (fault : PackageFault) → FoundIn tree root line fault → ⊥
   all_silent before none line fault h = by (split line)
     where
       by : (line < 5) ⊎ (5 ≤ line) → ⊥
@@ -153,23 +153,23 @@ module _ (tree : PackageTree ℕ) (root : ℕ) where
       by (inr le) = let o = in_limits line fault le h in let p = passed_of line o.0 o.1 in none p.0 p.3
 
   -- ---- faults
-  pub at_line : (line : ℕ) (fault : FlatFault) → IsSilentTo tree root line → IsFirst (FoundIn tree root line) fault → IsFirstByLine (FoundIn tree root) fault
+  pub at_line : (line : ℕ) (fault : PackageFault) → IsSilentTo tree root line → IsFirst (FoundIn tree root line) fault → IsFirstByLine (FoundIn tree root) fault
   at_line line fault before here = record { line = line; here = here; none_before = λ earlier other lt h. before earlier other lt h }
 
-  pub name_fault : (fault : FlatFault) → IsFirst (Contains (package_faults tree root)) fault → IsFirstByLine (FoundIn tree root) fault
+  pub name_fault : (fault : PackageFault) → IsFirst (Contains (package_faults tree root)) fault → IsFirstByLine (FoundIn tree root) fault
   name_fault fault x = at_line 2 fault silent_two
       (first_by (Contains (package_faults tree root)) (FoundIn tree root 2) fault (λ f h. inl (refl, h)) (λ f h. in_two 2 f refl h) x)
 
-  pub recursion_fault : (fault : FlatFault) → package_faults tree root ≡ [] → IsFirst (IsRecursive tree) fault → IsFirstByLine (FoundIn tree root) fault
+  pub recursion_fault : (fault : PackageFault) → package_faults tree root ≡ [] → IsFirst (IsRecursive tree) fault → IsFirstByLine (FoundIn tree root) fault
   recursion_fault fault none x = at_line 3 fault (silent_three none)
       (first_by (IsRecursive tree) (FoundIn tree root 3) fault (λ f h. inr (inl (refl, h))) (λ f h. in_three 3 f refl h) x)
 
-  pub end_fault : (fault : FlatFault) → package_faults tree root ≡ [] → ((f : FlatFault) → IsRecursive tree f → ⊥) → IsFirst (IsEndFault tree root) fault
+  pub end_fault : (fault : PackageFault) → package_faults tree root ≡ [] → ((f : PackageFault) → IsRecursive tree f → ⊥) → IsFirst (IsEndFault tree root) fault
       → IsFirstByLine (FoundIn tree root) fault
   end_fault fault none never x = at_line 4 fault (silent_four none never)
       (first_by (IsEndFault tree root) (FoundIn tree root 4) fault (λ f h. inr (inr (inl (refl, h)))) (λ f h. in_four 4 f refl h) x)
 
-  too_many_alike : (what : List ℕ) (fault : FlatFault) → ((other : List ℕ) × (fault ≡ TooMany other)) → precedes fault (TooMany what) ≡ false
+  too_many_alike : (what : List ℕ) (fault : PackageFault) → ((other : List ℕ) × (fault ≡ TooMany other)) → precedes fault (TooMany what) ≡ false
   too_many_alike what fault h = ap (λ f. precedes f (TooMany what)) h.1
 
   pub limit_fault : (limit : Limit) (what : List ℕ) → IsSilentTo tree root 5 → what ≡ name_of limit → IsPassed tree root limit
@@ -183,7 +183,7 @@ module _ (tree : PackageTree ℕ) (root : ℕ) where
     none_before = λ earlier other lt h. by earlier other lt h (split earlier);
   }
     where
-      by : (earlier : ℕ) (other : FlatFault) → earlier < line_of limit → FoundIn tree root earlier other → (earlier < 5) ⊎ (5 ≤ earlier) → ⊥
+      by : (earlier : ℕ) (other : PackageFault) → earlier < line_of limit → FoundIn tree root earlier other → (earlier < 5) ⊎ (5 ≤ earlier) → ⊥
       by earlier other lt h (inl less) = before earlier other less h
       by earlier other lt h (inr le) =
           let o = in_limits earlier other le h in
@@ -200,27 +200,27 @@ module _ (tree : PackageTree ℕ) (name : List ℕ) where
     none_before = λ earlier other lt h. before earlier other lt h;
   }
     where
-      first : (other : FlatFault) → Found tree name 1 other → precedes other NoRoot ≡ false
+      first : (other : PackageFault) → Found tree name 1 other → precedes other NoRoot ≡ false
       first other (inl h) = ap (λ f. precedes f NoRoot) h.2
       first other (inr h) = absurd (none-some h.0 (sym none ∙ h.1))
 
-      before : (earlier : ℕ) (other : FlatFault) → earlier < 1 → Found tree name earlier other → ⊥
+      before : (earlier : ℕ) (other : PackageFault) → earlier < 1 → Found tree name earlier other → ⊥
       before earlier other lt (inl h) = let is = h.0 in omega (arith, is)
       before earlier other lt (inr h) = none-some h.0 (sym none ∙ h.1)
 
   module _ (root : ℕ) (is : root_number tree name ≡ Some root) where
-    in_root : (line : ℕ) (fault : FlatFault) → Found tree name line fault → FoundIn tree root line fault
+    in_root : (line : ℕ) (fault : PackageFault) → Found tree name line fault → FoundIn tree root line fault
     in_root line fault (inl h) = absurd (none-some root (sym h.1 ∙ is))
     in_root line fault (inr h) = subst (λ r. FoundIn tree r line fault) (same_Some h.0 root (sym h.1 ∙ is)) h.2
 
-    pub root_fault : (fault : FlatFault) → IsFirstByLine (FoundIn tree root) fault → IsFault tree name fault
+    pub root_fault : (fault : PackageFault) → IsFirstByLine (FoundIn tree root) fault → IsFault tree name fault
     root_fault fault x = record {
       line = x.line;
       here = first_by (FoundIn tree root x.line) (Found tree name x.line) fault (λ f h. inr (root, is, h)) (λ f h. in_root x.line f h) x.here;
       none_before = λ earlier other lt h. x.none_before earlier other lt (in_root earlier other h);
     }
 
-    pub root_silent : ((line : ℕ) (fault : FlatFault) → FoundIn tree root line fault → ⊥) → (line : ℕ) (fault : FlatFault) → Found tree name line fault → ⊥
+    pub root_silent : ((line : ℕ) (fault : PackageFault) → FoundIn tree root line fault → ⊥) → (line : ℕ) (fault : PackageFault) → Found tree name line fault → ⊥
     root_silent none line fault h = none line fault (in_root line fault h)
 
 -- ---- limits in their order

@@ -9,8 +9,8 @@ use Rattle.list_lemmas.proofs.Elements.{Contains-nil}
 use Rattle.list_lemmas.proofs.Options.{option_map-parts}
 use Rattle.aadl_tree.specs.Names.{Identifier}
 use Rattle.aadl_tree.specs.Declarations.{Feature, Subcomponent, ConnectionEnd, Implementation, PackageTree}
-use Rattle.aadl_names.specs.declared.site.Site.{Site}
-use Rattle.aadl_names.specs.declared.site.Site.TheVariants.{Own, Inner}
+use Rattle.aadl_names.specs.declared.site.PortPlace.{PortPlace}
+use Rattle.aadl_names.specs.declared.site.PortPlace.TheVariants.{Own, Inner}
 use Rattle.aadl_names.specs.PackageFaults.{goes_in}
 use Rattle.aadl_names.specs.Resolving.{implementation_at, referred, target_of, ports_at, ports_of, port_named, sub_named}
 use Rattle.aadl_names.specs.Resolving.{inner_ports, inner_site, site_by, site}
@@ -65,7 +65,7 @@ module _ (tree : PackageTree ℕ) (root : ℕ) where
     inner_there : (s p : ℕ) → p < length (inner_ports tree x s) → HasPort tree root (port_at path (Inner s p))
     inner_there s p lt = subst (λ o. p < length (ports_at tree o)) (sym (inside s)) lt
 
-    there_by : (first : Identifier ℕ) (second : Option (Identifier ℕ)) (at : Site) → site_by tree x first second ≡ Some at
+    there_by : (first : Identifier ℕ) (second : Option (Identifier ℕ)) (at : PortPlace) → site_by tree x first second ≡ Some at
         → HasPort tree root (port_at path at)
     there_by first None at e =
         let m = option_map-parts Own (port_named (ports_of tree x) first.spelling) at e in
@@ -76,7 +76,7 @@ module _ (tree : PackageTree ℕ) (root : ℕ) where
         let m = option_map-parts (Inner s) (port_named (inner_ports tree x s) port.spelling) at g in
         subst (λ t. HasPort tree root (port_at path t)) m.2 (inner_there s m.0 (named_within (inner_ports tree x s) port.spelling m.0 m.1)))
 
-    pub there : (end : ConnectionEnd ℕ) (at : Site) → site tree x end ≡ Some at → HasPort tree root (port_at path at)
+    pub there : (end : ConnectionEnd ℕ) (at : PortPlace) → site tree x end ≡ Some at → HasPort tree root (port_at path at)
     unfolding site
     there end at e = there_by end.first end.second at e
 

@@ -6,7 +6,7 @@ use Rattle.std.proofs.lemmas.Bool.{cases_lt}
 use Rattle.std.proofs.lemmas.Option.{slice_get-get_or}
 use Rattle.pals_base.specs.declared.limits.TheConstants.{COMPONENTS}
 use Rattle.aadl_tree.specs.Declarations.{PackageTree}
-use Rattle.aadl_names.specs.declared.fault.FlatFault.TheVariants.{TooMany}
+use Rattle.aadl_names.specs.declared.fault.PackageFault.TheVariants.{TooMany}
 use Rattle.aadl_names.specs.Resolving.{root_number}
 use Rattle.aadl_uses.specs.Uses.{standing}
 use Rattle.aadl_uses.specs.Threads.{Lists, IsThreadAt, PathBefore}
@@ -22,7 +22,7 @@ use Rattle.aadl_instance.proofs.Roots.{root_no_thread}
 use Rattle.aadl_instance.specs.declared.parts.Chain.{Chain}
 use Rattle.aadl_instance.specs.Instances.{IsInstance}
 use Rattle.aadl_instance.specs.proof.Passed.{paths_of, IsSettled, AreShown}
-use Rattle.aadl_instance.proofs.Passing.{thread_listed}
+use Rattle.aadl_instance.proofs.PortByPort.{thread_listed}
 use Rattle.aadl_instance.proofs.Shown.{path_got, stands}
 
 -- ---- paths

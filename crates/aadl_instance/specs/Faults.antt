@@ -2,8 +2,8 @@
 use Rattle.std.specs.Prelude.{◌≡◌, ◌⊎◌, ℕ, ◌<◌, true, List, length, codes, Contains, Some, None}
 use Rattle.pals_base.specs.declared.limits.TheConstants.{COMPONENTS, LINKS, PORTS, VARIABLES, STATES, PATH_BYTES}
 use Rattle.aadl_tree.specs.Declarations.{Implementation, PackageTree}
-use Rattle.aadl_names.specs.declared.fault.FlatFault.{FlatFault}
-use Rattle.aadl_names.specs.declared.fault.FlatFault.TheVariants.{NoRoot, TooMany}
+use Rattle.aadl_names.specs.declared.fault.PackageFault.{PackageFault}
+use Rattle.aadl_names.specs.declared.fault.PackageFault.TheVariants.{NoRoot, TooMany}
 use Rattle.aadl_names.specs.Findings.{IsFirstByLine}
 use Rattle.aadl_names.specs.Resolving.{implementation_at, is_system, ports_of, root_number}
 use Rattle.aadl_names.specs.PackageFaults.{package_faults}
@@ -24,7 +24,7 @@ IsOver tree root line what =
     ⊎ ((line ≡ 9) × (what ≡ codes "states") × ThreadWith tree root (λ x path. STATES < state_count x))
     ⊎ ((line ≡ 10) × (what ≡ codes "path") × ThreadWith tree root (λ x path. PATH_BYTES < length (spelled_path tree root path)))
 
-abbrev pub FoundIn : PackageTree ℕ → ℕ → ℕ → FlatFault → Type 0
+abbrev pub FoundIn : PackageTree ℕ → ℕ → ℕ → PackageFault → Type 0
 FoundIn tree root line fault =
     ((line ≡ 2) × Contains (package_faults tree root) fault)
     ⊎ ((line ≡ 3) × IsRecursive tree fault)
@@ -32,17 +32,17 @@ FoundIn tree root line fault =
     ⊎ ((what : List ℕ) × IsOver tree root line what × (fault ≡ TooMany what))
 
 -- line 1, and the lines of a package that has the root
-abbrev pub Found : PackageTree ℕ → List ℕ → ℕ → FlatFault → Type 0
+abbrev pub Found : PackageTree ℕ → List ℕ → ℕ → PackageFault → Type 0
 Found tree name line fault =
     ((line ≡ 1) × (root_number tree name ≡ None) × (fault ≡ NoRoot))
     ⊎ ((root : ℕ) × (root_number tree name ≡ Some root) × FoundIn tree root line fault)
 
-abbrev pub IsFault : PackageTree ℕ → List ℕ → FlatFault → Type 0
+abbrev pub IsFault : PackageTree ℕ → List ℕ → PackageFault → Type 0
 IsFault tree name fault = IsFirstByLine (Found tree name) fault
 
 -- in the lines before one nothing is found
 abbrev pub IsSilentTo : PackageTree ℕ → ℕ → ℕ → Type 0
-IsSilentTo tree root end = (line : ℕ) (fault : FlatFault) → line < end → FoundIn tree root line fault → ⊥
+IsSilentTo tree root end = (line : ℕ) (fault : PackageFault) → line < end → FoundIn tree root line fault → ⊥
 
 -- it is the number of a system's implementation
 abbrev pub IsRoot : PackageTree ℕ → ℕ → Type 0

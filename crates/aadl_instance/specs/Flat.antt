@@ -1,7 +1,7 @@
 -- The flattened design of a package: what stands where below the root, and the chains between ports.
 use Rattle.std.specs.Prelude.{◌≡◌, ℕ, List, Some}
 use Rattle.aadl_tree.specs.Declarations.{PackageTree}
-use Rattle.aadl_names.specs.declared.fault.FlatFault.{FlatFault}
+use Rattle.aadl_names.specs.declared.fault.PackageFault.{PackageFault}
 use Rattle.aadl_names.specs.Resolving.{root_number}
 use Rattle.aadl_uses.specs.Threads.{Lists, IsThreadAt, PathBefore}
 use Rattle.aadl_chains.specs.Links.{Ends, IsLink, IsFeed, IsTap, TargetBefore, PortBefore}
@@ -18,7 +18,7 @@ pub record Parts : Type 0 where
 
 -- nothing is found, and these are the parts
 pub record IsFlat (tree : PackageTree ℕ) (name : List ℕ) (parts : Parts) : Type 0 where
-  pub sound : (line : ℕ) (fault : FlatFault) → Found tree name line fault → ⊥
+  pub sound : (line : ℕ) (fault : PackageFault) → Found tree name line fault → ⊥
   pub root : root_number tree name ≡ Some parts.root
   pub threads : Lists (IsThreadAt tree parts.root) PathBefore parts.threads
   pub links : Lists (IsLink tree parts.root) TargetBefore parts.links

@@ -6,9 +6,9 @@ ghost use Rattle.aadl_instance.specs.proof.Passed as shown;
 ghost use Rattle.aadl_instance.specs.proof.Networks.{tree_of, paths_in, IsReady, IsNumbered, IsNode, Shows, ShowsInto, ShowsTaps};
 ghost use Rattle.aadl_instance.specs.proof.Passed.{HasPort, IsBegin};
 
-use crate::ends::{Network, Node, begin_end, node_end, root_end};
+use crate::ends::{ChainMap, ThreadNode, begin_end, node_end, root_end};
 use crate::parts::{Chain, ChainEnd, ConnAt};
-use aadl_chains::{Begin, Route, trace_back, trace_tap};
+use aadl_chains::{ChainStart, ChainRoute, trace_back, trace_tap};
 use aadl_uses::standing;
 use pals_base::{Items, NodeNo};
 use std::alloc::{AllocError, Global};
@@ -23,7 +23,7 @@ pub struct Incoming {
 }
 
 /// All links and feeds, in order of their targets.
-pub fn incoming_of(alloc: Global, network: &Network<'_>) -> Result<Incoming, AllocError>
+pub fn incoming_of(alloc: Global, network: &ChainMap<'_>) -> Result<Incoming, AllocError>
     requires { IsReady network.now }
     ensures links { IfOk result (λ incoming. Shows network.now IsLink TargetBefore incoming.links) }
     ensures feeds { IfOk result (λ incoming. Shows network.now IsFeed TargetBefore incoming.feeds) }
@@ -48,7 +48,7 @@ pub fn incoming_of(alloc: Global, network: &Network<'_>) -> Result<Incoming, All
 fn add_thread(
     alloc: Global,
     incoming: &mut Incoming,
-    network: &Network<'_>,
+    network: &ChainMap<'_>,
     number: NodeNo,
     path: &[usize],
 ) -> Result<(), AllocError>
@@ -59,7 +59,7 @@ fn add_thread(
     let Some(declaration) = standing(&network.wires.uses, network.root, path) else {
         unreachable!();
     };
-    let node = Node {
+    let node = ThreadNode {
         number,
         path,
         declaration,
@@ -74,8 +74,8 @@ fn add_thread(
 fn add_port(
     alloc: Global,
     incoming: &mut Incoming,
-    network: &Network<'_>,
-    node: &Node<'_>,
+    network: &ChainMap<'_>,
+    node: &ThreadNode<'_>,
     port: usize,
 ) -> Result<(), AllocError>
     requires ready { IsReady network.now }
@@ -93,8 +93,8 @@ fn add_port(
 fn add_chain(
     alloc: Global,
     incoming: &mut Incoming,
-    network: &Network<'_>,
-    node: &Node<'_>,
+    network: &ChainMap<'_>,
+    node: &ThreadNode<'_>,
     port: usize,
 ) -> Result<(), AllocError>
     requires ready { IsReady network.now }
@@ -118,18 +118,18 @@ impl Incoming {
     ghost use Rattle.aadl_instance.specs.proof.Passed.{with_chain};
 
     // Adds a chain by where it begins.
-    fn push(&mut self, begin: &Begin, chain: Chain) -> Result<(), AllocError>
+    fn push(&mut self, begin: &ChainStart, chain: Chain) -> Result<(), AllocError>
         ensures { OnOk result (self.new ≡ with_chain self.old begin.now chain) }
     {
         match begin {
-            Begin::Root(_) => self.feeds.push(chain),
-            Begin::Thread(_, _) => self.links.push(chain),
+            ChainStart::Root(_) => self.feeds.push(chain),
+            ChainStart::Thread(_, _) => self.links.push(chain),
         }
     }
 }
 
 /// All taps, in order of the ports to which they go.
-pub fn taps_of(alloc: Global, network: &Network<'_>) -> Result<Items<Chain>, AllocError>
+pub fn taps_of(alloc: Global, network: &ChainMap<'_>) -> Result<Items<Chain>, AllocError>
     requires { IsReady network.now }
     ensures { IfOk result (λ taps. Shows network.now IsTap PortBefore taps) }
 {
@@ -144,7 +144,7 @@ pub fn taps_of(alloc: Global, network: &Network<'_>) -> Result<Items<Chain>, All
 fn add_tap(
     alloc: Global,
     taps: &mut Items<Chain>,
-    network: &Network<'_>,
+    network: &ChainMap<'_>,
     port: usize,
 ) -> Result<(), AllocError>
     requires ready { IsReady network.now }
@@ -168,8 +168,8 @@ fn add_tap(
 // A chain by how it was found and the end to which it leads.
 fn chain_by(
     alloc: Global,
-    network: &Network<'_>,
-    route: &Route,
+    network: &ChainMap<'_>,
+    route: &ChainRoute,
     to: ChainEnd,
 ) -> Result<Chain, AllocError>
     requires ready { IsReady network.now }

@@ -9,7 +9,7 @@ ghost use Rattle.aadl_instance.specs.proof.Passed.{paths_of, HasPort, IsBegin};
 
 use crate::numbers::PortNumbers;
 use crate::parts::ChainEnd;
-use aadl_chains::Begin;
+use aadl_chains::ChainStart;
 use aadl_uses::{Wires, standing};
 use indexmap::IndexSet;
 use pals_base::{NodeNo, Text};
@@ -18,7 +18,7 @@ use std::alloc::{AllocError, Global};
 /// Where the chains of an instance are: the connections of its package, an order of the declarations, the number of
 /// its root, the paths of its threads, in depth-first order of declaration, and the numbers of ports.
 #[derive(Clone, Copy)]
-pub struct Network<'t> {
+pub struct ChainMap<'t> {
     pub wires: &'t Wires<'t>,
     pub order: &'t IndexSet<usize>,
     pub root: usize,
@@ -28,7 +28,7 @@ pub struct Network<'t> {
 
 /// A thread of a network: its number, its path, and the number of its declaration.
 #[derive(Drop)]
-pub struct Node<'t> {
+pub struct ThreadNode<'t> {
     pub number: NodeNo,
     pub path: &'t [usize],
     pub declaration: usize,
@@ -37,21 +37,21 @@ pub struct Node<'t> {
 /// Where a chain begins.
 pub fn begin_end(
     alloc: Global,
-    network: &Network<'_>,
-    begin: &Begin,
+    network: &ChainMap<'_>,
+    begin: &ChainStart,
 ) -> Result<ChainEnd, AllocError>
     requires ready { IsReady network.now }
     requires begins { IsBegin (tree_of network.now) network.now.root begin.now }
     ensures { IfOk result (λ end. end ≡ end_in (tree_of network.now) network.now.root (paths_in network.now) (begin_port begin.now)) }
 {
     match begin {
-        Begin::Root(port) => root_end(alloc, network, *port),
-        Begin::Thread(path, port) => Ok(thread_end(network, path.as_slice(), *port)),
+        ChainStart::Root(port) => root_end(alloc, network, *port),
+        ChainStart::Thread(path, port) => Ok(thread_end(network, path.as_slice(), *port)),
     }
 }
 
 /// A port of the root, by its number. The root has a port of this number.
-pub fn root_end(alloc: Global, network: &Network<'_>, port: usize) -> Result<ChainEnd, AllocError>
+pub fn root_end(alloc: Global, network: &ChainMap<'_>, port: usize) -> Result<ChainEnd, AllocError>
     requires { HasPort (tree_of network.now) network.now.root (record { path = []; port = port }) }
     ensures { IfOk result (λ end. end ≡ end_in (tree_of network.now) network.now.root (paths_in network.now)
         (record { path = []; port = port })) }
@@ -63,7 +63,7 @@ pub fn root_end(alloc: Global, network: &Network<'_>, port: usize) -> Result<Cha
 }
 
 // A port of the thread at a path.
-fn thread_end(network: &Network<'_>, path: &[usize], port: usize) -> ChainEnd
+fn thread_end(network: &ChainMap<'_>, path: &[usize], port: usize) -> ChainEnd
     requires ready { IsReady network.now }
     requires thread { IsThreadAt (tree_of network.now) network.now.root (reverse path.now) }
     requires port { HasPort (tree_of network.now) network.now.root (record { path = reverse path.now; port = port }) }
@@ -73,7 +73,7 @@ fn thread_end(network: &Network<'_>, path: &[usize], port: usize) -> ChainEnd
     let Some(declaration) = standing(&network.wires.uses, network.root, path) else {
         unreachable!();
     };
-    let node = Node {
+    let node = ThreadNode {
         number: node_of(network.threads, path),
         path,
         declaration,
@@ -82,7 +82,7 @@ fn thread_end(network: &Network<'_>, path: &[usize], port: usize) -> ChainEnd
 }
 
 /// A port of a thread, by its number among those that go as it does.
-pub fn node_end(network: &Network<'_>, node: &Node<'_>, port: usize) -> ChainEnd
+pub fn node_end(network: &ChainMap<'_>, node: &ThreadNode<'_>, port: usize) -> ChainEnd
     requires ready { IsReady network.now }
     requires node { IsNode network.now node.now }
     requires port { HasPort (tree_of network.now) network.now.root (record { path = reverse node.now.path.now; port = port }) }

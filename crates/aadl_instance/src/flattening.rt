@@ -1,18 +1,18 @@
 //! From a package to its instance.
 ghost use Rattle.std.specs.Prelude.{◌≡◌, ◌⊎◌, ℕ, List, Some, IfErr, IfOk};
 ghost use Rattle.aadl_tree.specs.proof.PackageViews.{placed};
-ghost use Rattle.aadl_names.specs.declared.fault.FlatFault.TheVariants.{Memory};
+ghost use Rattle.aadl_names.specs.declared.fault.PackageFault.TheVariants.{Memory};
 ghost use Rattle.aadl_names.specs.Resolving.{root_number};
 ghost use Rattle.aadl_instance.specs.Faults.{IsFault};
 ghost use Rattle.aadl_instance.specs.proof.Silence.{IsChecked};
 ghost use Rattle.aadl_instance.specs.Instances.{IsInstance};
 
 use crate::build::{incoming_of, taps_of};
-use crate::ends::Network;
+use crate::ends::ChainMap;
 use crate::instance::Instance;
 use crate::numbers::PortNumbers;
 use crate::{Checked, check_package};
-use aadl_names::FlatFault;
+use aadl_names::PackageFault;
 use aadl_tree::PackageTree;
 use aadl_uses::{thread_paths, threads_at};
 use pals_base::{NoMemory, Text};
@@ -23,7 +23,7 @@ pub fn flatten<'t>(
     alloc: Global,
     tree: &'t PackageTree,
     root: &Text,
-) -> Result<Instance<'t>, FlatFault>
+) -> Result<Instance<'t>, PackageFault>
     ensures fault { IfErr result (λ fault. (fault ≡ Memory) ⊎ IsFault (placed tree.now) root.now fault) }
     ensures tree { IfOk result (λ x. x.wires.uses.names.tree.now ≡ tree.now) }
     ensures instance { IfOk result (λ x. (i : IsInstance (placed tree.now) x.root x.threads x.links x.feeds x.taps) × (i.name ≡ root.now)) }
@@ -45,7 +45,7 @@ fn instance_of<'t>(alloc: Global, checked: Checked<'t>) -> Result<Instance<'t>, 
     let uses = &checked.wires.uses;
     let paths = thread_paths(alloc, uses, &checked.order, &checked.used, checked.root)?;
     let numbers = PortNumbers::of(alloc, &checked.wires)?;
-    let network = Network {
+    let network = ChainMap {
         wires: &checked.wires,
         order: &checked.order,
         root: checked.root,

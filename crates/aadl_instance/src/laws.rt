@@ -1,18 +1,18 @@
 //! Laws on the faults of a package.
 ghost use Rattle.std.specs.Prelude.{◌≡◌, ℕ, List};
 ghost use Rattle.aadl_tree.specs.Declarations.{PackageTree};
-ghost use Rattle.aadl_names.specs.declared.fault.FlatFault.{FlatFault};
+ghost use Rattle.aadl_names.specs.declared.fault.PackageFault.{PackageFault};
 ghost use Rattle.aadl_names.specs.Findings.{place_of, number_of};
 ghost use Rattle.aadl_instance.specs.Faults.{IsFault};
 ghost use Rattle.aadl_instance.specs.Flat.{IsFlat, Parts};
 
 /// A package has a flattened design or a first fault, and not both.
 pub fn not_both()
-    ensures { (tree : PackageTree ℕ) (name : List ℕ) (parts : Parts) (fault : FlatFault) → IsFlat tree name parts → IsFault tree name fault → ⊥ }
+    ensures { (tree : PackageTree ℕ) (name : List ℕ) (parts : Parts) (fault : PackageFault) → IsFlat tree name parts → IsFault tree name fault → ⊥ }
 {}
 
 /// Two first faults stand at one place and are of one kind.
 pub fn one_first_fault()
-    ensures { (tree : PackageTree ℕ) (name : List ℕ) (a b : FlatFault) → IsFault tree name a → IsFault tree name b
+    ensures { (tree : PackageTree ℕ) (name : List ℕ) (a b : PackageFault) → IsFault tree name a → IsFault tree name b
         → (place_of a ≡ place_of b) × (number_of a ≡ number_of b) }
 {}

@@ -16,7 +16,7 @@ mod paths;
 mod root;
 mod thread_parts;
 
-pub use aadl_names::FlatFault;
+pub use aadl_names::PackageFault;
 pub use aadl_uses::{SubAt, ThreadAt};
 pub use flattening::flatten;
 pub use instance::Instance;
@@ -24,4 +24,4 @@ pub use limits::Limit;
 pub use package::{Checked, check_package};
 pub use parts::{Chain, ChainEnd, ConnAt};
 pub use paths::has_too_long_path;
-pub use thread_parts::{Part, has_too_many};
+pub use thread_parts::{ThreadPart, has_too_many};

@@ -1,7 +1,7 @@
 //! The limits of a design, and the first one that it passes.
 ghost use Rattle.std.specs.Prelude.{◌≡◌, ◌↔◌, ◌<◌, ℕ, false, length, Contains, IfOk, IsTrue};
 ghost use Rattle.aadl_tree.specs.proof.PackageViews.{placed};
-ghost use Rattle.aadl_names.specs.declared.fault.FlatFault.{FlatFault};
+ghost use Rattle.aadl_names.specs.declared.fault.PackageFault.{PackageFault};
 ghost use Rattle.aadl_uses.specs.proof.Uses.{containment};
 ghost use Rattle.aadl_uses.specs.Uses.{IsInUse};
 ghost use Rattle.aadl_chains.specs.Chains.{IsEndFault};
@@ -11,7 +11,7 @@ ghost use Rattle.aadl_chains.specs.proof.Inside.{is_thread_at};
 ghost use Rattle.aadl_instance.specs.proof.Limits as spec;
 ghost use Rattle.aadl_instance.specs.proof.Limits.{IsPassed, IsFirstPassed};
 
-use crate::{Part, has_too_long_path, has_too_many};
+use crate::{ThreadPart, has_too_long_path, has_too_many};
 use aadl_chains::has_too_many_links;
 use aadl_uses::Wires;
 use indexmap::IndexSet;
@@ -66,7 +66,7 @@ pub fn first_limit(
     requires order { IsOrder (containment (placed wires.now.uses.names.tree.now)) order.now.keys }
     requires used { (n : ℕ) → Contains used.now.keys n ↔ IsInUse (placed wires.now.uses.names.tree.now) root n }
     requires declared { AreDeclared (placed wires.now.uses.names.tree.now) }
-    requires ends { (fault : FlatFault) → ¬ IsEndFault (placed wires.now.uses.names.tree.now) root fault }
+    requires ends { (fault : PackageFault) → ¬ IsEndFault (placed wires.now.uses.names.tree.now) root fault }
     requires root { root < length (placed wires.now.uses.names.tree.now).declarations }
     requires no_thread { is_thread_at (placed wires.now.uses.names.tree.now) root ≡ false }
     ensures { IfOk result (IsFirstPassed (placed wires.now.uses.names.tree.now) root) }
@@ -92,7 +92,7 @@ fn is_passed(
     requires order { IsOrder (containment (placed wires.now.uses.names.tree.now)) order.now.keys }
     requires used { (n : ℕ) → Contains used.now.keys n ↔ IsInUse (placed wires.now.uses.names.tree.now) root n }
     requires declared { AreDeclared (placed wires.now.uses.names.tree.now) }
-    requires ends { (fault : FlatFault) → ¬ IsEndFault (placed wires.now.uses.names.tree.now) root fault }
+    requires ends { (fault : PackageFault) → ¬ IsEndFault (placed wires.now.uses.names.tree.now) root fault }
     requires root { root < length (placed wires.now.uses.names.tree.now).declarations }
     requires no_thread { is_thread_at (placed wires.now.uses.names.tree.now) root ≡ false }
     ensures { IfOk result (λ passed. IsTrue passed ↔ IsPassed (placed wires.now.uses.names.tree.now) root limit) }
@@ -100,9 +100,9 @@ fn is_passed(
     match limit {
         Limit::Components => wires.uses.has_too_many_threads(alloc, order, root),
         Limit::Links => has_too_many_links(alloc, wires, order, root),
-        Limit::Ports => Ok(has_too_many(wires, used, Part::Ports)),
-        Limit::Variables => Ok(has_too_many(wires, used, Part::Variables)),
-        Limit::States => Ok(has_too_many(wires, used, Part::States)),
+        Limit::Ports => Ok(has_too_many(wires, used, ThreadPart::Ports)),
+        Limit::Variables => Ok(has_too_many(wires, used, ThreadPart::Variables)),
+        Limit::States => Ok(has_too_many(wires, used, ThreadPart::States)),
         Limit::Path => has_too_long_path(alloc, &wires.uses, order, root),
     }
 }

@@ -72,7 +72,7 @@ fn row_of(alloc: Global, ports: &[Feature]) -> Result<Vec<usize>, AllocError>
     ensures { IfOk result (λ row. AreAmong (map (feature_view kept_place) ports.now) row.items) }
 {
     let mut row = Vec::new(alloc);
-    let mut seen = Seen {
+    let mut seen = SeenPorts {
         inward: 0,
         outward: 0,
     };
@@ -84,12 +84,12 @@ fn row_of(alloc: Global, ports: &[Feature]) -> Result<Vec<usize>, AllocError>
 
 /// How many ports go in, and how many out.
 #[derive(Drop)]
-pub struct Seen {
+pub struct SeenPorts {
     pub inward: usize,
     pub outward: usize,
 }
 
-impl Seen {
+impl SeenPorts {
     ghost use Rattle.std.specs.Prelude.{◌≡◌, ◌<◌};
     ghost use Rattle.aadl_instance.specs.proof.Numbers.{seen, with_port};
 

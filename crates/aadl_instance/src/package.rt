@@ -1,8 +1,8 @@
 //! A package that has no fault below a root.
 ghost use Rattle.std.specs.Prelude.{◌≡◌, ◌⊎◌, [], Some, IfOk, MatchResult};
 ghost use Rattle.aadl_tree.specs.proof.PackageViews.{placed};
-ghost use Rattle.aadl_names.specs.declared.fault.FlatFault.{FlatFault};
-ghost use Rattle.aadl_names.specs.declared.fault.FlatFault.TheVariants.{Memory};
+ghost use Rattle.aadl_names.specs.declared.fault.PackageFault.{PackageFault};
+ghost use Rattle.aadl_names.specs.declared.fault.PackageFault.TheVariants.{Memory};
 ghost use Rattle.aadl_names.specs.Findings.{IsFirstByLine};
 ghost use Rattle.aadl_names.specs.PackageFaults.{package_faults};
 ghost use Rattle.aadl_names.specs.Resolving as resolving;
@@ -14,7 +14,7 @@ ghost use Rattle.aadl_instance.specs.proof.Silence.{IsOrdered, IsChecked, FindsF
 use crate::limits::first_limit;
 use crate::root::root_number;
 use aadl_chains::first_end_fault;
-use aadl_names::{FlatFault, Names};
+use aadl_names::{PackageFault, Names};
 use aadl_tree::PackageTree;
 use aadl_uses::{Uses, Wires, first_recursive};
 use indexmap::IndexSet;
@@ -67,7 +67,7 @@ pub fn check_package<'t>(
     alloc: Global,
     tree: &'t PackageTree,
     name: &Text,
-) -> Result<Checked<'t>, FlatFault>
+) -> Result<Checked<'t>, PackageFault>
     ensures { MatchResult result
         (λ checked. (resolving.root_number (placed tree.now) name.now ≡ Some checked.root) × (checked.wires.uses.names.tree.now ≡ tree.now)
         × IsChecked (placed tree.now) checked)
@@ -80,12 +80,12 @@ pub fn check_package<'t>(
             let wires = Wires::of(alloc, uses)?;
             check_names(alloc, wires, root)
         }
-        None => Err(FlatFault::NoRoot),
+        None => Err(PackageFault::NoRoot),
     }
 }
 
 // Looks for what is wrong with names, and then further.
-fn check_names<'t>(alloc: Global, wires: Wires<'t>, root: usize) -> Result<Checked<'t>, FlatFault>
+fn check_names<'t>(alloc: Global, wires: Wires<'t>, root: usize) -> Result<Checked<'t>, PackageFault>
     requires { IsRoot (placed wires.uses.names.tree.now) root }
     ensures { MatchResult result
         (λ checked. (checked.root ≡ root) × (checked.wires.uses.names.tree.now ≡ wires.entry.uses.names.tree.now)
@@ -103,7 +103,7 @@ fn check_recursion<'t>(
     alloc: Global,
     wires: Wires<'t>,
     root: usize,
-) -> Result<Checked<'t>, FlatFault>
+) -> Result<Checked<'t>, PackageFault>
     requires root { IsRoot (placed wires.uses.names.tree.now) root }
     requires names { package_faults (placed wires.uses.names.tree.now) root ≡ [] }
     ensures { MatchResult result
@@ -118,10 +118,10 @@ fn check_recursion<'t>(
 }
 
 // Looks for what is wrong with connections, and then further.
-fn check_wires<'t>(alloc: Global, wires: Wires<'t>, root: usize) -> Result<Checked<'t>, FlatFault>
+fn check_wires<'t>(alloc: Global, wires: Wires<'t>, root: usize) -> Result<Checked<'t>, PackageFault>
     requires root { IsRoot (placed wires.uses.names.tree.now) root }
     requires names { package_faults (placed wires.uses.names.tree.now) root ≡ [] }
-    requires recursion { (fault : FlatFault) → ¬ IsRecursive (placed wires.uses.names.tree.now) fault }
+    requires recursion { (fault : PackageFault) → ¬ IsRecursive (placed wires.uses.names.tree.now) fault }
     ensures { MatchResult result
         (λ checked. (checked.root ≡ root) × (checked.wires.uses.names.tree.now ≡ wires.entry.uses.names.tree.now)
         × IsChecked (placed wires.entry.uses.names.tree.now) checked)
@@ -142,7 +142,7 @@ fn check_wires<'t>(alloc: Global, wires: Wires<'t>, root: usize) -> Result<Check
 }
 
 // The first fault of connections or limits.
-fn connection_fault(alloc: Global, checked: &Checked<'_>) -> Result<Option<FlatFault>, AllocError>
+fn connection_fault(alloc: Global, checked: &Checked<'_>) -> Result<Option<PackageFault>, AllocError>
     requires { IsOrdered (placed checked.now.wires.uses.names.tree.now) checked.now }
     ensures { IfOk result (FindsFault (placed checked.now.wires.uses.names.tree.now) checked.now) }
 {
@@ -159,9 +159,9 @@ fn connection_fault(alloc: Global, checked: &Checked<'_>) -> Result<Option<FlatF
 }
 
 // The first fault of limits.
-fn limit_fault(alloc: Global, checked: &Checked<'_>) -> Result<Option<FlatFault>, AllocError>
+fn limit_fault(alloc: Global, checked: &Checked<'_>) -> Result<Option<PackageFault>, AllocError>
     requires ordered { IsOrdered (placed checked.now.wires.uses.names.tree.now) checked.now }
-    requires ends { (fault : FlatFault) → ¬ IsEndFault (placed checked.now.wires.uses.names.tree.now) checked.now.root fault }
+    requires ends { (fault : PackageFault) → ¬ IsEndFault (placed checked.now.wires.uses.names.tree.now) checked.now.root fault }
     ensures { IfOk result (FindsFault (placed checked.now.wires.uses.names.tree.now) checked.now) }
 {
     match first_limit(
@@ -173,7 +173,7 @@ fn limit_fault(alloc: Global, checked: &Checked<'_>) -> Result<Option<FlatFault>
     )? {
         Some(limit) => {
             let what = Text::from_str(alloc, limit.name())?;
-            Ok(Some(FlatFault::TooMany { what }))
+            Ok(Some(PackageFault::TooMany { what }))
         }
         None => Ok(None),
     }

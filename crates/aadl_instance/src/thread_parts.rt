@@ -13,7 +13,7 @@ use pals_base::limits::{PORTS, STATES, VARIABLES};
 
 /// What a thread may have only a limited number of.
 #[derive(Clone, Copy)]
-pub enum Part {
+pub enum ThreadPart {
     /// In ports and out ports together.
     Ports,
     /// Variables of its behaviour, without those of loops.
@@ -22,21 +22,21 @@ pub enum Part {
     States,
 }
 
-impl Part {
+impl ThreadPart {
     // How many a thread may have.
     fn most(self) -> usize
         ensures { result ≡ spec.most self }
     {
         match self {
-            Part::Ports => PORTS,
-            Part::Variables => VARIABLES,
-            Part::States => STATES,
+            ThreadPart::Ports => PORTS,
+            ThreadPart::Variables => VARIABLES,
+            ThreadPart::States => STATES,
         }
     }
 }
 
 /// Whether a thread that is in use has more of something than it may have.
-pub fn has_too_many(wires: &Wires<'_>, used: &IndexSet<usize>, part: Part) -> bool
+pub fn has_too_many(wires: &Wires<'_>, used: &IndexSet<usize>, part: ThreadPart) -> bool
     ensures used { IsTrue result ↔ HasTooMany (placed wires.now.uses.names.tree.now) used.now.keys part }
     // of all that is in use below a root
     ensures below { (root : ℕ) → ((n : ℕ) → Contains used.now.keys n ↔ IsInUse (placed wires.now.uses.names.tree.now) root n)
@@ -52,23 +52,23 @@ pub fn has_too_many(wires: &Wires<'_>, used: &IndexSet<usize>, part: Part) -> bo
 }
 
 // Whether an implementation has more of something than a thread may have.
-fn has_over(wires: &Wires<'_>, number: usize, part: Part) -> bool
+fn has_over(wires: &Wires<'_>, number: usize, part: ThreadPart) -> bool
     ensures { IsTrue result ↔ (spec.most part < spec.count_at (placed wires.now.uses.names.tree.now) number part) }
 {
     count_up_to(wires, number, part, part.most() + 1) > part.most()
 }
 
 // How much of something an implementation has, up to a limit.
-fn count_up_to(wires: &Wires<'_>, number: usize, part: Part, limit: usize) -> usize
+fn count_up_to(wires: &Wires<'_>, number: usize, part: ThreadPart, limit: usize) -> usize
     ensures { result ≡ min limit (spec.count_at (placed wires.now.uses.names.tree.now) number part) }
 {
     match part {
-        Part::Ports => limit.min(wires.uses.ports(number).len()),
-        Part::Variables => match wires.uses.implementation(number) {
+        ThreadPart::Ports => limit.min(wires.uses.ports(number).len()),
+        ThreadPart::Variables => match wires.uses.implementation(number) {
             Some(x) => variables_up_to(x, limit),
             None => 0,
         },
-        Part::States => match wires.uses.implementation(number) {
+        ThreadPart::States => match wires.uses.implementation(number) {
             Some(x) => states_up_to(x, limit),
             None => 0,
         },

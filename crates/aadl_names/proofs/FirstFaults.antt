@@ -3,7 +3,7 @@ use Rattle.std.proofs.Common.{◌≡◌, ℕ, Bool, true, false, List, [], ◌�
 use Rattle.std.specs.List.{filter_map, flat_map}
 use Rattle.aadl_tree.specs.Annexes.{AnnexTree}
 use Rattle.aadl_tree.specs.Declarations.{Implementation, Declaration, type, implementation, PackageTree}
-use Rattle.aadl_names.specs.declared.fault.FlatFault.{FlatFault}
+use Rattle.aadl_names.specs.declared.fault.PackageFault.{PackageFault}
 use Rattle.aadl_names.specs.Findings.{FirstOf}
 use Rattle.aadl_names.specs.proof.Found.{found}
 use Rattle.aadl_names.specs.Twice.{twice}
@@ -14,7 +14,7 @@ use Rattle.aadl_names.specs.Spaces.{twice_in_first, twice_in, twice_names}
 use Rattle.aadl_names.specs.PackageFaults.{wrong_names, package_faults}
 use Rattle.aadl_names.specs.proof.DeclaredTwice.{beside, beside_in_behaviour, beside_in_first, beside_in, beside_names}
 use Rattle.aadl_names.proofs.Covers.{Covers, covers_itself, covers_append, covers_all, first_of_more, found_is_first}
-use Rattle.aadl_names.proofs.Besides.{beside_covers}
+use Rattle.aadl_names.proofs.DeclaredTwiceBeside.{beside_covers}
 
 behaviour_covers : (tree : PackageTree ℕ) (x : Implementation ℕ) (annex : AnnexTree ℕ)
     → Covers (beside_in_behaviour tree x annex) (twice_in_behaviour tree x annex)
@@ -47,7 +47,7 @@ names_cover tree =
     (flat_map (twice_in tree) tree.declarations)
     (covers_itself (types ++ implementations)) (covers_all (beside_in tree) (twice_in tree) (in_covers tree) tree.declarations)
 
-pub first_fault : (tree : PackageTree ℕ) (root : ℕ) (first : Option FlatFault) → first ≡ found None (wrong_names tree root ++ beside_names tree)
+pub first_fault : (tree : PackageTree ℕ) (root : ℕ) (first : Option PackageFault) → first ≡ found None (wrong_names tree root ++ beside_names tree)
     → FirstOf (package_faults tree root) first
 first_fault tree root first is =
     subst (FirstOf (package_faults tree root)) (sym is)

@@ -1,13 +1,13 @@
 pub mod Finds
 pub mod Lookups
-pub mod Firsts
+pub mod FirstOfLists
 pub mod Words
 pub mod Stored
 pub mod Spots
 pub mod Adds
 pub mod Elements
 pub mod Covers
-pub mod Besides
+pub mod DeclaredTwiceBeside
 pub mod FirstFaults
 pub mod Rising
 pub mod Pieces

@@ -4,8 +4,8 @@ use Rattle.std.specs.Option.{option_or}
 use Rattle.aadl_tree.specs.Names.{Identifier, same_name}
 use Rattle.aadl_tree.specs.Expressions.{Primary, number, truth, named, group, Factor, absolute, negated, bare, Term, term, Factors, no_factors, factor, Sum, total, Terms, no_terms, add, Relation, single, compared, Expression, expression, Relations, no_relations, join}
 use Rattle.aadl_tree.specs.Actions.{Action, assign, send, choose, loop, Actions, actions, Mores, no_mores, more, Elsifs, no_elsifs, elsif, Otherwise, no_otherwise, otherwise, Block, no_block, block}
-use Rattle.aadl_names.specs.declared.fault.FlatFault.{FlatFault}
-use Rattle.aadl_names.specs.declared.fault.FlatFault.TheVariants.{Unknown, Twice, WrongKind}
+use Rattle.aadl_names.specs.declared.fault.PackageFault.{PackageFault}
+use Rattle.aadl_names.specs.declared.fault.PackageFault.TheVariants.{Unknown, Twice, WrongKind}
 use Rattle.aadl_names.specs.declared.role.Role.{Role}
 use Rattle.aadl_names.specs.declared.role.Role.TheVariants.{Receives, Gives, Varies, Turns}
 use Rattle.aadl_names.specs.declared.role.Usage.{Usage}
@@ -50,11 +50,11 @@ allows Send = may_send
 allows Read = may_read
 allows Fresh = may_be_fresh
 
-abbrev pub use_as : Usage → Identifier ℕ → Option Role → List FlatFault
+abbrev pub use_as : Usage → Identifier ℕ → Option Role → List PackageFault
 use_as usage x None = Unknown x.spelling x.at ∷ []
 use_as usage x (Some role) = if allows usage role then [] else WrongKind x.at ∷ []
 
-abbrev pub uses : Known → Usage → Identifier ℕ → List FlatFault
+abbrev pub uses : Known → Usage → Identifier ℕ → List PackageFault
 uses known usage x = use_as usage x (known x.spelling)
 
 abbrev pub reading : Bool → Usage
@@ -62,48 +62,48 @@ reading true = Fresh
 reading false = Read
 
 abbrev mutual
-  pub primary_uses : Known → Primary ℕ → List FlatFault
+  pub primary_uses : Known → Primary ℕ → List PackageFault
   primary_uses known (number at n) = []
   primary_uses known (truth at b) = []
   primary_uses known (named x fresh) = uses known (reading fresh) x
   primary_uses known (group at e) = expression_uses known e
 
-  pub factor_uses : Known → Factor ℕ → List FlatFault
+  pub factor_uses : Known → Factor ℕ → List PackageFault
   factor_uses known (absolute at x) = primary_uses known x
   factor_uses known (negated at x) = primary_uses known x
   factor_uses known (bare x) = primary_uses known x
 
-  pub term_uses : Known → Term ℕ → List FlatFault
+  pub term_uses : Known → Term ℕ → List PackageFault
   term_uses known (term first rest) = factor_uses known first ++ factors_uses known rest
 
-  pub factors_uses : Known → Factors ℕ → List FlatFault
+  pub factors_uses : Known → Factors ℕ → List PackageFault
   factors_uses known no_factors = []
   factors_uses known (factor operator x rest) = factor_uses known x ++ factors_uses known rest
 
-  pub sum_uses : Known → Sum ℕ → List FlatFault
+  pub sum_uses : Known → Sum ℕ → List PackageFault
   sum_uses known (total sign first rest) = term_uses known first ++ terms_uses known rest
 
-  pub terms_uses : Known → Terms ℕ → List FlatFault
+  pub terms_uses : Known → Terms ℕ → List PackageFault
   terms_uses known no_terms = []
   terms_uses known (add sign x rest) = term_uses known x ++ terms_uses known rest
 
-  pub relation_uses : Known → Relation ℕ → List FlatFault
+  pub relation_uses : Known → Relation ℕ → List PackageFault
   relation_uses known (single x) = sum_uses known x
   relation_uses known (compared x operator y) = sum_uses known x ++ sum_uses known y
 
-  pub expression_uses : Known → Expression ℕ → List FlatFault
+  pub expression_uses : Known → Expression ℕ → List PackageFault
   expression_uses known (expression first rest) = relation_uses known first ++ relations_uses known rest
 
-  pub relations_uses : Known → Relations ℕ → List FlatFault
+  pub relations_uses : Known → Relations ℕ → List PackageFault
   relations_uses known no_relations = []
   relations_uses known (join operator x rest) = relation_uses known x ++ relations_uses known rest
 
 -- a loop variable of a name that stands for something already
-abbrev pub again_as : Identifier ℕ → Option Role → List FlatFault
+abbrev pub again_as : Identifier ℕ → Option Role → List PackageFault
 again_as x None = []
 again_as x (Some role) = Twice x.spelling x.at ∷ []
 
-abbrev pub loop_again : Known → Identifier ℕ → List FlatFault
+abbrev pub loop_again : Known → Identifier ℕ → List PackageFault
 loop_again known x = again_as x (known x.spelling)
 
 abbrev pub turning : List ℕ → Known
@@ -114,27 +114,27 @@ abbrev pub with_loop : Known → Identifier ℕ → Known
 with_loop known x = either known (turning x.spelling)
 
 abbrev mutual
-  pub action_uses : Known → Action ℕ → List FlatFault
+  pub action_uses : Known → Action ℕ → List PackageFault
   action_uses known (assign x e) = uses known Set x ++ expression_uses known e
   action_uses known (send x e) = uses known Send x ++ expression_uses known e
   action_uses known (choose test a es o) = expression_uses known test ++ actions_uses known a ++ elsifs_uses known es ++ otherwise_uses known o
   action_uses known (loop at x type low high body) = loop_again known x ++ block_uses (with_loop known x) body
 
-  pub actions_uses : Known → Actions ℕ → List FlatFault
+  pub actions_uses : Known → Actions ℕ → List PackageFault
   actions_uses known (actions first rest) = action_uses known first ++ mores_uses known rest
 
-  pub mores_uses : Known → Mores ℕ → List FlatFault
+  pub mores_uses : Known → Mores ℕ → List PackageFault
   mores_uses known no_mores = []
   mores_uses known (more a rest) = action_uses known a ++ mores_uses known rest
 
-  pub elsifs_uses : Known → Elsifs ℕ → List FlatFault
+  pub elsifs_uses : Known → Elsifs ℕ → List PackageFault
   elsifs_uses known no_elsifs = []
   elsifs_uses known (elsif test a rest) = expression_uses known test ++ actions_uses known a ++ elsifs_uses known rest
 
-  pub otherwise_uses : Known → Otherwise ℕ → List FlatFault
+  pub otherwise_uses : Known → Otherwise ℕ → List PackageFault
   otherwise_uses known no_otherwise = []
   otherwise_uses known (otherwise a) = actions_uses known a
 
-  pub block_uses : Known → Block ℕ → List FlatFault
+  pub block_uses : Known → Block ℕ → List PackageFault
   block_uses known no_block = []
   block_uses known (block a) = actions_uses known a

@@ -1,9 +1,9 @@
 -- The first of several findings: the least place counts, and at one place the lower number.
 use Rattle.std.specs.Prelude.{◌≡◌, ℕ, Bool, false, ◌&&◌, ◌||◌, nat_eq, nat_lt, ◌<◌, List, [], ◌∷◌, Contains, Option, Some, None, if◌then◌else◌}
-use Rattle.aadl_names.specs.declared.fault.FlatFault.{FlatFault}
-use Rattle.aadl_names.specs.declared.fault.FlatFault.TheVariants.{NoRoot, Unknown, Twice, WrongKind, Recursive, DeadEnd, TwoSources, TooMany, Memory}
+use Rattle.aadl_names.specs.declared.fault.PackageFault.{PackageFault}
+use Rattle.aadl_names.specs.declared.fault.PackageFault.TheVariants.{NoRoot, Unknown, Twice, WrongKind, Recursive, DeadEnd, TwoSources, TooMany, Memory}
 
-abbrev pub number_of : FlatFault → ℕ
+abbrev pub number_of : PackageFault → ℕ
 number_of NoRoot = 1
 number_of (Unknown name at) = 2
 number_of (Twice name at) = 3
@@ -14,7 +14,7 @@ number_of (TwoSources name at) = 7
 number_of (TooMany what) = 8
 number_of Memory = 9
 
-abbrev pub place_of : FlatFault → ℕ
+abbrev pub place_of : PackageFault → ℕ
 place_of NoRoot = 0
 place_of (Unknown name at) = at
 place_of (Twice name at) = at
@@ -25,25 +25,25 @@ place_of (TwoSources name at) = at
 place_of (TooMany what) = 0
 place_of Memory = 0
 
-abbrev pub precedes : FlatFault → FlatFault → Bool
+abbrev pub precedes : PackageFault → PackageFault → Bool
 precedes a b = nat_lt (place_of a) (place_of b) || (nat_eq (place_of a) (place_of b) && nat_lt (number_of a) (number_of b))
 
 -- it is found, and nothing that is found precedes it
-pub record IsFirst (Found : FlatFault → Type 0) (fault : FlatFault) : Type 0 where
+pub record IsFirst (Found : PackageFault → Type 0) (fault : PackageFault) : Type 0 where
   pub found : Found fault
-  pub first : (other : FlatFault) → Found other → precedes other fault ≡ false
+  pub first : (other : PackageFault) → Found other → precedes other fault ≡ false
 
 -- the first of a list, or none where the list is empty
-abbrev pub FirstOf : List FlatFault → Option FlatFault → Type 0
+abbrev pub FirstOf : List PackageFault → Option PackageFault → Type 0
 FirstOf faults None = faults ≡ []
 FirstOf faults (Some fault) = IsFirst (Contains faults) fault
 
 -- the first fault by lines: of the first line in which something is found
-pub record IsFirstByLine (Found : ℕ → FlatFault → Type 0) (fault : FlatFault) : Type 0 where
+pub record IsFirstByLine (Found : ℕ → PackageFault → Type 0) (fault : PackageFault) : Type 0 where
   pub line : ℕ
   pub here : IsFirst (Found line) fault
-  pub none_before : (earlier : ℕ) (other : FlatFault) → earlier < line → Found earlier other → ⊥
+  pub none_before : (earlier : ℕ) (other : PackageFault) → earlier < line → Found earlier other → ⊥
 
 -- something of another kind is due at a place, where it is wrong
-abbrev pub wrong_if : Bool → ℕ → List FlatFault
+abbrev pub wrong_if : Bool → ℕ → List PackageFault
 wrong_if wrong at = if wrong then WrongKind at ∷ [] else []

@@ -7,16 +7,16 @@ use Rattle.aadl_lex.specs.Rules.{whole_len, decimal, most}
 use Rattle.aadl_tree.specs.declared.declarations.Category.{Category}
 use Rattle.aadl_tree.specs.Names.{Path, Reference, Identifier, same_name}
 use Rattle.aadl_tree.specs.Values.{Figure, whole_figure, real_figure, Quantity, Value, list, text, named, number, no_values, value, Association, association, Associations, no_associations, associate}
-use Rattle.aadl_names.specs.declared.fault.FlatFault.{FlatFault}
-use Rattle.aadl_names.specs.declared.holder.Property.{Property}
-use Rattle.aadl_names.specs.declared.holder.Property.TheVariants.{Period, Dispatch, Timing, Adaptor, Skew, Execution, Network, Initial}
-use Rattle.aadl_names.specs.declared.holder.Holder.{Holder}
-use Rattle.aadl_names.specs.declared.entry.Entry.{Entry}
+use Rattle.aadl_names.specs.declared.fault.PackageFault.{PackageFault}
+use Rattle.aadl_names.specs.declared.holder.PropertyName.{PropertyName}
+use Rattle.aadl_names.specs.declared.holder.PropertyName.TheVariants.{Period, Dispatch, Timing, Adaptor, Skew, Execution, Network, Initial}
+use Rattle.aadl_names.specs.declared.holder.PropertyHolder.{PropertyHolder}
+use Rattle.aadl_names.specs.declared.entry.SpelledName.{SpelledName}
 use Rattle.aadl_names.specs.Findings.{wrong_if}
 use Rattle.aadl_names.specs.Spelling.{spelled_name}
 use Rattle.aadl_names.specs.Resolving.{is_thread}
 use Rattle.aadl_names.specs.Twice.{twice}
-use Rattle.aadl_names.specs.declared.holder.Holder.TheVariants as holders
+use Rattle.aadl_names.specs.declared.holder.PropertyHolder.TheVariants as holders
 
 abbrev pub listed : Associations ℕ → List (Association ℕ)
 listed no_associations = []
@@ -122,7 +122,7 @@ is_initial bytes =
     bytes_eq bytes (codes "true") || bytes_eq bytes (codes "false") || is_number bytes || (starts_with nat_eq bytes (codes "-") && is_number (drop 1 bytes))
 
 -- ---- the properties that mean something
-abbrev pub name_of : Property → List ℕ
+abbrev pub name_of : PropertyName → List ℕ
 name_of Period = codes "Period"
 name_of Dispatch = codes "Dispatch_Protocol"
 name_of Timing = codes "Timing"
@@ -136,7 +136,7 @@ abbrev pub is_initial_text : Option (List ℕ) → Bool
 is_initial_text None = false
 is_initial_text (Some bytes) = is_initial bytes
 
-abbrev pub has_shape : Property → Value ℕ → Bool
+abbrev pub has_shape : PropertyName → Value ℕ → Bool
 has_shape Period v = is_some (time_of v)
 has_shape Dispatch v = is_some (reference_of v)
 has_shape Timing v = is_some (reference_of v)
@@ -147,10 +147,10 @@ has_shape Network v = is_some (range_of v)
 has_shape Initial v = is_initial_text (only_text v)
 
 -- ---- the properties that are recognised at a kind of place
-abbrev pub timed : Category → List Property
+abbrev pub timed : Category → List PropertyName
 timed category = if is_thread category then Period ∷ Dispatch ∷ [] else Period ∷ []
 
-abbrev pub recognised : Holder → List Property
+abbrev pub recognised : PropertyHolder → List PropertyName
 recognised holders.Port = []
 recognised holders.Variable = Initial ∷ []
 recognised holders.Connection = Timing ∷ Adaptor ∷ []
@@ -158,19 +158,19 @@ recognised (holders.Subcomponent category) = timed category
 recognised (holders.Declaration category false) = timed category
 recognised (holders.Declaration category true) = timed category ++ Skew ∷ Execution ∷ Network ∷ []
 
-abbrev pub misshapen : Holder → Association ℕ → Bool
+abbrev pub misshapen : PropertyHolder → Association ℕ → Bool
 misshapen holder x = list_any (λ p. is_named (name_of p) x && not (has_shape p (association_value x))) (recognised holder)
 
-abbrev pub association_entry : Association ℕ → Entry
+abbrev pub association_entry : Association ℕ → SpelledName
 association_entry x = record { name = association_name x; at = association_at x }
 
 -- one association
-abbrev pub shape_fault : Holder → Association ℕ → List FlatFault
+abbrev pub shape_fault : PropertyHolder → Association ℕ → List PackageFault
 shape_fault holder x = if counts x then wrong_if (misshapen holder x) (association_at x) else []
 
-abbrev pub property_entries : Associations ℕ → List Entry
+abbrev pub property_entries : Associations ℕ → List SpelledName
 property_entries xs = map association_entry (counted xs)
 
 -- a list of them, and one property twice in it
-abbrev pub list_faults : Holder → Associations ℕ → List FlatFault
+abbrev pub list_faults : PropertyHolder → Associations ℕ → List PackageFault
 list_faults holder xs = flat_map (shape_fault holder) (listed xs) ++ twice (property_entries xs)

@@ -7,8 +7,8 @@ use Rattle.aadl_tree.specs.declared.declarations.Category.{Category}
 use Rattle.aadl_tree.specs.declared.declarations.Direction.{Direction}
 use Rattle.aadl_tree.specs.Names.{Identifier, Reference, same_name}
 use Rattle.aadl_tree.specs.Declarations.{Feature, Subcomponent, ConnectionEnd, Connection, TypeDeclaration, Implementation, Declaration, type, implementation, PackageTree}
-use Rattle.aadl_names.specs.declared.site.Site.{Site}
-use Rattle.aadl_names.specs.declared.site.Site.TheVariants.{Own, Inner}
+use Rattle.aadl_names.specs.declared.site.PortPlace.{PortPlace}
+use Rattle.aadl_names.specs.declared.site.PortPlace.TheVariants.{Own, Inner}
 use Rattle.aadl_names.specs.Spelling.{spelled_implementation}
 use Rattle.aadl_tree.specs.declared.declarations.Category.TheVariants as categories
 
@@ -130,23 +130,23 @@ sub_named subs name = first_number (λ s. same_name name s.name.spelling) subs
 abbrev pub inner_ports : PackageTree ℕ → Implementation ℕ → ℕ → List (Feature ℕ)
 inner_ports tree x s = ports_at tree (option_and_then (target_of tree) (slice_get x.subcomponents s))
 
-abbrev pub inner_site : PackageTree ℕ → Implementation ℕ → List ℕ → ℕ → Option Site
+abbrev pub inner_site : PackageTree ℕ → Implementation ℕ → List ℕ → ℕ → Option PortPlace
 inner_site tree x port s = option_map (Inner s) (port_named (inner_ports tree x s) port)
 
-abbrev pub site_by : PackageTree ℕ → Implementation ℕ → Identifier ℕ → Option (Identifier ℕ) → Option Site
+abbrev pub site_by : PackageTree ℕ → Implementation ℕ → Identifier ℕ → Option (Identifier ℕ) → Option PortPlace
 site_by tree x first None = option_map Own (port_named (ports_of tree x) first.spelling)
 site_by tree x first (Some port) = option_and_then (inner_site tree x port.spelling) (sub_named x.subcomponents first.spelling)
 
 -- the port that an end names, if it is declared
-unfoldable pub site : PackageTree ℕ → Implementation ℕ → ConnectionEnd ℕ → Option Site
+unfoldable pub site : PackageTree ℕ → Implementation ℕ → ConnectionEnd ℕ → Option PortPlace
 site tree x end = site_by tree x end.first end.second
 
 abbrev pub direction_in : List (Feature ℕ) → ℕ → Option Direction
 direction_in ports n = option_map (λ p. p.direction) (slice_get ports n)
 
-abbrev pub direction_of : PackageTree ℕ → Implementation ℕ → Site → Option Direction
+abbrev pub direction_of : PackageTree ℕ → Implementation ℕ → PortPlace → Option Direction
 direction_of tree x (Own p) = direction_in (ports_of tree x) p
 direction_of tree x (Inner s p) = direction_in (inner_ports tree x s) p
 
-abbrev pub with_direction : PackageTree ℕ → Implementation ℕ → Site → Site × Option Direction
+abbrev pub with_direction : PackageTree ℕ → Implementation ℕ → PortPlace → PortPlace × Option Direction
 with_direction tree x s = (s, direction_of tree x s)

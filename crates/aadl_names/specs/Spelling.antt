@@ -3,13 +3,13 @@ use Rattle.std.specs.Prelude.{ℕ, List, ◌++◌, flat_map, Option, Some, None,
 use Rattle.std.specs.Str.{str_to_ascii_lowercase}
 use Rattle.aadl_tree.specs.Names.{Identifier, Name, Reference}
 use Rattle.aadl_tree.specs.Declarations.{ImplementationName, ConnectionEnd}
-use Rattle.aadl_names.specs.declared.entry.Entry.{Entry}
+use Rattle.aadl_names.specs.declared.entry.SpelledName.{SpelledName}
 
 -- a name with its capitals made small
 abbrev pub folded : List ℕ → List ℕ
 folded name = str_to_ascii_lowercase name
 
-abbrev pub entry_of : Identifier ℕ → Entry
+abbrev pub entry_of : Identifier ℕ → SpelledName
 entry_of x = record { name = x.spelling; at = x.at }
 
 -- ---- nothing stands between the tokens of a name

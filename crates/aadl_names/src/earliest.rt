@@ -4,18 +4,18 @@ ghost use Rattle.aadl_tree.specs.Names.{same_name};
 ghost use Rattle.aadl_names.specs.proof.Tables.{value_of};
 ghost use Rattle.aadl_names.specs.proof.Earliest as spec;
 
-use crate::entry::Entry;
-use crate::spot::Spot;
-use crate::table::Table;
+use crate::entry::SpelledName;
+use crate::spot::NumberedPlace;
+use crate::table::NameTable;
 use std::alloc::{AllocError, Global};
 
 /// The earliest of the declarations of each name.
-pub fn earliest_of(alloc: Global, entries: &[Entry]) -> Result<Table<Spot>, AllocError>
+pub fn earliest_of(alloc: Global, entries: &[SpelledName]) -> Result<NameTable<NumberedPlace>, AllocError>
     ensures { IfOk result (λ table. (name : List ℕ) → value_of table name ≡ spec.earliest name 0 entries.now) }
 {
-    let mut table = Table::new(alloc);
+    let mut table = NameTable::new(alloc);
     for (number, entry) in entries.iter().enumerate() {
-        let spot = Spot {
+        let spot = NumberedPlace {
             number,
             at: entry.at,
         };
@@ -27,9 +27,9 @@ pub fn earliest_of(alloc: Global, entries: &[Entry]) -> Result<Table<Spot>, Allo
 // Adds a declaration of a name, unless one of the name stands before it.
 fn add_spot(
     alloc: Global,
-    table: &mut Table<Spot>,
+    table: &mut NameTable<NumberedPlace>,
     name: &str,
-    spot: Spot,
+    spot: NumberedPlace,
 ) -> Result<(), AllocError>
     ensures { OnOk result ((other : List ℕ)
         → value_of table.new other ≡ spec.sooner (value_of table.old other) (if same_name other name.now then Some spot else None)) }
@@ -43,7 +43,7 @@ fn add_spot(
 }
 
 // Whether a declaration stands before another one, if there is one.
-fn is_sooner(spot: Spot, other: Option<Spot>) -> bool
+fn is_sooner(spot: NumberedPlace, other: Option<NumberedPlace>) -> bool
     ensures { result ≡ spec.is_sooner spot other }
 {
     match other {
@@ -53,7 +53,7 @@ fn is_sooner(spot: Spot, other: Option<Spot>) -> bool
 }
 
 /// Whether there is a declaration, and it stands before a place.
-pub fn is_before(spot: Option<Spot>, at: usize) -> bool
+pub fn is_before(spot: Option<NumberedPlace>, at: usize) -> bool
     ensures { result ≡ spec.is_before spot at }
 {
     match spot {

@@ -4,7 +4,7 @@ use pals_base::Text;
 
 /// A name as its declaration spells it, and the declaration's place.
 #[derive(Drop)]
-pub struct Entry {
+pub struct SpelledName {
     pub name: Text,
     pub at: usize,
 }

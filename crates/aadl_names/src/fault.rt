@@ -8,7 +8,7 @@ use thiserror::Error;
 /// The first fault of a package with a root: each `at` is a byte offset in its text, and each name is
 /// spelled as there.
 #[derive(Error)]
-pub enum FlatFault {
+pub enum PackageFault {
     /// No system implementation has the root's name.
     #[error("NoRoot")]
     NoRoot,
@@ -38,23 +38,23 @@ pub enum FlatFault {
     Memory,
 }
 
-impl Drop for FlatFault {
+impl Drop for PackageFault {
     fn drop(self) {
         match self {
-            FlatFault::NoRoot => {}
-            FlatFault::Unknown { name: _, at: _ } => {}
-            FlatFault::Twice { name: _, at: _ } => {}
-            FlatFault::WrongKind { at: _ } => {}
-            FlatFault::Recursive { name: _, at: _ } => {}
-            FlatFault::DeadEnd { name: _, at: _ } => {}
-            FlatFault::TwoSources { name: _, at: _ } => {}
-            FlatFault::TooMany { what: _ } => {}
-            FlatFault::Memory => {}
+            PackageFault::NoRoot => {}
+            PackageFault::Unknown { name: _, at: _ } => {}
+            PackageFault::Twice { name: _, at: _ } => {}
+            PackageFault::WrongKind { at: _ } => {}
+            PackageFault::Recursive { name: _, at: _ } => {}
+            PackageFault::DeadEnd { name: _, at: _ } => {}
+            PackageFault::TwoSources { name: _, at: _ } => {}
+            PackageFault::TooMany { what: _ } => {}
+            PackageFault::Memory => {}
         }
     }
 }
 
-impl FlatFault {
+impl PackageFault {
     ghost use Rattle.std.specs.Prelude.{◌≡◌};
     ghost use Rattle.aadl_names.specs.Findings.{place_of, number_of};
 
@@ -63,15 +63,15 @@ impl FlatFault {
         ensures { result ≡ place_of self.now }
     {
         match self {
-            FlatFault::NoRoot => 0,
-            FlatFault::Unknown { name: _, at } => *at,
-            FlatFault::Twice { name: _, at } => *at,
-            FlatFault::WrongKind { at } => *at,
-            FlatFault::Recursive { name: _, at } => *at,
-            FlatFault::DeadEnd { name: _, at } => *at,
-            FlatFault::TwoSources { name: _, at } => *at,
-            FlatFault::TooMany { .. } => 0,
-            FlatFault::Memory => 0,
+            PackageFault::NoRoot => 0,
+            PackageFault::Unknown { name: _, at } => *at,
+            PackageFault::Twice { name: _, at } => *at,
+            PackageFault::WrongKind { at } => *at,
+            PackageFault::Recursive { name: _, at } => *at,
+            PackageFault::DeadEnd { name: _, at } => *at,
+            PackageFault::TwoSources { name: _, at } => *at,
+            PackageFault::TooMany { .. } => 0,
+            PackageFault::Memory => 0,
         }
     }
 
@@ -80,76 +80,76 @@ impl FlatFault {
         ensures { result ≡ number_of self.now }
     {
         match self {
-            FlatFault::NoRoot => 1,
-            FlatFault::Unknown { .. } => 2,
-            FlatFault::Twice { .. } => 3,
-            FlatFault::WrongKind { .. } => 4,
-            FlatFault::Recursive { .. } => 5,
-            FlatFault::DeadEnd { .. } => 6,
-            FlatFault::TwoSources { .. } => 7,
-            FlatFault::TooMany { .. } => 8,
-            FlatFault::Memory => 9,
+            PackageFault::NoRoot => 1,
+            PackageFault::Unknown { .. } => 2,
+            PackageFault::Twice { .. } => 3,
+            PackageFault::WrongKind { .. } => 4,
+            PackageFault::Recursive { .. } => 5,
+            PackageFault::DeadEnd { .. } => 6,
+            PackageFault::TwoSources { .. } => 7,
+            PackageFault::TooMany { .. } => 8,
+            PackageFault::Memory => 9,
         }
     }
 }
 
-impl TryClone for FlatFault {
-    fn try_clone(&self, alloc: Global) -> Result<FlatFault, NoMemory> {
+impl TryClone for PackageFault {
+    fn try_clone(&self, alloc: Global) -> Result<PackageFault, NoMemory> {
         match self {
-            FlatFault::NoRoot => Ok(FlatFault::NoRoot),
-            FlatFault::Unknown { name, at } => Ok(FlatFault::Unknown {
+            PackageFault::NoRoot => Ok(PackageFault::NoRoot),
+            PackageFault::Unknown { name, at } => Ok(PackageFault::Unknown {
                 name: name.try_clone(alloc)?,
                 at: *at,
             }),
-            FlatFault::Twice { name, at } => Ok(FlatFault::Twice {
+            PackageFault::Twice { name, at } => Ok(PackageFault::Twice {
                 name: name.try_clone(alloc)?,
                 at: *at,
             }),
-            FlatFault::WrongKind { at } => Ok(FlatFault::WrongKind { at: *at }),
-            FlatFault::Recursive { name, at } => Ok(FlatFault::Recursive {
+            PackageFault::WrongKind { at } => Ok(PackageFault::WrongKind { at: *at }),
+            PackageFault::Recursive { name, at } => Ok(PackageFault::Recursive {
                 name: name.try_clone(alloc)?,
                 at: *at,
             }),
-            FlatFault::DeadEnd { name, at } => Ok(FlatFault::DeadEnd {
+            PackageFault::DeadEnd { name, at } => Ok(PackageFault::DeadEnd {
                 name: name.try_clone(alloc)?,
                 at: *at,
             }),
-            FlatFault::TwoSources { name, at } => Ok(FlatFault::TwoSources {
+            PackageFault::TwoSources { name, at } => Ok(PackageFault::TwoSources {
                 name: name.try_clone(alloc)?,
                 at: *at,
             }),
-            FlatFault::TooMany { what } => Ok(FlatFault::TooMany {
+            PackageFault::TooMany { what } => Ok(PackageFault::TooMany {
                 what: what.try_clone(alloc)?,
             }),
-            FlatFault::Memory => Ok(FlatFault::Memory),
+            PackageFault::Memory => Ok(PackageFault::Memory),
         }
     }
 }
 
-impl fmt::Debug for FlatFault {
+impl fmt::Debug for PackageFault {
     fn fmt<W: fmt::Write>(&self, f: &mut fmt::Formatter<W>) -> fmt::Result {
         write!(f, "{self}")
     }
 }
 
-impl From<AllocError> for FlatFault {
+impl From<AllocError> for PackageFault {
     ghost use Rattle.std.specs.Prelude.{◌≡◌};
-    ghost use Rattle.aadl_names.specs.declared.fault.FlatFault.TheVariants.{Memory};
+    ghost use Rattle.aadl_names.specs.declared.fault.PackageFault.TheVariants.{Memory};
 
     ghost from_gives = { λ _ e. e ≡ Memory };
 
-    fn from(_error: AllocError) -> FlatFault {
-        FlatFault::Memory
+    fn from(_error: AllocError) -> PackageFault {
+        PackageFault::Memory
     }
 }
 
-impl<T: Drop> From<AllocFailed<T>> for FlatFault {
+impl<T: Drop> From<AllocFailed<T>> for PackageFault {
     ghost use Rattle.std.specs.Prelude.{◌≡◌};
-    ghost use Rattle.aadl_names.specs.declared.fault.FlatFault.TheVariants.{Memory};
+    ghost use Rattle.aadl_names.specs.declared.fault.PackageFault.TheVariants.{Memory};
 
     ghost from_gives = { λ _ e. e ≡ Memory };
 
-    fn from(_error: AllocFailed<T>) -> FlatFault {
-        FlatFault::Memory
+    fn from(_error: AllocFailed<T>) -> PackageFault {
+        PackageFault::Memory
     }
 }

@@ -1,6 +1,6 @@
 //! The first of the findings so far.
 
-use crate::fault::FlatFault;
+use crate::fault::PackageFault;
 use pals_base::{Text, TryClone};
 use std::alloc::{AllocError, Global};
 use std::marker::Model;
@@ -9,21 +9,21 @@ use std::marker::Model;
 #[derive(Drop)]
 pub struct Finder {
     alloc: Global,
-    first: Option<FlatFault>,
+    first: Option<PackageFault>,
 }
 
 impl Model for Finder {
     ghost use Rattle.std.specs.Prelude.{Option};
-    ghost use Rattle.aadl_names.specs.declared.fault.FlatFault.{FlatFault};
+    ghost use Rattle.aadl_names.specs.declared.fault.PackageFault.{PackageFault};
 
-    ghost Value = { Option FlatFault };
+    ghost Value = { Option PackageFault };
 
     ghost view = { λ finder. finder.first };
 }
 
 impl Finder {
     ghost use Rattle.std.specs.Prelude.{◌≡◌, OnOk, None, [], ◌∷◌};
-    ghost use Rattle.aadl_names.specs.declared.fault.FlatFault.TheVariants as faults;
+    ghost use Rattle.aadl_names.specs.declared.fault.PackageFault.TheVariants as faults;
     ghost use Rattle.aadl_names.specs.proof.Found.{found, comes_first, as_list};
     ghost use Rattle.aadl_names.specs.Findings as spec;
 
@@ -55,7 +55,7 @@ impl Finder {
     {
         if self.is_first(at, 2) {
             let name = Text::from_str(self.alloc, name)?;
-            self.first = Some(FlatFault::Unknown { name, at });
+            self.first = Some(PackageFault::Unknown { name, at });
         }
         Ok(())
     }
@@ -66,7 +66,7 @@ impl Finder {
     {
         if self.is_first(at, 3) {
             let name = Text::from_str(self.alloc, name)?;
-            self.first = Some(FlatFault::Twice { name, at });
+            self.first = Some(PackageFault::Twice { name, at });
         }
         Ok(())
     }
@@ -77,7 +77,7 @@ impl Finder {
     {
         if self.is_first(at, 6) {
             let name = Text::from_str(self.alloc, name)?;
-            self.first = Some(FlatFault::DeadEnd { name, at });
+            self.first = Some(PackageFault::DeadEnd { name, at });
         }
         Ok(())
     }
@@ -88,7 +88,7 @@ impl Finder {
     {
         if self.is_first(at, 7) {
             let name = Text::from_str(self.alloc, name)?;
-            self.first = Some(FlatFault::TwoSources { name, at });
+            self.first = Some(PackageFault::TwoSources { name, at });
         }
         Ok(())
     }
@@ -98,12 +98,12 @@ impl Finder {
         ensures { self.new ≡ found self.old (spec.wrong_if wrong at) }
     {
         if wrong && self.is_first(at, 4) {
-            self.first = Some(FlatFault::WrongKind { at });
+            self.first = Some(PackageFault::WrongKind { at });
         }
     }
 
     /// What was found elsewhere.
-    pub fn add(&mut self, fault: &Option<FlatFault>) -> Result<(), AllocError>
+    pub fn add(&mut self, fault: &Option<PackageFault>) -> Result<(), AllocError>
         ensures { OnOk result (self.new ≡ found self.old (as_list fault.now)) }
     {
         if let Some(fault) = fault
@@ -115,7 +115,7 @@ impl Finder {
     }
 
     /// The first finding.
-    pub fn finish(self) -> Option<FlatFault>
+    pub fn finish(self) -> Option<PackageFault>
         ensures { result ≡ self }
     {
         self.first

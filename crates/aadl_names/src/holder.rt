@@ -6,7 +6,7 @@ use aadl_tree::Category;
 
 /// A property that means something.
 #[derive(Clone, Copy)]
-pub enum Property {
+pub enum PropertyName {
     Period,
     Dispatch,
     Timing,
@@ -17,27 +17,27 @@ pub enum Property {
     Initial,
 }
 
-impl Property {
+impl PropertyName {
     /// Its name.
     pub fn name(self) -> &'static str
         ensures { result.now ≡ spec.name_of self }
     {
         match self {
-            Property::Period => "Period",
-            Property::Dispatch => "Dispatch_Protocol",
-            Property::Timing => "Timing",
-            Property::Adaptor => "PALS_Profile::Input_Adaptor",
-            Property::Skew => "PALS_Profile::Skew",
-            Property::Execution => "PALS_Profile::Execution",
-            Property::Network => "PALS_Profile::Network",
-            Property::Initial => "Data_Model::Initial_Value",
+            PropertyName::Period => "Period",
+            PropertyName::Dispatch => "Dispatch_Protocol",
+            PropertyName::Timing => "Timing",
+            PropertyName::Adaptor => "PALS_Profile::Input_Adaptor",
+            PropertyName::Skew => "PALS_Profile::Skew",
+            PropertyName::Execution => "PALS_Profile::Execution",
+            PropertyName::Network => "PALS_Profile::Network",
+            PropertyName::Initial => "Data_Model::Initial_Value",
         }
     }
 }
 
 /// A kind of place at which properties stand.
 #[derive(Clone, Copy)]
-pub enum Holder {
+pub enum PropertyHolder {
     Port,
     Variable,
     Connection,
@@ -46,40 +46,40 @@ pub enum Holder {
     Declaration(Category, bool),
 }
 
-impl Holder {
+impl PropertyHolder {
     /// The properties that are recognised here.
-    pub fn recognised(self) -> &'static [Property]
+    pub fn recognised(self) -> &'static [PropertyName]
         ensures { result.now ≡ spec.recognised self }
     {
         match self {
-            Holder::Port => &[],
-            Holder::Variable => &[Property::Initial],
-            Holder::Connection => &[Property::Timing, Property::Adaptor],
-            Holder::Subcomponent(category) => timed(category),
-            Holder::Declaration(category, false) => timed(category),
-            Holder::Declaration(Category::Thread, true) => &[
-                Property::Period,
-                Property::Dispatch,
-                Property::Skew,
-                Property::Execution,
-                Property::Network,
+            PropertyHolder::Port => &[],
+            PropertyHolder::Variable => &[PropertyName::Initial],
+            PropertyHolder::Connection => &[PropertyName::Timing, PropertyName::Adaptor],
+            PropertyHolder::Subcomponent(category) => timed(category),
+            PropertyHolder::Declaration(category, false) => timed(category),
+            PropertyHolder::Declaration(Category::Thread, true) => &[
+                PropertyName::Period,
+                PropertyName::Dispatch,
+                PropertyName::Skew,
+                PropertyName::Execution,
+                PropertyName::Network,
             ],
-            Holder::Declaration(_, true) => &[
-                Property::Period,
-                Property::Skew,
-                Property::Execution,
-                Property::Network,
+            PropertyHolder::Declaration(_, true) => &[
+                PropertyName::Period,
+                PropertyName::Skew,
+                PropertyName::Execution,
+                PropertyName::Network,
             ],
         }
     }
 }
 
 // The properties that all components have.
-fn timed(category: Category) -> &'static [Property]
+fn timed(category: Category) -> &'static [PropertyName]
     ensures { result.now ≡ spec.timed category }
 {
     match category {
-        Category::Thread => &[Property::Period, Property::Dispatch],
-        Category::System | Category::Process => &[Property::Period],
+        Category::Thread => &[PropertyName::Period, PropertyName::Dispatch],
+        Category::System | Category::Process => &[PropertyName::Period],
     }
 }

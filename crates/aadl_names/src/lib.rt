@@ -21,12 +21,12 @@ pub mod table;
 pub mod twice;
 pub mod units;
 
-pub use entry::Entry;
-pub use fault::FlatFault;
+pub use entry::SpelledName;
+pub use fault::PackageFault;
 pub use finder::Finder;
-pub use holder::{Holder, Property};
+pub use holder::{PropertyHolder, PropertyName};
 pub use names::Names;
 pub use role::{Role, Usage};
-pub use site::Site;
-pub use spot::Spot;
-pub use table::Table;
+pub use site::PortPlace;
+pub use spot::NumberedPlace;
+pub use table::NameTable;

@@ -13,7 +13,7 @@ ghost use Rattle.aadl_names.specs.Resolving as spec;
 ghost use Rattle.aadl_names.specs.Resolving.{first_number, is_type, is_implementation, port_named, sub_named};
 
 use crate::spelling::spelled_implementation;
-use crate::table::Table;
+use crate::table::NameTable;
 use aadl_tree::{
     Declaration, Feature, Identifier, Implementation, PackageTree, Reference, Subcomponent,
 };
@@ -24,10 +24,10 @@ use std::alloc::{AllocError, Global};
 pub struct Names<'t> {
     /// The package.
     pub tree: &'t PackageTree,
-    types: Table<usize>,
-    implementations: Table<usize>,
+    types: NameTable<usize>,
+    implementations: NameTable<usize>,
     // the ports of each type, and the subcomponents of each implementation
-    members: Items<Table<usize>>,
+    members: Items<NameTable<usize>>,
     ghost of_types: { (name : List ℕ) → value_of types name ≡ first_number (is_type name) (placed tree.now).declarations } by { Prim.hlevel props },
     ghost of_implementations: { (name : List ℕ) → value_of implementations name
         ≡ first_number (is_implementation name) (placed tree.now).declarations } by { Prim.hlevel props },
@@ -144,7 +144,7 @@ fn same_words(a: &[Identifier], b: &[Identifier]) -> bool
 // Adds a word.
 fn add_word(
     alloc: Global,
-    table: &mut Table<usize>,
+    table: &mut NameTable<usize>,
     word: &Identifier,
     number: usize,
 ) -> Result<(), AllocError>
@@ -157,7 +157,7 @@ fn add_word(
 // Adds a declaration to the types, if it is one.
 fn add_type(
     alloc: Global,
-    types: &mut Table<usize>,
+    types: &mut NameTable<usize>,
     declaration: &Declaration,
     number: usize,
 ) -> Result<(), AllocError>
@@ -173,7 +173,7 @@ fn add_type(
 // Adds a declaration to the implementations, if it is one.
 fn add_implementation(
     alloc: Global,
-    implementations: &mut Table<usize>,
+    implementations: &mut NameTable<usize>,
     declaration: &Declaration,
     number: usize,
 ) -> Result<(), AllocError>
@@ -190,11 +190,11 @@ fn add_implementation(
 }
 
 // The numbers of the types by their names.
-fn types_of(alloc: Global, declarations: &[Declaration]) -> Result<Table<usize>, AllocError>
+fn types_of(alloc: Global, declarations: &[Declaration]) -> Result<NameTable<usize>, AllocError>
     ensures { IfOk result (λ table. (name : List ℕ) → value_of table name
         ≡ first_number (is_type name) (map (declaration_view kept_place) declarations.now)) }
 {
-    let mut table = Table::new(alloc);
+    let mut table = NameTable::new(alloc);
     for (number, declaration) in declarations.iter().enumerate() {
         add_type(alloc, &mut table, declaration, number)?;
     }
@@ -205,11 +205,11 @@ fn types_of(alloc: Global, declarations: &[Declaration]) -> Result<Table<usize>,
 fn implementations_of(
     alloc: Global,
     declarations: &[Declaration],
-) -> Result<Table<usize>, AllocError>
+) -> Result<NameTable<usize>, AllocError>
     ensures { IfOk result (λ table. (name : List ℕ)
         → value_of table name ≡ first_number (is_implementation name) (map (declaration_view kept_place) declarations.now)) }
 {
-    let mut table = Table::new(alloc);
+    let mut table = NameTable::new(alloc);
     for (number, declaration) in declarations.iter().enumerate() {
         add_implementation(alloc, &mut table, declaration, number)?;
     }
@@ -220,7 +220,7 @@ fn implementations_of(
 fn members_of(
     alloc: Global,
     declarations: &[Declaration],
-) -> Result<Items<Table<usize>>, AllocError>
+) -> Result<Items<NameTable<usize>>, AllocError>
     ensures { IfOk result (λ members. (number : ℕ) (name : List ℕ) → value_of (slice_index_or members number []) name
         ≡ member_of (slice_get (map (declaration_view kept_place) declarations.now) number) name) }
 {
@@ -232,10 +232,10 @@ fn members_of(
 }
 
 // The numbers of ports by their names.
-fn port_numbers(alloc: Global, ports: &[Feature]) -> Result<Table<usize>, AllocError>
+fn port_numbers(alloc: Global, ports: &[Feature]) -> Result<NameTable<usize>, AllocError>
     ensures { IfOk result (λ table. (name : List ℕ) → value_of table name ≡ port_named (map (feature_view kept_place) ports.now) name) }
 {
-    let mut table = Table::new(alloc);
+    let mut table = NameTable::new(alloc);
     for (number, port) in ports.iter().enumerate() {
         add_word(alloc, &mut table, &port.name, number)?;
     }
@@ -243,10 +243,10 @@ fn port_numbers(alloc: Global, ports: &[Feature]) -> Result<Table<usize>, AllocE
 }
 
 // The numbers of subcomponents by their names.
-fn sub_numbers(alloc: Global, subs: &[Subcomponent]) -> Result<Table<usize>, AllocError>
+fn sub_numbers(alloc: Global, subs: &[Subcomponent]) -> Result<NameTable<usize>, AllocError>
     ensures { IfOk result (λ table. (name : List ℕ) → value_of table name ≡ sub_named (map (subcomponent_view kept_place) subs.now) name) }
 {
-    let mut table = Table::new(alloc);
+    let mut table = NameTable::new(alloc);
     for (number, sub) in subs.iter().enumerate() {
         add_word(alloc, &mut table, &sub.name, number)?;
     }
@@ -255,7 +255,7 @@ fn sub_numbers(alloc: Global, subs: &[Subcomponent]) -> Result<Table<usize>, All
 
 // The numbers of what a declaration has: the ports of a type, or the subcomponents of an
 // implementation.
-fn member_numbers(alloc: Global, declaration: &Declaration) -> Result<Table<usize>, AllocError>
+fn member_numbers(alloc: Global, declaration: &Declaration) -> Result<NameTable<usize>, AllocError>
     ensures { IfOk result (λ table. (name : List ℕ) → value_of table name ≡ member_of (Some (declaration_view kept_place declaration.now)) name) }
 {
     match declaration {

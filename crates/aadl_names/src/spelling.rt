@@ -6,7 +6,7 @@ ghost use Rattle.aadl_tree.specs.proof.NameViews.{identifier_view, name_view, re
 ghost use Rattle.aadl_tree.specs.proof.Views.{end_view, implementation_name_view};
 ghost use Rattle.aadl_names.specs.Spelling as spec;
 
-use crate::entry::Entry;
+use crate::entry::SpelledName;
 use aadl_tree::{ConnectionEnd, Identifier, ImplementationName, Name, Reference};
 use pals_base::Text;
 use std::alloc::{AllocError, Global};
@@ -81,10 +81,10 @@ pub fn spelled_end(alloc: Global, end: &ConnectionEnd) -> Result<Text, AllocErro
 }
 
 /// What a word declares.
-pub fn entry_of(alloc: Global, word: &Identifier) -> Result<Entry, AllocError>
+pub fn entry_of(alloc: Global, word: &Identifier) -> Result<SpelledName, AllocError>
     ensures { IfOk result (λ entry. entry ≡ spec.entry_of (identifier_view kept_place word.now)) }
 {
-    Ok(Entry {
+    Ok(SpelledName {
         name: Text::from_str(alloc, word.spelling.as_str())?,
         at: word.at,
     })

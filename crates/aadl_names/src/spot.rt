@@ -2,7 +2,7 @@
 
 /// A declaration, by its number among others and its place.
 #[derive(Clone, Copy)]
-pub struct Spot {
+pub struct NumberedPlace {
     /// Its number among the declarations.
     pub number: usize,
     /// Its place in the text.

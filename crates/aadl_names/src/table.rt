@@ -9,17 +9,17 @@ use std::alloc::{AllocError, Global};
 use std::marker::Model;
 
 /// Values of names. Contracts see the names, with their capitals made small, and their values.
-pub struct Table<V: Copy> {
+pub struct NameTable<V: Copy> {
     values: IndexMap<Vec<u8>, V>,
 }
 
-impl<V: Copy> Drop for Table<V> {
+impl<V: Copy> Drop for NameTable<V> {
     fn drop(self) {
-        let Table { values: _ } = self;
+        let NameTable { values: _ } = self;
     }
 }
 
-impl<V: Copy> Model for Table<V> {
+impl<V: Copy> Model for NameTable<V> {
     ghost use Rattle.std.specs.Prelude.{ℕ, List, map};
 
     ghost Value = { List (List ℕ × V) };
@@ -27,17 +27,17 @@ impl<V: Copy> Model for Table<V> {
     ghost view = { λ t. map (λ entry. (entry.0.items, entry.1)) t.values.entries };
 }
 
-impl<V: Copy> Table<V> {
+impl<V: Copy> NameTable<V> {
     ghost use Rattle.std.specs.Prelude.{◌≡◌, ◌++◌, ℕ, List, None, Some, OnOk, IfOk, codes, if◌then◌else◌};
     ghost use Rattle.std.specs.Option.{option_or};
     ghost use Rattle.aadl_tree.specs.Names.{same_name};
     ghost use Rattle.aadl_names.specs.proof.Tables.{value_of};
 
     /// An empty table. It takes no memory.
-    pub fn new(alloc: Global) -> Table<V>
+    pub fn new(alloc: Global) -> NameTable<V>
         ensures { (name : List ℕ) → value_of result name ≡ None }
     {
-        Table {
+        NameTable {
             values: IndexMap::new(alloc),
         }
     }

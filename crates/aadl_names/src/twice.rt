@@ -8,14 +8,14 @@ ghost use Rattle.aadl_names.specs.proof.Earliest.{again_by};
 ghost use Rattle.aadl_names.specs.Twice.{twice};
 
 use crate::earliest::{earliest_of, is_before};
-use crate::entry::Entry;
+use crate::entry::SpelledName;
 use crate::finder::Finder;
-use crate::spot::Spot;
-use crate::table::Table;
+use crate::spot::NumberedPlace;
+use crate::table::NameTable;
 use std::alloc::AllocError;
 
 /// Finds the declarations that have the name of an earlier one.
-pub fn check_twice(finder: &mut Finder, entries: &[Entry]) -> Result<(), AllocError>
+pub fn check_twice(finder: &mut Finder, entries: &[SpelledName]) -> Result<(), AllocError>
     ensures { OnOk result (finder.new ≡ found finder.old (twice entries.now)) }
 {
     let table = earliest_of(finder.alloc(), entries)?;
@@ -26,7 +26,7 @@ pub fn check_twice(finder: &mut Finder, entries: &[Entry]) -> Result<(), AllocEr
 }
 
 // Finds that an entry stands behind the earliest one of its name.
-fn check_entry(finder: &mut Finder, table: &Table<Spot>, entry: &Entry) -> Result<(), AllocError>
+fn check_entry(finder: &mut Finder, table: &NameTable<NumberedPlace>, entry: &SpelledName) -> Result<(), AllocError>
     ensures { OnOk result (finder.new ≡ found finder.old (again_by (value_of table.now entry.now.name) entry.now)) }
 {
     let earliest = table.value(finder.alloc(), entry.name.as_str())?;

@@ -139,13 +139,13 @@ pub struct ImplementationRest {
 
 /// A declaration without its category.
 #[derive(Drop)]
-pub enum Rest {
+pub enum DeclarationRest {
     Type(TypeRest),
     Implementation(ImplementationRest),
 }
 
 /// What stands behind the category of a declaration.
-fn after_category(reader: &Reader<'_>, at: usize, room: usize) -> Parsed<Rest>
+fn after_category(reader: &Reader<'_>, at: usize, room: usize) -> Parsed<DeclarationRest>
     ensures { Parses reader.now (Room room) (s.after_category ∷ []) rest_parts at result }
 {
     if let Some(next) = reader.take(at, Mark::Implementation) {
@@ -163,7 +163,7 @@ fn after_category(reader: &Reader<'_>, at: usize, room: usize) -> Parsed<Rest>
             annexes,
             end_name,
         };
-        return Ok((Rest::Implementation(rest), end));
+        return Ok((DeclarationRest::Implementation(rest), end));
     }
     let Some((name, next)) = reader.word(at)? else {
         return Err(ParseFault::Syntax {
@@ -181,15 +181,15 @@ fn after_category(reader: &Reader<'_>, at: usize, room: usize) -> Parsed<Rest>
         annexes,
         end_name,
     };
-    Ok((Rest::Type(rest), end))
+    Ok((DeclarationRest::Type(rest), end))
 }
 
 /// The declaration whose category stands at this place of the text.
-fn declared(at: usize, category: Category, rest: Rest) -> Declaration
+fn declared(at: usize, category: Category, rest: DeclarationRest) -> Declaration
     ensures { declaration_parts (declaration_view kept_place result) ≡ token (mark (category_mark category)) (at ∷ []) ∷ rest_parts rest }
 {
     match rest {
-        Rest::Type(
+        DeclarationRest::Type(
             TypeRest {
                 name,
                 features,
@@ -206,7 +206,7 @@ fn declared(at: usize, category: Category, rest: Rest) -> Declaration
             annexes,
             end_name,
         }),
-        Rest::Implementation(
+        DeclarationRest::Implementation(
             ImplementationRest {
                 name,
                 subcomponents,

@@ -19,15 +19,18 @@ use Rattle.aadl_parse.proofs.Verdicts.{tree_or_fault}
 one_canon : (tree : SourceTree) → canon (placed tree) ≡ canon (meaning tree)
 one_canon tree = sym (canon_of (placed tree)) ∙ ap canon (package_tied no_place kept_place tree)
 
-pub same_again : (tree again : SourceTree) (b : Bool) → (meaning again ≡ meaning tree → IsTrue b) → IsTreeOf (canon (meaning tree)) (placed again) → IsTrue b
+pub same_again : (tree again : SourceTree) (b : Bool) → (meaning again ≡ meaning tree → IsTrue b)
+    → IsTreeOf (canon (meaning tree)) (placed again) → IsTrue b
 same_again tree again b tells read =
     ∥∥₁_elim tree.given (Bool-set b true) (λ g. tells
     (sym (package_tied no_place kept_place again)
-    ∙ only_so g.0 (placed tree) (placed again) g.1 (subst (λ (text : List ℕ). IsTreeOf text (placed again)) (sym (one_canon tree)) read)
+    ∙ only_so g.0 (placed tree) (placed again) g.1
+    (subst (λ (text : List ℕ). IsTreeOf text (placed again)) (sym (one_canon tree)) read)
     ∙ package_tied no_place kept_place tree))
 
 pub no_fault : (tree : SourceTree) (fault : TextFault) → fault ≢ Memory → IsFaultOfText (canon (meaning tree)) fault → ⊥
 no_fault tree fault some wrong =
     ∥∥₁_elim tree.given (hlevel) (λ g.
     let again = reads_back g.0 (placed tree) g.1 in
-    tree_or_fault (canon (meaning tree)) again.tree fault some (subst (λ (text : List ℕ). IsTreeOf text again.tree) (one_canon tree) again.read) wrong)
+    tree_or_fault (canon (meaning tree)) again.tree fault some
+    (subst (λ (text : List ℕ). IsTreeOf text again.tree) (one_canon tree) again.read) wrong)

@@ -5,7 +5,7 @@ use Rattle.aadl_tree.specs.Kinds.{Kind}
 use Rattle.aadl_tree.specs.Parts.{Part, token, may, kept}
 use Rattle.aadl_tree.specs.Canon.{kind_text, holds_left, holds_right, ends_line, line_end, text_behind, canonical, canon}
 use Rattle.aadl_tree.specs.Declarations.{PackageTree, package_parts}
-use Rattle.aadl_print.specs.declared.gap.Gap.TheVariants.{Nothing, Space, LineEnd}
+use Rattle.aadl_print.specs.declared.gap.Spacing.TheVariants.{Nothing, Space, LineEnd}
 use Rattle.aadl_print.specs.proof.Printed.{Printed, gap_text, gap_behind, blank, put, printed}
 
 -- terminals one behind the other
@@ -34,7 +34,8 @@ unfolding put
 written_behind text last [] = refl
 written_behind text last (next ∷ ks) =
     written_behind (text ++ ((if holds_left next then [] else gap_text (gap_behind last)) ++ kind_text next)) next ks
-    ∙ ap (λ (gap : List ℕ). (text ++ (gap ++ kind_text next)) ++ text_behind next ks) (gap_between (holds_left next) (holds_right last) (ends_line last))
+    ∙ ap (λ (gap : List ℕ). (text ++ (gap ++ kind_text next)) ++ text_behind next ks)
+    (gap_between (holds_left next) (holds_right last) (ends_line last))
     ∙ simp append_assoc
 
 front_gap : (holds : Bool) → (if holds then [] else gap_text Nothing) ≡ []
@@ -49,9 +50,13 @@ written_canonical (kind ∷ ks) some =
     ∙ ap (λ (gap : List ℕ). (gap ++ kind_text kind) ++ text_behind kind ks) (front_gap (holds_left kind))
 
 printed_canon : {P : Type 0} (tree : PackageTree P) → (printed blank (package_parts tree)).text ++ line_end ≡ canon tree
-printed_canon tree = ap (λ (p : Printed). p.text ++ line_end) (printed_kept blank (package_parts tree)) ∙ written_canonical (kept (package_parts tree)) (λ e. absurd cc)
+printed_canon tree =
+    ap (λ (p : Printed). p.text ++ line_end) (printed_kept blank (package_parts tree))
+    ∙ written_canonical (kept (package_parts tree)) (λ e. absurd cc)
 
 -- What is written of a whole tree, from nothing on, is its canonical text.
-pub finished : {P : Type 0} (before after : Printed) (tree : PackageTree P) → before ≡ blank → after ≡ printed before (package_parts tree) → after.text ++ line_end ≡ canon tree
+pub finished : {P : Type 0} (before after : Printed) (tree : PackageTree P) → before ≡ blank
+    → after ≡ printed before (package_parts tree) → after.text ++ line_end ≡ canon tree
 finished before after tree none all =
-    ap (λ (p : Printed). p.text ++ line_end) (all ∙ ap (λ (p : Printed). printed p (package_parts tree)) none) ∙ printed_canon tree
+    ap (λ (p : Printed). p.text ++ line_end) (all ∙ ap (λ (p : Printed). printed p (package_parts tree)) none)
+    ∙ printed_canon tree

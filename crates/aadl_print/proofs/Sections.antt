@@ -11,7 +11,8 @@ use Rattle.aadl_tree.specs.Declarations.{section_parts}
 use Rattle.aadl_print.specs.proof.Printed.{Printed, printed, under}
 
 -- A section is written as its word and what stands in it, or not at all.
-pub printed_section : {P : Type 0} → (before : Printed) (s : Section) (ps : List (Part P)) → printed before (section_parts s ps) ≡ printed before (under (section_mark s) ps)
+pub printed_section : {P : Type 0} → (before : Printed) (s : Section) (ps : List (Part P))
+    → printed before (section_parts s ps) ≡ printed before (under (section_mark s) ps)
 printed_section before s [] = refl
 printed_section before s (p ∷ ps) = refl
 
@@ -20,7 +21,8 @@ under_some word [] some = absurd (some refl)
 under_some word (p ∷ ps) some = refl
 
 -- Things, each of which has a part, have one together.
-pub some_parts : {A T P : Type 0} (parts : T → List (Part P)) (tree : A → T) → ((x : T) → parts x ≡ [] → ⊥) → (xs : List A) → false ≡ (length xs == 0) → flat_map parts (map tree xs) ≡ [] → ⊥
+pub some_parts : {A T P : Type 0} (parts : T → List (Part P)) (tree : A → T) → ((x : T) → parts x ≡ [] → ⊥)
+    → (xs : List A) → false ≡ (length xs == 0) → flat_map parts (map tree xs) ≡ [] → ⊥
 some_parts parts tree some [] h e = absurd cc
 some_parts parts tree some (x ∷ xs) h e = some (tree x) (front_none (parts (tree x)) (flat_map parts (map tree xs)) e)
   where
@@ -31,11 +33,13 @@ some_parts parts tree some (x ∷ xs) h e = some (tree x) (front_none (parts (tr
 some_association : {P : Type 0} (x : Association P) (rest : List (Part P)) → association_parts x ++ rest ≡ [] → ⊥
 some_association (association name operator constant v paths) rest e = absurd cc
 
-pub some_associations : {P : Type 0} (place : ℕ → P) (xs : List source.Association) → false ≡ (length xs == 0) → associations_parts (associations_view place xs) ≡ [] → ⊥
+pub some_associations : {P : Type 0} (place : ℕ → P) (xs : List source.Association) → false ≡ (length xs == 0)
+    → associations_parts (associations_view place xs) ≡ [] → ⊥
 some_associations place [] h e = absurd cc
 some_associations place (x ∷ xs) h e = some_association _ _ e
 
 pub braced : {P : Type 0} (place : ℕ → P) (xs : List source.Association) → false ≡ (length xs == 0)
-    → properties_parts (associations_view place xs) ≡ plain k.BraceOpen ∷ (associations_parts (associations_view place xs) ++ plain k.BraceClose ∷ [])
+    → properties_parts (associations_view place xs)
+    ≡ plain k.BraceOpen ∷ (associations_parts (associations_view place xs) ++ plain k.BraceClose ∷ [])
 braced place [] h = absurd cc
 braced place (x ∷ xs) h = refl

@@ -9,7 +9,7 @@ ghost use Rattle.aadl_tree.specs.proof.Maps.{no_place};
 ghost use Rattle.aadl_print.specs.proof.Printed.{printed};
 
 use crate::expressions::print_expression;
-use crate::items::{Print, print_if};
+use crate::items::{PrintItem, print_if};
 use crate::printer::Printer;
 use aadl_tree::{Action, Actions, Block, Bound, Choice, Expression, Loop, Mark};
 use std::alloc::AllocError;
@@ -110,7 +110,7 @@ pub fn print_block(printer: &mut Printer, block: &Block) -> Result<(), AllocErro
     printer.mark(Mark::BraceClose)
 }
 
-impl Print for Block {
+impl PrintItem for Block {
     ghost use Rattle.aadl_tree.specs.Actions.{Block, block_parts};
     ghost use Rattle.aadl_tree.specs.proof.ActionViews.{block_view};
     ghost use Rattle.aadl_tree.specs.proof.Maps.{no_place};

@@ -9,7 +9,7 @@ ghost use Rattle.aadl_tree.specs.proof.Maps.{no_place};
 ghost use Rattle.aadl_print.specs.proof.Printed.{printed};
 
 use crate::expressions::print_expression;
-use crate::items::{Print, print_all, print_declared, print_if, print_option};
+use crate::items::{PrintItem, print_all, print_declared, print_if, print_option};
 use crate::printer::Printer;
 use crate::values::print_properties;
 use aadl_tree::{
@@ -18,7 +18,7 @@ use aadl_tree::{
 };
 use std::alloc::AllocError;
 
-impl Print for VariableDeclaration {
+impl PrintItem for VariableDeclaration {
     ghost use Rattle.aadl_tree.specs.Annexes.{VariableDeclaration, variable_parts};
     ghost use Rattle.aadl_tree.specs.proof.Views.{variable_view};
     ghost use Rattle.aadl_tree.specs.proof.Maps.{no_place};
@@ -38,7 +38,7 @@ impl Print for VariableDeclaration {
     }
 }
 
-impl Print for StateDeclaration {
+impl PrintItem for StateDeclaration {
     ghost use Rattle.aadl_tree.specs.Annexes.{StateDeclaration, state_parts};
     ghost use Rattle.aadl_tree.specs.proof.Views.{state_view};
     ghost use Rattle.aadl_tree.specs.proof.Maps.{no_place};
@@ -59,7 +59,7 @@ impl Print for StateDeclaration {
     }
 }
 
-impl Print for Guard {
+impl PrintItem for Guard {
     ghost use Rattle.aadl_tree.specs.Annexes.{Guard, guard_parts};
     ghost use Rattle.aadl_tree.specs.proof.Views.{guard_view};
     ghost use Rattle.aadl_tree.specs.proof.Maps.{no_place};
@@ -94,7 +94,7 @@ fn print_label(printer: &mut Printer, label: &Option<Identifier>) -> Result<(), 
     Ok(())
 }
 
-impl Print for Transition {
+impl PrintItem for Transition {
     ghost use Rattle.aadl_tree.specs.Annexes.{Transition, transition_parts};
     ghost use Rattle.aadl_tree.specs.proof.Views.{transition_view};
     ghost use Rattle.aadl_tree.specs.proof.Maps.{no_place};
@@ -117,7 +117,7 @@ impl Print for Transition {
     }
 }
 
-impl Print for AnnexTree {
+impl PrintItem for AnnexTree {
     ghost use Rattle.aadl_tree.specs.Annexes.{AnnexTree, annex_tree_parts};
     ghost use Rattle.aadl_tree.specs.proof.Views.{annex_tree_view};
     ghost use Rattle.aadl_tree.specs.proof.Maps.{no_place};
@@ -135,7 +135,7 @@ impl Print for AnnexTree {
     }
 }
 
-impl Print for AnnexContent {
+impl PrintItem for AnnexContent {
     ghost use Rattle.aadl_tree.specs.Annexes.{AnnexContent, content_parts};
     ghost use Rattle.aadl_tree.specs.proof.Views.{content_view};
     ghost use Rattle.aadl_tree.specs.proof.Maps.{no_place};
@@ -158,7 +158,7 @@ impl Print for AnnexContent {
     }
 }
 
-impl Print for Annex {
+impl PrintItem for Annex {
     ghost use Rattle.aadl_tree.specs.Annexes.{Annex, annex_parts};
     ghost use Rattle.aadl_tree.specs.proof.Views.{annex_view};
     ghost use Rattle.aadl_tree.specs.proof.Maps.{no_place};

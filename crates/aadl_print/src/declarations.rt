@@ -4,7 +4,7 @@
 ghost use Rattle.std.specs.Prelude.{◌≡◌};
 ghost use Rattle.aadl_tree.specs.Declarations.{category_mark, direction_mark};
 
-use crate::items::{Print, print_all, print_behind, print_chain, print_option, print_section};
+use crate::items::{PrintItem, print_all, print_behind, print_chain, print_option, print_section};
 use crate::printer::Printer;
 use crate::values::{print_own_properties, print_properties};
 use aadl_tree::{
@@ -32,7 +32,7 @@ fn direction_mark(direction: Direction) -> Mark
     }
 }
 
-impl Print for With {
+impl PrintItem for With {
     ghost use Rattle.aadl_tree.specs.Declarations.{With, with_parts};
     ghost use Rattle.aadl_tree.specs.proof.Views.{with_view};
     ghost use Rattle.aadl_tree.specs.proof.Maps.{no_place};
@@ -50,7 +50,7 @@ impl Print for With {
     }
 }
 
-impl Print for Feature {
+impl PrintItem for Feature {
     ghost use Rattle.aadl_tree.specs.Declarations.{Feature, feature_parts};
     ghost use Rattle.aadl_tree.specs.proof.Views.{feature_view};
     ghost use Rattle.aadl_tree.specs.proof.Maps.{no_place};
@@ -73,7 +73,7 @@ impl Print for Feature {
     }
 }
 
-impl Print for Subcomponent {
+impl PrintItem for Subcomponent {
     ghost use Rattle.aadl_tree.specs.Declarations.{Subcomponent, subcomponent_parts};
     ghost use Rattle.aadl_tree.specs.proof.Views.{subcomponent_view};
     ghost use Rattle.aadl_tree.specs.proof.Maps.{no_place};
@@ -94,7 +94,7 @@ impl Print for Subcomponent {
     }
 }
 
-impl Print for ConnectionEnd {
+impl PrintItem for ConnectionEnd {
     ghost use Rattle.aadl_tree.specs.Declarations.{ConnectionEnd, end_parts};
     ghost use Rattle.aadl_tree.specs.proof.Views.{end_view};
     ghost use Rattle.aadl_tree.specs.proof.Maps.{no_place};
@@ -111,7 +111,7 @@ impl Print for ConnectionEnd {
     }
 }
 
-impl Print for Connection {
+impl PrintItem for Connection {
     ghost use Rattle.aadl_tree.specs.Declarations.{Connection, connection_parts};
     ghost use Rattle.aadl_tree.specs.proof.Views.{connection_view};
     ghost use Rattle.aadl_tree.specs.proof.Maps.{no_place};
@@ -134,7 +134,7 @@ impl Print for Connection {
     }
 }
 
-impl Print for TypeDeclaration {
+impl PrintItem for TypeDeclaration {
     ghost use Rattle.aadl_tree.specs.Declarations.{TypeDeclaration, type_parts};
     ghost use Rattle.aadl_tree.specs.proof.Views.{type_view};
     ghost use Rattle.aadl_tree.specs.proof.Maps.{no_place};
@@ -157,7 +157,7 @@ impl Print for TypeDeclaration {
     }
 }
 
-impl Print for ImplementationName {
+impl PrintItem for ImplementationName {
     ghost use Rattle.aadl_tree.specs.Declarations.{ImplementationName, implementation_name_parts};
     ghost use Rattle.aadl_tree.specs.proof.Views.{implementation_name_view};
     ghost use Rattle.aadl_tree.specs.proof.Maps.{no_place};
@@ -175,7 +175,7 @@ impl Print for ImplementationName {
     }
 }
 
-impl Print for Implementation {
+impl PrintItem for Implementation {
     ghost use Rattle.aadl_tree.specs.Declarations.{Implementation, implementation_parts};
     ghost use Rattle.aadl_tree.specs.proof.Views.{implementation_view};
     ghost use Rattle.aadl_tree.specs.proof.Maps.{no_place};
@@ -200,7 +200,7 @@ impl Print for Implementation {
     }
 }
 
-impl Print for Declaration {
+impl PrintItem for Declaration {
     ghost use Rattle.aadl_tree.specs.Declarations.{Declaration, declaration_parts};
     ghost use Rattle.aadl_tree.specs.proof.Views.{declaration_view};
     ghost use Rattle.aadl_tree.specs.proof.Maps.{no_place};

@@ -7,7 +7,7 @@ ghost use Rattle.aadl_tree.specs.proof.ExpressionViews.{primary_view, factor_vie
 ghost use Rattle.aadl_tree.specs.proof.Maps.{no_place};
 ghost use Rattle.aadl_print.specs.proof.Printed.{printed};
 
-use crate::items::{Print, print_option};
+use crate::items::{PrintItem, print_option};
 use crate::printer::Printer;
 use crate::values::sign_mark;
 use aadl_tree::{
@@ -58,7 +58,7 @@ fn print_logic(printer: &mut Printer, operator: LogicOperator) -> Result<(), All
     }
 }
 
-impl Print for LeadingSign {
+impl PrintItem for LeadingSign {
     ghost use Rattle.aadl_tree.specs.Expressions.{LeadingSign, leading_parts};
     ghost use Rattle.aadl_tree.specs.proof.ExpressionViews.{leading_view};
     ghost use Rattle.aadl_tree.specs.proof.Maps.{no_place};

@@ -7,13 +7,13 @@ use aadl_tree::Mark;
 
 /// What stands behind a terminal, where the next one lets it.
 #[derive(Clone, Copy)]
-pub enum Gap {
+pub enum Spacing {
     Nothing,
     Space,
     LineEnd,
 }
 
-impl Gap {
+impl Spacing {
     ghost use Rattle.aadl_print.specs.proof.Printed.{gap_text, gap_behind};
 
     /// Its bytes.
@@ -21,18 +21,18 @@ impl Gap {
         ensures { result.now ≡ gap_text self }
     {
         match self {
-            Gap::Nothing => b"",
-            Gap::Space => b" ",
-            Gap::LineEnd => b"\n",
+            Spacing::Nothing => b"",
+            Spacing::Space => b" ",
+            Spacing::LineEnd => b"\n",
         }
     }
 
     /// What stands behind a keyword or a symbol.
-    pub fn behind(last: Mark) -> Gap
+    pub fn behind(last: Mark) -> Spacing
         ensures { result ≡ gap_behind (mark last) }
     {
         match last {
-            Mark::ParenOpen | Mark::Scope | Mark::Dot | Mark::Tick | Mark::Bang => Gap::Nothing,
+            Mark::ParenOpen | Mark::Scope | Mark::Dot | Mark::Tick | Mark::Bang => Spacing::Nothing,
             Mark::Semicolon
             | Mark::Public
             | Mark::AnnexOpen
@@ -42,8 +42,8 @@ impl Gap {
             | Mark::Connections
             | Mark::Variables
             | Mark::States
-            | Mark::Transitions => Gap::LineEnd,
-            _ => Gap::Space,
+            | Mark::Transitions => Spacing::LineEnd,
+            _ => Spacing::Space,
         }
     }
 }

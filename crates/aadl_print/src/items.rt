@@ -11,7 +11,7 @@ use aadl_tree::Mark;
 use std::alloc::AllocError;
 
 /// What can be written: it stands for a tree, which is spelled by parts.
-pub trait Print {
+pub trait PrintItem {
     ghost use Rattle.std.specs.Prelude.{List};
     ghost use Rattle.aadl_tree.specs.Parts.{Part};
 
@@ -27,7 +27,7 @@ pub trait Print {
 }
 
 /// Writes one thing after another.
-pub fn print_all<T: Print>(printer: &mut Printer, items: &[T]) -> Result<(), AllocError>
+pub fn print_all<T: PrintItem>(printer: &mut Printer, items: &[T]) -> Result<(), AllocError>
     ensures { OnOk result (printer.new ≡ printed printer.old (flat_map T.parts (map T.tree items.now))) }
 {
     for item in items {
@@ -37,7 +37,7 @@ pub fn print_all<T: Print>(printer: &mut Printer, items: &[T]) -> Result<(), All
 }
 
 /// Writes what is there, if anything is.
-pub fn print_option<T: Print>(printer: &mut Printer, item: &Option<T>) -> Result<(), AllocError>
+pub fn print_option<T: PrintItem>(printer: &mut Printer, item: &Option<T>) -> Result<(), AllocError>
     ensures { OnOk result (printer.new ≡ printed printer.old (parts_if T.parts (option_map T.tree item.now))) }
 {
     match item {
@@ -47,7 +47,7 @@ pub fn print_option<T: Print>(printer: &mut Printer, item: &Option<T>) -> Result
 }
 
 /// Writes what is there, if anything is, with a symbol before it.
-pub fn print_behind<T: Print>(
+pub fn print_behind<T: PrintItem>(
     printer: &mut Printer,
     before: Mark,
     item: &Option<T>,
@@ -63,7 +63,7 @@ pub fn print_behind<T: Print>(
 }
 
 /// Writes one and more, with a symbol before each further one.
-pub fn print_chain<T: Print>(
+pub fn print_chain<T: PrintItem>(
     printer: &mut Printer,
     separator: Mark,
     first: &T,
@@ -91,7 +91,7 @@ pub fn print_if(printer: &mut Printer, keyword: Mark, stands: bool) -> Result<()
 }
 
 /// Writes a list of declarations of an annex behind its word, if it stands there.
-pub fn print_declared<T: Print>(
+pub fn print_declared<T: PrintItem>(
     printer: &mut Printer,
     word: Mark,
     items: &Option<Vec<T>>,
@@ -107,7 +107,7 @@ pub fn print_declared<T: Print>(
 }
 
 /// Writes a section behind its word; nothing where it is empty.
-pub fn print_section<T: Print>(
+pub fn print_section<T: PrintItem>(
     printer: &mut Printer,
     word: Mark,
     items: &[T],

@@ -21,7 +21,7 @@ mod round_trip;
 mod values;
 
 use aadl_tree::{Mark, PackageTree};
-use items::{Print, print_all};
+use items::{PrintItem, print_all};
 use printer::Printer;
 pub use round_trip::is_read_back;
 use std::alloc::{AllocError, Global};

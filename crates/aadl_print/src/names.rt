@@ -7,12 +7,12 @@ ghost use Rattle.aadl_tree.specs.proof.NameViews.{identifier_view};
 ghost use Rattle.aadl_tree.specs.proof.Maps.{no_place};
 ghost use Rattle.aadl_print.specs.proof.Printed.{printed};
 
-use crate::items::{Print, print_behind, print_chain};
+use crate::items::{PrintItem, print_behind, print_chain};
 use crate::printer::Printer;
 use aadl_tree::{Identifier, Identifiers, Mark, Name, Path, Reference};
 use std::alloc::AllocError;
 
-impl Print for Identifier {
+impl PrintItem for Identifier {
     ghost use Rattle.aadl_tree.specs.Names.{Identifier, identifier_parts};
     ghost use Rattle.aadl_tree.specs.proof.NameViews.{identifier_view};
     ghost use Rattle.aadl_tree.specs.proof.Maps.{no_place};
@@ -28,7 +28,7 @@ impl Print for Identifier {
     }
 }
 
-impl Print for Name {
+impl PrintItem for Name {
     ghost use Rattle.aadl_tree.specs.Names.{Name, name_parts};
     ghost use Rattle.aadl_tree.specs.proof.NameViews.{name_view};
     ghost use Rattle.aadl_tree.specs.proof.Maps.{no_place};
@@ -44,7 +44,7 @@ impl Print for Name {
     }
 }
 
-impl Print for Path {
+impl PrintItem for Path {
     ghost use Rattle.aadl_tree.specs.Names.{Path, path_parts};
     ghost use Rattle.aadl_tree.specs.proof.NameViews.{path_view};
     ghost use Rattle.aadl_tree.specs.proof.Maps.{no_place};
@@ -60,7 +60,7 @@ impl Print for Path {
     }
 }
 
-impl Print for Identifiers {
+impl PrintItem for Identifiers {
     ghost use Rattle.aadl_tree.specs.Names.{Identifiers, identifiers_parts};
     ghost use Rattle.aadl_tree.specs.proof.NameViews.{identifiers_view};
     ghost use Rattle.aadl_tree.specs.proof.Maps.{no_place};
@@ -88,7 +88,7 @@ fn print_qualifiers(printer: &mut Printer, names: &[Identifier]) -> Result<(), A
     Ok(())
 }
 
-impl Print for Reference {
+impl PrintItem for Reference {
     ghost use Rattle.aadl_tree.specs.Names.{Reference, reference_parts};
     ghost use Rattle.aadl_tree.specs.proof.NameViews.{reference_view};
     ghost use Rattle.aadl_tree.specs.proof.Maps.{no_place};

@@ -2,7 +2,7 @@
 ghost use Rattle.std.specs.Prelude.{◌≡◌, OnOk};
 ghost use Rattle.aadl_tree.specs.Kinds.{word, whole, real, quoted, unread, mark};
 
-use crate::gap::{Gap, stands_close};
+use crate::gap::{Spacing, stands_close};
 use aadl_tree::Mark;
 use itoa::Buffer;
 use std::alloc::{AllocError, Global};
@@ -12,7 +12,7 @@ use std::marker::Model;
 #[derive(Drop)]
 pub struct Printer {
     text: Vec<u8>,
-    gap: Gap,
+    gap: Spacing,
 }
 
 impl Model for Printer {
@@ -34,7 +34,7 @@ impl Printer {
     {
         Printer {
             text: Vec::new(alloc),
-            gap: Gap::Nothing,
+            gap: Spacing::Nothing,
         }
     }
 
@@ -47,7 +47,7 @@ impl Printer {
             self.text.extend_from_slice(self.gap.text())?;
         }
         self.text.extend_from_slice(next.text())?;
-        self.gap = Gap::behind(next);
+        self.gap = Spacing::behind(next);
         Ok(())
     }
 
@@ -61,7 +61,7 @@ impl Printer {
     {
         self.text.extend_from_slice(self.gap.text())?;
         self.text.extend_from_slice(bytes)?;
-        self.gap = Gap::Space;
+        self.gap = Spacing::Space;
         Ok(())
     }
 
@@ -73,7 +73,7 @@ impl Printer {
         self.text.extend_from_slice(self.gap.text())?;
         self.text
             .extend_from_slice(Buffer::new().format(value).as_bytes())?;
-        self.gap = Gap::Space;
+        self.gap = Spacing::Space;
         Ok(())
     }
 
@@ -82,7 +82,7 @@ impl Printer {
         ensures { IfOk result (λ text. text.items ≡ self.text ++ line_end) }
     {
         let mut text = self.text;
-        text.extend_from_slice(Gap::LineEnd.text())?;
+        text.extend_from_slice(Spacing::LineEnd.text())?;
         Ok(text)
     }
 }

@@ -9,7 +9,7 @@ ghost use Rattle.aadl_tree.specs.proof.ValueViews.{value_view, values_view, asso
 ghost use Rattle.aadl_tree.specs.proof.Maps.{no_place};
 ghost use Rattle.aadl_print.specs.proof.Printed.{printed, under};
 
-use crate::items::{Print, print_behind, print_chain, print_if, print_option};
+use crate::items::{PrintItem, print_behind, print_chain, print_if, print_option};
 use crate::printer::Printer;
 use aadl_tree::{
     Association, AssociationOperator, Figure, Mark, Number, Path, Quantity, Sign, Value,
@@ -35,7 +35,7 @@ fn association_mark(operator: AssociationOperator) -> Mark
     }
 }
 
-impl Print for Figure {
+impl PrintItem for Figure {
     ghost use Rattle.aadl_tree.specs.Values.{Figure, figure_parts};
     ghost use Rattle.aadl_tree.specs.proof.ValueViews.{figure_view};
 
@@ -53,7 +53,7 @@ impl Print for Figure {
     }
 }
 
-impl Print for Number {
+impl PrintItem for Number {
     ghost use Rattle.aadl_tree.specs.Values.{Number, number_parts};
     ghost use Rattle.aadl_tree.specs.proof.ValueViews.{number_view};
 
@@ -71,7 +71,7 @@ impl Print for Number {
     }
 }
 
-impl Print for Quantity {
+impl PrintItem for Quantity {
     ghost use Rattle.aadl_tree.specs.Values.{Quantity, quantity_parts};
     ghost use Rattle.aadl_tree.specs.proof.ValueViews.{quantity_view};
     ghost use Rattle.aadl_tree.specs.proof.Maps.{no_place};

@@ -1,5 +1,5 @@
 //! The first subcomponent that leads back to where it stands, and what is in use.
-use aadl_names::{FlatFault, Names};
+use aadl_names::{PackageFault, Names};
 use aadl_tree::PackageTree;
 use aadl_uses::{Uses, first_recursive};
 use indexmap::IndexSet;
@@ -11,14 +11,14 @@ pub fn uses(alloc: Global, tree: &PackageTree) -> Result<Uses<'_>, AllocError> {
     Uses::of(alloc, names)
 }
 
-fn cycle(alloc: Global, tree: &PackageTree) -> Result<Option<FlatFault>, AllocError> {
+fn cycle(alloc: Global, tree: &PackageTree) -> Result<Option<PackageFault>, AllocError> {
     let uses = uses(alloc, tree)?;
     first_recursive(alloc, &uses)
 }
 
 // The name of a fault and what stands at its place in the text.
-fn told(alloc: Global, text: &str, fault: &FlatFault) -> Result<String, AllocError> {
-    let FlatFault::Recursive { name, at } = fault else {
+fn told(alloc: Global, text: &str, fault: &PackageFault) -> Result<String, AllocError> {
+    let PackageFault::Recursive { name, at } = fault else {
         return format!(in alloc; "{fault}\n");
     };
     let (_, rest) = text.split_at_checked(*at).unwrap_or(("", ""));

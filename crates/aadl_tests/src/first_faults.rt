@@ -1,6 +1,6 @@
 //! The first name that is wrong in a package.
 use crate::containment::uses;
-use aadl_names::FlatFault;
+use aadl_names::PackageFault;
 use aadl_tree::PackageTree;
 use aadl_uses::Wires;
 use name_faults::first_name_fault;
@@ -13,17 +13,17 @@ fn rest(text: &str, at: usize) -> &str {
 }
 
 // A fault, and what stands at its place.
-fn told(alloc: Global, text: &str, fault: &FlatFault) -> Result<String, AllocError> {
+fn told(alloc: Global, text: &str, fault: &PackageFault) -> Result<String, AllocError> {
     let rest = rest(text, fault.place());
     match fault {
-        FlatFault::Unknown { name, at: _ } => format!(in alloc; "Unknown {name}: {rest}\n"),
-        FlatFault::Twice { name, at: _ } => format!(in alloc; "Twice {name}: {rest}\n"),
+        PackageFault::Unknown { name, at: _ } => format!(in alloc; "Unknown {name}: {rest}\n"),
+        PackageFault::Twice { name, at: _ } => format!(in alloc; "Twice {name}: {rest}\n"),
         other => format!(in alloc; "{other}: {rest}\n"),
     }
 }
 
 // The first fault of a package whose last declaration is the root.
-fn fault_of(alloc: Global, tree: &PackageTree) -> Result<Option<FlatFault>, AllocError> {
+fn fault_of(alloc: Global, tree: &PackageTree) -> Result<Option<PackageFault>, AllocError> {
     let wires = Wires::of(alloc, uses(alloc, tree)?)?;
     let root = tree.declarations.len().saturating_sub(1);
     first_name_fault(alloc, &wires, root)

@@ -7,8 +7,8 @@ use Rattle.std.proofs.lemmas.List.{take_more}
 use Rattle.std.proofs.lemmas.Option.{same_Some, none-some, option_and_then_some}
 use Rattle.std.proofs.lemmas.List.Elements.{Contains-push_cases}
 use Rattle.aadl_tree.specs.Declarations.{Subcomponent, PackageTree}
-use Rattle.aadl_names.specs.declared.fault.FlatFault.{FlatFault}
-use Rattle.aadl_names.specs.declared.fault.FlatFault.TheVariants.{Recursive}
+use Rattle.aadl_names.specs.declared.fault.PackageFault.{PackageFault}
+use Rattle.aadl_names.specs.declared.fault.PackageFault.TheVariants.{Recursive}
 use Rattle.aadl_names.specs.Findings.{place_of, number_of, precedes}
 use Rattle.aadl_names.specs.Resolving.{referred}
 use Rattle.aadl_uses.specs.Uses.{sub_at, ClosesCycle, IsRecursive}
@@ -49,21 +49,21 @@ closes_from tree n s sub is back = record {
 }
 
 -- where no subcomponent closes a cycle, none leads back
-pub no_way_back : (tree : PackageTree ℕ) → ((fault : FlatFault) → IsRecursive tree fault → ⊥) → (n s : ℕ) → LeadsBack (containment tree) n s → ⊥
+pub no_way_back : (tree : PackageTree ℕ) → ((fault : PackageFault) → IsRecursive tree fault → ⊥) → (n s : ℕ) → LeadsBack (containment tree) n s → ⊥
 no_way_back tree none n s back =
     option_and_then_some (λ sub. referred tree sub.classifier) (sub_at tree n s) back.0 (sym (below-same tree n s) ∙ back.1)
     (λ sub h f. none (Recursive sub.name.spelling sub.name.at) (sub, closes_from tree n s sub h back, refl))
 
 -- ---- one more subcomponent
 -- there is no such subcomponent
-pub sooner_none : (tree : PackageTree ℕ) (old : Option FlatFault) (n s : ℕ) → sub_at tree n s ≡ None → IsSooner tree old n s old
+pub sooner_none : (tree : PackageTree ℕ) (old : Option PackageFault) (n s : ℕ) → sub_at tree n s ≡ None → IsSooner tree old n s old
 sooner_none tree old n s none = record {
   found = λ f. f;
   kept = λ at b. b;
   here = λ sub back is f. absurd (none-some sub (sym none ∙ is));
 }
 
-sooner_by : (tree : PackageTree ℕ) (at : ℕ) (old : Option FlatFault) → is_sooner at old ≡ false → IsFound tree old → IsBefore tree at old
+sooner_by : (tree : PackageTree ℕ) (at : ℕ) (old : Option PackageFault) → is_sooner at old ≡ false → IsFound tree old → IsBefore tree at old
 sooner_by tree at None late f = absurd (true_false late)
   where
     true_false : true ≡ false → ⊥
@@ -71,7 +71,7 @@ sooner_by tree at None late f = absurd (true_false late)
 sooner_by tree at (Some fault) late f = (f, grind (arith, nat_tests))
 
 -- it stands behind what was found
-pub sooner_late : (tree : PackageTree ℕ) (old : Option FlatFault) (n s : ℕ) (sub : Subcomponent ℕ) → sub_at tree n s ≡ Some sub
+pub sooner_late : (tree : PackageTree ℕ) (old : Option PackageFault) (n s : ℕ) (sub : Subcomponent ℕ) → sub_at tree n s ≡ Some sub
     → is_sooner sub.name.at old ≡ false → IsSooner tree old n s old
 sooner_late tree old n s sub is late = record {
   found = λ f. f;
@@ -81,20 +81,20 @@ sooner_late tree old n s sub is late = record {
 }
 
 -- it does not lead back
-pub sooner_not : (tree : PackageTree ℕ) (old : Option FlatFault) (n s : ℕ) → (LeadsBack (containment tree) n s → ⊥) → IsSooner tree old n s old
+pub sooner_not : (tree : PackageTree ℕ) (old : Option PackageFault) (n s : ℕ) → (LeadsBack (containment tree) n s → ⊥) → IsSooner tree old n s old
 sooner_not tree old n s never = record {
   found = λ f. f;
   kept = λ at b. b;
   here = λ other back is2 f. absurd (never back);
 }
 
-earlier_kept : (tree : PackageTree ℕ) (old : Option FlatFault) (at here : ℕ) (fault : FlatFault) → place_of fault ≡ here → IsRecursive tree fault
+earlier_kept : (tree : PackageTree ℕ) (old : Option PackageFault) (at here : ℕ) (fault : PackageFault) → place_of fault ≡ here → IsRecursive tree fault
     → is_sooner here old ≡ true → IsBefore tree at old → IsBefore tree at (Some fault)
 earlier_kept tree None at here fault e r soon b = absurd b
 earlier_kept tree (Some old) at here fault e r soon b = let le = b.1 in (r, grind (arith, nat_tests))
 
 -- it is the first so far
-pub sooner_new : (tree : PackageTree ℕ) (old : Option FlatFault) (n s : ℕ) (sub : Subcomponent ℕ) → sub_at tree n s ≡ Some sub
+pub sooner_new : (tree : PackageTree ℕ) (old : Option PackageFault) (n s : ℕ) (sub : Subcomponent ℕ) → sub_at tree n s ≡ Some sub
     → is_sooner sub.name.at old ≡ true → LeadsBack (containment tree) n s
     → IsSooner tree old n s (Some (Recursive sub.name.spelling sub.name.at))
 sooner_new tree old n s sub is soon back =
@@ -106,10 +106,10 @@ sooner_new tree old n s sub is soon back =
     }
 
 -- ---- the loop
-pub before_none : (tree : PackageTree ℕ) (first : Option FlatFault) → AreBefore tree [] first
+pub before_none : (tree : PackageTree ℕ) (first : Option PackageFault) → AreBefore tree [] first
 before_none tree first n s sub h back is = let lt = h.1 in absurd (omega arith)
 
-pub before_more : (tree : PackageTree ℕ) (subs : List (ℕ × ℕ)) (old new : Option FlatFault) (n s : ℕ) → IsFound tree old → AreBefore tree subs old
+pub before_more : (tree : PackageTree ℕ) (subs : List (ℕ × ℕ)) (old new : Option PackageFault) (n s : ℕ) → IsFound tree old → AreBefore tree subs old
     → IsSooner tree old n s new → AreBefore tree (subs ++ (n, s) ∷ []) new
 before_more tree subs old new n s found so_far more m t sub h back is = by (Contains-push_cases subs (n, s) (m, t) h)
   where
@@ -124,20 +124,20 @@ before_more tree subs old new n s found so_far more m t sub h back is = by (Cont
 pub first_none : (tree : PackageTree ℕ) → IsFirstOf tree [] None
 first_none tree = record { found = tt; before = before_none tree None }
 
-pub first_more : (tree : PackageTree ℕ) (xs : List (ℕ × ℕ)) (i : ℕ) (x : ℕ × ℕ) (old new : Option FlatFault) → i < length xs → get_or xs i x ≡ x
+pub first_more : (tree : PackageTree ℕ) (xs : List (ℕ × ℕ)) (i : ℕ) (x : ℕ × ℕ) (old new : Option PackageFault) → i < length xs → get_or xs i x ≡ x
     → IsFirstOf tree (take i xs) old → IsSooner tree old x.0 x.1 new → IsFirstOf tree (take (i + 1) xs) new
 first_more tree xs i x old new lt is so_far more =
     subst (λ (l : List (ℕ × ℕ)). IsFirstOf tree l new) (sym (take_more xs i x lt ∙ ap (λ y. take i xs ++ y ∷ []) is))
     (record { found = more.found so_far.found; before = before_more tree (take i xs) old new x.0 x.1 so_far.found so_far.before more })
 
 -- ---- the end
-number_of_recursive : (tree : PackageTree ℕ) (fault : FlatFault) → IsRecursive tree fault → number_of fault ≡ 5
+number_of_recursive : (tree : PackageTree ℕ) (fault : PackageFault) → IsRecursive tree fault → number_of fault ≡ 5
 number_of_recursive tree fault r = ap number_of r.2
 
-not_before : (a b : FlatFault) → place_of b ≤ place_of a → number_of a ≡ 5 → number_of b ≡ 5 → precedes a b ≡ false
+not_before : (a b : PackageFault) → place_of b ≤ place_of a → number_of a ≡ 5 → number_of b ≡ 5 → precedes a b ≡ false
 not_before a b le x y = grind (arith, nat_tests)
 
-pub first_by : (tree : PackageTree ℕ) (subs : List (ℕ × ℕ)) (first : Option FlatFault)
+pub first_by : (tree : PackageTree ℕ) (subs : List (ℕ × ℕ)) (first : Option PackageFault)
     → ((n s : ℕ) → LeadsBack (containment tree) n s → Contains subs (n, s)) → IsFound tree first → AreBefore tree subs first
     → FirstIn (IsRecursive tree) first
 first_by tree subs None all found before = λ fault r. before r.1.within r.1.number r.0 (all r.1.within r.1.number (leads_back_from tree r.0 r.1))
@@ -150,7 +150,7 @@ first_by tree subs (Some fault) all found before = record {
       (number_of_recursive tree fault found);
 }
 
-pub ok_first : {E : Type 0} (r : Result (Option FlatFault) E) (tree : PackageTree ℕ) (subs : List (ℕ × ℕ))
+pub ok_first : {E : Type 0} (r : Result (Option PackageFault) E) (tree : PackageTree ℕ) (subs : List (ℕ × ℕ))
     → ((n s : ℕ) → LeadsBack (containment tree) n s → Contains subs (n, s)) → IfOk r (IsFirstOf tree subs) → IfOk r (FirstIn (IsRecursive tree))
 ok_first (Ok x) tree subs all found = first_by tree subs x all found.found found.before
 ok_first (Err x) tree subs all found = tt

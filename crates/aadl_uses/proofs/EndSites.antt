@@ -6,7 +6,7 @@ use Rattle.list_lemmas.proofs.Options.{option_and_then_assoc}
 use Rattle.aadl_tree.specs.Names.{Identifier}
 use Rattle.aadl_tree.specs.Declarations.{Subcomponent, ConnectionEnd, Implementation, Declaration, type, implementation, PackageTree}
 use Rattle.aadl_names.specs.proof.Members.{member_of}
-use Rattle.aadl_names.specs.declared.site.Site.TheVariants.{Own, Inner}
+use Rattle.aadl_names.specs.declared.site.PortPlace.TheVariants.{Own, Inner}
 use Rattle.aadl_names.specs.Resolving.{implementation_in, implementation_at, subcomponents_of, referred, target_of, port_named, sub_named}
 use Rattle.aadl_names.specs.Resolving.{ports_at, inner_site, site_by, site}
 use Rattle.aadl_uses.specs.Uses.{below}

@@ -11,5 +11,5 @@ pub mod Counted
 pub mod Threads
 pub mod Ways
 pub mod Tables
-pub mod Rows
+pub mod DeclarationRows
 pub mod EndSites

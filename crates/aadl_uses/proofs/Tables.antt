@@ -6,17 +6,17 @@ use Rattle.std.specs.Option.{option_or}
 use Rattle.std.proofs.lemmas.Bool.{true≢false, eqb-true, eq-eqb, and_parts, ltb-true, lt-ltb}
 use Rattle.std.proofs.lemmas.Grind.{common_steps}
 use Rattle.std.proofs.lemmas.Option.{same_Some, none-some}
-use Rattle.aadl_names.specs.declared.site.Site.{Site}
-use Rattle.aadl_names.specs.declared.site.Site.TheVariants.{Own, Inner}
+use Rattle.aadl_names.specs.declared.site.PortPlace.{PortPlace}
+use Rattle.aadl_names.specs.declared.site.PortPlace.TheVariants.{Own, Inner}
 use Rattle.aadl_names.proofs.Lookups.{lookup-push}
 use Rattle.aadl_uses.specs.declared.connections.Wire.{Wire}
 use Rattle.aadl_uses.specs.proof.PortNumbers.{same_site, is_site, number_of}
-use Rattle.aadl_uses.specs.proof.Firsts.{first_into, is_before}
-use Rattle.aadl_uses.specs.Firsts.{target_in, IsSecond}
+use Rattle.aadl_uses.specs.proof.FirstConnections.{first_into, is_before}
+use Rattle.aadl_uses.specs.FirstConnections.{target_in, IsSecond}
 
 -- ---- ports
 
-pub same_site-true : (a b : Site) → same_site a b ≡ true → a ≡ b
+pub same_site-true : (a b : PortPlace) → same_site a b ≡ true → a ≡ b
 same_site-true (Own p) (Own q) e = ap Own (eqb-true p q e)
 same_site-true (Own p) (Inner t q) e = absurd (true≢false (sym e))
 same_site-true (Inner s p) (Own q) e = absurd (true≢false (sym e))
@@ -24,20 +24,20 @@ same_site-true (Inner s p) (Inner t q) e =
     let h = and_parts (nat_eq s t) (nat_eq p q) e in
     ap (λ n. Inner n p) (eqb-true s t h.0) ∙ ap (Inner t) (eqb-true p q h.1)
 
-pub itself : (a : Site) → same_site a a ≡ true
+pub itself : (a : PortPlace) → same_site a a ≡ true
 itself (Own p) = eq-eqb p p refl
 itself (Inner s p) = ap (λ b. b && nat_eq p p) (eq-eqb s s refl) ∙ eq-eqb p p refl
 
-is_site-true : (a : Site) (o : Option Site) → is_site a o ≡ true → o ≡ Some a
+is_site-true : (a : PortPlace) (o : Option PortPlace) → is_site a o ≡ true → o ≡ Some a
 is_site-true a None e = absurd (true≢false (sym e))
 is_site-true a (Some b) e = ap Some (sym (same_site-true a b e))
 
-of_site : (a : Site) (o : Option Site) → o ≡ Some a → is_site a o ≡ true
+of_site : (a : PortPlace) (o : Option PortPlace) → o ≡ Some a → is_site a o ≡ true
 of_site a o e = ap (is_site a) e ∙ itself a
 
 -- ---- one more number in a table
-pub number-added : (table new : List (Site × ℕ)) (target : Site) (n : ℕ) → new ≡ table ++ (target, n) ∷ []
-    → (other : Site) → number_of new other ≡ option_or (number_of table other) (cond (is_site other (Some target)) (Some n) None)
+pub number-added : (table new : List (PortPlace × ℕ)) (target : PortPlace) (n : ℕ) → new ≡ table ++ (target, n) ∷ []
+    → (other : PortPlace) → number_of new other ≡ option_or (number_of table other) (cond (is_site other (Some target)) (Some n) None)
 number-added table new target n more other = ap (λ t. number_of t other) more ∙ lookup-push (same_site other) table (target, n)
 
 kept_by : (a : Option ℕ) (b : Bool) (n : ℕ) → (b ≡ true → (m : ℕ) × (a ≡ Some m)) → a ≡ option_or a (cond b (Some n) None)
@@ -45,8 +45,8 @@ kept_by (Some m) b n h = refl
 kept_by None true n h = let e = (h refl).1 in absurd (cc e)
 kept_by None false n h = refl
 
-pub number-kept : (table : List (Site × ℕ)) (target : Site) (n m : ℕ) → number_of table target ≡ Some m
-    → (other : Site) → number_of table other ≡ option_or (number_of table other) (cond (is_site other (Some target)) (Some n) None)
+pub number-kept : (table : List (PortPlace × ℕ)) (target : PortPlace) (n m : ℕ) → number_of table target ≡ Some m
+    → (other : PortPlace) → number_of table other ≡ option_or (number_of table other) (cond (is_site other (Some target)) (Some n) None)
 number-kept table target n m there other = kept_by (number_of table other) (same_site other target) n
     (λ s. (m, ap (number_of table) (same_site-true other target s) ∙ there))
 
@@ -81,41 +81,41 @@ last_first wires i now whole test past so_far = none_more now
 
 -- ---- the first of those that pass
 -- it passes, and none before it does
-pub record FirstAt (wires : List Wire) (target : Site) (k n : ℕ) : Type 0 where
+pub record FirstAt (wires : List Wire) (target : PortPlace) (k n : ℕ) : Type 0 where
   pub index : ℕ
   pub is : n ≡ k + index
   pub passes : target_in wires index ≡ Some target
 
-first_by : (w : Wire) (ws : List Wire) (target : Site) (k n : ℕ) (b : Bool) → is_site target w.target ≡ b
+first_by : (w : Wire) (ws : List Wire) (target : PortPlace) (k n : ℕ) (b : Bool) → is_site target w.target ≡ b
     → (position_from (λ x. is_site target x.target) (k + 1) ws ≡ Some n → FirstAt ws target (k + 1) n)
     → cond b (Some k) (position_from (λ x. is_site target x.target) (k + 1) ws) ≡ Some n → FirstAt (w ∷ ws) target k n
 first_by w ws target k n true e rest f = let s = same_Some k n f in record { index = 0; is = omega arith; passes = is_site-true target w.target e }
 first_by w ws target k n false e rest f = let r = rest f in let s = r.is in record { index = suc r.index; is = omega arith; passes = r.passes }
 
-first_at : (ws : List Wire) (target : Site) (k n : ℕ) → position_from (λ x. is_site target x.target) k ws ≡ Some n → FirstAt ws target k n
+first_at : (ws : List Wire) (target : PortPlace) (k n : ℕ) → position_from (λ x. is_site target x.target) k ws ≡ Some n → FirstAt ws target k n
 first_at [] target k n e = absurd (none-some n e)
 first_at (w ∷ ws) target k n e = first_by w ws target k n (is_site target w.target) refl (first_at ws target (k + 1) n) e
 
 -- where one passes, the first stands there or before it
-before_by : (w : Wire) (ws : List Wire) (target : Site) (k j : ℕ) (b : Bool) → is_site target w.target ≡ b → target_in (w ∷ ws) j ≡ Some target
+before_by : (w : Wire) (ws : List Wire) (target : PortPlace) (k j : ℕ) (b : Bool) → is_site target w.target ≡ b → target_in (w ∷ ws) j ≡ Some target
     → ((i : ℕ) → target_in ws i ≡ Some target → (n : ℕ) × (position_from (λ x. is_site target x.target) (k + 1) ws ≡ Some n) × (n ≤ k + 1 + i))
     → (n : ℕ) × (cond b (Some k) (position_from (λ x. is_site target x.target) (k + 1) ws) ≡ Some n) × (n ≤ k + j)
 before_by w ws target k j true e h rest = (k, refl, omega arith)
 before_by w ws target k zero false e h rest = absurd (true≢false (sym (of_site target w.target h) ∙ e))
 before_by w ws target k (suc j) false e h rest = let r = rest j h in let least = r.2 in (r.0, r.1, omega arith)
 
-none_past : (j : ℕ) (target : Site) → target_in [] j ≡ Some target → ⊥
+none_past : (j : ℕ) (target : PortPlace) → target_in [] j ≡ Some target → ⊥
 none_past zero target h = none-some target h
 none_past (suc j) target h = none-some target h
 
-first_before : (ws : List Wire) (target : Site) (k j : ℕ) → target_in ws j ≡ Some target
+first_before : (ws : List Wire) (target : PortPlace) (k j : ℕ) → target_in ws j ≡ Some target
     → (n : ℕ) × (position_from (λ x. is_site target x.target) k ws ≡ Some n) × (n ≤ k + j)
 first_before [] target k j h = absurd (none_past j target h)
 first_before (w ∷ ws) target k j h = before_by w ws target k j (is_site target w.target) refl h (λ i g. first_before ws target (k + 1) i g)
 
 -- ---- second ones
 
-second_to : (wires : List Wire) (number : ℕ) (target : Site) → target_in wires number ≡ Some target → (o : Option ℕ) → first_into wires target ≡ o
+second_to : (wires : List Wire) (number : ℕ) (target : PortPlace) → target_in wires number ≡ Some target → (o : Option ℕ) → first_into wires target ≡ o
     → is_before o number ≡ true → IsSecond wires number
 second_to wires number target h None e t = absurd (true≢false (sym t))
 second_to wires number target h (Some n) e t =
@@ -124,7 +124,7 @@ second_to wires number target h (Some n) e t =
     let is = f.is in
     record { first = f.index; target = target; in_order = omega arith; earlier = f.passes; here = h }
 
-pub second_from : (wires : List Wire) (number : ℕ) (target : Site) → target_in wires number ≡ Some target → IsSecond wires number
+pub second_from : (wires : List Wire) (number : ℕ) (target : PortPlace) → target_in wires number ≡ Some target → IsSecond wires number
     → is_before (first_into wires target) number ≡ true
 second_from wires number target h s =
     let same : s.target ≡ target = same_Some s.target target (sym s.here ∙ h) in
@@ -133,7 +133,7 @@ second_from wires number target h s =
     let less = s.in_order in
     ap (λ o. is_before o number) r.1 ∙ lt-ltb r.0 number (omega arith)
 
-pub is_second-tells : (wires : List Wire) (number : ℕ) (target : Site) (b : Bool) → target_in wires number ≡ Some target
+pub is_second-tells : (wires : List Wire) (number : ℕ) (target : PortPlace) (b : Bool) → target_in wires number ≡ Some target
     → b ≡ is_before (first_into wires target) number → IsTrue b ↔ IsSecond wires number
 is_second-tells wires number target b h is =
     (λ t. second_to wires number target h (first_into wires target) refl (sym is ∙ t), λ s. is ∙ second_from wires number target h s)

@@ -2,8 +2,8 @@
 use Rattle.std.specs.Prelude.{◌≡◌, ℕ, List, [], ◌∷◌, ◌++◌, Option, Some, slice_get}
 use Rattle.std.specs.Option.{option_and_then}
 use Rattle.aadl_tree.specs.Declarations.{Subcomponent, Implementation, PackageTree}
-use Rattle.aadl_names.specs.declared.fault.FlatFault.{FlatFault}
-use Rattle.aadl_names.specs.declared.fault.FlatFault.TheVariants.{Recursive}
+use Rattle.aadl_names.specs.declared.fault.PackageFault.{PackageFault}
+use Rattle.aadl_names.specs.declared.fault.PackageFault.TheVariants.{Recursive}
 use Rattle.aadl_names.specs.Resolving.{implementation_at, subcomponents_of, referred}
 
 abbrev pub sub_at : PackageTree ℕ → ℕ → ℕ → Option (Subcomponent ℕ)
@@ -32,5 +32,5 @@ pub record ClosesCycle (tree : PackageTree ℕ) (sub : Subcomponent ℕ) : Type 
   pub is_sub : sub_at tree within number ≡ Some sub
   pub returns : standing tree within (path ++ number ∷ []) ≡ Some within
 
-abbrev pub IsRecursive : PackageTree ℕ → FlatFault → Type 0
+abbrev pub IsRecursive : PackageTree ℕ → PackageFault → Type 0
 IsRecursive tree fault = (sub : Subcomponent ℕ) × ClosesCycle tree sub × (fault ≡ Recursive sub.name.spelling sub.name.at)

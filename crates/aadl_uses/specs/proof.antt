@@ -10,5 +10,5 @@ pub mod Threads
 pub mod Recursion
 pub mod Types
 pub mod PortNumbers
-pub mod Firsts
+pub mod FirstConnections
 pub mod Wiring

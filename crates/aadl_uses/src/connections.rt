@@ -1,12 +1,12 @@
 //! The connections of one declaration, found by the ports into which they go.
 ghost use Rattle.std.specs.Prelude.{◌≡◌, ◌↔◌, None, Some, IfOk, OnOk, IsTrue, if◌then◌else◌};
 ghost use Rattle.std.specs.Option.{option_or};
-ghost use Rattle.aadl_names.specs.declared.site.Site.{Site};
+ghost use Rattle.aadl_names.specs.declared.site.PortPlace.{PortPlace};
 ghost use Rattle.aadl_uses.specs.proof.PortNumbers.{is_site, number_of};
-ghost use Rattle.aadl_uses.specs.Firsts as spec;
-ghost use Rattle.aadl_uses.specs.proof.Firsts as inner;
+ghost use Rattle.aadl_uses.specs.FirstConnections as spec;
+ghost use Rattle.aadl_uses.specs.proof.FirstConnections as inner;
 
-use aadl_names::Site;
+use aadl_names::PortPlace;
 use indexmap::IndexMap;
 use pals_base::Items;
 use std::alloc::{AllocError, Global};
@@ -15,15 +15,15 @@ use std::marker::Model;
 /// A connection, by the ports that it joins, where they are declared.
 #[derive(Clone, Copy)]
 pub struct Wire {
-    pub source: Option<Site>,
-    pub target: Option<Site>,
+    pub source: Option<PortPlace>,
+    pub target: Option<PortPlace>,
 }
 
 /// The connections of a declaration. Contracts see their list.
 pub struct Connections {
     wires: Items<Wire>,
     // of those that go into one port, the first
-    firsts: IndexMap<Site, usize>,
+    firsts: IndexMap<PortPlace, usize>,
 }
 
 impl Drop for Connections {
@@ -37,17 +37,17 @@ impl Drop for Connections {
 
 impl Model for Connections {
     ghost use Rattle.std.specs.Prelude.{◌≡◌, List};
-    ghost use Rattle.aadl_names.specs.declared.site.Site.{Site};
+    ghost use Rattle.aadl_names.specs.declared.site.PortPlace.{PortPlace};
     ghost use Rattle.aadl_uses.specs.declared.connections.Wire.{Wire};
     ghost use Rattle.aadl_uses.specs.proof.PortNumbers.{number_of};
-    ghost use Rattle.aadl_uses.specs.Firsts as spec;
-    ghost use Rattle.aadl_uses.specs.proof.Firsts as inner;
+    ghost use Rattle.aadl_uses.specs.FirstConnections as spec;
+    ghost use Rattle.aadl_uses.specs.proof.FirstConnections as inner;
 
     ghost Value = { List Wire };
 
     ghost view = { λ c. c.wires };
 
-    ghost invariant = { λ c. (target : Site) → number_of c.firsts.entries target ≡ inner.first_into c.wires target };
+    ghost invariant = { λ c. (target : PortPlace) → number_of c.firsts.entries target ≡ inner.first_into c.wires target };
 }
 
 impl Connections {
@@ -67,7 +67,7 @@ impl Connections {
     }
 
     /// The number of the first one that goes into a port.
-    pub fn first_into(&self, target: Site) -> Option<usize>
+    pub fn first_into(&self, target: PortPlace) -> Option<usize>
         ensures { result ≡ inner.first_into self.now target }
     {
         self.firsts.get(&target).copied()
@@ -85,7 +85,7 @@ impl Connections {
 }
 
 // The port into which a connection goes.
-fn target_at(wires: &[Wire], number: usize) -> Option<Site>
+fn target_at(wires: &[Wire], number: usize) -> Option<PortPlace>
     ensures { result ≡ spec.target_in wires.now number }
 {
     match wires.get(number) {
@@ -105,8 +105,8 @@ fn is_before(first: Option<usize>, number: usize) -> bool
 }
 
 // The number of the first connection into each port.
-fn firsts_of(alloc: Global, wires: &[Wire]) -> Result<IndexMap<Site, usize>, AllocError>
-    ensures { IfOk result (λ firsts. (target : Site) → number_of firsts.entries target ≡ inner.first_into wires.now target) }
+fn firsts_of(alloc: Global, wires: &[Wire]) -> Result<IndexMap<PortPlace, usize>, AllocError>
+    ensures { IfOk result (λ firsts. (target : PortPlace) → number_of firsts.entries target ≡ inner.first_into wires.now target) }
 {
     let mut firsts = IndexMap::new(alloc);
     for (number, wire) in wires.iter().enumerate() {
@@ -117,11 +117,11 @@ fn firsts_of(alloc: Global, wires: &[Wire]) -> Result<IndexMap<Site, usize>, All
 
 // Adds the number of a connection into a port, unless one goes into it.
 fn add_first(
-    firsts: &mut IndexMap<Site, usize>,
-    target: Option<Site>,
+    firsts: &mut IndexMap<PortPlace, usize>,
+    target: Option<PortPlace>,
     number: usize,
 ) -> Result<(), AllocError>
-    ensures { OnOk result ((other : Site)
+    ensures { OnOk result ((other : PortPlace)
         → number_of firsts.new.entries other ≡ option_or (number_of firsts.old.entries other) (if is_site other target then Some number else None)) }
 {
     match target {
@@ -131,11 +131,11 @@ fn add_first(
 }
 
 fn add_number(
-    firsts: &mut IndexMap<Site, usize>,
-    target: Site,
+    firsts: &mut IndexMap<PortPlace, usize>,
+    target: PortPlace,
     number: usize,
 ) -> Result<(), AllocError>
-    ensures { OnOk result ((other : Site)
+    ensures { OnOk result ((other : PortPlace)
         → number_of firsts.new.entries other ≡ option_or (number_of firsts.old.entries other) (if is_site other (Some target) then Some number else None)) }
 {
     if firsts.get(&target).is_none() {

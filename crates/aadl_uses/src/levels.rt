@@ -5,7 +5,7 @@ use std::alloc::{AllocError, Global};
 
 // What is known of a declaration.
 #[derive(Clone, Copy)]
-enum Mark {
+enum VisitMark {
     New,
     // It has this place among the open ones.
     Open(usize),
@@ -16,7 +16,7 @@ enum Mark {
 // A walk along subcomponents, which comes to each declaration once.
 #[derive(Drop)]
 struct Walk {
-    marks: Vec<Mark>,
+    marks: Vec<VisitMark>,
     // the declarations without a level, as they were met
     open: Vec<usize>,
     // where on that list each group of declarations that lead to one another begins
@@ -32,7 +32,7 @@ impl Walk {
     fn new(alloc: Global, len: usize) -> Result<Walk, AllocError> {
         let mut marks = Vec::new(alloc);
         for _at in 0..len {
-            marks.push(Mark::New)?;
+            marks.push(VisitMark::New)?;
         }
         Ok(Walk {
             marks,
@@ -44,7 +44,7 @@ impl Walk {
         })
     }
 
-    fn mark(&mut self, number: usize, mark: Mark) {
+    fn mark(&mut self, number: usize, mark: VisitMark) {
         if let Some(place) = self.marks.get_mut(number) {
             *place = mark;
         }
@@ -53,7 +53,7 @@ impl Walk {
     // Comes to a declaration for the first time.
     fn enter(&mut self, number: usize) -> Result<(), AllocError> {
         let at = self.open.len();
-        self.mark(number, Mark::Open(at));
+        self.mark(number, VisitMark::Open(at));
         self.open.push(number)?;
         self.groups.push(at)?;
         self.calls.push((number, 0))?;
@@ -74,9 +74,9 @@ impl Walk {
     // Follows a subcomponent.
     fn follow(&mut self, number: usize) -> Result<(), AllocError> {
         match self.marks.get(number).copied() {
-            Some(Mark::New) => self.enter(number)?,
-            Some(Mark::Open(at)) => self.join(at),
-            Some(Mark::Done(_)) | None => {}
+            Some(VisitMark::New) => self.enter(number)?,
+            Some(VisitMark::Open(at)) => self.join(at),
+            Some(VisitMark::Done(_)) | None => {}
         }
         Ok(())
     }
@@ -95,7 +95,7 @@ impl Walk {
                 break;
             }
             if let Some(member) = self.open.pop() {
-                self.mark(member, Mark::Done(self.level));
+                self.mark(member, VisitMark::Done(self.level));
                 self.finished.push(member)?;
             }
         }
@@ -159,9 +159,9 @@ fn walked(alloc: Global, graph: &Containment) -> Result<Walk, AllocError> {
     Ok(walk)
 }
 
-fn level_of(mark: Mark) -> usize {
+fn level_of(mark: VisitMark) -> usize {
     match mark {
-        Mark::Done(level) => level,
-        Mark::New | Mark::Open(_) => 0,
+        VisitMark::Done(level) => level,
+        VisitMark::New | VisitMark::Open(_) => 0,
     }
 }

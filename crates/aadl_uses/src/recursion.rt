@@ -7,12 +7,12 @@ ghost use Rattle.aadl_uses.specs.proof.Recursion.{is_sooner, IsFirstOf, IsSooner
 
 use crate::uses::Uses;
 use crate::{leads_back, suspects};
-use aadl_names::FlatFault;
+use aadl_names::PackageFault;
 use pals_base::Text;
 use std::alloc::{AllocError, Global};
 
 /// The first subcomponent of a package that leads back to the implementation in which it stands.
-pub fn first_recursive(alloc: Global, uses: &Uses<'_>) -> Result<Option<FlatFault>, AllocError>
+pub fn first_recursive(alloc: Global, uses: &Uses<'_>) -> Result<Option<PackageFault>, AllocError>
     ensures { IfOk result (FirstIn (IsRecursive (placed uses.now.names.tree.now))) }
 {
     let suspects = suspects(alloc, uses.containment())?;
@@ -24,7 +24,7 @@ fn first_of(
     alloc: Global,
     uses: &Uses<'_>,
     suspects: &[(usize, usize)],
-) -> Result<Option<FlatFault>, AllocError>
+) -> Result<Option<PackageFault>, AllocError>
     ensures { IfOk result (IsFirstOf (placed uses.now.names.tree.now) suspects.now) }
 {
     let mut first = None;
@@ -39,10 +39,10 @@ fn first_of(
 fn sooner(
     alloc: Global,
     uses: &Uses<'_>,
-    first: Option<FlatFault>,
+    first: Option<PackageFault>,
     within: usize,
     sub: usize,
-) -> Result<Option<FlatFault>, AllocError>
+) -> Result<Option<PackageFault>, AllocError>
     ensures { IfOk result (IsSooner (placed uses.now.names.tree.now) first within sub) }
 {
     let Some(declared) = uses.subcomponent(within, sub) else {
@@ -53,14 +53,14 @@ fn sooner(
     {
         return Ok(first);
     }
-    Ok(Some(FlatFault::Recursive {
+    Ok(Some(PackageFault::Recursive {
         name: Text::from_str(alloc, declared.name.spelling.as_str())?,
         at: declared.name.at,
     }))
 }
 
 // Whether something at a place stands before what was found.
-fn comes_first(first: &Option<FlatFault>, at: usize) -> bool
+fn comes_first(first: &Option<PackageFault>, at: usize) -> bool
     ensures { result ≡ is_sooner at first.now }
 {
     match first {

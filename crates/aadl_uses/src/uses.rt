@@ -5,7 +5,7 @@ ghost use Rattle.std.proofs.Props.{props};
 ghost use Rattle.aadl_tree.specs.proof.PackageViews.{placed};
 ghost use Rattle.aadl_tree.specs.proof.Views.{declaration_view, feature_view, implementation_view, subcomponent_view};
 ghost use Rattle.aadl_tree.specs.proof.Maps.{kept_place};
-ghost use Rattle.aadl_names.specs.declared.fault.FlatFault.{FlatFault};
+ghost use Rattle.aadl_names.specs.declared.fault.PackageFault.{PackageFault};
 ghost use Rattle.aadl_names.specs.Resolving as resolving;
 ghost use Rattle.aadl_names.specs.Resolving.{implementation_at, ports_at, referred};
 ghost use Rattle.aadl_uses.specs.proof.Uses as spec;
@@ -86,7 +86,7 @@ impl<'t> Uses<'t> {
 
     /// All declarations, each behind those that its subcomponents name. None contains itself.
     pub fn order(&self, alloc: Global) -> Result<IndexSet<usize>, AllocError>
-        requires { (fault : FlatFault) → ¬ IsRecursive (placed self.now.names.tree.now) fault }
+        requires { (fault : PackageFault) → ¬ IsRecursive (placed self.now.names.tree.now) fault }
         ensures { IfOk result (λ order. IsOrder (spec.containment (placed self.now.names.tree.now)) order.keys) }
     {
         order(alloc, &self.graph)

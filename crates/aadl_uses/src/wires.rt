@@ -6,7 +6,7 @@ ghost use Rattle.aadl_tree.specs.proof.Views.{connection_view};
 ghost use Rattle.aadl_tree.specs.proof.Maps.{kept_place};
 ghost use Rattle.aadl_names.specs.Resolving.{implementation_at, connections_of, ports_at, direction_in};
 ghost use Rattle.aadl_names.specs.PackageFaults as faults;
-ghost use Rattle.aadl_uses.specs.Firsts.{IsSecond};
+ghost use Rattle.aadl_uses.specs.FirstConnections.{IsSecond};
 ghost use Rattle.aadl_uses.specs.proof.Wiring.{wires_in};
 ghost use Rattle.aadl_uses.specs.Wiring.{wires_at};
 ghost use Rattle.aadl_uses.specs.proof.Wiring as spec;
@@ -14,7 +14,7 @@ ghost use Rattle.aadl_uses.specs.proof.Wiring as spec;
 use crate::connections::{Connections, Wire};
 use crate::uses::Uses;
 use crate::wiring::wiring_of;
-use aadl_names::Site;
+use aadl_names::PortPlace;
 use aadl_tree::{Connection, Direction};
 use pals_base::Items;
 use std::alloc::{AllocError, Global};
@@ -68,7 +68,7 @@ impl<'t> Wires<'t> {
     }
 
     /// The first connection of a declaration into a port, and where it comes from.
-    pub fn into(&self, number: usize, target: Site) -> Option<(usize, Site)>
+    pub fn into(&self, number: usize, target: PortPlace) -> Option<(usize, PortPlace)>
         ensures { result ≡ spec.into (placed self.now.uses.names.tree.now) number target }
     {
         let wire = self.first_into(number, target)?;
@@ -89,7 +89,7 @@ impl<'t> Wires<'t> {
     }
 
     // The number of the first connection of a declaration into a port.
-    fn first_into(&self, number: usize, target: Site) -> Option<usize>
+    fn first_into(&self, number: usize, target: PortPlace) -> Option<usize>
         ensures { result ≡ spec.first_into_at (placed self.now.uses.names.tree.now) number target }
     {
         match self.connections.get(number) {
@@ -120,7 +120,7 @@ pub fn goes_in(direction: Direction) -> bool
     }
 }
 
-fn with_source(number: usize, wire: Wire) -> Option<(usize, Site)>
+fn with_source(number: usize, wire: Wire) -> Option<(usize, PortPlace)>
     ensures { result ≡ spec.with_source number wire }
 {
     match wire.source {

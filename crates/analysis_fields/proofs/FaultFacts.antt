@@ -9,7 +9,7 @@ use Rattle.pals_base.specs.declared.behaviour.Kind.{Kind}
 use Rattle.pals_base.specs.declared.limits.TheConstants.{ROUNDS}
 use Rattle.pals_base.specs.declared.values.NodeNo.{NodeNo}
 use Rattle.pals_base.specs.declared.values.LinkNo.{LinkNo}
-use Rattle.pals_base.specs.declared.values.Port.{Port}
+use Rattle.pals_base.specs.declared.values.PortValue.{PortValue}
 use Rattle.pals_model.specs.declared.design.DesignParts.{DesignParts}
 use Rattle.pals_model.specs.Inputs.{rate_of}
 use Rattle.scenario_values.specs.declared.fault.ScenarioFault.{ScenarioFault}
@@ -17,7 +17,7 @@ use Rattle.scenario_values.specs.declared.fault.ScenarioFault.TheVariants.{Wrong
 use Rattle.scenario_values.specs.Outcomes.{◌>>=◌, only_if, through}
 use Rattle.scenario_values.specs.FaultPlaces.{inside}
 use Rattle.scenario_values.specs.Values.{elements, text, whole, is_whole, port_value}
-use Rattle.scenario_values.proofs.Passing.{ok_same, ok_bind, ok_only_if, through_keeps, whole_within}
+use Rattle.scenario_values.proofs.PassedValues.{ok_same, ok_bind, ok_only_if, through_keeps, whole_within}
 use Rattle.scenario_values.specs.Names.{node_no, link_no, node_at, link_at}
 use Rattle.analysis_fields.specs.proof.AnalysisFacts.{IsFaultOf}
 use Rattle.analysis_fields.specs.declared.faults.FaultEnds.{FaultEnds}
@@ -26,12 +26,12 @@ use Rattle.analysis_fields.specs.declared.limits.TheConstants.{REPLICAS}
 use Rattle.analysis_fields.specs.Replicas.{is_among, source_in, copies_at, kind_at, with_fault_value, fault_values, replica_at, link_from, ends_of, fault_behind, fault_of, fault_from, fault_in, is_same_place, with_fault, faults_in}
 
 -- ---- values: one for each element
-value_more : (kind : Kind) (place : List ℕ) (values : List Port) (d : Data) (more : List Port) → with_fault_value kind place values d ≡ Ok more → length more ≡ length values + 1
+value_more : (kind : Kind) (place : List ℕ) (values : List PortValue) (d : Data) (more : List PortValue) → with_fault_value kind place values d ≡ Ok more → length more ≡ length values + 1
 value_more kind place values d more e =
     let read = ok_bind (port_value kind place d) (λ v. Ok (values ++ v ∷ [])) more e in
     ap length (sym (ok_same (values ++ read.0 ∷ []) more read.2)) ∙ length-append values (read.0 ∷ [])
 
-values_count : (kind : Kind) (place : List ℕ) (values : List Port) (ds : List Data) (all : List Port) → through (with_fault_value kind place) values ds ≡ Ok all → length all ≡ length values + length ds
+values_count : (kind : Kind) (place : List ℕ) (values : List PortValue) (ds : List Data) (all : List PortValue) → through (with_fault_value kind place) values ds ≡ Ok all → length all ≡ length values + length ds
 values_count kind place values [] all e = let same = ok_same values all e in let counts = ap length same in omega arith
 values_count kind place values (d ∷ ds) all e =
     let first = ok_bind (with_fault_value kind place values d) (λ next. through (with_fault_value kind place) next ds) all e in
@@ -78,7 +78,7 @@ ends_keep design replicas place path name replica ends e =
 behind_keeps : (design : DesignParts) (replicas : List NodeNo) (place : List ℕ) (ends : FaultEnds) (target round : Data) (values : List Data) (f : RoundFault) → AreEnds design replicas ends → fault_behind design replicas place ends target round values ≡ Ok f → IsFaultOf design replicas f
 unfolding fault_behind
 behind_keeps design replicas place ends target round values f keeps e =
-    let made : ℕ → ℕ → List Port → RoundFault = λ t n tuple. record { round = n; fault = record { source = ends.source; replica = ends.replica; link = ends.link; target_replica = t; values = tuple } } in
+    let made : ℕ → ℕ → List PortValue → RoundFault = λ t n tuple. record { round = n; fault = record { source = ends.source; replica = ends.replica; link = ends.link; target_replica = t; values = tuple } } in
     let tail : ℕ → ℕ → Result RoundFault ScenarioFault = λ t n. only_if (nat_eq (length values) (rate_of design ends.source.0)) (OutOfRange place) (fault_values (kind_at design ends.link.0) place values >>= λ tuple. Ok (made t n tuple)) in
     let copies = copies_at design replicas ends.link.0 in
     let number = ok_bind (whole place 1 copies target) (λ t. whole place 0 ROUNDS round >>= λ n. tail t n) f e in

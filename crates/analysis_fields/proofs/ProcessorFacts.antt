@@ -20,7 +20,7 @@ use Rattle.scenario_values.specs.declared.fault.ScenarioFault.TheVariants.{Unkno
 use Rattle.scenario_values.specs.Outcomes.{◌>>=◌, only_if, through}
 use Rattle.scenario_values.specs.FaultPlaces.{inside}
 use Rattle.scenario_values.specs.Values.{entries, text, whole}
-use Rattle.scenario_values.proofs.Passing.{ok_same, ok_bind, ok_given, ok_only_if, through_keeps, whole_within}
+use Rattle.scenario_values.proofs.PassedValues.{ok_same, ok_bind, ok_given, ok_only_if, through_keeps, whole_within}
 use Rattle.scenario_values.specs.Names.{node_no, node_at}
 use Rattle.scenario_values.proofs.Search.{within}
 use Rattle.analysis_fields.specs.proof.AnalysisFacts.{IsProcessorOf}

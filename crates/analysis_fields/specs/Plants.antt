@@ -14,7 +14,7 @@ use Rattle.scenario_values.specs.Outcomes.{◌>>=◌, only_if, through}
 use Rattle.scenario_values.specs.FaultPlaces.{inside}
 use Rattle.scenario_values.specs.Values.{entries, text}
 use Rattle.scenario_values.specs.Names.{node_no, node_at}
-use Rattle.analysis_fields.specs.declared.plants.Named.{Named}
+use Rattle.analysis_fields.specs.declared.plants.NamedPair.{NamedPair}
 
 abbrev pub pair : ℕ → ℕ → Pair
 pair plant controller = record { plant = node_no plant; controller = node_no controller }
@@ -23,18 +23,18 @@ pair plant controller = record { plant = node_no plant; controller = node_no con
 abbrev pub controller_in : DesignParts → Data → Option ℕ
 controller_in design d = option_and_then (node_named design) (as_str d)
 
-abbrev pub named_in : DesignParts → List ℕ × Data → Named
+abbrev pub named_in : DesignParts → List ℕ × Data → NamedPair
 named_in design entry = record { plant = node_named design entry.0; controller = controller_in design entry.1 }
 
 abbrev pub is_number : Option ℕ → ℕ → Bool
 is_number None node = false
 is_number (Some number) node = nat_eq number node
 
-abbrev pub names_node : ℕ → Named → Bool
+abbrev pub names_node : ℕ → NamedPair → Bool
 names_node node n = is_number n.plant node || is_number n.controller node
 
 -- an entry names a component of a pair
-abbrev pub shares : Pair → Named → Bool
+abbrev pub shares : Pair → NamedPair → Bool
 shares p n = names_node p.plant.0 n || names_node p.controller.0 n
 
 -- where one end of a link is the plant, the other is the controller
@@ -48,21 +48,21 @@ abbrev pub are_equals : DesignParts → Pair → Bool
 are_equals design p = nat_eq (rate_of design p.plant.0) (rate_of design p.controller.0) && not (nat_eq p.plant.0 p.controller.0)
 
 -- no entry but its own names one of these components
-abbrev pub is_alone : List Named → Pair → Bool
+abbrev pub is_alone : List NamedPair → Pair → Bool
 is_alone all p = nat_eq (count_by (shares p) all) 1
 
 -- such components, whose plant is linked to the controller alone
-unfoldable pub is_sound : DesignParts → List Named → Pair → Bool
+unfoldable pub is_sound : DesignParts → List NamedPair → Pair → Bool
 is_sound design all p = are_equals design p && is_alone all p && list_all (is_between p) design.links
 
 -- one pair; what all entries name is given
-unfoldable pub pair_in : DesignParts → List Named → List ℕ × Data → Result Pair ScenarioFault
+unfoldable pub pair_in : DesignParts → List NamedPair → List ℕ × Data → Result Pair ScenarioFault
 pair_in design all entry =
     let place = inside (codes "plants") entry.0 in
     node_at place design entry.0 >>= λ plant. text place entry.1 >>= λ path. node_at place design path >>= λ controller.
     only_if (is_sound design all (pair plant controller)) (OutOfRange place) (Ok (pair plant controller))
 
-abbrev pub with_pair : DesignParts → List Named → List Pair → List ℕ × Data → Result (List Pair) ScenarioFault
+abbrev pub with_pair : DesignParts → List NamedPair → List Pair → List ℕ × Data → Result (List Pair) ScenarioFault
 with_pair design all before entry = pair_in design all entry >>= λ p. Ok (before ++ p ∷ [])
 
 unfoldable pub plants_in : DesignParts → Data → Result (List Pair) ScenarioFault

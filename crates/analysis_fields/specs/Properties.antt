@@ -12,17 +12,17 @@ use Rattle.pals_runs.specs.declared.forms.Compare.TheVariants.{Eq, Ne, Lt, Le, G
 use Rattle.pals_runs.specs.Formula.{Formula, Var, Halted, Not, And, Or, Previous, Once, Historically, Since}
 use Rattle.scenario_values.specs.declared.fault.ScenarioFault.{ScenarioFault}
 use Rattle.scenario_values.specs.declared.fault.ScenarioFault.TheVariants.{WrongKind, Unknown, OutOfRange}
-use Rattle.analysis_fields.specs.declared.formulas.Role.{Role}
+use Rattle.analysis_fields.specs.declared.formulas.FormulaWord.{FormulaWord}
 use Rattle.analysis_fields.specs.declared.limits.TheConstants.{PROPERTIES, FORMS, LEVELS}
 use Rattle.scenario_values.specs.Outcomes.{◌>>=◌, given, only_if, through}
 use Rattle.scenario_values.specs.FaultPlaces.{inside}
 use Rattle.analysis_fields.specs.PropertyValues.{PropertyValue}
 use Rattle.scenario_values.specs.Values.{values_in, elements, entries, text, number, is_whole}
 use Rattle.scenario_values.specs.Names.{node_at}
-use Rattle.analysis_fields.specs.declared.formulas.Role.TheVariants as role
+use Rattle.analysis_fields.specs.declared.formulas.FormulaWord.TheVariants as role
 
 -- ---- words
-abbrev pub role_of : List ℕ → Option Role
+abbrev pub role_of : List ℕ → Option FormulaWord
 role_of word =
     if bytes_eq word (codes "var") then Some role.Var else if bytes_eq word (codes "halted") then Some role.Halted
     else if bytes_eq word (codes "not") then Some role.Not else if bytes_eq word (codes "previous") then Some role.Previous
@@ -37,12 +37,12 @@ compare_of word =
     else if bytes_eq word (codes ">") then Some Gt else if bytes_eq word (codes ">=") then Some Ge else None
 
 -- whether all that follows the word are formulas
-abbrev pub has_parts : Role → Bool
+abbrev pub has_parts : FormulaWord → Bool
 has_parts role.Var = false
 has_parts role.Halted = false
 has_parts r = true
 
-abbrev pub role_in : List Data → Option Role
+abbrev pub role_in : List Data → Option FormulaWord
 role_in [] = None
 role_in (d ∷ ds) = option_and_then role_of (as_str d)
 
@@ -94,27 +94,27 @@ halted_form design place (path ∷ []) = text place path >>= λ p. node_at place
 halted_form design place ds = Err (WrongKind place)
 
 -- ---- formulas of formulas
-abbrev pub of_one : Role → Formula → Formula
+abbrev pub of_one : FormulaWord → Formula → Formula
 of_one role.Previous f = Previous f
 of_one role.Once f = Once f
 of_one role.Historically f = Historically f
 of_one r f = Not f
 
-abbrev pub of_two : Role → Formula → Formula → Formula
+abbrev pub of_two : FormulaWord → Formula → Formula → Formula
 of_two role.Or f g = Or f g
 of_two role.Since f g = Since f g
 of_two r f g = And f g
 
-abbrev pub one_part : (Data → Result Formula ScenarioFault) → List ℕ → Role → List Data → Result Formula ScenarioFault
+abbrev pub one_part : (Data → Result Formula ScenarioFault) → List ℕ → FormulaWord → List Data → Result Formula ScenarioFault
 one_part read place r (d ∷ []) = read d >>= λ f. Ok (of_one r f)
 one_part read place r ds = Err (WrongKind place)
 
-abbrev pub two_parts : (Data → Result Formula ScenarioFault) → List ℕ → Role → List Data → Result Formula ScenarioFault
+abbrev pub two_parts : (Data → Result Formula ScenarioFault) → List ℕ → FormulaWord → List Data → Result Formula ScenarioFault
 two_parts read place r (d ∷ e ∷ []) = read d >>= λ f. read e >>= λ g. Ok (of_two r f g)
 two_parts read place r ds = Err (WrongKind place)
 
 -- the formula of a word and of what follows it
-abbrev pub form_of : (Data → Result Formula ScenarioFault) → DesignParts → List ℕ → Role → List Data → Result Formula ScenarioFault
+abbrev pub form_of : (Data → Result Formula ScenarioFault) → DesignParts → List ℕ → FormulaWord → List Data → Result Formula ScenarioFault
 form_of read design place role.Var ds = var_form design place ds
 form_of read design place role.Halted ds = halted_form design place ds
 form_of read design place role.And ds = two_parts read place role.And ds

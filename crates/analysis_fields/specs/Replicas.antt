@@ -6,7 +6,7 @@ use Rattle.pals_base.specs.declared.behaviour.Kind.{Kind}
 use Rattle.pals_base.specs.declared.behaviour.Kind.TheVariants.{Integer}
 use Rattle.pals_base.specs.declared.values.NodeNo.{NodeNo}
 use Rattle.pals_base.specs.declared.values.LinkNo.{LinkNo}
-use Rattle.pals_base.specs.declared.values.Port.{Port}
+use Rattle.pals_base.specs.declared.values.PortValue.{PortValue}
 use Rattle.pals_base.specs.declared.limits.TheConstants.{ROUNDS}
 use Rattle.pals_model.specs.declared.design.Link.{Link}
 use Rattle.pals_model.specs.declared.design.DesignParts.{DesignParts}
@@ -63,10 +63,10 @@ kind_at design link = kind_in design (slice_get design.links link)
 
 -- ---- faults
 -- one more value of a fault
-abbrev pub with_fault_value : Kind → List ℕ → List Port → Data → Result (List Port) ScenarioFault
+abbrev pub with_fault_value : Kind → List ℕ → List PortValue → Data → Result (List PortValue) ScenarioFault
 with_fault_value kind place values d = port_value kind place d >>= λ v. Ok (values ++ v ∷ [])
 
-abbrev pub fault_values : Kind → List ℕ → List Data → Result (List Port) ScenarioFault
+abbrev pub fault_values : Kind → List ℕ → List Data → Result (List PortValue) ScenarioFault
 fault_values kind place ds = through (with_fault_value kind place) [] ds
 
 -- a component that is replicated

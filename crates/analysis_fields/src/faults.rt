@@ -14,7 +14,7 @@ use pals_model::Link;
 use pals_runs::VoteFault;
 use scenario_values::json::{elements, is_whole, port_value, text, whole};
 use scenario_values::place::{Place, out_of_range, unknown, wrong_kind};
-use scenario_values::{Names, ScenarioFault};
+use scenario_values::{DesignNames, ScenarioFault};
 use serde_json::Value;
 use std::alloc::Global;
 
@@ -66,7 +66,7 @@ fn target_of(link: Option<&Link>) -> NodeNo
 }
 
 // The type of what a link carries.
-fn kind_of(names: &Names<'_>, link: Option<&Link>) -> Kind
+fn kind_of(names: &DesignNames<'_>, link: Option<&Link>) -> Kind
     ensures { result ≡ kind_in names.now (option_copied link.entry) }
 {
     match link {
@@ -127,7 +127,7 @@ pub struct FaultEnds {
 #[tactic(auto, unfolding(crate::specs::Replicas::replica_at))]
 fn replica_at(
     alloc: Global,
-    names: &Names<'_>,
+    names: &DesignNames<'_>,
     replicas: &[NodeNo],
     place: Place<'_>,
     path: &str,
@@ -145,7 +145,7 @@ fn replica_at(
 #[tactic(auto, unfolding(crate::specs::Replicas::link_from))]
 fn link_from(
     alloc: Global,
-    names: &Names<'_>,
+    names: &DesignNames<'_>,
     place: Place<'_>,
     source: NodeNo,
     name: &str,
@@ -163,7 +163,7 @@ fn link_from(
 #[tactic(auto, unfolding(crate::specs::Replicas::ends_of))]
 fn ends_of(
     alloc: Global,
-    names: &Names<'_>,
+    names: &DesignNames<'_>,
     replicas: &[NodeNo],
     place: Place<'_>,
     parts: &FaultParts<'_>,
@@ -183,7 +183,7 @@ fn ends_of(
 
 // How many replicas receive on a link.
 #[tactic(auto, unfolding(crate::specs::Replicas::copies_at))]
-fn copies_at(names: &Names<'_>, replicas: &[NodeNo], link: LinkNo) -> u64
+fn copies_at(names: &DesignNames<'_>, replicas: &[NodeNo], link: LinkNo) -> u64
     ensures value { result ≡ copies_at names.now replicas.now link.0 }
     ensures small { result ≤ 3 }
 {
@@ -193,7 +193,7 @@ fn copies_at(names: &Names<'_>, replicas: &[NodeNo], link: LinkNo) -> u64
 
 // The type of what a link carries.
 #[tactic(auto, unfolding(crate::specs::Replicas::kind_at))]
-fn kind_at(names: &Names<'_>, link: LinkNo) -> Kind
+fn kind_at(names: &DesignNames<'_>, link: LinkNo) -> Kind
     ensures { result ≡ kind_at names.now link.0 }
 {
     kind_of(names, names.design().links().get(link.0 as usize))
@@ -203,7 +203,7 @@ fn kind_at(names: &Names<'_>, link: LinkNo) -> Kind
 #[tactic(auto, unfolding(crate::specs::Replicas::fault_behind))]
 fn fault_behind(
     alloc: Global,
-    names: &Names<'_>,
+    names: &DesignNames<'_>,
     replicas: &[NodeNo],
     place: Place<'_>,
     ends: FaultEnds,
@@ -236,7 +236,7 @@ fn fault_behind(
 #[tactic(auto, unfolding(crate::specs::Replicas::fault_of))]
 fn fault_of(
     alloc: Global,
-    names: &Names<'_>,
+    names: &DesignNames<'_>,
     replicas: &[NodeNo],
     place: Place<'_>,
     parts: &FaultParts<'_>,
@@ -252,7 +252,7 @@ fn fault_of(
 #[tactic(auto, unfolding(crate::specs::Replicas::fault_in, crate::specs::Replicas::fault_from))]
 fn read_fault(
     alloc: Global,
-    names: &Names<'_>,
+    names: &DesignNames<'_>,
     replicas: &[NodeNo],
     place: Place<'_>,
     value: &Value,
@@ -284,7 +284,7 @@ fn read_fault(
 #[tactic(auto, unfolding(crate::specs::Replicas::with_fault))]
 fn next_fault(
     alloc: Global,
-    names: &Names<'_>,
+    names: &DesignNames<'_>,
     replicas: &[NodeNo],
     faults: &[RoundFault],
     places: &mut IndexSet<FaultPlace>,
@@ -308,7 +308,7 @@ fn next_fault(
 #[tactic(auto, unfolding(crate::specs::Replicas::faults_in))]
 pub fn read_faults(
     alloc: Global,
-    names: &Names<'_>,
+    names: &DesignNames<'_>,
     replicas: &[NodeNo],
     value: &Value,
 ) -> Result<Items<RoundFault>, ScenarioFault>

@@ -14,13 +14,13 @@ use pals_model::Component;
 use pals_runs::{Compare, Form};
 use scenario_values::json::{elements, is_whole, number, text};
 use scenario_values::place::{Place, out_of_range, unknown, wrong_kind};
-use scenario_values::{Names, ScenarioFault};
+use scenario_values::{DesignNames, ScenarioFault};
 use serde_json::Value;
 use std::alloc::Global;
 
 /// The word that a formula begins with.
 #[derive(Clone, Copy)]
-pub enum Role {
+pub enum FormulaWord {
     Var,
     Halted,
     Not,
@@ -32,27 +32,27 @@ pub enum Role {
     Since,
 }
 
-fn role_of(word: &str) -> Option<Role>
+fn role_of(word: &str) -> Option<FormulaWord>
     ensures { result ≡ role_of word.now }
 {
     if word == "var" {
-        Some(Role::Var)
+        Some(FormulaWord::Var)
     } else if word == "halted" {
-        Some(Role::Halted)
+        Some(FormulaWord::Halted)
     } else if word == "not" {
-        Some(Role::Not)
+        Some(FormulaWord::Not)
     } else if word == "previous" {
-        Some(Role::Previous)
+        Some(FormulaWord::Previous)
     } else if word == "once" {
-        Some(Role::Once)
+        Some(FormulaWord::Once)
     } else if word == "historically" {
-        Some(Role::Historically)
+        Some(FormulaWord::Historically)
     } else if word == "and" {
-        Some(Role::And)
+        Some(FormulaWord::And)
     } else if word == "or" {
-        Some(Role::Or)
+        Some(FormulaWord::Or)
     } else if word == "since" {
-        Some(Role::Since)
+        Some(FormulaWord::Since)
     } else {
         None
     }
@@ -79,14 +79,14 @@ fn compare_of(word: &str) -> Option<Compare>
 }
 
 // Whether all that follows the word are formulas.
-fn has_parts(role: Role) -> bool
+fn has_parts(role: FormulaWord) -> bool
     ensures { result ≡ has_parts role }
 {
-    !matches!(role, Role::Var | Role::Halted)
+    !matches!(role, FormulaWord::Var | FormulaWord::Halted)
 }
 
 // The word that a list begins with.
-fn role_in(values: &[Value]) -> Option<Role>
+fn role_in(values: &[Value]) -> Option<FormulaWord>
     ensures { result ≡ role_in (map view values.now) }
 {
     match values {
@@ -198,7 +198,7 @@ fn find_variable(component: Option<&Component>, name: &str) -> Option<usize>
 #[tactic(auto, unfolding(crate::specs::Properties::variable_at))]
 fn variable(
     alloc: Global,
-    names: &Names<'_>,
+    names: &DesignNames<'_>,
     place: Place<'_>,
     node: NodeNo,
     name: &str,
@@ -215,7 +215,7 @@ fn variable(
 #[tactic(auto, unfolding(crate::specs::Properties::var_form))]
 fn var_form(
     alloc: Global,
-    names: &Names<'_>,
+    names: &DesignNames<'_>,
     place: Place<'_>,
     parts: &[Value],
 ) -> Result<Form, ScenarioFault>
@@ -257,7 +257,7 @@ fn compare_in(value: &Value) -> Option<Compare>
 #[tactic(auto, unfolding(crate::specs::Properties::halted_form))]
 fn halted_form(
     alloc: Global,
-    names: &Names<'_>,
+    names: &DesignNames<'_>,
     place: Place<'_>,
     parts: &[Value],
 ) -> Result<Form, ScenarioFault>
@@ -272,29 +272,29 @@ fn halted_form(
 }
 
 // A formula of one formula.
-fn of_one(alloc: Global, role: Role, part: Form) -> Result<Form, ScenarioFault>
+fn of_one(alloc: Global, role: FormulaWord, part: Form) -> Result<Form, ScenarioFault>
     ensures ok { IfOk result (λ f. formula_of f ≡ of_one role (formula_of part)) }
     ensures err { IfErr result (λ fault. fault ≡ ScenarioFault.Memory) }
 {
     let part = Box::new(alloc, part)?;
     Ok(match role {
-        Role::Previous => Form::Previous(part),
-        Role::Once => Form::Once(part),
-        Role::Historically => Form::Historically(part),
+        FormulaWord::Previous => Form::Previous(part),
+        FormulaWord::Once => Form::Once(part),
+        FormulaWord::Historically => Form::Historically(part),
         _ => Form::Not(part),
     })
 }
 
 // A formula of two formulas.
-fn of_two(alloc: Global, role: Role, left: Form, right: Form) -> Result<Form, ScenarioFault>
+fn of_two(alloc: Global, role: FormulaWord, left: Form, right: Form) -> Result<Form, ScenarioFault>
     ensures ok { IfOk result (λ f. formula_of f ≡ of_two role (formula_of left) (formula_of right)) }
     ensures err { IfErr result (λ fault. fault ≡ ScenarioFault.Memory) }
 {
     let left = Box::new(alloc, left)?;
     let right = Box::new(alloc, right)?;
     Ok(match role {
-        Role::Or => Form::Or(left, right),
-        Role::Since => Form::Since(left, right),
+        FormulaWord::Or => Form::Or(left, right),
+        FormulaWord::Since => Form::Since(left, right),
         _ => Form::And(left, right),
     })
 }
@@ -302,9 +302,9 @@ fn of_two(alloc: Global, role: Role, left: Form, right: Form) -> Result<Form, Sc
 #[cycle(formula)]
 fn one_part(
     alloc: Global,
-    names: &Names<'_>,
+    names: &DesignNames<'_>,
     place: Place<'_>,
-    role: Role,
+    role: FormulaWord,
     levels: u32,
     parts: &[Value],
 ) -> Result<Form, ScenarioFault>
@@ -320,9 +320,9 @@ fn one_part(
 #[cycle(formula)]
 fn two_parts(
     alloc: Global,
-    names: &Names<'_>,
+    names: &DesignNames<'_>,
     place: Place<'_>,
-    role: Role,
+    role: FormulaWord,
     levels: u32,
     parts: &[Value],
 ) -> Result<Form, ScenarioFault>
@@ -341,7 +341,7 @@ fn two_parts(
 #[cycle(formula)]
 pub fn formula_in(
     alloc: Global,
-    names: &Names<'_>,
+    names: &DesignNames<'_>,
     place: Place<'_>,
     levels: u32,
     value: &Value,
@@ -357,14 +357,14 @@ pub fn formula_in(
     };
     let parts = rest_of(values);
     match role {
-        Role::Var => var_form(alloc, names, place, parts),
-        Role::Halted => halted_form(alloc, names, place, parts),
-        Role::And => two_parts(alloc, names, place, Role::And, levels - 1, parts),
-        Role::Or => two_parts(alloc, names, place, Role::Or, levels - 1, parts),
-        Role::Since => two_parts(alloc, names, place, Role::Since, levels - 1, parts),
-        Role::Not => one_part(alloc, names, place, Role::Not, levels - 1, parts),
-        Role::Previous => one_part(alloc, names, place, Role::Previous, levels - 1, parts),
-        Role::Once => one_part(alloc, names, place, Role::Once, levels - 1, parts),
-        Role::Historically => one_part(alloc, names, place, Role::Historically, levels - 1, parts),
+        FormulaWord::Var => var_form(alloc, names, place, parts),
+        FormulaWord::Halted => halted_form(alloc, names, place, parts),
+        FormulaWord::And => two_parts(alloc, names, place, FormulaWord::And, levels - 1, parts),
+        FormulaWord::Or => two_parts(alloc, names, place, FormulaWord::Or, levels - 1, parts),
+        FormulaWord::Since => two_parts(alloc, names, place, FormulaWord::Since, levels - 1, parts),
+        FormulaWord::Not => one_part(alloc, names, place, FormulaWord::Not, levels - 1, parts),
+        FormulaWord::Previous => one_part(alloc, names, place, FormulaWord::Previous, levels - 1, parts),
+        FormulaWord::Once => one_part(alloc, names, place, FormulaWord::Once, levels - 1, parts),
+        FormulaWord::Historically => one_part(alloc, names, place, FormulaWord::Historically, levels - 1, parts),
     }
 }

@@ -12,19 +12,19 @@ use pals_model::{DesignParts, Link};
 use pals_runs::Pair;
 use scenario_values::json::{entries, text};
 use scenario_values::place::{Place, out_of_range};
-use scenario_values::{Names, ScenarioFault};
+use scenario_values::{DesignNames, ScenarioFault};
 use serde_json::{Map, Value};
 use std::alloc::Global;
 
 /// The components that an entry names.
 #[derive(Clone, Copy)]
-pub struct Named {
+pub struct NamedPair {
     plant: Option<u32>,
     controller: Option<u32>,
 }
 
 // The number of the component of a path, if there is one.
-fn number_of(names: &Names<'_>, path: &str) -> Option<u32>
+fn number_of(names: &DesignNames<'_>, path: &str) -> Option<u32>
     ensures { result ≡ node_named names.now path.now }
 {
     match names.find_node(path) {
@@ -34,7 +34,7 @@ fn number_of(names: &Names<'_>, path: &str) -> Option<u32>
 }
 
 // The component that a value names, if there is one.
-fn controller_in(names: &Names<'_>, value: &Value) -> Option<u32>
+fn controller_in(names: &DesignNames<'_>, value: &Value) -> Option<u32>
     ensures { result ≡ controller_in names.now (view value.now) }
 {
     match value.as_str() {
@@ -46,9 +46,9 @@ fn controller_in(names: &Names<'_>, value: &Value) -> Option<u32>
 // What all entries name.
 fn all_named(
     alloc: Global,
-    names: &Names<'_>,
+    names: &DesignNames<'_>,
     members: &Map<String, Value>,
-) -> Result<Vec<Named>, ScenarioFault>
+) -> Result<Vec<NamedPair>, ScenarioFault>
     ensures ok { IfOk result (λ all. all.items ≡ map (named_in names.now) (map entry_of members.now.entries)) }
     ensures err { IfErr result (λ fault. fault ≡ ScenarioFault.Memory) }
 {
@@ -56,7 +56,7 @@ fn all_named(
     for (name, item) in members.iter() {
         let plant = number_of(names, name.as_str());
         let controller = controller_in(names, item);
-        all.push(Named { plant, controller })?;
+        all.push(NamedPair { plant, controller })?;
     }
     Ok(all)
 }
@@ -70,14 +70,14 @@ fn is_number(number: Option<u32>, node: NodeNo) -> bool
     }
 }
 
-fn names_node(node: NodeNo, named: &Named) -> bool
+fn names_node(node: NodeNo, named: &NamedPair) -> bool
     ensures { result ≡ names_node node.0 named.now }
 {
     is_number(named.plant, node) || is_number(named.controller, node)
 }
 
 // Whether an entry names a component of a pair.
-fn shares(pair: &Pair, named: &Named) -> bool
+fn shares(pair: &Pair, named: &NamedPair) -> bool
     ensures { result ≡ shares pair.now named.now }
 {
     names_node(pair.plant, named) || names_node(pair.controller, named)
@@ -92,7 +92,7 @@ fn is_between(pair: &Pair, link: &Link) -> bool
 }
 
 // How many entries name a component of a pair.
-fn count_shared(all: &[Named], pair: &Pair) -> usize
+fn count_shared(all: &[NamedPair], pair: &Pair) -> usize
     ensures { result ≡ count_by (shares pair.now) all.now }
 {
     all.iter().filter(|named| shares(pair, *named)).count()
@@ -113,7 +113,7 @@ fn are_equals(design: &DesignParts, pair: &Pair) -> bool
 }
 
 // Whether no entry but its own names a component of a pair.
-fn is_alone(all: &[Named], pair: &Pair) -> bool
+fn is_alone(all: &[NamedPair], pair: &Pair) -> bool
     ensures { result ≡ is_alone all.now pair.now }
 {
     count_shared(all, pair) == 1
@@ -122,7 +122,7 @@ fn is_alone(all: &[Named], pair: &Pair) -> bool
 // Whether no entry but their own names one of two components of one rate, and the plant is linked
 // to the controller alone.
 #[tactic(auto, unfolding(crate::specs::Plants::is_sound))]
-fn is_sound(design: &DesignParts, all: &[Named], pair: &Pair) -> bool
+fn is_sound(design: &DesignParts, all: &[NamedPair], pair: &Pair) -> bool
     ensures { result ≡ is_sound design.now all.now pair.now }
 {
     are_equals(design, pair)
@@ -134,8 +134,8 @@ fn is_sound(design: &DesignParts, all: &[Named], pair: &Pair) -> bool
 #[tactic(auto, unfolding(crate::specs::Plants::pair_in))]
 fn read_pair(
     alloc: Global,
-    names: &Names<'_>,
-    all: &[Named],
+    names: &DesignNames<'_>,
+    all: &[NamedPair],
     name: &str,
     value: &Value,
 ) -> Result<Pair, ScenarioFault>
@@ -156,7 +156,7 @@ fn read_pair(
 #[tactic(auto, unfolding(crate::specs::Plants::plants_in))]
 pub fn read_plants(
     alloc: Global,
-    names: &Names<'_>,
+    names: &DesignNames<'_>,
     value: &Value,
 ) -> Result<Items<Pair>, ScenarioFault>
     ensures { Answers (plants_in names.now (view value.now)) result }

@@ -14,7 +14,7 @@ use pals_base::names::is_word;
 use pals_base::{Items, Nanos, NoMemory, NodeNo, Text};
 use scenario_values::json::{elements, entries, is_whole, owned, text, whole};
 use scenario_values::place::{Place, missing, out_of_range, wrong_kind};
-use scenario_values::{Names, ScenarioFault};
+use scenario_values::{DesignNames, ScenarioFault};
 use serde_json::{Map, Value};
 use std::alloc::Global;
 
@@ -41,7 +41,7 @@ impl Drop for Processor {
 #[tactic(auto, unfolding(crate::specs::Processors::with_member))]
 fn add_member(
     alloc: Global,
-    names: &Names<'_>,
+    names: &DesignNames<'_>,
     place: Place<'_>,
     number: usize,
     owners: &mut [usize],
@@ -62,7 +62,7 @@ fn add_member(
 // Puts components on the processor of this number.
 fn add_members(
     alloc: Global,
-    names: &Names<'_>,
+    names: &DesignNames<'_>,
     place: Place<'_>,
     number: usize,
     owners: &mut [usize],
@@ -133,7 +133,7 @@ fn processor_parts<'v>(
 #[tactic(auto, unfolding(crate::specs::Processors::processor_in))]
 fn read_processor(
     alloc: Global,
-    names: &Names<'_>,
+    names: &DesignNames<'_>,
     number: usize,
     owners: &mut [usize],
     name: &str,
@@ -165,7 +165,7 @@ fn read_processor(
 // The processors of all entries, whose components are put on them.
 fn place_all(
     alloc: Global,
-    names: &Names<'_>,
+    names: &DesignNames<'_>,
     owners: &mut [usize],
     members: &Map<String, Value>,
 ) -> Result<Items<Processor>, ScenarioFault>
@@ -192,7 +192,7 @@ fn nowhere(owners: &[usize]) -> Option<usize>
 #[tactic(auto, unfolding(crate::specs::Processors::processors_in))]
 pub fn read_processors(
     alloc: Global,
-    names: &Names<'_>,
+    names: &DesignNames<'_>,
     value: &Value,
 ) -> Result<Items<Processor>, ScenarioFault>
     ensures { Answers (processors_in names.now (view value.now)) result }

@@ -14,7 +14,7 @@ use pals_base::{Items, Text};
 use pals_runs::Form;
 use scenario_values::json::{entries, owned};
 use scenario_values::place::{Place, out_of_range};
-use scenario_values::{Names, ScenarioFault};
+use scenario_values::{DesignNames, ScenarioFault};
 use serde_json::{Map, Value};
 use std::alloc::Global;
 use std::marker::Model;
@@ -49,7 +49,7 @@ impl Model for Property {
 #[tactic(auto, unfolding(crate::specs::Properties::property_in))]
 fn read_property(
     alloc: Global,
-    names: &Names<'_>,
+    names: &DesignNames<'_>,
     name: &str,
     value: &Value,
 ) -> Result<Property, ScenarioFault>
@@ -80,7 +80,7 @@ fn are_words(members: &Map<String, Value>) -> bool
 #[tactic(auto, unfolding(crate::specs::Properties::properties_in))]
 pub fn read_properties(
     alloc: Global,
-    names: &Names<'_>,
+    names: &DesignNames<'_>,
     value: &Value,
 ) -> Result<Items<Property>, ScenarioFault>
     ensures { Answers (properties_in names.now (view value.now)) result }

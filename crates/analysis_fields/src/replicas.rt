@@ -7,7 +7,7 @@ ghost use Rattle.analysis_fields.specs.Replicas.{is_among, with_replica, replica
 use pals_base::{Items, NodeNo};
 use scenario_values::json::{elements, text};
 use scenario_values::place::{Place, out_of_range};
-use scenario_values::{Names, ScenarioFault};
+use scenario_values::{DesignNames, ScenarioFault};
 use serde_json::Value;
 use std::alloc::Global;
 
@@ -22,7 +22,7 @@ pub fn is_among(nodes: &[NodeNo], node: NodeNo) -> bool
 #[tactic(auto, unfolding(crate::specs::Replicas::with_replica))]
 fn read_replica(
     alloc: Global,
-    names: &Names<'_>,
+    names: &DesignNames<'_>,
     replicas: &[NodeNo],
     value: &Value,
 ) -> Result<NodeNo, ScenarioFault>
@@ -41,7 +41,7 @@ fn read_replica(
 #[tactic(auto, unfolding(crate::specs::Replicas::replicas_in))]
 pub fn read_replicas(
     alloc: Global,
-    names: &Names<'_>,
+    names: &DesignNames<'_>,
     value: &Value,
 ) -> Result<Items<NodeNo>, ScenarioFault>
     ensures { Answers (replicas_in names.now (view value.now)) result }

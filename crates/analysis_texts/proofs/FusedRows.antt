@@ -1,6 +1,6 @@
 -- The rows of fused composition, one after the other.
 use Rattle.std.proofs.Common.{◌≡◌, ◌∙◌, ◌++◌, ℕ, suc, ◌+◌, List, [], sym, ap, subst, slice_get, add-one}
-use Rattle.pals_base.specs.declared.values.Port.{Port}
+use Rattle.pals_base.specs.declared.values.PortValue.{PortValue}
 use Rattle.pals_model.specs.declared.design.DesignParts.{DesignParts}
 use Rattle.pals_model.specs.declared.rounds.Env.{Env}
 use Rattle.pals_model.specs.Inputs.{values_at}
@@ -12,7 +12,7 @@ use Rattle.plant_fuse.specs.Fused.{ArePairs, Inputs, IsFused}
 use Rattle.plant_fuse.specs.proof.State.{FuseState, begun, IsAdvanced}
 use Rattle.plant_fuse.specs.FusedText.{freport, IsFusedReport}
 use Rattle.plant_fuse.proofs.Solutions.{solution_exists}
-use Rattle.plant_fuse.proofs.Following.{StandsAt, begins, stands_next, leaves_parts}
+use Rattle.plant_fuse.proofs.FollowingStates.{StandsAt, begins, stands_next, leaves_parts}
 use Rattle.plant_fuse.proofs.Partnering.{pair_at, others_apart}
 use Rattle.plant_fuse.proofs.Reports.{reported_more}
 
@@ -36,7 +36,7 @@ rows_begin design pairs env product text sound are is none =
       says = none;
     }
 
-pub rows_next : (design : DesignParts) (pairs : List Pair) (env : Env) (round : ℕ) (values : List Port)
+pub rows_next : (design : DesignParts) (pairs : List Pair) (env : Env) (round : ℕ) (values : List PortValue)
     (old new : FuseState) (text written : List ℕ) → IsDesign design → ArePairs design pairs
     → HasRows design pairs env round old text → values ≡ values_at env round → IsAdvanced old values new
     → written ≡ text ++ text_of (row_lines new.design (λ node. slice_get new.parts node) round)

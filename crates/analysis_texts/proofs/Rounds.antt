@@ -5,9 +5,9 @@ use Rattle.std.proofs.lemmas.List.{length-map}
 use Rattle.std.proofs.lemmas.Grind.{flat_map-append}
 use Rattle.std.specs.Prelude.{Some, flat_map, slice_get, slice_index_or}
 use Rattle.std.proofs.lemmas.Simd.{map-map}
-use Rattle.pals_base.specs.declared.values.Port.{Port}
+use Rattle.pals_base.specs.declared.values.PortValue.{PortValue}
 use Rattle.pals_base.specs.declared.values.Frame.{Frame}
-use Rattle.pals_base.specs.declared.values.Port.TheVariants.{Absent}
+use Rattle.pals_base.specs.declared.values.PortValue.TheVariants.{Absent}
 use Rattle.pals_base.specs.Steps.{Stepped, upwards}
 use Rattle.pals_base.proofs.Upwards.{upwards-more}
 use Rattle.pals_model.specs.declared.design.DesignParts.{DesignParts}
@@ -17,7 +17,7 @@ use Rattle.pals_model.specs.Composition.{comp, next, no_frame, part, all_steps, 
 use Rattle.pals_model.specs.Inputs.{values_at}
 use Rattle.pals_model.specs.RoundTexts.{line_end, text_of, composed_lines, row, report}
 use Rattle.pals_model.proofs.CompositionLaws.{one_frame_each}
-use Rattle.pals_report.specs.proof.Rows.{ArePartsOf}
+use Rattle.pals_report.specs.proof.RowLines.{ArePartsOf}
 use Rattle.run_monitor.specs.proof.Bits.{row_of}
 use Rattle.sync_product.specs.proof.State.{ProductState, advanced, parts_of}
 
@@ -37,7 +37,7 @@ length_values_at env round = length-map env.lists (λ list. slice_index_or list 
 
 -- ---- what a round leaves
 -- a product that stood at a round has the round's parts after it
-pub parts_after : (design : DesignParts) (env : Env) (round : ℕ) (values : List Port) (old : ProductState)
+pub parts_after : (design : DesignParts) (env : Env) (round : ℕ) (values : List PortValue) (old : ProductState)
     (parts : List Part) → old.design ≡ design
     → values ≡ values_at env round
     → old.configuration ≡ comp design env round → parts ≡ (advanced old values).parts
@@ -53,7 +53,7 @@ parts_after design env round values old parts same here at is node below =
     ∙ ap (λ m. Some (part_of design all m)) (zero-add node)
 
 -- a product that stood at a round stands at the next
-pub further : (design : DesignParts) (env : Env) (round : ℕ) (values : List Port) (old : ProductState)
+pub further : (design : DesignParts) (env : Env) (round : ℕ) (values : List PortValue) (old : ProductState)
     → old.design ≡ design → values ≡ values_at env round
     → old.configuration ≡ comp design env round → (advanced old values).configuration ≡ comp design env (round + 1)
 unfolding comp
@@ -74,7 +74,7 @@ frames_of_all (x ∷ xs) from (suc n) all size each =
     (frames_of_all xs (suc from) n all (omega arith)
     (λ k d below. ap (λ j. get_or all j d) (omega arith) ∙ each (suc k) d (omega arith)))
 
-pub row_after : (env : Env) (round : ℕ) (values : List Port) (old : ProductState) (parts : List Part)
+pub row_after : (env : Env) (round : ℕ) (values : List PortValue) (old : ProductState) (parts : List Part)
     → values ≡ values_at env round
     → old.configuration ≡ comp old.design env round → parts ≡ (advanced old values).parts
     → row_of parts ≡ (comp old.design env (round + 1)).frames

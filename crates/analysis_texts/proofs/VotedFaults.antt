@@ -10,7 +10,7 @@ use Rattle.analysis_fields.specs.declared.faults.RoundFault.{RoundFault}
 use Rattle.analysis_fields.specs.proof.AnalysisFacts.{IsFaultOf}
 use Rattle.analysis_fields.specs.Replicas.{source_in as named_source}
 use Rattle.triple_vote.specs.Replicas.{source_in}
-use Rattle.triple_vote.specs.proof.Laws.{IsFault}
+use Rattle.triple_vote.specs.proof.VoteLaws.{IsFault}
 use Rattle.triple_vote.proofs.Tables.{table-at}
 use Rattle.analysis_texts.specs.Voted.{faults_of}
 use Rattle.analysis_texts.proofs.Filing.{length-table}

@@ -1,7 +1,7 @@
 -- The rows of rounds that are voted on.
 use Rattle.std.proofs.Common.{◌≡◌, ◌∙◌, ℕ, suc, ◌+◌, ◌≤◌, Bool, true, false, cond, List, ◌++◌, map, sym, ap, arith, append_assoc, add-one}
 use Rattle.pals_base.specs.declared.values.Frame.{Frame}
-use Rattle.pals_base.specs.declared.values.Port.{Port}
+use Rattle.pals_base.specs.declared.values.PortValue.{PortValue}
 use Rattle.pals_model.specs.declared.design.Component.{Component}
 use Rattle.pals_model.specs.declared.design.Tap.{Tap}
 use Rattle.pals_model.specs.declared.design.DesignParts.{DesignParts}
@@ -30,7 +30,7 @@ pub copies_few : (replicated : List Bool) (node : ℕ) → copies_of replicated 
 copies_few replicated node = few_of (is_replicated replicated node)
 
 -- ---- a row from its parts
-pub row_of_parts : (design : DesignParts) (replicated : List Bool) (frame : ℕ → ℕ → Frame) (shown : Tap → List Port)
+pub row_of_parts : (design : DesignParts) (replicated : List Bool) (frame : ℕ → ℕ → Frame) (shown : Tap → List PortValue)
     (round : ℕ) (t0 t1 t2 t3 : List ℕ)
     → t1 ≡ t0 ++ round_line round ++ line_end → t2 ≡ t1 ++ text_of (all_lines replicated frame 0 design.components)
     → t3 ≡ t2 ++ text_of (map (shown_line design shown) design.taps)
@@ -95,7 +95,7 @@ shows_next design env replicated faults round old new h =
 pub voted_more : (design : DesignParts) (env : Env) (replicated : List Bool) (faults : ℕ → List VoteFault) (round : ℕ)
     (old new : VotedState) (text longer : List ℕ)
     → MakesRound design env replicated faults round old new → text ≡ vreport design env replicated faults round
-    → ((shown : Tap → List Port) → new.shown ≡ map shown new.design.taps
+    → ((shown : Tap → List PortValue) → new.shown ≡ map shown new.design.taps
     → longer ≡ text ++ text_of (vrow_lines new.design new.replicated (frame_at new.voted) shown round))
     → HasVoted design env replicated faults (round + 1) new.voted longer
 voted_more design env replicated faults round old new text longer h rows row =

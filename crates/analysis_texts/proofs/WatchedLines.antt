@@ -15,7 +15,7 @@ use Rattle.run_monitor.specs.Monitors.{holds}
 use Rattle.run_monitor.specs.WatchText.{names_of, formulas_of, verdict_line, watched_lines, violation_text, last_line, watched_rows, watch_text}
 use Rattle.run_monitor.specs.Violations.{history, verdicts, violation, is_violated}
 use Rattle.run_monitor.specs.proof.MonitorStates.{MonitorsState, HasWatched}
-use Rattle.run_monitor.specs.declared.violation.Violation.{Violation}
+use Rattle.run_monitor.specs.declared.violation.FalseProperty.{FalseProperty}
 use Rattle.run_monitor.proofs.Violations.{violated_is_first, others_hold}
 use Rattle.run_monitor.proofs.Texts.{rows_go_on}
 use Rattle.run_monitor.proofs.Watching.{history_has_rounds}
@@ -76,7 +76,7 @@ last_words rounds round name =
     ∙ ap (λ t. codes "watch rounds " ++ t) (sym (append_assoc (decimal rounds) (codes " first ") first))
 
 -- ---- the violation that is named
-none_or_first : (design : DesignParts) (env : Env) (rounds : ℕ) (fs : List Formula) (found : Option Violation)
+none_or_first : (design : DesignParts) (env : Env) (rounds : ℕ) (fs : List Formula) (found : Option FalseProperty)
     (violated : Bool)
     → is_violated design env rounds fs ≡ violated → found ≡ violation fs (history design env rounds) rounds
     → (is_some found ≡ violated) × IfSome found (λ v. v.property < length fs)
@@ -131,7 +131,7 @@ rows_more design env round properties rows are =
 
 -- the rows of all rounds, and the last line
 pub watched_whole : (design : DesignParts) (env : Env) (rounds : ℕ) (properties : List PropertyValue)
-    (found : Option Violation) (rows new : List ℕ)
+    (found : Option FalseProperty) (rows new : List ℕ)
     → rows ≡ watched_rows design env rounds (named properties)
     → found ≡ violation (formulas properties) (history design env rounds) rounds
     → new ≡ rows ++ last_line rounds (violation_text (names_of (named properties)) found) ++ line_end

@@ -7,7 +7,7 @@ ghost use Rattle.plant_fuse.specs.Fused.{ArePairs};
 ghost use Rattle.plant_fuse.specs.proof.State.{begun, IsAdvanced};
 ghost use Rattle.plant_fuse.specs.FusedText.{IsFusedReport};
 
-use pals_base::{Items, NoMemory, Port};
+use pals_base::{Items, NoMemory, PortValue};
 use pals_model::{Design, Env};
 use pals_report::{TapPlaces, add_row};
 use pals_runs::Pair;
@@ -61,7 +61,7 @@ fn fused_rows(
     requires places { places.now ≡ tap_places product.old.design.taps }
     ensures { IfOk result (λ text. IsFusedReport product.old.design product.old.pairs env.now rounds text.items) }
 {
-    let mut values = vec![in alloc; Port::Absent; env.lists.len()]?;
+    let mut values = vec![in alloc; PortValue::Absent; env.lists.len()]?;
     let mut text = Vec::new(alloc);
     for round in 0..rounds {
         env.write_values(round, &mut values);
@@ -75,7 +75,7 @@ fn add_fused_row(
     text: &mut Vec<u8>,
     product: &mut FuseProduct,
     places: &TapPlaces,
-    values: &[Port],
+    values: &[PortValue],
     round: u32,
 ) -> Result<(), NoMemory>
     requires places { places.now ≡ tap_places product.old.design.taps }

@@ -9,8 +9,8 @@ ghost use Rattle.analysis_texts.specs.Budgeted.{processor_of, sum_line};
 use analysis_fields::Processor;
 use pals_base::{Nanos, NoMemory};
 use pals_model::Design;
-use pals_report::{Word, add_line, node_word};
-use round_budget::{BudgetEnd, Line, timetable, total};
+use pals_report::{LineWord, add_line, node_word};
+use round_budget::{BudgetEnd, TimetableLine, timetable, total};
 use std::alloc::{AllocError, Global};
 use step_code::Code;
 
@@ -84,26 +84,26 @@ fn add_sum(
     ensures { OnOk result (text.new.items ≡ text.old.items ++ sum_line processor.now.name sum longest fits ++ line_end) }
 {
     let verdict = if fits {
-        Word::Bytes(b"fits")
+        LineWord::Bytes(b"fits")
     } else {
-        Word::Bytes(b"over")
+        LineWord::Bytes(b"over")
     };
     add_line(
         text,
         &[
-            Word::Bytes(b"processor"),
-            Word::Bytes(processor.name.as_bytes()),
-            Word::Bytes(b"sum"),
-            Word::Wide(sum),
-            Word::Bytes(b"of"),
-            Word::Number(longest),
+            LineWord::Bytes(b"processor"),
+            LineWord::Bytes(processor.name.as_bytes()),
+            LineWord::Bytes(b"sum"),
+            LineWord::Wide(sum),
+            LineWord::Bytes(b"of"),
+            LineWord::Number(longest),
             verdict,
         ],
     )
 }
 
 // Adds a line for each step that a processor serves.
-fn add_slots(text: &mut Vec<u8>, design: &Design, lines: &[Line]) -> Result<(), NoMemory>
+fn add_slots(text: &mut Vec<u8>, design: &Design, lines: &[TimetableLine]) -> Result<(), NoMemory>
     ensures { OnOk result (text.new.items ≡ text.old.items ++ text_of (map (slot_line design.now) (map line_value lines.now))) }
 {
     for line in lines {
@@ -113,17 +113,17 @@ fn add_slots(text: &mut Vec<u8>, design: &Design, lines: &[Line]) -> Result<(), 
 }
 
 // Adds the line of a step that a processor serves.
-fn add_slot(text: &mut Vec<u8>, design: &Design, line: &Line) -> Result<(), NoMemory>
+fn add_slot(text: &mut Vec<u8>, design: &Design, line: &TimetableLine) -> Result<(), NoMemory>
     ensures { OnOk result (text.new.items ≡ text.old.items ++ slot_line design.now (line_value line.now) ++ line_end) }
 {
     add_line(
         text,
         &[
-            Word::Bytes(b"slot"),
+            LineWord::Bytes(b"slot"),
             node_word(design.parts(), line.node),
-            Word::Number(u64::from(line.step)),
-            Word::Wide(line.begin),
-            Word::Wide(line.done),
+            LineWord::Number(u64::from(line.step)),
+            LineWord::Wide(line.begin),
+            LineWord::Wide(line.done),
         ],
     )
 }

@@ -12,10 +12,10 @@ ghost use Rattle.run_monitor.specs.proof.MonitorStates.{said_by, HasWatched, Wat
 ghost use Rattle.analysis_texts.specs.Watched.{named, formulas};
 
 use analysis_fields::Property;
-use pals_base::{NoMemory, Port};
+use pals_base::{NoMemory, PortValue};
 use pals_model::{Design, Env};
-use pals_report::{Word, add_line, add_round};
-use run_monitor::{Monitors, Violation};
+use pals_report::{LineWord, add_line, add_round};
+use run_monitor::{Monitors, FalseProperty};
 use std::alloc::Global;
 use std::sync::Arc;
 use sync_product::Product;
@@ -57,7 +57,7 @@ fn watch_rounds(
     ensures text { IfOk result (λ w. w.text.items ≡ watch_text product.old.design env.now rounds (named properties.now)) }
     ensures violated { IfOk result (λ w. w.violated ≡ is_violated product.old.design env.now rounds (formulas properties.now)) }
 {
-    let mut values = vec![in alloc; Port::Absent; env.lists.len()]?;
+    let mut values = vec![in alloc; PortValue::Absent; env.lists.len()]?;
     let mut text = Vec::new(alloc);
     for round in 0..rounds {
         env.write_values(round, &mut values);
@@ -84,7 +84,7 @@ fn monitors(alloc: Global, properties: &[Property]) -> Result<Monitors, NoMemory
 // Goes one round further, and lets the monitors see what it leaves.
 fn go_on(
     product: &mut Product,
-    values: &[Port],
+    values: &[PortValue],
     monitors: &mut Monitors,
     round: u32,
 ) -> Result<(), NoMemory>
@@ -123,11 +123,11 @@ fn add_verdict(text: &mut Vec<u8>, property: &Property, said: bool) -> Result<()
     ensures { OnOk result (text.new.items ≡ text.old.items ++ verdict_line property.now.name said ++ line_end) }
 {
     let verdict = if said {
-        Word::Bytes(b"true")
+        LineWord::Bytes(b"true")
     } else {
-        Word::Bytes(b"false")
+        LineWord::Bytes(b"false")
     };
-    add_line(text, &[Word::Bytes(property.name.as_bytes()), verdict])
+    add_line(text, &[LineWord::Bytes(property.name.as_bytes()), verdict])
 }
 
 // Adds the last line.
@@ -135,24 +135,24 @@ fn add_end(
     text: &mut Vec<u8>,
     rounds: u32,
     properties: &[Property],
-    violation: Option<Violation>,
+    violation: Option<FalseProperty>,
 ) -> Result<(), NoMemory>
     requires { IfSome violation (λ v. v.property < length properties.now) }
     ensures { OnOk result (text.new.items ≡ text.old.items ++ last_line rounds (violation_text (names_of (named properties.now)) violation) ++ line_end) }
 {
-    let watch = Word::Bytes(b"watch");
-    let of_rounds = Word::Bytes(b"rounds");
-    let first = Word::Bytes(b"first");
-    let count = Word::Number(u64::from(rounds));
+    let watch = LineWord::Bytes(b"watch");
+    let of_rounds = LineWord::Bytes(b"rounds");
+    let first = LineWord::Bytes(b"first");
+    let count = LineWord::Number(u64::from(rounds));
     match violation {
         None => add_line(
             text,
-            &[watch, of_rounds, count, first, Word::Bytes(b"none")],
+            &[watch, of_rounds, count, first, LineWord::Bytes(b"none")],
         ),
         Some(violation) => {
             let property = &properties[violation.property];
-            let name = Word::Bytes(property.name.as_bytes());
-            let round = Word::Number(u64::from(violation.round));
+            let name = LineWord::Bytes(property.name.as_bytes());
+            let round = LineWord::Number(u64::from(violation.round));
             add_line(text, &[watch, of_rounds, count, first, name, round])
         }
     }

@@ -1,13 +1,13 @@
 //! The rounds of a design in which some components have replicas.
 ghost use Rattle.std.specs.Prelude.{◌≡◌, ◌++◌, ◌<◌, ◌^◌, ℕ, List, [], All, length, map, IfOk, OnOk};
 ghost use Rattle.pals_base.specs.Steps.{upwards};
-ghost use Rattle.pals_base.specs.declared.values.Port.{Port};
+ghost use Rattle.pals_base.specs.declared.values.PortValue.{PortValue};
 ghost use Rattle.pals_model.specs.declared.design.Tap.{Tap};
 ghost use Rattle.pals_model.specs.Rules.{IsDesign};
 ghost use Rattle.pals_model.specs.RoundTexts.{text_of, report};
 ghost use Rattle.pals_runs.specs.declared.pairs.VoteFault.{VoteFault};
 ghost use Rattle.analysis_fields.specs.proof.AnalysisFacts.{IsFaultOf};
-ghost use Rattle.triple_vote.specs.proof.Laws.{IsFault};
+ghost use Rattle.triple_vote.specs.proof.VoteLaws.{IsFault};
 ghost use Rattle.triple_vote.specs.Replicas.{is_replicated, frame_at, vopening};
 ghost use Rattle.triple_vote.specs.proof.States.{vbegun};
 ghost use Rattle.triple_vote.specs.VotedText.{replica_lines, shown_line, vrow_lines, vreport, thrice};
@@ -18,7 +18,7 @@ ghost use Rattle.analysis_texts.specs.proof.Voted.{names_of, all_names, all_line
 use crate::faults::by_round;
 use crate::names::{replica_names, replicated};
 use analysis_fields::RoundFault;
-use pals_base::{Items, NoMemory, NodeNo, Port, Text, Tuple};
+use pals_base::{Items, NoMemory, NodeNo, PortValue, Text, Tuple};
 use pals_model::{Component, Design, DesignParts, Env};
 use pals_report::{add_frame, add_round, add_shown};
 use pals_runs::VoteFault;
@@ -94,7 +94,7 @@ fn rows(
         → IfOk result (λ text. text.items
         ≡ vreport product.old.design env.now product.old.replicated all (length faults.now)) }
 {
-    let mut values = vec![in alloc; Port::Absent; env.lists.len()]?;
+    let mut values = vec![in alloc; PortValue::Absent; env.lists.len()]?;
     let mut text = Vec::new(alloc);
     for (round, faults) in faults.iter().enumerate() {
         let number = round as u32;
@@ -114,7 +114,7 @@ fn add_row(
 ) -> Result<(), NoMemory>
     requires names { names.now ≡ all_names product.now.design.components product.now.replicated }
     requires shown { length product.now.shown ≡ length product.now.design.taps }
-    ensures { (shown : Tap → List Port) → product.now.shown ≡ map shown product.now.design.taps
+    ensures { (shown : Tap → List PortValue) → product.now.shown ≡ map shown product.now.design.taps
         → OnOk result (text.new.items ≡ text.old.items
         ++ text_of (vrow_lines product.now.design product.now.replicated (frame_at product.now.voted) shown round)) }
 {
@@ -164,7 +164,7 @@ fn add_replicas(
 // Adds a line for each root out port.
 fn add_taps(text: &mut Vec<u8>, design: &DesignParts, shown: &[Tuple]) -> Result<(), NoMemory>
     requires { length shown.now ≡ length design.now.taps }
-    ensures { (all : Tap → List Port) → shown.now ≡ map all design.now.taps
+    ensures { (all : Tap → List PortValue) → shown.now ≡ map all design.now.taps
         → OnOk result (text.new.items ≡ text.old.items ++ text_of (map (shown_line design.now all) design.now.taps)) }
 {
     for (number, tap) in design.taps.as_slice().iter().enumerate() {

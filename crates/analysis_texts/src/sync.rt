@@ -6,7 +6,7 @@ ghost use Rattle.pals_model.specs.Inputs.{values_at};
 ghost use Rattle.pals_model.specs.RoundTexts.{report, row};
 ghost use Rattle.pals_report.specs.proof.TapPlaces.{tap_places};
 
-use pals_base::{NoMemory, Port};
+use pals_base::{NoMemory, PortValue};
 use pals_model::{Design, Env};
 use pals_report::{TapPlaces, add_row};
 use std::alloc::Global;
@@ -34,7 +34,7 @@ fn rows(
     requires opening { product.old.configuration ≡ comp product.old.design env.now 0 }
     ensures { IfOk result (λ text. text.items ≡ report product.old.design env.now rounds) }
 {
-    let mut values = vec![in alloc; Port::Absent; env.lists.len()]?;
+    let mut values = vec![in alloc; PortValue::Absent; env.lists.len()]?;
     let mut text = Vec::new(alloc);
     for round in 0..rounds {
         env.write_values(round, &mut values);
@@ -48,7 +48,7 @@ fn add_round(
     text: &mut Vec<u8>,
     product: &mut Product,
     places: &TapPlaces,
-    values: &[Port],
+    values: &[PortValue],
     round: u32,
 ) -> Result<(), NoMemory>
     requires places { places.now ≡ tap_places product.old.design.taps }

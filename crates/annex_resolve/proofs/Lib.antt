@@ -2,9 +2,9 @@ pub mod Views
 pub mod Chains
 pub mod Reading
 pub mod Names
-pub mod Acting
+pub mod ActionLevels
 pub mod CycleWays
 pub mod Tables
 pub mod Leading
 pub mod Listing
-pub mod Wholes
+pub mod StateFindings

@@ -26,7 +26,7 @@ use Rattle.aadl_tree.specs.Offsets.{primary_at, factor_at, term_at, sum_at, rela
 use Rattle.aadl_tree.specs.proof.Maps.{kept_place}
 use Rattle.aadl_tree.specs.proof.ExpressionViews.{leading_view, factor_view, factors_view, term_view, terms_view, relation_view, relations_view}
 use Rattle.annex_resolve.specs.declared.scope.Scope.{Scope}
-use Rattle.annex_resolve.specs.declared.scope.Entry.{Entry}
+use Rattle.annex_resolve.specs.declared.scope.DeclaredName.{DeclaredName}
 use Rattle.annex_resolve.specs.declared.expressions.Typed.{Typed}
 use Rattle.annex_resolve.specs.declared.violation.Violation.{Violation}
 use Rattle.annex_resolve.specs.Types.{misfit, read_kind, primary_kind, primary_types, sides_misfit, factor_kind, factor_types, factors_types, term_kind, term_types, terms_types, total_kind, sum_types, relation_kind, relation_types, relations_types, expression_kind, expression_types}
@@ -333,7 +333,7 @@ unfolding primary_of primary_kind primary_types
 primary_group scope p at e (Ok t) b a is reads = rw is reads
 primary_group scope p at e (Err e') b a is reads = tt
 
-pub name_read : (scope : Scope) (x : Identifier ℕ) (fresh : Bool) (entry : Option Entry) (r : Option Expr) (e : Expr) (k : Option Kind) (b : List Violation)
+pub name_read : (scope : Scope) (x : Identifier ℕ) (fresh : Bool) (entry : Option DeclaredName) (r : Option Expr) (e : Expr) (k : Option Kind) (b : List Violation)
     → entry ≡ entry_named scope x.spelling → option_map tree_of r ≡ read_of fresh entry → r ≡ Some e → k ≡ read_kind fresh entry
     → let p = named x fresh in Reads (primary_of scope p) (primary_kind scope p) (primary_types scope p) (record { expr = e; kind = k }) b b
 unfolding primary_of primary_kind primary_types
@@ -345,7 +345,7 @@ name_read scope x fresh entry r e k b known read some kind =
       found = sym (ap (λ o. b ++ found_if (not (is_some o)) x.at BAD_TYPE []) is ∙ append-nil b);
     }
 
-pub name_unread : (scope : Scope) (x : Identifier ℕ) (fresh : Bool) (entry : Option Entry) (r : Option Expr) (e : Expr) (k : Option Kind) (b a : List Violation)
+pub name_unread : (scope : Scope) (x : Identifier ℕ) (fresh : Bool) (entry : Option DeclaredName) (r : Option Expr) (e : Expr) (k : Option Kind) (b a : List Violation)
     → entry ≡ entry_named scope x.spelling → option_map tree_of r ≡ read_of fresh entry → r ≡ None → k ≡ read_kind fresh entry
     → tree_of e ≡ plain.Literal (pos 0) → a ≡ b ++ finding x.at BAD_TYPE [] ∷ []
     → let p = named x fresh in Reads (primary_of scope p) (primary_kind scope p) (primary_types scope p) (record { expr = e; kind = k }) b a

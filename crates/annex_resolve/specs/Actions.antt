@@ -8,7 +8,7 @@ use Rattle.aadl_tree.specs.Names.{Identifier}
 use Rattle.aadl_tree.specs.Expressions.{Expression}
 use Rattle.aadl_tree.specs.Actions.{Action, assign, send, choose, loop, Actions, actions, Mores, no_mores, more, Elsifs, no_elsifs, elsif, Otherwise, no_otherwise, otherwise, Block, no_block, block}
 use Rattle.annex_resolve.specs.declared.scope.Scope.{Scope}
-use Rattle.annex_resolve.specs.declared.scope.Entry.{Entry}
+use Rattle.annex_resolve.specs.declared.scope.DeclaredName.{DeclaredName}
 use Rattle.annex_resolve.specs.declared.violation.Violation.{Violation}
 use Rattle.annex_resolve.specs.declared.violation.TheConstants.{BAD_TYPE, LOOP_TOO_LONG}
 use Rattle.annex_resolve.specs.Scopes.{found_if, entry_named, kind_of, may_set, may_send, with_loop}
@@ -33,7 +33,7 @@ is_integer None = false
 is_integer (Some k) = not (is_boolean k)
 
 -- ---- a name that is set or sent, and the value for it
-abbrev pub given_types : Scope → (Option Entry → Bool) → Identifier ℕ → Expression ℕ → List Violation
+abbrev pub given_types : Scope → (Option DeclaredName → Bool) → Identifier ℕ → Expression ℕ → List Violation
 given_types scope may x e =
     found_if (not (may (entry_named scope x.spelling))) x.at BAD_TYPE [] ++ whole_types scope (kind_of (entry_named scope x.spelling)) e
 

@@ -12,11 +12,11 @@ use Rattle.aadl_tree.specs.Names.{Identifier, same_name, identifiers, listed_in}
 use Rattle.aadl_tree.specs.Annexes.{StateDeclaration, Guard, dispatch, otherwise, when, Transition, AnnexTree}
 use Rattle.aadl_tree.specs.Actions.{Block}
 use Rattle.annex_resolve.specs.declared.scope.Scope.{Scope}
-use Rattle.annex_resolve.specs.declared.behaviour.Values.{Values}
+use Rattle.annex_resolve.specs.declared.behaviour.DeclaredValues.{DeclaredValues}
 use Rattle.annex_resolve.specs.declared.states.StateAt.{StateAt}
-use Rattle.annex_resolve.specs.declared.ways.Leg.{Leg}
-use Rattle.annex_resolve.specs.declared.ways.Way.{Way}
-use Rattle.annex_resolve.specs.declared.ways.Way.TheVariants.{Dispatch, Otherwise, Always, Guarded}
+use Rattle.annex_resolve.specs.declared.ways.Departure.{Departure}
+use Rattle.annex_resolve.specs.declared.ways.GuardKind.{GuardKind}
+use Rattle.annex_resolve.specs.declared.ways.GuardKind.TheVariants.{Dispatch, Otherwise, Always, Guarded}
 use Rattle.annex_resolve.specs.declared.violation.Violation.{Violation}
 use Rattle.annex_resolve.specs.declared.violation.TheConstants.{NO_INITIAL, DISPATCH_COUNT, NO_OTHERWISE, CYCLE_WITHOUT_COMPLETE}
 use Rattle.annex_resolve.specs.Scopes.{found_if}
@@ -87,7 +87,7 @@ transition_findings scope t = guard_types scope t.guard ++ effect_findings scope
 abbrev pub transitions_of : AnnexTree ℕ → List (Transition ℕ)
 transitions_of annex = listed_in annex.transitions
 
-abbrev pub parts_by : Values → List StateAt → List plain.Edge → BehaviourParts
+abbrev pub parts_by : DeclaredValues → List StateAt → List plain.Edge → BehaviourParts
 parts_by values states edges = record {
   ins = values.ins;
   outs = values.outs;
@@ -97,7 +97,7 @@ parts_by values states edges = record {
   transitions = edges;
 }
 
-abbrev pub behaviour_of : Values → Scope → AnnexTree ℕ → BehaviourParts
+abbrev pub behaviour_of : DeclaredValues → Scope → AnnexTree ℕ → BehaviourParts
 behaviour_of values scope annex = parts_by values (states_of annex) (map (edge_of scope (states_of annex)) (transitions_of annex))
 
 -- ---- exactly one state is initial, and it is complete
@@ -109,43 +109,43 @@ abbrev pub breaks_dispatch : BehaviourParts → ℕ → Bool
 breaks_dispatch b n = not (nat_eq (dispatch_count (leaving b n)) (if is_complete b n then 1 else 0))
 
 -- ---- a step can always leave a state that is not complete
-abbrev pub way_of : Option (Guard ℕ) → Way
+abbrev pub way_of : Option (Guard ℕ) → GuardKind
 way_of None = Always
 way_of (Some dispatch) = Dispatch
 way_of (Some otherwise) = Otherwise
 way_of (Some (when e)) = Guarded
 
 -- from which state a transition goes, and in which way
-abbrev pub leg_of : List StateAt → Transition ℕ → Leg
+abbrev pub leg_of : List StateAt → Transition ℕ → Departure
 leg_of states t = record { source = state_number states t.source.spelling; way = way_of t.guard }
 
 -- the ways from a state, in the text's order
-abbrev pub ways_from : ℕ → List Leg → List Way
+abbrev pub ways_from : ℕ → List Departure → List GuardKind
 ways_from n legs = map (λ leg. leg.way) (filter (λ leg. nat_eq leg.source n) legs)
 
-abbrev pub is_otherwise : Way → Bool
+abbrev pub is_otherwise : GuardKind → Bool
 is_otherwise Dispatch = false
 is_otherwise Otherwise = true
 is_otherwise Always = false
 is_otherwise Guarded = false
 
-abbrev pub is_guarded : Way → Bool
+abbrev pub is_guarded : GuardKind → Bool
 is_guarded Dispatch = false
 is_guarded Otherwise = false
 is_guarded Always = false
 is_guarded Guarded = true
 
-abbrev pub is_open : Option Way → Bool
+abbrev pub is_open : Option GuardKind → Bool
 is_open None = true
 is_open (Some way) = is_guarded way
 
 -- there is none, or the last one has a condition, or one before the last is `otherwise`
-abbrev pub lacks_otherwise : List Way → Bool
+abbrev pub lacks_otherwise : List GuardKind → Bool
 lacks_otherwise ways = is_open (slice_get ways (length ways - 1)) || list_any is_otherwise (take (length ways - 1) ways)
 
 -- ---- all
 -- a state by its number, with the marks of the states that are on a cycle
-abbrev pub state_rules : BehaviourParts → List Leg → List Bool → ℕ × StateAt → List Violation
+abbrev pub state_rules : BehaviourParts → List Departure → List Bool → ℕ × StateAt → List Violation
 state_rules b legs cyclic (n, s) =
     found_if (breaks_dispatch b n) s.at DISPATCH_COUNT s.name
     ++ (if s.complete then []
@@ -160,6 +160,6 @@ abbrev pub rule_findings : ℕ → BehaviourParts → List StateAt → List (Tra
 rule_findings at b states ts =
     found_if (not (has_initial states)) at NO_INITIAL [] ++ flat_map (state_rules b (map (leg_of states) ts) (cycles_of b)) (enumerate_from 0 states)
 
-abbrev pub annex_findings : Values → Scope → ℕ → AnnexTree ℕ → List Violation
+abbrev pub annex_findings : DeclaredValues → Scope → ℕ → AnnexTree ℕ → List Violation
 annex_findings values scope at annex =
     flat_map (transition_findings scope) (transitions_of annex) ++ rule_findings at (behaviour_of values scope annex) (states_of annex) (transitions_of annex)

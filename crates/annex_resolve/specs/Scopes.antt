@@ -5,7 +5,7 @@ use Rattle.pals_base.specs.declared.behaviour.Kind.TheVariants.{Integer}
 use Rattle.aadl_tree.specs.Names.{Identifier, same_name}
 use Rattle.annex_resolve.specs.declared.scope.Meaning.{Meaning}
 use Rattle.annex_resolve.specs.declared.scope.Meaning.TheVariants.{InPort, OutPort, Variable, LoopVariable}
-use Rattle.annex_resolve.specs.declared.scope.Entry.{Entry}
+use Rattle.annex_resolve.specs.declared.scope.DeclaredName.{DeclaredName}
 use Rattle.annex_resolve.specs.declared.scope.Scope.{Scope}
 use Rattle.annex_resolve.specs.declared.violation.Violation.{Violation}
 use Rattle.pals_base.specs.Tree as plain
@@ -19,10 +19,10 @@ found_if wrong at number details = if wrong then finding at number details ∷ [
 
 -- ---- names, which are compared without regard to case
 -- what is declared under a name; of two declarations the first counts
-abbrev pub entry_named : Scope → List ℕ → Option Entry
+abbrev pub entry_named : Scope → List ℕ → Option DeclaredName
 entry_named scope name = find (λ e. same_name e.name name) scope.entries
 
-abbrev pub kind_of : Option Entry → Option Kind
+abbrev pub kind_of : Option DeclaredName → Option Kind
 kind_of None = None
 kind_of (Some e) = e.kind
 
@@ -36,7 +36,7 @@ with_loop scope x =
 
 -- ---- reading
 abbrev pub value_of : Meaning → Option plain.Expression
-value_of (InPort n) = Some (plain.PortValue n)
+value_of (InPort n) = Some (plain.PortRead n)
 value_of (OutPort n) = None
 value_of (Variable n) = Some (plain.Variable n)
 value_of (LoopVariable n) = Some (plain.Variable n)
@@ -53,7 +53,7 @@ read_by true m = freshness_of m
 read_by false m = value_of m
 
 -- what is read under a name, if its meaning can be read
-abbrev pub read_of : Bool → Option Entry → Option plain.Expression
+abbrev pub read_of : Bool → Option DeclaredName → Option plain.Expression
 read_of fresh None = None
 read_of fresh (Some e) = read_by fresh e.meaning
 
@@ -76,11 +76,11 @@ sends (OutPort n) = true
 sends (Variable n) = false
 sends (LoopVariable n) = false
 
-abbrev pub may_set : Option Entry → Bool
+abbrev pub may_set : Option DeclaredName → Bool
 may_set None = false
 may_set (Some e) = sets e.meaning
 
-abbrev pub may_send : Option Entry → Bool
+abbrev pub may_send : Option DeclaredName → Bool
 may_send None = false
 may_send (Some e) = sends e.meaning
 
@@ -94,6 +94,6 @@ given e (OutPort n) = plain.Emit n e
 given e (Variable n) = plain.Assign n e
 given e (LoopVariable n) = nothing
 
-abbrev pub given_to : plain.Expression → Option Entry → plain.Action
+abbrev pub given_to : plain.Expression → Option DeclaredName → plain.Action
 given_to e None = nothing
 given_to e (Some entry) = given e entry.meaning

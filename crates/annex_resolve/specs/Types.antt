@@ -8,7 +8,7 @@ use Rattle.aadl_tree.specs.Names.{Identifier, Reference, same_name}
 use Rattle.aadl_tree.specs.Expressions.{LeadingSign, Primary, number, truth, named, group, Factor, absolute, negated, bare, Term, term, Factors, no_factors, factor, Sum, total, Terms, no_terms, add, Relation, single, compared, Expression, expression, Relations, no_relations, join}
 use Rattle.aadl_tree.specs.Offsets.{primary_at, factor_at, term_at, sum_at, relation_at, expression_at}
 use Rattle.annex_resolve.specs.declared.scope.Scope.{Scope}
-use Rattle.annex_resolve.specs.declared.scope.Entry.{Entry}
+use Rattle.annex_resolve.specs.declared.scope.DeclaredName.{DeclaredName}
 use Rattle.annex_resolve.specs.declared.violation.Violation.{Violation}
 use Rattle.annex_resolve.specs.declared.violation.TheConstants.{BAD_TYPE}
 use Rattle.annex_resolve.specs.Scopes.{found_if, entry_named, kind_of, read_of}
@@ -55,7 +55,7 @@ abbrev pub unread : Scope → Identifier ℕ → Bool → List Violation
 unread scope x fresh = found_if (not (is_some (read_of fresh (entry_named scope x.spelling)))) x.at BAD_TYPE []
 
 -- whether a port is fresh is a Boolean
-abbrev pub read_kind : Bool → Option Entry → Option Kind
+abbrev pub read_kind : Bool → Option DeclaredName → Option Kind
 read_kind true e = Some Boolean
 read_kind false e = kind_of e
 

@@ -14,7 +14,7 @@ ghost use Rattle.annex_resolve.specs.proof.Reads.{ReadsAction, ReadsActions, Rea
 
 use crate::expressions::{kind_of, resolve_whole};
 use crate::loops::{count_turns, is_too_long, signed, together};
-use crate::scope::{Entry, Meaning, Scope};
+use crate::scope::{DeclaredName, Meaning, Scope};
 use crate::types::kind_named;
 use crate::violation::{BAD_TYPE, LOOP_TOO_LONG, Violation, add_if};
 use aadl_tree::{Action, Actions, Block, Choice, Expression, Loop, push_exact};
@@ -22,7 +22,7 @@ use pals_base::{Act, Branch, Expr, Items, Kind, NoMemory};
 use std::alloc::Global;
 
 // An assignment sets a variable, or sends at an out port.
-fn may_set(entry: Option<&Entry>) -> bool
+fn may_set(entry: Option<&DeclaredName>) -> bool
     ensures { result ≡ may_set (option_copied entry.entry) }
 {
     match entry {
@@ -31,7 +31,7 @@ fn may_set(entry: Option<&Entry>) -> bool
     }
 }
 
-fn may_send(entry: Option<&Entry>) -> bool
+fn may_send(entry: Option<&DeclaredName>) -> bool
     ensures { result ≡ may_send (option_copied entry.entry) }
 {
     match entry {
@@ -41,7 +41,7 @@ fn may_send(entry: Option<&Entry>) -> bool
 }
 
 // What is done with a value for a name; nothing where the name cannot take one.
-fn given_to(alloc: Global, value: Expr, entry: Option<&Entry>) -> Act
+fn given_to(alloc: Global, value: Expr, entry: Option<&DeclaredName>) -> Act
     ensures { act_tree result ≡ given_to (tree_of value) (option_copied entry.entry) }
 {
     match entry {
@@ -68,7 +68,7 @@ fn nothing(alloc: Global) -> Act
 fn give(
     alloc: Global,
     scope: &Scope,
-    entry: Option<&Entry>,
+    entry: Option<&DeclaredName>,
     value: &Expression,
     found: &mut Items<Violation>,
 ) -> Result<Act, NoMemory>

@@ -1,11 +1,11 @@
 //! The behaviour of an annex.
 
-use pals_base::{Items, Named, VarDecl};
+use pals_base::{Items, PortDecl, VarDecl};
 
 /// The ports and variables of a thread, each kind numbered apart.
 #[derive(Drop)]
-pub struct Values {
-    pub ins: Items<Named>,
-    pub outs: Items<Named>,
+pub struct DeclaredValues {
+    pub ins: Items<PortDecl>,
+    pub outs: Items<PortDecl>,
     pub vars: Items<VarDecl>,
 }

@@ -46,16 +46,16 @@ fn mark(rows: &mut Items<Items<bool>>, source: usize, target: usize)
 /// For each state, which states a way leads to that has none but states below `between` between its
 /// ends.
 #[derive(Drop)]
-pub struct Table {
+pub struct Reachability {
     pub rows: Items<Items<bool>>,
     pub between: usize,
 }
 
-impl Table {
+impl Reachability {
     ghost use Rattle.annex_resolve.specs.proof.Tables.{row_of, IsTable, cell};
 
     // The table of single transitions.
-    fn first(alloc: Global, parts: &BehaviourParts) -> Result<Table, NoMemory>
+    fn first(alloc: Global, parts: &BehaviourParts) -> Result<Reachability, NoMemory>
         ensures table { IfOk result (λ table. IsTable parts.now table) }
         ensures between { IfOk result (λ table. table.between ≡ 0) }
     {
@@ -67,7 +67,7 @@ impl Table {
                 mark(&mut rows, source, transition.target as usize);
             }
         }
-        Ok(Table { rows, between: 0 })
+        Ok(Reachability { rows, between: 0 })
     }
 
     // What stands in the table.
@@ -119,7 +119,7 @@ impl Table {
 
     // The table with one more state in between.
     #[tactic(auto, using(pals_base::proofs::Upwards::map_upwards_more))]
-    fn next(&self, alloc: Global, parts: &BehaviourParts) -> Result<Table, NoMemory>
+    fn next(&self, alloc: Global, parts: &BehaviourParts) -> Result<Reachability, NoMemory>
         requires table { IsTable parts.now self.now }
         requires between { self.now.between < length parts.now.states }
         ensures table { IfOk result (λ table. IsTable parts.now table) }
@@ -130,7 +130,7 @@ impl Table {
             rows.push(self.next_row(alloc, parts, state)?)?;
         }
         let between = self.between.checked_add(1).ok_or(AllocError)?;
-        Ok(Table { rows, between })
+        Ok(Reachability { rows, between })
     }
 }
 
@@ -139,7 +139,7 @@ impl Table {
 pub fn cyclic_states(alloc: Global, parts: &BehaviourParts) -> Result<Items<bool>, NoMemory>
     ensures { IfOk result (λ marks. marks ≡ map (is_on_cycle parts.now) (upwards 0 (length parts.now.states))) }
 {
-    let mut table = Table::first(alloc, parts)?;
+    let mut table = Reachability::first(alloc, parts)?;
     for _round in 0..parts.states.len() {
         table = table.next(alloc, parts)?;
     }

@@ -14,7 +14,7 @@ ghost use Rattle.annex_resolve.specs.proof.Reads.{Reads, ReadsOperands};
 
 mod operators;
 
-use crate::scope::{Entry, Meaning, Scope};
+use crate::scope::{DeclaredName, Meaning, Scope};
 use crate::violation::{BAD_TYPE, Violation, add_if};
 use aadl_tree::{
     Expression, Factor, Identifier, LeadingSign, LogicOperator, MultiplyOperator, Primary,
@@ -75,7 +75,7 @@ fn expect_sides(
 }
 
 // The type of what is declared.
-pub(crate) fn kind_of(entry: Option<&Entry>) -> Option<Kind>
+pub(crate) fn kind_of(entry: Option<&DeclaredName>) -> Option<Kind>
     ensures { result ≡ kind_of (option_copied entry.entry) }
 {
     match entry {
@@ -85,7 +85,7 @@ pub(crate) fn kind_of(entry: Option<&Entry>) -> Option<Kind>
 }
 
 // The type of what is read; whether a port is fresh is a Boolean.
-fn read_kind(entry: Option<&Entry>, fresh: bool) -> Option<Kind>
+fn read_kind(entry: Option<&DeclaredName>, fresh: bool) -> Option<Kind>
     ensures { result ≡ read_kind fresh (option_copied entry.entry) }
 {
     if fresh {
@@ -95,7 +95,7 @@ fn read_kind(entry: Option<&Entry>, fresh: bool) -> Option<Kind>
 }
 
 // What is read under a name, if its meaning can be read.
-fn read_of(entry: Option<&Entry>, fresh: bool) -> Option<Expr>
+fn read_of(entry: Option<&DeclaredName>, fresh: bool) -> Option<Expr>
     ensures { option_map tree_of result ≡ read_of fresh (option_copied entry.entry) }
 {
     match (entry?.meaning, fresh) {

@@ -17,8 +17,8 @@ pub mod violation;
 pub mod ways;
 
 pub use actions::resolve_block;
-pub use behaviour::Values;
+pub use behaviour::DeclaredValues;
 pub use expressions::{Typed, expect, fits, resolve_whole};
 pub use rules::resolve_annex;
-pub use scope::{Entry, Meaning, Scope};
+pub use scope::{DeclaredName, Meaning, Scope};
 pub use violation::{Violation, add_if};

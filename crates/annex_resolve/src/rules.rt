@@ -7,7 +7,7 @@ ghost use Rattle.aadl_tree.specs.proof.Views.{annex_tree_view, transition_view};
 ghost use Rattle.annex_resolve.specs.Scopes.{found_if};
 ghost use Rattle.annex_resolve.specs.Behaviours.{transitions_of, parts_by, state_rules, rule_findings, behaviour_of, annex_findings};
 
-use crate::behaviour::Values;
+use crate::behaviour::DeclaredValues;
 use crate::cycles::cyclic_states;
 use crate::scope::Scope;
 use crate::states::{StateAt, declared_states, first_initial, has_initial, states_of};
@@ -15,7 +15,7 @@ use crate::transitions::resolve_transitions;
 use crate::violation::{
     CYCLE_WITHOUT_COMPLETE, DISPATCH_COUNT, NO_INITIAL, NO_OTHERWISE, Violation, add_if,
 };
-use crate::ways::{Leg, breaks_dispatch, lacks_otherwise, legs_of};
+use crate::ways::{Departure, breaks_dispatch, lacks_otherwise, legs_of};
 use aadl_tree::{AnnexTree, Transition};
 use pals_base::{BehaviourParts, Items, NoMemory, Transition as Edge, TryClone};
 use std::alloc::Global;
@@ -44,7 +44,7 @@ fn add_named(
 fn add_state(
     alloc: Global,
     parts: &BehaviourParts,
-    legs: &Items<Leg>,
+    legs: &Items<Departure>,
     cyclic: &Items<bool>,
     number: usize,
     state: &StateAt,
@@ -82,7 +82,7 @@ fn is_marked(marks: &Items<bool>, state: usize) -> bool
 fn add_states(
     alloc: Global,
     parts: &BehaviourParts,
-    legs: &Items<Leg>,
+    legs: &Items<Departure>,
     cyclic: &Items<bool>,
     states: &[StateAt],
     found: &mut Items<Violation>,
@@ -109,7 +109,7 @@ fn transitions_of(annex: &AnnexTree) -> &[Transition]
 // The parts of a behaviour.
 fn parts_by(
     alloc: Global,
-    values: Values,
+    values: DeclaredValues,
     states: &[StateAt],
     transitions: Items<Edge>,
 ) -> Result<BehaviourParts, NoMemory>
@@ -117,7 +117,7 @@ fn parts_by(
 {
     let states_declared = declared_states(alloc, states)?;
     let initial = first_initial(states)?;
-    let Values { ins, outs, vars } = values;
+    let DeclaredValues { ins, outs, vars } = values;
     Ok(BehaviourParts {
         ins,
         outs,
@@ -150,7 +150,7 @@ fn add_rules(
 /// is wrong with it.
 pub fn resolve_annex(
     alloc: Global,
-    values: Values,
+    values: DeclaredValues,
     scope: &Scope,
     at: usize,
     annex: &AnnexTree,

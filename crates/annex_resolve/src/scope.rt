@@ -21,15 +21,15 @@ pub enum Meaning {
 /// Something declared: its name, its type (none where it is neither Integer nor Boolean), and what
 /// it is.
 #[derive(Drop)]
-pub struct Entry {
+pub struct DeclaredName {
     pub name: Text,
     pub kind: Option<Kind>,
     pub meaning: Meaning,
 }
 
-impl TryClone for Entry {
-    fn try_clone(&self, alloc: Global) -> Result<Entry, NoMemory> {
-        Ok(Entry {
+impl TryClone for DeclaredName {
+    fn try_clone(&self, alloc: Global) -> Result<DeclaredName, NoMemory> {
+        Ok(DeclaredName {
             name: self.name.try_clone(alloc)?,
             kind: self.kind,
             meaning: self.meaning,
@@ -41,7 +41,7 @@ impl TryClone for Entry {
 #[derive(Drop)]
 pub struct Scope {
     /// What is declared, in order.
-    pub entries: Items<Entry>,
+    pub entries: Items<DeclaredName>,
     /// The number of the next loop's variable.
     pub next: u32,
 }
@@ -49,7 +49,7 @@ pub struct Scope {
 impl Scope {
     /// What is declared under a name; capitals are as good as small letters. Of two declarations the
     /// first counts.
-    pub fn find(&self, name: &str) -> Option<&Entry>
+    pub fn find(&self, name: &str) -> Option<&DeclaredName>
         ensures { option_copied result ≡ entry_named self.now name.now }
     {
         self.entries
@@ -63,7 +63,7 @@ impl Scope {
     {
         let next = self.next.checked_add(1).ok_or(AllocError)?;
         let mut entries = self.entries.try_clone(alloc)?;
-        entries.push(Entry {
+        entries.push(DeclaredName {
             name: Text::from_str(alloc, variable.spelling.as_str())?,
             kind: Some(Kind::Integer),
             meaning: Meaning::LoopVariable(self.next),

@@ -14,7 +14,7 @@ use std::alloc::Global;
 
 /// When a transition is taken.
 #[derive(Clone, Copy)]
-pub enum Way {
+pub enum GuardKind {
     Dispatch,
     Otherwise,
     /// It has an empty guard.
@@ -25,42 +25,42 @@ pub enum Way {
 
 /// A transition, by the state that it leaves and its way.
 #[derive(Clone, Copy)]
-pub struct Leg {
+pub struct Departure {
     pub source: u32,
-    pub way: Way,
+    pub way: GuardKind,
 }
 
-impl Way {
+impl GuardKind {
     fn is_otherwise(self) -> bool
         ensures { result ≡ is_otherwise self }
     {
-        matches!(self, Way::Otherwise)
+        matches!(self, GuardKind::Otherwise)
     }
 
     fn is_guarded(self) -> bool
         ensures { result ≡ is_guarded self }
     {
-        matches!(self, Way::Guarded)
+        matches!(self, GuardKind::Guarded)
     }
 }
 
 // The way of a guard.
-fn way_of(guard: &Option<Guard>) -> Way
+fn way_of(guard: &Option<Guard>) -> GuardKind
     ensures { result ≡ way_of (option_map (guard_view kept_place) guard.now) }
 {
     match guard {
-        None => Way::Always,
-        Some(Guard::Dispatch) => Way::Dispatch,
-        Some(Guard::Otherwise) => Way::Otherwise,
-        Some(Guard::When(_)) => Way::Guarded,
+        None => GuardKind::Always,
+        Some(Guard::Dispatch) => GuardKind::Dispatch,
+        Some(Guard::Otherwise) => GuardKind::Otherwise,
+        Some(Guard::When(_)) => GuardKind::Guarded,
     }
 }
 
 // A transition's leg.
-fn leg_of(states: &[StateAt], transition: &aadl_tree::Transition) -> Result<Leg, NoMemory>
+fn leg_of(states: &[StateAt], transition: &aadl_tree::Transition) -> Result<Departure, NoMemory>
     ensures { IfOk result (λ leg. leg ≡ leg_of states.now (transition_view kept_place transition.now)) }
 {
-    Ok(Leg {
+    Ok(Departure {
         source: state_number(states, transition.source.spelling.as_str())?,
         way: way_of(&transition.guard),
     })
@@ -71,7 +71,7 @@ pub fn legs_of(
     alloc: Global,
     states: &[StateAt],
     transitions: &[aadl_tree::Transition],
-) -> Result<Items<Leg>, NoMemory>
+) -> Result<Items<Departure>, NoMemory>
     ensures { IfOk result (λ legs. legs ≡ map (leg_of states.now) (map (transition_view kept_place) transitions.now)) }
 {
     let mut legs = Items::new(alloc);
@@ -82,7 +82,7 @@ pub fn legs_of(
 }
 
 // The ways from a state, in order.
-fn ways_from(alloc: Global, legs: &[Leg], state: usize) -> Result<Vec<Way>, NoMemory>
+fn ways_from(alloc: Global, legs: &[Departure], state: usize) -> Result<Vec<GuardKind>, NoMemory>
     ensures { IfOk result (λ ways. ways.items ≡ ways_from state legs.now) }
 {
     legs.iter()
@@ -92,7 +92,7 @@ fn ways_from(alloc: Global, legs: &[Leg], state: usize) -> Result<Vec<Way>, NoMe
 }
 
 // Whether the last of some ways may leave a step where it is.
-fn is_open(last: Option<&Way>) -> bool
+fn is_open(last: Option<&GuardKind>) -> bool
     ensures { result ≡ is_open (option_copied last.entry) }
 {
     match last {
@@ -102,7 +102,7 @@ fn is_open(last: Option<&Way>) -> bool
 }
 
 // Whether one of some ways is an `otherwise`.
-fn has_otherwise(ways: &[Way]) -> bool
+fn has_otherwise(ways: &[GuardKind]) -> bool
     ensures { result ≡ list_any is_otherwise ways.now }
 {
     ways.iter().any(|way| way.is_otherwise())
@@ -110,7 +110,7 @@ fn has_otherwise(ways: &[Way]) -> bool
 
 // Whether a step may be unable to go on by these ways, or one of them is never taken for an
 // `otherwise` before it.
-fn lacks_way(ways: &[Way]) -> bool
+fn lacks_way(ways: &[GuardKind]) -> bool
     ensures { result ≡ lacks_otherwise ways.now }
 {
     let last = ways.len().saturating_sub(1);
@@ -118,7 +118,7 @@ fn lacks_way(ways: &[Way]) -> bool
 }
 
 /// Whether a step may be unable to leave a state.
-pub fn lacks_otherwise(alloc: Global, legs: &[Leg], state: usize) -> Result<bool, NoMemory>
+pub fn lacks_otherwise(alloc: Global, legs: &[Departure], state: usize) -> Result<bool, NoMemory>
     ensures { IfOk result (λ lacks. lacks ≡ lacks_otherwise (ways_from state legs.now)) }
 {
     let ways = ways_from(alloc, legs, state)?;

@@ -21,7 +21,7 @@ use Rattle.pals_top.specs.Analyses.{command_of, Makes, IsAnalysed, IsAnalysisAns
 use Rattle.pals_top.specs.Executions.{command_of as execution_command, IsExecutionAnswer}
 use Rattle.pals_top.specs.Answers.{IsCommandAnswer}
 use Rattle.pals_top.specs.proof.Code.{is_run}
-use Rattle.answer_laws.proofs.Laws.{OneDesign, OneFault, AnalysisLaws, ExecutionLaws}
+use Rattle.answer_laws.proofs.LowerLaws.{OneDesign, OneFault, AnalysisLaws, ExecutionLaws}
 use Rattle.answer_laws.proofs.Designs.{one_tree, read_or_refused, one_refused_text, one_accepted, accepted_or_refused, package_or_text, one_refused_package}
 use Rattle.answer_laws.proofs.Meanings.{one_report}
 use Rattle.answer_laws.proofs.Scenarios.{one_meaning, one_scenario_fault, meant_or_refused}

@@ -9,7 +9,7 @@ use Rattle.aadl_parse.proofs.Verdicts.{only_tree, one_text_fault, tree_or_fault}
 use Rattle.aadl_instance.specs.Flat.{Parts}
 use Rattle.annex_resolve.specs.declared.violation.Violation.{Violation}
 use Rattle.model_violations.specs.Violations.{shown_by, AreViolations}
-use Rattle.aadl_names.specs.declared.fault.FlatFault.{FlatFault}
+use Rattle.aadl_names.specs.declared.fault.PackageFault.{PackageFault}
 use Rattle.pals_report.specs.TextFaults.{text_fault_line}
 use Rattle.pals_report.specs.FlatFaults.{flat_fault_line}
 use Rattle.pals_report.specs.Violations.{violation_lines}
@@ -20,7 +20,7 @@ use Rattle.bundle_designs.specs.RefusedTexts.{IsUndivided, IsUnread, IsTextRefus
 use Rattle.bundle_designs.specs.Accepted.{IsFaulty, HasViolations, IsRefusedIn, IsAccepted, IsPackageRefused}
 use Rattle.pals_top.specs.Refusals.{IsBundleRefused}
 use Rattle.answer_laws.proofs.Splits.{one_split, divided}
-use Rattle.answer_laws.proofs.Laws.{OneDesign, OneFault}
+use Rattle.answer_laws.proofs.LowerLaws.{OneDesign, OneFault}
 
 -- ---- two trees of one bundle
 pub one_text : (bundle a b s t : List ℕ) (u v : PackageTree ℕ) → IsParsed bundle a s u → IsParsed bundle b t v → a ≡ b
@@ -119,7 +119,7 @@ module _ (one_fault : OneFault) where
       → IsFaulty text tree root b → a ≡ b
   one_fault_text text tree root a b read x y =
       let same = one_fault text tree root x.fault y.fault read x.faulty y.faulty in
-      x.text_is ∙ (ap (λ (f : FlatFault). flat_fault_line text f ++ line_end) same ∙ sym y.text_is)
+      x.text_is ∙ (ap (λ (f : PackageFault). flat_fault_line text f ++ line_end) same ∙ sym y.text_is)
 
   same_refusal : (text : List ℕ) (tree : PackageTree ℕ) (root a b : List ℕ) → IsTreeOf text tree
       → IsRefusedIn text tree root a

@@ -7,8 +7,8 @@ use Rattle.pals_top.specs.declared.execution.Execution.TheVariants.{TimedWorld, 
 use Rattle.pals_top.specs.Executions.{command_of, IsScenarioRefusedIn, IsExecuted, IsExecutionAnswer}
 use Rattle.answer_laws.specs.proof.Meanings.{HasTree, MeansDesign, MeansScenario, HasLongCode, LacksScenario, GivesStatus}
 use Rattle.pals_top.specs.proof.Code.{is_run}
-use Rattle.answer_laws.proofs.Laws.{OneDesign, ExecutionLaws}
-use Rattle.answer_laws.proofs.Standing.{no_tree, no_design, refused_tree, has_tree}
+use Rattle.answer_laws.proofs.LowerLaws.{OneDesign, ExecutionLaws}
+use Rattle.answer_laws.proofs.AnswerStatuses.{no_tree, no_design, refused_tree, has_tree}
 use Rattle.answer_laws.proofs.Scenarios.{meant_or_refused}
 use Rattle.answer_laws.proofs.Made.{IsMade, execution_status, no_refused_run, apart}
 use Rattle.answer_laws.proofs.Executions.{long_code, long_or_short, executions_agree}

@@ -12,7 +12,7 @@ use Rattle.pals_top.specs.declared.execution.Execution.{Execution}
 use Rattle.pals_top.specs.Executions.{command_of, Makes, IsExecuted, IsScenarioRefusedIn, IsCodeTooLong, code_fault_line}
 use Rattle.answer_laws.specs.proof.Meanings.{HasLongCode}
 use Rattle.pals_top.specs.proof.Code.{is_run}
-use Rattle.answer_laws.proofs.Laws.{OneDesign, ExecutionLaws}
+use Rattle.answer_laws.proofs.LowerLaws.{OneDesign, ExecutionLaws}
 use Rattle.answer_laws.proofs.Designs.{one_accepted}
 use Rattle.answer_laws.proofs.Scenarios.{one_meaning, one_scenario_fault, meant_or_refused}
 use Rattle.answer_laws.proofs.Made.{Agree, one_execution}

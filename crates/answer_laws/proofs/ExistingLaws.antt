@@ -2,8 +2,8 @@
 use Rattle.std.specs.Prelude.{◌⊎◌, ◌≢◌, ℕ, List, []}
 use Rattle.aadl_tree.specs.Declarations.{PackageTree}
 use Rattle.aadl_tree.specs.proof.Given.{IsGiven}
-use Rattle.aadl_names.specs.declared.fault.FlatFault.{FlatFault}
-use Rattle.aadl_names.specs.declared.fault.FlatFault.TheVariants.{Memory}
+use Rattle.aadl_names.specs.declared.fault.PackageFault.{PackageFault}
+use Rattle.aadl_names.specs.declared.fault.PackageFault.TheVariants.{Memory}
 use Rattle.aadl_instance.specs.Faults.{IsFault}
 use Rattle.aadl_instance.specs.Flat.{Parts, IsFlat}
 use Rattle.model_violations.specs.Violations.{shown_by, AreViolations}
@@ -11,7 +11,7 @@ use Rattle.pals_model.specs.declared.design.DesignParts.{DesignParts}
 use Rattle.pals_model.specs.Rules.{IsDesign}
 use Rattle.design_laws.specs.PackageDesigns.{IsDesignIn}
 use Rattle.pals_runs.specs.declared.commands.Command.{Command}
-use Rattle.step_compiler.specs.proof.Laws.{HasLayout}
+use Rattle.step_compiler.specs.proof.LayoutLaws.{HasLayout}
 use Rattle.scenario_laws.specs.proof.Events.{EventsAreLoose, EventsAreFew, TracesAreFew}
 use Rattle.aadl_grammar.specs.proof.Texts.{HasTree, HasLexFault, Stops, NestsTooDeep}
 use Rattle.design_laws.specs.proof.Packages.{HasFirstFault, HasInstance, HasList}
@@ -19,14 +19,14 @@ use Rattle.scenario_laws.specs.proof.Meanings.{HasScenario, HasFault}
 use Rattle.scenario_laws.specs.proof.Plants.{PairsCanBeFused}
 use Rattle.scenario_laws.specs.proof.Facts.{ScenariosSuit}
 use Rattle.run_laws.specs.proof.Ending.{EachRunEnds, EndsAreNamed}
-use Rattle.plant_fuse.specs.proof.Laws.{ReportExists}
+use Rattle.plant_fuse.specs.proof.FusedLaws.{ReportExists}
 
 pub record ExistenceLaws : Type 0 where
   -- a text has a tree or a first fault
   pub tree_or_fault : (text : List ℕ) → HasTree text ⊎ HasLexFault text ⊎ Stops text ⊎ NestsTooDeep text
   -- a package has an instance, with a list of all that is wrong with it, or a first fault
   pub instance_or_fault : (tree : PackageTree ℕ) (root : List ℕ) → HasFirstFault tree root ⊎ HasInstance tree root
-  pub named : (tree : PackageTree ℕ) (root : List ℕ) (fault : FlatFault) → IsFault tree root fault → fault ≢ Memory
+  pub named : (tree : PackageTree ℕ) (root : List ℕ) (fault : PackageFault) → IsFault tree root fault → fault ≢ Memory
   pub list : (tree : PackageTree ℕ) (root : List ℕ) (parts : Parts) → IsFlat tree root parts → HasList tree parts
   -- where nothing is wrong there is a design, which keeps the rules of designs
   pub there : (tree : PackageTree ℕ) (root : List ℕ) (parts : Parts) → IsGiven tree → IsFlat tree root parts

@@ -8,7 +8,7 @@ use Rattle.scenario_laws.specs.proof.Events.{AreLooseEvents}
 use Rattle.plant_fuse.specs.Fused.{ArePairs}
 use Rattle.pals_runs.specs.declared.pairs.Pair.{Pair}
 use Rattle.plant_fuse.specs.FusedText.{IsFusedReport}
-use Rattle.plant_fuse.specs.proof.Laws.{ReportExists}
+use Rattle.plant_fuse.specs.proof.FusedLaws.{ReportExists}
 use Rattle.plant_fuse.proofs.AloneReports.{report_without_pairs}
 use Rattle.analysis_texts.proofs.Outvoted.{rows_outvoted, rows_alone}
 use Rattle.pals_top.specs.declared.analysis.Analysis.{Analysis}

@@ -16,7 +16,7 @@ use Rattle.pals_runs.specs.declared.journal.Stop.{Stop}
 use Rattle.scenario_json.specs.proof.RunFacts.{IsOpening, AreClocksOf, AreClocksFor}
 use Rattle.scenario_json.specs.declared.scenario.Scenario.{Scenario}
 use Rattle.scenario_json.specs.proof.Facts.{IsScenarioOf}
-use Rattle.bus_machine.specs.proof.Laws.{IsRunOf}
+use Rattle.bus_machine.specs.proof.MachineLaws.{IsRunOf}
 use Rattle.bus_machine.specs.Plans.{plan_of}
 use Rattle.bus_machine.specs.States.{Run, BusState, finished_by_all}
 use Rattle.bus_machine.specs.Targets.{target}

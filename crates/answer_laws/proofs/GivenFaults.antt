@@ -7,7 +7,7 @@ use Rattle.serde_json.specs.Data.{Data}
 use Rattle.pals_base.specs.declared.behaviour.Kind.{Kind}
 use Rattle.pals_base.specs.declared.limits.TheConstants.{ROUNDS}
 use Rattle.pals_base.specs.declared.values.NodeNo.{NodeNo}
-use Rattle.pals_base.specs.declared.values.Port.{Port}
+use Rattle.pals_base.specs.declared.values.PortValue.{PortValue}
 use Rattle.pals_model.specs.declared.design.DesignParts.{DesignParts}
 use Rattle.pals_model.specs.Inputs.{rate_of}
 use Rattle.pals_model.specs.proof.FittingValues.{PortFits, TupleFits}
@@ -16,7 +16,7 @@ use Rattle.scenario_values.specs.declared.fault.ScenarioFault.TheVariants.{Wrong
 use Rattle.scenario_values.specs.Outcomes.{◌>>=◌, only_if, through}
 use Rattle.scenario_values.specs.FaultPlaces.{inside}
 use Rattle.scenario_values.specs.Values.{elements, text, whole, is_whole, port_value}
-use Rattle.scenario_values.proofs.Passing.{ok_same, ok_bind, ok_only_if, through_keeps}
+use Rattle.scenario_values.proofs.PassedValues.{ok_same, ok_bind, ok_only_if, through_keeps}
 use Rattle.analysis_fields.specs.declared.faults.FaultEnds.{FaultEnds}
 use Rattle.analysis_fields.specs.declared.faults.RoundFault.{RoundFault}
 use Rattle.analysis_fields.specs.Replicas.{copies_at, kind_in, kind_at, with_fault_value, fault_values, ends_of, fault_behind, fault_of, fault_from, fault_in, is_same_place, with_fault, faults_in}
@@ -30,7 +30,7 @@ abbrev pub RoundFaultFits : DesignParts → RoundFault → Type 0
 RoundFaultFits design f = FaultFits design f.fault
 
 -- ---- values
-more_fit : (kind : Kind) (place : List ℕ) (values : List Port) (d : Data) (more : List Port) → TupleFits kind values
+more_fit : (kind : Kind) (place : List ℕ) (values : List PortValue) (d : Data) (more : List PortValue) → TupleFits kind values
     → with_fault_value kind place values d ≡ Ok more → TupleFits kind more
 more_fit kind place values d more fits e =
     let v = ok_bind (port_value kind place d) (λ x. Ok (values ++ x ∷ [])) more e in
@@ -38,7 +38,7 @@ more_fit kind place values d more fits e =
     (All-append (PortFits kind) values (v.0 ∷ []) fits
     (All-cons (PortFits kind) v.0 [] (value_fits kind place d v.0 v.1) (All-nil (PortFits kind))))
 
-values_fit : (kind : Kind) (place : List ℕ) (ds : List Data) (tuple : List Port) → fault_values kind place ds ≡ Ok tuple
+values_fit : (kind : Kind) (place : List ℕ) (ds : List Data) (tuple : List PortValue) → fault_values kind place ds ≡ Ok tuple
     → TupleFits kind tuple
 values_fit kind place ds tuple e =
     through_keeps (TupleFits kind) (with_fault_value kind place)
@@ -51,7 +51,7 @@ behind_fits : (design : DesignParts) (replicas : List NodeNo) (place : List ℕ)
 unfolding fault_behind kind_at
 behind_fits design replicas place ends target round values f e =
     let kind = kind_in design (slice_get design.links ends.link.0) in
-    let made : ℕ → ℕ → List Port → RoundFault =
+    let made : ℕ → ℕ → List PortValue → RoundFault =
     λ t n tuple. record {
       round = n;
       fault = record {

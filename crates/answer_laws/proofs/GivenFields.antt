@@ -4,7 +4,7 @@ use Rattle.std.specs.Prelude.{find, not}
 use Rattle.serde_json.specs.Data.{Data}
 use Rattle.serde_json.specs.Find.{get}
 use Rattle.pals_base.specs.declared.values.NodeNo.{NodeNo}
-use Rattle.pals_base.specs.declared.values.Port.{Port}
+use Rattle.pals_base.specs.declared.values.PortValue.{PortValue}
 use Rattle.pals_model.specs.declared.design.DesignParts.{DesignParts}
 use Rattle.pals_clock.specs.declared.clock.Clocks.{Clocks}
 use Rattle.pals_runs.specs.declared.commands.Command.{Command}
@@ -16,7 +16,7 @@ use Rattle.analysis_fields.specs.PropertyValues.{PropertyValue}
 use Rattle.scenario_values.specs.declared.fault.ScenarioFault.{ScenarioFault}
 use Rattle.scenario_values.specs.Outcomes.{◌>>=◌}
 use Rattle.scenario_values.specs.Values.{entries}
-use Rattle.scenario_values.proofs.Passing.{ok_same, ok_bind}
+use Rattle.scenario_values.proofs.PassedValues.{ok_same, ok_bind}
 use Rattle.scenario_json.specs.declared.scenario.Scenario.{Scenario}
 use Rattle.scenario_json.specs.Scenarios.{is_field, only_known, rounds_in, inputs_field, events_field, clocks_field, delays_field, trace_field, properties_field, replicas_field, faults_field, plants_field, processors_field, fields_in, scen, Means}
 use Rattle.answer_laws.proofs.GivenValues.{ListsFit, inputs_field_fit}
@@ -40,7 +40,7 @@ made_keeps : (made : Scenario) (Q : Scenario → Type 0) → Q made → Keeps (O
 made_keeps made Q holds = record { kept = λ s e. subst Q (ok_same made s e) holds }
 
 -- what is read from each field on, the last one first
-abbrev made : ℕ → List (List Port) → List Event → Clocks → List (List ℕ) → List (List ℕ) → List PropertyValue
+abbrev made : ℕ → List (List PortValue) → List Event → Clocks → List (List ℕ) → List (List ℕ) → List PropertyValue
     → List NodeNo → List RoundFault → List Pair → List Processor → Scenario
 made n i v c l t p r f pl pr =
     record {
@@ -58,36 +58,36 @@ made n i v c l t p r f pl pr =
     }
 
 module _ (d : Data) (design : DesignParts) (command : Command) where
-  abbrev from_processors : ℕ → List (List Port) → List Event → Clocks → List (List ℕ) → List (List ℕ)
+  abbrev from_processors : ℕ → List (List PortValue) → List Event → Clocks → List (List ℕ) → List (List ℕ)
       → List PropertyValue → List NodeNo → List RoundFault → List Pair → Result Scenario ScenarioFault
   from_processors n i v c l t p r f pl = processors_field design command d >>= λ pr. Ok (made n i v c l t p r f pl pr)
 
-  abbrev from_plants : ℕ → List (List Port) → List Event → Clocks → List (List ℕ) → List (List ℕ) → List PropertyValue
+  abbrev from_plants : ℕ → List (List PortValue) → List Event → Clocks → List (List ℕ) → List (List ℕ) → List PropertyValue
       → List NodeNo → List RoundFault → Result Scenario ScenarioFault
   from_plants n i v c l t p r f = plants_field design d >>= λ pl. from_processors n i v c l t p r f pl
 
-  abbrev from_faults : ℕ → List (List Port) → List Event → Clocks → List (List ℕ) → List (List ℕ) → List PropertyValue
+  abbrev from_faults : ℕ → List (List PortValue) → List Event → Clocks → List (List ℕ) → List (List ℕ) → List PropertyValue
       → List NodeNo → Result Scenario ScenarioFault
   from_faults n i v c l t p r = faults_field design r d >>= λ f. from_plants n i v c l t p r f
 
-  abbrev from_replicas : ℕ → List (List Port) → List Event → Clocks → List (List ℕ) → List (List ℕ) → List PropertyValue
+  abbrev from_replicas : ℕ → List (List PortValue) → List Event → Clocks → List (List ℕ) → List (List ℕ) → List PropertyValue
       → Result Scenario ScenarioFault
   from_replicas n i v c l t p = replicas_field design d >>= λ r. from_faults n i v c l t p r
 
-  abbrev from_properties : ℕ → List (List Port) → List Event → Clocks → List (List ℕ) → List (List ℕ)
+  abbrev from_properties : ℕ → List (List PortValue) → List Event → Clocks → List (List ℕ) → List (List ℕ)
       → Result Scenario ScenarioFault
   from_properties n i v c l t = properties_field design command d >>= λ p. from_replicas n i v c l t p
 
-  abbrev from_trace : ℕ → List (List Port) → List Event → Clocks → List (List ℕ) → Result Scenario ScenarioFault
+  abbrev from_trace : ℕ → List (List PortValue) → List Event → Clocks → List (List ℕ) → Result Scenario ScenarioFault
   from_trace n i v c l = trace_field command d >>= λ t. from_properties n i v c l t
 
-  abbrev from_delays : ℕ → List (List Port) → List Event → Clocks → Result Scenario ScenarioFault
+  abbrev from_delays : ℕ → List (List PortValue) → List Event → Clocks → Result Scenario ScenarioFault
   from_delays n i v c = delays_field design d >>= λ l. from_trace n i v c l
 
-  abbrev from_clocks : ℕ → List (List Port) → List Event → Result Scenario ScenarioFault
+  abbrev from_clocks : ℕ → List (List PortValue) → List Event → Result Scenario ScenarioFault
   from_clocks n i v = clocks_field design d >>= λ c. from_delays n i v c
 
-  abbrev from_events : ℕ → List (List Port) → Result Scenario ScenarioFault
+  abbrev from_events : ℕ → List (List PortValue) → Result Scenario ScenarioFault
   from_events n i = events_field design command d >>= λ v. from_clocks n i v
 
   abbrev from_inputs : ℕ → Result Scenario ScenarioFault

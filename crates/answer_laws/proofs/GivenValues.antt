@@ -8,8 +8,8 @@ use Rattle.serde_json.specs.Data.{Data}
 use Rattle.serde_json.specs.Find.{as_null, as_bool}
 use Rattle.pals_base.specs.declared.behaviour.Kind.{Kind}
 use Rattle.pals_base.specs.declared.behaviour.Kind.TheVariants.{Integer, Boolean}
-use Rattle.pals_base.specs.declared.values.Port.{Port}
-use Rattle.pals_base.specs.declared.values.Port.TheVariants.{Absent, Present}
+use Rattle.pals_base.specs.declared.values.PortValue.{PortValue}
+use Rattle.pals_base.specs.declared.values.PortValue.TheVariants.{Absent, Present}
 use Rattle.pals_base.specs.Expressions.{truth}
 use Rattle.pals_model.specs.declared.design.DesignParts.{DesignParts}
 use Rattle.pals_model.specs.declared.rounds.Env.{Env}
@@ -21,7 +21,7 @@ use Rattle.scenario_values.specs.Outcomes.{◌>>=◌, given, through}
 use Rattle.scenario_values.specs.FaultPlaces.{inside}
 use Rattle.scenario_values.specs.Values.{elements, entries, number, present, port_value}
 use Rattle.scenario_values.specs.Names.{root_at}
-use Rattle.scenario_values.proofs.Passing.{ok_same, ok_bind, ok_given, through_keeps}
+use Rattle.scenario_values.proofs.PassedValues.{ok_same, ok_bind, ok_given, through_keeps}
 use Rattle.scenario_json.specs.Inputs.{with_value, value_list, with_input, inputs_in}
 use Rattle.scenario_json.specs.Scenarios.{field}
 use Rattle.pals_model.specs.proof.FittingValues.{PortFits, TupleFits, EnvFits}
@@ -30,7 +30,7 @@ use Rattle.pals_model.proofs.KindsOfExpressions.{truth_fits}
 use Rattle.pals_model.proofs.KindsOfRounds.{place_of_column}
 
 -- ---- values
-present_fits : (kind : Kind) (place : List ℕ) (d : Data) (v : Port) → present kind place d ≡ Ok v → PortFits kind v
+present_fits : (kind : Kind) (place : List ℕ) (d : Data) (v : PortValue) → present kind place d ≡ Ok v → PortFits kind v
 present_fits Integer place d v e =
     let z = ok_bind (number place d) (λ n. Ok (Present n)) v e in
     subst (PortFits Integer) (ok_same (Present z.0) v z.2) tt
@@ -38,16 +38,16 @@ present_fits Boolean place d v e =
     let b = ok_bind (given (WrongKind place) (as_bool d)) (λ x. Ok (Present (truth x))) v e in
     subst (PortFits Boolean) (ok_same (Present (truth b.0)) v b.2) (truth_fits b.0)
 
-value_by : (kind : Kind) (place : List ℕ) (d : Data) (v : Port) (none : Bool)
+value_by : (kind : Kind) (place : List ℕ) (d : Data) (v : PortValue) (none : Bool)
     → cond none (Ok Absent) (present kind place d) ≡ Ok v → PortFits kind v
 value_by kind place d v true e = subst (PortFits kind) (ok_same Absent v e) tt
 value_by kind place d v false e = present_fits kind place d v e
 
-pub value_fits : (kind : Kind) (place : List ℕ) (d : Data) (v : Port) → port_value kind place d ≡ Ok v → PortFits kind v
+pub value_fits : (kind : Kind) (place : List ℕ) (d : Data) (v : PortValue) → port_value kind place d ≡ Ok v → PortFits kind v
 unfolding port_value
 value_fits kind place d v e = value_by kind place d v (is_some (as_null d)) e
 
-more_fit : (kind : Kind) (place : List ℕ) (values : List Port) (d : Data) (more : List Port) → TupleFits kind values
+more_fit : (kind : Kind) (place : List ℕ) (values : List PortValue) (d : Data) (more : List PortValue) → TupleFits kind values
     → with_value kind place values d ≡ Ok more → TupleFits kind more
 more_fit kind place values d more fits e =
     let v = ok_bind (port_value kind (inside place (decimal (length values))) d) (λ x. Ok (values ++ x ∷ [])) more e in
@@ -56,7 +56,7 @@ more_fit kind place values d more fits e =
     (All-cons (PortFits kind) v.0 [] (value_fits kind (inside place (decimal (length values))) d v.0 v.1)
     (All-nil (PortFits kind))))
 
-list_fits : (kind : Kind) (place : List ℕ) (d : Data) (values : List Port) → value_list kind place d ≡ Ok values
+list_fits : (kind : Kind) (place : List ℕ) (d : Data) (values : List PortValue) → value_list kind place d ≡ Ok values
     → TupleFits kind values
 unfolding value_list
 list_fits kind place d values e =
@@ -66,7 +66,7 @@ list_fits kind place d values e =
     (All-nil (PortFits kind)) ds.2
 
 -- ---- the lists of all root in ports
-abbrev pub ListsFit : DesignParts → List (List Port) → Type 0
+abbrev pub ListsFit : DesignParts → List (List PortValue) → Type 0
 ListsFit design lists =
     (number : ℕ) (name : List ℕ) → slice_get (root_inputs design) number ≡ Some name
     → TupleFits (root_kind design name) (slice_index_or lists number [])
@@ -80,7 +80,7 @@ root_is place design name root e =
     (ok_given (Unknown place) (position (bytes_eq name) (root_inputs design)) root e) in
     at.1 ∙ ap Some (sym ((bytes_eq-Decides name at.0).0 at.2))
 
-input_fits : (design : DesignParts) (lists : List (List Port)) (entry : List ℕ × Data) (more : List (List Port))
+input_fits : (design : DesignParts) (lists : List (List PortValue)) (entry : List ℕ × Data) (more : List (List PortValue))
     → ListsFit design lists → with_input design lists entry ≡ Ok more → ListsFit design more
 unfolding with_input
 input_fits design lists entry more fit e =
@@ -107,7 +107,7 @@ none_at kind (suc n) (suc k) = none_at kind n k
 no_inputs_fit : (design : DesignParts) → ListsFit design (replicate (length (root_inputs design)) [])
 no_inputs_fit design = λ number name is. none_at (root_kind design name) (length (root_inputs design)) number
 
-inputs_fit : (design : DesignParts) (d : Data) (lists : List (List Port)) → inputs_in design d ≡ Ok lists
+inputs_fit : (design : DesignParts) (d : Data) (lists : List (List PortValue)) → inputs_in design d ≡ Ok lists
     → ListsFit design lists
 unfolding inputs_in
 inputs_fit design d lists e =
@@ -117,7 +117,7 @@ inputs_fit design d lists e =
     (λ so_far entry more fit one. input_fits design so_far entry more fit one) first members.0 lists
     (no_inputs_fit design) members.2
 
-pub inputs_field_fit : (design : DesignParts) (o : Option Data) (lists : List (List Port))
+pub inputs_field_fit : (design : DesignParts) (o : Option Data) (lists : List (List PortValue))
     → field (codes "inputs") false (replicate (length (root_inputs design)) []) (inputs_in design) o ≡ Ok lists
     → ListsFit design lists
 inputs_field_fit design None lists e =

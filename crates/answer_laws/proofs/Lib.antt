@@ -1,6 +1,6 @@
 pub mod Splits
 pub mod Meanings
-pub mod Laws
+pub mod LowerLaws
 pub mod Designs
 pub mod Scenarios
 pub mod Worlds
@@ -10,7 +10,7 @@ pub mod Executions
 pub mod Commands
 pub mod Calls
 pub mod Ways
-pub mod Standing
+pub mod AnswerStatuses
 pub mod ExecutionStanding
 pub mod Reading
 pub mod BundleStatuses

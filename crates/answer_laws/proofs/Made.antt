@@ -5,7 +5,7 @@ use Rattle.std.proofs.lemmas.Bool.{true≢false}
 use Rattle.pals_model.specs.declared.design.DesignParts.{DesignParts}
 use Rattle.pals_model.specs.Rules.{IsDesign}
 use Rattle.plant_fuse.specs.Fused.{ArePairs}
-use Rattle.plant_fuse.specs.proof.Laws.{ReportIsOne}
+use Rattle.plant_fuse.specs.proof.FusedLaws.{ReportIsOne}
 use Rattle.scenario_json.specs.declared.scenario.Scenario.{Scenario}
 use Rattle.pals_top.specs.declared.analysis.Analysis.{Analysis}
 use Rattle.pals_top.specs.declared.analysis.Analysis.TheVariants.{Sync, Watch, Vote, Fuse}
@@ -16,7 +16,7 @@ use Rattle.pals_top.specs.Executions.{command_of, Makes as executes}
 use Rattle.design_codes.specs.Behaviours.{behaviours}
 use Rattle.pals_top.specs.Budget.{processors_of}
 use Rattle.pals_top.specs.proof.Code.{is_run}
-use Rattle.answer_laws.proofs.Laws.{ExecutionLaws}
+use Rattle.answer_laws.proofs.LowerLaws.{ExecutionLaws}
 use Rattle.pals_top.specs.Worlds.{world_of}
 use Rattle.answer_laws.proofs.TimedWorlds.{one_timed}
 use Rattle.answer_laws.proofs.Worlds.{end_of, one_world}

@@ -11,7 +11,7 @@ use Rattle.scenario_json.specs.Events.{usual_word, event_in, events_in}
 use Rattle.scenario_json.specs.declared.scenario.Scenario.{Scenario}
 use Rattle.scenario_json.specs.Scenarios.{fields_in, scen, Means}
 use Rattle.scenario_laws.specs.proof.Facts.{ScenariosSuit}
-use Rattle.bus_machine.specs.proof.Laws.{IsRunOf}
+use Rattle.bus_machine.specs.proof.MachineLaws.{IsRunOf}
 use Rattle.bus_machine.specs.States.{finished_by_all}
 use Rattle.run_laws.specs.Reports.{lines_of}
 use Rattle.run_laws.specs.Traces.{verdict}
@@ -25,7 +25,7 @@ use Rattle.pals_top.specs.Run.{IsRunAnswer}
 use Rattle.pals_top.specs.Scenarios.{HasScenario}
 use Rattle.answer_laws.specs.proof.Meanings.{MeansScenario, HasLongCode}
 use Rattle.answer_laws.specs.proof.Runs.{IsRunStatus, IsInTime, OneAnswerInTime, NoneIsStopped, IsSynchronous, DoneInTime, AnswersAsSync, DoneWithinBounds, DoneTracesAreSound, IsStoppedTrace, StoppedTracesAreSound}
-use Rattle.answer_laws.proofs.Laws.{OneDesign, KeepsRules}
+use Rattle.answer_laws.proofs.LowerLaws.{OneDesign, KeepsRules}
 use Rattle.answer_laws.proofs.Designs.{accepted_or_refused}
 use Rattle.answer_laws.proofs.Scenarios.{one_meaning, meant_or_refused}
 use Rattle.answer_laws.proofs.Executions.{long_code, long_or_short, one_code_fault}

@@ -7,9 +7,9 @@ use Rattle.pals_clock.specs.declared.clock.Clocks.TheVariants.{Meet, Lists}
 use Rattle.pals_model.specs.RoundTexts.{line_end, report}
 use Rattle.pals_runs.specs.declared.journal.Phase.TheVariants.{Done}
 use Rattle.pals_report.specs.Runs.{clock_end_line}
-use Rattle.bus_machine.specs.declared.action.Action.{Action}
+use Rattle.bus_machine.specs.declared.action.NodeAction.{NodeAction}
 use Rattle.bus_machine.specs.Agreement.{Agrees}
-use Rattle.bus_machine.specs.proof.Laws.{IsRunOf}
+use Rattle.bus_machine.specs.proof.MachineLaws.{IsRunOf}
 use Rattle.bus_machine.specs.Nodes.{NodeState}
 use Rattle.bus_machine.specs.Plans.{plan_of}
 use Rattle.bus_machine.specs.States.{Run, BusState, node_at, no_node}
@@ -23,7 +23,7 @@ use Rattle.answer_laws.specs.proof.Runs.{ShowsRounds}
 
 -- ---- what ends first
 -- a node with something to do is there
-is_there : (run : Run) (s : BusState) (node : ℕ) (action : Action) → Agrees run s
+is_there : (run : Run) (s : BusState) (node : ℕ) (action : NodeAction) → Agrees run s
     → upcoming (plan_of run.design node) (node_at s node) ≡ Some action
     → node < length run.design.components
 is_there run s node action agree next = elim (cases_lt node (length run.design.components)) [

@@ -10,7 +10,7 @@ use Rattle.pals_report.specs.ScenarioFaults.{scenario_fault_line}
 use Rattle.bundle_designs.specs.Accepted.{IsAccepted}
 use Rattle.pals_top.specs.Scenarios.{HasScenario, HasScenarioFault}
 use Rattle.answer_laws.proofs.Meanings.{same_scenario, same_fault, scenario_or_fault}
-use Rattle.answer_laws.proofs.Laws.{OneDesign}
+use Rattle.answer_laws.proofs.LowerLaws.{OneDesign}
 use Rattle.answer_laws.proofs.Designs.{one_accepted}
 
 module _ (one_design : OneDesign) (root bundle : List ℕ) (command : Command) where

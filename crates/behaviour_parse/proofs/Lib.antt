@@ -1,4 +1,4 @@
 pub mod Operators
-pub mod Acting
+pub mod ParsedActions
 pub mod Declaring
 pub mod Verdicts

@@ -24,7 +24,7 @@ use Rattle.aadl_grammar.specs.proof.Symbols as s
 use Rattle.aadl_grammar.specs.proof.Table.{on}
 use Rattle.aadl_grammar.specs.proof.Machine.{Stack, takes, move, depth, fate}
 use Rattle.aadl_grammar.specs.proof.Reading.{Reads}
-use Rattle.aadl_grammar.proofs.Rows.{takes_row, begins_past}
+use Rattle.aadl_grammar.proofs.SymbolRows.{takes_row, begins_past}
 use Rattle.aadl_grammar.proofs.Written.{marked, respelled, regroup, shorter}
 use Rattle.behaviour_parse.specs.proof.Joining.{Joins}
 

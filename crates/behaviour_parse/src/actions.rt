@@ -48,7 +48,7 @@ fn bound(reader: &Reader<'_>, at: usize) -> Parsed<Bound>
 
 /// What stands in the parentheses of a loop.
 #[derive(Drop)]
-struct Head {
+struct LoopHead {
     variable: Identifier,
     data_type: Reference,
     low: Bound,
@@ -56,7 +56,7 @@ struct Head {
 }
 
 /// `"(" id ":" reference "in" bound ".." bound ")"`
-fn loop_head(reader: &Reader<'_>, at: usize, room: usize) -> Parsed<Head>
+fn loop_head(reader: &Reader<'_>, at: usize, room: usize) -> Parsed<LoopHead>
     ensures { Parses reader.now (Room room) (s.loop_head ∷ []) (λ x. head_parts x) at result }
 {
     let Some(next) = reader.take(at, Mark::ParenOpen) else {
@@ -73,7 +73,7 @@ fn loop_head(reader: &Reader<'_>, at: usize, room: usize) -> Parsed<Head>
     let dots = reader.expect(next, Mark::Range)?;
     let (high, next) = bound(reader, dots)?;
     let end = reader.expect(next, Mark::ParenClose)?;
-    let head = Head {
+    let head = LoopHead {
         variable,
         data_type,
         low,
@@ -99,11 +99,11 @@ fn begins_action(reader: &Reader<'_>, at: usize) -> bool
 }
 
 /// A loop of its head and its body.
-fn turns(head: Head, at: usize, body: Block) -> Loop
+fn turns(head: LoopHead, at: usize, body: Block) -> Loop
     ensures { loop_view kept_place result
         ≡ loop at (identifier_view kept_place head.variable) (reference_view kept_place head.data_type) head.low head.high (block_view kept_place body) }
 {
-    let Head {
+    let LoopHead {
         variable,
         data_type,
         low,
@@ -167,7 +167,7 @@ fn action(reader: &Reader<'_>, at: usize, room: usize) -> Parsed<Action>
 
 /// A loop behind its `for`.
 #[cycle(action)]
-fn repetition(reader: &Reader<'_>, at: usize, room: usize) -> Parsed<(Head, Block)>
+fn repetition(reader: &Reader<'_>, at: usize, room: usize) -> Parsed<(LoopHead, Block)>
     ensures { Parses reader.now (Room room) (s.loop_head ∷ s.block ∷ [])
         (λ x. head_parts x.0 ++ block_parts (block_view kept_place x.1)) at result }
 {

@@ -6,7 +6,7 @@ use Rattle.std.specs.declared.alloc.Global.{Global}
 use Rattle.std.specs.declared.vec.Vec.{Vec}
 use Rattle.pals_base.specs.declared.values.Trap.{Trap}
 use Rattle.pals_base.specs.declared.values.Frame.{Frame}
-use Rattle.pals_base.specs.declared.values.Port.{Port}
+use Rattle.pals_base.specs.declared.values.PortValue.{PortValue}
 use Rattle.pals_base.specs.declared.behaviour.Act.{Act}
 use Rattle.pals_base.specs.declared.behaviour.Act.TheVariants as variants
 use Rattle.pals_base.specs.declared.behaviour.Branch.{Branch}
@@ -15,16 +15,16 @@ use Rattle.pals_base.specs.Tree.{Actions, For}
 use Rattle.pals_base.specs.Expressions.{on_value}
 use Rattle.pals_base.specs.proof.Seen.{action_of, actions_along, branches_along}
 use Rattle.pals_base.proofs.Trees.{action_of-If, action_of-For}
-use Rattle.behaviour_sem.specs.declared.stop.Stop.{Stop}
-use Rattle.behaviour_sem.specs.declared.stop.Stop.TheVariants as stop
+use Rattle.behaviour_sem.specs.declared.stop.EarlyEnd.{EarlyEnd}
+use Rattle.behaviour_sem.specs.declared.stop.EarlyEnd.TheVariants as stop
 use Rattle.behaviour_sem.specs.proof.Senses.{frame_of}
 use Rattle.behaviour_sem.specs.proof.Left.{Left, Chose}
 
 -- ---- trees
-pub act-If : (branches : Vec Branch Global) (otherwise : Vec Act Global) (frame : Frame) (fresh : List Bool) (outs : List Port) → act (action_of (variants.If branches otherwise)) frame fresh outs ≡ act_first (branches_along branches.items) frame fresh outs (acts (actions_along otherwise.items) frame fresh outs)
+pub act-If : (branches : Vec Branch Global) (otherwise : Vec Act Global) (frame : Frame) (fresh : List Bool) (outs : List PortValue) → act (action_of (variants.If branches otherwise)) frame fresh outs ≡ act_first (branches_along branches.items) frame fresh outs (acts (actions_along otherwise.items) frame fresh outs)
 act-If branches otherwise frame fresh outs = ap (λ a. act a frame fresh outs) (action_of-If branches otherwise)
 
-pub act-For : (low high : ℤ) (body : Vec Act Global) (frame : Frame) (fresh : List Bool) (outs : List Port) → act (action_of (variants.For low high body)) frame fresh outs ≡ act (For low high (actions_along body.items)) frame fresh outs
+pub act-For : (low high : ℤ) (body : Vec Act Global) (frame : Frame) (fresh : List Bool) (outs : List PortValue) → act (action_of (variants.For low high body)) frame fresh outs ≡ act (For low high (actions_along body.items)) frame fresh outs
 act-For low high body frame fresh outs = ap (λ a. act a frame fresh outs) (action_of-For low high body)
 
 -- a turn of a loop round which there were `depth` variables, after other turns
@@ -32,7 +32,7 @@ abbrev pub turn_after : ℕ → Actions → List ℤ → List Bool → ℤ → E
 turn_after depth body held fresh number so_far = without_loop depth (acts body (frame_of (so_far.vars ++ number ∷ []) held) fresh so_far.outs)
 
 -- ---- answers
-pub Left-chose-err : {A : Type 0} (s : Stop) (reached before reached' : A) (otherwise meant : Result A Trap) → Chose (Err s) reached before otherwise meant → Left (Err s) reached' meant
+pub Left-chose-err : {A : Type 0} (s : EarlyEnd) (reached before reached' : A) (otherwise meant : Result A Trap) → Chose (Err s) reached before otherwise meant → Left (Err s) reached' meant
 Left-chose-err (stop.Trapped trap) reached before reached' otherwise meant chose = chose
 Left-chose-err stop.NoMemory reached before reached' otherwise meant chose = tt
 

@@ -1,4 +1,4 @@
 pub mod Branches
 pub mod Seen
-pub mod Moves
+pub mod TransitionSteps
 pub mod Ends

@@ -3,14 +3,14 @@ use Rattle.std.proofs.Common.{◌≡◌, ℤ, List, [], ◌∷◌, ◌++◌, len
 use Rattle.std.specs.Prelude.{Bool, not, if◌then◌else◌, Result, Ok, Err}
 use Rattle.pals_base.specs.declared.values.Trap.{Trap}
 use Rattle.pals_base.specs.declared.values.Frame.{Frame}
-use Rattle.pals_base.specs.declared.values.Port.{Port}
-use Rattle.pals_base.specs.declared.values.Port.TheVariants.{Present}
+use Rattle.pals_base.specs.declared.values.PortValue.{PortValue}
+use Rattle.pals_base.specs.declared.values.PortValue.TheVariants.{Present}
 use Rattle.std.specs.Prelude.{slice_set}
 use Rattle.pals_base.specs.Arithmetic.{negation_of, magnitude_of}
 use Rattle.pals_base.specs.Expressions.{eval, eval_rest, on_value, combined, is_true, truth}
 use Rattle.pals_base.specs.Actions.{Effect, act, acts, act_first, for_each, numbers, with_vars, without_loop}
 use Rattle.pals_base.specs.Fire.{opens}
-use Rattle.pals_base.specs.Tree.{Expression, Literal, Variable, PortValue, Fresh, Neg, Abs, Not, Chain, Operands, NoMore, Then, Action, Assign, Emit, If, For, Actions, Nothing, Do, Branches, NoBranch, Where, Trigger, Dispatch, Always, When}
+use Rattle.pals_base.specs.Tree.{Expression, Literal, Variable, PortRead, Fresh, Neg, Abs, Not, Chain, Operands, NoMore, Then, Action, Assign, Emit, If, For, Actions, Nothing, Do, Branches, NoBranch, Where, Trigger, Dispatch, Always, When}
 use Rattle.behaviour_sem.specs.proof.Senses.{frame_of}
 use Rattle.behaviour_sem.specs.proof.Runs.{effect}
 
@@ -28,7 +28,7 @@ mutual
   pub eval-seen : (e : Expression) (frame : Frame) (fresh : List Bool) → eval e frame fresh ≡ eval e (frame_of frame.vars frame.held) fresh
   eval-seen (Literal n) frame fresh = refl
   eval-seen (Variable x) frame fresh = refl
-  eval-seen (PortValue p) frame fresh = refl
+  eval-seen (PortRead p) frame fresh = refl
   eval-seen (Fresh p) frame fresh = refl
   eval-seen (Neg e) frame fresh = ap (λ r. on_value r negation_of) (eval-seen e frame fresh)
   eval-seen (Abs e) frame fresh = ap (λ r. on_value r magnitude_of) (eval-seen e frame fresh)
@@ -44,7 +44,7 @@ mutual
       ∙ on_value-same (combined op left (eval e (frame_of frame.vars frame.held) fresh)) _ _ (λ v. eval_rest-seen rest frame fresh v)
 
 mutual
-  pub act-seen : (a : Action) (frame : Frame) (fresh : List Bool) (outs : List Port) → act a frame fresh outs ≡ act a (frame_of frame.vars frame.held) fresh outs
+  pub act-seen : (a : Action) (frame : Frame) (fresh : List Bool) (outs : List PortValue) → act a frame fresh outs ≡ act a (frame_of frame.vars frame.held) fresh outs
   act-seen (Assign x e) frame fresh outs = ap (λ r. on_value r (λ v. Ok (effect (slice_set frame.vars x v) outs))) (eval-seen e frame fresh)
   act-seen (Emit p e) frame fresh outs = ap (λ r. on_value r (λ v. Ok (effect frame.vars (slice_set outs p (Present v))))) (eval-seen e frame fresh)
   act-seen (If branches otherwise) frame fresh outs =
@@ -54,13 +54,13 @@ mutual
       for_each-same (numbers low high) _ _ (effect frame.vars outs)
       (λ n e. ap (λ r. without_loop (length frame.vars) r) (acts-seen body (with_vars frame (e.vars ++ n ∷ [])) fresh e.outs))
 
-  pub acts-seen : (as' : Actions) (frame : Frame) (fresh : List Bool) (outs : List Port) → acts as' frame fresh outs ≡ acts as' (frame_of frame.vars frame.held) fresh outs
+  pub acts-seen : (as' : Actions) (frame : Frame) (fresh : List Bool) (outs : List PortValue) → acts as' frame fresh outs ≡ acts as' (frame_of frame.vars frame.held) fresh outs
   acts-seen Nothing frame fresh outs = refl
   acts-seen (Do a rest) frame fresh outs =
       ap (λ r. on_value r (λ e. acts rest (with_vars frame e.vars) fresh e.outs)) (act-seen a frame fresh outs)
       ∙ on_value-same (act a (frame_of frame.vars frame.held) fresh outs) _ _ (λ e. acts-seen rest (with_vars frame e.vars) fresh e.outs)
 
-  act_first-seen : (bs : Branches) (frame : Frame) (fresh : List Bool) (outs : List Port) (otherwise : Result Effect Trap) → act_first bs frame fresh outs otherwise ≡ act_first bs (frame_of frame.vars frame.held) fresh outs otherwise
+  act_first-seen : (bs : Branches) (frame : Frame) (fresh : List Bool) (outs : List PortValue) (otherwise : Result Effect Trap) → act_first bs frame fresh outs otherwise ≡ act_first bs (frame_of frame.vars frame.held) fresh outs otherwise
   act_first-seen NoBranch frame fresh outs otherwise = refl
   act_first-seen (Where guard actions rest) frame fresh outs otherwise =
       ap (λ r. on_value r (λ v. if is_true v then acts actions frame fresh outs else act_first rest frame fresh outs otherwise)) (eval-seen guard frame fresh)

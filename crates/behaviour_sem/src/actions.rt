@@ -5,9 +5,9 @@ ghost use Rattle.pals_base.specs.Tree.{For};
 ghost use Rattle.pals_base.specs.proof.Seen.{action_of, actions_along, branches_along};
 ghost use Rattle.behaviour_sem.specs.proof.Runs.{Runs, RunsFirst, turn};
 
-use crate::expressions::{Inputs, eval, holds};
-use crate::stop::Stop;
-use pals_base::{Act, Branch, Port};
+use crate::expressions::{StepInputs, eval, holds};
+use crate::stop::EarlyEnd;
+use pals_base::{Act, Branch, PortValue};
 
 /// Does actions one after the other. A stop leaves the variables and outputs as they then are, and
 /// no more variables than before.
@@ -15,9 +15,9 @@ use pals_base::{Act, Branch, Port};
 pub fn run_all(
     actions: &[Act],
     vars: &mut Vec<i64>,
-    outs: &mut [Port],
-    inputs: Inputs,
-) -> Result<(), Stop>
+    outs: &mut [PortValue],
+    inputs: StepInputs,
+) -> Result<(), EarlyEnd>
     ensures runs { Runs result (acts (actions_along actions.now)) inputs.entry (vars.old, outs.old) (vars.new, outs.new) }
     ensures len { length vars.new.items ≡ length vars.old.items }
 {
@@ -29,7 +29,7 @@ pub fn run_all(
 
 // Does one action.
 #[cycle(run)]
-fn run(action: &Act, vars: &mut Vec<i64>, outs: &mut [Port], inputs: Inputs) -> Result<(), Stop>
+fn run(action: &Act, vars: &mut Vec<i64>, outs: &mut [PortValue], inputs: StepInputs) -> Result<(), EarlyEnd>
     ensures runs { Runs result (act (action_of action.now)) inputs.entry (vars.old, outs.old) (vars.new, outs.new) }
     ensures len { length vars.new.items ≡ length vars.old.items }
 {
@@ -41,7 +41,7 @@ fn run(action: &Act, vars: &mut Vec<i64>, outs: &mut [Port], inputs: Inputs) -> 
         }
         Act::Emit { port, value } => {
             let value = eval(value, vars, inputs)?;
-            set_at(outs, *port, Port::Present(value));
+            set_at(outs, *port, PortValue::Present(value));
             Ok(())
         }
         Act::If {
@@ -63,9 +63,9 @@ fn run(action: &Act, vars: &mut Vec<i64>, outs: &mut [Port], inputs: Inputs) -> 
 fn run_first(
     branches: &[Branch],
     vars: &mut Vec<i64>,
-    outs: &mut [Port],
-    inputs: Inputs,
-) -> Result<bool, Stop>
+    outs: &mut [PortValue],
+    inputs: StepInputs,
+) -> Result<bool, EarlyEnd>
     ensures runs { RunsFirst result (branches_along branches.now) inputs.entry (vars.old, outs.old) (vars.new, outs.new) }
     ensures len { length vars.new.items ≡ length vars.old.items }
 {
@@ -85,9 +85,9 @@ fn run_turns(
     high: i64,
     body: &[Act],
     vars: &mut Vec<i64>,
-    outs: &mut [Port],
-    inputs: Inputs,
-) -> Result<(), Stop>
+    outs: &mut [PortValue],
+    inputs: StepInputs,
+) -> Result<(), EarlyEnd>
     ensures runs { Runs result (act (For low high (actions_along body.now))) inputs.entry (vars.old, outs.old) (vars.new, outs.new) }
     ensures len { length vars.new.items ≡ length vars.old.items }
 {
@@ -104,15 +104,15 @@ fn run_turn(
     number: i64,
     body: &[Act],
     vars: &mut Vec<i64>,
-    outs: &mut [Port],
-    inputs: Inputs,
-) -> Result<(), Stop>
+    outs: &mut [PortValue],
+    inputs: StepInputs,
+) -> Result<(), EarlyEnd>
     ensures runs { Runs result (turn number (actions_along body.now)) inputs.entry (vars.old, outs.old) (vars.new, outs.new) }
     ensures len { length vars.new.items ≡ length vars.old.items }
 {
     let depth = vars.len();
     if vars.push(number).is_err() {
-        return Err(Stop::NoMemory);
+        return Err(EarlyEnd::NoMemory);
     }
     let ended = run_all(body, vars, outs, inputs);
     vars.truncate(depth);

@@ -5,18 +5,18 @@ ghost use Rattle.pals_base.specs.Fire.{is_present};
 ghost use Rattle.pals_base.specs.proof.Seen.{tree_of, operands_along};
 ghost use Rattle.behaviour_sem.specs.proof.Senses.{seen, fresh};
 
-use pals_base::{Expr, Op, Operand, Port, Trap, abs, add, modulo, mul, neg, quot, rem, sub};
+use pals_base::{Expr, Op, Operand, PortValue, Trap, abs, add, modulo, mul, neg, quot, rem, sub};
 
 /// What a step reads and never changes: the held inputs, and what the in ports have in this step.
 #[derive(Clone, Copy)]
-pub struct Inputs<'a> {
+pub struct StepInputs<'a> {
     pub held: &'a [i64],
-    pub present: &'a [Port],
+    pub present: &'a [PortValue],
 }
 
 /// The value of an expression over these variables and inputs, or the first trap that it meets.
 #[cycle(eval)]
-pub fn eval(expr: &Expr, vars: &[i64], inputs: Inputs) -> Result<i64, Trap>
+pub fn eval(expr: &Expr, vars: &[i64], inputs: StepInputs) -> Result<i64, Trap>
     ensures { result ≡ eval (tree_of expr.now) (seen vars.now inputs.entry) (fresh inputs.entry) }
 {
     match expr {
@@ -39,7 +39,7 @@ pub fn eval(expr: &Expr, vars: &[i64], inputs: Inputs) -> Result<i64, Trap>
 
 // The later operands of a chain, from the value of what stands left of them.
 #[cycle(eval)]
-fn eval_rest(rest: &[Operand], left: i64, vars: &[i64], inputs: Inputs) -> Result<i64, Trap>
+fn eval_rest(rest: &[Operand], left: i64, vars: &[i64], inputs: StepInputs) -> Result<i64, Trap>
     ensures { result ≡ eval_rest (operands_along rest.now) (seen vars.now inputs.entry) (fresh inputs.entry) left }
 {
     let mut value = left;
@@ -101,9 +101,9 @@ fn number_at(numbers: &[i64], at: u32) -> i64
 }
 
 // Whether an in port has a value in this step.
-fn is_fresh(ports: &[Port], at: u32) -> bool
+fn is_fresh(ports: &[PortValue], at: u32) -> bool
     ensures { result ≡ slice_index_or (map is_present ports.now) at false }
 {
     let at = at as usize;
-    at < ports.len() && matches!(ports[at], Port::Present(_))
+    at < ports.len() && matches!(ports[at], PortValue::Present(_))
 }

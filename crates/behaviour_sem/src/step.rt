@@ -4,10 +4,10 @@ ghost use Rattle.pals_base.specs.Fire.{fire, held_of, holding, is_present};
 ghost use Rattle.behaviour_sem.specs.proof.Left.{Left};
 ghost use Rattle.behaviour_sem.specs.proof.Leads.{reacted};
 
-use crate::expressions::Inputs;
-use crate::stop::Stop;
-use crate::transitions::{Place, react};
-use pals_base::{Behaviour, Frame, Items, NoMemory, Port, TryClone};
+use crate::expressions::StepInputs;
+use crate::stop::EarlyEnd;
+use crate::transitions::{StepState, react};
+use pals_base::{Behaviour, Frame, Items, NoMemory, PortValue, TryClone};
 use std::alloc::{AllocError, Global};
 use std::mem::replace;
 
@@ -17,12 +17,12 @@ pub fn fire(
     alloc: Global,
     behaviour: &Behaviour,
     frame: &Frame,
-    inputs: &[Port],
-) -> Result<(Frame, Items<Port>), NoMemory>
+    inputs: &[PortValue],
+) -> Result<(Frame, Items<PortValue>), NoMemory>
     ensures { IfOk result (λ r. record { frame = r.0; outs = r.1 } ≡ fire behaviour.now frame.now inputs.now) }
 {
     let mut after = frame.try_clone(alloc)?;
-    let mut outs = vec![in alloc; Port::Absent; behaviour.outs().len()]?;
+    let mut outs = vec![in alloc; PortValue::Absent; behaviour.outs().len()]?;
     fire_into(
         alloc,
         behaviour,
@@ -45,9 +45,9 @@ pub fn fire_into(
     alloc: Global,
     behaviour: &Behaviour,
     from: &Frame,
-    inputs: &[Port],
+    inputs: &[PortValue],
     to: &mut Frame,
-    outs: &mut [Port],
+    outs: &mut [PortValue],
 ) -> Result<(), NoMemory>
     requires vars { length to.old.vars ≡ length from.now.vars }
     requires held { length to.old.held ≡ length from.now.held }
@@ -64,26 +64,26 @@ pub fn fire_into(
     }
     match react_in(alloc, behaviour, to, inputs, outs) {
         Ok(()) => Ok(()),
-        Err(Stop::Trapped(trap)) => {
+        Err(EarlyEnd::Trapped(trap)) => {
             silence(outs);
             to.state = from.state;
             to.vars.copy_from_slice(from.vars.as_slice());
             to.halt = Some(trap);
             Ok(())
         }
-        Err(Stop::NoMemory) => Err(AllocError),
+        Err(EarlyEnd::NoMemory) => Err(AllocError),
     }
 }
 
 // Makes all outputs absent.
-fn silence(outs: &mut [Port])
-    ensures { outs.new ≡ replicate (length outs.old) Port.Absent }
+fn silence(outs: &mut [PortValue])
+    ensures { outs.new ≡ replicate (length outs.old) PortValue.Absent }
 {
-    outs.fill(Port::Absent);
+    outs.fill(PortValue::Absent);
 }
 
 // Holds each present input, and keeps what was held before of the others.
-fn hold(held: &mut Items<i64>, inputs: &[Port])
+fn hold(held: &mut Items<i64>, inputs: &[PortValue])
     ensures after { held.new ≡ holding held.old inputs.now }
     ensures len { length held.new ≡ length held.old }
 {
@@ -93,11 +93,11 @@ fn hold(held: &mut Items<i64>, inputs: &[Port])
 }
 
 // The value of an in port where it is present, else the one held before.
-fn newest(before: i64, inputs: &[Port], at: usize) -> i64
-    ensures { result ≡ held_of before (slice_index_or inputs.now at Port.Absent) }
+fn newest(before: i64, inputs: &[PortValue], at: usize) -> i64
+    ensures { result ≡ held_of before (slice_index_or inputs.now at PortValue.Absent) }
 {
     if at < inputs.len() {
-        if let Port::Present(value) = inputs[at] {
+        if let PortValue::Present(value) = inputs[at] {
             return value;
         }
     }
@@ -110,25 +110,25 @@ fn react_in(
     alloc: Global,
     behaviour: &Behaviour,
     frame: &mut Frame,
-    present: &[Port],
-    outs: &mut [Port],
-) -> Result<(), Stop>
+    present: &[PortValue],
+    outs: &mut [PortValue],
+) -> Result<(), EarlyEnd>
     requires { frame.old.halt ≡ None }
     ensures reacts { Left result (record { frame = frame.new; outs = outs.new })
         (reacted behaviour.now frame.old.state (map is_present present.now) (record { frame = frame.old; outs = outs.old })) }
     ensures vars { length frame.new.vars ≡ length frame.old.vars }
     ensures held { frame.new.held ≡ frame.old.held }
 {
-    let mut place = Place {
+    let mut place = StepState {
         state: frame.state,
         vars: replace(&mut frame.vars, Items::new(alloc)).into_vec(),
     };
-    let reads = Inputs {
+    let reads = StepInputs {
         held: frame.held.as_slice(),
         present,
     };
     let ended = react(behaviour, &mut place, outs, reads);
-    let Place { state, vars } = place;
+    let StepState { state, vars } = place;
     frame.state = state;
     frame.vars = Items::from_vec(vars);
     ended

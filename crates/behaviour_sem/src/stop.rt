@@ -4,20 +4,20 @@ use std::alloc::{AllocError, AllocFailed};
 
 /// What ends a run of actions early.
 #[derive(Clone, Copy, PartialEq)]
-pub enum Stop {
+pub enum EarlyEnd {
     /// A trap of the behaviour itself.
     Trapped(Trap),
     /// There was not enough memory for the number of a loop.
     NoMemory,
 }
 
-impl From<Trap> for Stop {
+impl From<Trap> for EarlyEnd {
     ghost use Rattle.std.specs.Prelude.{◌≡◌};
-    ghost use Rattle.behaviour_sem.specs.declared.stop.Stop.TheVariants.{Trapped};
+    ghost use Rattle.behaviour_sem.specs.declared.stop.EarlyEnd.TheVariants.{Trapped};
 
     ghost from_gives = { λ trap stop. stop ≡ Trapped trap };
 
-    fn from(trap: Trap) -> Stop {
-        Stop::Trapped(trap)
+    fn from(trap: Trap) -> EarlyEnd {
+        EarlyEnd::Trapped(trap)
     }
 }

@@ -7,19 +7,19 @@ ghost use Rattle.behaviour_sem.specs.proof.Goes.{goes, move, dispatch_from};
 ghost use Rattle.behaviour_sem.specs.proof.Leads.{Leads, reacted};
 
 use crate::actions::run_all;
-use crate::expressions::{Inputs, eval, holds};
-use crate::stop::Stop;
-use pals_base::{Behaviour, Guard, Port, StateDecl, Transition, Trap};
+use crate::expressions::{StepInputs, eval, holds};
+use crate::stop::EarlyEnd;
+use pals_base::{Behaviour, Guard, PortValue, StateDecl, Transition, Trap};
 
 /// Where a step under way stands: the state that it reached, and the variables.
 #[derive(Drop)]
-pub struct Place {
+pub struct StepState {
     pub state: u32,
     pub vars: Vec<i64>,
 }
 
 // Whether a guard lets a transition go, once the step is under way.
-fn opens(guard: &Guard, vars: &[i64], inputs: Inputs) -> Result<bool, Trap>
+fn opens(guard: &Guard, vars: &[i64], inputs: StepInputs) -> Result<bool, Trap>
     ensures { result ≡ opens (trigger_of guard.now) (seen vars.now inputs.entry) (fresh inputs.entry) }
 {
     match guard {
@@ -33,7 +33,7 @@ fn opens(guard: &Guard, vars: &[i64], inputs: Inputs) -> Result<bool, Trap>
 }
 
 // Whether a transition leaves a state and its guard lets it go.
-fn goes(transition: &Transition, state: u32, vars: &[i64], inputs: Inputs) -> Result<bool, Trap>
+fn goes(transition: &Transition, state: u32, vars: &[i64], inputs: StepInputs) -> Result<bool, Trap>
     ensures { result ≡ goes state (seen vars.now inputs.entry) (fresh inputs.entry) transition.now }
 {
     if transition.source == state {
@@ -56,10 +56,10 @@ fn is_complete(states: &[StateDecl], state: u32) -> bool
 // Goes along a transition.
 fn follow(
     transition: &Transition,
-    place: &mut Place,
-    outs: &mut [Port],
-    inputs: Inputs,
-) -> Result<(), Stop>
+    place: &mut StepState,
+    outs: &mut [PortValue],
+    inputs: StepInputs,
+) -> Result<(), EarlyEnd>
     ensures leads { Leads result (along (Some transition.now)) inputs.entry (place.old, outs.old) (place.new, outs.new) }
     ensures len { length place.new.vars.items ≡ length place.old.vars.items }
 {
@@ -71,10 +71,10 @@ fn follow(
 // Goes along the dispatch transition of the state, if it has one.
 fn dispatch(
     transitions: &[Transition],
-    place: &mut Place,
-    outs: &mut [Port],
-    inputs: Inputs,
-) -> Result<(), Stop>
+    place: &mut StepState,
+    outs: &mut [PortValue],
+    inputs: StepInputs,
+) -> Result<(), EarlyEnd>
     ensures leads { Leads result (along (dispatch_from place.old.state transitions.now)) inputs.entry (place.old, outs.old) (place.new, outs.new) }
     ensures len { length place.new.vars.items ≡ length place.old.vars.items }
 {
@@ -89,10 +89,10 @@ fn dispatch(
 // Goes along the first transition of the state whose guard is true, if there is one.
 fn advance(
     transitions: &[Transition],
-    place: &mut Place,
-    outs: &mut [Port],
-    inputs: Inputs,
-) -> Result<(), Stop>
+    place: &mut StepState,
+    outs: &mut [PortValue],
+    inputs: StepInputs,
+) -> Result<(), EarlyEnd>
     ensures leads { Leads result (move transitions.now) inputs.entry (place.old, outs.old) (place.new, outs.new) }
     ensures len { length place.new.vars.items ≡ length place.old.vars.items }
 {
@@ -107,10 +107,10 @@ fn advance(
 // Goes on until a complete state, by at most as many transitions as there are states.
 fn settle(
     behaviour: &Behaviour,
-    place: &mut Place,
-    outs: &mut [Port],
-    inputs: Inputs,
-) -> Result<(), Stop>
+    place: &mut StepState,
+    outs: &mut [PortValue],
+    inputs: StepInputs,
+) -> Result<(), EarlyEnd>
     ensures leads { Leads result (settled (length behaviour.now.states) behaviour.now) inputs.entry (place.old, outs.old) (place.new, outs.new) }
     ensures len { length place.new.vars.items ≡ length place.old.vars.items }
 {
@@ -127,10 +127,10 @@ fn settle(
 /// transitions from there to a complete state. A stop leaves as many variables as there were.
 pub fn react(
     behaviour: &Behaviour,
-    place: &mut Place,
-    outs: &mut [Port],
-    inputs: Inputs,
-) -> Result<(), Stop>
+    place: &mut StepState,
+    outs: &mut [PortValue],
+    inputs: StepInputs,
+) -> Result<(), EarlyEnd>
     ensures leads { Leads result (reacted behaviour.now place.old.state) inputs.entry (place.old, outs.old) (place.new, outs.new) }
     ensures len { length place.new.vars.items ≡ length place.old.vars.items }
 {

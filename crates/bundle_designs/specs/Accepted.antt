@@ -1,7 +1,7 @@
 -- From a bundle to the design that it means, or why its package has none.
 use Rattle.std.specs.Prelude.{ℕ, ◌≡◌, ◌≢◌, List, [], ◌++◌, ◌⊎◌}
 use Rattle.aadl_tree.specs.Declarations.{PackageTree}
-use Rattle.aadl_names.specs.declared.fault.FlatFault.{FlatFault}
+use Rattle.aadl_names.specs.declared.fault.PackageFault.{PackageFault}
 use Rattle.aadl_instance.specs.Flat.{Parts, IsFlat}
 use Rattle.aadl_instance.specs.Faults.{IsFault}
 use Rattle.annex_resolve.specs.declared.violation.Violation.{Violation}
@@ -12,12 +12,12 @@ use Rattle.pals_model.specs.RoundTexts.{line_end, text_of as lines_text}
 use Rattle.pals_report.specs.FlatFaults.{flat_fault_line}
 use Rattle.pals_report.specs.Violations.{violation_lines}
 use Rattle.bundle_designs.specs.Parsed.{IsParsed}
-use Rattle.aadl_names.specs.declared.fault.FlatFault.TheVariants as flat
+use Rattle.aadl_names.specs.declared.fault.PackageFault.TheVariants as flat
 
 -- ---- packages
 -- The package has no instance below the root of this name, and the text names its first fault.
 pub record IsFaulty (text : List ℕ) (tree : PackageTree ℕ) (root written : List ℕ) : Type 0 where
-  pub fault : FlatFault
+  pub fault : PackageFault
   pub faulty : IsFault tree root fault
   pub named : fault ≢ flat.Memory
   pub text_is : written ≡ flat_fault_line text fault ++ line_end

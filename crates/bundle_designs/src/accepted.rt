@@ -5,7 +5,7 @@ ghost use Rattle.design_laws.specs.PackageDesigns.{IsDesignIn};
 ghost use Rattle.bundle_designs.specs.Accepted.{IsAccepted};
 ghost use Rattle.bundle_designs.specs.proof.Refusals.{IsPackageRefusal, IsRefusal};
 
-use crate::parsed::{Parsed, parse_bundle};
+use crate::parsed::{ParsedBundle, parse_bundle};
 use crate::refusal::Refusal;
 use crate::refused_design::{refused_instance, refused_package};
 use aadl_instance::flatten;
@@ -29,7 +29,7 @@ pub fn accept<'b>(alloc: Global, bundle: &'b [u8], root: &Text) -> Result<Accept
     ensures accepted { IfOk result (λ a. IsAccepted root.now bundle.now a.design a.scenario.now) }
     ensures refused { IfErr result (IsRefusal root.now bundle.now) }
 {
-    let Parsed {
+    let ParsedBundle {
         text,
         tree,
         scenario,

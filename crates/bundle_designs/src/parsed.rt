@@ -13,7 +13,7 @@ use std::alloc::Global;
 
 /// A bundle whose design text is read.
 #[derive(Drop)]
-pub struct Parsed<'b> {
+pub struct ParsedBundle<'b> {
     /// The design's text, in front of the divider.
     pub text: &'b [u8],
     /// The tree of that text.
@@ -23,7 +23,7 @@ pub struct Parsed<'b> {
 }
 
 /// The tree of a bundle's design text, or why it has none. What stands behind the divider is not looked at.
-pub fn parse_bundle<'b>(alloc: Global, bundle: &'b [u8]) -> Result<Parsed<'b>, Refusal>
+pub fn parse_bundle<'b>(alloc: Global, bundle: &'b [u8]) -> Result<ParsedBundle<'b>, Refusal>
     ensures parsed { IfOk result (λ p. IsParsed bundle.now p.text.now p.scenario.now (placed p.tree)) }
     ensures refused { IfErr result (IsTextRefusal bundle.now) }
 {
@@ -31,7 +31,7 @@ pub fn parse_bundle<'b>(alloc: Global, bundle: &'b [u8]) -> Result<Parsed<'b>, R
         return Err(Refusal::Text(undivided(alloc, bundle)?));
     };
     match parse(alloc, text) {
-        Ok(tree) => Ok(Parsed {
+        Ok(tree) => Ok(ParsedBundle {
             text,
             tree,
             scenario,

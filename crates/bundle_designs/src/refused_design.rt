@@ -1,11 +1,11 @@
 //! The texts that say why a package has no design.
 ghost use Rattle.std.specs.Prelude.{◌≡◌, ◌≢◌, ◌++◌, IfOk, OnOk};
-ghost use Rattle.aadl_names.specs.declared.fault.FlatFault.{FlatFault};
+ghost use Rattle.aadl_names.specs.declared.fault.PackageFault.{PackageFault};
 ghost use Rattle.pals_model.specs.RoundTexts.{line_end, text_of as lines_text};
 ghost use Rattle.pals_report.specs.FlatFaults.{flat_fault_line};
 ghost use Rattle.pals_report.specs.Violations.{violation_lines};
 
-use aadl_instance::FlatFault;
+use aadl_instance::PackageFault;
 use annex_resolve::Violation;
 use pals_base::NoMemory;
 use pals_report::{add_flat_fault, add_violations};
@@ -13,11 +13,11 @@ use std::alloc::{AllocError, Global};
 
 /// The text of a package with this fault. That there is not enough memory is no fault of a package,
 /// and is passed on.
-pub fn refused_package(alloc: Global, text: &[u8], fault: &FlatFault) -> Result<Vec<u8>, NoMemory>
+pub fn refused_package(alloc: Global, text: &[u8], fault: &PackageFault) -> Result<Vec<u8>, NoMemory>
     ensures text { IfOk result (λ line. line.items ≡ flat_fault_line text.now fault.now ++ line_end) }
-    ensures named { OnOk result (fault.now ≢ FlatFault.Memory) }
+    ensures named { OnOk result (fault.now ≢ PackageFault.Memory) }
 {
-    if let FlatFault::Memory = fault {
+    if let PackageFault::Memory = fault {
         return Err(AllocError);
     }
     let mut line = Vec::new(alloc);

@@ -7,7 +7,7 @@ use Rattle.std.proofs.lemmas.List.{length-set, length-map, get_or-set_other, get
 use Rattle.std.proofs.lemmas.List.Elements.{All-append}
 use Rattle.std.proofs.lemmas.Option.{slice_get_within, slice_get-get_or, get_or_from_slice_get}
 use Rattle.list_lemmas.proofs.Pairs.{AllPairs-slice_get}
-use Rattle.pals_base.specs.declared.values.Port.{Port}
+use Rattle.pals_base.specs.declared.values.PortValue.{PortValue}
 use Rattle.pals_base.specs.declared.values.LinkNo.{LinkNo}
 use Rattle.pals_base.specs.Steps.{upwards}
 use Rattle.pals_model.specs.declared.design.Component.{Component}
@@ -34,7 +34,7 @@ use Rattle.bus_machine.specs.Stops.{missing_link, sent_rounds, rounds_sent_on}
 use Rattle.bus_machine.specs.Machine.{BusEvent, Start, Step, Finish, Send, Arrive, Drop, Repeat, arrival, early_stop, after_arrive, after, is_allowed}
 use Rattle.bus_machine.specs.Replay.{opens, goes_on}
 use Rattle.bus_machine.specs.Agreement.{IsInRound, PhaseAgrees, NodeAgrees, SlotAgrees, IsCopy, Agrees}
-use Rattle.bus_machine.specs.proof.Laws.{IsRunOf, OpeningAgrees, StepKeepsAgreement, ReplayAgrees}
+use Rattle.bus_machine.specs.proof.MachineLaws.{IsRunOf, OpeningAgrees, StepKeepsAgreement, ReplayAgrees}
 use Rattle.bus_machine.proofs.Lists.{All-without_oldest, oldest_is_one}
 use Rattle.bus_machine.proofs.Vectors.{SlotsAgree, length_sources}
 use Rattle.bus_machine.proofs.States.{with_stop_agrees, with_flight_agrees, with_node_agrees, slots_of}
@@ -97,12 +97,12 @@ same_link run one two a b rules is_a is_b node port =
     ]
 
 -- a phase does not look at slots
-same_round : (run : Run) (node : ℕ) (c : Component) (n : NodeState) (held : List (Option (List Port))) (steps : ℕ) → IsInRound run node c n steps → IsInRound run node c (record n { slots = held }) steps
+same_round : (run : Run) (node : ℕ) (c : Component) (n : NodeState) (held : List (Option (List PortValue))) (steps : ℕ) → IsInRound run node c n steps → IsInRound run node c (record n { slots = held }) steps
 same_round run node c n held steps agree =
     let w = agree.under_way in
     record { within = agree.within; under_way = record { round = w.round; count = w.count; reached = w.reached; vectors = w.vectors }; finished = agree.finished }
 
-same_phase : (run : Run) (node : ℕ) (c : Component) (n : NodeState) (held : List (Option (List Port))) (p : Phase) → PhaseAgrees run node c n p → PhaseAgrees run node c (record n { slots = held }) p
+same_phase : (run : Run) (node : ℕ) (c : Component) (n : NodeState) (held : List (Option (List PortValue))) (p : Phase) → PhaseAgrees run node c n p → PhaseAgrees run node c (record n { slots = held }) p
 same_phase run node c n held Waiting agree = (record { finished = agree.0.finished; frame = agree.0.frame; sent = agree.0.sent }, agree.1)
 same_phase run node c n held (Running step) agree = same_round run node c n held step agree
 same_phase run node c n held (Between steps) agree = (same_round run node c n held steps agree.0, agree.1)
@@ -117,7 +117,7 @@ pub record Receives (run : Run) (node : ℕ) (c : Component) (n m : NodeState) :
   pub slots : SlotsAgree run node m
   pub sent : sent_rounds n ≤ sent_rounds m
 
-receives : (run : Run) (s : BusState) (number round : ℕ) (link : Link) (c : Component) (tuple : List Port) (a : Arrived) → IsRunOf run → Agrees run s → slice_get run.design.links number ≡ Some link → slice_get run.design.components link.target.0 ≡ Some c → link.in_port < length c.behaviour.ins
+receives : (run : Run) (s : BusState) (number round : ℕ) (link : Link) (c : Component) (tuple : List PortValue) (a : Arrived) → IsRunOf run → Agrees run s → slice_get run.design.links number ≡ Some link → slice_get run.design.components link.target.0 ≡ Some c → link.in_port < length c.behaviour.ins
     → tuple ≡ msg run.design run.env number round → arrived (node_at s link.target.0) link.in_port round ≡ a
     → Receives run link.target.0 c (node_at s link.target.0) (with_message (node_at s link.target.0) link.in_port tuple a)
 receives run s number round link c tuple Early rules agree is is_c port told early = record { agrees = agree.nodes link.target.0 c is_c; slots = slots_of run s link.target.0 agree; sent = omega arith }
@@ -189,7 +189,7 @@ upwards-from from (suc n) (suc k) at is within = upwards-from (suc from) n k at 
 upwards-at : (from n k : ℕ) → k < n → slice_index_or (upwards 0 n) k 0 ≡ k
 upwards-at from n k within = upwards-from 0 n k k (omega arith) within
 
-abbrev no_slot : Option (List Port)
+abbrev no_slot : Option (List PortValue)
 no_slot = None
 
 empty_slot : (inputs : List Input) (port : ℕ) → slice_index_or (map (λ (_ : Input). no_slot) inputs) port no_slot ≡ no_slot

@@ -1,4 +1,4 @@
-pub mod Rows
+pub mod CounterMachine
 pub mod Lists
 pub mod Vectors
 pub mod Nodes

@@ -5,8 +5,8 @@ use Rattle.std.specs.List.{enumerate_from, position_from, position_or_len}
 use Rattle.std.proofs.lemmas.Iterator.Adapters.{position_from-zero}
 use Rattle.std.proofs.lemmas.List.{length-set}
 use Rattle.std.proofs.lemmas.List.Elements.{All-head, All-tail, All-append, All-take, All-drop}
-use Rattle.pals_base.specs.declared.values.Port.{Port}
-use Rattle.pals_base.specs.declared.values.Port.TheVariants.{Absent}
+use Rattle.pals_base.specs.declared.values.PortValue.{PortValue}
+use Rattle.pals_base.specs.declared.values.PortValue.TheVariants.{Absent}
 use Rattle.pals_base.specs.Steps.{cut, with_places}
 use Rattle.pals_model.specs.declared.flight.FlightCopy.{FlightCopy}
 use Rattle.pals_model.specs.Flights.{is_of, oldest, without_oldest}
@@ -55,18 +55,18 @@ oldest_is_one P round (c ∷ cs) copy all found =
     found_or P round c copy cs (is_of round c) refl (All-head P c cs all) found (oldest_is_one P round cs copy (All-tail P c cs all))
 
 -- ---- places of tuples
-take_before : (count at : ℕ) (tuple : List Port) (value : Port) → count ≤ at → take count (set tuple at value) ≡ take count tuple
+take_before : (count at : ℕ) (tuple : List PortValue) (value : PortValue) → count ≤ at → take count (set tuple at value) ≡ take count tuple
 take_before zero at tuple value below = refl
 take_before (suc count) zero tuple value below = absurd (omega arith)
 take_before (suc count) (suc at) [] value below = refl
 take_before (suc count) (suc at) (p ∷ ps) value below = ap (λ qs. p ∷ qs) (take_before count at ps value (omega arith))
 
-cut_before : (count at : ℕ) (tuple : List Port) (value : Port) → count ≤ at → cut count (slice_set tuple at value) ≡ cut count tuple
+cut_before : (count at : ℕ) (tuple : List PortValue) (value : PortValue) → count ≤ at → cut count (slice_set tuple at value) ≡ cut count tuple
 cut_before count at tuple value below =
     ap₂ (λ places n. places ++ replicate (n - count) Absent) (take_before count at tuple value below) (length-set tuple at value)
 
 -- a place past the cut does not matter
-pub cut_places : (count at : ℕ) (values : List Port) (tuples : List (List Port)) (port : ℕ) → count ≤ at → cut count (slice_index_or (with_places at values tuples) port []) ≡ cut count (slice_index_or tuples port [])
+pub cut_places : (count at : ℕ) (values : List PortValue) (tuples : List (List PortValue)) (port : ℕ) → count ≤ at → cut count (slice_index_or (with_places at values tuples) port []) ≡ cut count (slice_index_or tuples port [])
 cut_places count at [] tuples port below = refl
 cut_places count at (v ∷ vs) [] port below = refl
 cut_places count at (v ∷ vs) (t ∷ ts) zero below = cut_before count at t v below

@@ -6,8 +6,8 @@ use Rattle.std.proofs.lemmas.List.{length-map}
 use Rattle.std.proofs.lemmas.Simd.{map-map}
 use Rattle.std.proofs.lemmas.Bool.{eqb-true, eqb-false, ltb-true, ltb-false, leb-true, cases_lt, and_parts, not-true, false≢true}
 use Rattle.std.proofs.lemmas.Option.{slice_get-get_or}
-use Rattle.pals_base.specs.declared.values.Port.{Port}
-use Rattle.pals_base.specs.declared.values.Port.TheVariants.{Absent}
+use Rattle.pals_base.specs.declared.values.PortValue.{PortValue}
+use Rattle.pals_base.specs.declared.values.PortValue.TheVariants.{Absent}
 use Rattle.pals_base.specs.declared.values.Frame.{Frame}
 use Rattle.pals_base.specs.Fire.{fire}
 use Rattle.pals_base.specs.Steps.{Stepped, cut, with_places, upwards}
@@ -19,9 +19,9 @@ use Rattle.pals_model.specs.declared.design.Tap.{Tap}
 use Rattle.pals_model.specs.declared.rounds.Part.{Part}
 use Rattle.pals_model.specs.Inputs.{values_at, feed}
 use Rattle.pals_model.specs.Composition.{comp, state, msg, part, taps_of}
-use Rattle.pals_model.specs.proof.Laws.{own_steps}
+use Rattle.pals_model.specs.proof.CompositionLaws.{own_steps}
 use Rattle.pals_model.specs.Composition.{own_steps_so_far}
-use Rattle.pals_model.specs.proof.Laws.Steps.{stepped_on}
+use Rattle.pals_model.specs.proof.CompositionLaws.Steps.{stepped_on}
 use Rattle.pals_model.specs.Rules.{IsDesign}
 use Rattle.pals_model.proofs.StepLaws.{round_begins, round_goes_on, round_ends}
 use Rattle.pals_model.proofs.ShapeLaws.{feed_has_vectors}
@@ -37,10 +37,10 @@ use Rattle.bus_machine.specs.Agreement.{IsAtRest, IsUnderWay, IsInRound, IsHeld,
 use Rattle.bus_machine.proofs.Lists.{cut_places}
 use Rattle.bus_machine.proofs.Vectors.{SlotsAgree, vectors_agree}
 
-abbrev as_stepped : Frame → List (List Port) → Stepped
+abbrev as_stepped : Frame → List (List PortValue) → Stepped
 as_stepped frame tuples = record { frame = frame; tuples = tuples }
 
-abbrev as_part : Frame → List (List Port) → Part
+abbrev as_part : Frame → List (List PortValue) → Part
 as_part frame outs = record { frame = frame; outs = outs }
 
 -- ---- Start

@@ -8,7 +8,7 @@ use Rattle.std.proofs.lemmas.Option.{slice_get_within, get_or_from_slice_get}
 use Rattle.list_lemmas.proofs.Lists.{length-map_enumerate_from}
 use Rattle.bus_machine.proofs.Moves.{sent_most}
 use Rattle.list_lemmas.proofs.Options.{option_map-none}
-use Rattle.pals_base.specs.declared.values.Port.{Port}
+use Rattle.pals_base.specs.declared.values.PortValue.{PortValue}
 use Rattle.pals_base.specs.declared.values.NodeNo.{NodeNo}
 use Rattle.pals_model.specs.declared.design.Component.{Component}
 use Rattle.pals_model.specs.declared.design.Link.{Link}
@@ -28,7 +28,7 @@ use Rattle.bus_machine.specs.States.{Run, BusState, node_at, flight_at, link_at,
 use Rattle.bus_machine.specs.Stops.{missing_link, link_into, sent_rounds, rounds_sent_on}
 use Rattle.bus_machine.specs.Machine.{after_start, on_step, flight_after_send, after_send}
 use Rattle.bus_machine.specs.Agreement.{SlotAgrees, IsCopy, Agrees}
-use Rattle.bus_machine.specs.proof.Laws.{IsRunOf}
+use Rattle.bus_machine.specs.proof.MachineLaws.{IsRunOf}
 use Rattle.bus_machine.proofs.Lists.{numbered_at}
 use Rattle.bus_machine.proofs.Vectors.{SlotsAgree}
 use Rattle.bus_machine.proofs.Nodes.{starts, steps_on, finishes, finish_keeps, sends, MaySend, may_send_of, sends_message}
@@ -39,10 +39,10 @@ component_rate run node c rules is_c = (at_element (IsComponent run.design.perio
 
 -- ---- Start
 
-abbrev no_slot : Option (List Port)
+abbrev no_slot : Option (List PortValue)
 no_slot = None
 
-emptied : (slots : List (Option (List Port))) (port : ℕ) → slice_index_or (map (λ (_ : Option (List Port)). no_slot) slots) port no_slot ≡ no_slot
+emptied : (slots : List (Option (List PortValue))) (port : ℕ) → slice_index_or (map (λ (_ : Option (List PortValue)). no_slot) slots) port no_slot ≡ no_slot
 emptied [] port = refl
 emptied (slot ∷ slots) zero = refl
 emptied (slot ∷ slots) (suc port) = emptied slots port

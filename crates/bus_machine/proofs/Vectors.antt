@@ -6,8 +6,8 @@ use Rattle.std.proofs.lemmas.Bool.{and_parts, eqb-true, ne_eqb, false≢true}
 use Rattle.std.proofs.lemmas.Option.{slice_get-map, get_or_from_slice_get, slice_get_within, slice_get-get_or}
 use Rattle.list_lemmas.proofs.Places.{slice_get-zip}
 use Rattle.list_lemmas.proofs.Options.{option_map-parts}
-use Rattle.pals_base.specs.declared.values.Port.{Port}
-use Rattle.pals_base.specs.declared.values.Port.TheVariants.{Absent}
+use Rattle.pals_base.specs.declared.values.PortValue.{PortValue}
+use Rattle.pals_base.specs.declared.values.PortValue.TheVariants.{Absent}
 use Rattle.pals_base.specs.Adaptors.{adapt}
 use Rattle.pals_base.specs.Steps.{upwards, columns}
 use Rattle.pals_model.specs.declared.design.Component.{Component}
@@ -29,27 +29,27 @@ use Rattle.bus_machine.specs.Agreement.{SlotAgrees}
 use Rattle.bus_machine.proofs.Lists.{none_found}
 
 -- ---- one in port
-feed_brings : (rate root : ℕ) (values : List Port) (slot : Option (List Port)) (f : Option Feed) → brought rate values (input_from_feed root f) slot ≡ read_feed (slice_index_or values root Absent) rate f
+feed_brings : (rate root : ℕ) (values : List PortValue) (slot : Option (List PortValue)) (f : Option Feed) → brought rate values (input_from_feed root f) slot ≡ read_feed (slice_index_or values root Absent) rate f
 feed_brings rate root values slot None = refl
 feed_brings rate root values slot (Some f) = refl
 
-link_brings : (design : DesignParts) (rate : ℕ) (values message : List Port) (slot : Option (List Port)) (l : Option Link) → ((link : Link) → l ≡ Some link → message_in (rate_of design link.source.0) slot ≡ message)
+link_brings : (design : DesignParts) (rate : ℕ) (values message : List PortValue) (slot : Option (List PortValue)) (l : Option Link) → ((link : Link) → l ≡ Some link → message_in (rate_of design link.source.0) slot ≡ message)
     → brought rate values (input_from_link design l) slot ≡ read_link design rate message l
 link_brings design rate values message slot None same = refl
 link_brings design rate values message slot (Some link) same = ap (adapt link.adaptor (rate_of design link.source.0) rate) (same link refl)
 
 -- the slot of an in port has the message of the link that it reads, or stands for it
-abbrev pub Stands : DesignParts → List (List Port) → PortSource → Option (List Port) → Type 0
+abbrev pub Stands : DesignParts → List (List PortValue) → PortSource → Option (List PortValue) → Type 0
 Stands design messages src slot = (number : ℕ) (link : Link) → src ≡ source.Link number → slice_get design.links number ≡ Some link → message_in (rate_of design link.source.0) slot ≡ slice_index_or messages number []
 
-port_brings : (design : DesignParts) (rate : ℕ) (values : List Port) (messages : List (List Port)) (src : PortSource) (slot : Option (List Port)) → Stands design messages src slot
+port_brings : (design : DesignParts) (rate : ℕ) (values : List PortValue) (messages : List (List PortValue)) (src : PortSource) (slot : Option (List PortValue)) → Stands design messages src slot
     → brought rate values (input_of design src) slot ≡ reading design values messages rate src
 port_brings design rate values messages source.Nothing slot stands = refl
 port_brings design rate values messages (source.Feed f root) slot stands = feed_brings rate root values slot (slice_get design.feeds f)
 port_brings design rate values messages (source.Link number) slot stands = link_brings design rate values (slice_index_or messages number []) slot (slice_get design.links number) (λ link is. stands number link refl is)
 
 -- ---- all in ports
-ports_bring : (design : DesignParts) (rate : ℕ) (values : List Port) (messages : List (List Port)) (sources : List PortSource) (slots : List (Option (List Port))) → length slots ≡ length sources
+ports_bring : (design : DesignParts) (rate : ℕ) (values : List PortValue) (messages : List (List PortValue)) (sources : List PortSource) (slots : List (Option (List PortValue))) → length slots ≡ length sources
     → ((k : ℕ) (src : PortSource) → slice_get sources k ≡ Some src → Stands design messages src (slice_index_or slots k None))
     → map (λ p. brought rate values p.0 p.1) (zip (map (input_of design) sources) slots) ≡ map (reading design values messages rate) sources
 ports_bring design rate values messages [] slots same stands = refl
@@ -95,7 +95,7 @@ reads_link design node k number link reads is =
     (eqb-true link.target.0 node goes.0, eqb-true link.in_port k goes.1)
 
 -- ---- what waits in the slots
-message_stands : (run : Run) (number count : ℕ) (link : Link) (slot : Option (List Port)) → slice_get run.design.links number ≡ Some link → SlotAgrees run number count slot → (slot ≡ None → count ≡ 0)
+message_stands : (run : Run) (number count : ℕ) (link : Link) (slot : Option (List PortValue)) → slice_get run.design.links number ≡ Some link → SlotAgrees run number count slot → (slot ≡ None → count ≡ 0)
     → message_in (rate_of run.design link.source.0) slot ≡ slice_index_or (comp run.design run.env count).messages number []
 unfolding comp msg
 message_stands run number count link None is agrees empty =
@@ -104,13 +104,13 @@ message_stands run number count link None is agrees empty =
     ∙ ap (λ m. slice_index_or (comp run.design run.env m).messages number []) (sym (empty refl))
 message_stands run number count link (Some tuple) is agrees empty = agrees.2 ∙ ap (λ m. slice_index_or (comp run.design run.env m).messages number []) (sym agrees.1)
 
-lacks_none : (design : DesignParts) (number : ℕ) (link : Link) (slot : Option (List Port)) → slice_get design.links number ≡ Some link → slot ≡ None → lacks (input_of design (source.Link number)) slot ≡ true
+lacks_none : (design : DesignParts) (number : ℕ) (link : Link) (slot : Option (List PortValue)) → slice_get design.links number ≡ Some link → slot ≡ None → lacks (input_of design (source.Link number)) slot ≡ true
 lacks_none design number link slot is empty = ap₂ (λ l s. lacks (input_from_link design l) s) is empty
 
-none_missing : (plan : Plan) (n : NodeState) (m : ℕ) → n.count ≡ suc m → missing plan n ≡ None → position (λ (p : Input × Option (List Port)). lacks p.0 p.1) (zip plan.inputs n.slots) ≡ None
+none_missing : (plan : Plan) (n : NodeState) (m : ℕ) → n.count ≡ suc m → missing plan n ≡ None → position (λ (p : Input × Option (List PortValue)). lacks p.0 p.1) (zip plan.inputs n.slots) ≡ None
 none_missing plan n m counted none =
     let later : nat_eq n.count 0 ≡ false = ne_eqb n.count 0 (λ first. omega arith) in
-    sym (ap (λ b. if b then None else position (λ (p : Input × Option (List Port)). lacks p.0 p.1) (zip plan.inputs n.slots)) later) ∙ none
+    sym (ap (λ b. if b then None else position (λ (p : Input × Option (List PortValue)). lacks p.0 p.1) (zip plan.inputs n.slots)) later) ∙ none
 
 -- where a start misses nothing, only round 0 finds an empty slot at a link
 empty_at_first : (run : Run) (node k number : ℕ) (c : Component) (n : NodeState) (link : Link) (m : ℕ) → length n.slots ≡ length c.behaviour.ins → slice_get (sources_of run.design node c) k ≡ Some (source.Link number)
@@ -123,7 +123,7 @@ empty_at_first run node k number c n link (suc m) size is_src is none empty coun
     let count : length sources ≡ length c.behaviour.ins = length_sources run.design node c in
     let within : k < length n.slots = let below = slice_get_within sources k (source.Link number) is_src in omega arith in
     let is_slot : slice_get n.slots k ≡ Some (slot_at n k) = slice_get-get_or n.slots k None within in
-    let fails = none_found (λ (p : Input × Option (List Port)). lacks p.0 p.1) (zip inputs n.slots) k (input_of run.design (source.Link number), slot_at n k) (none_missing (plan_for run.design node c) n m counted none) (slice_get-zip inputs n.slots k _ _ is_input is_slot) in
+    let fails = none_found (λ (p : Input × Option (List PortValue)). lacks p.0 p.1) (zip inputs n.slots) k (input_of run.design (source.Link number), slot_at n k) (none_missing (plan_for run.design node c) n m counted none) (slice_get-zip inputs n.slots k _ _ is_input is_slot) in
     let passes = lacks_none run.design number link (slot_at n k) is empty in
     absurd (false≢true (sym fails ∙ passes))
 

@@ -1,6 +1,6 @@
 -- When the nodes, slots and flights of a run agree with the composition.
 use Rattle.std.specs.Prelude.{◌≡◌, ℕ, suc, ◌<◌, ◌≤◌, true, false, List, length, map, All, Option, Some, None, slice_get}
-use Rattle.pals_base.specs.declared.values.Port.{Port}
+use Rattle.pals_base.specs.declared.values.PortValue.{PortValue}
 use Rattle.pals_base.specs.Steps.{Stepped, upwards}
 use Rattle.pals_model.specs.declared.design.Component.{Component}
 use Rattle.pals_model.specs.declared.design.Link.{Link}
@@ -63,7 +63,7 @@ pub record NodeAgrees (run : Run) (node : ℕ) (c : Component) (n : NodeState) :
 
 -- ---- links
 -- a message that waits in a slot is that of the round before the next one
-abbrev pub SlotAgrees : Run → ℕ → ℕ → Option (List Port) → Type 0
+abbrev pub SlotAgrees : Run → ℕ → ℕ → Option (List PortValue) → Type 0
 SlotAgrees run link count None = Unit {0}
 SlotAgrees run link count (Some tuple) = (round : ℕ) × (count ≡ suc round) × (tuple ≡ msg run.design run.env link round)
 

@@ -1,8 +1,8 @@
 -- What a node does: it starts a round, starts a step, finishes a step, sends, and takes what arrives.
 use Rattle.std.specs.Prelude.{ℕ, ◌+◌, nat_eq, nat_lt, nat_le, Bool, true, false, not, ◌&&◌, if◌then◌else◌, List, [], ◌∷◌, ◌++◌, length, map, zip, replicate, position, Option, Some, None, is_none, slice_index_or, slice_set}
 use Rattle.std.specs.Option.{option_map_or}
-use Rattle.pals_base.specs.declared.values.Port.{Port}
-use Rattle.pals_base.specs.declared.values.Port.TheVariants.{Absent}
+use Rattle.pals_base.specs.declared.values.PortValue.{PortValue}
+use Rattle.pals_base.specs.declared.values.PortValue.TheVariants.{Absent}
 use Rattle.pals_base.specs.Fire.{Fired, fire}
 use Rattle.pals_base.specs.Steps.{cut, with_places}
 use Rattle.pals_model.specs.declared.rounds.Part.{Part}
@@ -24,7 +24,7 @@ is_waiting Holding = false
 is_waiting Done = false
 
 -- an in port that a link goes to, with an empty slot
-abbrev pub lacks : Input → Option (List Port) → Bool
+abbrev pub lacks : Input → Option (List PortValue) → Bool
 lacks input.Nothing slot = false
 lacks (input.Root root adaptor) slot = false
 lacks (input.Link rate adaptor) slot = is_none slot
@@ -34,11 +34,11 @@ abbrev pub missing : Plan → NodeState → Option ℕ
 missing plan n = if nat_eq n.count 0 then None else position (λ p. lacks p.0 p.1) (zip plan.inputs n.slots)
 
 -- all slots are taken, every place of the outputs is absent, and the job of step 0 goes out
-abbrev pub started : Plan → List Port → NodeState → NodeState
+abbrev pub started : Plan → List PortValue → NodeState → NodeState
 started plan values n = record n {
   count = n.count + 1;
   phase = Running 0;
-  slots = map (λ (_ : Option (List Port)). None) n.slots;
+  slots = map (λ (_ : Option (List PortValue)). None) n.slots;
   vectors = vectors_of plan values n.slots;
   outs = replicate (length plan.behaviour.outs) (replicate plan.rate Absent);
   sent = false;
@@ -70,10 +70,10 @@ fired plan step n = fire plan.behaviour n.frame (job_of plan n step).inputs
 abbrev pub after_round : ℕ → NodeState → Phase
 after_round rounds n = if n.sent then at_rest (nat_eq n.count rounds) else Holding
 
-abbrev pub part_left : Plan → Fired → List (List Port) → Part
+abbrev pub part_left : Plan → Fired → List (List PortValue) → Part
 part_left plan result outs = record { frame = result.frame; outs = map (λ port. slice_index_or outs port []) plan.taps }
 
-abbrev pub finished_with : Plan → ℕ → ℕ → NodeState → Fired → List (List Port) → NodeState
+abbrev pub finished_with : Plan → ℕ → ℕ → NodeState → Fired → List (List PortValue) → NodeState
 finished_with plan rounds step n result outs =
     if nat_lt (step + 1) plan.rate
     then record n { frame = result.frame; outs = outs; phase = Between (step + 1) }
@@ -98,15 +98,15 @@ abbrev pub sent_from : ℕ → NodeState → NodeState
 sent_from rounds n = record n { phase = after_send n.count rounds n.phase; sent = true }
 
 -- the cut tuple of an out port
-abbrev pub message_from : Plan → NodeState → ℕ → List Port
+abbrev pub message_from : Plan → NodeState → ℕ → List PortValue
 message_from plan n port = cut plan.sent_steps (slice_index_or n.outs port [])
 
 -- those of all links from the node, in their order
-abbrev pub messages_from : Plan → NodeState → List (List Port)
+abbrev pub messages_from : Plan → NodeState → List (List PortValue)
 messages_from plan n = map (message_from plan n) plan.out_links
 
 -- ---- Arrive: a message of the last round that is started fills its slot
-abbrev pub slot_at : NodeState → ℕ → Option (List Port)
+abbrev pub slot_at : NodeState → ℕ → Option (List PortValue)
 slot_at n port = slice_index_or n.slots port None
 
 abbrev pub arrived : NodeState → ℕ → ℕ → Arrived
@@ -115,11 +115,11 @@ arrived n port round =
     else if nat_eq (round + 1) n.count && is_none (slot_at n port) then Kept
     else Ignored
 
-abbrev pub with_message : NodeState → ℕ → List Port → Arrived → NodeState
+abbrev pub with_message : NodeState → ℕ → List PortValue → Arrived → NodeState
 with_message n port tuple Kept = record n { slots = slice_set n.slots port (Some tuple) }
 with_message n port tuple Ignored = n
 with_message n port tuple Early = n
 
 -- the node after a message of a round came to an in port
-abbrev pub received : NodeState → ℕ → ℕ → List Port → NodeState
+abbrev pub received : NodeState → ℕ → ℕ → List PortValue → NodeState
 received n port round tuple = with_message n port tuple (arrived n port round)

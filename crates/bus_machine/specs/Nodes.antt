@@ -1,7 +1,7 @@
 -- A node: what it stands at, the job that is out, and what its in ports bring to a round.
 use Rattle.std.specs.Prelude.{ℕ, ◌-◌, Bool, true, false, List, [], ◌∷◌, map, zip, replicate, Option, Some, None, slice_index_or}
-use Rattle.pals_base.specs.declared.values.Port.{Port}
-use Rattle.pals_base.specs.declared.values.Port.TheVariants.{Absent}
+use Rattle.pals_base.specs.declared.values.PortValue.{PortValue}
+use Rattle.pals_base.specs.declared.values.PortValue.TheVariants.{Absent}
 use Rattle.pals_base.specs.declared.values.Frame.{Frame}
 use Rattle.pals_base.specs.declared.values.NodeNo.{NodeNo}
 use Rattle.pals_base.specs.Fire.{initial}
@@ -20,11 +20,11 @@ pub record NodeState : Type 0 where
   pub phase : Phase
   pub frame : Frame
   -- the slot of each in port
-  pub slots : List (Option (List Port))
+  pub slots : List (Option (List PortValue))
   -- the inputs of the last round that it started, a vector for each step
-  pub vectors : List (List Port)
+  pub vectors : List (List PortValue)
   -- the whole outputs of that round so far, a tuple for each out port
-  pub outs : List (List Port)
+  pub outs : List (List PortValue)
   -- whether that round is sent
   pub sent : Bool
   -- what each round that it finished left
@@ -54,7 +54,7 @@ pub record Work : Type 0 where
   pub round : ℕ
   pub step : ℕ
   pub frame : Frame
-  pub inputs : List Port
+  pub inputs : List PortValue
 
 abbrev pub job_of : Plan → NodeState → ℕ → Work
 job_of plan n step = record { node = plan.node; round = round_of n; step = step; frame = n.frame; inputs = slice_index_or n.vectors step [] }
@@ -72,17 +72,17 @@ job_out plan n = job_in plan n n.phase
 
 -- ---- inputs of a round
 -- an empty slot, as all are before round 0, brings absent places
-abbrev pub message_in : ℕ → Option (List Port) → List Port
+abbrev pub message_in : ℕ → Option (List PortValue) → List PortValue
 message_in rate None = replicate rate Absent
 message_in rate (Some tuple) = tuple
 
 -- the tuple that an in port brings to a node of this rate, from the values of the root in ports and the port's slot
-abbrev pub brought : ℕ → List Port → Input → Option (List Port) → List Port
+abbrev pub brought : ℕ → List PortValue → Input → Option (List PortValue) → List PortValue
 brought rate values input.Nothing slot = replicate rate Absent
 brought rate values (input.Root root adaptor) slot = adapt adaptor 1 rate (slice_index_or values root Absent ∷ [])
 brought rate values (input.Link source_rate adaptor) slot = adapt adaptor source_rate rate (message_in source_rate slot)
 
-abbrev pub vectors_of : Plan → List Port → List (Option (List Port)) → List (List Port)
+abbrev pub vectors_of : Plan → List PortValue → List (Option (List PortValue)) → List (List PortValue)
 vectors_of plan values slots = columns plan.rate (map (λ p. brought plan.rate values p.0 p.1) (zip plan.inputs slots))
 
 -- ---- rounds

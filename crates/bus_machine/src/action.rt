@@ -4,7 +4,7 @@ use pals_base::Nanos;
 /// What a node does: it starts a round, which is its step 0; it starts a later step of it; or it
 /// sends it.
 #[derive(Clone, Copy)]
-pub enum Action {
+pub enum NodeAction {
     Start { round: u32 },
     Step { round: u32, step: u32 },
     Send { round: u32 },
@@ -13,6 +13,6 @@ pub enum Action {
 /// What a node does next, and from which reading on, in nanoseconds.
 #[derive(Clone, Copy)]
 pub struct Next {
-    pub action: Action,
+    pub action: NodeAction,
     pub target: Nanos,
 }

@@ -25,7 +25,7 @@ const TAIL: NodeNo = NodeNo(3);
 
 // A call of a bus, and what it gives.
 #[derive(Clone, Copy)]
-enum Row {
+enum BusRow {
     /// A round of one step: the reading of its alarm, and the one of its release.
     Round(NodeNo, Nanos, Nanos),
     Start(NodeNo, Nanos),
@@ -44,26 +44,26 @@ enum Row {
 }
 
 // A bus does what rows say, and gives what they say.
-fn assert_rows(rt: &impl Abort, bus: &mut Bus, rows: &[Row]) {
+fn assert_rows(rt: &impl Abort, bus: &mut Bus, rows: &[BusRow]) {
     for (index, row) in rows.iter().enumerate() {
         assert!(rt; holds(bus, *row), "row {index}");
     }
 }
 
-fn holds(bus: &mut Bus, row: Row) -> bool {
+fn holds(bus: &mut Bus, row: BusRow) -> bool {
     match row {
-        Row::Round(node, alarm, release) => {
+        BusRow::Round(node, alarm, release) => {
             starts(bus, node, alarm) && finish_here(bus, node) && send(bus, node, release)
         }
-        Row::Start(node, at) => starts(bus, node, at),
-        Row::Step(node, number, at) => steps(bus, node, number, at),
-        Row::Finish(node) => finish_here(bus, node),
-        Row::Repeat(link, round) => repeat(bus, link, round),
-        Row::TakeDue(node, at, end) => take_due(bus, node, at) == Some(end),
-        Row::Meet(node, answer) => meet(bus, node) == Some(answer),
-        Row::Flies(link, round, wanted) => is_in_flight(bus, link, round) == wanted,
-        Row::Stands(node, wanted) => phase(bus, node) == Some(wanted),
-        Row::Close => {
+        BusRow::Start(node, at) => starts(bus, node, at),
+        BusRow::Step(node, number, at) => steps(bus, node, number, at),
+        BusRow::Finish(node) => finish_here(bus, node),
+        BusRow::Repeat(link, round) => repeat(bus, link, round),
+        BusRow::TakeDue(node, at, end) => take_due(bus, node, at) == Some(end),
+        BusRow::Meet(node, answer) => meet(bus, node) == Some(answer),
+        BusRow::Flies(link, round, wanted) => is_in_flight(bus, link, round) == wanted,
+        BusRow::Stands(node, wanted) => phase(bus, node) == Some(wanted),
+        BusRow::Close => {
             bus.close();
             bus.closed()
         }
@@ -92,7 +92,7 @@ fn assert_run(
     alloc: Global,
     design: &str,
     meeting: bool,
-    rows: &[Row],
+    rows: &[BusRow],
     told: &str,
 ) -> Result<(), Fail> {
     let mut bus = bus_of(rt, alloc, design, 2, meeting)?;
@@ -101,12 +101,12 @@ fn assert_run(
     Ok(())
 }
 
-const SURFACE: [Row; 5] = [
-    Row::Start(TAIL, 20_000_000),
-    Row::Finish(TAIL),
-    Row::Stands(TAIL, Phase::Between(1)),
-    Row::Step(TAIL, 1, 25_000_000),
-    Row::Stands(TAIL, Phase::Between(2)),
+const SURFACE: [BusRow; 5] = [
+    BusRow::Start(TAIL, 20_000_000),
+    BusRow::Finish(TAIL),
+    BusRow::Stands(TAIL, Phase::Between(1)),
+    BusRow::Step(TAIL, 1, 25_000_000),
+    BusRow::Stands(TAIL, Phase::Between(2)),
 ];
 
 const SURFACE_TOLD: &str = "start p.t 0 20000000\n\
@@ -119,14 +119,14 @@ fn surface_steps_on_the_bus(rt: HostRuntime) -> Result<(), Fail> {
     assert_run(&rt, rt.alloc(), TURN, false, &SURFACE, SURFACE_TOLD)
 }
 
-const DUE: [Row; 7] = [
-    Row::Round(A, 9_000_000, 10_000_000),
-    Row::Round(B, 9_000_000, 10_000_000),
-    Row::Repeat(TO_B, 0),
-    Row::TakeDue(B, 10_999_999, Ok(())),
-    Row::Flies(TO_B, 0, true),
-    Row::TakeDue(B, 11_000_000, Ok(())),
-    Row::Flies(TO_B, 0, false),
+const DUE: [BusRow; 7] = [
+    BusRow::Round(A, 9_000_000, 10_000_000),
+    BusRow::Round(B, 9_000_000, 10_000_000),
+    BusRow::Repeat(TO_B, 0),
+    BusRow::TakeDue(B, 10_999_999, Ok(())),
+    BusRow::Flies(TO_B, 0, true),
+    BusRow::TakeDue(B, 11_000_000, Ok(())),
+    BusRow::Flies(TO_B, 0, false),
 ];
 
 const DUE_TOLD: &str = "start p.a 0 9000000\n\
@@ -144,14 +144,14 @@ fn due_messages_arrive(rt: HostRuntime) -> Result<(), Fail> {
     assert_run(&rt, rt.alloc(), TWO_COUNTERS, false, &DUE, DUE_TOLD)
 }
 
-const NOT_DUE: [Row; 7] = [
-    Row::Round(A, 9_000_000, 10_000_000),
-    Row::Round(B, 9_000_000, 10_000_000),
-    Row::TakeDue(A, 18_000_000, Ok(())),
-    Row::Round(A, 18_000_000, 19_000_000),
-    Row::TakeDue(B, 19_999_999, Ok(())),
-    Row::Flies(TO_B, 0, false),
-    Row::Flies(TO_B, 1, true),
+const NOT_DUE: [BusRow; 7] = [
+    BusRow::Round(A, 9_000_000, 10_000_000),
+    BusRow::Round(B, 9_000_000, 10_000_000),
+    BusRow::TakeDue(A, 18_000_000, Ok(())),
+    BusRow::Round(A, 18_000_000, 19_000_000),
+    BusRow::TakeDue(B, 19_999_999, Ok(())),
+    BusRow::Flies(TO_B, 0, false),
+    BusRow::Flies(TO_B, 1, true),
 ];
 
 const NOT_DUE_TOLD: &str = "start p.a 0 9000000\n\
@@ -177,12 +177,12 @@ const STOPPED_EARLY: Stop = Stop::Early {
     reading: Some(11_000_000),
 };
 
-const EARLY: [Row; 5] = [
-    Row::Round(A, 9_000_000, 10_000_000),
-    Row::Repeat(TO_B, 0),
-    Row::TakeDue(B, 11_000_000, Err(DueEnd::Stopped(STOPPED_EARLY))),
-    Row::Flies(TO_B, 0, true),
-    Row::TakeDue(B, 11_000_000, Err(DueEnd::Stopped(STOPPED_EARLY))),
+const EARLY: [BusRow; 5] = [
+    BusRow::Round(A, 9_000_000, 10_000_000),
+    BusRow::Repeat(TO_B, 0),
+    BusRow::TakeDue(B, 11_000_000, Err(DueEnd::Stopped(STOPPED_EARLY))),
+    BusRow::Flies(TO_B, 0, true),
+    BusRow::TakeDue(B, 11_000_000, Err(DueEnd::Stopped(STOPPED_EARLY))),
 ];
 
 const EARLY_TOLD: &str = "start p.a 0 9000000\n\
@@ -197,13 +197,13 @@ fn early_message_stops_those_behind_it(rt: HostRuntime) -> Result<(), Fail> {
     assert_run(&rt, rt.alloc(), TWO_COUNTERS, false, &EARLY, EARLY_TOLD)
 }
 
-const MEETING: [Row; 6] = [
-    Row::Start(A, 9_000_000),
-    Row::Meet(B, Meet::Go { reading: 9_000_000 }),
-    Row::Finish(A),
-    Row::Meet(A, Meet::Wait { node: B }),
-    Row::Close,
-    Row::Meet(B, Meet::Ended),
+const MEETING: [BusRow; 6] = [
+    BusRow::Start(A, 9_000_000),
+    BusRow::Meet(B, Meet::Go { reading: 9_000_000 }),
+    BusRow::Finish(A),
+    BusRow::Meet(A, Meet::Wait { node: B }),
+    BusRow::Close,
+    BusRow::Meet(B, Meet::Ended),
 ];
 
 const MEETING_TOLD: &str = "start p.a 0 9000000\n\

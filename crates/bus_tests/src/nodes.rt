@@ -4,7 +4,7 @@ ghost use Rattle.pals_base.specs.declared.limits.TheConstants.{ROUNDS};
 
 use crate::designs::design_of;
 use case_files::designs::{TURN, TWO_COUNTERS};
-use pals_base::{Nanos, NodeNo, Port};
+use pals_base::{Nanos, NodeNo, PortValue};
 use pals_model::Design;
 use pals_node::{FinishEnd, Finished, Job, Node, NodePlan, SendEnd, StartEnd, StepEnd};
 use pals_runs::Phase;
@@ -51,13 +51,13 @@ fn opening_node(
 
 // A call at a reading, and what it gives.
 #[derive(Clone, Copy)]
-enum Row {
+enum NodeRow {
     /// A start that gives a job, which is run and used.
     Start(Nanos),
     /// The step of this number that gives a job, which is run and used.
     Step(u32, Nanos),
     /// A send of one message.
-    Send(Nanos, &'static [Port]),
+    Send(Nanos, &'static [PortValue]),
     NoStart(Nanos, StartEnd),
     NoStep(Nanos, StepEnd),
     NoSend(Nanos, SendEnd),
@@ -66,37 +66,37 @@ enum Row {
 }
 
 // A node does what rows say, and gives what they say.
-fn assert_rows(rt: &impl Abort, node: &mut Node, rows: &[Row]) -> Result<(), Fail> {
+fn assert_rows(rt: &impl Abort, node: &mut Node, rows: &[NodeRow]) -> Result<(), Fail> {
     for row in rows {
         assert_row(rt, node, *row)?;
     }
     Ok(())
 }
 
-fn assert_row(rt: &impl Abort, node: &mut Node, row: Row) -> Result<(), Fail> {
+fn assert_row(rt: &impl Abort, node: &mut Node, row: NodeRow) -> Result<(), Fail> {
     match row {
-        Row::Start(at) => {
+        NodeRow::Start(at) => {
             let job = node.start(&[], Some(at))?;
             assert_used(rt, node, job, 0)
         }
-        Row::Step(step, at) => {
+        NodeRow::Step(step, at) => {
             let job = node.step(Some(at))?;
             assert_used(rt, node, job, step)
         }
-        Row::Send(at, message) => assert_sent(rt, node, at, message),
-        Row::NoStart(at, end) => {
+        NodeRow::Send(at, message) => assert_sent(rt, node, at, message),
+        NodeRow::NoStart(at, end) => {
             assert_no_start(rt, node, at, end);
             Ok(())
         }
-        Row::NoStep(at, end) => {
+        NodeRow::NoStep(at, end) => {
             assert_no_step(rt, node, at, end);
             Ok(())
         }
-        Row::NoSend(at, end) => {
+        NodeRow::NoSend(at, end) => {
             assert_no_send(rt, node, at, end);
             Ok(())
         }
-        Row::Stands(count, phase, target) => {
+        NodeRow::Stands(count, phase, target) => {
             assert_eq!(rt; node.count(), count);
             assert_eq!(rt; node.phase(), phase);
             assert_eq!(rt; node.target(), target);
@@ -115,7 +115,7 @@ fn assert_used(rt: &impl Abort, node: &mut Node, job: Job, step: u32) -> Result<
     Ok(())
 }
 
-fn assert_sent(rt: &impl Abort, node: &mut Node, at: Nanos, message: &[Port]) -> Result<(), Fail> {
+fn assert_sent(rt: &impl Abort, node: &mut Node, at: Nanos, message: &[PortValue]) -> Result<(), Fail> {
     let sent = node.send(Some(at))?;
     assert_eq!(rt; sent.len(), 1);
     assert_eq!(rt; sent[0].as_slice(), message);
@@ -134,19 +134,19 @@ fn assert_no_send(rt: &impl Abort, node: &mut Node, at: Nanos, end: SendEnd) {
     assert_eq!(rt; node.send(Some(at)).err(), Some(end));
 }
 
-const COUNTER: [Row; 7] = [
-    Row::NoStart(8_999_999, StartEnd::NotYet { alarm: 9_000_000 }),
-    Row::NoSend(8_999_999, SendEnd::NotFinished),
-    Row::Start(9_000_000),
-    Row::NoSend(
+const COUNTER: [NodeRow; 7] = [
+    NodeRow::NoStart(8_999_999, StartEnd::NotYet { alarm: 9_000_000 }),
+    NodeRow::NoSend(8_999_999, SendEnd::NotFinished),
+    NodeRow::Start(9_000_000),
+    NodeRow::NoSend(
         9_999_999,
         SendEnd::NotYet {
             release: 10_000_000,
         },
     ),
-    Row::Send(10_000_000, &[Port::Present(1)]),
-    Row::NoStart(18_000_000, StartEnd::Over),
-    Row::Stands(1, Phase::Done, None),
+    NodeRow::Send(10_000_000, &[PortValue::Present(1)]),
+    NodeRow::NoStart(18_000_000, StartEnd::Over),
+    NodeRow::Stands(1, Phase::Done, None),
 ];
 
 #[test]
@@ -155,15 +155,15 @@ fn counter_starts_and_sends_in_time(rt: HostRuntime) -> Result<(), Fail> {
     assert_rows(&rt, &mut node, &COUNTER)
 }
 
-const MISSED_START: [Row; 4] = [
-    Row::Start(9_000_000),
-    Row::Send(10_000_000, &[Port::Present(1)]),
-    Row::NoStart(18_000_000, StartEnd::Missed { port: 0 }),
-    Row::Stands(1, Phase::Waiting, Some(18_000_000)),
+const MISSED_START: [NodeRow; 4] = [
+    NodeRow::Start(9_000_000),
+    NodeRow::Send(10_000_000, &[PortValue::Present(1)]),
+    NodeRow::NoStart(18_000_000, StartEnd::Missed { port: 0 }),
+    NodeRow::Stands(1, Phase::Waiting, Some(18_000_000)),
 ];
 
 // A fresh node, of the run of a node, does what rows say.
-fn assert_fresh_rows(rt: &impl Abort, alloc: Global, node: &Node, rows: &[Row]) -> Result<(), Fail>
+fn assert_fresh_rows(rt: &impl Abort, alloc: Global, node: &Node, rows: &[NodeRow]) -> Result<(), Fail>
     requires { 1 ≤ node.now.rounds }
 {
     let mut fresh = node.fresh(alloc)?;
@@ -176,30 +176,30 @@ fn counter_misses_a_message(rt: HostRuntime) -> Result<(), Fail> {
     assert_fresh_rows(&rt, rt.alloc(), &node, &MISSED_START)
 }
 
-const SURFACE: [Row; 10] = [
-    Row::Start(20_000_000),
-    Row::NoStep(24_999_999, StepEnd::NotYet { alarm: 25_000_000 }),
-    Row::Step(1, 25_000_000),
-    Row::Step(2, 30_000_000),
-    Row::NoSend(
+const SURFACE: [NodeRow; 10] = [
+    NodeRow::Start(20_000_000),
+    NodeRow::NoStep(24_999_999, StepEnd::NotYet { alarm: 25_000_000 }),
+    NodeRow::Step(1, 25_000_000),
+    NodeRow::Step(2, 30_000_000),
+    NodeRow::NoSend(
         29_999_999,
         SendEnd::NotYet {
             release: 30_000_000,
         },
     ),
-    Row::Send(
+    NodeRow::Send(
         30_000_000,
         &[
-            Port::Present(0),
-            Port::Present(0),
-            Port::Present(0),
-            Port::Absent,
+            PortValue::Present(0),
+            PortValue::Present(0),
+            PortValue::Present(0),
+            PortValue::Absent,
         ],
     ),
-    Row::Stands(1, Phase::Between(3), Some(35_000_000)),
-    Row::Step(3, 35_000_000),
-    Row::NoStart(40_000_000, StartEnd::Over),
-    Row::Stands(1, Phase::Done, None),
+    NodeRow::Stands(1, Phase::Between(3), Some(35_000_000)),
+    NodeRow::Step(3, 35_000_000),
+    NodeRow::NoStart(40_000_000, StartEnd::Over),
+    NodeRow::Stands(1, Phase::Done, None),
 ];
 
 #[test]

@@ -10,7 +10,7 @@ use Rattle.std.proofs.lemmas.List.Splits.{slice_split_none, slice_split_at}
 use Rattle.list_lemmas.proofs.Numbers.{digit-at_least}
 use Rattle.pals_base.specs.Names.{is_word, is_path}
 use Rattle.pals_model.specs.RoundTexts.{text_of, is_line_feed}
-use Rattle.pals_model.specs.proof.Laws.Lines.{IsLine}
+use Rattle.pals_model.specs.proof.CompositionLaws.Lines.{IsLine}
 use Rattle.pals_model.proofs.LineLaws.{text_splits}
 use Rattle.pals_model.proofs.Words.{IsWithout, all_pass, word_without, path_without}
 use Rattle.pals_runs.specs.Journal.{spaced}

@@ -4,7 +4,7 @@ use Rattle.std.specs.List.{list_all}
 use Rattle.std.proofs.lemmas.Bool.{and_parts}
 use Rattle.std.proofs.lemmas.List.Elements.{All-weaker}
 use Rattle.std.proofs.lemmas.List.Folds.{list_all-append, list_all-map}
-use Rattle.pals_base.specs.declared.behaviour.Named.{Named}
+use Rattle.pals_base.specs.declared.behaviour.PortDecl.{PortDecl}
 use Rattle.pals_base.specs.declared.behaviour.VarDecl.{VarDecl}
 use Rattle.pals_base.specs.declared.behaviour.StateDecl.{StateDecl}
 use Rattle.pals_base.specs.declared.behaviour.BehaviourParts.{BehaviourParts}
@@ -19,8 +19,8 @@ use Rattle.code_listing.proofs.LineWords.{is_plain, word_plain, decimal_plain}
 
 -- ---- names that a behaviour declares
 pub record HasPlainNames (b : BehaviourParts) : Type 0 where
-  pub ins : All (λ (p : Named). is_plain p.name ≡ true) b.ins
-  pub outs : All (λ (p : Named). is_plain p.name ≡ true) b.outs
+  pub ins : All (λ (p : PortDecl). is_plain p.name ≡ true) b.ins
+  pub outs : All (λ (p : PortDecl). is_plain p.name ≡ true) b.outs
   pub vars : All (λ (v : VarDecl). is_plain v.name ≡ true) b.vars
   pub states : All (λ (s : StateDecl). is_plain s.name ≡ true) b.states
 
@@ -32,8 +32,8 @@ plain_in name xs words =
 
 pub names_are_plain : (b : BehaviourParts) → IsBehaviour b → HasPlainNames b
 names_are_plain b rules =
-    let ins = map (λ (p : Named). p.name) b.ins in
-    let outs = map (λ (p : Named). p.name) b.outs in
+    let ins = map (λ (p : PortDecl). p.name) b.ins in
+    let outs = map (λ (p : PortDecl). p.name) b.outs in
     let vars = map (λ (v : VarDecl). v.name) b.vars in
     let values =
     and_parts (list_all is_word (ins ++ outs)) (list_all is_word vars)
@@ -41,8 +41,8 @@ names_are_plain b rules =
     let ports =
     and_parts (list_all is_word ins) (list_all is_word outs) (sym (list_all-append is_word ins outs) ∙ values.0) in
     record {
-      ins = plain_in (λ (p : Named). p.name) b.ins ports.0;
-      outs = plain_in (λ (p : Named). p.name) b.outs ports.1;
+      ins = plain_in (λ (p : PortDecl). p.name) b.ins ports.0;
+      outs = plain_in (λ (p : PortDecl). p.name) b.outs ports.1;
       vars = plain_in (λ (v : VarDecl). v.name) b.vars values.1;
       states =
           All-weaker (λ (s : StateDecl). has_word s ≡ true) (λ (s : StateDecl). is_plain s.name ≡ true)
@@ -50,13 +50,13 @@ names_are_plain b rules =
     }
 
 -- ---- names that numbers have
-pub port_plain : (ports : List Named) (port : ℕ) → All (λ (p : Named). is_plain p.name ≡ true) ports
+pub port_plain : (ports : List PortDecl) (port : ℕ) → All (λ (p : PortDecl). is_plain p.name ≡ true) ports
     → is_plain (port_name (slice_get ports port)) ≡ true
 port_plain ports port plain = by (slice_get ports port) refl
   where
-    by : (o : Option Named) → slice_get ports port ≡ o → is_plain (port_name o) ≡ true
+    by : (o : Option PortDecl) → slice_get ports port ≡ o → is_plain (port_name o) ≡ true
     by None is = refl
-    by (Some p) is = at_element (λ (q : Named). is_plain q.name ≡ true) ports port p plain is
+    by (Some p) is = at_element (λ (q : PortDecl). is_plain q.name ≡ true) ports port p plain is
 
 pub state_plain : (states : List StateDecl) (state : ℕ) → All (λ (s : StateDecl). is_plain s.name ≡ true) states
     → is_plain (state_name (slice_get states state)) ≡ true

@@ -8,7 +8,7 @@ use Rattle.std.proofs.lemmas.List.Folds.{list_all-append}
 use Rattle.std.proofs.lemmas.Option.{slice_get-map, slice_get_cases}
 use Rattle.list_lemmas.proofs.Places.{slice_get-append_left, slice_get-map_parts}
 use Rattle.list_lemmas.proofs.Pairs.{same_place}
-use Rattle.pals_base.specs.declared.behaviour.Named.{Named}
+use Rattle.pals_base.specs.declared.behaviour.PortDecl.{PortDecl}
 use Rattle.pals_base.specs.declared.behaviour.VarDecl.{VarDecl}
 use Rattle.pals_base.specs.declared.behaviour.BehaviourParts.{BehaviourParts}
 use Rattle.pals_base.specs.Names.{is_word, AreDistinct}
@@ -52,16 +52,16 @@ pub record Ported : Type 0 where
   pub path : List ℕ
   pub names : List (List ℕ)
 
-abbrev pub names_of : List Named → List (List ℕ)
-names_of ports = map (λ (p : Named). p.name) ports
+abbrev pub names_of : List PortDecl → List (List ℕ)
+names_of ports = map (λ (p : PortDecl). p.name) ports
 
-abbrev pub ported : (BehaviourParts → List Named) → Component → Ported
+abbrev pub ported : (BehaviourParts → List PortDecl) → Component → Ported
 ported ports c = record { path = c.path; names = names_of (ports c.behaviour) }
 
-abbrev pub outs_of : BehaviourParts → List Named
+abbrev pub outs_of : BehaviourParts → List PortDecl
 outs_of b = b.outs
 
-abbrev pub ins_of : BehaviourParts → List Named
+abbrev pub ins_of : BehaviourParts → List PortDecl
 ins_of b = b.ins
 
 abbrev name_in : Option (List ℕ) → List ℕ
@@ -72,13 +72,13 @@ abbrev pub full_name : Option Ported → ℕ → List ℕ
 full_name None port = []
 full_name (Some c) port = c.path ++ codes "." ++ name_in (slice_get c.names port)
 
-named_or_not : (o : Option Named) → port_name o ≡ name_in (option_map (λ (p : Named). p.name) o)
+named_or_not : (o : Option PortDecl) → port_name o ≡ name_in (option_map (λ (p : PortDecl). p.name) o)
 named_or_not None = refl
 named_or_not (Some p) = refl
 
-named : (ports : List Named) (port : ℕ) → port_name (slice_get ports port) ≡ name_in (slice_get (names_of ports) port)
+named : (ports : List PortDecl) (port : ℕ) → port_name (slice_get ports port) ≡ name_in (slice_get (names_of ports) port)
 named ports port =
-    named_or_not (slice_get ports port) ∙ ap name_in (sym (slice_get-map (λ (p : Named). p.name) ports port))
+    named_or_not (slice_get ports port) ∙ ap name_in (sym (slice_get-map (λ (p : PortDecl). p.name) ports port))
 
 source_or_not : (o : Option Component) (port : ℕ)
     → out_port_name o port ≡ full_name (option_map (ported outs_of) o) port
@@ -107,7 +107,7 @@ pub record AreApart (cs : List Ported) : Type 0 where
   pub names : (i : ℕ) (c : Ported) → slice_get cs i ≡ Some c → StandOnce c.names
   pub words : (i : ℕ) (c : Ported) → slice_get cs i ≡ Some c → list_all is_word c.names ≡ true
 
-abbrev HaveNames : (BehaviourParts → List Named) → Type 0
+abbrev HaveNames : (BehaviourParts → List PortDecl) → Type 0
 HaveNames ports =
     (b : BehaviourParts) → IsBehaviour b
     → StandOnce (names_of (ports b)) × (list_all is_word (names_of (ports b)) ≡ true)
@@ -136,7 +136,7 @@ ins_have_names b rules =
       (and_parts (list_all is_word ins) (list_all is_word outs) (sym (list_all-append is_word ins outs) ∙ words)).0,
     )
 
-apart : (ports : BehaviourParts → List Named) → HaveNames ports → (design : DesignParts) → IsDesign design
+apart : (ports : BehaviourParts → List PortDecl) → HaveNames ports → (design : DesignParts) → IsDesign design
     → AreApart (map (ported ports) design.components)
 apart ports have design rules = record {
   paths = λ i j c d is_c is_d same.
@@ -166,18 +166,18 @@ pub record IsThere (cs : List Ported) (node port : ℕ) : Type 0 where
   pub at : slice_get cs node ≡ Some component
   pub named : slice_get component.names port ≡ Some name
 
-named_at : (ports : List Named) (port : ℕ) → port < length ports
+named_at : (ports : List PortDecl) (port : ℕ) → port < length ports
     → (name : List ℕ) × (slice_get (names_of ports) port ≡ Some name)
 named_at ports port within =
     elim (slice_get_cases ports port).1 [
       | inl there ↦ (
         there.0.name,
-        slice_get-map (λ (p : Named). p.name) ports port ∙ ap (option_map (λ (p : Named). p.name)) there.2,
+        slice_get-map (λ (p : PortDecl). p.name) ports port ∙ ap (option_map (λ (p : PortDecl). p.name)) there.2,
       )
       | inr past ↦ absurd (omega (arith, past.0))
     ]
 
-there : (ports : BehaviourParts → List Named) (design : DesignParts) (node port : ℕ) (c : Component)
+there : (ports : BehaviourParts → List PortDecl) (design : DesignParts) (node port : ℕ) (c : Component)
     → slice_get design.components node ≡ Some c → port < length (ports c.behaviour)
     → IsThere (map (ported ports) design.components) node port
 there ports design node port c is within =

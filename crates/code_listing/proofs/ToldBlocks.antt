@@ -8,7 +8,7 @@ use Rattle.std.proofs.lemmas.Option.{slice_get-map}
 use Rattle.std.specs.Option.{option_map}
 use Rattle.list_lemmas.proofs.Places.{slice_get-map_parts}
 use Rattle.list_lemmas.proofs.Pairs.{same_place}
-use Rattle.pals_base.specs.declared.behaviour.Named.{Named}
+use Rattle.pals_base.specs.declared.behaviour.PortDecl.{PortDecl}
 use Rattle.pals_base.specs.declared.behaviour.StateDecl.{StateDecl}
 use Rattle.pals_base.specs.declared.behaviour.BehaviourParts.{BehaviourParts}
 use Rattle.pals_base.specs.Bound.{sent_steps, release_offset}
@@ -135,8 +135,8 @@ component_told design other c d code program sound sound_other first same =
     (none_begins (codes " in ") variable_line (λ v. refl) a.vars (behind_vars a program) refl))
     with_release.1 in
     let ins =
-    items_told (port_line (codes "in")) (port_line (codes "in")) (λ (p : Named). is_plain p.name ≡ true)
-    (λ (p : Named). is_plain p.name ≡ true)
+    items_told (port_line (codes "in")) (port_line (codes "in")) (λ (p : PortDecl). is_plain p.name ≡ true)
+    (λ (p : PortDecl). is_plain p.name ≡ true)
     (port_told (codes "in") refl) b.ins a.ins plain.ins plain_other.ins with_ins.0 in
     let with_outs =
     run_parted (codes " out ") (port_line (codes "out")) (port_line (codes "out")) (λ p. refl) (λ p. refl) b.outs
@@ -145,8 +145,8 @@ component_told design other c d code program sound sound_other first same =
     (none_begins (codes " out ") variable_line (λ v. refl) a.vars (behind_vars a program) refl)
     with_ins.1 in
     let outs =
-    items_told (port_line (codes "out")) (port_line (codes "out")) (λ (p : Named). is_plain p.name ≡ true)
-    (λ (p : Named). is_plain p.name ≡ true)
+    items_told (port_line (codes "out")) (port_line (codes "out")) (λ (p : PortDecl). is_plain p.name ≡ true)
+    (λ (p : PortDecl). is_plain p.name ≡ true)
     (port_told (codes "out") refl) b.outs a.outs plain.outs plain_other.outs with_outs.0 in
     let with_vars =
     run_parted (codes " var ") variable_line variable_line (λ v. refl) (λ v. refl) b.vars a.vars

@@ -6,7 +6,7 @@ use Rattle.std.proofs.lemmas.Fmt.{decimal_injective}
 use Rattle.std.proofs.lemmas.List.Elements.{All-head, All-tail}
 use Rattle.pals_base.specs.declared.behaviour.Kind.{Kind}
 use Rattle.pals_base.specs.declared.behaviour.Kind.TheVariants.{Integer, Boolean}
-use Rattle.pals_base.specs.declared.behaviour.Named.{Named}
+use Rattle.pals_base.specs.declared.behaviour.PortDecl.{PortDecl}
 use Rattle.pals_base.specs.declared.behaviour.VarDecl.{VarDecl}
 use Rattle.pals_base.specs.declared.behaviour.StateDecl.{StateDecl}
 use Rattle.code_listing.specs.Listings.{kind_word, number_line, port_line, variable_line, state_line, state_lines}
@@ -40,7 +40,7 @@ pub kind_plain : (kind : Kind) → is_plain (kind_word kind) ≡ true
 kind_plain Integer = refl
 kind_plain Boolean = refl
 
-pub port_told : (word : List ℕ) → is_plain word ≡ true → (p q : Named) → is_plain p.name ≡ true → is_plain q.name ≡ true
+pub port_told : (word : List ℕ) → is_plain word ≡ true → (p q : PortDecl) → is_plain p.name ≡ true → is_plain q.name ≡ true
     → port_line word p ≡ port_line word q → p ≡ q
 port_told word plain p q plain_p plain_q same =
     let words = same_words [] [] (word ∷ p.name ∷ kind_word p.kind ∷ []) (word ∷ q.name ∷ kind_word q.kind ∷ [])

@@ -3,7 +3,7 @@ use Rattle.std.proofs.Common.{◌≡◌, ℕ, ◌^◌, ◌<◌, true, List, [], 
 use Rattle.std.specs.Prelude.{codes, decimal, zip, All}
 use Rattle.std.proofs.lemmas.Fmt.{decimal_injective}
 use Rattle.std.proofs.lemmas.List.Elements.{All-nil, All-cons, All-head, All-tail}
-use Rattle.pals_base.specs.declared.behaviour.Named.{Named}
+use Rattle.pals_base.specs.declared.behaviour.PortDecl.{PortDecl}
 use Rattle.pals_base.specs.declared.behaviour.BehaviourParts.{BehaviourParts}
 use Rattle.pals_base.specs.declared.values.Gamma.{Gamma}
 use Rattle.pals_model.specs.declared.design.Component.{Component}
@@ -90,7 +90,7 @@ sound period (c ∷ cs) (code ∷ programs) rules each fit =
     (All-tail (λ p. NumbersFit p.0.behaviour p.1) (c, code) rest fit))
 
 -- what is told has the ports
-ports_in : (ports : BehaviourParts → List Named) (view : ToldComponent → Ported)
+ports_in : (ports : BehaviourParts → List PortDecl) (view : ToldComponent → Ported)
     → ((c : Component) (code : CodeParts) → view (told_component c code) ≡ ported ports c)
     → (cs : List Component) (programs : List CodeParts) → length programs ≡ length cs
     → map view (told_components cs programs) ≡ map (ported ports) cs

@@ -4,7 +4,7 @@ use Rattle.std.specs.Prelude.{codes, decimal}
 use Rattle.std.specs.Fmt.{signed_decimal}
 use Rattle.std.specs.List.{enumerate_from}
 use Rattle.std.proofs.lemmas.List.Elements.{All-nil, All-cons, All-append, All-head, All-tail, All-weaker, All-map}
-use Rattle.pals_base.specs.declared.behaviour.Named.{Named}
+use Rattle.pals_base.specs.declared.behaviour.PortDecl.{PortDecl}
 use Rattle.pals_base.specs.declared.behaviour.VarDecl.{VarDecl}
 use Rattle.pals_base.specs.declared.behaviour.StateDecl.{StateDecl}
 use Rattle.pals_base.specs.declared.behaviour.BehaviourParts.{BehaviourParts}
@@ -16,7 +16,7 @@ use Rattle.pals_model.specs.declared.design.Tap.{Tap}
 use Rattle.pals_model.specs.declared.design.DesignParts.{DesignParts}
 use Rattle.pals_model.specs.RoundTexts.{state_name}
 use Rattle.pals_model.specs.Rules.{IsDesign, IsComponent, IsFeed, IsTap}
-use Rattle.pals_model.specs.proof.Laws.Lines.{IsLine}
+use Rattle.pals_model.specs.proof.CompositionLaws.Lines.{IsLine}
 use Rattle.pals_runs.specs.Journal.{spaced}
 use Rattle.step_code.specs.declared.instr.Instr.{Instr}
 use Rattle.step_code.specs.declared.instr.CodeParts.{CodeParts}
@@ -38,11 +38,11 @@ a_number word n plain rest lines =
     All-cons IsLine (number_line word n) rest
     (is_one_line ([] ∷ word ∷ decimal n ∷ []) (refl, (plain, (decimal_plain n, tt)))) lines
 
-ports : (word : List ℕ) (ps : List Named) → is_plain word ≡ true → All (λ (p : Named). is_plain p.name ≡ true) ps
+ports : (word : List ℕ) (ps : List PortDecl) → is_plain word ≡ true → All (λ (p : PortDecl). is_plain p.name ≡ true) ps
     → All IsLine (map (port_line word) ps)
 ports word ps plain named =
     All-map IsLine (port_line word) ps
-    (All-weaker (λ (p : Named). is_plain p.name ≡ true) (λ (p : Named). IsLine (port_line word p))
+    (All-weaker (λ (p : PortDecl). is_plain p.name ≡ true) (λ (p : PortDecl). IsLine (port_line word p))
     (λ p name. is_one_line ([] ∷ word ∷ p.name ∷ kind_word p.kind ∷ [])
     (refl, (plain, (name, (kind_plain p.kind, tt))))) ps named)
 

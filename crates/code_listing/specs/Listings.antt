@@ -5,7 +5,7 @@ use Rattle.std.specs.List.{enumerate_from}
 use Rattle.std.specs.Fmt.{signed_decimal}
 use Rattle.pals_base.specs.declared.behaviour.Kind.{Kind}
 use Rattle.pals_base.specs.declared.behaviour.Kind.TheVariants.{Integer, Boolean}
-use Rattle.pals_base.specs.declared.behaviour.Named.{Named}
+use Rattle.pals_base.specs.declared.behaviour.PortDecl.{PortDecl}
 use Rattle.pals_base.specs.declared.behaviour.VarDecl.{VarDecl}
 use Rattle.pals_base.specs.declared.behaviour.StateDecl.{StateDecl}
 use Rattle.pals_base.specs.declared.behaviour.BehaviourParts.{BehaviourParts}
@@ -53,7 +53,7 @@ rate_lines design c =
     ∷ number_line (codes "sent") (sent_steps design.gamma design.period c.rate)
     ∷ number_line (codes "release") (release_offset design.gamma design.period c.rate) ∷ []
 
-abbrev pub port_line : List ℕ → Named → List ℕ
+abbrev pub port_line : List ℕ → PortDecl → List ℕ
 port_line word port = indented (word ∷ port.name ∷ kind_word port.kind ∷ [])
 
 abbrev pub variable_line : VarDecl → List ℕ

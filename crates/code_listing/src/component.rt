@@ -8,9 +8,9 @@ ghost use Rattle.code_listing.specs.Numbers.{NumberFits, FirstFits, EntryFits, E
 
 use crate::instr::add_instrs;
 use crate::names::state_word;
-use pals_base::{BehaviourParts, Kind, Named, NoMemory, StateDecl, VarDecl};
+use pals_base::{BehaviourParts, Kind, PortDecl, NoMemory, StateDecl, VarDecl};
 use pals_model::{Component, DesignParts};
-use pals_report::{Word, add_line};
+use pals_report::{LineWord, add_line};
 use step_code::{Code, most};
 
 /// Adds the lines of a component of a design with its code.
@@ -41,7 +41,7 @@ fn add_rate(out: &mut Vec<u8>, design: &DesignParts, component: &Component) -> R
     let sent = design.gamma.sent_steps(design.period, rate);
     let release = design.gamma.release_offset(design.period, rate);
     let path = component.path.as_bytes();
-    add_line(out, &[Word::Bytes(b"component"), Word::Bytes(path)])?;
+    add_line(out, &[LineWord::Bytes(b"component"), LineWord::Bytes(path)])?;
     add_number(out, b"rate", u128::from(rate))?;
     add_number(out, b"sent", u128::from(sent))?;
     add_number(out, b"release", release)
@@ -82,8 +82,8 @@ fn add_number(out: &mut Vec<u8>, word: &[u8], number: u128) -> Result<(), NoMemo
         (out.new.items ≡ out.old.items ++ number_line word.now number ++ line_end) }
     ensures err { OnErr result (out.new.items ≡ out.old.items) }
 {
-    let indent = Word::Bytes(b"");
-    add_line(out, &[indent, Word::Bytes(word), Word::Wide(number)])
+    let indent = LineWord::Bytes(b"");
+    add_line(out, &[indent, LineWord::Bytes(word), LineWord::Wide(number)])
 }
 
 // The line of a code's slots for loops.
@@ -96,29 +96,29 @@ fn add_loops(out: &mut Vec<u8>, loops: u32) -> Result<(), NoMemory>
     add_number(out, b"loops", u128::from(loops))
 }
 
-fn kind_word(kind: Kind) -> Word<'static>
+fn kind_word(kind: Kind) -> LineWord<'static>
     ensures { word_text result ≡ kind_word kind }
 {
     match kind {
-        Kind::Integer => Word::Bytes(b"Integer"),
-        Kind::Boolean => Word::Bytes(b"Boolean"),
+        Kind::Integer => LineWord::Bytes(b"Integer"),
+        Kind::Boolean => LineWord::Bytes(b"Boolean"),
     }
 }
 
-fn add_port<'a>(out: &mut Vec<u8>, word: &'a [u8], port: &'a Named) -> Result<(), NoMemory>
+fn add_port<'a>(out: &mut Vec<u8>, word: &'a [u8], port: &'a PortDecl) -> Result<(), NoMemory>
     ensures ok { OnOk result
         (out.new.items ≡ out.old.items ++ port_line word.now port.now ++ line_end) }
     ensures err { OnErr result (out.new.items ≡ out.old.items) }
 {
-    let indent = Word::Bytes(b"");
-    let name = Word::Bytes(port.name.as_bytes());
+    let indent = LineWord::Bytes(b"");
+    let name = LineWord::Bytes(port.name.as_bytes());
     add_line(
         out,
-        &[indent, Word::Bytes(word), name, kind_word(port.kind)],
+        &[indent, LineWord::Bytes(word), name, kind_word(port.kind)],
     )
 }
 
-fn add_ports(out: &mut Vec<u8>, word: &[u8], ports: &[Named]) -> Result<(), NoMemory>
+fn add_ports(out: &mut Vec<u8>, word: &[u8], ports: &[PortDecl]) -> Result<(), NoMemory>
     ensures ok { OnOk result
         (out.new.items ≡ out.old.items ++ text_of (map (port_line word.now) ports.now)) }
     ensures err { OnErr result (BeginsWith out.new.items out.old.items) }
@@ -135,11 +135,11 @@ fn add_variable(out: &mut Vec<u8>, variable: &VarDecl) -> Result<(), NoMemory>
     ensures err { OnErr result (out.new.items ≡ out.old.items) }
     ensures fit { FirstFits variable.now }
 {
-    let indent = Word::Bytes(b"");
-    let name = Word::Bytes(variable.name.as_bytes());
+    let indent = LineWord::Bytes(b"");
+    let name = LineWord::Bytes(variable.name.as_bytes());
     let kind = kind_word(variable.kind);
-    let first = Word::Signed(variable.first);
-    add_line(out, &[indent, Word::Bytes(b"var"), name, kind, first])
+    let first = LineWord::Signed(variable.first);
+    add_line(out, &[indent, LineWord::Bytes(b"var"), name, kind, first])
 }
 
 fn add_variables(out: &mut Vec<u8>, variables: &[VarDecl]) -> Result<(), NoMemory>
@@ -161,14 +161,14 @@ fn add_state(out: &mut Vec<u8>, state: &StateDecl, entry: Option<u32>) -> Result
     ensures err { OnErr result (out.new.items ≡ out.old.items) }
     ensures fit { EntryFits entry }
 {
-    let indent = Word::Bytes(b"");
-    let first = Word::Bytes(b"state");
-    let name = Word::Bytes(state.name.as_bytes());
+    let indent = LineWord::Bytes(b"");
+    let first = LineWord::Bytes(b"state");
+    let name = LineWord::Bytes(state.name.as_bytes());
     match entry {
-        None => add_line(out, &[indent, first, name, Word::Bytes(b"passing")]),
+        None => add_line(out, &[indent, first, name, LineWord::Bytes(b"passing")]),
         Some(place) => {
-            let place = Word::Number(u64::from(place));
-            add_line(out, &[indent, first, name, Word::Bytes(b"entry"), place])
+            let place = LineWord::Number(u64::from(place));
+            add_line(out, &[indent, first, name, LineWord::Bytes(b"entry"), place])
         }
     }
 }
@@ -194,7 +194,7 @@ fn add_initial(out: &mut Vec<u8>, behaviour: &BehaviourParts) -> Result<(), NoMe
         (out.new.items ≡ out.old.items ++ initial_line behaviour.now ++ line_end) }
     ensures err { OnErr result (out.new.items ≡ out.old.items) }
 {
-    let indent = Word::Bytes(b"");
+    let indent = LineWord::Bytes(b"");
     let state = state_word(behaviour.states.as_slice(), behaviour.initial);
-    add_line(out, &[indent, Word::Bytes(b"initial"), state])
+    add_line(out, &[indent, LineWord::Bytes(b"initial"), state])
 }

@@ -6,7 +6,7 @@ ghost use Rattle.code_listing.specs.Listings.{range_line, design_lines};
 
 use pals_base::{Nanos, NoMemory};
 use pals_model::DesignParts;
-use pals_report::{Word, add_line};
+use pals_report::{LineWord, add_line};
 
 /// Adds the line that begins a listing, and those of the period and the bounds, in nanoseconds.
 pub fn add_bounds(out: &mut Vec<u8>, design: &DesignParts) -> Result<(), NoMemory>
@@ -14,9 +14,9 @@ pub fn add_bounds(out: &mut Vec<u8>, design: &DesignParts) -> Result<(), NoMemor
     ensures err { OnErr result (BeginsWith out.new.items out.old.items) }
 {
     let gamma = &design.gamma;
-    add_line(out, &[Word::Bytes(b"pals-code"), Word::Number(1)])?;
-    add_line(out, &[Word::Bytes(b"period"), Word::Number(design.period)])?;
-    add_line(out, &[Word::Bytes(b"skew"), Word::Number(gamma.eps)])?;
+    add_line(out, &[LineWord::Bytes(b"pals-code"), LineWord::Number(1)])?;
+    add_line(out, &[LineWord::Bytes(b"period"), LineWord::Number(design.period)])?;
+    add_line(out, &[LineWord::Bytes(b"skew"), LineWord::Number(gamma.eps)])?;
     add_range(out, b"execution", gamma.alpha_min, gamma.alpha_max)?;
     add_range(out, b"network", gamma.mu_min, gamma.mu_max)
 }
@@ -29,6 +29,6 @@ fn add_range(out: &mut Vec<u8>, word: &[u8], least: Nanos, most: Nanos) -> Resul
 {
     add_line(
         out,
-        &[Word::Bytes(word), Word::Number(least), Word::Number(most)],
+        &[LineWord::Bytes(word), LineWord::Number(least), LineWord::Number(most)],
     )
 }

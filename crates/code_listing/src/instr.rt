@@ -9,7 +9,7 @@ ghost use Rattle.code_listing.specs.Numbers.{InstrFits};
 
 use crate::names::{port_word, slot_word, state_word};
 use pals_base::{BehaviourParts, NoMemory};
-use pals_report::{Word, add_line};
+use pals_report::{LineWord, add_line};
 use step_code::Instr;
 
 fn mnemonic(instr: Instr) -> &'static [u8]
@@ -60,11 +60,11 @@ fn add_instr(
     ensures err { OnErr result (out.new.items ≡ out.old.items) }
     ensures fit { InstrFits instr }
 {
-    let indent = Word::Bytes(b"");
-    let place = Word::Number(place as u64);
-    let name = Word::Bytes(mnemonic(instr));
+    let indent = LineWord::Bytes(b"");
+    let place = LineWord::Number(place as u64);
+    let name = LineWord::Bytes(mnemonic(instr));
     match instr {
-        Instr::Push(number) => add_line(out, &[indent, indent, place, name, Word::Signed(number)]),
+        Instr::Push(number) => add_line(out, &[indent, indent, place, name, LineWord::Signed(number)]),
         Instr::Load(slot) | Instr::Store(slot) => {
             let word = slot_word(behaviour.vars.as_slice(), slot);
             add_numbered(out, place, name, slot, word)
@@ -82,7 +82,7 @@ fn add_instr(
             add_numbered(out, place, name, state, word)
         }
         Instr::Jump(to) | Instr::JumpZero(to) => {
-            let to = Word::Number(u64::from(to));
+            let to = LineWord::Number(u64::from(to));
             add_line(out, &[indent, indent, place, name, to])
         }
         Instr::LoopStart {
@@ -91,21 +91,21 @@ fn add_instr(
             high,
             exit,
         } => {
-            let number = Word::Number(u64::from(slot));
+            let number = LineWord::Number(u64::from(slot));
             let slot = slot_word(behaviour.vars.as_slice(), slot);
-            let low = Word::Signed(low);
-            let high = Word::Signed(high);
-            let exit = Word::Number(u64::from(exit));
+            let low = LineWord::Signed(low);
+            let high = LineWord::Signed(high);
+            let exit = LineWord::Number(u64::from(exit));
             add_line(
                 out,
                 &[indent, indent, place, name, number, slot, low, high, exit],
             )
         }
         Instr::LoopNext { slot, high, to } => {
-            let number = Word::Number(u64::from(slot));
+            let number = LineWord::Number(u64::from(slot));
             let slot = slot_word(behaviour.vars.as_slice(), slot);
-            let high = Word::Signed(high);
-            let to = Word::Number(u64::from(to));
+            let high = LineWord::Signed(high);
+            let to = LineWord::Number(u64::from(to));
             add_line(out, &[indent, indent, place, name, number, slot, high, to])
         }
         _ => add_line(out, &[indent, indent, place, name]),
@@ -115,17 +115,17 @@ fn add_instr(
 // The line of an instruction on a slot, a port or a state: its number and its name.
 fn add_numbered<'a>(
     out: &mut Vec<u8>,
-    place: Word<'a>,
-    operation: Word<'a>,
+    place: LineWord<'a>,
+    operation: LineWord<'a>,
     number: u32,
-    name: Word<'a>,
+    name: LineWord<'a>,
 ) -> Result<(), NoMemory>
     ensures ok { OnOk result (out.new.items ≡ out.old.items
         ++ spaced ([] ∷ [] ∷ word_text place.entry ∷ word_text operation.entry ∷ decimal number ∷ word_text name.entry ∷ []) ++ line_end) }
     ensures err { OnErr result (out.new.items ≡ out.old.items) }
 {
-    let indent = Word::Bytes(b"");
-    let number = Word::Number(u64::from(number));
+    let indent = LineWord::Bytes(b"");
+    let number = LineWord::Number(u64::from(number));
     add_line(out, &[indent, indent, place, operation, number, name])
 }
 

@@ -9,7 +9,7 @@ use crate::component::add_component;
 use crate::design::add_bounds;
 use pals_base::NoMemory;
 use pals_model::{Design, DesignParts};
-use pals_report::{Word, add_feeds, add_line, add_links, add_taps, whole_or_none};
+use pals_report::{LineWord, add_feeds, add_line, add_links, add_taps, whole_or_none};
 use step_code::Code;
 
 /// Adds the listing of a design and of the step codes of its components, which stand in the order of
@@ -36,7 +36,7 @@ fn add_lines(out: &mut Vec<u8>, design: &DesignParts, codes: &[Code]) -> Result<
     add_links(out, design, design.links.as_slice())?;
     add_feeds(out, design, design.feeds.as_slice())?;
     add_taps(out, design, design.taps.as_slice())?;
-    add_line(out, &[Word::Bytes(b"end")])
+    add_line(out, &[LineWord::Bytes(b"end")])
 }
 
 // The lines of each component that has a code.

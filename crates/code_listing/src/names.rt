@@ -5,36 +5,36 @@ ghost use Rattle.pals_model.specs.RoundTexts.{state_name};
 ghost use Rattle.pals_report.specs.proof.Words.{word_text};
 ghost use Rattle.code_listing.specs.Listings.{slot_name};
 
-use pals_base::{Named, StateDecl, VarDecl};
-use pals_report::Word;
+use pals_base::{PortDecl, StateDecl, VarDecl};
+use pals_report::LineWord;
 
 /// The name of a port, empty where there is none.
-pub fn port_word(ports: &[Named], port: u32) -> Word<'_>
+pub fn port_word(ports: &[PortDecl], port: u32) -> LineWord<'_>
     ensures { word_text result ≡ port_name (slice_get ports.now port) }
 {
     match ports.get(port as usize) {
-        Some(port) => Word::Bytes(port.name.as_bytes()),
-        None => Word::Bytes(b""),
+        Some(port) => LineWord::Bytes(port.name.as_bytes()),
+        None => LineWord::Bytes(b""),
     }
 }
 
 /// The name of a state, empty where there is none.
-pub fn state_word(states: &[StateDecl], state: u32) -> Word<'_>
+pub fn state_word(states: &[StateDecl], state: u32) -> LineWord<'_>
     ensures { word_text result ≡ state_name (slice_get states.now state) }
 {
     match states.get(state as usize) {
-        Some(state) => Word::Bytes(state.name.as_bytes()),
-        None => Word::Bytes(b""),
+        Some(state) => LineWord::Bytes(state.name.as_bytes()),
+        None => LineWord::Bytes(b""),
     }
 }
 
 /// The name of a slot: that of its variable, or `#` and a number for the slot of a loop.
-pub fn slot_word(vars: &[VarDecl], slot: u32) -> Word<'_>
+pub fn slot_word(vars: &[VarDecl], slot: u32) -> LineWord<'_>
     ensures { word_text result ≡ slot_name vars.now slot }
 {
     let slot = slot as usize;
     match vars.get(slot) {
-        Some(variable) => Word::Bytes(variable.name.as_bytes()),
-        None => Word::LoopSlot((slot - vars.len()) as u64),
+        Some(variable) => LineWord::Bytes(variable.name.as_bytes()),
+        None => LineWord::LoopSlot((slot - vars.len()) as u64),
     }
 }

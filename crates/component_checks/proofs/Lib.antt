@@ -1,5 +1,5 @@
 pub mod Looking
-pub mod Hours
+pub mod TimesWithinAnHour
 pub mod Singles
 pub mod Numbered
 pub mod Saying

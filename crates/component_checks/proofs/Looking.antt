@@ -9,7 +9,7 @@ use Rattle.aadl_tree.specs.declared.values.Association.{Association as source}
 use Rattle.aadl_tree.specs.Values.{Association, Associations, association, associate}
 use Rattle.aadl_tree.specs.proof.NameViews.{name_view, path_view}
 use Rattle.aadl_tree.specs.proof.ValueViews.{value_view, association_view}
-use Rattle.aadl_names.specs.declared.holder.Property.{Property}
+use Rattle.aadl_names.specs.declared.holder.PropertyName.{PropertyName}
 use Rattle.aadl_tree.specs.Declarations.{Implementation, PackageTree}
 use Rattle.aadl_names.specs.Properties.{counts, is_named, name_of, association_named}
 use Rattle.aadl_names.specs.Resolving.{implementation_at, type_number, type_numbered}
@@ -37,7 +37,7 @@ pub named_later : (name : List ℕ) (x : Association ℕ) (xs : Associations ℕ
 named_later name x xs h = miss_by (is_named name) x _ (counts x) h
 
 -- ---- a property of the implementation of a number: its own, or its type's
-pub root_given : (tree : PackageTree ℕ) (n : ℕ) (p : Property) (x : Implementation ℕ) (own : Option (Association ℕ)) → Some x ≡ implementation_at tree n → own ≡ association_named x.properties (name_of p)
+pub root_given : (tree : PackageTree ℕ) (n : ℕ) (p : PropertyName) (x : Implementation ℕ) (own : Option (Association ℕ)) → Some x ≡ implementation_at tree n → own ≡ association_named x.properties (name_of p)
     → option_or own (first_in p (type_lists (type_numbered tree (type_number_at tree n)))) ≡ first_in p (root_lists tree n)
 root_given tree n p x own is given =
     let of_type = first_in p (type_lists (type_numbered tree (type_number_at tree n))) in
@@ -47,9 +47,9 @@ root_given tree n p x own is given =
 
 -- ---- one list behind the other
 
-pub first_of_one : (p : Property) (xs : Associations ℕ) → first_in p (xs ∷ []) ≡ association_named xs (name_of p)
+pub first_of_one : (p : PropertyName) (xs : Associations ℕ) → first_in p (xs ∷ []) ≡ association_named xs (name_of p)
 first_of_one p xs = option_or-none (association_named xs (name_of p))
 
-pub first-append : (p : Property) (a b : List (Associations ℕ)) → first_in p (a ++ b) ≡ option_or (first_in p a) (first_in p b)
+pub first-append : (p : PropertyName) (a b : List (Associations ℕ)) → first_in p (a ++ b) ≡ option_or (first_in p a) (first_in p b)
 first-append p [] b = refl
 first-append p (x ∷ a) b = ap (option_or (association_named x (name_of p))) (first-append p a b) ∙ sym (option_or_assoc (association_named x (name_of p)) (first_in p a) (first_in p b))

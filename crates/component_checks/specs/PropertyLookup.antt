@@ -3,7 +3,7 @@ use Rattle.std.specs.Prelude.{◌-◌, List, [], ◌∷◌, ◌++◌, length, re
 use Rattle.std.specs.Option.{option_and_then, option_or}
 use Rattle.aadl_tree.specs.Values.{Association, Associations}
 use Rattle.aadl_tree.specs.Declarations.{Subcomponent, TypeDeclaration, Implementation, PackageTree}
-use Rattle.aadl_names.specs.declared.holder.Property.{Property}
+use Rattle.aadl_names.specs.declared.holder.PropertyName.{PropertyName}
 use Rattle.aadl_names.specs.Properties.{name_of, association_named}
 use Rattle.aadl_names.specs.Resolving.{implementation_at, subcomponents_of, type_of, target_of}
 use Rattle.aadl_uses.specs.declared.thread_places.SubAt.{SubAt}
@@ -40,6 +40,6 @@ abbrev pub innermost : PackageTree ℕ → List SubAt → Option (Subcomponent �
 innermost tree subs = option_and_then (sub_of tree) (slice_get subs (length subs - 1))
 
 -- the first association of a property in several lists
-abbrev pub first_in : Property → List (Associations ℕ) → Option (Association ℕ)
+abbrev pub first_in : PropertyName → List (Associations ℕ) → Option (Association ℕ)
 first_in p [] = None
 first_in p (xs ∷ rest) = option_or (association_named xs (name_of p)) (first_in p rest)

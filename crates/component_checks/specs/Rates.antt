@@ -16,16 +16,16 @@ use Rattle.annex_resolve.specs.Scopes.{finding, found_if}
 use Rattle.annex_resolve.specs.declared.violation.TheConstants.{NOT_DIVISOR, RATE_TOO_HIGH, RATES_DONT_DIVIDE, NO_ADAPTOR, STRAY_ADAPTOR, ADAPTOR_OUT_OF_RANGE, PERIOD_TOO_SHORT}
 use Rattle.component_checks.specs.Numbers.{divides}
 
-abbrev pub and_number : List ℕ → ℕ → List ℕ
-and_number front n = front ++ codes " " ++ decimal n
+abbrev pub name_and_number : List ℕ → ℕ → List ℕ
+name_and_number front n = front ++ codes " " ++ decimal n
 
 -- ---- the period of a component at a path, below a root's
 abbrev pub period_findings : ℕ → List ℕ → Option ℕ → Option ℕ → List Violation
 period_findings at path None p = []
 period_findings at path (Some t) None = []
 period_findings at path (Some t) (Some p) =
-    if divides p t then found_if (nat_lt RATE (t / p)) at RATE_TOO_HIGH (and_number path (t / p))
-    else finding at NOT_DIVISOR (and_number (and_number path p) t) ∷ []
+    if divides p t then found_if (nat_lt RATE (t / p)) at RATE_TOO_HIGH (name_and_number path (t / p))
+    else finding at NOT_DIVISOR (name_and_number (name_and_number path p) t) ∷ []
 
 -- ---- adaptors, by their texts
 abbrev pub is_digit : ℕ → Bool
@@ -75,10 +75,10 @@ abbrev pub pair_findings : ℕ → List ℕ → Option (Option Adaptor) → Opti
 pair_findings at name given kind p q =
     if nat_eq p q then found_if (is_some given) at STRAY_ADAPTOR name
     else if divides_or_divided p q then adaptor_findings at name given kind p q
-    else finding at RATES_DONT_DIVIDE (and_number (and_number name p) q) ∷ []
+    else finding at RATES_DONT_DIVIDE (name_and_number (name_and_number name p) q) ∷ []
 
 -- ---- the root's period against the bound, with the greatest rate
 abbrev pub bound_findings : ℕ → Option ℕ → Option Gamma → ℕ → List Violation
 bound_findings at None g rate = []
 bound_findings at (Some t) None rate = []
-bound_findings at (Some t) (Some g) rate = found_if (nat_lt t (least_period g rate)) at PERIOD_TOO_SHORT (and_number (decimal t) (least_period g rate))
+bound_findings at (Some t) (Some g) rate = found_if (nat_lt t (least_period g rate)) at PERIOD_TOO_SHORT (name_and_number (decimal t) (least_period g rate))

@@ -4,8 +4,8 @@ use Rattle.std.specs.Option.{option_and_then, is_some}
 use Rattle.pals_base.specs.declared.values.Gamma.{Gamma}
 use Rattle.aadl_tree.specs.Values.{Association}
 use Rattle.aadl_tree.specs.Declarations.{Implementation, PackageTree}
-use Rattle.aadl_names.specs.declared.holder.Property.{Property}
-use Rattle.aadl_names.specs.declared.holder.Property.TheVariants.{Period, Skew, Execution, Network}
+use Rattle.aadl_names.specs.declared.holder.PropertyName.{PropertyName}
+use Rattle.aadl_names.specs.declared.holder.PropertyName.TheVariants.{Period, Skew, Execution, Network}
 use Rattle.aadl_names.specs.Resolving.{implementation_at}
 use Rattle.aadl_names.specs.Properties.{association_at}
 use Rattle.annex_resolve.specs.declared.violation.Violation.{Violation}
@@ -18,13 +18,13 @@ use Rattle.component_checks.specs.Times.{time_at, range_at, shown}
 use Rattle.component_checks.specs.Threads.{root_period}
 
 -- at the root's implementation, then at its type
-abbrev pub at_root : PackageTree ℕ → ℕ → Property → Option (Association ℕ)
+abbrev pub at_root : PackageTree ℕ → ℕ → PropertyName → Option (Association ℕ)
 at_root tree root p = first_in p (root_lists tree root)
 
 abbrev pub root_skew : PackageTree ℕ → ℕ → Option ℕ
 root_skew tree root = skew_of (time_at (at_root tree root Skew))
 
-abbrev pub root_range : PackageTree ℕ → ℕ → Property → Option (ℕ × ℕ)
+abbrev pub root_range : PackageTree ℕ → ℕ → PropertyName → Option (ℕ × ℕ)
 root_range tree root p = range_of (range_at (at_root tree root p))
 
 -- the bounds, where none is missing or refused
@@ -39,10 +39,10 @@ name_place (Some x) = x.name.component_type.at
 abbrev pub root_place : PackageTree ℕ → ℕ → ℕ
 root_place tree root = name_place (implementation_at tree root)
 
-abbrev pub missing : PackageTree ℕ → ℕ → ℕ → List ℕ → Property → List Violation
+abbrev pub missing : PackageTree ℕ → ℕ → ℕ → List ℕ → PropertyName → List Violation
 missing tree root number details p = found_if (not (is_some (at_root tree root p))) (root_place tree root) number details
 
-abbrev pub missing_bound : PackageTree ℕ → ℕ → Property → List Violation
+abbrev pub missing_bound : PackageTree ℕ → ℕ → PropertyName → List Violation
 missing_bound tree root p = missing tree root GAMMA_MISSING (shown p) p
 
 -- ---- a skew of 0, and a range whose lower end is above the upper
@@ -61,7 +61,7 @@ place_of (Some x) = association_at x
 abbrev pub zero_skew : Option (Association ℕ) → List Violation
 zero_skew x = found_if (is_zero (option_and_then within_hour (time_at x))) (place_of x) GAMMA_ORDER (shown Skew)
 
-abbrev pub reversed_range : Property → Option (Association ℕ) → List Violation
+abbrev pub reversed_range : PropertyName → Option (Association ℕ) → List Violation
 reversed_range p x = found_if (is_reversed (option_and_then range_within (range_at x))) (place_of x) GAMMA_ORDER (shown p)
 
 -- ---- all, with the greatest rate of the components

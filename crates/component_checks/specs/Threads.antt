@@ -4,7 +4,7 @@ use Rattle.std.specs.Option.{option_and_then}
 use Rattle.aadl_tree.specs.Names.{Reference, same_name}
 use Rattle.aadl_tree.specs.Values.{Association}
 use Rattle.aadl_tree.specs.Declarations.{Subcomponent, PackageTree}
-use Rattle.aadl_names.specs.declared.holder.Property.TheVariants.{Period, Dispatch}
+use Rattle.aadl_names.specs.declared.holder.PropertyName.TheVariants.{Period, Dispatch}
 use Rattle.aadl_names.specs.Spelling.{spelled_reference}
 use Rattle.aadl_names.specs.Properties.{association_value, reference_of}
 use Rattle.aadl_uses.specs.declared.thread_places.SubAt.{SubAt}
@@ -28,12 +28,12 @@ abbrev pub thread_rate : PackageTree ℕ → ℕ → ThreadAt → Option ℕ
 thread_rate tree root thread = rate_of (root_period tree root) (own_period tree root thread.subs)
 
 -- the greatest rate that is not refused, or 1
-abbrev pub raised : ℕ → Option ℕ → ℕ
-raised k None = k
-raised k (Some rate) = max k rate
+abbrev pub greater_rate : ℕ → Option ℕ → ℕ
+greater_rate k None = k
+greater_rate k (Some rate) = max k rate
 
 abbrev pub greatest_rate : List (Option ℕ) → ℕ
-greatest_rate rates = fold raised 1 rates
+greatest_rate rates = fold greater_rate 1 rates
 
 -- ---- the dispatch is periodic: by the subcomponent, its implementation or its type
 abbrev pub is_word : List ℕ → Option (Reference ℕ) → Bool

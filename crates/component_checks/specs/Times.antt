@@ -3,9 +3,9 @@ use Rattle.std.specs.Prelude.{ℕ, Bool, false, ◌&&◌, ◌||◌, nat_lt, List
 use Rattle.std.specs.Option.{option_and_then}
 use Rattle.pals_base.specs.declared.limits.TheConstants.{HOUR}
 use Rattle.aadl_tree.specs.Values.{Value, Association, Associations}
-use Rattle.aadl_names.specs.declared.holder.Property.{Property}
-use Rattle.aadl_names.specs.declared.holder.Property.TheVariants.{Period, Dispatch, Timing, Adaptor, Skew, Execution, Network, Initial}
-use Rattle.aadl_names.specs.declared.holder.Holder.{Holder}
+use Rattle.aadl_names.specs.declared.holder.PropertyName.{PropertyName}
+use Rattle.aadl_names.specs.declared.holder.PropertyName.TheVariants.{Period, Dispatch, Timing, Adaptor, Skew, Execution, Network, Initial}
+use Rattle.aadl_names.specs.declared.holder.PropertyHolder.{PropertyHolder}
 use Rattle.aadl_names.specs.Properties.{association_at, association_value, listed, counts, is_named, name_of, recognised, time_of, range_of}
 use Rattle.annex_resolve.specs.declared.violation.Violation.{Violation}
 use Rattle.annex_resolve.specs.Scopes.{found_if}
@@ -27,7 +27,7 @@ abbrev pub has_above : Option (ℕ × ℕ) → Bool
 has_above None = false
 has_above (Some r) = nat_lt HOUR r.0 || nat_lt HOUR r.1
 
-abbrev pub is_too_big : Property → Value ℕ → Bool
+abbrev pub is_too_big : PropertyName → Value ℕ → Bool
 is_too_big Period v = is_above (time_of v)
 is_too_big Skew v = is_above (time_of v)
 is_too_big Execution v = has_above (range_of v)
@@ -35,7 +35,7 @@ is_too_big Network v = has_above (range_of v)
 is_too_big _ v = false
 
 -- the names by which findings speak of the properties with times
-abbrev pub shown : Property → List ℕ
+abbrev pub shown : PropertyName → List ℕ
 shown Period = codes "Period"
 shown Dispatch = codes "Dispatch_Protocol"
 shown Timing = codes "Timing"
@@ -46,15 +46,15 @@ shown Network = codes "Network"
 shown Initial = codes "Initial_Value"
 
 -- ---- each association of a list at a kind of place
-abbrev pub big_as : Association ℕ → Property → List Violation
+abbrev pub big_as : Association ℕ → PropertyName → List Violation
 big_as x p = found_if (is_named (name_of p) x && is_too_big p (association_value x)) (association_at x) NUMBER_TOO_BIG (shown p)
 
-abbrev pub association_big : Holder → Association ℕ → List Violation
+abbrev pub association_big : PropertyHolder → Association ℕ → List Violation
 association_big holder x = flat_map (big_as x) (recognised holder)
 
 -- what applies elsewhere does not count
-abbrev pub counted_big : Holder → Association ℕ → List Violation
+abbrev pub counted_big : PropertyHolder → Association ℕ → List Violation
 counted_big holder x = if counts x then association_big holder x else []
 
-abbrev pub list_big : Holder → Associations ℕ → List Violation
+abbrev pub list_big : PropertyHolder → Associations ℕ → List Violation
 list_big holder xs = flat_map (counted_big holder) (listed xs)

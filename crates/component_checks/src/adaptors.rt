@@ -3,7 +3,7 @@ ghost use Rattle.std.specs.Prelude.{◌≡◌, ◌<◌, ◌++◌, OnOk, drop};
 ghost use Rattle.annex_resolve.specs.Scopes.{found_if};
 ghost use Rattle.component_checks.specs.Rates.{is_digit, is_first_digit, place_number, adaptor_named, kind_suits, is_right};
 
-use crate::rates::and_number;
+use crate::rates::name_and_number;
 use annex_resolve::Violation;
 use annex_resolve::violation::{
     ADAPTOR_OUT_OF_RANGE, NO_ADAPTOR, RATES_DONT_DIVIDE, STRAY_ADAPTOR,
@@ -178,8 +178,8 @@ impl Carrier {
         if divides_or_divided(source, target) {
             return self.add_adaptor_findings(alloc, found, source, target);
         }
-        let details = and_number(alloc, self.name.as_str(), u64::from(source))?;
-        let details = and_number(alloc, details.as_str(), u64::from(target))?;
+        let details = name_and_number(alloc, self.name.as_str(), u64::from(source))?;
+        let details = name_and_number(alloc, details.as_str(), u64::from(target))?;
         found.push(Violation {
             at: self.at,
             number: RATES_DONT_DIVIDE,

@@ -11,7 +11,7 @@ use crate::adaptor_named;
 use crate::property_lookup::property_in;
 use crate::quotes::unquoted;
 use crate::words::is_word;
-use aadl_names::Property;
+use aadl_names::PropertyName;
 use aadl_tree::{Association, Value};
 use pals_base::{Adaptor, NoMemory};
 use std::alloc::Global;
@@ -30,8 +30,8 @@ impl Carried {
     pub fn of(alloc: Global, list: &[Association]) -> Result<Carried, NoMemory>
         ensures { IfOk result (λ carried. carried ≡ carried_by (associations_view kept_place list.now)) }
     {
-        let timing = property_in(list, Property::Timing);
-        let adaptor = adaptor_of(property_in(list, Property::Adaptor));
+        let timing = property_in(list, PropertyName::Timing);
+        let adaptor = adaptor_of(property_in(list, PropertyName::Adaptor));
         Ok(Carried {
             delayed: is_delayed(alloc, timing)?,
             adaptor,

@@ -9,7 +9,7 @@ ghost use Rattle.aadl_names.specs.Resolving.{type_numbered};
 ghost use Rattle.aadl_uses.specs.proof.Types.{type_number_at};
 ghost use Rattle.component_checks.specs.PropertyLookup as spec;
 
-use aadl_names::Property;
+use aadl_names::PropertyName;
 use aadl_names::name_comparison::is_spelled;
 use aadl_names::numbered::{subcomponent_at, type_numbered};
 use aadl_tree::{Association, PackageTree, Subcomponent};
@@ -24,7 +24,7 @@ pub fn sub_of<'t>(tree: &'t PackageTree, sub: SubAt) -> Option<&'t Subcomponent>
 
 // Whether an association gives a property to what it stands at.
 #[tactic(auto, using(crate::proofs::Looking::view_out_association))]
-fn gives(association: &Association, property: Property) -> bool
+fn gives(association: &Association, property: PropertyName) -> bool
     ensures { result
         ≡ (counts (association_view kept_place association.now) && is_named (name_of property) (association_view kept_place association.now)) }
 {
@@ -32,7 +32,7 @@ fn gives(association: &Association, property: Property) -> bool
 }
 
 /// The first association of a property in a list.
-pub fn property_in(list: &[Association], property: Property) -> Option<&Association>
+pub fn property_in(list: &[Association], property: PropertyName) -> Option<&Association>
     ensures { option_map (association_view kept_place) (option_copied result)
         ≡ association_named (associations_view kept_place list.now) (name_of property) }
 {
@@ -45,7 +45,7 @@ pub fn property_in(list: &[Association], property: Property) -> Option<&Associat
 }
 
 // A property of the type of an implementation, by the implementation's number.
-fn type_property<'t>(uses: &Uses<'t>, number: usize, property: Property) -> Option<&'t Association>
+fn type_property<'t>(uses: &Uses<'t>, number: usize, property: PropertyName) -> Option<&'t Association>
     ensures { option_map (association_view kept_place) (option_copied result)
         ≡ spec.first_in property (spec.type_lists (type_numbered (placed uses.now.names.tree.now) (type_number_at (placed uses.now.names.tree.now) number))) }
 {
@@ -59,7 +59,7 @@ fn type_property<'t>(uses: &Uses<'t>, number: usize, property: Property) -> Opti
 pub fn root_property<'t>(
     uses: &Uses<'t>,
     root: usize,
-    property: Property,
+    property: PropertyName,
 ) -> Option<&'t Association>
     ensures { option_map (association_view kept_place) (option_copied result)
         ≡ spec.first_in property (spec.root_lists (placed uses.now.names.tree.now) root) }

@@ -3,7 +3,7 @@ ghost use Rattle.std.specs.Prelude.{◌≡◌, ◌≤◌, ◌++◌, IfOk, OnOk};
 ghost use Rattle.std.specs.Option.{ForSome};
 ghost use Rattle.pals_base.specs.declared.limits.TheConstants.{RATE};
 ghost use Rattle.bound_checker.specs.proof.Limits.{IsWithinHour};
-ghost use Rattle.component_checks.specs.Rates.{and_number, period_findings, bound_findings};
+ghost use Rattle.component_checks.specs.Rates.{name_and_number, period_findings, bound_findings};
 
 use crate::numbers::divides;
 use annex_resolve::Violation;
@@ -14,8 +14,8 @@ use pals_base::{Gamma, Items, Nanos, NoMemory, Text};
 use std::alloc::Global;
 
 /// A name and a number behind it.
-pub(crate) fn and_number(alloc: Global, name: &str, number: u64) -> Result<Text, NoMemory>
-    ensures { IfOk result (λ text. text ≡ and_number name.now number) }
+pub(crate) fn name_and_number(alloc: Global, name: &str, number: u64) -> Result<Text, NoMemory>
+    ensures { IfOk result (λ text. text ≡ name_and_number name.now number) }
 {
     Ok(Text::new(format!(in alloc; "{name} {number}")?))
 }
@@ -36,8 +36,8 @@ pub fn add_period_findings(
         return Ok(());
     };
     if !divides(own, root) {
-        let details = and_number(alloc, path.as_str(), own)?;
-        let details = and_number(alloc, details.as_str(), root)?;
+        let details = name_and_number(alloc, path.as_str(), own)?;
+        let details = name_and_number(alloc, details.as_str(), root)?;
         let number = NOT_DIVISOR;
         return found.push(Violation {
             at,
@@ -47,7 +47,7 @@ pub fn add_period_findings(
     }
     let rate = root / own;
     if rate > u64::from(RATE) {
-        let details = and_number(alloc, path.as_str(), rate)?;
+        let details = name_and_number(alloc, path.as_str(), rate)?;
         let number = RATE_TOO_HIGH;
         found.push(Violation {
             at,
@@ -78,7 +78,7 @@ pub fn add_bound_findings(
     let least = least_period(&gamma, rate);
     if root < least {
         let period = format!(in alloc; "{root}")?;
-        let details = and_number(alloc, period.as_str(), least)?;
+        let details = name_and_number(alloc, period.as_str(), least)?;
         let number = PERIOD_TOO_SHORT;
         found.push(Violation {
             at,

@@ -11,7 +11,7 @@ use crate::property_lookup::root_property;
 use crate::threads::{add_named, root_period};
 use crate::times::{range_within, shown, time_within};
 use crate::{add_bound_findings, gamma_by};
-use aadl_names::Property;
+use aadl_names::PropertyName;
 use aadl_names::numbered::implementation_at;
 use aadl_tree::{Association, PackageTree};
 use aadl_uses::Uses;
@@ -21,19 +21,19 @@ use pals_base::{Gamma, Items, Nanos, NoMemory};
 use std::alloc::Global;
 
 // The skew of the root.
-#[tactic(auto, using(crate::proofs::Hours::skew_twice))]
+#[tactic(auto, using(crate::proofs::TimesWithinAnHour::skew_twice))]
 fn root_skew(uses: &Uses<'_>, root: usize) -> Option<Nanos>
     ensures { result ≡ spec.root_skew (placed uses.now.names.tree.now) root }
 {
-    match root_property(uses, root, Property::Skew) {
+    match root_property(uses, root, PropertyName::Skew) {
         Some(found) => crate::skew_of(time_within(&found.value)),
         None => None,
     }
 }
 
 // A range of the root.
-#[tactic(auto, using(crate::proofs::Hours::range_twice))]
-fn root_range(uses: &Uses<'_>, root: usize, property: Property) -> Option<(Nanos, Nanos)>
+#[tactic(auto, using(crate::proofs::TimesWithinAnHour::range_twice))]
+fn root_range(uses: &Uses<'_>, root: usize, property: PropertyName) -> Option<(Nanos, Nanos)>
     ensures { result ≡ spec.root_range (placed uses.now.names.tree.now) root property }
 {
     match root_property(uses, root, property) {
@@ -47,8 +47,8 @@ pub fn root_gamma(uses: &Uses<'_>, root: usize) -> Option<Gamma>
     ensures { result ≡ spec.root_gamma (placed uses.now.names.tree.now) root }
 {
     let skew = root_skew(uses, root);
-    let execution = root_range(uses, root, Property::Execution);
-    let network = root_range(uses, root, Property::Network);
+    let execution = root_range(uses, root, PropertyName::Execution);
+    let network = root_range(uses, root, PropertyName::Network);
     gamma_by(skew, execution, network)
 }
 
@@ -69,7 +69,7 @@ fn add_missing(
     root: usize,
     number: u32,
     details: &str,
-    property: Property,
+    property: PropertyName,
     found: &mut Items<Violation>,
 ) -> Result<(), NoMemory>
     ensures { OnOk result (found.new ≡ found.old ++ spec.missing (placed uses.now.names.tree.now) root number details.now property) }
@@ -84,7 +84,7 @@ fn add_missing_bound(
     alloc: Global,
     uses: &Uses<'_>,
     root: usize,
-    property: Property,
+    property: PropertyName,
     found: &mut Items<Violation>,
 ) -> Result<(), NoMemory>
     ensures { OnOk result (found.new ≡ found.old ++ spec.missing_bound (placed uses.now.names.tree.now) root property) }
@@ -102,10 +102,10 @@ fn add_missing_findings(
 ) -> Result<(), NoMemory>
     ensures { OnOk result (found.new ≡ found.old ++ spec.missing_findings (placed uses.now.names.tree.now) root) }
 {
-    add_missing(alloc, uses, root, NO_PERIOD, "", Property::Period, found)?;
-    add_missing_bound(alloc, uses, root, Property::Skew, found)?;
-    add_missing_bound(alloc, uses, root, Property::Execution, found)?;
-    add_missing_bound(alloc, uses, root, Property::Network, found)
+    add_missing(alloc, uses, root, NO_PERIOD, "", PropertyName::Period, found)?;
+    add_missing_bound(alloc, uses, root, PropertyName::Skew, found)?;
+    add_missing_bound(alloc, uses, root, PropertyName::Execution, found)?;
+    add_missing_bound(alloc, uses, root, PropertyName::Network, found)
 }
 
 // Adds the finding that a skew is 0.
@@ -126,7 +126,7 @@ fn add_zero_skew(
         zero,
         given.name.first.at,
         GAMMA_ORDER,
-        shown(Property::Skew),
+        shown(PropertyName::Skew),
     )
 }
 
@@ -143,7 +143,7 @@ fn is_reversed(range: Option<(Nanos, Nanos)>) -> bool
 // Adds the finding that a range's lower end is above the upper.
 fn add_reversed_range(
     alloc: Global,
-    property: Property,
+    property: PropertyName,
     given: Option<&Association>,
     found: &mut Items<Violation>,
 ) -> Result<(), NoMemory>
@@ -171,12 +171,12 @@ fn add_order_findings(
 ) -> Result<(), NoMemory>
     ensures { OnOk result (found.new ≡ found.old ++ spec.order_findings (placed uses.now.names.tree.now) root) }
 {
-    let skew = root_property(uses, root, Property::Skew);
+    let skew = root_property(uses, root, PropertyName::Skew);
     add_zero_skew(alloc, skew, found)?;
-    let execution = root_property(uses, root, Property::Execution);
-    add_reversed_range(alloc, Property::Execution, execution, found)?;
-    let network = root_property(uses, root, Property::Network);
-    add_reversed_range(alloc, Property::Network, network, found)
+    let execution = root_property(uses, root, PropertyName::Execution);
+    add_reversed_range(alloc, PropertyName::Execution, execution, found)?;
+    let network = root_property(uses, root, PropertyName::Network);
+    add_reversed_range(alloc, PropertyName::Network, network, found)
 }
 
 // Where a property stands, or 0.
@@ -204,7 +204,7 @@ pub fn add_root_findings(
     let uses = properties.uses;
     add_missing_findings(alloc, uses, root, found)?;
     add_order_findings(alloc, uses, root, found)?;
-    let at = place_of(root_property(uses, root, Property::Period));
+    let at = place_of(root_property(uses, root, PropertyName::Period));
     let period = root_period(properties, root);
     let gamma = root_gamma(uses, root);
     add_bound_findings(alloc, found, at, period, gamma, rate)

@@ -39,8 +39,8 @@ pub fn thread_rate(properties: &Properties<'_>, root: usize, thread: &ThreadAt) 
 }
 
 // The greater of two rates, where the second is not refused.
-fn raised(greatest: u32, rate: Option<u32>) -> u32
-    ensures { result ≡ spec.raised greatest rate }
+fn greater_rate(greatest: u32, rate: Option<u32>) -> u32
+    ensures { result ≡ spec.greater_rate greatest rate }
 {
     match rate {
         Some(rate) => greatest.max(rate),
@@ -54,7 +54,7 @@ pub fn greatest_rate(rates: &[Option<u32>]) -> u32
 {
     rates
         .iter()
-        .fold(1, |greatest, rate| raised(greatest, *rate))
+        .fold(1, |greatest, rate| greater_rate(greatest, *rate))
 }
 
 // Whether a component's dispatch is periodic.

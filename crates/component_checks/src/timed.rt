@@ -7,7 +7,7 @@ ghost use Rattle.component_checks.specs.proof.Timed.{period_at, dispatch_at, tim
 use crate::property_lookup::property_in;
 use crate::times::time_within;
 use crate::words::is_word;
-use aadl_names::Property;
+use aadl_names::PropertyName;
 use aadl_tree::Association;
 use pals_base::{Nanos, NoMemory};
 use std::alloc::Global;
@@ -37,8 +37,8 @@ impl Timed {
     pub fn of(alloc: Global, list: &[Association]) -> Result<Timed, NoMemory>
         ensures { IfOk result (λ timed. timed ≡ timed_by (associations_view kept_place list.now ∷ [])) }
     {
-        let period = period_at(property_in(list, Property::Period));
-        let dispatch = property_in(list, Property::Dispatch);
+        let period = period_at(property_in(list, PropertyName::Period));
+        let dispatch = property_in(list, PropertyName::Dispatch);
         Ok(Timed {
             period,
             periodic: dispatch_at(alloc, dispatch)?,

@@ -11,7 +11,7 @@ ghost use Rattle.component_checks.specs.Times as spec;
 
 use aadl_names::name_comparison::is_spelled;
 use aadl_names::units::unit_of;
-use aadl_names::{Holder, Property};
+use aadl_names::{PropertyHolder, PropertyName};
 use aadl_tree::{Association, Figure, Identifier, Quantity, Sign, Value};
 use annex_resolve::Violation;
 use annex_resolve::violation::NUMBER_TOO_BIG;
@@ -40,7 +40,7 @@ fn unit_in(unit: &Option<Identifier>) -> Option<u64>
 }
 
 // The length of `number` units, each of `unit` nanoseconds.
-#[tactic(auto, using(crate::proofs::Hours::product_fits))]
+#[tactic(auto, using(crate::proofs::TimesWithinAnHour::product_fits))]
 fn product(number: u64, unit: u64) -> u128
     ensures { result ≡ number * unit }
 {
@@ -144,35 +144,35 @@ pub fn range_within(value: &Value) -> Option<(Nanos, Nanos)>
 }
 
 /// Whether a value is a time above an hour, or a range with such an end, where the property takes one.
-pub fn is_too_big(property: Property, value: &Value) -> bool
+pub fn is_too_big(property: PropertyName, value: &Value) -> bool
     ensures { result ≡ spec.is_too_big property (value_view kept_place value.now) }
 {
     match property {
-        Property::Period | Property::Skew => match time_of(value) {
+        PropertyName::Period | PropertyName::Skew => match time_of(value) {
             Some(time) => is_above(time),
             None => false,
         },
-        Property::Execution | Property::Network => match range_of(value) {
+        PropertyName::Execution | PropertyName::Network => match range_of(value) {
             Some((low, high)) => is_above(low) || is_above(high),
             None => false,
         },
-        Property::Dispatch | Property::Timing | Property::Adaptor | Property::Initial => false,
+        PropertyName::Dispatch | PropertyName::Timing | PropertyName::Adaptor | PropertyName::Initial => false,
     }
 }
 
 /// The name by which findings speak of a property.
-pub fn shown(property: Property) -> &'static str
+pub fn shown(property: PropertyName) -> &'static str
     ensures { result.now ≡ spec.shown property }
 {
     match property {
-        Property::Period => "Period",
-        Property::Dispatch => "Dispatch_Protocol",
-        Property::Timing => "Timing",
-        Property::Adaptor => "Input_Adaptor",
-        Property::Skew => "Skew",
-        Property::Execution => "Execution",
-        Property::Network => "Network",
-        Property::Initial => "Initial_Value",
+        PropertyName::Period => "Period",
+        PropertyName::Dispatch => "Dispatch_Protocol",
+        PropertyName::Timing => "Timing",
+        PropertyName::Adaptor => "Input_Adaptor",
+        PropertyName::Skew => "Skew",
+        PropertyName::Execution => "Execution",
+        PropertyName::Network => "Network",
+        PropertyName::Initial => "Initial_Value",
     }
 }
 
@@ -181,7 +181,7 @@ pub fn shown(property: Property) -> &'static str
 fn add_big_as(
     alloc: Global,
     association: &Association,
-    property: Property,
+    property: PropertyName,
     found: &mut Items<Violation>,
 ) -> Result<(), NoMemory>
     ensures { OnOk result (found.new ≡ found.old ++ spec.big_as (association_view kept_place association.now) property) }
@@ -200,7 +200,7 @@ fn add_big_as(
 // Adds what is above an hour in an association at a kind of place.
 fn add_association_big(
     alloc: Global,
-    holder: Holder,
+    holder: PropertyHolder,
     association: &Association,
     found: &mut Items<Violation>,
 ) -> Result<(), NoMemory>
@@ -217,7 +217,7 @@ fn add_association_big(
 #[tactic(auto, using(crate::proofs::Looking::view_out_association))]
 fn add_counted_big(
     alloc: Global,
-    holder: Holder,
+    holder: PropertyHolder,
     association: &Association,
     found: &mut Items<Violation>,
 ) -> Result<(), NoMemory>
@@ -231,9 +231,9 @@ fn add_counted_big(
 
 /// Adds the times above an hour in a list of properties at a kind of place. What applies elsewhere
 /// does not count.
-pub fn add_list_big(
+pub fn add_times_too_big(
     alloc: Global,
-    holder: Holder,
+    holder: PropertyHolder,
     list: &[Association],
     found: &mut Items<Violation>,
 ) -> Result<(), NoMemory>

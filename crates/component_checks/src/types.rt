@@ -12,7 +12,7 @@ ghost use Rattle.component_checks.specs.Types as spec;
 
 use crate::property_lookup::property_in;
 use crate::quotes::unquoted;
-use aadl_names::Property;
+use aadl_names::PropertyName;
 use aadl_tree::{
     AnnexTree, Association, Direction, Feature, Identifiers, Reference, Value, VariableDeclaration,
 };
@@ -147,7 +147,7 @@ fn add_variable_findings(
 {
     let kind = kind_named(&variable.data_type);
     add_name_findings(alloc, kind, &variable.names, found)?;
-    let first = property_in(variable.properties.as_slice(), Property::Initial);
+    let first = property_in(variable.properties.as_slice(), PropertyName::Initial);
     add_first_findings(alloc, kind, first, found)
 }
 

@@ -15,16 +15,16 @@ use Rattle.aadl_names.specs.PackageFaults.{package_faults}
 use Rattle.aadl_uses.specs.declared.thread_places.ThreadAt.{ThreadAt}
 use Rattle.component_checks.specs.Rates.{bound_findings}
 use Rattle.design_laws.proofs.Counting.{leaves_time}
-use Rattle.component_checks.specs.Threads.{root_period, thread_rate, raised, greatest_rate}
+use Rattle.component_checks.specs.Threads.{root_period, thread_rate, greater_rate, greatest_rate}
 use Rattle.component_checks.specs.Roots.{root_gamma, at_root, place_of, missing_findings, order_findings}
-use Rattle.aadl_names.specs.declared.holder.Property.TheVariants.{Period}
+use Rattle.aadl_names.specs.declared.holder.PropertyName.TheVariants.{Period}
 use Rattle.aadl_instance.specs.Flat.{Parts, IsFlat}
 use Rattle.design_laws.specs.proof.Named.{NamesDiffer, AreNamed}
 use Rattle.model_violations.specs.Violations.{Shown, shown_by, rates_of, AreViolations}
 use Rattle.design_laws.specs.proof.Accepted.{IsShown, NothingFound, HasDesign}
 use Rattle.design_laws.specs.Designs.{put_first, all_of, component_by, thread_behaviour, component_in, IsDesignOf}
 use Rattle.design_laws.proofs.Clean.{all_parts}
-use Rattle.design_laws.proofs.Nothing.{nothing_found}
+use Rattle.design_laws.proofs.NoFindings.{nothing_found}
 use Rattle.design_laws.specs.PackageDesigns.{IsDesignIn}
 use Rattle.design_laws.proofs.Words.{has_words}
 
@@ -86,12 +86,12 @@ module _ (tree : PackageTree ℕ) (root : ℕ) where
       ap (λ (x : Component). Some x.rate) (same_Some (record { path = path; rate = rate; behaviour = b }) c is)
 
   rates_by : (k : ℕ) (threads : List ThreadAt) (cs : List Component) → all_of (map (component_in tree root) threads) ≡ Some cs
-      → fold raised k (map (thread_rate tree root) threads) ≡ fold (λ n (c : Component). max n c.rate) k cs
+      → fold greater_rate k (map (thread_rate tree root) threads) ≡ fold (λ n (c : Component). max n c.rate) k cs
   rates_by k [] cs is = ap (λ l. fold (λ n (c : Component). max n c.rate) k l) (same_Some [] cs is)
   rates_by k (t ∷ threads) cs is =
       let a = first_of (component_in tree root t) (all_of (map (component_in tree root) threads)) cs is in
       let rate = rate_by t.path (thread_rate tree root t) (thread_behaviour tree t) a.first a.is_first in
-      ap (λ o. fold raised (raised k o) (map (thread_rate tree root) threads)) rate
+      ap (λ o. fold greater_rate (greater_rate k o) (map (thread_rate tree root) threads)) rate
       ∙ (rates_by (max k a.first.rate) threads a.rest a.is_rest ∙ ap (λ l. fold (λ n (c : Component). max n c.rate) k l) a.both)
 
 -- ---- the bound

@@ -22,7 +22,7 @@ use Rattle.model_violations.specs.Violations.{Shown, shown_by, rates_of}
 use Rattle.design_laws.specs.proof.Accepted.{IsShown, NothingFound, HasDesign}
 use Rattle.design_laws.specs.Designs.{component_in, link_in, feed_in, tap_in, all_of, IsDesignOf}
 use Rattle.design_laws.proofs.Clean.{NoFindings, all_parts}
-use Rattle.design_laws.proofs.Ruling.{ThreadLaw}
+use Rattle.design_laws.proofs.ThreadBehaviours.{ThreadLaw}
 use Rattle.design_laws.proofs.Rating.{root_time, root_bounds, bounds_keep, enough, some_time}
 use Rattle.design_laws.proofs.Matching.{Zipped, Made, zipped_weaker, made_twice}
 use Rattle.design_laws.proofs.Composing as composing

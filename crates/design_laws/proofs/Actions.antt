@@ -6,7 +6,7 @@ use Rattle.aadl_tree.specs.Parts.{token, may, last_semicolon, plain}
 use Rattle.aadl_tree.specs.Names.{Identifier, identifier_parts, reference_parts}
 use Rattle.aadl_tree.specs.Expressions.{Expression}
 use Rattle.aadl_tree.specs.Actions as a
-use Rattle.aadl_names.specs.declared.fault.FlatFault.TheVariants.{Twice}
+use Rattle.aadl_names.specs.declared.fault.PackageFault.TheVariants.{Twice}
 use Rattle.aadl_names.specs.declared.role.Role.{Role}
 use Rattle.aadl_names.specs.declared.role.Usage.TheVariants.{Set, Send}
 use Rattle.aadl_names.specs.AnnexNames.{Known, expression_uses, again_as, loop_again, with_loop, action_uses, actions_uses, mores_uses}

@@ -10,9 +10,9 @@ use Rattle.aadl_tree.specs.Names.{Identifier, identifiers, listed_in}
 use Rattle.aadl_tree.specs.Annexes.{VariableDeclaration, StateDeclaration, AnnexTree}
 use Rattle.aadl_tree.specs.Declarations.{Feature, Subcomponent, Connection, TypeDeclaration, Implementation, Declaration, type, implementation}
 use Rattle.aadl_tree.specs.Declarations.{PackageTree}
-use Rattle.aadl_names.specs.declared.fault.FlatFault.{FlatFault}
-use Rattle.aadl_names.specs.declared.fault.FlatFault.TheVariants.{Twice}
-use Rattle.aadl_names.specs.declared.entry.Entry.{Entry}
+use Rattle.aadl_names.specs.declared.fault.PackageFault.{PackageFault}
+use Rattle.aadl_names.specs.declared.fault.PackageFault.TheVariants.{Twice}
+use Rattle.aadl_names.specs.declared.entry.SpelledName.{SpelledName}
 use Rattle.aadl_names.specs.Spelling.{entry_of, spelled_implementation}
 use Rattle.aadl_names.specs.Behaviours.{behaviours, variables_of, states_of}
 use Rattle.aadl_names.specs.Resolving.{is_thread, type_in, type_numbered, type_number, features_of, ports_of}
@@ -23,10 +23,10 @@ use Rattle.aadl_names.proofs.Elements.{is_here, among_all, from_all}
 use Rattle.design_laws.proofs.Covering.{Covered, covered_none, covered_append, covered_if, covered_each, Named, named_append, named_map}
 use Rattle.design_laws.proofs.Covering.{named_filter_map, covered_twice}
 use Rattle.design_laws.proofs.Found.{behaviour_has}
-use Rattle.design_laws.proofs.Possible.{of_identifier, of_identifiers, of_associations, of_variable, of_state, of_tree, of_annex, of_feature}
-use Rattle.design_laws.proofs.Possible.{of_subcomponent, of_connection, none_of, of_type, of_implementation, of_declaration, possible}
+use Rattle.design_laws.proofs.PossibleNameFaults.{of_identifier, of_identifiers, of_associations, of_variable, of_state, of_tree, of_annex, of_feature}
+use Rattle.design_laws.proofs.PossibleNameFaults.{of_subcomponent, of_connection, none_of, of_type, of_implementation, of_declaration, possible}
 
-abbrev pub again_of : Identifier ℕ → FlatFault
+abbrev pub again_of : Identifier ℕ → PackageFault
 again_of x = Twice x.spelling x.at
 
 -- ---- what is declared in an annex
@@ -37,7 +37,7 @@ variable_has v y there = Contains-append_left (of_identifiers v.names) (of_assoc
 state_has : (s : StateDeclaration ℕ) (y : Identifier ℕ) → Contains (identifiers s.names) y → Contains (of_state s) (again_of y)
 state_has s y there = among_all of_identifier (identifiers s.names) y (again_of y) there (is_here (again_of y))
 
-module _ (transitions : AnnexTree ℕ → List FlatFault) (x : AnnexTree ℕ) where
+module _ (transitions : AnnexTree ℕ → List PackageFault) (x : AnnexTree ℕ) where
   variables_have : (y : Identifier ℕ) → Contains (variables_of x) y → Contains (of_tree transitions x) (again_of y)
   variables_have y there =
       let from = from_all (λ (v : VariableDeclaration ℕ). identifiers v.names) (listed_in x.variables) y there in
@@ -59,19 +59,19 @@ feature_has x y there = Contains-append_right (Twice x.name.spelling x.at ∷ []
     (Contains-append_left (of_identifier y.name) (of_associations y.properties) (again_of y.name) (is_here (again_of y.name)))))
 
 module _ (tree : PackageTree ℕ) (x : Implementation ℕ) where
-  heading : List FlatFault
+  heading : List PackageFault
   heading = Twice (spelled_implementation x.name) x.at ∷ []
 
-  subs : List FlatFault
+  subs : List PackageFault
   subs = flat_map of_subcomponent x.subcomponents
 
-  connections : List FlatFault
+  connections : List PackageFault
   connections = flat_map of_connection x.connections
 
-  properties : List FlatFault
+  properties : List PackageFault
   properties = of_associations x.properties
 
-  annexes : List FlatFault
+  annexes : List PackageFault
   annexes = flat_map (of_annex (behaviour_faults tree x)) x.annexes
 
   pub subcomponent_has : (s : Subcomponent ℕ) → Contains x.subcomponents s → Contains (of_implementation tree x) (again_of s.name)
@@ -91,7 +91,7 @@ module _ (tree : PackageTree ℕ) (x : Implementation ℕ) where
       (Contains-append_left (of_identifier c.name) (unknown_end c.source ++ (unknown_end c.target ++ of_associations c.properties)) (again_of c.name)
       (is_here (again_of c.name))))))
 
-  annex_has : (b : ℕ × AnnexTree ℕ) (f : FlatFault) → Contains (behaviours x.annexes) b → Contains (of_tree (behaviour_faults tree x) b.1) f
+  annex_has : (b : ℕ × AnnexTree ℕ) (f : PackageFault) → Contains (behaviours x.annexes) b → Contains (of_tree (behaviour_faults tree x) b.1) f
       → Contains (of_implementation tree x) f
   unfolding heading subs connections properties annexes
   annex_has b f there here = Contains-append_right heading (subs ++ (connections ++ (properties ++ annexes))) f
@@ -100,7 +100,7 @@ module _ (tree : PackageTree ℕ) (x : Implementation ℕ) where
 
 -- ---- in a package
 module _ (tree : PackageTree ℕ) where
-  pub in_package : (d : Declaration ℕ) (f : FlatFault) → Contains tree.declarations d → Contains (of_declaration tree d) f → Contains (possible tree) f
+  pub in_package : (d : Declaration ℕ) (f : PackageFault) → Contains tree.declarations d → Contains (of_declaration tree d) f → Contains (possible tree) f
   in_package d f there here = among_all (of_declaration tree) tree.declarations d f there here
 
   ports_by : (n : ℕ) (o : Option (Declaration ℕ)) → slice_get tree.declarations n ≡ o → (y : Feature ℕ) → Contains (features_of (type_in o)) y
@@ -152,21 +152,21 @@ module _ (tree : PackageTree ℕ) where
       (first_covered x declared (behaviours x.annexes) (λ b there. there))
 
   -- ---- types and implementations
-  type_named : (d : Declaration ℕ) (e : Entry) → Contains tree.declarations d → type_entry d ≡ Some e → Contains (possible tree) (Twice e.name e.at)
+  type_named : (d : Declaration ℕ) (e : SpelledName) → Contains tree.declarations d → type_entry d ≡ Some e → Contains (possible tree) (Twice e.name e.at)
   type_named (type x) e declared is =
-      let here : Entry = record { name = x.name.spelling; at = x.at } in
-      subst (λ (z : Entry). Contains (possible tree) (Twice z.name z.at)) (same_Some here e is)
+      let here : SpelledName = record { name = x.name.spelling; at = x.at } in
+      subst (λ (z : SpelledName). Contains (possible tree) (Twice z.name z.at)) (same_Some here e is)
       (in_package (type x) (Twice x.name.spelling x.at) declared
       (Contains-append_left (Twice x.name.spelling x.at ∷ []) _ (Twice x.name.spelling x.at) (is_here (Twice x.name.spelling x.at))))
   type_named (implementation x) e declared is = absurd (cc is)
 
-  implementation_named : (d : Declaration ℕ) (e : Entry) → Contains tree.declarations d → implementation_entry d ≡ Some e
+  implementation_named : (d : Declaration ℕ) (e : SpelledName) → Contains tree.declarations d → implementation_entry d ≡ Some e
       → Contains (possible tree) (Twice e.name e.at)
   implementation_named (type x) e declared is = absurd (cc is)
   implementation_named (implementation x) e declared is =
-      let here : Entry = record { name = spelled_implementation x.name; at = x.at } in
+      let here : SpelledName = record { name = spelled_implementation x.name; at = x.at } in
       let found = Twice (spelled_implementation x.name) x.at in
-      subst (λ (z : Entry). Contains (possible tree) (Twice z.name z.at)) (same_Some here e is)
+      subst (λ (z : SpelledName). Contains (possible tree) (Twice z.name z.at)) (same_Some here e is)
       (in_package (implementation x) found declared (Contains-append_left (found ∷ []) _ found (is_here found)))
 
   pub twice_covered : Covered (twice_names tree) (possible tree)

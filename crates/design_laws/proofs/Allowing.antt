@@ -9,7 +9,7 @@ use Rattle.pals_base.specs.declared.values.Adaptor.{Adaptor}
 use Rattle.pals_base.specs.Allowed.{divides_or_divided, is_allowed}
 use Rattle.annex_resolve.specs.Scopes.{finding, found_if}
 use Rattle.annex_resolve.specs.declared.violation.TheConstants.{RATES_DONT_DIVIDE, STRAY_ADAPTOR, ADAPTOR_OUT_OF_RANGE}
-use Rattle.component_checks.specs.Rates.{and_number, adaptor_named, kind_suits, is_right, adaptor_findings, pair_findings}
+use Rattle.component_checks.specs.Rates.{name_and_number, adaptor_named, kind_suits, is_right, adaptor_findings, pair_findings}
 use Rattle.design_laws.proofs.Tests as tests
 
 -- the adaptor of a text fits two rates and a type
@@ -40,7 +40,7 @@ fits_by : (at : ℕ) (name : List ℕ) (text : Option (List ℕ)) (kind : Option
     → divides_or_divided p q ≡ one
     → cond same (found_if (is_some (option_map adaptor_named text)) at STRAY_ADAPTOR name)
     (cond one (adaptor_findings at name (option_map adaptor_named text) kind p q)
-    (finding at RATES_DONT_DIVIDE (and_number (and_number name p) q) ∷ [])) ≡ []
+    (finding at RATES_DONT_DIVIDE (name_and_number (name_and_number name p) q) ∷ [])) ≡ []
     → Fits text kind p q
 fits_by at name None kind p q true one h d none = record { divides = same_divides p q h; allowed = h; suits = none_suits kind }
 fits_by at name None kind p q false true h d none = absurd (cc none)

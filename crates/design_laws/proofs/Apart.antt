@@ -17,7 +17,7 @@ use Rattle.aadl_tree.specs.Annexes.{AnnexTree}
 use Rattle.aadl_tree.specs.Declarations.{Feature, Subcomponent, Connection, TypeDeclaration, Implementation, Declaration, type}
 use Rattle.aadl_tree.specs.Declarations.{implementation, PackageTree, declaration_parts, package_parts}
 use Rattle.aadl_tree.specs.proof.Given.{IsGiven}
-use Rattle.aadl_names.specs.declared.entry.Entry.{Entry}
+use Rattle.aadl_names.specs.declared.entry.SpelledName.{SpelledName}
 use Rattle.aadl_names.specs.Spelling.{entry_of}
 use Rattle.aadl_names.specs.Behaviours.{behaviours, variables_of, states_of}
 use Rattle.aadl_names.specs.Resolving.{is_thread, type_in, type_numbered, type_number, features_of, ports_of}
@@ -38,17 +38,17 @@ pairs_all R [] h = λ i j d lt within. absurd (omega arith)
 pairs_all R (x ∷ xs) h = AllPairs-cons R x xs (All-from_recursion (R x) xs h.0) (pairs_all R xs h.1)
 
 -- ---- entries in the order of their names
-abbrev Earlier : Entry → Entry → Type 0
+abbrev Earlier : SpelledName → SpelledName → Type 0
 Earlier x y = x.at < y.at
 
-abbrev Within : List (Part ℕ) → Entry → Type 0
+abbrev Within : List (Part ℕ) → SpelledName → Type 0
 Within parts x = Contains (places_of parts) x.at
 
-record Entered (parts : List (Part ℕ)) (xs : List Entry) : Type 0 where
+record Entered (parts : List (Part ℕ)) (xs : List SpelledName) : Type 0 where
   rising : Pairs Earlier xs
   inside : AllByRecursion (Within parts) xs
 
-module _ (R : Identifier ℕ → Identifier ℕ → Type 0) (S : Entry → Entry → Type 0) (f : (x y : Identifier ℕ) → R x y
+module _ (R : Identifier ℕ → Identifier ℕ → Type 0) (S : SpelledName → SpelledName → Type 0) (f : (x y : Identifier ℕ) → R x y
     → S (entry_of x) (entry_of y)) where
   all_entries : (x : Identifier ℕ) (ys : List (Identifier ℕ)) → AllByRecursion (R x) ys → AllByRecursion (S (entry_of x)) (map entry_of ys)
   all_entries x [] h = tt
@@ -108,7 +108,7 @@ module _ (ds : List (Declaration ℕ)) (r : Rise (flat_map declaration_parts ds)
   places_apart m n c d p q (inr (inl lt)) other first second here there = ne_from_lt p q (before ds m n c d p q r lt first second here there)
   places_apart m n c d p q (inr (inr lt)) other first second here there = more_apart p q (before ds n m d c q p r lt second first there here)
 
-  both_apart : (m n : ℕ) (c d : Declaration ℕ) (xs ys : List Entry) → m ≢ n → slice_get ds m ≡ Some c → slice_get ds n ≡ Some d
+  both_apart : (m n : ℕ) (c d : Declaration ℕ) (xs ys : List SpelledName) → m ≢ n → slice_get ds m ≡ Some c → slice_get ds n ≡ Some d
       → Entered (declaration_parts c) xs → Entered (declaration_parts d) ys → Pairs Apart (xs ++ ys)
   both_apart m n c d xs ys other first second a b =
       pairs_append Apart xs ys (pairs_weaker Earlier Apart (λ x y. ne_from_lt x.at y.at) xs a.rising)
@@ -127,7 +127,7 @@ module _ (ds : List (Declaration ℕ)) (r : Rise (flat_map declaration_parts ds)
   other_kind m n t x first second e = let same : slice_get ds m ≡ Some (implementation x) = ap (slice_get ds) e ∙ second in absurd (cc (first, same))
 
   -- the ports of a type, and what an implementation declares
-  ports_by : (m n : ℕ) (d : Option (Declaration ℕ)) (x : Implementation ℕ) (ys : List Entry) → slice_get ds m ≡ d
+  ports_by : (m n : ℕ) (d : Option (Declaration ℕ)) (x : Implementation ℕ) (ys : List SpelledName) → slice_get ds m ≡ d
       → slice_get ds n ≡ Some (implementation x)
       → Entered (declaration_parts (implementation x)) ys → Pairs Apart (port_entries (features_of (type_in d)) ++ ys)
   ports_by m n None x ys first second b = pairs_weaker Earlier Apart (λ y z. ne_from_lt y.at z.at) ys b.rising
@@ -141,7 +141,7 @@ module _ (tree : PackageTree ℕ) (rise : Rise (package_parts tree)) (n : ℕ) (
   inner : Rise (declaration_parts (implementation x))
   inner = rise_one tree.declarations n (implementation x) is (rise_declarations tree rise)
 
-  ports_with : (number : Option ℕ) (ys : List Entry) → Entered (declaration_parts (implementation x)) ys
+  ports_with : (number : Option ℕ) (ys : List SpelledName) → Entered (declaration_parts (implementation x)) ys
       → Pairs Apart (port_entries (features_of (type_numbered tree number)) ++ ys)
   ports_with None ys b = pairs_weaker Earlier Apart (λ y z. ne_from_lt y.at z.at) ys b.rising
   ports_with (Some m) ys b = ports_by tree.declarations (rise_declarations tree rise) m n (slice_get tree.declarations m) x ys refl is b

@@ -11,8 +11,8 @@ use Rattle.pals_base.specs.declared.behaviour.Kind.{Kind}
 use Rattle.pals_base.specs.declared.behaviour.Kind.TheVariants.{Integer, Boolean}
 use Rattle.aadl_tree.specs.Names.{Identifier, same_name}
 use Rattle.aadl_tree.specs.Declarations.{Feature, Subcomponent, ConnectionEnd, Implementation, PackageTree}
-use Rattle.aadl_names.specs.declared.site.Site.{Site}
-use Rattle.aadl_names.specs.declared.site.Site.TheVariants.{Own, Inner}
+use Rattle.aadl_names.specs.declared.site.PortPlace.{PortPlace}
+use Rattle.aadl_names.specs.declared.site.PortPlace.TheVariants.{Own, Inner}
 use Rattle.aadl_names.specs.Resolving.{implementation_at, subcomponents_of, referred, target_of, ports_of, ports_at, port_named, sub_named}
 use Rattle.aadl_names.specs.Resolving.{inner_ports, inner_site, site_by, site}
 use Rattle.aadl_uses.specs.Uses.{sub_at, below, standing, component_at}
@@ -29,7 +29,7 @@ use Rattle.model_violations.specs.Declarations.{thread_findings}
 use Rattle.model_violations.specs.Violations.{shown_by, used_findings, carriers_of}
 use Rattle.design_laws.specs.proof.Kinds.{port_kind}
 use Rattle.design_laws.proofs.Clean.{declared_at, implementation_clean, stands_at, is_used}
-use Rattle.design_laws.proofs.Ruling.{joined, first_is, ports_clean}
+use Rattle.design_laws.proofs.ThreadBehaviours.{joined, first_is, ports_clean}
 
 -- ---- a site that is declared has a port
 named_there : (ports : List (Feature ℕ)) (word : List ℕ) (p : ℕ) → port_named ports word ≡ Some p → (f : Feature ℕ) × (slice_get ports p ≡ Some f)
@@ -39,33 +39,33 @@ named_there ports word p is =
     (f.one, ap (slice_get ports) (sym e) ∙ f.is)
 
 module _ (tree : PackageTree ℕ) (x : Implementation ℕ) where
-  own_there : (word : List ℕ) (s : Site) → option_map Own (port_named (ports_of tree x) word) ≡ Some s
+  own_there : (word : List ℕ) (s : PortPlace) → option_map Own (port_named (ports_of tree x) word) ≡ Some s
       → (f : Feature ℕ) × (site_port tree x s ≡ Some f)
   own_there word s e =
       let m = option_map-parts Own (port_named (ports_of tree x) word) s e in
       let f = named_there (ports_of tree x) word m.0 m.1 in
       (f.0, ap (site_port tree x) (sym m.2) ∙ f.1)
 
-  inner_there : (word : List ℕ) (k : ℕ) (s : Site) → inner_site tree x word k ≡ Some s → (f : Feature ℕ) × (site_port tree x s ≡ Some f)
+  inner_there : (word : List ℕ) (k : ℕ) (s : PortPlace) → inner_site tree x word k ≡ Some s → (f : Feature ℕ) × (site_port tree x s ≡ Some f)
   inner_there word k s e =
       let m = option_map-parts (Inner k) (port_named (inner_ports tree x k) word) s e in
       let f = named_there (inner_ports tree x k) word m.0 m.1 in
       (f.0, ap (site_port tree x) (sym m.2) ∙ f.1)
 
-  there_by : (first : Identifier ℕ) (second : Option (Identifier ℕ)) (s : Site) → site_by tree x first second ≡ Some s
+  there_by : (first : Identifier ℕ) (second : Option (Identifier ℕ)) (s : PortPlace) → site_by tree x first second ≡ Some s
       → (f : Feature ℕ) × (site_port tree x s ≡ Some f)
   there_by first None s e = own_there first.spelling s e
   there_by first (Some port) s e =
       option_and_then_some (inner_site tree x port.spelling) (sub_named x.subcomponents first.spelling) s e
       (λ k _ is. inner_there port.spelling k s is)
 
-  pub site_there : (end : ConnectionEnd ℕ) (s : Site) → site tree x end ≡ Some s → (f : Feature ℕ) × (site_port tree x s ≡ Some f)
+  pub site_there : (end : ConnectionEnd ℕ) (s : PortPlace) → site tree x end ≡ Some s → (f : Feature ℕ) × (site_port tree x s ≡ Some f)
   unfolding site
   site_there end s e = there_by end.first end.second s e
 
 -- ---- the port of a site is that of the component which stands there
 module _ (tree : PackageTree ℕ) (root : ℕ) where
-  site_is : (path : List ℕ) (n : ℕ) (x : Implementation ℕ) (s : Site) → standing tree root path ≡ Some n → implementation_at tree n ≡ Some x
+  site_is : (path : List ℕ) (n : ℕ) (x : Implementation ℕ) (s : PortPlace) → standing tree root path ≡ Some n → implementation_at tree n ≡ Some x
       → port_of tree root (port_at path s) ≡ site_port tree x s
   site_is path n x (Own p) stands is = ap (λ o. slice_get (ports_at tree o) p) (ap (option_and_then (implementation_at tree)) stands ∙ is)
   site_is path n x (Inner s p) stands is =

@@ -8,8 +8,8 @@ use Rattle.std.proofs.lemmas.Bool.{or_left, or_right, and_from as both}
 use Rattle.list_lemmas.proofs.Lists.{append_is_nil_right, append_is_nil_left}
 use Rattle.list_lemmas.proofs.Numbers.{nat_eq-self}
 use Rattle.aadl_tree.specs.Declarations.{Declaration, type, TypeDeclaration, Implementation, implementation, PackageTree}
-use Rattle.aadl_names.specs.declared.fault.FlatFault.{FlatFault}
-use Rattle.aadl_names.specs.declared.fault.FlatFault.TheVariants.{TooMany}
+use Rattle.aadl_names.specs.declared.fault.PackageFault.{PackageFault}
+use Rattle.aadl_names.specs.declared.fault.PackageFault.TheVariants.{TooMany}
 use Rattle.aadl_names.specs.Resolving.{implementation_in, implementation_at, type_number}
 use Rattle.aadl_names.specs.PackageFaults.{package_faults}
 use Rattle.aadl_uses.specs.Uses.{standing, component_at}
@@ -32,7 +32,7 @@ nothing_in [] none = refl
 nothing_in (x ∷ xs) none = absurd (none x (0, omega arith, refl))
 
 module _ {tree : PackageTree ℕ} {name : List ℕ} {parts : Parts} (flat : IsFlat tree name parts) where
-  pub not_found : (line : ℕ) (fault : FlatFault) → FoundIn tree parts.root line fault → ⊥
+  pub not_found : (line : ℕ) (fault : PackageFault) → FoundIn tree parts.root line fault → ⊥
   not_found line fault found = flat.sound line fault (inr (parts.root, flat.root, found))
 
   pub names_clean : package_faults tree parts.root ≡ []

@@ -28,10 +28,10 @@ use Rattle.aadl_instance.specs.Flat.{Parts, IsFlat}
 use Rattle.annex_resolve.specs.Types.{kind_named}
 use Rattle.annex_resolve.specs.Behaviours.{state_at, states_in, states_of, declared, behaviour_of}
 use Rattle.component_checks.specs.Roots.{root_findings}
-use Rattle.component_checks.specs.Threads.{thread_rate, thread_findings, raised, greatest_rate}
+use Rattle.component_checks.specs.Threads.{thread_rate, thread_findings, greater_rate, greatest_rate}
 use Rattle.model_violations.specs.Values.{ins_in, outs_in, first_of, variable_of, variables_in, variables_of, named_of, var_of, values_of, scope_of}
 use Rattle.model_violations.specs.Threads.{first_annex, behaviour_by, behaviour_in}
-use Rattle.model_violations.proofs.Kept.{ports_both}
+use Rattle.model_violations.proofs.OneMoreFinding.{ports_both}
 use Rattle.design_laws.specs.proof.Named.{AreNamed}
 use Rattle.design_laws.proofs.Partition.{pairs_from, all_unmapped}
 use Rattle.design_laws.proofs.Differing.{all_none}
@@ -40,7 +40,7 @@ use Rattle.model_violations.specs.Use.{IsUse}
 use Rattle.model_violations.specs.Violations.{shown_by, used_findings}
 use Rattle.design_laws.specs.Designs.{component_by, component_in, thread_behaviour}
 use Rattle.design_laws.proofs.Clean.{names_clean, not_over, declared_at}
-use Rattle.design_laws.proofs.Ruling.{ThreadLaw, ThreadIs, thread_is, root_no_thread, thread_behaves, seen_behaviour}
+use Rattle.design_laws.proofs.ThreadBehaviours.{ThreadLaw, ThreadIs, thread_is, root_no_thread, thread_behaves, seen_behaviour}
 use Rattle.design_laws.proofs.Rating.{root_time, rate_is}
 use Rattle.design_laws.proofs.Pathing.{path_is, paths_differ, before_other}
 use Rattle.design_laws.proofs.Matching.{Zipped, Made, all_made, zipped_length, all_zipped, pairs_zipped}
@@ -222,13 +222,13 @@ module _ {tree : PackageTree ℕ} {name : List ℕ} {parts : Parts} (flat : IsFl
 
   -- ---- the greatest rate
   rates_by : (k : ℕ) (paths : List (List ℕ)) (cs : List Component) → Zipped IsOf paths cs
-      → fold raised k (map (λ path. thread_rate tree parts.root (thread_at tree parts.root path)) paths) ≡ fold
+      → fold greater_rate k (map (λ path. thread_rate tree parts.root (thread_at tree parts.root path)) paths) ≡ fold
       (λ n (c : Component). max n c.rate) k cs
   rates_by k [] [] h = refl
   rates_by k [] (c ∷ cs) h = absurd h
   rates_by k (path ∷ paths) [] h = absurd h
   rates_by k (path ∷ paths) (c ∷ cs) h =
-      ap (λ o. fold raised (raised k o) (map (λ p. thread_rate tree parts.root (thread_at tree parts.root p)) paths)) h.0.rate_seen
+      ap (λ o. fold greater_rate (greater_rate k o) (map (λ p. thread_rate tree parts.root (thread_at tree parts.root p)) paths)) h.0.rate_seen
       ∙ rates_by (max k c.rate) paths cs h.1
 
   pub greatest_is : greatest_rate (map (λ path. thread_rate tree parts.root (thread_at tree parts.root path)) parts.threads) ≡

@@ -6,15 +6,15 @@ use Rattle.list_lemmas.proofs.Places.{slice_get-from_Contains, Contains-from_sli
 use Rattle.aadl_tree.specs.declared.declarations.Direction.{Direction}
 use Rattle.aadl_tree.specs.declared.declarations.Direction.TheVariants as directions
 use Rattle.aadl_tree.specs.Declarations.{Connection, Implementation, PackageTree}
-use Rattle.aadl_names.specs.declared.fault.FlatFault.{FlatFault}
-use Rattle.aadl_names.specs.declared.site.Site.{Site}
+use Rattle.aadl_names.specs.declared.fault.PackageFault.{PackageFault}
+use Rattle.aadl_names.specs.declared.site.PortPlace.{PortPlace}
 use Rattle.aadl_names.specs.proof.Found.{found}
 use Rattle.aadl_names.specs.Resolving.{implementation_at, connections_of}
 use Rattle.aadl_uses.specs.proof.Uses.{containment, FirstIn}
 use Rattle.aadl_uses.specs.Uses.{IsInUse}
 use Rattle.aadl_uses.specs.declared.connections.Wire.{Wire}
-use Rattle.aadl_uses.specs.Firsts.{IsSecond, target_in}
-use Rattle.aadl_uses.specs.proof.Firsts.{is_before, first_into}
+use Rattle.aadl_uses.specs.FirstConnections.{IsSecond, target_in}
+use Rattle.aadl_uses.specs.proof.FirstConnections.{is_before, first_into}
 use Rattle.aadl_uses.specs.Wiring.{wire_of, wires_of, wires_at}
 use Rattle.aadl_uses.proofs.Tables.{is_second-tells, no_second}
 use Rattle.aadl_uses.specs.proof.Orders.{IsOrder}
@@ -44,7 +44,7 @@ record Told (P : Type 0) : Type 0 where
   answer : Bool
   tells : IsTrue answer ↔ P
 
-second_by : (wires : List Wire) (k : ℕ) (o : Option Site) → target_in wires k ≡ o → Told (IsSecond wires k)
+second_by : (wires : List Wire) (k : ℕ) (o : Option PortPlace) → target_in wires k ≡ o → Told (IsSecond wires k)
 second_by wires k None e = record { answer = false; tells = no_second wires k e }
 second_by wires k (Some target) e =
     record { answer = is_before (first_into wires target) k; tells = is_second-tells wires k target (is_before (first_into wires target) k) e refl }
@@ -52,7 +52,7 @@ second_by wires k (Some target) e =
 module _ (tree : PackageTree ℕ) (root : ℕ) (sound : AreDeclared tree) (keys : List ℕ) (order : IsOrder (containment tree) keys)
     (used : List ℕ) (tells : (n : ℕ) → Contains used n ↔ IsInUse tree root n) where
   -- connections lead from the end to a thread or the root
-  leads : (d : Direction) (n : ℕ) (site : Site) → Told (LeadsFrom tree root d n site)
+  leads : (d : Direction) (n : ℕ) (site : PortPlace) → Told (LeadsFrom tree root d n site)
   leads d n site =
       let i = inside tree (opposite d) keys order in
       let o = outside tree root d i.0 i.1 keys order (is_used tree root used tells) in
@@ -61,19 +61,19 @@ module _ (tree : PackageTree ℕ) (root : ℕ) (sound : AreDeclared tree) (keys 
         tells = (λ e. leads_to tree root d i.0 i.1 o.0 n site o.1.sound e, λ l. leads_found tree root d i.0 i.1 o.0 n site (o.1.complete n) l);
       }
 
-  by_target : (n : ℕ) (wire : Wire) (s : Site) (o : Option Site) → wire.source ≡ Some s → wire.target ≡ o → Told (IsOnWay tree root n wire)
+  by_target : (n : ℕ) (wire : Wire) (s : PortPlace) (o : Option PortPlace) → wire.source ≡ Some s → wire.target ≡ o → Told (IsOnWay tree root n wire)
   by_target n wire s None e f = record { answer = false; tells = no_target tree root n wire f }
   by_target n wire s (Some t) e f =
       let a = leads directions.In n s in
       let b = leads directions.Out n t in
       record { answer = a.answer && b.answer; tells = ways_tell tree root n wire s t a.answer b.answer e f a.tells b.tells }
 
-  by_source : (n : ℕ) (wire : Wire) (o : Option Site) → wire.source ≡ o → Told (IsOnWay tree root n wire)
+  by_source : (n : ℕ) (wire : Wire) (o : Option PortPlace) → wire.source ≡ o → Told (IsOnWay tree root n wire)
   by_source n wire None e = record { answer = false; tells = no_source tree root n wire e }
   by_source n wire (Some s) e = by_target n wire s wire.target e refl
 
   -- ---- a connection
-  by_link : (n k : ℕ) (old : Option FlatFault) (o : Option (Connection ℕ)) → slice_get (connections_of (implementation_at tree n)) k ≡ o → Finds (IsFoundAt tree root n k) old
+  by_link : (n k : ℕ) (old : Option PackageFault) (o : Option (Connection ℕ)) → slice_get (connections_of (implementation_at tree n)) k ≡ o → Finds (IsFoundAt tree root n k) old
   by_link n k old None e = record { new = old; all = nothing_at tree root n k old e }
   by_link n k old (Some link) e =
       let w = wire_if tree (implementation_at tree n) k link e in
@@ -84,41 +84,41 @@ module _ (tree : PackageTree ℕ) (root : ℕ) (sound : AreDeclared tree) (keys 
         all = both_found tree root n k link w.0 e w.1 b.answer c.answer old (found (found old (dead_end b.answer link)) (second c.answer link)) b.tells c.tells refl;
       }
 
-  at_link : (n k : ℕ) (old : Option FlatFault) → Finds (IsFoundAt tree root n k) old
+  at_link : (n k : ℕ) (old : Option PackageFault) → Finds (IsFoundAt tree root n k) old
   at_link n k old = by_link n k old (slice_get (connections_of (implementation_at tree n)) k) refl
 
   -- ---- the connections of a declaration
-  in_declaration : (n : ℕ) (old : Option FlatFault) → Finds (IsFoundIn tree root n) old
+  in_declaration : (n : ℕ) (old : Option PackageFault) → Finds (IsFoundIn tree root n) old
   in_declaration n old =
       alike_found (Below (IsFoundAt tree root n) (length (connections_of (implementation_at tree n)))) (IsFoundIn tree root n) old (λ f h. (h.0, h.2))
       (λ f h. (h.0, slice_get_within (connections_of (implementation_at tree n)) h.0 h.1.link h.1.is_connection, h.1))
       (found_below (IsFoundAt tree root n) (at_link n) (length (connections_of (implementation_at tree n))) old)
 
   -- ---- the declarations in use
-  abbrev FoundAt : ℕ → FlatFault → Type 0
+  abbrev FoundAt : ℕ → PackageFault → Type 0
   FoundAt i fault = (n : ℕ) × (slice_get used i ≡ Some n) × IsFoundIn tree root n fault
 
-  by_key : (i : ℕ) (old : Option FlatFault) (o : Option ℕ) → slice_get used i ≡ o → Finds (FoundAt i) old
+  by_key : (i : ℕ) (old : Option PackageFault) (o : Option ℕ) → slice_get used i ≡ o → Finds (FoundAt i) old
   by_key i old None e = none_found (FoundAt i) old (λ f h. none-some h.0 (sym e ∙ h.1))
   by_key i old (Some n) e =
       alike_found (IsFoundIn tree root n) (FoundAt i) old (λ f h. (n, e, h)) (λ f h. other f h.0 h.1 h.2) (in_declaration n old)
     where
-      other : (f : FlatFault) (m : ℕ) → slice_get used i ≡ Some m → IsFoundIn tree root m f → IsFoundIn tree root n f
+      other : (f : PackageFault) (m : ℕ) → slice_get used i ≡ Some m → IsFoundIn tree root m f → IsFoundIn tree root n f
       other f m g h = subst (λ (x : ℕ). IsFoundIn tree root x f) (same_Some m n (sym g ∙ e)) h
 
-  at_key : (i : ℕ) (old : Option FlatFault) → Finds (FoundAt i) old
+  at_key : (i : ℕ) (old : Option PackageFault) → Finds (FoundAt i) old
   at_key i old = by_key i old (slice_get used i) refl
 
-  to_end : (f : FlatFault) → Below FoundAt (length used) f → IsEndFault tree root f
+  to_end : (f : PackageFault) → Below FoundAt (length used) f → IsEndFault tree root f
   to_end f (i, lt, (n, e, h)) = end_fault tree root sound n f ((tells n).0 (Contains-from_slice_get used i n e)) h
 
-  from_end : (f : FlatFault) → IsEndFault tree root f → Below FoundAt (length used) f
+  from_end : (f : PackageFault) → IsEndFault tree root f → Below FoundAt (length used) f
   from_end f x =
       let h = found_fault tree root sound f x in
       let c = (tells h.0).1 h.1 in
       (c.0, c.1, (h.0, slice_get-from_Contains used h.0 c, h.2))
 
-  pub first_end : (o : Option FlatFault) × FirstIn (IsEndFault tree root) o
+  pub first_end : (o : Option PackageFault) × FirstIn (IsEndFault tree root) o
   first_end =
       first_in (IsEndFault tree root)
       (alike_found (Below FoundAt (length used)) (IsEndFault tree root) None to_end from_end (found_below FoundAt at_key (length used) None))

@@ -11,7 +11,7 @@ use Rattle.pals_base.specs.declared.limits.TheConstants.{HOUR, RATE}
 use Rattle.pals_base.specs.Bound.{least_period}
 use Rattle.pals_model.specs.Rules.{IsGamma}
 use Rattle.component_checks.specs.Numbers.{not_zero, in_order, skew_of, range_of, divides, is_rate, rate_of, gamma_by}
-use Rattle.component_checks.specs.Rates.{bound_findings, period_findings, and_number}
+use Rattle.component_checks.specs.Rates.{bound_findings, period_findings, name_and_number}
 use Rattle.annex_resolve.specs.declared.violation.TheConstants.{NOT_DIVISOR, RATE_TOO_HIGH, PERIOD_TOO_SHORT}
 use Rattle.annex_resolve.specs.Scopes.{finding, found_if}
 use Rattle.design_laws.proofs.Tests.{not_wrong}
@@ -134,11 +134,11 @@ factor_is_some p zero t some e = absurd (omega (arith, some, e))
 factor_is_some p (suc n) t some e = omega arith
 
 rate_by : (at : ℕ) (path : List ℕ) (t p : ℕ) → 1 ≤ t → (d : Bool) → divides p t ≡ d
-    → cond d (found_if (nat_lt RATE (t / p)) at RATE_TOO_HIGH (and_number path (t / p)))
-    (finding at NOT_DIVISOR (and_number (and_number path p) t) ∷ []) ≡ []
+    → cond d (found_if (nat_lt RATE (t / p)) at RATE_TOO_HIGH (name_and_number path (t / p)))
+    (finding at NOT_DIVISOR (name_and_number (name_and_number path p) t) ∷ []) ≡ []
     → cond ((d && nat_le 1 (t / p)) && nat_le (t / p) RATE) (Some (t / p)) None ≡ Some (t / p)
 rate_by at path t p some true h none =
-    let high = ltb-false RATE (t / p) (not_wrong (nat_lt RATE (t / p)) at RATE_TOO_HIGH (and_number path (t / p)) none) in
+    let high = ltb-false RATE (t / p) (not_wrong (nat_lt RATE (t / p)) at RATE_TOO_HIGH (name_and_number path (t / p)) none) in
     let low = factor_is_some p (t / p) t some (divides_by p t h) in
     ap (λ b. cond b (Some (t / p)) None) (and_from (nat_le 1 (t / p)) (nat_le (t / p) RATE) (le-leb 1 (t / p) low) (le-leb (t / p) RATE high))
 rate_by at path t p some false h none = absurd (cc none)

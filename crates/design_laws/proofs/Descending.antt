@@ -4,8 +4,8 @@ use Rattle.std.proofs.lemmas.Bool.{true≢false}
 use Rattle.std.proofs.lemmas.List.{reverse-reverse}
 use Rattle.std.specs.Option.{option_and_then}
 use Rattle.aadl_tree.specs.Declarations.{Implementation, PackageTree}
-use Rattle.aadl_names.specs.declared.site.Site.{Site}
-use Rattle.aadl_names.specs.declared.site.Site.TheVariants.{Own}
+use Rattle.aadl_names.specs.declared.site.PortPlace.{PortPlace}
+use Rattle.aadl_names.specs.declared.site.PortPlace.TheVariants.{Own}
 use Rattle.aadl_names.specs.Resolving.{implementation_at}
 use Rattle.aadl_uses.specs.Uses.{standing}
 use Rattle.aadl_uses.specs.proof.Uses.{containment}
@@ -42,15 +42,15 @@ module _ (tree : PackageTree ℕ) (root : ℕ) (sound : AreDeclared tree) (one :
   Ends fuel = (end : Port) (path : List ℕ) (here out : ℕ) → rank keys here < fuel → Descending tree root end path here out → Gives tree root end
 
   by_inner : (fuel : ℕ) → Ends fuel → (end : Port) (path : List ℕ) (here out : ℕ) → rank keys here < suc fuel → Descending tree root end path here out
-      → (k : ℕ) (source : Site) → into tree here (Own out) ≡ Some (k, source) → Gives tree root end
+      → (k : ℕ) (source : PortPlace) → into tree here (Own out) ≡ Some (k, source) → Gives tree root end
   by_inner fuel rest end path here out less d k source e =
       let i = inner_of tree sound here out k source d.goes_out e in
       let falls = rank_falls tree keys order here i.0 i.2 i.4 in
       rest end (path ++ i.0 ∷ []) i.2 i.1 (omega arith)
-      (descend_more tree root sound one end path here out k i.0 i.1 i.2 (e ∙ ap (λ (s : Site). Some (k, s)) i.3) i.4 d)
+      (descend_more tree root sound one end path here out k i.0 i.1 i.2 (e ∙ ap (λ (s : PortPlace). Some (k, s)) i.3) i.4 d)
 
   by_into : (fuel : ℕ) → Ends fuel → (end : Port) (path : List ℕ) (here out : ℕ) → rank keys here < suc fuel → is_thread_at tree here ≡ false
-      → Descending tree root end path here out → (o : Option (ℕ × Site)) → into tree here (Own out) ≡ o → Gives tree root end
+      → Descending tree root end path here out → (o : Option (ℕ × PortPlace)) → into tree here (Own out) ≡ o → Gives tree root end
   by_into fuel rest end path here out less thread d None e = inr (descend_none tree root sound one end path here out thread e d)
   by_into fuel rest end path here out less thread d (Some (k, source)) e = by_inner fuel rest end path here out less d k source e
 

@@ -10,9 +10,9 @@ use Rattle.std.proofs.lemmas.Slice.Eq.{bytes_eq-Decides}
 use Rattle.list_lemmas.proofs.Elements.{AllByRecursion-weaker}
 use Rattle.list_lemmas.proofs.Booleans.{or_false_left, or_false_right}
 use Rattle.list_lemmas.proofs.Lists.{append_is_nil_left, append_is_nil_right}
-use Rattle.aadl_names.specs.declared.fault.FlatFault.{FlatFault}
-use Rattle.aadl_names.specs.declared.fault.FlatFault.TheVariants.{Twice}
-use Rattle.aadl_names.specs.declared.entry.Entry.{Entry}
+use Rattle.aadl_names.specs.declared.fault.PackageFault.{PackageFault}
+use Rattle.aadl_names.specs.declared.fault.PackageFault.TheVariants.{Twice}
+use Rattle.aadl_names.specs.declared.entry.SpelledName.{SpelledName}
 use Rattle.aadl_names.specs.Twice.{again, twice}
 use Rattle.design_laws.proofs.Placed.{Pairs}
 
@@ -40,14 +40,14 @@ where_true true xs is e = e
 where_true false xs is e = absurd (false≢true is)
 
 -- ---- each with each
-abbrev clash : Entry → Entry → Bool
+abbrev clash : SpelledName → SpelledName → Bool
 clash x y = same_name x.name y.name && nat_lt y.at x.at
 
-none_by : (b : Bool) (fault : FlatFault) → cond b (fault ∷ []) [] ≡ [] → b ≡ false
+none_by : (b : Bool) (fault : PackageFault) → cond b (fault ∷ []) [] ≡ [] → b ≡ false
 none_by true fault e = absurd (cc e)
 none_by false fault e = refl
 
-none_clashes : (xs : List Entry) → twice xs ≡ [] → AllByRecursion (λ x. AllByRecursion (λ y. clash x y ≡ false) xs) xs
+none_clashes : (xs : List SpelledName) → twice xs ≡ [] → AllByRecursion (λ x. AllByRecursion (λ y. clash x y ≡ false) xs) xs
 none_clashes xs e =
     AllByRecursion-weaker (λ x. again xs x ≡ []) (λ x. AllByRecursion (λ y. clash x y ≡ false) xs)
     (λ x none. all_false (clash x) xs (none_by (list_any (clash x) xs) (Twice x.name x.at) none)) xs (all_none (again xs) xs e)
@@ -83,13 +83,13 @@ differ_by p q true true turned f g apart = absurd (apart (earlier p q f g))
 differ_by p q true false turned f g apart = absurd (false≢true (turned refl))
 differ_by p q false b turned f g apart = refl
 
-abbrev pub Apart : Entry → Entry → Type 0
+abbrev pub Apart : SpelledName → SpelledName → Type 0
 Apart x y = x.at ≢ y.at
 
-abbrev pub Differs : Entry → Entry → Type 0
+abbrev pub Differs : SpelledName → SpelledName → Type 0
 Differs x y = same_name x.name y.name ≡ false
 
-pub names_differ : (xs : List Entry) → twice xs ≡ [] → Pairs Apart xs → Pairs Differs xs
+pub names_differ : (xs : List SpelledName) → twice xs ≡ [] → Pairs Apart xs → Pairs Differs xs
 names_differ xs none apart =
     pairs_joined (λ x y. (clash x y ≡ false) × (clash y x ≡ false)) Apart Differs
     (λ x y no away. differ_by x.at y.at (same_name x.name y.name) (same_name y.name x.name) (same_turned x.name y.name) no.0 no.1 away)

@@ -26,7 +26,7 @@ use Rattle.model_violations.specs.Ports.{thread_in, flat, end_kind, end_rate}
 use Rattle.model_violations.specs.Values as values
 use Rattle.model_violations.specs.Values.{ins_in, outs_in, named_of}
 use Rattle.model_violations.specs.Threads.{first_annex, behaviour_by, behaviour_in}
-use Rattle.design_laws.proofs.Ruling.{ThreadIs}
+use Rattle.design_laws.proofs.ThreadBehaviours.{ThreadIs}
 use Rattle.design_laws.proofs.Matching.{Zipped, zipped_at}
 use Rattle.design_laws.proofs.Porting.{kept_at, IsNode, is_node}
 

@@ -20,7 +20,7 @@ use Rattle.aadl_tree.specs.declared.expressions.MultiplyOperator.TheVariants as 
 use Rattle.aadl_tree.specs.Expressions.{Primary, number, truth, named, group, Factor, absolute, negated, bare, Term, term, Factors, no_factors, factor, Sum, total, Terms, no_terms, add, Relation, single, compared, Expression, expression, Relations, no_relations, join}
 use Rattle.aadl_tree.specs.Offsets.{primary_at, factor_at, term_at, sum_at, relation_at}
 use Rattle.annex_resolve.specs.declared.scope.Scope.{Scope}
-use Rattle.annex_resolve.specs.declared.scope.Entry.{Entry}
+use Rattle.annex_resolve.specs.declared.scope.DeclaredName.{DeclaredName}
 use Rattle.annex_resolve.specs.declared.scope.Meaning.{Meaning}
 use Rattle.annex_resolve.specs.declared.scope.Meaning.TheVariants.{InPort, OutPort, Variable, LoopVariable}
 use Rattle.annex_resolve.specs.declared.violation.TheConstants.{BAD_TYPE}
@@ -105,7 +105,7 @@ fresh_sound b loops (OutPort n) kind fit h = absurd (false≢true h)
 fresh_sound b loops (Variable n) kind fit h = absurd (false≢true h)
 fresh_sound b loops (LoopVariable n) kind fit h = absurd (false≢true h)
 
-read_sound : (b : BehaviourParts) (loops : ℕ) (fresh : Bool) (o : Option Entry) → ((e : Entry) → o ≡ Some e → FitsMeaning b loops e.meaning e.kind) → is_some (read_of fresh o) ≡ true
+read_sound : (b : BehaviourParts) (loops : ℕ) (fresh : Bool) (o : Option DeclaredName) → ((e : DeclaredName) → o ≡ Some e → FitsMeaning b loops e.meaning e.kind) → is_some (read_of fresh o) ≡ true
     → Has b loops (read_kind fresh o) (or_zero (read_of fresh o))
 read_sound b loops fresh None fit h = absurd (false≢true h)
 read_sound b loops true (Some e) fit h = (Boolean, refl, fresh_sound b loops e.meaning e.kind (fit e refl) h)
@@ -123,7 +123,7 @@ module _ (b : BehaviourParts) (loops : ℕ) (scope : Scope) (fit : FitsScope b l
     primary_sound (number at n) e = (Integer, refl, refl)
     primary_sound (truth at v) e = truth_has v
     primary_sound (named x fresh) e =
-        read_sound b loops fresh (entry_named scope x.spelling) (λ (k : Entry) is. fit.entries x.spelling k is) (is_right (is_some (read_of fresh (entry_named scope x.spelling))) x.at BAD_TYPE [] e)
+        read_sound b loops fresh (entry_named scope x.spelling) (λ (k : DeclaredName) is. fit.entries x.spelling k is) (is_right (is_some (read_of fresh (entry_named scope x.spelling))) x.at BAD_TYPE [] e)
     primary_sound (group at x) e = expression_sound x e
 
     pub factor_sound : (x : Factor ℕ) → factor_types scope x ≡ [] → Has b loops (factor_kind scope x) (factor_of scope x)

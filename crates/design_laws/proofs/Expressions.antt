@@ -6,7 +6,7 @@ use Rattle.aadl_tree.specs.Parts.{token, plain, parts_if}
 use Rattle.aadl_tree.specs.Names.{Identifier, identifier_parts}
 use Rattle.aadl_tree.specs.Values.{sign_mark}
 use Rattle.aadl_tree.specs.Expressions as e
-use Rattle.aadl_names.specs.declared.fault.FlatFault.TheVariants.{Unknown, WrongKind}
+use Rattle.aadl_names.specs.declared.fault.PackageFault.TheVariants.{Unknown, WrongKind}
 use Rattle.aadl_names.specs.declared.role.Role.{Role}
 use Rattle.aadl_names.specs.declared.role.Usage.{Usage}
 use Rattle.aadl_names.specs.AnnexNames.{Known, allows, use_as, uses, reading, primary_uses, factor_uses, term_uses, factors_uses, sum_uses}

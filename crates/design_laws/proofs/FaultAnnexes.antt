@@ -15,8 +15,8 @@ use Rattle.aadl_tree.specs.Annexes.{foreign, behaviour, Annex, variable_parts, s
 use Rattle.aadl_tree.specs.Annexes.{declared_parts, annex_tree_parts, content_parts, annex_parts}
 use Rattle.aadl_tree.specs.Actions.{block_parts}
 use Rattle.aadl_tree.specs.Declarations.{Implementation, PackageTree}
-use Rattle.aadl_names.specs.declared.fault.FlatFault.{FlatFault}
-use Rattle.aadl_names.specs.declared.fault.FlatFault.TheVariants.{Unknown, Twice}
+use Rattle.aadl_names.specs.declared.fault.PackageFault.{PackageFault}
+use Rattle.aadl_names.specs.declared.fault.PackageFault.TheVariants.{Unknown, Twice}
 use Rattle.aadl_names.specs.Spelling.{spelled_name}
 use Rattle.aadl_names.specs.Behaviours.{states_of}
 use Rattle.aadl_names.specs.AnnexNames.{Known}
@@ -26,8 +26,8 @@ use Rattle.design_laws.proofs.Clear.{Clear, clear_none, clear_one, clear_front, 
 use Rattle.design_laws.proofs.Clear.{clear_four, clear_turned}
 use Rattle.design_laws.proofs.Expressions.{expression_clear}
 use Rattle.design_laws.proofs.Actions.{block_clear}
-use Rattle.design_laws.proofs.Possible.{of_identifier, of_identifiers, of_association, of_associations, of_variable, of_state, of_tree, of_content}
-use Rattle.design_laws.proofs.Possible.{of_annex}
+use Rattle.design_laws.proofs.PossibleNameFaults.{of_identifier, of_identifiers, of_association, of_associations, of_variable, of_state, of_tree, of_content}
+use Rattle.design_laws.proofs.PossibleNameFaults.{of_annex}
 
 -- ---- names and properties
 pub identifier_clear : (x : Identifier ℕ) → Clear (identifier_parts x) (of_identifier x)
@@ -58,7 +58,7 @@ variable_clear x = clear_append (identifiers_clear x.names) (clear_tail {p = pla
 state_clear : (x : StateDeclaration ℕ) → Clear (state_parts x) (of_state x)
 state_clear x = clear_front (plain k.Colon ∷ _) (identifiers_clear x.names)
 
-declared_clear : {V : Type 0} (m : Mark) (f : V → List (Part ℕ)) (g : V → List FlatFault) → ((v : V) → Clear (f v) (g v)) → (o : Option (List V))
+declared_clear : {V : Type 0} (m : Mark) (f : V → List (Part ℕ)) (g : V → List PackageFault) → ((v : V) → Clear (f v) (g v)) → (o : Option (List V))
     → Clear (parts_if (declared_parts m f) o) (flat_map g (listed_in o))
 declared_clear m f g each None = clear_none []
 declared_clear m f g each (Some vs) = clear_tail {p = plain m} (clear_flat f g each vs)
@@ -98,7 +98,7 @@ behaviour_clear tree x annex =
     (transition_clear (is_among (states_of annex)) (known_in tree x annex)) annex.transitions
 
 -- ---- annexes
-module _ (transitions : AnnexTree ℕ → List FlatFault) (each : (x : AnnexTree ℕ) → Clear (transitions_of x) (transitions x)) where
+module _ (transitions : AnnexTree ℕ → List PackageFault) (each : (x : AnnexTree ℕ) → Clear (transitions_of x) (transitions x)) where
   tree_clear : (x : AnnexTree ℕ) → Clear (annex_tree_parts x) (of_tree transitions x)
   tree_clear x = clear_append (declared_clear k.Variables variable_parts of_variable variable_clear x.variables)
       (clear_append (declared_clear k.States state_parts of_state state_clear x.states) (each x))

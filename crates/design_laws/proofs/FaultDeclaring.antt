@@ -12,14 +12,14 @@ use Rattle.aadl_tree.specs.Declarations.{Feature, Subcomponent, ConnectionEnd, C
 use Rattle.aadl_tree.specs.Declarations.{implementation, PackageTree, category_mark, direction_mark, feature_parts}
 use Rattle.aadl_tree.specs.Declarations.{subcomponent_parts, end_parts, connection_parts, ending_parts, type_parts, implementation_name_parts}
 use Rattle.aadl_tree.specs.Declarations.{implementation_parts, declaration_parts, with_parts, package_parts}
-use Rattle.aadl_names.specs.declared.fault.FlatFault.TheVariants.{Unknown, Twice}
+use Rattle.aadl_names.specs.declared.fault.PackageFault.TheVariants.{Unknown, Twice}
 use Rattle.aadl_names.specs.Spelling.{spelled_reference, spelled_implementation, spelled_end}
 use Rattle.aadl_names.specs.PackageFaults.{behaviour_faults, reference_at, unknown_reference, unknown_end}
 use Rattle.aadl_names.proofs.Elements.{is_here}
 use Rattle.aadl_names.specs.proof.Orders.{places_of}
 use Rattle.design_laws.proofs.Clear.{Clear, clear_none, clear_one, clear_front, clear_back, clear_tail, clear_section, clear_append, clear_flat}
-use Rattle.design_laws.proofs.Possible.{of_feature, of_subcomponent, of_connection, of_annex, none_of, of_type, of_implementation, of_declaration}
-use Rattle.design_laws.proofs.Possible.{possible}
+use Rattle.design_laws.proofs.PossibleNameFaults.{of_feature, of_subcomponent, of_connection, of_annex, none_of, of_type, of_implementation, of_declaration}
+use Rattle.design_laws.proofs.PossibleNameFaults.{possible}
 use Rattle.design_laws.proofs.FaultAnnexes.{identifier_clear, associations_clear, properties_clear, transitions_of, behaviour_clear, annex_clear}
 
 -- ---- what a subcomponent and a connection refer to

@@ -6,8 +6,8 @@ use Rattle.std.proofs.lemmas.Option.{same_Some}
 use Rattle.list_lemmas.proofs.Places.{Contains-from_slice_get}
 use Rattle.aadl_tree.specs.Names.{Identifier}
 use Rattle.aadl_tree.specs.Declarations.{Subcomponent, Connection, Declaration, type, implementation, PackageTree, package_parts}
-use Rattle.aadl_names.specs.declared.fault.FlatFault.{FlatFault}
-use Rattle.aadl_names.specs.declared.fault.FlatFault.TheVariants.{Twice, Recursive, DeadEnd, TwoSources, TooMany}
+use Rattle.aadl_names.specs.declared.fault.PackageFault.{PackageFault}
+use Rattle.aadl_names.specs.declared.fault.PackageFault.TheVariants.{Twice, Recursive, DeadEnd, TwoSources, TooMany}
 use Rattle.aadl_names.specs.Findings.{place_of, number_of, IsFirstByLine}
 use Rattle.aadl_names.specs.Resolving.{implementation_in, subcomponents_of, connections_of}
 use Rattle.aadl_uses.specs.Uses.{IsRecursive}
@@ -15,7 +15,7 @@ use Rattle.aadl_chains.specs.Chains.{IsEndFault}
 use Rattle.aadl_instance.specs.Faults.{IsOver, FoundIn, Found, IsFault}
 use Rattle.aadl_instance.proofs.First.{one_by_line}
 use Rattle.design_laws.proofs.Placed.{Rise}
-use Rattle.design_laws.proofs.Possible.{possible}
+use Rattle.design_laws.proofs.PossibleNameFaults.{possible}
 use Rattle.design_laws.proofs.FaultDeclaring.{possible_clear}
 use Rattle.design_laws.proofs.Again.{again_of, in_package, subcomponent_has, connection_has}
 use Rattle.design_laws.proofs.Findings.{one_finding}
@@ -70,7 +70,7 @@ module _ (tree : PackageTree ℕ) (rise : Rise (package_parts tree)) where
       let one : Twice x.spelling x.at ≡ Twice y.spelling y.at = (possible_clear tree).single rise (again_of x) (again_of y) h k at in
       cc one
 
-  same_named : (kind : List ℕ → ℕ → FlatFault) → ((name : List ℕ) (at : ℕ) → place_of (kind name at) ≡ at) → (x y : Identifier ℕ) (a b : FlatFault)
+  same_named : (kind : List ℕ → ℕ → PackageFault) → ((name : List ℕ) (at : ℕ) → place_of (kind name at) ≡ at) → (x y : Identifier ℕ) (a b : PackageFault)
       → Contains (possible tree) (again_of x) → Contains (possible tree) (again_of y) → a ≡ kind x.spelling x.at → b ≡ kind y.spelling y.at
       → place_of a ≡ place_of b → a ≡ b
   same_named kind placed x y a b h k is_a is_b place =
@@ -92,13 +92,13 @@ module _ (tree : PackageTree ℕ) (rise : Rise (package_parts tree)) where
   connection_by n c link (Some (implementation x)) e is = in_package tree (implementation x) (again_of link.name)
       (Contains-from_slice_get tree.declarations n (implementation x) e) (connection_has tree x link (Contains-from_slice_get x.connections c link is))
 
-  one_recursive : (a b : FlatFault) → IsRecursive tree a → IsRecursive tree b → place_of a ≡ place_of b → a ≡ b
+  one_recursive : (a b : PackageFault) → IsRecursive tree a → IsRecursive tree b → place_of a ≡ place_of b → a ≡ b
   one_recursive a b x y place =
       same_named Recursive (λ name at. refl) x.0.name y.0.name a b
       (sub_by x.1.within x.1.number x.0 (slice_get tree.declarations x.1.within) refl x.1.is_sub)
       (sub_by y.1.within y.1.number y.0 (slice_get tree.declarations y.1.within) refl y.1.is_sub) x.2 y.2 place
 
-  one_end : (root : ℕ) (a b : FlatFault) → IsEndFault tree root a → IsEndFault tree root b → place_of a ≡ place_of b → number_of a ≡ number_of b
+  one_end : (root : ℕ) (a b : PackageFault) → IsEndFault tree root a → IsEndFault tree root b → place_of a ≡ place_of b → number_of a ≡ number_of b
       → a ≡ b
   one_end root a b (inl x) (inl y) place number =
       same_named DeadEnd (λ name at. refl) x.0.name y.0.name a b
@@ -112,7 +112,7 @@ module _ (tree : PackageTree ℕ) (rise : Rise (package_parts tree)) where
       (connection_by y.1.number y.1.connection y.0 (slice_get tree.declarations y.1.number) refl y.1.is_connection) x.2 y.2 place
 
   -- ---- what is found in one line
-  one_in : (root line : ℕ) (a b : FlatFault) → FoundIn tree root line a → FoundIn tree root line b → place_of a ≡ place_of b
+  one_in : (root line : ℕ) (a b : PackageFault) → FoundIn tree root line a → FoundIn tree root line b → place_of a ≡ place_of b
       → number_of a ≡ number_of b → a ≡ b
   one_in root line a b (inl x) (inl y) place number = one_finding tree rise root a b x.1 y.1 place number
   one_in root line a b (inr (inl x)) (inr (inl y)) place number = one_recursive a b x.1 y.1 place
@@ -134,7 +134,7 @@ module _ (tree : PackageTree ℕ) (rise : Rise (package_parts tree)) where
   one_in root line a b (inr (inr (inr x))) (inr (inr (inl y))) place number =
       absurd (early_late 4 line (omega arith) y.0 (over_line tree root line x.0 x.1))
 
-  one_found : (name : List ℕ) (line : ℕ) (a b : FlatFault) → Found tree name line a → Found tree name line b → place_of a ≡ place_of b
+  one_found : (name : List ℕ) (line : ℕ) (a b : PackageFault) → Found tree name line a → Found tree name line b → place_of a ≡ place_of b
       → number_of a ≡ number_of b → a ≡ b
   one_found name line a b (inl x) (inl y) place number = x.2 ∙ sym y.2
   one_found name line a b (inl x) (inr y) place number = absurd (cc (sym x.1 ∙ y.1))
@@ -144,13 +144,13 @@ module _ (tree : PackageTree ℕ) (rise : Rise (package_parts tree)) where
       one_in y.0 line a b (subst (λ root. FoundIn tree root line a) same x.2) y.2 place number
 
 -- ---- first faults
-line_by : (Found : ℕ → FlatFault → Type 0) (a b : FlatFault) (x : IsFirstByLine Found a) (y : IsFirstByLine Found b)
+line_by : (Found : ℕ → PackageFault → Type 0) (a b : PackageFault) (x : IsFirstByLine Found a) (y : IsFirstByLine Found b)
     → (x.line ≡ y.line) ⊎ ((x.line < y.line) ⊎ (y.line < x.line)) → x.line ≡ y.line
 line_by Found a b x y (inl e) = e
 line_by Found a b x y (inr (inl less)) = absurd (y.none_before x.line a less x.here.found)
 line_by Found a b x y (inr (inr less)) = absurd (x.none_before y.line b less y.here.found)
 
-pub one_fault : (tree : PackageTree ℕ) → Rise (package_parts tree) → (name : List ℕ) (a b : FlatFault) → IsFault tree name a → IsFault tree name b
+pub one_fault : (tree : PackageTree ℕ) → Rise (package_parts tree) → (name : List ℕ) (a b : PackageFault) → IsFault tree name a → IsFault tree name b
     → a ≡ b
 one_fault tree rise name a b x y =
     let same = one_by_line (Found tree name) a b x y in

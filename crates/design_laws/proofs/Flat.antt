@@ -2,7 +2,7 @@
 use Rattle.std.proofs.Common.{◌≡◌, ◌⊎◌, inl, inr, ℕ, List, map, reverse, false, refl, arith}
 use Rattle.std.proofs.lemmas.List.{length-map}
 use Rattle.aadl_tree.specs.Declarations.{PackageTree}
-use Rattle.aadl_names.specs.declared.fault.FlatFault.TheVariants.{TooMany}
+use Rattle.aadl_names.specs.declared.fault.PackageFault.TheVariants.{TooMany}
 use Rattle.aadl_uses.specs.proof.Uses.{containment, targets_in}
 use Rattle.aadl_uses.specs.Threads.{Lists, IsThreadAt, PathBefore}
 use Rattle.aadl_uses.specs.proof.Threads.{thread_marks}

@@ -11,11 +11,11 @@ use Rattle.aadl_tree.specs.Values.{Associations}
 use Rattle.aadl_tree.specs.Annexes.{VariableDeclaration, AnnexTree, AnnexContent, foreign, behaviour, Annex}
 use Rattle.aadl_tree.specs.Declarations.{Feature, Subcomponent, ConnectionEnd, Connection, TypeDeclaration, Implementation, Declaration, type}
 use Rattle.aadl_tree.specs.Declarations.{implementation, PackageTree}
-use Rattle.aadl_names.specs.declared.fault.FlatFault.{FlatFault}
-use Rattle.aadl_names.specs.declared.fault.FlatFault.TheVariants.{Twice}
-use Rattle.aadl_names.specs.declared.holder.Holder.{Holder}
-use Rattle.aadl_names.specs.declared.holder.Holder.TheVariants as holders
-use Rattle.aadl_names.specs.declared.site.Site.{Site}
+use Rattle.aadl_names.specs.declared.fault.PackageFault.{PackageFault}
+use Rattle.aadl_names.specs.declared.fault.PackageFault.TheVariants.{Twice}
+use Rattle.aadl_names.specs.declared.holder.PropertyHolder.{PropertyHolder}
+use Rattle.aadl_names.specs.declared.holder.PropertyHolder.TheVariants as holders
+use Rattle.aadl_names.specs.declared.site.PortPlace.{PortPlace}
 use Rattle.aadl_names.specs.Behaviours.{behaviour_in, behaviours}
 use Rattle.aadl_names.specs.Resolving.{target_of, is_thread}
 use Rattle.aadl_names.specs.Properties.{listed, association_name, association_at, counts, counted, misshapen, association_entry, shape_fault}
@@ -25,12 +25,12 @@ use Rattle.aadl_names.proofs.Elements.{is_here, among_all}
 use Rattle.design_laws.proofs.Covering.{from_filter, from_filter_map, Covered, covered_among, covered_none, covered_itself, covered_kind, covered_wrong}
 use Rattle.design_laws.proofs.Covering.{covered_kinds, covered_append, covered_front, covered_back, covered_if, covered_each}
 use Rattle.design_laws.proofs.Covering.{covered_flat, named_map, covered_twice}
-use Rattle.design_laws.proofs.Possible.{of_identifier, of_identifiers, of_association, of_associations, of_variable, of_state, of_tree, of_content}
-use Rattle.design_laws.proofs.Possible.{of_annex, of_feature, of_subcomponent, of_connection, none_of, of_type, of_implementation, of_declaration}
-use Rattle.design_laws.proofs.Possible.{possible}
+use Rattle.design_laws.proofs.PossibleNameFaults.{of_identifier, of_identifiers, of_association, of_associations, of_variable, of_state, of_tree, of_content}
+use Rattle.design_laws.proofs.PossibleNameFaults.{of_annex, of_feature, of_subcomponent, of_connection, none_of, of_type, of_implementation, of_declaration}
+use Rattle.design_laws.proofs.PossibleNameFaults.{possible}
 
 -- ---- properties
-list_covered : (holder : Holder) (xs : Associations ℕ) → Covered (list_faults holder xs) (of_associations xs)
+list_covered : (holder : PropertyHolder) (xs : Associations ℕ) → Covered (list_faults holder xs) (of_associations xs)
 list_covered holder xs =
     covered_append (covered_each (shape_fault holder) (listed xs) (of_associations xs) (λ x there. covered_if (counts x)
     (covered_wrong (misshapen holder x) (association_at x) (of_associations xs)) (covered_none (of_associations xs))))
@@ -56,7 +56,7 @@ subcomponent_covered tree outer sub =
     (covered_back (of_identifier sub.name) (covered_back (p.unknown_reference sub.classifier)
     (list_covered (holders.Subcomponent sub.category) sub.properties)))
 
-end_covered : (may : Site × Option Direction → Bool) (end : ConnectionEnd ℕ) (at : ℕ) (port : Option (Site × Option Direction))
+end_covered : (may : PortPlace × Option Direction → Bool) (end : ConnectionEnd ℕ) (at : ℕ) (port : Option (PortPlace × Option Direction))
     → Covered (p.end_faults may end at port) (p.unknown_end end)
 end_covered may end at None = covered_itself (p.unknown_end end)
 end_covered may end at (Some port) = covered_wrong (not (may port)) at (p.unknown_end end)
@@ -77,7 +77,7 @@ connection_covered tree x c =
 variable_covered : (x : VariableDeclaration ℕ) → Covered (p.variable_faults x) (of_variable x)
 variable_covered x = covered_back (of_identifiers x.names) (list_covered holders.Variable x.properties)
 
-module _ (transitions : AnnexTree ℕ → List FlatFault) where
+module _ (transitions : AnnexTree ℕ → List PackageFault) where
   variables_by : (at : ℕ) (language : Identifier ℕ) (content : AnnexContent ℕ)
       → Covered (p.variables_faults (record { at = at; language = language; content = content })) (of_content transitions content)
   variables_by at language (foreign bytes) = covered_none []
@@ -87,7 +87,7 @@ module _ (transitions : AnnexTree ℕ → List FlatFault) where
   variables_covered : (x : Annex ℕ) → Covered (p.variables_faults x) (of_annex transitions x)
   variables_covered x = variables_by x.at x.language x.content
 
-  content_has : (at : ℕ) (language : Identifier ℕ) (content : AnnexContent ℕ) (b : ℕ × AnnexTree ℕ) (f : FlatFault)
+  content_has : (at : ℕ) (language : Identifier ℕ) (content : AnnexContent ℕ) (b : ℕ × AnnexTree ℕ) (f : PackageFault)
       → behaviour_in (record { at = at; language = language; content = content }) ≡ Some b → Contains (of_tree transitions b.1) f
       → Contains (of_content transitions content) f
   content_has at language (foreign bytes) b f e h = absurd (cc e)
@@ -95,19 +95,19 @@ module _ (transitions : AnnexTree ℕ → List FlatFault) where
       let same : (at, x) ≡ b = same_Some (at, x) b e in
       subst (λ (c : ℕ × AnnexTree ℕ). Contains (of_tree transitions c.1) f) (sym same) h
 
-  pub behaviour_has : (xs : List (Annex ℕ)) (b : ℕ × AnnexTree ℕ) (f : FlatFault) → Contains (behaviours xs) b → Contains (of_tree transitions b.1) f
+  pub behaviour_has : (xs : List (Annex ℕ)) (b : ℕ × AnnexTree ℕ) (f : PackageFault) → Contains (behaviours xs) b → Contains (of_tree transitions b.1) f
       → Contains (flat_map (of_annex transitions) xs) f
   behaviour_has xs b f there h =
       let from = from_filter_map behaviour_in xs b there in
       among_all (of_annex transitions) xs from.0 f from.1 (content_has from.0.at from.0.language from.0.content b f from.2 h)
 
-stray_by : (at : ℕ) (language : Identifier ℕ) (content : AnnexContent ℕ) (ps : List FlatFault)
+stray_by : (at : ℕ) (language : Identifier ℕ) (content : AnnexContent ℕ) (ps : List PackageFault)
     → Covered (p.stray_faults (record { at = at; language = language; content = content })) ps
 stray_by at language (foreign bytes) ps = covered_none ps
 stray_by at language (behaviour x) ps = covered_kind at ps
 
 module _ (tree : PackageTree ℕ) (x : Implementation ℕ) where
-  annexes : List FlatFault
+  annexes : List PackageFault
   annexes = flat_map (of_annex (p.behaviour_faults tree x)) x.annexes
 
   first_covered : (b : ℕ × AnnexTree ℕ) → Contains (behaviours x.annexes) b → Covered (p.behaviour_faults tree x b.1) annexes

@@ -14,7 +14,7 @@ use Rattle.aadl_chains.specs.proof.Walks.{OneEach}
 use Rattle.aadl_instance.specs.declared.build.Incoming.{Incoming}
 use Rattle.aadl_instance.specs.Instances.{chain_in}
 use Rattle.aadl_instance.specs.proof.Passed.{AreInto}
-use Rattle.aadl_instance.proofs.Passing.{into_start, into_thread, into_skip, into_link, into_feed, links_whole, feeds_whole, thread_listed}
+use Rattle.aadl_instance.proofs.PortByPort.{into_start, into_thread, into_skip, into_link, into_feed, links_whole, feeds_whole, thread_listed}
 use Rattle.aadl_instance.proofs.Adding.{out_added}
 use Rattle.aadl_instance.proofs.Shown.{stands}
 use Rattle.design_laws.proofs.Tracing.{Comes, NoneComes, comes}

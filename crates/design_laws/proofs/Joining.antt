@@ -36,7 +36,7 @@ use Rattle.design_laws.proofs.Matching.{Zipped, Made, all_made, zipped_length, a
 use Rattle.design_laws.proofs.Ending.{Sits}
 use Rattle.design_laws.proofs.Linking.{not_root, end_goes_in, link_joins, feed_joins, tap_joins, link_of, feed_of, tap_of, link_is, feed_is}
 use Rattle.design_laws.proofs.Linking.{tap_is, in_kind_is}
-use Rattle.design_laws.proofs.Keeping.{link_keeps, feed_keeps, tap_keeps}
+use Rattle.design_laws.proofs.SoundLinks.{link_keeps, feed_keeps, tap_keeps}
 use Rattle.design_laws.proofs.Ordering.{InPort, other_target, targets_rise, one_port, other_name, one_named}
 use Rattle.design_laws.proofs.Sourcing.{one_start}
 

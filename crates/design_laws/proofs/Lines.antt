@@ -2,8 +2,8 @@
 use Rattle.std.proofs.Common.{◌≡◌, ◌⊎◌, ◌↔◌, inl, inr, ℕ, ◌<◌, List, [], length, Contains, Option, Some, None, refl, arith}
 use Rattle.std.proofs.lemmas.List.{length-map}
 use Rattle.aadl_tree.specs.Declarations.{PackageTree}
-use Rattle.aadl_names.specs.declared.fault.FlatFault.{FlatFault}
-use Rattle.aadl_names.specs.declared.fault.FlatFault.TheVariants.{NoRoot}
+use Rattle.aadl_names.specs.declared.fault.PackageFault.{PackageFault}
+use Rattle.aadl_names.specs.declared.fault.PackageFault.TheVariants.{NoRoot}
 use Rattle.aadl_names.specs.Findings.{FirstOf}
 use Rattle.aadl_names.specs.proof.Found.{found}
 use Rattle.aadl_names.specs.Resolving.{root_number}
@@ -35,22 +35,22 @@ module _ (tree : PackageTree ℕ) (name : List ℕ) (root : ℕ) (is : root_numb
   pub declared_root : root < length tree.declarations
   declared_root = root_declared tree root (is_root_at tree name root is)
 
-  by_ends : package_faults tree root ≡ [] → ((f : FlatFault) → IsRecursive tree f → ⊥) → (o : Option FlatFault) → FirstIn (IsEndFault tree root) o → HasFirstFault tree name ⊎ IsSound tree name
+  by_ends : package_faults tree root ≡ [] → ((f : PackageFault) → IsRecursive tree f → ⊥) → (o : Option PackageFault) → FirstIn (IsEndFault tree root) o → HasFirstFault tree name ⊎ IsSound tree name
   by_ends names never None x = inr (record { root = root; is_root = is; names = names; recursion = never; ends = x })
   by_ends names never (Some fault) x = inl (fault, root_fault tree name root is fault (end_fault tree root fault names never x))
 
-  ends_first : package_faults tree root ≡ [] → ((f : FlatFault) → IsRecursive tree f → ⊥) → HasFirstFault tree name ⊎ IsSound tree name
+  ends_first : package_faults tree root ≡ [] → ((f : PackageFault) → IsRecursive tree f → ⊥) → HasFirstFault tree name ⊎ IsSound tree name
   ends_first names never =
       let o = order (containment tree) (within tree) (no_way_back tree never) in
       let u = uses tree root declared_root in
       let e = first_end tree root (declared tree root names) o.0 o.1 u.0 u.1 in
       by_ends names never e.0 e.1
 
-  by_recursion : package_faults tree root ≡ [] → (o : Option FlatFault) → FirstIn (IsRecursive tree) o → HasFirstFault tree name ⊎ IsSound tree name
+  by_recursion : package_faults tree root ≡ [] → (o : Option PackageFault) → FirstIn (IsRecursive tree) o → HasFirstFault tree name ⊎ IsSound tree name
   by_recursion names None x = ends_first names x
   by_recursion names (Some fault) x = inl (fault, root_fault tree name root is fault (recursion_fault tree root fault names x))
 
-  by_names : (o : Option FlatFault) → FirstOf (package_faults tree root) o → HasFirstFault tree name ⊎ IsSound tree name
+  by_names : (o : Option PackageFault) → FirstOf (package_faults tree root) o → HasFirstFault tree name ⊎ IsSound tree name
   by_names None x = let r = first_recursive tree in by_recursion x r.0 r.1
   by_names (Some fault) x = inl (fault, root_fault tree name root is fault (name_fault tree root fault x))
 

@@ -30,7 +30,7 @@ use Rattle.model_violations.specs.Values.{or_integer}
 use Rattle.model_violations.specs.Use.{IsUse}
 use Rattle.model_violations.specs.Violations.{shown_by, used_findings}
 use Rattle.design_laws.specs.Designs.{given_adaptor, chain_adaptor, link_by, feed_by, tap_by, link_in, feed_in, tap_in}
-use Rattle.design_laws.proofs.Ruling.{thread_is, root_no_thread}
+use Rattle.design_laws.proofs.ThreadBehaviours.{thread_is, root_no_thread}
 use Rattle.design_laws.proofs.Matching.{Zipped}
 use Rattle.design_laws.proofs.Chaining.{first_there, last_there, kind_there, kinds_along}
 use Rattle.design_laws.proofs.Ending.{Sits, AtNode, at_node, in_port, out_port, component_there}

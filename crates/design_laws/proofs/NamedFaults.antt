@@ -8,11 +8,11 @@ use Rattle.aadl_tree.specs.declared.declarations.Direction.{Direction}
 use Rattle.aadl_tree.specs.Values.{Associations}
 use Rattle.aadl_tree.specs.Annexes.{AnnexTree, AnnexContent, foreign, behaviour, Annex}
 use Rattle.aadl_tree.specs.Declarations.{Feature, Subcomponent, ConnectionEnd, Connection, TypeDeclaration, Implementation, Declaration, type, implementation, PackageTree}
-use Rattle.aadl_names.specs.declared.fault.FlatFault.{FlatFault}
-use Rattle.aadl_names.specs.declared.fault.FlatFault.TheVariants.{NoRoot, Recursive, DeadEnd, TwoSources, TooMany, Memory}
-use Rattle.aadl_names.specs.declared.holder.Holder.{Holder}
-use Rattle.aadl_names.specs.declared.holder.Holder.TheVariants as holders
-use Rattle.aadl_names.specs.declared.site.Site.{Site}
+use Rattle.aadl_names.specs.declared.fault.PackageFault.{PackageFault}
+use Rattle.aadl_names.specs.declared.fault.PackageFault.TheVariants.{NoRoot, Recursive, DeadEnd, TwoSources, TooMany, Memory}
+use Rattle.aadl_names.specs.declared.holder.PropertyHolder.{PropertyHolder}
+use Rattle.aadl_names.specs.declared.holder.PropertyHolder.TheVariants as holders
+use Rattle.aadl_names.specs.declared.site.PortPlace.{PortPlace}
 use Rattle.aadl_names.specs.Behaviours.{behaviours, variables_in}
 use Rattle.aadl_names.specs.Properties.{listed, association_at, counts, misshapen, shape_fault, property_entries, list_faults}
 use Rattle.aadl_names.specs.Resolving.{is_thread, target_of, ports_of}
@@ -24,7 +24,7 @@ use Rattle.aadl_instance.specs.Faults.{FoundIn, Found, IsFault}
 use Rattle.design_laws.proofs.NamedLists.{AreNamed, none, both, each, either, kind, kinds, unknown, wrong, twice_named}
 use Rattle.design_laws.proofs.NamedAnnexes.{behaviour_named}
 
-list_named : (holder : Holder) (xs : Associations ℕ) → AreNamed (list_faults holder xs)
+list_named : (holder : PropertyHolder) (xs : Associations ℕ) → AreNamed (list_faults holder xs)
 list_named holder xs =
     both (each (shape_fault holder) (λ x. either (counts x) (wrong (misshapen holder x) (association_at x)) none) (listed xs)) (twice_named (property_entries xs))
 
@@ -41,7 +41,7 @@ subcomponent_named tree outer sub =
     both (both (wrong (not (p.may_contain outer sub.category)) sub.name.at) (names_named tree sub sub.classifier.implementation))
     (list_named (holders.Subcomponent sub.category) sub.properties)
 
-end_named : (may : Site × Option Direction → Bool) (end : ConnectionEnd ℕ) (at : ℕ) (o : Option (Site × Option Direction)) → AreNamed (p.end_faults may end at o)
+end_named : (may : PortPlace × Option Direction → Bool) (end : ConnectionEnd ℕ) (at : ℕ) (o : Option (PortPlace × Option Direction)) → AreNamed (p.end_faults may end at o)
 end_named may end at None = unknown _ _
 end_named may end at (Some port) = wrong (not (may port)) at
 
@@ -104,22 +104,22 @@ twice_names_named tree =
 pub package_named : (tree : PackageTree ℕ) (root : ℕ) → AreNamed (p.package_faults tree root)
 package_named tree root = both (wrong_names_named tree root) (twice_names_named tree)
 
-recursive_named : (tree : PackageTree ℕ) (fault : FlatFault) → IsRecursive tree fault → fault ≢ Memory
+recursive_named : (tree : PackageTree ℕ) (fault : PackageFault) → IsRecursive tree fault → fault ≢ Memory
 recursive_named tree fault h e = let f : Recursive h.0.name.spelling h.0.name.at ≡ Memory = sym h.2 ∙ e in absurd cc
 
-end_fault_named : (tree : PackageTree ℕ) (root : ℕ) (fault : FlatFault) → IsEndFault tree root fault → fault ≢ Memory
+end_fault_named : (tree : PackageTree ℕ) (root : ℕ) (fault : PackageFault) → IsEndFault tree root fault → fault ≢ Memory
 end_fault_named tree root fault (inl h) e = let f : DeadEnd h.0.name.spelling h.0.name.at ≡ Memory = sym h.2 ∙ e in absurd cc
 end_fault_named tree root fault (inr h) e = let f : TwoSources h.0.name.spelling h.0.name.at ≡ Memory = sym h.2 ∙ e in absurd cc
 
-found_named : (tree : PackageTree ℕ) (root line : ℕ) (fault : FlatFault) → FoundIn tree root line fault → fault ≢ Memory
+found_named : (tree : PackageTree ℕ) (root line : ℕ) (fault : PackageFault) → FoundIn tree root line fault → fault ≢ Memory
 found_named tree root line fault (inl h) e = (package_named tree root).named fault h.1 e
 found_named tree root line fault (inr (inl h)) e = recursive_named tree fault h.1 e
 found_named tree root line fault (inr (inr (inl h))) e = end_fault_named tree root fault h.1 e
 found_named tree root line fault (inr (inr (inr h))) e = let f : TooMany h.0 ≡ Memory = sym h.2 ∙ e in absurd cc
 
-named_by : (tree : PackageTree ℕ) (name : List ℕ) (line : ℕ) (fault : FlatFault) → Found tree name line fault → fault ≢ Memory
+named_by : (tree : PackageTree ℕ) (name : List ℕ) (line : ℕ) (fault : PackageFault) → Found tree name line fault → fault ≢ Memory
 named_by tree name line fault (inl h) e = let f : NoRoot ≡ Memory = sym h.2 ∙ e in absurd cc
 named_by tree name line fault (inr h) e = found_named tree h.0 line fault h.2 e
 
-pub fault_named : (tree : PackageTree ℕ) (name : List ℕ) (fault : FlatFault) → IsFault tree name fault → fault ≢ Memory
+pub fault_named : (tree : PackageTree ℕ) (name : List ℕ) (fault : PackageFault) → IsFault tree name fault → fault ≢ Memory
 fault_named tree name fault x = named_by tree name x.line fault x.here.found

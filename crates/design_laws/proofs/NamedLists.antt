@@ -3,38 +3,38 @@ use Rattle.std.proofs.Common.{◌⊎◌, inl, inr, ◌∙◌, ℕ, Bool, true, f
 use Rattle.std.specs.Prelude.{◌≢◌}
 use Rattle.std.proofs.lemmas.List.Elements.{Contains-append_cases}
 use Rattle.list_lemmas.proofs.Elements.{Contains-nil}
-use Rattle.aadl_names.specs.declared.fault.FlatFault.{FlatFault}
-use Rattle.aadl_names.specs.declared.fault.FlatFault.TheVariants.{Unknown, Twice, WrongKind, Memory}
-use Rattle.aadl_names.specs.declared.entry.Entry.{Entry}
+use Rattle.aadl_names.specs.declared.fault.PackageFault.{PackageFault}
+use Rattle.aadl_names.specs.declared.fault.PackageFault.TheVariants.{Unknown, Twice, WrongKind, Memory}
+use Rattle.aadl_names.specs.declared.entry.SpelledName.{SpelledName}
 use Rattle.aadl_names.specs.Findings.{wrong_if}
 use Rattle.aadl_names.specs.Twice.{again, twice}
 use Rattle.aadl_names.proofs.Elements.{only_here}
 
-pub record AreNamed (fs : List FlatFault) : Type 0 where
-  pub named : (f : FlatFault) → Contains fs f → f ≢ Memory
+pub record AreNamed (fs : List PackageFault) : Type 0 where
+  pub named : (f : PackageFault) → Contains fs f → f ≢ Memory
 
 pub none : AreNamed []
 none = record { named = λ f h e. Contains-nil f h }
 
-pub one : (f : FlatFault) → f ≢ Memory → AreNamed (f ∷ [])
+pub one : (f : PackageFault) → f ≢ Memory → AreNamed (f ∷ [])
 one f n = record { named = λ g h e. n (only_here f g h ∙ e) }
 
-pub both : {a b : List FlatFault} → AreNamed a → AreNamed b → AreNamed (a ++ b)
+pub both : {a b : List PackageFault} → AreNamed a → AreNamed b → AreNamed (a ++ b)
 both {a = a} {b = b} x y = record { named = λ f h. by f (Contains-append_cases a b f h) }
   where
-    by : (f : FlatFault) → Contains a f ⊎ Contains b f → f ≢ Memory
+    by : (f : PackageFault) → Contains a f ⊎ Contains b f → f ≢ Memory
     by f (inl h) = x.named f h
     by f (inr h) = y.named f h
 
-pub each : {X : Type 0} (g : X → List FlatFault) → ((x : X) → AreNamed (g x)) → (xs : List X) → AreNamed (flat_map g xs)
+pub each : {X : Type 0} (g : X → List PackageFault) → ((x : X) → AreNamed (g x)) → (xs : List X) → AreNamed (flat_map g xs)
 each g n [] = none
 each g n (x ∷ xs) = both (n x) (each g n xs)
 
-pub mapped : {X : Type 0} (g : X → FlatFault) → ((x : X) → g x ≢ Memory) → (xs : List X) → AreNamed (map g xs)
+pub mapped : {X : Type 0} (g : X → PackageFault) → ((x : X) → g x ≢ Memory) → (xs : List X) → AreNamed (map g xs)
 mapped g n [] = none
 mapped g n (x ∷ xs) = both (one (g x) (n x)) (mapped g n xs)
 
-pub either : (b : Bool) {xs ys : List FlatFault} → AreNamed xs → AreNamed ys → AreNamed (cond b xs ys)
+pub either : (b : Bool) {xs ys : List PackageFault} → AreNamed xs → AreNamed ys → AreNamed (cond b xs ys)
 either true x y = x
 either false x y = y
 
@@ -53,5 +53,5 @@ wrong b at = either b (kind at) none
 pub kinds : {X : Type 0} (at : X → ℕ) (xs : List X) → AreNamed (map (λ x. WrongKind (at x)) xs)
 kinds at xs = mapped (λ x. WrongKind (at x)) (λ x e. absurd cc) xs
 
-pub twice_named : (xs : List Entry) → AreNamed (twice xs)
+pub twice_named : (xs : List SpelledName) → AreNamed (twice xs)
 twice_named xs = each (again xs) (λ x. either _ (second x.name x.at) none) xs

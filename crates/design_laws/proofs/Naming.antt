@@ -6,7 +6,7 @@ use Rattle.std.proofs.lemmas.Bool.{false≢true}
 use Rattle.std.proofs.lemmas.List.{map-append}
 use Rattle.std.proofs.lemmas.List.Elements.{recursion_from_All}
 use Rattle.list_lemmas.proofs.Elements.{AllByRecursion-weaker, AllByRecursion-append, AllByRecursion-map}
-use Rattle.pals_base.specs.declared.behaviour.Named.{Named}
+use Rattle.pals_base.specs.declared.behaviour.PortDecl.{PortDecl}
 use Rattle.pals_base.specs.declared.behaviour.VarDecl.{VarDecl}
 use Rattle.pals_base.specs.declared.behaviour.StateDecl.{StateDecl}
 use Rattle.pals_base.specs.Names.{is_word, AreDistinct}
@@ -14,7 +14,7 @@ use Rattle.pals_base.specs.Rules.{has_word}
 use Rattle.aadl_tree.specs.Names.{Identifier, same_name, identifiers, listed_in}
 use Rattle.aadl_tree.specs.Annexes.{VariableDeclaration, StateDeclaration, AnnexTree}
 use Rattle.aadl_tree.specs.Declarations.{Feature}
-use Rattle.aadl_names.specs.declared.entry.Entry.{Entry}
+use Rattle.aadl_names.specs.declared.entry.SpelledName.{SpelledName}
 use Rattle.aadl_names.specs.Spelling.{entry_of}
 use Rattle.aadl_names.specs.Spaces.{port_entries, variable_entries, state_entries}
 use Rattle.aadl_names.specs.Behaviours as names
@@ -51,7 +51,7 @@ abbrev port_name : Feature ℕ → List ℕ
 port_name f = f.name.spelling
 
 -- ---- the names of a behaviour are those of the text
-ins_named : (fs : List (Feature ℕ)) → map (λ (p : Named). p.name) (map named_of (map port_of fs)) ≡ map port_name fs
+ins_named : (fs : List (Feature ℕ)) → map (λ (p : PortDecl). p.name) (map named_of (map port_of fs)) ≡ map port_name fs
 ins_named [] = refl
 ins_named (f ∷ fs) = ap (λ l. f.name.spelling ∷ l) (ins_named fs)
 
@@ -118,20 +118,20 @@ module _ (ports : List (Feature ℕ)) (annex : AnnexTree ℕ) where
   text_names = map port_name (ins ++ outs) ++ map spelling ids
 
   abbrev pub value_list : List (List ℕ)
-  value_list = map (λ (p : Named). p.name) (map named_of (ins_in ports)) ++ map (λ (p : Named). p.name) (map named_of (outs_in ports)) ++ map
+  value_list = map (λ (p : PortDecl). p.name) (map named_of (ins_in ports)) ++ map (λ (p : PortDecl). p.name) (map named_of (outs_in ports)) ++ map
       (λ (d : VarDecl). d.name) (map var_of (variables_of annex))
 
   same_values : value_list ≡ text_names
   unfolding text_names ins outs ids
   same_values =
       let vars = map (λ (d : VarDecl). d.name) (map var_of (variables_of annex)) in
-      let outs_of = map (λ (p : Named). p.name) (map named_of (outs_in ports)) in
+      let outs_of = map (λ (p : PortDecl). p.name) (map named_of (outs_in ports)) in
       ap (λ l. l ++ outs_of ++ vars) (ins_named (filter is_in ports))
       ∙ (ap (λ l. map port_name (filter is_in ports) ++ l ++ vars) (ins_named (filter (λ f. not (is_in f)) ports))
       ∙ (ap (λ l. l ++ vars) (sym (map-append port_name (filter is_in ports) (filter (λ f. not (is_in f)) ports)))
       ∙ ap (λ l. map port_name (filter is_in ports ++ filter (λ f. not (is_in f)) ports) ++ l) (same_variables annex.variables)))
 
-  abbrev entry_port : Feature ℕ → Entry
+  abbrev entry_port : Feature ℕ → SpelledName
   entry_port f = entry_of f.name
 
   text_apart : Differ (port_entries ports ++ variable_entries annex) → Pairs Apart text_names

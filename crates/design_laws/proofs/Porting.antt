@@ -14,7 +14,7 @@ use Rattle.aadl_uses.specs.Threads.{PathBefore}
 use Rattle.aadl_uses.specs.Threads.{path_before}
 use Rattle.aadl_chains.specs.Links.{same_path}
 use Rattle.aadl_instance.specs.Instances.{node_at}
-use Rattle.design_laws.proofs.Ruling.{first_is}
+use Rattle.design_laws.proofs.ThreadBehaviours.{first_is}
 
 -- ---- what passes a test, by the number of those before it
 module _ {X : Type 0} (p : X → Bool) where

@@ -18,9 +18,9 @@ use Rattle.pals_model.specs.Rules.{IsGamma}
 use Rattle.aadl_tree.specs.declared.declarations.Category.{Category}
 use Rattle.aadl_tree.specs.Values.{Association}
 use Rattle.aadl_tree.specs.Declarations.{Subcomponent, Declaration, type, TypeDeclaration, Implementation, implementation, PackageTree}
-use Rattle.aadl_names.specs.declared.holder.Property.{Property}
-use Rattle.aadl_names.specs.declared.holder.Property.TheVariants.{Period, Skew, Execution, Network}
-use Rattle.aadl_names.specs.declared.holder.Holder.TheVariants as holders
+use Rattle.aadl_names.specs.declared.holder.PropertyName.{PropertyName}
+use Rattle.aadl_names.specs.declared.holder.PropertyName.TheVariants.{Period, Skew, Execution, Network}
+use Rattle.aadl_names.specs.declared.holder.PropertyHolder.TheVariants as holders
 use Rattle.aadl_names.specs.Findings.{wrong_if}
 use Rattle.aadl_names.specs.Behaviours.{behaviours}
 use Rattle.aadl_names.specs.Properties.{recognised, list_faults}
@@ -55,7 +55,7 @@ use Rattle.model_violations.specs.Declarations.{sub_findings}
 use Rattle.model_violations.specs.Declarations as uses
 use Rattle.model_violations.specs.Violations.{shown_by, used_findings, carriers_of}
 use Rattle.design_laws.proofs.Clean.{names_clean, declared_at, implementation_clean, type_clean, is_used}
-use Rattle.design_laws.proofs.Ruling.{first_is}
+use Rattle.design_laws.proofs.ThreadBehaviours.{first_is}
 use Rattle.design_laws.proofs.Timing.{Among, period_at_sub, period_at, skew_at, execution_at, network_at, IsGood, LooksGood, looks_good}
 use Rattle.design_laws.proofs.Timing.{first_good, first_behind, IsTime, period_good, skew_good, execution_good, network_good}
 use Rattle.design_laws.proofs.Stating.{declaration_clean}
@@ -116,7 +116,7 @@ some_from (Some x) is = (x, refl)
 module _ {tree : PackageTree ℕ} {name : List ℕ} {parts : Parts} (flat : IsFlat tree name parts) (used : ℕ → Bool)
     (is_use : IsUse tree parts.root used) (none : used_findings tree (shown_by tree parts) used ≡ []) where
   -- ---- what an implementation in use, and its type, give
-  module _ (p : Property) (n : ℕ) (x : Implementation ℕ) (in_use : used n ≡ true) (is : slice_get tree.declarations n ≡ Some (implementation x))
+  module _ (p : PropertyName) (n : ℕ) (x : Implementation ℕ) (in_use : used n ≡ true) (is : slice_get tree.declarations n ≡ Some (implementation x))
       (known : Among p (recognised (holders.Declaration x.category (nat_eq n parts.root)))) where
     own_good : LooksGood p x.properties
     own_good =
@@ -230,7 +230,7 @@ module _ {tree : PackageTree ℕ} {name : List ℕ} {parts : Parts} (flat : IsFl
       → is_root_type tree parts.root m ≡ true
   type_flag x m is number = ap (λ o. is_number m (option_and_then (type_number tree) o)) is ∙ (ap (is_number m) number ∙ nat_eq-self m)
 
-  root_good : (p : Property) → ((c : Category) → Among p (recognised (holders.Declaration c true)))
+  root_good : (p : PropertyName) → ((c : Category) → Among p (recognised (holders.Declaration c true)))
       → AllByRecursion (LooksGood p) (root_lists tree parts.root)
   root_good p known =
       let x = root_there.0 in
@@ -243,12 +243,12 @@ module _ {tree : PackageTree ℕ} {name : List ℕ} {parts : Parts} (flat : IsFl
       (λ m t number. subst (λ b. Among p (recognised (holders.Declaration t.category b))) (sym (type_flag x m is number)) (known t.category)))
 
   -- what the root gives of a property
-  pub record Gives (p : Property) : Type 0 where
+  pub record Gives (p : PropertyName) : Type 0 where
     pub association : Association ℕ
     pub is : at_root tree parts.root p ≡ Some association
     pub good : IsGood p association
 
-  gives : (p : Property) → ((c : Category) → Among p (recognised (holders.Declaration c true))) → is_some (at_root tree parts.root p) ≡ true
+  gives : (p : PropertyName) → ((c : Category) → Among p (recognised (holders.Declaration c true))) → is_some (at_root tree parts.root p) ≡ true
       → Gives p
   gives p known some =
       let a = some_from (at_root tree parts.root p) some in

@@ -7,7 +7,7 @@ use Rattle.pals_base.specs.declared.behaviour.Kind.TheVariants.{Integer}
 use Rattle.pals_base.specs.declared.behaviour.BehaviourParts.{BehaviourParts}
 use Rattle.aadl_tree.specs.Names.{Identifier, same_name}
 use Rattle.annex_resolve.specs.declared.scope.Scope.{Scope}
-use Rattle.annex_resolve.specs.declared.scope.Entry.{Entry}
+use Rattle.annex_resolve.specs.declared.scope.DeclaredName.{DeclaredName}
 use Rattle.annex_resolve.specs.declared.scope.Meaning.{Meaning}
 use Rattle.annex_resolve.specs.declared.scope.Meaning.TheVariants.{InPort, OutPort, Variable, LoopVariable}
 use Rattle.annex_resolve.specs.Scopes.{with_loop}
@@ -34,11 +34,11 @@ wider b loops (LoopVariable n) kind (past, within, is) = (past, omega (arith, wi
 pub inner_fits : (b : BehaviourParts) (loops : ℕ) (scope : Scope) (x : Identifier ℕ) → FitsScope b loops scope → FitsScope b (loops + 1) (with_loop scope x)
 inner_fits b loops scope x fits =
     let next = fits.next in
-    let turn : Entry = record { name = x.spelling; kind = Some Integer; meaning = LoopVariable scope.next } in
+    let turn : DeclaredName = record { name = x.spelling; kind = Some Integer; meaning = LoopVariable scope.next } in
     record {
-      entries = λ name e found. elim (find_last (λ (k : Entry). same_name k.name name) scope.entries turn e found) as (λ r. FitsMeaning b (loops + 1) e.meaning e.kind) [
+      entries = λ name e found. elim (find_last (λ (k : DeclaredName). same_name k.name name) scope.entries turn e found) as (λ r. FitsMeaning b (loops + 1) e.meaning e.kind) [
         | inl old ↦ wider b loops e.meaning e.kind (fits.entries name e old)
-        | inr new ↦ subst (λ (k : Entry). FitsMeaning b (loops + 1) k.meaning k.kind) new (omega (arith, next), omega (arith, next), refl)
+        | inr new ↦ subst (λ (k : DeclaredName). FitsMeaning b (loops + 1) k.meaning k.kind) new (omega (arith, next), omega (arith, next), refl)
       ];
       next = omega (arith, next);
     }

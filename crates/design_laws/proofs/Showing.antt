@@ -11,8 +11,8 @@ use Rattle.model_violations.specs.Violations.{Shown, shown_by}
 use Rattle.design_laws.specs.proof.Accepted.{IsShown, NothingFound}
 use Rattle.design_laws.specs.Designs.{HasRules}
 use Rattle.design_laws.proofs.Clean.{all_parts}
-use Rattle.design_laws.proofs.Ruling as ruling
-use Rattle.design_laws.proofs.Ruling.{ThreadLaw}
+use Rattle.design_laws.proofs.ThreadBehaviours as ruling
+use Rattle.design_laws.proofs.ThreadBehaviours.{ThreadLaw}
 use Rattle.std.proofs.Props.{props}
 use Rattle.std.proofs.Math.Logic.{∥∥₁_elim}
 use Rattle.pals_base.specs.Rules.{IsAcyclic}

@@ -1,7 +1,7 @@
 -- A package in which the first four lines find nothing.
 use Rattle.std.specs.Prelude.{◌≡◌, ℕ, List, [], Some}
 use Rattle.aadl_tree.specs.Declarations.{PackageTree}
-use Rattle.aadl_names.specs.declared.fault.FlatFault.{FlatFault}
+use Rattle.aadl_names.specs.declared.fault.PackageFault.{PackageFault}
 use Rattle.aadl_names.specs.Resolving.{root_number}
 use Rattle.aadl_names.specs.PackageFaults.{package_faults}
 use Rattle.aadl_uses.specs.Uses.{IsRecursive}
@@ -12,5 +12,5 @@ pub record IsSound (tree : PackageTree ℕ) (name : List ℕ) : Type 0 where
   pub root : ℕ
   pub is_root : root_number tree name ≡ Some root
   pub names : package_faults tree root ≡ []
-  pub recursion : (fault : FlatFault) → IsRecursive tree fault → ⊥
-  pub ends : (fault : FlatFault) → IsEndFault tree root fault → ⊥
+  pub recursion : (fault : PackageFault) → IsRecursive tree fault → ⊥
+  pub ends : (fault : PackageFault) → IsEndFault tree root fault → ⊥

@@ -5,28 +5,28 @@ use Rattle.std.specs.Option.{option_and_then}
 use Rattle.std.proofs.lemmas.Bool.{cases_order}
 use Rattle.std.proofs.lemmas.Option.{slice_get-map}
 use Rattle.aadl_tree.specs.Declarations.{Connection, Implementation, PackageTree}
-use Rattle.aadl_names.specs.declared.fault.FlatFault.TheVariants.{TwoSources}
-use Rattle.aadl_names.specs.declared.site.Site.{Site}
+use Rattle.aadl_names.specs.declared.fault.PackageFault.TheVariants.{TwoSources}
+use Rattle.aadl_names.specs.declared.site.PortPlace.{PortPlace}
 use Rattle.aadl_names.specs.Resolving.{implementation_at, connections_of}
 use Rattle.aadl_uses.specs.Uses.{IsInUse}
 use Rattle.aadl_uses.specs.declared.connections.Wire.{Wire}
 use Rattle.aadl_uses.specs.Wiring.{wire_of, wires_of, wires_at}
-use Rattle.aadl_uses.specs.Firsts.{target_in}
+use Rattle.aadl_uses.specs.FirstConnections.{target_in}
 use Rattle.aadl_chains.specs.Chains.{Port, Place, Leads, IsStart, IsSecondEnd}
 use Rattle.aadl_chains.proofs.Declared.{declared}
 use Rattle.aadl_chains.specs.proof.Walked.{IsSound}
-use Rattle.aadl_chains.proofs.Passing.{one_into, none_into_start}
+use Rattle.aadl_chains.proofs.ChainsFromEnds.{one_into, none_into_start}
 use Rattle.aadl_chains.proofs.Soundness.{sound_by}
 use Rattle.aadl_instance.specs.Flat.{Parts, IsFlat}
 use Rattle.design_laws.proofs.Clean.{not_found, names_clean}
 
 -- a connection that goes into a port is there
-linked : (tree : PackageTree ℕ) (x : Implementation ℕ) (c : Option (Connection ℕ)) (s : Site)
+linked : (tree : PackageTree ℕ) (x : Implementation ℕ) (c : Option (Connection ℕ)) (s : PortPlace)
     → option_and_then (λ (w : Wire). w.target) (option_map (wire_of tree x) c) ≡ Some s → (k : Connection ℕ) × (c ≡ Some k)
 linked tree x None s is = absurd (cc is)
 linked tree x (Some k) s is = (k, refl)
 
-linked_by : (tree : PackageTree ℕ) (o : Option (Implementation ℕ)) (j : ℕ) (s : Site) → target_in (wires_of tree o) j ≡ Some s
+linked_by : (tree : PackageTree ℕ) (o : Option (Implementation ℕ)) (j : ℕ) (s : PortPlace) → target_in (wires_of tree o) j ≡ Some s
     → (k : Connection ℕ) × (slice_get (connections_of o) j ≡ Some k)
 linked_by tree None j s is = absurd (cc is)
 linked_by tree (Some x) j s is =
@@ -37,7 +37,7 @@ module _ {tree : PackageTree ℕ} {name : List ℕ} {parts : Parts} (flat : IsFl
   no_second : (x : Connection ℕ) → IsSecondEnd tree parts.root x → ⊥
   no_second x second = not_found flat 4 (TwoSources x.name.spelling x.name.at) (inr (inr (inl (refl, inr (x, second, refl)))))
 
-  no_later : (n i j : ℕ) (s : Site) → IsInUse tree parts.root n → target_in (wires_at tree n) i ≡ Some s
+  no_later : (n i j : ℕ) (s : PortPlace) → IsInUse tree parts.root n → target_in (wires_at tree n) i ≡ Some s
       → target_in (wires_at tree n) j ≡ Some s → i < j → ⊥
   no_later n i j s in_use first second lt =
       let link = linked_by tree (implementation_at tree n) j s second in
@@ -49,7 +49,7 @@ module _ {tree : PackageTree ℕ} {name : List ℕ} {parts : Parts} (flat : IsFl
         is_second = record { first = i; target = s; in_order = lt; earlier = first; here = second };
       })
 
-  one_by : (n i j : ℕ) (s : Site) → (i ≡ j) ⊎ ((i < j) ⊎ (j < i)) → IsInUse tree parts.root n → target_in (wires_at tree n) i ≡ Some s
+  one_by : (n i j : ℕ) (s : PortPlace) → (i ≡ j) ⊎ ((i < j) ⊎ (j < i)) → IsInUse tree parts.root n → target_in (wires_at tree n) i ≡ Some s
       → target_in (wires_at tree n) j ≡ Some s → i ≡ j
   one_by n i j s (inl e) in_use first second = e
   one_by n i j s (inr (inl lt)) in_use first second = absurd (no_later n i j s in_use first second lt)

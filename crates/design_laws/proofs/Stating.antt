@@ -11,8 +11,8 @@ use Rattle.list_lemmas.proofs.Elements.{list_any-map, AllByRecursion-weaker}
 use Rattle.aadl_tree.specs.Names.{Identifier, same_name}
 use Rattle.aadl_tree.specs.Annexes.{Transition, AnnexTree}
 use Rattle.aadl_tree.specs.Declarations.{Declaration, Implementation, implementation, PackageTree}
-use Rattle.aadl_names.specs.declared.fault.FlatFault.{FlatFault}
-use Rattle.aadl_names.specs.declared.fault.FlatFault.TheVariants.{Unknown, WrongKind}
+use Rattle.aadl_names.specs.declared.fault.PackageFault.{PackageFault}
+use Rattle.aadl_names.specs.declared.fault.PackageFault.TheVariants.{Unknown, WrongKind}
 use Rattle.aadl_names.specs.AnnexNames.{Known}
 use Rattle.aadl_names.specs.Behaviours as names
 use Rattle.aadl_names.specs.Resolving.{is_thread}
@@ -73,7 +73,7 @@ state_within annex name among =
     lt-ltb (state_number (states_of annex) name) (length (states_of annex))
     (first_within (λ (s : StateAt). same_name s.name name) (states_of annex) turned)
 
-is_state_by : (b : Bool) (fault : FlatFault) → cond b [] (fault ∷ []) ≡ [] → b ≡ true
+is_state_by : (b : Bool) (fault : PackageFault) → cond b [] (fault ∷ []) ≡ [] → b ≡ true
 is_state_by true fault e = refl
 is_state_by false fault e = absurd (cc e)
 

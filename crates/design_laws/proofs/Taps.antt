@@ -2,8 +2,8 @@
 use Rattle.std.proofs.Common.{◌≡◌, inl, inr, ℕ, zero, suc, ◌+◌, Bool, true, false, List, [], ◌∷◌, ◌++◌, length, Option, Some, None, refl, sym, ap, subst, ◌∙◌, arith}
 use Rattle.std.proofs.lemmas.Option.{same_Some}
 use Rattle.aadl_tree.specs.Declarations.{PackageTree}
-use Rattle.aadl_names.specs.declared.site.Site.{Site}
-use Rattle.aadl_names.specs.declared.site.Site.TheVariants.{Own, Inner}
+use Rattle.aadl_names.specs.declared.site.PortPlace.{PortPlace}
+use Rattle.aadl_names.specs.declared.site.PortPlace.TheVariants.{Own, Inner}
 use Rattle.aadl_names.specs.Resolving.{implementation_at, ports_at}
 use Rattle.aadl_uses.specs.proof.Uses.{containment}
 use Rattle.aadl_uses.specs.Threads.{Lists}
@@ -22,19 +22,19 @@ use Rattle.aadl_chains.proofs.Routes.{no_tap, no_tap_over}
 use Rattle.aadl_instance.specs.declared.parts.Chain.{Chain}
 use Rattle.aadl_instance.specs.Instances.{chain_in}
 use Rattle.aadl_instance.specs.proof.Passed.{AreTapsTo}
-use Rattle.aadl_instance.proofs.Passing.{taps_none, taps_more, taps_skip, taps_whole}
+use Rattle.aadl_instance.proofs.PortByPort.{taps_none, taps_more, taps_skip, taps_whole}
 use Rattle.aadl_instance.proofs.Adding.{in_tap}
 use Rattle.design_laws.proofs.Descending.{Gives, gives}
 use Rattle.design_laws.proofs.Tracing.{same_ends}
 
-abbrev pair : ℕ → ℕ → ℕ → ℕ × Site
+abbrev pair : ℕ → ℕ → ℕ → ℕ × PortPlace
 pair k s p = (k, Inner s p)
 
 same_into : (a b s p t q : ℕ) → Some (pair a s p) ≡ Some (pair b t q) → (a ≡ b) × (s ≡ t) × (p ≡ q)
 same_into a b s p t q e =
     let both : pair a s p ≡ pair b t q = same_Some (pair a s p) (pair b t q) e in
-    let site : Inner s p ≡ Inner t q = ap (λ (x : ℕ × Site). x.1) both in
-    (ap (λ (x : ℕ × Site). x.0) both, cc site, cc site)
+    let site : Inner s p ≡ Inner t q = ap (λ (x : ℕ × PortPlace). x.1) both in
+    (ap (λ (x : ℕ × PortPlace). x.0) both, cc site, cc site)
 
 module _ (tree : PackageTree ℕ) (root : ℕ) (sound : AreDeclared tree) (one : OneEach tree root) (no_thread : is_thread_at tree root ≡ false)
     (keys : List ℕ) (order : IsOrder (containment tree) keys) (paths : List (List ℕ)) where
@@ -74,13 +74,13 @@ module _ (tree : PackageTree ℕ) (root : ℕ) (sound : AreDeclared tree) (one :
     by_giver x (inl g) = tapped g.0 g.1 x
     by_giver x (inr none) = record { taps = x.taps; are = taps_skip tree root paths port x.taps (no_tap_over tree root sound one no_thread port k t q is none) x.are }
 
-  by_inner : (port : ℕ) → is_in_at tree root port ≡ false → Tapped port → (k : ℕ) (source : Site) → into tree root (Own port) ≡ Some (k, source) → Tapped (port + 1)
+  by_inner : (port : ℕ) → is_in_at tree root port ≡ false → Tapped port → (k : ℕ) (source : PortPlace) → into tree root (Own port) ≡ Some (k, source) → Tapped (port + 1)
   by_inner port out x k source e =
       let i = inner_of tree sound root port k source out e in
-      by_giver port out k i.0 i.1 (e ∙ ap (λ (s : Site). Some (k, s)) i.3) x
+      by_giver port out k i.0 i.1 (e ∙ ap (λ (s : PortPlace). Some (k, s)) i.3) x
       (gives tree root sound one keys order (i.0 ∷ []) i.2 i.1 (next_at tree root [] root i.0 i.2 refl i.4) i.5)
 
-  by_into : (port : ℕ) → is_in_at tree root port ≡ false → Tapped port → (o : Option (ℕ × Site)) → into tree root (Own port) ≡ o → Tapped (port + 1)
+  by_into : (port : ℕ) → is_in_at tree root port ≡ false → Tapped port → (o : Option (ℕ × PortPlace)) → into tree root (Own port) ≡ o → Tapped (port + 1)
   by_into port out x None e = record { taps = x.taps; are = taps_skip tree root paths port x.taps (no_tap tree root sound one no_thread port e) x.are }
   by_into port out x (Some (k, source)) e = by_inner port out x k source e
 

@@ -11,10 +11,10 @@ use Rattle.list_lemmas.proofs.Lists.{append_is_nil_left}
 use Rattle.pals_base.specs.declared.limits.TheConstants.{HOUR}
 use Rattle.aadl_tree.specs.declared.declarations.Category.{Category}
 use Rattle.aadl_tree.specs.Values.{Association, Associations}
-use Rattle.aadl_names.specs.declared.holder.Property.{Property}
-use Rattle.aadl_names.specs.declared.holder.Property.TheVariants.{Period, Dispatch, Skew, Execution, Network}
-use Rattle.aadl_names.specs.declared.holder.Holder.{Holder}
-use Rattle.aadl_names.specs.declared.holder.Holder.TheVariants as holders
+use Rattle.aadl_names.specs.declared.holder.PropertyName.{PropertyName}
+use Rattle.aadl_names.specs.declared.holder.PropertyName.TheVariants.{Period, Dispatch, Skew, Execution, Network}
+use Rattle.aadl_names.specs.declared.holder.PropertyHolder.{PropertyHolder}
+use Rattle.aadl_names.specs.declared.holder.PropertyHolder.TheVariants as holders
 use Rattle.aadl_names.specs.Findings.{wrong_if}
 use Rattle.aadl_names.specs.Properties.{association_at, association_value, listed, counts, is_named, association_named, name_of}
 use Rattle.aadl_names.specs.Properties.{recognised, time_of, range_of, has_shape, misshapen, shape_fault, property_entries}
@@ -70,7 +70,7 @@ network_at c = among_back Network _ (Skew ∷ Execution ∷ Network ∷ []) (inr
 
 -- ---- one association
 -- it has the property's shape, and is within the hour
-pub record IsGood (p : Property) (x : Association ℕ) : Type 0 where
+pub record IsGood (p : PropertyName) (x : Association ℕ) : Type 0 where
   pub shape : has_shape p (association_value x) ≡ true
   pub small : is_too_big p (association_value x) ≡ false
 
@@ -82,7 +82,7 @@ wrong_none : (b : Bool) (at : ℕ) → wrong_if b at ≡ [] → b ≡ false
 wrong_none true at e = absurd (cc e)
 wrong_none false at e = refl
 
-good_by : (holder : Holder) (p : Property) (x : Association ℕ) → Among p (recognised holder) → shape_fault holder x ≡ []
+good_by : (holder : PropertyHolder) (p : PropertyName) (x : Association ℕ) → Among p (recognised holder) → shape_fault holder x ≡ []
     → counted_big holder x ≡ [] → counts x ≡ true → is_named (name_of p) x ≡ true → IsGood p x
 good_by holder p x known shape big count named =
     let shapes = all_false (λ q. is_named (name_of q) x && not (has_shape q (association_value x))) (recognised holder)
@@ -118,10 +118,10 @@ module _ {X : Type 0} (P : X → Type 0) (c p : X → Bool) where
   found_kept (y ∷ xs) x all e = kept_by (c y) x y (filter c xs) refl all.0 (found_kept xs x all.1) e
 
 -- what is looked up in the list is good
-pub record LooksGood (p : Property) (xs : Associations ℕ) : Type 0 where
+pub record LooksGood (p : PropertyName) (xs : Associations ℕ) : Type 0 where
   pub each : (x : Association ℕ) → association_named xs (name_of p) ≡ Some x → IsGood p x
 
-pub looks_good : (holder : Holder) (p : Property) (xs : Associations ℕ) → Among p (recognised holder) → list_faults holder xs ≡ []
+pub looks_good : (holder : PropertyHolder) (p : PropertyName) (xs : Associations ℕ) → Among p (recognised holder) → list_faults holder xs ≡ []
     → list_big holder xs ≡ [] → LooksGood p xs
 looks_good holder p xs known faults big = record {
   each = λ x is.
@@ -134,12 +134,12 @@ looks_good holder p xs known faults big = record {
 }
 
 -- ---- the first in several lists
-or_by : (p : Property) (o rest : Option (Association ℕ)) (x : Association ℕ) → (o ≡ Some x → IsGood p x) → (rest ≡ Some x → IsGood p x)
+or_by : (p : PropertyName) (o rest : Option (Association ℕ)) (x : Association ℕ) → (o ≡ Some x → IsGood p x) → (rest ≡ Some x → IsGood p x)
     → option_or o rest ≡ Some x → IsGood p x
 or_by p None rest x first later e = later e
 or_by p (Some y) rest x first later e = first e
 
-pub first_good : (p : Property) (lists : List (Associations ℕ)) (x : Association ℕ) → AllByRecursion (LooksGood p) lists
+pub first_good : (p : PropertyName) (lists : List (Associations ℕ)) (x : Association ℕ) → AllByRecursion (LooksGood p) lists
     → first_in p lists ≡ Some x → IsGood p x
 first_good p [] x all e = absurd (cc e)
 first_good p (xs ∷ rest) x all e = or_by p (association_named xs (name_of p)) (first_in p rest) x (all.0.each x) (first_good p rest x all.1) e
@@ -152,7 +152,7 @@ or_first : (o rest : Option (Association ℕ)) → is_some o ≡ true → is_som
 or_first None rest is = absurd (false≢true is)
 or_first (Some x) rest is = refl
 
-pub first_behind : (p : Property) (a b : List (Associations ℕ)) → is_some (first_in p b) ≡ true → is_some (first_in p (a ++ b)) ≡ true
+pub first_behind : (p : PropertyName) (a b : List (Associations ℕ)) → is_some (first_in p b) ≡ true → is_some (first_in p (a ++ b)) ≡ true
 first_behind p [] b is = is
 first_behind p (xs ∷ a) b is = or_some (association_named xs (name_of p)) (first_in p (a ++ b)) (first_behind p a b is)
 

@@ -6,7 +6,7 @@ use Rattle.aadl_uses.specs.proof.Orders.{IsOrder}
 use Rattle.aadl_chains.specs.proof.Inside.{is_thread_at}
 use Rattle.aadl_chains.specs.Chains.{Port, Leads}
 use Rattle.aadl_chains.specs.proof.Sound.{AreDeclared}
-use Rattle.aadl_chains.specs.declared.walks.Begin.TheVariants as begins
+use Rattle.aadl_chains.specs.declared.walks.ChainStart.TheVariants as begins
 use Rattle.aadl_chains.specs.Links.{Ends, IsLink, IsFeed}
 use Rattle.aadl_chains.specs.proof.Routes.{route_ends, IsGiver}
 use Rattle.aadl_chains.proofs.Climbing.{crossing_from}

@@ -20,10 +20,10 @@ use Rattle.aadl_tree.specs.Names.{Identifier, same_name, identifiers, listed_in}
 use Rattle.aadl_tree.specs.Values.{Association}
 use Rattle.aadl_tree.specs.Annexes.{VariableDeclaration, AnnexTree}
 use Rattle.aadl_tree.specs.Declarations.{Feature}
-use Rattle.aadl_names.specs.declared.holder.Property.TheVariants.{Initial}
+use Rattle.aadl_names.specs.declared.holder.PropertyName.TheVariants.{Initial}
 use Rattle.aadl_names.specs.Properties.{association_at, association_value, association_named, name_of, only_text}
 use Rattle.annex_resolve.specs.declared.violation.TheConstants.{BAD_TYPE}
-use Rattle.annex_resolve.specs.declared.scope.Entry.{Entry}
+use Rattle.annex_resolve.specs.declared.scope.DeclaredName.{DeclaredName}
 use Rattle.annex_resolve.specs.Types.{kind_named, kind_in, fits}
 use Rattle.design_laws.specs.proof.Ready.{FitsMeaning, FitsScope}
 use Rattle.design_laws.proofs.Tests.{is_right}
@@ -137,7 +137,7 @@ variables_first annex none =
 
 -- ---- what names stand for
 module _ (b : BehaviourParts) where
-  abbrev Fits : Entry → Type 0
+  abbrev Fits : DeclaredName → Type 0
   Fits e = FitsMeaning b 0 e.meaning e.kind
 
   ins_fit : (ds : List Declared) → AllByRecursion IsTyped ds → b.ins ≡ map named_of ds → AllByRecursion Fits (map in_entry (enumerate_from 0 ds))

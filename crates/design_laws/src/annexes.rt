@@ -2,7 +2,7 @@
 ghost use Rattle.std.specs.Prelude.{◌≡◌, ℕ, []};
 ghost use Rattle.pals_base.specs.Rules.{IsBehaviour};
 ghost use Rattle.aadl_tree.specs.Annexes.{AnnexTree};
-ghost use Rattle.annex_resolve.specs.declared.behaviour.Values.{Values};
+ghost use Rattle.annex_resolve.specs.declared.behaviour.DeclaredValues.{DeclaredValues};
 ghost use Rattle.annex_resolve.specs.declared.scope.Scope.{Scope};
 ghost use Rattle.annex_resolve.specs.Behaviours.{annex_findings, behaviour_of};
 ghost use Rattle.design_laws.specs.proof.Ready.{IsReady};
@@ -10,6 +10,6 @@ ghost use Rattle.design_laws.specs.proof.Ready.{IsReady};
 /// Where the names of an annex are in order and nothing is found in it, its parts are those of a
 /// behaviour: well typed, with short loops, and each of its steps ends.
 pub fn no_findings_make_a_behaviour()
-    ensures { (values : Values) (scope : Scope) (at : ℕ) (annex : AnnexTree ℕ) → IsReady values scope annex →
+    ensures { (values : DeclaredValues) (scope : Scope) (at : ℕ) (annex : AnnexTree ℕ) → IsReady values scope annex →
         annex_findings values scope at annex ≡ [] → IsBehaviour (behaviour_of values scope annex) }
 {}

@@ -1,8 +1,8 @@
 //! Laws at every package. Each is the contract of a function that does nothing.
 ghost use Rattle.std.specs.Prelude.{◌⊎◌, ◌≢◌, ℕ, List};
 ghost use Rattle.aadl_tree.specs.Declarations.{PackageTree};
-ghost use Rattle.aadl_names.specs.declared.fault.FlatFault.{FlatFault};
-ghost use Rattle.aadl_names.specs.declared.fault.FlatFault.TheVariants.{Memory};
+ghost use Rattle.aadl_names.specs.declared.fault.PackageFault.{PackageFault};
+ghost use Rattle.aadl_names.specs.declared.fault.PackageFault.TheVariants.{Memory};
 ghost use Rattle.aadl_instance.specs.Faults.{IsFault};
 ghost use Rattle.aadl_instance.specs.Flat.{Parts, IsFlat};
 ghost use Rattle.design_laws.specs.proof.Packages.{HasFirstFault, HasInstance, HasList};
@@ -14,7 +14,7 @@ pub fn instance_or_fault()
 
 /// The first fault of a package is never `Memory`.
 pub fn first_faults_are_named()
-    ensures { (tree : PackageTree ℕ) (root : List ℕ) (fault : FlatFault) → IsFault tree root fault → fault ≢ Memory }
+    ensures { (tree : PackageTree ℕ) (root : List ℕ) (fault : PackageFault) → IsFault tree root fault → fault ≢ Memory }
 {}
 
 /// Of each instance there is a list of all that is wrong with it.

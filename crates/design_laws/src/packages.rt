@@ -8,7 +8,7 @@ ghost use Rattle.aadl_tree.specs.declared.package.PackageTree as source;
 ghost use Rattle.aadl_tree.specs.Declarations.{PackageTree};
 ghost use Rattle.aadl_tree.specs.proof.Given.{IsGiven};
 ghost use Rattle.aadl_tree.specs.proof.PackageViews.{placed};
-ghost use Rattle.aadl_names.specs.declared.fault.FlatFault.{FlatFault};
+ghost use Rattle.aadl_names.specs.declared.fault.PackageFault.{PackageFault};
 ghost use Rattle.aadl_instance.specs.Faults.{IsFault};
 ghost use Rattle.aadl_instance.specs.Flat.{Parts, IsFlat};
 ghost use Rattle.annex_resolve.specs.declared.violation.Violation.{Violation};
@@ -37,7 +37,7 @@ pub fn one_design()
 
 /// A package that has a design has no fault, and nothing is wrong with its instance.
 pub fn accepted_or_refused()
-    ensures no_fault { (tree : PackageTree ℕ) (root : List ℕ) (design : DesignParts) (fault : FlatFault)
+    ensures no_fault { (tree : PackageTree ℕ) (root : List ℕ) (design : DesignParts) (fault : PackageFault)
         → IsDesignIn tree root design → IsFault tree root fault → ⊥ }
     ensures nothing_wrong { (tree : PackageTree ℕ) (root : List ℕ) (design : DesignParts) (parts : Parts) (list : List Violation)
         → IsDesignIn tree root design → IsFlat tree root parts → AreViolations tree (shown_by tree parts) list → list ≡ [] }

@@ -4,8 +4,8 @@ use Rattle.std.specs.Prelude.{All, Contains}
 use Rattle.std.proofs.lemmas.Int.{fold-int_max_bounds, fold-int_max_reached, fold-int_min_bounds, fold-int_min_reached}
 use Rattle.std.proofs.lemmas.List.Elements.{All-cons, All-contains, Contains-append_right}
 use Rattle.list_lemmas.proofs.Elements.{Contains-head}
-use Rattle.pals_base.specs.declared.values.Port.{Port}
-use Rattle.pals_base.specs.declared.values.Port.TheVariants.{Absent, Present}
+use Rattle.pals_base.specs.declared.values.PortValue.{PortValue}
+use Rattle.pals_base.specs.declared.values.PortValue.TheVariants.{Absent, Present}
 use Rattle.pals_base.specs.declared.values.Adaptor.TheVariants.{Min, Max}
 use Rattle.pals_base.specs.Adaptors.{present, joined, of_present, least_of, greatest_of}
 use Rattle.input_adaptors.specs.proof.Places.{IsLeast, IsGreatest}
@@ -15,14 +15,14 @@ use Rattle.input_adaptors.specs.proof.Places.{IsLeast, IsGreatest}
 pub Contains-tail : {X : Type 0} (y x : X) (xs : List X) → Contains xs x → Contains (y ∷ xs) x
 Contains-tail y x xs among = Contains-append_right (y ∷ []) xs x among
 
-pub Contains-from_present : (ports : List Port) (v : ℤ) → Contains (present ports) v → Contains ports (Present v)
+pub Contains-from_present : (ports : List PortValue) (v : ℤ) → Contains (present ports) v → Contains ports (Present v)
 Contains-from_present [] v among = absurd (omega (arith, among.1))
 Contains-from_present (Absent ∷ ports) v among = Contains-tail Absent (Present v) ports (Contains-from_present ports v among)
 Contains-from_present (Present w ∷ ports) v (zero, below, read) = (0, omega arith, ap Present read)
 Contains-from_present (Present w ∷ ports) v (suc k, below, read) =
     Contains-tail (Present w) (Present v) ports (Contains-from_present ports v (k, omega arith, read))
 
-pub Contains-present : (ports : List Port) (v : ℤ) → Contains ports (Present v) → Contains (present ports) v
+pub Contains-present : (ports : List PortValue) (v : ℤ) → Contains ports (Present v) → Contains (present ports) v
 Contains-present [] v among = absurd (omega (arith, among.1))
 Contains-present (Absent ∷ ports) v (zero, below, read) = cc
 Contains-present (Absent ∷ ports) v (suc k, below, read) = Contains-present ports v (k, omega arith, read)
@@ -51,7 +51,7 @@ All-below_greatest w ws =
     All-cons (λ x. x ≤ℤ greatest_of w ws) w ws bounds.0 bounds.1
 
 -- ---- of a group
-least_present : (group : List Port) (numbers : List ℤ) (v : ℤ) → present group ≡ numbers → of_present least_of numbers ≡ Present v → IsLeast group v
+least_present : (group : List PortValue) (numbers : List ℤ) (v : ℤ) → present group ≡ numbers → of_present least_of numbers ≡ Present v → IsLeast group v
 least_present group [] v same given = cc
 least_present group (w ∷ ws) v same given =
     let e : least_of w ws ≡ v = cc in
@@ -60,10 +60,10 @@ least_present group (w ∷ ws) v same given =
       least = λ x among. subst (λ y. y ≤ℤ x) e (All-contains (λ y. least_of w ws ≤ℤ y) (w ∷ ws) x (All-above_least w ws) (subst (λ vs. Contains vs x) same (Contains-present group x among)));
     }
 
-pub IsLeast-joined : (group : List Port) (v : ℤ) → joined Min group ≡ Present v → IsLeast group v
+pub IsLeast-joined : (group : List PortValue) (v : ℤ) → joined Min group ≡ Present v → IsLeast group v
 IsLeast-joined group v given = least_present group (present group) v refl given
 
-greatest_present : (group : List Port) (numbers : List ℤ) (v : ℤ) → present group ≡ numbers → of_present greatest_of numbers ≡ Present v → IsGreatest group v
+greatest_present : (group : List PortValue) (numbers : List ℤ) (v : ℤ) → present group ≡ numbers → of_present greatest_of numbers ≡ Present v → IsGreatest group v
 greatest_present group [] v same given = cc
 greatest_present group (w ∷ ws) v same given =
     let e : greatest_of w ws ≡ v = cc in
@@ -72,5 +72,5 @@ greatest_present group (w ∷ ws) v same given =
       greatest = λ x among. subst (λ y. x ≤ℤ y) e (All-contains (λ y. y ≤ℤ greatest_of w ws) (w ∷ ws) x (All-below_greatest w ws) (subst (λ vs. Contains vs x) same (Contains-present group x among)));
     }
 
-pub IsGreatest-joined : (group : List Port) (v : ℤ) → joined Max group ≡ Present v → IsGreatest group v
+pub IsGreatest-joined : (group : List PortValue) (v : ℤ) → joined Max group ≡ Present v → IsGreatest group v
 IsGreatest-joined group v given = greatest_present group (present group) v refl given

@@ -3,8 +3,8 @@ use Rattle.std.proofs.Common.{◌≡◌, sym, subst, refl, ℕ, suc, ◌+◌, �
 use Rattle.std.specs.Prelude.{All, Contains}
 use Rattle.std.proofs.lemmas.Int.{ints}
 use Rattle.std.proofs.lemmas.List.Elements.{All-head, All-tail}
-use Rattle.pals_base.specs.declared.values.Port.{Port}
-use Rattle.pals_base.specs.declared.values.Port.TheVariants.{Present}
+use Rattle.pals_base.specs.declared.values.PortValue.{PortValue}
+use Rattle.pals_base.specs.declared.values.PortValue.TheVariants.{Present}
 use Rattle.pals_base.specs.declared.values.Adaptor.TheVariants.{Average}
 use Rattle.pals_base.specs.Adaptors.{present, joined, of_present, average_of, least_of, greatest_of}
 use Rattle.input_adaptors.specs.proof.Places.{IsAboveSome, IsBelowSome}
@@ -53,7 +53,7 @@ mean_below high v vs all =
     quotient_below high (fold ◌+ℤ◌ v vs) (suc (length vs)) (omega arith)
     (subst (λ m. fold ◌+ℤ◌ v vs ≤ℤ (high *ℤ pos m)) e (sum_below high v 1 vs one (All-tail (λ x. x ≤ℤ high) v vs all)))
 
-above_some : (group : List Port) (numbers : List ℤ) (v : ℤ) → present group ≡ numbers → of_present average_of numbers ≡ Present v → IsAboveSome group v
+above_some : (group : List PortValue) (numbers : List ℤ) (v : ℤ) → present group ≡ numbers → of_present average_of numbers ≡ Present v → IsAboveSome group v
 above_some group [] v same given = cc
 above_some group (w ∷ ws) v same given =
     let e : average_of w ws ≡ v = cc in (
@@ -62,7 +62,7 @@ above_some group (w ∷ ws) v same given =
       subst (λ x. least_of w ws ≤ℤ x) e (mean_above (least_of w ws) w ws (All-above_least w ws)),
     )
 
-below_some : (group : List Port) (numbers : List ℤ) (v : ℤ) → present group ≡ numbers → of_present average_of numbers ≡ Present v → IsBelowSome group v
+below_some : (group : List PortValue) (numbers : List ℤ) (v : ℤ) → present group ≡ numbers → of_present average_of numbers ≡ Present v → IsBelowSome group v
 below_some group [] v same given = cc
 below_some group (w ∷ ws) v same given =
     let e : average_of w ws ≡ v = cc in (
@@ -71,8 +71,8 @@ below_some group (w ∷ ws) v same given =
       subst (λ x. x ≤ℤ greatest_of w ws) e (mean_below (greatest_of w ws) w ws (All-below_greatest w ws)),
     )
 
-pub IsAboveSome-joined : (group : List Port) (v : ℤ) → joined Average group ≡ Present v → IsAboveSome group v
+pub IsAboveSome-joined : (group : List PortValue) (v : ℤ) → joined Average group ≡ Present v → IsAboveSome group v
 IsAboveSome-joined group v given = above_some group (present group) v refl given
 
-pub IsBelowSome-joined : (group : List Port) (v : ℤ) → joined Average group ≡ Present v → IsBelowSome group v
+pub IsBelowSome-joined : (group : List PortValue) (v : ℤ) → joined Average group ≡ Present v → IsBelowSome group v
 IsBelowSome-joined group v given = below_some group (present group) v refl given

@@ -8,13 +8,13 @@ use Rattle.std.proofs.lemmas.List.{append-nil, take_more, length_push}
 use Rattle.std.proofs.lemmas.List.Sums.{fold_push}
 use mir.Syntax.{w64}
 use mir.Val.{SFits}
-use Rattle.pals_base.specs.declared.values.Port.{Port}
-use Rattle.pals_base.specs.declared.values.Port.TheVariants.{Absent, Present}
+use Rattle.pals_base.specs.declared.values.PortValue.{PortValue}
+use Rattle.pals_base.specs.declared.values.PortValue.TheVariants.{Absent, Present}
 use Rattle.pals_base.specs.Adaptors.{present, of_present, latest_of, greatest_of, least_of, average_of}
 use Rattle.input_adaptors.specs.proof.Numbers.{number_of, port_of, mean_of}
 
 -- ---- as a chain of iterators gives them
-pub filter_map-number_of : (ports : List Port) → filter_map number_of ports ≡ present ports
+pub filter_map-number_of : (ports : List PortValue) → filter_map number_of ports ≡ present ports
 filter_map-number_of [] = refl
 filter_map-number_of (Absent ∷ ports) = filter_map-number_of ports
 filter_map-number_of (Present v ∷ ports) = ap (λ vs. v ∷ vs) (filter_map-number_of ports)
@@ -69,27 +69,27 @@ pub mean_of_sum : (vs : List ℤ) → mean_of (fold ◌+ℤ◌ (pos 0) vs) (leng
 mean_of_sum [] = refl
 mean_of_sum (v ∷ vs) = ap (λ x. mean_of (fold ◌+ℤ◌ x vs) (suc (length vs))) (zero-+ℤ v)
 
-present-append : (xs ys : List Port) → present (xs ++ ys) ≡ present xs ++ present ys
+present-append : (xs ys : List PortValue) → present (xs ++ ys) ≡ present xs ++ present ys
 present-append [] ys = refl
 present-append (Absent ∷ xs) ys = present-append xs ys
 present-append (Present v ∷ xs) ys = ap (λ vs. v ∷ vs) (present-append xs ys)
 
 -- the sum and the count of the present numbers of the first i ports; the sum lies between `count` times the least and `count`
 -- times the greatest number
-pub record IsSummed (ports : List Port) (i : ℕ) (sum : ℤ) (count : ℕ) : Type 0 where
+pub record IsSummed (ports : List PortValue) (i : ℕ) (sum : ℤ) (count : ℕ) : Type 0 where
   pub total : sum ≡ fold ◌+ℤ◌ (pos 0) (present (take i ports))
   pub counted : count ≡ length (present (take i ports))
   pub few : count ≤ i
   pub low : neg_ℤ (pos (2 ^ 63 * count)) ≤ℤ sum
   pub high : sum ≤ℤ pos ((2 ^ 63 - 1) * count)
 
-present_more : (ports : List Port) (i : ℕ) (port : Port) → i < length ports → get_or ports i Absent ≡ port → present (take (i + 1) ports) ≡ present (take i ports) ++ present (port ∷ [])
+present_more : (ports : List PortValue) (i : ℕ) (port : PortValue) → i < length ports → get_or ports i Absent ≡ port → present (take (i + 1) ports) ≡ present (take i ports) ++ present (port ∷ [])
 present_more ports i port below read =
     ap present (take_more ports i Absent below)
     ∙ present-append (take i ports) (get_or ports i Absent ∷ [])
     ∙ ap (λ p. present (take i ports) ++ present (p ∷ [])) read
 
-pub IsSummed-absent : (ports : List Port) (i : ℕ) (sum : ℤ) (count : ℕ) → i < length ports → get_or ports i Absent ≡ Absent → IsSummed ports i sum count → IsSummed ports (i + 1) sum count
+pub IsSummed-absent : (ports : List PortValue) (i : ℕ) (sum : ℤ) (count : ℕ) → i < length ports → get_or ports i Absent ≡ Absent → IsSummed ports i sum count → IsSummed ports (i + 1) sum count
 IsSummed-absent ports i sum count below read so_far =
     let more : present (take (i + 1) ports) ≡ present (take i ports) = present_more ports i Absent below read ∙ append-nil (present (take i ports)) in
     record {
@@ -100,7 +100,7 @@ IsSummed-absent ports i sum count below read so_far =
       high = so_far.high;
     }
 
-pub IsSummed-present : (ports : List Port) (i : ℕ) (sum : ℤ) (count : ℕ) (v : ℤ) → i < length ports → get_or ports i Absent ≡ Present v → SFits w64 v → IsSummed ports i sum count → IsSummed ports (i + 1) (sum +ℤ v) (count + 1)
+pub IsSummed-present : (ports : List PortValue) (i : ℕ) (sum : ℤ) (count : ℕ) (v : ℤ) → i < length ports → get_or ports i Absent ≡ Present v → SFits w64 v → IsSummed ports i sum count → IsSummed ports (i + 1) (sum +ℤ v) (count + 1)
 IsSummed-present ports i sum count v below read fits so_far =
     let more : present (take (i + 1) ports) ≡ present (take i ports) ++ v ∷ [] = present_more ports i (Present v) below read in
     record {

@@ -8,11 +8,11 @@ pub mod laws;
 mod slower;
 
 ghost use Rattle.std.specs.Prelude.{◌≡◌, ◌/◌, ◌<◌, IfOk, slice_index_or};
-ghost use Rattle.pals_base.specs.declared.values.Port.TheVariants.{Absent};
+ghost use Rattle.pals_base.specs.declared.values.PortValue.TheVariants.{Absent};
 ghost use Rattle.pals_base.specs.Adaptors.{adapt};
 
 use pals_base::tuples::place;
-use pals_base::{Adaptor, NoMemory, Port, Tuple};
+use pals_base::{Adaptor, NoMemory, PortValue, Tuple};
 use std::alloc::Global;
 
 /// What a target that makes `q` steps a round reads of the tuple of a source that makes `p` steps.
@@ -38,7 +38,7 @@ pub fn adapt(
 
 /// Place `step`, from 0, of what `adapt` gives. It takes no memory, so that a step can read its
 /// inputs in the tuples themselves.
-pub fn adapted_place(adaptor: Option<Adaptor>, p: u32, q: u32, tuple: &[Port], step: usize) -> Port
+pub fn adapted_place(adaptor: Option<Adaptor>, p: u32, q: u32, tuple: &[PortValue], step: usize) -> PortValue
     requires { step < q }
     ensures { result ≡ slice_index_or (adapt adaptor p q tuple.now) step Absent }
 {

@@ -3,7 +3,7 @@ ghost use Rattle.std.specs.Prelude.{◌≡◌, ◌<◌, ◌*◌, ◌^◌, IfOk, 
 ghost use Rattle.pals_base.specs.Adaptors.{joined, groups};
 
 use crate::group;
-use pals_base::{Adaptor, NoMemory, Port, Tuple};
+use pals_base::{Adaptor, NoMemory, PortValue, Tuple};
 use std::alloc::Global;
 
 /// One place from each of the first `count` groups of `m` places.
@@ -12,7 +12,7 @@ pub fn join_all(
     adaptor: Adaptor,
     count: u32,
     m: u32,
-    places: &[Port],
+    places: &[PortValue],
 ) -> Result<Tuple, NoMemory>
     ensures { IfOk result (λ t. t ≡ map (joined adaptor) (groups count m places.now)) }
 {
@@ -27,7 +27,7 @@ pub fn join_all(
 }
 
 /// What group `at`, from 0, of `m` places gives.
-pub fn joined_place(adaptor: Adaptor, m: u32, places: &[Port], at: usize) -> Port
+pub fn joined_place(adaptor: Adaptor, m: u32, places: &[PortValue], at: usize) -> PortValue
     requires { at * m < 2 ^ 64 }
     ensures { result ≡ joined adaptor (take m (drop (at * m) places.now)) }
 {

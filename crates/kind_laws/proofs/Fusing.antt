@@ -4,9 +4,9 @@ use Rattle.std.specs.Option.{option_map}
 use Rattle.std.specs.Prelude.{position, slice_index_or, replicate}
 use Rattle.std.proofs.lemmas.List.Elements.{All-take}
 use Rattle.std.proofs.lemmas.Option.{slice_get_within, get_or_from_slice_get, slice_get-map}
-use Rattle.pals_base.specs.declared.values.Port.{Port}
-use Rattle.pals_base.specs.declared.values.Port.TheVariants.{Absent}
-use Rattle.pals_base.specs.declared.behaviour.Named.{Named}
+use Rattle.pals_base.specs.declared.values.PortValue.{PortValue}
+use Rattle.pals_base.specs.declared.values.PortValue.TheVariants.{Absent}
+use Rattle.pals_base.specs.declared.behaviour.PortDecl.{PortDecl}
 use Rattle.pals_base.specs.Bound.{sent_steps}
 use Rattle.pals_base.specs.Fire.{initial}
 use Rattle.pals_base.specs.Steps.{cut, upwards}
@@ -23,7 +23,7 @@ use Rattle.pals_model.specs.Ports.{out_kind}
 use Rattle.pals_model.specs.Composition.{taps_of}
 use Rattle.pals_model.specs.Rules.{IsDesign}
 use Rattle.pals_model.specs.proof.FittingValues.{PortFits, TupleFits, PortsFit, FrameFits, link_kind, EnvFits}
-use Rattle.pals_model.specs.proof.Laws.Kinds.{PartFits}
+use Rattle.pals_model.specs.proof.CompositionLaws.Kinds.{PartFits}
 use Rattle.pals_model.proofs.ShapeLaws.{is_behaviour}
 use Rattle.pals_model.proofs.KindLists.{index_fits}
 use Rattle.pals_model.proofs.KindsOfSteps.{frames_fit, initial_fits}
@@ -95,13 +95,13 @@ module _ (design : DesignParts) (pairs : List Pair) (env : Env) (ins : Inputs) (
 
     messages_fit : (round : ℕ) → round * 128 ≤ m → MessagesFit design (messages_before design pairs ins round)
     messages_fit zero past number link is =
-        let absent : Link → List Port = λ (x : Link). replicate (rate_of design x.source.0) Absent in
+        let absent : Link → List PortValue = λ (x : Link). replicate (rate_of design x.source.0) Absent in
         subst (TupleFits (link_kind design link))
         (sym (get_or_from_slice_get (map absent design.links) number (absent link) []
         (slice_get-map absent design.links number ∙ ap (option_map absent) is)))
         (absent_fits (link_kind design link) (rate_of design link.source.0))
     messages_fit (suc round) past number link is =
-        let message : Link → List Port = message_on design pairs ins round in
+        let message : Link → List PortValue = message_on design pairs ins round in
         subst (TupleFits (link_kind design link))
         (sym (get_or_from_slice_get (map message design.links) number (message link) []
         (slice_get-map message design.links number ∙ ap (option_map message) is)))
@@ -116,7 +116,7 @@ module _ (design : DesignParts) (pairs : List Pair) (env : Env) (ins : Inputs) (
           let from = rank_from_round design pairs rules node step in
           subst (λ k. step / k * 128 ≤ m) rate (omega (arith, from, low))
 
-      module _ (p : ℕ) (port : Named) (is_port : slice_get c.behaviour.ins p ≡ Some port) where
+      module _ (p : ℕ) (port : PortDecl) (is_port : slice_get c.behaviour.ins p ≡ Some port) where
         round_fits : (link feed : Option ℕ) → position (link_goes_to node p) design.links ≡ link
             → position (feed_goes_to node p) design.feeds ≡ feed
             → PortFits port.kind (from_round design pairs env ins c.rate step (from_link link (from_feed design feed)))
@@ -170,11 +170,11 @@ module _ (design : DesignParts) (pairs : List Pair) (env : Env) (ins : Inputs) (
 
       vector_fits : PortsFit c.behaviour.ins (vector_of design pairs env ins node c step)
       vector_fits = λ p port is_port.
-          let value : PortSource → Port = value_read design pairs env ins c.rate step in
+          let value : PortSource → PortValue = value_read design pairs env ins c.rate step in
           let from : ℕ → PortSource = λ q. source_of design node q in
           let count = length c.behaviour.ins in
           let here : slice_index_or (map value (sources_of design node c)) p Absent ≡ value (from p) =
-          ap (λ (values : List Port). slice_index_or values p Absent) (map_map from value (upwards 0 count))
+          ap (λ (values : List PortValue). slice_index_or values p Absent) (map_map from value (upwards 0 count))
           ∙ table-at (λ q. value (from q)) count p Absent (slice_get_within c.behaviour.ins p port is_port) in
           subst (PortFits port.kind) (sym here)
           (value_fits p port is_port (position (link_goes_to node p) design.links)
@@ -188,7 +188,7 @@ module _ (design : DesignParts) (pairs : List Pair) (env : Env) (ins : Inputs) (
         let vectors = map vector (upwards 0 (rounds * c.rate)) in
         let row : inputs_to ins node ≡ vectors =
         ap (λ (v : Inputs). inputs_to v node) solves ∙ read_at design pairs rules are env rounds ins node c is_c in
-        subst (λ (xs : List (List Port)). PortsFit c.behaviour.ins (slice_index_or xs step [])) (sym row)
+        subst (λ (xs : List (List PortValue)). PortsFit c.behaviour.ins (slice_index_or xs step [])) (sym row)
         (upwards_at (PortsFit c.behaviour.ins) vector 0 (rounds * c.rate) step step [] (omega arith)
         (vector_fits m below_fit node c is_c step (omega (arith, low))) (λ p port is. tt))
 
@@ -221,7 +221,7 @@ module _ (design : DesignParts) (pairs : List Pair) (env : Env) (ins : Inputs) (
     part_fits node round c is_c = record {
       frame = before_step node (suc round * c.rate) c is_c;
       outs = λ k tap is_tap.
-          let tuple : Tap → List Port = λ (t : Tap). round_tuple design ins node t.out_port round in
+          let tuple : Tap → List PortValue = λ (t : Tap). round_tuple design ins node t.out_port round in
           let here : slice_index_or (map tuple (taps_of design node)) k [] ≡ tuple tap =
           get_or_from_slice_get (map tuple (taps_of design node)) k (tuple tap) []
           (slice_get-map tuple (taps_of design node) k ∙ ap (option_map tuple) is_tap) in

@@ -4,9 +4,9 @@ use Rattle.std.specs.Prelude.{position, slice_index_or}
 use Rattle.std.proofs.lemmas.Bool.{and_parts, eqb-true}
 use Rattle.std.proofs.lemmas.List.Elements.{All-nil, All-cons}
 use Rattle.std.proofs.lemmas.Option.{slice_get_within}
-use Rattle.pals_base.specs.declared.values.Port.{Port}
-use Rattle.pals_base.specs.declared.values.Port.TheVariants.{Absent}
-use Rattle.pals_base.specs.declared.behaviour.Named.{Named}
+use Rattle.pals_base.specs.declared.values.PortValue.{PortValue}
+use Rattle.pals_base.specs.declared.values.PortValue.TheVariants.{Absent}
+use Rattle.pals_base.specs.declared.behaviour.PortDecl.{PortDecl}
 use Rattle.pals_base.specs.Allowed.{suits_kind}
 use Rattle.pals_base.specs.Steps.{upwards, column}
 use Rattle.pals_model.specs.declared.design.Component.{Component}
@@ -27,13 +27,13 @@ use Rattle.plant_fuse.proofs.Numbered.{map_map}
 use Rattle.triple_vote.proofs.Tables.{table-at}
 use Rattle.kind_laws.proofs.Lists.{upwards_all}
 
-abbrev pub MessagesFit : DesignParts → List (List Port) → Type 0
+abbrev pub MessagesFit : DesignParts → List (List PortValue) → Type 0
 MessagesFit design messages =
     (number : ℕ) (link : Link) → slice_get design.links number ≡ Some link
     → TupleFits (link_kind design link) (slice_index_or messages number [])
 
 -- ---- an in port
-module _ (design : DesignParts) (rules : IsDesign design) (node p : ℕ) (c : Component) (port : Named)
+module _ (design : DesignParts) (rules : IsDesign design) (node p : ℕ) (c : Component) (port : PortDecl)
     (is_c : slice_get design.components node ≡ Some c) (is_port : slice_get c.behaviour.ins p ≡ Some port) where
   kind_at : (target in_port : ℕ) → target ≡ node → in_port ≡ p
       → in_kind (slice_get design.components target) in_port ≡ port.kind
@@ -63,7 +63,7 @@ module _ (design : DesignParts) (rules : IsDesign design) (node p : ℕ) (c : Co
         suits = subst (λ k. IsTrue (suits_kind link.adaptor k)) kind rule.suits;
       }
 
-  module _ (env : Env) (round : ℕ) (messages : List (List Port)) (given : EnvFits design env)
+  module _ (env : Env) (round : ℕ) (messages : List (List PortValue)) (given : EnvFits design env)
       (sent : MessagesFit design messages) where
     feed_fits : (number : ℕ) → position (feed_goes_to node p) design.feeds ≡ Some number
         → TupleFits port.kind (read_feed (slice_index_or (values_at env round) (root_of design number) Absent) c.rate
@@ -101,19 +101,19 @@ module _ (design : DesignParts) (rules : IsDesign design) (node p : ℕ) (c : Co
     reading_fits None None is_link is_feed = absent_fits port.kind c.rate
 
 -- ---- the vectors of a round
-pub vectors_fit : (design : DesignParts) (env : Env) (round : ℕ) (messages : List (List Port)) (node : ℕ)
+pub vectors_fit : (design : DesignParts) (env : Env) (round : ℕ) (messages : List (List PortValue)) (node : ℕ)
     (c : Component)
     → IsDesign design → EnvFits design env → MessagesFit design messages → slice_get design.components node ≡ Some c
     → All (PortsFit c.behaviour.ins) (inputs_of design (values_at env round) messages node c)
 vectors_fit design env round messages node c rules given sent is_c =
-    let read : PortSource → List Port = reading design (values_at env round) messages c.rate in
+    let read : PortSource → List PortValue = reading design (values_at env round) messages c.rate in
     let source : ℕ → PortSource = λ p. source_of design node p in
     let count = length c.behaviour.ins in
     let lists = map read (sources_of design node c) in
     upwards_all (PortsFit c.behaviour.ins) (λ at. column at lists) 0 c.rate
     (λ at above below p port is.
     let here : slice_index_or lists p [] ≡ read (source p) =
-    ap (λ (tuples : List (List Port)). slice_index_or tuples p []) (map_map source read (upwards 0 count))
+    ap (λ (tuples : List (List PortValue)). slice_index_or tuples p []) (map_map source read (upwards 0 count))
     ∙ table-at (λ q. read (source q)) count p [] (slice_get_within c.behaviour.ins p port is) in
     let fits : TupleFits port.kind (slice_index_or lists p []) =
     subst (TupleFits port.kind) (sym here)

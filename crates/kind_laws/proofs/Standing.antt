@@ -3,8 +3,8 @@ use Rattle.std.proofs.Common.{◌≡◌, ◌∙◌, ℕ, zero, suc, List, [], le
 use Rattle.std.specs.Prelude.{slice_index_or}
 use Rattle.std.proofs.lemmas.List.Elements.{All-nil, All-take, All-weaker}
 use Rattle.std.proofs.lemmas.Option.{same_Some}
-use Rattle.pals_base.specs.declared.values.Port.{Port}
-use Rattle.pals_base.specs.declared.values.Port.TheVariants.{Absent}
+use Rattle.pals_base.specs.declared.values.PortValue.{PortValue}
+use Rattle.pals_base.specs.declared.values.PortValue.TheVariants.{Absent}
 use Rattle.pals_base.specs.Steps.{Stepped, upwards}
 use Rattle.pals_model.specs.declared.design.Component.{Component}
 use Rattle.pals_model.specs.declared.design.Link.{Link}
@@ -15,7 +15,7 @@ use Rattle.pals_model.specs.Inputs.{values_at, feed, inputs_in}
 use Rattle.pals_model.specs.Composition.{comp, state, msg, part}
 use Rattle.pals_model.specs.Rules.{IsDesign}
 use Rattle.pals_model.specs.proof.FittingValues.{PortFits, TupleFits, PortsFit, FrameFits, link_kind, EnvFits}
-use Rattle.pals_model.specs.proof.Laws.Kinds.{PartFits}
+use Rattle.pals_model.specs.proof.CompositionLaws.Kinds.{PartFits}
 use Rattle.pals_model.proofs.CompositionLaws.{links_begin_absent}
 use Rattle.pals_model.proofs.ShapeLaws.{is_behaviour, state_has_shape}
 use Rattle.pals_model.proofs.KindLists.{index_fits}
@@ -41,7 +41,7 @@ waiting_fit design env zero rules given number link is =
     let kind = link_kind design link in
     let message = slice_index_or (comp design env 0).messages number [] in
     All-weaker (λ p. p ≡ Absent) (PortFits kind) (λ p absent. subst (PortFits kind) (sym absent) tt) message
-    (index_fits (λ (tuple : List Port). All (λ p. p ≡ Absent) tuple) (comp design env 0).messages number []
+    (index_fits (λ (tuple : List PortValue). All (λ p. p ≡ Absent) tuple) (comp design env 0).messages number []
     (links_begin_absent design env) (All-nil (λ p. p ≡ Absent)))
 waiting_fit design env (suc round) rules given number link is = messages_fit design env number round link rules given is
 
@@ -91,7 +91,7 @@ module _ (run : Run) (s : BusState) (rules : IsDesign run.design) (given : EnvFi
         let vectors = feed run.design run.env (comp run.design run.env round).messages node round in
         subst (λ (w : Work). PortsFit c.behaviour.ins w.inputs)
         (same_Some (job_of (plan_of run.design node) n step) job out)
-        (subst (λ (xs : List (List Port)). PortsFit c.behaviour.ins (slice_index_or xs step []))
+        (subst (λ (xs : List (List PortValue)). PortsFit c.behaviour.ins (slice_index_or xs step []))
         (sym agrees'.under_way.vectors)
         (index_fits (PortsFit c.behaviour.ins) vectors step []
         (feed_fit run.design run.env node round c rules given is_c) (λ p port is. tt)))
@@ -108,7 +108,7 @@ module _ (run : Run) (s : BusState) (rules : IsDesign run.design) (given : EnvFi
 
   -- ---- links
   module _ (number : ℕ) (link : Link) (is_link : slice_get run.design.links number ≡ Some link) where
-    slot_by : (count : ℕ) (o : Option (List Port)) (message : List Port) → SlotAgrees run number count o
+    slot_by : (count : ℕ) (o : Option (List PortValue)) (message : List PortValue) → SlotAgrees run number count o
         → o ≡ Some message → TupleFits (link_kind run.design link) message
     slot_by count None message agrees' full = absurd (cc)
     slot_by count (Some tuple) message agrees' full =

@@ -4,11 +4,11 @@ use Rattle.std.specs.Prelude.{slice_index_or}
 use Rattle.std.proofs.lemmas.List.Elements.{All-append, All-take}
 use Rattle.std.proofs.lemmas.Option.{slice_get_within}
 use Rattle.pals_base.specs.declared.values.Frame.{Frame}
-use Rattle.pals_base.specs.declared.values.Port.{Port}
-use Rattle.pals_base.specs.declared.values.Port.TheVariants.{Absent, Present}
+use Rattle.pals_base.specs.declared.values.PortValue.{PortValue}
+use Rattle.pals_base.specs.declared.values.PortValue.TheVariants.{Absent, Present}
 use Rattle.pals_base.specs.declared.behaviour.Kind.{Kind}
 use Rattle.pals_base.specs.declared.behaviour.Kind.TheVariants.{Integer}
-use Rattle.pals_base.specs.declared.behaviour.Named.{Named}
+use Rattle.pals_base.specs.declared.behaviour.PortDecl.{PortDecl}
 use Rattle.pals_base.specs.declared.behaviour.BehaviourParts.{BehaviourParts}
 use Rattle.pals_base.specs.Fire.{fire, HasShape}
 use Rattle.pals_base.specs.Rules.{IsBehaviour}
@@ -23,22 +23,22 @@ use Rattle.triple_vote.proofs.Tables.{table-at}
 
 -- ---- a port
 -- each value is a number
-any_number : (value : Port) → PortFits Integer value
+any_number : (value : PortValue) → PortFits Integer value
 any_number Absent = tt
 any_number (Present v) = tt
 
-port_by : (ports : List Named) (values : List Port) (p : ℕ) (o : Option Named) → PortsFit ports values
+port_by : (ports : List PortDecl) (values : List PortValue) (p : ℕ) (o : Option PortDecl) → PortsFit ports values
     → slice_get ports p ≡ o
     → PortFits (kind_of o) (slice_index_or values p Absent)
 port_by ports values p None fits is = any_number (slice_index_or values p Absent)
 port_by ports values p (Some port) fits is = fits p port is
 
-pub port_fits : (ports : List Named) (values : List Port) (p : ℕ) → PortsFit ports values
+pub port_fits : (ports : List PortDecl) (values : List PortValue) (p : ℕ) → PortsFit ports values
     → PortFits (kind_of (slice_get ports p)) (slice_index_or values p Absent)
 port_fits ports values p fits = port_by ports values p (slice_get ports p) fits refl
 
 -- ---- the outputs of a step, where all inputs up to it fit
-pub output_fits : (b : BehaviourParts) (frame : Frame) (vectors : List (List Port)) (step : ℕ) → IsBehaviour b
+pub output_fits : (b : BehaviourParts) (frame : Frame) (vectors : List (List PortValue)) (step : ℕ) → IsBehaviour b
     → HasShape b frame
     → FrameFits b frame → ((k : ℕ) → k ≤ step → PortsFit b.ins (slice_index_or vectors k []))
     → PortsFit b.outs (slice_index_or (outputs b frame vectors) step [])
@@ -51,7 +51,7 @@ output_fits b frame (inputs ∷ vectors) (suc step) rules shape fits each =
     (λ k below. each (suc k) (omega arith))
 
 -- ---- the tuple of an out port
-tuple_by : (b : BehaviourParts) (frame : Frame) (vectors : List (List Port)) (port : ℕ) (o : Option Named)
+tuple_by : (b : BehaviourParts) (frame : Frame) (vectors : List (List PortValue)) (port : ℕ) (o : Option PortDecl)
     → All (PortsFit b.outs) (outputs b frame vectors) → slice_get b.outs port ≡ o
     → TupleFits (kind_of o) (slice_index_or (steps b frame vectors).tuples port [])
 tuple_by b frame vectors port None all is =
@@ -60,17 +60,17 @@ tuple_by b frame vectors port (Some named) all is =
     let rows = outputs b frame vectors in
     let here = table-at (λ at. column at rows) (length b.outs) port [] (slice_get_within b.outs port named is) in
     subst (TupleFits named.kind) (sym here)
-    (map_all (PortsFit b.outs) (PortFits named.kind) (λ (row : List Port). slice_index_or row port Absent) rows
+    (map_all (PortsFit b.outs) (PortFits named.kind) (λ (row : List PortValue). slice_index_or row port Absent) rows
     (λ row fits. fits port named is) all)
 
-pub tuple_fits : (b : BehaviourParts) (frame : Frame) (vectors : List (List Port)) (port : ℕ) → IsBehaviour b
+pub tuple_fits : (b : BehaviourParts) (frame : Frame) (vectors : List (List PortValue)) (port : ℕ) → IsBehaviour b
     → HasShape b frame
     → FrameFits b frame → All (PortsFit b.ins) vectors
     → TupleFits (kind_of (slice_get b.outs port)) (slice_index_or (steps b frame vectors).tuples port [])
 tuple_fits b frame vectors port rules shape fits all =
     tuple_by b frame vectors port (slice_get b.outs port) (outputs_fit b frame vectors rules shape fits all) refl
 
-pub cut_fits : (kind : Kind) (n : ℕ) (tuple : List Port) → TupleFits kind tuple → TupleFits kind (cut n tuple)
+pub cut_fits : (kind : Kind) (n : ℕ) (tuple : List PortValue) → TupleFits kind tuple → TupleFits kind (cut n tuple)
 cut_fits kind n tuple fits =
     All-append (PortFits kind) (take n tuple) (replicate (length tuple - n) Absent)
     (All-take (PortFits kind) n tuple fits)

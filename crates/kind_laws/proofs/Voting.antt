@@ -7,8 +7,8 @@ use Rattle.std.proofs.lemmas.List.Elements.{All-nil, All-cons, All-head, All-tai
 use Rattle.std.proofs.lemmas.Option.{slice_get_within}
 use Rattle.std.proofs.Math.ListN.{get_or-map}
 use Rattle.pals_base.specs.declared.values.Frame.{Frame}
-use Rattle.pals_base.specs.declared.values.Port.{Port}
-use Rattle.pals_base.specs.declared.values.Port.TheVariants.{Absent}
+use Rattle.pals_base.specs.declared.values.PortValue.{PortValue}
+use Rattle.pals_base.specs.declared.values.PortValue.TheVariants.{Absent}
 use Rattle.pals_base.specs.declared.behaviour.Kind.{Kind}
 use Rattle.pals_base.specs.declared.behaviour.BehaviourParts.{BehaviourParts}
 use Rattle.pals_base.specs.Bound.{sent_steps}
@@ -33,19 +33,19 @@ use Rattle.pals_runs.specs.declared.pairs.VoteFault.{VoteFault}
 use Rattle.triple_vote.specs.Votes.{same_port, vote, votes}
 use Rattle.triple_vote.specs.Replicas.{is_replicated, copies_of, receivers_in, Voted, frame_at, heard_by, first_frame, first_tuple, vopening, steps_in, replica_steps, tuple_at, is_fault, fault_or, own_message, sent_to, vote_of, receives_on, vnext, vcomp, vshown_by, vshown}
 use Rattle.triple_vote.proofs.Tables.{length-upwards, table-at, found}
-use Rattle.triple_vote.proofs.Following.{has_first, has_three}
+use Rattle.triple_vote.proofs.ReplicasFollow.{has_first, has_three}
 use Rattle.kind_laws.specs.proof.Votes.{FaultFits, FaultsFit, VotesFit, ShownFit}
 use Rattle.kind_laws.proofs.Lists.{upwards_all, either_fits}
 use Rattle.kind_laws.proofs.Readings.{MessagesFit, vectors_fit}
 use Rattle.kind_laws.proofs.Stepping.{tuple_fits, cut_fits}
 
 -- ---- the vote of three
-vote_fits : (kind : Kind) (x y z : Port) → PortFits kind x → PortFits kind y → PortFits kind (vote x y z)
+vote_fits : (kind : Kind) (x y z : PortValue) → PortFits kind x → PortFits kind y → PortFits kind (vote x y z)
 vote_fits kind x y z first second =
     either_fits (PortFits kind) (same_port x y || same_port x z) x (if same_port y z then y else Absent) first
     (either_fits (PortFits kind) (same_port y z) y Absent second tt)
 
-votes_fit : (kind : Kind) (xs ys zs : List Port) → TupleFits kind xs → TupleFits kind ys
+votes_fit : (kind : Kind) (xs ys zs : List PortValue) → TupleFits kind xs → TupleFits kind ys
     → TupleFits kind (votes xs ys zs)
 votes_fit kind [] ys zs first second = All-nil (PortFits kind)
 votes_fit kind (x ∷ xs) [] zs first second = All-nil (PortFits kind)
@@ -86,7 +86,7 @@ count_at design replicated f node within =
     ∙ length-map (upwards 0 (copies_of replicated node)) (f node)
     ∙ length-upwards 0 (copies_of replicated node)
 
-tuples_at : (design : DesignParts) (replicated : List Bool) (f : ℕ → ℕ → List Port) (number : ℕ)
+tuples_at : (design : DesignParts) (replicated : List Bool) (f : ℕ → ℕ → List PortValue) (number : ℕ)
     → number < length design.links
     → slice_index_or (map (λ l. map (f l) (upwards 0 (receivers_in replicated (slice_get design.links l))))
     (upwards 0 (length design.links))) number []
@@ -127,7 +127,7 @@ module _ (design : DesignParts) (env : Env) (replicated : List Bool) (rules : Is
 
   -- ---- one round
   module _ (v : Voted) (round : ℕ) (keeps : Keeps design replicated v) where
-    abbrev values : List Port
+    abbrev values : List PortValue
     values = values_at env round
 
     stands : (node replica : ℕ) (c : Component) → slice_get design.components node ≡ Some c
@@ -143,7 +143,7 @@ module _ (design : DesignParts) (env : Env) (replicated : List Bool) (rules : Is
     heard_fit replica = λ number link is.
         let kind = link_kind design link in
         subst (TupleFits kind) (sym
-        (get_or-map (λ (tuples : List (List Port)). slice_index_or tuples replica []) v.received number []))
+        (get_or-map (λ (tuples : List (List PortValue)). slice_index_or tuples replica []) v.received number []))
         (index_fits (TupleFits kind) (slice_index_or v.received number []) replica [] (keeps.received number link is)
         (All-nil (PortFits kind)))
 
@@ -203,7 +203,7 @@ module _ (design : DesignParts) (env : Env) (replicated : List Bool) (rules : Is
 
     -- ---- messages, with the faults of the round
     module _ (faults : List VoteFault) (fit : All (FaultFits design) faults) where
-      faulty_fits : (number : ℕ) (link : Link) (replica target : ℕ) (own : List Port) (o : Option VoteFault)
+      faulty_fits : (number : ℕ) (link : Link) (replica target : ℕ) (own : List PortValue) (o : Option VoteFault)
           → slice_get design.links number ≡ Some link
           → TupleFits (link_kind design link) own → find (is_fault number replica target) faults ≡ o
           → TupleFits (link_kind design link) (fault_or o own)
@@ -258,7 +258,7 @@ module _ (design : DesignParts) (env : Env) (replicated : List Bool) (rules : Is
             (λ r above below. steps_stand node r c is_c (omega (arith, below))));
         received = λ number link is.
             let kind = link_kind design link in
-            let received : ℕ → ℕ → List Port =
+            let received : ℕ → ℕ → List PortValue =
             λ l t. receives_on design replicated values faults v l t (slice_get design.links l) in
             subst (All (TupleFits kind))
             (sym (tuples_at design replicated received number (slice_get_within design.links number link is)))

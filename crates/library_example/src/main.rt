@@ -3,7 +3,7 @@
 #![tactic(auto)]
 
 ghost use Rattle.std.specs.Prelude.{◌≡◌, ◌∷◌, [], OnOk, IsTrue, None};
-ghost use Rattle.pals_base.specs.declared.values.Port.TheVariants.{Present};
+ghost use Rattle.pals_base.specs.declared.values.PortValue.TheVariants.{Present};
 ghost use Rattle.sync_product.specs.proof.State.{advanced};
 ghost use Rattle.bus_machine.specs.Machine.{Arrive};
 ghost use Rattle.bus_machine.specs.Agreement.{Agrees};
@@ -12,7 +12,7 @@ ghost use Rattle.pals_bus.specs.Values.{Happens};
 use bundle_designs::accept;
 use design_codes::compile_all;
 use loose_world::add_finished;
-use pals_base::{LinkNo, NoMemory, NodeNo, Port, Text};
+use pals_base::{LinkNo, NoMemory, NodeNo, PortValue, Text};
 use pals_bus::Bus;
 use pals_model::Design;
 use pals_report::{TapPlaces, add_row};
@@ -54,7 +54,7 @@ fn compose(alloc: Global, design: &Arc<Design>, text: &mut Vec<u8>) -> Result<()
 fn advance(product: &mut Product, goal: i64) -> std::result::Result<(), NoMemory>
     ensures { OnOk result (product.new ≡ advanced product.old (Present goal ∷ [])) }
 {
-    product.advance(&[Port::Present(goal)])
+    product.advance(&[PortValue::Present(goal)])
 }
 
 // A bus of a design whose nodes have their components' step code, for the rounds and the inputs of a scenario.

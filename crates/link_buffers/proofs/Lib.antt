@@ -1,5 +1,5 @@
-pub mod Firsts
-pub mod Moves
+pub mod FirstItems
+pub mod MovedItems
 pub mod Parts
 pub mod Rings
 pub mod Splits

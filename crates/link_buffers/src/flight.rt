@@ -4,7 +4,7 @@ ghost use Rattle.pals_model.specs.Flights.{oldest, without_oldest};
 ghost use Rattle.link_buffers.specs.proof.Flights.{flight_of, due_rounds, least};
 
 use crate::middle::{standing_at, take_at};
-use crate::ring::{Ring, Standing, least_due, place_of_oldest, top_with};
+use crate::ring::{Ring, RingEntry, least_due, place_of_oldest, top_with};
 use pals_base::{Nanos, NoMemory, Tuple};
 use pals_model::FlightCopy;
 use std::alloc::Global;
@@ -61,7 +61,7 @@ impl Flight {
     {
         let top = top_with(&self.ring, round);
         let copy = FlightCopy { round, due, tuple };
-        self.ring.push_back(Standing { copy, top });
+        self.ring.push_back(RingEntry { copy, top });
     }
 
     /// Takes out the oldest copy of a round, or nothing where there is none. The others keep their

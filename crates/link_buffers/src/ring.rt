@@ -12,13 +12,13 @@ use pals_model::FlightCopy;
 
 /// A copy in a ring. No copy up to it is of a round above its top.
 #[derive(Drop)]
-pub struct Standing {
+pub struct RingEntry {
     pub copy: FlightCopy,
     pub top: u32,
 }
 
 /// Copies in order of adding, in a ring.
-pub type Ring = HeapCircularBuffer<Standing>;
+pub type Ring = HeapCircularBuffer<RingEntry>;
 
 /// The place of the oldest copy of a round. The search starts at the first copy that was added once one
 /// of that round or of a later one was there: mostly at the copy itself. Where that one was taken out, it

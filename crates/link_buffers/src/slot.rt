@@ -12,9 +12,9 @@ pub struct Slot {
 
 impl Model for Slot {
     ghost use Rattle.std.specs.Prelude.{List, Option};
-    ghost use Rattle.pals_base.specs.declared.values.Port.{Port};
+    ghost use Rattle.pals_base.specs.declared.values.PortValue.{PortValue};
 
-    ghost Value = { Option (List Port) };
+    ghost Value = { Option (List PortValue) };
 
     ghost view = { λ slot. slot.tuple };
 }

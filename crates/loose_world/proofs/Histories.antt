@@ -22,7 +22,7 @@ use Rattle.bus_machine.specs.States.{Run, opening, BusState, node_at, no_node}
 use Rattle.bus_machine.specs.Stops.{sent_rounds}
 use Rattle.bus_machine.specs.Machine.{BusEvent, IsStep}
 use Rattle.bus_machine.specs.Agreement.{PhaseAgrees}
-use Rattle.bus_machine.specs.proof.Laws.{IsRunOf}
+use Rattle.bus_machine.specs.proof.MachineLaws.{IsRunOf}
 use Rattle.bus_machine.specs.WorldTexts.{is_finish, sender, sends_of, finished_by}
 use Rattle.pals_bus.specs.Values.{BusValue, Happens}
 use Rattle.pals_bus.specs.proof.Values.{opening_bus}

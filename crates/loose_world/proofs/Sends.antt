@@ -24,7 +24,7 @@ use Rattle.bus_machine.specs.States.{Run, BusState, node_at, flight_at}
 use Rattle.bus_machine.specs.Stops.{sent_rounds, rounds_sent_on}
 use Rattle.bus_machine.specs.Machine.{Send, IsStep, flight_after_send, after_send}
 use Rattle.bus_machine.specs.Agreement.{IsCopy, Agrees}
-use Rattle.bus_machine.specs.proof.Laws.{IsRunOf}
+use Rattle.bus_machine.specs.proof.MachineLaws.{IsRunOf}
 use Rattle.bus_machine.specs.WorldTexts.{sender, sends_of, sent_line, sent_lines}
 use Rattle.bus_machine.proofs.Arrivals.{step_keeps_agreement}
 use Rattle.bus_machine.proofs.Lists.{numbered_at, oldest_is_one}

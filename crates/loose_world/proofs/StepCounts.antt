@@ -7,7 +7,7 @@ use Rattle.bus_machine.proofs.Moves.{sent_at_start, sent_behind, grows_at, stays
 use Rattle.list_lemmas.proofs.Numbers.{add_zero_from}
 use Rattle.pals_base.specs.declared.values.NodeNo.{NodeNo}
 use Rattle.pals_base.specs.declared.values.LinkNo.{LinkNo}
-use Rattle.pals_base.specs.declared.values.Port.{Port}
+use Rattle.pals_base.specs.declared.values.PortValue.{PortValue}
 use Rattle.pals_model.specs.declared.rounds.Part.{Part}
 use Rattle.pals_model.specs.Inputs.{rate_of, rate_in, values_at}
 use Rattle.pals_runs.specs.declared.journal.Phase.{Phase}
@@ -25,7 +25,7 @@ use Rattle.bus_machine.specs.States.{Run, BusState, node_at, flight_at, link_at,
 use Rattle.bus_machine.specs.Stops.{missing_link, sent_rounds}
 use Rattle.bus_machine.specs.Machine.{BusEvent, Start, Step, Finish, Send, Arrive, Drop, Repeat, IsStep, after, after_start, after_send, after_arrive, on_step, is_allowed}
 use Rattle.bus_machine.specs.Agreement.{PhaseAgrees, Agrees}
-use Rattle.bus_machine.specs.proof.Laws.{IsRunOf}
+use Rattle.bus_machine.specs.proof.MachineLaws.{IsRunOf}
 use Rattle.bus_machine.proofs.Nodes.{finish_keeps, MaySend, may_send_of}
 use Rattle.bus_machine.proofs.States.{is_component}
 use Rattle.loose_world.specs.proof.Counts.{steps_in_hand, steps_finished, IsCounted}
@@ -194,7 +194,7 @@ counts_send run s node reading k agree may =
     }
 
 -- ---- Arrive
-arrival_keeps : (run : Run) (node : ℕ) (n : NodeState) (port : ℕ) (tuple : List Port) (a : Arrived)
+arrival_keeps : (run : Run) (node : ℕ) (n : NodeState) (port : ℕ) (tuple : List PortValue) (a : Arrived)
     → (steps_of run node (with_message n port tuple a) ≡ steps_of run node n)
     × (sent_rounds (with_message n port tuple a) ≡ sent_rounds n)
 arrival_keeps run node n port tuple Kept = (refl, refl)

@@ -8,7 +8,7 @@ use Rattle.pals_runs.specs.declared.events.Event.TheVariants as event
 use Rattle.pals_runs.specs.declared.journal.JournalEntry.{JournalEntry}
 use Rattle.bus_machine.specs.States.{Run}
 use Rattle.bus_machine.specs.Machine.{BusEvent, Start, Step, Finish, Send, Arrive, Drop, Repeat, IsStep}
-use Rattle.bus_machine.specs.proof.Laws.{IsRunOf}
+use Rattle.bus_machine.specs.proof.MachineLaws.{IsRunOf}
 use Rattle.bus_machine.specs.Replay.{Replays, opens, goes_on, entries}
 use Rattle.bus_machine.proofs.Arrivals.{opening_agrees, step_keeps_agreement}
 use Rattle.pals_bus.specs.Values.{BusValue, Happens}

@@ -1,3 +1,3 @@
-pub mod Wholes
+pub mod AllParts
 pub mod Threads
-pub mod Keeping
+pub mod KeptBehaviours

@@ -9,7 +9,7 @@ ghost use Rattle.aadl_names.specs.Resolving.{implementation_at};
 ghost use Rattle.model_violations.specs.Threads.{IsSmall};
 ghost use Rattle.design_laws.specs.Designs.{HasRules, thread_behaviour};
 ghost use Rattle.model_checks.specs.proof.Limits.{IsWithinLimits};
-ghost use Rattle.model_checks.specs.proof.Kept.{behaviour_at, AreKept};
+ghost use Rattle.model_checks.specs.proof.KeptBehaviours.{behaviour_at, AreKept};
 
 use aadl_instance::ThreadAt;
 use aadl_uses::Uses;

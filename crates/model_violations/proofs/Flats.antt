@@ -11,7 +11,7 @@ use Rattle.list_lemmas.proofs.Places.{position_from-within}
 use Rattle.pals_base.specs.declared.limits.TheConstants.{PORTS, VARIABLES}
 use Rattle.aadl_tree.specs.Annexes.{VariableDeclaration, AnnexTree}
 use Rattle.aadl_tree.specs.Declarations.{Implementation, PackageTree}
-use Rattle.aadl_names.specs.declared.fault.FlatFault.TheVariants.{TooMany}
+use Rattle.aadl_names.specs.declared.fault.PackageFault.TheVariants.{TooMany}
 use Rattle.aadl_names.specs.Behaviours as names
 use Rattle.aadl_names.specs.Resolving.{is_root, is_thread, first_number, implementation_at, ports_of}
 use Rattle.aadl_names.specs.Behaviours.{first_behaviour}

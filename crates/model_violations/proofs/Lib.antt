@@ -1,4 +1,4 @@
-pub mod Kept
+pub mod OneMoreFinding
 pub mod Settings
 pub mod Spelled
 pub mod Numbers

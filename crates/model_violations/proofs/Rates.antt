@@ -8,7 +8,7 @@ use Rattle.pals_base.specs.declared.limits.TheConstants.{RATE}
 use Rattle.aadl_tree.specs.Declarations.{PackageTree}
 use Rattle.aadl_uses.specs.declared.thread_places.ThreadAt.{ThreadAt}
 use Rattle.component_checks.specs.Numbers.{divides, is_rate, rate_of}
-use Rattle.component_checks.specs.Threads.{thread_rate, raised, greatest_rate, root_period, own_period}
+use Rattle.component_checks.specs.Threads.{thread_rate, greater_rate, greatest_rate, root_period, own_period}
 
 passed_by : (b : Bool) (n k : ℕ) → cond b (Some n) None ≡ Some k → (b ≡ true) × (n ≡ k)
 passed_by true n k is = (refl, cc)
@@ -43,18 +43,18 @@ rates_positive tree root threads rates are n k is =
     rate_at tree root (slice_get threads n) k (sym (slice_get-map (thread_rate tree root) threads n) ∙ ap (λ l. slice_get l n) (sym are) ∙ is)
 
 -- ---- the greatest
-raised_within : (k : ℕ) (o : Option ℕ) → k ≤ RATE → ((r : ℕ) → o ≡ Some r → r ≤ RATE) → raised k o ≤ RATE
+raised_within : (k : ℕ) (o : Option ℕ) → k ≤ RATE → ((r : ℕ) → o ≡ Some r → r ≤ RATE) → greater_rate k o ≤ RATE
 raised_within k None within each = within
 raised_within k (Some r) within each = let h = each r refl in omega (arith, within, h)
 
-greatest_within : (k : ℕ) (tree : PackageTree ℕ) (root : ℕ) (threads : List ThreadAt) → k ≤ RATE → fold raised k (map (thread_rate tree root) threads) ≤ RATE
+greatest_within : (k : ℕ) (tree : PackageTree ℕ) (root : ℕ) (threads : List ThreadAt) → k ≤ RATE → fold greater_rate k (map (thread_rate tree root) threads) ≤ RATE
 greatest_within k tree root [] within = within
 greatest_within k tree root (x ∷ threads) within =
-    greatest_within (raised k (thread_rate tree root x)) tree root threads
+    greatest_within (greater_rate k (thread_rate tree root x)) tree root threads
     (raised_within k (thread_rate tree root x) within (λ r is. (rate_bounds (root_period tree root) (own_period tree root x.subs) r is).1))
 
 pub greatest_fits : (tree : PackageTree ℕ) (root : ℕ) (threads : List ThreadAt) (rates : List (Option ℕ)) (greatest : ℕ) → rates ≡ map (thread_rate tree root) threads → greatest ≡ greatest_rate rates → greatest ≤ RATE
 greatest_fits tree root threads rates greatest are is =
     let h = greatest_within 1 tree root threads (omega arith) in
-    let e : greatest ≡ fold raised 1 (map (thread_rate tree root) threads) = is ∙ ap (fold raised 1) are in
+    let e : greatest ≡ fold greater_rate 1 (map (thread_rate tree root) threads) = is ∙ ap (fold greater_rate 1) are in
     omega (arith, h, e)

@@ -5,8 +5,8 @@ use Rattle.std.specs.Option.{option_and_then, is_some}
 use Rattle.pals_base.specs.declared.behaviour.Kind.{Kind}
 use Rattle.aadl_tree.specs.Names.{Identifier}
 use Rattle.aadl_tree.specs.Declarations.{Feature, Connection, ConnectionEnd, Implementation, PackageTree}
-use Rattle.aadl_names.specs.declared.site.Site.{Site}
-use Rattle.aadl_names.specs.declared.site.Site.TheVariants.{Own, Inner}
+use Rattle.aadl_names.specs.declared.site.PortPlace.{PortPlace}
+use Rattle.aadl_names.specs.declared.site.PortPlace.TheVariants.{Own, Inner}
 use Rattle.aadl_names.specs.Resolving.{port_named, ports_of, inner_ports, site}
 use Rattle.annex_resolve.specs.declared.violation.Violation.{Violation}
 use Rattle.annex_resolve.specs.declared.violation.TheConstants.{DELAYED_ROOT, STRAY_ADAPTOR}
@@ -22,11 +22,11 @@ abbrev pub kind_named : List (Feature ℕ) → List ℕ → Option Kind
 kind_named ports name = option_and_then (kind_numbered ports) (port_named ports name)
 
 -- ---- the types of both ends, where each is Integer or Boolean
-abbrev pub site_port : PackageTree ℕ → Implementation ℕ → Site → Option (Feature ℕ)
+abbrev pub site_port : PackageTree ℕ → Implementation ℕ → PortPlace → Option (Feature ℕ)
 site_port tree x (Own p) = slice_get (ports_of tree x) p
 site_port tree x (Inner s p) = slice_get (inner_ports tree x s) p
 
-abbrev pub site_kind : PackageTree ℕ → Implementation ℕ → Site → Option Kind
+abbrev pub site_kind : PackageTree ℕ → Implementation ℕ → PortPlace → Option Kind
 site_kind tree x s = option_and_then (λ f. kind_in f.data_type) (site_port tree x s)
 
 abbrev pub kind_at : PackageTree ℕ → Implementation ℕ → ConnectionEnd ℕ → Option Kind

@@ -8,7 +8,7 @@ use Rattle.component_checks.specs.Times.{list_big}
 use Rattle.component_checks.specs.Types.{port_findings}
 use Rattle.model_violations.specs.Connections.{connections_findings}
 use Rattle.model_violations.specs.Ignored.{is_root_type}
-use Rattle.aadl_names.specs.declared.holder.Holder.TheVariants as holders
+use Rattle.aadl_names.specs.declared.holder.PropertyHolder.TheVariants as holders
 use Rattle.model_violations.specs.Threads as threads
 
 -- ---- a type: its ports, and times above an hour

@@ -6,20 +6,20 @@ use Rattle.std.specs.Option.{option_and_then}
 use Rattle.aadl_tree.specs.Values.{Association, Associations}
 use Rattle.aadl_tree.specs.Annexes.{VariableDeclaration, Annex}
 use Rattle.aadl_tree.specs.Declarations.{Feature, Subcomponent, Connection, TypeDeclaration, Implementation, Declaration, type, implementation, PackageTree}
-use Rattle.aadl_names.specs.declared.holder.Holder.{Holder}
+use Rattle.aadl_names.specs.declared.holder.PropertyHolder.{PropertyHolder}
 use Rattle.aadl_names.specs.Behaviours.{variables_in}
 use Rattle.aadl_names.specs.Properties.{listed, counts, is_named, name_of, recognised, association_name}
 use Rattle.aadl_names.specs.Resolving.{implementation_at, type_number}
-use Rattle.aadl_names.specs.declared.holder.Holder.TheVariants as holders
+use Rattle.aadl_names.specs.declared.holder.PropertyHolder.TheVariants as holders
 
 -- it applies elsewhere, or is not recognised at such a place
-abbrev pub is_ignored : Holder → Association ℕ → Bool
+abbrev pub is_ignored : PropertyHolder → Association ℕ → Bool
 is_ignored holder x = not (counts x && list_any (λ p. is_named (name_of p) x) (recognised holder))
 
-abbrev pub association_ignored : Holder → Association ℕ → List (List ℕ)
+abbrev pub association_ignored : PropertyHolder → Association ℕ → List (List ℕ)
 association_ignored holder x = if is_ignored holder x then association_name x ∷ [] else []
 
-abbrev pub ignored_in : Holder → Associations ℕ → List (List ℕ)
+abbrev pub ignored_in : PropertyHolder → Associations ℕ → List (List ℕ)
 ignored_in holder xs = flat_map (association_ignored holder) (listed xs)
 
 -- ---- in the text's order

@@ -5,19 +5,19 @@ use Rattle.std.specs.Option.{option_and_then}
 use Rattle.std.specs.Str.{bytes_eq}
 use Rattle.pals_base.specs.declared.behaviour.Kind.{Kind}
 use Rattle.pals_base.specs.declared.behaviour.Kind.TheVariants.{Integer}
-use Rattle.pals_base.specs.declared.behaviour.Named.{Named}
+use Rattle.pals_base.specs.declared.behaviour.PortDecl.{PortDecl}
 use Rattle.pals_base.specs.declared.behaviour.VarDecl.{VarDecl}
 use Rattle.aadl_lex.specs.Rules.{decimal, most}
 use Rattle.aadl_tree.specs.Names.{Identifier, identifiers, listed_in}
 use Rattle.aadl_tree.specs.Declarations.{Feature, Implementation, PackageTree}
 use Rattle.aadl_tree.specs.Annexes.{VariableDeclaration, AnnexTree}
-use Rattle.aadl_names.specs.declared.holder.Property.TheVariants.{Initial}
+use Rattle.aadl_names.specs.declared.holder.PropertyName.TheVariants.{Initial}
 use Rattle.aadl_names.specs.Properties.{association_named, association_value, name_of, only_text}
 use Rattle.aadl_names.specs.Resolving.{ports_of}
 use Rattle.component_checks.specs.Types.{is_in}
-use Rattle.annex_resolve.specs.declared.behaviour.Values.{Values}
+use Rattle.annex_resolve.specs.declared.behaviour.DeclaredValues.{DeclaredValues}
 use Rattle.annex_resolve.specs.declared.scope.Scope.{Scope}
-use Rattle.annex_resolve.specs.declared.scope.Entry.{Entry}
+use Rattle.annex_resolve.specs.declared.scope.DeclaredName.{DeclaredName}
 use Rattle.annex_resolve.specs.declared.scope.Meaning.TheVariants.{InPort, OutPort, Variable as VariableNumber}
 use Rattle.annex_resolve.specs.Types.{kind_named, kind_in}
 use Rattle.model_violations.specs.declared.declared.Declared.{Declared}
@@ -64,23 +64,23 @@ abbrev pub or_integer : Option Kind → Kind
 or_integer None = Integer
 or_integer (Some k) = k
 
-abbrev pub named_of : Declared → Named
+abbrev pub named_of : Declared → PortDecl
 named_of d = record { name = d.name; kind = or_integer d.kind }
 
 abbrev pub var_of : Declared → VarDecl
 var_of d = record { name = d.name; kind = or_integer d.kind; first = d.first }
 
-abbrev pub values_by : List Declared → List Declared → List Declared → Values
+abbrev pub values_by : List Declared → List Declared → List Declared → DeclaredValues
 values_by ins outs vars = record { ins = map named_of ins; outs = map named_of outs; vars = map var_of vars }
 
 -- ---- what the names stand for
-abbrev pub in_entry : ℕ × Declared → Entry
+abbrev pub in_entry : ℕ × Declared → DeclaredName
 in_entry (n, d) = record { name = d.name; kind = d.kind; meaning = InPort n }
 
-abbrev pub out_entry : ℕ × Declared → Entry
+abbrev pub out_entry : ℕ × Declared → DeclaredName
 out_entry (n, d) = record { name = d.name; kind = d.kind; meaning = OutPort n }
 
-abbrev pub variable_entry : ℕ × Declared → Entry
+abbrev pub variable_entry : ℕ × Declared → DeclaredName
 variable_entry (n, d) = record { name = d.name; kind = d.kind; meaning = VariableNumber n }
 
 abbrev pub scope_by : List Declared → List Declared → List Declared → Scope
@@ -91,7 +91,7 @@ scope_by ins outs vars =
     }
 
 -- ---- over the ports of an implementation's type, and the variables of its behaviour
-abbrev pub values_of : PackageTree ℕ → Implementation ℕ → AnnexTree ℕ → Values
+abbrev pub values_of : PackageTree ℕ → Implementation ℕ → AnnexTree ℕ → DeclaredValues
 values_of tree x annex = values_by (ins_in (ports_of tree x)) (outs_in (ports_of tree x)) (variables_of annex)
 
 abbrev pub scope_of : PackageTree ℕ → Implementation ℕ → AnnexTree ℕ → Scope

@@ -15,7 +15,7 @@ ghost use Rattle.model_violations.specs.Connections as spec;
 ghost use Rattle.model_violations.specs.proof.Connections.{IsConnection};
 
 use crate::carriers::Carriers;
-use aadl_names::Site;
+use aadl_names::PortPlace;
 use aadl_names::numbered::type_numbered;
 use aadl_tree::{Connection, Identifier, Implementation, PackageTree};
 use aadl_uses::{Uses, Wire, Wires};
@@ -37,19 +37,19 @@ fn kind_numbered(tree: &PackageTree, of_type: Option<usize>, port: usize) -> Opt
 }
 
 // The type of a port of the implementation of a number, or of one of its subcomponents.
-fn site_kind(uses: &Uses<'_>, number: usize, site: Site) -> Option<Kind>
+fn site_kind(uses: &Uses<'_>, number: usize, site: PortPlace) -> Option<Kind>
     ensures { (x : trees.Implementation ℕ) → implementation_at (placed uses.now.names.tree.now) number ≡ Some x
         → result ≡ spec.site_kind (placed uses.now.names.tree.now) x site }
 {
     let tree = uses.names.tree;
     match site {
-        Site::Own(port) => kind_numbered(tree, uses.type_number(number), port),
-        Site::Inner(sub, port) => kind_numbered(tree, uses.type_below(number, sub), port),
+        PortPlace::Own(port) => kind_numbered(tree, uses.type_number(number), port),
+        PortPlace::Inner(sub, port) => kind_numbered(tree, uses.type_below(number, sub), port),
     }
 }
 
 // The type of the port at an end of a connection, if that is declared.
-fn kind_at(uses: &Uses<'_>, number: usize, end: Option<Site>) -> Option<Kind>
+fn kind_at(uses: &Uses<'_>, number: usize, end: Option<PortPlace>) -> Option<Kind>
     ensures { (x : trees.Implementation ℕ) → implementation_at (placed uses.now.names.tree.now) number ≡ Some x
         → result ≡ option_and_then (spec.site_kind (placed uses.now.names.tree.now) x) end }
 {

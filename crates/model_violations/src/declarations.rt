@@ -15,11 +15,11 @@ use crate::carriers::Carriers;
 use crate::connections::add_connections_findings;
 use crate::ignored_declarations::is_number;
 use crate::resolve_implementation;
-use aadl_names::Holder;
+use aadl_names::PropertyHolder;
 use aadl_tree::{Category, Declaration, Implementation, Subcomponent, TypeDeclaration};
 use aadl_uses::{Uses, Wires};
 use annex_resolve::Violation;
-use component_checks::times::add_list_big;
+use component_checks::times::add_times_too_big;
 use component_checks::types::add_port_findings;
 use indexmap::IndexSet;
 use pals_base::{Items, NoMemory};
@@ -45,8 +45,8 @@ fn add_type_findings(
         ++ spec.type_findings (is_root_type (placed uses.now.names.tree.now) root number) (type_view kept_place x.now)) }
 {
     add_port_findings(alloc, x.features.as_slice(), found)?;
-    let holder = Holder::Declaration(x.category, is_root_type(uses, root, number));
-    add_list_big(alloc, holder, x.properties.as_slice(), found)
+    let holder = PropertyHolder::Declaration(x.category, is_root_type(uses, root, number));
+    add_times_too_big(alloc, holder, x.properties.as_slice(), found)
 }
 
 // Adds the times above an hour of subcomponents.
@@ -58,8 +58,8 @@ fn add_subs_findings(
     ensures { OnOk result (found.new ≡ found.old ++ flat_map spec.sub_findings (map (subcomponent_view kept_place) subs.now)) }
 {
     for sub in subs {
-        let holder = Holder::Subcomponent(sub.category);
-        add_list_big(alloc, holder, sub.properties.as_slice(), found)?;
+        let holder = PropertyHolder::Subcomponent(sub.category);
+        add_times_too_big(alloc, holder, sub.properties.as_slice(), found)?;
     }
     Ok(())
 }
@@ -100,8 +100,8 @@ fn add_implementation_findings(
     ensures { OnOk result (found.new ≡ found.old
         ++ spec.implementation_findings (placed wires.now.uses.names.tree.now) root (carries carriers.now) number (implementation_view kept_place x.now)) }
 {
-    let holder = Holder::Declaration(x.category, number == root);
-    add_list_big(alloc, holder, x.properties.as_slice(), found)?;
+    let holder = PropertyHolder::Declaration(x.category, number == root);
+    add_times_too_big(alloc, holder, x.properties.as_slice(), found)?;
     add_subs_findings(alloc, x.subcomponents.as_slice(), found)?;
     add_connections_findings(alloc, wires, carriers, number, x, found)?;
     add_thread_findings(alloc, &wires.uses, number, x, found)

@@ -5,7 +5,7 @@ ghost use Rattle.aadl_tree.specs.proof.Views.{connection_view, declaration_view,
 ghost use Rattle.model_violations.specs.Ignored as spec;
 
 use crate::ignored_properties::{add_annexes, add_list};
-use aadl_names::Holder;
+use aadl_names::PropertyHolder;
 use aadl_tree::{Connection, Declaration, Feature, Implementation, Subcomponent, TypeDeclaration};
 use pals_base::{Items, NoMemory, Text};
 use std::alloc::Global;
@@ -15,7 +15,7 @@ fn add_ports(alloc: Global, ports: &[Feature], found: &mut Items<Text>) -> Resul
     ensures { OnOk result (found.new ≡ found.old ++ flat_map spec.port_ignored (map (feature_view kept_place) ports.now)) }
 {
     for port in ports {
-        add_list(alloc, Holder::Port, port.properties.as_slice(), found)?;
+        add_list(alloc, PropertyHolder::Port, port.properties.as_slice(), found)?;
     }
     Ok(())
 }
@@ -25,7 +25,7 @@ fn add_subs(alloc: Global, subs: &[Subcomponent], found: &mut Items<Text>) -> Re
     ensures { OnOk result (found.new ≡ found.old ++ flat_map spec.sub_ignored (map (subcomponent_view kept_place) subs.now)) }
 {
     for sub in subs {
-        let holder = Holder::Subcomponent(sub.category);
+        let holder = PropertyHolder::Subcomponent(sub.category);
         add_list(alloc, holder, sub.properties.as_slice(), found)?;
     }
     Ok(())
@@ -41,7 +41,7 @@ fn add_connections(
 {
     for connection in connections {
         let list = connection.properties.as_slice();
-        add_list(alloc, Holder::Connection, list, found)?;
+        add_list(alloc, PropertyHolder::Connection, list, found)?;
     }
     Ok(())
 }
@@ -56,7 +56,7 @@ fn add_type(
     ensures { OnOk result (found.new ≡ found.old ++ spec.type_ignored of_root (type_view kept_place x.now)) }
 {
     add_ports(alloc, x.features.as_slice(), found)?;
-    let holder = Holder::Declaration(x.category, of_root);
+    let holder = PropertyHolder::Declaration(x.category, of_root);
     add_list(alloc, holder, x.properties.as_slice(), found)?;
     add_annexes(alloc, x.annexes.as_slice(), found)
 }
@@ -72,7 +72,7 @@ fn add_implementation(
 {
     add_subs(alloc, x.subcomponents.as_slice(), found)?;
     add_connections(alloc, x.connections.as_slice(), found)?;
-    let holder = Holder::Declaration(x.category, of_root);
+    let holder = PropertyHolder::Declaration(x.category, of_root);
     add_list(alloc, holder, x.properties.as_slice(), found)?;
     add_annexes(alloc, x.annexes.as_slice(), found)
 }

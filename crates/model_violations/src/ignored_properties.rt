@@ -10,7 +10,7 @@ ghost use Rattle.aadl_names.specs.Properties.{name_of, recognised};
 ghost use Rattle.aadl_names.specs.Spelling.{spelled_name};
 ghost use Rattle.model_violations.specs.Ignored as spec;
 
-use aadl_names::Holder;
+use aadl_names::PropertyHolder;
 use aadl_names::name_comparison::is_spelled;
 use aadl_names::spelling::spelled_name;
 use aadl_tree::{Annex, AnnexContent, Association, Name, VariableDeclaration};
@@ -18,7 +18,7 @@ use pals_base::{Items, NoMemory, Text};
 use std::alloc::Global;
 
 // Whether a property of this name is recognised at a kind of place.
-fn is_recognised(holder: Holder, name: &Name) -> bool
+fn is_recognised(holder: PropertyHolder, name: &Name) -> bool
     ensures { result ≡ list_any (λ p. same_name (spelled_name (name_view kept_place name.now)) (name_of p)) (recognised holder) }
 {
     holder
@@ -29,7 +29,7 @@ fn is_recognised(holder: Holder, name: &Name) -> bool
 
 // Whether an association means nothing at a kind of place.
 #[tactic(auto, using(component_checks::proofs::Looking::view_out_association))]
-fn is_ignored(holder: Holder, association: &Association) -> bool
+fn is_ignored(holder: PropertyHolder, association: &Association) -> bool
     ensures { result ≡ spec.is_ignored holder (association_view kept_place association.now) }
 {
     !(association.applies_to.is_empty() && is_recognised(holder, &association.name))
@@ -39,7 +39,7 @@ fn is_ignored(holder: Holder, association: &Association) -> bool
 #[tactic(auto, using(component_checks::proofs::Looking::view_out_association))]
 fn add_association(
     alloc: Global,
-    holder: Holder,
+    holder: PropertyHolder,
     association: &Association,
     found: &mut Items<Text>,
 ) -> Result<(), NoMemory>
@@ -54,7 +54,7 @@ fn add_association(
 /// Adds the names in a list of properties at a kind of place that mean nothing there.
 pub fn add_list(
     alloc: Global,
-    holder: Holder,
+    holder: PropertyHolder,
     list: &[Association],
     found: &mut Items<Text>,
 ) -> Result<(), NoMemory>
@@ -76,7 +76,7 @@ fn add_variables(
 {
     for variable in variables {
         let list = variable.properties.as_slice();
-        add_list(alloc, Holder::Variable, list, found)?;
+        add_list(alloc, PropertyHolder::Variable, list, found)?;
     }
     Ok(())
 }

@@ -76,7 +76,7 @@ fn carriers_of(alloc: Global, instance: &Instance<'_>) -> Result<Carriers, NoMem
 }
 
 // Adds what is wrong with links.
-fn add_links_findings(
+fn add_all_link_findings(
     alloc: Global,
     rated: &RatedThreads<'_>,
     links: &[Chain],
@@ -139,7 +139,7 @@ fn add_chain_findings(
         threads: instance.threads.as_slice(),
         rates,
     };
-    add_links_findings(alloc, &rated, instance.links.as_slice(), found)?;
+    add_all_link_findings(alloc, &rated, instance.links.as_slice(), found)?;
     add_feeds_findings(alloc, &rated, instance.feeds.as_slice(), found)?;
     add_taps_findings(alloc, &rated, instance.taps.as_slice(), found)
 }

@@ -3,7 +3,7 @@ ghost use Rattle.std.specs.Prelude.{◌≡◌, [], IfOk, OnOk};
 ghost use Rattle.model_violations.specs.Ignored as spec;
 ghost use Rattle.model_violations.specs.proof.Ignored as inner;
 
-use aadl_names::table::Table;
+use aadl_names::table::NameTable;
 use pals_base::{Items, NoMemory, Text, TryClone};
 use std::alloc::Global;
 
@@ -11,7 +11,7 @@ use std::alloc::Global;
 fn add_first(
     alloc: Global,
     name: &Text,
-    numbers: &mut Table<usize>,
+    numbers: &mut NameTable<usize>,
     first: &mut Items<Text>,
 ) -> Result<(), NoMemory>
     requires { inner.KnowsAll numbers.old first.old }
@@ -36,7 +36,7 @@ pub fn first_spellings(alloc: Global, names: &[Text]) -> Result<Items<Text>, NoM
     ensures { IfOk result (λ first. first ≡ spec.all_behind [] names.now) }
 {
     let mut first = Items::new(alloc);
-    let mut numbers = Table::new(alloc);
+    let mut numbers = NameTable::new(alloc);
     for name in names {
         add_first(alloc, name, &mut numbers, &mut first)?;
     }

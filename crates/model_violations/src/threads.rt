@@ -17,7 +17,7 @@ use crate::variables::variables_of;
 use aadl_tree::{Annex, AnnexContent, AnnexTree, Implementation};
 use aadl_uses::Uses;
 use annex_resolve::violation::NO_INITIAL;
-use annex_resolve::{Scope, Values, Violation, resolve_annex};
+use annex_resolve::{Scope, DeclaredValues, Violation, resolve_annex};
 use component_checks::types::add_variables_findings;
 use pals_base::{BehaviourParts, Items, NoMemory};
 use std::alloc::Global;
@@ -52,7 +52,7 @@ fn setting_of(
     number: usize,
     x: &Implementation,
     annex: &AnnexTree,
-) -> Result<(Values, Scope), NoMemory>
+) -> Result<(DeclaredValues, Scope), NoMemory>
     requires number { implementation_at (placed uses.now.names.tree.now) number ≡ Some (implementation_view kept_place x.now) }
     requires ports { length (ports_of (placed uses.now.names.tree.now) (implementation_view kept_place x.now)) ≤ PORTS }
     requires variables { length (variables_of (annex_tree_view kept_place annex.now)) ≤ VARIABLES }

@@ -4,8 +4,8 @@ ghost use Rattle.std.specs.List.{enumerate_from};
 ghost use Rattle.model_violations.specs.Values as spec;
 
 use crate::declared::Declared;
-use annex_resolve::{Entry, Meaning, Scope, Values};
-use pals_base::{Items, Kind, Named, NoMemory, TryClone, VarDecl};
+use annex_resolve::{DeclaredName, Meaning, Scope, DeclaredValues};
+use pals_base::{Items, Kind, PortDecl, NoMemory, TryClone, VarDecl};
 use std::alloc::Global;
 
 // A type; a bad one is as good as Integer.
@@ -19,12 +19,12 @@ fn or_integer(kind: Option<Kind>) -> Kind
 }
 
 // Ports as a behaviour has them.
-fn named(alloc: Global, ports: &[Declared]) -> Result<Items<Named>, NoMemory>
+fn named(alloc: Global, ports: &[Declared]) -> Result<Items<PortDecl>, NoMemory>
     ensures { IfOk result (λ named. named ≡ map spec.named_of ports.now) }
 {
     let mut named = Items::new(alloc);
     for port in ports {
-        named.push(Named {
+        named.push(PortDecl {
             name: port.name.try_clone(alloc)?,
             kind: or_integer(port.kind),
         })?;
@@ -53,10 +53,10 @@ fn values_by(
     ins: &[Declared],
     outs: &[Declared],
     variables: &[Declared],
-) -> Result<Values, NoMemory>
+) -> Result<DeclaredValues, NoMemory>
     ensures { IfOk result (λ values. values ≡ spec.values_by ins.now outs.now variables.now) }
 {
-    Ok(Values {
+    Ok(DeclaredValues {
         ins: named(alloc, ins)?,
         outs: named(alloc, outs)?,
         vars: vars(alloc, variables)?,
@@ -64,10 +64,10 @@ fn values_by(
 }
 
 // What a declared name stands for.
-fn entry_of(alloc: Global, declared: &Declared, meaning: Meaning) -> Result<Entry, NoMemory>
+fn entry_of(alloc: Global, declared: &Declared, meaning: Meaning) -> Result<DeclaredName, NoMemory>
     ensures { IfOk result (λ entry. entry ≡ record { name = declared.now.name; kind = declared.now.kind; meaning = meaning }) }
 {
-    Ok(Entry {
+    Ok(DeclaredName {
         name: declared.name.try_clone(alloc)?,
         kind: declared.kind,
         meaning,
@@ -75,7 +75,7 @@ fn entry_of(alloc: Global, declared: &Declared, meaning: Meaning) -> Result<Entr
 }
 
 // Adds what in ports stand for.
-fn add_ins(alloc: Global, ins: &[Declared], entries: &mut Items<Entry>) -> Result<(), NoMemory>
+fn add_ins(alloc: Global, ins: &[Declared], entries: &mut Items<DeclaredName>) -> Result<(), NoMemory>
     requires { length ins.now < 2 ^ 32 }
     ensures { OnOk result (entries.new ≡ entries.old ++ map spec.in_entry (enumerate_from 0 ins.now)) }
 {
@@ -86,7 +86,7 @@ fn add_ins(alloc: Global, ins: &[Declared], entries: &mut Items<Entry>) -> Resul
 }
 
 // Adds what out ports stand for.
-fn add_outs(alloc: Global, outs: &[Declared], entries: &mut Items<Entry>) -> Result<(), NoMemory>
+fn add_outs(alloc: Global, outs: &[Declared], entries: &mut Items<DeclaredName>) -> Result<(), NoMemory>
     requires { length outs.now < 2 ^ 32 }
     ensures { OnOk result (entries.new ≡ entries.old ++ map spec.out_entry (enumerate_from 0 outs.now)) }
 {
@@ -100,7 +100,7 @@ fn add_outs(alloc: Global, outs: &[Declared], entries: &mut Items<Entry>) -> Res
 fn add_vars(
     alloc: Global,
     variables: &[Declared],
-    entries: &mut Items<Entry>,
+    entries: &mut Items<DeclaredName>,
 ) -> Result<(), NoMemory>
     requires { length variables.now < 2 ^ 32 }
     ensures { OnOk result (entries.new ≡ entries.old ++ map spec.variable_entry (enumerate_from 0 variables.now)) }
@@ -139,7 +139,7 @@ pub fn setting_by(
     ins: &[Declared],
     outs: &[Declared],
     variables: &[Declared],
-) -> Result<(Values, Scope), NoMemory>
+) -> Result<(DeclaredValues, Scope), NoMemory>
     requires ins { length ins.now < 2 ^ 32 }
     requires outs { length outs.now < 2 ^ 32 }
     requires variables { length variables.now < 2 ^ 32 }

@@ -10,7 +10,7 @@ ghost use Rattle.aadl_names.specs.Properties.{only_text, text_of};
 ghost use Rattle.model_violations.specs.Values as spec;
 
 use crate::declared::Declared;
-use aadl_names::Property;
+use aadl_names::PropertyName;
 use aadl_tree::{AnnexTree, Identifier, Value, VariableDeclaration};
 use annex_resolve::types::kind_named;
 use component_checks::property_lookup::property_in;
@@ -95,7 +95,7 @@ fn value_in(value: &Value) -> i64
 fn first_of(variable: &VariableDeclaration) -> i64
     ensures { result ≡ spec.first_of (variable_view kept_place variable.now) }
 {
-    match property_in(variable.properties.as_slice(), Property::Initial) {
+    match property_in(variable.properties.as_slice(), PropertyName::Initial) {
         Some(given) => value_in(&given.value),
         None => 0,
     }

@@ -5,8 +5,8 @@ use Rattle.list_lemmas.proofs.Lists.{drop-next}
 use Rattle.aadl_tree.specs.Names.{Identifier}
 use Rattle.aadl_tree.specs.Annexes.{AnnexTree, AnnexContent, foreign, behaviour, Annex}
 use Rattle.aadl_tree.specs.Declarations.{Implementation, PackageTree}
-use Rattle.aadl_names.specs.declared.fault.FlatFault.{FlatFault}
-use Rattle.aadl_names.specs.declared.fault.FlatFault.TheVariants.{WrongKind}
+use Rattle.aadl_names.specs.declared.fault.PackageFault.{PackageFault}
+use Rattle.aadl_names.specs.declared.fault.PackageFault.TheVariants.{WrongKind}
 use Rattle.aadl_names.specs.Behaviours.{behaviours}
 use Rattle.aadl_names.specs.proof.Found.{found}
 use Rattle.aadl_names.specs.Resolving.{is_thread}
@@ -34,7 +34,7 @@ step : (tree : PackageTree ℕ) (x : Implementation ℕ) (expected : Bool) (a : 
 step tree x expected a annexes = step_by tree x expected a.at a.language a.content annexes
 
 pub next_annex : {A : Type 0} (view : A → Annex ℕ) (tree : PackageTree ℕ) (x : Implementation ℕ) (items : List A) (i : ℕ) (a : A) (expected still : Bool)
-    (whole before after : (Option FlatFault)) → i < length items → a ≡ get_or items i a
+    (whole before after : (Option PackageFault)) → i < length items → a ≡ get_or items i a
     → whole ≡ found before (behaviours_left tree x expected (behaviours (map view (drop i items))))
     → after ≡ found before (annex_uses tree x expected (view a)) → still ≡ still_expected expected (view a)
     → whole ≡ found after (behaviours_left tree x still (behaviours (map view (drop (i + 1) items))))
@@ -52,7 +52,7 @@ as_annexes tree x [] = refl
 as_annexes tree x (b ∷ bs) = refl
 
 pub last_annex : {A : Type 0} (view : A → Annex ℕ) (tree : PackageTree ℕ) (x : Implementation ℕ) (items : List A) (i : ℕ) (expected : Bool)
-    (whole now : (Option FlatFault)) → length items ≤ i
+    (whole now : (Option PackageFault)) → length items ≤ i
     → whole ≡ found now (behaviours_left tree x expected (behaviours (map view (drop i items)))) → now ≡ whole
 last_annex view tree x items i expected whole now past left = sym
     (left ∙ ap (λ l. found now (behaviours_left tree x expected (behaviours (map view l)))) (none_left items i past))

@@ -3,11 +3,11 @@ use Rattle.std.proofs.Common.{◌≡◌, ℕ, ◌+◌, ◌<◌, ◌≤◌, List,
 use Rattle.std.specs.Prelude.{slice_get}
 use Rattle.std.specs.List.{flat_map, enumerate_from}
 use Rattle.list_lemmas.proofs.Lists.{drop-next}
-use Rattle.aadl_names.specs.declared.fault.FlatFault.{FlatFault}
+use Rattle.aadl_names.specs.declared.fault.PackageFault.{PackageFault}
 use Rattle.aadl_names.specs.proof.Found.{found}
 use Rattle.aadl_names.proofs.Finds.{none_left, found_append}
 
-pub next_numbered : {A B : Type 0} (view : A → B) (here : ℕ × B → List FlatFault) (xs : List A) (i : ℕ) (x : A) (whole before after : (Option FlatFault))
+pub next_numbered : {A B : Type 0} (view : A → B) (here : ℕ × B → List PackageFault) (xs : List A) (i : ℕ) (x : A) (whole before after : (Option PackageFault))
     → i < length xs → x ≡ get_or xs i x
     → whole ≡ found before (flat_map here (enumerate_from i (map view (drop i xs)))) → after ≡ found before (here (i, view x))
     → whole ≡ found after (flat_map here (enumerate_from (i + 1) (map view (drop (i + 1) xs))))
@@ -16,7 +16,7 @@ next_numbered view here xs i x whole before after within is left more =
     ∙ (found_append before (here (i, view x)) (flat_map here (enumerate_from (i + 1) (map view (drop (i + 1) xs))))
     ∙ ap (λ o. found o (flat_map here (enumerate_from (i + 1) (map view (drop (i + 1) xs))))) (sym more)))
 
-pub last_numbered : {A B : Type 0} (view : A → B) (here : ℕ × B → List FlatFault) (xs : List A) (i : ℕ) (whole now : (Option FlatFault)) → length xs ≤ i
+pub last_numbered : {A B : Type 0} (view : A → B) (here : ℕ × B → List PackageFault) (xs : List A) (i : ℕ) (whole now : (Option PackageFault)) → length xs ≤ i
     → whole ≡ found now (flat_map here (enumerate_from i (map view (drop i xs)))) → now ≡ whole
 last_numbered view here xs i whole now past left = sym (left ∙ ap (λ l. found now (flat_map here (enumerate_from i (map view l)))) (none_left xs i past))
 

@@ -7,7 +7,7 @@ use Rattle.aadl_tree.specs.declared.values.Association.{Association}
 use Rattle.aadl_tree.specs.proof.ValueViews.{association_view, associations_view}
 use Rattle.aadl_tree.specs.Values as plain
 use Rattle.aadl_tree.specs.proof.Maps.{kept_place}
-use Rattle.aadl_names.specs.declared.entry.Entry.{Entry}
+use Rattle.aadl_names.specs.declared.entry.SpelledName.{SpelledName}
 use Rattle.aadl_names.specs.Twice.{twice}
 use Rattle.aadl_names.specs.Properties.{counts, association_entry, property_entries}
 
@@ -15,7 +15,7 @@ never_before : (b : Bool) (n : ℕ) → (b && nat_lt n n) ≡ false
 never_before true n = le-ltb n n (grind arith)
 never_before false n = refl
 
-one_entry : (x : Entry) → twice (x ∷ []) ≡ []
+one_entry : (x : SpelledName) → twice (x ∷ []) ≡ []
 one_entry x = rw (never_before (same_name x.name x.name) x.at)
 
 one_if : (b : Bool) (x : plain.Association ℕ) → twice (map association_entry (if b then x ∷ [] else [])) ≡ []

@@ -4,9 +4,9 @@ use Rattle.std.specs.Option.{option_and_then}
 use Rattle.list_lemmas.proofs.Options.{option_and_then_assoc}
 use Rattle.aadl_tree.specs.Declarations.{Subcomponent, Connection, Implementation, PackageTree}
 use Rattle.aadl_tree.specs.declared.declarations.Direction.{Direction}
-use Rattle.aadl_names.specs.declared.fault.FlatFault.{FlatFault}
-use Rattle.aadl_names.specs.declared.site.Site.{Site}
-use Rattle.aadl_names.specs.declared.site.Site.TheVariants.{Own, Inner}
+use Rattle.aadl_names.specs.declared.fault.PackageFault.{PackageFault}
+use Rattle.aadl_names.specs.declared.site.PortPlace.{PortPlace}
+use Rattle.aadl_names.specs.declared.site.PortPlace.TheVariants.{Own, Inner}
 use Rattle.aadl_names.specs.Resolving.{implementation_in, implementation_at, subcomponents_of, type_number, type_numbered, referred, target_of}
 use Rattle.aadl_names.specs.Resolving.{features_of, direction_in, direction_of, with_direction}
 use Rattle.aadl_names.specs.proof.Found.{found}
@@ -15,7 +15,7 @@ use Rattle.aadl_uses.specs.declared.connections.Wire.{Wire}
 use Rattle.aadl_uses.specs.Uses.{below}
 use Rattle.aadl_uses.specs.Wiring.{wire_of, wires_of, wires_at}
 use Rattle.aadl_uses.specs.proof.Types.{type_number_by, type_number_at}
-use Rattle.name_faults.specs.proof.Standing.{StandsAt}
+use Rattle.name_faults.specs.proof.NumberedImplementations.{StandsAt}
 
 pub of_root : (tree : PackageTree ℕ) (x : Option (Implementation ℕ)) → type_number_by tree x ≡ root_type tree x
 of_root tree None = refl
@@ -59,7 +59,7 @@ module _ (tree : PackageTree ℕ) (n : ℕ) (x : Implementation ℕ) (stands : S
 
 -- what is found by the ports that a connection joins
 module _ (tree : PackageTree ℕ) (x : Implementation ℕ) (c : Connection ℕ) (w : Wire) (is : w ≡ wire_of tree x c) where
-  pub joined : (old new : Option FlatFault) (source target : Option (Site × Option Direction)) → source ≡ option_map (with_direction tree x) w.source
+  pub joined : (old new : Option PackageFault) (source target : Option (PortPlace × Option Direction)) → source ≡ option_map (with_direction tree x) w.source
       → target ≡ option_map (with_direction tree x) w.target → new ≡ found old (joined_faults c source target)
       → new ≡ found old (connection_faults tree x c)
   joined old new source target from to more =

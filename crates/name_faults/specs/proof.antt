@@ -3,4 +3,4 @@ pub mod Scopes
 pub mod Marks
 pub mod PortNames
 pub mod Expected
-pub mod Standing
+pub mod NumberedImplementations

@@ -16,9 +16,9 @@ ghost use Rattle.name_faults.specs.proof.Expected.{annex_uses, still_expected};
 
 use crate::categories::is_thread;
 use crate::parts::transitions_in;
-use crate::{Scope, check_transitions, state_names, variable_roles};
+use crate::{BehaviourScope, check_transitions, state_names, variable_roles};
 use aadl_names::numbered::type_numbered;
-use aadl_names::{Finder, Role, Table};
+use aadl_names::{Finder, Role, NameTable};
 use aadl_tree::{Annex, AnnexContent, AnnexTree, Implementation, PackageTree};
 use std::alloc::{AllocError, Global};
 
@@ -36,15 +36,15 @@ fn comes_first(tree: &PackageTree, of_type: Option<usize>, x: &Implementation) -
 fn scope_of<'t>(
     alloc: Global,
     ports_first: bool,
-    ports: &'t Table<Role>,
-    variables: &'t Table<Role>,
-) -> Scope<'t>
+    ports: &'t NameTable<Role>,
+    variables: &'t NameTable<Role>,
+) -> BehaviourScope<'t>
     ensures { known_by result ≡ spec.in_order ports_first (value_of ports.now) (value_of variables.now) }
 {
     if ports_first {
-        Scope::new(alloc, ports, variables)
+        BehaviourScope::new(alloc, ports, variables)
     } else {
-        Scope::new(alloc, variables, ports)
+        BehaviourScope::new(alloc, variables, ports)
     }
 }
 
@@ -53,7 +53,7 @@ fn check_behaviour(
     finder: &mut Finder,
     tree: &PackageTree,
     of_type: Option<usize>,
-    roles: &Table<Role>,
+    roles: &NameTable<Role>,
     x: &Implementation,
     behaviour: &AnnexTree,
 ) -> Result<(), AllocError>
@@ -74,7 +74,7 @@ fn check_annex(
     finder: &mut Finder,
     tree: &PackageTree,
     of_type: Option<usize>,
-    roles: &Table<Role>,
+    roles: &NameTable<Role>,
     x: &Implementation,
     expected: bool,
     annex: &Annex,
@@ -113,7 +113,7 @@ pub fn check_behaviours(
     finder: &mut Finder,
     tree: &PackageTree,
     of_type: Option<usize>,
-    roles: &Table<Role>,
+    roles: &NameTable<Role>,
     x: &Implementation,
 ) -> Result<(), AllocError>
     requires of_type { of_type ≡ type_number (placed tree.now) (implementation_view kept_place x.now) }

@@ -10,12 +10,12 @@ ghost use Rattle.aadl_tree.specs.proof.Maps.{kept_place};
 ghost use Rattle.aadl_names.specs.proof.Found.{found};
 ghost use Rattle.aadl_names.specs.Resolving.{implementation_at, referred};
 ghost use Rattle.aadl_names.specs.PackageFaults as spec;
-ghost use Rattle.name_faults.specs.proof.Standing.{StandsAt};
+ghost use Rattle.name_faults.specs.proof.NumberedImplementations.{StandsAt};
 
 use crate::check_properties;
 use aadl_names::numbered::implementation_at;
 use aadl_names::spelling::spelled_reference;
-use aadl_names::{Finder, Holder};
+use aadl_names::{Finder, PropertyHolder};
 use aadl_tree::{Category, Feature, Implementation, PackageTree, Reference, Subcomponent};
 use aadl_uses::Uses;
 use std::alloc::AllocError;
@@ -118,7 +118,7 @@ fn check_subcomponent(
     check_target(finder, tree, target, sub)?;
     check_properties(
         finder,
-        Holder::Subcomponent(sub.category),
+        PropertyHolder::Subcomponent(sub.category),
         sub.properties.as_slice(),
     )
 }
@@ -145,7 +145,7 @@ pub fn check_subcomponents(
 fn check_port(finder: &mut Finder, port: &Feature) -> Result<(), AllocError>
     ensures { OnOk result (finder.new ≡ found finder.old (spec.port_faults (feature_view kept_place port.now))) }
 {
-    check_properties(finder, Holder::Port, port.properties.as_slice())
+    check_properties(finder, PropertyHolder::Port, port.properties.as_slice())
 }
 
 /// Finds what is wrong with the properties of ports.

@@ -9,24 +9,24 @@ ghost use Rattle.aadl_tree.specs.proof.Maps.{kept_place};
 ghost use Rattle.aadl_names.specs.proof.Found.{found};
 ghost use Rattle.aadl_names.specs.Resolving as resolving;
 ghost use Rattle.aadl_names.specs.PackageFaults as spec;
-ghost use Rattle.name_faults.specs.proof.Standing.{StandsAt};
+ghost use Rattle.name_faults.specs.proof.NumberedImplementations.{StandsAt};
 
 use crate::check_properties;
 use aadl_names::connection_ends::port_direction;
 use aadl_names::spelling::spelled_end;
-use aadl_names::{Finder, Holder, Site};
+use aadl_names::{Finder, PropertyHolder, PortPlace};
 use aadl_tree::{Connection, ConnectionEnd, Direction, Implementation};
 use aadl_uses::{Uses, Wires};
 use std::alloc::AllocError;
 
 // Which way a port goes that the implementation of a number knows.
-fn direction_of(uses: &Uses<'_>, number: usize, site: Site) -> Option<Direction>
+fn direction_of(uses: &Uses<'_>, number: usize, site: PortPlace) -> Option<Direction>
     ensures { (x : trees.Implementation ℕ) → StandsAt (placed uses.now.names.tree.now) number x
         → result ≡ resolving.direction_of (placed uses.now.names.tree.now) x site }
 {
     match site {
-        Site::Own(port) => port_direction(&uses.names, uses.type_number(number), port),
-        Site::Inner(sub, port) => port_direction(&uses.names, uses.type_below(number, sub), port),
+        PortPlace::Own(port) => port_direction(&uses.names, uses.type_number(number), port),
+        PortPlace::Inner(sub, port) => port_direction(&uses.names, uses.type_below(number, sub), port),
     }
 }
 
@@ -34,8 +34,8 @@ fn direction_of(uses: &Uses<'_>, number: usize, site: Site) -> Option<Direction>
 fn with_direction(
     uses: &Uses<'_>,
     number: usize,
-    site: Option<Site>,
-) -> Option<(Site, Option<Direction>)>
+    site: Option<PortPlace>,
+) -> Option<(PortPlace, Option<Direction>)>
     ensures { (x : trees.Implementation ℕ) → StandsAt (placed uses.now.names.tree.now) number x
         → result ≡ option_map (resolving.with_direction (placed uses.now.names.tree.now) x) site }
 {
@@ -55,12 +55,12 @@ fn goes_in(direction: Option<Direction>) -> bool
 }
 
 // Whether a connection may come out of a port.
-fn may_leave(site: Site, direction: Option<Direction>) -> bool
+fn may_leave(site: PortPlace, direction: Option<Direction>) -> bool
     ensures { result ≡ spec.may_leave (site, direction) }
 {
     match site {
-        Site::Own(_) => goes_in(direction),
-        Site::Inner(_, _) => !goes_in(direction),
+        PortPlace::Own(_) => goes_in(direction),
+        PortPlace::Inner(_, _) => !goes_in(direction),
     }
 }
 
@@ -68,7 +68,7 @@ fn check_source(
     finder: &mut Finder,
     end: &ConnectionEnd,
     at: usize,
-    port: Option<(Site, Option<Direction>)>,
+    port: Option<(PortPlace, Option<Direction>)>,
 ) -> Result<(), AllocError>
     ensures { OnOk result (finder.new ≡ found finder.old (spec.end_faults spec.may_leave (end_view kept_place end.now) at port)) }
 {
@@ -85,7 +85,7 @@ fn check_target(
     finder: &mut Finder,
     end: &ConnectionEnd,
     at: usize,
-    port: Option<(Site, Option<Direction>)>,
+    port: Option<(PortPlace, Option<Direction>)>,
 ) -> Result<(), AllocError>
     ensures { OnOk result (finder.new ≡ found finder.old (spec.end_faults spec.may_enter (end_view kept_place end.now) at port)) }
 {
@@ -106,12 +106,12 @@ fn unknown_end(finder: &mut Finder, end: &ConnectionEnd) -> Result<(), AllocErro
     finder.unknown(name.as_str(), end.first.at)
 }
 
-fn is_own(port: Option<(Site, Option<Direction>)>) -> bool
+fn is_own(port: Option<(PortPlace, Option<Direction>)>) -> bool
     ensures { result ≡ spec.is_own port }
 {
     match port {
-        Some((Site::Own(_), _)) => true,
-        Some((Site::Inner(_, _), _)) => false,
+        Some((PortPlace::Own(_), _)) => true,
+        Some((PortPlace::Inner(_, _), _)) => false,
         None => false,
     }
 }
@@ -119,8 +119,8 @@ fn is_own(port: Option<(Site, Option<Direction>)>) -> bool
 // Finds what is wrong with a connection that joins these ports.
 fn check_connection(
     finder: &mut Finder,
-    source: Option<(Site, Option<Direction>)>,
-    target: Option<(Site, Option<Direction>)>,
+    source: Option<(PortPlace, Option<Direction>)>,
+    target: Option<(PortPlace, Option<Direction>)>,
     connection: &Connection,
 ) -> Result<(), AllocError>
     ensures { OnOk result (finder.new ≡ found finder.old (spec.joined_faults (connection_view kept_place connection.now) source target)) }
@@ -129,7 +129,7 @@ fn check_connection(
     check_source(finder, &connection.source, at, source)?;
     check_target(finder, &connection.target, at, target)?;
     finder.wrong_if(is_own(source) && is_own(target), at);
-    check_properties(finder, Holder::Connection, connection.properties.as_slice())
+    check_properties(finder, PropertyHolder::Connection, connection.properties.as_slice())
 }
 
 /// Finds what is wrong with the connections of the implementation of a number.

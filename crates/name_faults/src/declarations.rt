@@ -12,7 +12,7 @@ ghost use Rattle.aadl_names.specs.Spelling.{spelled_name};
 ghost use Rattle.aadl_names.specs.Resolving.{implementation_at};
 ghost use Rattle.aadl_names.specs.PackageFaults as spec;
 ghost use Rattle.name_faults.specs.proof.PortNames.{AreAllNamesOf};
-ghost use Rattle.name_faults.specs.proof.Standing.{StandsAt};
+ghost use Rattle.name_faults.specs.proof.NumberedImplementations.{StandsAt};
 
 use crate::behaviours::check_behaviours;
 use crate::implementations::check_outside_behaviours;

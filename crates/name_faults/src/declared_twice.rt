@@ -11,7 +11,7 @@ ghost use Rattle.name_faults.specs.proof.PortNames.{AreNamesOf};
 
 use crate::port_names::PortNames;
 use aadl_names::earliest::{earliest_of, is_before};
-use aadl_names::{Entry, Finder, Spot};
+use aadl_names::{SpelledName, Finder, NumberedPlace};
 use aadl_tree::Feature;
 use std::alloc::AllocError;
 
@@ -30,8 +30,8 @@ fn check_port(finder: &mut Finder, ports: &[Feature], number: usize) -> Result<(
 fn check_earliest(
     finder: &mut Finder,
     ports: &[Feature],
-    port: Spot,
-    entry: &Entry,
+    port: NumberedPlace,
+    entry: &SpelledName,
 ) -> Result<(), AllocError>
     ensures { OnOk result (finder.new ≡ found finder.old (spec.port_again (port_entries (map (feature_view kept_place) ports.now)) (Some port) entry.now)) }
 {
@@ -45,9 +45,9 @@ fn check_earliest(
 // Finds that something stands behind one of its name.
 fn check_behind(
     finder: &mut Finder,
-    port: Option<Spot>,
-    other: Option<Spot>,
-    entry: &Entry,
+    port: Option<NumberedPlace>,
+    other: Option<NumberedPlace>,
+    entry: &SpelledName,
 ) -> Result<(), AllocError>
     ensures { OnOk result (finder.new ≡ found finder.old (spec.again_beside port other entry.now)) }
 {
@@ -62,9 +62,9 @@ fn check_behind(
 fn check_one(
     finder: &mut Finder,
     ports: &[Feature],
-    port: Option<Spot>,
-    other: Option<Spot>,
-    entry: &Entry,
+    port: Option<NumberedPlace>,
+    other: Option<NumberedPlace>,
+    entry: &SpelledName,
 ) -> Result<(), AllocError>
     ensures { OnOk result (finder.new ≡ found finder.old (spec.beside_one (port_entries (map (feature_view kept_place) ports.now)) port other entry.now)) }
 {
@@ -81,7 +81,7 @@ pub fn check_beside(
     finder: &mut Finder,
     ports: &[Feature],
     names: &PortNames,
-    others: &[Entry],
+    others: &[SpelledName],
 ) -> Result<(), AllocError>
     requires { AreNamesOf (map (feature_view kept_place) ports.now) names.now }
     ensures { OnOk result (finder.new ≡ found finder.old (spec.beside (port_entries (map (feature_view kept_place) ports.now)) others.now)) }

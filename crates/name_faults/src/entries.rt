@@ -10,7 +10,7 @@ ghost use Rattle.aadl_names.specs.Spelling.{entry_of};
 ghost use Rattle.aadl_names.specs.Spaces as spec;
 
 use crate::parts::{states_in, variables_in};
-use aadl_names::Entry;
+use aadl_names::SpelledName;
 use aadl_names::spelling::{entry_of, spelled_implementation};
 use aadl_tree::{
     AnnexTree, Connection, Declaration, Feature, Identifier, Identifiers, Implementation,
@@ -20,7 +20,7 @@ use pals_base::{Items, Text};
 use std::alloc::{AllocError, Global};
 
 /// Ports.
-pub fn port_entries(alloc: Global, ports: &[Feature]) -> Result<Items<Entry>, AllocError>
+pub fn port_entries(alloc: Global, ports: &[Feature]) -> Result<Items<SpelledName>, AllocError>
     ensures { IfOk result (λ entries. entries ≡ spec.port_entries (map (feature_view kept_place) ports.now)) }
 {
     let mut entries = Items::new(alloc);
@@ -31,7 +31,7 @@ pub fn port_entries(alloc: Global, ports: &[Feature]) -> Result<Items<Entry>, Al
 }
 
 /// Subcomponents and connections.
-pub fn member_entries(alloc: Global, x: &Implementation) -> Result<Items<Entry>, AllocError>
+pub fn member_entries(alloc: Global, x: &Implementation) -> Result<Items<SpelledName>, AllocError>
     ensures { IfOk result (λ entries. entries ≡ spec.member_entries (implementation_view kept_place x.now)) }
 {
     let mut entries = Items::new(alloc);
@@ -42,7 +42,7 @@ pub fn member_entries(alloc: Global, x: &Implementation) -> Result<Items<Entry>,
 
 fn add_subcomponents(
     alloc: Global,
-    entries: &mut Items<Entry>,
+    entries: &mut Items<SpelledName>,
     subs: &[Subcomponent],
 ) -> Result<(), AllocError>
     ensures { OnOk result (entries.new ≡ entries.old ++ map (λ s. entry_of s.name) (map (subcomponent_view kept_place) subs.now)) }
@@ -55,7 +55,7 @@ fn add_subcomponents(
 
 fn add_connections(
     alloc: Global,
-    entries: &mut Items<Entry>,
+    entries: &mut Items<SpelledName>,
     connections: &[Connection],
 ) -> Result<(), AllocError>
     ensures { OnOk result (entries.new ≡ entries.old ++ map (λ c. entry_of c.name) (map (connection_view kept_place) connections.now)) }
@@ -67,7 +67,7 @@ fn add_connections(
 }
 
 /// Variables of a behaviour.
-pub fn variable_entries(alloc: Global, behaviour: &AnnexTree) -> Result<Items<Entry>, AllocError>
+pub fn variable_entries(alloc: Global, behaviour: &AnnexTree) -> Result<Items<SpelledName>, AllocError>
     ensures { IfOk result (λ entries. entries ≡ spec.variable_entries (annex_tree_view kept_place behaviour.now)) }
 {
     let mut entries = Items::new(alloc);
@@ -78,7 +78,7 @@ pub fn variable_entries(alloc: Global, behaviour: &AnnexTree) -> Result<Items<En
 }
 
 /// States of a behaviour.
-pub fn state_entries(alloc: Global, behaviour: &AnnexTree) -> Result<Items<Entry>, AllocError>
+pub fn state_entries(alloc: Global, behaviour: &AnnexTree) -> Result<Items<SpelledName>, AllocError>
     ensures { IfOk result (λ entries. entries ≡ spec.state_entries (annex_tree_view kept_place behaviour.now)) }
 {
     let mut entries = Items::new(alloc);
@@ -89,7 +89,7 @@ pub fn state_entries(alloc: Global, behaviour: &AnnexTree) -> Result<Items<Entry
 }
 
 /// Types.
-pub fn type_entries(alloc: Global, tree: &PackageTree) -> Result<Items<Entry>, AllocError>
+pub fn type_entries(alloc: Global, tree: &PackageTree) -> Result<Items<SpelledName>, AllocError>
     ensures { IfOk result (λ entries. entries ≡ filter_map spec.type_entry (placed tree.now).declarations) }
 {
     let mut entries = Items::new(alloc);
@@ -100,7 +100,7 @@ pub fn type_entries(alloc: Global, tree: &PackageTree) -> Result<Items<Entry>, A
 }
 
 /// Implementations.
-pub fn implementation_entries(alloc: Global, tree: &PackageTree) -> Result<Items<Entry>, AllocError>
+pub fn implementation_entries(alloc: Global, tree: &PackageTree) -> Result<Items<SpelledName>, AllocError>
     ensures { IfOk result (λ entries. entries ≡ filter_map spec.implementation_entry (placed tree.now).declarations) }
 {
     let mut entries = Items::new(alloc);
@@ -112,7 +112,7 @@ pub fn implementation_entries(alloc: Global, tree: &PackageTree) -> Result<Items
 
 fn add_type(
     alloc: Global,
-    entries: &mut Items<Entry>,
+    entries: &mut Items<SpelledName>,
     declaration: &Declaration,
 ) -> Result<(), AllocError>
     ensures { OnOk result (entries.new ≡ entries.old ++ filter_map spec.type_entry (declaration_view kept_place declaration.now ∷ [])) }
@@ -120,7 +120,7 @@ fn add_type(
     match declaration {
         Declaration::Type(x) => {
             let name = Text::from_str(alloc, x.name.spelling.as_str())?;
-            entries.push(Entry { name, at: x.at })?;
+            entries.push(SpelledName { name, at: x.at })?;
             Ok(())
         }
         Declaration::Implementation(_) => Ok(()),
@@ -129,7 +129,7 @@ fn add_type(
 
 fn add_implementation(
     alloc: Global,
-    entries: &mut Items<Entry>,
+    entries: &mut Items<SpelledName>,
     declaration: &Declaration,
 ) -> Result<(), AllocError>
     ensures { OnOk result (entries.new ≡ entries.old ++ filter_map spec.implementation_entry (declaration_view kept_place declaration.now ∷ [])) }
@@ -138,7 +138,7 @@ fn add_implementation(
         Declaration::Type(_) => Ok(()),
         Declaration::Implementation(x) => {
             let name = spelled_implementation(alloc, &x.name)?;
-            entries.push(Entry { name, at: x.at })?;
+            entries.push(SpelledName { name, at: x.at })?;
             Ok(())
         }
     }
@@ -146,7 +146,7 @@ fn add_implementation(
 
 fn add_words(
     alloc: Global,
-    entries: &mut Items<Entry>,
+    entries: &mut Items<SpelledName>,
     words: &Identifiers,
 ) -> Result<(), AllocError>
     ensures { OnOk result (entries.new ≡ entries.old ++ map entry_of (identifiers (identifiers_view kept_place words.now))) }
@@ -158,7 +158,7 @@ fn add_words(
     Ok(())
 }
 
-fn add_word(alloc: Global, entries: &mut Items<Entry>, word: &Identifier) -> Result<(), AllocError>
+fn add_word(alloc: Global, entries: &mut Items<SpelledName>, word: &Identifier) -> Result<(), AllocError>
     ensures { OnOk result (entries.new ≡ entries.old ++ entry_of (identifier_view kept_place word.now) ∷ []) }
 {
     entries.push(entry_of(alloc, word)?)?;

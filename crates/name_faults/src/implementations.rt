@@ -8,7 +8,7 @@ ghost use Rattle.aadl_tree.specs.proof.Maps.{kept_place};
 ghost use Rattle.aadl_names.specs.proof.Found.{found};
 ghost use Rattle.aadl_names.specs.Resolving.{type_number, type_numbered};
 ghost use Rattle.aadl_names.specs.PackageFaults as spec;
-ghost use Rattle.name_faults.specs.proof.Standing.{StandsAt};
+ghost use Rattle.name_faults.specs.proof.NumberedImplementations.{StandsAt};
 
 use crate::check_properties;
 use crate::components::{check_subcomponents, same_category};
@@ -16,7 +16,7 @@ use crate::connections::check_connections;
 use crate::types::check_variables;
 use aadl_names::numbered::type_numbered;
 use aadl_names::spelling::spelled_implementation;
-use aadl_names::{Finder, Holder};
+use aadl_names::{Finder, PropertyHolder};
 use aadl_tree::{Category, Implementation, PackageTree};
 use aadl_uses::Wires;
 use std::alloc::AllocError;
@@ -71,7 +71,7 @@ pub fn check_outside_behaviours(
     check_connections(finder, wires, number, x)?;
     check_properties(
         finder,
-        Holder::Declaration(x.category, of_root),
+        PropertyHolder::Declaration(x.category, of_root),
         x.properties.as_slice(),
     )?;
     check_variables(finder, x.annexes.as_slice())

@@ -29,6 +29,6 @@ pub use port_names::{AllPortNames, PortNames};
 pub use ports::{all_port_names, names_at};
 pub use properties::check_properties;
 pub use roles::{state_names, variable_roles};
-pub use scope::Scope;
+pub use scope::BehaviourScope;
 pub use spaces::{check_spaces, first_behaviour};
 pub use transitions::check_transitions;

@@ -6,7 +6,7 @@ ghost use Rattle.aadl_names.specs.PackageFaults.{package_faults};
 
 use crate::declarations::check_declarations;
 use crate::{all_port_names, check_spaces};
-use aadl_names::{Finder, FlatFault};
+use aadl_names::{Finder, PackageFault};
 use aadl_uses::Wires;
 use std::alloc::{AllocError, Global};
 
@@ -16,7 +16,7 @@ pub fn first_name_fault(
     alloc: Global,
     wires: &Wires<'_>,
     root: usize,
-) -> Result<Option<FlatFault>, AllocError>
+) -> Result<Option<PackageFault>, AllocError>
     ensures { IfOk result (FirstOf (package_faults (placed wires.now.uses.names.tree.now) root)) }
 {
     let mut finder = Finder::new(alloc);

@@ -1,16 +1,16 @@
 //! What the ports of a type are called.
 
-use aadl_names::{FlatFault, Role, Spot, Table};
+use aadl_names::{PackageFault, Role, NumberedPlace, NameTable};
 use pals_base::Items;
 
 /// What the ports of one type are called: what is asked of them for each of its implementations.
 pub struct PortNames {
     /// What each name stands for.
-    pub roles: Table<Role>,
+    pub roles: NameTable<Role>,
     /// The earliest port of each name.
-    pub earliest: Table<Spot>,
+    pub earliest: NameTable<NumberedPlace>,
     /// The first port that has the name of an earlier one.
-    pub again: Option<FlatFault>,
+    pub again: Option<PackageFault>,
 }
 
 impl Drop for PortNames {

@@ -18,7 +18,7 @@ use crate::port_names::{AllPortNames, PortNames};
 use aadl_names::earliest::earliest_of;
 use aadl_names::numbered::type_numbered;
 use aadl_names::twice::check_twice;
-use aadl_names::{Entry, Finder, FlatFault, Role, Table};
+use aadl_names::{SpelledName, Finder, PackageFault, Role, NameTable};
 use aadl_tree::{Declaration, Direction, Feature, PackageTree};
 use pals_base::Items;
 use std::alloc::{AllocError, Global};
@@ -34,7 +34,7 @@ fn role_in(direction: Direction) -> Role
 }
 
 // Adds a port to what names stand for, unless its name is there.
-fn add_role(alloc: Global, roles: &mut Table<Role>, port: &Feature) -> Result<(), AllocError>
+fn add_role(alloc: Global, roles: &mut NameTable<Role>, port: &Feature) -> Result<(), AllocError>
     ensures { OnOk result ((name : List ℕ) → value_of roles.new name
         ≡ option_or (value_of roles.old name)
         (if same_name name (feature_view kept_place port.now).name.spelling then Some (role_in (feature_view kept_place port.now).direction) else None)) }
@@ -43,10 +43,10 @@ fn add_role(alloc: Global, roles: &mut Table<Role>, port: &Feature) -> Result<()
 }
 
 // What the names of ports stand for.
-fn port_roles(alloc: Global, ports: &[Feature]) -> Result<Table<Role>, AllocError>
+fn port_roles(alloc: Global, ports: &[Feature]) -> Result<NameTable<Role>, AllocError>
     ensures { IfOk result (λ table. HasRolesOf (map (feature_view kept_place) ports.now) table) }
 {
-    let mut roles = Table::new(alloc);
+    let mut roles = NameTable::new(alloc);
     for port in ports {
         add_role(alloc, &mut roles, port)?;
     }
@@ -54,7 +54,7 @@ fn port_roles(alloc: Global, ports: &[Feature]) -> Result<Table<Role>, AllocErro
 }
 
 // The first declaration that has the name of an earlier one.
-fn first_again(alloc: Global, entries: &[Entry]) -> Result<Option<FlatFault>, AllocError>
+fn first_again(alloc: Global, entries: &[SpelledName]) -> Result<Option<PackageFault>, AllocError>
     ensures { IfOk result (λ first. first ≡ found None (twice entries.now)) }
 {
     let mut finder = Finder::new(alloc);

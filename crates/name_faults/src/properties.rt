@@ -18,13 +18,13 @@ use crate::shapes::has_shape;
 use aadl_names::name_comparison::is_spelled;
 use aadl_names::spelling::spelled_name;
 use aadl_names::twice::check_twice;
-use aadl_names::{Entry, Finder, Holder};
+use aadl_names::{SpelledName, Finder, PropertyHolder};
 use aadl_tree::{Association, Name, Value};
 use pals_base::Items;
 use std::alloc::{AllocError, Global};
 
 // Whether a property of the name is recognised here, and the value has another shape.
-fn is_misshapen(holder: Holder, name: &Name, value: &Value) -> bool
+fn is_misshapen(holder: PropertyHolder, name: &Name, value: &Value) -> bool
     ensures { result ≡ list_any (λ p. same_name (spelling.spelled_name (name_view kept_place name.now)) (spec.name_of p)
         && not (spec.has_shape p (value_view kept_place value.now))) (spec.recognised holder) }
 {
@@ -33,7 +33,7 @@ fn is_misshapen(holder: Holder, name: &Name, value: &Value) -> bool
 }
 
 // Finds the value of another shape of one property. What applies elsewhere does not count.
-fn check_property(finder: &mut Finder, holder: Holder, association: &Association)
+fn check_property(finder: &mut Finder, holder: PropertyHolder, association: &Association)
     ensures { finder.new ≡ found finder.old (spec.shape_fault holder (association_view kept_place association.now)) }
 {
     if association.applies_to.is_empty() {
@@ -45,7 +45,7 @@ fn check_property(finder: &mut Finder, holder: Holder, association: &Association
 }
 
 // Finds the values of other shapes in one list of properties.
-fn check_shapes(finder: &mut Finder, holder: Holder, list: &[Association])
+fn check_shapes(finder: &mut Finder, holder: PropertyHolder, list: &[Association])
     ensures { finder.new ≡ found finder.old (flat_map (spec.shape_fault holder) (spec.listed (associations_view kept_place list.now))) }
 {
     for association in list {
@@ -54,10 +54,10 @@ fn check_shapes(finder: &mut Finder, holder: Holder, list: &[Association])
 }
 
 // What a property declares.
-fn association_entry(alloc: Global, association: &Association) -> Result<Entry, AllocError>
+fn association_entry(alloc: Global, association: &Association) -> Result<SpelledName, AllocError>
     ensures { IfOk result (λ entry. entry ≡ spec.association_entry (association_view kept_place association.now)) }
 {
-    Ok(Entry {
+    Ok(SpelledName {
         name: spelled_name(alloc, &association.name)?,
         at: association.name.first.at,
     })
@@ -66,7 +66,7 @@ fn association_entry(alloc: Global, association: &Association) -> Result<Entry, 
 // Adds a property, unless it applies elsewhere.
 fn add_property(
     alloc: Global,
-    entries: &mut Items<Entry>,
+    entries: &mut Items<SpelledName>,
     association: &Association,
 ) -> Result<(), AllocError>
     ensures { OnOk result (entries.new ≡ entries.old ++ property_entries (associate (association_view kept_place association.now) no_associations)) }
@@ -78,7 +78,7 @@ fn add_property(
 }
 
 // The properties of a list, except those that apply elsewhere.
-fn property_entries(alloc: Global, list: &[Association]) -> Result<Items<Entry>, AllocError>
+fn property_entries(alloc: Global, list: &[Association]) -> Result<Items<SpelledName>, AllocError>
     ensures { IfOk result (λ entries. entries ≡ property_entries (associations_view kept_place list.now)) }
 {
     let mut entries = Items::new(alloc);
@@ -104,7 +104,7 @@ fn check_repeated(finder: &mut Finder, list: &[Association]) -> Result<(), Alloc
 /// What applies elsewhere does not count.
 pub fn check_properties(
     finder: &mut Finder,
-    holder: Holder,
+    holder: PropertyHolder,
     list: &[Association],
 ) -> Result<(), AllocError>
     ensures { OnOk result (finder.new ≡ found finder.old (spec.list_faults holder (associations_view kept_place list.now))) }

@@ -11,16 +11,16 @@ ghost use Rattle.aadl_names.specs.PackageFaults.{is_among, variable_roles};
 ghost use Rattle.name_faults.specs.proof.Marks.{value_if, is_marked};
 
 use crate::parts::{states_in, variables_in};
-use aadl_names::{Role, Table};
+use aadl_names::{Role, NameTable};
 use aadl_tree::{AnnexTree, Identifier, Identifiers};
 use std::alloc::{AllocError, Global};
 
 /// What the names of a behaviour's variables stand for.
-pub fn variable_roles(alloc: Global, behaviour: &AnnexTree) -> Result<Table<Role>, AllocError>
+pub fn variable_roles(alloc: Global, behaviour: &AnnexTree) -> Result<NameTable<Role>, AllocError>
     ensures { IfOk result (λ table. (name : List ℕ) → value_of table name
         ≡ variable_roles (variables_of (annex_tree_view kept_place behaviour.now)) name) }
 {
-    let mut table = Table::new(alloc);
+    let mut table = NameTable::new(alloc);
     for declaration in variables_in(behaviour) {
         add_words(alloc, &mut table, &declaration.names, Role::Varies)?;
     }
@@ -28,11 +28,11 @@ pub fn variable_roles(alloc: Global, behaviour: &AnnexTree) -> Result<Table<Role
 }
 
 /// The names of a behaviour's states.
-pub fn state_names(alloc: Global, behaviour: &AnnexTree) -> Result<Table<()>, AllocError>
+pub fn state_names(alloc: Global, behaviour: &AnnexTree) -> Result<NameTable<()>, AllocError>
     ensures { IfOk result (λ table. (name : List ℕ) → is_marked (value_of table name)
         ≡ is_among (states_of (annex_tree_view kept_place behaviour.now)) name) }
 {
-    let mut table = Table::new(alloc);
+    let mut table = NameTable::new(alloc);
     for declaration in states_in(behaviour) {
         add_words(alloc, &mut table, &declaration.names, ())?;
     }
@@ -42,7 +42,7 @@ pub fn state_names(alloc: Global, behaviour: &AnnexTree) -> Result<Table<()>, Al
 // Adds names with one value, unless they are there.
 fn add_words<V: Copy>(
     alloc: Global,
-    table: &mut Table<V>,
+    table: &mut NameTable<V>,
     words: &Identifiers,
     value: V,
 ) -> Result<(), AllocError>
@@ -59,7 +59,7 @@ fn add_words<V: Copy>(
 
 fn add_word<V: Copy>(
     alloc: Global,
-    table: &mut Table<V>,
+    table: &mut NameTable<V>,
     word: &Identifier,
     value: V,
 ) -> Result<(), AllocError>

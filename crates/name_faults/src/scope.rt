@@ -3,7 +3,7 @@ ghost use Rattle.std.specs.Prelude.{◌≡◌};
 ghost use Rattle.aadl_tree.specs.Names.{same_name};
 ghost use Rattle.std.specs.List.{list_any};
 
-use aadl_names::{Role, Table};
+use aadl_names::{Role, NameTable};
 use aadl_tree::Identifier;
 use pals_base::{Items, Text, TryClone};
 use std::alloc::{AllocError, Global};
@@ -12,14 +12,14 @@ use std::marker::Model;
 /// The names of a behaviour: its ports and variables, which of them go before the others, and the
 /// variables of the loops round a place, the outermost first.
 #[derive(Drop)]
-pub struct Scope<'t> {
+pub struct BehaviourScope<'t> {
     alloc: Global,
-    first: &'t Table<Role>,
-    second: &'t Table<Role>,
+    first: &'t NameTable<Role>,
+    second: &'t NameTable<Role>,
     loops: Items<Text>,
 }
 
-impl<'t> Model for Scope<'t> {
+impl<'t> Model for BehaviourScope<'t> {
     ghost use Rattle.name_faults.specs.proof.Scopes.{Scoped};
 
     ghost Value = { Scoped };
@@ -27,7 +27,7 @@ impl<'t> Model for Scope<'t> {
     ghost view = { λ s. record { first = s.first.now; second = s.second.now; loops = s.loops } };
 }
 
-impl<'t> Scope<'t> {
+impl<'t> BehaviourScope<'t> {
     ghost use Rattle.std.specs.Prelude.{◌≡◌, IfOk};
     ghost use Rattle.aadl_tree.specs.proof.NameViews.{identifier_view};
     ghost use Rattle.aadl_tree.specs.proof.Maps.{kept_place};
@@ -36,10 +36,10 @@ impl<'t> Scope<'t> {
     ghost use Rattle.name_faults.specs.proof.Scopes.{loop_roles, known_by};
 
     /// The names of a behaviour, outside its loops.
-    pub fn new(alloc: Global, first: &'t Table<Role>, second: &'t Table<Role>) -> Scope<'t>
+    pub fn new(alloc: Global, first: &'t NameTable<Role>, second: &'t NameTable<Role>) -> BehaviourScope<'t>
         ensures { known_by result ≡ either (value_of first.now) (value_of second.now) }
     {
-        Scope {
+        BehaviourScope {
             alloc,
             first,
             second,
@@ -48,12 +48,12 @@ impl<'t> Scope<'t> {
     }
 
     /// The names in a loop of the variable.
-    pub fn with_loop(&self, variable: &Identifier) -> Result<Scope<'t>, AllocError>
+    pub fn with_loop(&self, variable: &Identifier) -> Result<BehaviourScope<'t>, AllocError>
         ensures { IfOk result (λ scope. known_by scope ≡ with_loop (known_by self.now) (identifier_view kept_place variable.now)) }
     {
         let mut loops = self.loops.try_clone(self.alloc)?;
         loops.push(Text::from_str(self.alloc, variable.spelling.as_str())?)?;
-        Ok(Scope {
+        Ok(BehaviourScope {
             alloc: self.alloc,
             first: self.first,
             second: self.second,

@@ -9,7 +9,7 @@ ghost use Rattle.aadl_tree.specs.proof.Maps.{kept_place};
 ghost use Rattle.aadl_names.specs.Properties as spec;
 
 use crate::digits::is_number;
-use aadl_names::Property;
+use aadl_names::PropertyName;
 use aadl_names::units::unit_of;
 use aadl_tree::{Figure, Identifier, Quantity, Sign, Value};
 
@@ -95,7 +95,7 @@ fn is_initial_only(values: &[Value]) -> bool
 
 // A list of one text that is an initial value.
 fn is_initial_list(value: &Value) -> bool
-    ensures { result ≡ spec.has_shape Property.Initial (value_view kept_place value.now) }
+    ensures { result ≡ spec.has_shape PropertyName.Initial (value_view kept_place value.now) }
 {
     match value {
         Value::List(values) => is_initial_only(values.as_slice()),
@@ -143,14 +143,14 @@ fn is_reference(value: &Value) -> bool
 }
 
 /// Whether a value has the shape that a property takes.
-pub fn has_shape(property: Property, value: &Value) -> bool
+pub fn has_shape(property: PropertyName, value: &Value) -> bool
     ensures { result ≡ spec.has_shape property (value_view kept_place value.now) }
 {
     match property {
-        Property::Period | Property::Skew => is_time_value(value),
-        Property::Dispatch | Property::Timing => is_reference(value),
-        Property::Adaptor => is_text_value(value),
-        Property::Execution | Property::Network => is_range_value(value),
-        Property::Initial => is_initial_list(value),
+        PropertyName::Period | PropertyName::Skew => is_time_value(value),
+        PropertyName::Dispatch | PropertyName::Timing => is_reference(value),
+        PropertyName::Adaptor => is_text_value(value),
+        PropertyName::Execution | PropertyName::Network => is_range_value(value),
+        PropertyName::Initial => is_initial_list(value),
     }
 }

@@ -10,14 +10,14 @@ ghost use Rattle.aadl_names.specs.proof.Found.{found};
 ghost use Rattle.aadl_names.specs.PackageFaults as spec;
 ghost use Rattle.name_faults.specs.proof.Scopes.{known_by, is_state_by};
 
-use crate::scope::Scope;
+use crate::scope::BehaviourScope;
 use crate::uses::{check_block, check_expression};
-use aadl_names::{Finder, Table};
+use aadl_names::{Finder, NameTable};
 use aadl_tree::{Block, Guard, Identifier, Transition};
 use std::alloc::AllocError;
 
 // Finds that a name is no state's.
-fn check_state(finder: &mut Finder, states: &Table<()>, name: &Identifier) -> Result<(), AllocError>
+fn check_state(finder: &mut Finder, states: &NameTable<()>, name: &Identifier) -> Result<(), AllocError>
     ensures { OnOk result (finder.new ≡ found finder.old (spec.state_uses (is_state_by states.now) (identifier_view kept_place name.now))) }
 {
     let word = name.spelling.as_str();
@@ -30,7 +30,7 @@ fn check_state(finder: &mut Finder, states: &Table<()>, name: &Identifier) -> Re
 // Finds how a guard uses names wrongly.
 fn check_guard(
     finder: &mut Finder,
-    scope: &Scope<'_>,
+    scope: &BehaviourScope<'_>,
     guard: &Option<Guard>,
 ) -> Result<(), AllocError>
     ensures { OnOk result (finder.new ≡ found finder.old (spec.guard_uses (known_by scope.now) (option_map (guard_view kept_place) guard.now))) }
@@ -46,7 +46,7 @@ fn check_guard(
 // Finds how what a transition does uses names wrongly.
 fn check_effect(
     finder: &mut Finder,
-    scope: &Scope<'_>,
+    scope: &BehaviourScope<'_>,
     effect: &Option<Block>,
 ) -> Result<(), AllocError>
     ensures { OnOk result (finder.new ≡ found finder.old (spec.effect_uses (known_by scope.now) (option_map (block_view kept_place) effect.now))) }
@@ -60,8 +60,8 @@ fn check_effect(
 // Finds how a transition uses names wrongly.
 fn check_transition(
     finder: &mut Finder,
-    states: &Table<()>,
-    scope: &Scope<'_>,
+    states: &NameTable<()>,
+    scope: &BehaviourScope<'_>,
     x: &Transition,
 ) -> Result<(), AllocError>
     ensures { OnOk result (finder.new ≡ found finder.old
@@ -76,8 +76,8 @@ fn check_transition(
 /// Finds how transitions use names wrongly.
 pub fn check_transitions(
     finder: &mut Finder,
-    states: &Table<()>,
-    scope: &Scope<'_>,
+    states: &NameTable<()>,
+    scope: &BehaviourScope<'_>,
     transitions: &[Transition],
 ) -> Result<(), AllocError>
     ensures { OnOk result (finder.new ≡ found finder.old

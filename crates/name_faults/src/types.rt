@@ -11,7 +11,7 @@ ghost use Rattle.aadl_names.specs.PackageFaults as spec;
 use crate::check_properties;
 use crate::components::check_ports;
 use aadl_names::names::same_word;
-use aadl_names::{Finder, Holder};
+use aadl_names::{Finder, PropertyHolder};
 use aadl_tree::{Annex, AnnexContent, TypeDeclaration, VariableDeclaration};
 use std::alloc::AllocError;
 
@@ -31,7 +31,7 @@ fn variables_in(annex: &Annex) -> &[VariableDeclaration]
 fn check_variable(finder: &mut Finder, x: &VariableDeclaration) -> Result<(), AllocError>
     ensures { OnOk result (finder.new ≡ found finder.old (spec.variable_faults (variable_view kept_place x.now))) }
 {
-    check_properties(finder, Holder::Variable, x.properties.as_slice())
+    check_properties(finder, PropertyHolder::Variable, x.properties.as_slice())
 }
 
 fn check_variable_list(
@@ -88,7 +88,7 @@ pub fn check_type(finder: &mut Finder, of_root: bool, x: &TypeDeclaration) -> Re
     check_ports(finder, x.features.as_slice())?;
     check_properties(
         finder,
-        Holder::Declaration(x.category, of_root),
+        PropertyHolder::Declaration(x.category, of_root),
         x.properties.as_slice(),
     )?;
     check_no_behaviour(finder, x.annexes.as_slice());

@@ -10,7 +10,7 @@ ghost use Rattle.aadl_names.specs.proof.Found.{found};
 ghost use Rattle.aadl_names.specs.AnnexNames as spec;
 ghost use Rattle.name_faults.specs.proof.Scopes.{known_by};
 
-use crate::scope::Scope;
+use crate::scope::BehaviourScope;
 use aadl_names::{Finder, Usage};
 use aadl_tree::{
     Action, Actions, Block, Choice, Expression, Factor, Identifier, Loop, Primary, Relation, Sum,
@@ -20,7 +20,7 @@ use std::alloc::AllocError;
 
 fn check_use(
     finder: &mut Finder,
-    scope: &Scope<'_>,
+    scope: &BehaviourScope<'_>,
     usage: Usage,
     name: &Identifier,
 ) -> Result<(), AllocError>
@@ -38,7 +38,7 @@ fn check_use(
 // Finds the variable of a loop whose name stands for something already.
 fn check_again(
     finder: &mut Finder,
-    scope: &Scope<'_>,
+    scope: &BehaviourScope<'_>,
     variable: &Identifier,
 ) -> Result<(), AllocError>
     ensures { OnOk result (finder.new ≡ found finder.old (spec.loop_again (known_by scope.now) (identifier_view kept_place variable.now))) }
@@ -53,7 +53,7 @@ fn check_again(
 #[cycle(uses)]
 fn check_primary(
     finder: &mut Finder,
-    scope: &Scope<'_>,
+    scope: &BehaviourScope<'_>,
     primary: &Primary,
 ) -> Result<(), AllocError>
     ensures { OnOk result (finder.new ≡ found finder.old (spec.primary_uses (known_by scope.now) (primary_view kept_place primary.now))) }
@@ -70,7 +70,7 @@ fn check_primary(
 }
 
 #[cycle(uses)]
-fn check_factor(finder: &mut Finder, scope: &Scope<'_>, factor: &Factor) -> Result<(), AllocError>
+fn check_factor(finder: &mut Finder, scope: &BehaviourScope<'_>, factor: &Factor) -> Result<(), AllocError>
     ensures { OnOk result (finder.new ≡ found finder.old (spec.factor_uses (known_by scope.now) (factor_view kept_place factor.now))) }
 {
     match factor {
@@ -81,7 +81,7 @@ fn check_factor(finder: &mut Finder, scope: &Scope<'_>, factor: &Factor) -> Resu
 }
 
 #[cycle(uses)]
-fn check_term(finder: &mut Finder, scope: &Scope<'_>, term: &Term) -> Result<(), AllocError>
+fn check_term(finder: &mut Finder, scope: &BehaviourScope<'_>, term: &Term) -> Result<(), AllocError>
     ensures { OnOk result (finder.new ≡ found finder.old (spec.term_uses (known_by scope.now) (term_view kept_place term.now))) }
 {
     check_factor(finder, scope, &term.first)?;
@@ -92,7 +92,7 @@ fn check_term(finder: &mut Finder, scope: &Scope<'_>, term: &Term) -> Result<(),
 }
 
 #[cycle(uses)]
-fn check_sum(finder: &mut Finder, scope: &Scope<'_>, sum: &Sum) -> Result<(), AllocError>
+fn check_sum(finder: &mut Finder, scope: &BehaviourScope<'_>, sum: &Sum) -> Result<(), AllocError>
     ensures { OnOk result (finder.new ≡ found finder.old (spec.sum_uses (known_by scope.now) (sum_view kept_place sum.now))) }
 {
     check_term(finder, scope, &sum.first)?;
@@ -105,7 +105,7 @@ fn check_sum(finder: &mut Finder, scope: &Scope<'_>, sum: &Sum) -> Result<(), Al
 #[cycle(uses)]
 fn check_relation(
     finder: &mut Finder,
-    scope: &Scope<'_>,
+    scope: &BehaviourScope<'_>,
     relation: &Relation,
 ) -> Result<(), AllocError>
     ensures { OnOk result (finder.new ≡ found finder.old (spec.relation_uses (known_by scope.now) (relation_view kept_place relation.now))) }
@@ -121,7 +121,7 @@ fn check_relation(
 #[cycle(uses)]
 pub fn check_expression(
     finder: &mut Finder,
-    scope: &Scope<'_>,
+    scope: &BehaviourScope<'_>,
     expression: &Expression,
 ) -> Result<(), AllocError>
     ensures { OnOk result (finder.new ≡ found finder.old (spec.expression_uses (known_by scope.now) (expression_view kept_place expression.now))) }
@@ -134,7 +134,7 @@ pub fn check_expression(
 }
 
 #[cycle(actions)]
-fn check_action(finder: &mut Finder, scope: &Scope<'_>, action: &Action) -> Result<(), AllocError>
+fn check_action(finder: &mut Finder, scope: &BehaviourScope<'_>, action: &Action) -> Result<(), AllocError>
     ensures { OnOk result (finder.new ≡ found finder.old (spec.action_uses (known_by scope.now) (action_view kept_place action.now))) }
 {
     match action {
@@ -152,7 +152,7 @@ fn check_action(finder: &mut Finder, scope: &Scope<'_>, action: &Action) -> Resu
 }
 
 #[cycle(actions)]
-fn check_choice(finder: &mut Finder, scope: &Scope<'_>, choice: &Choice) -> Result<(), AllocError>
+fn check_choice(finder: &mut Finder, scope: &BehaviourScope<'_>, choice: &Choice) -> Result<(), AllocError>
     ensures { OnOk result (finder.new ≡ found finder.old (spec.action_uses (known_by scope.now) (choice_view kept_place choice.now))) }
 {
     check_expression(finder, scope, &choice.test)?;
@@ -168,7 +168,7 @@ fn check_choice(finder: &mut Finder, scope: &Scope<'_>, choice: &Choice) -> Resu
 }
 
 #[cycle(actions)]
-fn check_loop(finder: &mut Finder, scope: &Scope<'_>, turns: &Loop) -> Result<(), AllocError>
+fn check_loop(finder: &mut Finder, scope: &BehaviourScope<'_>, turns: &Loop) -> Result<(), AllocError>
     ensures { OnOk result (finder.new ≡ found finder.old (spec.action_uses (known_by scope.now) (loop_view kept_place turns.now))) }
 {
     check_again(finder, scope, &turns.variable)?;
@@ -179,7 +179,7 @@ fn check_loop(finder: &mut Finder, scope: &Scope<'_>, turns: &Loop) -> Result<()
 #[cycle(actions)]
 fn check_actions(
     finder: &mut Finder,
-    scope: &Scope<'_>,
+    scope: &BehaviourScope<'_>,
     actions: &Actions,
 ) -> Result<(), AllocError>
     ensures { OnOk result (finder.new ≡ found finder.old (spec.actions_uses (known_by scope.now) (actions_view kept_place actions.now))) }
@@ -193,7 +193,7 @@ fn check_actions(
 
 /// Finds how actions use names wrongly.
 #[cycle(actions)]
-pub fn check_block(finder: &mut Finder, scope: &Scope<'_>, block: &Block) -> Result<(), AllocError>
+pub fn check_block(finder: &mut Finder, scope: &BehaviourScope<'_>, block: &Block) -> Result<(), AllocError>
     ensures { OnOk result (finder.new ≡ found finder.old (spec.block_uses (known_by scope.now) (block_view kept_place block.now))) }
 {
     match &block.actions {

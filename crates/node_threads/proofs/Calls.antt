@@ -17,13 +17,13 @@ use Rattle.pals_bus.specs.declared.refusals.BusError.TheVariants as fault
 use Rattle.pals_bus.specs.Values.{BusValue, Happens}
 use Rattle.pals_bus.specs.proof.Answers.{StartsRound, BusStartEnds, StepsOn, FinishesStep, SendsRound}
 use Rattle.pals_bus.specs.proof.Due.{TakesAllDue, DueEnds}
-use Rattle.node_threads.specs.declared.ends.Note.{Note}
+use Rattle.node_threads.specs.declared.ends.NodeNote.{NodeNote}
 use Rattle.node_threads.specs.proof.Courses.{CourseValue, course_of, IsCourse, IsOpen, IsToStartIn, IsAwaitedIn, Allows}
 use Rattle.node_threads.proofs.Steps.{Goes, goes_same, event_goes}
 use Rattle.node_threads.proofs.Taking.{Still, all_still, none_is_left}
 
 -- ---- start
-start_ends : (bus : BusValue) (lists : List ClockState) (notes : List Note) (new : BusValue) (node : NodeNo)
+start_ends : (bus : BusValue) (lists : List ClockState) (notes : List NodeNote) (new : BusValue) (node : NodeNo)
     (reading : Option ℕ) (end : BusError StartEnd) → IsCourse (course_of bus lists notes)
     → Allows (course_of bus lists notes) (Start node reading)
     → BusStartEnds bus node reading new end → Goes (course_of bus lists notes) (course_of new lists notes)
@@ -34,7 +34,7 @@ start_ends bus lists notes new node reading (fault.Stopped why) course allows en
 start_ends bus lists notes new node reading (fault.Refused why) course allows ends =
     goes_same bus lists notes new course ends.same
 
-start_goes : (bus : BusValue) (lists : List ClockState) (notes : List Note) (new : BusValue) (node : NodeNo)
+start_goes : (bus : BusValue) (lists : List ClockState) (notes : List NodeNote) (new : BusValue) (node : NodeNo)
     (reading : Option ℕ) (result : Result JobValue (BusError StartEnd)) → IsCourse (course_of bus lists notes)
     → Allows (course_of bus lists notes) (Start node reading)
     → IfOk result (λ job. StartsRound bus node reading new job)
@@ -46,7 +46,7 @@ start_goes bus lists notes new node reading (Err end) course allows ok err =
     start_ends bus lists notes new node reading end course allows err
 
 -- of a course that is this value
-pub start_keeps : (bus : BusValue) (lists : List ClockState) (notes : List Note) (new : BusValue) (v : CourseValue)
+pub start_keeps : (bus : BusValue) (lists : List ClockState) (notes : List NodeNote) (new : BusValue) (v : CourseValue)
     (node : NodeNo) (reading : Option ℕ) (result : Result JobValue (BusError StartEnd)) → course_of bus lists notes ≡ v
     → IsCourse (course_of bus lists notes)
     → Allows v (Start node reading) → IfOk result (λ job. StartsRound bus node reading new job)
@@ -57,7 +57,7 @@ start_keeps bus lists notes new v node reading result is course allows ok err =
     (subst (λ w. Allows w (Start node reading)) (sym is) allows) ok err)
 
 -- ---- step and send
-step_goes : (bus : BusValue) (lists : List ClockState) (notes : List Note) (new : BusValue) (node : NodeNo)
+step_goes : (bus : BusValue) (lists : List ClockState) (notes : List NodeNote) (new : BusValue) (node : NodeNo)
     (reading : Option ℕ) (result : Result JobValue (BusError StepEnd)) → IsCourse (course_of bus lists notes)
     → Allows (course_of bus lists notes) (Step node reading)
     → IfOk result (λ job. StepsOn bus node reading new job) → OnErr result (new ≡ bus)
@@ -66,7 +66,7 @@ step_goes bus lists notes new node reading (Ok job) course allows ok err =
     event_goes bus lists notes (Step node reading) new course allows ok.happens
 step_goes bus lists notes new node reading (Err end) course allows ok err = goes_same bus lists notes new course err
 
-pub step_keeps : (bus : BusValue) (lists : List ClockState) (notes : List Note) (new : BusValue) (v : CourseValue)
+pub step_keeps : (bus : BusValue) (lists : List ClockState) (notes : List NodeNote) (new : BusValue) (v : CourseValue)
     (node : NodeNo) (reading : Option ℕ) (result : Result JobValue (BusError StepEnd)) → course_of bus lists notes ≡ v
     → IsCourse (course_of bus lists notes)
     → Allows v (Step node reading) → IfOk result (λ job. StepsOn bus node reading new job) → OnErr result (new ≡ bus)
@@ -76,7 +76,7 @@ step_keeps bus lists notes new v node reading result is course allows ok err =
     (step_goes bus lists notes new node reading result course
     (subst (λ w. Allows w (Step node reading)) (sym is) allows) ok err)
 
-send_goes : (bus : BusValue) (lists : List ClockState) (notes : List Note) (new : BusValue) (node : NodeNo)
+send_goes : (bus : BusValue) (lists : List ClockState) (notes : List NodeNote) (new : BusValue) (node : NodeNo)
     (reading : Option ℕ) {T : Type 0} (result : Result T (BusError SendEnd)) → IsCourse (course_of bus lists notes)
     → Allows (course_of bus lists notes) (Send node reading)
     → OnOk result (SendsRound bus node reading new) → OnErr result (new ≡ bus)
@@ -85,7 +85,7 @@ send_goes bus lists notes new node reading (Ok done) course allows ok err =
     event_goes bus lists notes (Send node reading) new course allows ok.happens
 send_goes bus lists notes new node reading (Err end) course allows ok err = goes_same bus lists notes new course err
 
-pub send_keeps : (bus : BusValue) (lists : List ClockState) (notes : List Note) (new : BusValue) (v : CourseValue)
+pub send_keeps : (bus : BusValue) (lists : List ClockState) (notes : List NodeNote) (new : BusValue) (v : CourseValue)
     (node : NodeNo) (reading : Option ℕ) {T : Type 0} (result : Result T (BusError SendEnd))
     → course_of bus lists notes ≡ v → IsCourse (course_of bus lists notes)
     → Allows v (Send node reading) → OnOk result (SendsRound bus node reading new) → OnErr result (new ≡ bus)
@@ -96,7 +96,7 @@ send_keeps bus lists notes new v node reading result is course allows ok err =
     (subst (λ w. Allows w (Send node reading)) (sym is) allows) ok err)
 
 -- ---- finish
-finish_goes : (bus : BusValue) (lists : List ClockState) (notes : List Note) (new : BusValue) (node : NodeNo)
+finish_goes : (bus : BusValue) (lists : List ClockState) (notes : List NodeNote) (new : BusValue) (node : NodeNo)
     (job : JobValue) (result : Result Finished (BusError FinishEnd)) → IsCourse (course_of bus lists notes)
     → node.0 < length bus.run.design.components
     → IfOk result (λ how. FinishesStep bus node job new how) → OnErr result (new ≡ bus)
@@ -105,7 +105,7 @@ finish_goes bus lists notes new node job (Ok how) course within ok err =
     event_goes bus lists notes (Finish node) new course within ok.happens
 finish_goes bus lists notes new node job (Err end) course within ok err = goes_same bus lists notes new course err
 
-pub finish_keeps : (bus : BusValue) (lists : List ClockState) (notes : List Note) (new : BusValue) (v : CourseValue)
+pub finish_keeps : (bus : BusValue) (lists : List ClockState) (notes : List NodeNote) (new : BusValue) (v : CourseValue)
     (node : NodeNo) (job : JobValue) (result : Result Finished (BusError FinishEnd)) → course_of bus lists notes ≡ v
     → IsCourse (course_of bus lists notes)
     → node.0 < length v.bus.run.design.components → IfOk result (λ how. FinishesStep bus node job new how)
@@ -115,7 +115,7 @@ finish_keeps bus lists notes new v node job result is course within ok err =
     (finish_goes bus lists notes new node job result course
     (subst (λ (w : CourseValue). node.0 < length w.bus.run.design.components) (sym is) within) ok err)
 
-finish_here_goes : (bus : BusValue) (lists : List ClockState) (notes : List Note) (new : BusValue) (node : NodeNo)
+finish_here_goes : (bus : BusValue) (lists : List ClockState) (notes : List NodeNote) (new : BusValue) (node : NodeNo)
     {T : Type 0} (result : Result T (BusError FinishEnd)) → IsCourse (course_of bus lists notes)
     → node.0 < length bus.run.design.components
     → OnOk result (Happens bus (Finish node) new) → OnErr result (new ≡ bus)
@@ -124,7 +124,7 @@ finish_here_goes bus lists notes new node (Ok done) course within ok err =
     event_goes bus lists notes (Finish node) new course within ok
 finish_here_goes bus lists notes new node (Err end) course within ok err = goes_same bus lists notes new course err
 
-pub finish_here_keeps : (bus : BusValue) (lists : List ClockState) (notes : List Note) (new : BusValue)
+pub finish_here_keeps : (bus : BusValue) (lists : List ClockState) (notes : List NodeNote) (new : BusValue)
     (v : CourseValue) (node : NodeNo) {T : Type 0} (result : Result T (BusError FinishEnd))
     → course_of bus lists notes ≡ v → IsCourse (course_of bus lists notes)
     → node.0 < length v.bus.run.design.components → OnOk result (Happens bus (Finish node) new)
@@ -142,7 +142,7 @@ pub record Taken (old new : CourseValue) (node : NodeNo) (reading : ℕ) {T : Ty
   pub is_open : OnOk result (IsOpen new node.0)
   pub allows : OnOk result (Allows new (Start node (Some reading)))
 
-due_ends : (bus : BusValue) (lists : List ClockState) (notes : List Note) (new : BusValue) (node : NodeNo) (reading : ℕ)
+due_ends : (bus : BusValue) (lists : List ClockState) (notes : List NodeNote) (new : BusValue) (node : NodeNo) (reading : ℕ)
     (end : BusError AllocError) → Still (course_of bus lists notes) lists notes node reading bus
     → DueEnds bus node.0 reading new end → Goes (course_of bus lists notes) (course_of new lists notes)
 due_ends bus lists notes new node reading (fault.Stopped why) still ends = elim ends [
@@ -152,7 +152,7 @@ due_ends bus lists notes new node reading (fault.Stopped why) still ends = elim 
 due_ends bus lists notes new node reading (fault.Refused no_memory) still ends =
     goes_same bus lists notes new still.goes.course ends
 
-take_goes : (bus : BusValue) (lists : List ClockState) (notes : List Note) (new : BusValue) (node : NodeNo)
+take_goes : (bus : BusValue) (lists : List ClockState) (notes : List NodeNote) (new : BusValue) (node : NodeNo)
     (reading : ℕ) {T : Type 0} (result : Result T (BusError AllocError)) → IsCourse (course_of bus lists notes)
     → IsOpen (course_of bus lists notes) node.0
     → IsToStartIn (course_of bus lists notes) node reading → IsAwaitedIn (course_of bus lists notes) node.0
@@ -194,7 +194,7 @@ take_goes bus lists notes new node reading (Err end) course is_open waits awaite
     } in
     record { goes = due_ends bus lists notes new node reading end first err; is_open = tt; allows = tt }
 
-pub take_keeps : (bus : BusValue) (lists : List ClockState) (notes : List Note) (new : BusValue) (v : CourseValue)
+pub take_keeps : (bus : BusValue) (lists : List ClockState) (notes : List NodeNote) (new : BusValue) (v : CourseValue)
     (node : NodeNo) (reading : ℕ) {T : Type 0} (result : Result T (BusError AllocError)) → course_of bus lists notes ≡ v
     → IsCourse (course_of bus lists notes)
     → IsOpen v node.0 → IsToStartIn v node reading → IsAwaitedIn v node.0

@@ -8,8 +8,8 @@ use Rattle.pals_runs.specs.declared.journal.Phase.TheVariants.{Waiting, Running,
 use Rattle.bus_machine.specs.States.{node_at}
 use Rattle.node_threads.specs.declared.ends.NodeEnd.{NodeEnd}
 use Rattle.node_threads.specs.declared.ends.NodeEnd.TheVariants as end
-use Rattle.node_threads.specs.declared.ends.Note.{Note}
-use Rattle.node_threads.specs.declared.ends.Note.TheVariants as note
+use Rattle.node_threads.specs.declared.ends.NodeNote.{NodeNote}
+use Rattle.node_threads.specs.declared.ends.NodeNote.TheVariants as note
 use Rattle.node_threads.specs.proof.Courses.{CourseValue, note_at, IsCourse}
 use Rattle.node_threads.specs.proof.Ends.{EndFits, EndsFit, noted_end, phase_end, stopped_end, closed_end, end_in}
 
@@ -37,7 +37,7 @@ phase_fits c node Holding stopped closed e phase stop shut is = stopped_fits c n
 phase_fits c node Done stopped closed e phase stop shut is =
     subst (EndFits c.bus c.clocks node) (same_Some end.Finished e is) phase
 
-fits_by : (c : CourseValue) (node : ℕ) (n : Note) (e : NodeEnd) → IsCourse c → note_at c.notes node ≡ n
+fits_by : (c : CourseValue) (node : ℕ) (n : NodeNote) (e : NodeEnd) → IsCourse c → note_at c.notes node ≡ n
     → noted_end n (node_at c.bus.state node).phase (is_some c.bus.state.stop) c.bus.closed ≡ Some e
     → EndFits c.bus c.clocks node e
 fits_by c node (note.ClockEnded goal) e course noted is =

@@ -4,7 +4,7 @@ mod Taking
 mod Calls
 mod Looks
 mod Waiting
-mod Acting
+mod ReadyNodes
 mod Openings
 mod Endings
 mod Outcomes

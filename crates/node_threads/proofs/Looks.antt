@@ -15,7 +15,7 @@ use Rattle.pals_clock.proofs.Reaching.{reached_none}
 use Rattle.pals_runs.specs.declared.journal.Phase.{Phase}
 use Rattle.pals_runs.specs.declared.journal.Phase.TheVariants.{Waiting, Running, Between, Holding, Done}
 use Rattle.bus_machine.specs.declared.plan.Plan.{Plan}
-use Rattle.bus_machine.specs.declared.action.Action.{Action}
+use Rattle.bus_machine.specs.declared.action.NodeAction.{NodeAction}
 use Rattle.bus_machine.specs.declared.action.Next.{Next}
 use Rattle.bus_machine.specs.Nodes.{NodeState}
 use Rattle.bus_machine.specs.Plans.{plan_of}
@@ -26,7 +26,7 @@ use Rattle.pals_bus.specs.proof.Meeting.{target_in, HasEnded as HasStopped, Goes
 use Rattle.run_laws.specs.NodeActions.{upcoming}
 use Rattle.run_laws.specs.Runs.{clock_at, no_clock, Shows, Does}
 use Rattle.run_laws.proofs.Picking.{runs_agree}
-use Rattle.node_threads.specs.declared.ends.Note.{Note}
+use Rattle.node_threads.specs.declared.ends.NodeNote.{NodeNote}
 use Rattle.node_threads.specs.proof.Courses.{CourseValue, clocks_of, course_of, EndsAt, IsCourse, IsOpen, IsNext, IsReady}
 use Rattle.node_threads.proofs.Ranges.{target_fits}
 use Rattle.node_threads.proofs.Steps.{Goes, pick_goes}
@@ -36,7 +36,7 @@ pub record Comes (plan : Plan) (n : NodeState) (next : Next) : Type 0 where
   pub action_is : upcoming plan n ≡ Some next.action
   pub target_is : next.target ≡ target plan next.action
 
-next_by : (plan : Plan) (n : NodeState) (next : Next) (o : Option Action) → upcoming plan n ≡ o
+next_by : (plan : Plan) (n : NodeState) (next : Next) (o : Option NodeAction) → upcoming plan n ≡ o
     → option_map (λ a. record { action = a; target = target plan a }) o ≡ Some next → Comes plan n next
 next_by plan n next None is told = absurd (none-some next told)
 next_by plan n next (Some a) is told =
@@ -49,7 +49,7 @@ comes c node next is = let plan = plan_of c.bus.run.design node in let n = node_
     next_by plan n next (upcoming plan n) refl is
 
 -- ---- where nodes meet
-same_action : (plan : Plan) (n : NodeState) (p : Phase) (a : Action) → next_in plan n p ≡ Some a
+same_action : (plan : Plan) (n : NodeState) (p : Phase) (a : NodeAction) → next_in plan n p ≡ Some a
     → action_in plan n p ≡ Some a
 same_action plan n Waiting a is = is
 same_action plan n (Running step) a is = absurd (none-some a is)
@@ -57,7 +57,7 @@ same_action plan n (Between steps) a is = is
 same_action plan n Holding a is = is
 same_action plan n Done a is = absurd (none-some a is)
 
-aims : (b : BusValue) (node : ℕ) (a : Action) → upcoming (plan_of b.run.design node) (node_at b.state node) ≡ Some a
+aims : (b : BusValue) (node : ℕ) (a : NodeAction) → upcoming (plan_of b.run.design node) (node_at b.state node) ≡ Some a
     → target_in b node ≡ Some (target (plan_of b.run.design node) a)
 aims b node a is = let plan = plan_of b.run.design node in let n = node_at b.state node in
     ap (option_map (target plan)) (same_action plan n n.phase a is)
@@ -90,7 +90,7 @@ meets_ready c node next reading meets course is_open is goes =
       range = omega arith;
     }
 
-pub meeting_looks : (bus : BusValue) (lists : List ClockState) (notes : List Note) (v : CourseValue) (node : NodeNo)
+pub meeting_looks : (bus : BusValue) (lists : List ClockState) (notes : List NodeNote) (v : CourseValue) (node : NodeNo)
     (next : Next) (reading : ℕ) → course_of bus lists notes ≡ v → IsCourse (course_of bus lists notes)
     → v.bus.meeting ≡ true
     → IsOpen v node.0 → IsNext v node.0 next → GoesAt bus node.0 (Some reading) → IsReady v node next.action reading
@@ -105,7 +105,7 @@ not_stopped : (b : BusValue) → b.state.stop ≡ None → b.closed ≡ false �
 not_stopped b going unclosed (inl stop) = stop going
 not_stopped b going unclosed (inr closed) = absurd (let both : false ≡ true = sym unclosed ∙ closed in cc)
 
-at_meeting : (b : BusValue) (lists : List ClockState) (node : NodeNo) (reading : ℕ) (action : Action) (meeting : Bool)
+at_meeting : (b : BusValue) (lists : List ClockState) (node : NodeNo) (reading : ℕ) (action : NodeAction) (meeting : Bool)
     → b.state.stop ≡ None → b.closed ≡ false → Does b.run (clocks_of meeting lists) b.state node (Some reading) action
     → meeting ≡ true → GoesAt b node.0 (Some reading)
 at_meeting b lists node reading action false going unclosed does is = absurd (cc)
@@ -121,8 +121,8 @@ at_meeting b lists node reading action true going unclosed does is =
     }
 
 -- what the bus asks of a node that acts
-pub goes_at : (bus : BusValue) (lists : List ClockState) (notes : List Note) (v : CourseValue) (node : NodeNo)
-    (reading : ℕ) (action : Action) → course_of bus lists notes ≡ v → IsOpen v node.0
+pub goes_at : (bus : BusValue) (lists : List ClockState) (notes : List NodeNote) (v : CourseValue) (node : NodeNo)
+    (reading : ℕ) (action : NodeAction) → course_of bus lists notes ≡ v → IsOpen v node.0
     → Does v.bus.run v.clocks v.bus.state node (Some reading) action → bus.meeting ≡ true
     → GoesAt bus node.0 (Some reading)
 goes_at bus lists notes v node reading action is is_open does meets =
@@ -137,7 +137,7 @@ pub lists_false : (meeting : Bool) (lists clocks : List ClockState) → clocks_o
 lists_false false lists clocks is = refl
 lists_false true lists clocks is = absurd (cc)
 
-pub own_lists : (bus : BusValue) (lists : List ClockState) (notes : List Note) (v : CourseValue)
+pub own_lists : (bus : BusValue) (lists : List ClockState) (notes : List NodeNote) (v : CourseValue)
     → course_of bus lists notes ≡ v → bus.meeting ≡ false → (clocks : List ClockState) × (v.clocks ≡ Lists clocks)
 own_lists bus lists notes v is apart =
     (lists, ap (λ (w : CourseValue). w.clocks) (sym is) ∙ ap (λ m. clocks_of m lists) apart)
@@ -171,7 +171,7 @@ pub record Waited (old new : ClockState) (goal : ℕ) {E : Type 0} (result : Res
   pub ended : IsErr result ↔ All (λ reading. reading < goal) old.left
   pub same : OnErr result (new ≡ old)
 
-lists_picked : (bus : BusValue) (lists : List ClockState) (notes : List Note) (node : NodeNo) (next : Next)
+lists_picked : (bus : BusValue) (lists : List ClockState) (notes : List NodeNote) (node : NodeNo) (next : Next)
     (new : ClockState) {E : Type 0} (result : Result ℕ E) → bus.meeting ≡ false → IsCourse (course_of bus lists notes)
     → IsOpen (course_of bus lists notes) node.0
     → IsNext (course_of bus lists notes) node.0 next → Waited (clock_at lists node.0) new next.target result
@@ -245,7 +245,7 @@ lists_picked bus lists notes node next new (Err e) apart course is_open is waite
           ((next.action, come.action_is, none), sym come.target_is);
     })
 
-pub pick_keeps : (bus : BusValue) (lists : List ClockState) (notes : List Note) (v : CourseValue) (node : NodeNo)
+pub pick_keeps : (bus : BusValue) (lists : List ClockState) (notes : List NodeNote) (v : CourseValue) (node : NodeNo)
     (next : Next) (new : ClockState) {E : Type 0} (result : Result ℕ E) → course_of bus lists notes ≡ v
     → IsCourse (course_of bus lists notes)
     → ((clocks : List ClockState) × (v.clocks ≡ Lists clocks)) → IsOpen v node.0 → IsNext v node.0 next
@@ -259,7 +259,7 @@ pick_keeps bus lists notes v node next new result is course own is_open next_is 
     (subst (λ w. IsNext w node.0 next) (sym is) next_is) waited)
 
 -- a node's list stands at its place
-pub within_lists : (bus : BusValue) (lists : List ClockState) (notes : List Note) (v : CourseValue) (node : ℕ)
+pub within_lists : (bus : BusValue) (lists : List ClockState) (notes : List NodeNote) (v : CourseValue) (node : ℕ)
     → course_of bus lists notes ≡ v → IsCourse (course_of bus lists notes)
     → ((clocks : List ClockState) × (v.clocks ≡ Lists clocks)) → IsOpen v node → node < length lists
 within_lists bus lists notes v node is course own is_open =
@@ -271,7 +271,7 @@ within_lists bus lists notes v node is course own is_open =
     omega (arith, here.lists)
 
 -- with what the index gives
-pub pick_by : (bus : BusValue) (lists : List ClockState) (notes : List Note) (v : CourseValue) (node : NodeNo)
+pub pick_by : (bus : BusValue) (lists : List ClockState) (notes : List NodeNote) (v : CourseValue) (node : NodeNo)
     (next : Next) (item new : ClockState) {E : Type 0} (result : Result ℕ E) → course_of bus lists notes ≡ v
     → IsCourse (course_of bus lists notes)
     → ((clocks : List ClockState) × (v.clocks ≡ Lists clocks)) → IsOpen v node.0 → IsNext v node.0 next

@@ -13,7 +13,7 @@ use Rattle.pals_bus.specs.Values.{BusValue}
 use Rattle.pals_bus.specs.proof.Values.{opening_bus}
 use Rattle.pals_bus.proofs.Openings.{map_more}
 use Rattle.run_laws.specs.Runs.{clock_at, no_clock, lists_in, Begin, opens}
-use Rattle.node_threads.specs.declared.ends.Note.TheVariants as note
+use Rattle.node_threads.specs.declared.ends.NodeNote.TheVariants as note
 use Rattle.node_threads.specs.proof.Courses.{clocks_of, course_of, note_at, IsCourse, AreMany, AreClocksOf, fresh_of}
 
 -- ---- the opening

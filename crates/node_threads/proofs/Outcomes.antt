@@ -4,12 +4,12 @@ use Rattle.std.specs.Prelude.{Result, Ok, Err, IfOk}
 use Rattle.pals_clock.specs.Clock.{ClockState}
 use Rattle.pals_clock.specs.declared.clock.Clocks.{Clocks}
 use Rattle.pals_clock.specs.declared.clock.Clocks.TheVariants.{Meet, Lists}
-use Rattle.bus_machine.specs.proof.Laws.{IsRunOf}
+use Rattle.bus_machine.specs.proof.MachineLaws.{IsRunOf}
 use Rattle.pals_bus.specs.Values.{BusValue}
 use Rattle.pals_bus.specs.proof.Values.{opening_bus}
 use Rattle.run_laws.specs.Runs.{lists_in, Runs}
 use Rattle.node_threads.specs.declared.ends.NodeEnd.{NodeEnd}
-use Rattle.node_threads.specs.declared.ends.Note.{Note}
+use Rattle.node_threads.specs.declared.ends.NodeNote.{NodeNote}
 use Rattle.node_threads.specs.proof.Courses.{CourseValue, AreClocksOf, clocks_of, course_of, IsOf, Stays}
 use Rattle.node_threads.specs.declared.threads.RunEnd.{RunEnd}
 use Rattle.node_threads.specs.proof.Ends.{EndsFit, IsOutcome}
@@ -22,7 +22,7 @@ lists_of : (meeting : Bool) (lists others : List ClockState)
 lists_of true lists others same = refl
 lists_of false lists others same = ap Some same
 
-same_by : (bus other : BusValue) (lists others : List ClockState) (notes noted : List Note)
+same_by : (bus other : BusValue) (lists others : List ClockState) (notes noted : List NodeNote)
     → (bus.run ≡ other.run) × (bus.meeting ≡ other.meeting)
     → map (λ (c : ClockState). c.readings) lists ≡ map (λ (c : ClockState). c.readings) others
     → Stays (course_of other others noted) (course_of bus lists notes)
@@ -31,7 +31,7 @@ same_by bus other lists others notes noted same readings = record {
   lists = lists_of bus.meeting lists others readings ∙ ap (λ m. lists_in (clocks_of m others)) same.1;
 }
 
-pub same_stays : (bus other : BusValue) (lists others : List ClockState) (notes noted : List Note) (v w : CourseValue)
+pub same_stays : (bus other : BusValue) (lists others : List ClockState) (notes noted : List NodeNote) (v w : CourseValue)
     → course_of bus lists notes ≡ v → course_of other others noted ≡ w
     → (bus.run ≡ other.run) × (bus.meeting ≡ other.meeting)
     → map (λ (c : ClockState). c.readings) lists ≡ map (λ (c : ClockState). c.readings) others → Stays w v

@@ -7,21 +7,21 @@ use Rattle.pals_base.specs.declared.limits.TheConstants.{HOUR, RATE, READING, RO
 use Rattle.pals_runs.specs.declared.journal.Phase.{Phase}
 use Rattle.pals_runs.specs.declared.journal.Phase.TheVariants.{Waiting, Running, Between, Holding, Done}
 use Rattle.bus_machine.specs.declared.plan.Plan.{Plan}
-use Rattle.bus_machine.specs.declared.action.Action.{Action}
-use Rattle.bus_machine.specs.declared.action.Action.TheVariants as action
+use Rattle.bus_machine.specs.declared.action.NodeAction.{NodeAction}
+use Rattle.bus_machine.specs.declared.action.NodeAction.TheVariants as action
 use Rattle.bus_machine.specs.Agreement.{PhaseAgrees, Agrees}
-use Rattle.bus_machine.specs.proof.Laws.{IsRunOf}
+use Rattle.bus_machine.specs.proof.MachineLaws.{IsRunOf}
 use Rattle.bus_machine.specs.Nodes.{NodeState, round_of}
 use Rattle.bus_machine.specs.Plans.{plan_of, component_at}
 use Rattle.bus_machine.specs.States.{Run, BusState, node_at}
 use Rattle.bus_machine.specs.Targets.{target, send_is_next, next_in}
-use Rattle.pals_node.specs.proof.Keeping.{IsPlan}
+use Rattle.pals_node.specs.proof.NodeInvariants.{IsPlan}
 use Rattle.pals_node.proofs.Plans.{plan_keeps}
 use Rattle.run_laws.specs.NodeActions.{upcoming}
 use Rattle.run_laws.proofs.Picking.{node_agrees}
 
 -- the numbers of an action
-abbrev Fits : Action → Type 0
+abbrev Fits : NodeAction → Type 0
 Fits (action.Start round) = round ≤ ROUNDS
 Fits (action.Step round step) = (round ≤ ROUNDS) × (step ≤ RATE)
 Fits (action.Send round) = round ≤ ROUNDS
@@ -29,7 +29,7 @@ Fits (action.Send round) = round ≤ ROUNDS
 alarm_fits : (period round : ℕ) → period ≤ HOUR → round ≤ ROUNDS → (round + 1) * period ≤ (ROUNDS + 1) * HOUR
 alarm_fits period round short few = let next : round + 1 ≤ ROUNDS + 1 = omega arith in mul-le-mul next short
 
-target_by : (plan : Plan) (a : Action) → IsPlan plan → Fits a → target plan a ≤ READING
+target_by : (plan : Plan) (a : NodeAction) → IsPlan plan → Fits a → target plan a ≤ READING
 target_by plan (action.Start round) rules fits = let alarm' =
     alarm_fits plan.period round rules.period fits in omega arith
 target_by plan (action.Step round step) rules fits =
@@ -39,7 +39,7 @@ target_by plan (action.Step round step) rules fits =
 target_by plan (action.Send round) rules fits = let alarm' = alarm_fits plan.period round rules.period fits in
     let offset = rules.offset in omega arith
 
-between_fits : (plan : Plan) (round steps : ℕ) (sent : Bool) (a : Action) (send : Bool) → steps < plan.rate
+between_fits : (plan : Plan) (round steps : ℕ) (sent : Bool) (a : NodeAction) (send : Bool) → steps < plan.rate
     → plan.rate ≤ RATE → round ≤ ROUNDS
     → cond send (action.Send round) (cond (nat_lt steps plan.rate) (action.Step round steps) (action.Start (round + 1)))
     ≡ a → Fits a
@@ -65,7 +65,7 @@ amid_by run node n (Between steps) agree = agree.0.within
 amid_by run node n Holding agree = tt
 amid_by run node n Done agree = tt
 
-fits_in : (plan : Plan) (n : NodeState) (p : Phase) (a : Action) → IsPlan plan → n.count ≤ ROUNDS → IsAmid plan p
+fits_in : (plan : Plan) (n : NodeState) (p : Phase) (a : NodeAction) → IsPlan plan → n.count ≤ ROUNDS → IsAmid plan p
     → next_in plan n p ≡ Some a → Fits a
 fits_in plan n Waiting a rules few amid is = subst Fits (same_Some (action.Start n.count) a is) few
 fits_in plan n (Running step) a rules few amid is = absurd (cc)
@@ -77,7 +77,7 @@ fits_in plan n Holding a rules few amid is = subst Fits (same_Some (action.Send 
 fits_in plan n Done a rules few amid is = absurd (cc)
 
 -- the target of a node's next action is a reading
-pub target_fits : (run : Run) (s : BusState) (node : ℕ) (a : Action) → IsRunOf run → run.rounds ≤ ROUNDS → Agrees run s
+pub target_fits : (run : Run) (s : BusState) (node : ℕ) (a : NodeAction) → IsRunOf run → run.rounds ≤ ROUNDS → Agrees run s
     → node < length run.design.components
     → upcoming (plan_of run.design node) (node_at s node) ≡ Some a → target (plan_of run.design node) a ≤ READING
 target_fits run s node a rules few agrees within is =

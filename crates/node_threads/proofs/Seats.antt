@@ -1,11 +1,11 @@
 -- Seats, and what holds of nodes so far.
 use Rattle.std.proofs.Common.{◌≡◌, inl, inr, ℕ, zero, suc, ◌+◌, ◌<◌, List, [], ◌∷◌, slice_get, None, refl, sym, subst, arith}
 use Rattle.std.proofs.lemmas.Bool.{cases_eq}
-use Rattle.node_threads.specs.declared.sleepers.Seat.{Seat}
+use Rattle.node_threads.specs.declared.sleepers.ThreadSlot.{ThreadSlot}
 use Rattle.node_threads.specs.proof.Sleepers.{seat_at, free_seat}
 
 -- past the last seat
-pub none_seat : (seats : List Seat) (node : ℕ) → None ≡ slice_get seats node → seat_at seats node ≡ free_seat
+pub none_seat : (seats : List ThreadSlot) (node : ℕ) → None ≡ slice_get seats node → seat_at seats node ≡ free_seat
 none_seat [] node is = refl
 none_seat (s ∷ ss) zero is = absurd (cc)
 none_seat (s ∷ ss) (suc k) is = none_seat ss k is

@@ -14,7 +14,7 @@ use Rattle.pals_bus.proofs.outgoing.Outgoing.TheSendSync.{the_send as outgoing_s
 use Rattle.pals_bus.proofs.target_list.TargetList.TheSendSync.{the_send as targets_send}
 use Rattle.step_vm.proofs.room.Room.TheSendSync.{the_send as room_send}
 use Rattle.pals_clock.proofs.clock.ListClock.TheSendSync.{the_send as clock_send}
-use Rattle.pals_base.proofs.values.Port.TheSendSync.{the_field_send as port_send}
+use Rattle.pals_base.proofs.values.PortValue.TheSendSync.{the_field_send as port_send}
 use Rattle.pals_runs.proofs.journal.Phase.TheSendSync.{the_field_send as phase_send}
 use Rattle.pals_runs.proofs.journal.JournalEntry.TheSendSync.{the_field_send as entry_send}
 use Rattle.pals_runs.proofs.journal.Stop.TheSendSync.{the_field_send as stop_send}
@@ -22,7 +22,7 @@ use Rattle.pals_model.proofs.rounds.Part.TheSendSync.{the_field_send as part_sen
 use Rattle.pals_model.proofs.rounds.Env.TheSendSync.{the_field_send as env_send}
 use Rattle.pals_model.proofs.rounds.Delays.TheSendSync.{the_field_send as delays_send}
 use Rattle.pals_base.proofs.behaviour.Op.TheSendSync.{the_field_send as op_send, the_field_sync as op_sync}
-use Rattle.pals_base.proofs.behaviour.Named.TheSendSync.{the_field_send as named_send, the_field_sync as named_sync}
+use Rattle.pals_base.proofs.behaviour.PortDecl.TheSendSync.{the_field_send as named_send, the_field_sync as named_sync}
 use Rattle.pals_base.proofs.behaviour.VarDecl.TheSendSync.{the_field_send as variable_send, the_field_sync as variable_sync}
 use Rattle.pals_base.proofs.behaviour.StateDecl.TheSendSync.{the_field_send as state_send, the_field_sync as state_sync}
 use Rattle.pals_base.proofs.values.Gamma.TheSendSync.{the_field_send as gamma_send, the_field_sync as gamma_sync}
@@ -50,13 +50,13 @@ use Rattle.pals_bus.specs.contracts.node_list.NodeList.{the_field as node_list}
 use Rattle.pals_bus.specs.contracts.node_list.NodeList.TheInside.{the_type as node_list_inside}
 use Rattle.pals_bus.specs.contracts.fields.Fields.{the_field as bus_fields}
 use Rattle.pals_bus.specs.contracts.bus.Bus.{the_field as bus}
-use Rattle.node_threads.specs.contracts.course.Course.{the_field as course}
+use Rattle.node_threads.specs.contracts.course.SharedRun.{the_field as course}
 use Rattle.node_threads.specs.contracts.locked.Locked.{the_field as locked}
-use Rattle.node_threads.specs.contracts.sleepers.Seat.{the_field as seat}
+use Rattle.node_threads.specs.contracts.sleepers.ThreadSlot.{the_field as seat}
 use Rattle.node_threads.specs.contracts.sleepers.Sleepers.{the_field as sleepers}
-use Rattle.node_threads.specs.contracts.wakes.Wakes.{the_field as wakes}
-use Rattle.node_threads.specs.contracts.bells.Bells.{the_field as bells}
-use Rattle.node_threads.specs.contracts.ends.Note.{the_field as note}
+use Rattle.node_threads.specs.contracts.wakes.WakeList.{the_field as wakes}
+use Rattle.node_threads.specs.contracts.bells.WakeSignals.{the_field as bells}
+use Rattle.node_threads.specs.contracts.ends.NodeNote.{the_field as note}
 
 -- ---- what a component does
 -- its expressions and actions hold themselves

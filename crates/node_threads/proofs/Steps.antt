@@ -10,7 +10,7 @@ use Rattle.pals_clock.specs.Clock.{ClockState, standing_at}
 use Rattle.pals_clock.specs.declared.clock.Clocks.{Clocks}
 use Rattle.pals_clock.specs.declared.clock.Clocks.TheVariants.{Meet, Lists}
 use Rattle.pals_runs.specs.declared.journal.JournalEntry.{JournalEntry}
-use Rattle.bus_machine.specs.declared.action.Action.{Action}
+use Rattle.bus_machine.specs.declared.action.NodeAction.{NodeAction}
 use Rattle.bus_machine.specs.Plans.{plan_of}
 use Rattle.bus_machine.specs.States.{node_at}
 use Rattle.bus_machine.specs.Machine.{BusEvent, IsStep}
@@ -19,8 +19,8 @@ use Rattle.pals_bus.specs.Values.{BusValue, Happens}
 use Rattle.run_laws.specs.NodeActions.{upcoming}
 use Rattle.run_laws.specs.Runs.{clock_at, no_clock, left_for, KeepsTo, Runs, picks_for, goes_on}
 use Rattle.run_laws.proofs.Ended.{stays_ended, waits_for}
-use Rattle.node_threads.specs.declared.ends.Note.{Note}
-use Rattle.node_threads.specs.declared.ends.Note.TheVariants as note
+use Rattle.node_threads.specs.declared.ends.NodeNote.{NodeNote}
+use Rattle.node_threads.specs.declared.ends.NodeNote.TheVariants as note
 use Rattle.node_threads.specs.proof.Courses.{CourseValue, course_of, clocks_of, note_at, EndsAt, IsCourse, Stays, IsOpen, Allows}
 
 pub record Goes (old new : CourseValue) : Type 0 where
@@ -34,7 +34,7 @@ pub stays_same : (c : CourseValue) → Stays c c
 stays_same c = record { run = refl; lists = refl }
 
 -- nothing happens
-pub goes_same : (bus : BusValue) (lists : List ClockState) (notes : List Note) (new : BusValue)
+pub goes_same : (bus : BusValue) (lists : List ClockState) (notes : List NodeNote) (new : BusValue)
     → IsCourse (course_of bus lists notes) → new ≡ bus → Goes (course_of bus lists notes) (course_of new lists notes)
 goes_same bus lists notes new course same =
     subst (λ (b : BusValue). Goes (course_of bus lists notes) (course_of b lists notes)) (sym same)
@@ -53,7 +53,7 @@ ends_still bus new (Lists lists) e node goal keeps step ends = (
       (waits_for bus.run lists bus.state new.state e node ends.0 keeps step) ∙ ends.1,
 )
 
-pub event_goes : (bus : BusValue) (lists : List ClockState) (notes : List Note) (e : BusEvent) (new : BusValue)
+pub event_goes : (bus : BusValue) (lists : List ClockState) (notes : List NodeNote) (e : BusEvent) (new : BusValue)
     → IsCourse (course_of bus lists notes) → Allows (course_of bus lists notes) e → Happens bus e new
     → Goes (course_of bus lists notes) (course_of new lists notes)
 event_goes bus lists notes e new course keeps happens =
@@ -92,14 +92,14 @@ ends_at_other bus lists later k goal same ends =
     )
 
 -- where nodes have lists
-abbrev lists_course : BusValue → List ClockState → List Note → CourseValue
+abbrev lists_course : BusValue → List ClockState → List NodeNote → CourseValue
 lists_course bus lists notes = record { bus = bus; clocks = Lists lists; notes = notes }
 
-abbrev with_pick : BusValue → List ClockState → ℕ → Action → List ClockState
+abbrev with_pick : BusValue → List ClockState → ℕ → NodeAction → List ClockState
 with_pick bus lists node action =
     slice_set lists node (standing_at (clock_at lists node) (left_for bus.run lists node action))
 
-pub pick_goes : (bus : BusValue) (lists : List ClockState) (notes : List Note) (node : ℕ) (action : Action)
+pub pick_goes : (bus : BusValue) (lists : List ClockState) (notes : List NodeNote) (node : ℕ) (action : NodeAction)
     → IsCourse (lists_course bus lists notes) → node < length bus.run.design.components
     → upcoming (plan_of bus.run.design node) (node_at bus.state node) ≡ Some action → note_at notes node ≡ note.Open
     → Goes (lists_course bus lists notes) (lists_course bus (with_pick bus lists node action) notes)
@@ -129,7 +129,7 @@ pick_goes bus lists notes node action course within next noted =
     }
 
 -- ---- what is noted
-pub note_goes : (bus : BusValue) (lists : List ClockState) (notes : List Note) (node goal : ℕ)
+pub note_goes : (bus : BusValue) (lists : List ClockState) (notes : List NodeNote) (node goal : ℕ)
     → IsCourse (course_of bus lists notes) → IsOpen (course_of bus lists notes) node
     → EndsAt bus (clocks_of bus.meeting lists) node goal
     → Goes (course_of bus lists notes) (course_of bus lists (slice_set notes node (note.ClockEnded goal)))
@@ -158,7 +158,7 @@ note_goes bus lists notes node goal course is_open ends =
       stays = record { run = refl; lists = refl };
     }
 
-pub memory_goes : (bus : BusValue) (lists : List ClockState) (notes : List Note) (node : ℕ)
+pub memory_goes : (bus : BusValue) (lists : List ClockState) (notes : List NodeNote) (node : ℕ)
     → IsCourse (course_of bus lists notes) → node < length bus.run.design.components
     → Goes (course_of bus lists notes)
     (course_of (record bus { closed = true }) lists (slice_set notes node note.Memory))
@@ -184,7 +184,7 @@ memory_goes bus lists notes node course within =
     }
 
 -- ---- of a course that is this value
-pub note_keeps : (bus : BusValue) (lists : List ClockState) (notes : List Note) (v : CourseValue) (node goal : ℕ)
+pub note_keeps : (bus : BusValue) (lists : List ClockState) (notes : List NodeNote) (v : CourseValue) (node goal : ℕ)
     → course_of bus lists notes ≡ v → IsCourse (course_of bus lists notes) → IsOpen v node
     → EndsAt v.bus v.clocks node goal
     → Goes v (course_of bus lists (slice_set notes node (note.ClockEnded goal)))
@@ -193,7 +193,7 @@ note_keeps bus lists notes v node goal is course is_open ends =
     (note_goes bus lists notes node goal course (subst (λ w. IsOpen w node) (sym is) is_open)
     (subst (λ (w : CourseValue). EndsAt w.bus w.clocks node goal) (sym is) ends))
 
-pub memory_keeps : (bus : BusValue) (lists : List ClockState) (notes : List Note) (new : BusValue) (v : CourseValue)
+pub memory_keeps : (bus : BusValue) (lists : List ClockState) (notes : List NodeNote) (new : BusValue) (v : CourseValue)
     (node : ℕ) → course_of bus lists notes ≡ v → IsCourse (course_of bus lists notes)
     → node < length v.bus.run.design.components → new ≡ record bus { closed = true }
     → Goes v (course_of new lists (slice_set notes node note.Memory))

@@ -14,12 +14,12 @@ use Rattle.pals_bus.specs.proof.Due.{IsDueTo, TakesDue, takes_none, takes_next}
 use Rattle.run_laws.specs.proof.Locked.{IsToStart, IsDueAt}
 use Rattle.run_laws.specs.Runs.{NoneDue, IsAwaited}
 use Rattle.run_laws.proofs.Due.{due_arrives}
-use Rattle.node_threads.specs.declared.ends.Note.{Note}
+use Rattle.node_threads.specs.declared.ends.NodeNote.{NodeNote}
 use Rattle.node_threads.specs.proof.Courses.{CourseValue, course_of, clocks_of, IsToStartIn}
 use Rattle.node_threads.proofs.Steps.{Goes, stays_on, event_goes}
 
 -- what stays while messages arrive
-pub record Still (from : CourseValue) (lists : List ClockState) (notes : List Note) (node : NodeNo) (reading : ℕ)
+pub record Still (from : CourseValue) (lists : List ClockState) (notes : List NodeNote) (node : NodeNo) (reading : ℕ)
     (b : BusValue) : Type 0 where
   pub goes : Goes from (course_of b lists notes)
   pub waits : IsToStartIn (course_of b lists notes) node reading
@@ -39,7 +39,7 @@ is_due_at b node reading link round due = record {
   due = due.due;
 }
 
-goes_still : (from : CourseValue) (lists : List ClockState) (notes : List Note) (node : NodeNo) (reading : ℕ)
+goes_still : (from : CourseValue) (lists : List ClockState) (notes : List NodeNote) (node : NodeNo) (reading : ℕ)
     (b c : BusValue) (link : LinkNo) (round : ℕ) → Still from lists notes node reading b
     → IsDueTo b node.0 reading link.0 round → Happens b (Arrive link round (Some reading)) c
     → Still from lists notes node reading c
@@ -66,7 +66,7 @@ goes_still from lists notes node reading b c link round still due happens =
       closed = ap (λ (v : BusValue). v.closed) happens.others ∙ still.closed;
     }
 
-pub all_still : (from : CourseValue) (lists : List ClockState) (notes : List Note) (node : NodeNo) (reading : ℕ)
+pub all_still : (from : CourseValue) (lists : List ClockState) (notes : List NodeNote) (node : NodeNo) (reading : ℕ)
     (a b : BusValue) → Still from lists notes node reading a → TakesDue node.0 reading a b
     → Still from lists notes node reading b
 all_still from lists notes node reading a b still takes_none = still

@@ -12,8 +12,8 @@ use Rattle.bus_machine.specs.Stops.{sent_rounds}
 use Rattle.pals_bus.specs.Values.{BusValue}
 use Rattle.run_laws.specs.Runs.{IsAwaited}
 use Rattle.run_laws.proofs.Clauses.{link_is}
-use Rattle.node_threads.specs.declared.ends.Note.{Note}
-use Rattle.node_threads.specs.declared.ends.Note.TheVariants as note
+use Rattle.node_threads.specs.declared.ends.NodeNote.{NodeNote}
+use Rattle.node_threads.specs.declared.ends.NodeNote.TheVariants as note
 use Rattle.node_threads.specs.proof.Courses.{CourseValue, clocks_of, course_of, note_at, EndsAt, IsCourse, HasSent, IsSentOn, IsAwaitedIn}
 
 -- ---- one source
@@ -23,7 +23,7 @@ ended_sent b Meet node rounds goal ends = tt
 ended_sent b (Lists lists) node rounds goal ends = inr ends.0
 
 -- a node whose list's end is noted
-pub noted_sent : (bus : BusValue) (lists : List ClockState) (notes : List Note) (v : CourseValue) (node rounds goal : ℕ)
+pub noted_sent : (bus : BusValue) (lists : List ClockState) (notes : List NodeNote) (v : CourseValue) (node rounds goal : ℕ)
     → course_of bus lists notes ≡ v → IsCourse (course_of bus lists notes) → note_at notes node ≡ note.ClockEnded goal
     → HasSent v.bus v.clocks node rounds
 noted_sent bus lists notes v node rounds goal is course noted =
@@ -64,7 +64,7 @@ pub all_awaited : (c : CourseValue) (node : ℕ)
 all_awaited c node all = awaited_by c.bus c.clocks node all
 
 -- where nodes meet nothing is waited for
-pub meeting_awaited : (bus : BusValue) (lists : List ClockState) (notes : List Note) (v : CourseValue) (node : ℕ)
+pub meeting_awaited : (bus : BusValue) (lists : List ClockState) (notes : List NodeNote) (v : CourseValue) (node : ℕ)
     → course_of bus lists notes ≡ v → bus.meeting ≡ true → IsAwaitedIn v node
 meeting_awaited bus lists notes v node is meets =
     subst (λ w. IsAwaitedIn w node) is

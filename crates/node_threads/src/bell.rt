@@ -2,7 +2,7 @@
 
 /// The bell of a node, or that of the calling thread.
 #[derive(Clone, Copy)]
-pub enum Bell {
+pub enum Sleeper {
     /// Of the node of this number.
     Node(usize),
     /// Of the calling thread.

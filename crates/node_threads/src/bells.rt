@@ -2,7 +2,7 @@
 //! and who is woken is seen by other threads alone, so no clause speaks of it.
 ghost use Rattle.std.specs.Prelude.{◌≡◌, IfOk, vec_len};
 
-use crate::bell::Bell;
+use crate::bell::Sleeper;
 use crate::locked::Locked;
 use pals_base::{NoMemory, NodeNo};
 use std::alloc::Global;
@@ -10,21 +10,21 @@ use std::sync::{Condvar, Mutex, MutexGuard, Wait};
 
 /// A bell for each node, and one for the calling thread.
 #[derive(Drop)]
-pub struct Bells {
+pub struct WakeSignals {
     nodes: Vec<Condvar>,
     caller: Condvar,
 }
 
-impl Bells {
+impl WakeSignals {
     /// The bells of a run of `count` nodes.
-    pub fn new(alloc: Global, count: u32) -> Result<Bells, NoMemory>
+    pub fn new(alloc: Global, count: u32) -> Result<WakeSignals, NoMemory>
         ensures { IfOk result (λ bells. vec_len bells.nodes ≡ count) }
     {
         let mut nodes = Vec::new(alloc);
         for _node in 0..count {
             nodes.push(Condvar::new())?;
         }
-        Ok(Bells {
+        Ok(WakeSignals {
             nodes,
             caller: Condvar::new(),
         })
@@ -53,11 +53,11 @@ impl Bells {
     }
 
     /// Wakes the thread of a bell, if there is one.
-    pub fn ring(&self, bell: Option<Bell>) {
+    pub fn ring(&self, bell: Option<Sleeper>) {
         match bell {
             None => {}
-            Some(Bell::Caller) => self.caller.notify_one(),
-            Some(Bell::Node(number)) => {
+            Some(Sleeper::Caller) => self.caller.notify_one(),
+            Some(Sleeper::Node(number)) => {
                 if let Some(bell) = self.nodes.get(number) {
                     bell.notify_one();
                 }

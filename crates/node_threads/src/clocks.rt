@@ -5,7 +5,7 @@ ghost use Rattle.pals_clock.specs.Clock.{ClockState, unpicked};
 ghost use Rattle.pals_clock.specs.declared.clock.Clocks.TheVariants.{Lists};
 ghost use Rattle.node_threads.specs.proof.Courses.{Stays, IsOpen, IsNext, IsReady, Looks, EndsAt, fresh_of};
 
-use crate::course::Course;
+use crate::course::SharedRun;
 use bus_machine::Next;
 use pals_base::{Items, Nanos, NoMemory, NodeNo};
 use pals_bus::Meet;
@@ -14,7 +14,7 @@ use std::alloc::Global;
 
 /// What a node's clock answers for a target.
 #[derive(Clone, Copy)]
-pub enum Look {
+pub enum ClockAnswer {
     /// It shows this reading, in nanoseconds.
     At(Nanos),
     /// Another node has to go on first.
@@ -23,9 +23,9 @@ pub enum Look {
     Ended,
 }
 
-impl Course {
+impl SharedRun {
     /// What a node's clock shows for what the node does next.
-    pub fn look(&mut self, node: NodeNo, next: Next) -> Look
+    pub fn look(&mut self, node: NodeNo, next: Next) -> ClockAnswer
         requires is_open { IsOpen self.old node.0 }
         requires next { IsNext self.old node.0 next }
         ensures stays { Stays self.old self.new }
@@ -35,13 +35,13 @@ impl Course {
             return self.meet(node, next);
         }
         match self.pick(node, next) {
-            Ok(reading) => Look::At(reading),
-            Err(ClockEnd) => Look::Ended,
+            Ok(reading) => ClockAnswer::At(reading),
+            Err(ClockEnd) => ClockAnswer::Ended,
         }
     }
 
     // Where the nodes meet.
-    fn meet(&self, node: NodeNo, next: Next) -> Look
+    fn meet(&self, node: NodeNo, next: Next) -> ClockAnswer
         requires meeting { self.now.bus.meeting ≡ true }
         requires is_open { IsOpen self.now node.0 }
         requires next { IsNext self.now node.0 next }
@@ -49,8 +49,8 @@ impl Course {
     {
         let _next = next;
         match self.bus.meet(node) {
-            Meet::Go { reading } => Look::At(reading),
-            Meet::Wait { node: _ } | Meet::Ended => Look::Wait,
+            Meet::Go { reading } => ClockAnswer::At(reading),
+            Meet::Wait { node: _ } | Meet::Ended => ClockAnswer::Wait,
         }
     }
 

@@ -1,7 +1,7 @@
 //! The course of a run: the bus, the lists of its nodes' clocks, and what is noted of each node.
 ghost use Rattle.std.specs.Prelude.{◌≡◌, ◌<◌, ◌≤◌, length, false, None, IsTrue, IfOk};
 ghost use Rattle.pals_base.specs.declared.limits.TheConstants.{COMPONENTS};
-ghost use Rattle.bus_machine.specs.proof.Laws.{IsRunOf};
+ghost use Rattle.bus_machine.specs.proof.MachineLaws.{IsRunOf};
 ghost use Rattle.pals_bus.specs.proof.Meeting.{HasEnded};
 ghost use Rattle.pals_bus.specs.proof.Values.{opening_bus};
 ghost use Rattle.run_laws.specs.Runs.{target_of, Begin, Runs};
@@ -9,8 +9,8 @@ ghost use Rattle.node_threads.specs.proof.Courses.{clocks_of, IsCourse, Stays, I
 ghost use Rattle.node_threads.specs.proof.Ends.{AllEnded, EndsFit, end_in, phase_end, closed_end};
 
 use crate::clocks::same_lists;
-use crate::ends::{NodeEnd, Note};
-use bus_machine::{Action, Next};
+use crate::ends::{NodeEnd, NodeNote};
+use bus_machine::{NodeAction, Next};
 use pals_base::{Items, Nanos, NoMemory, NodeNo};
 use pals_bus::Bus;
 use pals_clock::ListClock;
@@ -23,14 +23,14 @@ use std::marker::Model;
 /// of each node. Its journal is always that of a run whose nodes keep to their clocks, so whatever holds
 /// of such runs holds whenever the lock is free.
 #[derive(Drop)]
-pub struct Course {
+pub struct SharedRun {
     pub(crate) bus: Bus,
     // One list for each node, or none where the nodes meet.
     pub(crate) lists: Items<ListClock>,
-    pub(crate) notes: Items<Note>,
+    pub(crate) notes: Items<NodeNote>,
 }
 
-impl Model for Course {
+impl Model for SharedRun {
     ghost use Rattle.node_threads.specs.proof.Courses.{CourseValue, course_of, IsCourse};
 
     ghost Value = { CourseValue };
@@ -44,17 +44,17 @@ impl Model for Course {
     ghost invariant = { λ c. IsCourse (course_of c.bus c.lists c.notes) };
 }
 
-impl Course {
+impl SharedRun {
     /// A run before its first event, with lists of which nothing is picked, or with none where the
     /// nodes meet.
-    pub fn new(alloc: Global, bus: Bus, lists: Items<ListClock>) -> Result<Course, NoMemory>
+    pub fn new(alloc: Global, bus: Bus, lists: Items<ListClock>) -> Result<SharedRun, NoMemory>
         requires opening { bus ≡ opening_bus bus.run bus.codes bus.meeting }
         requires clocks { Begin bus.run (clocks_of bus.meeting lists) }
         ensures { IfOk result (λ c. (c.bus ≡ bus) × (c.clocks ≡ clocks_of bus.meeting lists)) }
     {
         bus.agreement();
-        let notes = vec![in alloc; Note::Open; bus.design().components().len()]?;
-        Ok(Course {
+        let notes = vec![in alloc; NodeNote::Open; bus.design().components().len()]?;
+        Ok(SharedRun {
             bus,
             lists,
             notes: Items::from_vec(notes),
@@ -78,7 +78,7 @@ impl Course {
     }
 
     /// Whether it is of the same run as another one, with the same lists.
-    pub fn is_same(&self, other: &Course) -> bool
+    pub fn is_same(&self, other: &SharedRun) -> bool
         ensures { IsTrue result → Stays other.now self.now }
     {
         self.bus.same_run(&other.bus) && same_lists(self.lists.as_slice(), other.lists.as_slice())
@@ -127,9 +127,9 @@ impl Course {
         ensures { result ≡ end_in self.now node.0 }
     {
         match self.notes[node.0 as usize] {
-            Note::ClockEnded { target } => Some(NodeEnd::ClockEnded { target }),
-            Note::Memory => Some(NodeEnd::Memory),
-            Note::Open => end_by(
+            NodeNote::ClockEnded { target } => Some(NodeEnd::ClockEnded { target }),
+            NodeNote::Memory => Some(NodeEnd::Memory),
+            NodeNote::Open => end_by(
                 self.bus.phase(node),
                 self.bus.stop().is_some(),
                 self.bus.closed(),
@@ -143,7 +143,7 @@ impl Course {
         ensures over { result ≡ false → IsOpen self.now node.0 → IsDone self.now node.0 }
     {
         node.0 < self.count()
-            && matches!(&self.notes[node.0 as usize], Note::Open)
+            && matches!(&self.notes[node.0 as usize], NodeNote::Open)
             && !self.is_stopped()
             && !matches!(&self.bus.phase(node), Phase::Done)
     }
@@ -196,7 +196,7 @@ fn is_send(next: Option<Next>) -> bool
     match next {
         Some(
             Next {
-                action: Action::Send { round: _ },
+                action: NodeAction::Send { round: _ },
                 target: _,
             },
         ) => true,

@@ -4,31 +4,31 @@ ghost use Rattle.std.specs.Prelude.{IfOk};
 ghost use Rattle.node_threads.specs.proof.Courses.{Stays};
 ghost use Rattle.node_threads.specs.proof.Ends.{EndsFit, IsOutcome};
 
-use crate::course::Course;
+use crate::course::SharedRun;
 use crate::ends::NodeEnd;
 use crate::gates::{Gate, done_by};
 use crate::threads::RunEnd;
-use crate::under_lock::Turn;
+use crate::under_lock::NextMove;
 use pals_base::{Items, NoMemory, NodeNo};
 use std::alloc::Global;
 use std::mem::swap;
 use std::sync::Wait;
 
 /// What comes of the kept run once all threads have ended, with what came out of the lock.
-pub fn driven_beside<R: Wait, G: Gate>(
+pub fn drive_with_spare<R: Wait, G: Gate>(
     rt: &R,
     alloc: Global,
-    out: Course,
-    kept: Course,
+    out: SharedRun,
+    kept: SharedRun,
     gate: &G,
 ) -> Result<RunEnd, NoMemory>
     ensures { IfOk result (λ end. IsOutcome kept.bus kept.clocks end.bus end.ends) }
 {
-    driven(rt, alloc, kept_or_anew(out, kept), gate)
+    driven(rt, alloc, held_or_spare(out, kept), gate)
 }
 
 // What came out of the lock where it is of the kept run, and else that run at its opening.
-fn kept_or_anew(mut out: Course, mut kept: Course) -> Course
+fn held_or_spare(mut out: SharedRun, mut kept: SharedRun) -> SharedRun
     ensures { Stays kept result }
 {
     restore(&mut out, &mut kept);
@@ -36,7 +36,7 @@ fn kept_or_anew(mut out: Course, mut kept: Course) -> Course
 }
 
 // Puts back the kept run where another one came out.
-fn restore(out: &mut Course, kept: &mut Course)
+fn restore(out: &mut SharedRun, kept: &mut SharedRun)
     ensures { Stays kept.old out.new }
 {
     if out.is_same(kept) {
@@ -49,7 +49,7 @@ fn restore(out: &mut Course, kept: &mut Course)
 fn driven<R: Wait, G: Gate>(
     rt: &R,
     alloc: Global,
-    mut course: Course,
+    mut course: SharedRun,
     gate: &G,
 ) -> Result<RunEnd, NoMemory>
     ensures { IfOk result (λ end. IsOutcome course.bus course.clocks end.bus end.ends) }
@@ -65,7 +65,7 @@ fn driven<R: Wait, G: Gate>(
 fn drive<R: Wait, G: Gate>(
     rt: &R,
     alloc: Global,
-    course: &mut Course,
+    course: &mut SharedRun,
     gate: &G,
 ) -> Result<Items<NodeEnd>, NoMemory>
     ensures stays { Stays course.old course.new }
@@ -82,7 +82,7 @@ fn drive<R: Wait, G: Gate>(
 
 // One turn of each node.
 #[tactic(auto, using(crate::proofs::Steps::stays_on))]
-fn go_round<G: Gate>(course: &mut Course, gate: &G)
+fn go_round<G: Gate>(course: &mut SharedRun, gate: &G)
     ensures { Stays course.old course.new }
 {
     for number in 0..course.count() {
@@ -92,10 +92,10 @@ fn go_round<G: Gate>(course: &mut Course, gate: &G)
 
 // A node's turn, with the job that it asks for.
 #[tactic(auto, using(crate::proofs::Steps::stays_on))]
-fn go_on<G: Gate>(course: &mut Course, gate: &G, node: NodeNo)
+fn go_on<G: Gate>(course: &mut SharedRun, gate: &G, node: NodeNo)
     ensures { Stays course.old course.new }
 {
-    if let Turn::Work(job) = course.begin(node) {
+    if let NextMove::Work(job) = course.begin(node) {
         let done = done_by(gate, node, job);
         course.hand_in(node, done);
     }

@@ -18,7 +18,7 @@ pub enum NodeEnd {
 
 /// What is noted of a node beside the bus.
 #[derive(Clone, Copy)]
-pub enum Note {
+pub enum NodeNote {
     /// Nothing.
     Open,
     /// Its clock's list holds no reading for this target, in nanoseconds, which is its next one.

@@ -5,23 +5,23 @@ ghost use Rattle.run_laws.specs.Runs.{IsLeast};
 ghost use Rattle.node_threads.specs.proof.Courses.{Stays, IsOpen, IsDone};
 ghost use Rattle.node_threads.specs.proof.Sleepers.{seat_at, Waits};
 
-use crate::bell::Bell;
-use crate::course::Course;
+use crate::bell::Sleeper;
+use crate::course::SharedRun;
 use crate::sleepers::Sleepers;
-use crate::under_lock::Turn;
+use crate::under_lock::NextMove;
 use pals_base::NodeNo;
 use pals_node::Done;
 
 /// The course of a run, and who sleeps.
 #[derive(Drop)]
 pub struct Locked {
-    course: Course,
+    course: SharedRun,
     sleepers: Sleepers,
 }
 
 impl Locked {
     /// A course, of which the hour is the least target, and who sleeps.
-    pub fn new(course: Course, mut sleepers: Sleepers) -> Locked
+    pub fn new(course: SharedRun, mut sleepers: Sleepers) -> Locked
         ensures course { result.course ≡ course }
         ensures hour { IsLeast course.bus.run course.bus.state result.sleepers.hour }
         ensures others { result.sleepers ≡ record sleepers { hour = result.sleepers.hour } }
@@ -31,7 +31,7 @@ impl Locked {
     }
 
     /// The course, once all threads have ended.
-    pub fn into_course(self) -> Course
+    pub fn into_course(self) -> SharedRun
         ensures { result ≡ self.course }
     {
         self.course
@@ -42,7 +42,7 @@ impl Locked {
     /// turn, so that they do not all ask for the lock at once. Where a job comes in while others are to
     /// be woken, it is nobody: a thread that is on its way to its turn will tell of the next one.
     #[tactic(auto, using(crate::proofs::Steps::stays_on))]
-    pub fn turn(&mut self, node: NodeNo, done: Option<Done>) -> (Turn, Option<Bell>)
+    pub fn turn(&mut self, node: NodeNo, done: Option<Done>) -> (NextMove, Option<Sleeper>)
         ensures { Stays self.old.course self.new.course }
     {
         self.sleepers.rise(node);
@@ -51,7 +51,7 @@ impl Locked {
             self.finish(node, done);
         }
         let turn = match self.begin(node) {
-            Turn::Again => self.begin(node),
+            NextMove::Again => self.begin(node),
             other => other,
         };
         let wake = if tells {
@@ -63,18 +63,18 @@ impl Locked {
     }
 
     /// The next turn of a node that the calling thread has.
-    pub fn turn_of_caller(&mut self, node: NodeNo) -> (Turn, Option<Bell>)
+    pub fn turn_of_caller(&mut self, node: NodeNo) -> (NextMove, Option<Sleeper>)
         ensures { Stays self.old.course self.new.course }
     {
         if self.sleepers.is_of_caller(node) {
             self.turn(node, None)
         } else {
-            (Turn::Wait, None)
+            (NextMove::Wait, None)
         }
     }
 
     /// The job of a node that the calling thread has comes in.
-    pub fn finish_of_caller(&mut self, node: NodeNo, done: Done) -> Option<Bell>
+    pub fn finish_of_caller(&mut self, node: NodeNo, done: Done) -> Option<Sleeper>
         ensures { Stays self.old.course self.new.course }
     {
         self.finish(node, done);
@@ -132,20 +132,20 @@ impl Locked {
 
     // A node goes on, and the threads that waited for that are woken.
     #[tactic(auto, using(crate::proofs::Steps::stays_on))]
-    fn begin(&mut self, node: NodeNo) -> Turn
+    fn begin(&mut self, node: NodeNo) -> NextMove
         ensures { Stays self.old.course self.new.course }
     {
         if self.sleepers.is_early(&self.course, node) {
-            return Turn::Wait;
+            return NextMove::Wait;
         }
         let turn = self.course.begin(node);
         match turn {
-            Turn::Again => {
+            NextMove::Again => {
                 self.sleepers.wake_targets(&self.course, node);
                 self.move_hour(node);
             }
-            Turn::Over => self.sleepers.wake_behind(&self.course, node),
-            Turn::Wait | Turn::Work(_) => {}
+            NextMove::Over => self.sleepers.wake_behind(&self.course, node),
+            NextMove::Wait | NextMove::Work(_) => {}
         }
         turn
     }

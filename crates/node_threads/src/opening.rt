@@ -4,14 +4,14 @@ ghost use Rattle.pals_bus.specs.proof.Values.{opening_bus};
 ghost use Rattle.node_threads.specs.proof.Courses.{AreClocksOf, IsOf};
 
 use crate::clocks::fresh_lists;
-use crate::course::Course;
+use crate::course::SharedRun;
 use pals_base::NoMemory;
 use pals_bus::Bus;
 use pals_clock::Clocks;
 use std::alloc::Global;
 
 /// The course of a bus before its first event, twice: one for the threads, and one that is kept.
-pub fn both_opened(alloc: Global, bus: Bus, clocks: Clocks) -> Result<(Course, Course), NoMemory>
+pub fn open_with_spare(alloc: Global, bus: Bus, clocks: Clocks) -> Result<(SharedRun, SharedRun), NoMemory>
     requires opening { bus ≡ opening_bus bus.run bus.codes bus.meeting }
     requires clocks { AreClocksOf bus clocks }
     ensures { IfOk result (λ both. IsOf bus clocks both.0 × IsOf bus clocks both.1) }
@@ -25,8 +25,8 @@ fn opened_beside(
     alloc: Global,
     bus: Bus,
     clocks: &Clocks,
-    kept: Course,
-) -> Result<(Course, Course), NoMemory>
+    kept: SharedRun,
+) -> Result<(SharedRun, SharedRun), NoMemory>
     requires opening { bus ≡ opening_bus bus.run bus.codes bus.meeting }
     requires clocks { AreClocksOf bus clocks.now }
     requires kept { IsOf bus clocks.now kept }
@@ -37,7 +37,7 @@ fn opened_beside(
 }
 
 // The course of the run of a bus before its first event.
-fn opened_anew(alloc: Global, bus: &Bus, clocks: &Clocks) -> Result<Course, NoMemory>
+fn opened_anew(alloc: Global, bus: &Bus, clocks: &Clocks) -> Result<SharedRun, NoMemory>
     requires { AreClocksOf bus.now clocks.now }
     ensures { IfOk result (IsOf bus.now clocks.now) }
 {
@@ -46,11 +46,11 @@ fn opened_anew(alloc: Global, bus: &Bus, clocks: &Clocks) -> Result<Course, NoMe
 }
 
 // The course of a bus before its first event.
-fn opened(alloc: Global, bus: Bus, clocks: &Clocks) -> Result<Course, NoMemory>
+fn opened(alloc: Global, bus: Bus, clocks: &Clocks) -> Result<SharedRun, NoMemory>
     requires opening { bus ≡ opening_bus bus.run bus.codes bus.meeting }
     requires clocks { AreClocksOf bus clocks.now }
     ensures { IfOk result (IsOf bus clocks.now) }
 {
     let lists = fresh_lists(alloc, clocks)?;
-    Course::new(alloc, bus, lists)
+    SharedRun::new(alloc, bus, lists)
 }

@@ -2,19 +2,19 @@
 ghost use Rattle.std.specs.Prelude.{◌≡◌, ◌<◌, ◌≤◌, ℕ, length, replicate, IsTrue, IfOk, IfSome, Some, true, false};
 ghost use Rattle.run_laws.specs.Runs.{IsLeast};
 ghost use Rattle.node_threads.specs.proof.Courses.{IsOpen, IsDone};
-ghost use Rattle.node_threads.specs.declared.bell.Bell.{Bell};
+ghost use Rattle.node_threads.specs.declared.bell.Sleeper.{Sleeper};
 ghost use Rattle.node_threads.specs.proof.Sleepers.{no_wakes, is_to_ring, without_bell, free_seat, seat_at, with_seat, IsAbove, IsHourOver, Waits, Rouses};
 
-use crate::bell::Bell;
-use crate::course::Course;
-use crate::wakes::Wakes;
+use crate::bell::Sleeper;
+use crate::course::SharedRun;
+use crate::wakes::WakeList;
 use pals_base::limits::READING;
 use pals_base::{Items, Nanos, NoMemory, NodeNo};
 use std::alloc::Global;
 
 /// Whether the calling thread has a node, and whether the thread that has it sleeps.
 #[derive(Clone, Copy)]
-pub struct Seat {
+pub struct ThreadSlot {
     of_caller: bool,
     sleeps: bool,
 }
@@ -22,10 +22,10 @@ pub struct Seat {
 /// Who sleeps, and who is to be woken once the lock is free.
 #[derive(Drop)]
 pub struct Sleepers {
-    seats: Items<Seat>,
+    seats: Items<ThreadSlot>,
     // Where the nodes meet, the least target when it was last looked for, in nanoseconds.
     hour: Nanos,
-    wakes: Wakes,
+    wakes: WakeList,
 }
 
 impl Sleepers {
@@ -33,7 +33,7 @@ impl Sleepers {
     pub fn new(alloc: Global, count: u32) -> Result<Sleepers, NoMemory>
         ensures { IfOk result (λ s. s ≡ record { seats = replicate count free_seat; hour = 0; wakes = no_wakes }) }
     {
-        let seat = Seat {
+        let seat = ThreadSlot {
             of_caller: false,
             sleeps: false,
         };
@@ -41,7 +41,7 @@ impl Sleepers {
         Ok(Sleepers {
             seats: Items::from_vec(seats),
             hour: 0,
-            wakes: Wakes::none(),
+            wakes: WakeList::none(),
         })
     }
 
@@ -52,7 +52,7 @@ impl Sleepers {
         let sleeps = self.seat(node).sleeps;
         self.put(
             node,
-            Seat {
+            ThreadSlot {
                 of_caller: true,
                 sleeps,
             },
@@ -67,18 +67,18 @@ impl Sleepers {
     }
 
     /// Whether the thread of a node sleeps on, which is noted.
-    pub fn sleeps(&mut self, course: &Course, node: NodeNo) -> bool
+    pub fn sleeps(&mut self, course: &SharedRun, node: NodeNo) -> bool
         ensures noted { self.new ≡ with_seat self.old node.0 (record { of_caller = (seat_at self.old.seats node.0).of_caller; sleeps = result }) }
         ensures waits { IsTrue result → Waits course.now self.old.hour node.0 }
     {
         let sleeps = self.must_wait(course, node);
         let of_caller = self.seat(node).of_caller;
-        self.put(node, Seat { of_caller, sleeps });
+        self.put(node, ThreadSlot { of_caller, sleeps });
         sleeps
     }
 
     /// Whether no node of the calling thread may go on any more.
-    pub fn caller_is_over(&self, course: &Course) -> bool
+    pub fn caller_is_over(&self, course: &SharedRun) -> bool
         ensures { IsTrue result → (node : ℕ) → IsOpen course.now node → (seat_at self.now.seats node).of_caller ≡ true → IsDone course.now node }
     {
         for number in 0..course.count() {
@@ -90,7 +90,7 @@ impl Sleepers {
     }
 
     // Whether a node is not the calling thread's, or may not go on any more.
-    fn is_over(&self, course: &Course, node: NodeNo) -> bool
+    fn is_over(&self, course: &SharedRun, node: NodeNo) -> bool
         ensures { IsTrue result → IsOpen course.now node.0 → (seat_at self.now.seats node.0).of_caller ≡ true → IsDone course.now node.0 }
     {
         !self.is_of_caller(node) || !course.is_open(node)
@@ -104,7 +104,7 @@ impl Sleepers {
     }
 
     /// One bell that is to be rung, which then is noted no longer.
-    pub fn take_wake(&mut self) -> Option<Bell>
+    pub fn take_wake(&mut self) -> Option<Sleeper>
         ensures taken { IfSome result (λ bell. is_to_ring self.old.wakes bell ≡ true) }
         ensures rest { self.new ≡ record self.old { wakes = without_bell self.old.wakes result } }
     {
@@ -113,18 +113,18 @@ impl Sleepers {
 
     /// The thread of a node has a turn: it need not be woken.
     pub fn rise(&mut self, node: NodeNo)
-        ensures { self.new ≡ record self.old { wakes = without_bell self.old.wakes (Some (Bell.Node node.0)) } }
+        ensures { self.new ≡ record self.old { wakes = without_bell self.old.wakes (Some (Sleeper.Node node.0)) } }
     {
         self.wakes.remove(node.0 as usize);
     }
 
     // The seat of a node.
-    fn seat(&self, node: NodeNo) -> Seat
+    fn seat(&self, node: NodeNo) -> ThreadSlot
         ensures { result ≡ seat_at self.now.seats node.0 }
     {
         match self.seats.get(node.0 as usize) {
             Some(seat) => *seat,
-            None => Seat {
+            None => ThreadSlot {
                 of_caller: false,
                 sleeps: false,
             },
@@ -132,7 +132,7 @@ impl Sleepers {
     }
 
     // A node has this seat from now on.
-    fn put(&mut self, node: NodeNo, seat: Seat)
+    fn put(&mut self, node: NodeNo, seat: ThreadSlot)
         ensures { self.new ≡ with_seat self.old node.0 seat }
     {
         if (node.0 as usize) < self.seats.len() {
@@ -141,7 +141,7 @@ impl Sleepers {
     }
 
     // Whether a node has to wait for others.
-    fn must_wait(&self, course: &Course, node: NodeNo) -> bool
+    fn must_wait(&self, course: &SharedRun, node: NodeNo) -> bool
         ensures { IsTrue result → Waits course.now self.now.hour node.0 }
     {
         if course.meeting() {
@@ -151,13 +151,13 @@ impl Sleepers {
     }
 
     /// Where the nodes meet: whether a node that goes on has a target that the hour has not reached.
-    pub fn is_early(&self, course: &Course, node: NodeNo) -> bool
+    pub fn is_early(&self, course: &SharedRun, node: NodeNo) -> bool
         ensures { IsTrue result → Waits course.now self.now.hour node.0 }
     {
         course.meeting() && course.is_open(node) && !self.is_at_hour(course, node)
     }
 
-    // Wakes the thread that has a node, where it sleeps.
+    // WakeList the thread that has a node, where it sleeps.
     fn wake(&mut self, node: NodeNo)
         ensures awake { (seat_at self.new.seats node.0).sleeps ≡ false }
         ensures rouses { Rouses self.old self.new }
@@ -169,7 +169,7 @@ impl Sleepers {
         self.wakes.add(node.0 as usize, seat.of_caller);
         self.put(
             node,
-            Seat {
+            ThreadSlot {
                 of_caller: seat.of_caller,
                 sleeps: false,
             },
@@ -178,7 +178,7 @@ impl Sleepers {
 
     /// The part of a node has ended. At a stop or a close all threads are woken that sleep, and else those
     /// that waited for this node.
-    pub fn wake_behind(&mut self, course: &Course, node: NodeNo)
+    pub fn wake_behind(&mut self, course: &SharedRun, node: NodeNo)
         ensures { Rouses self.old self.new }
     {
         if !course.is_stopped() {
@@ -190,7 +190,7 @@ impl Sleepers {
     }
 
     /// With list clocks: wakes the threads that waited for a node, where they wait for no other.
-    pub fn wake_targets(&mut self, course: &Course, node: NodeNo)
+    pub fn wake_targets(&mut self, course: &SharedRun, node: NodeNo)
         ensures { Rouses self.old self.new }
     {
         if course.meeting() {
@@ -203,8 +203,8 @@ impl Sleepers {
         }
     }
 
-    // Wakes the thread that has a node, where it sleeps and the node need not wait.
-    fn wake_ready(&mut self, course: &Course, node: NodeNo)
+    // WakeList the thread that has a node, where it sleeps and the node need not wait.
+    fn wake_ready(&mut self, course: &SharedRun, node: NodeNo)
         ensures { Rouses self.old self.new }
     {
         if self.seat(node).sleeps && !self.must_wait(course, node) {
@@ -213,7 +213,7 @@ impl Sleepers {
     }
 
     /// Where the nodes meet: whether a node has left the hour, and was the last one at it.
-    pub fn is_hour_over(&self, course: &Course, node: NodeNo) -> bool
+    pub fn is_hour_over(&self, course: &SharedRun, node: NodeNo) -> bool
         ensures { IsTrue result → IsHourOver course.now self.now.hour }
     {
         // The last node is mostly the last to leave, so it is asked first.
@@ -225,15 +225,15 @@ impl Sleepers {
     }
 
     /// The hour moves to the least target.
-    pub fn move_hour(&mut self, course: &Course)
+    pub fn move_hour(&mut self, course: &SharedRun)
         ensures hour { IsLeast course.now.bus.run course.now.bus.state self.new.hour }
         ensures others { self.new ≡ record self.old { hour = self.new.hour } }
     {
         self.hour = least_target(course);
     }
 
-    /// Wakes all threads that sleep though their node need not wait.
-    pub fn wake_all_ready(&mut self, course: &Course)
+    /// WakeList all threads that sleep though their node need not wait.
+    pub fn wake_all_ready(&mut self, course: &SharedRun)
         ensures { Rouses self.old self.new }
     {
         for number in 0..course.count() {
@@ -242,7 +242,7 @@ impl Sleepers {
     }
 
     /// Whether the hour has reached the target of a node that is not done.
-    pub fn is_at_hour(&self, course: &Course, node: NodeNo) -> bool
+    pub fn is_at_hour(&self, course: &SharedRun, node: NodeNo) -> bool
         ensures { result ≡ false → node.0 < length course.now.bus.run.design.components
             → IsAbove course.now.bus.run course.now.bus.state self.now.hour node.0 }
     {
@@ -253,7 +253,7 @@ impl Sleepers {
     }
 
     /// Whether the hour has reached the target of some node that is not done.
-    pub fn some_at_hour(&self, course: &Course) -> bool
+    pub fn some_at_hour(&self, course: &SharedRun) -> bool
         ensures { result ≡ false → IsHourOver course.now self.now.hour }
     {
         for number in 0..course.count() {
@@ -266,7 +266,7 @@ impl Sleepers {
 }
 
 // The least target of the nodes that are not done.
-fn least_target(course: &Course) -> Nanos
+fn least_target(course: &SharedRun) -> Nanos
     ensures { IsLeast course.now.bus.run course.now.bus.state result }
 {
     let mut least = READING;

@@ -4,13 +4,13 @@ ghost use Rattle.pals_bus.specs.proof.Values.{opening_bus};
 ghost use Rattle.node_threads.specs.proof.Courses.{AreClocksOf};
 ghost use Rattle.node_threads.specs.proof.Ends.{IsOutcome};
 
-use crate::bells::Bells;
-use crate::course::Course;
-use crate::driving::driven_beside;
+use crate::bells::WakeSignals;
+use crate::course::SharedRun;
+use crate::driving::drive_with_spare;
 use crate::ends::NodeEnd;
 use crate::gates::Gate;
 use crate::locked::Locked;
-use crate::opening::both_opened;
+use crate::opening::open_with_spare;
 use crate::sleepers::Sleepers;
 use crate::starters::Starter;
 use crate::workers::work_all;
@@ -44,7 +44,7 @@ pub fn run_threads<R: Threads + Wait + Sync, W: Starter, G: Gate + Sync>(
     requires clocks { AreClocksOf bus clocks }
     ensures { IfOk result (λ end. IsOutcome bus clocks end.bus end.ends) }
 {
-    let (course, kept) = both_opened(alloc, bus, clocks)?;
+    let (course, kept) = open_with_spare(alloc, bus, clocks)?;
     run_beside(rt, alloc, course, kept, starter, gate)
 }
 
@@ -52,15 +52,15 @@ pub fn run_threads<R: Threads + Wait + Sync, W: Starter, G: Gate + Sync>(
 fn run_beside<R: Threads + Wait + Sync, W: Starter, G: Gate + Sync>(
     rt: &R,
     alloc: Global,
-    course: Course,
-    kept: Course,
+    course: SharedRun,
+    kept: SharedRun,
     starter: &mut W,
     gate: &G,
 ) -> Result<RunEnd, NoMemory>
     ensures { IfOk result (λ end. IsOutcome kept.bus kept.clocks end.bus end.ends) }
 {
     match in_threads(rt, alloc, course, starter, gate) {
-        Ok(out) => driven_beside(rt, alloc, out, kept, gate),
+        Ok(out) => drive_with_spare(rt, alloc, out, kept, gate),
         Err(no_memory) => Err(no_memory),
     }
 }
@@ -70,10 +70,10 @@ fn run_beside<R: Threads + Wait + Sync, W: Starter, G: Gate + Sync>(
 fn in_threads<R: Threads + Wait + Sync, W: Starter, G: Gate + Sync>(
     rt: &R,
     alloc: Global,
-    course: Course,
+    course: SharedRun,
     starter: &mut W,
     gate: &G,
-) -> Result<Course, NoMemory> {
+) -> Result<SharedRun, NoMemory> {
     let count = course.count();
     let (lock, bells) = shared(alloc, course)?;
     work_all(rt, &lock, &bells, count, starter, gate);
@@ -81,7 +81,7 @@ fn in_threads<R: Threads + Wait + Sync, W: Starter, G: Gate + Sync>(
 }
 
 // A course under a lock, and the bells of its nodes.
-fn shared(alloc: Global, course: Course) -> Result<(Mutex<Locked>, Bells), NoMemory>
+fn shared(alloc: Global, course: SharedRun) -> Result<(Mutex<Locked>, WakeSignals), NoMemory>
     ensures { IfOk result (λ both. vec_len both.1.nodes ≡ length course.bus.run.design.components) }
 {
     let (bells, sleepers) = bells_and_sleepers(alloc, course.count())?;
@@ -90,10 +90,10 @@ fn shared(alloc: Global, course: Course) -> Result<(Mutex<Locked>, Bells), NoMem
 }
 
 // The bells of `count` nodes, all of which are awake.
-fn bells_and_sleepers(alloc: Global, count: u32) -> Result<(Bells, Sleepers), NoMemory>
+fn bells_and_sleepers(alloc: Global, count: u32) -> Result<(WakeSignals, Sleepers), NoMemory>
     ensures { IfOk result (λ both. vec_len both.0.nodes ≡ count) }
 {
-    let bells = Bells::new(alloc, count)?;
+    let bells = WakeSignals::new(alloc, count)?;
     let sleepers = Sleepers::new(alloc, count)?;
     Ok((bells, sleepers))
 }

@@ -5,17 +5,17 @@ ghost use Rattle.pals_base.specs.declared.limits.TheConstants.{READING};
 ghost use Rattle.bus_machine.specs.Machine.{Start, Step, Send};
 ghost use Rattle.node_threads.specs.proof.Courses.{Stays, IsOpen, IsNext, IsReady, EndsAt, IsToStartIn, IsAwaitedIn, Allows};
 
-use crate::clocks::Look;
-use crate::course::Course;
-use crate::ends::Note;
-use bus_machine::{Action, Next};
+use crate::clocks::ClockAnswer;
+use crate::course::SharedRun;
+use crate::ends::NodeNote;
+use bus_machine::{NodeAction, Next};
 use pals_base::{Nanos, NodeNo};
 use pals_bus::{BusError, BusFinishEnd, BusSendEnd, BusStartEnd, BusStepEnd, DueEnd};
 use pals_node::{Done, Finished, Job, StartEnd, StepEnd};
 
 /// What a thread does with its node after a locked step.
 #[derive(Drop)]
-pub enum Turn {
+pub enum NextMove {
     /// Runs a job, outside the lock.
     Work(Job),
     /// Sleeps until others have gone on.
@@ -26,13 +26,13 @@ pub enum Turn {
     Over,
 }
 
-impl Course {
+impl SharedRun {
     /// A node goes on, where its part has not ended: up to a job, to a wait, or to its end.
-    pub fn begin(&mut self, node: NodeNo) -> Turn
+    pub fn begin(&mut self, node: NodeNo) -> NextMove
         ensures { Stays self.old self.new }
     {
         if !self.is_open(node) {
-            return Turn::Over;
+            return NextMove::Over;
         }
         match self.bus.next(node) {
             None => self.recover(node),
@@ -58,12 +58,12 @@ impl Course {
     }
 
     // Where a node's thread came back without its job, the job is run here.
-    fn recover(&mut self, node: NodeNo) -> Turn
+    fn recover(&mut self, node: NodeNo) -> NextMove
         requires { node.0 < length self.old.bus.run.design.components }
         ensures { Stays self.old self.new }
     {
         let _ = self.finish_here(node);
-        Turn::Again
+        NextMove::Again
     }
 
     fn finish_here(&mut self, node: NodeNo) -> Result<(), BusFinishEnd>
@@ -74,53 +74,53 @@ impl Course {
     }
 
     // A node does what comes next, if its clock lets it.
-    fn go(&mut self, node: NodeNo, next: Next) -> Turn
+    fn go(&mut self, node: NodeNo, next: Next) -> NextMove
         requires is_open { IsOpen self.old node.0 }
         requires next { IsNext self.old node.0 next }
         ensures { Stays self.old self.new }
     {
         match self.look(node, next) {
-            Look::At(reading) => self.act(node, next.action, reading),
-            Look::Wait => Turn::Wait,
-            Look::Ended => self.note_end(node, next.target),
+            ClockAnswer::At(reading) => self.act(node, next.action, reading),
+            ClockAnswer::Wait => NextMove::Wait,
+            ClockAnswer::Ended => self.note_end(node, next.target),
         }
     }
 
     // It is noted that the clock of a node has ended.
-    fn note_end(&mut self, node: NodeNo, target: Nanos) -> Turn
+    fn note_end(&mut self, node: NodeNo, target: Nanos) -> NextMove
         requires is_open { IsOpen self.old node.0 }
         requires ended { EndsAt self.old.bus self.old.clocks node.0 target }
         ensures { Stays self.old self.new }
     {
-        self.notes.set(node.0 as usize, Note::ClockEnded { target });
-        Turn::Over
+        self.notes.set(node.0 as usize, NodeNote::ClockEnded { target });
+        NextMove::Over
     }
 
     // A node does its next action at a reading that its clock shows.
-    fn act(&mut self, node: NodeNo, action: Action, reading: Nanos) -> Turn
+    fn act(&mut self, node: NodeNo, action: NodeAction, reading: Nanos) -> NextMove
         requires { IsReady self.old node action reading }
         ensures { Stays self.old self.new }
     {
         self.agreement();
         match action {
-            Action::Start { .. } => self.start(node, reading),
-            Action::Step { .. } => self.step(node, reading),
-            Action::Send { .. } => self.send(node, reading),
+            NodeAction::Start { .. } => self.start(node, reading),
+            NodeAction::Step { .. } => self.step(node, reading),
+            NodeAction::Send { .. } => self.send(node, reading),
         }
     }
 
     // A node takes what is due to it, and starts its next round.
-    fn start(&mut self, node: NodeNo, reading: Nanos) -> Turn
+    fn start(&mut self, node: NodeNo, reading: Nanos) -> NextMove
         requires is_open { IsOpen self.old node.0 }
         requires waits { IsToStartIn self.old node reading }
         ensures { Stays self.old self.new }
     {
         if !self.is_awaited(node) {
-            return Turn::Wait;
+            return NextMove::Wait;
         }
         match self.take(node, reading) {
             Ok(()) => self.launch(node, reading),
-            Err(BusError::Stopped(_)) => Turn::Over,
+            Err(BusError::Stopped(_)) => NextMove::Over,
             Err(BusError::Refused(_)) => self.out_of_memory(node),
         }
     }
@@ -138,16 +138,16 @@ impl Course {
     }
 
     // A node starts its next round.
-    fn launch(&mut self, node: NodeNo, reading: Nanos) -> Turn
+    fn launch(&mut self, node: NodeNo, reading: Nanos) -> NextMove
         requires is_open { IsOpen self.old node.0 }
         requires begins { Allows self.old (Start node (Some reading)) }
         ensures { Stays self.old self.new }
     {
         match self.start_round(node, reading) {
-            Ok(job) => Turn::Work(job),
+            Ok(job) => NextMove::Work(job),
             Err(BusError::Refused(StartEnd::Memory)) => self.out_of_memory(node),
-            Err(BusError::Stopped(_)) => Turn::Over,
-            Err(_) => Turn::Again,
+            Err(BusError::Stopped(_)) => NextMove::Over,
+            Err(_) => NextMove::Again,
         }
     }
 
@@ -160,16 +160,16 @@ impl Course {
     }
 
     // A node starts the next step of its round.
-    fn step(&mut self, node: NodeNo, reading: Nanos) -> Turn
+    fn step(&mut self, node: NodeNo, reading: Nanos) -> NextMove
         requires is_open { IsOpen self.old node.0 }
         requires steps { Allows self.old (Step node (Some reading)) }
         ensures { Stays self.old self.new }
     {
         match self.start_step(node, reading) {
-            Ok(job) => Turn::Work(job),
+            Ok(job) => NextMove::Work(job),
             Err(BusError::Refused(StepEnd::Memory)) => self.out_of_memory(node),
-            Err(BusError::Stopped(_)) => Turn::Over,
-            Err(_) => Turn::Again,
+            Err(BusError::Stopped(_)) => NextMove::Over,
+            Err(_) => NextMove::Again,
         }
     }
 
@@ -182,14 +182,14 @@ impl Course {
     }
 
     // A node sends its round.
-    fn send(&mut self, node: NodeNo, reading: Nanos) -> Turn
+    fn send(&mut self, node: NodeNo, reading: Nanos) -> NextMove
         requires is_open { IsOpen self.old node.0 }
         requires sends { Allows self.old (Send node (Some reading)) }
         requires range { reading ≤ READING }
         ensures { Stays self.old self.new }
     {
         let _ = self.send_round(node, reading);
-        Turn::Again
+        NextMove::Again
     }
 
     fn send_round(&mut self, node: NodeNo, reading: Nanos) -> Result<(), BusSendEnd>
@@ -202,12 +202,12 @@ impl Course {
     }
 
     // A node finds no memory, and the run is closed.
-    fn out_of_memory(&mut self, node: NodeNo) -> Turn
+    fn out_of_memory(&mut self, node: NodeNo) -> NextMove
         requires { node.0 < length self.old.bus.run.design.components }
         ensures { Stays self.old self.new }
     {
         self.bus.close();
-        self.notes.set(node.0 as usize, Note::Memory);
-        Turn::Over
+        self.notes.set(node.0 as usize, NodeNote::Memory);
+        NextMove::Over
     }
 }

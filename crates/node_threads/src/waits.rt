@@ -4,13 +4,13 @@ ghost use Rattle.bus_machine.specs.States.{link_at, node_at};
 ghost use Rattle.bus_machine.specs.Stops.{sent_rounds};
 ghost use Rattle.node_threads.specs.proof.Courses.{HasSent, IsWaiting, IsAwaitedIn, IsSentOn};
 
-use crate::course::Course;
-use crate::ends::Note;
+use crate::course::SharedRun;
+use crate::ends::NodeNote;
 use pals_base::NodeNo;
 use pals_model::Link;
 use pals_runs::Phase;
 
-impl Course {
+impl SharedRun {
     /// Whether a node with a list, which is to start a round, has to wait for a source.
     pub fn waits_for_source(&self, node: NodeNo) -> bool
         ensures starts { IsTrue result → (node_at self.now.bus.state node.0).phase ≡ Phase.Waiting }
@@ -54,8 +54,8 @@ impl Course {
         ensures { IsTrue result → HasSent self.now.bus self.now.clocks node.0 rounds }
     {
         match self.notes[node.0 as usize] {
-            Note::ClockEnded { target: _ } => true,
-            Note::Open | Note::Memory => self.has_counted(node, rounds),
+            NodeNote::ClockEnded { target: _ } => true,
+            NodeNote::Open | NodeNote::Memory => self.has_counted(node, rounds),
         }
     }
 

@@ -1,15 +1,15 @@
 //! Which threads are to be woken.
 ghost use Rattle.std.specs.Prelude.{◌≡◌, IfSome, Some, false, true, slice_index_or};
-ghost use Rattle.node_threads.specs.declared.bell.Bell.{Bell};
+ghost use Rattle.node_threads.specs.declared.bell.Sleeper.{Sleeper};
 ghost use Rattle.node_threads.specs.proof.Sleepers.{no_wakes, with_rung, is_to_ring, without_bell};
 
-use crate::bell::Bell;
+use crate::bell::Sleeper;
 use pals_base::limits::COMPONENTS;
 
 /// The nodes whose threads are to be woken, and whether the calling thread is. They are noted under the
 /// lock, and woken one after the other once it is free.
 #[derive(Drop)]
-pub struct Wakes {
+pub struct WakeList {
     // Whether anybody may have to be woken. Where it is false the other two do not count.
     any: bool,
     // Of each node, whether its own thread is.
@@ -18,12 +18,12 @@ pub struct Wakes {
     caller: bool,
 }
 
-impl Wakes {
+impl WakeList {
     /// Nobody is to be woken.
-    pub fn none() -> Wakes
+    pub fn none() -> WakeList
         ensures { result ≡ no_wakes }
     {
-        Wakes {
+        WakeList {
             any: false,
             nodes: [false; COMPONENTS],
             caller: false,
@@ -51,7 +51,7 @@ impl Wakes {
 
     /// A node's own thread need not be woken.
     pub fn remove(&mut self, number: usize)
-        ensures { self.new ≡ without_bell self.old (Some (Bell.Node number)) }
+        ensures { self.new ≡ without_bell self.old (Some (Sleeper.Node number)) }
     {
         if number < COMPONENTS {
             self.nodes[number] = false;
@@ -59,7 +59,7 @@ impl Wakes {
     }
 
     /// One bell that is to be rung, which then is noted no longer. That of the calling thread comes last.
-    pub fn take(&mut self) -> Option<Bell>
+    pub fn take(&mut self) -> Option<Sleeper>
         ensures taken { IfSome result (λ bell. is_to_ring self.old bell ≡ true) }
         ensures rest { self.new ≡ without_bell self.old result }
     {
@@ -68,14 +68,14 @@ impl Wakes {
         }
         if let Some(number) = self.first() {
             self.remove(number);
-            return Some(Bell::Node(number));
+            return Some(Sleeper::Node(number));
         }
         self.any = false;
         if !self.caller {
             return None;
         }
         self.caller = false;
-        Some(Bell::Caller)
+        Some(Sleeper::Caller)
     }
 
     // The first node whose thread is noted.

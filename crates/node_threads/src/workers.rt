@@ -1,10 +1,10 @@
 //! What threads do to the course under the lock: each has one node, and the calling thread has the nodes
 //! that have no thread. Only the type of a course tells what comes out, so there are no clauses here.
-use crate::bells::Bells;
+use crate::bells::WakeSignals;
 use crate::gates::{Gate, done_by};
 use crate::locked::Locked;
 use crate::starters::Starter;
-use crate::under_lock::Turn;
+use crate::under_lock::NextMove;
 use pals_base::NodeNo;
 use pals_node::Done;
 use std::sync::{Mutex, MutexGuard, Wait};
@@ -15,7 +15,7 @@ use std::thread::Threads;
 pub fn work_all<R: Threads + Wait + Sync, W: Starter, G: Gate + Sync>(
     rt: &R,
     lock: &Mutex<Locked>,
-    bells: &Bells,
+    bells: &WakeSignals,
     count: u32,
     starter: &mut W,
     gate: &G,
@@ -37,11 +37,11 @@ pub fn work_all<R: Threads + Wait + Sync, W: Starter, G: Gate + Sync>(
 
 // The part of a node, in a thread of its own: it does the job that its last turn asked for, if there is
 // one, and takes its next turn.
-fn work<R: Wait, G: Gate>(rt: &R, lock: &Mutex<Locked>, bells: &Bells, gate: &G, node: NodeNo) {
-    let mut turn = Turn::Again;
+fn work<R: Wait, G: Gate>(rt: &R, lock: &Mutex<Locked>, bells: &WakeSignals, gate: &G, node: NodeNo) {
+    let mut turn = NextMove::Again;
     for _ in rt.forever() {
         turn = take_turn(rt, lock, bells, node, done_in(turn, gate, node));
-        if matches!(&turn, Turn::Over) {
+        if matches!(&turn, NextMove::Over) {
             return;
         }
     }
@@ -52,13 +52,13 @@ fn work<R: Wait, G: Gate>(rt: &R, lock: &Mutex<Locked>, bells: &Bells, gate: &G,
 fn take_turn<R: Wait>(
     rt: &R,
     lock: &Mutex<Locked>,
-    bells: &Bells,
+    bells: &WakeSignals,
     node: NodeNo,
     done: Option<Done>,
-) -> Turn {
+) -> NextMove {
     let mut locked = lock.lock(rt);
     let (turn, wake) = locked.turn(node, done);
-    if !matches!(&turn, Turn::Wait) {
+    if !matches!(&turn, NextMove::Wait) {
         drop(locked);
         bells.ring(wake);
         return turn;
@@ -70,10 +70,10 @@ fn take_turn<R: Wait>(
 // A node sleeps until it need not wait, and has its next turn.
 fn turn_after_sleep<R: Wait>(
     rt: &R,
-    bells: &Bells,
+    bells: &WakeSignals,
     locked: MutexGuard<'_, Locked>,
     node: NodeNo,
-) -> Turn {
+) -> NextMove {
     let mut locked = bells.sleep(rt, locked, node);
     let (turn, wake) = locked.turn(node, None);
     drop(locked);
@@ -85,7 +85,7 @@ fn turn_after_sleep<R: Wait>(
 fn work_in_turns<R: Wait, G: Gate>(
     rt: &R,
     lock: &Mutex<Locked>,
-    bells: &Bells,
+    bells: &WakeSignals,
     count: u32,
     gate: &G,
 ) {
@@ -103,13 +103,13 @@ fn work_in_turns<R: Wait, G: Gate>(
 fn work_one_turn<R: Wait, G: Gate>(
     rt: &R,
     lock: &Mutex<Locked>,
-    bells: &Bells,
+    bells: &WakeSignals,
     node: NodeNo,
     gate: &G,
 ) {
     let (turn, wake) = lock.lock(rt).turn_of_caller(node);
     bells.ring(wake);
-    if let Turn::Work(job) = turn {
+    if let NextMove::Work(job) = turn {
         let done = done_by(gate, node, job);
         let wake = lock.lock(rt).finish_of_caller(node, done);
         bells.ring(wake);
@@ -117,9 +117,9 @@ fn work_one_turn<R: Wait, G: Gate>(
 }
 
 // Does the job that a node's turn asks for, if it asks for one.
-fn done_in<G: Gate>(turn: Turn, gate: &G, node: NodeNo) -> Option<Done> {
+fn done_in<G: Gate>(turn: NextMove, gate: &G, node: NodeNo) -> Option<Done> {
     match turn {
-        Turn::Work(job) => Some(done_by(gate, node, job)),
-        Turn::Wait | Turn::Again | Turn::Over => None,
+        NextMove::Work(job) => Some(done_by(gate, node, job)),
+        NextMove::Wait | NextMove::Again | NextMove::Over => None,
     }
 }

@@ -9,8 +9,8 @@ use Rattle.std.proofs.lemmas.Option.{slice_get_within}
 use Rattle.list_lemmas.proofs.Elements.{list_all-filter, passes_by_list_all}
 use Rattle.pals_base.specs.declared.values.Trap.{Trap}
 use Rattle.pals_base.specs.declared.values.Frame.{Frame}
-use Rattle.pals_base.specs.declared.values.Port.{Port}
-use Rattle.pals_base.specs.declared.values.Port.TheVariants.{Absent}
+use Rattle.pals_base.specs.declared.values.PortValue.{PortValue}
+use Rattle.pals_base.specs.declared.values.PortValue.TheVariants.{Absent}
 use Rattle.pals_base.specs.declared.behaviour.StateDecl.{StateDecl}
 use Rattle.pals_base.specs.declared.behaviour.BehaviourParts.{BehaviourParts}
 use Rattle.pals_base.specs.Tree.{Edge, Trigger, Dispatch, Always, When}
@@ -22,7 +22,7 @@ use Rattle.pals_base.specs.Rules.{has_condition, is_edge, dispatch_count, is_alw
 use Rattle.pals_base.specs.proof.Settling.{settles}
 use Rattle.pals_base.proofs.Settling.{rule_at}
 use Rattle.pals_base.proofs.Ways.{incomplete_within, settled_unless_cycle, way_is_short}
-use Rattle.pals_base.proofs.Keeping.{HasLengths, acts_keeps}
+use Rattle.pals_base.proofs.ActionsKeepNumbers.{HasLengths, acts_keeps}
 
 -- ---- lists
 
@@ -170,7 +170,7 @@ dispatches b fresh at (Some e) rules' within sizes is =
     then_ok (Arrives b e) (Ends b) (along (Some e) fresh at) (λ next. settled (length b.states) b fresh next) (arrives b e fresh at sizes)
     (λ next came. settled_ends (length b.states) b fresh next rules' (ap (settles (length b.states) b) came.0 ∙ settle) (subst (λ k. k < length b.states) (sym came.0) inside) came.1)
 
-length-holding : (held : List ℤ) (inputs : List Port) → length (holding held inputs) ≡ length held
+length-holding : (held : List ℤ) (inputs : List PortValue) → length (holding held inputs) ≡ length held
 length-holding [] inputs = refl
 length-holding (v ∷ held) [] = refl
 length-holding (v ∷ held) (input ∷ inputs) = ap suc (length-holding held inputs)
@@ -186,7 +186,7 @@ halted_or : (b : BehaviourParts) (held : Frame) (halt : Option Trap) (r : Result
 halted_or b held None r shape ends = ended b held r shape ends
 halted_or b held (Some trap) r shape ends = (shape, length-replicate (length b.outs) Absent)
 
-pub fires_well : (b : BehaviourParts) (frame : Frame) (inputs : List Port) → IsBehaviour b → HasShape b frame → FiredWell b (fire b frame inputs)
+pub fires_well : (b : BehaviourParts) (frame : Frame) (inputs : List PortValue) → IsBehaviour b → HasShape b frame → FiredWell b (fire b frame inputs)
 unfolding fire
 fires_well b frame inputs rules' shape =
     let held : Frame = record frame { held = holding frame.held inputs } in

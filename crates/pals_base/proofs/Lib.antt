@@ -8,6 +8,6 @@ pub mod Lengths
 pub mod Upwards
 pub mod Settling
 pub mod Ways
-pub mod Keeping
+pub mod ActionsKeepNumbers
 pub mod Ending
 pub mod RoundUnderWay

@@ -2,15 +2,15 @@
 use Rattle.std.specs.Prelude.{ℕ, zero, suc, ℤ, pos, negsuc, ◌+ℤ◌, ◌-ℤ◌, Bool, if◌then◌else◌, List, [], ◌∷◌, ◌++◌, length, take, Result, Ok, slice_set}
 use Rattle.pals_base.specs.declared.values.Trap.{Trap}
 use Rattle.pals_base.specs.declared.values.Frame.{Frame}
-use Rattle.pals_base.specs.declared.values.Port.{Port}
-use Rattle.pals_base.specs.declared.values.Port.TheVariants.{Present}
+use Rattle.pals_base.specs.declared.values.PortValue.{PortValue}
+use Rattle.pals_base.specs.declared.values.PortValue.TheVariants.{Present}
 use Rattle.pals_base.specs.Expressions.{eval, on_value, is_true}
 use Rattle.pals_base.specs.Tree.{Action, Assign, Emit, If, For, Actions, Nothing, Do, Branches, NoBranch, Where}
 
 -- the variables, and what the out ports have in this step so far
 pub record Effect : Type 0 where
   pub vars : List ℤ
-  pub outs : List Port
+  pub outs : List PortValue
 
 -- n numbers, from `low` on
 abbrev pub counted_from : ℤ → ℕ → List ℤ
@@ -40,7 +40,7 @@ abbrev pub without_loop : ℕ → Result Effect Trap → Result Effect Trap
 without_loop n done = on_value done (λ e. Ok (record e { vars = take n e.vars }))
 
 abbrev mutual
-  pub act : Action → Frame → List Bool → List Port → Result Effect Trap
+  pub act : Action → Frame → List Bool → List PortValue → Result Effect Trap
   act (Assign x e) frame fresh outs = on_value (eval e frame fresh) (λ v. Ok (record { vars = slice_set frame.vars x v; outs = outs }))
   act (Emit p e) frame fresh outs = on_value (eval e frame fresh) (λ v. Ok (record { vars = frame.vars; outs = slice_set outs p (Present v) }))
   act (If branches otherwise) frame fresh outs = act_first branches frame fresh outs (acts otherwise frame fresh outs)
@@ -50,12 +50,12 @@ abbrev mutual
       (record { vars = frame.vars; outs = outs })
 
   -- one after the other
-  pub acts : Actions → Frame → List Bool → List Port → Result Effect Trap
+  pub acts : Actions → Frame → List Bool → List PortValue → Result Effect Trap
   acts Nothing frame fresh outs = Ok (record { vars = frame.vars; outs = outs })
   acts (Do a rest) frame fresh outs = on_value (act a frame fresh outs) (λ e. acts rest (with_vars frame e.vars) fresh e.outs)
 
   -- the first branch whose guard is true, or else what is done otherwise
-  pub act_first : Branches → Frame → List Bool → List Port → Result Effect Trap → Result Effect Trap
+  pub act_first : Branches → Frame → List Bool → List PortValue → Result Effect Trap → Result Effect Trap
   act_first NoBranch frame fresh outs otherwise = otherwise
   act_first (Where guard actions rest) frame fresh outs otherwise =
       on_value (eval guard frame fresh) (λ v. if is_true v then acts actions frame fresh outs else act_first rest frame fresh outs otherwise)

@@ -1,29 +1,29 @@
 -- How a tuple of a source of rate p is read by a target of rate q.
 use Rattle.std.specs.Prelude.{ℕ, ◌-◌, ◌/◌, zero, suc, nat_lt, ℤ, pos, ◌+ℤ◌, int_div, if◌then◌else◌, List, [], ◌∷◌, length, take, drop, map, fold, flat_map, replicate, Option, Some, None, slice_index_or, slice_set}
 use Rattle.std.specs.Int.{int_min, int_max}
-use Rattle.pals_base.specs.declared.values.Port.{Port}
-use Rattle.pals_base.specs.declared.values.Port.TheVariants.{Absent, Present}
+use Rattle.pals_base.specs.declared.values.PortValue.{PortValue}
+use Rattle.pals_base.specs.declared.values.PortValue.TheVariants.{Absent, Present}
 use Rattle.pals_base.specs.declared.values.Adaptor.{Adaptor}
 use Rattle.pals_base.specs.declared.values.Adaptor.TheVariants.{Repeat, First, Last, At, Latest, Max, Min, Average}
 
 -- ---- groups
 -- a list cut into `count` groups of m
-abbrev pub groups : ℕ → ℕ → List Port → List (List Port)
+abbrev pub groups : ℕ → ℕ → List PortValue → List (List PortValue)
 groups zero m list = []
 groups (suc count) m list = take m list ∷ groups count m (drop m list)
 
 -- the numbers that are present
-abbrev pub present : List Port → List ℤ
+abbrev pub present : List PortValue → List ℤ
 present [] = []
 present (Absent ∷ list) = present list
 present (Present v ∷ list) = v ∷ present list
 
 -- ---- to a higher rate: one value over m places
 -- the value in the place n, from 1, and absent in the others
-abbrev pub placed : ℕ → ℕ → Port → List Port
+abbrev pub placed : ℕ → ℕ → PortValue → List PortValue
 placed n m value = slice_set (replicate m Absent) (n - 1) value
 
-abbrev pub spread : Adaptor → ℕ → Port → List Port
+abbrev pub spread : Adaptor → ℕ → PortValue → List PortValue
 spread Repeat m value = replicate m value
 spread First m value = placed 1 m value
 spread Last m value = placed m m value
@@ -32,7 +32,7 @@ spread other m value = replicate m Absent
 
 -- ---- to a lower rate: one place from a group
 -- a value of the present numbers, absent where there are none
-abbrev pub of_present : (ℤ → List ℤ → ℤ) → List ℤ → Port
+abbrev pub of_present : (ℤ → List ℤ → ℤ) → List ℤ → PortValue
 of_present f [] = Absent
 of_present f (v ∷ vs) = Present (f v vs)
 
@@ -49,7 +49,7 @@ least_of v vs = fold int_min v vs
 abbrev pub average_of : ℤ → List ℤ → ℤ
 average_of v vs = int_div (fold (λ a b. a +ℤ b) v vs) (pos (suc (length vs)))
 
-abbrev pub joined : Adaptor → List Port → Port
+abbrev pub joined : Adaptor → List PortValue → PortValue
 joined First group = slice_index_or group 0 Absent
 joined Last group = slice_index_or group (length group - 1) Absent
 joined (At n) group = slice_index_or group (n - 1) Absent
@@ -60,6 +60,6 @@ joined Average group = of_present average_of (present group)
 joined Repeat group = Absent
 
 -- ---- the whole
-abbrev pub adapt : Option Adaptor → ℕ → ℕ → List Port → List Port
+abbrev pub adapt : Option Adaptor → ℕ → ℕ → List PortValue → List PortValue
 adapt None p q tuple = tuple
 adapt (Some a) p q tuple = if nat_lt p q then flat_map (spread a (q / p)) tuple else map (joined a) (groups q (p / q) tuple)

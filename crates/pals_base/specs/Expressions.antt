@@ -5,7 +5,7 @@ use Rattle.pals_base.specs.declared.values.Frame.{Frame}
 use Rattle.pals_base.specs.declared.behaviour.Op.{Op}
 use Rattle.pals_base.specs.declared.behaviour.Op.TheVariants.{Add, Sub, Mul, Quot, Mod, Rem, Eq, Ne, Lt, Le, Gt, Ge, And, Or, Xor, AndThen, OrElse}
 use Rattle.pals_base.specs.Arithmetic.{sum_of, difference_of, product_of, quotient_of, remainder_of, modulus_of, negation_of, magnitude_of}
-use Rattle.pals_base.specs.Tree.{Expression, Literal, Variable, PortValue, Fresh, Neg, Abs, Not, Chain, Operands, NoMore, Then}
+use Rattle.pals_base.specs.Tree.{Expression, Literal, Variable, PortRead, Fresh, Neg, Abs, Not, Chain, Operands, NoMore, Then}
 
 -- goes on with a value; the first trap is the answer
 abbrev pub on_value : {A B : Type 0} → Result A Trap → (A → Result B Trap) → Result B Trap
@@ -56,7 +56,7 @@ abbrev mutual
   pub eval : Expression → Frame → List Bool → Result ℤ Trap
   eval (Literal n) frame fresh = Ok n
   eval (Variable x) frame fresh = Ok (slice_index_or frame.vars x (pos 0))
-  eval (PortValue p) frame fresh = Ok (slice_index_or frame.held p (pos 0))
+  eval (PortRead p) frame fresh = Ok (slice_index_or frame.held p (pos 0))
   eval (Fresh p) frame fresh = Ok (truth (slice_index_or fresh p false))
   eval (Neg e) frame fresh = on_value (eval e frame fresh) negation_of
   eval (Abs e) frame fresh = on_value (eval e frame fresh) magnitude_of

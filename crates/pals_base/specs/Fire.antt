@@ -2,8 +2,8 @@
 use Rattle.std.specs.Prelude.{◌≡◌, IsTrue, ℕ, zero, suc, nat_eq, ℤ, pos, Bool, true, false, if◌then◌else◌, List, [], ◌∷◌, length, map, replicate, filter, find, Option, Some, None, Result, Ok, Err, slice_get}
 use Rattle.pals_base.specs.declared.values.Trap.{Trap}
 use Rattle.pals_base.specs.declared.values.Frame.{Frame}
-use Rattle.pals_base.specs.declared.values.Port.{Port}
-use Rattle.pals_base.specs.declared.values.Port.TheVariants.{Absent, Present}
+use Rattle.pals_base.specs.declared.values.PortValue.{PortValue}
+use Rattle.pals_base.specs.declared.values.PortValue.TheVariants.{Absent, Present}
 use Rattle.pals_base.specs.declared.behaviour.BehaviourParts.{BehaviourParts}
 use Rattle.pals_base.specs.declared.behaviour.StateDecl.{StateDecl}
 use Rattle.pals_base.specs.declared.behaviour.VarDecl.{VarDecl}
@@ -13,22 +13,22 @@ use Rattle.pals_base.specs.Tree.{Edge, Trigger, Dispatch, Always, When}
 
 -- ---- inputs
 -- the value of a present input, else the one held before
-abbrev pub held_of : ℤ → Port → ℤ
+abbrev pub held_of : ℤ → PortValue → ℤ
 held_of before Absent = before
 held_of before (Present v) = v
 
 -- holds each present input
-abbrev pub holding : List ℤ → List Port → List ℤ
+abbrev pub holding : List ℤ → List PortValue → List ℤ
 holding [] inputs = []
 holding (v ∷ held) [] = v ∷ held
 holding (v ∷ held) (input ∷ inputs) = held_of v input ∷ holding held inputs
 
-abbrev pub is_present : Port → Bool
+abbrev pub is_present : PortValue → Bool
 is_present Absent = false
 is_present (Present v) = true
 
 -- no value on any out port
-abbrev pub silence : BehaviourParts → List Port
+abbrev pub silence : BehaviourParts → List PortValue
 silence b = replicate (length b.outs) Absent
 
 -- ---- transitions
@@ -69,7 +69,7 @@ first_open (e ∷ es) frame fresh = on_value (opens e.trigger frame fresh) (λ o
 -- a frame, and what the out ports have
 pub record Fired : Type 0 where
   pub frame : Frame
-  pub outs : List Port
+  pub outs : List PortValue
 
 -- goes along a transition, if there is one
 abbrev pub along : Option Edge → List Bool → Fired → Result Fired Trap
@@ -102,7 +102,7 @@ unless_halted b held None reacted = outcome b held reacted
 unless_halted b held (Some trap) reacted = record { frame = held; outs = silence b }
 
 -- one step at these inputs
-unfoldable pub fire : BehaviourParts → Frame → List Port → Fired
+unfoldable pub fire : BehaviourParts → Frame → List PortValue → Fired
 fire b frame inputs =
     let held : Frame = record frame { held = holding frame.held inputs } in
     unless_halted b held frame.halt (reaction b (map is_present inputs) held)

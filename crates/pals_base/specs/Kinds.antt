@@ -4,11 +4,11 @@ use Rattle.pals_base.specs.declared.behaviour.Op.{Op}
 use Rattle.pals_base.specs.declared.behaviour.Op.TheVariants.{Add, Sub, Mul, Quot, Mod, Rem, Eq, Ne, Lt, Le, Gt, Ge, And, Or, Xor, AndThen, OrElse}
 use Rattle.pals_base.specs.declared.behaviour.Kind.{Kind}
 use Rattle.pals_base.specs.declared.behaviour.Kind.TheVariants.{Integer, Boolean}
-use Rattle.pals_base.specs.declared.behaviour.Named.{Named}
+use Rattle.pals_base.specs.declared.behaviour.PortDecl.{PortDecl}
 use Rattle.pals_base.specs.declared.behaviour.VarDecl.{VarDecl}
 use Rattle.pals_base.specs.declared.behaviour.BehaviourParts.{BehaviourParts}
 use Rattle.pals_base.specs.declared.kinds.Kinds.{Kinds}
-use Rattle.pals_base.specs.Tree.{Expression, Literal, Variable, PortValue, Fresh, Neg, Abs, Not, Chain, Operands, NoMore, Then, Action, Assign, Emit, If, For, Actions, Nothing, Do, Branches, NoBranch, Where}
+use Rattle.pals_base.specs.Tree.{Expression, Literal, Variable, PortRead, Fresh, Neg, Abs, Not, Chain, Operands, NoMore, Then, Action, Assign, Emit, If, For, Actions, Nothing, Do, Branches, NoBranch, Where}
 use Rattle.pals_base.specs.Expressions.{same_number}
 use Rattle.pals_base.specs.Actions.{count_of}
 use Rattle.pals_base.specs.declared.limits.TheConstants.{TURNS, NESTED_TURNS}
@@ -31,7 +31,7 @@ abbrev pub literal_kinds : ℤ → Kinds
 literal_kinds n = may_be true (same_number n (pos 0) || same_number n (pos 1))
 
 -- ---- names
-abbrev pub port_kinds : Option Named → Kinds
+abbrev pub port_kinds : Option PortDecl → Kinds
 port_kinds None = may_be false false
 port_kinds (Some port) = only port.kind
 
@@ -76,7 +76,7 @@ abbrev mutual
   pub kinds_of : Expression → BehaviourParts → ℕ → Kinds
   kinds_of (Literal n) b loops = literal_kinds n
   kinds_of (Variable x) b loops = variable_kinds b loops x
-  kinds_of (PortValue p) b loops = port_kinds (slice_get b.ins p)
+  kinds_of (PortRead p) b loops = port_kinds (slice_get b.ins p)
   kinds_of (Fresh p) b loops = may_be false (nat_lt p (length b.ins))
   kinds_of (Neg e) b loops = may_be (kinds_of e b loops).integer false
   kinds_of (Abs e) b loops = may_be (kinds_of e b loops).integer false
@@ -93,7 +93,7 @@ abbrev pub suits_variable : Option VarDecl → Kinds → Bool
 suits_variable None kinds = false
 suits_variable (Some v) kinds = allows kinds v.kind
 
-abbrev pub suits_port : Option Named → Kinds → Bool
+abbrev pub suits_port : Option PortDecl → Kinds → Bool
 suits_port None kinds = false
 suits_port (Some port) kinds = allows kinds port.kind
 

@@ -4,7 +4,7 @@ use Rattle.std.specs.List.{list_all, Contains}
 use Rattle.pals_base.specs.declared.behaviour.BehaviourParts.{BehaviourParts}
 use Rattle.pals_base.specs.declared.behaviour.StateDecl.{StateDecl}
 use Rattle.pals_base.specs.declared.behaviour.VarDecl.{VarDecl}
-use Rattle.pals_base.specs.declared.behaviour.Named.{Named}
+use Rattle.pals_base.specs.declared.behaviour.PortDecl.{PortDecl}
 use Rattle.pals_base.specs.Names.{is_word, AreDistinct}
 use Rattle.pals_base.specs.Tree.{Edge, Trigger, Dispatch, Always, When}
 use Rattle.pals_base.specs.Kinds.{allows, literal_kinds, kinds_of, are_sound}
@@ -14,7 +14,7 @@ use Rattle.pals_base.specs.Steps.{upwards}
 -- ---- names
 -- the names of a thread's ports and variables
 abbrev pub value_names : BehaviourParts → List (List ℕ)
-value_names b = map (λ (port : Named). port.name) b.ins ++ map (λ (port : Named). port.name) b.outs ++ map (λ (v : VarDecl). v.name) b.vars
+value_names b = map (λ (port : PortDecl). port.name) b.ins ++ map (λ (port : PortDecl). port.name) b.outs ++ map (λ (v : VarDecl). v.name) b.vars
 
 abbrev pub has_word : StateDecl → Bool
 has_word s = is_word s.name

@@ -6,7 +6,7 @@ mutual
   pub data Expression : Type 0 where
     Literal : ℤ → Expression
     Variable : ℕ → Expression
-    PortValue : ℕ → Expression
+    PortRead : ℕ → Expression
     Fresh : ℕ → Expression
     Neg : Expression → Expression
     Abs : Expression → Expression

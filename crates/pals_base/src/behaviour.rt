@@ -16,7 +16,7 @@ pub enum Kind {
 
 /// A port: its name and its type.
 #[derive(Drop)]
-pub struct Named {
+pub struct PortDecl {
     pub name: Text,
     pub kind: Kind,
 }
@@ -191,8 +191,8 @@ impl Model for Transition {
 /// The parts of a behaviour: its ports, variables and states, the number of its initial state, and
 /// the transitions in the text's order.
 pub struct BehaviourParts {
-    pub ins: Items<Named>,
-    pub outs: Items<Named>,
+    pub ins: Items<PortDecl>,
+    pub outs: Items<PortDecl>,
     pub vars: Items<VarDecl>,
     pub states: Items<StateDecl>,
     pub initial: u32,
@@ -268,7 +268,7 @@ impl Behaviour {
     }
 
     /// The in ports, by their numbers.
-    pub fn ins(&self) -> &[Named]
+    pub fn ins(&self) -> &[PortDecl]
         ensures value { result.now ≡ self.now.ins }
         ensures len { length result.now ≡ length self.now.ins }
     {
@@ -276,7 +276,7 @@ impl Behaviour {
     }
 
     /// The out ports, by their numbers.
-    pub fn outs(&self) -> &[Named]
+    pub fn outs(&self) -> &[PortDecl]
         ensures value { result.now ≡ self.now.outs }
         ensures len { length result.now ≡ length self.now.outs }
     {

@@ -3,7 +3,7 @@ ghost use Rattle.std.specs.Prelude.{◌≡◌, option_copied};
 ghost use Rattle.pals_base.specs.proof.Seen.{tree_of, operands_along};
 ghost use Rattle.pals_base.specs.Kinds.{may_be, only, allows, literal_kinds, port_kinds, variable_kinds, joined, kinds_of, kinds_along};
 
-use crate::behaviour::{BehaviourParts, Expr, Kind, Named, Op, Operand};
+use crate::behaviour::{BehaviourParts, Expr, Kind, PortDecl, Op, Operand};
 
 /// The types that a value may have: none where an expression is not well typed, and both for a
 /// number that may stand for a truth value.
@@ -38,7 +38,7 @@ impl Kinds {
     }
 
     // Those of a port, none where there is no such port.
-    fn of_port(port: Option<&Named>) -> Kinds
+    fn of_port(port: Option<&PortDecl>) -> Kinds
         ensures { result ≡ port_kinds (option_copied port.entry) }
     {
         match port {

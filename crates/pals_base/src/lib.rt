@@ -21,7 +21,7 @@ pub mod values;
 
 pub use arithmetic::{abs, add, modulo, mul, neg, quot, rem, sub};
 pub use behaviour::{
-    Act, Behaviour, BehaviourParts, Branch, Expr, Guard, Kind, Named, Op, Operand, StateDecl,
+    Act, Behaviour, BehaviourParts, Branch, Expr, Guard, Kind, PortDecl, Op, Operand, StateDecl,
     Transition, VarDecl,
 };
 pub use copy::TryClone;
@@ -30,4 +30,4 @@ pub use kinds::Kinds;
 pub use names::HasName;
 pub use same::Same;
 pub use text::Text;
-pub use values::{Adaptor, Frame, Gamma, LinkNo, Nanos, NoMemory, NodeNo, Port, Trap, Tuple};
+pub use values::{Adaptor, Frame, Gamma, LinkNo, Nanos, NoMemory, NodeNo, PortValue, Trap, Tuple};

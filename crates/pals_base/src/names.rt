@@ -3,7 +3,7 @@ ghost use Rattle.std.specs.Prelude.{◌≡◌, ◌≢◌, ◌++◌, ◌↔◌, I
 ghost use Rattle.std.specs.List.{list_all};
 ghost use Rattle.pals_base.specs.Names.{is_letter, is_word_byte, is_led_by_letter, is_word};
 
-use crate::behaviour::{Named, StateDecl, VarDecl};
+use crate::behaviour::{PortDecl, StateDecl, VarDecl};
 use crate::copy::TryClone;
 use crate::items::Items;
 use crate::limits::NAME_BYTES;
@@ -111,7 +111,7 @@ pub fn add_names<T: HasName>(
     Ok(())
 }
 
-impl HasName for Named {
+impl HasName for PortDecl {
     ghost name_of = { λ port. port.name };
 
     fn name(&self) -> &Text {

@@ -1,20 +1,20 @@
 //! Tuples: the values of a port over the steps of a round.
 ghost use Rattle.std.specs.Prelude.{◌≡◌, IfOk, replicate, slice_index_or};
-ghost use Rattle.pals_base.specs.declared.values.Port.TheVariants.{Absent};
+ghost use Rattle.pals_base.specs.declared.values.PortValue.TheVariants.{Absent};
 ghost use Rattle.pals_base.specs.Steps.{column, cut};
 
 use crate::items::Items;
-use crate::values::{NoMemory, Port, Tuple};
+use crate::values::{NoMemory, PortValue, Tuple};
 use std::alloc::Global;
 
 /// The place with a number, from 0, absent past the end.
-pub fn place(tuple: &[Port], at: usize) -> Port
+pub fn place(tuple: &[PortValue], at: usize) -> PortValue
     ensures { result ≡ slice_index_or tuple.now at Absent }
 {
     if at < tuple.len() {
         tuple[at]
     } else {
-        Port::Absent
+        PortValue::Absent
     }
 }
 
@@ -22,18 +22,18 @@ pub fn place(tuple: &[Port], at: usize) -> Port
 pub fn absent(alloc: Global, places: usize) -> Result<Tuple, NoMemory>
     ensures { IfOk result (λ tuple. tuple ≡ replicate places Absent) }
 {
-    Ok(Items::from_vec(vec![in alloc; Port::Absent; places]?))
+    Ok(Items::from_vec(vec![in alloc; PortValue::Absent; places]?))
 }
 
 /// A tuple with every place after its first `count` absent.
-pub fn cut(alloc: Global, count: usize, tuple: &[Port]) -> Result<Tuple, NoMemory>
+pub fn cut(alloc: Global, count: usize, tuple: &[PortValue]) -> Result<Tuple, NoMemory>
     ensures { IfOk result (λ t. t ≡ cut count tuple.now) }
 {
     if count >= tuple.len() {
         return Items::from_slice(alloc, tuple);
     }
     let mut places = Vec::from_slice(alloc, &tuple[..count])?;
-    let late: Vec<Port> = vec![in alloc; Port::Absent; tuple.len() - count]?;
+    let late: Vec<PortValue> = vec![in alloc; PortValue::Absent; tuple.len() - count]?;
     places.extend_from_slice(late.as_slice())?;
     Ok(Items::from_vec(places))
 }

@@ -10,13 +10,13 @@ pub type Nanos = u64;
 
 /// What a port has in one step: nothing, or a number. False is 0, and true is 1.
 #[derive(Clone, Copy, PartialEq, Debug)]
-pub enum Port {
+pub enum PortValue {
     Absent,
     Present(i64),
 }
 
 /// The values of a port over the steps of a round.
-pub type Tuple = Items<Port>;
+pub type Tuple = Items<PortValue>;
 
 /// The number of a component, in the design's order, from 0.
 #[derive(Clone, Copy, PartialEq, Debug)]

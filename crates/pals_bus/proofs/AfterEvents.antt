@@ -2,7 +2,7 @@
 use Rattle.std.proofs.Common.{◌≡◌, ℕ, ◌-◌, ◌<◌, ◌≤◌, true, false, List, [], length, min, Option, Some, None, refl, ap, arith}
 use Rattle.std.specs.Prelude.{is_some, option_map, slice_index_or}
 use Rattle.pals_base.specs.declared.limits.TheConstants.{HOUR}
-use Rattle.pals_base.specs.declared.values.Port.{Port}
+use Rattle.pals_base.specs.declared.values.PortValue.{PortValue}
 use Rattle.pals_base.specs.declared.values.NodeNo.{NodeNo}
 use Rattle.pals_model.specs.declared.rounds.Delays.{Delays}
 use Rattle.pals_model.specs.declared.flight.FlightCopy.{FlightCopy}
@@ -69,12 +69,12 @@ finish_after run s node step is =
     (λ k. with_node s node.0 (finished (plan_of run.design node.0) run.rounds k (node_at s node.0)))) is
 
 -- ---- messages
-pub taken_flies : (o : Option FlightCopy) (tuple : List Port) → option_map (λ (c : FlightCopy). c.tuple) o ≡ Some tuple
+pub taken_flies : (o : Option FlightCopy) (tuple : List PortValue) → option_map (λ (c : FlightCopy). c.tuple) o ≡ Some tuple
     → is_some o ≡ true
 taken_flies None tuple is = absurd (cc)
 taken_flies (Some copy) tuple is = refl
 
-pub taken_is : (o : Option FlightCopy) (tuple : List Port) → option_map (λ (c : FlightCopy). c.tuple) o ≡ Some tuple
+pub taken_is : (o : Option FlightCopy) (tuple : List PortValue) → option_map (λ (c : FlightCopy). c.tuple) o ≡ Some tuple
     → tuple_in o ≡ tuple
 taken_is None tuple is = absurd (cc)
 taken_is (Some copy) tuple is = cc

@@ -3,7 +3,7 @@ use Rattle.std.proofs.Common.{◌≡◌, ◌∙◌, ℕ, suc, ◌+◌, ◌<◌, 
 use Rattle.std.specs.Prelude.{option_map, slice_set, slice_index_or, slice_get, sum_by, if◌then◌else◌, vec_capacity}
 use Rattle.std.specs.Arc.{arc_value}
 use Rattle.std.proofs.lemmas.List.Sums.{sum_by-set}
-use Rattle.pals_base.specs.declared.values.Port.{Port}
+use Rattle.pals_base.specs.declared.values.PortValue.{PortValue}
 use Rattle.pals_base.specs.declared.values.LinkNo.{LinkNo}
 use Rattle.pals_model.specs.declared.design.Component.{Component}
 use Rattle.pals_model.specs.declared.flight.FlightCopy.{FlightCopy}
@@ -24,7 +24,7 @@ use Rattle.pals_node.specs.proof.Values.{NodeValue, with_state}
 use Rattle.pals_bus.specs.declared.fields.Fields.{Fields}
 use Rattle.pals_bus.specs.proof.Values.{node_value}
 use Rattle.pals_bus.specs.Values.{Happens}
-use Rattle.pals_bus.specs.proof.Keeping.{Keeps, owed, run_of, state_of, value_of, copies_in}
+use Rattle.pals_bus.specs.proof.BusInvariant.{Keeps, owed, run_of, state_of, value_of, copies_in}
 use Rattle.pals_bus.specs.proof.Absent.{no_flight, no_node_value}
 use Rattle.pals_bus.specs.proof.NodeLists.{node_of}
 use Rattle.pals_bus.proofs.NodeChanges.{nodes-set, node_is, same_node}
@@ -53,23 +53,23 @@ has_slot f link keeps within =
     (keeps.design.links.each link no_link within).target.port_is
 
 -- ---- what an arrival leaves of a node
-message_kept : (n : NodeState) (port : ℕ) (tuple : List Port) (a : Arrived)
+message_kept : (n : NodeState) (port : ℕ) (tuple : List PortValue) (a : Arrived)
     → ((with_message n port tuple a).sent ≡ n.sent) × ((with_message n port tuple a).phase ≡ n.phase)
 message_kept n port tuple Kept = (refl, refl)
 message_kept n port tuple Ignored = (refl, refl)
 message_kept n port tuple Early = (refl, refl)
 
-received_sent : (n : NodeState) (port round : ℕ) (tuple : List Port) → (received n port round tuple).sent ≡ n.sent
+received_sent : (n : NodeState) (port round : ℕ) (tuple : List PortValue) → (received n port round tuple).sent ≡ n.sent
 received_sent n port round tuple = (message_kept n port tuple (arrived n port round)).0
 
-owed_same : (n m : NodeValue) (port round : ℕ) (tuple : List Port) → m.state ≡ received n.state port round tuple
+owed_same : (n m : NodeValue) (port round : ℕ) (tuple : List PortValue) → m.state ≡ received n.state port round tuple
     → owed m ≡ owed n
 owed_same n m port round tuple is =
     let kept = message_kept n.state port tuple (arrived n.state port round) in
     ap₂ (λ p b. (if is_some (running_step p) then 1 else 0) + (if b then 0 else 1))
     (ap (λ (s : NodeState). s.phase) is ∙ kept.1) (ap (λ (s : NodeState). s.sent) is ∙ kept.0)
 
-pub owed_arrived : (f : Fields) (node : ℕ) (m : NodeValue) (port round : ℕ) (tuple : List Port) → Keeps f
+pub owed_arrived : (f : Fields) (node : ℕ) (m : NodeValue) (port round : ℕ) (tuple : List PortValue) → Keeps f
     → node < length f.nodes
     → m ≡ with_state (node_value (value_of f) node) (received (node_at (state_of f) node) port round tuple)
     → sum_by owed (slice_set f.nodes node m) ≡ sum_by owed f.nodes
@@ -81,19 +81,19 @@ owed_arrived f node m port round tuple keeps within is =
     omega (arith, all, same)
 
 -- ---- Arrive
-tuple_there : (o : Option FlightCopy) (tuple : List Port)
+tuple_there : (o : Option FlightCopy) (tuple : List PortValue)
     → Some tuple ≡ option_map (λ (copy : FlightCopy). copy.tuple) o → tuple ≡ tuple_in o
 tuple_there None tuple is = absurd (cc)
 tuple_there (Some copy) tuple is = cc
 
-tuple_is : (f t : Fields) (link : LinkNo) (round : ℕ) (tuple : List Port) → Takes f t link round (Some tuple)
+tuple_is : (f t : Fields) (link : LinkNo) (round : ℕ) (tuple : List PortValue) → Takes f t link round (Some tuple)
     → tuple ≡ arriving round (flight_at (state_of f) link.0)
 tuple_is f t link round tuple takes =
     tuple_there (oldest round (slice_index_or f.flights link.0 no_flight).copies) tuple takes.taken
     ∙ ap (λ (copies : List FlightCopy). arriving round copies) (sym (flight_is f.flights link.0))
 
 -- a message was taken, and came to its target
-pub record Comes (f t g : Fields) (link : LinkNo) (round : ℕ) (reading : Option ℕ) (tuple : List Port)
+pub record Comes (f t g : Fields) (link : LinkNo) (round : ℕ) (reading : Option ℕ) (tuple : List PortValue)
     (m : NodeValue) : Type 0 where
   pub takes : Takes f t link round (Some tuple)
   pub node :
@@ -120,7 +120,7 @@ come f t g target m =
       journal = g.journal;
     }
 
-come_is : (f t g : Fields) (link : LinkNo) (round : ℕ) (reading : Option ℕ) (tuple : List Port) (m : NodeValue)
+come_is : (f t g : Fields) (link : LinkNo) (round : ℕ) (reading : Option ℕ) (tuple : List PortValue) (m : NodeValue)
     → Comes f t g link round reading tuple m
     → g ≡ come f t g (slice_index_or (arc_value f.design).links link.0 no_link).target.0 m
 come_is f t g link round reading tuple m comes =
@@ -128,7 +128,7 @@ come_is f t g link round reading tuple m comes =
     comes.others ∙ ap (λ (k : Fields). let u : Fields =
     record k { nodes = slice_set k.nodes target m; stop = g.stop; journal = g.journal } in u) comes.takes.others
 
-pub arrive_happens : (f t g : Fields) (link : LinkNo) (round : ℕ) (reading : Option ℕ) (tuple : List Port)
+pub arrive_happens : (f t g : Fields) (link : LinkNo) (round : ℕ) (reading : Option ℕ) (tuple : List PortValue)
     (m : NodeValue) → Keeps f → f.stop ≡ None → link.0 < length (arc_value f.design).links
     → Comes f t g link round reading tuple m
     → Happens (value_of f) (Arrive link round reading) (value_of g)
@@ -142,7 +142,7 @@ arrive_happens f t g link round reading tuple m keeps going within comes =
     let count = keeps.nodes.count in
     let there = target_within (arc_value f.design) link.0 keeps.design within in
     let node : m ≡ with_state (node_value (value_of f) target) n =
-    comes.node ∙ ap (λ (ports : List Port).
+    comes.node ∙ ap (λ (ports : List PortValue).
     with_state (node_value (value_of f) target) (received (node_at s target) the_link.in_port round ports))
     (tuple_is f t link round tuple comes.takes) in
     let copies = slice_set (copies_in f.flights) link.0 (without_oldest round flight) in
@@ -158,7 +158,7 @@ one_stop : (o : Option Stop) → length (stop_entry o) ≤ 1
 one_stop None = omega arith
 one_stop (Some why) = omega arith
 
-pub arrive_keeps_bus : (f t g : Fields) (link : LinkNo) (round : ℕ) (reading : Option ℕ) (tuple : List Port)
+pub arrive_keeps_bus : (f t g : Fields) (link : LinkNo) (round : ℕ) (reading : Option ℕ) (tuple : List PortValue)
     (m : NodeValue) → Keeps f → link.0 < length (arc_value f.design).links → Comes f t g link round reading tuple m
     → Happens (value_of f) (Arrive link round reading) (value_of g)
     → length f.journal.items + sum_by owed f.nodes + 2 ≤ vec_capacity g.journal → Keeps g
@@ -212,12 +212,12 @@ arrive_keeps_bus f t g link round reading tuple m keeps within comes happens roo
     subst Keeps (sym is) all
 
 -- ---- the calls of an arrival
-abbrev pub node_after : List NodeValue → ℕ → ℕ → ℕ → List Port → NodeValue
+abbrev pub node_after : List NodeValue → ℕ → ℕ → ℕ → List PortValue → NodeValue
 node_after nodes target port round tuple =
     with_state (node_of nodes target) (received (node_of nodes target).state port round tuple)
 
 -- the node that a message comes to is there
-pub reached_within : (f t : Fields) (link : LinkNo) (round : ℕ) (tuple : Option (List Port)) (target : ℕ) → Keeps f
+pub reached_within : (f t : Fields) (link : LinkNo) (round : ℕ) (tuple : Option (List PortValue)) (target : ℕ) → Keeps f
     → link.0 < length (arc_value f.design).links → Takes f t link round tuple
     → target ≡ (slice_index_or (arc_value f.design).links link.0 no_link).target.0 → target < length t.nodes
 reached_within f t link round tuple target keeps within takes target_is =
@@ -227,7 +227,7 @@ reached_within f t link round tuple target keeps within takes target_is =
     omega (arith, nodes, count, there, target_is)
 
 -- the node, as it stands then
-node_reached : (f t : Fields) (link : LinkNo) (round : ℕ) (tuple : Option (List Port)) (target : ℕ) → Keeps f
+node_reached : (f t : Fields) (link : LinkNo) (round : ℕ) (tuple : Option (List PortValue)) (target : ℕ) → Keeps f
     → link.0 < length (arc_value f.design).links → Takes f t link round tuple
     → target ≡ (slice_index_or (arc_value f.design).links link.0 no_link).target.0
     → node_of t.nodes target
@@ -240,7 +240,7 @@ node_reached f t link round tuple target keeps within takes target_is =
     ap₂ (λ (ns : List NodeValue) (k : ℕ). node_of ns k) nodes target_is
     ∙ node_is f goal keeps (omega (arith, count, there))
 
-pub slot_reached : (f t : Fields) (link : LinkNo) (round : ℕ) (tuple : Option (List Port)) (target port : ℕ) → Keeps f
+pub slot_reached : (f t : Fields) (link : LinkNo) (round : ℕ) (tuple : Option (List PortValue)) (target port : ℕ) → Keeps f
     → link.0 < length (arc_value f.design).links → Takes f t link round tuple
     → target ≡ (slice_index_or (arc_value f.design).links link.0 no_link).target.0
     → port ≡ (slice_index_or (arc_value f.design).links link.0 no_link).in_port
@@ -252,7 +252,7 @@ slot_reached f t link round tuple target port keeps within takes target_is port_
     omega (arith, slots, room, port_is)
 
 -- what the node answers is what the machine says
-pub arrival_is : (f t : Fields) (link : LinkNo) (round : ℕ) (tuple : Option (List Port)) (target port : ℕ)
+pub arrival_is : (f t : Fields) (link : LinkNo) (round : ℕ) (tuple : Option (List PortValue)) (target port : ℕ)
     (result : Arrived) → Keeps f → link.0 < length (arc_value f.design).links → Takes f t link round tuple
     → target ≡ (slice_index_or (arc_value f.design).links link.0 no_link).target.0
     → port ≡ (slice_index_or (arc_value f.design).links link.0 no_link).in_port
@@ -262,7 +262,7 @@ arrival_is f t link round tuple target port result keeps within takes target_is 
     answers ∙ ap₂ (λ (k : NodeValue) (p : ℕ). arrived k.state p round)
     (node_reached f t link round tuple target keeps within takes target_is) port_is
 
-pub comes_by : (f t g : Fields) (link : LinkNo) (round : ℕ) (reading : Option ℕ) (tuple : List Port) (target port : ℕ)
+pub comes_by : (f t g : Fields) (link : LinkNo) (round : ℕ) (reading : Option ℕ) (tuple : List PortValue) (target port : ℕ)
     (result : Arrived) (first : List JournalEntry) → Keeps f → link.0 < length (arc_value f.design).links
     → Takes f t link round (Some tuple) → target ≡ (slice_index_or (arc_value f.design).links link.0 no_link).target.0
     → port ≡ (slice_index_or (arc_value f.design).links link.0 no_link).in_port

@@ -15,7 +15,7 @@ use Rattle.bus_machine.specs.States.{no_link, node_at}
 use Rattle.bus_machine.specs.Stops.{cause_of, rounds_sent_on, sent_rounds}
 use Rattle.pals_node.specs.proof.Values.{NodeValue}
 use Rattle.pals_bus.specs.declared.fields.Fields.{Fields}
-use Rattle.pals_bus.specs.proof.Keeping.{Keeps, copies_in, copies_in_option, run_of, state_of}
+use Rattle.pals_bus.specs.proof.BusInvariant.{Keeps, copies_in, copies_in_option, run_of, state_of}
 use Rattle.pals_bus.proofs.NodeChanges.{node_here}
 
 -- the source of a link, or of none, is a node

@@ -20,7 +20,7 @@ use Rattle.bus_machine.specs.States.{flight_at, link_at, no_link}
 use Rattle.pals_model.specs.Flights.{is_of}
 use Rattle.pals_bus.specs.declared.fields.Fields.{Fields}
 use Rattle.pals_bus.specs.Values.{BusValue}
-use Rattle.pals_bus.specs.proof.Keeping.{Keeps, value_of}
+use Rattle.pals_bus.specs.proof.BusInvariant.{Keeps, value_of}
 use Rattle.pals_bus.specs.proof.Absent.{no_queue}
 use Rattle.pals_bus.specs.proof.Queues.{AreDueEntries, comes_first, is_copy_of}
 use Rattle.pals_bus.specs.proof.Due.{IsDueTo, HasDue, AreLeft, flying}

@@ -14,7 +14,7 @@ use Rattle.bus_machine.specs.Machine.{Arrive, arrival, early_stop}
 use Rattle.bus_machine.specs.Replay.{entries, stop_entry}
 use Rattle.pals_bus.specs.declared.fields.Fields.{Fields}
 use Rattle.pals_bus.specs.Values.{BusValue, Happens}
-use Rattle.pals_bus.specs.proof.Keeping.{Keeps, owed, run_of, state_of, value_of}
+use Rattle.pals_bus.specs.proof.BusInvariant.{Keeps, owed, run_of, state_of, value_of}
 use Rattle.pals_bus.specs.proof.Queues.{is_copy_of}
 use Rattle.pals_bus.specs.proof.Due.{TakesDue, takes_next, AreLeft}
 use Rattle.pals_bus.proofs.SameDues.{SameDue, same_dues}

@@ -14,7 +14,7 @@ use Rattle.pals_node.specs.proof.Values.{NodeValue, with_state}
 use Rattle.pals_bus.specs.declared.fields.Fields.{Fields}
 use Rattle.pals_bus.specs.Values.{BusValue, Happens}
 use Rattle.pals_bus.specs.proof.Values.{codes_in, node_value}
-use Rattle.pals_bus.specs.proof.Keeping.{AreNodes, HasRooms, Keeps, copies_in, owed, run_of, state_of, value_of}
+use Rattle.pals_bus.specs.proof.BusInvariant.{AreNodes, HasRooms, Keeps, copies_in, owed, run_of, state_of, value_of}
 use Rattle.pals_bus.specs.proof.Sending.{NoLessRoom}
 use Rattle.pals_bus.specs.proof.Queues.{AreQueues}
 use Rattle.pals_bus.proofs.NodeChanges.{states, states-set, codes-set, same_node}

@@ -23,7 +23,7 @@ use Rattle.bus_machine.proofs.Nodes.{finish_keeps}
 use Rattle.pals_node.specs.proof.Values.{Program, NodeValue, with_state}
 use Rattle.pals_bus.specs.declared.fields.Fields.{Fields}
 use Rattle.pals_bus.specs.proof.Values.{AreCodes, codes_in, no_code, code_at, node_value}
-use Rattle.pals_bus.specs.proof.Keeping.{IsNodeOf, AreNodes, Keeps, owed, value_of}
+use Rattle.pals_bus.specs.proof.BusInvariant.{IsNodeOf, AreNodes, Keeps, owed, value_of}
 use Rattle.pals_bus.specs.proof.Absent.{no_node_value}
 
 abbrev pub states : List NodeValue → List NodeState

@@ -2,7 +2,7 @@
 use Rattle.std.proofs.Common.{◌≡◌, ◌∙◌, ℕ, ◌+◌, ◌<◌, ◌≤◌, List, [], ◌∷◌, ◌++◌, length, Option, Some, None, sym, ap, subst, arith}
 use Rattle.std.specs.Prelude.{sum_by, slice_set, vec_capacity}
 use Rattle.std.specs.Arc.{arc_value}
-use Rattle.pals_base.specs.declared.values.Port.{Port}
+use Rattle.pals_base.specs.declared.values.PortValue.{PortValue}
 use Rattle.pals_base.specs.declared.values.NodeNo.{NodeNo}
 use Rattle.pals_model.specs.Inputs.{values_at}
 use Rattle.pals_runs.specs.declared.journal.JournalEntry.TheVariants as entry
@@ -21,7 +21,7 @@ use Rattle.pals_bus.specs.declared.fields.Fields.{Fields}
 use Rattle.pals_bus.specs.Values.{BusValue, Happens}
 use Rattle.pals_bus.specs.proof.Values.{node_value}
 use Rattle.pals_bus.specs.proof.Answers.{Going, StartsRound, MissesMessage, StepsOn, FinishesStep, SendsRound}
-use Rattle.pals_bus.specs.proof.Keeping.{Keeps, owed, node_in, copies_in, run_of, state_of, value_of}
+use Rattle.pals_bus.specs.proof.BusInvariant.{Keeps, owed, node_in, copies_in, run_of, state_of, value_of}
 use Rattle.pals_bus.specs.proof.Sending.{HasRoomFor, AreSent}
 use Rattle.pals_bus.specs.proof.NodeLists.{node_of}
 use Rattle.pals_bus.specs.proof.Queues.{AreQueues, AreQueuesAmid, HasQueueRoomFor}
@@ -126,7 +126,7 @@ is_ready v old f h node round shows going within others copies items room round_
   };
 }
 
-pub starts : (v : BusValue) (h g : Fields) (node : NodeNo) (reading : Option ℕ) (round : ℕ) (env : List Port)
+pub starts : (v : BusValue) (h g : Fields) (node : NodeNo) (reading : Option ℕ) (round : ℕ) (env : List PortValue)
     (job : JobValue) → IsReady v h node round → env ≡ h.values.items
     → Starts (node_of h.nodes node.0) env reading (node_in g node.0) job
     → Turned h g node.0 (entry.Start node round reading) → Leaves g (StartsRound v node reading (value_of g) job)
@@ -136,7 +136,7 @@ starts v h g node reading round env job ready env_is says turned =
     let within = node_there v h node.0 stands in
     let told =
     turn_told h node.0 (λ (n : NodeValue). Starts n h.values.items reading m job) stands.keeps within
-    (subst (λ (ports : List Port). Starts (node_of h.nodes node.0) ports reading m job) env_is says) in
+    (subst (λ (ports : List PortValue). Starts (node_of h.nodes node.0) ports reading m job) env_is says) in
     let happens =
     start_happens h g node reading m h.values.items round job stands.keeps stands.going within told ready.round_is
     ready.values turned.same turned.told in
@@ -245,7 +245,7 @@ finish_place v f node step m stands says =
 -- ---- a send
 -- the node is changed, its messages are in flight, and its entry is told
 pub record IsSent (f s g : Fields) (nodes : List NodeValue) (node : NodeNo) (reading : Option ℕ) (round : ℕ)
-    (messages : List (List Port)) : Type 0 where
+    (messages : List (List PortValue)) : Type 0 where
   pub nodes_are : nodes ≡ slice_set f.nodes node.0 (node_of nodes node.0)
   pub flights : AreSent node.0 (arc_value f.design).links f.delays round reading messages
       (length (arc_value f.design).links) f.flights s.flights
@@ -256,7 +256,7 @@ pub record IsSent (f s g : Fields) (nodes : List NodeValue) (node : NodeNo) (rea
   pub capacity : vec_capacity g.journal ≡ vec_capacity s.journal
 
 pub sends : (v : BusValue) (f s g : Fields) (nodes : List NodeValue) (node : NodeNo) (reading : Option ℕ) (round : ℕ)
-    (messages : List (List Port)) → Stands v f node.0
+    (messages : List (List PortValue)) → Stands v f node.0
     → Sends (node_of f.nodes node.0) reading (node_of nodes node.0) messages
     → round ≡ round_of (node_at (state_of f) node.0) → IsSent f s g nodes node reading round messages
     → Leaves g (SendsRound v node reading (value_of g))
@@ -303,7 +303,7 @@ sends v f s g nodes node reading round messages stands says round_is is =
     }
 
 pub send_place : (v : BusValue) (f s : Fields) (nodes : List NodeValue) (node : ℕ) (reading : Option ℕ)
-    (messages : List (List Port)) → Stands v f node → Sends (node_of f.nodes node) reading (node_of nodes node) messages
+    (messages : List (List PortValue)) → Stands v f node → Sends (node_of f.nodes node) reading (node_of nodes node) messages
     → s ≡ record f { nodes = nodes; flights = s.flights; queues = s.queues }
     → length s.journal.items < vec_capacity s.journal
 send_place v f s nodes node reading messages stands says sent =
@@ -317,7 +317,7 @@ send_place v f s nodes node reading messages stands says sent =
 
 -- the queues have room for its messages
 pub send_room : (v : BusValue) (f : Fields) (nodes : List NodeValue) (node : ℕ) (reading : Option ℕ)
-    (messages : List (List Port)) → Stands v f node → Sends (node_of f.nodes node) reading (node_of nodes node) messages
+    (messages : List (List PortValue)) → Stands v f node → Sends (node_of f.nodes node) reading (node_of nodes node) messages
     → nodes ≡ slice_set f.nodes node (node_of nodes node)
     → AreQueuesAmid node 0 (arc_value f.design).links nodes f.flights f.queues
 send_room v f nodes node reading messages stands says are =

@@ -4,7 +4,7 @@ use Rattle.std.specs.Prelude.{option_map, slice_set, slice_index_or}
 use Rattle.std.proofs.Math.Seq.{map-set_same}
 use Rattle.std.proofs.lemmas.List.{map-set, get_or_default}
 use Rattle.std.proofs.lemmas.Grind.{get_or-set_at}
-use Rattle.pals_base.specs.declared.values.Port.{Port}
+use Rattle.pals_base.specs.declared.values.PortValue.{PortValue}
 use Rattle.pals_runs.specs.declared.journal.Arrived.{Arrived}
 use Rattle.pals_runs.specs.declared.journal.Arrived.TheVariants.{Kept, Ignored, Early}
 use Rattle.pals_runs.specs.declared.journal.Phase.{Phase}
@@ -29,7 +29,7 @@ targets_kept nodes targets kept node m are within put =
     ∙ sym (map-set target_of_node nodes node m)
 
 -- ---- a message that comes leaves the target
-same_action : (plan : Plan) (n : NodeState) (slots : List (Option (List Port))) (p : Phase)
+same_action : (plan : Plan) (n : NodeState) (slots : List (Option (List PortValue))) (p : Phase)
     → action_in plan (record n { slots = slots }) p ≡ action_in plan n p
 same_action plan n slots Waiting = refl
 same_action plan n slots (Running step) = refl
@@ -37,7 +37,7 @@ same_action plan n slots (Between steps) = refl
 same_action plan n slots Holding = refl
 same_action plan n slots Done = refl
 
-same_target : (n : NodeValue) (port : ℕ) (tuple : List Port) (a : Arrived)
+same_target : (n : NodeValue) (port : ℕ) (tuple : List PortValue) (a : Arrived)
     → target_of_node (with_state n (with_message n.state port tuple a)) ≡ target_of_node n
 same_target n port tuple Kept =
     ap (option_map (target n.program.plan))
@@ -45,7 +45,7 @@ same_target n port tuple Kept =
 same_target n port tuple Ignored = refl
 same_target n port tuple Early = refl
 
-pub targets_stay : (nodes : List NodeValue) (targets : List (Option ℕ)) (node port round : ℕ) (tuple : List Port)
+pub targets_stay : (nodes : List NodeValue) (targets : List (Option ℕ)) (node port round : ℕ) (tuple : List PortValue)
     (n m : NodeValue) → targets ≡ map target_of_node nodes → node < length nodes → n ≡ slice_index_or nodes node n
     → m ≡ with_state n (received n.state port round tuple) → targets ≡ map target_of_node (slice_set nodes node m)
 targets_stay nodes targets node port round tuple n m are within is comes =

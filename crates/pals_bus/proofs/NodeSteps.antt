@@ -3,7 +3,7 @@ use Rattle.std.proofs.Common.{◌≡◌, ◌∙◌, ℕ, ◌+◌, ◌<◌, ◌�
 use Rattle.std.specs.Prelude.{sum_by, slice_set, slice_index_or, vec_capacity}
 use Rattle.std.specs.Option.{unwrap_or}
 use Rattle.std.specs.Arc.{arc_value}
-use Rattle.pals_base.specs.declared.values.Port.{Port}
+use Rattle.pals_base.specs.declared.values.PortValue.{PortValue}
 use Rattle.pals_base.specs.declared.values.NodeNo.{NodeNo}
 use Rattle.pals_model.specs.Inputs.{values_at}
 use Rattle.pals_runs.specs.declared.journal.JournalEntry.{JournalEntry}
@@ -24,7 +24,7 @@ use Rattle.pals_bus.specs.declared.fields.Fields.{Fields}
 use Rattle.pals_bus.specs.proof.Values.{node_value}
 use Rattle.pals_bus.specs.Values.{Happens}
 use Rattle.pals_bus.specs.proof.Answers.{StartsRound, MissesMessage, StepsOn}
-use Rattle.pals_bus.specs.proof.Keeping.{HasRooms, Keeps, owed, run_of, state_of, value_of, copies_in}
+use Rattle.pals_bus.specs.proof.BusInvariant.{HasRooms, Keeps, owed, run_of, state_of, value_of, copies_in}
 use Rattle.pals_bus.specs.proof.Sending.{HasRoomFor}
 use Rattle.pals_bus.specs.proof.Queues.{AreQueues, HasQueueRoomFor}
 use Rattle.pals_bus.specs.proof.Absent.{no_node_value}
@@ -79,7 +79,7 @@ pub longer : (new old : List JournalEntry) (x : JournalEntry) → new ≡ old ++
 longer new old x is = ap length is ∙ length-append old (x ∷ [])
 
 -- ---- Start
-pub start_happens : (f g : Fields) (node : NodeNo) (reading : Option ℕ) (m : NodeValue) (values : List Port) (round : ℕ)
+pub start_happens : (f g : Fields) (node : NodeNo) (reading : Option ℕ) (m : NodeValue) (values : List PortValue) (round : ℕ)
     (job : JobValue) → Keeps f → f.stop ≡ None → node.0 < length f.nodes
     → Starts (node_value (value_of f) node.0) values reading m job → round ≡ (node_at (state_of f) node.0).count
     → values ≡ values_at f.env round
@@ -92,7 +92,7 @@ start_happens f g node reading m values round job keeps going within starts roun
     let n = node_at s node.0 in
     let plan = plan_of run.design node.0 in
     let all : Starts (node_value (value_of f) node.0) (values_at f.env n.count) reading m job =
-    subst (λ (vs : List Port). Starts (node_value (value_of f) node.0) vs reading m job)
+    subst (λ (vs : List PortValue). Starts (node_value (value_of f) node.0) vs reading m job)
     (values_is ∙ ap (values_at f.env) round_is) starts in
     let tells : g.journal.items ≡ f.journal.items ++ entries run s (Start node reading) =
     told
@@ -109,7 +109,7 @@ start_happens f g node reading m values round job keeps going within starts roun
           (sym (turn_shown f g node.0 m (started plan (values_at f.env n.count) n) keeps within all.state same)) all;
     }
 
-pub start_keeps : (f g : Fields) (node : NodeNo) (reading : Option ℕ) (m : NodeValue) (values : List Port) (round : ℕ)
+pub start_keeps : (f g : Fields) (node : NodeNo) (reading : Option ℕ) (m : NodeValue) (values : List PortValue) (round : ℕ)
     (job : JobValue) → Keeps f → node.0 < length f.nodes → Starts (node_value (value_of f) node.0) values reading m job
     → g ≡ record f { nodes = slice_set f.nodes node.0 m; journal = g.journal }
     → g.journal.items ≡ f.journal.items ++ entry.Start node round reading ∷ []

@@ -9,7 +9,7 @@ use Rattle.bus_machine.specs.Nodes.{NodeState}
 use Rattle.pals_node.specs.proof.Values.{NodeValue, with_state}
 use Rattle.pals_bus.specs.declared.fields.Fields.{Fields}
 use Rattle.pals_bus.specs.proof.Values.{node_value}
-use Rattle.pals_bus.specs.proof.Keeping.{Keeps, node_in, value_of}
+use Rattle.pals_bus.specs.proof.BusInvariant.{Keeps, node_in, value_of}
 use Rattle.pals_bus.specs.proof.Absent.{no_node_value}
 use Rattle.pals_bus.specs.proof.NodeLists.{node_of}
 use Rattle.pals_bus.proofs.NodeChanges.{nodes-set, node_is, node_shown, same_node}

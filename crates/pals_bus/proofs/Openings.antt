@@ -29,7 +29,7 @@ use Rattle.bus_machine.specs.declared.plan.Plan.{Plan}
 use Rattle.pals_node.specs.proof.Values.{NodeValue, Program, program_of, opening_value}
 use Rattle.pals_bus.specs.declared.fields.Fields.{Fields}
 use Rattle.pals_bus.specs.proof.Values.{AreCodes, codes_in, code_at, no_code, opening_bus}
-use Rattle.pals_bus.specs.proof.Keeping.{AreNodes, HasRooms, Keeps, copies_in, owed, run_of, state_of, value_of}
+use Rattle.pals_bus.specs.proof.BusInvariant.{AreNodes, HasRooms, Keeps, copies_in, owed, run_of, state_of, value_of}
 use Rattle.pals_bus.specs.proof.LinksFrom.{AreOutgoing}
 use Rattle.pals_bus.specs.proof.Queues.{AreQueues}
 use Rattle.pals_bus.specs.proof.Absent.{no_flight, no_queue, no_node_value}

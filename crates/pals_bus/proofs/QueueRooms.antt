@@ -20,7 +20,7 @@ use Rattle.link_buffers.specs.proof.Queues.{QueueState, is_entry}
 use Rattle.bus_machine.specs.States.{no_link}
 use Rattle.pals_node.specs.proof.Values.{NodeValue}
 use Rattle.pals_bus.specs.proof.Absent.{no_node_value, no_queue, no_link_no}
-use Rattle.pals_bus.specs.proof.Keeping.{copies_in}
+use Rattle.pals_bus.specs.proof.BusInvariant.{copies_in}
 use Rattle.pals_bus.specs.proof.Queues.{AreQueues, AreQueuesAmid, HasQueueRoomFor, NoLessQueueRoom, entries_in, is_awaited, is_copy_of, is_between}
 use Rattle.pals_bus.proofs.Rooms.{flight_is}
 

@@ -20,7 +20,7 @@ use Rattle.bus_machine.specs.Replay.{Replays, goes_on}
 use Rattle.pals_node.specs.proof.Values.{NodeValue}
 use Rattle.pals_bus.specs.declared.fields.Fields.{Fields}
 use Rattle.pals_bus.specs.Values.{Happens}
-use Rattle.pals_bus.specs.proof.Keeping.{HasRooms, Keeps, owed, run_of, state_of, value_of, copies_in}
+use Rattle.pals_bus.specs.proof.BusInvariant.{HasRooms, Keeps, owed, run_of, state_of, value_of, copies_in}
 use Rattle.pals_bus.specs.proof.Sending.{with_copy}
 use Rattle.pals_bus.specs.proof.Queues.{AreQueues, is_awaited, with_due}
 use Rattle.pals_bus.specs.proof.Absent.{no_flight, no_queue}

@@ -10,7 +10,7 @@ use Rattle.link_buffers.specs.proof.Flights.{FlightState}
 use Rattle.link_buffers.specs.proof.Queues.{QueueState}
 use Rattle.bus_machine.specs.States.{no_link}
 use Rattle.pals_bus.specs.declared.fields.Fields.{Fields}
-use Rattle.pals_bus.specs.proof.Keeping.{Keeps, copies_in}
+use Rattle.pals_bus.specs.proof.BusInvariant.{Keeps, copies_in}
 use Rattle.pals_bus.specs.proof.Sending.{NoLessRoom}
 use Rattle.pals_bus.specs.proof.Queues.{NoLessQueueRoom, entries_in}
 use Rattle.pals_bus.proofs.QueueRooms.{queue_more, queues_copies, queues_more}

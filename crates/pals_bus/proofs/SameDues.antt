@@ -15,7 +15,7 @@ use Rattle.pals_model.specs.declared.flight.FlightCopy.{FlightCopy}
 use Rattle.pals_model.specs.Delays.{delay_of}
 use Rattle.pals_model.specs.Flights.{is_of, oldest, without_oldest}
 use Rattle.pals_runs.specs.declared.journal.JournalEntry.{JournalEntry}
-use Rattle.link_buffers.proofs.Firsts.{place_within, without_some, without_none}
+use Rattle.link_buffers.proofs.FirstItems.{place_within, without_some, without_none}
 use Rattle.bus_machine.specs.Plans.{plan_of}
 use Rattle.bus_machine.specs.Nodes.{NodeState, round_of}
 use Rattle.bus_machine.specs.NodeEvents.{next_step, running_step, stepped, finished, message_from}
@@ -24,7 +24,7 @@ use Rattle.bus_machine.specs.States.{Run, BusState, node_at, flight_at, link_at,
 use Rattle.bus_machine.specs.Stops.{missing_link, sent_rounds}
 use Rattle.bus_machine.specs.Machine.{BusEvent, Start, Step, Finish, Send, Arrive, Drop, Repeat, is_allowed, after, after_start, on_step, flight_after_send}
 use Rattle.bus_machine.specs.Agreement.{Agrees}
-use Rattle.bus_machine.specs.proof.Laws.{IsRunOf}
+use Rattle.bus_machine.specs.proof.MachineLaws.{IsRunOf}
 use Rattle.bus_machine.specs.Replay.{Replays, opens, goes_on}
 use Rattle.bus_machine.proofs.Arrivals.{replay_agrees}
 use Rattle.bus_machine.proofs.Lists.{numbered_at}

@@ -5,7 +5,7 @@ use Rattle.std.specs.Arc.{arc_value}
 use Rattle.std.proofs.lemmas.Bool.{eqb-true, false≢true, eq-eqb}
 use Rattle.std.proofs.lemmas.Option.{slice_get-get_or}
 use Rattle.pals_base.specs.declared.limits.TheConstants.{HOUR}
-use Rattle.pals_base.specs.declared.values.Port.{Port}
+use Rattle.pals_base.specs.declared.values.PortValue.{PortValue}
 use Rattle.pals_base.specs.declared.values.LinkNo.{LinkNo}
 use Rattle.pals_model.specs.declared.flight.FlightCopy.{FlightCopy}
 use Rattle.pals_model.specs.Delays.{AreDelays, delay_of}
@@ -26,7 +26,7 @@ use Rattle.pals_bus.proofs.Sendings.{place_next, place_within, sent_other, sent_
 use Rattle.pals_bus.proofs.Taken.{target_within}
 
 -- the first links have their messages, and the others are left
-pub record Sending (first now : Fields) (node round : ℕ) (reading : Option ℕ) (messages left : List (List Port))
+pub record Sending (first now : Fields) (node round : ℕ) (reading : Option ℕ) (messages left : List (List PortValue))
     (number : ℕ) : Type 0 where
   pub sent : AreSent node (arc_value first.design).links first.delays round reading messages number
       first.flights now.flights
@@ -35,14 +35,14 @@ pub record Sending (first now : Fields) (node round : ℕ) (reading : Option ℕ
   pub others : now ≡ record first { flights = now.flights; queues = now.queues }
 
 -- what a send begins with
-pub record CanSend (f : Fields) (node : ℕ) (messages : List (List Port)) : Type 0 where
+pub record CanSend (f : Fields) (node : ℕ) (messages : List (List PortValue)) : Type 0 where
   pub design : IsDesign (arc_value f.design)
   pub flights : length f.flights ≡ length (arc_value f.design).links
   pub nodes : length f.nodes ≡ length (arc_value f.design).components
   pub count : length messages ≡ length (filter (is_from node) (arc_value f.design).links)
 
 -- the next link is not the node's
-pub sending_other : (first now : Fields) (node round : ℕ) (reading : Option ℕ) (messages left : List (List Port))
+pub sending_other : (first now : Fields) (node round : ℕ) (reading : Option ℕ) (messages left : List (List PortValue))
     (number : ℕ) → Sending first now node round reading messages left number
     → number < length (arc_value first.design).links
     → is_from node (slice_index_or (arc_value first.design).links number no_link) ≡ false
@@ -67,8 +67,8 @@ same_head : {X : Type 0} (x y : X) (xs ys : List X) → ◌≡◌ {A = List X} (
 same_head x y xs ys is = (cc, cc)
 
 -- the next link is the node's, and its message goes into flight
-pub sending_one : (first now : Fields) (node round : ℕ) (reading : Option ℕ) (messages left rest : List (List Port))
-    (link : LinkNo) (tuple : List Port) (flight : FlightState) (queue : QueueState) → CanSend first node messages
+pub sending_one : (first now : Fields) (node round : ℕ) (reading : Option ℕ) (messages left rest : List (List PortValue))
+    (link : LinkNo) (tuple : List PortValue) (flight : FlightState) (queue : QueueState) → CanSend first node messages
     → Sending first now node round reading messages left link.0 → link.0 < length (arc_value first.design).links
     → is_from node (slice_index_or (arc_value first.design).links link.0 no_link) ≡ true → left ≡ tuple ∷ rest
     → flight ≡ with_copy (slice_index_or now.flights link.0 no_flight)
@@ -109,7 +109,7 @@ sending_one first now node round reading messages left rest link tuple flight qu
       sent =
           sent_one node link.0 links first.delays round reading messages first.flights now.flights flight so_far.sent
           flies from (flight_is ∙ ap
-          (λ (t : List Port). with_copy (slice_index_or now.flights link.0 no_flight)
+          (λ (t : List PortValue). with_copy (slice_index_or now.flights link.0 no_flight)
           (sent_copy round reading (delay_of first.delays link.0 round) t)) both.0);
       left_are = both.1 ∙ ap (λ (k : ℕ). drop k messages) place;
       queues =
@@ -125,7 +125,7 @@ sending_one first now node round reading messages left rest link tuple flight qu
 
 -- ---- the loop
 pub sending_more : (first now next : Fields) (node round : ℕ) (reading : Option ℕ)
-    (messages left rest : List (List Port)) (link : LinkNo) (tuple : List Port) (copy : FlightCopy)
+    (messages left rest : List (List PortValue)) (link : LinkNo) (tuple : List PortValue) (copy : FlightCopy)
     → CanSend first node messages → Sending first now node round reading messages left link.0
     → link.0 < length (arc_value first.design).links
     → is_from node (slice_index_or (arc_value first.design).links link.0 no_link) ≡ true → left ≡ tuple ∷ rest
@@ -155,7 +155,7 @@ sending_more first now next node round reading messages left rest link tuple cop
     subst (λ (k : Fields). Sending first k node round reading messages rest (link.0 + 1)) (sym same) all
 
 -- the link has room for its message
-pub sending_room : (first now : Fields) (node round : ℕ) (reading : Option ℕ) (messages left : List (List Port))
+pub sending_room : (first now : Fields) (node round : ℕ) (reading : Option ℕ) (messages left : List (List PortValue))
     (number : ℕ) → Sending first now node round reading messages left number
     → HasRoomFor node (length (arc_value first.design).links) (arc_value first.design).links first.flights
     → number < length (arc_value first.design).links
@@ -169,7 +169,7 @@ sending_room first now node round reading messages left number so_far room withi
     let same : (slice_index_or now.flights number no_flight).spare ≡ (slice_index_or first.flights number no_flight).spare = ap (λ (f : FlightState). f.spare) (so_far.sent.others number (omega arith)) in
     omega (arith, here, same)
 
-pub sending_queue_room : (first now : Fields) (node round : ℕ) (reading : Option ℕ) (messages left : List (List Port))
+pub sending_queue_room : (first now : Fields) (node round : ℕ) (reading : Option ℕ) (messages left : List (List PortValue))
     (number : ℕ) → Sending first now node round reading messages left number
     → number < length (arc_value first.design).links
     → is_from node (slice_index_or (arc_value first.design).links number no_link) ≡ true
@@ -180,7 +180,7 @@ sending_queue_room first now node round reading messages left number so_far with
     (eqb-true (slice_index_or (arc_value first.design).links number no_link).source.0 node from)
 
 -- a message is left for the link
-pub message_left : (first now : Fields) (node round : ℕ) (reading : Option ℕ) (messages left : List (List Port))
+pub message_left : (first now : Fields) (node round : ℕ) (reading : Option ℕ) (messages left : List (List PortValue))
     (number : ℕ) → CanSend first node messages → Sending first now node round reading messages left number
     → number < length (arc_value first.design).links
     → is_from node (slice_index_or (arc_value first.design).links number no_link) ≡ true → 1 ≤ length left
@@ -194,7 +194,7 @@ message_left first now node round reading messages left number can so_far within
 
 -- ---- the next link from the node
 -- the numbers that the code reads are those of the fields as they were
-pub own_links : (first now : Fields) (node round : ℕ) (reading : Option ℕ) (messages left : List (List Port)) (at : ℕ)
+pub own_links : (first now : Fields) (node round : ℕ) (reading : Option ℕ) (messages left : List (List PortValue)) (at : ℕ)
     (ns all : List LinkNo)
     → Reaches (Sending first now node round reading messages left) node at (arc_value first.design).links
     (slice_index_or first.outgoing node no_numbers) → all ≡ slice_index_or first.outgoing node no_numbers
@@ -213,7 +213,7 @@ own_links first now node round reading messages left at ns all so_far all_are lt
     (subst (λ (k : List LinkNo). at < length k) all_are lt))
 
 -- it has a delay of at most an hour
-pub sending_delay : (first now : Fields) (node round : ℕ) (reading : Option ℕ) (messages left : List (List Port))
+pub sending_delay : (first now : Fields) (node round : ℕ) (reading : Option ℕ) (messages left : List (List PortValue))
     (number : ℕ) → Sending first now node round reading messages left number
     → AreDelays (length (arc_value first.design).links) first.delays → number < length (arc_value first.design).links
     → (number < length now.delays.lists) × (delay_of now.delays number round ≤ HOUR)
@@ -228,7 +228,7 @@ sending_delay first now node round reading messages left number so_far are withi
     (inside, is.within (min round (length list - 1)) 0 (omega (arith, some))))
 
 -- its flight, itself and the queue of its target are there
-pub sending_places : (first now : Fields) (node round : ℕ) (reading : Option ℕ) (messages left : List (List Port))
+pub sending_places : (first now : Fields) (node round : ℕ) (reading : Option ℕ) (messages left : List (List PortValue))
     (number : ℕ) → CanSend first node messages → Sending first now node round reading messages left number
     → number < length (arc_value first.design).links
     → (number < length now.flights)
@@ -247,7 +247,7 @@ sending_places first now node round reading messages left number can so_far with
     )
 
 -- once all links of the node are done
-pub sending_all : (first now : Fields) (node round : ℕ) (reading : Option ℕ) (messages left : List (List Port)) (at : ℕ)
+pub sending_all : (first now : Fields) (node round : ℕ) (reading : Option ℕ) (messages left : List (List PortValue)) (at : ℕ)
     (all : List LinkNo)
     → Reaches (Sending first now node round reading messages left) node at (arc_value first.design).links
     (slice_index_or first.outgoing node no_numbers) → all ≡ slice_index_or first.outgoing node no_numbers

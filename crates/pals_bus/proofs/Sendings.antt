@@ -10,7 +10,7 @@ use Rattle.std.proofs.lemmas.Grind.{get_or-set_at}
 use Rattle.std.proofs.lemmas.Option.{slice_get_within, slice_get-get_or, get_or_from_slice_get}
 use Rattle.std.proofs.Math.Seq.{map-set_same}
 use Rattle.list_lemmas.proofs.Lists.{length-map_enumerate_from}
-use Rattle.pals_base.specs.declared.values.Port.{Port}
+use Rattle.pals_base.specs.declared.values.PortValue.{PortValue}
 use Rattle.pals_base.specs.declared.values.LinkNo.{LinkNo}
 use Rattle.pals_base.specs.declared.values.NodeNo.{NodeNo}
 use Rattle.pals_model.specs.declared.design.Link.{Link}
@@ -26,7 +26,7 @@ use Rattle.bus_machine.specs.LinkEvents.{sent_copy}
 use Rattle.bus_machine.specs.States.{Run, BusState, node_at, flight_at, no_link}
 use Rattle.bus_machine.specs.Machine.{flight_after_send}
 use Rattle.bus_machine.proofs.Lists.{numbered_at}
-use Rattle.pals_bus.specs.proof.Keeping.{copies_in}
+use Rattle.pals_bus.specs.proof.BusInvariant.{copies_in}
 use Rattle.pals_bus.specs.proof.Absent.{no_flight, no_link_no}
 use Rattle.pals_bus.specs.proof.Sending.{is_from, place_of, NoLessRoom, with_copy, sent_flight, AreSent}
 use Rattle.pals_bus.proofs.Rooms.{flight_is, no_less-set, NoLessElsewhere}
@@ -106,7 +106,7 @@ place_within node k links within from = filtered_within (is_from node) links k n
 -- ---- sending
 -- the next link is not the node's
 pub sent_other : (node k : ℕ) (links : List Link) (delays : Delays) (round : ℕ) (reading : Option ℕ)
-    (messages : List (List Port)) (old new : List FlightState)
+    (messages : List (List PortValue)) (old new : List FlightState)
     → AreSent node links delays round reading messages k old new → is_from node (slice_index_or links k no_link) ≡ false
     → AreSent node links delays round reading messages (k + 1) old new
 sent_other node k links delays round reading messages old new are other = record {
@@ -127,7 +127,7 @@ sent_other node k links delays round reading messages old new are other = record
 
 -- the next link is the node's
 pub sent_one : (node k : ℕ) (links : List Link) (delays : Delays) (round : ℕ) (reading : Option ℕ)
-    (messages : List (List Port)) (old new : List FlightState) (flight : FlightState)
+    (messages : List (List PortValue)) (old new : List FlightState) (flight : FlightState)
     → AreSent node links delays round reading messages k old new → k < length new
     → is_from node (slice_index_or links k no_link) ≡ true
     → flight ≡ with_copy (slice_index_or new k no_flight)
@@ -174,7 +174,7 @@ message_at plan n node number links link outs is from =
     ∙ ap (λ (l : Link). l.out_port) found)
 
 after_at : (run : Run) (s : BusState) (node : NodeNo) (reading : Option ℕ) (number : ℕ) (link : Link)
-    (flight : FlightState) (b : Bool) (messages : List (List Port)) → slice_get run.design.links number ≡ Some link
+    (flight : FlightState) (b : Bool) (messages : List (List PortValue)) → slice_get run.design.links number ≡ Some link
     → is_from node.0 link ≡ b
     → flight_at s number ≡ flight.copies → messages ≡ messages_from (plan_of run.design node.0) (node_at s node.0)
     → (if b then with_copy flight
@@ -186,14 +186,14 @@ after_at : (run : Run) (s : BusState) (node : NodeNo) (reading : Option ℕ) (nu
 after_at run s node reading number link flight true messages is from copies told =
     let n = node_at s node.0 in
     let plan = plan_of run.design node.0 in
-    ap₂ (λ (cs : List FlightCopy) (t : List Port). cs
+    ap₂ (λ (cs : List FlightCopy) (t : List PortValue). cs
     ++ sent_copy (round_of n) reading (delay_of run.delays number (round_of n)) t ∷ []) (sym copies)
     (ap (λ ms. slice_index_or ms (place_of node.0 run.design.links number) []) told
     ∙ message_at plan n node.0 number run.design.links link refl is from)
 after_at run s node reading number link flight false messages is from copies told = sym copies
 
 -- all flights after a send
-pub sends_all : (run : Run) (s : BusState) (node : NodeNo) (reading : Option ℕ) (messages : List (List Port))
+pub sends_all : (run : Run) (s : BusState) (node : NodeNo) (reading : Option ℕ) (messages : List (List PortValue))
     (old new : List FlightState) → length old ≡ length run.design.links → s.flights ≡ copies_in old
     → messages ≡ messages_from (plan_of run.design node.0) (node_at s node.0)
     → AreSent node.0 run.design.links run.delays (round_of (node_at s node.0)) reading messages
@@ -218,7 +218,7 @@ sends_all run s node reading messages old new count flights told are =
 
 -- the other links keep their room
 pub sent_elsewhere : (node : ℕ) (links : List Link) (delays : Delays) (round : ℕ) (reading : Option ℕ)
-    (messages : List (List Port)) (old new : List FlightState)
+    (messages : List (List PortValue)) (old new : List FlightState)
     → AreSent node links delays round reading messages (length links) old new → NoLessElsewhere node links old new
 sent_elsewhere node links delays round reading messages old new are number link is other =
     let here : slice_index_or links number no_link ≡ link = get_or_from_slice_get links number link no_link is in

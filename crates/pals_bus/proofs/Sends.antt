@@ -5,7 +5,7 @@ use Rattle.std.specs.List.{enumerate_from}
 use Rattle.std.specs.Arc.{arc_value}
 use Rattle.std.proofs.lemmas.Bool.{false≢true}
 use Rattle.std.proofs.lemmas.List.{length-map}
-use Rattle.pals_base.specs.declared.values.Port.{Port}
+use Rattle.pals_base.specs.declared.values.PortValue.{PortValue}
 use Rattle.pals_base.specs.declared.values.NodeNo.{NodeNo}
 use Rattle.pals_model.specs.declared.design.Link.{Link}
 use Rattle.pals_model.specs.declared.flight.FlightCopy.{FlightCopy}
@@ -21,7 +21,7 @@ use Rattle.pals_node.specs.proof.Answers.{Sends}
 use Rattle.pals_bus.specs.declared.fields.Fields.{Fields}
 use Rattle.pals_bus.specs.proof.Values.{node_value}
 use Rattle.pals_bus.specs.Values.{Happens}
-use Rattle.pals_bus.specs.proof.Keeping.{Keeps, owed, run_of, state_of, value_of}
+use Rattle.pals_bus.specs.proof.BusInvariant.{Keeps, owed, run_of, state_of, value_of}
 use Rattle.pals_bus.specs.proof.Sending.{is_from, HasRoomFor, AreSent}
 use Rattle.pals_bus.specs.proof.Queues.{AreQueues, AreQueuesAmid}
 use Rattle.pals_bus.specs.proof.Absent.{no_node_value}
@@ -33,7 +33,7 @@ use Rattle.pals_bus.proofs.Events.{node_happens}
 use Rattle.pals_bus.proofs.NodeSteps.{longer}
 
 -- the round was not sent before
-unsent_node : (f : Fields) (node : ℕ) (reading : Option ℕ) (m : NodeValue) (messages : List (List Port)) → Keeps f
+unsent_node : (f : Fields) (node : ℕ) (reading : Option ℕ) (m : NodeValue) (messages : List (List PortValue)) → Keeps f
     → node < length f.nodes → Sends (node_value (value_of f) node) reading m messages
     → (slice_index_or f.nodes node no_node_value).state.sent ≡ false
 unsent_node f node reading m messages keeps within sends =
@@ -41,21 +41,21 @@ unsent_node f node reading m messages keeps within sends =
     ∙ is_unsent (plan_of (arc_value f.design) node) (node_at (state_of f) node) sends.may
 
 -- what the messages need
-pub send_room : (f : Fields) (node : ℕ) (reading : Option ℕ) (m : NodeValue) (messages : List (List Port)) → Keeps f
+pub send_room : (f : Fields) (node : ℕ) (reading : Option ℕ) (m : NodeValue) (messages : List (List PortValue)) → Keeps f
     → node < length f.nodes → Sends (node_value (value_of f) node) reading m messages
     → HasRoomFor node (length (arc_value f.design).links) (arc_value f.design).links f.flights
 send_room f node reading m messages keeps within sends =
     room_of (arc_value f.design).links f.nodes f.flights node (length (arc_value f.design).links) keeps.rooms
     (unsent_node f node reading m messages keeps within sends)
 
-pub send_queues : (f : Fields) (node : ℕ) (reading : Option ℕ) (m : NodeValue) (messages : List (List Port)) → Keeps f
+pub send_queues : (f : Fields) (node : ℕ) (reading : Option ℕ) (m : NodeValue) (messages : List (List PortValue)) → Keeps f
     → node < length f.nodes → Sends (node_value (value_of f) node) reading m messages
     → AreQueuesAmid node 0 (arc_value f.design).links (slice_set f.nodes node m) f.flights f.queues
 send_queues f node reading m messages keeps within sends =
     queues_amid (arc_value f.design).links f.nodes f.flights f.queues node m keeps.queues within
     (unsent_node f node reading m messages keeps within sends) (ap (λ (k : NodeValue). k.state.sent) sends.state)
 
-pub send_count : (f : Fields) (node : ℕ) (reading : Option ℕ) (m : NodeValue) (messages : List (List Port))
+pub send_count : (f : Fields) (node : ℕ) (reading : Option ℕ) (m : NodeValue) (messages : List (List PortValue))
     → Sends (node_value (value_of f) node) reading m messages
     → length messages ≡ length (filter (is_from node) (arc_value f.design).links)
 send_count f node reading m messages sends =
@@ -64,7 +64,7 @@ send_count f node reading m messages sends =
     ∙ length-map (filter (is_from node) (arc_value f.design).links) (λ (l : Link). l.out_port)
 
 -- the node owes one entry less
-pub send_owes : (f : Fields) (node : ℕ) (reading : Option ℕ) (m : NodeValue) (messages : List (List Port)) → Keeps f
+pub send_owes : (f : Fields) (node : ℕ) (reading : Option ℕ) (m : NodeValue) (messages : List (List PortValue)) → Keeps f
     → node < length f.nodes → Sends (node_value (value_of f) node) reading m messages
     → sum_by owed (slice_set f.nodes node m) + 1 ≡ sum_by owed f.nodes
 send_owes f node reading m messages keeps within sends =
@@ -73,7 +73,7 @@ send_owes f node reading m messages keeps within sends =
     (owed_sent n f.rounds m (is_unsent (plan_of (arc_value f.design) node) n.state sends.may)
     (ap (λ (k : NodeValue). k.state) sends.state) ∙ ap owed (sym (node_is f node keeps within)))
 
-pub send_happens : (f g : Fields) (node : NodeNo) (reading : Option ℕ) (m : NodeValue) (messages : List (List Port))
+pub send_happens : (f g : Fields) (node : NodeNo) (reading : Option ℕ) (m : NodeValue) (messages : List (List PortValue))
     (round : ℕ) → Keeps f → f.stop ≡ None → node.0 < length f.nodes
     → Sends (node_value (value_of f) node.0) reading m messages
     → round ≡ round_of (node_at (state_of f) node.0)
@@ -99,7 +99,7 @@ send_happens f g node reading m messages round keeps going within sends round_is
     sends.may refl
     (told ∙ ap (λ r. f.journal.items ++ entry.Send node r reading ∷ []) round_is))
 
-pub send_keeps_bus : (f g : Fields) (node : NodeNo) (reading : Option ℕ) (m : NodeValue) (messages : List (List Port))
+pub send_keeps_bus : (f g : Fields) (node : NodeNo) (reading : Option ℕ) (m : NodeValue) (messages : List (List PortValue))
     (round : ℕ) → Keeps f → node.0 < length f.nodes → Sends (node_value (value_of f) node.0) reading m messages
     → AreSent node.0 (arc_value f.design).links f.delays round reading messages (length (arc_value f.design).links)
     f.flights g.flights → AreQueues (arc_value f.design).links (slice_set f.nodes node.0 m) g.flights g.queues

@@ -5,7 +5,7 @@ use Rattle.std.specs.Arc.{arc_value}
 use Rattle.std.proofs.lemmas.Bool.{eqb-true}
 use Rattle.std.proofs.lemmas.List.{length-map, length-set, set-get_or, get_or_default}
 use Rattle.list_lemmas.proofs.Elements.{find-passes}
-use Rattle.pals_base.specs.declared.values.Port.{Port}
+use Rattle.pals_base.specs.declared.values.PortValue.{PortValue}
 use Rattle.pals_base.specs.declared.values.LinkNo.{LinkNo}
 use Rattle.pals_model.specs.declared.design.DesignParts.{DesignParts}
 use Rattle.pals_model.specs.declared.design.Link.{Link}
@@ -23,7 +23,7 @@ use Rattle.bus_machine.specs.Replay.{Replays, goes_on}
 use Rattle.pals_node.specs.proof.Values.{NodeValue}
 use Rattle.pals_bus.specs.declared.fields.Fields.{Fields}
 use Rattle.pals_bus.specs.Values.{Happens}
-use Rattle.pals_bus.specs.proof.Keeping.{Keeps, owed, run_of, state_of, value_of, copies_in}
+use Rattle.pals_bus.specs.proof.BusInvariant.{Keeps, owed, run_of, state_of, value_of, copies_in}
 use Rattle.pals_bus.specs.proof.Sending.{NoLessRoom}
 use Rattle.pals_bus.specs.proof.Queues.{AreQueues, without_due}
 use Rattle.pals_bus.specs.proof.Absent.{no_flight, no_queue}
@@ -87,7 +87,7 @@ as_many old new at copies is =
     ∙ length-map old (λ (k : FlightState). k.copies)
 
 -- a message was asked for: its flight and the queue of its target may have changed, and nothing else
-pub record Takes (f g : Fields) (link : LinkNo) (round : ℕ) (tuple : Option (List Port)) : Type 0 where
+pub record Takes (f g : Fields) (link : LinkNo) (round : ℕ) (tuple : Option (List PortValue)) : Type 0 where
   pub taken : tuple ≡ option_map (λ (copy : FlightCopy). copy.tuple)
       (oldest round (slice_index_or f.flights link.0 no_flight).copies)
   pub copies : copies_in g.flights
@@ -96,7 +96,7 @@ pub record Takes (f g : Fields) (link : LinkNo) (round : ℕ) (tuple : Option (L
   pub room : NoLessRoom f.flights g.flights
   pub others : g ≡ record f { flights = g.flights; queues = g.queues }
 
-pub same_count : (f g : Fields) (link : LinkNo) (round : ℕ) (tuple : Option (List Port)) → Takes f g link round tuple
+pub same_count : (f g : Fields) (link : LinkNo) (round : ℕ) (tuple : Option (List PortValue)) → Takes f g link round tuple
     → length g.flights ≡ length f.flights
 same_count f g link round tuple takes =
     as_many f.flights g.flights link.0 (without_oldest round (slice_index_or f.flights link.0 no_flight).copies)
@@ -139,25 +139,25 @@ none_holds None holds = holds
 none_holds (Some x) holds = tt
 
 -- ---- Drop
-some_flies : (o : Option FlightCopy) (tuple : List Port) → Some tuple ≡ option_map (λ (copy : FlightCopy). copy.tuple) o
+some_flies : (o : Option FlightCopy) (tuple : List PortValue) → Some tuple ≡ option_map (λ (copy : FlightCopy). copy.tuple) o
     → is_some o ≡ true
 some_flies None tuple is = absurd (cc)
 some_flies (Some copy) tuple is = refl
 
-pub some_in_flight : (f g : Fields) (link : LinkNo) (round : ℕ) (tuple : List Port) → Takes f g link round (Some tuple)
+pub some_in_flight : (f g : Fields) (link : LinkNo) (round : ℕ) (tuple : List PortValue) → Takes f g link round (Some tuple)
     → is_in_flight round (flight_at (state_of f) link.0) ≡ true
 some_in_flight f g link round tuple takes =
     ap (is_in_flight round) (flight_is f.flights link.0)
     ∙ some_flies (oldest round (slice_index_or f.flights link.0 no_flight).copies) tuple takes.taken
 
-pub copies_left : (f g : Fields) (link : LinkNo) (round : ℕ) (tuple : Option (List Port)) → Takes f g link round tuple
+pub copies_left : (f g : Fields) (link : LinkNo) (round : ℕ) (tuple : Option (List PortValue)) → Takes f g link round tuple
     → copies_in g.flights ≡ slice_set (copies_in f.flights) link.0
     (without_oldest round (flight_at (state_of f) link.0))
 copies_left f g link round tuple takes =
     takes.copies ∙ ap (λ (copies : List FlightCopy).
     slice_set (copies_in f.flights) link.0 (without_oldest round copies)) (sym (flight_is f.flights link.0))
 
-pub drop_happens : (f t g : Fields) (link : LinkNo) (round : ℕ) (tuple : List Port) → f.stop ≡ None
+pub drop_happens : (f t g : Fields) (link : LinkNo) (round : ℕ) (tuple : List PortValue) → f.stop ≡ None
     → Takes f t link round (Some tuple) → g ≡ record t { journal = g.journal }
     → g.journal.items ≡ f.journal.items ++ entry.Drop link round ∷ []
     → Happens (value_of f) (Drop link round) (value_of g)
@@ -169,7 +169,7 @@ drop_happens f t g link round tuple going takes same told =
     (slice_set (copies_in f.flights) link.0 (without_oldest round (flight_at (state_of f) link.0))) g.journal.items
     going (copies_left f t link round (Some tuple) takes) (some_in_flight f t link round tuple takes) refl told)
 
-pub drop_keeps : (f t g : Fields) (link : LinkNo) (round : ℕ) (tuple : List Port) → Keeps f
+pub drop_keeps : (f t g : Fields) (link : LinkNo) (round : ℕ) (tuple : List PortValue) → Keeps f
     → Takes f t link round (Some tuple) → g ≡ record t { journal = g.journal }
     → g.journal.items ≡ f.journal.items ++ entry.Drop link round ∷ []
     → Happens (value_of f) (Drop link round) (value_of g)

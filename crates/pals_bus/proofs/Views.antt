@@ -15,7 +15,7 @@ use Rattle.bus_machine.specs.Agreement.{PhaseAgrees, Agrees}
 use Rattle.bus_machine.proofs.Arrivals.{replay_agrees}
 use Rattle.pals_node.specs.proof.Values.{NodeValue}
 use Rattle.pals_bus.specs.declared.fields.Fields.{Fields}
-use Rattle.pals_bus.specs.proof.Keeping.{Keeps, run_of, state_of}
+use Rattle.pals_bus.specs.proof.BusInvariant.{Keeps, run_of, state_of}
 use Rattle.pals_bus.proofs.NodeChanges.{node_here}
 
 pub within_nodes : (f : Fields) (node : ℕ) → Keeps f → node < length (arc_value f.design).components

@@ -2,7 +2,7 @@
 pub mod Values
 pub mod Absent
 pub mod NodeLists
-pub mod Keeping
+pub mod BusInvariant
 pub mod Faults
 pub mod Answers
 pub mod Queues

@@ -47,7 +47,7 @@ impl Model for Bus {
 
     ghost coded = { bus_code };
 
-    ghost use Rattle.pals_bus.specs.proof.Keeping.{Keeps, value_of};
+    ghost use Rattle.pals_bus.specs.proof.BusInvariant.{Keeps, value_of};
 
     ghost view = { λ b. value_of b.fields };
 

@@ -6,7 +6,7 @@ ghost use Rattle.pals_model.specs.Inputs.{values_at};
 ghost use Rattle.bus_machine.specs.Nodes.{round_of};
 ghost use Rattle.bus_machine.specs.States.{link_at, node_at};
 ghost use Rattle.pals_bus.specs.proof.Absent.{no_flight, no_queue};
-ghost use Rattle.pals_bus.specs.proof.Keeping.{Keeps, owed, copies_in, state_of};
+ghost use Rattle.pals_bus.specs.proof.BusInvariant.{Keeps, owed, copies_in, state_of};
 ghost use Rattle.pals_bus.specs.proof.Queues.{HasQueueRoomFor};
 ghost use Rattle.pals_bus.specs.proof.Sending.{HasRoomFor};
 
@@ -15,7 +15,7 @@ use crate::node_list::NodeList;
 use crate::outgoing::Outgoing;
 use link_buffers::{DueQueue, Flight};
 use pals_base::limits::PORTS;
-use pals_base::{Items, LinkNo, NoMemory, NodeNo, Port};
+use pals_base::{Items, LinkNo, NoMemory, NodeNo, PortValue};
 use pals_model::{Delays, Design, Env};
 use pals_runs::{JournalEntry, Stop};
 use std::alloc::Global;
@@ -37,7 +37,7 @@ pub struct Fields {
     pub queues: Items<DueQueue>,
     pub stop: Option<Stop>,
     pub journal: Vec<JournalEntry>,
-    pub values: Vec<Port>,
+    pub values: Vec<PortValue>,
 }
 
 // By hand, so that a bus let go is one call, which the crates above cite.

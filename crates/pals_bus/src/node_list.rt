@@ -6,7 +6,7 @@ ghost use Rattle.pals_node.specs.proof.Values.{with_state};
 ghost use Rattle.pals_bus.specs.proof.NodeLists.{node_of, target_of_node};
 
 use crate::target_list::TargetList;
-use pals_base::{Items, Nanos, NoMemory, Port, Tuple};
+use pals_base::{Items, Nanos, NoMemory, PortValue, Tuple};
 use pals_node::{Done, FinishEnd, Finished, Job, Node, SendEnd, StartEnd, StepEnd};
 use pals_runs::Arrived;
 use std::alloc::Global;
@@ -80,7 +80,7 @@ impl NodeList {
     pub fn start(
         &mut self,
         node: usize,
-        env: &[Port],
+        env: &[PortValue],
         reading: Option<Nanos>,
     ) -> Result<Job, StartEnd>
         requires { node < length self.old }

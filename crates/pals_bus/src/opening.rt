@@ -10,7 +10,7 @@ ghost use Rattle.pals_bus.specs.proof.Openings.{AreOpening};
 
 use crate::node_list::NodeList;
 use link_buffers::{DueQueue, Flight};
-use pals_base::{Items, NoMemory, NodeNo, Port};
+use pals_base::{Items, NoMemory, NodeNo, PortValue};
 use pals_model::{Design, Env};
 use pals_node::{Node, NodePlan};
 use std::alloc::Global;
@@ -75,8 +75,8 @@ pub fn empty_queues(alloc: Global, nodes: &[Node]) -> Result<Items<DueQueue>, No
 }
 
 /// Room for the values of a round.
-pub fn room_for_values(alloc: Global, env: &Env) -> Result<Vec<Port>, NoMemory>
+pub fn room_for_values(alloc: Global, env: &Env) -> Result<Vec<PortValue>, NoMemory>
     ensures { IfOk result (λ values. length values.items ≡ length env.now.lists) }
 {
-    vec![in alloc; Port::Absent; env.lists.len()]
+    vec![in alloc; PortValue::Absent; env.lists.len()]
 }

@@ -8,7 +8,7 @@ ghost use Rattle.bus_machine.specs.LinkEvents.{is_in_flight};
 ghost use Rattle.bus_machine.specs.Machine.{missed_stop};
 ghost use Rattle.bus_machine.specs.States.{no_link};
 ghost use Rattle.bus_machine.specs.Stops.{link_into, cause_of, sent_rounds};
-ghost use Rattle.pals_bus.specs.proof.Keeping.{Keeps, run_of, state_of, copies_in_option};
+ghost use Rattle.pals_bus.specs.proof.BusInvariant.{Keeps, run_of, state_of, copies_in_option};
 
 use crate::fields::Fields;
 use link_buffers::Flight;

@@ -11,8 +11,8 @@ use Rattle.std.proofs.lemmas.Iterator.Adapters.{position_from-zero}
 use Rattle.pals_base.proofs.Steps.{frame_after-append}
 use Rattle.pals_base.proofs.Upwards.{upwards-more}
 use Rattle.std.proofs.lemmas.Grind.{flat_map-append}
-use Rattle.pals_base.specs.declared.values.Port.{Port}
-use Rattle.pals_base.specs.declared.values.Port.TheVariants.{Absent}
+use Rattle.pals_base.specs.declared.values.PortValue.{PortValue}
+use Rattle.pals_base.specs.declared.values.PortValue.TheVariants.{Absent}
 use Rattle.pals_base.specs.declared.values.Frame.{Frame}
 use Rattle.pals_base.specs.Fire.{initial}
 use Rattle.pals_base.specs.Steps.{steps, Stepped, cut, columns, frame_after, upwards}
@@ -25,10 +25,10 @@ use Rattle.pals_model.specs.declared.design.DesignParts.{DesignParts}
 use Rattle.pals_model.specs.declared.rounds.Env.{Env}
 use Rattle.pals_model.specs.Inputs.{rate_of, rate_in, values_at, feed, inputs_of, inputs_in, source_of, from_link, from_feed, link_goes_to, feed_goes_to, reading}
 use Rattle.pals_model.specs.Composition.{comp, next, state, msg, no_frame, steps_from, steps_of_round, message_of, tuple_in, part, taps_of}
-use Rattle.pals_model.specs.proof.Laws.{own_steps, OneFrameEach, OneMessageEach, StateBegins, LinksBeginAbsent, StateGoesOn, MessageFromSource, PartFromSteps, RunsAlone, DependsOnPast}
+use Rattle.pals_model.specs.proof.CompositionLaws.{own_steps, OneFrameEach, OneMessageEach, StateBegins, LinksBeginAbsent, StateGoesOn, MessageFromSource, PartFromSteps, RunsAlone, DependsOnPast}
 
 -- ---- lengths
-length-steps_from : (design : DesignParts) (values : List Port) (messages : List (List Port)) (node : ℕ) (cs : List Component) (frames : List Frame) → length frames ≡ length cs → length (steps_from design values messages node cs frames) ≡ length cs
+length-steps_from : (design : DesignParts) (values : List PortValue) (messages : List (List PortValue)) (node : ℕ) (cs : List Component) (frames : List Frame) → length frames ≡ length cs → length (steps_from design values messages node cs frames) ≡ length cs
 length-steps_from design values messages node [] frames same = refl
 length-steps_from design values messages node (c ∷ cs) [] same = absurd (omega arith)
 length-steps_from design values messages node (c ∷ cs) (frame ∷ frames) same = ap suc (length-steps_from design values messages (suc node) cs frames (omega arith))
@@ -55,11 +55,11 @@ state_begins design env node c is_c =
 pub links_begin_absent : LinksBeginAbsent
 unfolding comp
 links_begin_absent design env =
-    All-map (λ (message : List Port). All (λ port. port ≡ Absent) message) (λ (link : Link). replicate (rate_of design link.source.0) Absent) design.links
+    All-map (λ (message : List PortValue). All (λ port. port ≡ Absent) message) (λ (link : Link). replicate (rate_of design link.source.0) Absent) design.links
     (λ k d within. All-replicate (λ port. port ≡ Absent) _ Absent refl)
 
 -- ---- a round
-steps_from-at : (design : DesignParts) (values : List Port) (messages : List (List Port)) (first : ℕ) (cs : List Component) (frames : List Frame) (k node : ℕ) (c : Component) → node ≡ first + k → slice_get cs k ≡ Some c → length frames ≡ length cs → slice_get (steps_from design values messages first cs frames) k ≡ Some (steps c.behaviour (slice_index_or frames k no_frame) (inputs_of design values messages node c))
+steps_from-at : (design : DesignParts) (values : List PortValue) (messages : List (List PortValue)) (first : ℕ) (cs : List Component) (frames : List Frame) (k node : ℕ) (c : Component) → node ≡ first + k → slice_get cs k ≡ Some c → length frames ≡ length cs → slice_get (steps_from design values messages first cs frames) k ≡ Some (steps c.behaviour (slice_index_or frames k no_frame) (inputs_of design values messages node c))
 steps_from-at design values messages first [] frames k node c at is_c same = absurd (cc)
 steps_from-at design values messages first (d ∷ cs) [] k node c at is_c same = absurd (omega arith)
 steps_from-at design values messages first (d ∷ cs) (frame ∷ frames) zero node c at is_c same =
@@ -93,7 +93,7 @@ message_from_source design env number round link c is_link is_c =
 pub part_from_steps : PartFromSteps
 unfolding part state comp feed
 part_from_steps design env node round c is_c =
-    ap₂ (λ (frame : Frame) (outs : List (List Port)). let p : Part = record { frame = frame; outs = outs } in p)
+    ap₂ (λ (frame : Frame) (outs : List (List PortValue)). let p : Part = record { frame = frame; outs = outs } in p)
     (state_goes_on design env node round c is_c)
     (ap (λ o. map (λ (tap : Tap). tuple_in o tap.out_port) (taps_of design node)) (steps_of_round-at design env node round c is_c))
 
@@ -117,32 +117,32 @@ no_link_into : (links : List Link) (node port : ℕ) → All (λ link. link.targ
 no_link_into links node port apart = position_from-zero (link_goes_to node port) links ∙ no_link_from links node port 0 apart
 
 -- what a feed or nothing brings has no part in the messages
-without_link : (design : DesignParts) (values : List Port) (messages : List (List Port)) (rate : ℕ) (fed : Option ℕ) → reading design values messages rate (from_feed design fed) ≡ reading design values [] rate (from_feed design fed)
+without_link : (design : DesignParts) (values : List PortValue) (messages : List (List PortValue)) (rate : ℕ) (fed : Option ℕ) → reading design values messages rate (from_feed design fed) ≡ reading design values [] rate (from_feed design fed)
 without_link design values messages rate None = refl
 without_link design values messages rate (Some feed) = refl
 
-port_alone : (design : DesignParts) (values : List Port) (messages : List (List Port)) (node rate port : ℕ) → All (λ link. link.target.0 ≢ node) design.links → reading design values messages rate (source_of design node port) ≡ reading design values [] rate (source_of design node port)
+port_alone : (design : DesignParts) (values : List PortValue) (messages : List (List PortValue)) (node rate port : ℕ) → All (λ link. link.target.0 ≢ node) design.links → reading design values messages rate (source_of design node port) ≡ reading design values [] rate (source_of design node port)
 port_alone design values messages node rate port apart =
     let fed = position (feed_goes_to node port) design.feeds in
     let none : source_of design node port ≡ from_feed design fed = ap (λ link. from_link link (from_feed design fed)) (no_link_into design.links node port apart) in
     ap (reading design values messages rate) none ∙ without_link design values messages rate fed ∙ sym (ap (reading design values [] rate) none)
 
-ports_alone : (design : DesignParts) (values : List Port) (messages : List (List Port)) (node rate : ℕ) → All (λ link. link.target.0 ≢ node) design.links → (ports : List ℕ) → map (reading design values messages rate) (map (λ port. source_of design node port) ports) ≡ map (reading design values [] rate) (map (λ port. source_of design node port) ports)
+ports_alone : (design : DesignParts) (values : List PortValue) (messages : List (List PortValue)) (node rate : ℕ) → All (λ link. link.target.0 ≢ node) design.links → (ports : List ℕ) → map (reading design values messages rate) (map (λ port. source_of design node port) ports) ≡ map (reading design values [] rate) (map (λ port. source_of design node port) ports)
 ports_alone design values messages node rate apart [] = refl
 ports_alone design values messages node rate apart (port ∷ ports) =
     ap₂ (λ t ts. t ∷ ts) (port_alone design values messages node rate port apart) (ports_alone design values messages node rate apart ports)
 
-inputs_alone : (design : DesignParts) (values : List Port) (messages : List (List Port)) (node : ℕ) (c : Component) → All (λ link. link.target.0 ≢ node) design.links → inputs_of design values messages node c ≡ inputs_of design values [] node c
+inputs_alone : (design : DesignParts) (values : List PortValue) (messages : List (List PortValue)) (node : ℕ) (c : Component) → All (λ link. link.target.0 ≢ node) design.links → inputs_of design values messages node c ≡ inputs_of design values [] node c
 inputs_alone design values messages node c apart = ap (columns c.rate) (ports_alone design values messages node c.rate apart (upwards 0 (length c.behaviour.ins)))
 
-feed_alone : (design : DesignParts) (env : Env) (messages : List (List Port)) (node round : ℕ) (c : Component) → slice_get design.components node ≡ Some c → All (λ link. link.target.0 ≢ node) design.links → feed design env messages node round ≡ feed design env [] node round
+feed_alone : (design : DesignParts) (env : Env) (messages : List (List PortValue)) (node round : ℕ) (c : Component) → slice_get design.components node ≡ Some c → All (λ link. link.target.0 ≢ node) design.links → feed design env messages node round ≡ feed design env [] node round
 unfolding feed
 feed_alone design env messages node round c is_c apart =
     ap (inputs_in design (values_at env round) messages node) is_c
     ∙ inputs_alone design (values_at env round) messages node c apart
     ∙ ap (inputs_in design (values_at env round) [] node) (sym is_c)
 
-flat_map-upwards : (f : ℕ → List (List Port)) (n : ℕ) → flat_map f (upwards 0 (suc n)) ≡ flat_map f (upwards 0 n) ++ f n
+flat_map-upwards : (f : ℕ → List (List PortValue)) (n : ℕ) → flat_map f (upwards 0 (suc n)) ≡ flat_map f (upwards 0 n) ++ f n
 flat_map-upwards f n =
     let same : 0 + n ≡ n = omega arith in
     ap (flat_map f) (upwards-more 0 n ∙ ap (λ k. upwards 0 n ++ k ∷ []) same)
@@ -153,8 +153,8 @@ pub runs_alone : RunsAlone
 unfolding state
 runs_alone design env node zero c is_c apart = state_begins design env node c is_c
 runs_alone design env node (suc rounds) c is_c apart =
-    let alone : ℕ → List (List Port) = λ round. feed design env [] node round in
-    let before : List (List Port) = flat_map alone (upwards 0 rounds) in
+    let alone : ℕ → List (List PortValue) = λ round. feed design env [] node round in
+    let before : List (List PortValue) = flat_map alone (upwards 0 rounds) in
     state_goes_on design env node rounds c is_c
     ∙ ap (frame_after c.behaviour (state design env node rounds)) (feed_alone design env (comp design env rounds).messages node rounds c is_c apart)
     ∙ ap (λ frame. frame_after c.behaviour frame (alone rounds)) (runs_alone design env node rounds c is_c apart)

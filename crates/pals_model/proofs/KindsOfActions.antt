@@ -7,9 +7,9 @@ use Rattle.std.proofs.lemmas.Option.{slice_get_within}
 use Rattle.list_lemmas.proofs.Booleans.{and_three_parts}
 use Rattle.pals_base.specs.declared.values.Trap.{Trap}
 use Rattle.pals_base.specs.declared.values.Frame.{Frame}
-use Rattle.pals_base.specs.declared.values.Port.{Port}
-use Rattle.pals_base.specs.declared.values.Port.TheVariants.{Absent, Present}
-use Rattle.pals_base.specs.declared.behaviour.Named.{Named}
+use Rattle.pals_base.specs.declared.values.PortValue.{PortValue}
+use Rattle.pals_base.specs.declared.values.PortValue.TheVariants.{Absent, Present}
+use Rattle.pals_base.specs.declared.behaviour.PortDecl.{PortDecl}
 use Rattle.pals_base.specs.declared.behaviour.VarDecl.{VarDecl}
 use Rattle.pals_base.specs.declared.behaviour.BehaviourParts.{BehaviourParts}
 use Rattle.pals_base.specs.declared.kinds.Kinds.{Kinds}
@@ -32,7 +32,7 @@ suits_var : (o : Option VarDecl) (d : VarDecl) (kinds : Kinds) (v : ℤ) → o �
     → MayBe kinds v → Fits d.kind v
 suits_var o d kinds v is suits may = allowed_fits d.kind kinds v (sym (ap (λ p. suits_variable p kinds) is) ∙ suits) may
 
-suits_out : (o : Option Named) (d : Named) (kinds : Kinds) (v : ℤ) → o ≡ Some d → suits_port o kinds ≡ true
+suits_out : (o : Option PortDecl) (d : PortDecl) (kinds : Kinds) (v : ℤ) → o ≡ Some d → suits_port o kinds ≡ true
     → MayBe kinds v → Fits d.kind v
 suits_out o d kinds v is suits may = allowed_fits d.kind kinds v (sym (ap (λ p. suits_port p kinds) is) ∙ suits) may
 
@@ -41,7 +41,7 @@ assigned : (b : BehaviourParts) (vars : List ℤ) (x : ℕ) (kinds : Kinds) (v :
 assigned b vars x kinds v suits may fits = λ y d is.
     set_keeps (Fits d.kind) vars x y v (pos 0) (λ same. suits_var (slice_get b.vars x) d kinds v (ap (slice_get b.vars) (sym same) ∙ is) suits may) (fits y d is)
 
-emitted : (b : BehaviourParts) (outs : List Port) (p : ℕ) (kinds : Kinds) (v : ℤ)
+emitted : (b : BehaviourParts) (outs : List PortValue) (p : ℕ) (kinds : Kinds) (v : ℤ)
     → suits_port (slice_get b.outs p) kinds ≡ true → MayBe kinds v → PortsFit b.outs outs
     → PortsFit b.outs (slice_set outs p (Present v))
 emitted b outs p kinds v suits may fits = λ y d is.
@@ -79,7 +79,7 @@ for_each_fits b (n ∷ ns) body keeps e fits =
 -- ---- actions
 
 mutual
-  act_fits : (a : Action) (b : BehaviourParts) (loops around : ℕ) (frame : Frame) (fresh : List Bool) (outs : List Port)
+  act_fits : (a : Action) (b : BehaviourParts) (loops around : ℕ) (frame : Frame) (fresh : List Bool) (outs : List PortValue)
       → is_sound a b loops around ≡ true → length b.vars ≤ length frame.vars → VarsFit b frame.vars
       → HeldFit b frame.held → PortsFit b.outs outs
       → IfOk (act a frame fresh outs) (EffectFits b)
@@ -100,7 +100,7 @@ mutual
       (acts_fit body b (loops + 1) (around * turns low high) (with_vars frame (e.vars ++ n ∷ [])) fresh e.outs parts.1 (let size = length-append e.vars (n ∷ []) in let own = fits.many in omega arith) (with_loop b e.vars n fits.many fits.vars) held fits.outs))
       (record { vars = frame.vars; outs = outs }) (record { many = many; vars = vars; outs = ports })
 
-  pub acts_fit : (as' : Actions) (b : BehaviourParts) (loops around : ℕ) (frame : Frame) (fresh : List Bool) (outs : List Port)
+  pub acts_fit : (as' : Actions) (b : BehaviourParts) (loops around : ℕ) (frame : Frame) (fresh : List Bool) (outs : List PortValue)
       → are_sound as' b loops around ≡ true → length b.vars ≤ length frame.vars → VarsFit b frame.vars
       → HeldFit b frame.held → PortsFit b.outs outs
       → IfOk (acts as' frame fresh outs) (EffectFits b)
@@ -111,7 +111,7 @@ mutual
       then_ok (EffectFits b) (EffectFits b) (act a frame fresh outs) (λ e. acts rest (with_vars frame e.vars) fresh e.outs) (act_fits a b loops around frame fresh outs parts.0 many vars held ports)
       (λ e fits. acts_fit rest b loops around (with_vars frame e.vars) fresh e.outs parts.1 fits.many fits.vars held fits.outs)
 
-  first_fits : (branches : Branches) (b : BehaviourParts) (loops around : ℕ) (frame : Frame) (fresh : List Bool) (outs : List Port) (otherwise : Result Effect Trap)
+  first_fits : (branches : Branches) (b : BehaviourParts) (loops around : ℕ) (frame : Frame) (fresh : List Bool) (outs : List PortValue) (otherwise : Result Effect Trap)
       → branches_are_sound branches b loops around ≡ true → length b.vars ≤ length frame.vars → VarsFit b frame.vars
       → HeldFit b frame.held → PortsFit b.outs outs
       → IfOk otherwise (EffectFits b) → IfOk (act_first branches frame fresh outs otherwise) (EffectFits b)

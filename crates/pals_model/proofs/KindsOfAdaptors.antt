@@ -3,8 +3,8 @@ use Rattle.std.proofs.Common.{ℕ, zero, suc, ◌-◌, ◌/◌, nat_lt, ℤ, Boo
 use Rattle.std.specs.Prelude.{flat_map}
 use Rattle.std.proofs.lemmas.Bool.{false≢true}
 use Rattle.std.proofs.lemmas.List.Elements.{All-nil, All-cons, All-head, All-tail, All-take, All-replicate, All-drop}
-use Rattle.pals_base.specs.declared.values.Port.{Port}
-use Rattle.pals_base.specs.declared.values.Port.TheVariants.{Absent, Present}
+use Rattle.pals_base.specs.declared.values.PortValue.{PortValue}
+use Rattle.pals_base.specs.declared.values.PortValue.TheVariants.{Absent, Present}
 use Rattle.pals_base.specs.declared.values.Adaptor.{Adaptor}
 use Rattle.pals_base.specs.declared.values.Adaptor.TheVariants.{Repeat, First, Last, At, Latest, Max, Min, Average}
 use Rattle.pals_base.specs.declared.behaviour.Kind.{Kind}
@@ -15,7 +15,7 @@ use Rattle.pals_model.specs.proof.FittingValues.{Fits, PortFits, TupleFits}
 use Rattle.pals_model.proofs.KindLists.{index_fits, set_all, map_all, flat_all, every}
 
 -- ---- numbers: each fits
-integer_fits : (p : Port) → PortFits Integer p
+integer_fits : (p : PortValue) → PortFits Integer p
 integer_fits Absent = tt
 integer_fits (Present v) = tt
 
@@ -26,10 +26,10 @@ absents kind n = All-replicate (PortFits kind) n Absent tt
 pub absent_fits : (kind : Kind) (n : ℕ) → TupleFits kind (replicate n Absent)
 absent_fits kind n = absents kind n
 
-placed_fits : (kind : Kind) (n m : ℕ) (p : Port) → PortFits kind p → TupleFits kind (placed n m p)
+placed_fits : (kind : Kind) (n m : ℕ) (p : PortValue) → PortFits kind p → TupleFits kind (placed n m p)
 placed_fits kind n m p fits = set_all (PortFits kind) (replicate m Absent) (n - 1) p (absents kind m) fits
 
-spread_fits : (a : Adaptor) (kind : Kind) (m : ℕ) (p : Port) → PortFits kind p → TupleFits kind (spread a m p)
+spread_fits : (a : Adaptor) (kind : Kind) (m : ℕ) (p : PortValue) → PortFits kind p → TupleFits kind (spread a m p)
 spread_fits Repeat kind m p fits = All-replicate (PortFits kind) m p fits
 spread_fits First kind m p fits = placed_fits kind 1 m p fits
 spread_fits Last kind m p fits = placed_fits kind m m p fits
@@ -40,7 +40,7 @@ spread_fits Min kind m p fits = absents kind m
 spread_fits Average kind m p fits = absents kind m
 
 -- ---- to a lower rate
-present_fits : (kind : Kind) (tuple : List Port) → TupleFits kind tuple → All (Fits kind) (present tuple)
+present_fits : (kind : Kind) (tuple : List PortValue) → TupleFits kind tuple → All (Fits kind) (present tuple)
 present_fits kind [] all = All-nil (Fits kind)
 present_fits kind (Absent ∷ tuple) all = present_fits kind tuple (All-tail (PortFits kind) Absent tuple all)
 present_fits kind (Present v ∷ tuple) all =
@@ -56,7 +56,7 @@ of_present_fits kind [] all = tt
 of_present_fits kind (v ∷ vs) all =
     latest_fits kind v vs (All-head (Fits kind) v vs all) (All-tail (Fits kind) v vs all)
 
-joined_fits : (a : Adaptor) (group : List Port) → IsTrue (suits_kind (Some a) Boolean) → TupleFits Boolean group
+joined_fits : (a : Adaptor) (group : List PortValue) → IsTrue (suits_kind (Some a) Boolean) → TupleFits Boolean group
     → PortFits Boolean (joined a group)
 joined_fits Repeat group suits all = tt
 joined_fits First group suits all = index_fits (PortFits Boolean) group 0 Absent all tt
@@ -67,19 +67,19 @@ joined_fits Max group suits all = absurd (false≢true suits)
 joined_fits Min group suits all = absurd (false≢true suits)
 joined_fits Average group suits all = absurd (false≢true suits)
 
-groups_fit : (kind : Kind) (count m : ℕ) (tuple : List Port) → TupleFits kind tuple
+groups_fit : (kind : Kind) (count m : ℕ) (tuple : List PortValue) → TupleFits kind tuple
     → All (TupleFits kind) (groups count m tuple)
 groups_fit kind zero m tuple all = All-nil (TupleFits kind)
 groups_fit kind (suc count) m tuple all =
     All-cons (TupleFits kind) (take m tuple) (groups count m (drop m tuple)) (All-take (PortFits kind) m tuple all) (groups_fit kind count m (drop m tuple) (All-drop (PortFits kind) m tuple all))
 
 -- ---- the whole
-if_fits : (kind : Kind) (b : Bool) (xs ys : List Port) → TupleFits kind xs → TupleFits kind ys
+if_fits : (kind : Kind) (b : Bool) (xs ys : List PortValue) → TupleFits kind xs → TupleFits kind ys
     → TupleFits kind (cond b xs ys)
 if_fits kind true xs ys here there = here
 if_fits kind false xs ys here there = there
 
-boolean_fits : (a : Option Adaptor) (p q : ℕ) (tuple : List Port) → IsTrue (suits_kind a Boolean)
+boolean_fits : (a : Option Adaptor) (p q : ℕ) (tuple : List PortValue) → IsTrue (suits_kind a Boolean)
     → TupleFits Boolean tuple → TupleFits Boolean (adapt a p q tuple)
 boolean_fits None p q tuple suits all = all
 boolean_fits (Some a) p q tuple suits all =
@@ -87,7 +87,7 @@ boolean_fits (Some a) p q tuple suits all =
     (flat_all (PortFits Boolean) (PortFits Boolean) (spread a (q / p)) tuple (λ port fits. spread_fits a Boolean (q / p) port fits) all)
     (map_all (TupleFits Boolean) (PortFits Boolean) (joined a) (groups q (p / q) tuple) (λ group fits. joined_fits a group suits fits) (groups_fit Boolean q (p / q) tuple all))
 
-pub adapt_fits : (kind : Kind) (a : Option Adaptor) (p q : ℕ) (tuple : List Port) → IsTrue (suits_kind a kind)
+pub adapt_fits : (kind : Kind) (a : Option Adaptor) (p q : ℕ) (tuple : List PortValue) → IsTrue (suits_kind a kind)
     → TupleFits kind tuple → TupleFits kind (adapt a p q tuple)
 adapt_fits Integer a p q tuple suits all = every (PortFits Integer) (adapt a p q tuple) integer_fits
 adapt_fits Boolean a p q tuple suits all = boolean_fits a p q tuple suits all

@@ -8,14 +8,14 @@ use Rattle.pals_base.specs.declared.behaviour.Op.{Op}
 use Rattle.pals_base.specs.declared.behaviour.Op.TheVariants.{Add, Sub, Mul, Quot, Mod, Rem, Eq, Ne, Lt, Le, Gt, Ge, And, Or, Xor, AndThen, OrElse}
 use Rattle.pals_base.specs.declared.behaviour.Kind.{Kind}
 use Rattle.pals_base.specs.declared.behaviour.Kind.TheVariants.{Integer, Boolean}
-use Rattle.pals_base.specs.declared.behaviour.Named.{Named}
+use Rattle.pals_base.specs.declared.behaviour.PortDecl.{PortDecl}
 use Rattle.pals_base.specs.declared.behaviour.VarDecl.{VarDecl}
 use Rattle.pals_base.specs.declared.behaviour.BehaviourParts.{BehaviourParts}
 use Rattle.pals_base.specs.declared.kinds.Kinds.{Kinds}
 use Rattle.pals_base.specs.Arithmetic.{negation_of, magnitude_of}
 use Rattle.pals_base.specs.Expressions.{on_value, is_true, truth, same_number, applied, combined, eval, eval_rest}
 use Rattle.pals_base.specs.Kinds.{only, allows, literal_kinds, declared_or, port_kinds, joined, kinds_of, kinds_along}
-use Rattle.pals_base.specs.Tree.{Expression, Literal, Variable, PortValue, Fresh, Neg, Abs, Not, Chain, Operands, NoMore, Then}
+use Rattle.pals_base.specs.Tree.{Expression, Literal, Variable, PortRead, Fresh, Neg, Abs, Not, Chain, Operands, NoMore, Then}
 use Rattle.pals_model.specs.proof.FittingValues.{Fits, VarsFit, HeldFit}
 use Rattle.pals_model.proofs.KindLists.{any_ok, then_ok, on_ok, if_ok, weaker_ok}
 
@@ -57,7 +57,7 @@ var_by : (b : BehaviourParts) (o : Option VarDecl) (is_loop : Bool) (v : ℤ)
 var_by b None is_loop v fits = λ is. absurd (false≢true is)
 var_by b (Some d) is_loop v fits = only_may d.kind v (fits d refl)
 
-port_by : (o : Option Named) (v : ℤ) → ((d : Named) → o ≡ Some d → Fits d.kind v) → MayBe (port_kinds o) v
+port_by : (o : Option PortDecl) (v : ℤ) → ((d : PortDecl) → o ≡ Some d → Fits d.kind v) → MayBe (port_kinds o) v
 port_by None v fits = λ is. absurd (false≢true is)
 port_by (Some d) v fits = only_may d.kind v (fits d refl)
 
@@ -107,7 +107,7 @@ mutual
   eval_may (Literal n) b loops frame fresh vars held = literal_may n
   eval_may (Variable x) b loops frame fresh vars held =
       var_by b (slice_get b.vars x) (nat_lt x (length b.vars + loops)) (slice_index_or frame.vars x (pos 0)) (λ d is. vars x d is)
-  eval_may (PortValue p) b loops frame fresh vars held =
+  eval_may (PortRead p) b loops frame fresh vars held =
       port_by (slice_get b.ins p) (slice_index_or frame.held p (pos 0)) (λ d is. held p d is)
   eval_may (Fresh p) b loops frame fresh vars held = λ is. truth_fits (slice_index_or fresh p false)
   eval_may (Neg e) b loops frame fresh vars held =

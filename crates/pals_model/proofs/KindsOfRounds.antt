@@ -6,10 +6,10 @@ use Rattle.std.proofs.lemmas.Bool.{and_parts, eqb-true}
 use Rattle.std.proofs.lemmas.List.Elements.{All-nil, All-cons, All-append, All-take, All-filter, All-weaker, filter_passes}
 use Rattle.std.proofs.lemmas.Option.{slice_get-map, slice_get_within, get_or_from_slice_get}
 use Rattle.list_lemmas.proofs.Places.{slice_get-some}
-use Rattle.pals_base.specs.declared.values.Port.{Port}
-use Rattle.pals_base.specs.declared.values.Port.TheVariants.{Absent}
+use Rattle.pals_base.specs.declared.values.PortValue.{PortValue}
+use Rattle.pals_base.specs.declared.values.PortValue.TheVariants.{Absent}
 use Rattle.pals_base.specs.declared.behaviour.Kind.{Kind}
-use Rattle.pals_base.specs.declared.behaviour.Named.{Named}
+use Rattle.pals_base.specs.declared.behaviour.PortDecl.{PortDecl}
 use Rattle.pals_base.specs.Allowed.{suits_kind}
 use Rattle.pals_base.specs.Bound.{sent_steps}
 use Rattle.pals_base.specs.Steps.{upwards, column, columns, outputs, cut}
@@ -22,32 +22,32 @@ use Rattle.pals_model.specs.Inputs.{rate_of, root_of, values_at, link_goes_to, f
 use Rattle.pals_model.specs.Ports.{kind_of, in_kind, out_kind, outs_in, root_kind}
 use Rattle.pals_model.specs.Composition.{comp, state, msg, taps_of}
 use Rattle.pals_model.specs.Rules.{IsDesign, IsLink, IsFeed, IsTap}
-use Rattle.pals_model.specs.proof.Laws.{own_steps}
+use Rattle.pals_model.specs.proof.CompositionLaws.{own_steps}
 use Rattle.pals_model.proofs.CompositionLaws.{state_begins, state_goes_on, message_from_source, part_from_steps, links_begin_absent}
 use Rattle.pals_model.proofs.RootInputLaws.{feed_has_root, feeds_have_root_kind}
 use Rattle.pals_model.proofs.ShapeLaws.{state_has_shape, is_behaviour, component_at}
 use Rattle.pals_model.proofs.Lookups.{found_at, at_element}
 use Rattle.pals_model.specs.proof.FittingValues.{PortFits, TupleFits, PortsFit, FrameFits, link_kind, EnvFits}
-use Rattle.pals_model.specs.proof.Laws.Kinds.{StatesFit, MessagesFit, PartFits, PartsFit}
+use Rattle.pals_model.specs.proof.CompositionLaws.Kinds.{StatesFit, MessagesFit, PartFits, PartsFit}
 use Rattle.pals_model.proofs.KindLists.{index_fits, map_all, every}
 use Rattle.pals_model.proofs.KindsOfSteps.{frames_fit, outputs_fit, initial_fits}
 use Rattle.pals_model.proofs.KindsOfAdaptors.{absent_fits, adapt_fits}
 
 -- ---- columns
-column_at : (lists : List (List Port)) (from n p : ℕ) → p < n
+column_at : (lists : List (List PortValue)) (from n p : ℕ) → p < n
     → slice_index_or (map (λ at. column at lists) (upwards from n)) p [] ≡ column (from + p) lists
 column_at lists from zero p within = absurd (omega arith)
 column_at lists from (suc n) zero within = let here : from ≡ from + 0 = omega arith in ap (λ k. column k lists) here
 column_at lists from (suc n) (suc p) within =
     let next : suc from + p ≡ from + suc p = omega arith in column_at lists (suc from) n p (omega arith) ∙ ap (λ k. column k lists) next
 
-pub place_of_column : (lists : List (List Port)) (at p : ℕ)
+pub place_of_column : (lists : List (List PortValue)) (at p : ℕ)
     → slice_index_or (column at lists) p Absent ≡ slice_index_or (slice_index_or lists p []) at Absent
 place_of_column [] at p = refl
 place_of_column (list ∷ lists) at zero = refl
 place_of_column (list ∷ lists) at (suc p) = place_of_column lists at p
 
-twice_at : {S : Type 0} (R : S → List Port) (source : ℕ → S) (from n p : ℕ) → p < n
+twice_at : {S : Type 0} (R : S → List PortValue) (source : ℕ → S) (from n p : ℕ) → p < n
     → slice_index_or (map R (map source (upwards from n))) p [] ≡ R (source (from + p))
 twice_at R source from zero p within = absurd (omega arith)
 twice_at R source from (suc n) zero within = let here : from ≡ from + 0 = omega arith in ap (λ k. R (source k)) here
@@ -55,18 +55,18 @@ twice_at R source from (suc n) (suc p) within =
     let next : suc from + p ≡ from + suc p = omega arith in twice_at R source (suc from) n p (omega arith) ∙ ap (λ k. R (source k)) next
 
 -- ---- what in ports bring
-abbrev MessagesAreFit : DesignParts → List (List Port) → Type 0
+abbrev MessagesAreFit : DesignParts → List (List PortValue) → Type 0
 MessagesAreFit design messages =
     (number : ℕ) (link : Link) → slice_get design.links number ≡ Some link → TupleFits (link_kind design link) (slice_index_or messages number [])
 
 -- the kind of an in port of a component
-in_port_kind : (design : DesignParts) (node p target in_port : ℕ) (c : Component) (port : Named)
+in_port_kind : (design : DesignParts) (node p target in_port : ℕ) (c : Component) (port : PortDecl)
     → slice_get design.components node ≡ Some c → slice_get c.behaviour.ins p ≡ Some port → target ≡ node → in_port ≡ p
     → in_kind (slice_get design.components target) in_port ≡ port.kind
 in_port_kind design node p target in_port c port is_c is_port to_node to_port =
     ap₂ (λ t q. in_kind (slice_get design.components t) q) to_node to_port ∙ ap (λ o. in_kind o p) is_c ∙ ap kind_of is_port
 
-source_fits : (design : DesignParts) (env : Env) (round : ℕ) (messages : List (List Port)) (node p : ℕ) (c : Component) (port : Named) (l f : Option ℕ)
+source_fits : (design : DesignParts) (env : Env) (round : ℕ) (messages : List (List PortValue)) (node p : ℕ) (c : Component) (port : PortDecl) (l f : Option ℕ)
     → IsDesign design → EnvFits design env → MessagesAreFit design messages
     → slice_get design.components node ≡ Some c → slice_get c.behaviour.ins p ≡ Some port → position (link_goes_to node p) design.links ≡ l → position (feed_goes_to node p) design.feeds ≡ f
     → TupleFits port.kind (reading design (values_at env round) messages c.rate (from_link l (from_feed design f)))
@@ -96,7 +96,7 @@ source_fits design env round messages node p c port None (Some number) rules giv
 source_fits design env round messages node p c port None None rules given sent is_c is_port to_link to_feed =
     absent_fits port.kind c.rate
 
-vectors_fit : (design : DesignParts) (env : Env) (round : ℕ) (messages : List (List Port)) (node : ℕ) (c : Component)
+vectors_fit : (design : DesignParts) (env : Env) (round : ℕ) (messages : List (List PortValue)) (node : ℕ) (c : Component)
     → IsDesign design → EnvFits design env → MessagesAreFit design messages → slice_get design.components node ≡ Some c
     → All (PortsFit c.behaviour.ins) (inputs_of design (values_at env round) messages node c)
 vectors_fit design env round messages node c rules given sent is_c =
@@ -112,7 +112,7 @@ vectors_fit design env round messages node c rules given sent is_c =
     subst (PortFits port.kind) (sym (place_of_column lists at p)) (index_fits (PortFits port.kind) (slice_index_or lists p []) at Absent fits tt))
     (every (λ (at : ℕ). Unit {0}) (upwards 0 c.rate) (λ at. tt))
 
-feed_fits : (design : DesignParts) (env : Env) (messages : List (List Port)) (node round : ℕ) (c : Component)
+feed_fits : (design : DesignParts) (env : Env) (messages : List (List PortValue)) (node round : ℕ) (c : Component)
     → IsDesign design → EnvFits design env → MessagesAreFit design messages → slice_get design.components node ≡ Some c
     → All (PortsFit c.behaviour.ins) (feed design env messages node round)
 unfolding feed
@@ -150,7 +150,7 @@ tuple_fits design env node round out_port c rules given before is_c within =
     subst (λ k. TupleFits k (slice_index_or (columns (length c.behaviour.outs) outs) out_port [])) (sym (ap kind_of port.1))
     (subst (TupleFits port.0.kind) (sym here) (map_all (PortsFit c.behaviour.outs) (PortFits port.0.kind) (λ list. slice_index_or list out_port Absent) outs (λ list fits. fits out_port port.0 port.1) all))
 
-cut_fits : (kind : Kind) (n : ℕ) (tuple : List Port) → TupleFits kind tuple → TupleFits kind (cut n tuple)
+cut_fits : (kind : Kind) (n : ℕ) (tuple : List PortValue) → TupleFits kind tuple → TupleFits kind (cut n tuple)
 cut_fits kind n tuple fits =
     All-append (PortFits kind) (take n tuple) (replicate (length tuple - n) Absent) (All-take (PortFits kind) n tuple fits) (absent_fits kind (length tuple - n))
 
@@ -172,7 +172,7 @@ waiting_is : (design : DesignParts) (env : Env) (number round : ℕ)
 unfolding msg
 waiting_is design env number round = refl
 
-absent_is_fit : (kind : Kind) (p : Port) → p ≡ Absent → PortFits kind p
+absent_is_fit : (kind : Kind) (p : PortValue) → p ≡ Absent → PortFits kind p
 absent_is_fit kind p is = subst (PortFits kind) (sym is) tt
 
 rounds_fit : (design : DesignParts) (env : Env) (round : ℕ) → IsDesign design → EnvFits design env
@@ -183,7 +183,7 @@ rounds_fit design env zero rules given = record {
   messages = λ number link is_link.
       let message = slice_index_or (comp design env 0).messages number [] in
       All-weaker (λ p. p ≡ Absent) (PortFits (link_kind design link)) (absent_is_fit (link_kind design link)) message
-      (index_fits (λ (tuple : List Port). All (λ p. p ≡ Absent) tuple) (comp design env 0).messages number [] (links_begin_absent design env) (All-nil (λ p. p ≡ Absent)));
+      (index_fits (λ (tuple : List PortValue). All (λ p. p ≡ Absent) tuple) (comp design env 0).messages number [] (links_begin_absent design env) (All-nil (λ p. p ≡ Absent)));
 }
 rounds_fit design env (suc round) rules given =
     let before = rounds_fit design env round rules given in

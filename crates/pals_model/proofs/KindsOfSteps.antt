@@ -5,8 +5,8 @@ use Rattle.std.proofs.lemmas.List.Elements.{All-head, All-tail, All-filter, All-
 use Rattle.pals_model.proofs.Lookups.{at_element}
 use Rattle.pals_base.specs.declared.values.Trap.{Trap}
 use Rattle.pals_base.specs.declared.values.Frame.{Frame}
-use Rattle.pals_base.specs.declared.values.Port.{Port}
-use Rattle.pals_base.specs.declared.values.Port.TheVariants.{Absent, Present}
+use Rattle.pals_base.specs.declared.values.PortValue.{PortValue}
+use Rattle.pals_base.specs.declared.values.PortValue.TheVariants.{Absent, Present}
 use Rattle.pals_base.specs.declared.behaviour.Kind.{Kind}
 use Rattle.pals_base.specs.declared.behaviour.Kind.TheVariants.{Integer, Boolean}
 use Rattle.pals_base.specs.declared.behaviour.VarDecl.{VarDecl}
@@ -21,18 +21,18 @@ use Rattle.pals_base.specs.Tree.{Edge}
 use Rattle.pals_base.proofs.Ending.{fires_well}
 use Rattle.pals_model.proofs.Words.{all_pass}
 use Rattle.pals_model.specs.proof.FittingValues.{Fits, PortFits, VarsFit, HeldFit, PortsFit, FrameFits}
-use Rattle.pals_model.specs.proof.Laws.Kinds.{FiringFits}
+use Rattle.pals_model.specs.proof.CompositionLaws.Kinds.{FiringFits}
 use Rattle.pals_model.proofs.KindLists.{find_fits, then_ok, if_ok}
 use Rattle.pals_model.proofs.KindsOfExpressions.{allowed_fits, literal_may}
 use Rattle.pals_model.proofs.KindsOfActions.{EffectFits, acts_fit}
 
 -- ---- inputs
-held_fits : (kind : Kind) (before : ℤ) (input : Port) → Fits kind before → PortFits kind input
+held_fits : (kind : Kind) (before : ℤ) (input : PortValue) → Fits kind before → PortFits kind input
     → Fits kind (held_of before input)
 held_fits kind before Absent old new = old
 held_fits kind before (Present v) old new = new
 
-holding_fits : (kind : Kind) (held : List ℤ) (inputs : List Port) (p : ℕ) → Fits kind (slice_index_or held p (pos 0))
+holding_fits : (kind : Kind) (held : List ℤ) (inputs : List PortValue) (p : ℕ) → Fits kind (slice_index_or held p (pos 0))
     → PortFits kind (slice_index_or inputs p Absent) → Fits kind (slice_index_or (holding held inputs) p (pos 0))
 holding_fits kind [] inputs p old new = old
 holding_fits kind (v ∷ held) [] p old new = old
@@ -133,7 +133,7 @@ unless_fits : (b : BehaviourParts) (held : Frame) (halt : Option Trap) (r : Resu
 unless_fits b held None r vars ins fits = outcome_fits b held r vars ins fits
 unless_fits b held (Some trap) r vars ins fits = (record { vars = vars; held = ins }, silence_fits b)
 
-fire_leaves : (b : BehaviourParts) (frame : Frame) (inputs : List Port) → IsBehaviour b → HasShape b frame
+fire_leaves : (b : BehaviourParts) (frame : Frame) (inputs : List PortValue) → IsBehaviour b → HasShape b frame
     → FrameFits b frame → PortsFit b.ins inputs → Leaves b (fire b frame inputs)
 unfolding fire
 fire_leaves b frame inputs rules shape fits ins =
@@ -149,13 +149,13 @@ firing_fits b frame inputs rules shape fits ins =
     fire_leaves b frame inputs rules shape fits ins in record { frame_fits = leaves.0; outs_fit = leaves.1 }
 
 -- ---- several steps
-pub frames_fit : (b : BehaviourParts) (frame : Frame) (vectors : List (List Port)) → IsBehaviour b → HasShape b frame
+pub frames_fit : (b : BehaviourParts) (frame : Frame) (vectors : List (List PortValue)) → IsBehaviour b → HasShape b frame
     → FrameFits b frame → All (PortsFit b.ins) vectors → FrameFits b (frame_after b frame vectors)
 frames_fit b frame [] rules shape fits all = fits
 frames_fit b frame (inputs ∷ vectors) rules shape fits all =
     frames_fit b (fire b frame inputs).frame vectors rules (fires_well b frame inputs rules shape).0 (firing_fits b frame inputs rules shape fits (All-head (PortsFit b.ins) inputs vectors all)).frame_fits (All-tail (PortsFit b.ins) inputs vectors all)
 
-pub outputs_fit : (b : BehaviourParts) (frame : Frame) (vectors : List (List Port)) → IsBehaviour b → HasShape b frame
+pub outputs_fit : (b : BehaviourParts) (frame : Frame) (vectors : List (List PortValue)) → IsBehaviour b → HasShape b frame
     → FrameFits b frame → All (PortsFit b.ins) vectors → All (PortsFit b.outs) (outputs b frame vectors)
 outputs_fit b frame [] rules shape fits all = All-nil (PortsFit b.outs)
 outputs_fit b frame (inputs ∷ vectors) rules shape fits all =

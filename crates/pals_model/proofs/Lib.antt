@@ -1,5 +1,5 @@
 pub mod CompositionLaws
-pub mod Rows
+pub mod CounterRounds
 pub mod Tables
 pub mod Naming
 pub mod Values

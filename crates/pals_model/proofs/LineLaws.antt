@@ -8,14 +8,14 @@ use Rattle.std.proofs.lemmas.List.Elements.{All-nil, All-cons, All-append, All-h
 use Rattle.std.proofs.lemmas.List.Folds.{list_all-append, list_all-map}
 use Rattle.std.proofs.lemmas.List.Splits.{slice_split_at}
 use Rattle.list_lemmas.proofs.Numbers.{digit-at_least}
-use Rattle.pals_base.specs.declared.values.Port.{Port}
-use Rattle.pals_base.specs.declared.values.Port.TheVariants.{Absent, Present}
+use Rattle.pals_base.specs.declared.values.PortValue.{PortValue}
+use Rattle.pals_base.specs.declared.values.PortValue.TheVariants.{Absent, Present}
 use Rattle.pals_base.specs.declared.values.Frame.{Frame}
 use Rattle.pals_base.specs.declared.values.Trap.{Trap}
 use Rattle.pals_base.specs.declared.values.Trap.TheVariants.{Overflow, ZeroDivisor}
 use Rattle.pals_base.specs.declared.behaviour.Kind.{Kind}
 use Rattle.pals_base.specs.declared.behaviour.Kind.TheVariants.{Integer, Boolean}
-use Rattle.pals_base.specs.declared.behaviour.Named.{Named}
+use Rattle.pals_base.specs.declared.behaviour.PortDecl.{PortDecl}
 use Rattle.pals_base.specs.declared.behaviour.VarDecl.{VarDecl}
 use Rattle.pals_base.specs.declared.behaviour.StateDecl.{StateDecl}
 use Rattle.pals_base.specs.declared.behaviour.BehaviourParts.{BehaviourParts}
@@ -32,7 +32,7 @@ use Rattle.pals_model.specs.Composition.{part}
 use Rattle.pals_model.specs.RoundTexts.{text_of, value_text, port_text, with_commas, tuple_text, state_name, state_text, variable_text, vars_text, component_line, tap_line, round_line, part_lines, tap_lines, composed_lines, report_lines}
 use Rattle.pals_model.specs.Rules.{IsDesign, IsComponent, IsTap}
 use Rattle.pals_model.specs.RoundTexts.{is_line_feed}
-use Rattle.pals_model.specs.proof.Laws.Lines.{IsLine, RowHasLines, ReportHasLines, TextSplits, RowSplits, ReportSplits}
+use Rattle.pals_model.specs.proof.CompositionLaws.Lines.{IsLine, RowHasLines, ReportHasLines, TextSplits, RowSplits, ReportSplits}
 use Rattle.pals_model.proofs.Lookups.{at_element}
 use Rattle.pals_model.proofs.Words.{all_pass, word_without, path_without}
 
@@ -86,17 +86,17 @@ value : (kind : Kind) (v : ℤ) → IsLine (value_text kind v)
 value Integer v = signed v
 value Boolean v = either (is_true v)
 
-port : (kind : Kind) (p : Port) → IsLine (port_text kind p)
+port : (kind : Kind) (p : PortValue) → IsLine (port_text kind p)
 port kind Absent = plain (codes "_") refl
 port kind (Present v) = value kind v
 
-commas : (kind : Kind) (tuple : List Port) → IsLine (with_commas (map (port_text kind) tuple))
+commas : (kind : Kind) (tuple : List PortValue) → IsLine (with_commas (map (port_text kind) tuple))
 commas kind [] = none
 commas kind (p ∷ []) = port kind p
 commas kind (p ∷ q ∷ ps) =
     join (port_text kind p ++ codes ",") (with_commas (map (port_text kind) (q ∷ ps))) (join (port_text kind p) (codes ",") (port kind p) (plain (codes ",") refl)) (commas kind (q ∷ ps))
 
-tuple : (kind : Kind) (ps : List Port) → IsLine (tuple_text kind ps)
+tuple : (kind : Kind) (ps : List PortValue) → IsLine (tuple_text kind ps)
 tuple kind ps =
     join (codes "(" ++ with_commas (map (port_text kind) ps)) (codes ")") (join (codes "(") (with_commas (map (port_text kind) ps)) (plain (codes "(") refl) (commas kind ps)) (plain (codes ")") refl)
 
@@ -123,7 +123,7 @@ variables (var ∷ vars) (v ∷ vs) named =
 
 variables_named : (b : BehaviourParts) → IsBehaviour b → All (λ (var : VarDecl). IsLine var.name) b.vars
 variables_named b rules =
-    let ports = map (λ (p : Named). p.name) b.ins ++ map (λ (p : Named). p.name) b.outs in
+    let ports = map (λ (p : PortDecl). p.name) b.ins ++ map (λ (p : PortDecl). p.name) b.outs in
     let names = map (λ (v : VarDecl). v.name) b.vars in
     let words = (and_parts (list_all is_word ports) (list_all is_word names) (sym (list_all-append is_word ports names) ∙ rules.names.values)).1 in
     All-weaker (λ (v : VarDecl). is_word v.name ≡ true) (λ (v : VarDecl). IsLine v.name) (λ v is. word v.name is) b.vars
@@ -135,7 +135,7 @@ component name b frame named rules =
     (join (name ++ codes " ") (state_text b frame frame.halt) (join name (codes " ") named (plain (codes " ") refl)) (state b frame frame.halt rules))
     (variables b.vars frame.vars (variables_named b rules))
 
-tap : (kind : Kind) (t : Tap) (ps : List Port) → is_word t.name ≡ true → IsLine (tap_line kind t ps)
+tap : (kind : Kind) (t : Tap) (ps : List PortValue) → is_word t.name ≡ true → IsLine (tap_line kind t ps)
 tap kind t ps is =
     join (codes "out " ++ t.name ++ codes " ") (tuple_text kind ps) (join (codes "out " ++ t.name) (codes " ") (join (codes "out ") t.name (plain (codes "out ") refl) (word t.name is)) (plain (codes " ") refl)) (tuple kind ps)
 

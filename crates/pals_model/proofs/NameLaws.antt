@@ -6,7 +6,7 @@ use Rattle.std.proofs.lemmas.Slice.Eq.{bytes_eq-Decides}
 use Rattle.std.proofs.lemmas.Option.{slice_get_cases, slice_get-map}
 use Rattle.list_lemmas.proofs.Places.{slice_get-append_left}
 use Rattle.list_lemmas.proofs.Pairs.{same_place, AllPairs-slice_get}
-use Rattle.pals_base.specs.declared.behaviour.Named.{Named}
+use Rattle.pals_base.specs.declared.behaviour.PortDecl.{PortDecl}
 use Rattle.pals_base.specs.declared.behaviour.VarDecl.{VarDecl}
 use Rattle.pals_base.specs.declared.behaviour.BehaviourParts.{BehaviourParts}
 use Rattle.pals_base.specs.Names.{is_word}
@@ -17,7 +17,7 @@ use Rattle.pals_model.specs.declared.design.DesignParts.{DesignParts}
 use Rattle.pals_model.specs.LinkNames.{port_name, in_port_name, target_name, link_name}
 use Rattle.pals_model.specs.Ports.{ins_in}
 use Rattle.pals_model.specs.Rules.{IsDesign, IsTarget, IsLink, LinkPrecedes, port_place}
-use Rattle.pals_model.specs.proof.Laws.Names.{NodeIsFound, FoundNodeHasPath, TargetNamesDiffer, LinkIsFound, FoundLinkHasName}
+use Rattle.pals_model.specs.proof.CompositionLaws.Names.{NodeIsFound, FoundNodeHasPath, TargetNamesDiffer, LinkIsFound, FoundLinkHasName}
 use Rattle.pals_model.proofs.Lookups.{at_element, first_at, found_at}
 use Rattle.pals_model.proofs.ShapeLaws.{component_at, is_behaviour}
 use Rattle.pals_model.proofs.Words.{IsWithout, all_pass, word_without, same_bytes, other_bytes, splits_at_last}
@@ -37,7 +37,7 @@ found_node_has_path design node path found =
     some_and (slice_get design.components node) (λ (d : Component). d.path ≡ path) at.0 at.1 (sym ((bytes_eq-Decides path at.0.path).0 at.2))
 
 -- ---- in ports
-port_at : (ins : List Named) (port : ℕ) → port < length ins → (p : Named) × (slice_get ins port ≡ Some p)
+port_at : (ins : List PortDecl) (port : ℕ) → port < length ins → (p : PortDecl) × (slice_get ins port ≡ Some p)
 port_at ins port within =
     elim (slice_get_cases ins port).1 [
       | inl there ↦ (there.0, there.2)
@@ -45,22 +45,22 @@ port_at ins port within =
     ]
 
 -- the name of an in port, among those of a behaviour's values
-name_at : (b : BehaviourParts) (port : ℕ) (p : Named) → slice_get b.ins port ≡ Some p → slice_get (value_names b) port ≡ Some p.name
+name_at : (b : BehaviourParts) (port : ℕ) (p : PortDecl) → slice_get b.ins port ≡ Some p → slice_get (value_names b) port ≡ Some p.name
 name_at b port p is =
-    slice_get-append_left (map (λ (q : Named). q.name) b.ins ++ map (λ (q : Named). q.name) b.outs) (map (λ (v : VarDecl). v.name) b.vars) port p.name
-    (slice_get-append_left (map (λ (q : Named). q.name) b.ins) (map (λ (q : Named). q.name) b.outs) port p.name
-    (slice_get-map (λ (q : Named). q.name) b.ins port ∙ ap (option_map (λ (q : Named). q.name)) is))
+    slice_get-append_left (map (λ (q : PortDecl). q.name) b.ins ++ map (λ (q : PortDecl). q.name) b.outs) (map (λ (v : VarDecl). v.name) b.vars) port p.name
+    (slice_get-append_left (map (λ (q : PortDecl). q.name) b.ins) (map (λ (q : PortDecl). q.name) b.outs) port p.name
+    (slice_get-map (λ (q : PortDecl). q.name) b.ins port ∙ ap (option_map (λ (q : PortDecl). q.name)) is))
 
-port_without_dot : (b : BehaviourParts) (port : ℕ) (p : Named) → IsBehaviour b → slice_get b.ins port ≡ Some p → IsWithout 46 p.name
+port_without_dot : (b : BehaviourParts) (port : ℕ) (p : PortDecl) → IsBehaviour b → slice_get b.ins port ≡ Some p → IsWithout 46 p.name
 port_without_dot b port p rules is =
     word_without 46 p.name refl (at_element (λ name. is_word name ≡ true) (value_names b) port p.name (all_pass is_word (value_names b) rules.names.values) (name_at b port p is))
 
 -- what an in port's name is made of
 abbrev NamedBy : DesignParts → ℕ → ℕ → Type 0
 NamedBy design node port =
-    (c : Component) × (p : Named) × (slice_get design.components node ≡ Some c) × (slice_get c.behaviour.ins port ≡ Some p) × (target_name design node port ≡ c.path ++ 46 ∷ p.name) × IsWithout 46 p.name
+    (c : Component) × (p : PortDecl) × (slice_get design.components node ≡ Some c) × (slice_get c.behaviour.ins port ≡ Some p) × (target_name design node port ≡ c.path ++ 46 ∷ p.name) × IsWithout 46 p.name
 
-in_port_name-is : (c : Component) (port : ℕ) (p : Named) → slice_get c.behaviour.ins port ≡ Some p → in_port_name (Some c) port ≡ c.path ++ 46 ∷ p.name
+in_port_name-is : (c : Component) (port : ℕ) (p : PortDecl) → slice_get c.behaviour.ins port ≡ Some p → in_port_name (Some c) port ≡ c.path ++ 46 ∷ p.name
 in_port_name-is c port p is = ap (λ o. c.path ++ codes "." ++ port_name o) is ∙ append_assoc c.path (46 ∷ []) p.name
 
 named_by : (design : DesignParts) (node port : ℕ) → IsDesign design → IsTarget design node port → NamedBy design node port

@@ -14,7 +14,7 @@ use Rattle.pals_model.specs.declared.design.Feed.{Feed}
 use Rattle.pals_model.specs.Inputs.{new_names, feed_names, root_inputs, place_of}
 use Rattle.pals_model.specs.Ports.{first_kind, feed_kind}
 use Rattle.pals_model.specs.Rules.{AgreeInKind}
-use Rattle.pals_model.specs.proof.Laws.RootInputs.{RootInputsDiffer, RootInputsAreFeeds, RootInputsInOrder, FeedHasRoot, FeedsHaveRootKind}
+use Rattle.pals_model.specs.proof.CompositionLaws.RootInputs.{RootInputsDiffer, RootInputsAreFeeds, RootInputsInOrder, FeedHasRoot, FeedsHaveRootKind}
 use Rattle.pals_model.proofs.Words.{same_bytes, other_bytes}
 
 abbrev is_in : List ℕ → List (List ℕ) → Bool

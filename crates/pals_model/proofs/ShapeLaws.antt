@@ -6,8 +6,8 @@ use Rattle.std.proofs.lemmas.List.{length-map, length-replicate}
 use Rattle.std.proofs.lemmas.List.Elements.{All-weaker, All-map, All-filter, All-get_or, filter_passes}
 use Rattle.std.proofs.lemmas.Option.{slice_get-map, slice_get_cases, get_or_from_slice_get}
 use Rattle.std.specs.Option.{option_map}
-use Rattle.pals_base.specs.declared.values.Port.{Port}
-use Rattle.pals_base.specs.declared.values.Port.TheVariants.{Absent}
+use Rattle.pals_base.specs.declared.values.PortValue.{PortValue}
+use Rattle.pals_base.specs.declared.values.PortValue.TheVariants.{Absent}
 use Rattle.pals_base.specs.declared.values.Frame.{Frame}
 use Rattle.pals_base.specs.declared.behaviour.BehaviourParts.{BehaviourParts}
 use Rattle.pals_base.specs.Fire.{fire, HasShape}
@@ -24,8 +24,8 @@ use Rattle.pals_model.specs.Inputs.{rate_of, rate_in, values_at, feed, inputs_of
 use Rattle.pals_model.specs.Ports.{outs_in}
 use Rattle.pals_model.specs.Composition.{comp, state, msg, taps_of}
 use Rattle.pals_model.specs.Rules.{IsDesign, IsComponent, IsLink, IsTap}
-use Rattle.pals_model.specs.proof.Laws.{own_steps}
-use Rattle.pals_model.specs.proof.Laws.Shapes.{AreVectors, AreTuples, IsPart, FeedHasVectors, StateHasShape, StepsGiveTuples, MessageHasRate, WaitingMessageHasRate, PartHasShape}
+use Rattle.pals_model.specs.proof.CompositionLaws.{own_steps}
+use Rattle.pals_model.specs.proof.CompositionLaws.Shapes.{AreVectors, AreTuples, IsPart, FeedHasVectors, StateHasShape, StepsGiveTuples, MessageHasRate, WaitingMessageHasRate, PartHasShape}
 use Rattle.pals_model.proofs.CompositionLaws.{state_begins, state_goes_on, message_from_source, part_from_steps}
 use Rattle.pals_model.proofs.Lookups.{at_element}
 
@@ -33,16 +33,16 @@ use Rattle.pals_model.proofs.Lookups.{at_element}
 length-upwards : (n : ℕ) → length (upwards 0 n) ≡ n
 length-upwards n = sym (length-map (upwards 0 n) (λ at. column at [])) ∙ length-columns n []
 
-pub columns_have_lengths : (n m : ℕ) (lists : List (List Port)) → length lists ≡ m → All (λ list. length list ≡ m) (columns n lists)
+pub columns_have_lengths : (n m : ℕ) (lists : List (List PortValue)) → length lists ≡ m → All (λ list. length list ≡ m) (columns n lists)
 columns_have_lengths n m lists size =
     All-weaker (λ list. length list ≡ length lists) (λ list. length list ≡ m) (λ list is. is ∙ size) (columns n lists) (length-each_column n lists)
 
-pub length-outputs : (b : BehaviourParts) (frame : Frame) (vectors : List (List Port)) → length (outputs b frame vectors) ≡ length vectors
+pub length-outputs : (b : BehaviourParts) (frame : Frame) (vectors : List (List PortValue)) → length (outputs b frame vectors) ≡ length vectors
 length-outputs b frame [] = refl
 length-outputs b frame (inputs ∷ vectors) = ap suc (length-outputs b (fire b frame inputs).frame vectors)
 
 -- ---- inputs
-inputs_are_vectors : (design : DesignParts) (values : List Port) (messages : List (List Port)) (node : ℕ) (c : Component) → AreVectors c (inputs_of design values messages node c)
+inputs_are_vectors : (design : DesignParts) (values : List PortValue) (messages : List (List PortValue)) (node : ℕ) (c : Component) → AreVectors c (inputs_of design values messages node c)
 inputs_are_vectors design values messages node c =
     let ports = upwards 0 (length c.behaviour.ins) in
     let sources = sources_of design node c in
@@ -59,7 +59,7 @@ feed_has_vectors design env messages node round c is_c =
     subst (AreVectors c) (sym (ap (inputs_in design (values_at env round) messages node) is_c)) (inputs_are_vectors design (values_at env round) messages node c)
 
 -- ---- frames
-pub steps_keep_shape : (b : BehaviourParts) (frame : Frame) (vectors : List (List Port)) → IsBehaviour b → HasShape b frame → HasShape b (frame_after b frame vectors)
+pub steps_keep_shape : (b : BehaviourParts) (frame : Frame) (vectors : List (List PortValue)) → IsBehaviour b → HasShape b frame → HasShape b (frame_after b frame vectors)
 steps_keep_shape b frame [] rules shape = shape
 steps_keep_shape b frame (inputs ∷ vectors) rules shape = steps_keep_shape b (fire b frame inputs).frame vectors rules (fires_well b frame inputs rules shape).0
 
@@ -76,7 +76,7 @@ state_has_shape design env node (suc round) c rules is_c =
     (state_has_shape design env node round c rules is_c))
 
 -- ---- outputs
-pub length-cut : (n : ℕ) (tuple : List Port) → length (cut n tuple) ≡ length tuple
+pub length-cut : (n : ℕ) (tuple : List PortValue) → length (cut n tuple) ≡ length tuple
 length-cut n tuple = grind (arith, common_steps)
 
 pub steps_give_tuples : StepsGiveTuples
@@ -90,7 +90,7 @@ steps_give_tuples design env node round c is_c =
     }
 
 -- the tuple of an out port
-tuple_has_rate : (count rate port : ℕ) (tuples : List (List Port)) → AreTuples count rate tuples → port < count → length (slice_index_or tuples port []) ≡ rate
+tuple_has_rate : (count rate port : ℕ) (tuples : List (List PortValue)) → AreTuples count rate tuples → port < count → length (slice_index_or tuples port []) ≡ rate
 tuple_has_rate count rate port tuples are within =
     let within' : port < length tuples = omega (arith, are.count_is) in
     All-get_or (λ tuple. length tuple ≡ rate) tuples port [] within' are.each

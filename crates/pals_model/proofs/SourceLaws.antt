@@ -6,7 +6,7 @@ use Rattle.std.proofs.Common.{get_or, ne_of_lt}
 use Rattle.list_lemmas.proofs.Pairs.{AllPairs-slice_get}
 use Rattle.pals_model.specs.Inputs.{link_goes_to, feed_goes_to, from_link, from_feed}
 use Rattle.pals_model.specs.Rules.{port_place, LinkPrecedes, FeedPrecedes, IsApart}
-use Rattle.pals_model.specs.proof.Laws.Sources.{LinkIsSource, FeedIsSource, NothingIsSource}
+use Rattle.pals_model.specs.proof.CompositionLaws.Sources.{LinkIsSource, FeedIsSource, NothingIsSource}
 use Rattle.pals_model.proofs.Lookups.{at_element, first_at, none_passes}
 
 -- two in ports of other places are not the same

@@ -5,8 +5,8 @@ use Rattle.std.proofs.Common.{length-take-le, take_all}
 use Rattle.std.proofs.lemmas.Option.{slice_get_within}
 use Rattle.pals_base.specs.declared.values.Trap.{Trap}
 use Rattle.pals_base.specs.declared.values.Frame.{Frame}
-use Rattle.pals_base.specs.declared.values.Port.{Port}
-use Rattle.pals_base.specs.declared.values.Port.TheVariants.{Absent}
+use Rattle.pals_base.specs.declared.values.PortValue.{PortValue}
+use Rattle.pals_base.specs.declared.values.PortValue.TheVariants.{Absent}
 use Rattle.pals_base.specs.declared.behaviour.BehaviourParts.{BehaviourParts}
 use Rattle.pals_base.specs.Tree.{Edge}
 use Rattle.pals_base.specs.Expressions.{on_value}
@@ -20,17 +20,17 @@ use Rattle.pals_base.proofs.RoundUnderWay.{so_far-none, so_far-one_more, so_far-
 use Rattle.pals_model.specs.Inputs.{feed}
 use Rattle.pals_model.specs.Composition.{comp, state}
 use Rattle.pals_model.specs.Composition.{under_way}
-use Rattle.pals_model.specs.proof.Laws.Steps.{stepped_on, RoundBegins, RoundGoesOn, RoundEnds, PlacesStay, TrapIsSilent}
+use Rattle.pals_model.specs.proof.CompositionLaws.Steps.{stepped_on, RoundBegins, RoundGoesOn, RoundEnds, PlacesStay, TrapIsSilent}
 use Rattle.pals_model.proofs.ShapeLaws.{is_behaviour, state_has_shape, feed_has_vectors, length-outputs, steps_keep_shape}
 
-abbrev as_stepped : Frame → List (List Port) → Stepped
+abbrev as_stepped : Frame → List (List PortValue) → Stepped
 as_stepped frame tuples = record { frame = frame; tuples = tuples }
 
 -- ---- steps
 begins : (b : BehaviourParts) (frame : Frame) (rate : ℕ) → under_way b frame rate [] ≡ as_stepped frame (replicate (length b.outs) (replicate rate Absent))
 begins b frame rate = ap (as_stepped frame) (so_far-none (length b.outs) rate)
 
-goes_on : (b : BehaviourParts) (frame : Frame) (rate : ℕ) (vectors : List (List Port)) (inputs : List Port) → IsBehaviour b → HasShape b frame → length vectors < rate
+goes_on : (b : BehaviourParts) (frame : Frame) (rate : ℕ) (vectors : List (List PortValue)) (inputs : List PortValue) → IsBehaviour b → HasShape b frame → length vectors < rate
     → under_way b frame rate (vectors ++ inputs ∷ []) ≡ stepped_on b (length vectors) inputs (under_way b frame rate vectors)
 goes_on b frame rate vectors inputs rules shape within =
     let reached = frame_after b frame vectors in
@@ -46,7 +46,7 @@ goes_on b frame rate vectors inputs rules shape within =
     ∙ so_far-one_more rate before outs within'
     ∙ ap₂ (λ at n. with_places at outs (so_far n rate before)) size count)
 
-ends : (b : BehaviourParts) (frame : Frame) (vectors : List (List Port)) → under_way b frame (length vectors) vectors ≡ steps b frame vectors
+ends : (b : BehaviourParts) (frame : Frame) (vectors : List (List PortValue)) → under_way b frame (length vectors) vectors ≡ steps b frame vectors
 ends b frame vectors =
     ap (as_stepped (frame_after b frame vectors))
     (ap (λ n. so_far (length b.outs) n (outputs b frame vectors)) (sym (length-outputs b frame vectors)) ∙ so_far-all (length b.outs) (outputs b frame vectors))
@@ -81,12 +81,12 @@ round_ends design env node round c is_c =
     ∙ ends c.behaviour frame vectors
 
 -- ---- places
-take_before_set : (at : ℕ) (tuple : List Port) (value : Port) → take at (set tuple at value) ≡ take at tuple
+take_before_set : (at : ℕ) (tuple : List PortValue) (value : PortValue) → take at (set tuple at value) ≡ take at tuple
 take_before_set zero tuple value = refl
 take_before_set (suc at) [] value = refl
 take_before_set (suc at) (p ∷ ps) value = ap (λ qs. p ∷ qs) (take_before_set at ps value)
 
-places_before : (at : ℕ) (values : List Port) (tuples : List (List Port)) → map (take at) (with_places at values tuples) ≡ map (take at) tuples
+places_before : (at : ℕ) (values : List PortValue) (tuples : List (List PortValue)) → map (take at) (with_places at values tuples) ≡ map (take at) tuples
 places_before at [] tuples = refl
 places_before at (v ∷ vs) [] = refl
 places_before at (v ∷ vs) (t ∷ ts) = ap₂ (λ x xs. x ∷ xs) (take_before_set at t v) (places_before at vs ts)

@@ -1,8 +1,8 @@
 -- The multirate synchronous composition: all components make their steps of a round at once, and the messages of
 -- a round are read in the next one. It has no clock, no buffer, no thread and no code.
 use Rattle.std.specs.Prelude.{ℕ, suc, zero, nat_eq, List, [], ◌∷◌, map, filter, replicate, Option, Some, None, slice_get, slice_index_or, length, take}
-use Rattle.pals_base.specs.declared.values.Port.{Port}
-use Rattle.pals_base.specs.declared.values.Port.TheVariants.{Absent}
+use Rattle.pals_base.specs.declared.values.PortValue.{PortValue}
+use Rattle.pals_base.specs.declared.values.PortValue.TheVariants.{Absent}
 use Rattle.pals_base.specs.declared.values.Frame.{Frame}
 use Rattle.pals_base.specs.Fire.{initial}
 use Rattle.pals_base.specs.Steps.{steps, cut, Stepped, frame_after, outputs, so_far}
@@ -19,7 +19,7 @@ use Rattle.pals_base.specs.declared.behaviour.BehaviourParts.{BehaviourParts}
 -- the frames after some rounds, and the messages of the last of these rounds
 pub record Configuration : Type 0 where
   pub frames : List Frame
-  pub messages : List (List Port)
+  pub messages : List (List PortValue)
 
 -- before the first round: initial frames, and an absent tuple on each link
 abbrev pub opening : DesignParts → Configuration
@@ -29,33 +29,33 @@ opening design = record {
 }
 
 -- the steps of a round of the components from number node on
-abbrev pub steps_from : DesignParts → List Port → List (List Port) → ℕ → List Component → List Frame → List Stepped
+abbrev pub steps_from : DesignParts → List PortValue → List (List PortValue) → ℕ → List Component → List Frame → List Stepped
 steps_from design values messages node [] frames = []
 steps_from design values messages node (c ∷ cs) [] = []
 steps_from design values messages node (c ∷ cs) (frame ∷ frames) =
     steps c.behaviour frame (inputs_of design values messages node c) ∷ steps_from design values messages (suc node) cs frames
 
 -- the steps of a round of all components
-abbrev pub all_steps : DesignParts → List Port → Configuration → List Stepped
+abbrev pub all_steps : DesignParts → List PortValue → Configuration → List Stepped
 all_steps design values before = steps_from design values before.messages 0 design.components before.frames
 
-abbrev pub tuple_in : Option Stepped → ℕ → List Port
+abbrev pub tuple_in : Option Stepped → ℕ → List PortValue
 tuple_in None port = []
 tuple_in (Some s) port = slice_index_or s.tuples port []
 
 -- the tuple of an out port
-abbrev pub tuple_of : List Stepped → ℕ → ℕ → List Port
+abbrev pub tuple_of : List Stepped → ℕ → ℕ → List PortValue
 tuple_of all node port = tuple_in (slice_get all node) port
 
 -- a link's message: the places of its source's tuple that end in time to be sent
-abbrev pub message_of : DesignParts → List Stepped → Link → List Port
+abbrev pub message_of : DesignParts → List Stepped → Link → List PortValue
 message_of design all link = cut (sent_steps design.gamma design.period (rate_of design link.source.0)) (tuple_of all link.source.0 link.out_port)
 
 abbrev pub after_steps : DesignParts → List Stepped → Configuration
 after_steps design all = record { frames = map (λ (s : Stepped). s.frame) all; messages = map (message_of design all) design.links }
 
 -- one round, with these values of the root in ports
-abbrev pub next : DesignParts → List Port → Configuration → Configuration
+abbrev pub next : DesignParts → List PortValue → Configuration → Configuration
 next design values before = after_steps design (all_steps design values before)
 
 -- the configuration after a number of rounds
@@ -76,7 +76,7 @@ unfoldable pub state : DesignParts → Env → ℕ → ℕ → Frame
 state design env node rounds = slice_index_or (comp design env rounds).frames node no_frame
 
 -- a link's message of a round
-unfoldable pub msg : DesignParts → Env → ℕ → ℕ → List Port
+unfoldable pub msg : DesignParts → Env → ℕ → ℕ → List PortValue
 msg design env link round = slice_index_or (comp design env (suc round)).messages link []
 
 -- the taps of a component
@@ -94,7 +94,7 @@ unfoldable pub part : DesignParts → Env → ℕ → ℕ → Part
 part design env node round = part_of design (steps_of_round design env round) node
 
 -- in the midst of a round of `rate` steps, after those at these inputs: the frame, and the places that they filled
-abbrev pub under_way : BehaviourParts → Frame → ℕ → List (List Port) → Stepped
+abbrev pub under_way : BehaviourParts → Frame → ℕ → List (List PortValue) → Stepped
 under_way b frame rate vectors = record { frame = frame_after b frame vectors; tuples = so_far (length b.outs) rate (outputs b frame vectors) }
 
 -- a component's own round, after its first steps

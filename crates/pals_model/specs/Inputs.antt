@@ -2,8 +2,8 @@
 use Rattle.std.specs.Prelude.{if◌then◌else◌, ◌++◌, ℕ, nat_eq, ◌&&◌, Bool, bytes_eq, List, [], ◌∷◌, length, map, filter, position, replicate, Option, Some, None, slice_get, slice_index_or}
 use Rattle.std.specs.List.{list_any, enumerate_from}
 use Rattle.std.specs.Option.{unwrap_or}
-use Rattle.pals_base.specs.declared.values.Port.{Port}
-use Rattle.pals_base.specs.declared.values.Port.TheVariants.{Absent}
+use Rattle.pals_base.specs.declared.values.PortValue.{PortValue}
+use Rattle.pals_base.specs.declared.values.PortValue.TheVariants.{Absent}
 use Rattle.pals_base.specs.Adaptors.{adapt}
 use Rattle.pals_base.specs.Steps.{column, columns, upwards}
 use Rattle.pals_model.specs.declared.design.Component.{Component}
@@ -38,7 +38,7 @@ abbrev pub root_of : DesignParts → ℕ → ℕ
 root_of design feed = place_of (slice_index_or (feed_names design) feed []) (root_inputs design)
 
 -- the value that each root in port has in a round, absent past its list
-abbrev pub values_at : Env → ℕ → List Port
+abbrev pub values_at : Env → ℕ → List PortValue
 values_at env round = column round env.lists
 
 -- ---- rates
@@ -86,30 +86,30 @@ links_from design node = map (λ numbered. numbered.0) (filter (λ numbered. nat
 
 -- ---- what it brings
 -- a root in port is read as a source of rate 1
-abbrev pub read_feed : Port → ℕ → Option Feed → List Port
+abbrev pub read_feed : PortValue → ℕ → Option Feed → List PortValue
 read_feed value rate None = replicate rate Absent
 read_feed value rate (Some feed) = adapt feed.adaptor 1 rate (value ∷ [])
 
-abbrev pub read_link : DesignParts → ℕ → List Port → Option Link → List Port
+abbrev pub read_link : DesignParts → ℕ → List PortValue → Option Link → List PortValue
 read_link design rate message None = replicate rate Absent
 read_link design rate message (Some link) = adapt link.adaptor (rate_of design link.source.0) rate message
 
 -- the tuple that an in port of a component of this rate brings, from the root in ports' values and the links' messages
-abbrev pub reading : DesignParts → List Port → List (List Port) → ℕ → PortSource → List Port
+abbrev pub reading : DesignParts → List PortValue → List (List PortValue) → ℕ → PortSource → List PortValue
 reading design values messages rate source.Nothing = replicate rate Absent
 reading design values messages rate (source.Feed feed root) = read_feed (slice_index_or values root Absent) rate (slice_get design.feeds feed)
 reading design values messages rate (source.Link link) = read_link design rate (slice_index_or messages link []) (slice_get design.links link)
 
 -- the input vectors of a component's round, one for each step: vector n has place n of each tuple
-abbrev pub inputs_of : DesignParts → List Port → List (List Port) → ℕ → Component → List (List Port)
+abbrev pub inputs_of : DesignParts → List PortValue → List (List PortValue) → ℕ → Component → List (List PortValue)
 inputs_of design values messages node c = columns c.rate (map (reading design values messages c.rate) (sources_of design node c))
 
-abbrev pub inputs_in : DesignParts → List Port → List (List Port) → ℕ → Option Component → List (List Port)
+abbrev pub inputs_in : DesignParts → List PortValue → List (List PortValue) → ℕ → Option Component → List (List PortValue)
 inputs_in design values messages node None = []
 inputs_in design values messages node (Some c) = inputs_of design values messages node c
 
 -- the input vectors of a component's round, by the component's number
-unfoldable pub feed : DesignParts → Env → List (List Port) → ℕ → ℕ → List (List Port)
+unfoldable pub feed : DesignParts → Env → List (List PortValue) → ℕ → ℕ → List (List PortValue)
 feed design env messages node round = inputs_in design (values_at env round) messages node (slice_get design.components node)
 
 abbrev pub no_env : Env

@@ -1,11 +1,11 @@
 -- The names by which texts speak of components and links.
 use Rattle.std.specs.Prelude.{ℕ, codes, bytes_eq, List, [], ◌++◌, position, Option, Some, None, slice_get}
-use Rattle.pals_base.specs.declared.behaviour.Named.{Named}
+use Rattle.pals_base.specs.declared.behaviour.PortDecl.{PortDecl}
 use Rattle.pals_model.specs.declared.design.Component.{Component}
 use Rattle.pals_model.specs.declared.design.Link.{Link}
 use Rattle.pals_model.specs.declared.design.DesignParts.{DesignParts}
 
-abbrev pub port_name : Option Named → List ℕ
+abbrev pub port_name : Option PortDecl → List ℕ
 port_name None = []
 port_name (Some port) = port.name
 

@@ -2,7 +2,7 @@
 use Rattle.std.specs.Prelude.{ℕ, bytes_eq, List, length, find, Option, Some, None, slice_get}
 use Rattle.pals_base.specs.declared.behaviour.Kind.{Kind}
 use Rattle.pals_base.specs.declared.behaviour.Kind.TheVariants.{Integer}
-use Rattle.pals_base.specs.declared.behaviour.Named.{Named}
+use Rattle.pals_base.specs.declared.behaviour.PortDecl.{PortDecl}
 use Rattle.pals_model.specs.declared.design.Component.{Component}
 use Rattle.pals_model.specs.declared.design.Feed.{Feed}
 use Rattle.pals_model.specs.declared.design.DesignParts.{DesignParts}
@@ -16,7 +16,7 @@ outs_in None = 0
 outs_in (Some c) = length c.behaviour.outs
 
 -- the type of a port, that of numbers where there is none
-abbrev pub kind_of : Option Named → Kind
+abbrev pub kind_of : Option PortDecl → Kind
 kind_of None = Integer
 kind_of (Some port) = port.kind
 

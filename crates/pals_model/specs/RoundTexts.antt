@@ -2,8 +2,8 @@
 use Rattle.std.specs.Prelude.{ℕ, nat_eq, ℤ, codes, decimal, List, [], ◌∷◌, ◌++◌, length, map, filter, flat_map, zip, take, Option, Some, None, slice_get, slice_index_or, if◌then◌else◌, Bool}
 use Rattle.std.specs.List.{enumerate_from}
 use Rattle.std.specs.Fmt.{signed_decimal}
-use Rattle.pals_base.specs.declared.values.Port.{Port}
-use Rattle.pals_base.specs.declared.values.Port.TheVariants.{Absent, Present}
+use Rattle.pals_base.specs.declared.values.PortValue.{PortValue}
+use Rattle.pals_base.specs.declared.values.PortValue.TheVariants.{Absent, Present}
 use Rattle.pals_base.specs.declared.values.Trap.{Trap}
 use Rattle.pals_base.specs.declared.values.Trap.TheVariants.{Overflow, ZeroDivisor}
 use Rattle.pals_base.specs.declared.values.Frame.{Frame}
@@ -36,7 +36,7 @@ abbrev pub value_text : Kind → ℤ → List ℕ
 value_text Integer v = signed_decimal v
 value_text Boolean v = if is_true v then codes "true" else codes "false"
 
-abbrev pub port_text : Kind → Port → List ℕ
+abbrev pub port_text : Kind → PortValue → List ℕ
 port_text kind Absent = codes "_"
 port_text kind (Present v) = value_text kind v
 
@@ -46,7 +46,7 @@ with_commas [] = []
 with_commas (text ∷ []) = text
 with_commas (text ∷ next ∷ texts) = text ++ codes "," ++ with_commas (next ∷ texts)
 
-abbrev pub tuple_text : Kind → List Port → List ℕ
+abbrev pub tuple_text : Kind → List PortValue → List ℕ
 tuple_text kind tuple = codes "(" ++ with_commas (map (port_text kind) tuple) ++ codes ")"
 
 -- ---- the line of a component
@@ -73,7 +73,7 @@ abbrev pub component_line : List ℕ → BehaviourParts → Frame → List ℕ
 component_line name b frame = name ++ codes " " ++ state_text b frame frame.halt ++ vars_text b.vars frame.vars
 
 -- ---- the line of a root out port
-abbrev pub tap_line : Kind → Tap → List Port → List ℕ
+abbrev pub tap_line : Kind → Tap → List PortValue → List ℕ
 tap_line kind tap tuple = codes "out " ++ tap.name ++ codes " " ++ tuple_text kind tuple
 
 -- how many of the first n taps are of the node: the place of a tap among those of its source

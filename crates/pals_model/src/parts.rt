@@ -5,7 +5,7 @@ ghost use Rattle.pals_model.specs.Ports.{kind_of, in_kind, out_kind};
 ghost use Rattle.pals_model.specs.Rules.{greatest_rate};
 
 use crate::design::{Component, DesignParts};
-use pals_base::{Kind, Named, NodeNo};
+use pals_base::{Kind, PortDecl, NodeNo};
 
 impl DesignParts {
     /// The component of a number, or none past the end.
@@ -55,7 +55,7 @@ pub fn greatest_rate(components: &[Component]) -> u32
         .fold(1, |greatest, component| greatest.max(component.rate))
 }
 
-fn kind_of(port: Option<&Named>) -> Kind
+fn kind_of(port: Option<&PortDecl>) -> Kind
     ensures { result ≡ kind_of (option_copied port.entry) }
 {
     match port {

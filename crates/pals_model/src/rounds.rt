@@ -4,7 +4,7 @@ ghost use Rattle.pals_model.specs.Inputs.{values_at};
 ghost use Rattle.pals_model.specs.Delays.{delay_in, delay_of};
 
 use pals_base::tuples::place;
-use pals_base::{Frame, Items, LinkNo, Nanos, NoMemory, Port, Same, TryClone, Tuple};
+use pals_base::{Frame, Items, LinkNo, Nanos, NoMemory, PortValue, Same, TryClone, Tuple};
 use std::alloc::Global;
 
 /// The values of the root in ports: one list per port, in the order of the feeds that name them
@@ -16,7 +16,7 @@ pub struct Env {
 
 impl Env {
     /// Writes the values of a round over those of another, one per root in port. It takes no memory.
-    pub fn write_values(&self, round: u32, values: &mut [Port])
+    pub fn write_values(&self, round: u32, values: &mut [PortValue])
         requires { length values.old ≡ length self.now.lists }
         ensures { values.new ≡ values_at self.now round }
     {

@@ -3,7 +3,7 @@ use Rattle.std.proofs.Common.{◌≡◌, ◌∙◌, inl, inr, ℕ, ◌-◌, ◌�
 use Rattle.std.specs.Prelude.{if◌then◌else◌}
 use Rattle.std.specs.Arc.{arc_value}
 use Rattle.std.proofs.lemmas.Bool.{eqb-true, eqb-false, cases_lt}
-use Rattle.pals_base.specs.declared.values.Port.{Port}
+use Rattle.pals_base.specs.declared.values.PortValue.{PortValue}
 use Rattle.pals_base.specs.declared.values.Frame.{Frame}
 use Rattle.pals_base.specs.Fire.{Fired, HasShape}
 use Rattle.pals_base.specs.Steps.{with_places}
@@ -14,7 +14,7 @@ use Rattle.bus_machine.specs.NodeEvents.{fired, finished, finished_with}
 use Rattle.pals_node.specs.declared.fields.Fields.{Fields}
 use Rattle.std.proofs.lemmas.Option.{slice_get-get_or, get_or_from_slice_get}
 use Rattle.pals_node.specs.proof.Values.{Program, job_value, job_at}
-use Rattle.pals_node.specs.proof.Keeping.{IsProgram, AreTuples, HasRound, IsOpen, PhaseKeeps, HasMessageRoom, Keeps, state_of, value_of}
+use Rattle.pals_node.specs.proof.NodeInvariants.{IsProgram, AreTuples, HasRound, IsOpen, PhaseKeeps, HasMessageRoom, Keeps, state_of, value_of}
 use Rattle.pals_node.specs.proof.Memories.{HasMemory}
 use Rattle.pals_base.specs.declared.limits.TheConstants.{ROUNDS}
 use Rattle.step_code.specs.proof.Exec.{exec, Leaves}
@@ -23,7 +23,7 @@ use Rattle.pals_node.proofs.Places.{length-with_places, places-with_places}
 use Rattle.pals_node.proofs.Programs.{fires, leaves_shape, leaves_outs}
 
 -- outputs with one more place have the sizes that they had
-pub outs_keep : (at count places : ℕ) (values : List Port) (tuples : List (List Port)) → AreTuples count places tuples
+pub outs_keep : (at count places : ℕ) (values : List PortValue) (tuples : List (List PortValue)) → AreTuples count places tuples
     → AreTuples count places (with_places at values tuples)
 outs_keep at count places values tuples are =
     record {
@@ -57,7 +57,7 @@ after_keeps plan f false is most round = (round, is)
 
 -- ---- a step that is made
 -- what the code left is what the machine's step leaves
-pub record IsMade (f : Fields) (step : ℕ) (frame : Frame) (outs : List Port) : Type 0 where
+pub record IsMade (f : Fields) (step : ℕ) (frame : Frame) (outs : List PortValue) : Type 0 where
   pub fired_is : (let made : Fired = record { frame = frame; outs = outs } in made)
       ≡ fired (arc_value f.plan).plan step (state_of f)
   pub shape : HasShape (arc_value f.plan).plan.behaviour frame
@@ -68,14 +68,14 @@ pub runs_open : (f : Fields) (step : ℕ) → Keeps f → f.phase ≡ Running st
 runs_open f step keeps runs = subst (PhaseKeeps (arc_value f.plan).plan f) runs keeps.phase_keeps
 
 -- the inputs of that step
-pub inputs_size : (f : Fields) (step : ℕ) (d : List Port) → IsOpen (arc_value f.plan).plan f step
+pub inputs_size : (f : Fields) (step : ℕ) (d : List PortValue) → IsOpen (arc_value f.plan).plan f step
     → length (slice_index_or f.vectors step d) ≡ length (arc_value f.plan).plan.behaviour.ins
 inputs_size f step d round =
     let count = round.round.vectors.count_is in
     let within = round.within in
     round.round.vectors.places_are step d (omega arith)
 
-pub makes : (f : Fields) (step : ℕ) (frame : Frame) (outs : List Port) → Keeps f → f.phase ≡ Running step
+pub makes : (f : Fields) (step : ℕ) (frame : Frame) (outs : List PortValue) → Keeps f → f.phase ≡ Running step
     → exec (arc_value f.plan).code f.frame (slice_index_or f.vectors step [])
     ≡ Leaves (record { frame = frame; outs = outs }) → IsMade f step frame outs
 makes f step frame outs keeps runs left =
@@ -128,7 +128,7 @@ keeps_on old new rest same phase =
     subst Keeps (sym same) all
 
 -- ---- the job that is out
-pub input_at : (f : Fields) (step : ℕ) (inputs : List Port) → IsOpen (arc_value f.plan).plan f step
+pub input_at : (f : Fields) (step : ℕ) (inputs : List PortValue) → IsOpen (arc_value f.plan).plan f step
     → inputs ≡ slice_index_or f.vectors step inputs → inputs ≡ slice_index_or f.vectors step []
 input_at f step inputs round is =
     let count = round.round.vectors.count_is in
@@ -136,9 +136,9 @@ input_at f step inputs round is =
     is ∙ sym (get_or_from_slice_get f.vectors step (slice_index_or f.vectors step inputs) []
     (slice_get-get_or f.vectors step inputs (omega arith)))
 
-pub job_is : (f : Fields) (step : ℕ) (program : Program) (inputs : List Port) → IsOpen (arc_value f.plan).plan f step
+pub job_is : (f : Fields) (step : ℕ) (program : Program) (inputs : List PortValue) → IsOpen (arc_value f.plan).plan f step
     → program ≡ arc_value f.plan → inputs ≡ slice_index_or f.vectors step inputs
     → job_value program (f.count - 1) step f.frame inputs ≡ job_at (value_of f) step
 job_is f step program inputs round same is =
-    ap₂ (λ (p : Program) (i : List Port). job_value p (f.count - 1) step f.frame i) same
+    ap₂ (λ (p : Program) (i : List PortValue). job_value p (f.count - 1) step f.frame i) same
     (input_at f step inputs round is)

@@ -9,7 +9,7 @@ use Rattle.pals_node.specs.declared.fields.Fields.{Fields}
 use Rattle.pals_node.specs.declared.memory.Memory.{Memory}
 use Rattle.pals_node.specs.proof.Values.{Program, JobValue, job_at}
 use Rattle.pals_node.specs.proof.Memories.{HasSizes, IsMemoryFor, IsLeft}
-use Rattle.pals_node.specs.proof.Keeping.{IsProgram, Keeps, value_of}
+use Rattle.pals_node.specs.proof.NodeInvariants.{IsProgram, Keeps, value_of}
 use Rattle.pals_node.proofs.Ends.{runs_open, inputs_size}
 
 pub sizes : (p : Program) (frame : Frame) → IsProgram p → HasShape p.plan.behaviour frame → HasSizes p.code frame

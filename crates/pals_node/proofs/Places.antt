@@ -6,17 +6,17 @@ use Rattle.std.proofs.lemmas.Bool.{lt-ltb, le-ltb, cases_lt}
 use Rattle.std.proofs.lemmas.List.{drop_all, length-set, append-nil, take_all, length-append, length-take, length-take-le, length-replicate, get_or-take, get_or-replicate, get_or_append_left, get_or-append_right}
 use Rattle.std.proofs.lemmas.List.Elements.{All-head, All-tail, All-cons}
 use Rattle.std.proofs.lemmas.Option.{slice_get-get_or, get_or_from_slice_get}
-use Rattle.pals_base.specs.declared.values.Port.{Port}
-use Rattle.pals_base.specs.declared.values.Port.TheVariants.{Absent}
+use Rattle.pals_base.specs.declared.values.PortValue.{PortValue}
+use Rattle.pals_base.specs.declared.values.PortValue.TheVariants.{Absent}
 use Rattle.pals_base.specs.Steps.{column, cut, with_places}
 
 -- ---- cut tuples
-pub length-cut : (count : ℕ) (tuple : List Port) → length (cut count tuple) ≡ length tuple
+pub length-cut : (count : ℕ) (tuple : List PortValue) → length (cut count tuple) ≡ length tuple
 length-cut count tuple =
     length-append (take count tuple) (replicate (length tuple - count) Absent)
     ∙ omega (arith, length-take count tuple, length-replicate (length tuple - count) Absent)
 
-pub cut-at : (count at : ℕ) (tuple : List Port) (d : Port) → at < length tuple
+pub cut-at : (count at : ℕ) (tuple : List PortValue) (d : PortValue) → at < length tuple
     → slice_index_or (cut count tuple) at d ≡ (if nat_lt at count then slice_index_or tuple at d else Absent)
 cut-at count at tuple d within =
     elim (cases_lt at count) [
@@ -32,26 +32,26 @@ cut-at count at tuple d within =
           ∙ sym (ap (λ (b : Bool). if b then slice_index_or tuple at d else Absent) (le-ltb at count past))
     ]
 
-pub cut_place : (count at : ℕ) (tuple : List Port) (d : Port) → at < length tuple
+pub cut_place : (count at : ℕ) (tuple : List PortValue) (d : PortValue) → at < length tuple
     → (if nat_lt at count then slice_index_or tuple at Absent else Absent) ≡ slice_index_or (cut count tuple) at d
 cut_place count at tuple d within =
     let same : slice_index_or tuple at Absent ≡ slice_index_or tuple at d =
     get_or_from_slice_get tuple at (slice_index_or tuple at d) Absent (slice_get-get_or tuple at d within) in
     ap (λ p. if nat_lt at count then p else Absent) same ∙ sym (cut-at count at tuple d within)
 
-pub cut_whole : (count : ℕ) (tuple : List Port) → length tuple ≤ count → cut count tuple ≡ tuple
+pub cut_whole : (count : ℕ) (tuple : List PortValue) → length tuple ≤ count → cut count tuple ≡ tuple
 cut_whole count tuple within =
     let none : length tuple - count ≡ 0 = omega arith in
     ap (λ n. take count tuple ++ replicate n Absent) none ∙ append-nil (take count tuple) ∙ take_all count tuple within
 
 -- ---- a place of each tuple
-pub length-with_places : (at : ℕ) (values : List Port) (tuples : List (List Port))
+pub length-with_places : (at : ℕ) (values : List PortValue) (tuples : List (List PortValue))
     → length (with_places at values tuples) ≡ length tuples
 length-with_places at [] tuples = refl
 length-with_places at (v ∷ vs) [] = refl
 length-with_places at (v ∷ vs) (t ∷ ts) = ap suc (length-with_places at vs ts)
 
-pub places-with_places : (at places : ℕ) (values : List Port) (tuples : List (List Port))
+pub places-with_places : (at places : ℕ) (values : List PortValue) (tuples : List (List PortValue))
     → All (λ tuple. length tuple ≡ places) tuples → All (λ tuple. length tuple ≡ places) (with_places at values tuples)
 places-with_places at places [] tuples all = all
 places-with_places at places (v ∷ vs) [] all = all
@@ -61,7 +61,7 @@ places-with_places at places (v ∷ vs) (t ∷ ts) all =
     (places-with_places at places vs ts (All-tail (λ tuple. length tuple ≡ places) t ts all))
 
 -- one more tuple has its place
-more_places : (at k : ℕ) (values : List Port) (tuples : List (List Port)) (d : List Port) (e : Port) → k < length values
+more_places : (at k : ℕ) (values : List PortValue) (tuples : List (List PortValue)) (d : List PortValue) (e : PortValue) → k < length values
     → length values ≡ length tuples
     → slice_set (with_places at (take k values) tuples) k
     (slice_set (slice_index_or (with_places at (take k values) tuples) k d) at (slice_index_or values k e))
@@ -72,7 +72,7 @@ more_places at zero (v ∷ vs) (t ∷ ts) d e within same = refl
 more_places at (suc k) (v ∷ vs) (t ∷ ts) d e within same =
     ap (λ us. slice_set t at v ∷ us) (more_places at k vs ts d e (omega arith) (omega arith))
 
-pub places_more : (at k : ℕ) (values : List Port) (tuples : List (List Port)) (d : List Port) (e : Port)
+pub places_more : (at k : ℕ) (values : List PortValue) (tuples : List (List PortValue)) (d : List PortValue) (e : PortValue)
     → k < length values → length values ≡ length tuples
     → slice_set (with_places at (take k values) tuples) k
     (slice_set (slice_index_or (with_places at (take k values) tuples) k d) at (slice_index_or values k e))
@@ -80,7 +80,7 @@ pub places_more : (at k : ℕ) (values : List Port) (tuples : List (List Port)) 
 places_more at k values tuples d e within same =
     more_places at k values tuples d e within same ∙ ap (λ n. with_places at (take n values) tuples) (sym (add-one k))
 
-abbrev pub no_message : Option (List Port)
+abbrev pub no_message : Option (List PortValue)
 no_message = None
 
 -- ---- two lists side by side
@@ -128,7 +128,7 @@ more_empty [] k within = absurd (omega arith)
 more_empty (x ∷ xs) zero within = refl
 more_empty (x ∷ xs) (suc k) within = ap (λ slots. no_message ∷ slots) (more_empty xs k (omega arith))
 
-abbrev emptied : {X : Type 0} → List X → ℕ → List (Option (List Port))
+abbrev emptied : {X : Type 0} → List X → ℕ → List (Option (List PortValue))
 emptied {X} xs n = map (λ (_ : X). no_message) (take n xs)
 
 pub empty_more : {X : Type 0} (xs : List X) (k : ℕ) → k < length xs
@@ -143,7 +143,7 @@ empty_at (x ∷ xs) zero within = refl
 empty_at (x ∷ xs) (suc k) within = empty_at xs k (omega arith)
 
 -- a column of what a function gives
-pub column_of : {X : Type 0} (f : X → List Port) (at : ℕ) (xs : List X)
+pub column_of : {X : Type 0} (f : X → List PortValue) (at : ℕ) (xs : List X)
     → column at (map f xs) ≡ map (λ x. slice_index_or (f x) at Absent) xs
 column_of f at [] = refl
 column_of f at (x ∷ xs) = ap (λ ports. slice_index_or (f x) at Absent ∷ ports) (column_of f at xs)

@@ -18,7 +18,7 @@ use Rattle.pals_model.specs.Rules.{IsDesign, IsComponent, IsLink, IsTap, greates
 use Rattle.pals_model.proofs.Lookups.{at_element}
 use Rattle.bus_machine.specs.Plans.{component_at, no_component, plan_of, input_of, out_links_of}
 use Rattle.bus_machine.proofs.Vectors.{length_sources}
-use Rattle.pals_node.specs.proof.Keeping.{IsPlan}
+use Rattle.pals_node.specs.proof.NodeInvariants.{IsPlan}
 
 -- ---- times
 offset_fits : (g : Gamma) (t k : ℕ) → g.mu_max + 2 * g.eps + max (backoff g) g.alpha_max ≤ t → release_offset g t k ≤ t

@@ -2,14 +2,14 @@
 use Rattle.std.proofs.Common.{◌≡◌, ◌∙◌, Bool, true, List, length, Option, Some, None, slice_get, refl, sym}
 use Rattle.std.specs.Prelude.{IsTrue}
 use Rattle.std.proofs.lemmas.Bool.{false≢true}
-use Rattle.pals_base.specs.declared.values.Port.{Port}
+use Rattle.pals_base.specs.declared.values.PortValue.{PortValue}
 use Rattle.pals_base.specs.declared.values.Frame.{Frame}
 use Rattle.pals_base.specs.declared.behaviour.StateDecl.{StateDecl}
 use Rattle.pals_base.specs.Fire.{Fired, HasShape, fire, may_begin}
 use Rattle.pals_base.proofs.Ending.{fires_well}
 use Rattle.step_code.specs.proof.Exec.{Leaves, FitsCode, exec}
 use Rattle.pals_node.specs.proof.Values.{Program}
-use Rattle.pals_node.specs.proof.Keeping.{IsProgram}
+use Rattle.pals_node.specs.proof.NodeInvariants.{IsProgram}
 
 -- ---- frames
 is_true : (b : Bool) → IsTrue b → b ≡ true
@@ -34,17 +34,17 @@ same_left : (a b : Fired) → Leaves a ≡ Leaves b → a ≡ b
 same_left a b same = cc
 
 -- the code leaves what the behaviour's step leaves
-pub fires : (p : Program) (frame : Frame) (inputs : List Port) (result : Fired) → IsProgram p
+pub fires : (p : Program) (frame : Frame) (inputs : List PortValue) (result : Fired) → IsProgram p
     → HasShape p.plan.behaviour frame → length inputs ≡ length p.plan.behaviour.ins
     → exec p.code frame inputs ≡ Leaves result → result ≡ fire p.plan.behaviour frame inputs
 fires p frame inputs result rules shape size left =
     same_left result (fire p.plan.behaviour frame inputs) (sym left ∙ rules.means.steps frame inputs shape size)
 
 -- a step keeps the shape, and gives each out port a place
-pub leaves_shape : (p : Program) (frame : Frame) (inputs : List Port) → IsProgram p → HasShape p.plan.behaviour frame
+pub leaves_shape : (p : Program) (frame : Frame) (inputs : List PortValue) → IsProgram p → HasShape p.plan.behaviour frame
     → HasShape p.plan.behaviour (fire p.plan.behaviour frame inputs).frame
 leaves_shape p frame inputs rules shape = (fires_well p.plan.behaviour frame inputs rules.plan.behaviour shape).0
 
-pub leaves_outs : (p : Program) (frame : Frame) (inputs : List Port) → IsProgram p → HasShape p.plan.behaviour frame
+pub leaves_outs : (p : Program) (frame : Frame) (inputs : List PortValue) → IsProgram p → HasShape p.plan.behaviour frame
     → length (fire p.plan.behaviour frame inputs).outs ≡ length p.plan.behaviour.outs
 leaves_outs p frame inputs rules shape = (fires_well p.plan.behaviour frame inputs rules.plan.behaviour shape).1

@@ -5,8 +5,8 @@ use Rattle.std.specs.Arc.{arc_value}
 use Rattle.std.proofs.lemmas.List.{length-map, length-replicate}
 use Rattle.std.proofs.lemmas.List.Elements.{All-replicate, All-weaker}
 use Rattle.std.proofs.lemmas.Option.{slice_get-get_or, get_or_from_slice_get}
-use Rattle.pals_base.specs.declared.values.Port.{Port}
-use Rattle.pals_base.specs.declared.values.Port.TheVariants.{Absent}
+use Rattle.pals_base.specs.declared.values.PortValue.{PortValue}
+use Rattle.pals_base.specs.declared.values.PortValue.TheVariants.{Absent}
 use Rattle.pals_base.specs.declared.values.Frame.{Frame}
 use Rattle.pals_base.specs.Fire.{initial}
 use Rattle.pals_base.proofs.Steps.{length-columns, length-each_column}
@@ -18,7 +18,7 @@ use Rattle.bus_machine.specs.Nodes.{brought, vectors_of}
 use Rattle.bus_machine.specs.NodeEvents.{started}
 use Rattle.pals_node.specs.declared.fields.Fields.{Fields}
 use Rattle.pals_node.specs.proof.Values.{NodeValue, with_state, job_value}
-use Rattle.pals_node.specs.proof.Keeping.{IsPlan, AreTuples, IsPartRoom, state_of, value_of}
+use Rattle.pals_node.specs.proof.NodeInvariants.{IsPlan, AreTuples, IsPartRoom, state_of, value_of}
 use Rattle.pals_node.proofs.Places.{no_message}
 
 -- ---- sizes
@@ -35,10 +35,10 @@ length-zip [] ys same = refl
 length-zip (x ∷ xs) [] same = absurd (omega arith)
 length-zip (x ∷ xs) (y ∷ ys) same = ap suc (length-zip xs ys (omega arith))
 
-pub vectors_are : (plan : Plan) (env : List Port) (slots : List (Option (List Port))) → IsPlan plan
+pub vectors_are : (plan : Plan) (env : List PortValue) (slots : List (Option (List PortValue))) → IsPlan plan
     → length slots ≡ length plan.inputs → AreTuples plan.rate (length plan.behaviour.ins) (vectors_of plan env slots)
 vectors_are plan env slots rules same =
-    let tuples = map (λ (p : Input × Option (List Port)). brought plan.rate env p.0 p.1) (zip plan.inputs slots) in
+    let tuples = map (λ (p : Input × Option (List PortValue)). brought plan.rate env p.0 p.1) (zip plan.inputs slots) in
     let size : length tuples ≡ length plan.behaviour.ins = length-map (zip plan.inputs slots) _
     ∙ length-zip plan.inputs slots same ∙ rules.inputs in
     record {
@@ -57,7 +57,7 @@ part_room plan part frame outs = record {
 }
 
 -- ---- the value
-abbrev started_value : Fields → List (Option (List Port)) → List (List Port) → List (List Port) → List Part → NodeValue
+abbrev started_value : Fields → List (Option (List PortValue)) → List (List PortValue) → List (List PortValue) → List Part → NodeValue
 started_value f slots vectors outs parts =
     with_state (value_of f) (record (state_of f) {
       count = f.count + 1;
@@ -69,19 +69,19 @@ started_value f slots vectors outs parts =
       parts = parts;
     })
 
-pub starts_value : (f : Fields) (env : List Port) (vectors outs : List (List Port)) (parts : List Part)
+pub starts_value : (f : Fields) (env : List PortValue) (vectors outs : List (List PortValue)) (parts : List Part)
     → vectors ≡ vectors_of (arc_value f.plan).plan env f.slots
     → outs ≡ replicate (length (arc_value f.plan).plan.behaviour.outs) (replicate (arc_value f.plan).plan.rate Absent)
     → parts ≡ f.parts.items
-    → started_value f (map (λ (_ : Option (List Port)). no_message) f.slots) vectors outs parts
+    → started_value f (map (λ (_ : Option (List PortValue)). no_message) f.slots) vectors outs parts
     ≡ with_state (value_of f) (started (arc_value f.plan).plan env (state_of f))
 starts_value f env vectors outs parts is_vectors is_outs is_parts =
-    ap (λ v. started_value f (map (λ (_ : Option (List Port)). no_message) f.slots) v outs parts) is_vectors
-    ∙ ap₂ (λ o p. started_value f (map (λ (_ : Option (List Port)). no_message) f.slots)
+    ap (λ v. started_value f (map (λ (_ : Option (List PortValue)). no_message) f.slots) v outs parts) is_vectors
+    ∙ ap₂ (λ o p. started_value f (map (λ (_ : Option (List PortValue)). no_message) f.slots)
     (vectors_of (arc_value f.plan).plan env f.slots) o p) is_outs is_parts
 
 -- the job of the first step
-pub first_job : (f : Fields) (vectors : List (List Port)) (inputs : List Port) → 0 < length vectors
+pub first_job : (f : Fields) (vectors : List (List PortValue)) (inputs : List PortValue) → 0 < length vectors
     → inputs ≡ slice_index_or vectors 0 inputs
     → job_value (arc_value f.plan) f.count 0 f.frame inputs
     ≡ job_value (arc_value f.plan) (f.count + 1 - 1) 0 f.frame (slice_index_or vectors 0 [])

@@ -1,10 +1,10 @@
 //! Tuples that are written place by place, and room for them.
 ghost use Rattle.std.specs.Prelude.{◌≡◌, ◌<◌, [], length, map, replicate, All, IfOk, slice_index_or, if◌then◌else◌};
-ghost use Rattle.pals_base.specs.declared.values.Port.TheVariants.{Absent};
+ghost use Rattle.pals_base.specs.declared.values.PortValue.TheVariants.{Absent};
 ghost use Rattle.pals_base.specs.Steps.{cut, with_places};
 
 use pals_base::tuples::{absent, place};
-use pals_base::{Items, NoMemory, Port, Tuple};
+use pals_base::{Items, NoMemory, PortValue, Tuple};
 use std::alloc::Global;
 
 /// `count` absent tuples, of `places` places each.
@@ -19,7 +19,7 @@ pub fn absent_tuples(alloc: Global, count: usize, places: u32) -> Result<Items<T
 }
 
 /// Writes a value into the place with a number of each tuple. It takes no memory.
-pub fn write_places(tuples: &mut Items<Tuple>, at: usize, values: &[Port])
+pub fn write_places(tuples: &mut Items<Tuple>, at: usize, values: &[PortValue])
     requires count { length values.now ≡ length tuples.old }
     requires within { All (λ tuple. at < length tuple) tuples.old }
     ensures { tuples.new ≡ with_places at values.now tuples.old }
@@ -45,7 +45,7 @@ pub fn write_ports(to: &mut Items<Tuple>, from: &[Tuple], ports: &[u32], count: 
 }
 
 // Writes the first places of a tuple, and absent places after them.
-fn write_cut(to: &mut Tuple, from: &[Port], count: usize)
+fn write_cut(to: &mut Tuple, from: &[PortValue], count: usize)
     requires { length to.old ≡ length from.now }
     ensures { to.new ≡ cut count from.now }
 {
@@ -55,13 +55,13 @@ fn write_cut(to: &mut Tuple, from: &[Port], count: usize)
 }
 
 // A place where it counts, else an absent one.
-fn place_before(tuple: &[Port], at: usize, counts: bool) -> Port
+fn place_before(tuple: &[PortValue], at: usize, counts: bool) -> PortValue
     ensures { result ≡ (if counts then slice_index_or tuple.now at Absent else Absent) }
 {
     if counts {
         place(tuple, at)
     } else {
-        Port::Absent
+        PortValue::Absent
     }
 }
 

@@ -2,8 +2,8 @@
 ghost use Rattle.std.specs.Prelude.{◌≡◌, ◌+◌, ◌<◌, ◌≤◌, ◌++◌, ◌∷◌, IfOk, OnOk, OnErr, length, replicate, vec_len, vec_capacity, if◌then◌else◌, Some, None, nat_eq, true, false, [], All, Option};
 ghost use Rattle.std.specs.Arc.{arc_value};
 ghost use Rattle.pals_base.specs.declared.limits.TheConstants.{ROUNDS};
-ghost use Rattle.pals_base.specs.declared.values.Port.{Port};
-ghost use Rattle.pals_base.specs.declared.values.Port.TheVariants.{Absent};
+ghost use Rattle.pals_base.specs.declared.values.PortValue.{PortValue};
+ghost use Rattle.pals_base.specs.declared.values.PortValue.TheVariants.{Absent};
 ghost use Rattle.pals_base.specs.Fire.{HasShape};
 ghost use Rattle.pals_runs.specs.declared.journal.Phase.TheVariants.{Running};
 ghost use Rattle.bus_machine.specs.NodeEvents.{started, sent_from, messages_from, may_send, part_left};
@@ -11,7 +11,7 @@ ghost use Rattle.pals_node.specs.proof.Values.{job_at, opening_value, with_state
 ghost use Rattle.pals_node.specs.proof.Memories.{HasMemory};
 ghost use Rattle.pals_node.specs.proof.Rounds.{empty_part, IsBegun, first_job_of, begun_with};
 ghost use Rattle.bus_machine.specs.Nodes.{at_rest, vectors_of};
-ghost use Rattle.pals_node.specs.proof.Keeping.{Keeps, IsProgram, PhaseKeeps, HasRound, HasPartRoom, IsPartRoom, AreTuples, IsStepMade, value_of, state_of, finished_value, ended_at};
+ghost use Rattle.pals_node.specs.proof.NodeInvariants.{Keeps, IsProgram, PhaseKeeps, HasRound, HasPartRoom, IsPartRoom, AreTuples, IsStepMade, value_of, state_of, finished_value, ended_at};
 
 use crate::buffers::{absent_tuples, write_places, write_ports};
 use crate::inputs::{empty_all, empty_slots, round_vectors};
@@ -20,7 +20,7 @@ use crate::memory::Memory;
 use crate::plan::NodePlan;
 use bus_machine::Plan;
 use link_buffers::Slot;
-use pals_base::{Frame, Items, NoMemory, Port, Tuple};
+use pals_base::{Frame, Items, NoMemory, PortValue, Tuple};
 use pals_model::Part;
 use pals_runs::Phase;
 use std::alloc::Global;
@@ -44,7 +44,7 @@ pub struct Fields {
     pub next_part: Option<Part>,
     pub messages: Option<Items<Tuple>>,
     pub room: Room,
-    pub row: Vec<Port>,
+    pub row: Vec<PortValue>,
     pub spare: Option<Memory>,
 }
 
@@ -85,7 +85,7 @@ impl Fields {
         let frame = Frame::initial(alloc, &plan.plan.behaviour)?;
         let slots = empty_slots(alloc, plan.plan.inputs.as_slice())?;
         let room = Room::for_code(alloc, &plan.code)?;
-        let row = vec![in alloc; Port::Absent; outs]?;
+        let row = vec![in alloc; PortValue::Absent; outs]?;
         Ok(Fields {
             alloc,
             plan,
@@ -127,7 +127,7 @@ impl Fields {
     }
 
     /// Starts the next round, and reserves what its steps, its part and its messages need.
-    pub fn start(&mut self, env: &[Port]) -> Result<Job, NoMemory>
+    pub fn start(&mut self, env: &[PortValue]) -> Result<Job, NoMemory>
         requires keeps { Keeps self.old }
         requires waits { self.old.phase ≡ Phase.Waiting }
         ensures ok { OnOk result (value_of self.new ≡ with_state (value_of self.old) (started (arc_value self.old.plan).plan env.now (state_of self.old))) }
@@ -285,7 +285,7 @@ fn begun(
     alloc: Global,
     plan: &Arc<NodePlan>,
     round: u32,
-    env: &[Port],
+    env: &[PortValue],
     slots: &[Slot],
     frame: &Frame,
     spare: Option<Memory>,
@@ -316,7 +316,7 @@ fn first_job(
     alloc: Global,
     plan: &Arc<NodePlan>,
     round: u32,
-    env: &[Port],
+    env: &[PortValue],
     slots: &[Slot],
     frame: &Frame,
     spare: Option<Memory>,

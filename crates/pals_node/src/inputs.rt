@@ -1,7 +1,7 @@
 //! What a round's start reads.
 ghost use Rattle.std.specs.Prelude.{◌≡◌, ◌<◌, IfOk, length, map, zip, List, Option, None, slice_index_or};
-ghost use Rattle.pals_base.specs.declared.values.Port.{Port};
-ghost use Rattle.pals_base.specs.declared.values.Port.TheVariants.{Absent};
+ghost use Rattle.pals_base.specs.declared.values.PortValue.{PortValue};
+ghost use Rattle.pals_base.specs.declared.values.PortValue.TheVariants.{Absent};
 ghost use Rattle.pals_base.specs.Steps.{column};
 ghost use Rattle.bus_machine.specs.Nodes.{brought, vectors_of};
 
@@ -9,7 +9,7 @@ use bus_machine::{Input, Plan};
 use input_adaptors::adapted_place;
 use link_buffers::Slot;
 use pals_base::tuples::{absent, place};
-use pals_base::{Items, NoMemory, Port, Tuple};
+use pals_base::{Items, NoMemory, PortValue, Tuple};
 use std::alloc::Global;
 
 /// Empty slots, one for each in port.
@@ -25,7 +25,7 @@ pub fn empty_slots(alloc: Global, inputs: &[Input]) -> Result<Items<Slot>, NoMem
 
 /// Empties all slots. It takes no memory.
 pub fn empty_all(slots: &mut Items<Slot>)
-    ensures { slots.new ≡ map (λ (_ : Option (List Port)). None) slots.old }
+    ensures { slots.new ≡ map (λ (_ : Option (List PortValue)). None) slots.old }
 {
     for at in 0..slots.len() {
         let _message = slots[at].slot_take();
@@ -37,7 +37,7 @@ pub fn empty_all(slots: &mut Items<Slot>)
 pub fn round_vectors(
     alloc: Global,
     plan: &Plan,
-    env: &[Port],
+    env: &[PortValue],
     slots: &[Slot],
 ) -> Result<Items<Tuple>, NoMemory>
     requires { length slots.now ≡ length plan.now.inputs }
@@ -54,7 +54,7 @@ pub fn round_vectors(
 fn vector_at(
     alloc: Global,
     plan: &Plan,
-    env: &[Port],
+    env: &[PortValue],
     slots: &[Slot],
     step: usize,
 ) -> Result<Tuple, NoMemory>
@@ -73,16 +73,16 @@ fn vector_at(
 fn port_at(
     alloc: Global,
     rate: u32,
-    env: &[Port],
+    env: &[PortValue],
     input: Input,
     slot: &Slot,
     step: usize,
-) -> Result<Port, NoMemory>
+) -> Result<PortValue, NoMemory>
     requires { step < rate }
     ensures { IfOk result (λ port. port ≡ slice_index_or (brought rate env.now input slot.now) step Absent) }
 {
     match input {
-        Input::Nothing => Ok(Port::Absent),
+        Input::Nothing => Ok(PortValue::Absent),
         Input::Root { root, adaptor } => {
             Ok(adapted_place(adaptor, 1, rate, &[place(env, root)], step))
         }

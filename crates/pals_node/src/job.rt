@@ -8,7 +8,7 @@ ghost use Rattle.pals_node.specs.proof.Memories.{HasMemory, IsLeft};
 use crate::keys::same_instr;
 use crate::memory::{Memory, memory_for};
 use crate::plan::NodePlan;
-use pals_base::{Frame, NoMemory, NodeNo, Port, Same, Tuple};
+use pals_base::{Frame, NoMemory, NodeNo, PortValue, Same, Tuple};
 use std::alloc::Global;
 use std::marker::Model;
 use std::mem::swap;
@@ -25,7 +25,7 @@ pub struct Job {
     frame: Frame,
     inputs: Tuple,
     result: Frame,
-    outs: Vec<Port>,
+    outs: Vec<PortValue>,
     room: Room,
 }
 
@@ -51,7 +51,7 @@ impl Model for Job {
 
     ghost Value = { JobValue };
 
-    ghost use Rattle.pals_node.specs.proof.Keeping.{IsJob};
+    ghost use Rattle.pals_node.specs.proof.NodeInvariants.{IsJob};
 
     ghost view = { λ j. job_value (arc_value j.plan) j.round j.step j.frame j.inputs };
 
@@ -66,7 +66,7 @@ pub struct Done {
     frame: Frame,
     inputs: Tuple,
     result: Frame,
-    outs: Vec<Port>,
+    outs: Vec<PortValue>,
     room: Room,
 }
 
@@ -227,7 +227,7 @@ impl Done {
 
     /// The frame and the outputs that it left come in place of those of the step before, which go into
     /// the memory that it gives back.
-    pub(crate) fn give_result(self, last: &mut Frame, row: &mut Vec<Port>) -> Memory
+    pub(crate) fn give_result(self, last: &mut Frame, row: &mut Vec<PortValue>) -> Memory
         ensures result { IsResult self (record { frame = last.new; outs = row.new.items }) }
         ensures memory { IsLeft self last.old row.old.items result }
     {

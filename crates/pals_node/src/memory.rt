@@ -3,7 +3,7 @@ ghost use Rattle.std.specs.Prelude.{◌≡◌, length, IfOk};
 ghost use Rattle.step_code.specs.proof.Exec.{FitsCode};
 ghost use Rattle.pals_node.specs.proof.Memories.{IsMemoryFor, HasMemory, IsFilled};
 
-use pals_base::{Frame, NoMemory, Port, TryClone, Tuple};
+use pals_base::{Frame, NoMemory, PortValue, TryClone, Tuple};
 use std::alloc::Global;
 use step_code::Code;
 use step_vm::Room;
@@ -15,7 +15,7 @@ pub struct Memory {
     pub frame: Frame,
     pub inputs: Tuple,
     pub result: Frame,
-    pub outs: Vec<Port>,
+    pub outs: Vec<PortValue>,
     pub room: Room,
 }
 
@@ -51,7 +51,7 @@ fn new_memory(alloc: Global, code: &Code, frame: &Frame, inputs: &Tuple) -> Resu
         frame: frame.try_clone(alloc)?,
         inputs: inputs.try_clone(alloc)?,
         result: frame.try_clone(alloc)?,
-        outs: vec![in alloc; Port::Absent; outs]?,
+        outs: vec![in alloc; PortValue::Absent; outs]?,
         room: Room::for_code(alloc, code)?,
     })
 }

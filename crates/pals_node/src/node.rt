@@ -17,7 +17,7 @@ use crate::targets::{next_in_round, next_send, next_start};
 use bus_machine::{Input, Next, Plan};
 use link_buffers::Slot;
 use output_backoff::release_at;
-use pals_base::{Items, Nanos, NoMemory, Port, Tuple};
+use pals_base::{Items, Nanos, NoMemory, PortValue, Tuple};
 use pals_model::Part;
 use pals_runs::{Arrived, Phase};
 use round_timer::{alarm, step_alarm};
@@ -46,7 +46,7 @@ impl Model for Node {
 
     ghost coded = { node_code };
 
-    ghost use Rattle.pals_node.specs.proof.Keeping.{Keeps, value_of};
+    ghost use Rattle.pals_node.specs.proof.NodeInvariants.{Keeps, value_of};
 
     ghost view = { λ n. value_of n.fields };
 
@@ -101,7 +101,7 @@ impl Node {
 
     /// Starts the next round, with these values of the root in ports, and gives the job of its first
     /// step. It reserves all memory that the steps' ends and the send of the round need.
-    pub fn start(&mut self, env: &[Port], reading: Option<Nanos>) -> Result<Job, StartEnd>
+    pub fn start(&mut self, env: &[PortValue], reading: Option<Nanos>) -> Result<Job, StartEnd>
         ensures ok { IfOk result (λ job. Starts self.old env.now reading self.new job) }
         ensures same { OnErr result (self.new ≡ self.old) }
         ensures cause { IfErr result (StartEnds self.old reading) }

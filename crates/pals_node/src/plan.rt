@@ -4,7 +4,7 @@ ghost use Rattle.step_code.specs.proof.Means.{Means};
 ghost use Rattle.bus_machine.specs.Plans.{component_at, input_of, plan_of};
 ghost use Rattle.pals_model.specs.Inputs.{sources_of};
 ghost use Rattle.pals_node.specs.proof.Values.{program_of};
-ghost use Rattle.pals_node.specs.proof.Keeping.{IsProgram};
+ghost use Rattle.pals_node.specs.proof.NodeInvariants.{IsProgram};
 
 use bus_machine::{Input, Plan};
 use pals_base::bound::step_period;
@@ -36,7 +36,7 @@ impl Model for NodePlan {
 
     ghost coded = { program_code };
 
-    ghost use Rattle.pals_node.specs.proof.Keeping.{IsProgram};
+    ghost use Rattle.pals_node.specs.proof.NodeInvariants.{IsProgram};
 
     ghost view = { λ p. record { plan = p.plan; code = p.code } };
 

@@ -2,9 +2,9 @@
 ghost use Rattle.std.specs.Prelude.{◌≡◌, ◌<◌, ◌-◌};
 ghost use Rattle.pals_base.specs.declared.limits.TheConstants.{ROUNDS};
 ghost use Rattle.bus_machine.specs.Targets.{target, next_action, send_is_next};
-ghost use Rattle.pals_node.specs.proof.Keeping.{IsPlan};
+ghost use Rattle.pals_node.specs.proof.NodeInvariants.{IsPlan};
 
-use bus_machine::{Action, Next, Plan};
+use bus_machine::{NodeAction, Next, Plan};
 use output_backoff::release_at;
 use pals_base::Nanos;
 use round_timer::{alarm, step_alarm};
@@ -13,10 +13,10 @@ use round_timer::{alarm, step_alarm};
 pub fn next_start(plan: &Plan, round: u32) -> Next
     requires plan { IsPlan plan.now }
     requires round { round < ROUNDS }
-    ensures { result ≡ record { action = Action.Start round; target = target plan.now (Action.Start round) } }
+    ensures { result ≡ record { action = NodeAction.Start round; target = target plan.now (NodeAction.Start round) } }
 {
     Next {
-        action: Action::Start { round },
+        action: NodeAction::Start { round },
         target: alarm(plan.period, round),
     }
 }
@@ -25,10 +25,10 @@ pub fn next_start(plan: &Plan, round: u32) -> Next
 pub fn next_send(plan: &Plan, round: u32) -> Next
     requires plan { IsPlan plan.now }
     requires round { round < ROUNDS }
-    ensures { result ≡ record { action = Action.Send round; target = target plan.now (Action.Send round) } }
+    ensures { result ≡ record { action = NodeAction.Send round; target = target plan.now (NodeAction.Send round) } }
 {
     Next {
-        action: Action::Send { round },
+        action: NodeAction::Send { round },
         target: release_at(plan.period, plan.release_offset, round),
     }
 }
@@ -45,7 +45,7 @@ pub fn next_in_round(plan: &Plan, round: u32, steps: u32, sent: bool) -> Next
         return next_send(plan, round);
     }
     Next {
-        action: Action::Step { round, step: steps },
+        action: NodeAction::Step { round, step: steps },
         target: step_alarm(plan.period, plan.step_period, round, steps),
     }
 }

@@ -9,7 +9,7 @@ use Rattle.pals_model.specs.declared.rounds.Part.{Part}
 use Rattle.pals_model.specs.Composition.{part}
 use Rattle.pals_model.specs.Rules.{IsTap}
 use Rattle.pals_model.specs.RoundTexts.{text_of, line_end, round_line, part_lines, tap_lines, taps_before, row_lines, composed_lines}
-use Rattle.pals_report.specs.proof.Rows.{lines_at_place, components_from, taps_from, ArePartsOf}
+use Rattle.pals_report.specs.proof.RowLines.{lines_at_place, components_from, taps_from, ArePartsOf}
 
 text_of-append : (first rest : List (List ℕ)) → text_of (first ++ rest) ≡ text_of first ++ text_of rest
 text_of-append first rest = flat_map-append (λ line. line ++ line_end) first rest

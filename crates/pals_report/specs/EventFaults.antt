@@ -3,12 +3,12 @@ use Rattle.std.specs.Prelude.{ℕ, codes, decimal, List, [], ◌∷◌, ◌++◌
 use Rattle.pals_model.specs.declared.design.DesignParts.{DesignParts}
 use Rattle.pals_runs.specs.declared.events.EventFault.{EventFault}
 use Rattle.pals_runs.specs.declared.events.EventFault.TheVariants.{BadName, LossOrRepeat, TimeBack, ClockBack, ClockApart, PastDeadline, WrongPhase, NoSuchMessage, NotDue, TooSoon, Memory}
-use Rattle.pals_runs.specs.declared.events.Which.{Which}
-use Rattle.pals_runs.specs.declared.events.Which.TheVariants.{Node, Message}
+use Rattle.pals_runs.specs.declared.events.EventSubject.{EventSubject}
+use Rattle.pals_runs.specs.declared.events.EventSubject.TheVariants.{Node, Message}
 use Rattle.pals_runs.specs.Journal.{node_word, link_word, spaced}
 
 -- a node by its path, a message by its link and its round
-abbrev pub which_words : DesignParts → Which → List (List ℕ)
+abbrev pub which_words : DesignParts → EventSubject → List (List ℕ)
 which_words design (Node node) = node_word design node.0 ∷ []
 which_words design (Message link round) = link_word design link.0 ∷ decimal round ∷ []
 

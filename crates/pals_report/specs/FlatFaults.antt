@@ -1,7 +1,7 @@
 -- The line that says why a package has no instance.
 use Rattle.std.specs.Prelude.{ℕ, codes, decimal, List, ◌++◌}
-use Rattle.aadl_names.specs.declared.fault.FlatFault.{FlatFault}
-use Rattle.aadl_names.specs.declared.fault.FlatFault.TheVariants.{NoRoot, Unknown, Twice, WrongKind, Recursive, DeadEnd, TwoSources, TooMany, Memory}
+use Rattle.aadl_names.specs.declared.fault.PackageFault.{PackageFault}
+use Rattle.aadl_names.specs.declared.fault.PackageFault.TheVariants.{NoRoot, Unknown, Twice, WrongKind, Recursive, DeadEnd, TwoSources, TooMany, Memory}
 use Rattle.aadl_names.specs.Findings.{number_of}
 use Rattle.pals_report.specs.Positions.{position_text}
 
@@ -10,7 +10,7 @@ abbrev pub and_word : List ℕ → List ℕ
 and_word word = codes " " ++ word
 
 -- what is wrong, with the name or what is above its limit, and with the place, each where it has one
-abbrev pub flat_words : List ℕ → FlatFault → List ℕ
+abbrev pub flat_words : List ℕ → PackageFault → List ℕ
 flat_words text NoRoot = codes "NoRoot"
 flat_words text (Unknown name at) = codes "Unknown" ++ and_word name ++ and_word (position_text text at)
 flat_words text (Twice name at) = codes "Twice" ++ and_word name ++ and_word (position_text text at)
@@ -22,5 +22,5 @@ flat_words text (TooMany what) = codes "TooMany" ++ and_word what
 flat_words text Memory = codes "Memory"
 
 -- `flat NUMBER NAME` and what belongs to it
-abbrev pub flat_fault_line : List ℕ → FlatFault → List ℕ
+abbrev pub flat_fault_line : List ℕ → PackageFault → List ℕ
 flat_fault_line text fault = codes "flat " ++ decimal (number_of fault) ++ and_word (flat_words text fault)

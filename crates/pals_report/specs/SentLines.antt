@@ -1,7 +1,7 @@
 -- The line of a message that was sent: `sent`, its link, its round, and its tuple.
 use Rattle.std.specs.Prelude.{ℕ, codes, decimal, List, [], ◌∷◌, slice_get}
 use Rattle.pals_base.specs.declared.behaviour.Kind.{Kind}
-use Rattle.pals_base.specs.declared.values.Port.{Port}
+use Rattle.pals_base.specs.declared.values.PortValue.{PortValue}
 use Rattle.pals_model.specs.declared.design.DesignParts.{DesignParts}
 use Rattle.pals_model.specs.Ports.{out_kind}
 use Rattle.pals_model.specs.RoundTexts.{tuple_text}
@@ -12,5 +12,5 @@ use Rattle.bus_machine.specs.States.{link_at}
 abbrev pub source_kind : DesignParts → ℕ → Kind
 source_kind design link = out_kind (slice_get design.components (link_at design link).source.0) (link_at design link).out_port
 
-abbrev pub sent_line : DesignParts → ℕ → ℕ → List Port → List ℕ
+abbrev pub sent_line : DesignParts → ℕ → ℕ → List PortValue → List ℕ
 sent_line design link round tuple = spaced (codes "sent" ∷ link_word design link ∷ decimal round ∷ tuple_text (source_kind design link) tuple ∷ [])

@@ -3,7 +3,7 @@ ghost use Rattle.std.specs.Prelude.{◌≡◌, [], ◌∷◌, ◌++◌, codes, d
 ghost use Rattle.pals_model.specs.RoundTexts.{line_end};
 ghost use Rattle.pals_runs.specs.Journal.{node_word, spaced};
 
-use crate::words::{Word, add_line, node_word};
+use crate::words::{LineWord, add_line, node_word};
 use pals_base::{NoMemory, NodeNo};
 use pals_model::Design;
 
@@ -20,5 +20,5 @@ pub fn add_code_fault(
     ensures err { OnErr result (out.new.items ≡ out.old.items) }
 {
     let node = node_word(design.parts(), node);
-    add_line(out, &[Word::Bytes(b"code"), node, Word::Number(length)])
+    add_line(out, &[LineWord::Bytes(b"code"), node, LineWord::Number(length)])
 }

@@ -3,7 +3,7 @@ ghost use Rattle.std.specs.Prelude.{◌≡◌, [], ◌∷◌, ◌++◌, decimal,
 ghost use Rattle.pals_model.specs.RoundTexts.{line_end};
 ghost use Rattle.pals_runs.specs.Journal.{node_word, link_word, reading_word, arrived_word, cause_word, stop_words, spaced, entry_line};
 
-use crate::words::{Word, add_line, link_word, node_word, reading_word};
+use crate::words::{LineWord, add_line, link_word, node_word, reading_word};
 use pals_base::{LinkNo, Nanos, NoMemory, NodeNo};
 use pals_model::{Design, DesignParts};
 use pals_runs::{Arrived, Cause, JournalEntry, Stop};
@@ -34,7 +34,7 @@ fn add_stop(out: &mut Vec<u8>, design: &DesignParts, stop: Stop) -> Result<(), N
         (out.new.items ≡ out.old.items ++ spaced (stop_words design.now stop) ++ line_end) }
     ensures err { OnErr result (out.new.items ≡ out.old.items) }
 {
-    let first = Word::Bytes(b"stop");
+    let first = LineWord::Bytes(b"stop");
     match stop {
         Stop::Missed {
             link,
@@ -42,11 +42,11 @@ fn add_stop(out: &mut Vec<u8>, design: &DesignParts, stop: Stop) -> Result<(), N
             reading,
             cause,
         } => {
-            let kind = Word::Bytes(b"missed");
+            let kind = LineWord::Bytes(b"missed");
             let link = link_word(design, link);
-            let round = Word::Number(u64::from(round));
+            let round = LineWord::Number(u64::from(round));
             let reading = reading_word(reading);
-            let cause = Word::Bytes(cause_word(cause));
+            let cause = LineWord::Bytes(cause_word(cause));
             add_line(out, &[first, kind, link, round, reading, cause])
         }
         Stop::Early {
@@ -54,9 +54,9 @@ fn add_stop(out: &mut Vec<u8>, design: &DesignParts, stop: Stop) -> Result<(), N
             round,
             reading,
         } => {
-            let kind = Word::Bytes(b"early");
+            let kind = LineWord::Bytes(b"early");
             let link = link_word(design, link);
-            let round = Word::Number(u64::from(round));
+            let round = LineWord::Number(u64::from(round));
             add_line(out, &[first, kind, link, round, reading_word(reading)])
         }
     }
@@ -76,10 +76,10 @@ fn add_action<'a>(
     ensures err { OnErr result (out.new.items ≡ out.old.items) }
 {
     let node = node_word(design, node);
-    let round = Word::Number(u64::from(round));
+    let round = LineWord::Number(u64::from(round));
     add_line(
         out,
-        &[Word::Bytes(action), node, round, reading_word(reading)],
+        &[LineWord::Bytes(action), node, round, reading_word(reading)],
     )
 }
 
@@ -98,7 +98,7 @@ fn add_loss<'a>(
     let link = link_word(design, link);
     add_line(
         out,
-        &[Word::Bytes(change), link, Word::Number(u64::from(round))],
+        &[LineWord::Bytes(change), link, LineWord::Number(u64::from(round))],
     )
 }
 
@@ -117,9 +117,9 @@ pub fn add_entry(out: &mut Vec<u8>, design: &Design, entry: &JournalEntry) -> Re
             result,
         } => {
             let link = link_word(design, link);
-            let round = Word::Number(u64::from(round));
-            let result = Word::Bytes(arrived_word(result));
-            let arrive = Word::Bytes(b"arrive");
+            let round = LineWord::Number(u64::from(round));
+            let result = LineWord::Bytes(arrived_word(result));
+            let arrive = LineWord::Bytes(b"arrive");
             add_line(out, &[arrive, link, round, reading_word(reading), result])
         }
         JournalEntry::Start {
@@ -134,12 +134,12 @@ pub fn add_entry(out: &mut Vec<u8>, design: &Design, entry: &JournalEntry) -> Re
             reading,
         } => {
             let node = node_word(design, node);
-            let round = Word::Number(u64::from(round));
-            let step = Word::Number(u64::from(step));
+            let round = LineWord::Number(u64::from(round));
+            let step = LineWord::Number(u64::from(step));
             add_line(
                 out,
                 &[
-                    Word::Bytes(b"step"),
+                    LineWord::Bytes(b"step"),
                     node,
                     round,
                     step,
@@ -149,8 +149,8 @@ pub fn add_entry(out: &mut Vec<u8>, design: &Design, entry: &JournalEntry) -> Re
         }
         JournalEntry::Finish { node, round } => {
             let node = node_word(design, node);
-            let round = Word::Number(u64::from(round));
-            add_line(out, &[Word::Bytes(b"finish"), node, round])
+            let round = LineWord::Number(u64::from(round));
+            add_line(out, &[LineWord::Bytes(b"finish"), node, round])
         }
         JournalEntry::Send {
             node,

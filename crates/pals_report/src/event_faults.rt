@@ -4,10 +4,10 @@ ghost use Rattle.pals_model.specs.RoundTexts.{line_end};
 ghost use Rattle.pals_runs.specs.Journal.{node_word, link_word, spaced};
 ghost use Rattle.pals_report.specs.EventFaults.{which_words, event_fault_line};
 
-use crate::words::{Word, add_line, link_word, node_word};
+use crate::words::{LineWord, add_line, link_word, node_word};
 use pals_base::{LinkNo, Nanos, NoMemory, NodeNo};
 use pals_model::{Design, DesignParts};
-use pals_runs::{EventFault, Which};
+use pals_runs::{EventFault, EventSubject};
 
 // A fault, and nothing that it is about.
 fn add_bare(out: &mut Vec<u8>, index: u32, fault: &[u8]) -> Result<(), NoMemory>
@@ -15,9 +15,9 @@ fn add_bare(out: &mut Vec<u8>, index: u32, fault: &[u8]) -> Result<(), NoMemory>
         ≡ out.old.items ++ spaced (codes "event" ∷ decimal index ∷ fault.now ∷ []) ++ line_end) }
     ensures err { OnErr result (out.new.items ≡ out.old.items) }
 {
-    let event = Word::Bytes(b"event");
-    let index = Word::Number(u64::from(index));
-    add_line(out, &[event, index, Word::Bytes(fault)])
+    let event = LineWord::Bytes(b"event");
+    let index = LineWord::Number(u64::from(index));
+    add_line(out, &[event, index, LineWord::Bytes(fault)])
 }
 
 // A fault with a node and a reading.
@@ -34,17 +34,17 @@ fn add_reading<'a>(
         ++ line_end) }
     ensures err { OnErr result (out.new.items ≡ out.old.items) }
 {
-    let event = Word::Bytes(b"event");
-    let index = Word::Number(u64::from(index));
+    let event = LineWord::Bytes(b"event");
+    let index = LineWord::Number(u64::from(index));
     let node = node_word(design, node);
     add_line(
         out,
         &[
             event,
             index,
-            Word::Bytes(fault),
+            LineWord::Bytes(fault),
             node,
-            Word::Number(reading),
+            LineWord::Number(reading),
         ],
     )
 }
@@ -62,13 +62,13 @@ fn add_message(
         ++ line_end) }
     ensures err { OnErr result (out.new.items ≡ out.old.items) }
 {
-    let event = Word::Bytes(b"event");
-    let index = Word::Number(u64::from(index));
-    let fault = Word::Bytes(b"NoSuchMessage");
+    let event = LineWord::Bytes(b"event");
+    let index = LineWord::Number(u64::from(index));
+    let fault = LineWord::Bytes(b"NoSuchMessage");
     let link = link_word(design, link);
     add_line(
         out,
-        &[event, index, fault, link, Word::Number(u64::from(round))],
+        &[event, index, fault, link, LineWord::Number(u64::from(round))],
     )
 }
 
@@ -78,7 +78,7 @@ fn add_time<'a>(
     design: &'a DesignParts,
     index: u32,
     fault: &'a [u8],
-    which: Which,
+    which: EventSubject,
     time: Nanos,
 ) -> Result<(), NoMemory>
     ensures ok { OnOk result (out.new.items ≡ out.old.items
@@ -86,18 +86,18 @@ fn add_time<'a>(
         ++ line_end) }
     ensures err { OnErr result (out.new.items ≡ out.old.items) }
 {
-    let event = Word::Bytes(b"event");
-    let index = Word::Number(u64::from(index));
-    let fault = Word::Bytes(fault);
-    let time = Word::Number(time);
+    let event = LineWord::Bytes(b"event");
+    let index = LineWord::Number(u64::from(index));
+    let fault = LineWord::Bytes(fault);
+    let time = LineWord::Number(time);
     match which {
-        Which::Node(node) => {
+        EventSubject::Node(node) => {
             let node = node_word(design, node);
             add_line(out, &[event, index, fault, node, time])
         }
-        Which::Message(link, round) => {
+        EventSubject::Message(link, round) => {
             let link = link_word(design, link);
-            let round = Word::Number(u64::from(round));
+            let round = LineWord::Number(u64::from(round));
             add_line(out, &[event, index, fault, link, round, time])
         }
     }
@@ -116,14 +116,14 @@ pub fn add_event_fault(
     ensures err { OnErr result (out.new.items ≡ out.old.items) }
 {
     let design = design.parts();
-    let event = Word::Bytes(b"event");
-    let place = Word::Number(u64::from(index));
+    let event = LineWord::Bytes(b"event");
+    let place = LineWord::Number(u64::from(index));
     match *fault {
         EventFault::BadName => add_bare(out, index, b"BadName"),
         EventFault::LossOrRepeat => add_bare(out, index, b"LossOrRepeat"),
         EventFault::TimeBack { time } => {
-            let fault = Word::Bytes(b"TimeBack");
-            add_line(out, &[event, place, fault, Word::Number(time)])
+            let fault = LineWord::Bytes(b"TimeBack");
+            add_line(out, &[event, place, fault, LineWord::Number(time)])
         }
         EventFault::ClockBack { node, reading } => {
             add_reading(out, design, index, b"ClockBack", node, reading)
@@ -135,7 +135,7 @@ pub fn add_event_fault(
             add_time(out, design, index, b"PastDeadline", which, last)
         }
         EventFault::WrongPhase { node } => {
-            let fault = Word::Bytes(b"WrongPhase");
+            let fault = LineWord::Bytes(b"WrongPhase");
             add_line(out, &[event, place, fault, node_word(design, node)])
         }
         EventFault::NoSuchMessage { link, round } => add_message(out, design, index, link, round),
@@ -144,12 +144,12 @@ pub fn add_event_fault(
             alarm,
             reading,
         } => {
-            let fault = Word::Bytes(b"NotDue");
+            let fault = LineWord::Bytes(b"NotDue");
             let node = node_word(design, node);
-            let alarm = Word::Number(alarm);
+            let alarm = LineWord::Number(alarm);
             add_line(
                 out,
-                &[event, place, fault, node, alarm, Word::Number(reading)],
+                &[event, place, fault, node, alarm, LineWord::Number(reading)],
             )
         }
         EventFault::TooSoon { which, earliest } => {

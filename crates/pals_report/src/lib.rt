@@ -43,4 +43,4 @@ pub use text_faults::{add_no_divider, add_text_fault};
 pub use value::add_tuple;
 pub use violations::add_violations;
 pub use whole::whole_or_none;
-pub use words::{Word, add_line, node_word};
+pub use words::{LineWord, add_line, node_word};

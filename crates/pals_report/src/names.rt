@@ -5,11 +5,11 @@ ghost use Rattle.pals_report.specs.proof.Appended.{BeginsWith};
 ghost use Rattle.pals_report.specs.CheckReports.{adaptor_text, and_adaptor, source_name};
 
 use itoa::Buffer;
-use pals_base::{Adaptor, Named, NoMemory, NodeNo};
+use pals_base::{Adaptor, PortDecl, NoMemory, NodeNo};
 use pals_model::DesignParts;
 
 // The name of a port, where there is one.
-fn add_port_name(out: &mut Vec<u8>, ports: &[Named], port: u32) -> Result<(), NoMemory>
+fn add_port_name(out: &mut Vec<u8>, ports: &[PortDecl], port: u32) -> Result<(), NoMemory>
     ensures ok { OnOk result (out.new.items ≡ out.old.items ++ port_name (slice_get ports.now port)) }
     ensures err { OnErr result (BeginsWith out.new.items out.old.items) }
 {

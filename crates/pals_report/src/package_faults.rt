@@ -6,13 +6,13 @@ ghost use Rattle.pals_report.specs.FlatFaults.{and_word, flat_words, flat_fault_
 ghost use Rattle.pals_report.specs.Positions.{position_text};
 
 use crate::{Cursor, whole_or_none};
-use aadl_names::FlatFault;
+use aadl_names::PackageFault;
 use itoa::Buffer;
 use pals_base::{NoMemory, Text};
 
 /// Adds the line of a package's fault: its number, its name, and the name and place in the text
 /// that belong to it. If there is not enough memory, nothing is added.
-pub fn add_flat_fault(out: &mut Vec<u8>, text: &[u8], fault: &FlatFault) -> Result<(), NoMemory>
+pub fn add_flat_fault(out: &mut Vec<u8>, text: &[u8], fault: &PackageFault) -> Result<(), NoMemory>
     ensures ok { OnOk result
         (out.new.items ≡ out.old.items ++ flat_fault_line text.now fault.now ++ line_end) }
     ensures err { OnErr result (out.new.items ≡ out.old.items) }
@@ -22,7 +22,7 @@ pub fn add_flat_fault(out: &mut Vec<u8>, text: &[u8], fault: &FlatFault) -> Resu
     whole_or_none(out, start, written)
 }
 
-fn add_line(out: &mut Vec<u8>, text: &[u8], fault: &FlatFault) -> Result<(), NoMemory>
+fn add_line(out: &mut Vec<u8>, text: &[u8], fault: &PackageFault) -> Result<(), NoMemory>
     ensures ok { OnOk result
         (out.new.items ≡ out.old.items ++ flat_fault_line text.now fault.now ++ line_end) }
     ensures err { OnErr result (BeginsWith out.new.items out.old.items) }
@@ -34,23 +34,23 @@ fn add_line(out: &mut Vec<u8>, text: &[u8], fault: &FlatFault) -> Result<(), NoM
     out.extend_from_slice(b"\n")
 }
 
-fn add_words(out: &mut Vec<u8>, text: &[u8], fault: &FlatFault) -> Result<(), NoMemory>
+fn add_words(out: &mut Vec<u8>, text: &[u8], fault: &PackageFault) -> Result<(), NoMemory>
     ensures ok { OnOk result (out.new.items ≡ out.old.items ++ flat_words text.now fault.now) }
     ensures err { OnErr result (BeginsWith out.new.items out.old.items) }
 {
     match fault {
-        FlatFault::NoRoot => out.extend_from_slice(b"NoRoot"),
-        FlatFault::Unknown { name, at } => add_named(out, b"Unknown", name, text, *at),
-        FlatFault::Twice { name, at } => add_named(out, b"Twice", name, text, *at),
-        FlatFault::WrongKind { at } => add_placed(out, b"WrongKind", text, *at),
-        FlatFault::Recursive { name, at } => add_named(out, b"Recursive", name, text, *at),
-        FlatFault::DeadEnd { name, at } => add_named(out, b"DeadEnd", name, text, *at),
-        FlatFault::TwoSources { name, at } => add_named(out, b"TwoSources", name, text, *at),
-        FlatFault::TooMany { what } => {
+        PackageFault::NoRoot => out.extend_from_slice(b"NoRoot"),
+        PackageFault::Unknown { name, at } => add_named(out, b"Unknown", name, text, *at),
+        PackageFault::Twice { name, at } => add_named(out, b"Twice", name, text, *at),
+        PackageFault::WrongKind { at } => add_placed(out, b"WrongKind", text, *at),
+        PackageFault::Recursive { name, at } => add_named(out, b"Recursive", name, text, *at),
+        PackageFault::DeadEnd { name, at } => add_named(out, b"DeadEnd", name, text, *at),
+        PackageFault::TwoSources { name, at } => add_named(out, b"TwoSources", name, text, *at),
+        PackageFault::TooMany { what } => {
             out.extend_from_slice(b"TooMany ")?;
             out.extend_from_slice(what.as_bytes())
         }
-        FlatFault::Memory => out.extend_from_slice(b"Memory"),
+        PackageFault::Memory => out.extend_from_slice(b"Memory"),
     }
 }
 

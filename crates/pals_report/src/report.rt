@@ -5,7 +5,7 @@ ghost use Rattle.pals_model.specs.declared.design.Tap.{Tap};
 ghost use Rattle.pals_model.specs.declared.rounds.Env.{Env};
 ghost use Rattle.pals_model.specs.RoundTexts.{text_of, line_end, round_line, component_line, part_lines, tap_line, tap_lines, row_lines, row};
 ghost use Rattle.pals_report.specs.proof.TapPlaces.{tap_places};
-ghost use Rattle.pals_report.specs.proof.Rows.{ArePartsOf};
+ghost use Rattle.pals_report.specs.proof.RowLines.{ArePartsOf};
 
 use crate::component::{add_component_line, add_part_line};
 use crate::parts::RoundParts;
@@ -13,7 +13,7 @@ use crate::row::{add_lines, add_round_line};
 use crate::tap::{add_line_at_place, add_tap_line, place_of_tap};
 use crate::tap_places::TapPlaces;
 use crate::whole_or_none;
-use pals_base::{BehaviourParts, Frame, Kind, NoMemory, Port, Text};
+use pals_base::{BehaviourParts, Frame, Kind, NoMemory, PortValue, Text};
 use pals_model::{Component, Design, Part, Tap};
 
 /// Adds the line of a round. If there is not enough memory, nothing is added.
@@ -57,7 +57,7 @@ pub fn add_frame(
 
 /// Adds the line of a root out port of this type, which shows a tuple. If there is not enough
 /// memory, nothing is added.
-pub fn add_shown(out: &mut Vec<u8>, kind: Kind, tap: &Tap, tuple: &[Port]) -> Result<(), NoMemory>
+pub fn add_shown(out: &mut Vec<u8>, kind: Kind, tap: &Tap, tuple: &[PortValue]) -> Result<(), NoMemory>
     ensures ok { OnOk result
         (out.new.items ≡ out.old.items ++ tap_line kind tap.now tuple.now ++ line_end) }
     ensures err { OnErr result (out.new.items ≡ out.old.items) }

@@ -5,7 +5,7 @@ ghost use Rattle.pals_model.specs.RoundTexts.{text_of, line_end, round_line, row
 ghost use Rattle.pals_model.specs.Rules.{IsDesign};
 ghost use Rattle.pals_report.specs.proof.Appended.{BeginsWith};
 ghost use Rattle.pals_report.specs.proof.TapPlaces.{tap_places};
-ghost use Rattle.pals_report.specs.proof.Rows.{components_from, taps_from};
+ghost use Rattle.pals_report.specs.proof.RowLines.{components_from, taps_from};
 
 use crate::component::add_part_line;
 use crate::parts::RoundParts;

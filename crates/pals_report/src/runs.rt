@@ -3,7 +3,7 @@ ghost use Rattle.std.specs.Prelude.{◌≡◌, ◌++◌, OnOk, OnErr};
 ghost use Rattle.pals_model.specs.RoundTexts.{line_end};
 ghost use Rattle.pals_report.specs.Runs.{clock_end_line, rule_word, verdict_line};
 
-use crate::words::{Word, add_line, link_word, node_word};
+use crate::words::{LineWord, add_line, link_word, node_word};
 use pals_base::{Nanos, NoMemory, NodeNo};
 use pals_model::{Design, DesignParts};
 use pals_runs::{Stop, TraceRule, Verdict};
@@ -19,10 +19,10 @@ pub fn add_clock_end(
     ensures ok { OnOk result (out.new.items ≡ out.old.items ++ clock_end_line design.now node.0 target ++ line_end) }
     ensures err { OnErr result (out.new.items ≡ out.old.items) }
 {
-    let clock = Word::Bytes(b"clock");
-    let ended = Word::Bytes(b"ended");
+    let clock = LineWord::Bytes(b"clock");
+    let ended = LineWord::Bytes(b"ended");
     let node = node_word(design.parts(), node);
-    add_line(out, &[clock, ended, node, Word::Number(target)])
+    add_line(out, &[clock, ended, node, LineWord::Number(target)])
 }
 
 fn rule_word(rule: TraceRule) -> &'static [u8]
@@ -52,18 +52,18 @@ fn add_sound(
     ensures ok { OnOk result (out.new.items ≡ out.old.items ++ verdict_line design.now (Verdict.Sound rounds stop) ++ line_end) }
     ensures err { OnErr result (out.new.items ≡ out.old.items) }
 {
-    let first = Word::Bytes(b"sound");
-    let rounds_word = Word::Bytes(b"rounds");
-    let rounds = Word::Number(u64::from(rounds));
-    let stop_word = Word::Bytes(b"stop");
+    let first = LineWord::Bytes(b"sound");
+    let rounds_word = LineWord::Bytes(b"rounds");
+    let rounds = LineWord::Number(u64::from(rounds));
+    let stop_word = LineWord::Bytes(b"stop");
     match stop {
         None => add_line(
             out,
-            &[first, rounds_word, rounds, stop_word, Word::Bytes(b"none")],
+            &[first, rounds_word, rounds, stop_word, LineWord::Bytes(b"none")],
         ),
         Some(Stop::Missed { link, round, .. } | Stop::Early { link, round, .. }) => {
             let link = link_word(design, link);
-            let round = Word::Number(u64::from(round));
+            let round = LineWord::Number(u64::from(round));
             add_line(out, &[first, rounds_word, rounds, stop_word, link, round])
         }
     }
@@ -77,9 +77,9 @@ pub fn add_verdict(out: &mut Vec<u8>, design: &Design, verdict: &Verdict) -> Res
     match *verdict {
         Verdict::Sound { rounds, stop } => add_sound(out, design.parts(), rounds, stop),
         Verdict::Wrong { index, rule } => {
-            let index = Word::Number(u64::from(index));
-            let rule = Word::Bytes(rule_word(rule));
-            add_line(out, &[Word::Bytes(b"wrong"), index, rule])
+            let index = LineWord::Number(u64::from(index));
+            let rule = LineWord::Bytes(rule_word(rule));
+            add_line(out, &[LineWord::Bytes(b"wrong"), index, rule])
         }
     }
 }

@@ -4,7 +4,7 @@ ghost use Rattle.pals_model.specs.RoundTexts.{line_end};
 ghost use Rattle.pals_runs.specs.Journal.{spaced};
 ghost use Rattle.pals_report.specs.ScenarioFaults.{scenario_fault_line};
 
-use crate::words::{Word, add_line};
+use crate::words::{LineWord, add_line};
 use pals_base::{NoMemory, Text};
 use scenario_values::ScenarioFault;
 
@@ -14,10 +14,10 @@ fn add_named<'a>(out: &mut Vec<u8>, fault: &'a [u8], place: &'a Text) -> Result<
         ≡ out.old.items ++ spaced (codes "scenario" ∷ fault.now ∷ place.now ∷ []) ++ line_end) }
     ensures err { OnErr result (out.new.items ≡ out.old.items) }
 {
-    let scenario = Word::Bytes(b"scenario");
+    let scenario = LineWord::Bytes(b"scenario");
     add_line(
         out,
-        &[scenario, Word::Bytes(fault), Word::Bytes(place.as_bytes())],
+        &[scenario, LineWord::Bytes(fault), LineWord::Bytes(place.as_bytes())],
     )
 }
 
@@ -28,17 +28,17 @@ pub fn add_scenario_fault(out: &mut Vec<u8>, fault: &ScenarioFault) -> Result<()
         (out.new.items ≡ out.old.items ++ scenario_fault_line fault.now ++ line_end) }
     ensures err { OnErr result (out.new.items ≡ out.old.items) }
 {
-    let scenario = Word::Bytes(b"scenario");
+    let scenario = LineWord::Bytes(b"scenario");
     match fault {
-        ScenarioFault::NotJson => add_line(out, &[scenario, Word::Bytes(b"NotJson")]),
+        ScenarioFault::NotJson => add_line(out, &[scenario, LineWord::Bytes(b"NotJson")]),
         ScenarioFault::Field { name } => add_named(out, b"Field", name),
         ScenarioFault::WrongKind { name } => add_named(out, b"WrongKind", name),
         ScenarioFault::Unknown { name } => add_named(out, b"Unknown", name),
         ScenarioFault::OutOfRange { name } => add_named(out, b"OutOfRange", name),
         ScenarioFault::TooBig { cells } => add_line(
             out,
-            &[scenario, Word::Bytes(b"TooBig"), Word::Number(*cells)],
+            &[scenario, LineWord::Bytes(b"TooBig"), LineWord::Number(*cells)],
         ),
-        ScenarioFault::Memory => add_line(out, &[scenario, Word::Bytes(b"Memory")]),
+        ScenarioFault::Memory => add_line(out, &[scenario, LineWord::Bytes(b"Memory")]),
     }
 }

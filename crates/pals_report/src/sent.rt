@@ -3,8 +3,8 @@ ghost use Rattle.std.specs.Prelude.{◌≡◌, ◌++◌, ◌<◌, length, OnOk, 
 ghost use Rattle.pals_model.specs.RoundTexts.{line_end};
 ghost use Rattle.pals_report.specs.SentLines.{sent_line};
 
-use crate::words::{Word, add_line, link_word};
-use pals_base::{LinkNo, NoMemory, Port};
+use crate::words::{LineWord, add_line, link_word};
+use pals_base::{LinkNo, NoMemory, PortValue};
 use pals_model::Design;
 
 /// Adds the line of a message that was sent on a link in a round, in the link's own type. If there
@@ -14,7 +14,7 @@ pub fn add_sent<'a>(
     design: &'a Design,
     link: LinkNo,
     round: u32,
-    tuple: &'a [Port],
+    tuple: &'a [PortValue],
 ) -> Result<(), NoMemory>
     requires { link.0 < length design.now.links }
     ensures ok { OnOk result
@@ -24,14 +24,14 @@ pub fn add_sent<'a>(
     let design = design.parts();
     let source = &design.links[link.0 as usize];
     let kind = design.out_kind(source.source, source.out_port);
-    let round = Word::Number(u64::from(round));
+    let round = LineWord::Number(u64::from(round));
     add_line(
         out,
         &[
-            Word::Bytes(b"sent"),
+            LineWord::Bytes(b"sent"),
             link_word(design, link),
             round,
-            Word::Tuple(kind, tuple),
+            LineWord::Tuple(kind, tuple),
         ],
     )
 }

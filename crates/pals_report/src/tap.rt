@@ -2,10 +2,10 @@
 ghost use Rattle.std.specs.Prelude.{◌≡◌, ◌++◌, [], OnOk, OnErr, slice_index_or, option_copied};
 ghost use Rattle.pals_model.specs.RoundTexts.{text_of, line_end, tap_line, taps_before};
 ghost use Rattle.pals_report.specs.proof.Appended.{BeginsWith};
-ghost use Rattle.pals_report.specs.proof.Rows.{lines_at_place};
+ghost use Rattle.pals_report.specs.proof.RowLines.{lines_at_place};
 
 use crate::value::add_tuple;
-use pals_base::{Kind, NoMemory, NodeNo, Port, Tuple};
+use pals_base::{Kind, NoMemory, NodeNo, PortValue, Tuple};
 use pals_model::{DesignParts, Part, Tap};
 
 // The place of a tap among those of its source: how many of the taps before it have that source.
@@ -19,7 +19,7 @@ pub(crate) fn place_of_tap(taps: &[Tap], number: usize, source: NodeNo) -> usize
 }
 
 // The tuple in a place, an empty one past the last.
-fn tuple_at(tuples: &[Tuple], place: usize) -> &[Port]
+fn tuple_at(tuples: &[Tuple], place: usize) -> &[PortValue]
     ensures { result.now ≡ slice_index_or tuples.now place [] }
 {
     match tuples.get(place) {
@@ -33,7 +33,7 @@ pub(crate) fn add_tap_line(
     out: &mut Vec<u8>,
     kind: Kind,
     tap: &Tap,
-    tuple: &[Port],
+    tuple: &[PortValue],
 ) -> Result<(), NoMemory>
     ensures ok { OnOk result
         (out.new.items ≡ out.old.items ++ tap_line kind tap.now tuple.now ++ line_end) }

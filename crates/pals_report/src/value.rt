@@ -5,7 +5,7 @@ ghost use Rattle.pals_model.specs.RoundTexts.{value_text, port_text, with_commas
 ghost use Rattle.pals_report.specs.proof.Appended.{BeginsWith};
 
 use itoa::Buffer;
-use pals_base::{Kind, NoMemory, Port};
+use pals_base::{Kind, NoMemory, PortValue};
 
 // A number, in decimal.
 fn add_number(out: &mut Vec<u8>, number: i64) -> Result<(), NoMemory>
@@ -28,18 +28,18 @@ pub(crate) fn add_value(out: &mut Vec<u8>, kind: Kind, value: i64) -> Result<(),
 }
 
 // A value, or the sign of an absent one.
-fn add_port(out: &mut Vec<u8>, kind: Kind, port: Port) -> Result<(), NoMemory>
+fn add_port(out: &mut Vec<u8>, kind: Kind, port: PortValue) -> Result<(), NoMemory>
     ensures ok { OnOk result (out.new.items ≡ out.old.items ++ port_text kind port) }
     ensures err { OnErr result (BeginsWith out.new.items out.old.items) }
 {
     match port {
-        Port::Absent => out.extend_from_slice(b"_"),
-        Port::Present(value) => add_value(out, kind, value),
+        PortValue::Absent => out.extend_from_slice(b"_"),
+        PortValue::Present(value) => add_value(out, kind, value),
     }
 }
 
 // The places of a tuple, with commas between them.
-fn add_places(out: &mut Vec<u8>, kind: Kind, tuple: &[Port]) -> Result<(), NoMemory>
+fn add_places(out: &mut Vec<u8>, kind: Kind, tuple: &[PortValue]) -> Result<(), NoMemory>
     ensures ok { OnOk result
         (out.new.items ≡ out.old.items ++ with_commas (map (port_text kind) tuple.now)) }
     ensures err { OnErr result (BeginsWith out.new.items out.old.items) }
@@ -57,7 +57,7 @@ fn add_places(out: &mut Vec<u8>, kind: Kind, tuple: &[Port]) -> Result<(), NoMem
 
 /// Adds a tuple of values of one type, in parentheses. If there is not enough memory, a part of it
 /// may be there.
-pub fn add_tuple(out: &mut Vec<u8>, kind: Kind, tuple: &[Port]) -> Result<(), NoMemory>
+pub fn add_tuple(out: &mut Vec<u8>, kind: Kind, tuple: &[PortValue]) -> Result<(), NoMemory>
     ensures ok { OnOk result (out.new.items ≡ out.old.items ++ tuple_text kind tuple.now) }
     ensures err { OnErr result (BeginsWith out.new.items out.old.items) }
 {

@@ -11,7 +11,7 @@ mod pairs;
 mod verdicts;
 
 pub use commands::Command;
-pub use events::{Event, EventFault, Which};
+pub use events::{Event, EventFault, EventSubject};
 pub use forms::{Compare, Form};
 pub use journal::{Arrived, Cause, JournalEntry, Phase, Stop};
 pub use pairs::{Pair, VoteFault};

@@ -34,7 +34,7 @@ pub struct Coded {
 
 /// What a bundle means to a command.
 #[derive(Drop)]
-pub enum Meaning {
+pub enum BundleMeaning {
     /// What the command is made of.
     Coded(Coded),
     /// The answer that says why there is no such thing.
@@ -47,14 +47,14 @@ pub fn meaning_of(
     bundle: &[u8],
     root: Text,
     what: Execution,
-) -> Result<Meaning, NoMemory>
+) -> Result<BundleMeaning, NoMemory>
     ensures { IfOk result (IsMeaning what root bundle.now) }
 {
     match accept(alloc, bundle, &root) {
         Ok(accepted) => with_codes(alloc, accepted, root, what),
         Err(refusal) => {
             let answer = Answer::refused(refusal)?;
-            Ok(Meaning::Refused(answer))
+            Ok(BundleMeaning::Refused(answer))
         }
     }
 }
@@ -65,7 +65,7 @@ fn with_codes(
     accepted: Accepted<'_>,
     root: Text,
     what: Execution,
-) -> Result<Meaning, NoMemory>
+) -> Result<BundleMeaning, NoMemory>
     ensures { (bundle : List ℕ) → IsAccepted root bundle accepted.entry.design accepted.entry.scenario.now
         → IfOk result (IsMeaning what root bundle) }
 {
@@ -73,7 +73,7 @@ fn with_codes(
         Ok(codes) => with_scenario(alloc, accepted, root, what, codes),
         Err(CodesEnd::TooLong { node, length }) => {
             let answer = code_too_long(alloc, &accepted.design, node, length)?;
-            Ok(Meaning::Refused(answer))
+            Ok(BundleMeaning::Refused(answer))
         }
         Err(CodesEnd::Memory) => Err(AllocError),
     }
@@ -86,7 +86,7 @@ fn with_scenario(
     root: Text,
     what: Execution,
     codes: Items<Code>,
-) -> Result<Meaning, NoMemory>
+) -> Result<BundleMeaning, NoMemory>
     requires codes { AreCodes accepted.design codes }
     requires layout { AreLaidOut (behaviours accepted.design) codes }
     requires short { AreShort accepted.design }
@@ -98,14 +98,14 @@ fn with_scenario(
     traces_are_few();
     let command = what.command(root);
     match read_scenario(alloc, accepted.scenario, &accepted.design, command) {
-        Ok(scenario) => Ok(Meaning::Coded(Coded {
+        Ok(scenario) => Ok(BundleMeaning::Coded(Coded {
             design: accepted.design,
             codes,
             scenario,
         })),
         Err(fault) => {
             let answer = refused_scenario(alloc, &fault)?;
-            Ok(Meaning::Refused(answer))
+            Ok(BundleMeaning::Refused(answer))
         }
     }
 }

@@ -11,7 +11,7 @@ ghost use Rattle.pals_top.specs.proof.Statuses.{status_of, text_of};
 use crate::answer::Answer;
 use crate::audit::answer_audit;
 use crate::budget::answer_budget;
-use crate::coded::{Coded, Meaning, meaning_of};
+use crate::coded::{Coded, BundleMeaning, meaning_of};
 use crate::loose::answer_loose;
 use crate::world::answer_world;
 use pals_base::{NoMemory, Text};
@@ -60,8 +60,8 @@ pub fn answer_execution(
     ensures { IfOk result (λ answer. IsExecutionAnswer what root bundle.now (status_of answer) (text_of answer)) }
 {
     match meaning_of(alloc, bundle, root, what)? {
-        Meaning::Coded(coded) => execute(alloc, coded, what),
-        Meaning::Refused(answer) => Ok(answer),
+        BundleMeaning::Coded(coded) => execute(alloc, coded, what),
+        BundleMeaning::Refused(answer) => Ok(answer),
     }
 }
 

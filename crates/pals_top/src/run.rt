@@ -12,7 +12,7 @@ ghost use Rattle.pals_top.specs.Run.{IsRunAnswer};
 ghost use Rattle.pals_top.specs.proof.Statuses.{status_of, text_of};
 
 use crate::answer::Answer;
-use crate::coded::{Coded, Meaning, meaning_of};
+use crate::coded::{Coded, BundleMeaning, meaning_of};
 use crate::execution::Execution;
 use crate::host::Host;
 use crate::opening::opened;
@@ -21,7 +21,7 @@ use pals_base::limits::BUNDLE_BYTES;
 use pals_base::{NoMemory, Text};
 use pals_clock::Clocks;
 use pals_io::{ReadEnd, Source, read_all};
-use run_texts::{ToldRun, tell_run};
+use run_texts::{RunReport, tell_run};
 use scenario_json::Scenario;
 use std::alloc::{AllocError, Global};
 use std::sync::Wait;
@@ -57,8 +57,8 @@ fn run_bundle<R: Threads + Wait + Sync, W: Starter, G: Gate + Sync>(
     ensures { IfOk result (λ answer. IsExecutionAnswer (execution.Run trace) root bundle.now (status_of answer) (text_of answer)) }
 {
     match meaning_of(alloc, bundle, root, Execution::Run { trace })? {
-        Meaning::Coded(coded) => run_nodes(host, alloc, coded, trace),
-        Meaning::Refused(answer) => Ok(answer),
+        BundleMeaning::Coded(coded) => run_nodes(host, alloc, coded, trace),
+        BundleMeaning::Refused(answer) => Ok(answer),
     }
 }
 
@@ -93,8 +93,8 @@ fn run_nodes<R: Threads + Wait + Sync, W: Starter, G: Gate + Sync>(
     let meeting = matches!(clocks, Clocks::Meet);
     let bus = opened(alloc, design, codes, env, rounds, delays, meeting)?;
     match tell_run(runtime, alloc, bus, clocks, trace, starter, gate)? {
-        ToldRun::Completed(text) => Ok(Answer::Done(text)),
-        ToldRun::Stopped(text) => Ok(Answer::Stopped(text)),
-        ToldRun::ClockEnded(text) => Ok(Answer::ClockEnded(text)),
+        RunReport::Completed(text) => Ok(Answer::Done(text)),
+        RunReport::Stopped(text) => Ok(Answer::Stopped(text)),
+        RunReport::ClockEnded(text) => Ok(Answer::ClockEnded(text)),
     }
 }

@@ -14,7 +14,7 @@ use scenario_json::Scenario;
 use std::alloc::Global;
 use std::sync::Arc;
 use step_code::Code;
-use world_texts::{Told, tell_world};
+use world_texts::{WorldReport, tell_world};
 
 /// What the events of a scenario leave, or the first that is past the bounds.
 pub fn answer_world(
@@ -37,7 +37,7 @@ pub fn answer_world(
     } = scenario;
     let named = Arc::try_clone(&design)?;
     match tell_world(alloc, design, codes, env, rounds, events.as_slice())? {
-        Told::Whole(text) => Ok(Answer::Done(text)),
-        Told::Refused { index, fault } => refused_event(alloc, &named, index, &fault),
+        WorldReport::Whole(text) => Ok(Answer::Done(text)),
+        WorldReport::Refused { index, fault } => refused_event(alloc, &named, index, &fault),
     }
 }

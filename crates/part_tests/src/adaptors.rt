@@ -1,18 +1,18 @@
 //! Worked tuples that go over to another rate.
 use input_adaptors::adapt;
 use pals_base::Adaptor::{self, At, Average, First, Last, Latest, Max, Min, Repeat};
-use pals_base::Port::{self, Absent, Present};
+use pals_base::PortValue::{self, Absent, Present};
 use pals_base::{NoMemory, Tuple};
 use std::alloc::Global;
 
-const SEVEN: Port = Present(7);
+const SEVEN: PortValue = Present(7);
 
-const FOUR: &[Port] = &[Present(1), Present(2), Absent, Present(4)];
+const FOUR: &[PortValue] = &[Present(1), Present(2), Absent, Present(4)];
 
 // An adaptor, the two rates, the places of a tuple, and the places that they go over to.
-type Case = (Option<Adaptor>, u32, u32, &'static [Port], &'static [Port]);
+type AdaptorCase = (Option<Adaptor>, u32, u32, &'static [PortValue], &'static [PortValue]);
 
-const CASES: [Case; 16] = [
+const CASES: [AdaptorCase; 16] = [
     (
         Some(Average),
         4,
@@ -73,7 +73,7 @@ const CASES: [Case; 16] = [
     (None, 2, 2, &[Present(1), Absent], &[Present(1), Absent]),
 ];
 
-fn is_adapted(alloc: Global, case: &Case) -> Result<bool, NoMemory> {
+fn is_adapted(alloc: Global, case: &AdaptorCase) -> Result<bool, NoMemory> {
     let (adaptor, p, q, places, wanted) = *case;
     let tuple = Tuple::from_slice(alloc, places)?;
     Ok(adapt(alloc, adaptor, p, q, &tuple)?.as_slice() == wanted)

@@ -2,15 +2,15 @@
 //! variables `x` and `y`.
 use aadl_parse::parse;
 use aadl_tree::{AnnexContent, AnnexTree, Declaration, PackageTree};
-use annex_resolve::{Entry, Meaning, Scope, Values, resolve_annex};
-use pals_base::{Behaviour, BehaviourParts, Items, Kind, Named, NoMemory, Text, VarDecl};
+use annex_resolve::{DeclaredName, Meaning, Scope, DeclaredValues, resolve_annex};
+use pals_base::{Behaviour, BehaviourParts, Items, Kind, PortDecl, NoMemory, Text, VarDecl};
 use std::alloc::Global;
 
-fn port(alloc: Global, name: &str) -> Result<Items<Named>, NoMemory> {
+fn port(alloc: Global, name: &str) -> Result<Items<PortDecl>, NoMemory> {
     let name = Text::from_str(alloc, name)?;
     let kind = Kind::Integer;
     let mut ports = Items::new(alloc);
-    ports.push(Named { name, kind })?;
+    ports.push(PortDecl { name, kind })?;
     Ok(ports)
 }
 
@@ -26,8 +26,8 @@ fn variables(alloc: Global) -> Result<Items<VarDecl>, NoMemory> {
     Ok(variables)
 }
 
-fn values(alloc: Global) -> Result<Values, NoMemory> {
-    Ok(Values {
+fn values(alloc: Global) -> Result<DeclaredValues, NoMemory> {
+    Ok(DeclaredValues {
         ins: port(alloc, "i")?,
         outs: port(alloc, "o")?,
         vars: variables(alloc)?,
@@ -44,7 +44,7 @@ const NAMES: [(&str, Meaning); 4] = [
 fn scope(alloc: Global) -> Result<Scope, NoMemory> {
     let mut entries = Items::new(alloc);
     for (name, meaning) in &NAMES {
-        entries.push(Entry {
+        entries.push(DeclaredName {
             name: Text::from_str(alloc, name)?,
             kind: Some(Kind::Integer),
             meaning: *meaning,

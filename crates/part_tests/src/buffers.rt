@@ -1,17 +1,17 @@
 //! Slots, flights and queues of due messages, call by call.
 use link_buffers::{DueEntry, DueQueue, Flight, Slot};
-use pals_base::{Items, LinkNo, NoMemory, Port, Tuple};
+use pals_base::{Items, LinkNo, NoMemory, PortValue, Tuple};
 use std::alloc::Global;
 
 // A message of one value.
 fn message(alloc: Global, value: i64) -> Result<Tuple, NoMemory> {
-    Items::from_slice(alloc, &[Port::Present(value)])
+    Items::from_slice(alloc, &[PortValue::Present(value)])
 }
 
 // The value of a message of one value.
 fn value(tuple: Option<Tuple>) -> Option<i64> {
     match tuple?.get(0) {
-        Some(&Port::Present(value)) => Some(value),
+        Some(&PortValue::Present(value)) => Some(value),
         _ => None,
     }
 }

@@ -5,7 +5,7 @@ ghost use Rattle.step_code.specs.proof.Exec.{FitsCode, has_entry};
 use crate::running::wrong_steps;
 use crate::verifying::wrong_codes;
 use case_files::{Answers, asked};
-use pals_base::{Frame, Items, NoMemory, Port, Trap};
+use pals_base::{Frame, Items, NoMemory, PortValue, Trap};
 use std::alloc::Global;
 use std::io;
 use step_code::{Code, CodeFault, CodeParts, Instr, verify};
@@ -71,13 +71,13 @@ pub fn step(
     alloc: Global,
     code: &Code,
     frame: &mut Frame,
-    input: Port,
-) -> Result<Option<Port>, NoMemory> {
+    input: PortValue,
+) -> Result<Option<PortValue>, NoMemory> {
     if !fits(code, frame) {
         return Ok(None);
     }
     let mut room = Room::for_code(alloc, code)?;
-    let mut outs = [Port::Present(77)];
+    let mut outs = [PortValue::Present(77)];
     run(code, &mut room, frame, &[input], &mut outs);
     Ok(Some(outs[0]))
 }

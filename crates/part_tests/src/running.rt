@@ -1,6 +1,6 @@
 //! What the steps of code leave.
 use crate::codes::{code, frame, step};
-use pals_base::{Frame, NoMemory, Port, Trap};
+use pals_base::{Frame, NoMemory, PortValue, Trap};
 use std::alloc::Global;
 use step_code::{CodeFault, Instr};
 
@@ -62,35 +62,35 @@ const DIVISION: [Instr; 9] = [
 ];
 
 // The variable, what is held, the trap, and what is sent.
-type Left = (i64, i64, Option<Trap>, Port);
+type RunOutcome = (i64, i64, Option<Trap>, PortValue);
 
 // Instructions, the trap of the frame before, the input, and what a step leaves.
-type Case = (&'static [Instr], Option<Trap>, Port, Left);
+type RunCase = (&'static [Instr], Option<Trap>, PortValue, RunOutcome);
 
-const CASES: [Case; 4] = [
+const CASES: [RunCase; 4] = [
     (
         &COUNTER,
         None,
-        Port::Present(2),
-        (7, 2, None, Port::Present(7)),
+        PortValue::Present(2),
+        (7, 2, None, PortValue::Present(7)),
     ),
     // A halted frame stays.
     (
         &COUNTER,
         Some(Trap::Overflow),
-        Port::Present(2),
-        (4, 2, Some(Trap::Overflow), Port::Absent),
+        PortValue::Present(2),
+        (4, 2, Some(Trap::Overflow), PortValue::Absent),
     ),
-    (&LOOPS, None, Port::Absent, (34, 0, None, Port::Absent)),
+    (&LOOPS, None, PortValue::Absent, (34, 0, None, PortValue::Absent)),
     (
         &DIVISION,
         None,
-        Port::Absent,
-        (4, 0, Some(Trap::ZeroDivisor), Port::Absent),
+        PortValue::Absent,
+        (4, 0, Some(Trap::ZeroDivisor), PortValue::Absent),
     ),
 ];
 
-fn is_left(frame: &Frame, out: Option<Port>, left: Left) -> bool {
+fn is_left(frame: &Frame, out: Option<PortValue>, left: RunOutcome) -> bool {
     let (variable, held, halt, sent) = left;
     frame.vars.as_slice() == [variable].as_slice()
         && frame.held.as_slice() == [held].as_slice()
@@ -103,14 +103,14 @@ fn sent(
     alloc: Global,
     instrs: &[Instr],
     frame: &mut Frame,
-    input: Port,
-) -> Result<Option<Port>, CodeFault> {
+    input: PortValue,
+) -> Result<Option<PortValue>, CodeFault> {
     let code = code(alloc, instrs)?;
     Ok(step(alloc, &code, frame, input)?)
 }
 
 // Whether a step from a frame whose variable is 4 and which holds 0 leaves what it should.
-fn leaves(alloc: Global, case: &Case) -> Result<bool, CodeFault> {
+fn leaves(alloc: Global, case: &RunCase) -> Result<bool, CodeFault> {
     let (instrs, halt, input, left) = *case;
     let mut frame = frame(alloc, 0, &[4], 0, halt)?;
     let out = sent(alloc, instrs, &mut frame, input)?;

@@ -1,21 +1,21 @@
 //! The steps of code beside those of the behaviour.
 use crate::codes::{frame, step};
 use behaviour_sem::fire;
-use pals_base::{Behaviour, Frame, NoMemory, Port};
+use pals_base::{Behaviour, Frame, NoMemory, PortValue};
 use std::alloc::Global;
 use step_code::Code;
 
 const NUMBERS: [i64; 7] = [i64::MIN, i64::MIN + 1, -1, 0, 1, 10, i64::MAX];
 
-const INPUTS: [Port; 8] = [
-    Port::Absent,
-    Port::Present(i64::MIN),
-    Port::Present(-1),
-    Port::Present(0),
-    Port::Present(1),
-    Port::Present(3),
-    Port::Present(10),
-    Port::Present(i64::MAX),
+const INPUTS: [PortValue; 8] = [
+    PortValue::Absent,
+    PortValue::Present(i64::MIN),
+    PortValue::Present(-1),
+    PortValue::Present(0),
+    PortValue::Present(1),
+    PortValue::Present(3),
+    PortValue::Present(10),
+    PortValue::Present(i64::MAX),
 ];
 
 fn are_same(left: &Frame, right: &Frame) -> bool {
@@ -31,7 +31,7 @@ fn steps_agree(
     behaviour: &Behaviour,
     code: &Code,
     before: &mut Frame,
-    input: Port,
+    input: PortValue,
 ) -> Result<bool, NoMemory> {
     let (after, outs) = fire(alloc, behaviour, before, &[input])?;
     let sent = step(alloc, code, before, input)?;

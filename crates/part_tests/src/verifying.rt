@@ -29,7 +29,7 @@ macro_rules! next {
 }
 
 // Instructions, and the weight of their code or their first fault.
-type Case = (&'static [Instr], Result<u64, CodeFault>);
+type VerifyCase = (&'static [Instr], Result<u64, CodeFault>);
 
 fn weight(alloc: Global, instrs: &[Instr]) -> Result<u64, CodeFault> {
     let code = code(alloc, instrs)?;
@@ -37,7 +37,7 @@ fn weight(alloc: Global, instrs: &[Instr]) -> Result<u64, CodeFault> {
 }
 
 // Adds the codes whose weight or first fault is another one, each in a line.
-fn add_wrong(wrong: &mut String, cases: &[Case]) -> Result<(), NoMemory> {
+fn add_wrong(wrong: &mut String, cases: &[VerifyCase]) -> Result<(), NoMemory> {
     for (instrs, wanted) in cases {
         if weight(*wrong.allocator(), instrs) != *wanted {
             writeln!(wrong, "{instrs:?}")?;
@@ -46,13 +46,13 @@ fn add_wrong(wrong: &mut String, cases: &[Case]) -> Result<(), NoMemory> {
     Ok(())
 }
 
-const REFUSED: [Case; 3] = [
+const REFUSED: [VerifyCase; 3] = [
     (&[Add, End(0)], Err(Underflow { at: 0 })),
     (&[Push(1), JumpZero(0), End(0)], Err(BackJump { at: 1 })),
     (&[Jump(9)], Err(BadJump { at: 0 })),
 ];
 
-const FIRST_FAULTS: [Case; 11] = [
+const FIRST_FAULTS: [VerifyCase; 11] = [
     // A jump into a body, and one out of it.
     (
         &[Jump(2), start!(1, 3, 4), Jump(3), next!(1, 3, 2), End(0)],
@@ -105,7 +105,7 @@ const FIRST_FAULTS: [Case; 11] = [
     (&[], Err(BadJump { at: 0 })),
 ];
 
-const WEIGHTS: [Case; 5] = [
+const WEIGHTS: [VerifyCase; 5] = [
     (&COUNTER, Ok(9)),
     (
         &[

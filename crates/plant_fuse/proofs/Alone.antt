@@ -4,8 +4,8 @@ use Rattle.std.proofs.lemmas.Nat.{mul-le, div-mul-add, mod-mul-add}
 use Rattle.std.proofs.lemmas.List.{map-append}
 use Rattle.std.proofs.lemmas.List.Elements.{All-nil}
 use Rattle.std.proofs.lemmas.Option.{get_or_from_slice_get}
-use Rattle.pals_base.specs.declared.values.Port.{Port}
-use Rattle.pals_base.specs.declared.values.Port.TheVariants.{Absent}
+use Rattle.pals_base.specs.declared.values.PortValue.{PortValue}
+use Rattle.pals_base.specs.declared.values.PortValue.TheVariants.{Absent}
 use Rattle.pals_base.specs.declared.values.Frame.{Frame}
 use Rattle.pals_base.specs.Bound.{sent_steps}
 use Rattle.pals_base.specs.Fire.{initial}
@@ -19,7 +19,7 @@ use Rattle.pals_model.specs.declared.sources.PortSource.{PortSource}
 use Rattle.pals_model.specs.declared.sources.PortSource.TheVariants as source
 use Rattle.pals_model.specs.Inputs.{rate_of, rate_in, sources_of, reading, values_at, feed, inputs_in}
 use Rattle.pals_model.specs.Composition.{Configuration, comp, state, no_frame, steps_of_round, message_of, tuple_in}
-use Rattle.pals_model.specs.proof.Laws.{own_steps}
+use Rattle.pals_model.specs.proof.CompositionLaws.{own_steps}
 use Rattle.pals_model.specs.Rules.{IsDesign, IsLink}
 use Rattle.pals_model.specs.Ports.{outs_in}
 use Rattle.pals_model.proofs.CompositionLaws.{one_frame_each, state_begins, state_goes_on, steps_of_round-at}
@@ -27,7 +27,7 @@ use Rattle.pals_model.proofs.ShapeLaws.{component_at, length-outputs}
 use Rattle.pals_model.proofs.Lookups.{at_element}
 use Rattle.plant_fuse.specs.Fused.{IsPair, ArePairs, Inputs, inputs_to, outputs_in, left_by, round_tuple, message_on, messages_before, from_round, value_on, value_read, vector_of, IsFused}
 use Rattle.plant_fuse.specs.proof.Fused.{frame_of, fused}
-use Rattle.plant_fuse.specs.proof.Laws.{WithoutPairs}
+use Rattle.plant_fuse.specs.proof.FusedLaws.{WithoutPairs}
 use Rattle.plant_fuse.proofs.Numbered.{length_map_upwards, table}
 use Rattle.plant_fuse.proofs.Ranks.{IsSmall, small_rate}
 use Rattle.plant_fuse.proofs.Causes.{read_at}
@@ -92,12 +92,12 @@ value_alone design env ins rate step (source.Link number) = by (slice_get design
     by None = refl
     by (Some link) = refl
 
-values_are : (f : PortSource → Port) (g : PortSource → List Port) (i : ℕ) → ((s : PortSource) → f s ≡ slice_index_or (g s) i Absent) → (ss : List PortSource) → map f ss ≡ column i (map g ss)
+values_are : (f : PortSource → PortValue) (g : PortSource → List PortValue) (i : ℕ) → ((s : PortSource) → f s ≡ slice_index_or (g s) i Absent) → (ss : List PortSource) → map f ss ≡ column i (map g ss)
 values_are f g i same [] = refl
 values_are f g i same (s ∷ ss) = ap₂ (λ x xs. x ∷ xs) (same s) (values_are f g i same ss)
 
 module _ (design : DesignParts) (env : Env) (rounds : ℕ) (ins : Inputs) (sound : IsDesign design) (is : IsFused design [] env rounds ins) where
-  abbrev pub vector : ℕ → Component → ℕ → List Port
+  abbrev pub vector : ℕ → Component → ℕ → List PortValue
   vector node c step = vector_of design [] env ins node c step
 
   pub inputs_are : (node : ℕ) (c : Component) → slice_get design.components node ≡ Some c → inputs_to ins node ≡ map (vector node c) (upwards 0 (rounds * c.rate))
@@ -114,7 +114,7 @@ module _ (design : DesignParts) (env : Env) (rounds : ℕ) (ins : Inputs) (sound
       → frame_after c.behaviour (initial c.behaviour) (map (vector node c) (upwards 0 (round * c.rate))) ≡ state design env node round
 
   module _ (round : ℕ) (messages : SameMessages round) (frames : SameFrames round) (node : ℕ) (c : Component) (is_c : slice_get design.components node ≡ Some c) where
-    abbrev pub own_feed : List (List Port)
+    abbrev pub own_feed : List (List PortValue)
     own_feed = feed design env (comp design env round).messages node round
 
     vector_is : (i : ℕ) → i < c.rate → vector node c (round * c.rate + i) ≡ column i (map (reading design (values_at env round) (comp design env round).messages c.rate) (sources_of design node c))
@@ -155,7 +155,7 @@ module _ (design : DesignParts) (env : Env) (rounds : ℕ) (ins : Inputs) (sound
         ∙ sym (state_goes_on design env node round c is_c)
 
     -- what is left in the round
-    abbrev pub left : List (List Port)
+    abbrev pub left : List (List PortValue)
     left = outputs c.behaviour (state design env node round) own_feed
 
     feed_size : length own_feed ≡ c.rate
@@ -165,7 +165,7 @@ module _ (design : DesignParts) (env : Env) (rounds : ℕ) (ins : Inputs) (sound
     left_size = length-outputs c.behaviour (state design env node round) own_feed ∙ feed_size
 
     module _ (inside : round < rounds) where
-      abbrev rest : List (List Port)
+      abbrev rest : List (List PortValue)
       rest = map (vector node c) (upwards (suc round * c.rate) (rounds * c.rate - suc round * c.rate))
 
       all_inputs : inputs_to ins node ≡ (map (vector node c) (upwards 0 (round * c.rate)) ++ own_feed) ++ rest
@@ -190,23 +190,23 @@ module _ (design : DesignParts) (env : Env) (rounds : ℕ) (ins : Inputs) (sound
           let both_size : length (outputs c.behaviour start both) ≡ round * c.rate + c.rate =
           length-outputs c.behaviour start both ∙ ap length (sym first_rounds) ∙ length_map_upwards (vector node c) 0 (suc round * c.rate) ∙ (let sum : suc round * c.rate ≡ round * c.rate + c.rate = omega arith in sum) in
           ap (λ xs. slice_index_or (outputs c.behaviour start xs) (round * c.rate + i) []) all_inputs
-          ∙ ap (λ (os : List (List Port)). slice_index_or os (round * c.rate + i) []) (outputs-append c.behaviour start both rest)
+          ∙ ap (λ (os : List (List PortValue)). slice_index_or os (round * c.rate + i) []) (outputs-append c.behaviour start both rest)
           ∙ in_front (outputs c.behaviour start both) (outputs c.behaviour (frame_after c.behaviour start both) rest) (round * c.rate + i) [] (omega (arith, both_size, below))
-          ∙ ap (λ (os : List (List Port)). slice_index_or os (round * c.rate + i) []) split
+          ∙ ap (λ (os : List (List PortValue)). slice_index_or os (round * c.rate + i) []) split
           ∙ behind (outputs c.behaviour start before) left i (round * c.rate + i) [] (omega (arith, first_size))
 
       pub tuple_is : (port : ℕ) → round_tuple design ins node port round ≡ column port left
       tuple_is port =
           let rate : rate_of design node ≡ c.rate = ap rate_in is_c in
-          let value : ℕ → List (List Port) → Port = λ step outs. slice_index_or (slice_index_or outs step []) port Absent in
+          let value : ℕ → List (List PortValue) → PortValue = λ step outs. slice_index_or (slice_index_or outs step []) port Absent in
           ap (λ k. map (λ i. left_by design ins node port (round * k + i)) (upwards 0 k)) rate
           ∙ ap (λ o. map (λ i. value (round * c.rate + i) (outputs_in o (inputs_to ins node))) (upwards 0 c.rate)) is_c
           ∙ ap (λ n. map (λ i. value (round * c.rate + i) (outputs c.behaviour (initial c.behaviour) (inputs_to ins node))) (upwards 0 n)) (sym left_size)
-          ∙ by_place (λ (out : List Port). slice_index_or out port Absent) [] left (λ i. value (round * c.rate + i) (outputs c.behaviour (initial c.behaviour) (inputs_to ins node))) 0
+          ∙ by_place (λ (out : List PortValue). slice_index_or out port Absent) [] left (λ i. value (round * c.rate + i) (outputs c.behaviour (initial c.behaviour) (inputs_to ins node))) 0
           (λ i below.
           let same : 0 + i ≡ i = omega arith in
           ap (λ k. value (round * c.rate + k) (outputs c.behaviour (initial c.behaviour) (inputs_to ins node))) same
-          ∙ ap (λ (out : List Port). slice_index_or out port Absent) (left_at i (omega (arith, below, left_size))))
+          ∙ ap (λ (out : List PortValue). slice_index_or out port Absent) (left_at i (omega (arith, below, left_size))))
 
   -- ---- messages
   module _ (round : ℕ) (messages : SameMessages round) (frames : SameFrames round) (inside : round < rounds) where
@@ -245,7 +245,7 @@ module _ (design : DesignParts) (env : Env) (rounds : ℕ) (ins : Inputs) (sound
   unfolding fused state
   same_configuration =
       let all = same_after rounds (omega arith) in
-      ap₂ (λ (frames : List Frame) (messages : List (List Port)). let at : Configuration = record { frames = frames; messages = messages } in at)
+      ap₂ (λ (frames : List Frame) (messages : List (List PortValue)). let at : Configuration = record { frames = frames; messages = messages } in at)
       (table_is (frame_of ins) 0 design.components (comp design env rounds).frames no_frame (one_frame_each design env rounds) frames_are)
       all.0
     where

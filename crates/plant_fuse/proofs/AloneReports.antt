@@ -6,7 +6,7 @@ use Rattle.std.proofs.lemmas.Bool.{eqb-true}
 use Rattle.std.proofs.lemmas.Nat.{mul-le}
 use Rattle.std.proofs.lemmas.List.Elements.{All-head, All-tail}
 use Rattle.std.proofs.lemmas.Option.{get_or_from_slice_get}
-use Rattle.pals_base.specs.declared.values.Port.{Port}
+use Rattle.pals_base.specs.declared.values.PortValue.{PortValue}
 use Rattle.pals_base.specs.declared.values.Frame.{Frame}
 use Rattle.pals_base.specs.Fire.{initial}
 use Rattle.pals_base.specs.Steps.{Stepped, frame_after, column}
@@ -17,7 +17,7 @@ use Rattle.pals_model.specs.declared.design.DesignParts.{DesignParts}
 use Rattle.pals_model.specs.declared.rounds.Env.{Env}
 use Rattle.pals_model.specs.declared.rounds.Part.{Part}
 use Rattle.pals_model.specs.Composition.{comp, state, part, steps_of_round, tuple_in, tuple_of}
-use Rattle.pals_model.specs.proof.Laws.{own_steps}
+use Rattle.pals_model.specs.proof.CompositionLaws.{own_steps}
 use Rattle.pals_model.specs.Ports.{outs_in}
 use Rattle.pals_model.specs.Rules.{IsDesign, IsTap}
 use Rattle.pals_model.specs.RoundTexts.{text_of, round_line, part_lines, tap_lines, row_lines, composed_lines}
@@ -26,7 +26,7 @@ use Rattle.pals_model.proofs.ShapeLaws.{component_at}
 use Rattle.sync_product.proofs.Tables.{numbered-at}
 use Rattle.plant_fuse.specs.Fused.{Inputs, round_tuple, frame_before, IsFused}
 use Rattle.plant_fuse.specs.FusedText.{fused_part, fused_parts, fused_lines}
-use Rattle.plant_fuse.specs.proof.Laws.{ReportWithoutPairs}
+use Rattle.plant_fuse.specs.proof.FusedLaws.{ReportWithoutPairs}
 use Rattle.plant_fuse.proofs.Prefixes.{take_upwards}
 use Rattle.plant_fuse.proofs.Alone as alone
 use Rattle.plant_fuse.proofs.Reports.{rows_same}
@@ -52,14 +52,14 @@ row_same design f g round sound same =
     (taps_same design f g 0 design.taps same sound.taps.each)
 
 -- ---- taps of a component
-one_more : (f g : Tap → List Port) (node : ℕ) (tap : Tap) (taps : List Tap) (b : Bool) → (tap.source.0 ≡ node → f tap ≡ g tap)
+one_more : (f g : Tap → List PortValue) (node : ℕ) (tap : Tap) (taps : List Tap) (b : Bool) → (tap.source.0 ≡ node → f tap ≡ g tap)
     → map f (filter (λ (t : Tap). nat_eq t.source.0 node) taps) ≡ map g (filter (λ (t : Tap). nat_eq t.source.0 node) taps) → nat_eq tap.source.0 node ≡ b
     → map f (if b then tap ∷ filter (λ (t : Tap). nat_eq t.source.0 node) taps else filter (λ (t : Tap). nat_eq t.source.0 node) taps)
     ≡ map g (if b then tap ∷ filter (λ (t : Tap). nat_eq t.source.0 node) taps else filter (λ (t : Tap). nat_eq t.source.0 node) taps)
 one_more f g node tap taps true same rest is = ap₂ (λ x xs. x ∷ xs) (same (eqb-true tap.source.0 node is)) rest
 one_more f g node tap taps false same rest is = rest
 
-taps_alike : (design : DesignParts) (f g : Tap → List Port) (node : ℕ) → ((tap : Tap) → IsTap design tap → tap.source.0 ≡ node → f tap ≡ g tap) → (taps : List Tap) → All (IsTap design) taps
+taps_alike : (design : DesignParts) (f g : Tap → List PortValue) (node : ℕ) → ((tap : Tap) → IsTap design tap → tap.source.0 ≡ node → f tap ≡ g tap) → (taps : List Tap) → All (IsTap design) taps
     → map f (filter (λ (tap : Tap). nat_eq tap.source.0 node) taps) ≡ map g (filter (λ (tap : Tap). nat_eq tap.source.0 node) taps)
 taps_alike design f g node same [] each = refl
 taps_alike design f g node same (tap ∷ taps) each =
@@ -90,7 +90,7 @@ module _ (design : DesignParts) (env : Env) (rounds : ℕ) (ins : Inputs) (sound
     part_is : fused_part design ins round node c ≡ part design env node round
     unfolding part state comp
     part_is =
-        ap₂ (λ (frame : Frame) (outs : List (List Port)). let p : Part = record { frame = frame; outs = outs } in p)
+        ap₂ (λ (frame : Frame) (outs : List (List PortValue)). let p : Part = record { frame = frame; outs = outs } in p)
         frame_is
         (taps_alike design (λ (tap : Tap). round_tuple design ins node tap.out_port round) (λ (tap : Tap). tuple_of (steps_of_round design env round) node tap.out_port) node tuple_is design.taps sound.taps.each)
 

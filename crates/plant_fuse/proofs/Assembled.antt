@@ -4,8 +4,8 @@ use Rattle.std.specs.Prelude.{if◌then◌else◌}
 use Rattle.std.proofs.lemmas.Bool.{eqb-true}
 use Rattle.std.proofs.lemmas.List.{length-map}
 use Rattle.std.proofs.lemmas.Option.{get_or_from_slice_get, slice_get_cases, same_Some}
-use Rattle.pals_base.specs.declared.values.Port.{Port}
-use Rattle.pals_base.specs.declared.values.Port.TheVariants.{Absent}
+use Rattle.pals_base.specs.declared.values.PortValue.{PortValue}
+use Rattle.pals_base.specs.declared.values.PortValue.TheVariants.{Absent}
 use Rattle.pals_base.specs.declared.values.Frame.{Frame}
 use Rattle.pals_base.specs.declared.values.NodeNo.{NodeNo}
 use Rattle.pals_base.specs.Steps.{outputs, frame_after, column, upwards}
@@ -33,7 +33,7 @@ use Rattle.plant_fuse.proofs.Inside.{read_from_target}
 use Rattle.plant_fuse.proofs.Partnering.{some_stands, pair_at, to_plant_forth, to_plant_back, to_controller_back, to_controller_forth, to_alone_back, to_alone_forth}
 
 -- ---- reads hang on what is left alone
-module _ (design : DesignParts) (pairs : List Pair) (values : List Port) (before : Configuration) (left other : Left) (same : (node port step : ℕ) → left node port step ≡ other node port step) where
+module _ (design : DesignParts) (pairs : List Pair) (values : List PortValue) (before : Configuration) (left other : Left) (same : (node port step : ℕ) → left node port step ≡ other node port step) where
   before_same : (number : ℕ) (link : Link) (step : ℕ) → left_before_by design before left number link step ≡ left_before_by design before other number link step
   before_same number link zero = refl
   before_same number link (suc step) = same link.source.0 link.out_port step
@@ -54,7 +54,7 @@ module _ (design : DesignParts) (pairs : List Pair) (values : List Port) (before
   reads_same rate step (s ∷ ss) = ap₂ (λ x xs. x ∷ xs) (read_same rate step s) (reads_same rate step ss)
 
 -- ---- each source of a component, one by one
-each_source : (design : DesignParts) (node : ℕ) (f g : PortSource → Port)
+each_source : (design : DesignParts) (node : ℕ) (f g : PortSource → PortValue)
     → ((s : PortSource) → ((number : ℕ) (link : Link) → s ≡ source.Link number → slice_get design.links number ≡ Some link → link.target.0 ≡ node) → f s ≡ g s)
     → (ports : List ℕ) → map f (map (source_of design node) ports) ≡ map g (map (source_of design node) ports)
 each_source design node f g same [] = refl
@@ -70,16 +70,16 @@ module _ (round : RoundInputs) (pairs : List Pair) (are : ArePairs round.design.
   abbrev pub before : Configuration
   before = record { frames = frames; messages = round.messages.now }
 
-  abbrev rows : ℕ → List (List Port)
+  abbrev rows : ℕ → List (List PortValue)
   rows node = slice_index_or (rows_of stages) node []
 
   abbrev left : Left
   left node port step = place_at (rows node) port step
 
-  abbrev read : ℕ → ℕ → PortSource → Port
+  abbrev read : ℕ → ℕ → PortSource → PortValue
   read rate step s = read_by design pairs round.values.now before left rate step s
 
-  abbrev vectors_of : ℕ → Component → List (List Port)
+  abbrev vectors_of : ℕ → Component → List (List PortValue)
   vectors_of node c = map (vector_by design pairs round.values.now before left node c) (upwards 0 c.rate)
 
   -- what the steps of the round read
@@ -107,7 +107,7 @@ module _ (round : RoundInputs) (pairs : List Pair) (are : ArePairs round.design.
 
     alone_vector : (step : ℕ) → column step (map (brought round c.rate) (sources_of design node c)) ≡ vector_by design pairs round.values.now before left node c step
     alone_vector step =
-        map_map (brought round c.rate) (λ (tuple : List Port). slice_index_or tuple step Absent) (sources_of design node c)
+        map_map (brought round c.rate) (λ (tuple : List PortValue). slice_index_or tuple step Absent) (sources_of design node c)
         ∙ each_source design node (λ s. slice_index_or (brought round c.rate s) step Absent) (read c.rate step) (alone_value step) (upwards 0 (length c.behaviour.ins))
 
     alone_vectors : vectors round c (sources_of design node c) ≡ vectors_of node c
@@ -133,7 +133,7 @@ module _ (round : RoundInputs) (pairs : List Pair) (are : ArePairs round.design.
         let rate : rate_of design link.source.0 ≡ r.p.rate = ap (rate_of design) source_is ∙ ap rate_in r.c_is ∙ sym rates in
         ap (λ n. slice_index_or (slice_index_or round.messages.now number []) (n - 1) Absent) (sym rate)
     back_value number link (suc step) source_is =
-        ap (λ (all : List (List Port)). place_at all link.out_port step) (sym (ap rows source_is ∙ rows_of_c))
+        ap (λ (all : List (List PortValue)). place_at all link.out_port step) (sym (ap rows source_is ∙ rows_of_c))
 
     plant_if : (number : ℕ) (link : Link) (step : ℕ) → link.target.0 ≡ pair.plant.0 → (b : Bool) → nat_eq link.source.0 pair.controller.0 ≡ b
         → (if b then from_partner round r.p.rate number link (row_before r.c_work.rows step) else rounds.brought design round.values.now before r.p.rate step (source.Link number))
@@ -170,7 +170,7 @@ module _ (round : RoundInputs) (pairs : List Pair) (are : ArePairs round.design.
         let back = to_controller_back design pairs are k pair is link target in
         let forth = to_controller_forth design pairs are k pair is link target ∙ from in
         (elim b as (λ t. nat_eq link.source.0 pair.plant.0 ≡ t → (if t then slice_index_or (row_at r.p_work.rows step) link.out_port Absent else here) ≡ (if t then left link.source.0 link.out_port step else here)) [
-          | true ↦ λ same. ap (λ (all : List (List Port)). place_at all link.out_port step) (sym (ap rows (eqb-true link.source.0 pair.plant.0 same) ∙ rows_of_p))
+          | true ↦ λ same. ap (λ (all : List (List PortValue)). place_at all link.out_port step) (sym (ap rows (eqb-true link.source.0 pair.plant.0 same) ∙ rows_of_p))
           | false ↦ λ other. refl
         ]) from
         ∙ sym
@@ -219,11 +219,11 @@ module _ (round : RoundInputs) (pairs : List Pair) (are : ArePairs round.design.
         rows_are = rows_is ∙ ap (outputs c.behaviour (from node)) same;
         part_is =
             stepped.part
-            ∙ ap₂ (λ (f : Frame) (rs : List (List Port)). let p : Part = record { frame = f; outs = map (λ port. column port rs) (tap_ports design.taps node) } in Some p)
+            ∙ ap₂ (λ (f : Frame) (rs : List (List PortValue)). let p : Part = record { frame = f; outs = map (λ port. column port rs) (tap_ports design.taps node) } in Some p)
             (ap (frame_after c.behaviour (from node)) same) (sym rows_is);
       }
 
-  left_work : (node : ℕ) (c : Component) (w : Work) (vs : List (List Port)) → HasWork design frames next stages node w → w.rows ≡ outputs c.behaviour w.from vs → w.to ≡ frame_after c.behaviour w.from vs
+  left_work : (node : ℕ) (c : Component) (w : Work) (vs : List (List PortValue)) → HasWork design frames next stages node w → w.rows ≡ outputs c.behaviour w.from vs → w.to ≡ frame_after c.behaviour w.from vs
       → vs ≡ vectors_of node c → IsLeft node c
   left_work node c w vs has rows_is to_is same =
       let rows_w : rows node ≡ w.rows = get_or_from_slice_get (rows_of stages) node w.rows [] has.rows_are in
@@ -231,7 +231,7 @@ module _ (round : RoundInputs) (pairs : List Pair) (are : ArePairs round.design.
         rows_are = rows_w ∙ rows_is ∙ ap₂ (outputs c.behaviour) has.from_is same;
         part_is =
             has.part_is
-            ∙ ap₂ (λ (f : Frame) (rs : List (List Port)). let p : Part = record { frame = f; outs = map (λ port. column port rs) (tap_ports design.taps node) } in Some p)
+            ∙ ap₂ (λ (f : Frame) (rs : List (List PortValue)). let p : Part = record { frame = f; outs = map (λ port. column port rs) (tap_ports design.taps node) } in Some p)
             (to_is ∙ ap₂ (frame_after c.behaviour) has.from_is same) (sym rows_w);
       }
 
@@ -283,7 +283,7 @@ module _ (round : RoundInputs) (pairs : List Pair) (are : ArePairs round.design.
               | inr beyond ↦ (let low = beyond.0 in omega (arith, low, within))
             ]
 
-        get_or_past : (xs : List (List (List Port))) (n : ℕ) (d : List (List Port)) → length xs ≤ n → slice_index_or xs n d ≡ d
+        get_or_past : (xs : List (List (List PortValue))) (n : ℕ) (d : List (List PortValue)) → length xs ≤ n → slice_index_or xs n d ≡ d
         get_or_past [] n d beyond = refl
         get_or_past (x ∷ xs) zero d beyond = absurd (omega arith)
         get_or_past (x ∷ xs) (suc n) d beyond = get_or_past xs n d (omega arith)
@@ -293,10 +293,10 @@ module _ (round : RoundInputs) (pairs : List Pair) (are : ArePairs round.design.
       where
         by : (o : Option Component) → slice_get design.components node ≡ o → left node port step ≡ left_in design before all_read node port step
         by None none =
-            ap (λ (rs : List (List Port)). place_at rs port step)
+            ap (λ (rs : List (List PortValue)). place_at rs port step)
             (rows_past node none ∙ sym (ap (λ o. outputs_from o (from node) (inputs_to all_read node)) none))
         by (Some c) is_c =
-            ap (λ (rs : List (List Port)). place_at rs port step)
+            ap (λ (rs : List (List PortValue)). place_at rs port step)
             ((is_left node c is_c).rows_are
             ∙ sym
             (ap (λ o. outputs_from o (from node) (inputs_to all_read node)) is_c
@@ -321,4 +321,4 @@ module _ (round : RoundInputs) (pairs : List Pair) (are : ArePairs round.design.
         → slice_get next node ≡ Some (record { frame = frame_after c.behaviour (frame_at before node) (inputs_to all_read node); outs = map (λ port. column port (slice_index_or (rows_of stages) node [])) (tap_ports design.taps node) })
     part_at_node node c is_c =
         (is_left node c is_c).part_is
-        ∙ ap (λ (vs : List (List Port)). let p : Part = record { frame = frame_after c.behaviour (from node) vs; outs = map (λ port. column port (rows node)) (tap_ports design.taps node) } in Some p) (sym (inputs_at node c is_c))
+        ∙ ap (λ (vs : List (List PortValue)). let p : Part = record { frame = frame_after c.behaviour (from node) vs; outs = map (λ port. column port (rows node)) (tap_ports design.taps node) } in Some p) (sym (inputs_at node c is_c))

@@ -3,8 +3,8 @@ use Rattle.std.proofs.Common.{◌≡◌, ◌∙◌, ℕ, zero, suc, ◌+◌, ◌
 use Rattle.std.specs.Prelude.{if◌then◌else◌}
 use Rattle.std.proofs.lemmas.Option.{same_Some}
 use Rattle.list_lemmas.proofs.Lists.{map-same}
-use Rattle.pals_base.specs.declared.values.Port.{Port}
-use Rattle.pals_base.specs.declared.values.Port.TheVariants.{Absent}
+use Rattle.pals_base.specs.declared.values.PortValue.{PortValue}
+use Rattle.pals_base.specs.declared.values.PortValue.TheVariants.{Absent}
 use Rattle.pals_base.specs.declared.values.Frame.{Frame}
 use Rattle.pals_base.specs.declared.behaviour.BehaviourParts.{BehaviourParts}
 use Rattle.pals_base.specs.Bound.{sent_steps}
@@ -26,7 +26,7 @@ use Rattle.plant_fuse.proofs.Inside.{back_rates, forth_is, read_from_target}
 
 -- ---- outputs
 -- what is left in a step hangs on the vectors up to it
-pub same_output : (b : BehaviourParts) (frame : Frame) (xs ys : List (List Port)) (step : ℕ)
+pub same_output : (b : BehaviourParts) (frame : Frame) (xs ys : List (List PortValue)) (step : ℕ)
     → ((k : ℕ) → k ≤ step → slice_get xs k ≡ slice_get ys k) → slice_index_or (outputs b frame xs) step [] ≡ slice_index_or (outputs b frame ys) step []
 same_output b frame [] [] step same = refl
 same_output b frame [] (y ∷ ys) step same = absurd (let first = same 0 (omega arith) in cc)
@@ -39,7 +39,7 @@ same_output b frame (x ∷ xs) (y ∷ ys) (suc step) same =
     same_output b (fire b frame x).frame xs ys step (λ k below. same (suc k) (omega arith))
     ∙ ap (λ v. slice_index_or (outputs b (fire b frame v).frame ys) step []) one
 
-same_output_in : (o : Option Component) (xs ys : List (List Port)) (step : ℕ)
+same_output_in : (o : Option Component) (xs ys : List (List PortValue)) (step : ℕ)
     → ((k : ℕ) → k ≤ step → slice_get xs k ≡ slice_get ys k) → slice_index_or (outputs_in o xs) step [] ≡ slice_index_or (outputs_in o ys) step []
 same_output_in None xs ys step same = refl
 same_output_in (Some c) xs ys step same = same_output c.behaviour (initial c.behaviour) xs ys step same
@@ -52,7 +52,7 @@ module _ (design : DesignParts) (pairs : List Pair) (sound : IsDesign design) (a
   module _ (m : ℕ) (v w : Inputs) (agree : Agree design pairs m v w) where
     same_left : (node port step : ℕ) → rank design pairs node step < m → left_by design v node port step ≡ left_by design w node port step
     same_left node port step low =
-        ap (λ (out : List Port). slice_index_or out port Absent)
+        ap (λ (out : List PortValue). slice_index_or out port Absent)
         (same_output_in (slice_get design.components node) (inputs_to v node) (inputs_to w node) step
         (λ k below. agree.same node k (let lower = rank_upto design pairs sound node k step below in omega (arith, lower, low))))
 
@@ -64,7 +64,7 @@ module _ (design : DesignParts) (pairs : List Pair) (sound : IsDesign design) (a
 
     same_message : (round : ℕ) (link : Link) → (round + 1) * 128 ≤ m → message_on design pairs v round link ≡ message_on design pairs w round link
     same_message round link past =
-        ap (λ (t : List Port). if is_back pairs link then t else if is_forth pairs link then t else cut (sent_steps design.gamma design.period (rate_of design link.source.0)) t)
+        ap (λ (t : List PortValue). if is_back pairs link then t else if is_forth pairs link then t else cut (sent_steps design.gamma design.period (rate_of design link.source.0)) t)
         (same_tuple link.source.0 link.out_port round past)
 
     pub same_messages : (round : ℕ) → round * 128 ≤ m → messages_before design pairs v round ≡ messages_before design pairs w round
@@ -143,7 +143,7 @@ module _ (design : DesignParts) (pairs : List Pair) (sound : IsDesign design) (a
 
   -- ---- the next rank
   module _ (rounds : ℕ) where
-    abbrev pub row : Inputs → ℕ → Component → List (List Port)
+    abbrev pub row : Inputs → ℕ → Component → List (List PortValue)
     row ins node c = map (vector_of design pairs env ins node c) (upwards 0 (rounds * c.rate))
 
     pub read_at : (ins : Inputs) (node : ℕ) (c : Component) → slice_get design.components node ≡ Some c → inputs_to (reads design pairs env rounds ins) node ≡ row ins node c
@@ -156,11 +156,11 @@ module _ (design : DesignParts) (pairs : List Pair) (sound : IsDesign design) (a
 
     same_by : (m : ℕ) (v w : Inputs) → Agree design pairs m v w → (node step : ℕ) → rank design pairs node step < suc m → (o : Option Component) → slice_get design.components node ≡ o
         → slice_get (inputs_to (reads design pairs env rounds v) node) step ≡ slice_get (inputs_to (reads design pairs env rounds w) node) step
-    same_by m v w agree node step low None is = ap (λ (xs : List (List Port)). slice_get xs step) (read_past v node is ∙ sym (read_past w node is))
+    same_by m v w agree node step low None is = ap (λ (xs : List (List PortValue)). slice_get xs step) (read_past v node is ∙ sym (read_past w node is))
     same_by m v w agree node step low (Some c) is =
-        ap (λ (xs : List (List Port)). slice_get xs step) (read_at v node c is)
+        ap (λ (xs : List (List PortValue)). slice_get xs step) (read_at v node c is)
         ∙ get_upwards_same (vector_of design pairs env v node c) (vector_of design pairs env w node c) (rounds * c.rate) step (vectors_same m v w agree node c is step (omega (arith, low)))
-        ∙ sym (ap (λ (xs : List (List Port)). slice_get xs step) (read_at w node c is))
+        ∙ sym (ap (λ (xs : List (List PortValue)). slice_get xs step) (read_at w node c is))
 
     pub next_agree : (m : ℕ) (v w : Inputs) → Agree design pairs m v w → Agree design pairs (suc m) (reads design pairs env rounds v) (reads design pairs env rounds w)
     next_agree m v w agree = record {

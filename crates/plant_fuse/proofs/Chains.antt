@@ -13,11 +13,11 @@ use Rattle.pals_runs.specs.declared.pairs.Pair.{Pair}
 use Rattle.plant_fuse.specs.Fused.{ArePairs, Inputs, inputs_to, vector_of, messages_before, IsFused}
 use Rattle.plant_fuse.specs.proof.Fused.{first_rounds, frame_of, fused}
 use Rattle.plant_fuse.specs.proof.Rounds.{IsFusedRound, after_round, last_round, AreRounds}
-use Rattle.plant_fuse.specs.proof.Laws.{RoundsFollow}
+use Rattle.plant_fuse.specs.proof.FusedLaws.{RoundsFollow}
 use Rattle.plant_fuse.proofs.Numbered.{table, table_same}
 use Rattle.plant_fuse.proofs.Causes.{read_at}
 use Rattle.plant_fuse.proofs.Prefixes.{solution_goes_on}
-use Rattle.plant_fuse.proofs.Onward.{fused_is, rounds_go_on}
+use Rattle.plant_fuse.proofs.OneMoreRound.{fused_is, rounds_go_on}
 use Rattle.plant_fuse.proofs.Once.{round_is_one}
 
 table_map : {X Y : Type 0} (f : X → Y) (from : ℕ) (xs : List X) → table (λ place x. f x) from xs ≡ map f xs

@@ -3,7 +3,7 @@ use Rattle.std.proofs.Common.{◌≡◌, ◌∙◌, ℕ, suc, ◌*◌, ◌<◌, 
 use Rattle.std.proofs.lemmas.Nat.{mul-le}
 use Rattle.std.proofs.lemmas.List.{take-append-drop, take-take, take_all}
 use Rattle.list_lemmas.proofs.Lists.{map-same}
-use Rattle.pals_base.specs.declared.values.Port.{Port}
+use Rattle.pals_base.specs.declared.values.PortValue.{PortValue}
 use Rattle.pals_base.specs.declared.values.Frame.{Frame}
 use Rattle.pals_base.specs.Fire.{initial}
 use Rattle.pals_base.specs.Steps.{frame_after}
@@ -23,13 +23,13 @@ use Rattle.plant_fuse.specs.FusedText.{fused_part, fused_parts}
 use Rattle.plant_fuse.proofs.Numbered.{table_at, table_same}
 use Rattle.plant_fuse.proofs.Causes.{same_tuple}
 use Rattle.plant_fuse.proofs.Prefixes.{begun, agree}
-use Rattle.plant_fuse.proofs.Onward as onward
+use Rattle.plant_fuse.proofs.OneMoreRound as onward
 
 module _ (design : DesignParts) (pairs : List Pair) (env : Env) (rounds : ℕ) (ins : Inputs) (sound : IsDesign design) (are : ArePairs design pairs) (is : IsFused design pairs env (suc rounds) ins) where
   abbrev first : Inputs
   first = onward.first design pairs env rounds ins sound are is
 
-  part : Frame → List (List Port) → Part
+  part : Frame → List (List PortValue) → Part
   part frame outs = record { frame = frame; outs = outs }
 
   -- ---- in the last round
@@ -46,7 +46,7 @@ module _ (design : DesignParts) (pairs : List Pair) (env : Env) (rounds : ℕ) (
   last_part : (node : ℕ) (c : Component) → slice_get design.components node ≡ Some c
       → part_after design (onward.before design pairs env rounds ins sound are is) (onward.vectors design pairs env rounds ins sound are is) node c ≡ fused_part design ins rounds node c
   last_part node c is_c =
-      ap₂ (λ (frame : Frame) (outs : List (List Port)). let p : Part = record { frame = frame; outs = outs } in p)
+      ap₂ (λ (frame : Frame) (outs : List (List PortValue)). let p : Part = record { frame = frame; outs = outs } in p)
       (frame_is node c is_c)
       (map-same
       (λ (tap : Tap). tuple_from design (onward.before design pairs env rounds ins sound are is) (onward.vectors design pairs env rounds ins sound are is) node tap.out_port)
@@ -63,7 +63,7 @@ module _ (design : DesignParts) (pairs : List Pair) (env : Env) (rounds : ℕ) (
     earlier_part node c is_c =
         let xs = inputs_to ins node in
         let less : suc round * c.rate ≤ rounds * c.rate = mul-le (suc round) c.rate rounds c.rate (omega (arith, below)) (omega arith) in
-        ap₂ (λ (frame : Frame) (outs : List (List Port)). let p : Part = record { frame = frame; outs = outs } in p)
+        ap₂ (λ (frame : Frame) (outs : List (List PortValue)). let p : Part = record { frame = frame; outs = outs } in p)
         (ap (λ ys. frame_after c.behaviour (initial c.behaviour) (take (suc round * c.rate) ys)) (table_at (begun design pairs env rounds ins sound are is) 0 design.components node node c [] (omega arith) is_c)
         ∙ ap (frame_after c.behaviour (initial c.behaviour)) (take-take (suc round * c.rate) (rounds * c.rate) xs less))
         (map-same (λ (tap : Tap). round_tuple design first node tap.out_port round) (λ (tap : Tap). round_tuple design ins node tap.out_port round)

@@ -1,4 +1,4 @@
-pub mod Rows
+pub mod CounterPlant
 pub mod Numbered
 pub mod Ranks
 pub mod Inside
@@ -7,7 +7,7 @@ pub mod Solutions
 pub mod Alone
 pub mod Prefixes
 pub mod Steps
-pub mod Onward
+pub mod OneMoreRound
 pub mod Once
 pub mod Chains
 pub mod Fitting
@@ -18,9 +18,9 @@ pub mod Sized
 pub mod PairRuns
 pub mod Partnering
 pub mod Assembled
-pub mod Standing
+pub mod RoundSolutions
 pub mod Leaving
-pub mod Following
+pub mod FollowingStates
 pub mod Reports
 pub mod AloneReports
 pub mod Sending

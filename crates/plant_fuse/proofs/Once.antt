@@ -1,8 +1,8 @@
 -- The equations of one round have one solution.
 use Rattle.std.proofs.Common.{◌≡◌, ◌∙◌, ℕ, zero, suc, ◌+◌, ◌*◌, ◌<◌, ◌≤◌, Bool, true, false, List, [], ◌∷◌, length, map, Option, Some, None, slice_get, slice_index_or, refl, sym, ap, ap₂, arith}
 use Rattle.std.specs.Prelude.{if◌then◌else◌}
-use Rattle.pals_base.specs.declared.values.Port.{Port}
-use Rattle.pals_base.specs.declared.values.Port.TheVariants.{Absent}
+use Rattle.pals_base.specs.declared.values.PortValue.{PortValue}
+use Rattle.pals_base.specs.declared.values.PortValue.TheVariants.{Absent}
 use Rattle.pals_base.specs.declared.values.Frame.{Frame}
 use Rattle.pals_base.specs.Steps.{upwards}
 use Rattle.pals_model.specs.declared.design.Component.{Component}
@@ -15,7 +15,7 @@ use Rattle.pals_model.specs.Composition.{Configuration}
 use Rattle.pals_runs.specs.declared.pairs.Pair.{Pair}
 use Rattle.plant_fuse.specs.Fused.{ArePairs, is_back, is_forth, Inputs, inputs_to}
 use Rattle.plant_fuse.specs.proof.Rounds.{frame_at, outputs_from, left_in, left_before_by, brought, link_by, read_by, round_vector, IsFusedRound}
-use Rattle.plant_fuse.specs.proof.Laws.{RoundIsOne}
+use Rattle.plant_fuse.specs.proof.FusedLaws.{RoundIsOne}
 use Rattle.plant_fuse.proofs.Numbered.{map_upwards_same, get_upwards_same, table_at, table_past, table_same}
 use Rattle.plant_fuse.proofs.Ranks.{is_controller, bump}
 use Rattle.plant_fuse.proofs.Inside.{forth_is, read_from_target}
@@ -33,16 +33,16 @@ bump_most false = omega arith
 record AgreeIn (pairs : List Pair) (m : ℕ) (v w : Inputs) : Type 0 where
   same : (node step : ℕ) → place_in pairs node step < m → slice_get (inputs_to v node) step ≡ slice_get (inputs_to w node) step
 
-same_from : (o : Option Component) (frame : Frame) (xs ys : List (List Port)) (step : ℕ) → ((k : ℕ) → k ≤ step → slice_get xs k ≡ slice_get ys k)
+same_from : (o : Option Component) (frame : Frame) (xs ys : List (List PortValue)) (step : ℕ) → ((k : ℕ) → k ≤ step → slice_get xs k ≡ slice_get ys k)
     → slice_index_or (outputs_from o frame xs) step [] ≡ slice_index_or (outputs_from o frame ys) step []
 same_from None frame xs ys step same = refl
 same_from (Some c) frame xs ys step same = same_output c.behaviour frame xs ys step same
 
-module _ (design : DesignParts) (pairs : List Pair) (values : List Port) (before : Configuration) (are : ArePairs design pairs) where
+module _ (design : DesignParts) (pairs : List Pair) (values : List PortValue) (before : Configuration) (are : ArePairs design pairs) where
   module _ (m : ℕ) (v w : Inputs) (agree : AgreeIn pairs m v w) where
     same_left : (node port step : ℕ) → place_in pairs node step < m → left_in design before v node port step ≡ left_in design before w node port step
     same_left node port step low =
-        ap (λ (out : List Port). slice_index_or out port Absent)
+        ap (λ (out : List PortValue). slice_index_or out port Absent)
         (same_from (slice_get design.components node) (frame_at before node) (inputs_to v node) (inputs_to w node) step
         (λ k below. agree.same node k (omega (arith, low, below))))
 
@@ -86,7 +86,7 @@ module _ (design : DesignParts) (pairs : List Pair) (values : List Port) (before
       same_vector = same_values (upwards 0 (length c.behaviour.ins))
 
   module _ (v w : Inputs) (is_v : IsFusedRound design pairs values before v) (is_w : IsFusedRound design pairs values before w) where
-    abbrev row : Inputs → ℕ → Component → List (List Port)
+    abbrev row : Inputs → ℕ → Component → List (List PortValue)
     row ins node c = map (round_vector design pairs values before ins node c) (upwards 0 c.rate)
 
     at_node : (ins : Inputs) → IsFusedRound design pairs values before ins → (node : ℕ) (c : Component) → slice_get design.components node ≡ Some c → inputs_to ins node ≡ row ins node c
@@ -97,11 +97,11 @@ module _ (design : DesignParts) (pairs : List Pair) (values : List Port) (before
 
     next_by : (m : ℕ) → AgreeIn pairs m v w → (node step : ℕ) → place_in pairs node step < suc m → (o : Option Component) → slice_get design.components node ≡ o
         → slice_get (inputs_to v node) step ≡ slice_get (inputs_to w node) step
-    next_by m agree node step low None is_c = ap (λ (xs : List (List Port)). slice_get xs step) (past_nodes v is_v node is_c ∙ sym (past_nodes w is_w node is_c))
+    next_by m agree node step low None is_c = ap (λ (xs : List (List PortValue)). slice_get xs step) (past_nodes v is_v node is_c ∙ sym (past_nodes w is_w node is_c))
     next_by m agree node step low (Some c) is_c =
-        ap (λ (xs : List (List Port)). slice_get xs step) (at_node v is_v node c is_c)
+        ap (λ (xs : List (List PortValue)). slice_get xs step) (at_node v is_v node c is_c)
         ∙ get_upwards_same (round_vector design pairs values before v node c) (round_vector design pairs values before w node c) c.rate step (same_vector m v w agree node c step (omega (arith, low)))
-        ∙ sym (ap (λ (xs : List (List Port)). slice_get xs step) (at_node w is_w node c is_c))
+        ∙ sym (ap (λ (xs : List (List PortValue)). slice_get xs step) (at_node w is_w node c is_c))
 
     agree_below : (m : ℕ) → AgreeIn pairs m v w
     agree_below zero = record { same = λ node step low. absurd (omega (arith, low)) }

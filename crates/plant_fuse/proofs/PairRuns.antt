@@ -2,7 +2,7 @@
 use Rattle.std.proofs.Common.{◌≡◌, ◌≢◌, ◌∙◌, ℕ, ◌<◌, List, length, map, set, Option, Some, slice_get, slice_index_or, sym, ap, ap₂, subst}
 use Rattle.std.specs.Option.{option_map}
 use Rattle.std.proofs.lemmas.Option.{slice_get-map}
-use Rattle.pals_base.specs.declared.values.Port.{Port}
+use Rattle.pals_base.specs.declared.values.PortValue.{PortValue}
 use Rattle.pals_base.specs.declared.values.Frame.{Frame}
 use Rattle.pals_base.specs.declared.values.NodeNo.{NodeNo}
 use Rattle.pals_base.specs.Steps.{frame_after, outputs, column}
@@ -15,8 +15,8 @@ use Rattle.sync_product.specs.declared.reads.RoundInputs.{RoundInputs}
 use Rattle.sync_product.specs.declared.stage.Stage.{Stage}
 use Rattle.sync_product.specs.proof.Rounds.{IsStepped, vectors, own_rows, frames_of}
 use Rattle.sync_product.proofs.Tables.{slice_get-set_same, entry_at}
-use Rattle.plant_fuse.specs.declared.sides.Given.{Given}
-use Rattle.plant_fuse.specs.declared.sides.Side.{Side}
+use Rattle.plant_fuse.specs.declared.sides.StepContext.{StepContext}
+use Rattle.plant_fuse.specs.declared.sides.PairedComponent.{PairedComponent}
 use Rattle.plant_fuse.specs.declared.tables.Tables.{Tables}
 use Rattle.plant_fuse.specs.proof.Partners.{partner_of, all_partners}
 use Rattle.plant_fuse.specs.proof.Tables.{AreTables}
@@ -25,22 +25,22 @@ use Rattle.plant_fuse.specs.proof.Runs.{seat, IsGiven, HasWork, IsRun, StayBesid
 use Rattle.plant_fuse.proofs.Numbered.{counted_at}
 use Rattle.plant_fuse.proofs.TakenOut.{get_set_other}
 
-seat_is : (design : DesignParts) (parts : List Part) (node partner : ℕ) (side : Side) → IsGiven design parts node side.given → side.partner ≡ partner → seat_of side ≡ seat design node partner side.given.component.now
+seat_is : (design : DesignParts) (parts : List Part) (node partner : ℕ) (side : PairedComponent) → IsGiven design parts node side.given → side.partner ≡ partner → seat_of side ≡ seat design node partner side.given.component.now
 seat_is design parts node partner side is partner_is =
     ap₂ (λ n ss. let s : Seat = record { partner = n; component = side.given.component.now; sources = ss } in s) partner_is is.sources_are
 
-has_work : (design : DesignParts) (parts next : List Part) (stages : List Stage) (node : ℕ) (side : Side) (stage : Stage) (part : Part) → IsGiven design parts node side.given
+has_work : (design : DesignParts) (parts next : List Part) (stages : List Stage) (node : ℕ) (side : PairedComponent) (stage : Stage) (part : Part) → IsGiven design parts node side.given
     → part.outs ≡ map (λ port. column port stage.rows) side.given.taps.now → slice_get next node ≡ Some part → slice_get stages node ≡ Some stage
     → HasWork design (frames_of parts) next stages node (side_work side stage part)
 has_work design parts next stages node side stage part is shows at_part at_stage = record {
   from_is = is.from_is;
   part_is =
       at_part
-      ∙ ap (λ (outs : List (List Port)). let p : Part = record { frame = part.frame; outs = outs } in Some p) (shows ∙ ap (map (λ port. column port stage.rows)) is.taps_are);
+      ∙ ap (λ (outs : List (List PortValue)). let p : Part = record { frame = part.frame; outs = outs } in Some p) (shows ∙ ap (map (λ port. column port stage.rows)) is.taps_are);
   rows_are = slice_get-map (λ (s : Stage). s.rows) stages node ∙ ap (option_map (λ (s : Stage). s.rows)) at_stage;
 }
 
-pub pair_is_run : (round : RoundInputs) (parts next : List Part) (stages : List Stage) (pair : Pair) (plant controller : Side) (plant_stage controller_stage : Stage) (plant_part controller_part : Part)
+pub pair_is_run : (round : RoundInputs) (parts next : List Part) (stages : List Stage) (pair : Pair) (plant controller : PairedComponent) (plant_stage controller_stage : Stage) (plant_part controller_part : Part)
     → IsGiven round.design.now parts pair.plant.0 plant.given → IsGiven round.design.now parts pair.controller.0 controller.given
     → plant.partner ≡ pair.controller.0 → controller.partner ≡ pair.plant.0
     → slice_get next pair.plant.0 ≡ Some plant_part → slice_get next pair.controller.0 ≡ Some controller_part
@@ -99,7 +99,7 @@ stepped_stays round frames parts parts' stages stages' a b node c stay not_a not
 }
 
 -- ---- a component by itself
-pub alone_is_run : (round : RoundInputs) (parts next : List Part) (stages : List Stage) (node : ℕ) (given : Given) (part : Part) (stage : Stage) → IsGiven round.design.now parts node given
+pub alone_is_run : (round : RoundInputs) (parts next : List Part) (stages : List Stage) (node : ℕ) (given : StepContext) (part : Part) (stage : Stage) → IsGiven round.design.now parts node given
     → node < length next → node < length stages
     → part.frame ≡ frame_after given.component.now.behaviour given.from.now (vectors round given.component.now given.sources.now)
     → stage.rows ≡ outputs given.component.now.behaviour given.from.now (vectors round given.component.now given.sources.now)
@@ -115,9 +115,9 @@ alone_is_run round parts next stages node given part stage is in_next in_stages 
       stepped = record {
         part =
             slice_get-set_same next node part in_next
-            ∙ ap₂ (λ (f : Frame) (os : List (List Port)). let p : Part = record { frame = f; outs = os } in Some p)
+            ∙ ap₂ (λ (f : Frame) (os : List (List PortValue)). let p : Part = record { frame = f; outs = os } in Some p)
             (frame_is ∙ ap₂ (λ (f : Frame) (ss : List PortSource). frame_after c.behaviour f (vectors round c ss)) is.from_is is.sources_are)
-            (outs_are ∙ ap₂ (λ (rs : List (List Port)) (ts : List ℕ). map (λ port. column port rs) ts) rows_is is.taps_are);
+            (outs_are ∙ ap₂ (λ (rs : List (List PortValue)) (ts : List ℕ). map (λ port. column port rs) ts) rows_is is.taps_are);
         rows =
             slice_get-map (λ (s : Stage). s.rows) (set stages node stage) node
             ∙ ap (option_map (λ (s : Stage). s.rows)) (slice_get-set_same stages node stage in_stages)

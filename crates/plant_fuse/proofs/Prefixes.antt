@@ -1,7 +1,7 @@
 -- The solution for one round more begins with that for fewer.
 use Rattle.std.proofs.Common.{◌≡◌, ◌∙◌, ℕ, zero, suc, ◌*◌, ◌<◌, ◌≤◌, List, [], ◌∷◌, map, take, Option, Some, None, slice_get, refl, sym, ap, subst, arith}
 use Rattle.std.proofs.lemmas.Nat.{mul-le}
-use Rattle.pals_base.specs.declared.values.Port.{Port}
+use Rattle.pals_base.specs.declared.values.PortValue.{PortValue}
 use Rattle.pals_base.specs.Steps.{upwards}
 use Rattle.pals_model.specs.declared.design.Component.{Component}
 use Rattle.pals_model.specs.declared.design.DesignParts.{DesignParts}
@@ -11,7 +11,7 @@ use Rattle.pals_model.specs.Rules.{IsDesign}
 use Rattle.pals_runs.specs.declared.pairs.Pair.{Pair}
 use Rattle.plant_fuse.specs.Fused.{ArePairs, Inputs, inputs_to, vector_of, reads, IsFused}
 use Rattle.plant_fuse.specs.proof.Fused.{first_rounds}
-use Rattle.plant_fuse.specs.proof.Laws.{SolutionGoesOn}
+use Rattle.plant_fuse.specs.proof.FusedLaws.{SolutionGoesOn}
 use Rattle.plant_fuse.proofs.Numbered.{table_at, table_past, table_same}
 use Rattle.plant_fuse.proofs.Ranks.{rank, rounds_of_rank}
 use Rattle.plant_fuse.proofs.Causes.{Agree, same_reads, read_at, read_past}
@@ -31,19 +31,19 @@ module _ (design : DesignParts) (pairs : List Pair) (env : Env) (rounds : ℕ) (
   abbrev pub fewer : Inputs
   fewer = first_rounds design rounds ins
 
-  abbrev pub begun : ℕ → Component → List (List Port)
+  abbrev pub begun : ℕ → Component → List (List PortValue)
   begun node c = take (rounds * c.rate) (inputs_to ins node)
 
   agree_by : (node step : ℕ) → rank design pairs node step < rounds * 128 → (o : Option Component) → slice_get design.components node ≡ o
       → slice_get (inputs_to fewer node) step ≡ slice_get (inputs_to ins node) step
   agree_by node step low None is_c =
-      ap (λ (xs : List (List Port)). slice_get xs step)
+      ap (λ (xs : List (List PortValue)). slice_get xs step)
       (table_past begun 0 design.components node [] is_c
       ∙ sym (ap (λ (v : Inputs). inputs_to v node) is ∙ read_past design pairs sound are env (suc rounds) ins node is_c))
   agree_by node step low (Some c) is_c =
       let rate : rate_of design node ≡ c.rate = ap rate_in is_c in
       let inside : step < rounds * c.rate = subst (λ k. step < rounds * k) rate (rounds_of_rank design pairs sound node rounds step low) in
-      ap (λ (xs : List (List Port)). slice_get xs step) (table_at begun 0 design.components node node c [] (omega arith) is_c)
+      ap (λ (xs : List (List PortValue)). slice_get xs step) (table_at begun 0 design.components node node c [] (omega arith) is_c)
       ∙ get_take (rounds * c.rate) (inputs_to ins node) step inside
 
   pub agree : Agree design pairs (rounds * 128) fewer ins

@@ -13,7 +13,7 @@ use Rattle.pals_runs.specs.declared.pairs.Pair.{Pair}
 use Rattle.plant_fuse.specs.Fused.{ArePairs, Inputs, IsFused}
 use Rattle.plant_fuse.specs.proof.Fused.{first_rounds}
 use Rattle.plant_fuse.specs.FusedText.{fused_parts, fused_lines, freport}
-use Rattle.plant_fuse.specs.proof.Laws.{ReportExists, ReportIsOne}
+use Rattle.plant_fuse.specs.proof.FusedLaws.{ReportExists, ReportIsOne}
 use Rattle.plant_fuse.proofs.Solutions.{solution_exists, solution_is_one}
 use Rattle.plant_fuse.proofs.Prefixes.{solution_goes_on}
 use Rattle.plant_fuse.proofs.Leaving.{earlier_parts}

@@ -2,7 +2,7 @@
 use Rattle.std.proofs.Common.{◌≡◌, ◌∙◌, ℕ, ◌<◌, List, Bool, length, map, slice_index_or, refl, sym, ap, ap₂}
 use Rattle.std.proofs.lemmas.Option.{slice_get_read}
 use Rattle.std.proofs.lemmas.List.{get_or-map}
-use Rattle.pals_base.specs.declared.values.Port.{Port}
+use Rattle.pals_base.specs.declared.values.PortValue.{PortValue}
 use Rattle.pals_base.specs.Steps.{column, cut}
 use Rattle.pals_model.specs.declared.design.Link.{Link}
 use Rattle.pals_runs.specs.declared.pairs.Pair.{Pair}
@@ -11,7 +11,7 @@ use Rattle.plant_fuse.specs.proof.Partners.{partner_of, is_inside}
 use Rattle.plant_fuse.specs.proof.Messages.{sent_count, sent_from, sent_on}
 
 -- what a link's message has to be
-pub sent_item : (pairs : List Pair) (stages : List Stage) (links : List Link) (number : ℕ) (d : Link) (rows : List (List Port)) (stage : Stage) (message : List Port) (inside : Bool) (count : ℕ)
+pub sent_item : (pairs : List Pair) (stages : List Stage) (links : List Link) (number : ℕ) (d : Link) (rows : List (List PortValue)) (stage : Stage) (message : List PortValue) (inside : Bool) (count : ℕ)
     → number < length links → (slice_index_or links number d).source.0 < length stages
     → stage ≡ slice_index_or stages (slice_index_or links number d).source.0 stage → rows ≡ stage.rows
     → inside ≡ is_inside (partner_of pairs (slice_index_or links number d).source.0) (slice_index_or links number d) → count ≡ sent_count inside stage

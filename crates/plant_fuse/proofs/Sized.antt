@@ -15,7 +15,7 @@ use Rattle.sync_product.specs.proof.Sizes.{PartSize, StageSize, tap_ports, frame
 use Rattle.sync_product.specs.proof.Rounds.{frames_of}
 use Rattle.sync_product.proofs.Sizing.{length-upwards}
 use Rattle.sync_product.proofs.Tables.{numbered-at, sized_at}
-use Rattle.plant_fuse.specs.declared.sides.Given.{Given}
+use Rattle.plant_fuse.specs.declared.sides.StepContext.{StepContext}
 use Rattle.plant_fuse.specs.proof.Sides.{FitsGiven}
 use Rattle.plant_fuse.specs.proof.Runs.{IsGiven}
 use Rattle.plant_fuse.proofs.Counts.{count_of_parts, count_of_stages}
@@ -49,7 +49,7 @@ module _ (design : DesignParts) (node : ℕ) (c : Component) (is : slice_get des
       ∙ ap (λ (s : PartSize). s.frame) (part_fits_at parts (slice_index_or parts node no_part) fit (slice_get-get_or parts node no_part within))
 
 -- what is given to the steps of a component fits
-pub given_fits : (design : DesignParts) (parts next : List Part) (stages : List Stage) (node : ℕ) (given : Given) (stage : Stage) (part : Part)
+pub given_fits : (design : DesignParts) (parts next : List Part) (stages : List Stage) (node : ℕ) (given : StepContext) (stage : Stage) (part : Part)
     → IsGiven design parts node given → map part_size parts ≡ part_sizes design → map part_size next ≡ part_sizes design → map stage_size stages ≡ stage_sizes design
     → slice_get stages node ≡ Some stage → slice_get next node ≡ Some part → FitsGiven given stage part
 given_fits design parts next stages node given stage part is parts_fit next_fit stages_fit at_stage at_part =
@@ -61,7 +61,7 @@ given_fits design parts next stages node given stage part is parts_fit next_fit 
       part_fits = part_fits_at design node c is.component_is next part next_fit at_part ∙ ap (part_size_of c) (sym is.taps_are);
     }
 
-pub item_given : (design : DesignParts) (parts next : List Part) (stages : List Stage) (node : ℕ) (given : Given) (stage : Stage) (part : Part)
+pub item_given : (design : DesignParts) (parts next : List Part) (stages : List Stage) (node : ℕ) (given : StepContext) (stage : Stage) (part : Part)
     → IsGiven design parts node given → map part_size parts ≡ part_sizes design → map part_size next ≡ part_sizes design → map stage_size stages ≡ stage_sizes design
     → stage ≡ slice_index_or stages node stage → part ≡ slice_index_or next node part → FitsGiven given stage part
 item_given design parts next stages node given stage part is parts_fit next_fit stages_fit stage_is part_is =

@@ -4,8 +4,8 @@
 -- any number of rounds.
 use Rattle.std.specs.Prelude.{◌≡◌, ◌≢◌, ℕ, zero, suc, ◌+◌, ◌*◌, ◌/◌, ◌%◌, ◌<◌, nat_eq, Bool, ◌&&◌, if◌then◌else◌, List, [], map, replicate, length, take, All, AllPairs, Option, Some, None, slice_get, slice_index_or}
 use Rattle.std.specs.List.{list_any, enumerate_from}
-use Rattle.pals_base.specs.declared.values.Port.{Port}
-use Rattle.pals_base.specs.declared.values.Port.TheVariants.{Absent}
+use Rattle.pals_base.specs.declared.values.PortValue.{PortValue}
+use Rattle.pals_base.specs.declared.values.PortValue.TheVariants.{Absent}
 use Rattle.pals_base.specs.declared.values.Frame.{Frame}
 use Rattle.pals_base.specs.Bound.{sent_steps}
 use Rattle.pals_base.specs.Fire.{initial}
@@ -56,68 +56,68 @@ pub record ArePairs (design : DesignParts) (pairs : List Pair) : Type 0 where
 -- ---- what components leave
 -- the input vectors of each component, one for each of its steps in all rounds
 abbrev pub Inputs : Type 0
-Inputs = List (List (List Port))
+Inputs = List (List (List PortValue))
 
-abbrev pub inputs_to : Inputs → ℕ → List (List Port)
+abbrev pub inputs_to : Inputs → ℕ → List (List PortValue)
 inputs_to ins node = slice_index_or ins node []
 
 -- what the out ports have in each of the steps that a component makes at its input vectors, from its first frame on
-abbrev pub outputs_in : Option Component → List (List Port) → List (List Port)
+abbrev pub outputs_in : Option Component → List (List PortValue) → List (List PortValue)
 outputs_in None vectors = []
 outputs_in (Some c) vectors = outputs c.behaviour (initial c.behaviour) vectors
 
-abbrev pub outputs_of : DesignParts → Inputs → ℕ → List (List Port)
+abbrev pub outputs_of : DesignParts → Inputs → ℕ → List (List PortValue)
 outputs_of design ins node = outputs_in (slice_get design.components node) (inputs_to ins node)
 
 -- the value of an out port in a step
-abbrev pub left_by : DesignParts → Inputs → ℕ → ℕ → ℕ → Port
+abbrev pub left_by : DesignParts → Inputs → ℕ → ℕ → ℕ → PortValue
 left_by design ins node port step = slice_index_or (slice_index_or (outputs_of design ins node) step []) port Absent
 
 -- and in the step before, absent before the first step
-abbrev pub left_before : DesignParts → Inputs → ℕ → ℕ → ℕ → Port
+abbrev pub left_before : DesignParts → Inputs → ℕ → ℕ → ℕ → PortValue
 left_before design ins node port zero = Absent
 left_before design ins node port (suc step) = left_by design ins node port step
 
 -- ---- messages
 -- the values of an out port in the steps of a round
-abbrev pub round_tuple : DesignParts → Inputs → ℕ → ℕ → ℕ → List Port
+abbrev pub round_tuple : DesignParts → Inputs → ℕ → ℕ → ℕ → List PortValue
 round_tuple design ins node port round =
     map (λ i. left_by design ins node port (round * rate_of design node + i)) (upwards 0 (rate_of design node))
 
 -- a link inside a pair has its whole tuple; every other one is cut as in the composition
-abbrev pub message_on : DesignParts → List Pair → Inputs → ℕ → Link → List Port
+abbrev pub message_on : DesignParts → List Pair → Inputs → ℕ → Link → List PortValue
 message_on design pairs ins round link =
     if is_back pairs link then round_tuple design ins link.source.0 link.out_port round
     else if is_forth pairs link then round_tuple design ins link.source.0 link.out_port round
     else cut (sent_steps design.gamma design.period (rate_of design link.source.0)) (round_tuple design ins link.source.0 link.out_port round)
 
 -- the messages of the round before, which are absent tuples before the first
-abbrev pub messages_before : DesignParts → List Pair → Inputs → ℕ → List (List Port)
+abbrev pub messages_before : DesignParts → List Pair → Inputs → ℕ → List (List PortValue)
 messages_before design pairs ins zero = map (λ (link : Link). replicate (rate_of design link.source.0) Absent) design.links
 messages_before design pairs ins (suc round) = map (message_on design pairs ins round) design.links
 
 -- ---- what a step reads
 -- as in the composition: the step's place of what its round brings
-abbrev pub from_round : DesignParts → List Pair → Env → Inputs → ℕ → ℕ → PortSource → Port
+abbrev pub from_round : DesignParts → List Pair → Env → Inputs → ℕ → ℕ → PortSource → PortValue
 from_round design pairs env ins rate step source =
     slice_index_or (reading design (values_at env (step / rate)) (messages_before design pairs ins (step / rate)) rate source) (step % rate) Absent
 
 -- a plant reads on a link from its controller what the controller's step before left; a controller reads on a link from its
 -- plant what the plant's step of this number left
-abbrev pub value_on : DesignParts → List Pair → Env → Inputs → ℕ → ℕ → ℕ → Option Link → Port
+abbrev pub value_on : DesignParts → List Pair → Env → Inputs → ℕ → ℕ → ℕ → Option Link → PortValue
 value_on design pairs env ins rate step number None = from_round design pairs env ins rate step (source.Link number)
 value_on design pairs env ins rate step number (Some link) =
     if is_back pairs link then left_before design ins link.source.0 link.out_port step
     else if is_forth pairs link then left_by design ins link.source.0 link.out_port step
     else from_round design pairs env ins rate step (source.Link number)
 
-abbrev pub value_read : DesignParts → List Pair → Env → Inputs → ℕ → ℕ → PortSource → Port
+abbrev pub value_read : DesignParts → List Pair → Env → Inputs → ℕ → ℕ → PortSource → PortValue
 value_read design pairs env ins rate step source.Nothing = from_round design pairs env ins rate step source.Nothing
 value_read design pairs env ins rate step (source.Feed feed root) = from_round design pairs env ins rate step (source.Feed feed root)
 value_read design pairs env ins rate step (source.Link number) = value_on design pairs env ins rate step number (slice_get design.links number)
 
 -- the input vector of a step
-abbrev pub vector_of : DesignParts → List Pair → Env → Inputs → ℕ → Component → ℕ → List Port
+abbrev pub vector_of : DesignParts → List Pair → Env → Inputs → ℕ → Component → ℕ → List PortValue
 vector_of design pairs env ins node c step = map (value_read design pairs env ins c.rate step) (sources_of design node c)
 
 -- ---- steps

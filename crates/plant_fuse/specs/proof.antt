@@ -1,7 +1,7 @@
 -- What the theorem of the program does not rest on: definitions of contracts below it, of laws, and of proofs.
 pub mod Fused
-pub mod Laws
-pub mod Rows
+pub mod FusedLaws
+pub mod CounterPlant
 pub mod Rounds
 pub mod Ends
 pub mod Partners

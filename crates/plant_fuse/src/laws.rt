@@ -1,6 +1,6 @@
 //! Laws of fused composition. Each is the contract of a function that does nothing.
-ghost use Rattle.plant_fuse.specs.proof.Laws.{SolutionExists, SolutionIsOne, SolutionGoesOn, StepsAreMade, RoundsGoOn, RoundIsOne, RoundsFollow, StatesFollow, WithoutPairs, ReportExists, ReportIsOne, ReportWithoutPairs};
-ghost use Rattle.plant_fuse.specs.proof.Rows.{CountersArePairs, CountersFuse, FusedCountersCount};
+ghost use Rattle.plant_fuse.specs.proof.FusedLaws.{SolutionExists, SolutionIsOne, SolutionGoesOn, StepsAreMade, RoundsGoOn, RoundIsOne, RoundsFollow, StatesFollow, WithoutPairs, ReportExists, ReportIsOne, ReportWithoutPairs};
+ghost use Rattle.plant_fuse.specs.proof.CounterPlant.{CountersArePairs, CountersFuse, FusedCountersCount};
 
 /// The equations of a design with pairs have exactly one solution for each number of
 /// rounds, and that of one round more begins with it.

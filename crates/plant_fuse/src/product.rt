@@ -11,7 +11,7 @@ use crate::messages::send_all;
 use crate::pairs::first_bad;
 use crate::round::run_all;
 use crate::tables::Tables;
-use pals_base::{Items, LinkNo, NoMemory, NodeNo, Port, Tuple};
+use pals_base::{Items, LinkNo, NoMemory, NodeNo, PortValue, Tuple};
 use pals_model::{Design, Part};
 use pals_runs::Pair;
 use std::alloc::Global;
@@ -129,7 +129,7 @@ impl FuseProduct {
     /// order of the design's feeds, each name where it comes first; a value that is missing at the
     /// end is absent, and those past the last port mean nothing. If there is not enough memory, nothing
     /// changes.
-    pub fn advance(&mut self, values: &[Port]) -> Result<(), NoMemory>
+    pub fn advance(&mut self, values: &[PortValue]) -> Result<(), NoMemory>
         ensures ok { OnOk result (IsAdvanced self.old values.now self.new) }
         ensures err { OnErr result (self.new ≡ self.old) }
     {

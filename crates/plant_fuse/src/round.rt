@@ -7,7 +7,7 @@ ghost use Rattle.plant_fuse.specs.proof.Tables.{AreTables};
 ghost use Rattle.plant_fuse.specs.proof.Runs.{IsGiven, IsRunAlone, AreAlone, IsRun, AreRun, StayBeside};
 
 use crate::rooms::{put_stage, take_part, take_stage};
-use crate::sides::{Given, Side, run_sides};
+use crate::sides::{StepContext, PairedComponent, run_sides};
 use crate::tables::Tables;
 use pals_base::{Items, NoMemory};
 use pals_model::{Design, Part};
@@ -119,11 +119,11 @@ fn run_pair(
     ensures stages { map stage_size stages.new.items ≡ map stage_size stages.old.items }
 {
     let (plant, controller) = (pair.plant.0 as usize, pair.controller.0 as usize);
-    let first = Side {
+    let first = PairedComponent {
         partner: pair.controller.0,
         given: given(round.design, tables, parts, plant),
     };
-    let second = Side {
+    let second = PairedComponent {
         partner: pair.plant.0,
         given: given(round.design, tables, parts, controller),
     };
@@ -146,13 +146,13 @@ fn run_pair(
 }
 
 // What is given to the steps of a component.
-fn given<'a>(design: &'a Design, tables: &'a Tables, parts: &'a [Part], node: usize) -> Given<'a>
+fn given<'a>(design: &'a Design, tables: &'a Tables, parts: &'a [Part], node: usize) -> StepContext<'a>
     requires tables { AreTables design.now tables.now.pairs tables.now }
     requires parts { map part_size parts.now ≡ part_sizes design.now }
     requires node { node < length design.now.components }
     ensures { IsGiven design.now parts.now node result }
 {
-    Given {
+    StepContext {
         component: &design.components()[node],
         sources: tables.sources[node].as_slice(),
         from: &parts[node].frame,

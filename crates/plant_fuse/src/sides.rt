@@ -5,7 +5,7 @@ ghost use Rattle.sync_product.specs.proof.Sizes.{frame_size, frame_size_of, part
 ghost use Rattle.plant_fuse.specs.proof.Sides.{seat_of, from_partner, side_value, side_vector, row_before, AreMade, work, FitsGiven, AreSidesRun};
 
 use pals_base::tuples::place;
-use pals_base::{Frame, NoMemory, Port, Tuple};
+use pals_base::{Frame, NoMemory, PortValue, Tuple};
 use pals_model::{Component, Link, Part, PortSource};
 use std::alloc::Global;
 use sync_product::reads::{RoundInputs, place_brought};
@@ -14,7 +14,7 @@ use sync_product::stage::{Stage, write_taps};
 /// What the steps of a component are given: the component, where its in ports read from, the frame that
 /// it goes on from, and which of its out ports root out ports show.
 #[derive(Clone, Copy)]
-pub struct Given<'a> {
+pub struct StepContext<'a> {
     pub component: &'a Component,
     pub sources: &'a [PortSource],
     pub from: &'a Frame,
@@ -23,9 +23,9 @@ pub struct Given<'a> {
 
 /// A component of a pair, with the number of its partner.
 #[derive(Clone, Copy)]
-pub struct Side<'a> {
+pub struct PairedComponent<'a> {
     pub partner: u32,
-    pub given: Given<'a>,
+    pub given: StepContext<'a>,
 }
 
 /// Makes the steps of a round of a plant and its controller. At Ok the parts and the rows of the stages
@@ -33,8 +33,8 @@ pub struct Side<'a> {
 pub fn run_sides(
     alloc: Global,
     round: RoundInputs,
-    plant: Side,
-    controller: Side,
+    plant: PairedComponent,
+    controller: PairedComponent,
     plant_stage: &mut Stage,
     controller_stage: &mut Stage,
     plant_part: &mut Part,
@@ -79,8 +79,8 @@ pub fn run_sides(
 fn make_steps(
     alloc: Global,
     round: RoundInputs,
-    plant: Side,
-    controller: Side,
+    plant: PairedComponent,
+    controller: PairedComponent,
     plant_stage: &mut Stage,
     controller_stage: &mut Stage,
     plant_frame: &mut Frame,
@@ -123,7 +123,7 @@ fn make_steps(
 }
 
 // The row before a step, if there is one.
-fn row_before(rows: &[Tuple], step: usize) -> Option<&[Port]>
+fn row_before(rows: &[Tuple], step: usize) -> Option<&[PortValue]>
     requires { step ≤ length rows.now }
     ensures { option_copied result ≡ row_before rows.now step }
 {
@@ -137,9 +137,9 @@ fn row_before(rows: &[Tuple], step: usize) -> Option<&[Port]>
 fn write_read(
     inputs: &mut Tuple,
     round: RoundInputs,
-    side: Side,
+    side: PairedComponent,
     step: usize,
-    last: Option<&[Port]>,
+    last: Option<&[PortValue]>,
 )
     requires count { length inputs.old ≡ length side.given.sources.now }
     requires step { step < side.given.component.now.rate }
@@ -158,11 +158,11 @@ fn write_read(
 // brings.
 fn place_read(
     round: RoundInputs,
-    side: Side,
+    side: PairedComponent,
     source: PortSource,
     step: usize,
-    last: Option<&[Port]>,
-) -> Port
+    last: Option<&[PortValue]>,
+) -> PortValue
     requires { step < side.given.component.now.rate }
     ensures { result ≡ side_value round.entry (seat_of side.entry) step (option_copied last.entry) source }
 {
@@ -182,8 +182,8 @@ fn left_by_partner(
     rate: u32,
     number: usize,
     link: &Link,
-    last: Option<&[Port]>,
-) -> Port
+    last: Option<&[PortValue]>,
+) -> PortValue
     requires { 0 < rate }
     ensures { result ≡ from_partner round.entry rate number link.now (option_copied last.entry) }
 {
@@ -191,7 +191,7 @@ fn left_by_partner(
         Some(row) => place(row, link.out_port as usize),
         None => match round.messages.get(number) {
             Some(message) => place(message.as_slice(), rate as usize - 1),
-            None => Port::Absent,
+            None => PortValue::Absent,
         },
     }
 }

@@ -10,7 +10,7 @@ use std::thread::Threads;
 
 /// An answer: its status, what was written, and where the bundle ends, by line and column.
 #[derive(Drop)]
-pub struct Asked {
+pub struct ProgramAnswer {
     pub status: u8,
     pub text: Vec<u8>,
     pub end: (u64, u64),
@@ -26,7 +26,7 @@ pub fn ask<R: Threads + Wait + Sync>(
     size: usize,
     failing_read: u64,
     failing_write: u64,
-) -> io::Result<Asked> {
+) -> io::Result<ProgramAnswer> {
     if size == 0 {
         return Err(io::ErrorKind::InvalidInput.into());
     }
@@ -45,7 +45,7 @@ pub fn ask<R: Threads + Wait + Sync>(
     );
     let mut text = Vec::new(alloc);
     text.extend_from_slice(sink.taken())?;
-    Ok(Asked { status, text, end })
+    Ok(ProgramAnswer { status, text, end })
 }
 
 // The words of the command line.

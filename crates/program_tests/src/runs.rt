@@ -1,5 +1,5 @@
 //! Answers of a series, those that are alike on one line.
-use crate::question::Asked;
+use crate::question::ProgramAnswer;
 use std::alloc::Global;
 use std::io;
 
@@ -23,7 +23,7 @@ impl Runs {
     }
 
     /// Adds the answer of a number.
-    pub fn add(&mut self, alloc: Global, number: u64, asked: &Asked) -> io::Result<()> {
+    pub fn add(&mut self, alloc: Global, number: u64, asked: &ProgramAnswer) -> io::Result<()> {
         let says = said(alloc, asked)?;
         if self.says.as_str() != says.as_str() {
             self.end_line()?;
@@ -54,7 +54,7 @@ impl Runs {
 }
 
 // The status of an answer and its first line, with its places as words.
-fn said(alloc: Global, asked: &Asked) -> io::Result<String> {
+fn said(alloc: Global, asked: &ProgramAnswer) -> io::Result<String> {
     let mut says = format!(in alloc; "{}", asked.status)?;
     let text = std::str::from_utf8(asked.text.as_slice()).unwrap_or("no text");
     let line = text.lines().next().unwrap_or("");

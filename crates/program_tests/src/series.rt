@@ -12,7 +12,7 @@
 //!
 //! In the answer `END` is the place where the bundle ends, `_` is another place, and `..` stands for the first bytes of the
 //! answer, 8 for each write that did not fail.
-use crate::question::{Asked, ask};
+use crate::question::{ProgramAnswer, ask};
 use crate::runs::Runs;
 use crate::traces::run_and_audit;
 use case_files::{asked, text_of, word};
@@ -139,7 +139,7 @@ fn writes<R: Threads + Wait + Sync>(
 }
 
 // Whether what was written before a call are the first bytes of the whole answer, 8 a call.
-fn is_first_part(asked: &Asked, whole: &Asked, call: u64) -> bool {
+fn is_first_part(asked: &ProgramAnswer, whole: &ProgramAnswer, call: u64) -> bool {
     let bytes = call.saturating_sub(1).saturating_mul(8);
     asked.text.len() as u64 == bytes && whole.text.starts_with(asked.text.as_slice())
 }

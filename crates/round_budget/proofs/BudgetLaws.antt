@@ -7,7 +7,7 @@ use Rattle.std.proofs.lemmas.List.Elements.{All-from_recursion}
 use Rattle.std.proofs.lemmas.Bool.{cases_lt}
 use Rattle.list_lemmas.proofs.Elements.{AllByRecursion-weaker}
 use Rattle.pals_base.specs.declared.values.Frame.{Frame}
-use Rattle.pals_base.specs.declared.values.Port.{Port}
+use Rattle.pals_base.specs.declared.values.PortValue.{PortValue}
 use Rattle.pals_base.specs.declared.limits.TheConstants.{HOUR}
 use Rattle.pals_base.specs.Bound.{alarm}
 use Rattle.step_code.specs.declared.instr.CodeParts.{CodeParts}
@@ -19,7 +19,7 @@ use Rattle.pals_model.specs.declared.rounds.Env.{Env}
 use Rattle.pals_model.specs.Rules.{IsDesign}
 use Rattle.round_budget.specs.Budgets.{Release, Served, releases, in_order, precedes, serve, most_of, most_in, by_most}
 use Rattle.round_budget.specs.Responses.{response, AreAtMost, made_in, frame_before, inputs_at, by_exec}
-use Rattle.round_budget.specs.proof.Laws.{AreMembers, IsWithinBudget, EachIsServed, ServedOnce, ServedInOrder, NoneBeginsEarly, OneAtATime, ResponsesFit, MostResponsesFit, ExecResponsesFit, RoundsAreApart}
+use Rattle.round_budget.specs.proof.BudgetLaws.{AreMembers, IsWithinBudget, EachIsServed, ServedOnce, ServedInOrder, NoneBeginsEarly, OneAtATime, ResponsesFit, MostResponsesFit, ExecResponsesFit, RoundsAreApart}
 use Rattle.round_budget.proofs.Elements.{every_both, Pairs, pairs_weaker, pairs_both, all_pairs_from, Member, member_of, contains_of}
 use Rattle.round_budget.proofs.Orders.{NotAfter, every_in_order, pairs_in_order, sorted_in_order, length_in_order, member_in_order, in_order_member, strict_numbers}
 use Rattle.round_budget.proofs.Weights.{one_le}
@@ -208,7 +208,7 @@ most_responses_fit design codes nanos members rounds sound budgeted =
 uncapped : (n k : ℕ) → capped n ≤ k → k < 2 ^ 64 - 1 → capped n ≡ n
 uncapped n k few below = omega arith
 
-made_most : (o : Option CodeParts) (frame : Frame) (inputs : List Port) (k : ℕ) → most_in o ≤ k → k < 2 ^ 64 - 1
+made_most : (o : Option CodeParts) (frame : Frame) (inputs : List PortValue) (k : ℕ) → most_in o ≤ k → k < 2 ^ 64 - 1
     → made_in o frame inputs ≤ most_in o
 made_most None frame inputs k few below = omega arith
 made_most (Some c) frame inputs k few below =

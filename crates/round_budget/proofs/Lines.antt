@@ -5,7 +5,7 @@ use Rattle.std.proofs.lemmas.List.{map_push}
 use Rattle.round_budget.specs.Budgets as budgets
 use Rattle.round_budget.specs.Budgets.{begins, served_at, serve, line_from}
 use Rattle.round_budget.specs.declared.releases.Release.{Release}
-use Rattle.round_budget.specs.declared.serving.Line.{Line}
+use Rattle.round_budget.specs.declared.serving.TimetableLine.{TimetableLine}
 use Rattle.round_budget.specs.proof.Values.{release_value, line_value}
 
 drop_next : (rs : List Release) (i : ℕ) (x d : Release) → i < length rs → x ≡ slice_index_or rs i d
@@ -15,7 +15,7 @@ drop_next rs i x d within is =
 
 -- one more line is served
 pub serve_next : (cost : budgets.Release → ℕ) (start free after i : ℕ) (rs : List Release) (x d : Release)
-    (lines : List Line) (y : Line) (whole : List budgets.Line)
+    (lines : List TimetableLine) (y : TimetableLine) (whole : List budgets.Line)
     → i < length rs → x ≡ slice_index_or rs i d
     → line_from start (served_at cost free (release_value x)) ≡ line_value y
     → after ≡ begins free (release_value x) + cost (release_value x)

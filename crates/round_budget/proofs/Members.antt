@@ -8,7 +8,7 @@ use Rattle.std.proofs.lemmas.List.{length-map, get_or-map}
 use Rattle.std.proofs.lemmas.List.Elements.{All-map}
 use Rattle.pals_base.specs.declared.values.NodeNo.{NodeNo}
 use Rattle.pals_model.specs.declared.design.DesignParts.{DesignParts}
-use Rattle.round_budget.specs.proof.Laws.{AreMembers}
+use Rattle.round_budget.specs.proof.BudgetLaws.{AreMembers}
 use Rattle.round_budget.specs.Budgets.{numbers}
 
 -- a rising list has at each place at least the place's number

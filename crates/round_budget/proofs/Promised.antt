@@ -4,7 +4,7 @@ use Rattle.std.proofs.lemmas.Bool.{leb-true}
 use Rattle.step_code.specs.declared.instr.CodeParts.{CodeParts}
 use Rattle.pals_model.specs.declared.design.DesignParts.{DesignParts}
 use Rattle.pals_model.specs.Rules.{IsDesign}
-use Rattle.round_budget.specs.proof.Laws.{AreMembers, IsWithinBudget}
+use Rattle.round_budget.specs.proof.BudgetLaws.{AreMembers, IsWithinBudget}
 use Rattle.round_budget.specs.Budgets.{Release, budget, total, fits}
 use Rattle.round_budget.specs.Responses.{AreInTime, AreAtMost, by_exec, RespondInTime}
 use Rattle.round_budget.proofs.BudgetLaws.{responses_fit, exec_at_most, rounds_are_apart}

@@ -16,7 +16,7 @@ use Rattle.pals_model.specs.Inputs.{rate_of}
 use Rattle.pals_model.specs.Rules.{IsDesign}
 use Rattle.round_budget.specs.Budgets.{Release, Served, Line, release_of, releases_of, releases_in, releases, precedes, put, in_order, begins, served_at, serve, budget, by_most, line_from, timetable}
 use Rattle.round_budget.specs.proof.Budgets.{line_in_round}
-use Rattle.round_budget.specs.proof.Laws.{IsWithinBudget, TimetableRepeats}
+use Rattle.round_budget.specs.proof.BudgetLaws.{IsWithinBudget, TimetableRepeats}
 use Rattle.round_budget.proofs.Elements.{every_both, every_flat_map, every_upwards}
 use Rattle.round_budget.proofs.Orders.{every_in_order}
 use Rattle.round_budget.proofs.Times.{IsIn, in_round, rate_fits}

@@ -13,7 +13,7 @@ use Rattle.pals_model.specs.Inputs.{rate_of}
 use Rattle.pals_model.specs.Rules.{IsDesign}
 use Rattle.round_budget.specs.Budgets as budgets
 use Rattle.round_budget.specs.Budgets.{release_of, releases_of, releases_in, releases, in_order, most_of, by_most}
-use Rattle.round_budget.specs.proof.Laws.{IsWithinBudget}
+use Rattle.round_budget.specs.proof.BudgetLaws.{IsWithinBudget}
 use Rattle.round_budget.proofs.Elements.{every_both, every_flat_map, every_upwards}
 use Rattle.round_budget.proofs.Orders.{every_in_order}
 use Rattle.round_budget.proofs.Weights.{one_le}

@@ -15,7 +15,7 @@ use Rattle.pals_model.specs.Rules.{IsDesign, IsComponent, greatest_rate}
 use Rattle.pals_model.proofs.Lookups.{at_element}
 use Rattle.pals_model.proofs.ShapeLaws.{component_at}
 use Rattle.round_budget.specs.Budgets.{Release, release_of, releases_of, releases_in, releases}
-use Rattle.round_budget.specs.proof.Laws.{AreMembers}
+use Rattle.round_budget.specs.proof.BudgetLaws.{AreMembers}
 use Rattle.round_budget.proofs.Elements.{every_both, every_flat_map, every_upwards, Pairs, pairs_weaker, pairs_map, pairs_flat_map, pairs_upwards, pairs_from, Member, member_of}
 
 -- ---- rates

@@ -4,7 +4,7 @@ use Rattle.step_code.specs.declared.instr.CodeParts.{CodeParts}
 use Rattle.std.proofs.Common.{List}
 use Rattle.step_compiler.proofs.LaidOutCodes.{laid_out_codes_are_one}
 use Rattle.round_budget.specs.BudgetText.{some_is_over, budget_text}
-use Rattle.round_budget.specs.proof.Laws.{TextIsOne, VerdictIsOne}
+use Rattle.round_budget.specs.proof.BudgetLaws.{TextIsOne, VerdictIsOne}
 
 pub text_is_one : TextIsOne
 text_is_one design behaviours programs others processors laid other =

@@ -2,7 +2,7 @@
 use Rattle.std.specs.Prelude.{ℕ, suc, ◌-◌, ◌≤◌, List, [], All, Option, Some, None, slice_get, slice_index_or}
 use Rattle.std.specs.List.{Contains}
 use Rattle.pals_base.specs.declared.values.Frame.{Frame}
-use Rattle.pals_base.specs.declared.values.Port.{Port}
+use Rattle.pals_base.specs.declared.values.PortValue.{PortValue}
 use Rattle.pals_base.specs.Bound.{alarm}
 use Rattle.step_code.specs.declared.instr.CodeParts.{CodeParts}
 use Rattle.step_code.specs.Made.{made}
@@ -32,11 +32,11 @@ frame_before design env x None = no_frame
 frame_before design env x (Some c) = (own_steps_so_far design env x.node x.round c x.step).frame
 
 -- the inputs of the step in the composition
-abbrev pub inputs_at : DesignParts → Env → Release → List Port
+abbrev pub inputs_at : DesignParts → Env → Release → List PortValue
 inputs_at design env x =
     slice_index_or (feed design env (comp design env x.round).messages x.node x.round) x.step []
 
-abbrev pub made_in : Option CodeParts → Frame → List Port → ℕ
+abbrev pub made_in : Option CodeParts → Frame → List PortValue → ℕ
 made_in None frame inputs = 0
 made_in (Some c) frame inputs = made c frame inputs
 

@@ -1,8 +1,8 @@
 //! Laws of round budgets. Each is the contract of a function that does nothing.
-ghost use Rattle.round_budget.specs.proof.Laws.{EachIsServed, ServedOnce, ServedInOrder, NoneBeginsEarly, OneAtATime};
-ghost use Rattle.round_budget.specs.proof.Laws.{ResponsesFit, MostResponsesFit, ExecResponsesFit, RoundsAreApart, TimetableRepeats};
-ghost use Rattle.round_budget.specs.proof.Laws.{TextIsOne, VerdictIsOne};
-ghost use Rattle.round_budget.specs.proof.Rows.{TurnIsCompiled, TurnFits, TurnIsOver, TurnHasSlots, TurnIsWritten, TurnIsWrittenOver};
+ghost use Rattle.round_budget.specs.proof.BudgetLaws.{EachIsServed, ServedOnce, ServedInOrder, NoneBeginsEarly, OneAtATime};
+ghost use Rattle.round_budget.specs.proof.BudgetLaws.{ResponsesFit, MostResponsesFit, ExecResponsesFit, RoundsAreApart, TimetableRepeats};
+ghost use Rattle.round_budget.specs.proof.BudgetLaws.{TextIsOne, VerdictIsOne};
+ghost use Rattle.round_budget.specs.proof.TurnControllerBudget.{TurnIsCompiled, TurnFits, TurnIsOver, TurnHasSlots, TurnIsWritten, TurnIsWrittenOver};
 
 /// Each release is served once, in order of release and then of component.
 pub fn releases_are_served()

@@ -9,6 +9,6 @@ mod serving;
 mod sums;
 mod timetables;
 
-pub use serving::Line;
+pub use serving::TimetableLine;
 pub use sums::{fits, total};
 pub use timetables::{BudgetEnd, timetable};

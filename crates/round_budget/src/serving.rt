@@ -10,7 +10,7 @@ use step_code::code::most;
 
 /// A step of a round: when it begins and when it is done, in nanoseconds since the round's alarm.
 #[derive(Clone, Copy)]
-pub struct Line {
+pub struct TimetableLine {
     pub node: NodeNo,
     pub step: u32,
     pub begin: u128,
@@ -25,7 +25,7 @@ pub fn serve(
     nanos: Nanos,
     releases: &[Release],
     start: Nanos,
-) -> Result<Vec<Line>, NoMemory>
+) -> Result<Vec<TimetableLine>, NoMemory>
     requires { All (λ release. CanServe codes.now nanos start (release_value release)) releases.now }
     ensures { IfOk result (λ lines. AreLines lines.items (served_lines codes.now nanos start releases.now)) }
 {
@@ -36,7 +36,7 @@ pub fn serve(
         let most = most(&codes[release.node.0 as usize]);
         let begin = u128::from(release.time).max(free);
         let done = begin + u128::from(nanos) * u128::from(most);
-        lines.push(Line {
+        lines.push(TimetableLine {
             node: release.node,
             step: release.step,
             begin: begin - start,

@@ -2,14 +2,14 @@
 ghost use Rattle.std.specs.Prelude.{◌≡◌, ◌≤◌, true, length, IfOk, IfErr, OnOk};
 ghost use Rattle.pals_base.specs.declared.limits.TheConstants.{HOUR};
 ghost use Rattle.round_budget.specs.Budgets.{timetable, total, fits};
-ghost use Rattle.round_budget.specs.proof.Laws.{AreMembers};
+ghost use Rattle.round_budget.specs.proof.BudgetLaws.{AreMembers};
 ghost use Rattle.round_budget.specs.Budgets.{numbers};
 ghost use Rattle.round_budget.specs.Responses.{RespondInTime};
 ghost use Rattle.round_budget.specs.proof.Values.{AreLines};
 ghost use Rattle.round_budget.specs.proof.Promises.{IsEnd, TimetableIsEach};
 
 use crate::releases::ordered_releases;
-use crate::serving::{Line, serve};
+use crate::serving::{TimetableLine, serve};
 use crate::sums::{fits, total};
 use pals_base::{Nanos, NoMemory, NodeNo};
 use pals_model::Design;
@@ -35,7 +35,7 @@ pub fn timetable(
     codes: &[Code],
     nanos: Nanos,
     members: &[NodeNo],
-) -> Result<Vec<Line>, BudgetEnd>
+) -> Result<Vec<TimetableLine>, BudgetEnd>
     requires members { AreMembers design.now (numbers members.now) }
     requires codes { length codes.now ≡ length design.now.components }
     requires nanos { (1 ≤ nanos) × (nanos ≤ HOUR) }
@@ -63,7 +63,7 @@ fn lines(
     codes: &[Code],
     nanos: Nanos,
     members: &[NodeNo],
-) -> Result<Vec<Line>, NoMemory>
+) -> Result<Vec<TimetableLine>, NoMemory>
     requires members { AreMembers design.now (numbers members.now) }
     requires codes { length codes.now ≡ length design.now.components }
     requires fits { total nanos codes.now (numbers members.now) ≤ design.now.gamma.alpha_max }

@@ -7,7 +7,7 @@ use Rattle.std.proofs.lemmas.List.{get_or-set_other}
 use Rattle.list_lemmas.proofs.Elements.{find-passes}
 use Rattle.list_lemmas.proofs.Pairs.{AllPairs-slice_get}
 use Rattle.pals_base.specs.declared.values.LinkNo.{LinkNo}
-use Rattle.pals_base.specs.declared.values.Port.{Port}
+use Rattle.pals_base.specs.declared.values.PortValue.{PortValue}
 use Rattle.pals_model.specs.declared.design.Link.{Link}
 use Rattle.pals_model.specs.declared.flight.FlightCopy.{FlightCopy}
 use Rattle.pals_model.specs.Flights.{is_of, oldest, without_oldest}
@@ -24,11 +24,11 @@ use Rattle.bus_machine.specs.States.{Run, BusState, node_at, flight_at, link_at,
 use Rattle.bus_machine.specs.Stops.{sent_rounds}
 use Rattle.bus_machine.specs.Machine.{Arrive, arrival, early_stop, after}
 use Rattle.bus_machine.specs.Agreement.{Agrees}
-use Rattle.bus_machine.specs.proof.Laws.{IsRunOf}
+use Rattle.bus_machine.specs.proof.MachineLaws.{IsRunOf}
 use Rattle.run_laws.specs.Worlds.{World, reading_at, since_at, ready_at, sendings, world_after}
 use Rattle.bus_machine.proofs.Arrivals.{step_keeps_agreement}
 use Rattle.bus_machine.proofs.States.{node_set, node_stays}
-use Rattle.run_laws.specs.proof.Kept.{IsOnce, copies, waits, taken, one_if, KeepsLink, KeepsTime}
+use Rattle.run_laws.specs.proof.WorldsKeep.{IsOnce, copies, waits, taken, one_if, KeepsLink, KeepsTime}
 use Rattle.run_laws.proofs.Lists.{count_without}
 use Rattle.run_laws.proofs.Nodes.{Stands, stands_at, component_is}
 use Rattle.run_laws.proofs.Links.{comes_in_time, ComesInTime, is_kept, link_is, rule_of, one_of_true, one_of_false, in_flight_counts, counts_in_flight}
@@ -37,7 +37,7 @@ use Rattle.run_laws.proofs.Faults.{ArrivesInTime}
 
 -- ---- a round of the link
 -- a copy leaves the flight, and its message waits in the slot
-arrive_once_at : (count : ℕ) (tuple : List Port) (sent : ℕ) (flight : List FlightCopy) (round r : ℕ) (copy : FlightCopy) → count ≡ suc round → copy.round ≡ round
+arrive_once_at : (count : ℕ) (tuple : List PortValue) (sent : ℕ) (flight : List FlightCopy) (round r : ℕ) (copy : FlightCopy) → count ≡ suc round → copy.round ≡ round
     → oldest round flight ≡ Some copy → IsOnce count None sent flight r → IsOnce count (Some tuple) sent (without_oldest round flight) r
 arrive_once_at count tuple sent flight round r copy last is_round found once =
     let before : copies r flight + one_if (waits count None r) + one_if (taken count r) ≡ one_if (nat_lt r sent) = once in
@@ -92,7 +92,7 @@ module _ (run : Run) (w : World) (rules : IsRunOf run) (keeps : KeepsTime run w)
   abbrev pub flight : List FlightCopy
   flight = flight_at w.bus link.0
 
-  abbrev pub tuple : List Port
+  abbrev pub tuple : List PortValue
   tuple = arriving round flight
 
   comes : ComesInTime run w rules keeps link.0 round

@@ -12,7 +12,7 @@ use Rattle.bus_machine.specs.Stops.{sent_rounds}
 use Rattle.bus_machine.specs.Agreement.{Agrees}
 use Rattle.run_laws.specs.Worlds.{World, reading_at, since_at, ready_at, sendings, moved}
 use Rattle.bus_machine.proofs.States.{node_set, node_stays}
-use Rattle.run_laws.specs.proof.Kept.{IsInTime, IsOnce, HasMoments, KeepsLink, KeepsTime}
+use Rattle.run_laws.specs.proof.WorldsKeep.{IsInTime, IsOnce, HasMoments, KeepsLink, KeepsTime}
 use Rattle.run_laws.proofs.Nodes.{Stands, StandsAt, stands_at, deadline_is}
 
 -- ---- nodes

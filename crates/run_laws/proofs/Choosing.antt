@@ -22,9 +22,9 @@ use Rattle.bus_machine.specs.States.{Run, BusState, node_at, flight_at, link_at,
 use Rattle.bus_machine.specs.Stops.{missing_link, sent_rounds}
 use Rattle.bus_machine.specs.Machine.{BusEvent, Start, Step, Finish, Send, Arrive, Drop, Repeat, is_allowed, after, after_start, after_arrive, on_step, arrival, early_stop}
 use Rattle.bus_machine.specs.Replay.{entries, start_entry, stop_entry}
-use Rattle.bus_machine.specs.proof.Laws.{IsRunOf}
-use Rattle.bus_machine.specs.declared.action.Action.{Action}
-use Rattle.bus_machine.specs.declared.action.Action.TheVariants as action
+use Rattle.bus_machine.specs.proof.MachineLaws.{IsRunOf}
+use Rattle.bus_machine.specs.declared.action.NodeAction.{NodeAction}
+use Rattle.bus_machine.specs.declared.action.NodeAction.TheVariants as action
 use Rattle.bus_machine.specs.Targets.{target, targets, actions}
 use Rattle.run_laws.specs.Shown.{listed, start_in, send_in, starts, sends, acts}
 use Rattle.pals_clock.specs.declared.clock.Clocks.{Clocks}
@@ -42,7 +42,7 @@ use Rattle.run_laws.proofs.Clauses.{link_is}
 
 -- ---- what a node does is its list's pick
 -- its next action is the first that the journal does not show, and its reading is the pick for it
-pub next_pick : (run : Run) (clocks : List ClockState) (journal : List JournalEntry) (s : BusState) (node : NodeNo) (reading : Option ℕ) (action : Action) → IsRunOf run → Runs run (Lists clocks) journal s → (d : Does run (Lists clocks) s node reading action)
+pub next_pick : (run : Run) (clocks : List ClockState) (journal : List JournalEntry) (s : BusState) (node : NodeNo) (reading : Option ℕ) (action : NodeAction) → IsRunOf run → Runs run (Lists clocks) journal s → (d : Does run (Lists clocks) s node reading action)
     → (slice_get (actions (plan_of run.design node.0) run.rounds) (length (acts node.0 journal)) ≡ Some action) × (slice_get (picks_of run clocks node.0) (length (acts node.0 journal)) ≡ Some d.at)
 next_pick run clocks journal s node reading action rules runs d =
     let agree = runs_agree run (Lists clocks) journal s rules runs in
@@ -56,7 +56,7 @@ next_pick run clocks journal s node reading action rules runs d =
       ap (slice_get (picks_of run clocks node.0)) p.count ∙ pick_at plan run.rounds (clock_at clocks node.0) n (acts node.0 journal) p (target plan action) d.at t d.shows.0 d.shows.1,
     )
 
-pub does_pick : (run : Run) (clocks : List ClockState) (journal : List JournalEntry) (s : BusState) (node : NodeNo) (reading : Option ℕ) (action : Action) → IsRunOf run → Runs run (Lists clocks) journal s → (d : Does run (Lists clocks) s node reading action)
+pub does_pick : (run : Run) (clocks : List ClockState) (journal : List JournalEntry) (s : BusState) (node : NodeNo) (reading : Option ℕ) (action : NodeAction) → IsRunOf run → Runs run (Lists clocks) journal s → (d : Does run (Lists clocks) s node reading action)
     → IsPickFor run clocks node.0 action d.at
 does_pick run clocks journal s node reading action rules runs d =
     let next = next_pick run clocks journal s node reading action rules runs d in
@@ -72,19 +72,19 @@ same_lists run before later s j k many picks' =
       | inr other ↦ ap (λ (c : ClockState). c.readings) (get_or-set_other before j k new no_clock other)
     ]
 
-other_clocks : (run : Run) (before later : List ClockState) (node : ℕ) (action : Action) (at : ℕ) → (clock_at later node).readings ≡ (clock_at before node).readings → IsPickFor run before node action at → IsPickFor run later node action at
+other_clocks : (run : Run) (before later : List ClockState) (node : ℕ) (action : NodeAction) (at : ℕ) → (clock_at later node).readings ≡ (clock_at before node).readings → IsPickFor run before node action at → IsPickFor run later node action at
 other_clocks run before later node action at same x =
     record { place = x.place; is_action = x.is_action; is_pick = ap (λ rs. slice_get (picks rs (targets (plan_of run.design node) run.rounds)) x.place) same ∙ x.is_pick }
 
 -- ---- the readings of starts and sends
-abbrev pub Chosen : Run → Clocks → ℕ → (ℕ → Action) → List ℕ → Type 0
+abbrev pub Chosen : Run → Clocks → ℕ → (ℕ → NodeAction) → List ℕ → Type 0
 Chosen run Meet node action shown = Unit {0}
 Chosen run (Lists clocks) node action shown = (round at : ℕ) → slice_get shown round ≡ Some at → IsPickFor run clocks node (action round) at
 
-none_more : (run : Run) (clocks : List ClockState) (node : ℕ) (action : ℕ → Action) (shown more : List ℕ) → more ≡ [] → Chosen run (Lists clocks) node action shown → Chosen run (Lists clocks) node action (shown ++ more)
+none_more : (run : Run) (clocks : List ClockState) (node : ℕ) (action : ℕ → NodeAction) (shown more : List ℕ) → more ≡ [] → Chosen run (Lists clocks) node action shown → Chosen run (Lists clocks) node action (shown ++ more)
 none_more run clocks node action shown more none all = subst (Chosen run (Lists clocks) node action) (sym (ap (λ xs. shown ++ xs) none ∙ append-nil shown)) all
 
-by_node : (run : Run) (clocks : List ClockState) (action : ℕ → Action) (shown : List ℕ) (node : NodeNo) (k at round : ℕ) (reading : Option ℕ) (b : Bool) → nat_eq node.0 k ≡ b → reading ≡ Some at → (node.0 ≡ k → length shown ≡ round) → (node.0 ≡ k → IsPickFor run clocks k (action round) at)
+by_node : (run : Run) (clocks : List ClockState) (action : ℕ → NodeAction) (shown : List ℕ) (node : NodeNo) (k at round : ℕ) (reading : Option ℕ) (b : Bool) → nat_eq node.0 k ≡ b → reading ≡ Some at → (node.0 ≡ k → length shown ≡ round) → (node.0 ≡ k → IsPickFor run clocks k (action round) at)
     → Chosen run (Lists clocks) k action shown → Chosen run (Lists clocks) k action (shown ++ (cond b (listed reading) [] ++ []))
 by_node run clocks action shown node k at round None b is shows size for all = absurd (cc)
 by_node run clocks action shown node k at round (Some t) true is shows size for all =

@@ -17,7 +17,7 @@ use Rattle.pals_runs.specs.declared.journal.JournalEntry.{JournalEntry}
 use Rattle.bus_machine.specs.Plans.{plan_of, component_at}
 use Rattle.bus_machine.specs.States.{Run, BusState, node_at, link_at, no_link}
 use Rattle.bus_machine.specs.Agreement.{PhaseAgrees}
-use Rattle.bus_machine.specs.proof.Laws.{IsRunOf}
+use Rattle.bus_machine.specs.proof.MachineLaws.{IsRunOf}
 use Rattle.run_laws.specs.Shown.{sends}
 use Rattle.pals_clock.specs.declared.clock.Clocks.{Clocks}
 use Rattle.pals_clock.specs.declared.clock.Clocks.TheVariants.{Meet, Lists}
@@ -30,7 +30,7 @@ use Rattle.run_laws.specs.Bounds.{sent_at, BoundedStop}
 use Rattle.run_laws.specs.proof.Bounds.{StopsAreBounded}
 use Rattle.run_laws.proofs.Picking.{runs_agree, node_agrees}
 use Rattle.run_laws.proofs.Linking.{links_timed}
-use Rattle.run_laws.proofs.Aims.{next_alarm}
+use Rattle.run_laws.proofs.RisingTargets.{next_alarm}
 use Rattle.run_laws.proofs.Times.{all_times_fit}
 use Rattle.run_laws.proofs.Stopping.{stops_fit, alarm_le}
 

@@ -8,7 +8,7 @@ use Rattle.bus_machine.proofs.Moves.{sent_at_start, sent_behind, grows_at, stays
 use Rattle.list_lemmas.proofs.Numbers.{add_zero_from}
 use Rattle.pals_base.specs.declared.values.NodeNo.{NodeNo}
 use Rattle.pals_base.specs.declared.values.LinkNo.{LinkNo}
-use Rattle.pals_base.specs.declared.values.Port.{Port}
+use Rattle.pals_base.specs.declared.values.PortValue.{PortValue}
 use Rattle.pals_base.specs.Steps.{upwards}
 use Rattle.pals_model.specs.Inputs.{values_at}
 use Rattle.pals_runs.specs.declared.journal.Phase.{Phase}
@@ -27,7 +27,7 @@ use Rattle.bus_machine.specs.Stops.{missing_link, sent_rounds}
 use Rattle.bus_machine.specs.Machine.{BusEvent, Start, Step, Finish, Send, Arrive, Drop, Repeat, after, after_start, after_send, after_arrive, on_step, is_allowed, arrival, early_stop}
 use Rattle.bus_machine.specs.Replay.{entries, start_entry, stop_entry}
 use Rattle.bus_machine.specs.Agreement.{PhaseAgrees, Agrees}
-use Rattle.bus_machine.specs.proof.Laws.{IsRunOf}
+use Rattle.bus_machine.specs.proof.MachineLaws.{IsRunOf}
 use Rattle.bus_machine.proofs.Nodes.{finish_keeps, MaySend, may_send_of}
 use Rattle.bus_machine.proofs.States.{is_component}
 use Rattle.run_laws.specs.Shown.{listed, start_in, send_in, starts, sends}
@@ -139,7 +139,7 @@ counts_send run s node reading at k round agree within is may =
     record { count = all.count; sends = all.sends }
 
 -- ---- Arrive
-arrival_keeps : (n : NodeState) (port : ℕ) (tuple : List Port) (a : Arrived) → ((with_message n port tuple a).count ≡ n.count) × (sent_rounds (with_message n port tuple a) ≡ sent_rounds n)
+arrival_keeps : (n : NodeState) (port : ℕ) (tuple : List PortValue) (a : Arrived) → ((with_message n port tuple a).count ≡ n.count) × (sent_rounds (with_message n port tuple a) ≡ sent_rounds n)
 arrival_keeps n port tuple Kept = (refl, refl)
 arrival_keeps n port tuple Ignored = (refl, refl)
 arrival_keeps n port tuple Early = (refl, refl)

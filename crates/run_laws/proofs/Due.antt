@@ -3,7 +3,7 @@ use Rattle.std.proofs.Common.{◌-◌, inl, inr, Bool, cond, ◌≡◌, ℕ, ◌
 use Rattle.std.proofs.lemmas.Option.{slice_get_within}
 use Rattle.pals_base.specs.declared.values.NodeNo.{NodeNo}
 use Rattle.pals_base.specs.declared.values.LinkNo.{LinkNo}
-use Rattle.pals_base.specs.declared.values.Port.{Port}
+use Rattle.pals_base.specs.declared.values.PortValue.{PortValue}
 use Rattle.pals_clock.proofs.Reaching.{reached_none}
 use Rattle.pals_model.specs.declared.design.Link.{Link}
 use Rattle.pals_model.specs.Delays.{delay_of}
@@ -12,7 +12,7 @@ use Rattle.pals_runs.specs.declared.journal.Phase.TheVariants.{Waiting}
 use Rattle.pals_runs.specs.declared.journal.Arrived.{Arrived}
 use Rattle.pals_runs.specs.declared.journal.Arrived.TheVariants.{Kept, Ignored, Early}
 use Rattle.pals_runs.specs.declared.journal.JournalEntry.{JournalEntry}
-use Rattle.bus_machine.specs.declared.action.Action.TheVariants as action
+use Rattle.bus_machine.specs.declared.action.NodeAction.TheVariants as action
 use Rattle.bus_machine.specs.Plans.{plan_of}
 use Rattle.bus_machine.specs.Nodes.{NodeState}
 use Rattle.bus_machine.specs.NodeEvents.{is_waiting, with_message, received, arrived}
@@ -21,7 +21,7 @@ use Rattle.bus_machine.specs.States.{Run, BusState, node_at, flight_at, link_at}
 use Rattle.bus_machine.specs.Stops.{sent_rounds}
 use Rattle.bus_machine.specs.Machine.{BusEvent, Arrive}
 use Rattle.bus_machine.specs.Targets.{next_in, target}
-use Rattle.bus_machine.specs.proof.Laws.{IsRunOf}
+use Rattle.bus_machine.specs.proof.MachineLaws.{IsRunOf}
 use Rattle.pals_clock.specs.Clock.{ClockState}
 use Rattle.pals_clock.specs.declared.clock.Clocks.{Clocks}
 use Rattle.pals_clock.specs.declared.clock.Clocks.TheVariants.{Meet, Lists}
@@ -31,8 +31,8 @@ use Rattle.run_laws.specs.proof.Locked.{ListPicks, ListEnds, IsToStart, IsDueAt,
 use Rattle.run_laws.proofs.Clauses.{link_is}
 use Rattle.run_laws.proofs.Ended.{stays_ended}
 use Rattle.run_laws.proofs.Counting.{is_waiting_phase}
-use Rattle.run_laws.proofs.Following.{follows_in}
-use Rattle.run_laws.proofs.Hours.{event_aims}
+use Rattle.run_laws.proofs.ActionsInOrder.{follows_in}
+use Rattle.run_laws.proofs.MeetingReadings.{event_aims}
 use Rattle.run_laws.proofs.Linking.{links_timed, keeps_at}
 use Rattle.run_laws.proofs.Oldest.{due_is_oldest}
 use Rattle.run_laws.proofs.Picking.{runs_agree}
@@ -63,7 +63,7 @@ due_takes run clocks journal s node reading link round rules runs waits due =
       due = due.due;
     }
 
-pub message_keeps : {X : Type 0} (f : ℕ → Phase → Bool → X) (n : NodeState) (port : ℕ) (tuple : List Port) (a : Arrived)
+pub message_keeps : {X : Type 0} (f : ℕ → Phase → Bool → X) (n : NodeState) (port : ℕ) (tuple : List PortValue) (a : Arrived)
     → f (with_message n port tuple a).count (with_message n port tuple a).phase (with_message n port tuple a).sent ≡ f n.count n.phase n.sent
 message_keeps f n port tuple Kept = refl
 message_keeps f n port tuple Ignored = refl

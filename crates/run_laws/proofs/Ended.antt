@@ -14,7 +14,7 @@ use Rattle.bus_machine.specs.LinkEvents.{arriving}
 use Rattle.bus_machine.specs.States.{Run, BusState, node_at, flight_at, link_at, with_node}
 use Rattle.bus_machine.specs.Stops.{missing_link}
 use Rattle.bus_machine.specs.Machine.{BusEvent, Start, Step, Finish, Send, Arrive, Drop, Repeat, IsStep, after, after_start, on_step}
-use Rattle.bus_machine.specs.declared.action.Action.{Action}
+use Rattle.bus_machine.specs.declared.action.NodeAction.{NodeAction}
 use Rattle.bus_machine.specs.Targets.{target, next_in}
 use Rattle.bus_machine.proofs.States.{node_stays}
 use Rattle.run_laws.specs.NodeActions.{upcoming}
@@ -23,7 +23,7 @@ use Rattle.run_laws.specs.Runs.{clock_at, HasEnded, Does, KeepsTo}
 use Rattle.run_laws.proofs.Clocks.{stands}
 
 -- it does nothing more
-does_not : (run : Run) (clocks : List ClockState) (s : BusState) (node : NodeNo) (reading : Option ℕ) (action : Action) → HasEnded run clocks s node.0 → Does run (Lists clocks) s node reading action → ⊥
+does_not : (run : Run) (clocks : List ClockState) (s : BusState) (node : NodeNo) (reading : Option ℕ) (action : NodeAction) → HasEnded run clocks s node.0 → Does run (Lists clocks) s node reading action → ⊥
 does_not run clocks s node reading action ended d =
     let plan = plan_of run.design node.0 in
     let left = (clock_at clocks node.0).left in
@@ -39,7 +39,7 @@ runs_not run clocks s k step ended is =
     let both : None ≡ Some ended.0 = sym (ap (next_in (plan_of run.design k) (node_at s k)) is) ∙ ended.1 in
     absurd (cc)
 
-other_than : (run : Run) (clocks : List ClockState) (s : BusState) (node : NodeNo) (reading : Option ℕ) (action : Action) (k : ℕ) → HasEnded run clocks s k → Does run (Lists clocks) s node reading action → k ≢ node.0
+other_than : (run : Run) (clocks : List ClockState) (s : BusState) (node : NodeNo) (reading : Option ℕ) (action : NodeAction) (k : ℕ) → HasEnded run clocks s k → Does run (Lists clocks) s node reading action → k ≢ node.0
 other_than run clocks s node reading action k ended d = λ same. does_not run clocks s node reading action (subst (HasEnded run clocks s) same ended) d
 
 start_stays : (run : Run) (s : BusState) (node : NodeNo) (reading m : Option ℕ) (k : ℕ) → k ≢ node.0 → node_at (after_start run s node reading m) k ≡ node_at s k

@@ -13,7 +13,7 @@ use Rattle.pals_runs.specs.declared.journal.Phase.{Phase}
 use Rattle.pals_runs.specs.declared.journal.Phase.TheVariants.{Waiting, Running, Between, Holding, Done}
 use Rattle.pals_runs.specs.declared.journal.Stop.{Stop}
 use Rattle.pals_runs.specs.declared.journal.JournalEntry.{JournalEntry}
-use Rattle.bus_machine.specs.declared.action.Action.{Action}
+use Rattle.bus_machine.specs.declared.action.NodeAction.{NodeAction}
 use Rattle.bus_machine.specs.declared.plan.Plan.{Plan}
 use Rattle.bus_machine.specs.Plans.{plan_of, component_at}
 use Rattle.bus_machine.specs.Nodes.{NodeState}
@@ -23,7 +23,7 @@ use Rattle.bus_machine.specs.Machine.{after}
 use Rattle.bus_machine.specs.Replay.{entries}
 use Rattle.bus_machine.specs.Targets.{target, action_in, next_in}
 use Rattle.bus_machine.specs.Agreement.{PhaseAgrees, Agrees}
-use Rattle.bus_machine.specs.proof.Laws.{IsRunOf}
+use Rattle.bus_machine.specs.proof.MachineLaws.{IsRunOf}
 use Rattle.pals_clock.specs.declared.clock.Clocks.{Clocks}
 use Rattle.pals_clock.specs.declared.clock.Clocks.TheVariants.{Meet, Lists}
 use Rattle.run_laws.specs.NodeActions.{upcoming}
@@ -36,7 +36,7 @@ use Rattle.run_laws.proofs.Picking.{runs_agree, node_agrees, many_clocks}
 use Rattle.run_laws.proofs.Stopping.{ended_still, sent_true}
 use Rattle.run_laws.proofs.Searching.{first_or_none, least_or_none}
 use Rattle.run_laws.proofs.Work.{work_left, event_lessens, stop_lines, some_lines, most_left}
-use Rattle.run_laws.proofs.Going.{CanGo, acts, finishes}
+use Rattle.run_laws.proofs.NodesGoOn.{CanGo, acts, finishes}
 
 -- ---- with a meeting
 -- a node runs a step, or its next action is the one that its target is for
@@ -47,7 +47,7 @@ runs_or_next plan n (Between steps) = inr refl
 runs_or_next plan n Holding = inr refl
 runs_or_next plan n Done = inr refl
 
-acts_or_done : (plan : Plan) (n : NodeState) (p : Phase) → ((action : Action) × (action_in plan n p ≡ Some action)) ⊎ (p ≡ Done)
+acts_or_done : (plan : Plan) (n : NodeState) (p : Phase) → ((action : NodeAction) × (action_in plan n p ≡ Some action)) ⊎ (p ≡ Done)
 acts_or_done plan n Waiting = inl (_, refl)
 acts_or_done plan n (Running step) = inl (_, refl)
 acts_or_done plan n (Between steps) = inl (_, refl)
@@ -59,7 +59,7 @@ abbrev goal_of : Run → BusState → ℕ → ℕ
 goal_of run s node = unwrap_or (target_of run s node) 0
 
 abbrev IsActing : Run → BusState → ℕ → Type 0
-IsActing run s node = (action : Action) × (action_in (plan_of run.design node) (node_at s node) (node_at s node).phase ≡ Some action)
+IsActing run s node = (action : NodeAction) × (action_in (plan_of run.design node) (node_at s node) (node_at s node).phase ≡ Some action)
 
 abbrev IsDone : BusState → ℕ → Type 0
 IsDone s node = (node_at s node).phase ≡ Done
@@ -111,7 +111,7 @@ meeting_goes run journal s rules runs =
 -- ---- with list clocks
 -- a reading is left for the next action of a node
 record IsReady (run : Run) (clocks : List ClockState) (s : BusState) (node : ℕ) : Type 0 where
-  pub action : Action
+  pub action : NodeAction
   pub next : upcoming (plan_of run.design node) (node_at s node) ≡ Some action
   pub at : ℕ
   pub later : List ℕ
@@ -122,14 +122,14 @@ abbrev IsGoing : Run → List ClockState → BusState → ℕ → Type 0
 IsGoing run clocks s node = ((step : ℕ) × ((node_at s node).phase ≡ Running step)) ⊎ IsReady run clocks s node
 
 next_or_not : (plan : Plan) (n : NodeState) (p : Phase)
-    → ((step : ℕ) × (p ≡ Running step)) ⊎ ((p ≡ Done) ⊎ ((action : Action) × (next_in plan n p ≡ Some action)))
+    → ((step : ℕ) × (p ≡ Running step)) ⊎ ((p ≡ Done) ⊎ ((action : NodeAction) × (next_in plan n p ≡ Some action)))
 next_or_not plan n Waiting = inr (inr (_, refl))
 next_or_not plan n (Running step) = inl (step, refl)
 next_or_not plan n (Between steps) = inr (inr (_, refl))
 next_or_not plan n Holding = inr (inr (_, refl))
 next_or_not plan n Done = inr (inl refl)
 
-left_by : (run : Run) (clocks : List ClockState) (s : BusState) (node : ℕ) (action : Action) (left : List ℕ)
+left_by : (run : Run) (clocks : List ClockState) (s : BusState) (node : ℕ) (action : NodeAction) (left : List ℕ)
     → upcoming (plan_of run.design node) (node_at s node) ≡ Some action → left_for run clocks node action ≡ left
     → IsGoing run clocks s node ⊎ IsOver run clocks s node
 left_by run clocks s node action [] next is = inr (inr (action, next, is))

@@ -19,14 +19,14 @@ use Rattle.bus_machine.specs.Alarms.{start_alarm, step_alarm, release_alarm}
 use Rattle.bus_machine.specs.States.{Run, node_at, with_node}
 use Rattle.bus_machine.specs.Stops.{sent_rounds}
 use Rattle.bus_machine.specs.Machine.{on_step}
-use Rattle.bus_machine.specs.proof.Laws.{IsRunOf}
+use Rattle.bus_machine.specs.proof.MachineLaws.{IsRunOf}
 use Rattle.bus_machine.specs.Agreement.{Agrees, PhaseAgrees, IsInRound}
 use Rattle.run_laws.specs.Deadlines.{last_before, lesser}
 use Rattle.run_laws.specs.Worlds.{World, reading_at, since_at, ready_at, sendings, moved, is_last_sent, world_after}
 use Rattle.bus_machine.proofs.Nodes.{finish_keeps}
 use Rattle.bus_machine.proofs.States.{node_set, node_stays}
 use Rattle.bus_machine.proofs.Steps.{finish_keeps_all}
-use Rattle.run_laws.specs.proof.Kept.{IsInTime, IsReadySince, KeepsTime}
+use Rattle.run_laws.specs.proof.WorldsKeep.{IsInTime, IsReadySince, KeepsTime}
 use Rattle.run_laws.proofs.WorldTimes.{finish_between, late_running}
 use Rattle.run_laws.proofs.Nodes.{fits_at, may_be, may_is, Stands, stands_at, left_in_time, both_in_time, send_in_time, sends_in_time, phase_last, send_last, phase_agrees, next_alarm}
 use Rattle.run_laws.proofs.Changes.{changed, same_links, stands_put, keeps_again, moved_here, moved_length, moved_other}

@@ -5,7 +5,7 @@ use Rattle.std.proofs.lemmas.Bool.{ltb-false}
 use Rattle.std.proofs.lemmas.Grind.{common_steps}
 use Rattle.std.proofs.lemmas.Option.{same_Some}
 use Rattle.list_lemmas.proofs.Numbers.{nat_lt-self}
-use Rattle.pals_base.specs.declared.values.Port.{Port}
+use Rattle.pals_base.specs.declared.values.PortValue.{PortValue}
 use Rattle.pals_runs.specs.declared.journal.Phase.{Phase}
 use Rattle.pals_runs.specs.declared.journal.Phase.TheVariants.{Waiting, Running, Between, Holding, Done}
 use Rattle.pals_runs.specs.declared.journal.Arrived.{Arrived}
@@ -13,8 +13,8 @@ use Rattle.pals_runs.specs.declared.journal.Arrived.TheVariants.{Kept, Ignored, 
 use Rattle.bus_machine.specs.declared.plan.Plan.{Plan}
 use Rattle.bus_machine.specs.Nodes.{NodeState, round_of, at_rest}
 use Rattle.bus_machine.specs.NodeEvents.{started, stepped, finished, sent_from, after_send, after_round, with_message}
-use Rattle.bus_machine.specs.declared.action.Action.{Action}
-use Rattle.bus_machine.specs.declared.action.Action.TheVariants as action
+use Rattle.bus_machine.specs.declared.action.NodeAction.{NodeAction}
+use Rattle.bus_machine.specs.declared.action.NodeAction.TheVariants as action
 use Rattle.bus_machine.specs.Targets.{Progress, actions, target, send_is_next, next_action, progress_after, targets, next_in}
 use Rattle.run_laws.specs.NodeActions.{Turn, turn, progress_in, upcoming, Follows}
 use Rattle.run_laws.proofs.Turns.{IsPlan, turn_next, sized, size, bit, action_at, target_at}
@@ -36,7 +36,7 @@ held_sends plan round false rules unsent =
     ap (λ b. cond b (action.Send round) (cond (nat_lt plan.rate plan.rate) (action.Step round plan.rate) (action.Start (round + 1))))
     (ap₂ (λ a b. a && (b || nat_le plan.release_offset (plan.rate * plan.step_period))) one two)
 
-next_from : (plan : Plan) (n : NodeState) (p : Phase) (what : Action) → IsPlan plan → 1 ≤ n.count → (p ≡ Holding → n.sent ≡ false) → next_in plan n p ≡ Some what
+next_from : (plan : Plan) (n : NodeState) (p : Phase) (what : NodeAction) → IsPlan plan → 1 ≤ n.count → (p ≡ Holding → n.sent ≡ false) → next_in plan n p ≡ Some what
     → next_action plan (progress_in plan n p) ≡ what
 next_from plan n Waiting what rules some held is =
     let next : round_of n + 1 ≡ n.count = omega arith in
@@ -46,7 +46,7 @@ next_from plan n (Between steps) what rules some held is = same_Some _ what is
 next_from plan n Holding what rules some held is = held_sends plan (round_of n) n.sent rules (held refl) ∙ same_Some (action.Send (round_of n)) what is
 next_from plan n Done what rules some held is = absurd (cc)
 
-pub next_is : (plan : Plan) (done : ℕ) (n : NodeState) (what : Action) → IsPlan plan → (n.phase ≡ Holding → n.sent ≡ false) → Follows plan done n → upcoming plan n ≡ Some what
+pub next_is : (plan : Plan) (done : ℕ) (n : NodeState) (what : NodeAction) → IsPlan plan → (n.phase ≡ Holding → n.sent ≡ false) → Follows plan done n → upcoming plan n ≡ Some what
     → (turn plan done).action ≡ what
 next_is plan done n what rules held (inl first) is =
     let here : next_in plan n Waiting ≡ Some what = subst (λ p. next_in plan n p ≡ Some what) first.phase is in
@@ -78,7 +78,7 @@ whole_rounds count rounds each done inside some most is below =
     let more : count * each ≤ rounds * each = mul_le count rounds each most in
     omega arith
 
-below_by : (plan : Plan) (rounds done : ℕ) (n : NodeState) (p : Phase) (action : Action) → 1 ≤ n.count → n.count ≤ rounds → acting plan rounds n p → next_in plan n p ≡ Some action
+below_by : (plan : Plan) (rounds done : ℕ) (n : NodeState) (p : Phase) (action : NodeAction) → 1 ≤ n.count → n.count ≤ rounds → acting plan rounds n p → next_in plan n p ≡ Some action
     → size plan (progress_in plan n p) ≡ done → done < rounds * (plan.rate + 1)
 below_by plan rounds done n Waiting action some most acts is sized' =
     let one : n.count ≡ (n.count - 1) + 1 = omega arith in
@@ -95,7 +95,7 @@ below_by plan rounds done n Holding action some most acts is sized' =
     whole_rounds n.count rounds (plan.rate + 1) done plan.rate some most (omega arith) (omega arith)
 below_by plan rounds done n Done action some most acts is sized' = absurd (cc)
 
-pub is_below : (plan : Plan) (rounds done : ℕ) (n : NodeState) (action : Action) → IsPlan plan → 1 ≤ rounds → n.count ≤ rounds → acting plan rounds n n.phase → Follows plan done n → upcoming plan n ≡ Some action
+pub is_below : (plan : Plan) (rounds done : ℕ) (n : NodeState) (action : NodeAction) → IsPlan plan → 1 ≤ rounds → n.count ≤ rounds → acting plan rounds n n.phase → Follows plan done n → upcoming plan n ≡ Some action
     → done < rounds * (plan.rate + 1)
 is_below plan rounds done n action rules some most acts (inl first) is =
     let none = first.none_done in
@@ -130,20 +130,20 @@ is_at_most plan rounds done n rules most (inr after) =
     let more : n.count * (plan.rate + 1) ≤ rounds * (plan.rate + 1) = mul_le n.count rounds (plan.rate + 1) most in
     omega arith
 
-pub target_is : (plan : Plan) (rounds done : ℕ) (n : NodeState) (action : Action) → IsPlan plan → 1 ≤ rounds → n.count ≤ rounds → acting plan rounds n n.phase → (n.phase ≡ Holding → n.sent ≡ false) → Follows plan done n → upcoming plan n ≡ Some action
+pub target_is : (plan : Plan) (rounds done : ℕ) (n : NodeState) (action : NodeAction) → IsPlan plan → 1 ≤ rounds → n.count ≤ rounds → acting plan rounds n n.phase → (n.phase ≡ Holding → n.sent ≡ false) → Follows plan done n → upcoming plan n ≡ Some action
     → slice_get (targets plan rounds) done ≡ Some (target plan action)
 target_is plan rounds done n action rules some most acts held follows is =
     target_at plan rounds done (is_below plan rounds done n action rules some most acts follows is)
     ∙ ap (λ a. Some (target plan a)) (next_is plan done n action rules held follows is)
 
-pub action_is : (plan : Plan) (rounds done : ℕ) (n : NodeState) (action : Action) → IsPlan plan → 1 ≤ rounds → n.count ≤ rounds → acting plan rounds n n.phase → (n.phase ≡ Holding → n.sent ≡ false) → Follows plan done n → upcoming plan n ≡ Some action
+pub action_is : (plan : Plan) (rounds done : ℕ) (n : NodeState) (action : NodeAction) → IsPlan plan → 1 ≤ rounds → n.count ≤ rounds → acting plan rounds n n.phase → (n.phase ≡ Holding → n.sent ≡ false) → Follows plan done n → upcoming plan n ≡ Some action
     → slice_get (actions plan rounds) done ≡ Some action
 action_is plan rounds done n action rules some most acts held follows is =
     action_at plan rounds done (is_below plan rounds done n action rules some most acts follows is)
     ∙ ap Some (next_is plan done n action rules held follows is)
 
 -- ---- events
-brings : (plan : Plan) (done : ℕ) (m : NodeState) (action : Action) → 1 ≤ m.count → (turn plan done).action ≡ action → progress_after (turn plan done).before action ≡ progress_in plan m m.phase → Follows plan (done + 1) m
+brings : (plan : Plan) (done : ℕ) (m : NodeState) (action : NodeAction) → 1 ≤ m.count → (turn plan done).action ≡ action → progress_after (turn plan done).before action ≡ progress_in plan m m.phase → Follows plan (done + 1) m
 brings plan done m action some is same = inr (record {
   before = done;
   done_is = add-one done;
@@ -151,7 +151,7 @@ brings plan done m action some is same = inr (record {
   progress = ap (λ k. (turn plan k).before) (add-one done) ∙ turn_brings plan done ∙ ap (progress_after (turn plan done).before) is ∙ same;
 })
 
-pub starts_follow : (plan : Plan) (done : ℕ) (n : NodeState) (values : List Port) → (turn plan done).action ≡ action.Start n.count → Follows plan (done + 1) (started plan values n)
+pub starts_follow : (plan : Plan) (done : ℕ) (n : NodeState) (values : List PortValue) → (turn plan done).action ≡ action.Start n.count → Follows plan (done + 1) (started plan values n)
 starts_follow plan done n values is =
     let same : n.count ≡ n.count + 1 - 1 = omega arith in
     brings plan done (started plan values n) (action.Start n.count) (omega arith) is (ap (λ r. record { round = r; steps = 1; sent = false }) same)
@@ -228,14 +228,14 @@ finish_follows plan rounds done n step follows runs within =
     (finished_by plan rounds step n _ _ (nat_lt (step + 1) plan.rate) refl within refl refl refl refl refl refl ∙ sym (ap (progress_in plan n) runs))
 
 -- a message changes slots alone
-kept_progress : (plan : Plan) (n : NodeState) (port : ℕ) (tuple : List Port) (p : Phase) → progress_in plan n p ≡ progress_in plan (with_message n port tuple Kept) p
+kept_progress : (plan : Plan) (n : NodeState) (port : ℕ) (tuple : List PortValue) (p : Phase) → progress_in plan n p ≡ progress_in plan (with_message n port tuple Kept) p
 kept_progress plan n port tuple Waiting = refl
 kept_progress plan n port tuple (Running step) = refl
 kept_progress plan n port tuple (Between steps) = refl
 kept_progress plan n port tuple Holding = refl
 kept_progress plan n port tuple Done = refl
 
-pub received_follows : (plan : Plan) (done : ℕ) (n : NodeState) (port : ℕ) (tuple : List Port) (a : Arrived) → Follows plan done n → Follows plan done (with_message n port tuple a)
+pub received_follows : (plan : Plan) (done : ℕ) (n : NodeState) (port : ℕ) (tuple : List PortValue) (a : Arrived) → Follows plan done n → Follows plan done (with_message n port tuple a)
 received_follows plan done n port tuple Kept (inl first) = inl (record { none_done = first.none_done; count = first.count; phase = first.phase })
 received_follows plan done n port tuple Kept (inr some) = inr (record { before = some.before; done_is = some.done_is; count = some.count; progress = some.progress ∙ kept_progress plan n port tuple n.phase })
 received_follows plan done n port tuple Ignored follows = follows

@@ -24,7 +24,7 @@ use Rattle.bus_machine.specs.Machine.{BusEvent, Start, Step, Finish, Send, Arriv
 use Rattle.bus_machine.specs.Replay.{Replays, entries, start_entry, stop_entry}
 use Rattle.run_laws.specs.Shown.{last_of, latest}
 use Rattle.run_laws.specs.TraceLines.{Timed, timed}
-use Rattle.run_laws.specs.proof.Hours.{LinesRise}
+use Rattle.run_laws.specs.proof.RisingReadings.{LinesRise}
 use Rattle.run_laws.proofs.Missing.{missed_link}
 use Rattle.run_laws.specs.Histories.{IsRead, IsInTime, History, opens, goes_on}
 use Rattle.run_laws.specs.proof.SoundTraces.{ShowsFrom, ShowsTime}

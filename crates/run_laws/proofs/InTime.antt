@@ -14,8 +14,8 @@ use Rattle.pals_runs.specs.declared.journal.Phase.TheVariants.{Done}
 use Rattle.pals_runs.specs.declared.journal.JournalEntry.{JournalEntry}
 use Rattle.pals_runs.specs.declared.journal.Stop.{Stop}
 use Rattle.pals_runs.specs.declared.journal.Stop.TheVariants as stop
-use Rattle.bus_machine.specs.declared.action.Action.{Action}
-use Rattle.bus_machine.specs.proof.Laws.{IsRunOf}
+use Rattle.bus_machine.specs.declared.action.NodeAction.{NodeAction}
+use Rattle.bus_machine.specs.proof.MachineLaws.{IsRunOf}
 use Rattle.bus_machine.specs.Plans.{plan_of}
 use Rattle.bus_machine.specs.States.{Run, BusState, node_at, link_at, no_link}
 use Rattle.bus_machine.specs.Stops.{sent_rounds}
@@ -50,7 +50,7 @@ module _ (run : Run) (one two : List ClockState) (same : lists_in (Lists one) �
   picks_same : (node : ℕ) → picks_of run one node ≡ picks_of run two node
   picks_same node = ap (λ rs. picks rs (targets (plan_of run.design node) run.rounds)) (readings_same one two same node)
 
-  pick_same : (node : ℕ) (action : Action) (at : ℕ) → IsPickFor run one node action at → IsPickFor run two node action at
+  pick_same : (node : ℕ) (action : NodeAction) (at : ℕ) → IsPickFor run one node action at → IsPickFor run two node action at
   pick_same node action at x = record { place = x.place; is_action = x.is_action; is_pick = ap (λ ps. slice_get ps x.place) (sym (picks_same node)) ∙ x.is_pick }
 
 timely_same : (run : Run) (one two : List ClockState) (number round : ℕ) → lists_in (Lists one) ≡ lists_in (Lists two) → IsTimely run two number round → IsTimely run one number round

@@ -21,11 +21,11 @@ use Rattle.bus_machine.specs.States.{Run, BusState, node_at, link_at}
 use Rattle.bus_machine.specs.Stops.{missing_link}
 use Rattle.bus_machine.specs.Machine.{BusEvent, Start, Step, Finish, Send, Arrive, Drop, Repeat, arrival, early_stop}
 use Rattle.bus_machine.specs.Replay.{entries, start_entry, stop_entry}
-use Rattle.bus_machine.specs.declared.action.Action.{Action}
-use Rattle.bus_machine.specs.declared.action.Action.TheVariants as action
+use Rattle.bus_machine.specs.declared.action.NodeAction.{NodeAction}
+use Rattle.bus_machine.specs.declared.action.NodeAction.TheVariants as action
 use Rattle.bus_machine.specs.Targets.{actions, target, targets}
 use Rattle.run_laws.specs.TraceLines.{Timed, timed}
-use Rattle.bus_machine.specs.proof.Laws.{IsRunOf}
+use Rattle.bus_machine.specs.proof.MachineLaws.{IsRunOf}
 use Rattle.run_laws.specs.Shown.{start_in, starts, act_in, acts}
 use Rattle.pals_clock.specs.declared.clock.Clocks.{Clocks}
 use Rattle.pals_clock.specs.declared.clock.Clocks.TheVariants.{Meet, Lists}
@@ -44,7 +44,7 @@ use Rattle.run_laws.proofs.Times.{send_round}
 abbrev LineIs : Run → List ClockState → List JournalEntry → JournalEntry → Type 0
 LineIs run clocks front e = (t : Timed) → timed run.design e ≡ Some t → ShowsPick run clocks front e t
 
-line_by : (run : Run) (clocks : List ClockState) (front : List JournalEntry) (e : JournalEntry) (j at : ℕ) (reading : Option ℕ) (action : Action) → timed run.design e ≡ Some (record { node = j; reading = reading })
+line_by : (run : Run) (clocks : List ClockState) (front : List JournalEntry) (e : JournalEntry) (j at : ℕ) (reading : Option ℕ) (action : NodeAction) → timed run.design e ≡ Some (record { node = j; reading = reading })
     → action_shown run.design front e ≡ Some action → reading ≡ Some at → slice_get (actions (plan_of run.design j) run.rounds) (length (acts j front)) ≡ Some action → slice_get (picks_of run clocks j) (length (acts j front)) ≡ Some at → target (plan_of run.design j) action ≤ at → LineIs run clocks front e
 line_by run clocks front e j at reading action told shows is next pick least = λ t here.
     subst (ShowsPick run clocks front e) (same_Some (record { node = j; reading = reading }) t (sym told ∙ here))
@@ -54,20 +54,20 @@ untimed : (run : Run) (clocks : List ClockState) (front : List JournalEntry) (e 
 untimed run clocks front e none = λ t is. absurd (let both : None ≡ Some t = sym none ∙ is in cc)
 
 -- what a node does is the pick for its next action
-record IsDone (run : Run) (clocks : List ClockState) (front : List JournalEntry) (j : ℕ) (reading : Option ℕ) (action : Action) : Type 0 where
+record IsDone (run : Run) (clocks : List ClockState) (front : List JournalEntry) (j : ℕ) (reading : Option ℕ) (action : NodeAction) : Type 0 where
   pub at : ℕ
   pub reading_is : reading ≡ Some at
   pub is_next : slice_get (actions (plan_of run.design j) run.rounds) (length (acts j front)) ≡ Some action
   pub is_pick : slice_get (picks_of run clocks j) (length (acts j front)) ≡ Some at
   pub reached : target (plan_of run.design j) action ≤ at
 
-does_line : (run : Run) (clocks : List ClockState) (journal : List JournalEntry) (s : BusState) (node : NodeNo) (reading : Option ℕ) (action : Action) → IsRunOf run → Runs run (Lists clocks) journal s
+does_line : (run : Run) (clocks : List ClockState) (journal : List JournalEntry) (s : BusState) (node : NodeNo) (reading : Option ℕ) (action : NodeAction) → IsRunOf run → Runs run (Lists clocks) journal s
     → Does run (Lists clocks) s node reading action → IsDone run clocks journal node.0 reading action
 does_line run clocks journal s node reading action rules runs d =
     let next = next_pick run clocks journal s node reading action rules runs d in
     record { at = d.at; reading_is = d.reading_is; is_next = next.0; is_pick = next.1; reached = d.shows.1 }
 
-done_line : (run : Run) (clocks : List ClockState) (front : List JournalEntry) (e : JournalEntry) (j : ℕ) (reading : Option ℕ) (action : Action) → timed run.design e ≡ Some (record { node = j; reading = reading })
+done_line : (run : Run) (clocks : List ClockState) (front : List JournalEntry) (e : JournalEntry) (j : ℕ) (reading : Option ℕ) (action : NodeAction) → timed run.design e ≡ Some (record { node = j; reading = reading })
     → action_shown run.design front e ≡ Some action → IsDone run clocks front j reading action → LineIs run clocks front e
 done_line run clocks front e j reading action told shows d = line_by run clocks front e j d.at reading action told shows d.reading_is d.is_next d.is_pick d.reached
 

@@ -9,7 +9,7 @@ use Rattle.std.proofs.lemmas.Option.{slice_get-get_or}
 use Rattle.list_lemmas.proofs.Pairs.{AllPairs-slice_get}
 use Rattle.pals_base.specs.declared.values.NodeNo.{NodeNo}
 use Rattle.pals_base.specs.declared.values.LinkNo.{LinkNo}
-use Rattle.pals_base.specs.declared.values.Port.{Port}
+use Rattle.pals_base.specs.declared.values.PortValue.{PortValue}
 use Rattle.pals_model.specs.declared.design.Link.{Link}
 use Rattle.pals_model.specs.declared.flight.FlightCopy.{FlightCopy}
 use Rattle.pals_model.specs.Inputs.{values_at}
@@ -36,7 +36,7 @@ use Rattle.bus_machine.specs.declared.plan.Input.{Input}
 use Rattle.run_laws.specs.TraceRules.{is_due}
 use Rattle.bus_machine.specs.Replay.{entries, start_entry, stop_entry}
 use Rattle.bus_machine.specs.Agreement.{Agrees}
-use Rattle.bus_machine.specs.proof.Laws.{IsRunOf}
+use Rattle.bus_machine.specs.proof.MachineLaws.{IsRunOf}
 use Rattle.bus_machine.proofs.Lists.{numbered_at}
 use Rattle.bus_machine.proofs.Nodes.{finish_keeps}
 use Rattle.bus_machine.proofs.States.{node_stays}
@@ -49,7 +49,7 @@ use Rattle.run_laws.proofs.Picking.{runs_agree, node_opens}
 use Rattle.run_laws.proofs.Counting.{rounds_are_shown, sender_before}
 use Rattle.run_laws.proofs.Timed.{goes_later, goes_start, goes_send, goes_arrive, slot_after, taken_after, arrived_at}
 use Rattle.run_laws.proofs.Missing.{full_slot}
-use Rattle.run_laws.proofs.Hours.{no_fall}
+use Rattle.run_laws.proofs.MeetingReadings.{no_fall}
 use Rattle.run_laws.proofs.Reading.{Told, none_told, is_told, does_read, start_tells, arrive_tells, event_tells, later, latest_after, NoFall}
 
 -- ---- equal views
@@ -117,10 +117,10 @@ stays_timed run s t journal told number link timed going most no_send no_start c
     (goes_later (delay_of run.delays number) v (latest run.design link.target.0 (journal ++ told)) timed most)
 
 -- ---- Start
-abbrev no_slot : Option (List Port)
+abbrev no_slot : Option (List PortValue)
 no_slot = None
 
-emptied : (slots : List (Option (List Port))) (port : ℕ) → slice_index_or (map (λ (_ : Option (List Port)). no_slot) slots) port no_slot ≡ no_slot
+emptied : (slots : List (Option (List PortValue))) (port : ℕ) → slice_index_or (map (λ (_ : Option (List PortValue)). no_slot) slots) port no_slot ≡ no_slot
 emptied [] port = refl
 emptied (slot ∷ slots) zero = refl
 emptied (slot ∷ slots) (suc port) = emptied slots port
@@ -238,17 +238,17 @@ same_link run one two a b rules is_a is_b node port =
       ]
     ]
 
-pub with_message_count : (n : NodeState) (port : ℕ) (tuple : List Port) (a : Arrived) → (with_message n port tuple a).count ≡ n.count
+pub with_message_count : (n : NodeState) (port : ℕ) (tuple : List PortValue) (a : Arrived) → (with_message n port tuple a).count ≡ n.count
 with_message_count n port tuple Kept = refl
 with_message_count n port tuple Ignored = refl
 with_message_count n port tuple Early = refl
 
-other_slot : (n : NodeState) (port other : ℕ) (tuple : List Port) (a : Arrived) → other ≢ port → slot_at (with_message n port tuple a) other ≡ slot_at n other
+other_slot : (n : NodeState) (port other : ℕ) (tuple : List PortValue) (a : Arrived) → other ≢ port → slot_at (with_message n port tuple a) other ≡ slot_at n other
 other_slot n port other tuple Kept apart = get_or-set_other n.slots port other (Some tuple) None apart
 other_slot n port other tuple Ignored apart = refl
 other_slot n port other tuple Early apart = refl
 
-own_slot : (n : NodeState) (port : ℕ) (tuple : List Port) (a : Arrived) → port < length n.slots → slot_at (with_message n port tuple a) port ≡ slot_after (slot_at n port) tuple a
+own_slot : (n : NodeState) (port : ℕ) (tuple : List PortValue) (a : Arrived) → port < length n.slots → slot_at (with_message n port tuple a) port ≡ slot_after (slot_at n port) tuple a
 own_slot n port tuple Kept within = get_or-set_at n.slots port port (Some tuple) None refl within
 own_slot n port tuple Ignored within = refl
 own_slot n port tuple Early within = refl
@@ -268,7 +268,7 @@ stop_shows k None = (refl, refl)
 stop_shows k (Some why) = (refl, refl)
 
 -- the message of another link: it goes into another slot, or another node's
-arrives_elsewhere : (run : Run) (s : BusState) (other number : ℕ) (l link : Link) (tuple : List Port) (a : Arrived) → IsRunOf run → slice_get run.design.links other ≡ Some l → slice_get run.design.links number ≡ Some link → other ≢ number
+arrives_elsewhere : (run : Run) (s : BusState) (other number : ℕ) (l link : Link) (tuple : List PortValue) (a : Arrived) → IsRunOf run → slice_get run.design.links other ≡ Some l → slice_get run.design.links number ≡ Some link → other ≢ number
     → slot_at (node_at (with_node s l.target.0 (with_message (node_at s l.target.0) l.in_port tuple a)) link.target.0) link.in_port ≡ slot_at (node_at s link.target.0) link.in_port
 arrives_elsewhere run s other number l link tuple a rules is_l is apart =
     let n = node_at s l.target.0 in

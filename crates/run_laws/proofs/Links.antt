@@ -4,7 +4,7 @@ use Rattle.std.specs.Prelude.{nat_lt, nat_le, ◌&&◌, is_some, is_none, if◌t
 use Rattle.std.proofs.lemmas.Bool.{and_parts, and_from, eq-eqb, ltb-true, lt-ltb, le-ltb, lt-leb, cases_lt, false≢true, false_from_ne_true}
 use Rattle.std.proofs.lemmas.Option.{slice_get-get_or}
 use Rattle.bus_machine.proofs.Moves.{sent_most}
-use Rattle.pals_base.specs.declared.values.Port.{Port}
+use Rattle.pals_base.specs.declared.values.PortValue.{PortValue}
 use Rattle.pals_base.specs.Bound.{alarm}
 use Rattle.pals_model.specs.declared.flight.FlightCopy.{FlightCopy}
 use Rattle.pals_model.specs.Flights.{is_of, oldest}
@@ -16,9 +16,9 @@ use Rattle.bus_machine.specs.LinkEvents.{is_in_flight}
 use Rattle.bus_machine.specs.Nodes.{round_of}
 use Rattle.bus_machine.specs.States.{Run, node_at, flight_at, link_at, no_link}
 use Rattle.bus_machine.specs.Stops.{sent_rounds, rounds_sent_on}
-use Rattle.bus_machine.specs.proof.Laws.{IsRunOf}
+use Rattle.bus_machine.specs.proof.MachineLaws.{IsRunOf}
 use Rattle.run_laws.specs.Worlds.{World, flight_since}
-use Rattle.run_laws.specs.proof.Kept.{KeepsTime, IsOnce, copies, waits, taken, one_if}
+use Rattle.run_laws.specs.proof.WorldsKeep.{KeepsTime, IsOnce, copies, waits, taken, one_if}
 use Rattle.run_laws.proofs.WorldTimes.{earlier, arrives_after, arrives_before, alarm_next}
 use Rattle.run_laws.proofs.Lists.{found_is_one, one_is_found}
 use Rattle.run_laws.proofs.Nodes.{fits_at, done_or, done_all, late, behind, rounds_at_most}
@@ -54,13 +54,13 @@ pub counts_in_flight : (round : ℕ) (flight : List FlightCopy) → 1 ≤ copies
 counts_in_flight round flight some = one_is_found (is_of round) flight some
 
 -- ---- a round of a link of which a copy is in flight
-pub record IsUnderWay (count : ℕ) (slot : Option (List Port)) (sent : ℕ) (flight : List FlightCopy) (round : ℕ) : Type 0 where
+pub record IsUnderWay (count : ℕ) (slot : Option (List PortValue)) (sent : ℕ) (flight : List FlightCopy) (round : ℕ) : Type 0 where
   pub is_sent : round < sent
   pub one : copies round flight ≡ 1
   pub apart : waits count slot round ≡ false
   pub near : count ≤ round + 1
 
-pub under_way : (count : ℕ) (slot : Option (List Port)) (sent : ℕ) (flight : List FlightCopy) (round : ℕ) → IsOnce count slot sent flight round → 1 ≤ copies round flight
+pub under_way : (count : ℕ) (slot : Option (List PortValue)) (sent : ℕ) (flight : List FlightCopy) (round : ℕ) → IsOnce count slot sent flight round → 1 ≤ copies round flight
     → IsUnderWay count slot sent flight round
 under_way count slot sent flight round once some =
     let all : copies round flight + one_if (waits count slot round) + one_if (taken count round) ≡ one_if (nat_lt round sent) = once in
@@ -83,12 +83,12 @@ link_is run number within = slice_get-get_or run.design.links number no_link wit
 pub rule_of : (run : Run) (number : ℕ) → IsRunOf run → number < length run.design.links → IsLink run.design (link_at run.design number)
 rule_of run number rules within = at_element (IsLink run.design) run.design.links number (link_at run.design number) rules.design.links.each (link_is run number within)
 
-not_waiting : (count : ℕ) (slot : Option (List Port)) (round : ℕ) → count ≡ suc round → waits count slot round ≡ false → is_some slot ≡ false
+not_waiting : (count : ℕ) (slot : Option (List PortValue)) (round : ℕ) → count ≡ suc round → waits count slot round ≡ false → is_some slot ≡ false
 not_waiting count slot round last apart =
     false_from_ne_true (is_some slot)
     (λ full. false≢true (sym apart ∙ and_from (nat_eq count (round + 1)) (is_some slot) (eq-eqb count (round + 1) (omega arith)) full))
 
-none_of : (slot : Option (List Port)) → is_some slot ≡ false → slot ≡ None
+none_of : (slot : Option (List PortValue)) → is_some slot ≡ false → slot ≡ None
 none_of None is = refl
 none_of (Some tuple) is = absurd (false≢true (sym is))
 
@@ -141,7 +141,7 @@ module _ (run : Run) (w : World) (rules : IsRunOf run) (keeps : KeepsTime run w)
       let last = comes.last in
       let not_early : nat_le n.count round ≡ false = lt-leb n.count round (omega arith) in
       let fits_slot : (nat_eq (round + 1) n.count && is_none slot) ≡ true =
-      and_from (nat_eq (round + 1) n.count) (is_none slot) (eq-eqb (round + 1) n.count (omega arith)) (ap (λ (o : Option (List Port)). is_none o) comes.empty) in
+      and_from (nat_eq (round + 1) n.count) (is_none slot) (eq-eqb (round + 1) n.count (omega arith)) (ap (λ (o : Option (List PortValue)). is_none o) comes.empty) in
       ap₂ (λ (late fit : Bool). if late then Early else if fit then Kept else Ignored) not_early fits_slot
 
   -- ---- a start

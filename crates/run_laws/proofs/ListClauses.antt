@@ -17,9 +17,9 @@ use Rattle.bus_machine.specs.Plans.{plan_of, component_at}
 use Rattle.bus_machine.specs.Nodes.{NodeState}
 use Rattle.bus_machine.specs.States.{Run, BusState, node_at, link_at, no_link}
 use Rattle.bus_machine.specs.Agreement.{PhaseAgrees}
-use Rattle.bus_machine.specs.proof.Laws.{IsRunOf}
-use Rattle.bus_machine.specs.declared.action.Action.{Action}
-use Rattle.bus_machine.specs.declared.action.Action.TheVariants as action
+use Rattle.bus_machine.specs.proof.MachineLaws.{IsRunOf}
+use Rattle.bus_machine.specs.declared.action.NodeAction.{NodeAction}
+use Rattle.bus_machine.specs.declared.action.NodeAction.TheVariants as action
 use Rattle.bus_machine.specs.Targets.{targets, target}
 use Rattle.run_laws.specs.Shown.{sends, acts}
 use Rattle.run_laws.specs.NodeActions.{turn, progress_in, Follows}
@@ -42,7 +42,7 @@ use Rattle.run_laws.proofs.Places.{start_place, start_done, send_place, send_don
 use Rattle.run_laws.proofs.Choosing.{StopAt, StopPicked, both_chosen, stop_picked}
 
 -- ---- one pick for an action
-same_pick : (run : Run) (clocks : List ClockState) (k : ℕ) (one two : Action) (a b : ℕ) → (x : IsPickFor run clocks k one a) → (y : IsPickFor run clocks k two b) → x.place ≡ y.place → a ≡ b
+same_pick : (run : Run) (clocks : List ClockState) (k : ℕ) (one two : NodeAction) (a b : ℕ) → (x : IsPickFor run clocks k one a) → (y : IsPickFor run clocks k two b) → x.place ≡ y.place → a ≡ b
 same_pick run clocks k one two a b x y same = same_Some _ _ (sym x.is_pick ∙ ap (slice_get (picks_of run clocks k)) same ∙ y.is_pick)
 
 one_start : (run : Run) (clocks : List ClockState) (k round a b : ℕ) → IsRunOf run → k < length run.design.components → IsPickFor run clocks k (action.Start round) a → IsPickFor run clocks k (action.Start round) b → a ≡ b

@@ -22,10 +22,10 @@ use Rattle.bus_machine.specs.States.{Run, BusState, node_at, link_at}
 use Rattle.bus_machine.specs.Stops.{missing_link}
 use Rattle.bus_machine.specs.Machine.{BusEvent, Start, Step, Finish, Send, Arrive, Drop, Repeat, arrival, early_stop}
 use Rattle.bus_machine.specs.Replay.{entries, start_entry, stop_entry}
-use Rattle.bus_machine.specs.declared.action.Action.{Action}
-use Rattle.bus_machine.specs.declared.action.Action.TheVariants as action
+use Rattle.bus_machine.specs.declared.action.NodeAction.{NodeAction}
+use Rattle.bus_machine.specs.declared.action.NodeAction.TheVariants as action
 use Rattle.bus_machine.specs.Targets.{Progress, target, send_is_next, next_in}
-use Rattle.bus_machine.specs.proof.Laws.{IsRunOf}
+use Rattle.bus_machine.specs.proof.MachineLaws.{IsRunOf}
 use Rattle.run_laws.specs.Shown.{start_in, starts}
 use Rattle.pals_clock.specs.declared.clock.Clocks.{Clocks}
 use Rattle.pals_clock.specs.declared.clock.Clocks.TheVariants.{Meet, Lists}
@@ -37,7 +37,7 @@ use Rattle.run_laws.proofs.Counting.{rounds_are_shown}
 use Rattle.run_laws.proofs.Times.{send_round}
 use Rattle.run_laws.proofs.Clauses.{link_is}
 
-at_target : (run : Run) (s : BusState) (node : NodeNo) (reading : Option ℕ) (action : Action) (d : Does run Meet s node reading action) → reading ≡ Some (target (plan_of run.design node.0) action)
+at_target : (run : Run) (s : BusState) (node : NodeNo) (reading : Option ℕ) (action : NodeAction) (d : Does run Meet s node reading action) → reading ≡ Some (target (plan_of run.design node.0) action)
 at_target run s node reading action d = d.reading_is ∙ ap Some d.shows.0
 
 step_by : (plan : Plan) (p : Progress) (round step : ℕ) (send more : Bool) → cond send (action.Send p.round) (cond more (action.Step p.round p.steps) (action.Start (p.round + 1))) ≡ action.Step round step → (round ≡ p.round) × (step ≡ p.steps)

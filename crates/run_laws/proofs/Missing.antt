@@ -7,7 +7,7 @@ use Rattle.std.proofs.lemmas.Option.{slice_get-map, get_or_from_slice_get, slice
 use Rattle.list_lemmas.proofs.Places.{slice_get-zip}
 use Rattle.list_lemmas.proofs.Options.{option_map-parts, option_map-none}
 use Rattle.run_laws.proofs.Lists.{zipped_at}
-use Rattle.pals_base.specs.declared.values.Port.{Port}
+use Rattle.pals_base.specs.declared.values.PortValue.{PortValue}
 use Rattle.pals_base.specs.Steps.{upwards}
 use Rattle.pals_model.specs.declared.design.Link.{Link}
 use Rattle.pals_model.specs.declared.design.Feed.{Feed}
@@ -25,7 +25,7 @@ use Rattle.bus_machine.specs.NodeEvents.{lacks, missing, slot_at}
 use Rattle.bus_machine.specs.States.{Run, BusState, node_at}
 use Rattle.bus_machine.specs.Stops.{link_into, missing_link}
 use Rattle.bus_machine.specs.Agreement.{Agrees}
-use Rattle.bus_machine.specs.proof.Laws.{IsRunOf}
+use Rattle.bus_machine.specs.proof.MachineLaws.{IsRunOf}
 use Rattle.bus_machine.proofs.Lists.{none_found}
 
 -- ---- lists
@@ -36,22 +36,22 @@ upwards_at from (suc n) zero p is = let same : from ≡ p = cc in omega arith
 upwards_at from (suc n) (suc k) p is = let later : p ≡ suc from + k = upwards_at (suc from) n k p is in omega arith
 
 -- ---- an in port that lacks a message
-is_empty : (slot : Option (List Port)) → is_none slot ≡ true → slot ≡ None
+is_empty : (slot : Option (List PortValue)) → is_none slot ≡ true → slot ≡ None
 is_empty None is = refl
 is_empty (Some tuple) is = absurd (false≢true is)
 
-feed_lacks : (root : ℕ) (feed : Option Feed) (slot : Option (List Port)) → lacks (input_from_feed root feed) slot ≡ true → ⊥
+feed_lacks : (root : ℕ) (feed : Option Feed) (slot : Option (List PortValue)) → lacks (input_from_feed root feed) slot ≡ true → ⊥
 feed_lacks root None slot is = false≢true is
 feed_lacks root (Some feed) slot is = false≢true is
 
-link_lacks : (design : DesignParts) (l : Option Link) (slot : Option (List Port)) → lacks (input_from_link design l) slot ≡ true → (link : Link) × (l ≡ Some link) × (slot ≡ None)
+link_lacks : (design : DesignParts) (l : Option Link) (slot : Option (List PortValue)) → lacks (input_from_link design l) slot ≡ true → (link : Link) × (l ≡ Some link) × (slot ≡ None)
 link_lacks design None slot is = absurd (false≢true is)
 link_lacks design (Some link) slot is = (link, refl, is_empty slot is)
 
-abbrev Lacking : DesignParts → PortSource → Option (List Port) → Type 0
+abbrev Lacking : DesignParts → PortSource → Option (List PortValue) → Type 0
 Lacking design src slot = (number : ℕ) × (link : Link) × (src ≡ source.Link number) × (slice_get design.links number ≡ Some link) × (slot ≡ None)
 
-port_lacks : (design : DesignParts) (src : PortSource) (slot : Option (List Port)) → lacks (input_of design src) slot ≡ true → Lacking design src slot
+port_lacks : (design : DesignParts) (src : PortSource) (slot : Option (List PortValue)) → lacks (input_of design src) slot ≡ true → Lacking design src slot
 port_lacks design source.Nothing slot is = absurd (false≢true is)
 port_lacks design (source.Feed feed root) slot is = absurd (feed_lacks root (slice_get design.feeds feed) slot is)
 port_lacks design (source.Link number) slot is = let l = link_lacks design (slice_get design.links number) slot is in (number, l.0, refl, l.1, l.2)
@@ -83,8 +83,8 @@ missed_link run s node link is =
     let port = option_map-parts (link_into run.design node) (missing (plan_of run.design node) n) link is in
     let sources = sources_of run.design node c in
     let inputs = map (input_of run.design) sources in
-    let found' = port_by n.count (position (λ (p : Input × Option (List Port)). lacks p.0 p.1) (zip inputs n.slots)) port.0 (nat_eq n.count 0) refl port.1 in
-    let at = found_at (λ (p : Input × Option (List Port)). lacks p.0 p.1) (zip inputs n.slots) port.0 found'.1 in
+    let found' = port_by n.count (position (λ (p : Input × Option (List PortValue)). lacks p.0 p.1) (zip inputs n.slots)) port.0 (nat_eq n.count 0) refl port.1 in
+    let at = found_at (λ (p : Input × Option (List PortValue)). lacks p.0 p.1) (zip inputs n.slots) port.0 found'.1 in
     let parts = zipped_at inputs n.slots port.0 at.0 at.1 in
     let src = option_map-parts (input_of run.design) (slice_get sources port.0) at.0.0 (sym (slice_get-map (input_of run.design) sources port.0) ∙ parts.0) in
     let lacking = port_lacks run.design src.0 at.0.1 (ap (λ i. lacks i at.0.1) src.2 ∙ at.2) in
@@ -115,7 +115,7 @@ none_by : (count : ℕ) (o : Option ℕ) (b : Bool) → nat_eq count 0 ≡ b →
 none_by count o true is some none = absurd (let zero' = eqb-true count 0 is in omega arith)
 none_by count o false is some none = none
 
-full_by : (slot : Option (List Port)) → is_none slot ≡ false → is_some slot ≡ true
+full_by : (slot : Option (List PortValue)) → is_none slot ≡ false → is_some slot ≡ true
 full_by None is = absurd (false≢true (sym is))
 full_by (Some tuple) is = refl
 
@@ -141,6 +141,6 @@ full_slot run s number link rules agree is none some =
     let is_input : slice_get inputs link.in_port ≡ Some (input_from_link run.design (Some link)) =
     slice_get-map (input_of run.design) sources link.in_port ∙ ap (option_map (input_of run.design)) is_src ∙ ap (λ l. Some (input_from_link run.design l)) is in
     let is_slot : slice_get n.slots link.in_port ≡ Some (slot_at n link.in_port) = slice_get-get_or n.slots link.in_port None (omega arith) in
-    let all : position (λ (p : Input × Option (List Port)). lacks p.0 p.1) (zip inputs n.slots) ≡ None = none_by n.count _ (nat_eq n.count 0) refl some (option_map-none (link_into run.design node) (missing (plan_of run.design node) n) none) in
+    let all : position (λ (p : Input × Option (List PortValue)). lacks p.0 p.1) (zip inputs n.slots) ≡ None = none_by n.count _ (nat_eq n.count 0) refl some (option_map-none (link_into run.design node) (missing (plan_of run.design node) n) none) in
     full_by (slot_at n link.in_port)
-    (none_found (λ (p : Input × Option (List Port)). lacks p.0 p.1) (zip inputs n.slots) link.in_port (input_from_link run.design (Some link), slot_at n link.in_port) all (slice_get-zip inputs n.slots link.in_port _ _ is_input is_slot))
+    (none_found (λ (p : Input × Option (List PortValue)). lacks p.0 p.1) (zip inputs n.slots) link.in_port (input_from_link run.design (Some link), slot_at n link.in_port) all (slice_get-zip inputs n.slots link.in_port _ _ is_input is_slot))

@@ -5,7 +5,7 @@ use Rattle.std.specs.List.{list_all}
 use Rattle.std.proofs.lemmas.Bool.{false≢true, and_parts}
 use Rattle.std.proofs.lemmas.List.Folds.{list_all-append, list_all-map}
 use Rattle.std.proofs.lemmas.Option.{slice_get-get_or, slice_get_cases}
-use Rattle.pals_base.specs.declared.behaviour.Named.{Named}
+use Rattle.pals_base.specs.declared.behaviour.PortDecl.{PortDecl}
 use Rattle.pals_base.specs.declared.behaviour.VarDecl.{VarDecl}
 use Rattle.pals_base.specs.declared.behaviour.BehaviourParts.{BehaviourParts}
 use Rattle.pals_base.specs.Names.{is_word, is_path}
@@ -57,21 +57,21 @@ node_found design node rules within =
     ap (λ o. node_named design (path_in o)) c.1 ∙ node_is_found design node c.0 rules c.1
 
 -- ---- links: a path, a `.`, and a word
-port_at : (ins : List Named) (port : ℕ) → port < length ins → (p : Named) × (slice_get ins port ≡ Some p)
+port_at : (ins : List PortDecl) (port : ℕ) → port < length ins → (p : PortDecl) × (slice_get ins port ≡ Some p)
 port_at ins port within =
     elim (slice_get_cases ins port).1 [
       | inl there ↦ (there.0, there.2)
       | inr past ↦ absurd (omega (arith, past.0))
     ]
 
-ins_are_words : (b : BehaviourParts) → IsBehaviour b → All (λ (p : Named). is_word p.name ≡ true) b.ins
+ins_are_words : (b : BehaviourParts) → IsBehaviour b → All (λ (p : PortDecl). is_word p.name ≡ true) b.ins
 ins_are_words b rules =
-    let ins = map (λ (p : Named). p.name) b.ins in
-    let outs = map (λ (p : Named). p.name) b.outs in
+    let ins = map (λ (p : PortDecl). p.name) b.ins in
+    let outs = map (λ (p : PortDecl). p.name) b.outs in
     let vars = map (λ (v : VarDecl). v.name) b.vars in
     let ports = (and_parts (list_all is_word (ins ++ outs)) (list_all is_word vars) (sym (list_all-append is_word (ins ++ outs) vars) ∙ rules.names.values)).0 in
     let words = (and_parts (list_all is_word ins) (list_all is_word outs) (sym (list_all-append is_word ins outs) ∙ ports)).0 in
-    all_pass (λ (p : Named). is_word p.name) b.ins (sym (list_all-map is_word (λ (p : Named). p.name) b.ins) ∙ words)
+    all_pass (λ (p : PortDecl). is_word p.name) b.ins (sym (list_all-map is_word (λ (p : PortDecl). p.name) b.ins) ∙ words)
 
 abbrev MadeOf : DesignParts → Link → Type 0
 MadeOf design link = (path word : List ℕ) × (link_name design link ≡ path ++ 46 ∷ word) × (is_path path ≡ true) × (is_word word ≡ true)
@@ -86,7 +86,7 @@ made_of design link rules rule =
       p.0.name,
       ap (λ o. in_port_name o link.in_port) c.1 ∙ ap (λ o. c.0.path ++ codes "." ++ port_name o) p.1 ∙ append_assoc c.0.path (46 ∷ []) p.0.name,
       path_of design node c.0 rules c.1,
-      at_element (λ (q : Named). is_word q.name ≡ true) c.0.behaviour.ins link.in_port p.0 (ins_are_words c.0.behaviour (is_behaviour design node c.0 rules c.1)) p.1,
+      at_element (λ (q : PortDecl). is_word q.name ≡ true) c.0.behaviour.ins link.in_port p.0 (ins_are_words c.0.behaviour (is_behaviour design node c.0 rules c.1)) p.1,
     )
 
 link_there : (design : DesignParts) (link : ℕ) → link < length design.links → slice_get design.links link ≡ Some (link_at design link)

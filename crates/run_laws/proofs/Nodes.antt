@@ -20,10 +20,10 @@ use Rattle.bus_machine.specs.Alarms.{start_alarm, step_alarm, release_alarm}
 use Rattle.bus_machine.specs.States.{Run, node_at}
 use Rattle.bus_machine.specs.Stops.{sent_rounds}
 use Rattle.bus_machine.specs.Agreement.{PhaseAgrees}
-use Rattle.bus_machine.specs.proof.Laws.{IsRunOf}
+use Rattle.bus_machine.specs.proof.MachineLaws.{IsRunOf}
 use Rattle.run_laws.specs.Worlds.{World, reading_at, since_at, ready_at, sendings}
 use Rattle.run_laws.specs.Deadlines.{last_before, lesser, phase_deadline, node_deadline}
-use Rattle.run_laws.specs.proof.Kept.{IsInTime, KeepsNode, KeepsSends, KeepsTime}
+use Rattle.run_laws.specs.proof.WorldsKeep.{IsInTime, KeepsNode, KeepsSends, KeepsTime}
 use Rattle.run_laws.proofs.WorldTimes.{Fits, fits, alarm_next, alarm_after, next_after_skew, late_running, late_between, unsent_running, unsent_between, unsent_ready}
 
 -- ---- last allowed times

@@ -1,7 +1,7 @@
 -- Of each round one copy at most is in flight on a link, so a copy that is due is the oldest of its round.
 use Rattle.std.proofs.Common.{◌≡◌, ℕ, zero, suc, ◌+◌, ◌<◌, ◌≤◌, Bool, true, false, cond, List, [], ◌∷◌, length, slice_get, Option, Some, refl, ap, ◌∙◌, subst, arith}
 use Rattle.std.proofs.lemmas.Grind.{common_steps}
-use Rattle.pals_base.specs.declared.values.Port.{Port}
+use Rattle.pals_base.specs.declared.values.PortValue.{PortValue}
 use Rattle.pals_model.specs.declared.flight.FlightCopy.{FlightCopy}
 use Rattle.pals_model.specs.Flights.{is_of, oldest}
 use Rattle.pals_model.proofs.Lookups.{at_element}
@@ -30,7 +30,7 @@ only_copy (c ∷ cs) zero round copy is of most =
     ap (λ b. cond b (Some c) (oldest round cs)) (ap (is_of round) same ∙ of) ∙ ap Some same
 only_copy (c ∷ cs) (suc place) round copy is of most = only_by c cs place round copy (is_of round c) refl is of most (only_copy cs place round copy is of)
 
-one_at_most : (round count flying : ℕ) (slot : Option (List Port)) (taken : Option ℕ) → Whereabouts round count slot flying taken → flying ≤ 1
+one_at_most : (round count flying : ℕ) (slot : Option (List PortValue)) (taken : Option ℕ) → Whereabouts round count slot flying taken → flying ≤ 1
 one_at_most round count flying slot taken (in_flight one most free) = omega arith
 one_at_most round count flying slot taken (in_slot none here full) = omega arith
 one_at_most round count flying slot taken (was_taken none past) = omega arith

@@ -2,19 +2,19 @@
 use Rattle.std.proofs.Common.{◌≡◌, ◌⊎◌, inl, inr, ℕ, ◌+◌, ◌<◌, ◌≤◌, nat_eq, false, List, Option, sym, ◌∙◌, arith}
 use Rattle.std.specs.Prelude.{nat_lt, is_some}
 use Rattle.std.proofs.lemmas.Bool.{and_parts, cases_Bool, cases_lt, eqb-true, lt-ltb, le-ltb, ltb-true, false≢true}
-use Rattle.pals_base.specs.declared.values.Port.{Port}
+use Rattle.pals_base.specs.declared.values.PortValue.{PortValue}
 use Rattle.pals_model.specs.declared.flight.FlightCopy.{FlightCopy}
 use Rattle.bus_machine.specs.NodeEvents.{slot_at}
 use Rattle.bus_machine.specs.States.{node_at, flight_at, link_at}
 use Rattle.bus_machine.specs.Stops.{rounds_sent_on}
-use Rattle.run_laws.specs.proof.Kept.{IsOnce, copies, waits, taken, one_if, Flies, IsInSlot, IsTaken, IsNowhere}
-use Rattle.run_laws.specs.proof.Laws.{MessagesStandOnce}
+use Rattle.run_laws.specs.proof.WorldsKeep.{IsOnce, copies, waits, taken, one_if, Flies, IsInSlot, IsTaken, IsNowhere}
+use Rattle.run_laws.specs.proof.WorldLaws.{MessagesStandOnce}
 use Rattle.run_laws.proofs.Links.{one_of_true, one_of_false}
 
 not_past : (count round : ℕ) → taken count round ≡ false → count ≤ round + 1
 not_past count round is = elim (cases_lt (round + 1) count) [ inl past ↦ absurd (false≢true (sym is ∙ lt-ltb (round + 1) count past)) | inr few ↦ few ]
 
-module _ (count : ℕ) (slot : Option (List Port)) (sent : ℕ) (flight : List FlightCopy) (round : ℕ) (once : IsOnce count slot sent flight round) where
+module _ (count : ℕ) (slot : Option (List PortValue)) (sent : ℕ) (flight : List FlightCopy) (round : ℕ) (once : IsOnce count slot sent flight round) where
   whole : copies round flight + one_if (waits count slot round) + one_if (taken count round) ≡ one_if (nat_lt round sent)
   whole = once
 

@@ -4,7 +4,7 @@ use Rattle.std.specs.Prelude.{nat_lt, is_some, option_map, slice_index_or}
 use Rattle.std.proofs.lemmas.Bool.{and_right, le-ltb, false≢true}
 use Rattle.std.proofs.lemmas.List.{length-map}
 use Rattle.std.proofs.lemmas.Option.{slice_get-map, get_or_from_slice_get, none-some}
-use Rattle.pals_base.specs.declared.values.Port.{Port}
+use Rattle.pals_base.specs.declared.values.PortValue.{PortValue}
 use Rattle.pals_base.specs.Steps.{upwards}
 use Rattle.pals_model.specs.declared.design.Component.{Component}
 use Rattle.pals_model.specs.declared.design.Link.{Link}
@@ -17,12 +17,12 @@ use Rattle.bus_machine.specs.NodeEvents.{slot_at}
 use Rattle.bus_machine.specs.Alarms.{start_alarm}
 use Rattle.bus_machine.specs.States.{Run, opening, node_at, no_node, flight_at, link_at}
 use Rattle.bus_machine.specs.Stops.{rounds_sent_on, sent_rounds}
-use Rattle.bus_machine.specs.proof.Laws.{IsRunOf}
+use Rattle.bus_machine.specs.proof.MachineLaws.{IsRunOf}
 use Rattle.run_laws.specs.Deadlines.{last_before}
 use Rattle.run_laws.specs.Worlds.{opening_world, reading_at, since_at, ready_at}
 use Rattle.bus_machine.proofs.Arrivals.{opening_agrees}
-use Rattle.run_laws.specs.proof.Kept.{IsInTime, IsOnce, copies, waits, taken, one_if, KeepsLink}
-use Rattle.run_laws.specs.proof.Laws.{OpeningKeepsTime}
+use Rattle.run_laws.specs.proof.WorldsKeep.{IsInTime, IsOnce, copies, waits, taken, one_if, KeepsLink}
+use Rattle.run_laws.specs.proof.WorldLaws.{OpeningKeepsTime}
 use Rattle.run_laws.proofs.Lists.{upwards_at}
 use Rattle.run_laws.proofs.Nodes.{Stands, StandsAt, deadline_is, both_in_time, send_last}
 use Rattle.run_laws.proofs.Links.{rule_of, one_of_false}
@@ -52,7 +52,7 @@ nothing_flies [] number = refl
 nothing_flies (l ∷ ls) zero = refl
 nothing_flies (l ∷ ls) (suc number) = nothing_flies ls number
 
-abbrev no_slot : Option (List Port)
+abbrev no_slot : Option (List PortValue)
 no_slot = None
 
 nothing_waits : (inputs : List Input) (port : ℕ) → slice_index_or (map (λ (_ : Input). no_slot) inputs) port no_slot ≡ no_slot
@@ -67,11 +67,11 @@ opens_at run node within =
     get_or_from_slice_get (map f nodes) node (f node) no_node (slice_get-map f nodes node ∙ ap (option_map f) (upwards_at (length run.design.components) node within))
 
 -- ---- a link
-none_once : (slot : Option (List Port)) (flight : List FlightCopy) (count sent round : ℕ) → slot ≡ None → flight ≡ [] → count ≡ 0 → sent ≡ 0 → IsOnce count slot sent flight round
+none_once : (slot : Option (List PortValue)) (flight : List FlightCopy) (count sent round : ℕ) → slot ≡ None → flight ≡ [] → count ≡ 0 → sent ≡ 0 → IsOnce count slot sent flight round
 none_once slot flight count sent round no_message none_flies none_started none_sent =
     let flying : copies round flight ≡ 0 = ap (copies round) none_flies in
     let waiting : one_if (waits count slot round) ≡ 0 =
-    one_of_false (waits count slot round) (and_right (nat_eq count (round + 1)) (is_some slot) (ap (λ (o : Option (List Port)). is_some o) no_message)) in
+    one_of_false (waits count slot round) (and_right (nat_eq count (round + 1)) (is_some slot) (ap (λ (o : Option (List PortValue)). is_some o) no_message)) in
     let not_taken : one_if (taken count round) ≡ 0 = one_of_false (taken count round) (le-ltb (round + 1) count (omega arith)) in
     let unsent : one_if (nat_lt round sent) ≡ 0 = one_of_false (nat_lt round sent) (le-ltb round sent (omega arith)) in
     let all : copies round flight + one_if (waits count slot round) + one_if (taken count round) ≡ one_if (nat_lt round sent) = omega arith in

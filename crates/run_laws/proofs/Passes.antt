@@ -11,8 +11,8 @@ use Rattle.pals_model.specs.declared.flight.FlightCopy.{FlightCopy}
 use Rattle.pals_model.specs.Flights.{is_of, oldest}
 use Rattle.pals_runs.specs.declared.events.Event.TheVariants as event
 use Rattle.pals_runs.specs.declared.events.EventFault.TheVariants as fault
-use Rattle.pals_runs.specs.declared.events.Which.{Which}
-use Rattle.pals_runs.specs.declared.events.Which.TheVariants as which
+use Rattle.pals_runs.specs.declared.events.EventSubject.{EventSubject}
+use Rattle.pals_runs.specs.declared.events.EventSubject.TheVariants as which
 use Rattle.bound_checker.specs.proof.Arrival.{IsNear}
 use Rattle.bus_machine.specs.Plans.{plan_of}
 use Rattle.bus_machine.specs.LinkEvents.{is_in_flight}
@@ -20,13 +20,13 @@ use Rattle.bus_machine.specs.States.{Run, node_at, flight_at}
 use Rattle.run_laws.specs.Worlds.{World, since_at, ready_at, sendings, world_after}
 use Rattle.run_laws.specs.Deadlines.{node_deadline, message_deadline}
 use Rattle.run_laws.specs.Faults.{fault_of, found_if, first_of, apart, clock_back, clock_apart, past, node_past, copy_past, link_past}
-use Rattle.run_laws.specs.proof.Kept.{IsInTime, KeepsNode, KeepsSends, KeepsTime}
+use Rattle.run_laws.specs.proof.WorldsKeep.{IsInTime, KeepsNode, KeepsSends, KeepsTime}
 use Rattle.run_laws.proofs.Lists.{both_none, none_first, upwards_at, enumerated_at}
 use Rattle.run_laws.proofs.Nodes.{deadline_is}
 use Rattle.run_laws.proofs.Faults.{named, none_if}
 
 -- ---- what the fault says
-none_past : (time : ℕ) (which : Which) (last : Option ℕ) → past time which last ≡ None → IsInTime time last
+none_past : (time : ℕ) (which : EventSubject) (last : Option ℕ) → past time which last ≡ None → IsInTime time last
 none_past time which None none = tt
 none_past time which (Some last) none = ltb-false last time (none_if (nat_lt last time) (fault.PastDeadline which last) none)
 

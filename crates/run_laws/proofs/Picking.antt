@@ -33,9 +33,9 @@ use Rattle.bus_machine.specs.Machine.{BusEvent, Start, Step, Finish, Send, Arriv
 use Rattle.bus_machine.specs.Replay.{Replays, entries, start_entry, stop_entry}
 use Rattle.bus_machine.specs.Replay.{opens as replay_opens, goes_on as replay_goes_on}
 use Rattle.bus_machine.specs.Agreement.{NodeAgrees, PhaseAgrees, Agrees}
-use Rattle.bus_machine.specs.proof.Laws.{IsRunOf}
-use Rattle.bus_machine.specs.declared.action.Action.{Action}
-use Rattle.bus_machine.specs.declared.action.Action.TheVariants as action
+use Rattle.bus_machine.specs.proof.MachineLaws.{IsRunOf}
+use Rattle.bus_machine.specs.declared.action.NodeAction.{NodeAction}
+use Rattle.bus_machine.specs.declared.action.NodeAction.TheVariants as action
 use Rattle.bus_machine.specs.Targets.{target, targets, next_in}
 use Rattle.bus_machine.proofs.States.{node_stays}
 use Rattle.bus_machine.proofs.Arrivals.{replay_agrees}
@@ -86,7 +86,7 @@ acting_by run node n Holding agree = agree.sent
 acting_by run node n Done agree = tt
 
 -- its next target
-pub next_target : (run : Run) (s : BusState) (node done : ℕ) (action : Action) → IsRunOf run → Agrees run s → node < length run.design.components → Follows (plan_of run.design node) done (node_at s node)
+pub next_target : (run : Run) (s : BusState) (node done : ℕ) (action : NodeAction) → IsRunOf run → Agrees run s → node < length run.design.components → Follows (plan_of run.design node) done (node_at s node)
     → upcoming (plan_of run.design node) (node_at s node) ≡ Some action
     → slice_get (targets (plan_of run.design node) run.rounds) done ≡ Some (target (plan_of run.design node) action)
 next_target run s node done action rules agree within follows is =
@@ -99,7 +99,7 @@ next_target run s node done action rules agree within follows is =
 abbrev Has : Run → List ClockState → ℕ → NodeState → List ℕ → Type 0
 Has run clocks node n shown = IsPicked (plan_of run.design node) run.rounds (clock_at clocks node) n shown
 
-does_it : (run : Run) (clocks : List ClockState) (s : BusState) (node : NodeNo) (reading : Option ℕ) (action : Action) (m : NodeState) (shown : List ℕ) → IsRunOf run → Agrees run s
+does_it : (run : Run) (clocks : List ClockState) (s : BusState) (node : NodeNo) (reading : Option ℕ) (action : NodeAction) (m : NodeState) (shown : List ℕ) → IsRunOf run → Agrees run s
     → Does run (Lists clocks) s node reading action → (p : Has run clocks node.0 (node_at s node.0) shown) → Follows (plan_of run.design node.0) (p.done + 1) m
     → Has run clocks node.0 m (shown ++ listed reading)
 does_it run clocks s node reading action m shown rules agree does p follows =

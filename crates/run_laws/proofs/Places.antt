@@ -8,8 +8,8 @@ use Rattle.pals_runs.specs.declared.journal.Phase.TheVariants.{Waiting, Running,
 use Rattle.bus_machine.specs.declared.plan.Plan.{Plan}
 use Rattle.bus_machine.specs.Nodes.{NodeState}
 use Rattle.bus_machine.specs.Stops.{sent_rounds}
-use Rattle.bus_machine.specs.declared.action.Action.{Action}
-use Rattle.bus_machine.specs.declared.action.Action.TheVariants as action
+use Rattle.bus_machine.specs.declared.action.NodeAction.{NodeAction}
+use Rattle.bus_machine.specs.declared.action.NodeAction.TheVariants as action
 use Rattle.bus_machine.specs.Targets.{Progress, send_is_next, next_action, progress_after, actions}
 use Rattle.run_laws.specs.NodeActions.{turn, progress_in, Follows}
 use Rattle.run_laws.proofs.Turns.{IsPlan, bit, size, sized, action_at, length-actions, sent_if, unsent_if}
@@ -36,7 +36,7 @@ turn_starts plan (suc k) round rules is =
     let has = sized plan k rules in
     sym has.size_is ∙ starts_by plan p round (send_is_next plan p) (nat_lt p.steps plan.rate) rules has.steps refl refl (sym (turn_acts plan k) ∙ is)
 
-in_all : (plan : Plan) (rounds k : ℕ) (action : Action) → slice_get (actions plan rounds) k ≡ Some action → (turn plan k).action ≡ action
+in_all : (plan : Plan) (rounds k : ℕ) (action : NodeAction) → slice_get (actions plan rounds) k ≡ Some action → (turn plan k).action ≡ action
 in_all plan rounds k action is =
     let within : k < rounds * (plan.rate + 1) = (let below = slice_get_within (actions plan rounds) k action is in let size' = length-actions plan rounds in omega arith) in
     same_Some _ _ (sym (action_at plan rounds k within) ∙ is)

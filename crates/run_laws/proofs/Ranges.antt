@@ -29,9 +29,9 @@ use Rattle.bus_machine.specs.Stops.{missing_link, rounds_sent_on}
 use Rattle.bus_machine.specs.Machine.{BusEvent, Start, Step, Finish, Send, Arrive, Drop, Repeat, arrival, early_stop}
 use Rattle.bus_machine.specs.Replay.{entries, start_entry, stop_entry}
 use Rattle.bus_machine.specs.Agreement.{PhaseAgrees, IsCopy, Agrees}
-use Rattle.bus_machine.specs.proof.Laws.{IsRunOf}
-use Rattle.bus_machine.specs.declared.action.Action.{Action}
-use Rattle.bus_machine.specs.declared.action.Action.TheVariants as action
+use Rattle.bus_machine.specs.proof.MachineLaws.{IsRunOf}
+use Rattle.bus_machine.specs.declared.action.NodeAction.{NodeAction}
+use Rattle.bus_machine.specs.declared.action.NodeAction.TheVariants as action
 use Rattle.bus_machine.specs.Targets.{Progress, target, targets, send_is_next, next_action, next_in}
 use Rattle.bus_machine.proofs.Lists.{oldest_is_one}
 use Rattle.run_laws.specs.Entries.{IsReading, IsOfLink, IsEntryIn}
@@ -40,8 +40,8 @@ use Rattle.pals_clock.specs.declared.clock.Clocks.TheVariants.{Meet, Lists}
 use Rattle.run_laws.specs.Runs.{clock_at, Does, Takes, KeepsTo, Runs, opens, picks_for, goes_on}
 use Rattle.run_laws.proofs.Picking.{runs_agree, many_clocks, nodes_pick, node_agrees, component_is}
 use Rattle.run_laws.proofs.Missing.{missed_link}
-use Rattle.run_laws.proofs.Aims.{IsTimedPlan, step_below, next_alarm}
-use Rattle.run_laws.proofs.Hours.{times_of}
+use Rattle.run_laws.proofs.RisingTargets.{IsTimedPlan, step_below, next_alarm}
+use Rattle.run_laws.proofs.MeetingReadings.{times_of}
 use Rattle.run_laws.proofs.Choosing.{same_lists}
 use Rattle.run_laws.specs.proof.Sound.{AreReadings}
 
@@ -77,7 +77,7 @@ within_next plan round steps false false times below = omega arith
 counted : (round count : ℕ) → count ≡ suc round → count - 1 + 1 ≡ count
 counted round count is = omega arith
 
-target_below : (run : Run) (j : ℕ) (n : NodeState) (p : Phase) (next : Action) → IsTimedPlan (plan_of run.design j) → PhaseAgrees run j (component_at run.design j) n p → n.count ≤ run.rounds → next_in (plan_of run.design j) n p ≡ Some next
+target_below : (run : Run) (j : ℕ) (n : NodeState) (p : Phase) (next : NodeAction) → IsTimedPlan (plan_of run.design j) → PhaseAgrees run j (component_at run.design j) n p → n.count ≤ run.rounds → next_in (plan_of run.design j) n p ≡ Some next
     → target (plan_of run.design j) next ≤ alarm run.design.period run.rounds
 target_below run j n Waiting next times agree most is =
     let plan = plan_of run.design j in
@@ -101,7 +101,7 @@ target_below run j n Holding next times agree most is =
 target_below run j n Done next times agree most is = absurd (cc)
 
 -- ---- each reading
-reading_fits : (run : Run) (clocks : Clocks) (journal : List JournalEntry) (s : BusState) (node : NodeNo) (reading : Option ℕ) (next : Action) → IsRunOf run → run.rounds ≤ ROUNDS → AreReadings clocks → Runs run clocks journal s → Does run clocks s node reading next → IsReading reading
+reading_fits : (run : Run) (clocks : Clocks) (journal : List JournalEntry) (s : BusState) (node : NodeNo) (reading : Option ℕ) (next : NodeAction) → IsRunOf run → run.rounds ≤ ROUNDS → AreReadings clocks → Runs run clocks journal s → Does run clocks s node reading next → IsReading reading
 reading_fits run Meet journal s node reading next rules few readings runs d =
     let agree = node_agrees run s node.0 (runs_agree run Meet journal s rules runs) d.within in
     let below = target_below run node.0 (node_at s node.0) (node_at s node.0).phase next (times_of run node.0 rules d.within) agree.phase agree.rounds d.next in

@@ -25,7 +25,7 @@ use Rattle.bus_machine.specs.States.{Run, BusState, node_at, link_at, no_link}
 use Rattle.bus_machine.specs.Stops.{missing_link}
 use Rattle.bus_machine.specs.Machine.{BusEvent, Start, Step, Finish, Send, Arrive, Drop, Repeat, arrival, early_stop}
 use Rattle.bus_machine.specs.Replay.{entries, start_entry, stop_entry}
-use Rattle.bus_machine.specs.declared.action.Action.{Action}
+use Rattle.bus_machine.specs.declared.action.NodeAction.{NodeAction}
 use Rattle.bus_machine.specs.Targets.{target}
 use Rattle.run_laws.specs.TraceLines.{timed}
 use Rattle.run_laws.specs.Shown.{last_of, latest}
@@ -39,11 +39,11 @@ use Rattle.run_laws.proofs.Picking.{many_clocks}
 -- ---- a node's clock is read
 pub record Reads (run : Run) (clocks : Clocks) (s : BusState) (j at : ℕ) : Type 0 where
   pub within : j < length run.design.components
-  pub action : Action
+  pub action : NodeAction
   pub next : upcoming (plan_of run.design j) (node_at s j) ≡ Some action
   pub shows : Shows run clocks s j (target (plan_of run.design j) action) at
 
-pub does_read : (run : Run) (clocks : Clocks) (s : BusState) (node : NodeNo) (reading : Option ℕ) (action : Action) → (d : Does run clocks s node reading action) → Reads run clocks s node.0 d.at
+pub does_read : (run : Run) (clocks : Clocks) (s : BusState) (node : NodeNo) (reading : Option ℕ) (action : NodeAction) → (d : Does run clocks s node reading action) → Reads run clocks s node.0 d.at
 does_read run clocks s node reading action d = record { within = d.within; action = action; next = d.next; shows = d.shows }
 
 -- the last readings of all nodes, after more entries

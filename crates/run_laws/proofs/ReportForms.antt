@@ -10,13 +10,13 @@ use Rattle.std.proofs.lemmas.List.Elements.{All-nil, All-cons, All-head, All-tai
 use Rattle.std.proofs.lemmas.List.Splits.{slice_split_none, slice_split_at}
 use Rattle.list_lemmas.proofs.Elements.{All-append_right}
 use Rattle.pals_base.specs.declared.limits.TheConstants.{ROUNDS}
-use Rattle.pals_base.specs.declared.values.Port.{Port}
+use Rattle.pals_base.specs.declared.values.PortValue.{PortValue}
 use Rattle.pals_base.specs.declared.values.Trap.{Trap}
 use Rattle.pals_base.specs.declared.values.Trap.TheVariants.{Overflow, ZeroDivisor}
 use Rattle.pals_base.specs.declared.values.Frame.{Frame}
 use Rattle.pals_base.specs.declared.behaviour.Kind.{Kind}
 use Rattle.pals_base.specs.declared.behaviour.Kind.TheVariants.{Integer, Boolean}
-use Rattle.pals_base.specs.declared.behaviour.Named.{Named}
+use Rattle.pals_base.specs.declared.behaviour.PortDecl.{PortDecl}
 use Rattle.pals_base.specs.declared.behaviour.VarDecl.{VarDecl}
 use Rattle.pals_base.specs.declared.behaviour.StateDecl.{StateDecl}
 use Rattle.pals_base.specs.declared.behaviour.BehaviourParts.{BehaviourParts}
@@ -203,8 +203,8 @@ named_vars ins outs vars all = All-append_right (λ name. is_word name ≡ true)
 
 behaviour_vars : (b : BehaviourParts) → IsBehaviour b → All (λ (v : VarDecl). NoSpace v.name) b.vars
 behaviour_vars b rules =
-    let ins = map (λ (q : Named). q.name) b.ins in
-    let outs = map (λ (q : Named). q.name) b.outs in
+    let ins = map (λ (q : PortDecl). q.name) b.ins in
+    let outs = map (λ (q : PortDecl). q.name) b.outs in
     let vars = map (λ (v : VarDecl). v.name) b.vars in
     let all = all_pass is_word (value_names b) rules.names.values in
     vars_plain b.vars (named_vars ins outs vars all)
@@ -228,7 +228,7 @@ of_component design env round node c rules is =
     (component_none c.path c.behaviour frame (without_no_space c.path (path_without 32 c.path (λ same. absurd (omega (arith, same))) refl rule.path))
     (state_plain c.behaviour frame frame.halt (all_pass has_word c.behaviour.states rule.behaviour.names.states)) (behaviour_vars c.behaviour rule.behaviour))
 
-tap_none : (kind : Kind) (tap : Tap) (tuple : List Port) → form_of (tap_line kind tap tuple) ≡ None
+tap_none : (kind : Kind) (tap : Tap) (tuple : List PortValue) → form_of (tap_line kind tap tuple) ≡ None
 tap_none kind tap tuple = root_none (tap.name ++ codes " " ++ tuple_text kind tuple)
 
 of_tap : (design : DesignParts) (number : ℕ) (tap : Tap) (p : Part) → All NoForm (tap_lines design number tap (Some p))

@@ -17,16 +17,16 @@ use Rattle.bus_machine.specs.States.{Run, BusState, node_at, link_at}
 use Rattle.bus_machine.specs.Stops.{missing_link}
 use Rattle.bus_machine.specs.Machine.{BusEvent, Start, Step, Finish, Send, Arrive, Drop, Repeat, arrival, early_stop}
 use Rattle.bus_machine.specs.Replay.{entries, start_entry, stop_entry}
-use Rattle.bus_machine.specs.proof.Laws.{IsRunOf}
-use Rattle.bus_machine.specs.declared.action.Action.{Action}
+use Rattle.bus_machine.specs.proof.MachineLaws.{IsRunOf}
+use Rattle.bus_machine.specs.declared.action.NodeAction.{NodeAction}
 use Rattle.run_laws.specs.TraceLines.{Timed, timed}
 use Rattle.run_laws.specs.Shown.{latest}
 use Rattle.pals_clock.specs.declared.clock.Clocks.{Clocks}
 use Rattle.pals_clock.specs.declared.clock.Clocks.TheVariants.{Lists}
 use Rattle.run_laws.specs.Runs.{Does, KeepsTo, Runs, opens, picks_for, goes_on}
-use Rattle.run_laws.specs.proof.Hours.{LinesRise}
+use Rattle.run_laws.specs.proof.RisingReadings.{LinesRise}
 use Rattle.run_laws.proofs.Clauses.{link_is}
-use Rattle.run_laws.proofs.Hours.{no_fall}
+use Rattle.run_laws.proofs.MeetingReadings.{no_fall}
 use Rattle.run_laws.proofs.Missing.{missed_link}
 use Rattle.run_laws.proofs.Reading.{does_read, latest_after}
 
@@ -44,7 +44,7 @@ untimed : (run : Run) (front : List JournalEntry) (e : JournalEntry) → timed r
 untimed run front e none = λ t is. absurd (let both : None ≡ Some t = sym none ∙ is in cc)
 
 -- the reading that a node acts at is no less than its last one
-acts_late : (run : Run) (clocks : Clocks) (journal : List JournalEntry) (s : BusState) (node : NodeNo) (reading : Option ℕ) (action : Action) → IsRunOf run → Runs run clocks journal s → (d : Does run clocks s node reading action)
+acts_late : (run : Run) (clocks : Clocks) (journal : List JournalEntry) (s : BusState) (node : NodeNo) (reading : Option ℕ) (action : NodeAction) → IsRunOf run → Runs run clocks journal s → (d : Does run clocks s node reading action)
     → latest run.design node.0 journal ≤ d.at
 acts_late run clocks journal s node reading action rules runs d = no_fall run rules clocks journal s runs node.0 d.at (does_read run clocks s node reading action d)
 

@@ -14,12 +14,12 @@ use Rattle.bus_machine.specs.NodeEvents.{next_step}
 use Rattle.bus_machine.specs.States.{Run, BusState, node_at, link_at}
 use Rattle.bus_machine.specs.Machine.{BusEvent, Start, Step, Finish, Send, Arrive, Drop, Repeat, is_allowed}
 use Rattle.bus_machine.specs.Targets.{target}
-use Rattle.bus_machine.specs.proof.Laws.{IsRunOf}
-use Rattle.bus_machine.specs.declared.action.Action.{Action}
-use Rattle.bus_machine.specs.declared.action.Action.TheVariants as action
+use Rattle.bus_machine.specs.proof.MachineLaws.{IsRunOf}
+use Rattle.bus_machine.specs.declared.action.NodeAction.{NodeAction}
+use Rattle.bus_machine.specs.declared.action.NodeAction.TheVariants as action
 use Rattle.run_laws.specs.Runs.{Does, KeepsTo, Runs, next_start, opens as run_opens, picks_for, goes_on as run_goes_on}
 use Rattle.run_laws.proofs.Clauses.{no_less}
-use Rattle.run_laws.proofs.Hours.{no_fall}
+use Rattle.run_laws.proofs.MeetingReadings.{no_fall}
 use Rattle.run_laws.proofs.MeetingLines.{step_now}
 use Rattle.run_laws.proofs.Reading.{does_read}
 use Rattle.run_laws.proofs.Times.{shown_for, send_round}
@@ -27,7 +27,7 @@ use Rattle.run_laws.specs.Histories.{IsRead, IsInTime, History, opens, goes_on}
 use Rattle.run_laws.specs.proof.SoundTraces.{RunsAreHistories}
 
 -- what is done is read from the node's clock, no less than its target
-read_for : (run : Run) (clocks : Clocks) (journal : List JournalEntry) (s : BusState) (node : NodeNo) (reading : Option ℕ) (a : Action) (least : ℕ) → IsRunOf run → Runs run clocks journal s → (d : Does run clocks s node reading a) → least ≤ d.at
+read_for : (run : Run) (clocks : Clocks) (journal : List JournalEntry) (s : BusState) (node : NodeNo) (reading : Option ℕ) (a : NodeAction) (least : ℕ) → IsRunOf run → Runs run clocks journal s → (d : Does run clocks s node reading a) → least ≤ d.at
     → IsRead run journal node.0 reading least
 read_for run clocks journal s node reading a least rules runs d from_then = record {
   at = d.at;
@@ -36,7 +36,7 @@ read_for run clocks journal s node reading a least rules runs d from_then = reco
   from_then = from_then;
 }
 
-target_shown : (run : Run) (clocks : Clocks) (s : BusState) (node : NodeNo) (reading : Option ℕ) (a : Action) → (d : Does run clocks s node reading a) → target (plan_of run.design node.0) a ≤ d.at
+target_shown : (run : Run) (clocks : Clocks) (s : BusState) (node : NodeNo) (reading : Option ℕ) (a : NodeAction) → (d : Does run clocks s node reading a) → target (plan_of run.design node.0) a ≤ d.at
 target_shown run clocks s node reading a d = no_less clocks _ d.at (shown_for run clocks s node.0 (target (plan_of run.design node.0) a) d.at d.shows)
 
 some_is : (o : Option ℕ) → is_some o ≡ true → o ≡ Some (unwrap_or o 0)

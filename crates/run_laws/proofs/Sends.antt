@@ -7,7 +7,7 @@ use Rattle.std.proofs.lemmas.List.{length-set, get_or-set_other, get_or_append_l
 use Rattle.std.proofs.Math.Seq.{get_or-append_seam}
 use Rattle.std.proofs.lemmas.Option.{none-some}
 use Rattle.pals_base.specs.declared.values.NodeNo.{NodeNo}
-use Rattle.pals_base.specs.declared.values.Port.{Port}
+use Rattle.pals_base.specs.declared.values.PortValue.{PortValue}
 use Rattle.pals_base.specs.Bound.{alarm}
 use Rattle.pals_model.specs.declared.design.Link.{Link}
 use Rattle.pals_model.specs.declared.flight.FlightCopy.{FlightCopy}
@@ -26,14 +26,14 @@ use Rattle.bus_machine.specs.States.{Run, BusState, node_at, flight_at, link_at}
 use Rattle.bus_machine.specs.Stops.{sent_rounds}
 use Rattle.bus_machine.specs.Machine.{flight_after_send}
 use Rattle.bus_machine.specs.Machine as machine
-use Rattle.bus_machine.specs.proof.Laws.{IsRunOf}
+use Rattle.bus_machine.specs.proof.MachineLaws.{IsRunOf}
 use Rattle.run_laws.specs.Deadlines.{last_before, lesser}
 use Rattle.run_laws.specs.Worlds.{World, reading_at, since_at, ready_at, sendings, moved, is_held, world_after}
 use Rattle.bus_machine.proofs.Lists.{numbered_at}
 use Rattle.bus_machine.proofs.Nodes.{MaySend, may_send_of}
 use Rattle.bus_machine.proofs.States.{node_set, node_stays}
 use Rattle.bus_machine.proofs.Steps.{send_keeps}
-use Rattle.run_laws.specs.proof.Kept.{IsInTime, RunsSince, IsSentAt, IsOnce, copies, waits, taken, one_if, KeepsLink, KeepsTime}
+use Rattle.run_laws.specs.proof.WorldsKeep.{IsInTime, RunsSince, IsSentAt, IsOnce, copies, waits, taken, one_if, KeepsLink, KeepsTime}
 use Rattle.run_laws.proofs.WorldTimes.{sent_prompt}
 use Rattle.run_laws.proofs.Lists.{count_more}
 use Rattle.run_laws.proofs.Nodes.{fits_at, component_is, MayBe, may_is, Stands, stands_at, left_in_time, both_in_time, send_in_time, phase_last, send_last, late}
@@ -43,7 +43,7 @@ use Rattle.run_laws.proofs.Faults.{SendsInTime}
 
 -- ---- a round of a link from the node
 -- the message of the round after those that are sent goes into flight
-send_once : (count : ℕ) (slot : Option (List Port)) (sent : ℕ) (flight : List FlightCopy) (r : ℕ) (copy : FlightCopy) → copy.round ≡ sent
+send_once : (count : ℕ) (slot : Option (List PortValue)) (sent : ℕ) (flight : List FlightCopy) (r : ℕ) (copy : FlightCopy) → copy.round ≡ sent
     → IsOnce count slot sent flight r → IsOnce count slot (suc sent) (flight ++ copy ∷ []) r
 send_once count slot sent flight r copy is once =
     let before : copies r flight + one_if (waits count slot r) + one_if (taken count r) ≡ one_if (nat_lt r sent) = once in

@@ -7,7 +7,7 @@ use Rattle.std.proofs.lemmas.List.{length-set, get_or-set_other}
 use Rattle.std.proofs.lemmas.Option.{slice_get-get_or, slice_get_within, slice_get-map, get_or_from_slice_get, same_Some}
 use Rattle.list_lemmas.proofs.Options.{option_map-parts}
 use Rattle.pals_base.specs.declared.values.NodeNo.{NodeNo}
-use Rattle.pals_base.specs.declared.values.Port.{Port}
+use Rattle.pals_base.specs.declared.values.PortValue.{PortValue}
 use Rattle.pals_base.specs.Bound.{alarm}
 use Rattle.pals_base.specs.Steps.{upwards}
 use Rattle.pals_model.specs.declared.design.Component.{Component}
@@ -31,13 +31,13 @@ use Rattle.bus_machine.specs.Alarms.{step_alarm}
 use Rattle.bus_machine.specs.States.{Run, BusState, node_at, flight_at, link_at, with_node}
 use Rattle.bus_machine.specs.Stops.{missing_link, link_into, sent_rounds}
 use Rattle.bus_machine.specs.Machine.{after_start}
-use Rattle.bus_machine.specs.proof.Laws.{IsRunOf}
+use Rattle.bus_machine.specs.proof.MachineLaws.{IsRunOf}
 use Rattle.run_laws.specs.Worlds.{World, reading_at, ready_at, sendings, moved, world_after}
 use Rattle.bus_machine.specs.Agreement.{PhaseAgrees, SlotAgrees}
 use Rattle.bus_machine.proofs.Vectors.{reads_link, length_sources}
 use Rattle.bus_machine.proofs.States.{node_set, node_stays}
 use Rattle.bus_machine.proofs.Steps.{start_keeps}
-use Rattle.run_laws.specs.proof.Kept.{IsOnce, copies, waits, taken, one_if, RunsSince, KeepsLink, KeepsTime}
+use Rattle.run_laws.specs.proof.WorldsKeep.{IsOnce, copies, waits, taken, one_if, RunsSince, KeepsLink, KeepsTime}
 use Rattle.run_laws.proofs.Lists.{upwards_at, zipped_at}
 use Rattle.run_laws.proofs.Nodes.{FitsAt, fits_at, may_is, Stands, stands_at, both_in_time, sends_in_time, late, phase_agrees}
 use Rattle.run_laws.proofs.Links.{has_come, link_is, one_of_true, one_of_false}
@@ -45,19 +45,19 @@ use Rattle.run_laws.proofs.Changes.{same_at, changed, stands_put, keeps_again}
 use Rattle.run_laws.proofs.Faults.{StartsInTime}
 
 -- ---- no in port lacks its message
-some_not_none : (slot : Option (List Port)) → is_some slot ≡ true → is_none slot ≡ false
+some_not_none : (slot : Option (List PortValue)) → is_some slot ≡ true → is_none slot ≡ false
 some_not_none None is = absurd (false≢true is)
 some_not_none (Some tuple) is = refl
 
-feed_lacks : (root : ℕ) (f : Option Feed) (slot : Option (List Port)) → lacks (input_from_feed root f) slot ≡ false
+feed_lacks : (root : ℕ) (f : Option Feed) (slot : Option (List PortValue)) → lacks (input_from_feed root f) slot ≡ false
 feed_lacks root None slot = refl
 feed_lacks root (Some f) slot = refl
 
-link_lacks : (design : DesignParts) (l : Option Link) (slot : Option (List Port)) → ((link : Link) → l ≡ Some link → is_none slot ≡ false) → lacks (input_from_link design l) slot ≡ false
+link_lacks : (design : DesignParts) (l : Option Link) (slot : Option (List PortValue)) → ((link : Link) → l ≡ Some link → is_none slot ≡ false) → lacks (input_from_link design l) slot ≡ false
 link_lacks design None slot full = refl
 link_lacks design (Some link) slot full = full link refl
 
-source_lacks : (design : DesignParts) (src : PortSource) (slot : Option (List Port))
+source_lacks : (design : DesignParts) (src : PortSource) (slot : Option (List PortValue))
     → ((number : ℕ) (link : Link) → src ≡ source.Link number → slice_get design.links number ≡ Some link → is_none slot ≡ false) → lacks (input_of design src) slot ≡ false
 source_lacks design source.Nothing slot full = refl
 source_lacks design (source.Feed f root) slot full = feed_lacks root (slice_get design.feeds f) slot
@@ -80,13 +80,13 @@ missing_by : (b first : Bool) (o : Option ℕ) → b ≡ first → (first ≡ fa
 missing_by true first o is none = refl
 missing_by false first o is none = none (sym is)
 
-missing_none : (plan : Plan) (n : NodeState) → (0 < n.count → position (λ (p : Input × Option (List Port)). lacks p.0 p.1) (zip plan.inputs n.slots) ≡ None) → missing plan n ≡ None
+missing_none : (plan : Plan) (n : NodeState) → (0 < n.count → position (λ (p : Input × Option (List PortValue)). lacks p.0 p.1) (zip plan.inputs n.slots) ≡ None) → missing plan n ≡ None
 missing_none plan n later =
-    missing_by (nat_eq n.count 0) (nat_eq n.count 0) (position (λ (p : Input × Option (List Port)). lacks p.0 p.1) (zip plan.inputs n.slots)) refl
+    missing_by (nat_eq n.count 0) (nat_eq n.count 0) (position (λ (p : Input × Option (List PortValue)). lacks p.0 p.1) (zip plan.inputs n.slots)) refl
     (λ some. let not_zero = eqb-false n.count 0 some in later (elim (cases_lt 0 n.count) [ inl above ↦ above | inr none ↦ absurd (not_zero (omega arith)) ]))
 
 module _ (run : Run) (w : World) (rules : IsRunOf run) (keeps : KeepsTime run w) where
-  full_slot : (node k number : ℕ) (slot : Option (List Port)) → node < length run.design.components → number < length run.design.links → (link_at run.design number).target.0 ≡ node
+  full_slot : (node k number : ℕ) (slot : Option (List PortValue)) → node < length run.design.components → number < length run.design.links → (link_at run.design number).target.0 ≡ node
       → (link_at run.design number).in_port ≡ k → slot_at (node_at w.bus node) k ≡ slot → 0 < (node_at w.bus node).count → (node_at w.bus node).count < run.rounds
       → alarm run.design.period (node_at w.bus node).count < w.time + run.design.gamma.eps → is_none slot ≡ false
   full_slot node k number slot within is to port held some more due =
@@ -94,9 +94,9 @@ module _ (run : Run) (w : World) (rules : IsRunOf run) (keeps : KeepsTime run w)
       let alarms : alarm run.design.period (node_at w.bus (link_at run.design number).target.0).count ≡ alarm run.design.period (node_at w.bus node).count = ap (alarm run.design.period) counts in
       let full = has_come run w rules keeps number is (omega arith) (omega arith) (omega arith) in
       let same : slot_at (node_at w.bus (link_at run.design number).target.0) (link_at run.design number).in_port ≡ slot = ap₂ (λ j q. slot_at (node_at w.bus j) q) to port ∙ held in
-      some_not_none slot (sym (ap (λ (o : Option (List Port)). is_some o) same) ∙ full)
+      some_not_none slot (sym (ap (λ (o : Option (List PortValue)). is_some o) same) ∙ full)
 
-  none_lacks : (node k : ℕ) (p : Input × Option (List Port)) → node < length run.design.components → 0 < (node_at w.bus node).count → (node_at w.bus node).count < run.rounds
+  none_lacks : (node k : ℕ) (p : Input × Option (List PortValue)) → node < length run.design.components → 0 < (node_at w.bus node).count → (node_at w.bus node).count < run.rounds
       → alarm run.design.period (node_at w.bus node).count < w.time + run.design.gamma.eps
       → slice_get (zip (plan_of run.design node).inputs (node_at w.bus node).slots) k ≡ Some p → lacks p.0 p.1 ≡ false
   none_lacks node k p within some more due is =
@@ -122,7 +122,7 @@ module _ (run : Run) (w : World) (rules : IsRunOf run) (keeps : KeepsTime run w)
       let n = node_at w.bus node in
       let plan = plan_of run.design node in
       let pairs = zip plan.inputs n.slots in
-      let test : Input × Option (List Port) → Bool = λ p. lacks p.0 p.1 in
+      let test : Input × Option (List PortValue) → Bool = λ p. lacks p.0 p.1 in
       let none : missing plan n ≡ None =
       missing_none plan n
       (λ some. none_passes test pairs
@@ -131,7 +131,7 @@ module _ (run : Run) (w : World) (rules : IsRunOf run) (keeps : KeepsTime run w)
 
 -- ---- its links
 -- the slot is taken into the round
-pub start_once : (count : ℕ) (slot : Option (List Port)) (sent : ℕ) (flight : List FlightCopy) (round : ℕ) → (0 < count → is_some slot ≡ true) → (count ≡ 0 → slot ≡ None)
+pub start_once : (count : ℕ) (slot : Option (List PortValue)) (sent : ℕ) (flight : List FlightCopy) (round : ℕ) → (0 < count → is_some slot ≡ true) → (count ≡ 0 → slot ≡ None)
     → IsOnce count slot sent flight round → IsOnce (count + 1) None sent flight round
 start_once count slot sent flight round full empty once =
     let before : copies round flight + one_if (waits count slot round) + one_if (taken count round) ≡ one_if (nat_lt round sent) = once in
@@ -161,16 +161,16 @@ start_once count slot sent flight round full empty once =
           ]
     ]
 
-abbrev no_slot : Option (List Port)
+abbrev no_slot : Option (List PortValue)
 no_slot = None
 
-emptied : (slots : List (Option (List Port))) (port : ℕ) → slice_index_or (map (λ (_ : Option (List Port)). no_slot) slots) port no_slot ≡ no_slot
+emptied : (slots : List (Option (List PortValue))) (port : ℕ) → slice_index_or (map (λ (_ : Option (List PortValue)). no_slot) slots) port no_slot ≡ no_slot
 emptied [] port = refl
 emptied (slot ∷ slots) zero = refl
 emptied (slot ∷ slots) (suc port) = emptied slots port
 
 -- before its first round a node has no message
-slot_empty : (run : Run) (link count : ℕ) (slot : Option (List Port)) → SlotAgrees run link count slot → count ≡ 0 → slot ≡ None
+slot_empty : (run : Run) (link count : ℕ) (slot : Option (List PortValue)) → SlotAgrees run link count slot → count ≡ 0 → slot ≡ None
 slot_empty run link count None agrees first = refl
 slot_empty run link count (Some tuple) agrees first = let last = agrees.1 in absurd (omega arith)
 

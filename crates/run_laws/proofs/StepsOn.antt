@@ -15,13 +15,13 @@ use Rattle.bus_machine.specs.NodeEvents.{next_step, stepped, may_send}
 use Rattle.bus_machine.specs.Alarms.{step_alarm}
 use Rattle.bus_machine.specs.States.{Run, node_at, with_node}
 use Rattle.bus_machine.specs.Machine.{on_step}
-use Rattle.bus_machine.specs.proof.Laws.{IsRunOf}
+use Rattle.bus_machine.specs.proof.MachineLaws.{IsRunOf}
 use Rattle.bus_machine.specs.Agreement.{Agrees}
 use Rattle.run_laws.specs.Deadlines.{last_before, lesser}
 use Rattle.run_laws.specs.Worlds.{World, reading_at, since_at, ready_at, sendings, world_after}
 use Rattle.bus_machine.proofs.States.{node_set, node_stays}
 use Rattle.bus_machine.proofs.Steps.{step_keeps}
-use Rattle.run_laws.specs.proof.Kept.{IsInTime, RunsSince, KeepsTime}
+use Rattle.run_laws.specs.proof.WorldsKeep.{IsInTime, RunsSince, KeepsTime}
 use Rattle.run_laws.proofs.Nodes.{fits_at, may_be, may_is, Stands, stands_at, left_in_time, both_in_time, send_in_time, sends_in_time, phase_last, send_last}
 use Rattle.run_laws.proofs.Changes.{changed, same_links, stands_put, keeps_again}
 use Rattle.run_laws.proofs.Faults.{StepsInTime}

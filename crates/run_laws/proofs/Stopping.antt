@@ -8,7 +8,7 @@ use Rattle.std.proofs.lemmas.List.{append-nil, get_or-set_other}
 use Rattle.std.proofs.lemmas.Option.{same_Some, slice_get_past, get_or_from_slice_get, slice_get-get_or}
 use Rattle.pals_base.specs.declared.values.NodeNo.{NodeNo}
 use Rattle.pals_base.specs.declared.values.LinkNo.{LinkNo}
-use Rattle.pals_base.specs.declared.values.Port.{Port}
+use Rattle.pals_base.specs.declared.values.PortValue.{PortValue}
 use Rattle.pals_base.specs.Bound.{alarm}
 use Rattle.pals_base.specs.Picks.{reached}
 use Rattle.pals_clock.specs.Clock.{ClockState, standing_at}
@@ -38,8 +38,8 @@ use Rattle.bus_machine.specs.Stops.{missing_link, sent_rounds, cause_of}
 use Rattle.bus_machine.specs.Machine.{BusEvent, Start, Step, Finish, Send, Arrive, Drop, Repeat, is_allowed, after, after_start, after_arrive, on_step, arrival, early_stop, missed_stop}
 use Rattle.bus_machine.specs.Replay.{entries, start_entry, stop_entry}
 use Rattle.bus_machine.specs.Agreement.{PhaseAgrees, Agrees}
-use Rattle.bus_machine.specs.proof.Laws.{IsRunOf}
-use Rattle.bus_machine.specs.declared.action.Action.TheVariants as action
+use Rattle.bus_machine.specs.proof.MachineLaws.{IsRunOf}
+use Rattle.bus_machine.specs.declared.action.NodeAction.TheVariants as action
 use Rattle.bus_machine.specs.Targets.{Progress, target, send_is_next, next_action}
 use Rattle.run_laws.specs.TraceRules.{is_due}
 use Rattle.bus_machine.proofs.Lists.{oldest_is_one}
@@ -56,8 +56,8 @@ use Rattle.run_laws.proofs.Timed.{arriving_tells, due_if_sent}
 use Rattle.run_laws.proofs.Missing.{missed_link}
 use Rattle.run_laws.proofs.Linking.{TimedIn, links_timed, keeps_at, with_message_count}
 use Rattle.run_laws.proofs.Clocks.{reached_again}
-use Rattle.run_laws.proofs.Aims.{IsTimedPlan, next_alarm, aim_in, running_aim}
-use Rattle.run_laws.proofs.Hours.{times_of}
+use Rattle.run_laws.proofs.RisingTargets.{IsTimedPlan, next_alarm, aim_in, running_aim}
+use Rattle.run_laws.proofs.MeetingReadings.{times_of}
 use Rattle.run_laws.proofs.Times.{shown_for}
 
 -- ---- a meeting's source has sent
@@ -134,7 +134,7 @@ none_flying : (round : ℕ) (flight : List FlightCopy) → oldest round flight �
 none_flying round [] none = refl
 none_flying round (c ∷ cs) none = none_flying_by round c cs (is_of round c) refl none (none_flying round cs)
 
-not_lost : (round count flying : ℕ) (slot : Option (List Port)) (taken : Option ℕ) → taken ≡ None → flying ≡ 0 → count ≡ round + 1 → slot ≡ None → Whereabouts round count slot flying taken → ⊥
+not_lost : (round count flying : ℕ) (slot : Option (List PortValue)) (taken : Option ℕ) → taken ≡ None → flying ≡ 0 → count ≡ round + 1 → slot ≡ None → Whereabouts round count slot flying taken → ⊥
 not_lost round count flying slot taken going none here empty (in_flight one most free) = omega arith
 not_lost round count flying slot taken going none here empty (in_slot zero' next full) = false≢true (sym (ap is_some empty) ∙ full)
 not_lost round count flying slot taken going none here empty (was_taken zero' past) = omega arith

@@ -8,7 +8,7 @@ use Rattle.std.proofs.lemmas.Grind.{common_steps}
 use Rattle.std.proofs.lemmas.List.Elements.{All-nil, All-cons, All-head, All-tail, All-append, All-weaker}
 use Rattle.std.proofs.lemmas.Option.{same_Some, slice_get_within, slice_get-get_or}
 use Rattle.list_lemmas.proofs.Places.{slice_get-push}
-use Rattle.pals_base.specs.declared.values.Port.{Port}
+use Rattle.pals_base.specs.declared.values.PortValue.{PortValue}
 use Rattle.pals_model.specs.declared.flight.FlightCopy.{FlightCopy}
 use Rattle.pals_model.specs.Flights.{is_of, oldest, without_oldest}
 use Rattle.pals_runs.specs.declared.journal.Arrived.{Arrived}
@@ -96,7 +96,7 @@ none_unsent delay sends (c ∷ cs) round all past =
     let rest = none_unsent delay sends cs round (All-tail (IsDueCopy delay sends) c cs all) past in
     omega arith
 
-none_if : (slot : Option (List Port)) → (is_some slot ≡ true → ⊥) → slot ≡ None
+none_if : (slot : Option (List PortValue)) → (is_some slot ≡ true → ⊥) → slot ≡ None
 none_if None not_full = refl
 none_if (Some tuple) not_full = absurd (not_full refl)
 
@@ -117,7 +117,7 @@ goes_later delay v at timed most = record {
 abbrev after_start : LinkView → ℕ → LinkView
 after_start v at = record v { starts = v.starts ++ at ∷ []; latest = at; count = v.count + 1; slot = None }
 
-placed_on : (round count flying : ℕ) (slot : Option (List Port)) (taken : Option ℕ) → taken ≡ None → (1 ≤ count → is_some slot ≡ true) → Whereabouts round count slot flying taken → Whereabouts round (count + 1) None flying taken
+placed_on : (round count flying : ℕ) (slot : Option (List PortValue)) (taken : Option ℕ) → taken ≡ None → (1 ≤ count → is_some slot ≡ true) → Whereabouts round count slot flying taken → Whereabouts round (count + 1) None flying taken
 placed_on round count flying slot taken going full (in_flight one most free) = elim (cases_eq count (round + 1)) [
   | inl next ↦ absurd (false≢true (sym (ap is_some (free next)) ∙ full (omega arith)))
   | inr other ↦ in_flight one (omega arith) (λ same. refl)
@@ -204,7 +204,7 @@ goes_send delay v at t copy timed going most round_is due_is' =
     }
 
 -- ---- a message arrives
-abbrev pub slot_after : Option (List Port) → List Port → Arrived → Option (List Port)
+abbrev pub slot_after : Option (List PortValue) → List PortValue → Arrived → Option (List PortValue)
 slot_after slot tuple Kept = Some tuple
 slot_after slot tuple Ignored = slot
 slot_after slot tuple Early = slot
@@ -214,10 +214,10 @@ taken_after round Kept = None
 taken_after round Ignored = None
 taken_after round Early = Some round
 
-abbrev after_arrive : LinkView → ℕ → ℕ → List Port → Arrived → LinkView
+abbrev after_arrive : LinkView → ℕ → ℕ → List PortValue → Arrived → LinkView
 after_arrive v at round tuple a = record v { latest = at; slot = slot_after v.slot tuple a; flight = without_oldest round v.flight; taken = taken_after round a }
 
-abbrev pub arrived_at : ℕ → Option (List Port) → ℕ → Arrived
+abbrev pub arrived_at : ℕ → Option (List PortValue) → ℕ → Arrived
 arrived_at count slot round = if nat_le count round then Early else if nat_eq (round + 1) count && is_none slot then Kept else Ignored
 
 -- the arriving copy was in flight, once
@@ -230,7 +230,7 @@ due_before due at d is same =
     leb-true d at here
 
 -- it is kept, or comes early
-kept_or_early : (round count flying : ℕ) (slot : Option (List Port)) (taken : Option ℕ) (late next : Bool) → nat_le count round ≡ late → nat_eq (round + 1) count ≡ next → taken ≡ None → 1 ≤ flying → Whereabouts round count slot flying taken
+kept_or_early : (round count flying : ℕ) (slot : Option (List PortValue)) (taken : Option ℕ) (late next : Bool) → nat_le count round ≡ late → nat_eq (round + 1) count ≡ next → taken ≡ None → 1 ≤ flying → Whereabouts round count slot flying taken
     → (if late then Early else if next && is_none slot then Kept else Ignored) ≢ Ignored
 kept_or_early round count flying slot taken true next is other going some place = λ same. absurd (cc)
 kept_or_early round count flying slot taken false next is other going some (in_flight one most free) =
@@ -242,7 +242,7 @@ kept_or_early round count flying slot taken false next is other going some (in_s
 kept_or_early round count flying slot taken false next is other going some (was_taken none past) = absurd (omega arith)
 kept_or_early round count flying slot taken false next is other going some (came_early none early) = absurd (let both : None ≡ Some round = sym going ∙ early in cc)
 
-is_empty : (slot : Option (List Port)) → is_none slot ≡ true → slot ≡ None
+is_empty : (slot : Option (List PortValue)) → is_none slot ≡ true → slot ≡ None
 is_empty None is = refl
 is_empty (Some tuple) is = absurd (false≢true is)
 
@@ -252,18 +252,18 @@ fits_by false true true is = (refl, refl)
 fits_by false true false is = absurd (cc)
 fits_by false false empty is = absurd (cc)
 
-kept_when : (round count : ℕ) (slot : Option (List Port)) → arrived_at count slot round ≡ Kept → (round + 1 ≡ count) × (slot ≡ None)
+kept_when : (round count : ℕ) (slot : Option (List PortValue)) → arrived_at count slot round ≡ Kept → (round + 1 ≡ count) × (slot ≡ None)
 kept_when round count slot is =
     let fits = fits_by (nat_le count round) (nat_eq (round + 1) count) (is_none slot) is in
     (eqb-true (round + 1) count fits.0, is_empty slot fits.1)
 
-none_left : (flying left : ℕ) (round count : ℕ) (slot : Option (List Port)) (taken : Option ℕ) → taken ≡ None → flying ≡ left + 1 → Whereabouts round count slot flying taken → left ≡ 0
+none_left : (flying left : ℕ) (round count : ℕ) (slot : Option (List PortValue)) (taken : Option ℕ) → taken ≡ None → flying ≡ left + 1 → Whereabouts round count slot flying taken → left ≡ 0
 none_left flying left round count slot taken going fewer' (in_flight one most free) = omega arith
 none_left flying left round count slot taken going fewer' (in_slot none here full) = absurd (omega arith)
 none_left flying left round count slot taken going fewer' (was_taken none past) = absurd (omega arith)
 none_left flying left round count slot taken going fewer' (came_early none early) = absurd (omega arith)
 
-other_place : (round other count flying : ℕ) (slot : Option (List Port)) (tuple : List Port) (taken : Option ℕ) (a : Arrived) → taken ≡ None → round ≢ other → arrived_at count slot round ≡ a
+other_place : (round other count flying : ℕ) (slot : Option (List PortValue)) (tuple : List PortValue) (taken : Option ℕ) (a : Arrived) → taken ≡ None → round ≢ other → arrived_at count slot round ≡ a
     → Whereabouts other count slot flying taken → Whereabouts other count (slot_after slot tuple a) flying (taken_after round a)
 other_place round other count flying slot tuple taken Kept going apart is (in_flight one most free) =
     let kept = kept_when round count slot is in
@@ -282,7 +282,7 @@ other_place round other count flying slot tuple taken Early going apart is (in_s
 other_place round other count flying slot tuple taken Early going apart is (was_taken none past) = was_taken none past
 other_place round other count flying slot tuple taken Early going apart is (came_early none early) = absurd (let both : None ≡ Some other = sym going ∙ early in cc)
 
-own_place : (round count left : ℕ) (slot : Option (List Port)) (tuple : List Port) (a : Arrived) → a ≢ Ignored → arrived_at count slot round ≡ a → left ≡ 0
+own_place : (round count left : ℕ) (slot : Option (List PortValue)) (tuple : List PortValue) (a : Arrived) → a ≢ Ignored → arrived_at count slot round ≡ a → left ≡ 0
     → Whereabouts round count (slot_after slot tuple a) left (taken_after round a)
 own_place round count left slot tuple Kept used is none = let kept = kept_when round count slot is in in_slot none (sym kept.0) refl
 own_place round count left slot tuple Ignored used is none = absurd (used refl)
@@ -310,7 +310,7 @@ arriving_tells delay v round at copy timed taken =
       one_less = fewer round v.flight (λ gone. let both : None ≡ Some copy = sym gone ∙ taken.0 in absurd (cc));
     }
 
-slot_told : (delay : ℕ → ℕ) (v : LinkView) (round at : ℕ) (tuple : List Port) (a : Arrived) → IsTimed delay v → v.latest ≤ at → Arriving delay v round at → arrived_at v.count v.slot round ≡ a
+slot_told : (delay : ℕ → ℕ) (v : LinkView) (round at : ℕ) (tuple : List PortValue) (a : Arrived) → IsTimed delay v → v.latest ≤ at → Arriving delay v round at → arrived_at v.count v.slot round ≡ a
     → is_some (slot_after v.slot tuple a) ≡ true → SlotWasDue delay (after_arrive v at round tuple a)
 slot_told delay v round at tuple Kept timed most tells is full =
     let kept = kept_when round v.count v.slot is in
@@ -321,7 +321,7 @@ slot_told delay v round at tuple Ignored timed most tells is full =
 slot_told delay v round at tuple Early timed most tells is full =
     let old = timed.slot full in record { some' = old.some'; due = old.due; due_is = old.due_is; before = (let before = old.before in omega arith) }
 
-pub goes_arrive : (delay : ℕ → ℕ) (v : LinkView) (at round : ℕ) (tuple : List Port) (copy : FlightCopy) (a : Arrived) → IsTimed delay v → v.taken ≡ None → v.latest ≤ at → oldest round v.flight ≡ Some copy → is_due (Some at) copy ≡ true
+pub goes_arrive : (delay : ℕ → ℕ) (v : LinkView) (at round : ℕ) (tuple : List PortValue) (copy : FlightCopy) (a : Arrived) → IsTimed delay v → v.taken ≡ None → v.latest ≤ at → oldest round v.flight ≡ Some copy → is_due (Some at) copy ≡ true
     → arrived_at v.count v.slot round ≡ a → IsTimed delay (after_arrive v at round tuple a)
 goes_arrive delay v at round tuple copy a timed going most is_copy due is =
     let tells = arriving_tells delay v round at copy timed (is_copy, due) in

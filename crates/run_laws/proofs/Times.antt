@@ -19,8 +19,8 @@ use Rattle.bus_machine.specs.Stops.{missing_link, sent_rounds}
 use Rattle.bus_machine.specs.Machine.{BusEvent, Start, Step, Finish, Send, Arrive, Drop, Repeat, is_allowed, arrival, early_stop}
 use Rattle.bus_machine.specs.Replay.{entries, start_entry, stop_entry}
 use Rattle.bus_machine.specs.Agreement.{Agrees}
-use Rattle.bus_machine.specs.proof.Laws.{IsRunOf}
-use Rattle.bus_machine.specs.declared.action.Action.TheVariants as action
+use Rattle.bus_machine.specs.proof.MachineLaws.{IsRunOf}
+use Rattle.bus_machine.specs.declared.action.NodeAction.TheVariants as action
 use Rattle.bus_machine.specs.Targets.{Progress, send_is_next, next_in}
 use Rattle.run_laws.specs.Shown.{listed, start_in, send_in, starts, sends}
 use Rattle.pals_clock.specs.declared.clock.Clocks.{Clocks}

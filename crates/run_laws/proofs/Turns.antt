@@ -6,8 +6,8 @@ use Rattle.std.proofs.lemmas.List.{length-map}
 use Rattle.std.proofs.lemmas.Option.{slice_get-map}
 use Rattle.std.specs.Option.{option_map}
 use Rattle.bus_machine.specs.declared.plan.Plan.{Plan}
-use Rattle.bus_machine.specs.declared.action.Action.{Action}
-use Rattle.bus_machine.specs.declared.action.Action.TheVariants as action
+use Rattle.bus_machine.specs.declared.action.NodeAction.{NodeAction}
+use Rattle.bus_machine.specs.declared.action.NodeAction.TheVariants as action
 use Rattle.bus_machine.specs.Targets.{Progress, target, send_is_next, next_action, progress_after, actions_from, actions, targets}
 use Rattle.run_laws.specs.NodeActions.{Turn, first_turn, next_turn, turns, turn}
 
@@ -19,7 +19,7 @@ turns_next plan (suc n) t = turns_next plan n (next_turn plan t)
 pub turn_next : (plan : Plan) (n : ℕ) → turn plan (suc n) ≡ next_turn plan (turn plan n)
 turn_next plan n = turns_next plan n first_turn
 
-length-actions_from : (plan : Plan) (n : ℕ) (p : Progress) (a : Action) → length (actions_from plan n p a) ≡ n
+length-actions_from : (plan : Plan) (n : ℕ) (p : Progress) (a : NodeAction) → length (actions_from plan n p a) ≡ n
 length-actions_from plan zero p a = refl
 length-actions_from plan (suc n) p a = ap suc (length-actions_from plan n (progress_after p a) (next_action plan (progress_after p a)))
 
@@ -61,7 +61,7 @@ pub record IsPlan (plan : Plan) : Type 0 where
   pub rate : 1 ≤ plan.rate
   pub few : plan.sent_steps ≤ plan.rate
 
-abbrev go_on : Plan → Progress → Action → Type 0
+abbrev go_on : Plan → Progress → NodeAction → Type 0
 go_on plan p a = IsSized plan (size plan p + 1) (progress_after p a)
 
 begins_next : (plan : Plan) (p : Progress) → p.steps ≡ plan.rate → p.sent ≡ true → 1 ≤ plan.rate → go_on plan p (action.Start (p.round + 1))

@@ -9,7 +9,7 @@ use Rattle.std.proofs.lemmas.List.{get_or-set_other}
 use Rattle.std.proofs.lemmas.Option.{slice_get-get_or}
 use Rattle.pals_base.specs.declared.values.NodeNo.{NodeNo}
 use Rattle.pals_base.specs.declared.values.LinkNo.{LinkNo}
-use Rattle.pals_base.specs.declared.values.Port.{Port}
+use Rattle.pals_base.specs.declared.values.PortValue.{PortValue}
 use Rattle.pals_model.specs.declared.design.Component.{Component}
 use Rattle.pals_model.specs.declared.design.Link.{Link}
 use Rattle.pals_model.specs.declared.flight.FlightCopy.{FlightCopy}
@@ -31,7 +31,7 @@ use Rattle.bus_machine.specs.Stops.{missing_link}
 use Rattle.bus_machine.specs.Machine.{BusEvent, Start, Step, Finish, Send, Arrive, Drop, Repeat, is_allowed, after, after_start, after_send, after_arrive, on_step, flight_after_send, arrival, early_stop}
 use Rattle.bus_machine.specs.Replay.{entries, stop_entry}
 use Rattle.bus_machine.specs.Agreement.{PhaseAgrees, Agrees}
-use Rattle.bus_machine.specs.proof.Laws.{IsRunOf}
+use Rattle.bus_machine.specs.proof.MachineLaws.{IsRunOf}
 use Rattle.bus_machine.proofs.Lists.{numbered_at}
 use Rattle.bus_machine.proofs.States.{node_set, node_stays}
 use Rattle.pals_clock.specs.declared.clock.Clocks.{Clocks}
@@ -71,7 +71,7 @@ one_round_less rounds count each below =
     let one : rounds - count ≡ (rounds - (count + 1)) + 1 = omega arith in
     ap (λ r. r * each) one ∙ omega arith
 
-start_less : (plan : Plan) (rounds send : ℕ) (n : NodeState) (values : List Port) → 1 ≤ plan.rate → n.count < rounds
+start_less : (plan : Plan) (rounds send : ℕ) (n : NodeState) (values : List PortValue) → 1 ≤ plan.rate → n.count < rounds
     → node_left plan rounds send (started plan values n) + 1 ≤ node_left plan rounds send n
 start_less plan rounds send n values rate below =
     let more = one_round_less rounds n.count (2 * plan.rate + send) below in

@@ -15,11 +15,11 @@ use Rattle.bus_machine.specs.Alarms.{start_alarm, step_alarm, release_alarm}
 use Rattle.bus_machine.specs.States.{Run, node_at, link_at}
 use Rattle.bus_machine.specs.Stops.{sent_rounds, rounds_sent_on}
 use Rattle.bus_machine.specs.Agreement.{PhaseAgrees}
-use Rattle.bus_machine.specs.proof.Laws.{IsRunOf}
+use Rattle.bus_machine.specs.proof.MachineLaws.{IsRunOf}
 use Rattle.run_laws.specs.Worlds.{World, reading_at, since_at, ready_at}
 use Rattle.run_laws.specs.Deadlines.{last_before, lesser, message_deadline}
-use Rattle.run_laws.specs.proof.Kept.{KeepsTime}
-use Rattle.run_laws.specs.proof.Laws.{TimesAreReadings}
+use Rattle.run_laws.specs.proof.WorldsKeep.{KeepsTime}
+use Rattle.run_laws.specs.proof.WorldLaws.{TimesAreReadings}
 use Rattle.run_laws.proofs.WorldTimes.{alarm_more}
 use Rattle.run_laws.proofs.Nodes.{fits_at, phase_last, send_last, deadline_is, next_alarm, phase_agrees, rounds_at_most, late}
 use Rattle.run_laws.proofs.Links.{rule_of}

@@ -5,12 +5,12 @@ use Rattle.pals_runs.specs.declared.events.Event.{Event}
 use Rattle.pals_runs.specs.declared.events.Event.TheVariants as event
 use Rattle.pals_runs.specs.declared.events.EventFault.TheVariants as fault
 use Rattle.bus_machine.specs.States.{Run}
-use Rattle.bus_machine.specs.proof.Laws.{IsRunOf}
+use Rattle.bus_machine.specs.proof.MachineLaws.{IsRunOf}
 use Rattle.run_laws.specs.Worlds.{World, opening_world, world_after}
 use Rattle.run_laws.specs.Faults.{IsWithin}
-use Rattle.run_laws.specs.proof.Kept.{KeepsTime}
+use Rattle.run_laws.specs.proof.WorldsKeep.{KeepsTime}
 use Rattle.run_laws.specs.EventLists.{world_left}
-use Rattle.run_laws.specs.proof.Laws.{EventKeepsTime, ArrivalsAreKept, CountsAreClose, ListsAreInStep, ListsKeepArrivals, ListsGoRight}
+use Rattle.run_laws.specs.proof.WorldLaws.{EventKeepsTime, ArrivalsAreKept, CountsAreClose, ListsAreInStep, ListsKeepArrivals, ListsGoRight}
 use Rattle.run_laws.proofs.Nodes.{counts_close}
 use Rattle.run_laws.proofs.Faults.{named, starts_in_time, steps_in_time, finishes_in_time, sends_in_time, arrives_in_time}
 use Rattle.run_laws.proofs.Passes.{passes_in_time, pass_keeps_time}

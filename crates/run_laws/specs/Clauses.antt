@@ -12,7 +12,7 @@ use Rattle.bus_machine.specs.States.{Run, BusState, node_at}
 use Rattle.bus_machine.specs.Targets.{target}
 use Rattle.run_laws.specs.Runs.{HasEnded}
 use Rattle.run_laws.specs.Shown.{acts}
-use Rattle.run_laws.specs.Each.{EachNode, EachLink}
+use Rattle.run_laws.specs.EachRun.{EachNode, EachLink}
 use Rattle.run_laws.specs.Picked.{picks_of, IsPrefix, LinesAre}
 use Rattle.run_laws.specs.Timely.{IsTimely, IsOver, AllOver, PicksAll, PicksEndAt, ListStop}
 use Rattle.run_laws.specs.Meetings.{ShowTargets, AllDone, IsLate, MeetingStop, DelaysFit}

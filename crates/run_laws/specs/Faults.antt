@@ -8,7 +8,7 @@ use Rattle.pals_base.specs.Steps.{upwards}
 use Rattle.pals_model.specs.declared.flight.FlightCopy.{FlightCopy}
 use Rattle.pals_runs.specs.declared.events.Event.{Event}
 use Rattle.pals_runs.specs.declared.events.EventFault.{EventFault}
-use Rattle.pals_runs.specs.declared.events.Which.{Which}
+use Rattle.pals_runs.specs.declared.events.EventSubject.{EventSubject}
 use Rattle.bus_machine.specs.Plans.{plan_of}
 use Rattle.bus_machine.specs.NodeEvents.{next_step}
 use Rattle.bus_machine.specs.Alarms.{start_alarm, step_alarm, release_alarm}
@@ -18,7 +18,7 @@ use Rattle.run_laws.specs.Worlds.{World, reading_at, since_at, flight_since, wor
 use Rattle.run_laws.specs.Deadlines.{node_deadline, message_deadline}
 use Rattle.pals_runs.specs.declared.events.Event.TheVariants as event
 use Rattle.pals_runs.specs.declared.events.EventFault.TheVariants as fault
-use Rattle.pals_runs.specs.declared.events.Which.TheVariants as which
+use Rattle.pals_runs.specs.declared.events.EventSubject.TheVariants as which
 
 -- ---- the first that fits
 abbrev pub found_if : Bool → EventFault → Option EventFault
@@ -64,7 +64,7 @@ abbrev pub clock_apart : Run → ℕ → Reading → Option EventFault
 clock_apart run time at = found_if (nat_le run.design.gamma.eps (apart at.1 time)) (fault.ClockApart (record { 0 = at.0 }) at.1)
 
 -- the time is past the last time that a node or a message allows
-abbrev pub past : ℕ → Which → Option ℕ → Option EventFault
+abbrev pub past : ℕ → EventSubject → Option ℕ → Option EventFault
 past time which None = None
 past time which (Some last) = found_if (nat_lt last time) (fault.PastDeadline which last)
 
@@ -101,7 +101,7 @@ no_message run w link round = found_if (not (is_allowed run w.bus (Arrive link r
 abbrev pub not_due : World → NodeNo → ℕ → Option EventFault
 not_due w node alarm = found_if (nat_lt (reading_at w node.0) alarm) (fault.NotDue node alarm (reading_at w node.0))
 
-abbrev pub too_soon : World → Which → ℕ → Option EventFault
+abbrev pub too_soon : World → EventSubject → ℕ → Option EventFault
 too_soon w which earliest = found_if (nat_lt w.time earliest) (fault.TooSoon which earliest)
 
 abbrev pub event_fault : Run → World → Event → Option EventFault

@@ -1,7 +1,7 @@
 pub mod Shown
 pub mod NodeActions
 pub mod Runs
-pub mod Each
+pub mod EachRun
 pub mod Picked
 pub mod Timely
 pub mod Meetings

@@ -4,14 +4,14 @@ use Rattle.pals_runs.specs.declared.journal.Phase.{Phase}
 use Rattle.pals_runs.specs.declared.journal.Phase.TheVariants.{Waiting, Running, Between, Holding, Done}
 use Rattle.bus_machine.specs.declared.plan.Plan.{Plan}
 use Rattle.bus_machine.specs.Nodes.{NodeState, round_of}
-use Rattle.bus_machine.specs.declared.action.Action.{Action}
+use Rattle.bus_machine.specs.declared.action.NodeAction.{NodeAction}
 use Rattle.bus_machine.specs.Targets.{Progress, next_action, progress_after, next_in}
-use Rattle.bus_machine.specs.declared.action.Action.TheVariants as action
+use Rattle.bus_machine.specs.declared.action.NodeAction.TheVariants as action
 
 -- how far a node has come, and what it does next
 pub record Turn : Type 0 where
   pub before : Progress
-  pub action : Action
+  pub action : NodeAction
 
 abbrev pub first_turn : Turn
 first_turn = record { before = record { round = 0; steps = 0; sent = false }; action = action.Start 0 }
@@ -37,7 +37,7 @@ progress_in plan n Holding = record { round = round_of n; steps = plan.rate; sen
 progress_in plan n Done = record { round = round_of n; steps = plan.rate; sent = true }
 
 -- what it does next, where no step runs
-abbrev pub upcoming : Plan → NodeState → Option Action
+abbrev pub upcoming : Plan → NodeState → Option NodeAction
 upcoming plan n = next_in plan n n.phase
 
 -- `done` actions have brought a node where it stands

@@ -6,7 +6,7 @@ use Rattle.pals_model.specs.declared.design.DesignParts.{DesignParts}
 use Rattle.pals_base.specs.declared.values.LinkNo.{LinkNo}
 use Rattle.pals_runs.specs.declared.journal.Stop.{Stop}
 use Rattle.pals_runs.specs.declared.journal.JournalEntry.{JournalEntry}
-use Rattle.bus_machine.specs.declared.action.Action.{Action}
+use Rattle.bus_machine.specs.declared.action.NodeAction.{NodeAction}
 use Rattle.bus_machine.specs.Plans.{plan_of}
 use Rattle.bus_machine.specs.States.{Run, link_at}
 use Rattle.bus_machine.specs.Targets.{actions, targets, target}
@@ -15,7 +15,7 @@ use Rattle.run_laws.specs.Shown.{starts, acts}
 use Rattle.run_laws.specs.Runs.{clock_at}
 use Rattle.pals_runs.specs.declared.journal.Stop.TheVariants as stop
 use Rattle.pals_runs.specs.declared.journal.JournalEntry.TheVariants as entry
-use Rattle.bus_machine.specs.declared.action.Action.TheVariants as action
+use Rattle.bus_machine.specs.declared.action.NodeAction.TheVariants as action
 
 -- ---- picks
 -- those of a node's list for all its targets
@@ -23,7 +23,7 @@ abbrev pub picks_of : Run → List ClockState → ℕ → List ℕ
 picks_of run clocks node = picks (clock_at clocks node).readings (targets (plan_of run.design node) run.rounds)
 
 -- the pick of a node's list for one of its actions
-pub record IsPickFor (run : Run) (clocks : List ClockState) (node : ℕ) (action : Action) (at : ℕ) : Type 0 where
+pub record IsPickFor (run : Run) (clocks : List ClockState) (node : ℕ) (action : NodeAction) (at : ℕ) : Type 0 where
   pub place : ℕ
   pub is_action : slice_get (actions (plan_of run.design node) run.rounds) place ≡ Some action
   pub is_pick : slice_get (picks_of run clocks node) place ≡ Some at
@@ -33,15 +33,15 @@ IsPrefix front all = (rest : List ℕ) × (all ≡ front ++ rest)
 
 -- ---- of a line
 -- the start of the round that a link's target has not started
-abbrev pub coming_start : DesignParts → List JournalEntry → LinkNo → Action
+abbrev pub coming_start : DesignParts → List JournalEntry → LinkNo → NodeAction
 coming_start design front link = action.Start (length (starts (link_at design link.0).target.0 front))
 
-abbrev pub stop_action : DesignParts → List JournalEntry → Stop → Action
+abbrev pub stop_action : DesignParts → List JournalEntry → Stop → NodeAction
 stop_action design front (stop.Missed link round reading cause) = coming_start design front link
 stop_action design front (stop.Early link round reading) = coming_start design front link
 
 -- the action that a line shows; an arrival and a stop show the start that they belong to, which comes next
-abbrev pub action_shown : DesignParts → List JournalEntry → JournalEntry → Option Action
+abbrev pub action_shown : DesignParts → List JournalEntry → JournalEntry → Option NodeAction
 action_shown design front (entry.Arrive link round reading result) = Some (coming_start design front link)
 action_shown design front (entry.Start node round reading) = Some (action.Start round)
 action_shown design front (entry.Step node round step reading) = Some (action.Step round step)
@@ -54,7 +54,7 @@ action_shown design front (entry.Stopped why) = Some (stop_action design front w
 -- a line's reading is its node's pick for the action that it shows, which is the first that the lines before it don't show, and
 -- it is no less than that action's target
 pub record ShowsPick (run : Run) (clocks : List ClockState) (front : List JournalEntry) (e : JournalEntry) (t : Timed) : Type 0 where
-  pub action : Action
+  pub action : NodeAction
   pub at : ℕ
   pub shows : action_shown run.design front e ≡ Some action
   pub reading_is : t.reading ≡ Some at

@@ -17,11 +17,11 @@ use Rattle.bus_machine.specs.States.{Run, BusState, opening, node_at, flight_at,
 use Rattle.bus_machine.specs.Stops.{sent_rounds}
 use Rattle.bus_machine.specs.Machine.{BusEvent, Start, Step, Finish, Send, Arrive, Drop, Repeat, IsStep}
 use Rattle.bus_machine.specs.Replay.{entries}
-use Rattle.bus_machine.specs.declared.action.Action.{Action}
+use Rattle.bus_machine.specs.declared.action.NodeAction.{NodeAction}
 use Rattle.bus_machine.specs.Targets.{target, action_of}
 use Rattle.run_laws.specs.TraceRules.{is_due}
 use Rattle.run_laws.specs.NodeActions.{upcoming}
-use Rattle.bus_machine.specs.declared.action.Action.TheVariants as action
+use Rattle.bus_machine.specs.declared.action.NodeAction.TheVariants as action
 
 -- ---- clocks
 abbrev pub no_clock : ClockState
@@ -36,7 +36,7 @@ lists_in Meet = None
 lists_in (Lists lists) = Some (map (λ (clock : ClockState). clock.readings) lists)
 
 -- what is left of a node's list at the target of an action
-abbrev pub left_for : Run → List ClockState → ℕ → Action → List ℕ
+abbrev pub left_for : Run → List ClockState → ℕ → NodeAction → List ℕ
 left_for run clocks node action = reached (clock_at clocks node).left (target (plan_of run.design node) action)
 
 -- the reading that a node waits for, or works at; none where it is done
@@ -57,18 +57,18 @@ Shows run (Lists clocks) s node target at = (slice_get (clock_at clocks node).le
 -- a node's list holds no reading for its next target
 abbrev pub HasEnded : Run → List ClockState → BusState → ℕ → Type 0
 HasEnded run clocks s node =
-    (action : Action) × (upcoming (plan_of run.design node) (node_at s node) ≡ Some action) × (left_for run clocks node action ≡ [])
+    (action : NodeAction) × (upcoming (plan_of run.design node) (node_at s node) ≡ Some action) × (left_for run clocks node action ≡ [])
 
 -- a node's list picks for its next action
 pub record Picks (run : Run) (clocks : List ClockState) (s : BusState) (node : ℕ) (later : List ClockState) : Type 0 where
   pub within : node < length run.design.components
-  pub action : Action
+  pub action : NodeAction
   pub next : upcoming (plan_of run.design node) (node_at s node) ≡ Some action
   pub clocks_are : later ≡ slice_set clocks node (standing_at (clock_at clocks node) (left_for run clocks node action))
 
 -- ---- events
 -- a node does its next action
-pub record Does (run : Run) (clocks : Clocks) (s : BusState) (node : NodeNo) (reading : Option ℕ) (action : Action) : Type 0 where
+pub record Does (run : Run) (clocks : Clocks) (s : BusState) (node : NodeNo) (reading : Option ℕ) (action : NodeAction) : Type 0 where
   pub within : node.0 < length run.design.components
   pub next : upcoming (plan_of run.design node.0) (node_at s node.0) ≡ Some action
   pub at : ℕ
@@ -76,7 +76,7 @@ pub record Does (run : Run) (clocks : Clocks) (s : BusState) (node : NodeNo) (re
   pub shows : Shows run clocks s node.0 (target (plan_of run.design node.0) action) at
 
 -- the start of the next round of a node
-abbrev pub next_start : BusState → NodeNo → Action
+abbrev pub next_start : BusState → NodeNo → NodeAction
 next_start s node = action.Start (node_at s node.0).count
 
 -- all messages that are due to a node have arrived

@@ -1,14 +1,14 @@
 -- What the theorem of the program does not rest on: definitions of contracts below it, of laws, and of proofs.
-pub mod Each
+pub mod EachRun
 pub mod Picked
 pub mod Timely
 pub mod Meetings
 pub mod Bounds
-pub mod Hours
+pub mod RisingReadings
 pub mod Timing
 pub mod Stopping
 pub mod Locked
-pub mod Rows
+pub mod CounterRuns
 pub mod Clauses
 pub mod Sound
 pub mod SoundTraces
@@ -18,5 +18,5 @@ pub mod EntryLines
 pub mod Reports
 pub mod TraceRows
 pub mod WorldRows
-pub mod Kept
-pub mod Laws
+pub mod WorldsKeep
+pub mod WorldLaws

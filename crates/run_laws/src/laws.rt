@@ -2,12 +2,12 @@
 ghost use Rattle.run_laws.specs.proof.Bounds.{StopsAreBounded};
 ghost use Rattle.run_laws.specs.proof.Clauses.{ClausesAreKept};
 ghost use Rattle.run_laws.specs.proof.Ending.{EachGoesOn, EachRunEnds, EndsAreNamed, JournalsEnd};
-ghost use Rattle.run_laws.specs.proof.Hours.{HourIsLeast, ReadingsRise};
+ghost use Rattle.run_laws.specs.proof.RisingReadings.{HourIsLeast, ReadingsRise};
 ghost use Rattle.run_laws.specs.proof.InTime.{BoundsAreInTime, EndsAreOne, NoneStops, PickedAreDone};
 ghost use Rattle.run_laws.specs.proof.Locked.{DueArrives, EndsStay, ListEnds, ListPicks, RunsReplay};
 ghost use Rattle.run_laws.specs.proof.Meetings.{MeetingsEnd, MeetingsShowTargets, MeetingsStop, NoMeetingStops};
 ghost use Rattle.run_laws.specs.proof.Picked.{LinesArePicks, NodesPick, ReadingsArePicks};
-ghost use Rattle.run_laws.specs.proof.Rows.{SomeListEnds, SomeMeetingEnds};
+ghost use Rattle.run_laws.specs.proof.CounterRuns.{SomeListEnds, SomeMeetingEnds};
 ghost use Rattle.run_laws.specs.proof.Sound.{RunsAreSound, TracesAreTexts};
 ghost use Rattle.run_laws.specs.proof.Stopping.{AllTimesFit, StopsFit};
 ghost use Rattle.run_laws.specs.proof.Timely.{DoneArePicked, EndedPicksEnd, EndsAreTimely, ListsStop};

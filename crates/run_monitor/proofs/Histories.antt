@@ -7,8 +7,8 @@ use Rattle.pals_runs.specs.declared.forms.Compare.{Compare}
 use Rattle.pals_runs.specs.Formula.{Formula, Var, Halted, Not, And, Or, Previous, Once, Historically, Since}
 use Rattle.run_monitor.specs.Times.{since}
 use Rattle.run_monitor.specs.Monitors.{frame_in, variable_in, compares, holds}
-use Rattle.run_monitor.specs.proof.Further.{further, bits_after}
-use Rattle.run_monitor.specs.proof.Laws.{PreviousReads, OnceReads, HistoricallyReads, SinceReads, PastStays, OneBitEach}
+use Rattle.run_monitor.specs.proof.MonitorSteps.{further, bits_after}
+use Rattle.run_monitor.specs.proof.FormulaLaws.{PreviousReads, OnceReads, HistoricallyReads, SinceReads, PastStays, OneBitEach}
 use Rattle.run_monitor.proofs.Times.{once-first, once-next, always-first, always-next, since-first, since-next, previously-same, once-same, always-same, since-same, previously-reads, once-reads, always-reads, since-reads}
 
 -- ---- the words of time

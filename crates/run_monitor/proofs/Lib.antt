@@ -3,8 +3,8 @@ pub mod Histories
 pub mod Watching
 pub mod Violations
 pub mod Texts
-pub mod Rows
+pub mod CounterProperties
 pub mod Adding
 pub mod Writing
-pub mod Standing
+pub mod MonitorHistories
 pub mod Several

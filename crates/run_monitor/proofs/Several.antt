@@ -12,7 +12,7 @@ use Rattle.pals_model.specs.declared.design.DesignParts.{DesignParts}
 use Rattle.pals_model.specs.declared.rounds.Env.{Env}
 use Rattle.pals_model.specs.Composition.{comp}
 use Rattle.pals_runs.specs.Formula.{Formula}
-use Rattle.run_monitor.specs.declared.violation.Violation.{Violation}
+use Rattle.run_monitor.specs.declared.violation.FalseProperty.{FalseProperty}
 use Rattle.run_monitor.specs.Monitors.{holds}
 use Rattle.run_monitor.specs.Violations.{history, verdicts}
 use Rattle.run_monitor.specs.proof.States.{MonitorState, whole, said, StandsFor, IsNew, GoesOn}
@@ -122,11 +122,11 @@ image-position : {X Y : Type 0} (p : Y → Bool) (f : X → Y) (xs : List X) →
 image-position p f xs =
     position_from-zero (λ x. p (f x)) xs ∙ image-from p f 0 xs ∙ sym (position_from-zero p (map f xs))
 
-abbrev pub at_round : ℕ → Option ℕ → Option Violation
+abbrev pub at_round : ℕ → Option ℕ → Option FalseProperty
 at_round round found = option_map (λ k. record { property = k; round = round }) found
 
 -- the violation of the first that is false
-abbrev pub false_in : MonitorsState → ℕ → Option Violation
+abbrev pub false_in : MonitorsState → ℕ → Option FalseProperty
 false_in m round = at_round round (position (λ n. not (said n)) m.monitors)
 
 pub watch_on : (old new : MonitorsState) (round : ℕ) (row : List Frame) → EachGoesOn old.monitors new.monitors row

@@ -11,7 +11,7 @@ use Rattle.pals_runs.specs.Formula.{Formula}
 use Rattle.run_monitor.specs.Monitors.{holds}
 use Rattle.run_monitor.specs.Violations.{history}
 use Rattle.run_monitor.specs.WatchText.{verdict_line, watched_lines}
-use Rattle.run_monitor.specs.proof.Laws.{RowsGoOn}
+use Rattle.run_monitor.specs.proof.FormulaLaws.{RowsGoOn}
 use Rattle.run_monitor.proofs.Histories.{past_stays}
 use Rattle.run_monitor.proofs.Watching.{history_goes_on, history_has_rounds}
 

@@ -9,7 +9,7 @@ use Rattle.pals_base.specs.declared.values.Frame.{Frame}
 use Rattle.pals_base.specs.Steps.{upwards}
 use Rattle.pals_base.proofs.Upwards.{upwards-more}
 use Rattle.pals_runs.specs.Formula.{Formula}
-use Rattle.run_monitor.specs.declared.violation.Violation.{Violation}
+use Rattle.run_monitor.specs.declared.violation.FalseProperty.{FalseProperty}
 use Rattle.run_monitor.specs.Monitors.{holds}
 use Rattle.run_monitor.specs.Violations.{history, verdicts, violation_at, violation_in, violation}
 use Rattle.run_monitor.specs.proof.Found.{ViolatedIsFirst, OthersHold}
@@ -87,7 +87,7 @@ module _ (fs : List Formula) (h : List (List Frame)) where
     not_any : list_any violated_at (upwards from count) ≡ false
 
   record SomeRound (from count : ℕ) : Type 0 where
-    v : Violation
+    v : FalseProperty
     f : Formula
     low : from ≤ v.round
     high : v.round < from + count
@@ -118,7 +118,7 @@ module _ (fs : List Formula) (h : List (List Frame)) where
         | inr above ↦ later round (omega arith) high
       ]
 
-  abbrev later : ℕ → ℕ → Option Violation
+  abbrev later : ℕ → ℕ → Option FalseProperty
   later from count = violation_in fs h (upwards (suc from) count)
 
   round-by : (from count : ℕ) → AllTrue 0 (verdicts fs h from) ⊎ OneFalse 0 (verdicts fs h from)
@@ -192,7 +192,7 @@ pub verdicts-stay : (fs : List Formula) (h more : List (List Frame)) (round : �
 verdicts-stay [] h more round within = refl
 verdicts-stay (f ∷ fs) h more round within = ap₂ (λ b bs. b ∷ bs) (past_stays f h more round within) (verdicts-stay fs h more round within)
 
-abbrev violation_of : ℕ → List Bool → Option Violation
+abbrev violation_of : ℕ → List Bool → Option FalseProperty
 violation_of round bs = option_map (λ k. record { property = k; round = round }) (position not bs)
 
 violations-stay : (fs : List Formula) (h more : List (List Frame)) (from count : ℕ) → from + count ≤ length h
@@ -201,11 +201,11 @@ violations-stay fs h more from zero within = refl
 violations-stay fs h more from (suc count) within =
     ap₂ option_or (ap (violation_of from) (verdicts-stay fs h more from (omega arith))) (violations-stay fs h more (suc from) count (omega arith))
 
-or_assoc : (a b c : Option Violation) → option_or a (option_or b c) ≡ option_or (option_or a b) c
+or_assoc : (a b c : Option FalseProperty) → option_or a (option_or b c) ≡ option_or (option_or a b) c
 or_assoc None b c = refl
 or_assoc (Some v) b c = refl
 
-or_none : (a : Option Violation) → option_or a None ≡ a
+or_none : (a : Option FalseProperty) → option_or a None ≡ a
 or_none None = refl
 or_none (Some v) = refl
 

@@ -5,7 +5,7 @@ use Rattle.pals_base.proofs.Upwards.{map_upwards_more}
 use Rattle.pals_model.specs.Composition.{comp}
 use Rattle.run_monitor.specs.Monitors.{holds}
 use Rattle.run_monitor.specs.Violations.{history}
-use Rattle.run_monitor.specs.proof.Laws.{HistoryHasRounds, HistoryGoesOn, SaidAtOnce}
+use Rattle.run_monitor.specs.proof.FormulaLaws.{HistoryHasRounds, HistoryGoesOn, SaidAtOnce}
 use Rattle.run_monitor.proofs.Histories.{past_stays}
 
 pub history_goes_on : HistoryGoesOn

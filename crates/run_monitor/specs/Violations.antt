@@ -8,7 +8,7 @@ use Rattle.pals_model.specs.declared.design.DesignParts.{DesignParts}
 use Rattle.pals_model.specs.declared.rounds.Env.{Env}
 use Rattle.pals_model.specs.Composition.{comp}
 use Rattle.pals_runs.specs.Formula.{Formula}
-use Rattle.run_monitor.specs.declared.violation.Violation.{Violation}
+use Rattle.run_monitor.specs.declared.violation.FalseProperty.{FalseProperty}
 use Rattle.run_monitor.specs.Monitors.{holds}
 
 -- the frames of all components after each of the first rounds
@@ -20,16 +20,16 @@ abbrev pub verdicts : List Formula → List (List Frame) → ℕ → List Bool
 verdicts fs h round = map (λ f. holds f h round) fs
 
 -- the first that is false at a round
-abbrev pub violation_at : List Formula → List (List Frame) → ℕ → Option Violation
+abbrev pub violation_at : List Formula → List (List Frame) → ℕ → Option FalseProperty
 violation_at fs h round = option_map (λ k. record { property = k; round = round }) (position not (verdicts fs h round))
 
 -- the first of these rounds at which one is false, and the first that is false there
-abbrev pub violation_in : List Formula → List (List Frame) → List ℕ → Option Violation
+abbrev pub violation_in : List Formula → List (List Frame) → List ℕ → Option FalseProperty
 violation_in fs h [] = None
 violation_in fs h (round ∷ rounds) = option_or (violation_at fs h round) (violation_in fs h rounds)
 
 -- that of the first rounds
-abbrev pub violation : List Formula → List (List Frame) → ℕ → Option Violation
+abbrev pub violation : List Formula → List (List Frame) → ℕ → Option FalseProperty
 violation fs h rounds = violation_in fs h (upwards 0 rounds)
 
 -- one is false at some of the first rounds of a design

@@ -6,7 +6,7 @@ use Rattle.pals_model.specs.declared.design.DesignParts.{DesignParts}
 use Rattle.pals_model.specs.declared.rounds.Env.{Env}
 use Rattle.pals_model.specs.RoundTexts.{text_of, round_line}
 use Rattle.pals_runs.specs.Formula.{Formula}
-use Rattle.run_monitor.specs.declared.violation.Violation.{Violation}
+use Rattle.run_monitor.specs.declared.violation.FalseProperty.{FalseProperty}
 use Rattle.run_monitor.specs.Monitors.{holds}
 use Rattle.run_monitor.specs.Violations.{history, violation}
 
@@ -29,7 +29,7 @@ abbrev pub watched_lines : List (List ℕ × Formula) → List (List Frame) → 
 watched_lines properties h round = round_line round ∷ map (λ p. verdict_line p.0 (holds p.1 h round)) properties
 
 -- ---- the last line
-abbrev pub violation_text : List (List ℕ) → Option Violation → List ℕ
+abbrev pub violation_text : List (List ℕ) → Option FalseProperty → List ℕ
 violation_text names None = codes "none"
 violation_text names (Some v) = slice_index_or names v.property [] ++ codes " " ++ decimal v.round
 

@@ -1,8 +1,8 @@
 -- What the theorem of the program does not rest on: definitions of contracts below it, of laws, and of proofs.
-pub mod Further
-pub mod Laws
+pub mod MonitorSteps
+pub mod FormulaLaws
 pub mod Found
-pub mod Rows
+pub mod CounterProperties
 pub mod Flat
 pub mod Bits
 pub mod States

@@ -11,4 +11,4 @@ mod violation;
 
 pub use monitor::Monitor;
 pub use monitors::Monitors;
-pub use violation::Violation;
+pub use violation::FalseProperty;

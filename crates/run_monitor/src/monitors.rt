@@ -13,7 +13,7 @@ ghost use Rattle.run_monitor.specs.proof.States.{said, GoesOn};
 ghost use Rattle.run_monitor.specs.proof.MonitorStates.{said_by, EachGoesOn, HasWatched, WatchesOn, WatchesRound};
 
 use crate::monitor::Monitor;
-use crate::violation::Violation;
+use crate::violation::FalseProperty;
 use pals_base::NoMemory;
 use pals_model::Part;
 use pals_runs::Form;
@@ -24,7 +24,7 @@ use std::marker::Model;
 #[derive(Drop)]
 pub struct Monitors {
     monitors: Vec<Monitor>,
-    violation: Option<Violation>,
+    violation: Option<FalseProperty>,
 }
 
 impl Model for Monitors {
@@ -86,7 +86,7 @@ impl Monitors {
     }
 
     /// The least round at which a formula was false, and the first that was false there.
-    pub fn violation(&self) -> Option<Violation>
+    pub fn violation(&self) -> Option<FalseProperty>
         ensures { result ≡ self.now.violation }
     {
         self.violation
@@ -118,8 +118,8 @@ fn first_false(monitors: &[Monitor]) -> Option<usize>
 }
 
 // The violation of the formula at a place, in this round.
-fn violation_of(found: Option<usize>, round: u32) -> Option<Violation>
+fn violation_of(found: Option<usize>, round: u32) -> Option<FalseProperty>
     ensures { result ≡ option_map (λ k. record { property = k; round = round }) found }
 {
-    found.map(|property| Violation { property, round })
+    found.map(|property| FalseProperty { property, round })
 }

@@ -8,7 +8,7 @@ use Rattle.pals_runs.specs.declared.journal.JournalEntry.{JournalEntry}
 use Rattle.pals_runs.specs.declared.journal.Stop.{Stop}
 use Rattle.pals_runs.specs.declared.verdicts.Verdict.TheVariants.{Sound}
 use Rattle.pals_runs.specs.Journal.{entry_line}
-use Rattle.bus_machine.specs.proof.Laws.{IsRunOf}
+use Rattle.bus_machine.specs.proof.MachineLaws.{IsRunOf}
 use Rattle.bus_machine.specs.States.{Run, BusState, finished_by_all}
 use Rattle.loose_world.proofs.Turns.{text_more}
 use Rattle.run_laws.specs.Reports.{lines_of}
@@ -18,7 +18,7 @@ use Rattle.run_laws.specs.Runs.{Runs, lists_in}
 use Rattle.run_laws.specs.proof.Sound.{AreReadings}
 use Rattle.run_laws.specs.Histories.{trace_of}
 use Rattle.run_laws.proofs.InTime.{readings_same}
-use Rattle.run_laws.proofs.Kept.{clauses_are_kept}
+use Rattle.run_laws.proofs.RunsKeep.{clauses_are_kept}
 use Rattle.run_laws.proofs.Sound.{runs_are_sound, traces_are_texts}
 use Rattle.run_texts.specs.RunTexts.{Course, journal_text, IsCompletedRun, IsStoppedRun}
 use Rattle.run_texts.proofs.Done.{done_finish_all}

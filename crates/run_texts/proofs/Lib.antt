@@ -1,4 +1,4 @@
 pub mod Done
 pub mod Courses
-pub mod Firsts
+pub mod NodeEnds
 pub mod Outcomes

@@ -21,8 +21,8 @@ use Rattle.run_laws.specs.Timely.{IsOver}
 use Rattle.run_laws.specs.Timely.{AllAtEnd}
 use Rattle.run_laws.specs.proof.Sound.{AreReadings}
 use Rattle.run_laws.proofs.Picking.{runs_agree}
-use Rattle.run_texts.specs.declared.told.ToldRun.{ToldRun}
-use Rattle.run_texts.specs.declared.told.ToldRun.TheVariants as told
+use Rattle.run_texts.specs.declared.told.RunReport.{RunReport}
+use Rattle.run_texts.specs.declared.told.RunReport.TheVariants as told
 use Rattle.run_texts.specs.RunTexts.{EndsAt, TellsRun}
 use Rattle.run_texts.specs.proof.Ends.{IsComeEnd, journal_lines, TellsEnd}
 use Rattle.run_texts.proofs.Courses.{course, completed, stopped}
@@ -84,7 +84,7 @@ module _ (old : BusValue) (clocks : Clocks) (new : BusValue) (ends : List NodeEn
   is_done : (node : ℕ) → slice_get ends node ≡ Some end.Finished → (node_at new.state node).phase ≡ Done
   is_done node is = out.ends_fit.each node end.Finished is
 
-  told_new : (trace : Bool) (told : ToldRun) → TellsEnd new ends trace told → TellsRun new.run clocks trace told
+  told_new : (trace : Bool) (told : RunReport) → TellsEnd new ends trace told → TellsRun new.run clocks trace told
   told_new trace (told.Completed text) tells =
       let many = out.ends_fit.many in
       completed new.run clocks out.later new.journal new.state out.rules out.runs out.lists few range trace text.items
@@ -111,7 +111,7 @@ module _ (old : BusValue) (clocks : Clocks) (new : BusValue) (ends : List NodeEn
       }
 
 pub told_of : {E : Type 0} (old : BusValue) (clocks : Clocks) (new : BusValue) (ends : List NodeEnd) (trace : Bool)
-    (result : Result ToldRun E)
+    (result : Result RunReport E)
     → old.run.rounds ≤ ROUNDS → AreReadings clocks → IsOutcome old clocks new ends
     → IfOk result (TellsEnd new ends trace) → IfOk result (TellsRun old.run clocks trace)
 told_of old clocks new ends trace (Ok told) few range out tells =

@@ -18,8 +18,8 @@ use Rattle.run_laws.specs.Clauses.{KeepsClauses}
 use Rattle.run_laws.specs.Timely.{AllAtEnd}
 use Rattle.run_laws.specs.Meetings.{AllDone}
 use Rattle.run_laws.specs.Runs.{Runs, HasEnded, lists_in}
-use Rattle.run_texts.specs.declared.told.ToldRun.{ToldRun}
-use Rattle.run_texts.specs.declared.told.ToldRun.TheVariants.{Completed, Stopped, ClockEnded}
+use Rattle.run_texts.specs.declared.told.RunReport.{RunReport}
+use Rattle.run_texts.specs.declared.told.RunReport.TheVariants.{Completed, Stopped, ClockEnded}
 
 -- the nodes have kept to clocks with these lists from the opening of a run on, in some order, and this is what they have left
 pub record Course (run : Run) (clocks : Clocks) : Type 0 where
@@ -69,7 +69,7 @@ pub record IsEndedRun (run : Run) (clocks : Clocks) (text : List ℕ) : Type 0 w
   pub first : (other : ℕ) → other < node → (node_at course.state other).phase ≡ Done
   pub text_is : text ≡ clock_end_line run.design node goal ++ line_end
 
-abbrev pub TellsRun : Run → Clocks → Bool → ToldRun → Type 0
+abbrev pub TellsRun : Run → Clocks → Bool → RunReport → Type 0
 TellsRun run clocks trace (Completed text) = IsCompletedRun run clocks trace text.items
 TellsRun run clocks trace (Stopped text) = IsStoppedRun run clocks text.items
 TellsRun run clocks trace (ClockEnded text) = IsEndedRun run clocks text.items

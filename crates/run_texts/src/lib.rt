@@ -5,4 +5,4 @@
 mod ends;
 mod told;
 
-pub use told::{ToldRun, tell_run};
+pub use told::{RunReport, tell_run};

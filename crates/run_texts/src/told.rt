@@ -26,7 +26,7 @@ use std::thread::Threads;
 
 /// What is told of a run.
 #[derive(Drop)]
-pub enum ToldRun {
+pub enum RunReport {
     /// All nodes are done: the rows of all rounds, and behind them the journal where a trace is wanted.
     Completed(Vec<u8>),
     /// A missed or an early input stopped the nodes: the rows of the rounds that all nodes have finished,
@@ -47,7 +47,7 @@ pub fn tell_run<R: Threads + Wait + Sync, W: Starter, G: Gate + Sync>(
     trace: bool,
     starter: &mut W,
     gate: &G,
-) -> Result<ToldRun, NoMemory>
+) -> Result<RunReport, NoMemory>
     requires opening { bus ≡ opening_bus bus.run bus.codes bus.meeting }
     requires clocks { AreClocksOf bus clocks }
     ensures { IfOk result (TellsRun bus.run clocks trace) }
@@ -59,7 +59,7 @@ pub fn tell_run<R: Threads + Wait + Sync, W: Starter, G: Gate + Sync>(
 }
 
 // What is told of a bus that comes out of a run.
-fn tell_ended(alloc: Global, end: RunEnd, trace: bool) -> Result<ToldRun, NoMemory>
+fn tell_ended(alloc: Global, end: RunEnd, trace: bool) -> Result<RunReport, NoMemory>
     requires few { length end.ends ≤ COMPONENTS }
     requires stopped { (node : ℕ) → slice_get end.ends node ≡ Some ended.Stopped → end.bus.state.stop ≢ None }
     ensures { IfOk result (TellsEnd end.bus end.ends trace) }
@@ -80,17 +80,17 @@ fn are_readings(clocks: &Clocks)
 }
 
 // What is told of a bus that has come to its end, by how the part of each node ended.
-fn tell_end(alloc: Global, bus: &Bus, ends: &[NodeEnd], trace: bool) -> Result<ToldRun, NoMemory>
+fn tell_end(alloc: Global, bus: &Bus, ends: &[NodeEnd], trace: bool) -> Result<RunReport, NoMemory>
     requires few { length ends.now ≤ COMPONENTS }
     requires stopped { (node : ℕ) → slice_get ends.now node ≡ Some ended.Stopped → bus.now.state.stop ≢ None }
     ensures { IfOk result (TellsEnd bus.now ends.now trace) }
 {
     if bus.stop().is_some() {
-        return Ok(ToldRun::Stopped(traced_text(alloc, bus, true)?));
+        return Ok(RunReport::Stopped(traced_text(alloc, bus, true)?));
     }
     match first_ended(ends)? {
-        Some((node, target)) => Ok(ToldRun::ClockEnded(clock_end_text(alloc, bus, node, target)?)),
-        None => Ok(ToldRun::Completed(traced_text(alloc, bus, trace)?)),
+        Some((node, target)) => Ok(RunReport::ClockEnded(clock_end_text(alloc, bus, node, target)?)),
+        None => Ok(RunReport::Completed(traced_text(alloc, bus, trace)?)),
     }
 }
 

@@ -1,3 +1,3 @@
-pub mod Keeping
+pub mod ScenarioFields
 pub mod Readings
 pub mod RunFacts

@@ -8,7 +8,7 @@ use Rattle.std.proofs.lemmas.List.{length-set}
 use Rattle.std.proofs.lemmas.List.Elements.{All-nil, All-push, All-set, All-replicate}
 use Rattle.serde_json.specs.Data.{Data}
 use Rattle.pals_base.specs.declared.limits.TheConstants.{HOUR, READING, LIST_ITEMS}
-use Rattle.pals_base.specs.declared.values.Port.{Port}
+use Rattle.pals_base.specs.declared.values.PortValue.{PortValue}
 use Rattle.pals_clock.specs.Clock.{ClockState, unpicked}
 use Rattle.pals_clock.specs.declared.clock.Clocks.{Clocks}
 use Rattle.pals_clock.specs.declared.clock.Clocks.TheVariants.{Meet, Lists}
@@ -19,7 +19,7 @@ use Rattle.scenario_values.specs.declared.fault.ScenarioFault.TheVariants.{OutOf
 use Rattle.scenario_values.specs.Outcomes.{◌>>=◌, only_if, through}
 use Rattle.scenario_values.specs.FaultPlaces.{inside}
 use Rattle.scenario_values.specs.Values.{elements, entries, short_list, whole}
-use Rattle.scenario_values.proofs.Passing.{ok_same, ok_bind, ok_only_if, through_keeps, whole_within}
+use Rattle.scenario_values.proofs.PassedValues.{ok_same, ok_bind, ok_only_if, through_keeps, whole_within}
 use Rattle.scenario_values.specs.Names.{node_at, link_at, root_at}
 use Rattle.scenario_json.specs.Inputs.{value_list, with_input, inputs_in, with_delay, delay_list, with_link_delays, delays_in}
 use Rattle.scenario_json.specs.Clocks.{last_of, with_reading, reading_list, with_clock, clock_lists, is_meet, clocks_in}
@@ -27,7 +27,7 @@ use Rattle.scenario_json.specs.proof.RunFacts.{AreInputsOf, IsDelayList, AreDela
 use Rattle.scenario_json.proofs.Readings.{order_push}
 
 -- ---- inputs
-input_keeps : (design : DesignParts) (lists : List (List Port)) (entry : List ℕ × Data) (more : List (List Port)) → AreInputsOf design lists → with_input design lists entry ≡ Ok more → AreInputsOf design more
+input_keeps : (design : DesignParts) (lists : List (List PortValue)) (entry : List ℕ × Data) (more : List (List PortValue)) → AreInputsOf design lists → with_input design lists entry ≡ Ok more → AreInputsOf design more
 unfolding with_input
 input_keeps design lists entry more keeps e =
     let place = inside (codes "inputs") entry.0 in
@@ -39,7 +39,7 @@ input_keeps design lists entry more keeps e =
 pub no_inputs_keep : (design : DesignParts) → AreInputsOf design (replicate (length (root_inputs design)) [])
 no_inputs_keep design = grind (arith, common_steps)
 
-pub inputs_keep : (design : DesignParts) (d : Data) (lists : List (List Port)) → inputs_in design d ≡ Ok lists → AreInputsOf design lists
+pub inputs_keep : (design : DesignParts) (d : Data) (lists : List (List PortValue)) → inputs_in design d ≡ Ok lists → AreInputsOf design lists
 unfolding inputs_in
 inputs_keep design d lists e =
     let first = replicate (length (root_inputs design)) [] in

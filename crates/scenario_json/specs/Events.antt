@@ -12,8 +12,8 @@ use Rattle.pals_runs.specs.declared.commands.Command.TheVariants.{World}
 use Rattle.pals_runs.specs.declared.events.Event.{Event}
 use Rattle.scenario_values.specs.declared.fault.ScenarioFault.{ScenarioFault}
 use Rattle.scenario_values.specs.declared.fault.ScenarioFault.TheVariants.{WrongKind, OutOfRange}
-use Rattle.scenario_json.specs.declared.events.Word.{Word}
-use Rattle.scenario_json.specs.declared.events.Word.TheVariants.{Pass, Start, Step, Finish, Send, Arrive, Drop, Repeat}
+use Rattle.scenario_json.specs.declared.events.EventWord.{EventWord}
+use Rattle.scenario_json.specs.declared.events.EventWord.TheVariants.{Pass, Start, Step, Finish, Send, Arrive, Drop, Repeat}
 use Rattle.scenario_values.specs.Outcomes.{◌>>=◌, given, only_if, through}
 use Rattle.scenario_values.specs.FaultPlaces.{inside}
 use Rattle.scenario_values.specs.Values.{elements, short_list, text, whole, is_whole}
@@ -22,7 +22,7 @@ use Rattle.pals_runs.specs.declared.events.Event.TheVariants as event
 
 -- ---- words
 -- the kind of event that a word is
-abbrev pub word_of : List ℕ → Option Word
+abbrev pub word_of : List ℕ → Option EventWord
 word_of name =
     if bytes_eq name (codes "pass") then Some Pass else if bytes_eq name (codes "start") then Some Start
     else if bytes_eq name (codes "step") then Some Step else if bytes_eq name (codes "finish") then Some Finish
@@ -30,7 +30,7 @@ word_of name =
     else if bytes_eq name (codes "drop") then Some Drop else if bytes_eq name (codes "repeat") then Some Repeat else None
 
 -- time stands still in a loose world, and nothing is lost or doubled in another; the events of other commands may be any
-abbrev pub is_usual : Command → Word → Bool
+abbrev pub is_usual : Command → EventWord → Bool
 is_usual (World root true) Pass = false
 is_usual (World root false) Drop = false
 is_usual (World root false) Repeat = false
@@ -65,7 +65,7 @@ pass_parts design place (time ∷ readings ∷ []) =
 pass_parts design place ds = Err (WrongKind place)
 
 -- ---- events
-unfoldable pub event_of : DesignParts → List ℕ → Word → List Data → Result Event ScenarioFault
+unfoldable pub event_of : DesignParts → List ℕ → EventWord → List Data → Result Event ScenarioFault
 event_of design place Pass ds = pass_parts design place ds >>= λ p. Ok (event.Pass p.0 p.1)
 event_of design place Start ds = node_part design place ds >>= λ n. Ok (event.Start n)
 event_of design place Step ds = node_part design place ds >>= λ n. Ok (event.Step n)
@@ -76,7 +76,7 @@ event_of design place Drop ds = link_parts design place ds >>= λ p. Ok (event.D
 event_of design place Repeat ds = link_parts design place ds >>= λ p. Ok (event.Repeat p.0 p.1)
 
 -- the word that an event begins with, where this command's events may have it
-unfoldable pub usual_word : Command → List ℕ → Data → Result Word ScenarioFault
+unfoldable pub usual_word : Command → List ℕ → Data → Result EventWord ScenarioFault
 usual_word command place d =
     given (WrongKind place) (option_and_then word_of (as_str d)) >>= λ word. only_if (is_usual command word) (WrongKind place) (Ok word)
 

@@ -2,7 +2,7 @@
 use Rattle.std.specs.Prelude.{ℕ, nat_lt, codes, decimal, List, [], ◌∷◌, ◌++◌, length, replicate, slice_set, Result, Ok}
 use Rattle.serde_json.specs.Data.{Data}
 use Rattle.pals_base.specs.declared.behaviour.Kind.{Kind}
-use Rattle.pals_base.specs.declared.values.Port.{Port}
+use Rattle.pals_base.specs.declared.values.PortValue.{PortValue}
 use Rattle.pals_base.specs.declared.limits.TheConstants.{HOUR}
 use Rattle.pals_model.specs.declared.design.DesignParts.{DesignParts}
 use Rattle.pals_model.specs.Inputs.{root_inputs}
@@ -16,21 +16,21 @@ use Rattle.scenario_values.specs.Names.{link_at, root_at}
 
 -- ---- inputs
 -- one more value of a list, whose place ends with its index
-abbrev pub with_value : Kind → List ℕ → List Port → Data → Result (List Port) ScenarioFault
+abbrev pub with_value : Kind → List ℕ → List PortValue → Data → Result (List PortValue) ScenarioFault
 with_value kind place values d = port_value kind (inside place (decimal (length values))) d >>= λ v. Ok (values ++ v ∷ [])
 
-unfoldable pub value_list : Kind → List ℕ → Data → Result (List Port) ScenarioFault
+unfoldable pub value_list : Kind → List ℕ → Data → Result (List PortValue) ScenarioFault
 value_list kind place d = elements place d >>= λ ds. through (with_value kind place) [] ds
 
 -- the list of one root in port, in its place
-unfoldable pub with_input : DesignParts → List (List Port) → List ℕ × Data → Result (List (List Port)) ScenarioFault
+unfoldable pub with_input : DesignParts → List (List PortValue) → List ℕ × Data → Result (List (List PortValue)) ScenarioFault
 with_input design lists entry =
     let place = inside (codes "inputs") entry.0 in
     root_at place design entry.0 >>= λ root.
     value_list (root_kind design entry.0) place entry.1 >>= λ values. Ok (slice_set lists root values)
 
 -- a list for each root in port, empty where it is not named
-unfoldable pub inputs_in : DesignParts → Data → Result (List (List Port)) ScenarioFault
+unfoldable pub inputs_in : DesignParts → Data → Result (List (List PortValue)) ScenarioFault
 inputs_in design d =
     entries (codes "inputs") d >>= λ es. through (with_input design) (replicate (length (root_inputs design)) []) es
 

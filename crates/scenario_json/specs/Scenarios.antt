@@ -6,7 +6,7 @@ use Rattle.serde_json.specs.Find.{get}
 use Rattle.serde_json.specs.Read.{read}
 use Rattle.pals_base.specs.declared.limits.TheConstants.{ROUNDS, CELLS}
 use Rattle.pals_base.specs.declared.values.NodeNo.{NodeNo}
-use Rattle.pals_base.specs.declared.values.Port.{Port}
+use Rattle.pals_base.specs.declared.values.PortValue.{PortValue}
 use Rattle.pals_clock.specs.declared.clock.Clocks.{Clocks}
 use Rattle.pals_clock.specs.declared.clock.Clocks.TheVariants.{Meet}
 use Rattle.pals_model.specs.declared.design.DesignParts.{DesignParts}
@@ -80,7 +80,7 @@ rounds_in design d =
 
 -- ---- the other fields, each by its name
 -- none for each root input, where they are absent
-abbrev pub inputs_field : DesignParts → Data → Result (List (List Port)) ScenarioFault
+abbrev pub inputs_field : DesignParts → Data → Result (List (List PortValue)) ScenarioFault
 inputs_field design d = field (codes "inputs") false (replicate (length (root_inputs design)) []) (inputs_in design) (get (codes "inputs") d)
 
 abbrev pub events_field : DesignParts → Command → Data → Result (List Event) ScenarioFault

@@ -12,7 +12,7 @@ use pals_base::{Items, Nanos, NoMemory};
 use pals_clock::{Clocks, ListClock};
 use scenario_values::json::{entries, short_list, whole};
 use scenario_values::place::Place;
-use scenario_values::{Names, ScenarioFault};
+use scenario_values::{DesignNames, ScenarioFault};
 use serde_json::Value;
 use std::alloc::Global;
 
@@ -39,7 +39,7 @@ fn reading_list(alloc: Global, name: &str, value: &Value) -> Result<Items<Nanos>
 #[tactic(auto, unfolding(crate::specs::Clocks::with_clock))]
 fn add_clock(
     alloc: Global,
-    names: &Names<'_>,
+    names: &DesignNames<'_>,
     clocks: &mut Items<ListClock>,
     name: &str,
     value: &Value,
@@ -67,7 +67,7 @@ fn empty_clocks(alloc: Global, count: usize) -> Result<Items<ListClock>, NoMemor
 
 // A list for each node, empty where it is not named.
 #[tactic(auto, unfolding(crate::specs::Clocks::clock_lists))]
-fn clock_lists(alloc: Global, names: &Names<'_>, value: &Value) -> Result<Clocks, ScenarioFault>
+fn clock_lists(alloc: Global, names: &DesignNames<'_>, value: &Value) -> Result<Clocks, ScenarioFault>
     ensures { Answers (clock_lists names.now (view value.now)) result }
 {
     let members = entries(alloc, Place::Field("clocks"), value)?;
@@ -89,7 +89,7 @@ fn is_meet(value: &Value) -> bool
 
 /// The hour on which all nodes meet, or a list of readings for each node.
 #[tactic(auto, unfolding(crate::specs::Clocks::clocks_in))]
-pub fn read_clocks(alloc: Global, names: &Names<'_>, value: &Value) -> Result<Clocks, ScenarioFault>
+pub fn read_clocks(alloc: Global, names: &DesignNames<'_>, value: &Value) -> Result<Clocks, ScenarioFault>
     ensures { Answers (clocks_in names.now (view value.now)) result }
 {
     if is_meet(value) {

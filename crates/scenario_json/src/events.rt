@@ -13,13 +13,13 @@ use pals_base::{Items, LinkNo, Nanos, NodeNo};
 use pals_runs::{Command, Event};
 use scenario_values::json::{elements, is_whole, short_list, text, whole};
 use scenario_values::place::{Place, out_of_range, wrong_kind};
-use scenario_values::{Names, ScenarioFault};
+use scenario_values::{DesignNames, ScenarioFault};
 use serde_json::Value;
 use std::alloc::Global;
 
 /// The word that an event begins with.
 #[derive(Clone, Copy, PartialEq)]
-pub enum Word {
+pub enum EventWord {
     Pass,
     Start,
     Step,
@@ -31,32 +31,32 @@ pub enum Word {
 }
 
 // The kind of event that a word is.
-fn word_of(name: &str) -> Option<Word>
+fn word_of(name: &str) -> Option<EventWord>
     ensures { result ≡ word_of name.now }
 {
     if name == "pass" {
-        Some(Word::Pass)
+        Some(EventWord::Pass)
     } else if name == "start" {
-        Some(Word::Start)
+        Some(EventWord::Start)
     } else if name == "step" {
-        Some(Word::Step)
+        Some(EventWord::Step)
     } else if name == "finish" {
-        Some(Word::Finish)
+        Some(EventWord::Finish)
     } else if name == "send" {
-        Some(Word::Send)
+        Some(EventWord::Send)
     } else if name == "arrive" {
-        Some(Word::Arrive)
+        Some(EventWord::Arrive)
     } else if name == "drop" {
-        Some(Word::Drop)
+        Some(EventWord::Drop)
     } else if name == "repeat" {
-        Some(Word::Repeat)
+        Some(EventWord::Repeat)
     } else {
         None
     }
 }
 
 // The kind of event that a value names.
-fn word_in(value: &Value) -> Option<Word>
+fn word_in(value: &Value) -> Option<EventWord>
     ensures { result ≡ option_and_then word_of (as_str (view value.now)) }
 {
     match value.as_str() {
@@ -66,12 +66,12 @@ fn word_in(value: &Value) -> Option<Word>
 }
 
 // Whether the events of this command may begin with a word.
-fn is_usual(command: &Command, word: Word) -> bool
+fn is_usual(command: &Command, word: EventWord) -> bool
     ensures { result ≡ is_usual command.now word }
 {
     match command {
-        Command::World { loose: true, .. } => word != Word::Pass,
-        Command::World { loose: false, .. } => word != Word::Drop && word != Word::Repeat,
+        Command::World { loose: true, .. } => word != EventWord::Pass,
+        Command::World { loose: false, .. } => word != EventWord::Drop && word != EventWord::Repeat,
         _ => true,
     }
 }
@@ -83,7 +83,7 @@ fn usual_word(
     command: &Command,
     place: Place<'_>,
     value: &Value,
-) -> Result<Word, ScenarioFault>
+) -> Result<EventWord, ScenarioFault>
     ensures { Answers (usual_word command.now (place_text place.entry) (view value.now)) result }
 {
     let Some(word) = word_in(value) else {
@@ -99,7 +99,7 @@ fn usual_word(
 #[tactic(auto, unfolding(crate::specs::Events::node_part))]
 fn node_part(
     alloc: Global,
-    names: &Names<'_>,
+    names: &DesignNames<'_>,
     place: Place<'_>,
     parts: &[Value],
 ) -> Result<NodeNo, ScenarioFault>
@@ -116,7 +116,7 @@ fn node_part(
 #[tactic(auto, unfolding(crate::specs::Events::link_parts))]
 fn link_parts(
     alloc: Global,
-    names: &Names<'_>,
+    names: &DesignNames<'_>,
     place: Place<'_>,
     parts: &[Value],
 ) -> Result<(LinkNo, u32), ScenarioFault>
@@ -166,7 +166,7 @@ fn reading_parts(
 #[tactic(auto, unfolding(crate::specs::Events::pass_parts))]
 fn pass_parts(
     alloc: Global,
-    names: &Names<'_>,
+    names: &DesignNames<'_>,
     place: Place<'_>,
     parts: &[Value],
 ) -> Result<(Nanos, Items<Nanos>), ScenarioFault>
@@ -191,43 +191,43 @@ fn pass_parts(
 #[tactic(auto, unfolding(crate::specs::Events::event_of))]
 fn event_of(
     alloc: Global,
-    names: &Names<'_>,
+    names: &DesignNames<'_>,
     place: Place<'_>,
-    word: Word,
+    word: EventWord,
     parts: &[Value],
 ) -> Result<Event, ScenarioFault>
     ensures { Answers (event_of names.now (place_text place.entry) word (map view parts.now)) result }
 {
     match word {
-        Word::Pass => {
+        EventWord::Pass => {
             let (time, readings) = pass_parts(alloc, names, place, parts)?;
             Ok(Event::Pass { time, readings })
         }
-        Word::Start => {
+        EventWord::Start => {
             let node = node_part(alloc, names, place, parts)?;
             Ok(Event::Start(node))
         }
-        Word::Step => {
+        EventWord::Step => {
             let node = node_part(alloc, names, place, parts)?;
             Ok(Event::Step(node))
         }
-        Word::Finish => {
+        EventWord::Finish => {
             let node = node_part(alloc, names, place, parts)?;
             Ok(Event::Finish(node))
         }
-        Word::Send => {
+        EventWord::Send => {
             let node = node_part(alloc, names, place, parts)?;
             Ok(Event::Send(node))
         }
-        Word::Arrive => {
+        EventWord::Arrive => {
             let (link, round) = link_parts(alloc, names, place, parts)?;
             Ok(Event::Arrive(link, round))
         }
-        Word::Drop => {
+        EventWord::Drop => {
             let (link, round) = link_parts(alloc, names, place, parts)?;
             Ok(Event::Drop(link, round))
         }
-        Word::Repeat => {
+        EventWord::Repeat => {
             let (link, round) = link_parts(alloc, names, place, parts)?;
             Ok(Event::Repeat(link, round))
         }
@@ -238,7 +238,7 @@ fn event_of(
 #[tactic(auto, unfolding(crate::specs::Events::event_in))]
 fn read_event(
     alloc: Global,
-    names: &Names<'_>,
+    names: &DesignNames<'_>,
     command: &Command,
     place: Place<'_>,
     value: &Value,
@@ -257,7 +257,7 @@ fn read_event(
 #[tactic(auto, unfolding(crate::specs::Events::events_in))]
 pub fn read_events(
     alloc: Global,
-    names: &Names<'_>,
+    names: &DesignNames<'_>,
     command: &Command,
     value: &Value,
 ) -> Result<Items<Event>, ScenarioFault>

@@ -10,7 +10,7 @@ use pals_base::limits::HOUR;
 use pals_base::{Items, Kind, Nanos, NoMemory, Tuple};
 use scenario_values::json::{elements, entries, port_value, whole};
 use scenario_values::place::{Place, out_of_range};
-use scenario_values::{Names, ScenarioFault};
+use scenario_values::{DesignNames, ScenarioFault};
 use serde_json::Value;
 use std::alloc::Global;
 
@@ -33,7 +33,7 @@ fn value_list(alloc: Global, kind: Kind, name: &str, value: &Value) -> Result<Tu
 #[tactic(auto, unfolding(crate::specs::Inputs::with_input))]
 fn add_input(
     alloc: Global,
-    names: &Names<'_>,
+    names: &DesignNames<'_>,
     lists: &mut Items<Tuple>,
     name: &str,
     value: &Value,
@@ -63,7 +63,7 @@ pub fn no_inputs(alloc: Global, count: usize) -> Result<Items<Tuple>, NoMemory>
 #[tactic(auto, unfolding(crate::specs::Inputs::inputs_in))]
 pub fn read_inputs(
     alloc: Global,
-    names: &Names<'_>,
+    names: &DesignNames<'_>,
     value: &Value,
 ) -> Result<Items<Tuple>, ScenarioFault>
     ensures { Answers (inputs_in names.now (view value.now)) result }
@@ -98,7 +98,7 @@ fn delay_list(alloc: Global, name: &str, value: &Value) -> Result<Items<Nanos>, 
 #[tactic(auto, unfolding(crate::specs::Inputs::with_link_delays))]
 fn add_delays(
     alloc: Global,
-    names: &Names<'_>,
+    names: &DesignNames<'_>,
     lists: &mut Items<Items<Nanos>>,
     name: &str,
     value: &Value,
@@ -114,7 +114,7 @@ fn add_delays(
 }
 
 /// The least delay of the network for each link.
-pub fn least_delays(alloc: Global, names: &Names<'_>) -> Result<Items<Items<Nanos>>, NoMemory>
+pub fn least_delays(alloc: Global, names: &DesignNames<'_>) -> Result<Items<Items<Nanos>>, NoMemory>
     ensures { IfOk result (λ lists. lists ≡ replicate (length names.now.links) (names.now.gamma.mu_min ∷ [])) }
 {
     let least = names.design().gamma().mu_min;
@@ -130,7 +130,7 @@ pub fn least_delays(alloc: Global, names: &Names<'_>) -> Result<Items<Items<Nano
 #[tactic(auto, unfolding(crate::specs::Inputs::delays_in))]
 pub fn read_delays(
     alloc: Global,
-    names: &Names<'_>,
+    names: &DesignNames<'_>,
     value: &Value,
 ) -> Result<Items<Items<Nanos>>, ScenarioFault>
     ensures { Answers (delays_in names.now (view value.now)) result }

@@ -31,7 +31,7 @@ use pals_model::{Delays, Design, Env};
 use pals_runs::{Command, Event, Pair};
 use scenario_values::json::{entries, whole};
 use scenario_values::place::{Place, missing, unknown};
-use scenario_values::{Names, ScenarioFault};
+use scenario_values::{DesignNames, ScenarioFault};
 use serde_json::{Category, Map, Value};
 use std::alloc::Global;
 
@@ -107,7 +107,7 @@ fn rounds_in(alloc: Global, design: &Design, value: &Value) -> Result<u32, Scena
     Ok(rounds as u32)
 }
 
-fn inputs_in(alloc: Global, names: &Names<'_>, value: &Value) -> Result<Items<Tuple>, ScenarioFault>
+fn inputs_in(alloc: Global, names: &DesignNames<'_>, value: &Value) -> Result<Items<Tuple>, ScenarioFault>
     ensures { Answers (inputs_field names.now (view value.now)) result }
 {
     match value.get("inputs") {
@@ -118,7 +118,7 @@ fn inputs_in(alloc: Global, names: &Names<'_>, value: &Value) -> Result<Items<Tu
 
 fn events_in(
     alloc: Global,
-    names: &Names<'_>,
+    names: &DesignNames<'_>,
     command: &Command,
     value: &Value,
 ) -> Result<Items<Event>, ScenarioFault>
@@ -133,7 +133,7 @@ fn events_in(
     read_events(alloc, names, command, events)
 }
 
-fn clocks_in(alloc: Global, names: &Names<'_>, value: &Value) -> Result<Clocks, ScenarioFault>
+fn clocks_in(alloc: Global, names: &DesignNames<'_>, value: &Value) -> Result<Clocks, ScenarioFault>
     ensures { Answers (clocks_field names.now (view value.now)) result }
 {
     match value.get("clocks") {
@@ -144,7 +144,7 @@ fn clocks_in(alloc: Global, names: &Names<'_>, value: &Value) -> Result<Clocks, 
 
 fn delays_in(
     alloc: Global,
-    names: &Names<'_>,
+    names: &DesignNames<'_>,
     value: &Value,
 ) -> Result<Items<Items<Nanos>>, ScenarioFault>
     ensures { Answers (delays_field names.now (view value.now)) result }
@@ -169,7 +169,7 @@ fn trace_in(alloc: Global, command: &Command, value: &Value) -> Result<Items<Tex
 
 fn properties_in(
     alloc: Global,
-    names: &Names<'_>,
+    names: &DesignNames<'_>,
     command: &Command,
     value: &Value,
 ) -> Result<Items<Property>, ScenarioFault>
@@ -186,7 +186,7 @@ fn properties_in(
 
 fn replicas_in(
     alloc: Global,
-    names: &Names<'_>,
+    names: &DesignNames<'_>,
     value: &Value,
 ) -> Result<Items<NodeNo>, ScenarioFault>
     ensures { Answers (replicas_field names.now (view value.now)) result }
@@ -199,7 +199,7 @@ fn replicas_in(
 
 fn faults_in(
     alloc: Global,
-    names: &Names<'_>,
+    names: &DesignNames<'_>,
     replicas: &[NodeNo],
     value: &Value,
 ) -> Result<Items<RoundFault>, ScenarioFault>
@@ -211,7 +211,7 @@ fn faults_in(
     }
 }
 
-fn plants_in(alloc: Global, names: &Names<'_>, value: &Value) -> Result<Items<Pair>, ScenarioFault>
+fn plants_in(alloc: Global, names: &DesignNames<'_>, value: &Value) -> Result<Items<Pair>, ScenarioFault>
     ensures { Answers (plants_field names.now (view value.now)) result }
 {
     match value.get("plants") {
@@ -222,7 +222,7 @@ fn plants_in(alloc: Global, names: &Names<'_>, value: &Value) -> Result<Items<Pa
 
 fn processors_in(
     alloc: Global,
-    names: &Names<'_>,
+    names: &DesignNames<'_>,
     command: &Command,
     value: &Value,
 ) -> Result<Items<Processor>, ScenarioFault>
@@ -241,7 +241,7 @@ fn processors_in(
 #[tactic(auto, unfolding(crate::specs::Scenarios::fields_in))]
 fn fields_in(
     alloc: Global,
-    names: &Names<'_>,
+    names: &DesignNames<'_>,
     command: &Command,
     value: &Value,
 ) -> Result<Scenario, ScenarioFault>
@@ -288,7 +288,7 @@ fn scenario_in(
     if let Some(name) = unknown_field(members) {
         return Err(unknown(alloc, Place::Field(name)));
     }
-    let names = Names::new(alloc, design)?;
+    let names = DesignNames::new(alloc, design)?;
     fields_in(alloc, &names, command, value)
 }
 

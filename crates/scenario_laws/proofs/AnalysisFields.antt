@@ -7,7 +7,7 @@ use Rattle.scenario_values.specs.declared.fault.ScenarioFault.TheVariants.{Wrong
 use Rattle.pals_base.specs.declared.behaviour.Kind.{Kind}
 use Rattle.pals_base.specs.declared.limits.TheConstants.{HOUR, ROUNDS}
 use Rattle.pals_base.specs.declared.values.NodeNo.{NodeNo}
-use Rattle.pals_base.specs.declared.values.Port.{Port}
+use Rattle.pals_base.specs.declared.values.PortValue.{PortValue}
 use Rattle.pals_model.specs.declared.design.DesignParts.{DesignParts}
 use Rattle.pals_runs.specs.declared.pairs.Pair.{Pair}
 use Rattle.pals_runs.specs.Formula.{Formula}
@@ -15,10 +15,10 @@ use Rattle.scenario_values.specs.declared.fault.ScenarioFault.{ScenarioFault}
 use Rattle.scenario_values.specs.FaultPlaces.{inside}
 use Rattle.analysis_fields.specs.declared.faults.FaultEnds.{FaultEnds}
 use Rattle.analysis_fields.specs.declared.faults.RoundFault.{RoundFault}
-use Rattle.analysis_fields.specs.declared.formulas.Role.{Role}
-use Rattle.analysis_fields.specs.declared.formulas.Role.TheVariants as role
+use Rattle.analysis_fields.specs.declared.formulas.FormulaWord.{FormulaWord}
+use Rattle.analysis_fields.specs.declared.formulas.FormulaWord.TheVariants as role
 use Rattle.analysis_fields.specs.declared.limits.TheConstants.{LEVELS, REPLICAS}
-use Rattle.analysis_fields.specs.declared.plants.Named.{Named}
+use Rattle.analysis_fields.specs.declared.plants.NamedPair.{NamedPair}
 use Rattle.analysis_fields.specs.declared.processors.Processor.{Processor}
 use Rattle.analysis_fields.specs.PropertyValues.{PropertyValue}
 use Rattle.analysis_fields.specs.Plants.{named_in, pair_in, with_pair, plants_in}
@@ -50,18 +50,18 @@ halted_form_named design place [] = wrong
 halted_form_named design place (path ∷ []) = bind _ _ (text_named place path) (λ p. bind _ _ (node_at_named place design p) (λ node. ok))
 halted_form_named design place (a ∷ b ∷ ds) = wrong
 
-one_part_named : (read : Data → Result Formula ScenarioFault) → ((d : Data) → IsNamed (read d)) → (place : List ℕ) (r : Role) (ds : List Data) → IsNamed (one_part read place r ds)
+one_part_named : (read : Data → Result Formula ScenarioFault) → ((d : Data) → IsNamed (read d)) → (place : List ℕ) (r : FormulaWord) (ds : List Data) → IsNamed (one_part read place r ds)
 one_part_named read n place r [] = wrong
 one_part_named read n place r (d ∷ []) = bind _ _ (n d) (λ f. ok)
 one_part_named read n place r (a ∷ b ∷ ds) = wrong
 
-two_parts_named : (read : Data → Result Formula ScenarioFault) → ((d : Data) → IsNamed (read d)) → (place : List ℕ) (r : Role) (ds : List Data) → IsNamed (two_parts read place r ds)
+two_parts_named : (read : Data → Result Formula ScenarioFault) → ((d : Data) → IsNamed (read d)) → (place : List ℕ) (r : FormulaWord) (ds : List Data) → IsNamed (two_parts read place r ds)
 two_parts_named read n place r [] = wrong
 two_parts_named read n place r (d ∷ []) = wrong
 two_parts_named read n place r (d ∷ e ∷ []) = bind _ _ (n d) (λ f. bind _ _ (n e) (λ g. ok))
 two_parts_named read n place r (a ∷ b ∷ c ∷ ds) = wrong
 
-form_of_named : (read : Data → Result Formula ScenarioFault) → ((d : Data) → IsNamed (read d)) → (design : DesignParts) (place : List ℕ) (r : Role) (ds : List Data)
+form_of_named : (read : Data → Result Formula ScenarioFault) → ((d : Data) → IsNamed (read d)) → (design : DesignParts) (place : List ℕ) (r : FormulaWord) (ds : List Data)
     → IsNamed (form_of read design place r ds)
 form_of_named read n design place role.Var ds = var_form_named design place ds
 form_of_named read n design place role.Halted ds = halted_form_named design place ds
@@ -104,7 +104,7 @@ unfolding replicas_in
 replicas_named design d = bind _ _ (elements_named (codes "replicas") d) (λ ds. through_named (with_replica design) (with_replica_named design) [] ds)
 
 -- ---- faults
-with_fault_value_named : (kind : Kind) (place : List ℕ) (values : List Port) (d : Data) → IsNamed (with_fault_value kind place values d)
+with_fault_value_named : (kind : Kind) (place : List ℕ) (values : List PortValue) (d : Data) → IsNamed (with_fault_value kind place values d)
 with_fault_value_named kind place values d = bind _ _ (port_value_named kind place d) (λ v. ok)
 
 replica_at_named : (design : DesignParts) (replicas : List NodeNo) (place path : List ℕ) → IsNamed (replica_at design replicas place path)
@@ -161,13 +161,13 @@ unfolding faults_in
 faults_named design replicas d = bind _ _ (elements_named (codes "faults") d) (λ ds. through_named (with_fault design replicas) (with_fault_named design replicas) [] ds)
 
 -- ---- plants
-pair_named : (design : DesignParts) (all : List Named) (entry : List ℕ × Data) → IsNamed (pair_in design all entry)
+pair_named : (design : DesignParts) (all : List NamedPair) (entry : List ℕ × Data) → IsNamed (pair_in design all entry)
 unfolding pair_in
 pair_named design all entry =
     let place = inside (codes "plants") entry.0 in
     bind _ _ (node_at_named place design entry.0) (λ plant. bind _ _ (text_named place entry.1) (λ path. bind _ _ (node_at_named place design path) (λ controller. only _ _ _ out ok)))
 
-with_pair_named : (design : DesignParts) (all : List Named) (before : List Pair) (entry : List ℕ × Data) → IsNamed (with_pair design all before entry)
+with_pair_named : (design : DesignParts) (all : List NamedPair) (before : List Pair) (entry : List ℕ × Data) → IsNamed (with_pair design all before entry)
 with_pair_named design all before entry = bind _ _ (pair_named design all entry) (λ p. ok)
 
 pub plants_named : (design : DesignParts) (d : Data) → IsNamed (plants_in design d)

@@ -16,10 +16,10 @@ use Rattle.scenario_values.specs.declared.fault.ScenarioFault.TheVariants.{Wrong
 use Rattle.scenario_values.specs.Outcomes.{◌>>=◌, given, only_if, through}
 use Rattle.scenario_values.specs.FaultPlaces.{inside}
 use Rattle.scenario_values.specs.Values.{elements, short_list, text, whole, is_whole}
-use Rattle.scenario_values.proofs.Passing.{ok_same, ok_bind, ok_only_if}
+use Rattle.scenario_values.proofs.PassedValues.{ok_same, ok_bind, ok_only_if}
 use Rattle.scenario_values.specs.Names.{node_at, link_at, node_no, link_no}
-use Rattle.scenario_json.specs.declared.events.Word.{Word}
-use Rattle.scenario_json.specs.declared.events.Word.TheVariants.{Pass, Start, Step, Finish, Send, Arrive, Drop, Repeat}
+use Rattle.scenario_json.specs.declared.events.EventWord.{EventWord}
+use Rattle.scenario_json.specs.declared.events.EventWord.TheVariants.{Pass, Start, Step, Finish, Send, Arrive, Drop, Repeat}
 use Rattle.scenario_json.specs.Events.{word_of, is_usual, node_part, link_parts, event_of, usual_word, event_from, event_in, with_event, events_in}
 use Rattle.loose_world.specs.Worlds.{IsLooseIn}
 use Rattle.scenario_laws.specs.proof.Events.{loosely, AreLooseEvents}
@@ -60,7 +60,7 @@ by_link design place ds make e loose is =
     let link = ok_bind (link_parts design place ds) (λ p. Ok (make p.0 p.1)) e is in
     subst (IsLooseIn design) (ok_same (make link.0.0 link.0.1) e link.2) (loose link.0.0 link.0.1 (link_parts_below design place ds link.0 link.1))
 
-word_loose : (design : DesignParts) (root place : List ℕ) (word : Word) (ds : List Data) (e : Event) → is_usual (loosely root) word ≡ true → event_of design place word ds ≡ Ok e → IsLooseIn design e
+word_loose : (design : DesignParts) (root place : List ℕ) (word : EventWord) (ds : List Data) (e : Event) → is_usual (loosely root) word ≡ true → event_of design place word ds ≡ Ok e → IsLooseIn design e
 unfolding event_of
 word_loose design root place Pass ds e usual is = absurd (cc)
 word_loose design root place Start ds e usual is = by_node design place ds (λ n. event.Start n) e (λ n below. record { what = _; is_what = refl; named = below }) is
@@ -71,7 +71,7 @@ word_loose design root place Arrive ds e usual is = by_link design place ds (λ 
 word_loose design root place Drop ds e usual is = by_link design place ds (λ l r. event.Drop l r) e (λ l r below. record { what = _; is_what = refl; named = below }) is
 word_loose design root place Repeat ds e usual is = by_link design place ds (λ l r. event.Repeat l r) e (λ l r below. record { what = _; is_what = refl; named = below }) is
 
-usual_is : (command : Command) (place : List ℕ) (d : Data) (word : Word) → usual_word command place d ≡ Ok word → is_usual command word ≡ true
+usual_is : (command : Command) (place : List ℕ) (d : Data) (word : EventWord) → usual_word command place d ≡ Ok word → is_usual command word ≡ true
 unfolding usual_word
 usual_is command place d word e =
     let known = ok_bind (given (WrongKind place) (option_and_then word_of (as_str d))) (λ w. only_if (is_usual command w) (WrongKind place) (Ok w)) word e in

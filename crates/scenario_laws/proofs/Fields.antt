@@ -4,7 +4,7 @@ use Rattle.std.specs.Prelude.{find, not}
 use Rattle.serde_json.specs.Data.{Data}
 use Rattle.serde_json.specs.Find.{get}
 use Rattle.pals_base.specs.declared.values.NodeNo.{NodeNo}
-use Rattle.pals_base.specs.declared.values.Port.{Port}
+use Rattle.pals_base.specs.declared.values.PortValue.{PortValue}
 use Rattle.pals_clock.specs.declared.clock.Clocks.{Clocks}
 use Rattle.pals_clock.specs.declared.clock.Clocks.TheVariants.{Meet}
 use Rattle.pals_model.specs.declared.design.DesignParts.{DesignParts}
@@ -16,7 +16,7 @@ use Rattle.scenario_values.specs.declared.fault.ScenarioFault.{ScenarioFault}
 use Rattle.scenario_values.specs.declared.fault.ScenarioFault.TheVariants.{NotJson}
 use Rattle.scenario_values.specs.Outcomes.{◌>>=◌}
 use Rattle.scenario_values.specs.Values.{entries}
-use Rattle.scenario_values.proofs.Passing.{ok_same, ok_bind}
+use Rattle.scenario_values.proofs.PassedValues.{ok_same, ok_bind}
 use Rattle.scenario_json.specs.Inputs.{inputs_in, delays_in}
 use Rattle.scenario_json.specs.Traces.{trace_in}
 use Rattle.scenario_json.specs.Clocks.{clocks_in}
@@ -51,7 +51,7 @@ known None next a e = e
 known (Some entry) next a e = absurd (cc)
 
 -- ---- what is read from each field on, the last one first
-abbrev made : ℕ → List (List Port) → List Event → Clocks → List (List ℕ) → List (List ℕ) → List PropertyValue → List NodeNo → List RoundFault → List Pair → List Processor → Scenario
+abbrev made : ℕ → List (List PortValue) → List Event → Clocks → List (List ℕ) → List (List ℕ) → List PropertyValue → List NodeNo → List RoundFault → List Pair → List Processor → Scenario
 made n i v c l t p r f pl pr = record {
   rounds = n;
   env = record { lists = i };
@@ -70,58 +70,58 @@ module _ (d : Data) (design : DesignParts) (command : Command) where
   abbrev processors_read : Result (List Processor) ScenarioFault
   processors_read = field (codes "processors") (needs_processors command) [] (processors_in design) (get (codes "processors") d)
 
-  abbrev from_processors : ℕ → List (List Port) → List Event → Clocks → List (List ℕ) → List (List ℕ) → List PropertyValue → List NodeNo → List RoundFault → List Pair → Result Scenario ScenarioFault
+  abbrev from_processors : ℕ → List (List PortValue) → List Event → Clocks → List (List ℕ) → List (List ℕ) → List PropertyValue → List NodeNo → List RoundFault → List Pair → Result Scenario ScenarioFault
   from_processors n i v c l t p r f pl = processors_read >>= λ pr. Ok (made n i v c l t p r f pl pr)
 
   abbrev pub plants_read : Result (List Pair) ScenarioFault
   plants_read = field (codes "plants") false [] (plants_in design) (get (codes "plants") d)
 
-  abbrev from_plants : ℕ → List (List Port) → List Event → Clocks → List (List ℕ) → List (List ℕ) → List PropertyValue → List NodeNo → List RoundFault → Result Scenario ScenarioFault
+  abbrev from_plants : ℕ → List (List PortValue) → List Event → Clocks → List (List ℕ) → List (List ℕ) → List PropertyValue → List NodeNo → List RoundFault → Result Scenario ScenarioFault
   from_plants n i v c l t p r f = plants_read >>= λ pl. from_processors n i v c l t p r f pl
 
   abbrev pub faults_read : List NodeNo → Result (List RoundFault) ScenarioFault
   faults_read r = field (codes "faults") false [] (faults_in design r) (get (codes "faults") d)
 
-  abbrev from_faults : ℕ → List (List Port) → List Event → Clocks → List (List ℕ) → List (List ℕ) → List PropertyValue → List NodeNo → Result Scenario ScenarioFault
+  abbrev from_faults : ℕ → List (List PortValue) → List Event → Clocks → List (List ℕ) → List (List ℕ) → List PropertyValue → List NodeNo → Result Scenario ScenarioFault
   from_faults n i v c l t p r = faults_read r >>= λ f. from_plants n i v c l t p r f
 
   abbrev replicas_read : Result (List NodeNo) ScenarioFault
   replicas_read = field (codes "replicas") false [] (replicas_in design) (get (codes "replicas") d)
 
-  abbrev from_replicas : ℕ → List (List Port) → List Event → Clocks → List (List ℕ) → List (List ℕ) → List PropertyValue → Result Scenario ScenarioFault
+  abbrev from_replicas : ℕ → List (List PortValue) → List Event → Clocks → List (List ℕ) → List (List ℕ) → List PropertyValue → Result Scenario ScenarioFault
   from_replicas n i v c l t p = replicas_read >>= λ r. from_faults n i v c l t p r
 
   abbrev properties_read : Result (List PropertyValue) ScenarioFault
   properties_read = field (codes "properties") (needs_properties command) [] (properties_in design) (get (codes "properties") d)
 
-  abbrev from_properties : ℕ → List (List Port) → List Event → Clocks → List (List ℕ) → List (List ℕ) → Result Scenario ScenarioFault
+  abbrev from_properties : ℕ → List (List PortValue) → List Event → Clocks → List (List ℕ) → List (List ℕ) → Result Scenario ScenarioFault
   from_properties n i v c l t = properties_read >>= λ p. from_replicas n i v c l t p
 
   abbrev pub trace_read : Result (List (List ℕ)) ScenarioFault
   trace_read = field (codes "trace") (needs_trace command) [] trace_in (get (codes "trace") d)
 
-  abbrev from_trace : ℕ → List (List Port) → List Event → Clocks → List (List ℕ) → Result Scenario ScenarioFault
+  abbrev from_trace : ℕ → List (List PortValue) → List Event → Clocks → List (List ℕ) → Result Scenario ScenarioFault
   from_trace n i v c l = trace_read >>= λ t. from_properties n i v c l t
 
   abbrev delays_read : Result (List (List ℕ)) ScenarioFault
   delays_read = field (codes "delays") false (replicate (length design.links) (design.gamma.mu_min ∷ [])) (delays_in design) (get (codes "delays") d)
 
-  abbrev from_delays : ℕ → List (List Port) → List Event → Clocks → Result Scenario ScenarioFault
+  abbrev from_delays : ℕ → List (List PortValue) → List Event → Clocks → Result Scenario ScenarioFault
   from_delays n i v c = delays_read >>= λ l. from_trace n i v c l
 
   abbrev clocks_read : Result Clocks ScenarioFault
   clocks_read = field (codes "clocks") false Meet (clocks_in design) (get (codes "clocks") d)
 
-  abbrev from_clocks : ℕ → List (List Port) → List Event → Result Scenario ScenarioFault
+  abbrev from_clocks : ℕ → List (List PortValue) → List Event → Result Scenario ScenarioFault
   from_clocks n i v = clocks_read >>= λ c. from_delays n i v c
 
   abbrev pub events_read : Result (List Event) ScenarioFault
   events_read = field (codes "events") (needs_events command) [] (events_in design command) (get (codes "events") d)
 
-  abbrev from_events : ℕ → List (List Port) → Result Scenario ScenarioFault
+  abbrev from_events : ℕ → List (List PortValue) → Result Scenario ScenarioFault
   from_events n i = events_read >>= λ v. from_clocks n i v
 
-  abbrev inputs_read : Result (List (List Port)) ScenarioFault
+  abbrev inputs_read : Result (List (List PortValue)) ScenarioFault
   inputs_read = field (codes "inputs") false (replicate (length (root_inputs design)) []) (inputs_in design) (get (codes "inputs") d)
 
   abbrev from_inputs : ℕ → Result Scenario ScenarioFault

@@ -3,7 +3,7 @@ mod Names
 mod EventLists
 mod TraceLists
 mod PairLists
-mod Laws
+mod FieldLaws
 mod Named
 mod Values
 mod RunFields

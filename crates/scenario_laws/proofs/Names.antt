@@ -6,7 +6,7 @@ use Rattle.pals_model.specs.declared.design.Component.{Component}
 use Rattle.pals_model.specs.declared.design.Link.{Link}
 use Rattle.pals_model.specs.LinkNames.{node_named, link_named, link_name}
 use Rattle.scenario_values.specs.declared.fault.ScenarioFault.TheVariants.{Unknown}
-use Rattle.scenario_values.proofs.Passing.{ok_given}
+use Rattle.scenario_values.proofs.PassedValues.{ok_given}
 use Rattle.scenario_values.specs.Names.{node_at, link_at}
 
 pub node_below : (place : List ℕ) (design : DesignParts) (path : List ℕ) (node : ℕ) → node_at place design path ≡ Ok node → node < length design.components

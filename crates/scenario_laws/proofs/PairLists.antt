@@ -16,9 +16,9 @@ use Rattle.scenario_values.specs.declared.fault.ScenarioFault.TheVariants.{Wrong
 use Rattle.scenario_values.specs.Outcomes.{◌>>=◌, only_if, through}
 use Rattle.scenario_values.specs.FaultPlaces.{inside}
 use Rattle.scenario_values.specs.Values.{entries, text}
-use Rattle.scenario_values.proofs.Passing.{ok_same, ok_bind, ok_given, ok_only_if}
+use Rattle.scenario_values.proofs.PassedValues.{ok_same, ok_bind, ok_given, ok_only_if}
 use Rattle.scenario_values.specs.Names.{node_at}
-use Rattle.analysis_fields.specs.declared.plants.Named.{Named}
+use Rattle.analysis_fields.specs.declared.plants.NamedPair.{NamedPair}
 use Rattle.analysis_fields.specs.Plants.{pair, named_in, shares, is_between, are_equals, is_alone, is_sound, pair_in, with_pair, plants_in}
 use Rattle.plant_fuse.specs.Fused.{IsPair, AreApart, ArePairs}
 use Rattle.plant_fuse.proofs.Fitting.{pair_by}
@@ -60,10 +60,10 @@ two_pass test (x ∷ xs) (suc i) (suc j) d less below first second =
     omega (arith, all, later)
 
 -- ---- what the entry of a pair names
-abbrev naming : Option ℕ → Option ℕ → Named
+abbrev naming : Option ℕ → Option ℕ → NamedPair
 naming plant controller = record { plant = plant; controller = controller }
 
-abbrev named_of : Pair → Named
+abbrev named_of : Pair → NamedPair
 named_of p = naming (Some p.plant.0) (Some p.controller.0)
 
 names_itself : (p : Pair) → shares p (named_of p) ≡ true
@@ -114,7 +114,7 @@ alone_apart pairs i j d less below alone =
 
 -- ---- one entry
 -- what it names, where all entries name these
-record IsRead (design : DesignParts) (all : List Named) (p : Pair) : Type 0 where
+record IsRead (design : DesignParts) (all : List NamedPair) (p : Pair) : Type 0 where
   fits : IsPair design p
   alone : count_by (shares p) all ≡ 1
 
@@ -126,7 +126,7 @@ text_is : (place : List ℕ) (d : Data) (path : List ℕ) → text place d ≡ O
 unfolding text
 text_is place d path e = ok_given (WrongKind place) (as_str d) path e
 
-sound_is : (design : DesignParts) (all : List Named) (p : Pair) → p.plant.0 < length design.components → p.controller.0 < length design.components
+sound_is : (design : DesignParts) (all : List NamedPair) (p : Pair) → p.plant.0 < length design.components → p.controller.0 < length design.components
     → is_sound design all p ≡ true → IsRead design all p
 unfolding is_sound
 sound_is design all p plant controller sound =
@@ -144,11 +144,11 @@ sound_is design all p plant controller sound =
     two false not_same is = λ same. true≢false (sym (eq-eqb p.plant.0 p.controller.0 same) ∙ is)
 
 -- a pair that was read, and that its entry names it
-record IsOf (design : DesignParts) (all : List Named) (entry : List ℕ × Data) (p : Pair) : Type 0 where
+record IsOf (design : DesignParts) (all : List NamedPair) (entry : List ℕ × Data) (p : Pair) : Type 0 where
   named : named_in design entry ≡ named_of p
   read : IsRead design all p
 
-entry_read : (design : DesignParts) (all : List Named) (entry : List ℕ × Data) (p : Pair) → pair_in design all entry ≡ Ok p → IsOf design all entry p
+entry_read : (design : DesignParts) (all : List NamedPair) (entry : List ℕ × Data) (p : Pair) → pair_in design all entry ≡ Ok p → IsOf design all entry p
 unfolding pair_in
 entry_read design all entry p e =
     let place = inside (codes "plants") entry.0 in
@@ -167,22 +167,22 @@ entry_read design all entry p e =
     })
 
 -- ---- all entries
-module _ (design : DesignParts) (all : List Named) where
-  record AreOf (seen : List Named) (pairs : List Pair) : Type 0 where
+module _ (design : DesignParts) (all : List NamedPair) where
+  record AreOf (seen : List NamedPair) (pairs : List Pair) : Type 0 where
     named : map named_of pairs ≡ seen
     read : All (IsRead design all) pairs
 
-  one_more : (seen : List Named) (pairs : List Pair) (entry : List ℕ × Data) (more : List Pair) → AreOf seen pairs → with_pair design all pairs entry ≡ Ok more
+  one_more : (seen : List NamedPair) (pairs : List Pair) (entry : List ℕ × Data) (more : List Pair) → AreOf seen pairs → with_pair design all pairs entry ≡ Ok more
       → AreOf (seen ++ named_in design entry ∷ []) more
   one_more seen pairs entry more are e =
       let next = ok_bind (pair_in design all entry) (λ p. Ok (pairs ++ p ∷ [])) more e in
       let is = entry_read design all entry next.0 next.1 in
       subst (AreOf (seen ++ named_in design entry ∷ [])) (ok_same (pairs ++ next.0 ∷ []) more next.2) (record {
-        named = map-append named_of pairs (next.0 ∷ []) ∙ ap₂ (λ (ns : List Named) n. ns ++ n ∷ []) are.named (sym is.named);
+        named = map-append named_of pairs (next.0 ∷ []) ∙ ap₂ (λ (ns : List NamedPair) n. ns ++ n ∷ []) are.named (sym is.named);
         read = All-push (IsRead design all) pairs next.0 are.read is.read;
       })
 
-  all_read : (seen : List Named) (pairs : List Pair) (es : List (List ℕ × Data)) (more : List Pair) → AreOf seen pairs → through (with_pair design all) pairs es ≡ Ok more
+  all_read : (seen : List NamedPair) (pairs : List Pair) (es : List (List ℕ × Data)) (more : List Pair) → AreOf seen pairs → through (with_pair design all) pairs es ≡ Ok more
       → AreOf (seen ++ map (named_in design) es) more
   all_read seen pairs [] more are e = subst (AreOf (seen ++ [])) (ok_same pairs more e) (subst (λ ns. AreOf ns pairs) (sym (append-nil seen)) are)
   all_read seen pairs (entry ∷ es) more are e =
@@ -204,5 +204,5 @@ pairs_fit design d pairs e =
       each = All-weaker (IsRead design all) (IsPair design) (λ p is. is.fits) pairs are.read;
       apart = λ i j d less below.
           (let alone = (are.read i d (omega (arith, less, below))).alone in
-          alone_apart pairs i j d less below (subst (λ (ns : List Named). count_by (shares (slice_index_or pairs i d)) ns ≡ 1) (sym are.named) alone));
+          alone_apart pairs i j d less below (subst (λ (ns : List NamedPair). count_by (shares (slice_index_or pairs i d)) ns ≡ 1) (sym are.named) alone));
     }

@@ -6,7 +6,7 @@ use Rattle.serde_json.specs.Find.{as_str}
 use Rattle.scenario_values.specs.declared.fault.ScenarioFault.TheVariants.{WrongKind}
 use Rattle.pals_base.specs.declared.behaviour.Kind.{Kind}
 use Rattle.pals_base.specs.declared.limits.TheConstants.{HOUR, READING, ROUNDS, LIST_ITEMS}
-use Rattle.pals_base.specs.declared.values.Port.{Port}
+use Rattle.pals_base.specs.declared.values.PortValue.{PortValue}
 use Rattle.pals_clock.specs.Clock.{ClockState}
 use Rattle.pals_clock.specs.declared.clock.Clocks.TheVariants.{Meet}
 use Rattle.pals_model.specs.declared.design.DesignParts.{DesignParts}
@@ -14,8 +14,8 @@ use Rattle.pals_model.specs.Ports.{root_kind}
 use Rattle.pals_runs.specs.declared.commands.Command.{Command}
 use Rattle.pals_runs.specs.declared.events.Event.{Event}
 use Rattle.scenario_values.specs.FaultPlaces.{inside}
-use Rattle.scenario_json.specs.declared.events.Word.{Word}
-use Rattle.scenario_json.specs.declared.events.Word.TheVariants.{Pass, Start, Step, Finish, Send, Arrive, Drop, Repeat}
+use Rattle.scenario_json.specs.declared.events.EventWord.{EventWord}
+use Rattle.scenario_json.specs.declared.events.EventWord.TheVariants.{Pass, Start, Step, Finish, Send, Arrive, Drop, Repeat}
 use Rattle.scenario_json.specs.Inputs.{with_value, value_list, with_input, inputs_in, with_delay, delay_list, with_link_delays, delays_in}
 use Rattle.scenario_json.specs.Traces.{with_line, trace_in}
 use Rattle.scenario_json.specs.Clocks.{last_of, with_reading, reading_list, with_clock, clock_lists, is_meet, clocks_in}
@@ -24,14 +24,14 @@ use Rattle.scenario_laws.proofs.Named.{IsNamed, ok, wrong, out, bind, given_name
 use Rattle.scenario_laws.proofs.Values.{elements_named, entries_named, short_list_named, whole_named, text_named, port_value_named, node_at_named, link_at_named, root_at_named}
 
 -- ---- inputs
-with_value_named : (kind : Kind) (place : List ℕ) (values : List Port) (d : Data) → IsNamed (with_value kind place values d)
+with_value_named : (kind : Kind) (place : List ℕ) (values : List PortValue) (d : Data) → IsNamed (with_value kind place values d)
 with_value_named kind place values d = bind _ _ (port_value_named kind (inside place (decimal (length values))) d) (λ v. ok)
 
 value_list_named : (kind : Kind) (place : List ℕ) (d : Data) → IsNamed (value_list kind place d)
 unfolding value_list
 value_list_named kind place d = bind _ _ (elements_named place d) (λ ds. through_named (with_value kind place) (with_value_named kind place) [] ds)
 
-with_input_named : (design : DesignParts) (lists : List (List Port)) (entry : List ℕ × Data) → IsNamed (with_input design lists entry)
+with_input_named : (design : DesignParts) (lists : List (List PortValue)) (entry : List ℕ × Data) → IsNamed (with_input design lists entry)
 unfolding with_input
 with_input_named design lists entry =
     let place = inside (codes "inputs") entry.0 in
@@ -121,7 +121,7 @@ pass_parts_named design place (time ∷ readings ∷ []) =
     (bind _ _ (through_named (with_number place) (with_number_named place) [] ds) (λ numbers. ok)))))
 pass_parts_named design place (time ∷ readings ∷ e ∷ ds) = wrong
 
-event_of_named : (design : DesignParts) (place : List ℕ) (word : Word) (ds : List Data) → IsNamed (event_of design place word ds)
+event_of_named : (design : DesignParts) (place : List ℕ) (word : EventWord) (ds : List Data) → IsNamed (event_of design place word ds)
 unfolding event_of
 event_of_named design place Pass ds = bind _ _ (pass_parts_named design place ds) (λ p. ok)
 event_of_named design place Start ds = bind _ _ (node_part_named design place ds) (λ n. ok)

@@ -1,5 +1,5 @@
 //! What scenarios that are read hold.
-use pals_base::{LinkNo, NodeNo, Port, Text};
+use pals_base::{LinkNo, NodeNo, PortValue, Text};
 use pals_clock::Clocks;
 use pals_model::{Delays, Env};
 use pals_runs::Event;
@@ -42,13 +42,13 @@ fn has_defaults(read: &Scenario) -> bool {
         && has_no_lists(read)
 }
 
-const ON: [Port; 3] = [Port::Present(1), Port::Absent, Port::Present(0)];
+const ON: [PortValue; 3] = [PortValue::Present(1), PortValue::Absent, PortValue::Present(0)];
 
 fn are_inputs(env: &Env) -> bool {
     let [level, on] = env.lists.as_slice() else {
         return false;
     };
-    level.as_slice() == [Port::Present(-5)].as_slice() && on.as_slice() == ON.as_slice()
+    level.as_slice() == [PortValue::Present(-5)].as_slice() && on.as_slice() == ON.as_slice()
 }
 
 fn are_clocks(clocks: &Clocks) -> bool {

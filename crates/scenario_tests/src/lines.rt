@@ -4,7 +4,7 @@ use case_files::{Answers, asked};
 use pals_base::{LinkNo, NoMemory, NodeNo, Text};
 use pals_model::Design;
 use pals_report::{add_entry, add_event_fault, add_scenario_fault};
-use pals_runs::{Arrived, Cause, EventFault, JournalEntry, Stop, Which};
+use pals_runs::{Arrived, Cause, EventFault, JournalEntry, Stop, EventSubject};
 use scenario_json::ScenarioFault;
 use std::alloc::Global;
 use std::io;
@@ -139,14 +139,14 @@ const REFUSED_EVENTS: [(u32, EventFault); 13] = [
     (
         0,
         EventFault::PastDeadline {
-            which: Which::Node(A),
+            which: EventSubject::Node(A),
             last: 9_999_999,
         },
     ),
     (
         4_294_967_295,
         EventFault::PastDeadline {
-            which: Which::Message(TO_B, 3),
+            which: EventSubject::Message(TO_B, 3),
             last: 5,
         },
     ),
@@ -169,14 +169,14 @@ const REFUSED_EVENTS: [(u32, EventFault); 13] = [
     (
         7,
         EventFault::TooSoon {
-            which: Which::Message(TO_B, 0),
+            which: EventSubject::Message(TO_B, 0),
             earliest: 10_000_001,
         },
     ),
     (
         8,
         EventFault::TooSoon {
-            which: Which::Node(B),
+            which: EventSubject::Node(B),
             earliest: 1,
         },
     ),

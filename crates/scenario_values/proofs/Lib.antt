@@ -1,3 +1,3 @@
 pub mod Lists
-pub mod Passing
+pub mod PassedValues
 pub mod Search

@@ -7,8 +7,8 @@ use Rattle.serde_json.specs.View.{view}
 use Rattle.serde_json.specs.declared.value.Value.{Value}
 use Rattle.pals_base.specs.declared.behaviour.Kind.{Kind}
 use Rattle.pals_base.specs.declared.behaviour.Kind.TheVariants.{Integer, Boolean}
-use Rattle.pals_base.specs.declared.values.Port.{Port}
-use Rattle.pals_base.specs.declared.values.Port.TheVariants.{Absent, Present}
+use Rattle.pals_base.specs.declared.values.PortValue.{PortValue}
+use Rattle.pals_base.specs.declared.values.PortValue.TheVariants.{Absent, Present}
 use Rattle.pals_base.specs.Expressions.{truth}
 use Rattle.scenario_values.specs.declared.fault.ScenarioFault.{ScenarioFault}
 use Rattle.scenario_values.specs.declared.fault.ScenarioFault.TheVariants.{WrongKind, OutOfRange}
@@ -64,10 +64,10 @@ number place d = given (WrongKind place) (integer_of d) >>= λ z. only_if (has_6
 unfoldable pub text : List ℕ → Data → Result (List ℕ) ScenarioFault
 text place d = given (WrongKind place) (as_str d)
 
-abbrev pub present : Kind → List ℕ → Data → Result Port ScenarioFault
+abbrev pub present : Kind → List ℕ → Data → Result PortValue ScenarioFault
 present Integer place d = number place d >>= λ z. Ok (Present z)
 present Boolean place d = given (WrongKind place) (as_bool d) >>= λ b. Ok (Present (truth b))
 
 -- a value of a port of a type, or null for an absent one
-unfoldable pub port_value : Kind → List ℕ → Data → Result Port ScenarioFault
+unfoldable pub port_value : Kind → List ℕ → Data → Result PortValue ScenarioFault
 port_value kind place d = if is_some (as_null d) then Ok Absent else present kind place d

@@ -7,7 +7,7 @@ ghost use Rattle.scenario_values.specs.Values.{elements, entries, entry_of, shor
 
 use crate::fault::ScenarioFault;
 use crate::place::{Place, out_of_range, wrong_kind};
-use pals_base::{Kind, Port, Text};
+use pals_base::{Kind, PortValue, Text};
 use serde_json::{Map, Value};
 use std::alloc::Global;
 
@@ -141,14 +141,14 @@ fn present(
     kind: Kind,
     place: Place<'_>,
     value: &Value,
-) -> Result<Port, ScenarioFault>
+) -> Result<PortValue, ScenarioFault>
     ensures { Answers (present kind (place_text place.entry) (view value.now)) result }
 {
     match kind {
-        Kind::Integer => Ok(Port::Present(number(alloc, place, value)?)),
+        Kind::Integer => Ok(PortValue::Present(number(alloc, place, value)?)),
         Kind::Boolean => match value.as_bool() {
-            Some(true) => Ok(Port::Present(1)),
-            Some(false) => Ok(Port::Present(0)),
+            Some(true) => Ok(PortValue::Present(1)),
+            Some(false) => Ok(PortValue::Present(0)),
             None => Err(wrong_kind(alloc, place)),
         },
     }
@@ -161,11 +161,11 @@ pub fn port_value(
     kind: Kind,
     place: Place<'_>,
     value: &Value,
-) -> Result<Port, ScenarioFault>
+) -> Result<PortValue, ScenarioFault>
     ensures { Answers (port_value kind (place_text place.entry) (view value.now)) result }
 {
     if value.is_null() {
-        return Ok(Port::Absent);
+        return Ok(PortValue::Absent);
     }
     present(alloc, kind, place, value)
 }

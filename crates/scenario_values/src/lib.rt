@@ -8,4 +8,4 @@ mod names;
 pub mod place;
 
 pub use fault::ScenarioFault;
-pub use names::Names;
+pub use names::DesignNames;

@@ -17,7 +17,7 @@ use std::marker::Model;
 
 /// A design with tables of its names. Contracts see the design.
 #[derive(Drop)]
-pub struct Names<'a> {
+pub struct DesignNames<'a> {
     design: &'a Design,
     nodes: BTreeMap<String, usize>,
     links: BTreeMap<String, usize>,
@@ -25,7 +25,7 @@ pub struct Names<'a> {
     roots: IndexSet<Text>,
 }
 
-impl<'a> Model for Names<'a> {
+impl<'a> Model for DesignNames<'a> {
     ghost use Rattle.pals_model.specs.declared.design.DesignParts.{DesignParts};
 
     ghost Value = { DesignParts };
@@ -112,7 +112,7 @@ fn root_names(alloc: Global, feeds: &[Feed]) -> Result<IndexSet<Text>, NoMemory>
     Ok(names)
 }
 
-impl<'a> Names<'a> {
+impl<'a> DesignNames<'a> {
     ghost use Rattle.std.specs.Prelude.{◌≡◌, ◌<◌, IfOk, IfSome, length, option_map, option_copied, find, position, bytes_eq};
     ghost use Rattle.pals_model.specs.Inputs.{root_inputs};
     ghost use Rattle.pals_model.specs.LinkNames.{node_named, link_named};
@@ -124,7 +124,7 @@ impl<'a> Names<'a> {
     ghost use Rattle.scenario_values.specs.Names.{node_at, link_at, root_at};
 
     /// The tables of a design's names.
-    pub fn new(alloc: Global, design: &'a Design) -> Result<Names<'a>, NoMemory>
+    pub fn new(alloc: Global, design: &'a Design) -> Result<DesignNames<'a>, NoMemory>
         ensures value { IfOk result (λ names. names ≡ design.now) }
         ensures rules { IsDesign design.now }
     {
@@ -133,7 +133,7 @@ impl<'a> Names<'a> {
         let links = numbers(alloc, link_names(alloc, parts, design.links())?)?;
         let feeds = numbers(alloc, feed_names(alloc, design.feeds())?)?;
         let roots = root_names(alloc, design.feeds())?;
-        Ok(Names {
+        Ok(DesignNames {
             design,
             nodes,
             links,

@@ -4,7 +4,7 @@ use Rattle.std.specs.Prelude.{◌≢◌, slice_get, slice_set, int_lt, Result, O
 use Rattle.std.proofs.lemmas.Int.{ints}
 use Rattle.std.proofs.Math.Nat.{mul-le-mul_left, le_of_mul-le-mul_left, mul-add, mul_left_comm}
 use Rattle.pals_base.specs.declared.values.Trap.{Trap}
-use Rattle.pals_base.specs.declared.values.Port.{Port as Value}
+use Rattle.pals_base.specs.declared.values.PortValue.{PortValue as Value}
 use Rattle.pals_base.specs.declared.behaviour.Op.{Op}
 use Rattle.pals_base.specs.declared.behaviour.Op.TheVariants as op
 use Rattle.pals_base.specs.Arithmetic.{negation_of, magnitude_of}
@@ -13,7 +13,7 @@ use Rattle.pals_base.specs.Actions.{count_of}
 use Rattle.step_code.specs.declared.instr.Instr.{Instr}
 use Rattle.step_code.specs.declared.instr.Instr.TheVariants.{Push, Load, Store, Port, Fresh, Neg, Abs, Not, Add, Sub, Mul, Quot, Mod, Rem, Eq, Ne, Lt, Le, Gt, Ge, And, Or, Xor, Jump, JumpZero, LoopStart, LoopNext, Emit, End}
 use Rattle.step_code.specs.Step.{Next, Goes, Ends, Traps, Sticks, Senses, on_top, on_found, on_result, on_two, step}
-use Rattle.step_code.specs.declared.loops.Loop.{Loop}
+use Rattle.step_code.specs.declared.loops.LoopSpan.{LoopSpan}
 use Rattle.step_code.specs.Loops.{turns_of, around}
 use Rattle.step_code.specs.Paths.{onward, leads, product, greatest, weight_at, heaviest}
 use Rattle.step_code.specs.proof.Exec.{Rest, then_run, run}
@@ -164,7 +164,7 @@ best_on code p q i is among later within =
 
 -- ---- turns that are left
 -- the slots of these loops hold numbers of theirs; what all turns but the present ones weigh
-abbrev Stands : List Instr → List ℤ → List Loop → ℕ → Type 0
+abbrev Stands : List Instr → List ℤ → List LoopSpan → ℕ → Type 0
 Stands code slots [] rest = rest ≡ 0
 Stands code slots (l ∷ ls) rest =
     (ahead : ℕ) × (done : ℕ) × (outer : ℕ) × (slice_get slots l.slot ≡ Some (l.low +ℤ pos done))
@@ -172,7 +172,7 @@ Stands code slots (l ∷ ls) rest =
     × (rest ≡ ahead * best code (l.start + 1) + done * best code l.exit + turns_of l * outer)
     × Stands code slots ls outer
 
-stands_other : (code : List Instr) (slots : List ℤ) (x : ℕ) (v : ℤ) (ls : List Loop) (rest : ℕ) → Free ls x
+stands_other : (code : List Instr) (slots : List ℤ) (x : ℕ) (v : ℤ) (ls : List LoopSpan) (rest : ℕ) → Free ls x
     → Stands code slots ls rest → Stands code (slice_set slots x v) ls rest
 stands_other code slots x v [] rest free st = st
 stands_other code slots x v (l ∷ ls) rest free st = (
@@ -186,7 +186,7 @@ stands_other code slots x v (l ∷ ls) rest free st = (
   stands_other code slots x v ls st.2 free.1 st.7,
 )
 
-product_positive : (code : List Instr) (slots : List ℤ) (ls : List Loop) (rest : ℕ) → Stands code slots ls rest
+product_positive : (code : List Instr) (slots : List ℤ) (ls : List LoopSpan) (rest : ℕ) → Stands code slots ls rest
     → 0 < product (map turns_of ls)
 product_positive code slots [] rest st = omega arith
 product_positive code slots (l ∷ ls) rest st =

@@ -6,7 +6,7 @@ use Rattle.std.proofs.lemmas.Bool.{and_parts, ltb-true, cases_lt, false≢true, 
 use Rattle.std.proofs.Math.Bool.{and-false}
 use Rattle.std.specs.Cmp.{both_ways}
 use Rattle.step_code.specs.declared.instr.Instr.{Instr}
-use Rattle.step_code.specs.declared.loops.Loop.{Loop}
+use Rattle.step_code.specs.declared.loops.LoopSpan.{LoopSpan}
 use Rattle.step_code.specs.Loops.{loop_at, with_loop, loops_below, around}
 use Rattle.step_code.specs.proof.Innermost.{first, innermost, AreInnermost, ends_by, starts_from}
 use Rattle.step_code.specs.proof.Rules.{inside, agrees, stays, strays}
@@ -15,15 +15,15 @@ use Rattle.step_code.proofs.Innermost.{is_found, read_innermost}
 
 -- the exit jumps of the loops that start below a place part no bodies and go forward
 pub record AreClosed (code : List Instr) (p : ℕ) : Type 0 where
-  pub each : (k : ℕ) (l : Loop) → k < p → loop_at code k ≡ Some l → (stays code k l.exit ≡ true) × (k < l.exit)
+  pub each : (k : ℕ) (l : LoopSpan) → k < p → loop_at code k ≡ Some l → (stays code k l.exit ≡ true) × (k < l.exit)
 
-pub is_inside : (p : ℕ) (l : Loop) → l.start < p → p < l.exit → inside p l ≡ true
+pub is_inside : (p : ℕ) (l : LoopSpan) → l.start < p → p < l.exit → inside p l ≡ true
 is_inside p l after before = ap (λ b. b && nat_lt p l.exit) (lt-ltb l.start p after) ∙ lt-ltb p l.exit before
 
-pub not_after : (p : ℕ) (l : Loop) → p ≤ l.start → inside p l ≡ false
+pub not_after : (p : ℕ) (l : LoopSpan) → p ≤ l.start → inside p l ≡ false
 not_after p l le = ap (λ b. b && nat_lt p l.exit) (le-ltb l.start p le)
 
-pub not_before : (p : ℕ) (l : Loop) → l.exit ≤ p → inside p l ≡ false
+pub not_before : (p : ℕ) (l : LoopSpan) → l.exit ≤ p → inside p l ≡ false
 not_before p l le = ap (λ b. nat_lt l.start p && b) (le-ltb p l.exit le) ∙ and-false (nat_lt l.start p)
 
 not_le_by : (a b : ℕ) (t : Bool) → nat_lt a b ≡ t → not t ≡ false → a < b
@@ -42,35 +42,35 @@ pub le_is : (a b : ℕ) → not (nat_lt a b) ≡ true → b ≤ a
 le_is a b is = le_by a b (nat_lt a b) refl is
 
 -- ---- tests of all loops
-all_of_step : (f : Loop → Bool) (code : List Instr) (n : ℕ) (o : Option Loop) → loop_at code n ≡ o
-    → ((k : ℕ) (l : Loop) → k < suc n → loop_at code k ≡ Some l → f l ≡ true)
+all_of_step : (f : LoopSpan → Bool) (code : List Instr) (n : ℕ) (o : Option LoopSpan) → loop_at code n ≡ o
+    → ((k : ℕ) (l : LoopSpan) → k < suc n → loop_at code k ≡ Some l → f l ≡ true)
     → list_all f (loops_below code n) ≡ true → list_all f (with_loop o (loops_below code n)) ≡ true
 all_of_step f code n None at each rest = rest
 all_of_step f code n (Some l) at each rest =
     ap (λ b. b && list_all f (loops_below code n)) (each n l (omega arith) at) ∙ rest
 
-all_of : (f : Loop → Bool) (code : List Instr) (n : ℕ)
-    → ((k : ℕ) (l : Loop) → k < n → loop_at code k ≡ Some l → f l ≡ true) → list_all f (loops_below code n) ≡ true
+all_of : (f : LoopSpan → Bool) (code : List Instr) (n : ℕ)
+    → ((k : ℕ) (l : LoopSpan) → k < n → loop_at code k ≡ Some l → f l ≡ true) → list_all f (loops_below code n) ≡ true
 all_of f code zero each = refl
 all_of f code (suc n) each =
     all_of_step f code n (loop_at code n) refl each (all_of f code n (λ k l less at. each k l (omega arith) at))
 
-one_not_by : (f : Loop → Bool) (code : List Instr) (n k : ℕ) (l : Loop) (b : Bool) → list_all f (loops_below code n) ≡ b
+one_not_by : (f : LoopSpan → Bool) (code : List Instr) (n k : ℕ) (l : LoopSpan) (b : Bool) → list_all f (loops_below code n) ≡ b
     → k < n → loop_at code k ≡ Some l → f l ≡ false → b ≡ false
 one_not_by f code n k l true all within at is = absurd (false≢true (sym is ∙ all_below f code n k l all within at))
 one_not_by f code n k l false all within at is = refl
 
-one_not : (f : Loop → Bool) (code : List Instr) (n k : ℕ) (l : Loop) → k < n → loop_at code k ≡ Some l → f l ≡ false
+one_not : (f : LoopSpan → Bool) (code : List Instr) (n k : ℕ) (l : LoopSpan) → k < n → loop_at code k ≡ Some l → f l ≡ false
     → list_all f (loops_below code n) ≡ false
 one_not f code n k l within at is = one_not_by f code n k l (list_all f (loops_below code n)) refl within at is
 
 -- ---- the loop of the highest start
-abbrev IsTop : List Instr → ℕ → (Loop → Bool) → Option Loop → Type 0
-IsTop code n g None = (k : ℕ) (m : Loop) → k < n → loop_at code k ≡ Some m → g m ≡ true → ⊥
-IsTop code n g (Some l) = (k : ℕ) (m : Loop) → k < n → loop_at code k ≡ Some m → g m ≡ true → k ≤ l.start
+abbrev IsTop : List Instr → ℕ → (LoopSpan → Bool) → Option LoopSpan → Type 0
+IsTop code n g None = (k : ℕ) (m : LoopSpan) → k < n → loop_at code k ≡ Some m → g m ≡ true → ⊥
+IsTop code n g (Some l) = (k : ℕ) (m : LoopSpan) → k < n → loop_at code k ≡ Some m → g m ≡ true → k ≤ l.start
 
-top_more : (code : List Instr) (n : ℕ) (g : Loop → Bool) (o : Option Loop)
-    → ((m : Loop) → loop_at code n ≡ Some m → g m ≡ true → ⊥) → IsTop code n g o → IsTop code (suc n) g o
+top_more : (code : List Instr) (n : ℕ) (g : LoopSpan → Bool) (o : Option LoopSpan)
+    → ((m : LoopSpan) → loop_at code n ≡ Some m → g m ≡ true → ⊥) → IsTop code n g o → IsTop code (suc n) g o
 top_more code n g None not_here top = λ k m less at kept.
     ⊎_elim (λ (below : k < n). top k m below at kept)
     (λ (ge : n ≤ k). let same : k ≡ n = omega arith in
@@ -80,35 +80,35 @@ top_more code n g (Some l) not_here top = λ k m less at kept.
     (λ (ge : n ≤ k). let same : k ≡ n = omega arith in
     absurd (not_here m (subst (λ j. loop_at code j ≡ Some m) same at) kept)) (cases_lt k n)
 
-top_if : (code : List Instr) (n : ℕ) (g : Loop → Bool) (x : Loop) (b : Bool) → loop_at code n ≡ Some x → g x ≡ b
+top_if : (code : List Instr) (n : ℕ) (g : LoopSpan → Bool) (x : LoopSpan) (b : Bool) → loop_at code n ≡ Some x → g x ≡ b
     → IsTop code n g (first (filter g (loops_below code n)))
     → IsTop code (suc n) g (first (cond b (x ∷ filter g (loops_below code n)) (filter g (loops_below code n))))
 top_if code n g x true at is top = λ k m less at' kept. let start = (loop_is code n x at).start in omega arith
 top_if code n g x false at is top =
     top_more code n g (first (filter g (loops_below code n)))
-    (λ m at' kept. let same : ◌≡◌ {A = Option Loop} (Some x) (Some m) = sym at ∙ at' in let e : x ≡ m = cc in
+    (λ m at' kept. let same : ◌≡◌ {A = Option LoopSpan} (Some x) (Some m) = sym at ∙ at' in let e : x ≡ m = cc in
     absurd (false≢true (sym is ∙ ap g e ∙ kept))) top
 
-top_by : (code : List Instr) (n : ℕ) (g : Loop → Bool) (o : Option Loop) → loop_at code n ≡ o
+top_by : (code : List Instr) (n : ℕ) (g : LoopSpan → Bool) (o : Option LoopSpan) → loop_at code n ≡ o
     → IsTop code n g (first (filter g (loops_below code n)))
     → IsTop code (suc n) g (first (filter g (with_loop o (loops_below code n))))
 top_by code n g None at top =
     top_more code n g (first (filter g (loops_below code n)))
-    (λ m at' kept. let no : ◌≡◌ {A = Option Loop} None (Some m) = sym at ∙ at' in cc) top
+    (λ m at' kept. let no : ◌≡◌ {A = Option LoopSpan} None (Some m) = sym at ∙ at' in cc) top
 top_by code n g (Some x) at top = top_if code n g x (g x) at refl top
 
-top_is : (code : List Instr) (n : ℕ) (g : Loop → Bool) → IsTop code n g (first (filter g (loops_below code n)))
+top_is : (code : List Instr) (n : ℕ) (g : LoopSpan → Bool) → IsTop code n g (first (filter g (loops_below code n)))
 top_is code zero g = λ k m less at kept. omega arith
 top_is code (suc n) g = top_by code n g (loop_at code n) refl (top_is code n g)
 
-abbrev pub IsInnermost : List Instr → ℕ → Option Loop → Type 0
+abbrev pub IsInnermost : List Instr → ℕ → Option LoopSpan → Type 0
 IsInnermost code p o = IsTop code p (λ l. nat_lt p l.exit) o
 
 pub innermost_is : (code : List Instr) (p : ℕ) → IsInnermost code p (innermost code p)
 innermost_is code p = top_is code p (λ l. nat_lt p l.exit)
 
 -- ---- a loop round the start of a closed one goes on beyond its exit
-within_exit : (code : List Instr) (p k : ℕ) (l m : Loop) → p ≤ length code → AreClosed code p
+within_exit : (code : List Instr) (p k : ℕ) (l m : LoopSpan) → p ≤ length code → AreClosed code p
     → loop_at code l.start ≡ Some l → l.start < p → loop_at code k ≡ Some m → k < l.start → l.start < m.exit
     → l.exit < m.exit
 within_exit code p k l m small closed at below at' less beyond =
@@ -125,16 +125,16 @@ agree_true true false one other = one refl
 agree_true false true one other = absurd (other refl refl)
 agree_true false false one other = refl
 
-record IsAt (p : ℕ) (l : Loop) : Type 0 where
+record IsAt (p : ℕ) (l : LoopSpan) : Type 0 where
   pub after : l.start < p
   pub before : p < l.exit
 
-inside_is : (p : ℕ) (l : Loop) → inside p l ≡ true → IsAt p l
+inside_is : (p : ℕ) (l : LoopSpan) → inside p l ≡ true → IsAt p l
 inside_is p l is = let both = and_parts (nat_lt l.start p) (nat_lt p l.exit) is in
     record { after = ltb-true l.start p both.0; before = ltb-true p l.exit both.1 }
 
 -- ---- neither ends between nor starts between
-stay_low : (code : List Instr) (low high k : ℕ) (m : Loop) (o : Option Loop) → low ≤ high → high < length code
+stay_low : (code : List Instr) (low high k : ℕ) (m : LoopSpan) (o : Option LoopSpan) → low ≤ high → high < length code
     → AreClosed code low → innermost code low ≡ o → ends_by o high ≡ false → loop_at code k ≡ Some m
     → inside low m ≡ true → inside high m ≡ true
 stay_low code low high k m None le small closed is ends at lies =
@@ -159,12 +159,12 @@ stay_low code low high k m (Some l) le small closed is ends at lies =
     (λ (less : k < l.start). let more =
     within_exit code low k l m (omega arith) closed f.is f.below at less (omega arith) in omega arith)
     (λ (ge : l.start ≤ k). let same : l.start ≡ k = omega arith in
-    let e : ◌≡◌ {A = Option Loop} (Some l) (Some m) = sym f.is ∙ ap (loop_at code) same ∙ at in
-    let x : l ≡ m = cc in let y = ap (λ (z : Loop). z.exit) x in omega arith)
+    let e : ◌≡◌ {A = Option LoopSpan} (Some l) (Some m) = sym f.is ∙ ap (loop_at code) same ∙ at in
+    let x : l ≡ m = cc in let y = ap (λ (z : LoopSpan). z.exit) x in omega arith)
     (cases_lt k l.start) in
     is_inside high m (omega arith) (omega arith)
 
-stay_high : (code : List Instr) (low high k : ℕ) (m : Loop) (o : Option Loop) → low ≤ high → innermost code high ≡ o
+stay_high : (code : List Instr) (low high k : ℕ) (m : LoopSpan) (o : Option LoopSpan) → low ≤ high → innermost code high ≡ o
     → starts_from o low ≡ false → loop_at code k ≡ Some m → inside low m ≡ false → inside high m ≡ true → ⊥
 stay_high code low high k m None le is starts at out lies =
     let a = inside_is high m lies in
@@ -188,7 +188,7 @@ parted b c is is' = ap (λ x. if x then c else not c) is ∙ is'
 parted_not : (b c : Bool) → b ≡ false → c ≡ true → (if b then c else not c) ≡ false
 parted_not b c is is' = ap (λ x. if x then c else not c) is ∙ ap not is'
 
-ends_part : (code : List Instr) (low high : ℕ) (o : Option Loop) → low ≤ high → high < length code
+ends_part : (code : List Instr) (low high : ℕ) (o : Option LoopSpan) → low ≤ high → high < length code
     → innermost code low ≡ o → ends_by o high ≡ true → stays code low high ≡ false
 ends_part code low high None le small is ends = cc
 ends_part code low high (Some l) le small is ends =
@@ -199,7 +199,7 @@ ends_part code low high (Some l) le small is ends =
     (parted (inside low l) (inside high l) (is_inside low l f.below (ltb-true low l.exit f.kept))
     (not_before high l over))
 
-starts_part : (code : List Instr) (low high : ℕ) (o : Option Loop) → low ≤ high → high < length code
+starts_part : (code : List Instr) (low high : ℕ) (o : Option LoopSpan) → low ≤ high → high < length code
     → innermost code high ≡ o → starts_from o low ≡ true → stays code low high ≡ false
 starts_part code low high None le small is starts = cc
 starts_part code low high (Some h) le small is starts =
@@ -236,7 +236,7 @@ agrees_swapped_by true false = refl
 agrees_swapped_by false true = refl
 agrees_swapped_by false false = refl
 
-all_same : (f g : Loop → Bool) (ls : List Loop) → ((l : Loop) → f l ≡ g l) → list_all f ls ≡ list_all g ls
+all_same : (f g : LoopSpan → Bool) (ls : List LoopSpan) → ((l : LoopSpan) → f l ≡ g l) → list_all f ls ≡ list_all g ls
 all_same f g [] same = refl
 all_same f g (l ∷ ls) same = ap (λ b. b && list_all f ls) (same l) ∙ ap (λ b. g l && b) (all_same f g ls same)
 
@@ -249,7 +249,7 @@ stays-swapped code p q =
 there_not : (code : List Instr) (p q : ℕ) → q < length code → not (stays code p q) ≡ strays code p q
 there_not code p q there = sym (ap (λ b. not (b && stays code p q)) (lt-ltb q (length code) there))
 
-pub strays_up : (code : List Instr) (found : List (Option Loop)) (from to : ℕ) (e s : Bool) (d : Option Loop)
+pub strays_up : (code : List Instr) (found : List (Option LoopSpan)) (from to : ℕ) (e s : Bool) (d : Option LoopSpan)
     → AreInnermost code found → length found ≡ length code → from ≤ to → to < length code → AreClosed code from
     → e ≡ ends_by (slice_index_or found from d) to → s ≡ starts_from (slice_index_or found to d) from
     → (e || s) ≡ strays code from to
@@ -260,7 +260,7 @@ strays_up code found from to e s d are count le there closed ends starts =
     ∙ parts_bodies code from to le there closed
     ∙ there_not code from to there
 
-pub strays_down : (code : List Instr) (found : List (Option Loop)) (from to : ℕ) (e s : Bool) (d : Option Loop)
+pub strays_down : (code : List Instr) (found : List (Option LoopSpan)) (from to : ℕ) (e s : Bool) (d : Option LoopSpan)
     → AreInnermost code found → length found ≡ length code → to ≤ from → from < length code → AreClosed code from
     → e ≡ ends_by (slice_index_or found to d) from → s ≡ starts_from (slice_index_or found from d) to
     → (e || s) ≡ strays code from to
@@ -274,10 +274,10 @@ strays_down code found from to e s d are count le there closed ends starts =
 
 -- ---- the loops round a place are the innermost one and those round its start
 
-pub around_outer : (code : List Instr) (p : ℕ) (l : Loop) → p ≤ length code → AreClosed code p
+pub around_outer : (code : List Instr) (p : ℕ) (l : LoopSpan) → p ≤ length code → AreClosed code p
     → innermost code p ≡ Some l → around code p ≡ l ∷ around code l.start
 around_outer code p l small closed is =
-    let g : Loop → Bool = λ m. nat_lt p m.exit in
+    let g : LoopSpan → Bool = λ m. nat_lt p m.exit in
     let f = is_found code p g l is in
     let below = f.below in
     let going = ltb-true p l.exit f.kept in
@@ -290,17 +290,17 @@ around_outer code p l small closed is =
     lt-ltb p m.exit (omega arith))))
 
 -- ---- whether one of them has a slot
-abbrev pub has_slot : ℕ → List Loop → Bool
+abbrev pub has_slot : ℕ → List LoopSpan → Bool
 has_slot slot = list_any (λ l. nat_eq l.slot slot)
 
 -- what is left to look at
-pub record LooksOn (code : List Instr) (place slot : ℕ) (round : Option Loop) : Type 0 where
+pub record LooksOn (code : List Instr) (place slot : ℕ) (round : Option LoopSpan) : Type 0 where
   pub at : ℕ
   pub below : at ≤ place
   pub is : round ≡ innermost code at
   pub same : has_slot slot (around code place) ≡ has_slot slot (around code at)
 
-looks_by : (code : List Instr) (place slot : ℕ) (l : Loop) → place ≤ length code → AreClosed code place
+looks_by : (code : List Instr) (place slot : ℕ) (l : LoopSpan) → place ≤ length code → AreClosed code place
     → (on : LooksOn code place slot (Some l))
     → has_slot slot (around code place) ≡ (nat_eq l.slot slot || has_slot slot (around code l.start))
 looks_by code place slot l small closed on =
@@ -309,7 +309,7 @@ looks_by code place slot l small closed on =
     (around_outer code on.at l (omega arith) (record { each = λ k m less at. closed.each k m (omega arith) at })
     (sym on.is))
 
-pub looks_further : (code : List Instr) (found : List (Option Loop)) (place slot : ℕ) (l : Loop) (d : Option Loop)
+pub looks_further : (code : List Instr) (found : List (Option LoopSpan)) (place slot : ℕ) (l : LoopSpan) (d : Option LoopSpan)
     → AreInnermost code found → place < length found → length found ≡ length code → AreClosed code place
     → LooksOn code place slot (Some l) → (l.slot ≡ slot → ⊥)
     → LooksOn code place slot (slice_index_or found l.start d) × (l.start < place)

@@ -4,8 +4,8 @@ use Rattle.std.specs.Prelude.{not, slice_get, slice_set, int_lt, Result, Ok, Err
 use Rattle.std.proofs.lemmas.List.{length-set}
 use Rattle.std.proofs.lemmas.Option.{slice_get-get_or}
 use Rattle.pals_base.specs.declared.values.Trap.{Trap}
-use Rattle.pals_base.specs.declared.values.Port.{Port as Value}
-use Rattle.pals_base.specs.declared.values.Port.TheVariants.{Present, Absent}
+use Rattle.pals_base.specs.declared.values.PortValue.{PortValue as Value}
+use Rattle.pals_base.specs.declared.values.PortValue.TheVariants.{Present, Absent}
 use Rattle.pals_base.specs.declared.behaviour.Op.{Op}
 use Rattle.pals_base.specs.declared.behaviour.Op.TheVariants as op
 use Rattle.pals_base.specs.Arithmetic.{negation_of, magnitude_of}
@@ -13,7 +13,7 @@ use Rattle.pals_base.specs.Expressions.{is_true, truth, applied}
 use Rattle.step_code.specs.declared.instr.Instr.{Instr}
 use Rattle.step_code.specs.declared.instr.Instr.TheVariants.{Push, Load, Store, Port, Fresh, Neg, Abs, Not, Add, Sub, Mul, Quot, Mod, Rem, Eq, Ne, Lt, Le, Gt, Ge, And, Or, Xor, Jump, JumpZero, LoopStart, LoopNext, Emit, End}
 use Rattle.step_code.specs.Step.{Next, Goes, Ends, Traps, Sticks, Senses, on_top, on_found, on_result, on_two, step}
-use Rattle.step_code.specs.declared.loops.Loop.{Loop}
+use Rattle.step_code.specs.declared.loops.LoopSpan.{LoopSpan}
 use Rattle.step_code.specs.Loops.{around}
 use Rattle.step_code.specs.Paths.{onward}
 use Rattle.step_code.specs.proof.Exec.{Rest, then_run, run}
@@ -164,7 +164,7 @@ onward_later code q p (End state) n way = absurd way
 onward_later code q p other n way = ⊎_elim (λ e. omega arith) (λ no'. absurd no') way
 
 -- the beginning of each of these loops is reached
-abbrev pub Begun : List Instr → List (Option ℕ) → List Loop → Type 0
+abbrev pub Begun : List Instr → List (Option ℕ) → List LoopSpan → Type 0
 Begun code entries [] = Unit {0}
 Begun code entries (l ∷ ls) = ((n : ℕ) × (h : ℕ) × Reaches code entries n l.start h) × Begun code entries ls
 

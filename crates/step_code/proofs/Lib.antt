@@ -8,7 +8,7 @@ pub mod Level
 pub mod Longer
 pub mod Crossing
 pub mod Refusals
-pub mod Passing
+pub mod PassedHeights
 pub mod Entering
 pub mod Placing
 pub mod Least

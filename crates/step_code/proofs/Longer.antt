@@ -1,7 +1,7 @@
 -- A run that is over is the same with more instructions allowed, and how many it has left.
 use Rattle.std.proofs.Common.{◌≡◌, ◌∙◌, ℕ, zero, suc, ◌+◌, ◌<◌, ℤ, List, refl, sym, ap, subst, arith}
 use Rattle.std.specs.Prelude.{slice_get}
-use Rattle.pals_base.specs.declared.values.Port.{Port as Value}
+use Rattle.pals_base.specs.declared.values.PortValue.{PortValue as Value}
 use Rattle.step_code.specs.declared.instr.Instr.{Instr}
 use Rattle.step_code.specs.Step.{Next, Goes, Ends, Traps, Sticks, Senses, step}
 use Rattle.step_code.specs.proof.Exec.{then_run, run}

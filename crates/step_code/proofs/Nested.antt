@@ -2,12 +2,12 @@
 use Rattle.std.specs.Prelude.{◌≡◌, ◌≢◌, ℕ, ◌+◌, ◌<◌, ℤ, List, [], ◌∷◌, length, Some, slice_get}
 use Rattle.step_code.specs.declared.instr.Instr.{Instr}
 use Rattle.step_code.specs.declared.instr.Instr.TheVariants.{Store, Jump, JumpZero, LoopStart, LoopNext, End}
-use Rattle.step_code.specs.declared.loops.Loop.{Loop}
+use Rattle.step_code.specs.declared.loops.LoopSpan.{LoopSpan}
 use Rattle.step_code.specs.Loops.{around}
 use Rattle.step_code.specs.proof.Exec.{Outcome, Ended, Trapped, Stuck, Unfinished}
 
 -- a slot of none of these loops
-abbrev pub Free : List Loop → ℕ → Type 0
+abbrev pub Free : List LoopSpan → ℕ → Type 0
 Free [] x = Unit {0}
 Free (l ∷ ls) x = (l.slot ≢ x) × Free ls x
 
@@ -18,7 +18,7 @@ pub record On (code : List Instr) (p q : ℕ) : Type 0 where
   pub same : around code q ≡ around code p
 
 pub record Opens (code : List Instr) (p slot : ℕ) (low high : ℤ) (exit : ℕ) : Type 0 where
-  pub loop : Loop
+  pub loop : LoopSpan
   pub inside : around code (p + 1) ≡ loop ∷ around code p
   pub start : loop.start ≡ p
   pub exit_is : loop.exit ≡ exit
@@ -28,7 +28,7 @@ pub record Opens (code : List Instr) (p slot : ℕ) (low high : ℤ) (exit : ℕ
   pub free : Free (around code p) slot
 
 pub record Closes (code : List Instr) (p slot : ℕ) (high : ℤ) (to : ℕ) : Type 0 where
-  pub loop : Loop
+  pub loop : LoopSpan
   pub inside : around code p ≡ loop ∷ around code (p + 1)
   pub exit_is : loop.exit ≡ p + 1
   pub slot_is : loop.slot ≡ slot

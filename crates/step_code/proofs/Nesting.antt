@@ -8,7 +8,7 @@ use Rattle.std.proofs.lemmas.Int.{ints}
 use Rattle.pals_base.specs.Expressions.{same_number}
 use Rattle.step_code.specs.declared.instr.Instr.{Instr}
 use Rattle.step_code.specs.declared.instr.Instr.TheVariants.{Store, Jump, JumpZero, LoopStart, LoopNext, End}
-use Rattle.step_code.specs.declared.loops.Loop.{Loop}
+use Rattle.step_code.specs.declared.loops.LoopSpan.{LoopSpan}
 use Rattle.step_code.specs.Loops.{closes, loop_from, loop_at, with_loop, loops_below, around}
 use Rattle.step_code.proofs.Nested.{Free, On, Nests, IsNested}
 use Rattle.step_code.specs.proof.Rules.{inside, agrees, stays}
@@ -18,20 +18,20 @@ same_int : (a b : ℤ) → same_number a b ≡ true → a ≡ b
 same_int a b is = let both = and_parts (int_le a b) (int_le b a) is in grind (arith, ints)
 
 -- ---- a loop
-pub record IsLoop (code : List Instr) (k : ℕ) (l : Loop) : Type 0 where
+pub record IsLoop (code : List Instr) (k : ℕ) (l : LoopSpan) : Type 0 where
   pub start : l.start ≡ k
   pub exits : 0 < l.exit
   pub closed : closes l (slice_get code (l.exit - 1)) ≡ true
   pub opens : slice_get code k ≡ Some (LoopStart l.slot l.low l.high l.exit)
 
-if_some : (b : Bool) (x y : Loop) → (if b then Some x else None) ≡ Some y → (b ≡ true) × (x ≡ y)
+if_some : (b : Bool) (x y : LoopSpan) → (if b then Some x else None) ≡ Some y → (b ≡ true) × (x ≡ y)
 if_some true x y is = (refl, cc)
 if_some false x y is = cc
 
-loop_by : (code : List Instr) (k : ℕ) (o : Option Instr) (l : Loop) → slice_get code k ≡ o → loop_from code k o ≡ Some l
+loop_by : (code : List Instr) (k : ℕ) (o : Option Instr) (l : LoopSpan) → slice_get code k ≡ o → loop_from code k o ≡ Some l
     → IsLoop code k l
 loop_by code k (Some (LoopStart slot low high exit)) l at is =
-    let m : Loop = record { start = k; exit = exit; slot = slot; low = low; high = high } in
+    let m : LoopSpan = record { start = k; exit = exit; slot = slot; low = low; high = high } in
     let both = if_some (nat_lt 0 exit && closes m (slice_get code (exit - 1))) m l is in
     let parts = and_parts (nat_lt 0 exit) (closes m (slice_get code (exit - 1))) both.0 in
     subst (IsLoop code k) both.1
@@ -39,15 +39,15 @@ loop_by code k (Some (LoopStart slot low high exit)) l at is =
 loop_by code k None l at is = cc
 loop_by code k (Some other) l at is = cc
 
-pub loop_is : (code : List Instr) (k : ℕ) (l : Loop) → loop_at code k ≡ Some l → IsLoop code k l
+pub loop_is : (code : List Instr) (k : ℕ) (l : LoopSpan) → loop_at code k ≡ Some l → IsLoop code k l
 loop_is code k l is = loop_by code k (slice_get code k) l refl is
 
 -- the instruction at the end of a loop
-abbrev IsNext : Loop → Option Instr → Type 0
+abbrev IsNext : LoopSpan → Option Instr → Type 0
 IsNext l (Some (LoopNext slot high to)) = (slot ≡ l.slot) × (high ≡ l.high) × (to ≡ l.start + 1)
 IsNext l other = ⊥
 
-next_by : (l : Loop) (o : Option Instr) → closes l o ≡ true → IsNext l o
+next_by : (l : LoopSpan) (o : Option Instr) → closes l o ≡ true → IsNext l o
 next_by l (Some (LoopNext slot high to)) is =
     let parts = and_parts (nat_eq slot l.slot && same_number high l.high) (nat_eq to (l.start + 1)) is in
     let more = and_parts (nat_eq slot l.slot) (same_number high l.high) parts.0 in
@@ -56,8 +56,8 @@ next_by l None is = absurd (false≢true is)
 next_by l (Some other) is = absurd (false≢true is)
 
 -- ---- filters of loops
-filter_step : (code : List Instr) (f g : Loop → Bool) (m : ℕ) (o : Option Loop) → loop_at code m ≡ o
-    → ((l : Loop) → m < suc m → loop_at code m ≡ Some l → f l ≡ g l)
+filter_step : (code : List Instr) (f g : LoopSpan → Bool) (m : ℕ) (o : Option LoopSpan) → loop_at code m ≡ o
+    → ((l : LoopSpan) → m < suc m → loop_at code m ≡ Some l → f l ≡ g l)
     → filter f (loops_below code m) ≡ filter g (loops_below code m)
     → filter f (with_loop o (loops_below code m)) ≡ filter g (with_loop o (loops_below code m))
 filter_step code f g m None is same rest = rest
@@ -65,15 +65,15 @@ filter_step code f g m (Some l) is same rest =
     ap (λ b. cond b (l ∷ filter f (loops_below code m)) (filter f (loops_below code m))) (same l (omega arith) is)
     ∙ ap (λ r. cond (g l) (l ∷ r) r) rest
 
-drop_step : (code : List Instr) (f : Loop → Bool) (m : ℕ) (o : Option Loop)
-    → ((l : Loop) → loop_at code m ≡ Some l → f l ≡ false) → loop_at code m ≡ o
+drop_step : (code : List Instr) (f : LoopSpan → Bool) (m : ℕ) (o : Option LoopSpan)
+    → ((l : LoopSpan) → loop_at code m ≡ Some l → f l ≡ false) → loop_at code m ≡ o
     → filter f (with_loop o (loops_below code m)) ≡ filter f (loops_below code m)
 drop_step code f m None none is = refl
 drop_step code f m (Some l) none is =
     ap (λ b. cond b (l ∷ filter f (loops_below code m)) (filter f (loops_below code m))) (none l is)
 
-pub filter_below : (code : List Instr) (f g : Loop → Bool) (m : ℕ)
-    → ((k : ℕ) (l : Loop) → k < m → loop_at code k ≡ Some l → f l ≡ g l)
+pub filter_below : (code : List Instr) (f g : LoopSpan → Bool) (m : ℕ)
+    → ((k : ℕ) (l : LoopSpan) → k < m → loop_at code k ≡ Some l → f l ≡ g l)
     → filter f (loops_below code m) ≡ filter g (loops_below code m)
 filter_below code f g zero same = refl
 filter_below code f g (suc m) same =
@@ -81,8 +81,8 @@ filter_below code f g (suc m) same =
     (filter_below code f g m (λ k l lt is. same k l (omega arith) is))
 
 -- those that start from s on are dropped
-drop_from : (code : List Instr) (f : Loop → Bool) (s n : ℕ)
-    → ((k : ℕ) (l : Loop) → s ≤ k → k < s + n → loop_at code k ≡ Some l → f l ≡ false)
+drop_from : (code : List Instr) (f : LoopSpan → Bool) (s n : ℕ)
+    → ((k : ℕ) (l : LoopSpan) → s ≤ k → k < s + n → loop_at code k ≡ Some l → f l ≡ false)
     → filter f (loops_below code (s + n)) ≡ filter f (loops_below code s)
 drop_from code f s zero none = ap (λ k. filter f (loops_below code k)) (omega arith)
 drop_from code f s (suc n) none =
@@ -96,12 +96,12 @@ abbrev pub is_next : Instr → Bool
 is_next (LoopNext slot high to) = true
 is_next other = false
 
-closes_next : (l : Loop) (i : Instr) → closes l (Some i) ≡ true → is_next i ≡ true
+closes_next : (l : LoopSpan) (i : Instr) → closes l (Some i) ≡ true → is_next i ≡ true
 closes_next l (LoopNext slot high to) is = refl
 closes_next l other is = absurd (false≢true is)
 
 -- no loop ends before such an instruction's next place
-no_end : (code : List Instr) (p : ℕ) (i : Instr) (k : ℕ) (l : Loop) → slice_get code p ≡ Some i → is_next i ≡ false
+no_end : (code : List Instr) (p : ℕ) (i : Instr) (k : ℕ) (l : LoopSpan) → slice_get code p ≡ Some i → is_next i ≡ false
     → loop_at code k ≡ Some l → l.exit ≡ p + 1 → ⊥
 no_end code p i k l is not_next opens ends =
     let facts = loop_is code k l opens in
@@ -120,7 +120,7 @@ same_below code p n i is not_next =
     filter_below code (λ l. nat_lt (p + 1) l.exit) (λ l. nat_lt p l.exit) n
     (λ k l lt opens. beyond p l.exit (no_end code p i k l is not_next opens))
 
-around_next : (code : List Instr) (p : ℕ) (o : Option Loop) → loop_at code p ≡ o
+around_next : (code : List Instr) (p : ℕ) (o : Option LoopSpan) → loop_at code p ≡ o
     → around code (p + 1) ≡ filter (λ l. nat_lt (p + 1) l.exit) (with_loop o (loops_below code p))
 around_next code p o is =
     ap (λ k. filter (λ l. nat_lt (p + 1) l.exit) (loops_below code k)) (add-one p)
@@ -130,7 +130,7 @@ plain_same : (code : List Instr) (p : ℕ) (i : Instr) → slice_get code p ≡ 
     → loop_at code p ≡ None → around code (p + 1) ≡ around code p
 plain_same code p i is not_next none = around_next code p None none ∙ same_below code p p i is not_next
 
-start_inside : (code : List Instr) (p : ℕ) (i : Instr) (l : Loop) → slice_get code p ≡ Some i → is_next i ≡ false
+start_inside : (code : List Instr) (p : ℕ) (i : Instr) (l : LoopSpan) → slice_get code p ≡ Some i → is_next i ≡ false
     → loop_at code p ≡ Some l → p < l.exit → around code (p + 1) ≡ l ∷ around code p
 start_inside code p i l is not_next opens later =
     let lies : nat_lt (p + 1) l.exit ≡ true = beyond p l.exit (no_end code p i p l is not_next opens)
@@ -156,7 +156,7 @@ agree_same true false is = absurd (false≢true is)
 agree_same false true is = absurd (false≢true is)
 agree_same false false is = refl
 
-agree_all : (p q : ℕ) (ls : List Loop) → list_all (agrees p q) ls ≡ true → filter (inside p) ls ≡ filter (inside q) ls
+agree_all : (p q : ℕ) (ls : List LoopSpan) → list_all (agrees p q) ls ≡ true → filter (inside p) ls ≡ filter (inside q) ls
 agree_all p q [] is = refl
 agree_all p q (l ∷ ls) is =
     let both = and_parts (agrees p q l) (list_all (agrees p q) ls) is in
@@ -173,13 +173,13 @@ stays_around code p q inp inq is =
     ∙ sym (ap (λ k. filter (inside p) (loops_below code k)) ep) ∙ inside_below code p (length code - p)
 
 -- ---- the end of a loop
-all_step : (f : Loop → Bool) (code : List Instr) (m k : ℕ) (o : Option Loop) (l : Loop) → loop_at code m ≡ o
+all_step : (f : LoopSpan → Bool) (code : List Instr) (m k : ℕ) (o : Option LoopSpan) (l : LoopSpan) → loop_at code m ≡ o
     → list_all f (with_loop o (loops_below code m)) ≡ true
     → (list_all f (loops_below code m) ≡ true → k < m → f l ≡ true) → k < suc m → loop_at code k ≡ Some l → f l ≡ true
 all_step f code m k None l at all below lt is =
     ⊎_elim (λ (less : k < m). below all less)
     (λ (ge : m ≤ k). let same : k ≡ m = omega arith in
-    let no : ◌≡◌ {A = Option Loop} None (Some l) = sym at ∙ ap (loop_at code) (sym same) ∙ is in cc)
+    let no : ◌≡◌ {A = Option LoopSpan} None (Some l) = sym at ∙ ap (loop_at code) (sym same) ∙ is in cc)
     (cases_lt k m)
 all_step f code m k (Some x) l at all below lt is =
     let both = and_parts (f x) (list_all f (loops_below code m)) all in
@@ -188,24 +188,24 @@ all_step f code m k (Some x) l at all below lt is =
     let yes : Some x ≡ Some l = sym at ∙ ap (loop_at code) (sym same) ∙ is in let e : x ≡ l = cc in
     subst (λ y. f y ≡ true) e both.0) (cases_lt k m)
 
-pub all_below : (f : Loop → Bool) (code : List Instr) (m k : ℕ) (l : Loop) → list_all f (loops_below code m) ≡ true
+pub all_below : (f : LoopSpan → Bool) (code : List Instr) (m k : ℕ) (l : LoopSpan) → list_all f (loops_below code m) ≡ true
     → k < m → loop_at code k ≡ Some l → f l ≡ true
 all_below f code zero k l all lt is = absurd (omega arith)
 all_below f code (suc m) k l all lt is =
     all_step f code m k (loop_at code m) l refl all (λ all less. all_below f code m k l all less is) lt is
 
-free_cons : (f : Loop → Bool) (x : ℕ) (l : Loop) (b : Bool) (rest : List Loop) → (l.slot ≡ x → ⊥) → Free rest x
+free_cons : (f : LoopSpan → Bool) (x : ℕ) (l : LoopSpan) (b : Bool) (rest : List LoopSpan) → (l.slot ≡ x → ⊥) → Free rest x
     → Free (cond b (l ∷ rest) rest) x
 free_cons f x l true rest apart free = (apart, free)
 free_cons f x l false rest apart free = free
 
 module _ (code : List Instr) (vars : ℕ) (clean : IsClean code vars) where
-  start_jumps : (k : ℕ) (l : Loop) → loop_at code k ≡ Some l → Jumps code k l.exit × (vars ≤ l.slot)
+  start_jumps : (k : ℕ) (l : LoopSpan) → loop_at code k ≡ Some l → Jumps code k l.exit × (vars ≤ l.slot)
   start_jumps k l is = let c =
       clean.each k (LoopStart l.slot l.low l.high l.exit) (loop_is code k l is).opens in (c.0, c.3)
 
   -- a loop that starts within a body ends within it
-  inner_ends : (s k : ℕ) (l m : Loop) → loop_at code s ≡ Some l → loop_at code k ≡ Some m → s < k → k < l.exit
+  inner_ends : (s k : ℕ) (l m : LoopSpan) → loop_at code s ≡ Some l → loop_at code k ≡ Some m → s < k → k < l.exit
       → m.exit < l.exit
   inner_ends s k l m outer inner later within =
       let jumps = (start_jumps k m inner).0 in
@@ -220,7 +220,7 @@ module _ (code : List Instr) (vars : ℕ) (clean : IsClean code vars) where
       ltb-true m.exit l.exit (and_parts (nat_lt l.start m.exit) (nat_lt m.exit l.exit) (sym same ∙ lies)).1
 
   -- the loops round the last place of a body, seen from a place q there
-  seen_from : (p q s : ℕ) (l : Loop) (slot to : ℕ) (high : ℤ) → slice_get code p ≡ Some (LoopNext slot high to)
+  seen_from : (p q s : ℕ) (l : LoopSpan) (slot to : ℕ) (high : ℤ) → slice_get code p ≡ Some (LoopNext slot high to)
       → loop_at code s ≡ Some l → s < p → l.exit ≡ p + 1 → p ≤ q
       → filter (λ m. nat_lt q m.exit) (loops_below code p)
       ≡ cond (nat_lt q l.exit) (l ∷ filter (λ m. nat_lt q m.exit) (loops_below code s))
@@ -235,7 +235,7 @@ module _ (code : List Instr) (vars : ℕ) (clean : IsClean code vars) where
       ∙ ap (λ o. filter (λ m. nat_lt q m.exit) (with_loop o (loops_below code s))) opens
 
   -- only one loop ends there
-  one_ends : (p s k : ℕ) (l m : Loop) (slot to : ℕ) (high : ℤ) → slice_get code p ≡ Some (LoopNext slot high to)
+  one_ends : (p s k : ℕ) (l m : LoopSpan) (slot to : ℕ) (high : ℤ) → slice_get code p ≡ Some (LoopNext slot high to)
       → loop_at code s ≡ Some l → l.exit ≡ p + 1 → loop_at code k ≡ Some m → k < s → m.exit ≡ p + 1 → ⊥
   one_ends p s k l m slot to high is opens ends opens' less ends' =
       let fl = loop_is code s l opens in
@@ -273,14 +273,14 @@ module _ (code : List Instr) (vars : ℕ) (clean : IsClean code vars) where
       here ∙ ap (λ r. l ∷ r) (sym (next ∙ same))
 
   -- variables are no slots of loops
-  free_step : (f : Loop → Bool) (x m : ℕ) (o : Option Loop) → loop_at code m ≡ o → x < vars
+  free_step : (f : LoopSpan → Bool) (x m : ℕ) (o : Option LoopSpan) → loop_at code m ≡ o → x < vars
       → Free (filter f (loops_below code m)) x → Free (filter f (with_loop o (loops_below code m))) x
   free_step f x m None is small rest = rest
   free_step f x m (Some l) is small rest =
       free_cons f x l (f l) (filter f (loops_below code m))
       (let above = (start_jumps m l is).1 in λ e. absurd (omega arith)) rest
 
-  free_below : (f : Loop → Bool) (x m : ℕ) → x < vars → Free (filter f (loops_below code m)) x
+  free_below : (f : LoopSpan → Bool) (x m : ℕ) → x < vars → Free (filter f (loops_below code m)) x
   free_below f x zero small = tt
   free_below f x (suc m) small = free_step f x m (loop_at code m) refl small (free_below f x m small)
 

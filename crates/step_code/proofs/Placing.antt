@@ -16,7 +16,7 @@ use Rattle.step_code.specs.proof.Rules.{strays, lacks_next, jumps_badly, jumps_b
 use Rattle.step_code.specs.proof.Checks.{Holds, Clashes, AreThere, AreHeights, PassesOn, Disagrees, Passed}
 use Rattle.step_code.proofs.Refusals.{IsSound, goes_well}
 use Rattle.step_code.proofs.Crossing.{not_le}
-use Rattle.step_code.proofs.Passing.{member_right, member_either, member_or_not}
+use Rattle.step_code.proofs.PassedHeights.{member_right, member_either, member_or_not}
 
 -- ---- the stack is no higher than the place
 after_little : (h : ℕ) (i : Instr) → after h i ≤ h + 1

@@ -6,7 +6,7 @@ use Rattle.list_lemmas.proofs.Booleans.{or_false_left, or_false_right}
 use Rattle.step_code.specs.declared.instr.Instr.{Instr}
 use Rattle.step_code.specs.declared.instr.Instr.TheVariants.{Load, Store, Port, Fresh, Jump, JumpZero, LoopStart, LoopNext, Emit, End}
 use Rattle.step_code.specs.declared.instr.CodeParts.{CodeParts}
-use Rattle.step_code.specs.declared.loops.Loop.{Loop}
+use Rattle.step_code.specs.declared.loops.LoopSpan.{LoopSpan}
 use Rattle.step_code.specs.Loops.{loop_at, around}
 use Rattle.step_code.specs.Paths.{onward}
 use Rattle.step_code.specs.proof.Heights.{takes, after, Member, Reaches, ways, Fed}
@@ -25,18 +25,18 @@ goes : (c : CodeParts) (p to : ℕ) → strays c.instrs p to ≡ false → not (
 goes c p to straight forward = let well = goes_well c.instrs p to straight in
     record { there = well.there; forward = not_le p to forward; within = well.within }
 
-loop_there : (o : Option Loop) → not (on_some o (λ l. true)) ≡ false → (l : Loop) × (o ≡ Some l)
+loop_there : (o : Option LoopSpan) → not (on_some o (λ l. true)) ≡ false → (l : LoopSpan) × (o ≡ Some l)
 loop_there None is = cc
 loop_there (Some l) is = (l, refl)
 
-free_of : (ls : List Loop) (slot : ℕ) → has_slot slot ls ≡ false → Free ls slot
+free_of : (ls : List LoopSpan) (slot : ℕ) → has_slot slot ls ≡ false → Free ls slot
 free_of [] slot is = tt
 free_of (l ∷ ls) slot is = (
   eqb-false l.slot slot (or_false_left (nat_eq l.slot slot) (has_slot slot ls) is),
   free_of ls slot (or_false_right (nat_eq l.slot slot) (has_slot slot ls) is),
 )
 
-end_by : (c : CodeParts) (p slot to start : ℕ) (high : ℤ) (o : Option Loop) → IsVerified c
+end_by : (c : CodeParts) (p slot to start : ℕ) (high : ℤ) (o : Option LoopSpan) → IsVerified c
     → slice_get c.instrs p ≡ Some (LoopNext slot high to) → loop_at c.instrs start ≡ o
     → on_some o (λ l. nat_eq l.exit (p + 1)) ≡ true → IsEnd c.instrs p
 end_by c p slot to start high None v is at found = absurd (false≢true found)

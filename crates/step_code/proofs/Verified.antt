@@ -6,7 +6,7 @@ use Rattle.list_lemmas.proofs.Booleans.{or_false_left}
 use Rattle.list_lemmas.proofs.Numbers.{nat_eq-self}
 use Rattle.step_code.specs.declared.instr.Instr.{Instr}
 use Rattle.step_code.specs.declared.instr.CodeParts.{CodeParts}
-use Rattle.step_code.specs.declared.loops.Loop.{Loop}
+use Rattle.step_code.specs.declared.loops.LoopSpan.{LoopSpan}
 use Rattle.step_code.specs.Loops.{around}
 use Rattle.step_code.specs.proof.Heights.{Member}
 use Rattle.step_code.specs.proof.Rules.{is_none, enters_badly, is_entry, is_bad_entry, on_some, finds, jumps_badly, BadJump, IsVerified}
@@ -40,7 +40,7 @@ pub record EntersWell (code : List Instr) (e : ℕ) : Type 0 where
   pub there : e < length code
   pub outside : around code e ≡ []
 
-none_is : (ls : List Loop) → is_none ls ≡ true → ls ≡ []
+none_is : (ls : List LoopSpan) → is_none ls ≡ true → ls ≡ []
 none_is [] is = refl
 none_is (l ∷ ls) is = absurd (false≢true is)
 

@@ -9,7 +9,7 @@ use Rattle.std.proofs.lemmas.List.{length-set, take_more}
 use Rattle.std.proofs.lemmas.Option.{slice_get-get_or, get_or_from_slice_get}
 use Rattle.step_code.specs.declared.instr.Instr.{Instr}
 use Rattle.step_code.specs.declared.instr.CodeParts.{CodeParts}
-use Rattle.step_code.specs.declared.loops.Loop.{Loop}
+use Rattle.step_code.specs.declared.loops.LoopSpan.{LoopSpan}
 use Rattle.step_code.specs.Loops.{turns_of, around}
 use Rattle.step_code.specs.proof.Innermost.{first, innermost}
 use Rattle.step_code.specs.Paths.{onward, leads, product, greatest, weight_at, heaviest, entry_weight, weight}
@@ -100,19 +100,19 @@ pub capped_product : (a b : ℕ) → capped (capped a * capped b) ≡ capped (a 
 capped_product a b = capped_by (2 ^ 64 - 1) a b (lit< tt)
 
 -- ---- what one instruction weighs
-none_round : (ls : List Loop) → first ls ≡ None → ls ≡ []
+none_round : (ls : List LoopSpan) → first ls ≡ None → ls ≡ []
 none_round [] is = refl
 none_round (l ∷ ls) is = cc
 
 pub weight_outside : (code : List Instr) (p : ℕ) → innermost code p ≡ None → weight_at code p ≡ 1
 weight_outside code p is = ap (λ ls. product (map turns_of ls)) (none_round (around code p) is)
 
-pub weight_inside : (c : CodeParts) (p : ℕ) (l : Loop) → IsVerified c → p ≤ length c.instrs
+pub weight_inside : (c : CodeParts) (p : ℕ) (l : LoopSpan) → IsVerified c → p ≤ length c.instrs
     → innermost c.instrs p ≡ Some l → weight_at c.instrs p ≡ turns_of l * weight_at c.instrs l.start
 weight_inside c p l v small is =
     ap (λ ls. product (map turns_of ls)) (around_outer c.instrs p l small (verified_closed c p v) is)
 
-pub starts_before : (code : List Instr) (p : ℕ) (l : Loop) → innermost code p ≡ Some l → l.start < p
+pub starts_before : (code : List Instr) (p : ℕ) (l : LoopSpan) → innermost code p ≡ Some l → l.start < p
 starts_before code p l is = (is_found code p (λ m. nat_lt p m.exit) l is).below
 
 -- ---- the heaviest path from a place

@@ -3,7 +3,7 @@ use Rattle.std.specs.Prelude.{ℕ, ◌+◌, List, [], ◌∷◌}
 use Rattle.pals_base.specs.declared.behaviour.BehaviourParts.{BehaviourParts}
 use Rattle.pals_base.specs.declared.behaviour.Op.{Op}
 use Rattle.pals_base.specs.declared.behaviour.Op.TheVariants.{AndThen, OrElse}
-use Rattle.pals_base.specs.Tree.{Expression, Literal, Variable, PortValue, Fresh, Neg, Abs, Not, Chain, Operands, NoMore, Then, Action, Assign, Emit, If, For, Actions, Nothing, Do, Branches, NoBranch, Where, Trigger, Dispatch, Always, When, Edge}
+use Rattle.pals_base.specs.Tree.{Expression, Literal, Variable, PortRead, Fresh, Neg, Abs, Not, Chain, Operands, NoMore, Then, Action, Assign, Emit, If, For, Actions, Nothing, Do, Branches, NoBranch, Where, Trigger, Dispatch, Always, When, Edge}
 
 -- an operator behind a right side of n instructions
 abbrev pub operand_length : Op → ℕ → ℕ
@@ -15,7 +15,7 @@ abbrev mutual
   pub length_of : Expression → ℕ
   length_of (Literal n) = 1
   length_of (Variable x) = 1
-  length_of (PortValue p) = 1
+  length_of (PortRead p) = 1
   length_of (Fresh p) = 1
   length_of (Neg e) = length_of e + 1
   length_of (Abs e) = length_of e + 1

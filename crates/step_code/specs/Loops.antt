@@ -4,37 +4,37 @@ use Rattle.pals_base.specs.Actions.{count_of}
 use Rattle.pals_base.specs.Expressions.{same_number}
 use Rattle.step_code.specs.declared.instr.Instr.{Instr}
 use Rattle.step_code.specs.declared.instr.Instr.TheVariants.{LoopStart, LoopNext}
-use Rattle.step_code.specs.declared.loops.Loop.{Loop}
+use Rattle.step_code.specs.declared.loops.LoopSpan.{LoopSpan}
 
-abbrev pub turns_of : Loop → ℕ
+abbrev pub turns_of : LoopSpan → ℕ
 turns_of l = count_of (l.high -ℤ l.low)
 
 -- whether an instruction is the LoopNext of a loop that starts here
-abbrev pub closes : Loop → Option Instr → Bool
+abbrev pub closes : LoopSpan → Option Instr → Bool
 closes l (Some (LoopNext slot high to)) = nat_eq slot l.slot && same_number high l.high && nat_eq to (l.start + 1)
 closes l other = false
 
-abbrev pub if_loop : List Instr → Loop → Option Loop
+abbrev pub if_loop : List Instr → LoopSpan → Option LoopSpan
 if_loop code l = if nat_lt 0 l.exit && closes l (slice_get code (l.exit - 1)) then Some l else None
 
 -- the loop that starts at a place
-abbrev pub loop_from : List Instr → ℕ → Option Instr → Option Loop
+abbrev pub loop_from : List Instr → ℕ → Option Instr → Option LoopSpan
 loop_from code place (Some (LoopStart slot low high exit)) =
     if_loop code (record { start = place; exit = exit; slot = slot; low = low; high = high })
 loop_from code place other = None
 
-abbrev pub loop_at : List Instr → ℕ → Option Loop
+abbrev pub loop_at : List Instr → ℕ → Option LoopSpan
 loop_at code place = loop_from code place (slice_get code place)
 
-abbrev pub with_loop : Option Loop → List Loop → List Loop
+abbrev pub with_loop : Option LoopSpan → List LoopSpan → List LoopSpan
 with_loop None loops = loops
 with_loop (Some l) loops = l ∷ loops
 
 -- the loops that start below a place, the highest start first
-abbrev pub loops_below : List Instr → ℕ → List Loop
+abbrev pub loops_below : List Instr → ℕ → List LoopSpan
 loops_below code zero = []
 loops_below code (suc n) = with_loop (loop_at code n) (loops_below code n)
 
 -- the loops in whose bodies a place lies, the highest start first
-abbrev pub around : List Instr → ℕ → List Loop
+abbrev pub around : List Instr → ℕ → List LoopSpan
 around code place = filter (λ l. nat_lt place l.exit) (loops_below code place)

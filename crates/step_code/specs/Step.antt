@@ -1,8 +1,8 @@
 -- What one instruction does.
 use Rattle.std.specs.Prelude.{ℕ, ◌+◌, ℤ, pos, ◌+ℤ◌, int_lt, Bool, not, if◌then◌else◌, List, [], ◌∷◌, Option, Some, None, Result, Ok, Err, slice_get, slice_set}
 use Rattle.pals_base.specs.declared.values.Trap.{Trap}
-use Rattle.pals_base.specs.declared.values.Port.{Port}
-use Rattle.pals_base.specs.declared.values.Port.TheVariants.{Present}
+use Rattle.pals_base.specs.declared.values.PortValue.{PortValue}
+use Rattle.pals_base.specs.declared.values.PortValue.TheVariants.{Present}
 use Rattle.pals_base.specs.declared.behaviour.Op.{Op}
 use Rattle.pals_base.specs.Arithmetic.{negation_of, magnitude_of}
 use Rattle.pals_base.specs.Expressions.{is_true, truth, applied}
@@ -12,8 +12,8 @@ use Rattle.step_code.specs.declared.instr.Instr.TheVariants as code
 
 -- where an instruction leads: on to a place with a stack, slots and outputs, to the end of the step, to a trap, or nowhere
 pub data Next : Type 0 where
-  Goes : (place : ℕ) (stack slots : List ℤ) (outs : List Port) → Next
-  Ends : (state : ℕ) (slots : List ℤ) (outs : List Port) → Next
+  Goes : (place : ℕ) (stack slots : List ℤ) (outs : List PortValue) → Next
+  Ends : (state : ℕ) (slots : List ℤ) (outs : List PortValue) → Next
   Traps : Trap → Next
   Sticks : Next
 
@@ -38,16 +38,16 @@ on_result (Ok v) go = go v
 on_result (Err trap) go = Traps trap
 
 -- an operator on the two topmost numbers, the right one of which lies on top
-abbrev pub on_two : Op → ℕ → List ℤ → List ℤ → List Port → Next
+abbrev pub on_two : Op → ℕ → List ℤ → List ℤ → List PortValue → Next
 on_two o place stack slots outs =
     on_top stack (λ b below.
     on_top below (λ a rest. on_result (applied o a b) (λ v. Goes (place + 1) (v ∷ rest) slots outs)))
 
 -- a value pushed
-abbrev pub pushing : ℤ → ℕ → List ℤ → List ℤ → List Port → Next
+abbrev pub pushing : ℤ → ℕ → List ℤ → List ℤ → List PortValue → Next
 pushing v place stack slots outs = Goes (place + 1) (v ∷ stack) slots outs
 
-abbrev pub step : Option Instr → Senses → ℕ → List ℤ → List ℤ → List Port → Next
+abbrev pub step : Option Instr → Senses → ℕ → List ℤ → List ℤ → List PortValue → Next
 step None s place stack slots outs = Sticks
 step (Some (code.Push v)) s place stack slots outs = pushing v place stack slots outs
 step (Some (code.Load x)) s place stack slots outs =

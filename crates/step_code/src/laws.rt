@@ -1,8 +1,8 @@
 //! Laws of the definitions. Each function does nothing: its contract is the law.
 ghost use Rattle.std.specs.Prelude.{◌≡◌, ◌≤◌, ℕ, pos, List, [], ◌∷◌, length, Some};
 ghost use Rattle.pals_base.specs.declared.values.Frame.{Frame};
-ghost use Rattle.pals_base.specs.declared.values.Port.{Port};
-ghost use Rattle.pals_base.specs.declared.values.Port.TheVariants.{Present};
+ghost use Rattle.pals_base.specs.declared.values.PortValue.{PortValue};
+ghost use Rattle.pals_base.specs.declared.values.PortValue.TheVariants.{Present};
 ghost use Rattle.pals_base.specs.Fire.{Fired};
 ghost use Rattle.step_code.specs.declared.instr.CodeParts.{CodeParts};
 ghost use Rattle.step_code.specs.Paths.{weight_of};
@@ -29,14 +29,14 @@ pub fn worked_weights()
 
 /// A step of verified code is never stuck and never unfinished: it leaves a frame and outputs.
 pub fn verified_code_ends()
-    ensures { (c : CodeParts) (frame : Frame) (inputs : List Port)
+    ensures { (c : CodeParts) (frame : Frame) (inputs : List PortValue)
         → IsVerified c → FitsCode c frame → length inputs ≡ c.ins
         → (f : Fired) × (exec c frame inputs ≡ Leaves f) }
 {}
 
 /// A step makes at most as many instructions as the code weighs.
 pub fn step_is_within_weight()
-    ensures { (c : CodeParts) (frame : Frame) (inputs : List Port) → made c frame inputs ≤ weight_of c }
+    ensures { (c : CodeParts) (frame : Frame) (inputs : List PortValue) → made c frame inputs ≤ weight_of c }
 {}
 
 /// No path from an entry of verified code weighs more than the code, and one weighs as much.

@@ -10,7 +10,7 @@ use std::alloc::Global;
 /// A loop: the places of its LoopStart and of its exit, its slot, and its first and its last
 /// number. Its body is the places between start and exit.
 #[derive(Clone, Copy)]
-pub struct Loop {
+pub struct LoopSpan {
     pub start: usize,
     pub exit: usize,
     pub slot: u32,
@@ -18,7 +18,7 @@ pub struct Loop {
     pub high: i64,
 }
 
-impl Loop {
+impl LoopSpan {
     /// How often the body runs, stopped at u64's greatest value.
     pub fn turns(self) -> u64
         ensures { result ≡ min (turns_of self) (2 ^ 64 - 1) }
@@ -31,7 +31,7 @@ impl Loop {
     }
 
     // This loop, where it is one of the instructions.
-    fn if_closed(self, instrs: &[Instr]) -> Option<Loop>
+    fn if_closed(self, instrs: &[Instr]) -> Option<LoopSpan>
         requires { self.start < 2 ^ 63 }
         ensures { result ≡ if_loop instrs.now self }
     {
@@ -60,7 +60,7 @@ impl Loop {
 }
 
 /// The loop that starts at a place.
-pub fn loop_at(instrs: &[Instr], place: usize) -> Option<Loop>
+pub fn loop_at(instrs: &[Instr], place: usize) -> Option<LoopSpan>
     ensures { result ≡ loop_at instrs.now place }
 {
     let Some(
@@ -74,7 +74,7 @@ pub fn loop_at(instrs: &[Instr], place: usize) -> Option<Loop>
     else {
         return None;
     };
-    let candidate = Loop {
+    let candidate = LoopSpan {
         start: place,
         exit: exit as usize,
         slot,
@@ -85,7 +85,7 @@ pub fn loop_at(instrs: &[Instr], place: usize) -> Option<Loop>
 }
 
 /// For each place the loop with the highest start in whose body it lies.
-pub fn innermost(alloc: Global, instrs: &[Instr]) -> Result<Vec<Option<Loop>>, NoMemory>
+pub fn innermost(alloc: Global, instrs: &[Instr]) -> Result<Vec<Option<LoopSpan>>, NoMemory>
     ensures each { IfOk result (λ found. AreInnermost instrs.now found.items) }
     ensures count { IfOk result (λ found. length found.items ≡ length instrs.now) }
 {
@@ -100,7 +100,7 @@ pub fn innermost(alloc: Global, instrs: &[Instr]) -> Result<Vec<Option<Loop>>, N
 // The loop with the highest start in whose body the next place lies, behind those for which it is
 // found: the loop that starts just before it, or else one round the place before, is the first
 // candidate, and then those round that one.
-fn innermost_at(instrs: &[Instr], found: &[Option<Loop>]) -> Option<Loop>
+fn innermost_at(instrs: &[Instr], found: &[Option<LoopSpan>]) -> Option<LoopSpan>
     requires { AreInnermost instrs.now found.now }
     ensures { result ≡ innermost instrs.now (length found.now) }
 {

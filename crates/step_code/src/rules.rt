@@ -5,12 +5,12 @@ ghost use Rattle.step_code.specs.proof.Rules.{strays, lacks_next, jumps_badly, j
 ghost use Rattle.step_code.specs.proof.Exec.{has_entry};
 
 use crate::instr::{CodeParts, Instr};
-use crate::loops::{Loop, loop_at};
+use crate::loops::{LoopSpan, loop_at};
 
 /// Whether an instruction jumps to no place, or into or out of a body, or has none behind it.
 pub fn jumps_badly(
     parts: &CodeParts,
-    innermost: &[Option<Loop>],
+    innermost: &[Option<LoopSpan>],
     place: usize,
     instr: Instr,
 ) -> bool
@@ -41,7 +41,7 @@ fn lacks_next(parts: &CodeParts, place: usize, instr: Instr) -> bool
 
 // Whether a jump goes to no place, or into or out of a body. Of two places the bodies round the
 // lower one are nested, since no rule finds anything below it, so the innermost one ends first.
-fn strays(parts: &CodeParts, innermost: &[Option<Loop>], place: usize, to: usize) -> bool
+fn strays(parts: &CodeParts, innermost: &[Option<LoopSpan>], place: usize, to: usize) -> bool
     requires clean { IsCleanBelow parts.now place }
     requires innermost { AreInnermost parts.now.instrs innermost.now }
     requires count { length innermost.now ≡ length parts.now.instrs }
@@ -58,7 +58,7 @@ fn strays(parts: &CodeParts, innermost: &[Option<Loop>], place: usize, to: usize
     }
 }
 
-fn ends_by(found: Option<Loop>, place: usize) -> bool
+fn ends_by(found: Option<LoopSpan>, place: usize) -> bool
     ensures { result ≡ ends_by found place }
 {
     match found {
@@ -67,7 +67,7 @@ fn ends_by(found: Option<Loop>, place: usize) -> bool
     }
 }
 
-fn starts_from(found: Option<Loop>, place: usize) -> bool
+fn starts_from(found: Option<LoopSpan>, place: usize) -> bool
     ensures { result ≡ starts_from found place }
 {
     match found {
@@ -117,7 +117,7 @@ fn ends_loop(instrs: &[Instr], place: usize, to: usize) -> bool
 /// Whether an instruction names a slot, a port or a state that is not there.
 pub fn misses_slot(
     parts: &CodeParts,
-    innermost: &[Option<Loop>],
+    innermost: &[Option<LoopSpan>],
     place: usize,
     instr: Instr,
 ) -> bool
@@ -154,7 +154,7 @@ fn is_no_loop_slot(parts: &CodeParts, slot: u32) -> bool
 }
 
 // Whether no loop may have the slot, or one round the place has it.
-fn misses_loop_slot(parts: &CodeParts, innermost: &[Option<Loop>], place: usize, slot: u32) -> bool
+fn misses_loop_slot(parts: &CodeParts, innermost: &[Option<LoopSpan>], place: usize, slot: u32) -> bool
     requires clean { IsCleanBelow parts.now place }
     requires innermost { AreInnermost parts.now.instrs innermost.now }
     requires count { length innermost.now ≡ length parts.now.instrs }

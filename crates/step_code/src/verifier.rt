@@ -9,7 +9,7 @@ use crate::code::Code;
 use crate::fault::CodeFault;
 use crate::heights::{entry_heights, pass_on};
 use crate::instr::CodeParts;
-use crate::loops::{Loop, innermost};
+use crate::loops::{LoopSpan, innermost};
 use crate::rules::{jumps_back, jumps_badly, misses_slot};
 use crate::weights::most_weight;
 use pals_base::limits::INSTRUCTIONS;
@@ -35,7 +35,7 @@ pub fn verify(alloc: Global, parts: CodeParts) -> Result<Code, CodeFault>
 }
 
 // What the rules find first.
-fn check(alloc: Global, parts: &CodeParts, innermost: &[Option<Loop>]) -> Result<(), CodeFault>
+fn check(alloc: Global, parts: &CodeParts, innermost: &[Option<LoopSpan>]) -> Result<(), CodeFault>
     requires short { length parts.now.instrs ≤ INSTRUCTIONS }
     requires innermost { AreInnermost parts.now.instrs innermost.now }
     requires count { length innermost.now ≡ length parts.now.instrs }
@@ -59,7 +59,7 @@ fn check(alloc: Global, parts: &CodeParts, innermost: &[Option<Loop>]) -> Result
 // What the rules find at a place where no entry is bad, and below which they find nothing.
 fn check_place(
     parts: &CodeParts,
-    innermost: &[Option<Loop>],
+    innermost: &[Option<LoopSpan>],
     heights: &mut [Option<usize>],
     at: usize,
 ) -> Result<(), CodeFault>
@@ -91,7 +91,7 @@ fn check_place(
 }
 
 // The least entry that is no place, or stands in a body.
-fn first_bad_entry(parts: &CodeParts, innermost: &[Option<Loop>]) -> Option<usize>
+fn first_bad_entry(parts: &CodeParts, innermost: &[Option<LoopSpan>]) -> Option<usize>
     requires innermost { AreInnermost parts.now.instrs innermost.now }
     requires count { length innermost.now ≡ length parts.now.instrs }
     ensures { IsLeast (is_bad_entry parts.now.instrs parts.now.entries) result }
@@ -108,7 +108,7 @@ fn first_bad_entry(parts: &CodeParts, innermost: &[Option<Loop>]) -> Option<usiz
 // The least of an entry, where it is bad, and the bad ones before it.
 fn least_bad(
     parts: &CodeParts,
-    innermost: &[Option<Loop>],
+    innermost: &[Option<LoopSpan>],
     first: Option<usize>,
     entry: usize,
 ) -> Option<usize>
@@ -127,7 +127,7 @@ fn least_bad(
     Some(entry)
 }
 
-fn enters_badly(parts: &CodeParts, innermost: &[Option<Loop>], entry: usize) -> bool
+fn enters_badly(parts: &CodeParts, innermost: &[Option<LoopSpan>], entry: usize) -> bool
     requires innermost { AreInnermost parts.now.instrs innermost.now }
     requires count { length innermost.now ≡ length parts.now.instrs }
     ensures { result ≡ enters_badly parts.now.instrs entry }

@@ -9,7 +9,7 @@ ghost use Rattle.step_code.specs.Capped.{capped, AreWeights, AreBest};
 ghost use Rattle.pals_base.specs.declared.limits.TheConstants.{INSTRUCTIONS};
 
 use crate::instr::{CodeParts, Instr};
-use crate::loops::Loop;
+use crate::loops::LoopSpan;
 use pals_base::NoMemory;
 use std::alloc::Global;
 
@@ -17,7 +17,7 @@ use std::alloc::Global;
 pub fn most_weight(
     alloc: Global,
     parts: &CodeParts,
-    innermost: &[Option<Loop>],
+    innermost: &[Option<LoopSpan>],
 ) -> Result<u64, NoMemory>
     requires verified { IsVerified parts.now }
     requires innermost { AreInnermost parts.now.instrs innermost.now }
@@ -49,7 +49,7 @@ fn entry_weight(parts: &CodeParts, best: &[u64], entry: Option<u32>) -> u64
 fn best_weights(
     alloc: Global,
     parts: &CodeParts,
-    innermost: &[Option<Loop>],
+    innermost: &[Option<LoopSpan>],
 ) -> Result<Vec<u64>, NoMemory>
     requires verified { IsVerified parts.now }
     requires innermost { AreInnermost parts.now.instrs innermost.now }
@@ -103,7 +103,7 @@ fn number_at(best: &[u64], place: Option<usize>) -> u64
 fn weights(
     alloc: Global,
     parts: &CodeParts,
-    innermost: &[Option<Loop>],
+    innermost: &[Option<LoopSpan>],
 ) -> Result<Vec<u64>, NoMemory>
     requires verified { IsVerified parts.now }
     requires innermost { AreInnermost parts.now.instrs innermost.now }
@@ -121,7 +121,7 @@ fn weights(
 
 // What the instruction at `place` weighs, where `weights` has what those before it weigh: the turns
 // of the innermost loop, times what its start weighs.
-fn weight_at(parts: &CodeParts, innermost: &[Option<Loop>], weights: &[u64], place: usize) -> u64
+fn weight_at(parts: &CodeParts, innermost: &[Option<LoopSpan>], weights: &[u64], place: usize) -> u64
     requires verified { IsVerified parts.now }
     requires innermost { AreInnermost parts.now.instrs innermost.now }
     requires count { length innermost.now ≡ length parts.now.instrs }

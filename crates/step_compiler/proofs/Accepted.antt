@@ -5,24 +5,24 @@ use Rattle.std.specs.List.{list_all}
 use Rattle.std.proofs.lemmas.Bool.{cases_lt, both_ways, and_parts, le-ltb, lt-ltb}
 use Rattle.pals_base.specs.declared.behaviour.Op.{Op}
 use Rattle.pals_base.specs.declared.behaviour.Op.TheVariants as op
-use Rattle.pals_base.specs.Tree.{Expression, Literal, Variable, PortValue, Fresh, Neg, Abs, Not, Chain, Operands, NoMore, Then, Action, Assign, Emit, If, For, Actions, Nothing, Do, Branches, NoBranch, Where}
+use Rattle.pals_base.specs.Tree.{Expression, Literal, Variable, PortRead, Fresh, Neg, Abs, Not, Chain, Operands, NoMore, Then, Action, Assign, Emit, If, For, Actions, Nothing, Do, Branches, NoBranch, Where}
 use Rattle.step_code.specs.declared.instr.Instr.{Instr}
 use Rattle.step_code.specs.declared.instr.Instr.TheVariants as code
-use Rattle.step_code.specs.declared.loops.Loop.{Loop}
+use Rattle.step_code.specs.declared.loops.LoopSpan.{LoopSpan}
 use Rattle.step_code.specs.Loops.{loop_from, loop_at, with_loop, loops_below}
 use Rattle.step_code.specs.proof.Rules.{inside, agrees, stays}
 use Rattle.step_code.specs.Lengths.{operand_length, length_of, length_act, length_acts, length_branches}
 use Rattle.step_compiler.specs.Layout.{operand_code, code_of, code_rest, code_act, code_acts, code_branches}
-use Rattle.step_compiler.proofs.Standing.{HasAt, has_front, has_back, code-length, act-length, acts-length, branches-length}
+use Rattle.step_compiler.proofs.PlacedCode.{HasAt, has_front, has_back, code-length, act-length, acts-length, branches-length}
 use Rattle.step_code.proofs.Nesting.{loop_is}
 
 -- the loops that start before a stretch end before it, or have all of it in their bodies
 pub record Outer (whole : List Instr) (p q : ℕ) : Type 0 where
-  pub each : (k : ℕ) (l : Loop) → loop_at whole k ≡ Some l → k < p → (l.exit ≤ p) ⊎ (q < l.exit)
+  pub each : (k : ℕ) (l : LoopSpan) → loop_at whole k ≡ Some l → k < p → (l.exit ≤ p) ⊎ (q < l.exit)
 
 -- the loops that start in a stretch end in it
 pub record Closed (whole : List Instr) (p q : ℕ) : Type 0 where
-  pub each : (k : ℕ) (l : Loop) → loop_at whole k ≡ Some l → p ≤ k → k < q → l.exit ≤ q
+  pub each : (k : ℕ) (l : LoopSpan) → loop_at whole k ≡ Some l → p ≤ k → k < q → l.exit ≤ q
 
 both_same : (b c : Bool) → b ≡ c → (if b then c else not c) ≡ true
 both_same true true e = refl
@@ -31,7 +31,7 @@ both_same true false e = absurd (both_ways false refl (sym e))
 both_same false true e = absurd (both_ways false refl e)
 
 -- ---- a jump over such a stretch leaves and enters no body
-agree : (whole : List Instr) (p q k : ℕ) (l : Loop) → p < q → Outer whole p q → Closed whole p q
+agree : (whole : List Instr) (p q k : ℕ) (l : LoopSpan) → p < q → Outer whole p q → Closed whole p q
     → loop_at whole k ≡ Some l → inside p l ≡ inside q l
 agree whole p q k l later outer closed is =
     let start = (loop_is whole k l is).start in
@@ -53,8 +53,8 @@ agree whole p q k l later outer closed is =
     (cases_lt k q)))
     (cases_lt k p)
 
-all_agree : (whole : List Instr) (p q n : ℕ) (o : Option Loop)
-    → ((k : ℕ) (l : Loop) → loop_at whole k ≡ Some l → inside p l ≡ inside q l) → loop_at whole n ≡ o
+all_agree : (whole : List Instr) (p q n : ℕ) (o : Option LoopSpan)
+    → ((k : ℕ) (l : LoopSpan) → loop_at whole k ≡ Some l → inside p l ≡ inside q l) → loop_at whole n ≡ o
     → list_all (agrees p q) (loops_below whole n) ≡ true
     → list_all (agrees p q) (with_loop o (loops_below whole n)) ≡ true
 all_agree whole p q n None same is rest = rest
@@ -63,7 +63,7 @@ all_agree whole p q n (Some l) same is rest =
     (both_same (inside p l) (inside q l) (same n l is)) ∙ rest
 
 below_agree : (whole : List Instr) (p q n : ℕ)
-    → ((k : ℕ) (l : Loop) → loop_at whole k ≡ Some l → inside p l ≡ inside q l)
+    → ((k : ℕ) (l : LoopSpan) → loop_at whole k ≡ Some l → inside p l ≡ inside q l)
     → list_all (agrees p q) (loops_below whole n) ≡ true
 below_agree whole p q zero same = refl
 below_agree whole p q (suc n) same = all_agree whole p q n (loop_at whole n) same refl (below_agree whole p q n same)
@@ -94,7 +94,7 @@ pub one_closed : (whole : List Instr) (p q : ℕ) (i : Instr) → slice_get whol
 one_closed whole p q i is none e = record {
   each = λ k l opens from before.
       let same : k ≡ p = omega arith in
-      let clash : ◌≡◌ {A = Option Loop} None (Some l) = sym (not_loop whole p i none) ∙ sym (ap (loop_from whole p) is)
+      let clash : ◌≡◌ {A = Option LoopSpan} None (Some l) = sym (not_loop whole p i none) ∙ sym (ap (loop_from whole p) is)
       ∙ sym (ap (loop_at whole) same) ∙ opens in
       absurd cc;
 }
@@ -146,7 +146,7 @@ mutual
   pub expr-loopless : (e : Expression) (p : ℕ) → loopless (code_of e p) ≡ true
   expr-loopless (Literal n) p = refl
   expr-loopless (Variable x) p = refl
-  expr-loopless (PortValue q) p = refl
+  expr-loopless (PortRead q) p = refl
   expr-loopless (Fresh q) p = refl
   expr-loopless (Neg e) p = loopless-append (code_of e p) (code.Neg ∷ []) (expr-loopless e p) refl
   expr-loopless (Abs e) p = loopless-append (code_of e p) (code.Abs ∷ []) (expr-loopless e p) refl

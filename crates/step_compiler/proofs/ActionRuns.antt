@@ -8,8 +8,8 @@ use Rattle.std.proofs.Math.Seq.{get_or-append_seam}
 use Rattle.std.proofs.lemmas.Option.{slice_get-get_or}
 use Rattle.pals_base.specs.declared.values.Trap.{Trap}
 use Rattle.pals_base.specs.declared.values.Frame.{Frame}
-use Rattle.pals_base.specs.declared.values.Port.{Port as Value}
-use Rattle.pals_base.specs.declared.values.Port.TheVariants.{Present}
+use Rattle.pals_base.specs.declared.values.PortValue.{PortValue as Value}
+use Rattle.pals_base.specs.declared.values.PortValue.TheVariants.{Present}
 use Rattle.pals_base.specs.Expressions.{is_true, on_value, eval}
 use Rattle.pals_base.specs.Actions.{Effect, counted_from, count_of, numbers, for_each, with_vars, without_loop, act, acts, act_first}
 use Rattle.pals_base.proofs.Loops.{no_numbers}
@@ -19,7 +19,7 @@ use Rattle.step_code.specs.declared.instr.Instr.TheVariants as code
 use Rattle.step_code.specs.Step.{Goes, Senses, on_found, step}
 use Rattle.step_code.specs.Lengths.{length_of, length_act, length_acts, length_branches}
 use Rattle.step_compiler.specs.Layout.{code_of, code_act, code_acts, code_branches}
-use Rattle.step_compiler.proofs.Standing.{HasAt, has_front, has_back, code-length, act-length, acts-length, branches-length}
+use Rattle.step_compiler.proofs.PlacedCode.{HasAt, has_front, has_back, code-length, act-length, acts-length, branches-length}
 use Rattle.step_compiler.proofs.Sight.{Sees, Sizes, SeesAct, SeesActs, SeesBranches}
 use Rattle.step_code.proofs.Bound.{get_set_other, get_set_same, spans}
 use Rattle.step_compiler.proofs.ExpressionRuns.{At, at, Leads, Traps', Gives, Shows, stays, leads_on, leads_trap, goes, jumps, passes, expr_runs}

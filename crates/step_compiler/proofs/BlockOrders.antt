@@ -15,7 +15,7 @@ use Rattle.step_compiler.specs.LaidOut.{complete_states}
 use Rattle.step_compiler.proofs.Listing.{found_is}
 use Rattle.step_compiler.proofs.Covered.{order_full}
 use Rattle.step_compiler.specs.LaidOut.{MayFollow, IsNext, IsBlockOrder}
-use Rattle.step_compiler.specs.proof.Laws.{OrderIsOne}
+use Rattle.step_compiler.specs.proof.LayoutLaws.{OrderIsOne}
 use Rattle.step_compiler.proofs.Placing.{placed_contains, contains_placed, find_least, get_take, take_next, get_front}
 
 -- ---- what may follow

@@ -4,7 +4,7 @@ use Rattle.std.specs.Prelude.{slice_get, slice_index_or, fold, Result, Ok, Err}
 use Rattle.std.proofs.lemmas.Bool.{true≢false, false≢true}
 use Rattle.pals_base.specs.declared.values.Trap.{Trap}
 use Rattle.pals_base.specs.declared.values.Frame.{Frame}
-use Rattle.pals_base.specs.declared.values.Port.{Port as Value}
+use Rattle.pals_base.specs.declared.values.PortValue.{PortValue as Value}
 use Rattle.pals_base.specs.declared.behaviour.BehaviourParts.{BehaviourParts}
 use Rattle.pals_base.specs.Expressions.{is_true, on_value, eval}
 use Rattle.pals_base.specs.Actions.{Effect, acts}
@@ -18,7 +18,7 @@ use Rattle.step_code.specs.Step.{Senses, step}
 use Rattle.step_code.specs.proof.Exec.{Ended, then_run, run}
 use Rattle.step_code.specs.Lengths.{length_of, length_acts, length_trigger, length_edge}
 use Rattle.step_compiler.specs.Layout.{code_of, code_acts}
-use Rattle.step_compiler.proofs.Standing.{HasAt, has_front, has_back, code-length, acts-length, trigger-length, edge-length}
+use Rattle.step_compiler.proofs.PlacedCode.{HasAt, has_front, has_back, code-length, acts-length, trigger-length, edge-length}
 use Rattle.step_compiler.proofs.Sight.{Sizes, SeesTrigger, IsGood, AreGood}
 use Rattle.step_compiler.specs.Blocks.{trigger_code, last_instr, edge_code, block_code}
 use Rattle.step_compiler.proofs.ExpressionRuns.{At, at, runs, Leads, Traps', Gives, leads_on, leads_trap, goes, jumps, passes}

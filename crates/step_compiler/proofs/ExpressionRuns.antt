@@ -3,19 +3,19 @@ use Rattle.std.proofs.Common.{◌≡◌, ◌∙◌, ℕ, suc, ◌+◌, ◌<◌, 
 use Rattle.std.specs.Prelude.{not, slice_get, slice_index_or, Result, Ok, Err}
 use Rattle.pals_base.specs.declared.values.Trap.{Trap}
 use Rattle.pals_base.specs.declared.values.Frame.{Frame}
-use Rattle.pals_base.specs.declared.values.Port.{Port as Value}
+use Rattle.pals_base.specs.declared.values.PortValue.{PortValue as Value}
 use Rattle.pals_base.specs.declared.behaviour.Op.{Op}
 use Rattle.pals_base.specs.declared.behaviour.Op.TheVariants as op
 use Rattle.pals_base.specs.Arithmetic.{negation_of, magnitude_of}
 use Rattle.pals_base.specs.Expressions.{is_true, truth, applied, combined, on_value, eval, eval_rest}
-use Rattle.pals_base.specs.Tree.{Expression, Literal, Variable, PortValue, Fresh, Neg, Abs, Not, Chain, Operands, NoMore, Then}
+use Rattle.pals_base.specs.Tree.{Expression, Literal, Variable, PortRead, Fresh, Neg, Abs, Not, Chain, Operands, NoMore, Then}
 use Rattle.step_code.specs.declared.instr.Instr.{Instr}
 use Rattle.step_code.specs.declared.instr.Instr.TheVariants as code
 use Rattle.step_code.specs.Step.{Goes, Traps, Senses, on_found, on_result, on_two, step}
 use Rattle.step_code.specs.proof.Exec.{Outcome, Trapped, then_run, run}
 use Rattle.step_code.specs.Lengths.{operand_length, length_of, length_rest}
 use Rattle.step_compiler.specs.Layout.{operator, operand_code, code_of, code_rest}
-use Rattle.step_compiler.proofs.Standing.{HasAt, has_front, has_back, code-length, operand-length}
+use Rattle.step_compiler.proofs.PlacedCode.{HasAt, has_front, has_back, code-length, operand-length}
 use Rattle.step_compiler.proofs.Sight.{Sees, SeesAll}
 
 -- ---- runs
@@ -286,7 +286,7 @@ module _ (whole : List Instr) (s : Senses) where
     expr_runs (Variable x) frame fresh p stack slots outs shows sees has =
         goes (at p stack slots outs) (at (p + 1) (slice_index_or frame.vars x (pos 0) ∷ stack) slots outs) (code.Load x)
         has.0 (ap (λ o. on_found o (λ v. Goes (p + 1) (v ∷ stack) slots outs)) (shows.vars x sees))
-    expr_runs (PortValue x) frame fresh p stack slots outs shows sees has =
+    expr_runs (PortRead x) frame fresh p stack slots outs shows sees has =
         goes (at p stack slots outs) (at (p + 1) (slice_index_or frame.held x (pos 0) ∷ stack) slots outs) (code.Port x)
         has.0 (ap (λ o. on_found o (λ v. Goes (p + 1) (v ∷ stack) slots outs)) (shows.held x sees))
     expr_runs (Fresh x) frame fresh p stack slots outs shows sees has =

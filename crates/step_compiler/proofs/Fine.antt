@@ -4,7 +4,7 @@ use Rattle.std.specs.Prelude.{slice_get, option_to_list}
 use Rattle.std.proofs.lemmas.Bool.{cases_lt, false≢true}
 use Rattle.pals_base.specs.declared.behaviour.Op.{Op}
 use Rattle.pals_base.specs.declared.behaviour.Op.TheVariants as op
-use Rattle.pals_base.specs.Tree.{Expression, Literal, Variable, PortValue, Fresh, Neg, Abs, Not, Chain, Operands, NoMore, Then}
+use Rattle.pals_base.specs.Tree.{Expression, Literal, Variable, PortRead, Fresh, Neg, Abs, Not, Chain, Operands, NoMore, Then}
 use Rattle.step_code.specs.declared.instr.Instr.{Instr}
 use Rattle.step_code.specs.declared.instr.Instr.TheVariants as code
 use Rattle.step_code.specs.declared.instr.CodeParts.{CodeParts}
@@ -14,7 +14,7 @@ use Rattle.step_code.specs.proof.Rules.{stays, lacks_loop, misses_slot}
 use Rattle.step_code.specs.Lengths.{operand_length, length_of, length_rest}
 use Rattle.step_compiler.specs.Layout.{operator, operand_code, code_of, code_rest}
 use Rattle.step_compiler.proofs.Sight.{Sees, SeesAll}
-use Rattle.step_compiler.proofs.Standing.{HasAt, has_front, has_back, code-length, operand-length}
+use Rattle.step_compiler.proofs.PlacedCode.{HasAt, has_front, has_back, code-length, operand-length}
 use Rattle.step_compiler.proofs.Levels.{next_height, height, height_next, height_at, Right, operand_height, expr_height}
 
 -- what the verifier asks of the instruction at a place
@@ -275,7 +275,7 @@ module _ (c : CodeParts) where
       expr_fine (Variable x) p h from before has at sees =
           plain_fine p h (code.Load x) refl has.0 (omega arith) at (omega arith)
           (less_not x (c.vars + c.loops) (omega arith))
-      expr_fine (PortValue x) p h from before has at sees =
+      expr_fine (PortRead x) p h from before has at sees =
           plain_fine p h (code.Port x) refl has.0 (omega arith) at (omega arith) (less_not x c.ins (omega arith))
       expr_fine (Fresh x) p h from before has at sees =
           plain_fine p h (code.Fresh x) refl has.0 (omega arith) at (omega arith) (less_not x c.ins (omega arith))

@@ -10,20 +10,20 @@ use Rattle.pals_base.specs.Tree.{Expression, Action, Assign, Emit, If, For, Acti
 use Rattle.step_code.specs.declared.instr.Instr.{Instr}
 use Rattle.step_code.specs.declared.instr.Instr.TheVariants as code
 use Rattle.step_code.specs.declared.instr.CodeParts.{CodeParts}
-use Rattle.step_code.specs.declared.loops.Loop.{Loop}
+use Rattle.step_code.specs.declared.loops.LoopSpan.{LoopSpan}
 use Rattle.step_code.specs.Loops.{closes, loop_from, loop_at, with_loop, loops_below, around}
 use Rattle.step_code.specs.proof.Rules.{on_some, stays, ends_loop}
 use Rattle.step_code.specs.Lengths.{length_of, length_act, length_acts, length_branches}
 use Rattle.step_compiler.specs.Layout.{code_of, code_act, code_acts, code_branches}
 use Rattle.step_compiler.proofs.Sight.{Sees, Sizes, SeesAct, SeesActs, SeesBranches}
-use Rattle.step_compiler.proofs.Standing.{HasAt, has_front, has_back, code-length, act-length, acts-length, branches-length}
+use Rattle.step_compiler.proofs.PlacedCode.{HasAt, has_front, has_back, code-length, act-length, acts-length, branches-length}
 use Rattle.step_compiler.proofs.Accepted.{Outer, Closed, jump_stays, closed_both, one_closed, none_closed, loopless, starts_none, not_loop, expr-loopless, expr_closed, act_closed, acts_closed, branches_closed}
 use Rattle.step_compiler.proofs.Levels.{height, height_next, height_at, expr_height, act_height, acts_height, branches_height}
 use Rattle.step_compiler.proofs.Fine.{AreFine, less_not, one_fine, both_fine, none_fine, fine_at, plain_fine, jump_fine, zero_fine, expr_fine}
 
 -- the loops that start before a stretch end before it, or have all of it in their bodies and a slot below n
 pub record Round (whole : List Instr) (p q n : ℕ) : Type 0 where
-  pub each : (k : ℕ) (l : Loop) → loop_at whole k ≡ Some l → k < p → (l.exit ≤ p) ⊎ ((q < l.exit) × (l.slot < n))
+  pub each : (k : ℕ) (l : LoopSpan) → loop_at whole k ≡ Some l → k < p → (l.exit ≤ p) ⊎ ((q < l.exit) × (l.slot < n))
 
 pub round_outer : (whole : List Instr) (p q n : ℕ) → Round whole p q n → Outer whole p q
 round_outer whole p q n round =
@@ -46,7 +46,7 @@ round_part whole p p' q' q n le le' round closed = record {
 }
 
 -- ---- a stretch without loops
-no_loop : (whole : List Instr) (c : List Instr) (p k : ℕ) (l : Loop) → loopless c ≡ true → HasAt whole p c
+no_loop : (whole : List Instr) (c : List Instr) (p k : ℕ) (l : LoopSpan) → loopless c ≡ true → HasAt whole p c
     → loop_at whole k ≡ Some l → p ≤ k → k < p + length c → ⊥
 no_loop whole [] p k l none has is from before = omega arith
 no_loop whole (i ∷ c) p k l none has is from before =
@@ -54,7 +54,7 @@ no_loop whole (i ∷ c) p k l none has is from before =
     ⊎_elim
     (λ (here : k < p + 1).
     let same : k ≡ p = omega arith in
-    let clash : ◌≡◌ {A = Option Loop} None (Some l) = sym (not_loop whole p i both.0)
+    let clash : ◌≡◌ {A = Option LoopSpan} None (Some l) = sym (not_loop whole p i both.0)
     ∙ sym (ap (loop_from whole p) has.0) ∙ sym (ap (loop_at whole) same) ∙ is in
     absurd cc)
     (λ (later : p + 1 ≤ k). no_loop whole c (p + 1) k l both.1 has.1 is later (omega arith))
@@ -65,7 +65,7 @@ stays_in : (whole : List Instr) (e : Expression) (p n k t : ℕ) → HasAt whole
 stays_in whole e p n k t has round from later before =
     let size = code-length e p in
     let none =
-    λ (j : ℕ) (l : Loop) (is : loop_at whole j ≡ Some l) (at : p ≤ j) (below : j < p + length_of e).
+    λ (j : ℕ) (l : LoopSpan) (is : loop_at whole j ≡ Some l) (at : p ≤ j) (below : j < p + length_of e).
     no_loop whole (code_of e p) p j l (expr-loopless e p) has is at (omega arith) in
     jump_stays whole k t later
     (record {
@@ -89,7 +89,7 @@ pub loop_there : (whole : List Instr) (p n m : ℕ) (low high : ℤ)
     → loop_at whole p ≡ Some (record { start = p; exit = p + m + 2; slot = n; low = low; high = high })
 loop_there whole p n m low high start next =
     let exit = p + m + 2 in
-    let l : Loop = record { start = p; exit = exit; slot = n; low = low; high = high } in
+    let l : LoopSpan = record { start = p; exit = exit; slot = n; low = low; high = high } in
     let place : exit - 1 ≡ p + 1 + m = omega arith in
     let closed : closes l (slice_get whole (exit - 1)) ≡ true =
     ap (closes l) (ap (slice_get whole) place ∙ next)
@@ -100,8 +100,8 @@ loop_there whole p n m low high start next =
     ∙ ap (λ x. if x then Some l else None) closed
 
 -- no loop round a place has a slot
-none_step : (f : Loop → Bool) (g : Loop → Bool) (code : List Instr) (o : Option Loop) (ls : List Loop)
-    → ((l : Loop) → o ≡ Some l → g l ≡ true → f l ≡ false) → list_any f (filter g ls) ≡ false
+none_step : (f : LoopSpan → Bool) (g : LoopSpan → Bool) (code : List Instr) (o : Option LoopSpan) (ls : List LoopSpan)
+    → ((l : LoopSpan) → o ≡ Some l → g l ≡ true → f l ≡ false) → list_any f (filter g ls) ≡ false
     → list_any f (filter g (with_loop o ls)) ≡ false
 none_step f g code None ls here rest = rest
 none_step f g code (Some l) ls here rest = by (g l) refl
@@ -110,8 +110,8 @@ none_step f g code (Some l) ls here rest = by (g l) refl
     by true is = ap (λ x. x || list_any f (filter g ls)) (here l refl is) ∙ rest
     by false is = rest
 
-pub none_round : (code : List Instr) (f : Loop → Bool) (p m : ℕ)
-    → ((k : ℕ) (l : Loop) → loop_at code k ≡ Some l → k < m → p < l.exit → f l ≡ false)
+pub none_round : (code : List Instr) (f : LoopSpan → Bool) (p m : ℕ)
+    → ((k : ℕ) (l : LoopSpan) → loop_at code k ≡ Some l → k < m → p < l.exit → f l ≡ false)
     → list_any f (filter (λ l. nat_lt p l.exit) (loops_below code m)) ≡ false
 none_round code f p zero all = refl
 none_round code f p (suc m) all =
@@ -190,7 +190,7 @@ module _ (c : CodeParts) (z : Sizes) (fits : Matches c z) where
       → height c.instrs (p + 1 + m) ≡ 0 → AreFine c (p + 1 + m) (p + 1 + m + 1)
   next_fine p n m low high start next inside above below one at =
       let q = p + 1 + m in
-      let l : Loop = record { start = p; exit = p + m + 2; slot = n; low = low; high = high } in
+      let l : LoopSpan = record { start = p; exit = p + m + 2; slot = n; low = low; high = high } in
       let after_it : height c.instrs (q + 1) ≡ 0 = height_next c.instrs q 0 (code.LoopNext n high (p + 1)) next at in
       let ends : ends_loop c.instrs q (p + 1) ≡ true =
       ap (ends_loop c.instrs q) (add-one p)
@@ -270,9 +270,9 @@ module _ (c : CodeParts) (z : Sizes) (fits : Matches c z) where
               (λ (from : p ≤ k).
               let same : k ≡ p = omega arith in
               let own = sym (loop_there c.instrs p n m low high has.0 next) ∙ sym (ap (loop_at c.instrs) same) ∙ is in
-              let l_is : ◌≡◌ {A = Loop} (record { start = p; exit = exit; slot = n; low = low; high = high }) l = cc in
-              let e = ap (λ (x : Loop). x.exit) l_is in
-              let f = ap (λ (x : Loop). x.slot) l_is in
+              let l_is : ◌≡◌ {A = LoopSpan} (record { start = p; exit = exit; slot = n; low = low; high = high }) l = cc in
+              let e = ap (λ (x : LoopSpan). x.exit) l_is in
+              let f = ap (λ (x : LoopSpan). x.slot) l_is in
               let x : p + 1 + m < l.exit = omega arith in
               let y : l.slot < n + 1 = omega arith in
               inr (x, y))

@@ -13,7 +13,7 @@ use Rattle.step_compiler.specs.proof.Order.{is_placed, block_order}
 use Rattle.step_compiler.specs.Blocks.{trigger_code, last_instr, past, edge_code, block_code, block_length, start_of, blocks_code, dispatch_offset}
 use Rattle.step_compiler.specs.proof.Blocks.{in_list, block_starts}
 use Rattle.step_compiler.proofs.Listing.{listed}
-use Rattle.step_compiler.proofs.Standing.{HasAt, has_front, has_back, edge-length, block-length}
+use Rattle.step_compiler.proofs.PlacedCode.{HasAt, has_front, has_back, edge-length, block-length}
 use Rattle.step_compiler.proofs.Covered.{order_full}
 
 -- ---- a list stands at its own beginning

@@ -20,7 +20,7 @@ use Rattle.step_compiler.specs.proof.Blocks.{block_starts, in_list, compiled}
 use Rattle.step_compiler.proofs.Marking.{edge_has}
 use Rattle.step_compiler.proofs.Laid.{start_is}
 use Rattle.step_compiler.specs.LaidOut.{IsLaidOut, AreLaidOut}
-use Rattle.step_compiler.specs.proof.Laws.{HasLayout, LaidOutCodeIsOne, LaidOutCodesAreOne}
+use Rattle.step_compiler.specs.proof.LayoutLaws.{HasLayout, LaidOutCodeIsOne, LaidOutCodesAreOne}
 use Rattle.step_compiler.proofs.BlockOrders.{blocks_are_ordered, order_is_one}
 
 -- ---- starts count at states alone

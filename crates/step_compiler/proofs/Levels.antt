@@ -5,14 +5,14 @@ use Rattle.pals_base.specs.declared.behaviour.BehaviourParts.{BehaviourParts}
 use Rattle.pals_base.specs.declared.behaviour.Op.{Op}
 use Rattle.pals_base.specs.declared.behaviour.Op.TheVariants as op
 use Rattle.pals_base.specs.Fire.{is_complete}
-use Rattle.pals_base.specs.Tree.{Expression, Literal, Variable, PortValue, Fresh, Neg, Abs, Not, Chain, Operands, NoMore, Then, Action, Assign, Emit, If, For, Actions, Nothing, Do, Branches, NoBranch, Where, Edge, Trigger, Dispatch, Always, When}
+use Rattle.pals_base.specs.Tree.{Expression, Literal, Variable, PortRead, Fresh, Neg, Abs, Not, Chain, Operands, NoMore, Then, Action, Assign, Emit, If, For, Actions, Nothing, Do, Branches, NoBranch, Where, Edge, Trigger, Dispatch, Always, When}
 use Rattle.step_code.specs.declared.instr.Instr.{Instr}
 use Rattle.step_code.specs.declared.instr.Instr.TheVariants as code
 use Rattle.step_code.specs.proof.Heights.{after}
 use Rattle.step_code.specs.Lengths.{operand_length, length_of, length_rest, length_act, length_acts, length_branches, length_trigger, length_edge, length_edges}
 use Rattle.step_compiler.specs.Layout.{operator, operand_code, code_of, code_rest, code_act, code_acts, code_branches}
 use Rattle.step_compiler.specs.Blocks.{trigger_code, last_instr, past, edge_code, block_code}
-use Rattle.step_compiler.proofs.Standing.{HasAt, has_front, has_back, code-length, operand-length, act-length, acts-length, branches-length, trigger-length, edge-length}
+use Rattle.step_compiler.proofs.PlacedCode.{HasAt, has_front, has_back, code-length, operand-length, act-length, acts-length, branches-length, trigger-length, edge-length}
 
 -- behind a jump stands code for one number fewer, or for none
 abbrev pub next_height : ℕ → Option Instr → ℕ
@@ -98,7 +98,7 @@ module _ (whole : List Instr) where
         → height whole (p + length_of e) ≡ h + 1
     expr_height (Literal n) p h has at = height_next p h (code.Push n) has.0 at ∙ omega arith
     expr_height (Variable x) p h has at = height_next p h (code.Load x) has.0 at ∙ omega arith
-    expr_height (PortValue x) p h has at = height_next p h (code.Port x) has.0 at ∙ omega arith
+    expr_height (PortRead x) p h has at = height_next p h (code.Port x) has.0 at ∙ omega arith
     expr_height (Fresh x) p h has at = height_next p h (code.Fresh x) has.0 at ∙ omega arith
     expr_height (Neg e) p h has at =
         one_behind p (length_of e) (p + (length_of e + 1)) (h + 1) (h + 1) (code_of e p) code.Neg has (code-length e p)

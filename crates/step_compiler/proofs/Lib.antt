@@ -1,4 +1,4 @@
-pub mod Standing
+pub mod PlacedCode
 pub mod Sight
 pub mod ExpressionRuns
 pub mod ActionRuns

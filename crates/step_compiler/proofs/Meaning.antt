@@ -8,8 +8,8 @@ use Rattle.std.proofs.lemmas.Option.{slice_get-get_or, slice_get_within}
 use Rattle.list_lemmas.proofs.Elements.{list_all-filter}
 use Rattle.pals_base.specs.declared.values.Trap.{Trap}
 use Rattle.pals_base.specs.declared.values.Frame.{Frame}
-use Rattle.pals_base.specs.declared.values.Port.{Port as Value}
-use Rattle.pals_base.specs.declared.values.Port.TheVariants.{Absent}
+use Rattle.pals_base.specs.declared.values.PortValue.{PortValue as Value}
+use Rattle.pals_base.specs.declared.values.PortValue.TheVariants.{Absent}
 use Rattle.pals_base.specs.declared.behaviour.BehaviourParts.{BehaviourParts}
 use Rattle.pals_base.specs.declared.behaviour.StateDecl.{StateDecl}
 use Rattle.pals_base.specs.Tree.{Edge}
@@ -41,7 +41,7 @@ use Rattle.step_compiler.specs.Blocks.{block_code, blocks_code, dispatch_offset,
 use Rattle.step_compiler.specs.proof.Blocks.{block_starts, in_list, compiled}
 use Rattle.step_compiler.proofs.Sight.{Sizes, IsGood, AreGood}
 use Rattle.step_compiler.proofs.Sighting.{Fitting, acts_seen, trigger_seen}
-use Rattle.step_compiler.proofs.Standing.{HasAt, blocks-length}
+use Rattle.step_compiler.proofs.PlacedCode.{HasAt, blocks-length}
 use Rattle.step_compiler.proofs.Marking.{edge_has}
 use Rattle.step_compiler.proofs.Covered.{all_member, order_sum}
 use Rattle.step_compiler.proofs.Listing.{got, length-upwards}

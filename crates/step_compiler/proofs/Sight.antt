@@ -1,7 +1,7 @@
 -- What expressions, actions and transitions read and write is there.
 use Rattle.std.specs.Prelude.{◌≡◌, ℕ, ◌+◌, ◌<◌, true, false, List, [], ◌∷◌, length}
 use Rattle.pals_base.specs.declared.behaviour.BehaviourParts.{BehaviourParts}
-use Rattle.pals_base.specs.Tree.{Expression, Literal, Variable, PortValue, Fresh, Neg, Abs, Not, Chain, Operands, NoMore, Then, Action, Assign, Emit, If, For, Actions, Nothing, Do, Branches, NoBranch, Where, Edge, Trigger, Dispatch, Always, When}
+use Rattle.pals_base.specs.Tree.{Expression, Literal, Variable, PortRead, Fresh, Neg, Abs, Not, Chain, Operands, NoMore, Then, Action, Assign, Emit, If, For, Actions, Nothing, Do, Branches, NoBranch, Where, Edge, Trigger, Dispatch, Always, When}
 use Rattle.pals_base.specs.Fire.{is_dispatch}
 use Rattle.pals_base.specs.proof.Settling.{settles}
 
@@ -10,7 +10,7 @@ abbrev mutual
   pub Sees : ℕ → ℕ → Expression → Type 0
   Sees n m (Literal v) = Unit {0}
   Sees n m (Variable x) = x < n
-  Sees n m (PortValue p) = p < m
+  Sees n m (PortRead p) = p < m
   Sees n m (Fresh p) = p < m
   Sees n m (Neg e) = Sees n m e
   Sees n m (Abs e) = Sees n m e

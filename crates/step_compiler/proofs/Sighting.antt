@@ -5,13 +5,13 @@ use Rattle.std.proofs.lemmas.Bool.{and_parts, ltb-true, false≢true}
 use Rattle.std.proofs.lemmas.Option.{slice_get_within}
 use Rattle.pals_base.specs.declared.behaviour.Op.{Op}
 use Rattle.pals_base.specs.declared.behaviour.Op.TheVariants as op
-use Rattle.pals_base.specs.declared.behaviour.Named.{Named}
+use Rattle.pals_base.specs.declared.behaviour.PortDecl.{PortDecl}
 use Rattle.pals_base.specs.declared.behaviour.VarDecl.{VarDecl}
 use Rattle.pals_base.specs.declared.behaviour.BehaviourParts.{BehaviourParts}
 use Rattle.pals_base.specs.declared.behaviour.Kind.{Kind}
 use Rattle.pals_base.specs.declared.behaviour.Kind.TheVariants.{Integer, Boolean}
 use Rattle.pals_base.specs.declared.kinds.Kinds.{Kinds}
-use Rattle.pals_base.specs.Tree.{Expression, Literal, Variable, PortValue, Fresh, Neg, Abs, Not, Chain, Operands, NoMore, Then, Action, Assign, Emit, If, For, Actions, Nothing, Do, Branches, NoBranch, Where, Trigger, Dispatch, Always, When}
+use Rattle.pals_base.specs.Tree.{Expression, Literal, Variable, PortRead, Fresh, Neg, Abs, Not, Chain, Operands, NoMore, Then, Action, Assign, Emit, If, For, Actions, Nothing, Do, Branches, NoBranch, Where, Trigger, Dispatch, Always, When}
 use Rattle.pals_base.specs.Kinds.{allows, port_kinds, declared_or, joined, kinds_of, kinds_along, suits_variable, suits_port, turns, is_short, is_sound, are_sound, branches_are_sound}
 use Rattle.pals_base.specs.Rules.{has_condition}
 use Rattle.step_compiler.specs.Depths.{depth_act, depth_acts, depth_branches}
@@ -46,7 +46,7 @@ variable_seen b loops x None is typed =
     ltb-true x (length b.vars + loops) (first_of (nat_lt x (length b.vars + loops)) typed)
 variable_seen b loops x (Some v) is typed = let less = slice_get_within b.vars x v is in omega arith
 
-port_seen : (b : BehaviourParts) (x : ℕ) (o : Option Named) → slice_get b.ins x ≡ o → Typed (port_kinds o)
+port_seen : (b : BehaviourParts) (x : ℕ) (o : Option PortDecl) → slice_get b.ins x ≡ o → Typed (port_kinds o)
     → x < length b.ins
 port_seen b x None is typed = absurd (false≢true typed)
 port_seen b x (Some v) is typed = slice_get_within b.ins x v is
@@ -90,7 +90,7 @@ mutual
       → Sees (length b.vars + loops) (length b.ins) e
   expr_seen (Literal n) b loops typed = tt
   expr_seen (Variable x) b loops typed = variable_seen b loops x (slice_get b.vars x) refl typed
-  expr_seen (PortValue p) b loops typed = port_seen b p (slice_get b.ins p) refl typed
+  expr_seen (PortRead p) b loops typed = port_seen b p (slice_get b.ins p) refl typed
   expr_seen (Fresh p) b loops typed = ltb-true p (length b.ins) typed
   expr_seen (Neg e) b loops typed =
       expr_seen e b loops (number_typed (kinds_of e b loops) (first_of (kinds_of e b loops).integer typed))
@@ -119,7 +119,7 @@ assigned_seen : (b : BehaviourParts) (x : ℕ) (k : Kinds) (o : Option VarDecl) 
 assigned_seen b x k None is suits = absurd (false≢true suits)
 assigned_seen b x k (Some v) is suits = (slice_get_within b.vars x v is, typed_by k v.kind suits)
 
-sent_seen : (b : BehaviourParts) (x : ℕ) (k : Kinds) (o : Option Named) → slice_get b.outs x ≡ o → suits_port o k ≡ true
+sent_seen : (b : BehaviourParts) (x : ℕ) (k : Kinds) (o : Option PortDecl) → slice_get b.outs x ≡ o → suits_port o k ≡ true
     → (x < length b.outs) × Typed k
 sent_seen b x k None is suits = absurd (false≢true suits)
 sent_seen b x k (Some v) is suits = (slice_get_within b.outs x v is, typed_by k v.kind suits)

@@ -15,7 +15,7 @@ use Rattle.step_code.specs.declared.instr.Instr.TheVariants as code
 use Rattle.step_code.specs.declared.instr.CodeParts.{CodeParts}
 use Rattle.step_code.specs.declared.fault.CodeFault.{CodeFault}
 use Rattle.step_code.specs.declared.fault.CodeFault.TheVariants as fault
-use Rattle.step_code.specs.declared.loops.Loop.{Loop}
+use Rattle.step_code.specs.declared.loops.LoopSpan.{LoopSpan}
 use Rattle.step_code.specs.Loops.{around}
 use Rattle.step_code.specs.Paths.{jump_of, may_go_on, onward}
 use Rattle.step_code.specs.proof.Exec.{has_entry}
@@ -30,7 +30,7 @@ use Rattle.step_compiler.specs.Blocks.{trigger_code, last_instr, past, edge_code
 use Rattle.step_compiler.specs.proof.Blocks.{order_length, in_list, block_starts, compiled}
 use Rattle.step_compiler.proofs.Sight.{SeesTrigger}
 use Rattle.step_compiler.proofs.Sighting.{acts_seen, trigger_seen}
-use Rattle.step_compiler.proofs.Standing.{HasAt, has_front, has_back, code-length, acts-length, trigger-length, edge-length, block-length, blocks-length}
+use Rattle.step_compiler.proofs.PlacedCode.{HasAt, has_front, has_back, code-length, acts-length, trigger-length, edge-length, block-length, blocks-length}
 use Rattle.step_compiler.proofs.Marking.{edge_has}
 use Rattle.step_compiler.proofs.Built.{AreOnce, start_below}
 use Rattle.step_compiler.proofs.Covered.{all_member, some_member, order_full}
@@ -504,7 +504,7 @@ module _ (b : BehaviourParts) (c : CodeParts) (rules : IsBehaviour b)
       by (around c.instrs e) (none_round c.instrs (λ l. true) e e
       (λ k l is less lies. absurd (let le = closed.each k l is (omega arith) less in omega arith)))
     where
-      by : (ls : List Loop) → list_any (λ l. true) ls ≡ false → is_none ls ≡ true
+      by : (ls : List LoopSpan) → list_any (λ l. true) ls ≡ false → is_none ls ≡ true
       by [] none = refl
       by (l ∷ ls) none = absurd (true≢false none)
 

@@ -1,7 +1,7 @@
 -- The instructions of expressions and actions, at a place.
 use Rattle.std.specs.Prelude.{ℕ, ◌+◌, pos, List, [], ◌∷◌, ◌++◌}
 use Rattle.pals_base.specs.declared.behaviour.Op.{Op}
-use Rattle.pals_base.specs.Tree.{Expression, Literal, Variable, PortValue, Fresh, Neg, Abs, Not, Chain, Operands, NoMore, Then, Action, Assign, Emit, If, For, Actions, Nothing, Do, Branches, NoBranch, Where}
+use Rattle.pals_base.specs.Tree.{Expression, Literal, Variable, PortRead, Fresh, Neg, Abs, Not, Chain, Operands, NoMore, Then, Action, Assign, Emit, If, For, Actions, Nothing, Do, Branches, NoBranch, Where}
 use Rattle.step_code.specs.declared.instr.Instr.{Instr}
 use Rattle.step_code.specs.Lengths.{operand_length, length_of, length_act, length_acts, length_branches}
 use Rattle.pals_base.specs.declared.behaviour.Op.TheVariants as op
@@ -40,7 +40,7 @@ abbrev mutual
   pub code_of : Expression → ℕ → List Instr
   code_of (Literal n) p = code.Push n ∷ []
   code_of (Variable x) p = code.Load x ∷ []
-  code_of (PortValue q) p = code.Port q ∷ []
+  code_of (PortRead q) p = code.Port q ∷ []
   code_of (Fresh q) p = code.Fresh q ∷ []
   code_of (Neg e) p = code_of e p ++ code.Neg ∷ []
   code_of (Abs e) p = code_of e p ++ code.Abs ∷ []

@@ -3,4 +3,4 @@ pub mod Order
 pub mod Blocks
 pub mod Adding
 pub mod Refusals
-pub mod Laws
+pub mod LayoutLaws

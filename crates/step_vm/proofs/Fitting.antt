@@ -5,7 +5,7 @@ use Rattle.std.proofs.lemmas.List.{length-set, length-replicate, length-take-le}
 use Rattle.std.proofs.lemmas.Bool.{not-false}
 use Rattle.pals_base.specs.declared.values.Trap.{Trap}
 use Rattle.pals_base.specs.declared.values.Frame.{Frame}
-use Rattle.pals_base.specs.declared.values.Port.{Port as Value}
+use Rattle.pals_base.specs.declared.values.PortValue.{PortValue as Value}
 use Rattle.pals_base.specs.declared.behaviour.Op.{Op}
 use Rattle.pals_base.specs.declared.behaviour.Op.TheVariants as op
 use Rattle.pals_base.specs.Arithmetic.{negation_of, magnitude_of}

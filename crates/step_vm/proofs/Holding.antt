@@ -2,26 +2,26 @@
 use Rattle.std.proofs.Common.{◌≡◌, ◌∙◌, ℕ, suc, ◌+◌, ◌<◌, ◌≤◌, ℤ, pos, List, [], ◌∷◌, ◌++◌, length, take, drop, slice_index_or, slice_set, refl, sym, ap, arith, add-one, drop-cons}
 use Rattle.std.proofs.Math.Seq.{set-append_seam}
 use Rattle.std.proofs.lemmas.List.{take_more, length-take-le}
-use Rattle.pals_base.specs.declared.values.Port.{Port}
-use Rattle.pals_base.specs.declared.values.Port.TheVariants.{Absent, Present}
+use Rattle.pals_base.specs.declared.values.PortValue.{PortValue}
+use Rattle.pals_base.specs.declared.values.PortValue.TheVariants.{Absent, Present}
 use Rattle.pals_base.specs.Fire.{held_of, holding}
 
 pub holding-none : (held : List ℤ) → holding held [] ≡ held
 holding-none [] = refl
 holding-none (v ∷ held) = refl
 
-holding-present : (held : List ℤ) (xs : List Port) (v : ℤ) → length xs < length held
+holding-present : (held : List ℤ) (xs : List PortValue) (v : ℤ) → length xs < length held
     → holding held (xs ++ Present v ∷ []) ≡ slice_set (holding held xs) (length xs) v
 holding-present [] xs v less = absurd (omega arith)
 holding-present (h ∷ held) [] v less = ap (λ l. v ∷ l) (holding-none held)
 holding-present (h ∷ held) (x ∷ xs) v less = ap (λ l. held_of h x ∷ l) (holding-present held xs v (omega arith))
 
-holding-absent : (held : List ℤ) (xs : List Port) → holding held (xs ++ Absent ∷ []) ≡ holding held xs
+holding-absent : (held : List ℤ) (xs : List PortValue) → holding held (xs ++ Absent ∷ []) ≡ holding held xs
 holding-absent [] xs = refl
 holding-absent (h ∷ held) [] = ap (λ l. h ∷ l) (holding-none held)
 holding-absent (h ∷ held) (x ∷ xs) = ap (λ l. held_of h x ∷ l) (holding-absent held xs)
 
-pub hold_present : (held : List ℤ) (inputs : List Port) (at : ℕ) (v : ℤ) (d : Port) → length inputs ≡ length held
+pub hold_present : (held : List ℤ) (inputs : List PortValue) (at : ℕ) (v : ℤ) (d : PortValue) → length inputs ≡ length held
     → at < length inputs → slice_index_or inputs at d ≡ Present v
     → holding held (take (at + 1) inputs) ≡ slice_set (holding held (take at inputs)) at v
 hold_present held inputs at v d size within is =
@@ -31,7 +31,7 @@ hold_present held inputs at v d size within is =
     ap (holding held) more ∙ holding-present held (take at inputs) v (omega arith)
     ∙ ap (λ k. slice_set (holding held (take at inputs)) k v) n
 
-pub hold_absent : (held : List ℤ) (inputs : List Port) (at : ℕ) (d : Port) → at < length inputs
+pub hold_absent : (held : List ℤ) (inputs : List PortValue) (at : ℕ) (d : PortValue) → at < length inputs
     → slice_index_or inputs at d ≡ Absent → holding held (take (at + 1) inputs) ≡ holding held (take at inputs)
 hold_absent held inputs at d within is =
     let more : take (at + 1) inputs ≡ take at inputs ++ Absent ∷ [] = take_more inputs at d within

@@ -2,13 +2,13 @@
 use Rattle.std.proofs.Common.{◌≡◌, ◌∙◌, ℕ, List, Some, None, sym, ap}
 use Rattle.std.specs.Prelude.{slice_get}
 use Rattle.pals_base.specs.declared.values.Frame.{Frame}
-use Rattle.pals_base.specs.declared.values.Port.{Port}
+use Rattle.pals_base.specs.declared.values.PortValue.{PortValue}
 use Rattle.pals_base.specs.Fire.{Fired, holding}
 use Rattle.step_code.specs.declared.instr.CodeParts.{CodeParts}
 use Rattle.step_code.specs.proof.Exec.{left, run_from, from_entry, unless_halted, exec, Leaves}
 
 -- the whole step
-pub stepped : (c : CodeParts) (frame held : Frame) (inputs : List Port) (entry : ℕ) (f : Fired)
+pub stepped : (c : CodeParts) (frame held : Frame) (inputs : List PortValue) (entry : ℕ) (f : Fired)
     → held ≡ record frame { held = holding frame.held inputs } → frame.halt ≡ None
     → slice_get c.entries frame.state ≡ Some (Some entry)
     → left c held (run_from c held inputs entry) ≡ Leaves f → exec c frame inputs ≡ Leaves f

@@ -4,7 +4,7 @@ use Rattle.std.specs.Prelude.{slice_get}
 use Rattle.std.proofs.lemmas.List.{length-map}
 use Rattle.std.proofs.lemmas.Option.{slice_get-get_or}
 use Rattle.pals_base.specs.declared.values.Trap.{Trap}
-use Rattle.pals_base.specs.declared.values.Port.{Port}
+use Rattle.pals_base.specs.declared.values.PortValue.{PortValue}
 use Rattle.pals_base.specs.Fire.{is_present}
 use Rattle.step_code.specs.declared.instr.Instr.{Instr}
 use Rattle.step_code.specs.declared.instr.CodeParts.{CodeParts}
@@ -29,10 +29,10 @@ use Rattle.step_code.proofs.Ending.{entry_within}
 pub record Task : Type 0 where
   pub parts : CodeParts
   pub held : List ℤ
-  pub inputs : List Port
+  pub inputs : List PortValue
   pub entry : ℕ
   pub slots : List ℤ
-  pub outs : List Port
+  pub outs : List PortValue
 
 abbrev pub fuel : Task → ℕ
 fuel t = weight t.parts.instrs t.parts.entries
@@ -51,7 +51,7 @@ pub record IsTask (t : Task) : Type 0 where
   pub inputs' : length t.inputs ≡ t.parts.ins
 
 -- a run stands somewhere, and what is left of it is the whole
-pub record IsUnderWay (t : Task) (size place : ℕ) (stack slots : List ℤ) (outs : List Port)
+pub record IsUnderWay (t : Task) (size place : ℕ) (stack slots : List ℤ) (outs : List PortValue)
     (stack_size : ℕ) : Type 0 where
   pub stands : Stands t.parts.instrs t.parts.entries (t.parts.vars + t.parts.loops) t.parts.outs place stack slots outs
   pub same : run t.parts.instrs (senses t.held t.inputs) (fuel t) place stack slots outs ≡ whole t
@@ -82,7 +82,7 @@ begins_at t size is =
     }
 
 -- the instruction there
-pub here_at : (t : Task) (size place stack_size : ℕ) (stack slots : List ℤ) (outs : List Port) (xs : List Instr)
+pub here_at : (t : Task) (size place stack_size : ℕ) (stack slots : List ℤ) (outs : List PortValue) (xs : List Instr)
     (d : Instr) → IsUnderWay t size place stack slots outs stack_size → xs ≡ t.parts.instrs
     → slice_get t.parts.instrs place ≡ Some (slice_index_or xs place d)
 here_at t size place stack_size stack slots outs xs d way same =
@@ -91,7 +91,7 @@ here_at t size place stack_size stack slots outs xs d way same =
     ap (λ l. slice_get l place) (sym same) ∙ slice_get-get_or xs place d (omega arith)
 
 -- what an instruction finds there
-pub record IsReady (t : Task) (i : Instr) (place : ℕ) (stack slots : List ℤ) (outs : List Port) : Type 0 where
+pub record IsReady (t : Task) (i : Instr) (place : ℕ) (stack slots : List ℤ) (outs : List PortValue) : Type 0 where
   pub operands : takes i ≤ length stack
   pub there : Fed (length slots) (length t.held) (length outs) i
   pub low : length stack ≤ place
@@ -102,7 +102,7 @@ fed_here t is =
     subst (λ n. IsFed t.parts.instrs (t.parts.vars + t.parts.loops) n t.parts.outs) (sym is.held')
     (verified_fed t.parts is.verified)
 
-pub ready : (t : Task) (size place stack_size : ℕ) (i : Instr) (stack slots : List ℤ) (outs : List Port) → IsTask t
+pub ready : (t : Task) (size place stack_size : ℕ) (i : Instr) (stack slots : List ℤ) (outs : List PortValue) → IsTask t
     → IsUnderWay t size place stack slots outs stack_size → slice_get t.parts.instrs place ≡ Some i
     → IsReady t i place stack slots outs
 ready t size place stack_size i stack slots outs is way here =
@@ -122,7 +122,7 @@ ready t size place stack_size i stack slots outs is way here =
 fresh_here : (t : Task) → IsTask t → length (map is_present t.inputs) ≡ length t.held
 fresh_here t is = let a = is.held' in let b = is.inputs' in omega (arith, length-map t.inputs is_present)
 
-fine_here : (t : Task) (size place stack_size : ℕ) (i : Instr) (stack slots : List ℤ) (outs : List Port) → IsTask t
+fine_here : (t : Task) (size place stack_size : ℕ) (i : Instr) (stack slots : List ℤ) (outs : List PortValue) → IsTask t
     → IsUnderWay t size place stack slots outs stack_size → slice_get t.parts.instrs place ≡ Some i
     → Fine (Stands t.parts.instrs t.parts.entries (t.parts.vars + t.parts.loops) t.parts.outs)
     (step (Some i) (senses t.held t.inputs) place stack slots outs)
@@ -132,7 +132,7 @@ fine_here t size place stack_size i stack slots outs is way here =
     place i stack slots outs here way.stands
 
 moves_here : (t : Task) (size place stack_size q : ℕ) (i : Instr) (stack slots stack' slots' : List ℤ)
-    (outs outs' : List Port) → IsTask t → IsUnderWay t size place stack slots outs stack_size
+    (outs outs' : List PortValue) → IsTask t → IsUnderWay t size place stack slots outs stack_size
     → slice_get t.parts.instrs place ≡ Some i
     → step (Some i) (senses t.held t.inputs) place stack slots outs ≡ Goes q stack' slots' outs'
     → Moves t.parts.instrs (senses t.held t.inputs) (fuel t) place q stack slots stack' slots' outs outs'
@@ -143,7 +143,7 @@ moves_here t size place stack_size q i stack slots stack' slots' outs outs' is w
 
 -- an instruction that leads on
 pub goes_on : (t : Task) (size place stack_size stack_size' q : ℕ) (i : Instr) (stack slots stack' slots' : List ℤ)
-    (outs outs' : List Port) → IsTask t → IsUnderWay t size place stack slots outs stack_size
+    (outs outs' : List PortValue) → IsTask t → IsUnderWay t size place stack slots outs stack_size
     → slice_get t.parts.instrs place ≡ Some i
     → step (Some i) (senses t.held t.inputs) place stack slots outs ≡ Goes q stack' slots' outs'
     → stack_size' ≡ stack_size → IsUnderWay t size q stack' slots' outs' stack_size'
@@ -155,11 +155,11 @@ goes_on t size place stack_size stack_size' q i stack slots stack' slots' outs o
   kept = kept ∙ way.kept;
 }
 
-abbrev pub left : Task → ℕ → List ℤ → List ℤ → List Port → ℕ
+abbrev pub left : Task → ℕ → List ℤ → List ℤ → List PortValue → ℕ
 left t place stack slots outs = count t.parts.instrs (senses t.held t.inputs) (fuel t) place stack slots outs
 
 pub fewer : (t : Task) (size place stack_size q : ℕ) (i : Instr) (stack slots stack' slots' : List ℤ)
-    (outs outs' : List Port) → IsTask t → IsUnderWay t size place stack slots outs stack_size
+    (outs outs' : List PortValue) → IsTask t → IsUnderWay t size place stack slots outs stack_size
     → slice_get t.parts.instrs place ≡ Some i
     → step (Some i) (senses t.held t.inputs) place stack slots outs ≡ Goes q stack' slots' outs'
     → left t q stack' slots' outs' < left t place stack slots outs
@@ -167,7 +167,7 @@ fewer t size place stack_size q i stack slots stack' slots' outs outs' is way he
     (moves_here t size place stack_size q i stack slots stack' slots' outs outs' is way here goes).fewer
 
 -- an instruction that ends the run: the run from there is over by one more instruction
-ends_by : (t : Task) (n place : ℕ) (stack slots : List ℤ) (outs : List Port) (next : Next) (o : Outcome)
+ends_by : (t : Task) (n place : ℕ) (stack slots : List ℤ) (outs : List PortValue) (next : Next) (o : Outcome)
     → step (slice_get t.parts.instrs place) (senses t.held t.inputs) place stack slots outs ≡ next
     → ((rest : Rest) → then_run next rest ≡ o) → 0 < n
     → run t.parts.instrs (senses t.held t.inputs) n place stack slots outs ≡ o
@@ -176,13 +176,13 @@ ends_by t (suc n) place stack slots outs next o is then some =
     ap (λ x. then_run x (run t.parts.instrs (senses t.held t.inputs) n)) is
     ∙ then (run t.parts.instrs (senses t.held t.inputs) n)
 
-over_positive : (t : Task) (n place : ℕ) (stack slots : List ℤ) (outs : List Port)
+over_positive : (t : Task) (n place : ℕ) (stack slots : List ℤ) (outs : List PortValue)
     → IsOver (run t.parts.instrs (senses t.held t.inputs) n place stack slots outs) → 0 < n
 over_positive t zero place stack slots outs over = absurd over
 over_positive t (suc n) place stack slots outs over = omega arith
 
 pub ends_in : (t : Task) (size place stack_size state : ℕ) (i : Instr) (stack slots slots' : List ℤ)
-    (outs outs' : List Port) → IsTask t → IsUnderWay t size place stack slots outs stack_size
+    (outs outs' : List PortValue) → IsTask t → IsUnderWay t size place stack slots outs stack_size
     → slice_get t.parts.instrs place ≡ Some i
     → step (Some i) (senses t.held t.inputs) place stack slots outs ≡ Ends state slots' outs'
     → whole t ≡ Ended state slots' outs'
@@ -193,7 +193,7 @@ ends_in t size place stack_size state i stack slots slots' outs outs' is way her
     (over_positive t (fuel t) place stack slots outs (subst IsOver (sym way.same) (task_over t is)))
 
 pub traps_in : (t : Task) (size place stack_size : ℕ) (i : Instr) (trap : Trap) (stack slots : List ℤ)
-    (outs : List Port) → IsTask t → IsUnderWay t size place stack slots outs stack_size
+    (outs : List PortValue) → IsTask t → IsUnderWay t size place stack slots outs stack_size
     → slice_get t.parts.instrs place ≡ Some i
     → step (Some i) (senses t.held t.inputs) place stack slots outs ≡ Traps trap → whole t ≡ Trapped trap
 traps_in t size place stack_size i trap stack slots outs is way here traps =

@@ -7,12 +7,12 @@ ghost use Rattle.step_vm.specs.proof.Outcomes.{Met, GivesResult, GivesBoth, done
 
 use crate::operators::{apply, holds, number_of};
 use crate::stack::Stack;
-use pals_base::{Op, Port, Trap};
+use pals_base::{Op, PortValue, Trap};
 use step_code::Instr;
 
 /// Where an instruction leads: to a place, to the end of the step in a state, or to a trap.
 #[derive(Clone, Copy)]
-pub enum Onward {
+pub enum Continuation {
     Goes(usize),
     Ends(u32),
     Traps(Trap),
@@ -20,23 +20,23 @@ pub enum Onward {
 
 /// What a step reads and never changes: the held inputs, and what the in ports have in this step.
 #[derive(Clone, Copy)]
-pub struct Inputs<'a> {
+pub struct CodeInputs<'a> {
     pub held: &'a [i64],
-    pub present: &'a [Port],
+    pub present: &'a [PortValue],
 }
 
 // Whether an input came to the port in this step.
 #[inline(always)]
-fn is_fresh(present: &[Port], port: usize) -> bool
+fn is_fresh(present: &[PortValue], port: usize) -> bool
     requires { port < length present.now }
     ensures { slice_get (map is_present present.now) port ≡ Some result }
 {
-    matches!(present[port], Port::Present(_))
+    matches!(present[port], PortValue::Present(_))
 }
 
 // A result on the stack, or a trap.
 #[inline(always)]
-fn give(stack: &mut Stack, value: Result<i64, Trap>, place: usize) -> Onward
+fn give(stack: &mut Stack, value: Result<i64, Trap>, place: usize) -> Continuation
     requires room { length stack.old.numbers < stack.old.size }
     requires small { place < INSTRUCTIONS }
     ensures met { GivesResult result stack.new.numbers value place stack.old.numbers }
@@ -45,15 +45,15 @@ fn give(stack: &mut Stack, value: Result<i64, Trap>, place: usize) -> Onward
     match value {
         Ok(number) => {
             stack.push(number);
-            Onward::Goes(place + 1)
+            Continuation::Goes(place + 1)
         }
-        Err(trap) => Onward::Traps(trap),
+        Err(trap) => Continuation::Traps(trap),
     }
 }
 
 // The two topmost numbers give way to the result of an operator.
 #[inline(always)]
-fn two(stack: &mut Stack, op: Op, place: usize) -> Onward
+fn two(stack: &mut Stack, op: Op, place: usize) -> Continuation
     requires both { 2 ≤ length stack.old.numbers }
     requires room { length stack.old.numbers ≤ stack.old.size }
     requires small { place < INSTRUCTIONS }
@@ -72,9 +72,9 @@ pub fn advance(
     place: usize,
     stack: &mut Stack,
     slots: &mut [i64],
-    outs: &mut [Port],
-    inputs: Inputs,
-) -> Onward
+    outs: &mut [PortValue],
+    inputs: CodeInputs,
+) -> Continuation
     requires operands { takes instr ≤ length stack.old.numbers }
     requires there { Fed (length slots.old) (length inputs.held.now) (length outs.old) instr }
     requires inputs { length inputs.present.now ≡ length inputs.held.now }
@@ -88,7 +88,7 @@ pub fn advance(
         Instr::Load(slot) => give(stack, Ok(slots[slot as usize]), place),
         Instr::Store(slot) => {
             slots[slot as usize] = stack.pop();
-            Onward::Goes(place + 1)
+            Continuation::Goes(place + 1)
         }
         Instr::Port(port) => give(stack, Ok(inputs.held[port as usize]), place),
         Instr::Fresh(port) => {
@@ -122,12 +122,12 @@ pub fn advance(
         Instr::And => two(stack, Op::And, place),
         Instr::Or => two(stack, Op::Or, place),
         Instr::Xor => two(stack, Op::Xor, place),
-        Instr::Jump(to) => Onward::Goes(to as usize),
+        Instr::Jump(to) => Continuation::Goes(to as usize),
         Instr::JumpZero(to) => {
             if holds(stack.pop()) {
-                Onward::Goes(place + 1)
+                Continuation::Goes(place + 1)
             } else {
-                Onward::Goes(to as usize)
+                Continuation::Goes(to as usize)
             }
         }
         Instr::LoopStart {
@@ -137,23 +137,23 @@ pub fn advance(
             exit,
         } => {
             if high < low {
-                return Onward::Goes(exit as usize);
+                return Continuation::Goes(exit as usize);
             }
             slots[slot as usize] = low;
-            Onward::Goes(place + 1)
+            Continuation::Goes(place + 1)
         }
         Instr::LoopNext { slot, high, to } => {
             let number = slots[slot as usize];
             if number < high {
                 slots[slot as usize] = number + 1;
-                return Onward::Goes(to as usize);
+                return Continuation::Goes(to as usize);
             }
-            Onward::Goes(place + 1)
+            Continuation::Goes(place + 1)
         }
         Instr::Emit(port) => {
-            outs[port as usize] = Port::Present(stack.pop());
-            Onward::Goes(place + 1)
+            outs[port as usize] = PortValue::Present(stack.pop());
+            Continuation::Goes(place + 1)
         }
-        Instr::End(state) => Onward::Ends(state),
+        Instr::End(state) => Continuation::Ends(state),
     }
 }

@@ -9,21 +9,21 @@ ghost use Rattle.step_vm.specs.proof.Stacks.{stack_of};
 ghost use Rattle.step_vm.specs.proof.Outcomes.{HasEnded, LeavesBehind, ran};
 ghost use Rattle.step_vm.specs.proof.Rooms.{IsRoomOf};
 
-use crate::machine::{Inputs, Onward, advance};
+use crate::machine::{CodeInputs, Continuation, advance};
 use crate::room::Room;
 use crate::stack::Stack;
-use pals_base::{Frame, Items, Port, Trap};
+use pals_base::{Frame, Items, PortValue, Trap};
 use step_code::{Code, CodeParts};
 
 /// How a run comes to its end: in a state, or by a trap.
-enum Ended {
+enum RunResult {
     In(u32),
     Trapped(Trap),
 }
 
 /// One step of the code at these inputs: the frame and the outputs become those that it leaves, and
 /// the frame fits the code again. It takes no memory and refuses nothing.
-pub fn run(code: &Code, room: &mut Room, frame: &mut Frame, inputs: &[Port], outs: &mut [Port])
+pub fn run(code: &Code, room: &mut Room, frame: &mut Frame, inputs: &[PortValue], outs: &mut [PortValue])
     requires room { IsRoomOf code.now room.old }
     requires frame { FitsCode code.now frame.old }
     requires inputs { length inputs.now ≡ code.now.ins }
@@ -41,8 +41,8 @@ fn take_step(
     parts: &CodeParts,
     room: &mut Room,
     frame: &mut Frame,
-    inputs: &[Port],
-    outs: &mut [Port],
+    inputs: &[PortValue],
+    outs: &mut [PortValue],
 )
     requires verified { IsVerified parts.now }
     requires room { IsRoomOf parts.now room.old }
@@ -70,8 +70,8 @@ fn react(
     stack: &mut Stack,
     slots: &mut [i64],
     frame: &mut Frame,
-    inputs: &[Port],
-    outs: &mut [Port],
+    inputs: &[PortValue],
+    outs: &mut [PortValue],
 )
     requires verified { IsVerified parts.now }
     requires entry { Member parts.now.entries (Some entry) }
@@ -84,7 +84,7 @@ fn react(
     ensures size { stack.new.size ≡ stack.old.size }
 {
     begin(slots, frame.vars.as_slice());
-    let reads = Inputs {
+    let reads = CodeInputs {
         held: frame.held.as_slice(),
         present: inputs,
     };
@@ -93,16 +93,16 @@ fn react(
 }
 
 // What a run leaves: the state and the variables where it ended, or a trap and no outputs.
-fn leave(ended: Ended, frame: &mut Frame, slots: &[i64], outs: &mut [Port])
+fn leave(ended: RunResult, frame: &mut Frame, slots: &[i64], outs: &mut [PortValue])
     requires { length frame.old.vars ≤ length slots.now }
     ensures { LeavesBehind ended slots.now frame.old frame.new outs.old outs.new }
 {
     match ended {
-        Ended::In(state) => {
+        RunResult::In(state) => {
             keep(&mut frame.vars, slots);
             frame.state = state;
         }
-        Ended::Trapped(trap) => {
+        RunResult::Trapped(trap) => {
             silence(outs);
             frame.halt = Some(trap);
         }
@@ -126,9 +126,9 @@ fn run_from(
     entry: usize,
     stack: &mut Stack,
     slots: &mut [i64],
-    outs: &mut [Port],
-    inputs: Inputs,
-) -> Ended
+    outs: &mut [PortValue],
+    inputs: CodeInputs,
+) -> RunResult
     requires verified { IsVerified parts.now }
     requires entry { Member parts.now.entries (Some entry) }
     requires stack { stack.old ≡ stack_of [] (length parts.now.instrs) }
@@ -143,30 +143,30 @@ fn run_from(
     let mut place = entry;
     loop {
         match advance(instrs[place], place, stack, slots, outs, inputs) {
-            Onward::Goes(next) => place = next,
-            Onward::Ends(state) => return Ended::In(state),
-            Onward::Traps(trap) => return Ended::Trapped(trap),
+            Continuation::Goes(next) => place = next,
+            Continuation::Ends(state) => return RunResult::In(state),
+            Continuation::Traps(trap) => return RunResult::Trapped(trap),
         }
     }
 }
 
 // Holds each present input.
-fn hold(held: &mut Items<i64>, inputs: &[Port])
+fn hold(held: &mut Items<i64>, inputs: &[PortValue])
     requires { length inputs.now ≡ length held.old }
     ensures { held.new ≡ holding held.old inputs.now }
 {
     for at in 0..inputs.len() {
-        if let Port::Present(value) = inputs[at] {
+        if let PortValue::Present(value) = inputs[at] {
             held.set(at, value);
         }
     }
 }
 
 // Leaves no value on any port.
-fn silence(outs: &mut [Port])
-    ensures { outs.new ≡ replicate (length outs.old) Port.Absent }
+fn silence(outs: &mut [PortValue])
+    ensures { outs.new ≡ replicate (length outs.old) PortValue.Absent }
 {
-    outs.fill(Port::Absent);
+    outs.fill(PortValue::Absent);
 }
 
 // The slots at the start: the variables, and 0 for each loop.

@@ -2,8 +2,8 @@
 use Rattle.std.proofs.Common.{◌≡◌, ◌⊎◌, inl, inr, ℕ, zero, suc, Bool, true, false, List, [], ◌∷◌, Some, All}
 use Rattle.std.proofs.Common.{slice_get, slice_index_or, refl}
 use Rattle.std.proofs.lemmas.List.Elements.{All-nil, All-cons}
-use Rattle.pals_base.specs.declared.values.Port.{Port}
-use Rattle.pals_base.specs.declared.values.Port.TheVariants.{Absent}
+use Rattle.pals_base.specs.declared.values.PortValue.{PortValue}
+use Rattle.pals_base.specs.declared.values.PortValue.TheVariants.{Absent}
 use Rattle.pals_base.specs.Steps.{column}
 
 -- ---- an element passes a test, or none does
@@ -21,7 +21,7 @@ some_or_none test [] = inr (All-nil (λ x. test x ≡ false))
 some_or_none test (x ∷ xs) = passes_or test x xs (test x) refl (some_or_none test xs)
 
 -- ---- a place of a list among lists
-pub column_at : (lists : List (List Port)) (k round : ℕ)
+pub column_at : (lists : List (List PortValue)) (k round : ℕ)
     → slice_index_or (column round lists) k Absent ≡ slice_index_or (slice_index_or lists k []) round Absent
 column_at [] k round = refl
 column_at (list ∷ lists) zero round = refl

@@ -2,7 +2,7 @@
 use Rattle.std.proofs.Common.{◌≡◌, ℕ, zero, suc, ◌<◌, List, [], ◌∷◌, Contains, slice_get, refl, arith}
 use Rattle.std.specs.Prelude.{codes}
 use Rattle.std.proofs.lemmas.List.Elements.{All-nil}
-use Rattle.pals_base.specs.declared.values.Port.{Port}
+use Rattle.pals_base.specs.declared.values.PortValue.{PortValue}
 use Rattle.pals_model.specs.proof.Counters.{two_counters}
 use Rattle.pals_model.specs.Inputs.{no_env}
 use Rattle.sync_product.specs.proof.Renumbered.{IsRenumbered, AreSameInputs, values_of}
@@ -50,7 +50,7 @@ fed_counters_are_renumbered = record {
   feeds = λ feed. (turned _ _ feed, turned _ _ feed);
 }
 
-pub exchanged_inputs : (x y : List Port) → AreSameInputs fed_counters exchanged_fed_counters (inputs_of_two x y) (inputs_of_two y x)
+pub exchanged_inputs : (x y : List PortValue) → AreSameInputs fed_counters exchanged_fed_counters (inputs_of_two x y) (inputs_of_two y x)
 exchanged_inputs x y =
     all_of_two (λ name. values_of exchanged_fed_counters (inputs_of_two y x) name ≡ values_of fed_counters (inputs_of_two x y) name)
     (codes "x") (codes "y") refl refl

@@ -1,13 +1,13 @@
 pub mod Filling
 pub mod Columns
 pub mod Sizing
-pub mod Following
+pub mod ProductsFollow
 pub mod Tables
 pub mod TapPorts
 pub mod Stepping
 pub mod Sending
 pub mod Openings
-pub mod Standing
+pub mod ProductRounds
 pub mod Elements
 pub mod Images
 pub mod Parts

@@ -2,8 +2,8 @@
 use Rattle.std.proofs.Common.{◌≡◌, ℕ, ◌+◌, List, [], ◌∷◌, length, map, replicate, refl, ap, ap₂}
 use Rattle.std.specs.List.{enumerate_from}
 use Rattle.std.proofs.lemmas.List.{length-map, length-replicate}
-use Rattle.pals_base.specs.declared.values.Port.{Port}
-use Rattle.pals_base.specs.declared.values.Port.TheVariants.{Absent}
+use Rattle.pals_base.specs.declared.values.PortValue.{PortValue}
+use Rattle.pals_base.specs.declared.values.PortValue.TheVariants.{Absent}
 use Rattle.pals_base.specs.declared.behaviour.VarDecl.{VarDecl}
 use Rattle.pals_base.specs.Fire.{initial}
 use Rattle.std.specs.Prelude.{pos}
@@ -15,7 +15,7 @@ use Rattle.sync_product.specs.proof.State.{opening_part}
 use Rattle.sync_product.specs.proof.Sizes.{FrameSize, PartSize, part_size, part_size_of, tap_ports}
 use Rattle.sync_product.specs.proof.Rounds.{frames_of}
 
-absent_sizes : (rate : ℕ) (ports : List ℕ) → map (λ (tuple : List Port). length tuple) (map (λ (port : ℕ). replicate rate Absent) ports) ≡ map (λ (port : ℕ). rate) ports
+absent_sizes : (rate : ℕ) (ports : List ℕ) → map (λ (tuple : List PortValue). length tuple) (map (λ (port : ℕ). replicate rate Absent) ports) ≡ map (λ (port : ℕ). rate) ports
 absent_sizes rate [] = refl
 absent_sizes rate (port ∷ ports) = ap₂ (λ n ns. n ∷ ns) (length-replicate rate Absent) (absent_sizes rate ports)
 
@@ -35,6 +35,6 @@ pub opening_frames : (design : DesignParts) (from : ℕ) (cs : List Component) �
 opening_frames design from [] = refl
 opening_frames design from (c ∷ cs) = ap (λ fs. initial c.behaviour ∷ fs) (opening_frames design (from + 1) cs)
 
-pub opening_messages_fit : (design : DesignParts) (links : List Link) → map (λ (tuple : List Port). length tuple) (map (λ (link : Link). replicate (rate_of design link.source.0) Absent) links) ≡ map (λ (link : Link). rate_of design link.source.0) links
+pub opening_messages_fit : (design : DesignParts) (links : List Link) → map (λ (tuple : List PortValue). length tuple) (map (λ (link : Link). replicate (rate_of design link.source.0) Absent) links) ≡ map (λ (link : Link). rate_of design link.source.0) links
 opening_messages_fit design [] = refl
 opening_messages_fit design (link ∷ links) = ap₂ (λ n ns. n ∷ ns) (length-replicate (rate_of design link.source.0) Absent) (opening_messages_fit design links)

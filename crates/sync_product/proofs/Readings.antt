@@ -5,8 +5,8 @@ use Rattle.std.proofs.lemmas.Bool.{eqb-true, and_parts}
 use Rattle.std.proofs.lemmas.List.Elements.{All-contains}
 use Rattle.std.proofs.lemmas.Option.{get_or_from_slice_get}
 use Rattle.list_lemmas.proofs.Places.{Contains-from_slice_get, slice_get-map_some}
-use Rattle.pals_base.specs.declared.values.Port.{Port}
-use Rattle.pals_base.specs.declared.values.Port.TheVariants.{Absent}
+use Rattle.pals_base.specs.declared.values.PortValue.{PortValue}
+use Rattle.pals_base.specs.declared.values.PortValue.TheVariants.{Absent}
 use Rattle.pals_base.specs.Adaptors.{adapt}
 use Rattle.pals_model.specs.declared.design.Link.{Link}
 use Rattle.pals_model.specs.declared.design.Feed.{Feed}
@@ -41,7 +41,7 @@ port_is n p node port goes =
     (eqb-true n node halves.0, eqb-true p port halves.1)
 
 -- links between the same ports have the same messages
-abbrev pub SameMessages : (ℕ → ℕ) → DesignParts → DesignParts → List (List Port) → List (List Port) → Type 0
+abbrev pub SameMessages : (ℕ → ℕ) → DesignParts → DesignParts → List (List PortValue) → List (List PortValue) → Type 0
 SameMessages to a b messages_a messages_b =
     (l m : ℕ) (link : Link) → slice_get a.links l ≡ Some link → slice_get b.links m ≡ Some (renumbered_link to link)
     → slice_index_or messages_b m [] ≡ slice_index_or messages_a l []
@@ -65,12 +65,12 @@ module _ (to : ℕ → ℕ) (a b : DesignParts) (sound_a : IsDesign a) (sound_b 
       ap (λ same. same && nat_eq feed.in_port port) (same_number to a b r feed.target.0 node sound.target.node_is within))
 
   -- ---- what an in port brings in a round
-  module _ (env_a env_b : Env) (inputs : AreSameInputs a b env_a env_b) (round : ℕ) (messages_a messages_b : List (List Port))
+  module _ (env_a env_b : Env) (inputs : AreSameInputs a b env_a env_b) (round : ℕ) (messages_a messages_b : List (List PortValue))
       (same : SameMessages to a b messages_a messages_b) where
-    abbrev brought_a : ℕ → ℕ → ℕ → List Port
+    abbrev brought_a : ℕ → ℕ → ℕ → List PortValue
     brought_a rate node port = reading a (values_at env_a round) messages_a rate (source_of a node port)
 
-    abbrev brought_b : ℕ → ℕ → ℕ → List Port
+    abbrev brought_b : ℕ → ℕ → ℕ → List PortValue
     brought_b rate node port = reading b (values_at env_b round) messages_b rate (source_of b node port)
 
     link_brings : (rate l m : ℕ) (link : Link) → slice_get a.links l ≡ Some link → slice_get b.links m ≡ Some (renumbered_link to link)

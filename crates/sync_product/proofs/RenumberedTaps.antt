@@ -1,7 +1,7 @@
 -- The taps of a component are those of its other number.
 use Rattle.std.proofs.Common.{◌≡◌, ◌∙◌, ℕ, ◌<◌, Bool, true, false, cond, nat_eq, List, [], ◌∷◌, map, filter, length, All, slice_index_or, refl, ap, ap₂}
 use Rattle.std.proofs.lemmas.List.Elements.{All-head, All-tail}
-use Rattle.pals_base.specs.declared.values.Port.{Port}
+use Rattle.pals_base.specs.declared.values.PortValue.{PortValue}
 use Rattle.pals_model.specs.declared.design.Tap.{Tap}
 use Rattle.pals_model.specs.declared.design.DesignParts.{DesignParts}
 use Rattle.sync_product.specs.proof.Renumbered.{renumbered_tap, IsRenumbered}
@@ -14,11 +14,11 @@ more_or_not {X} {Y} f x y xs ys true first rest = ap₂ (λ z (zs : List Y). z �
 more_or_not f x y xs ys false first rest = rest
 
 -- the tuple that a tap shows
-abbrev pub shown : List (List Port) → Tap → List Port
+abbrev pub shown : List (List PortValue) → Tap → List PortValue
 shown tuples tap = slice_index_or tuples tap.out_port []
 
 module _ (to : ℕ → ℕ) (a b : DesignParts) (r : IsRenumbered to a b) where
-  pub same_shown : (tuples : List (List Port)) (node : ℕ) → node < length a.components → (taps : List Tap)
+  pub same_shown : (tuples : List (List PortValue)) (node : ℕ) → node < length a.components → (taps : List Tap)
       → All (λ tap. tap.source.0 < length a.components) taps
       → map (shown tuples) (filter (λ tap. nat_eq tap.source.0 (to node)) (map (renumbered_tap to) taps))
       ≡ map (shown tuples) (filter (λ tap. nat_eq tap.source.0 node) taps)

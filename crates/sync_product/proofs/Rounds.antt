@@ -4,8 +4,8 @@ use Rattle.std.proofs.Common.{slice_get, slice_index_or, refl, sym, ap, ap₂}
 use Rattle.std.proofs.lemmas.List.Elements.{All-weaker}
 use Rattle.std.proofs.lemmas.Option.{slice_get_within, get_or_from_slice_get}
 use Rattle.list_lemmas.proofs.Places.{slice_get-map_some}
-use Rattle.pals_base.specs.declared.values.Port.{Port}
-use Rattle.pals_base.specs.declared.values.Port.TheVariants.{Absent}
+use Rattle.pals_base.specs.declared.values.PortValue.{PortValue}
+use Rattle.pals_base.specs.declared.values.PortValue.TheVariants.{Absent}
 use Rattle.pals_base.specs.declared.values.Frame.{Frame}
 use Rattle.pals_base.specs.declared.values.Gamma.{Gamma}
 use Rattle.pals_base.specs.Bound.{sent_steps}
@@ -19,7 +19,7 @@ use Rattle.pals_model.specs.declared.rounds.Part.{Part}
 use Rattle.pals_model.specs.Inputs.{rate_of, values_at, source_of, reading, inputs_in, feed}
 use Rattle.pals_model.specs.Composition.{comp, state, msg, part, taps_of}
 use Rattle.pals_model.specs.Rules.{IsDesign, IsLink, IsTap}
-use Rattle.pals_model.specs.proof.Laws.{own_steps}
+use Rattle.pals_model.specs.proof.CompositionLaws.{own_steps}
 use Rattle.pals_model.proofs.Lookups.{at_element}
 use Rattle.pals_model.proofs.ShapeLaws.{component_at}
 use Rattle.pals_model.proofs.CompositionLaws.{state_begins, state_goes_on, message_from_source, part_from_steps}
@@ -33,10 +33,10 @@ link_begins : (design : DesignParts) (env : Env) (l : ℕ) (link : Link) → sli
     → slice_index_or (comp design env 0).messages l [] ≡ replicate (rate_of design link.source.0) Absent
 unfolding comp
 link_begins design env l link is =
-    let begins : Link → List Port = λ (x : Link). replicate (rate_of design x.source.0) Absent in
+    let begins : Link → List PortValue = λ (x : Link). replicate (rate_of design x.source.0) Absent in
     get_or_from_slice_get (map begins design.links) l (begins link) [] (slice_get-map_some begins design.links l link is)
 
-abbrev part_with : Frame → List (List Port) → Part
+abbrev part_with : Frame → List (List PortValue) → Part
 part_with frame outs = record { frame = frame; outs = outs }
 
 module _ (to : ℕ → ℕ) (a b : DesignParts) (sound_a : IsDesign a) (sound_b : IsDesign b) (r : IsRenumbered to a b)
@@ -56,7 +56,7 @@ module _ (to : ℕ → ℕ) (a b : DesignParts) (sound_a : IsDesign a) (sound_b 
     same_ports rate node within (port ∷ ports) =
         let messages_a = (comp a env_a round).messages in
         let messages_b = (comp b env_b round).messages in
-        ap₂ (λ tuple (tuples : List (List Port)). tuple ∷ tuples)
+        ap₂ (λ tuple (tuples : List (List PortValue)). tuple ∷ tuples)
         (brings to a b sound_a sound_b r env_a env_b inputs round messages_a messages_b waiting rate node port within)
         (same_ports rate node within ports)
 
@@ -85,7 +85,7 @@ module _ (to : ℕ → ℕ) (a b : DesignParts) (sound_a : IsDesign a) (sound_b 
         let sound = at_element (IsLink a) a.links l link sound_a.links.each is_a in
         let at = component_at a link.source.0 sound.source.node_is in
         let c : Component = at.0 in
-        let sent : Gamma → ℕ → Stepped → List Port
+        let sent : Gamma → ℕ → Stepped → List PortValue
         = λ gamma period s. cut (sent_steps gamma period c.rate) (slice_index_or s.tuples link.out_port []) in
         message_from_source b env_b m round (renumbered_link to link) c is_b (component_there to a b r link.source.0 c at.1)
         ∙ ap₂ (λ gamma period. sent gamma period (own_steps b env_b (to link.source.0) round c)) r.gamma r.period

@@ -4,7 +4,7 @@ use Rattle.std.proofs.lemmas.Option.{slice_get_cases, slice_get_read}
 use Rattle.std.proofs.lemmas.List.{get_or-map}
 use Rattle.pals_base.specs.Steps.{column, cut}
 use Rattle.sync_product.specs.proof.Rounds.{sent_by, sent_from}
-use Rattle.pals_base.specs.declared.values.Port.{Port}
+use Rattle.pals_base.specs.declared.values.PortValue.{PortValue}
 use Rattle.pals_base.specs.Bound.{sent_steps}
 use Rattle.pals_model.specs.declared.design.Component.{Component}
 use Rattle.pals_model.specs.declared.design.Link.{Link}
@@ -18,13 +18,13 @@ use Rattle.std.proofs.Common.{Some}
 use Rattle.list_lemmas.proofs.Places.{slice_get-map_some}
 
 -- a message has a place for each row of its source
-pub sized_message : (design : DesignParts) (stages : List Stage) (messages : List (List Port)) (number source : ℕ) (link : Link) (message : List Port) (stage : Stage)
-    → map stage_size stages ≡ stage_sizes design → map (λ (tuple : List Port). length tuple) messages ≡ message_sizes design
+pub sized_message : (design : DesignParts) (stages : List Stage) (messages : List (List PortValue)) (number source : ℕ) (link : Link) (message : List PortValue) (stage : Stage)
+    → map stage_size stages ≡ stage_sizes design → map (λ (tuple : List PortValue). length tuple) messages ≡ message_sizes design
     → slice_get design.links number ≡ Some link → source ≡ link.source.0 → source < length design.components
     → message ≡ slice_index_or messages number message → stage ≡ slice_index_or stages source stage
     → length message ≡ length stage.rows
 sized_message design stages messages number source link message stage stages_fit messages_fit is_link from within message_is stage_is =
-    let size = sized_at (λ (tuple : List Port). length tuple) messages (message_sizes design) number message (rate_of design link.source.0) messages_fit
+    let size = sized_at (λ (tuple : List PortValue). length tuple) messages (message_sizes design) number message (rate_of design link.source.0) messages_fit
     (slice_get-map_some (λ (l : Link). rate_of design l.source.0) design.links number link is_link) message_is in
     elim (slice_get_cases design.components source).1 [
       | inl found ↦
@@ -40,7 +40,7 @@ sized_message design stages messages number source link message stage stages_fit
     ]
 
 -- what a link's message has to be
-pub sent_item : (stages : List Stage) (links : List Link) (number : ℕ) (d : Link) (rows : List (List Port)) (stage : Stage) (message : List Port)
+pub sent_item : (stages : List Stage) (links : List Link) (number : ℕ) (d : Link) (rows : List (List PortValue)) (stage : Stage) (message : List PortValue)
     → number < length links → (slice_index_or links number d).source.0 < length stages
     → stage ≡ slice_index_or stages (slice_index_or links number d).source.0 stage → rows ≡ stage.rows
     → message ≡ cut stage.sent (column (slice_index_or links number d).out_port rows)

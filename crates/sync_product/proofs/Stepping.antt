@@ -2,7 +2,7 @@
 use Rattle.std.proofs.Common.{◌≡◌, ◌∙◌, ℕ, ◌+◌, ◌<◌, inl, inr, List, length, map, set, slice_get, slice_index_or, Some, sym, ap, ap₂, arith}
 use Rattle.std.proofs.lemmas.Bool.{cases_lt}
 use Rattle.std.proofs.lemmas.List.{map-set, length-map, get_or-map}
-use Rattle.pals_base.specs.declared.values.Port.{Port}
+use Rattle.pals_base.specs.declared.values.PortValue.{PortValue}
 use Rattle.pals_base.specs.declared.values.Frame.{Frame}
 use Rattle.pals_base.specs.Steps.{frame_after, outputs, column}
 use Rattle.pals_model.specs.declared.design.Component.{Component}
@@ -50,7 +50,7 @@ stepped_more round frames next stages node item part' stage' within within' is p
     ]
 
 -- what the steps of a component leave, from what its stage is given
-pub rows_by : (round : RoundInputs) (parts : List Part) (node : ℕ) (item : Component) (part : Part) (sources : List PortSource) (rows : List (List Port))
+pub rows_by : (round : RoundInputs) (parts : List Part) (node : ℕ) (item : Component) (part : Part) (sources : List PortSource) (rows : List (List PortValue))
     → node < length parts → part ≡ slice_index_or parts node part → sources ≡ sources_of round.design.now node item
     → rows ≡ outputs item.behaviour part.frame (vectors round item sources) → rows ≡ own_rows round (frames_of parts) node item
 rows_by round parts node item part sources rows within part_is sources_are is =
@@ -58,14 +58,14 @@ rows_by round parts node item part sources rows within part_is sources_are is =
     ∙ ap (λ ss. outputs item.behaviour part.frame (vectors round item ss)) sources_are
     ∙ ap (λ (f : Frame). outputs item.behaviour f (own_vectors round node item)) (ap (λ (p : Part). p.frame) part_is ∙ sym (get_or-map (λ (p : Part). p.frame) parts node part no_frame within))
 
-pub part_by : (round : RoundInputs) (parts : List Part) (node : ℕ) (item : Component) (part : Part) (sources : List PortSource) (taps : List ℕ) (rows : List (List Port)) (part' : Part)
+pub part_by : (round : RoundInputs) (parts : List Part) (node : ℕ) (item : Component) (part : Part) (sources : List PortSource) (taps : List ℕ) (rows : List (List PortValue)) (part' : Part)
     → node < length parts → part ≡ slice_index_or parts node part → sources ≡ sources_of round.design.now node item → taps ≡ tap_ports round.design.now.taps node
     → rows ≡ own_rows round (frames_of parts) node item
     → part'.frame ≡ frame_after item.behaviour part.frame (vectors round item sources) → part'.outs ≡ map (λ port. column port rows) taps
     → part' ≡ own_part round (frames_of parts) node item
 part_by round parts node item part sources taps rows part' within part_is sources_are taps_are rows_are frame_is outs_are =
-    ap₂ (λ (f : Frame) (os : List (List Port)). let p : Part = record { frame = f; outs = os } in p)
+    ap₂ (λ (f : Frame) (os : List (List PortValue)). let p : Part = record { frame = f; outs = os } in p)
     (frame_is
     ∙ ap (λ ss. frame_after item.behaviour part.frame (vectors round item ss)) sources_are
     ∙ ap (λ (f : Frame). frame_after item.behaviour f (own_vectors round node item)) (ap (λ (p : Part). p.frame) part_is ∙ sym (get_or-map (λ (p : Part). p.frame) parts node part no_frame within)))
-    (outs_are ∙ ap₂ (λ (rs : List (List Port)) (ts : List ℕ). map (λ port. column port rs) ts) rows_are taps_are)
+    (outs_are ∙ ap₂ (λ (rs : List (List PortValue)) (ts : List ℕ). map (λ port. column port rs) ts) rows_are taps_are)

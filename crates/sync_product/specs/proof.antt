@@ -3,6 +3,6 @@ pub mod Rounds
 pub mod Sizes
 pub mod State
 pub mod Ready
-pub mod Laws
+pub mod ProductLaws
 pub mod Renumbered
 pub mod Exchanged

@@ -1,6 +1,6 @@
 //! What a product begins with.
 ghost use Rattle.std.specs.Prelude.{◌≡◌, IfOk, map, replicate};
-ghost use Rattle.pals_base.specs.declared.values.Port.TheVariants.{Absent};
+ghost use Rattle.pals_base.specs.declared.values.PortValue.TheVariants.{Absent};
 ghost use Rattle.pals_model.specs.Inputs.{rate_of};
 ghost use Rattle.sync_product.specs.proof.State.{opening_parts};
 ghost use Rattle.sync_product.specs.proof.Sizes.{all_taps, stage_size, stage_sizes};

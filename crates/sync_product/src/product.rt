@@ -9,7 +9,7 @@ use crate::reads::RoundInputs;
 use crate::round::run_all;
 use crate::stage::Stage;
 use crate::taps::all_taps;
-use pals_base::{Items, LinkNo, NoMemory, NodeNo, Port, Tuple};
+use pals_base::{Items, LinkNo, NoMemory, NodeNo, PortValue, Tuple};
 use pals_model::sources::all_sources;
 use pals_model::{Design, Part, PortSource};
 use std::alloc::Global;
@@ -103,7 +103,7 @@ impl Product {
     /// number: 0 is false, and each other number is true. If there is not enough memory, nothing
     /// changes. After the first two rounds it takes memory only where a loop runs that did not run
     /// before.
-    pub fn advance(&mut self, values: &[Port]) -> Result<(), NoMemory>
+    pub fn advance(&mut self, values: &[PortValue]) -> Result<(), NoMemory>
         ensures ok { OnOk result (self.new ≡ advanced self.old values.now) }
         ensures err { OnErr result (self.new ≡ self.old) }
     {

@@ -1,12 +1,12 @@
 //! What the in ports of a component read, step by step. The calls take no memory.
 ghost use Rattle.std.specs.Prelude.{◌≡◌, ◌<◌, [], length, map, slice_index_or};
-ghost use Rattle.pals_base.specs.declared.values.Port.TheVariants.{Absent};
+ghost use Rattle.pals_base.specs.declared.values.PortValue.TheVariants.{Absent};
 ghost use Rattle.pals_base.specs.Steps.{column};
 ghost use Rattle.sync_product.specs.proof.Rounds.{brought};
 
 use input_adaptors::adapted_place;
 use pals_base::tuples::place;
-use pals_base::{Port, Tuple};
+use pals_base::{PortValue, Tuple};
 use pals_model::{Design, PortSource};
 
 /// What all components read in a round: the values of the root in ports, and the messages of the
@@ -14,7 +14,7 @@ use pals_model::{Design, PortSource};
 #[derive(Clone, Copy)]
 pub struct RoundInputs<'a> {
     pub design: &'a Design,
-    pub values: &'a [Port],
+    pub values: &'a [PortValue],
     pub messages: &'a [Tuple],
 }
 
@@ -37,18 +37,18 @@ pub fn write_inputs(
 }
 
 /// What an in port of a component of this rate has in a step.
-pub fn place_brought(round: RoundInputs, rate: u32, source: PortSource, step: usize) -> Port
+pub fn place_brought(round: RoundInputs, rate: u32, source: PortSource, step: usize) -> PortValue
     requires { step < rate }
     ensures { result ≡ slice_index_or (brought round.entry rate source) step Absent }
 {
     match source {
-        PortSource::Nothing => Port::Absent,
+        PortSource::Nothing => PortValue::Absent,
         PortSource::Feed(feed, root) => match round.design.feeds().get(feed) {
-            None => Port::Absent,
+            None => PortValue::Absent,
             Some(feed) => adapted_place(feed.adaptor, 1, rate, &[place(round.values, root)], step),
         },
         PortSource::Link(number) => match round.design.links().get(number) {
-            None => Port::Absent,
+            None => PortValue::Absent,
             Some(link) => {
                 let source_rate = round.design.parts().rate(link.source);
                 let message = message_at(round.messages, number);
@@ -59,7 +59,7 @@ pub fn place_brought(round: RoundInputs, rate: u32, source: PortSource, step: us
 }
 
 // The places of a message, none where there is no such message.
-fn message_at(messages: &[Tuple], number: usize) -> &[Port]
+fn message_at(messages: &[Tuple], number: usize) -> &[PortValue]
     ensures { result.now ≡ slice_index_or messages.now number [] }
 {
     if number < messages.len() {

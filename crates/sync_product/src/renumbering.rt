@@ -1,7 +1,7 @@
 //! What does not depend on the numbers of components. Each law is the contract of a function that
 //! does nothing.
 ghost use Rattle.std.specs.Prelude.{◌≡◌, ◌<◌, ℕ, List, map, length, Some, slice_get};
-ghost use Rattle.pals_base.specs.declared.values.Port.{Port};
+ghost use Rattle.pals_base.specs.declared.values.PortValue.{PortValue};
 ghost use Rattle.pals_model.specs.declared.design.Link.{Link};
 ghost use Rattle.pals_model.specs.declared.design.DesignParts.{DesignParts};
 ghost use Rattle.pals_model.specs.declared.rounds.Env.{Env};
@@ -56,5 +56,5 @@ pub fn counters_are_renumbered()
 pub fn fed_counters_are_renumbered()
     ensures designs { IsDesign fed_counters × IsDesign exchanged_fed_counters }
     ensures renumbered { IsRenumbered exchange fed_counters exchanged_fed_counters }
-    ensures inputs { (x y : List Port) → AreSameInputs fed_counters exchanged_fed_counters (inputs_of_two x y) (inputs_of_two y x) }
+    ensures inputs { (x y : List PortValue) → AreSameInputs fed_counters exchanged_fed_counters (inputs_of_two x y) (inputs_of_two y x) }
 {}

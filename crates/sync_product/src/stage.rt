@@ -9,7 +9,7 @@ use crate::reads::{RoundInputs, write_inputs};
 use crate::tuple_columns::write_column;
 use behaviour_sem::fire_into;
 use pals_base::tuples::absent;
-use pals_base::{Behaviour, Frame, Items, NoMemory, Port, Tuple};
+use pals_base::{Behaviour, Frame, Items, NoMemory, PortValue, Tuple};
 use pals_model::{Component, Part, PortSource};
 use std::alloc::Global;
 use std::mem::swap;
@@ -18,7 +18,7 @@ use std::mem::swap;
 /// before it, the outputs of each step of the round, and how many of the steps are sent.
 pub struct Stage {
     pub inputs: Tuple,
-    pub outs: Vec<Port>,
+    pub outs: Vec<PortValue>,
     pub before: Frame,
     pub rows: Items<Tuple>,
     pub sent: usize,
@@ -48,7 +48,7 @@ impl Stage {
         }
         Ok(Stage {
             inputs: absent(alloc, component.behaviour.ins().len())?,
-            outs: vec![in alloc; Port::Absent; outs]?,
+            outs: vec![in alloc; PortValue::Absent; outs]?,
             before: Frame::initial(alloc, &component.behaviour)?,
             rows,
             sent,

@@ -4,7 +4,7 @@ ghost use Rattle.pals_base.specs.Steps.{column, cut};
 ghost use Rattle.sync_product.specs.proof.Rounds.{place_before};
 
 use pals_base::tuples::place;
-use pals_base::{Port, Tuple};
+use pals_base::{PortValue, Tuple};
 
 /// Writes the place `port` of each row, one row a place, and absent places after the first `count`.
 pub fn write_column(to: &mut Tuple, rows: &[Tuple], port: usize, count: usize)
@@ -17,12 +17,12 @@ pub fn write_column(to: &mut Tuple, rows: &[Tuple], port: usize, count: usize)
 }
 
 // A place of a row where it counts, else an absent one.
-fn place_before(row: &[Port], port: usize, counts: bool) -> Port
+fn place_before(row: &[PortValue], port: usize, counts: bool) -> PortValue
     ensures { result ≡ place_before counts port row.now }
 {
     if counts {
         place(row, port)
     } else {
-        Port::Absent
+        PortValue::Absent
     }
 }

@@ -7,7 +7,7 @@ use crate::designs::design_of;
 use design_codes::compile_all;
 use loose_world::add_finished_by_all;
 use node_threads::{FakeStarter, Gate, NodeEnd, RunEnd, run_threads};
-use pals_base::{Items, Nanos, NoMemory, NodeNo, Port};
+use pals_base::{Items, Nanos, NoMemory, NodeNo, PortValue};
 use pals_bus::Bus;
 use pals_clock::Clocks;
 use pals_model::{Delays, Design, Env};
@@ -33,7 +33,7 @@ fn delays(alloc: Global, design: &Design) -> Result<Delays, NoMemory>
 // The one root in port has this value in round 0.
 fn inputs(alloc: Global, value: i64) -> Result<Env, NoMemory> {
     let mut lists = Items::new(alloc);
-    lists.push(Items::from_slice(alloc, &[Port::Present(value)])?)?;
+    lists.push(Items::from_slice(alloc, &[PortValue::Present(value)])?)?;
     Ok(Env { lists })
 }
 

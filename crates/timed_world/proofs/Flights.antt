@@ -9,22 +9,22 @@ use Rattle.pals_base.specs.Bound.{alarm}
 use Rattle.pals_model.specs.declared.flight.FlightCopy.{FlightCopy}
 use Rattle.pals_model.specs.Flights.{is_of}
 use Rattle.pals_runs.specs.declared.events.EventFault.{EventFault}
-use Rattle.pals_runs.specs.declared.events.Which.TheVariants as which
+use Rattle.pals_runs.specs.declared.events.EventSubject.TheVariants as which
 use Rattle.bus_machine.specs.NodeEvents.{slot_at}
 use Rattle.bus_machine.specs.LinkEvents.{is_in_flight}
 use Rattle.bus_machine.specs.States.{Run, node_at, flight_at, link_at}
 use Rattle.bus_machine.specs.Stops.{sent_rounds, rounds_sent_on}
-use Rattle.bus_machine.specs.proof.Laws.{IsRunOf}
+use Rattle.bus_machine.specs.proof.MachineLaws.{IsRunOf}
 use Rattle.run_laws.specs.Worlds.{World, flight_since}
 use Rattle.run_laws.specs.Deadlines.{message_deadline}
 use Rattle.run_laws.specs.Faults.{or_else, first_of, past, copy_past, link_past}
-use Rattle.run_laws.specs.proof.Kept.{KeepsTime, copies}
+use Rattle.run_laws.specs.proof.WorldsKeep.{KeepsTime, copies}
 use Rattle.run_laws.proofs.WorldTimes.{alarm_next, alarm_more, arrives_before}
 use Rattle.run_laws.proofs.Nodes.{fits_at, counts_close}
 use Rattle.run_laws.proofs.Links.{under_way, in_flight_counts, counts_in_flight, rule_of}
 use Rattle.run_laws.proofs.WorldNumbers.{times_are_readings}
 use Rattle.timed_world.specs.proof.Passes.{flying_past}
-use Rattle.timed_world.proofs.Rows.{goes_past, has_found}
+use Rattle.timed_world.proofs.FaultTable.{goes_past, has_found}
 
 -- ---- counts
 count_first : (round : ℕ) (a : FlightCopy) (cs : List FlightCopy) → a.round ≡ round

@@ -1,6 +1,6 @@
 pub mod Openings
 pub mod Standings
-pub mod Rows
+pub mod FaultTable
 pub mod Flights
 pub mod Moving
 pub mod Refusals

@@ -11,11 +11,11 @@ use Rattle.bus_machine.specs.Plans.{plan_of}
 use Rattle.bus_machine.specs.NodeEvents.{running_step}
 use Rattle.bus_machine.specs.States.{Run, BusState, node_at}
 use Rattle.bus_machine.specs.Machine.{BusEvent, Start, Step, Finish, Send, Arrive}
-use Rattle.bus_machine.specs.proof.Laws.{IsRunOf}
+use Rattle.bus_machine.specs.proof.MachineLaws.{IsRunOf}
 use Rattle.pals_bus.specs.Values.{BusValue, Happens}
 use Rattle.run_laws.specs.Worlds.{World, reading_at, sendings, bus_event, moved, is_held, is_last_sent}
 use Rattle.run_laws.specs.Faults.{fault_of}
-use Rattle.run_laws.specs.proof.Kept.{KeepsTime}
+use Rattle.run_laws.specs.proof.WorldsKeep.{KeepsTime}
 use Rattle.run_laws.proofs.Faults.{starts_in_time}
 use Rattle.run_laws.proofs.Starts.{start_is}
 use Rattle.run_laws.proofs.Worlds.{event_keeps_time}

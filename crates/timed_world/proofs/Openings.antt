@@ -13,7 +13,7 @@ use Rattle.pals_model.specs.declared.rounds.Env.{Env}
 use Rattle.pals_model.specs.Delays.{AreDelays, IsDelayList}
 use Rattle.pals_model.specs.Rules.{IsDesign, IsGamma}
 use Rattle.step_code.specs.declared.instr.CodeParts.{CodeParts}
-use Rattle.bus_machine.specs.proof.Laws.{IsRunOf}
+use Rattle.bus_machine.specs.proof.MachineLaws.{IsRunOf}
 use Rattle.pals_bus.specs.Values.{BusValue}
 use Rattle.run_laws.specs.Worlds.{world_run}
 use Rattle.run_laws.proofs.Openings.{opening_keeps_time}

@@ -10,13 +10,13 @@ use Rattle.bus_machine.specs.declared.plan.Plan.{Plan}
 use Rattle.bus_machine.specs.Plans.{plan_of, component_at}
 use Rattle.bus_machine.specs.States.{Run, node_at}
 use Rattle.bus_machine.specs.Agreement.{PhaseAgrees}
-use Rattle.bus_machine.specs.proof.Laws.{IsRunOf}
+use Rattle.bus_machine.specs.proof.MachineLaws.{IsRunOf}
 use Rattle.run_laws.specs.Worlds.{World, since_at, ready_at}
 use Rattle.run_laws.specs.Deadlines.{node_deadline, phase_deadline, lesser}
-use Rattle.run_laws.specs.proof.Kept.{IsInTime, KeepsTime}
+use Rattle.run_laws.specs.proof.WorldsKeep.{IsInTime, KeepsTime}
 use Rattle.run_laws.proofs.Nodes.{deadline_is, phase_agrees, rounds_at_most, send_last as of_send, phase_last as of_phase}
 use Rattle.run_laws.proofs.WorldNumbers.{times_are_readings}
-use Rattle.timed_world.specs.declared.standing.Standing.{Standing}
+use Rattle.timed_world.specs.declared.standing.NodeStanding.{NodeStanding}
 use Rattle.timed_world.specs.proof.Values.{WorldValue, KeepsWorld, world_of}
 use Rattle.timed_world.specs.proof.Standings.{IsSound, standing_of, phase_last, send_last, last_time}
 
@@ -65,7 +65,7 @@ module _ (run : Run) (w : World) (rules : IsRunOf run) (few : run.rounds ≤ ROU
       }
 
 -- so is whatever has its count, its phase, and the moment since which it stands so
-pub sound_again : (v : WorldValue) (node : ℕ) (s : Standing) → KeepsWorld v → node < length v.bus.run.design.components
+pub sound_again : (v : WorldValue) (node : ℕ) (s : NodeStanding) → KeepsWorld v → node < length v.bus.run.design.components
     → s.count ≡ (node_at v.bus.state node).count → s.phase ≡ (node_at v.bus.state node).phase
     → s.since ≡ slice_index_or v.since node 0
     → IsSound (plan_of v.bus.run.design node) s
@@ -88,7 +88,7 @@ phase_is run w node (Between steps) = refl
 phase_is run w node Holding = refl
 phase_is run w node Done = refl
 
-pub last_is : (run : Run) (w : World) (node : ℕ) (plan : Plan) (s : Standing) (g : Gamma)
+pub last_is : (run : Run) (w : World) (node : ℕ) (plan : Plan) (s : NodeStanding) (g : Gamma)
     → plan ≡ plan_of run.design node → s ≡ standing_of w node
     → g ≡ run.design.gamma → last_time plan s g ≡ node_deadline run w node
 last_is run w node plan s g plan_is is gamma_is =

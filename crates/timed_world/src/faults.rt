@@ -7,7 +7,7 @@ ghost use Rattle.timed_world.specs.proof.Values.{world_of};
 use crate::standing::too_soon;
 use crate::world::World;
 use pals_base::{LinkNo, NodeNo};
-use pals_runs::{Event, EventFault, Which};
+use pals_runs::{Event, EventFault, EventSubject};
 
 impl World {
     /// The first row of the table of faults that fits an event, or none.
@@ -92,6 +92,6 @@ impl World {
         }
         let least = self.bus.design().gamma().mu_min;
         let earliest = self.flight_since(link, round) + least;
-        too_soon(Which::Message(link, round), earliest, self.time)
+        too_soon(EventSubject::Message(link, round), earliest, self.time)
     }
 }

@@ -9,7 +9,7 @@ ghost use Rattle.timed_world.specs.proof.Values.{world_of};
 use crate::standing::past;
 use crate::world::World;
 use pals_base::{LinkNo, Nanos, NodeNo};
-use pals_runs::{EventFault, Which};
+use pals_runs::{EventFault, EventSubject};
 
 impl World {
     /// The first row of the table of faults that fits a passing of time, each row over all nodes.
@@ -83,7 +83,7 @@ impl World {
     {
         let gamma = self.bus.design().gamma();
         let last = self.standing(node).last_time(self.plan(node), &gamma);
-        past(time, Which::Node(node), last)
+        past(time, EventSubject::Node(node), last)
     }
 
     // The first message whose last allowed time is past, link by link.
@@ -123,6 +123,6 @@ impl World {
         }
         let most = u128::from(self.bus.design().gamma().mu_max);
         let last = u128::from(self.flight_since(link, round)) + most;
-        past(time, Which::Message(link, round), Some(last))
+        past(time, EventSubject::Message(link, round), Some(last))
     }
 }

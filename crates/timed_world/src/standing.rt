@@ -2,7 +2,7 @@
 ghost use Rattle.std.specs.Prelude.{◌≡◌, ◌<◌, ◌≤◌, nat_lt};
 ghost use Rattle.pals_base.specs.declared.limits.TheConstants.{HOUR};
 ghost use Rattle.pals_runs.specs.declared.events.EventFault.TheVariants as fault;
-ghost use Rattle.pals_node.specs.proof.Keeping.{IsPlan};
+ghost use Rattle.pals_node.specs.proof.NodeInvariants.{IsPlan};
 ghost use Rattle.bus_machine.specs.NodeEvents.{running_step};
 ghost use Rattle.run_laws.specs.Deadlines.{last_before, lesser};
 ghost use Rattle.run_laws.specs.Faults.{found_if, past};
@@ -11,14 +11,14 @@ ghost use Rattle.run_laws.specs.Worlds.{is_last_sent, is_held};
 use bus_machine::Plan;
 use output_backoff::release_at;
 use pals_base::{Gamma, Nanos, NodeNo};
-use pals_runs::{EventFault, Phase, Which};
+use pals_runs::{EventFault, Phase, EventSubject};
 use round_timer::{alarm, step_alarm};
 
 /// Where a node of a world stands: how many rounds it has started, what it is doing, whether the last
 /// round is sent, the reading of its clock, since when it stands so, and since when the steps that are
 /// sent are finished. Readings and times are nanoseconds.
 #[derive(Drop)]
-pub struct Standing {
+pub struct NodeStanding {
     pub count: u32,
     pub phase: Phase,
     pub sent: bool,
@@ -27,7 +27,7 @@ pub struct Standing {
     pub ready: Nanos,
 }
 
-impl Standing {
+impl NodeStanding {
     ghost use Rattle.timed_world.specs.proof.Standings.{IsSound, alarm_of_step, release_of, start_fault, step_fault, finish_fault, send_fault, may_go, phase_last, send_last, last_time};
 
     /// Why it may not start its next round, if so.
@@ -67,7 +67,7 @@ impl Standing {
         ensures { result ≡ finish_fault plan.now self.now time alpha_min }
     {
         match self.phase {
-            Phase::Running(_) => too_soon(Which::Node(plan.node), self.since + alpha_min, time),
+            Phase::Running(_) => too_soon(EventSubject::Node(plan.node), self.since + alpha_min, time),
             Phase::Waiting | Phase::Between(_) | Phase::Holding | Phase::Done => {
                 Some(EventFault::WrongPhase { node: plan.node })
             }
@@ -181,7 +181,7 @@ impl Standing {
 }
 
 /// A fault where the time is past the last one that is allowed.
-pub fn past(time: Nanos, which: Which, last: Option<u128>) -> Option<EventFault>
+pub fn past(time: Nanos, which: EventSubject, last: Option<u128>) -> Option<EventFault>
     ensures { result ≡ past time which last }
 {
     match last {
@@ -197,7 +197,7 @@ pub fn past(time: Nanos, which: Which, last: Option<u128>) -> Option<EventFault>
 }
 
 /// A fault where the time is below the earliest one.
-pub fn too_soon(which: Which, earliest: Nanos, time: Nanos) -> Option<EventFault>
+pub fn too_soon(which: EventSubject, earliest: Nanos, time: Nanos) -> Option<EventFault>
     ensures { result ≡ found_if (nat_lt time earliest) (fault.TooSoon which earliest) }
 {
     if time < earliest {

@@ -2,17 +2,17 @@
 ghost use Rattle.std.specs.Prelude.{◌≡◌, ◌<◌, ◌≤◌, length, slice_index_or, IfOk};
 ghost use Rattle.std.specs.Arc.{arc_value};
 ghost use Rattle.pals_base.specs.declared.limits.TheConstants.{COMPONENTS, LINKS, ROUNDS};
-ghost use Rattle.bus_machine.specs.proof.Laws.{IsRunOf};
+ghost use Rattle.bus_machine.specs.proof.MachineLaws.{IsRunOf};
 ghost use Rattle.bus_machine.specs.Plans.{plan_of};
-ghost use Rattle.pals_node.specs.proof.Keeping.{IsPlan};
+ghost use Rattle.pals_node.specs.proof.NodeInvariants.{IsPlan};
 ghost use Rattle.pals_bus.specs.proof.Values.{AreCodes};
-ghost use Rattle.run_laws.specs.proof.Kept.{KeepsTime};
+ghost use Rattle.run_laws.specs.proof.WorldsKeep.{KeepsTime};
 ghost use Rattle.run_laws.specs.Worlds.{flight_since};
 ghost use Rattle.timed_world.specs.proof.Standings.{IsSound, standing_of};
 ghost use Rattle.timed_world.specs.proof.Values.{opening_value, world_of};
 
 use crate::opening::{least_delays, no_moments, no_times};
-use crate::standing::Standing;
+use crate::standing::NodeStanding;
 use bus_machine::Plan;
 use pals_base::{Items, LinkNo, Nanos, NoMemory, NodeNo};
 use pals_bus::Bus;
@@ -124,13 +124,13 @@ impl World {
     }
 
     /// Where a node stands.
-    pub(crate) fn standing(&self, node: NodeNo) -> Standing
+    pub(crate) fn standing(&self, node: NodeNo) -> NodeStanding
         requires { node.0 < length self.now.bus.run.design.components }
         ensures value { result ≡ standing_of (world_of self.now) node.0 }
         ensures sound { IsSound (plan_of self.now.bus.run.design node.0) result }
     {
         let at = node.0 as usize;
-        Standing {
+        NodeStanding {
             count: self.bus.count(node),
             phase: self.bus.phase(node),
             sent: self.bus.sent(node),

@@ -4,7 +4,7 @@ pub mod Numbers
 pub mod Deciding
 pub mod Nodes
 pub mod Starting
-pub mod Keeping
+pub mod AuditInvariant
 pub mod Cutting
 pub mod Placing
 pub mod Reporting

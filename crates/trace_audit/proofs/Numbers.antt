@@ -23,7 +23,7 @@ use Rattle.run_laws.specs.TraceRules.{broken, falls, first_entry, fits, is_in_or
 use Rattle.run_laws.specs.Traces.{second_entry}
 use Rattle.pals_node.specs.proof.Answers.{is_busy}
 use Rattle.trace_audit.specs.proof.FirstRules.{first_rule}
-use Rattle.trace_audit.specs.proof.Owing.{owed_by, stop_of}
+use Rattle.trace_audit.specs.proof.OwedStops.{owed_by, stop_of}
 use Rattle.trace_audit.proofs.Breaking.{refused, unfit}
 
 -- ---- phases

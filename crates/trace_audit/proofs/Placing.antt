@@ -14,12 +14,12 @@ use Rattle.pals_model.specs.declared.design.Tap.{Tap}
 use Rattle.pals_model.specs.declared.design.DesignParts.{DesignParts}
 use Rattle.pals_model.specs.declared.rounds.Env.{Env}
 use Rattle.pals_model.specs.Composition.{part}
-use Rattle.pals_model.specs.proof.Laws.Lines.{IsLine}
+use Rattle.pals_model.specs.proof.CompositionLaws.Lines.{IsLine}
 use Rattle.pals_model.specs.RoundTexts.{component_line, part_lines, tap_lines, composed_lines}
 use Rattle.pals_model.specs.Rules.{IsDesign}
 use Rattle.pals_model.proofs.LineLaws.{row_has_lines}
 use Rattle.run_laws.specs.Traces.{row_size, line_at}
-use Rattle.trace_audit.specs.proof.Rows.{rows_begun, left_at}
+use Rattle.trace_audit.specs.proof.ReportRows.{rows_begun, left_at}
 
 -- ---- rounds
 begun_at : (q size r more : ℕ) → size ≡ 1 + more → r ≡ 0 → (q * size + r + more) / size ≡ q

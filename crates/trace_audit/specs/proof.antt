@@ -2,10 +2,10 @@
 pub mod Clocks
 pub mod FirstRules
 pub mod Events
-pub mod Owing
+pub mod OwedStops
 pub mod Replays
 pub mod Lines
-pub mod Rows
+pub mod ReportRows
 pub mod Reports
 pub mod Words
 pub mod Forms

@@ -12,7 +12,7 @@ use pals_runs::{Arrived, Cause};
 
 /// What a journal line tells of a node. A reading may be none, as in a loose world.
 #[derive(Clone, Copy)]
-pub enum NodeForm {
+pub enum NodeLine {
     Start {
         round: u32,
         reading: Option<Nanos>,
@@ -33,7 +33,7 @@ pub enum NodeForm {
 
 /// What a journal line tells of a link's message of a round.
 #[derive(Clone, Copy)]
-pub enum LinkForm {
+pub enum LinkLine {
     Arrive {
         round: u32,
         reading: Option<Nanos>,
@@ -58,9 +58,9 @@ pub enum LinkForm {
 
 /// A journal line: the name of a node or of a link as it stands, and what is told of it.
 #[derive(Clone, Copy)]
-pub enum Form<'a> {
-    OfNode(&'a str, NodeForm),
-    OfLink(&'a str, LinkForm),
+pub enum JournalLine<'a> {
+    OfNode(&'a str, NodeLine),
+    OfLink(&'a str, LinkLine),
 }
 
 /// Whether a line has the form of a journal line.
@@ -71,7 +71,7 @@ pub fn has_form(line: &str) -> bool
 }
 
 /// The form of a line, or none where it has none of a journal line.
-pub fn form_of(line: &str) -> Option<Form<'_>>
+pub fn form_of(line: &str) -> Option<JournalLine<'_>>
     ensures { form_shown result ≡ lines.form_of line.now }
 {
     if !has_words(line.as_bytes()) {
@@ -135,7 +135,7 @@ fn reading(words: &mut Words<'_>) -> Option<Option<Nanos>>
 
 // A form, where no word is left behind it.
 #[tactic(auto, using(crate::proofs::Splitting::words_left))]
-fn at_end<'a>(form: Form<'a>, words: Words<'a>) -> Option<Form<'a>>
+fn at_end<'a>(form: JournalLine<'a>, words: Words<'a>) -> Option<JournalLine<'a>>
     ensures { form_shown result ≡ lines.at_end (shown form.entry) (words_in words.entry.rest) }
 {
     match words.rest {
@@ -144,7 +144,7 @@ fn at_end<'a>(form: Form<'a>, words: Words<'a>) -> Option<Form<'a>>
     }
 }
 
-fn arrive_form(words: Words<'_>) -> Option<Form<'_>>
+fn arrive_form(words: Words<'_>) -> Option<JournalLine<'_>>
     ensures { form_shown result ≡ lines.arrive_line (words_in words.entry.rest) }
 {
     let mut words = words;
@@ -152,9 +152,9 @@ fn arrive_form(words: Words<'_>) -> Option<Form<'_>>
     let reading = reading(&mut words)?;
     let outcome = arrived_in(words.next()?)?;
     at_end(
-        Form::OfLink(
+        JournalLine::OfLink(
             name,
-            LinkForm::Arrive {
+            LinkLine::Arrive {
                 round,
                 reading,
                 outcome,
@@ -164,19 +164,19 @@ fn arrive_form(words: Words<'_>) -> Option<Form<'_>>
     )
 }
 
-fn start_form(words: Words<'_>) -> Option<Form<'_>>
+fn start_form(words: Words<'_>) -> Option<JournalLine<'_>>
     ensures { form_shown result ≡ lines.start_line (words_in words.entry.rest) }
 {
     let mut words = words;
     let (name, round) = named(&mut words)?;
     let reading = reading(&mut words)?;
     at_end(
-        Form::OfNode(name, NodeForm::Start { round, reading }),
+        JournalLine::OfNode(name, NodeLine::Start { round, reading }),
         words,
     )
 }
 
-fn step_form(words: Words<'_>) -> Option<Form<'_>>
+fn step_form(words: Words<'_>) -> Option<JournalLine<'_>>
     ensures { form_shown result ≡ lines.step_line (words_in words.entry.rest) }
 {
     let mut words = words;
@@ -184,9 +184,9 @@ fn step_form(words: Words<'_>) -> Option<Form<'_>>
     let step = round_in(words.next()?.as_bytes())?;
     let reading = reading(&mut words)?;
     at_end(
-        Form::OfNode(
+        JournalLine::OfNode(
             name,
-            NodeForm::Step {
+            NodeLine::Step {
                 round,
                 step,
                 reading,
@@ -196,40 +196,40 @@ fn step_form(words: Words<'_>) -> Option<Form<'_>>
     )
 }
 
-fn finish_form(words: Words<'_>) -> Option<Form<'_>>
+fn finish_form(words: Words<'_>) -> Option<JournalLine<'_>>
     ensures { form_shown result ≡ lines.finish_line (words_in words.entry.rest) }
 {
     let mut words = words;
     let (name, round) = named(&mut words)?;
-    at_end(Form::OfNode(name, NodeForm::Finish { round }), words)
+    at_end(JournalLine::OfNode(name, NodeLine::Finish { round }), words)
 }
 
-fn send_form(words: Words<'_>) -> Option<Form<'_>>
+fn send_form(words: Words<'_>) -> Option<JournalLine<'_>>
     ensures { form_shown result ≡ lines.send_line (words_in words.entry.rest) }
 {
     let mut words = words;
     let (name, round) = named(&mut words)?;
     let reading = reading(&mut words)?;
-    at_end(Form::OfNode(name, NodeForm::Send { round, reading }), words)
+    at_end(JournalLine::OfNode(name, NodeLine::Send { round, reading }), words)
 }
 
-fn drop_form(words: Words<'_>) -> Option<Form<'_>>
+fn drop_form(words: Words<'_>) -> Option<JournalLine<'_>>
     ensures { form_shown result ≡ lines.drop_line (words_in words.entry.rest) }
 {
     let mut words = words;
     let (name, round) = named(&mut words)?;
-    at_end(Form::OfLink(name, LinkForm::Drop { round }), words)
+    at_end(JournalLine::OfLink(name, LinkLine::Drop { round }), words)
 }
 
-fn repeat_form(words: Words<'_>) -> Option<Form<'_>>
+fn repeat_form(words: Words<'_>) -> Option<JournalLine<'_>>
     ensures { form_shown result ≡ lines.repeat_line (words_in words.entry.rest) }
 {
     let mut words = words;
     let (name, round) = named(&mut words)?;
-    at_end(Form::OfLink(name, LinkForm::Repeat { round }), words)
+    at_end(JournalLine::OfLink(name, LinkLine::Repeat { round }), words)
 }
 
-fn stop_form(words: Words<'_>) -> Option<Form<'_>>
+fn stop_form(words: Words<'_>) -> Option<JournalLine<'_>>
     ensures { form_shown result ≡ lines.stop_line (words_in words.entry.rest) }
 {
     let mut words = words;
@@ -240,19 +240,19 @@ fn stop_form(words: Words<'_>) -> Option<Form<'_>>
     }
 }
 
-fn early_form(words: Words<'_>) -> Option<Form<'_>>
+fn early_form(words: Words<'_>) -> Option<JournalLine<'_>>
     ensures { form_shown result ≡ lines.early_line (words_in words.entry.rest) }
 {
     let mut words = words;
     let (name, round) = named(&mut words)?;
     let reading = reading(&mut words)?;
     at_end(
-        Form::OfLink(name, LinkForm::Early { round, reading }),
+        JournalLine::OfLink(name, LinkLine::Early { round, reading }),
         words,
     )
 }
 
-fn missed_form(words: Words<'_>) -> Option<Form<'_>>
+fn missed_form(words: Words<'_>) -> Option<JournalLine<'_>>
     ensures { form_shown result ≡ lines.missed_line (words_in words.entry.rest) }
 {
     let mut words = words;
@@ -260,9 +260,9 @@ fn missed_form(words: Words<'_>) -> Option<Form<'_>>
     let reading = reading(&mut words)?;
     let cause = cause_in(words.next()?)?;
     at_end(
-        Form::OfLink(
+        JournalLine::OfLink(
             name,
-            LinkForm::Missed {
+            LinkLine::Missed {
                 round,
                 reading,
                 cause,

@@ -4,7 +4,7 @@ ghost use Rattle.bus_machine.specs.States.{opening};
 ghost use Rattle.run_laws.specs.Entries.{IsEntryIn};
 ghost use Rattle.run_laws.specs.TraceLines.{has_reading};
 ghost use Rattle.run_laws.specs.Traces.{opening_audit, line_broken};
-ghost use Rattle.trace_audit.specs.proof.Owing.{owed_by};
+ghost use Rattle.trace_audit.specs.proof.OwedStops.{owed_by};
 ghost use Rattle.trace_audit.specs.proof.Replays.{IsReplay, Follows, IsClockOf, audit_in};
 
 use crate::clocks::{ClockReading, clock_of, has_reading, note};

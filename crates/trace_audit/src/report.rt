@@ -2,11 +2,11 @@
 ghost use Rattle.std.specs.Prelude.{◌≡◌, ◌^◌, ◌<◌, ◌≤◌, length, IfOk};
 ghost use Rattle.std.specs.Arc.{arc_value};
 ghost use Rattle.trace_audit.specs.proof.Reports.{ReportEnds, end_at, index_of};
-ghost use Rattle.trace_audit.specs.proof.Rows.{IsAtLine};
+ghost use Rattle.trace_audit.specs.proof.ReportRows.{IsAtLine};
 
 use crate::has_form;
 use crate::lines::row_size;
-use crate::rows::Rows;
+use crate::rows::AuditedRows;
 use pals_base::{NoMemory, Text};
 use pals_model::{Design, Env};
 use std::alloc::Global;
@@ -32,12 +32,12 @@ pub fn read_report(
     ensures value { IfOk result (ReportEnds (arc_value design.now) env.now trace.now) }
     ensures within { IfOk result (λ end. index_of end ≤ length trace.now) }
 {
-    let mut rows = Rows::new(alloc, design, env)?;
+    let mut rows = AuditedRows::new(alloc, design, env)?;
     read_lines(&mut rows, design, trace)
 }
 
 // Looks at the lines, where no round of the composition is made yet.
-fn read_lines(rows: &mut Rows<'_>, design: &Design, trace: &[Text]) -> Result<ReportEnd, NoMemory>
+fn read_lines(rows: &mut AuditedRows<'_>, design: &Design, trace: &[Text]) -> Result<ReportEnd, NoMemory>
     requires rows { IsAtLine design.now rows.old.env.now rows.old 0 }
     requires few { length trace.now < 2 ^ 32 }
     ensures value { IfOk result (ReportEnds design.now rows.old.env.now trace.now) }

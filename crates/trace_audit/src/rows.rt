@@ -5,10 +5,10 @@ ghost use Rattle.pals_model.specs.RoundTexts.{composed_lines};
 ghost use Rattle.pals_model.specs.Rules.{IsDesign};
 ghost use Rattle.run_laws.specs.Traces.{line_at, row_size};
 ghost use Rattle.trace_audit.specs.proof.Lines.{HasLeft};
-ghost use Rattle.trace_audit.specs.proof.Rows.{AreRows, IsAtLine, left_at};
+ghost use Rattle.trace_audit.specs.proof.ReportRows.{AreRows, IsAtLine, left_at};
 
 use crate::lines::{RowText, row_size};
-use pals_base::{NoMemory, Port};
+use pals_base::{NoMemory, PortValue};
 use pals_model::{Design, Env};
 use pals_report::{TapPlaces, add_row};
 use std::alloc::Global;
@@ -17,27 +17,27 @@ use sync_product::Product;
 
 /// The composition of a design, round by round, and the row of its last round.
 #[derive(Drop)]
-pub struct Rows<'a> {
+pub struct AuditedRows<'a> {
     pub env: &'a Env,
     pub product: Product,
-    pub values: Vec<Port>,
+    pub values: Vec<PortValue>,
     pub places: TapPlaces,
     pub row: RowText,
 }
 
-impl<'a> Rows<'a> {
+impl<'a> AuditedRows<'a> {
     /// Before the first line.
-    pub fn new(alloc: Global, design: &Arc<Design>, env: &'a Env) -> Result<Rows<'a>, NoMemory>
+    pub fn new(alloc: Global, design: &Arc<Design>, env: &'a Env) -> Result<AuditedRows<'a>, NoMemory>
         ensures { IfOk result (λ rows. IsAtLine (arc_value design.now) env.now rows 0) }
     {
-        let values = vec![in alloc; Port::Absent; env.lists.len()]?;
+        let values = vec![in alloc; PortValue::Absent; env.lists.len()]?;
         let places = TapPlaces::new(alloc, design)?;
         let product = Product::new(alloc, Arc::try_clone(design)?)?;
         let row = RowText {
             text: Vec::new(alloc),
             place: 0,
         };
-        Ok(Rows {
+        Ok(AuditedRows {
             env,
             product,
             values,

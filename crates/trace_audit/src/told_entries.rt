@@ -6,23 +6,23 @@ ghost use Rattle.run_laws.specs.Entries.{IsEntryIn};
 ghost use Rattle.run_laws.specs.TraceLines.{entry_of, told};
 ghost use Rattle.trace_audit.specs.proof.Forms.{node_form, link_form, shown};
 
-use crate::forms::{Form, LinkForm, NodeForm, form_of};
+use crate::forms::{JournalLine, LinkLine, NodeLine, form_of};
 use pals_base::{LinkNo, NodeNo};
 use pals_runs::{JournalEntry, Stop};
-use scenario_values::Names;
+use scenario_values::DesignNames;
 
 // The entry of what is told of a node.
-fn node_entry(node: NodeNo, what: NodeForm) -> JournalEntry
+fn node_entry(node: NodeNo, what: NodeLine) -> JournalEntry
     ensures { (design : DesignParts) (name : List ℕ) → node_named design name ≡ Some node.0 →
         entry_of design (node_form name what) ≡ Some result }
 {
     match what {
-        NodeForm::Start { round, reading } => JournalEntry::Start {
+        NodeLine::Start { round, reading } => JournalEntry::Start {
             node,
             round,
             reading,
         },
-        NodeForm::Step {
+        NodeLine::Step {
             round,
             step,
             reading,
@@ -32,8 +32,8 @@ fn node_entry(node: NodeNo, what: NodeForm) -> JournalEntry
             step,
             reading,
         },
-        NodeForm::Finish { round } => JournalEntry::Finish { node, round },
-        NodeForm::Send { round, reading } => JournalEntry::Send {
+        NodeLine::Finish { round } => JournalEntry::Finish { node, round },
+        NodeLine::Send { round, reading } => JournalEntry::Send {
             node,
             round,
             reading,
@@ -42,12 +42,12 @@ fn node_entry(node: NodeNo, what: NodeForm) -> JournalEntry
 }
 
 // The entry of what is told of a link.
-fn link_entry(link: LinkNo, what: LinkForm) -> JournalEntry
+fn link_entry(link: LinkNo, what: LinkLine) -> JournalEntry
     ensures { (design : DesignParts) (name : List ℕ) → link_named design name ≡ Some link.0 →
         entry_of design (link_form name what) ≡ Some result }
 {
     match what {
-        LinkForm::Arrive {
+        LinkLine::Arrive {
             round,
             reading,
             outcome,
@@ -57,14 +57,14 @@ fn link_entry(link: LinkNo, what: LinkForm) -> JournalEntry
             reading,
             result: outcome,
         },
-        LinkForm::Drop { round } => JournalEntry::Drop { link, round },
-        LinkForm::Repeat { round } => JournalEntry::Repeat { link, round },
-        LinkForm::Early { round, reading } => JournalEntry::Stopped(Stop::Early {
+        LinkLine::Drop { round } => JournalEntry::Drop { link, round },
+        LinkLine::Repeat { round } => JournalEntry::Repeat { link, round },
+        LinkLine::Early { round, reading } => JournalEntry::Stopped(Stop::Early {
             link,
             round,
             reading,
         }),
-        LinkForm::Missed {
+        LinkLine::Missed {
             round,
             reading,
             cause,
@@ -78,18 +78,18 @@ fn link_entry(link: LinkNo, what: LinkForm) -> JournalEntry
 }
 
 // The entry of a form, where its name is the design's.
-fn entry_of(names: &Names<'_>, form: Form<'_>) -> Option<JournalEntry>
+fn entry_of(names: &DesignNames<'_>, form: JournalLine<'_>) -> Option<JournalEntry>
     ensures { result ≡ entry_of names.now (shown form.entry) }
 {
     match form {
-        Form::OfNode(name, what) => Some(node_entry(names.find_node(name)?, what)),
-        Form::OfLink(name, what) => Some(link_entry(names.find_link(name)?, what)),
+        JournalLine::OfNode(name, what) => Some(node_entry(names.find_node(name)?, what)),
+        JournalLine::OfLink(name, what) => Some(link_entry(names.find_link(name)?, what)),
     }
 }
 
 /// The entry that a line tells, or none where it has no form or names nothing of the design. It is of a
 /// node or a link that is there, with numbers within their limits.
-pub fn told(names: &Names<'_>, line: &str) -> Option<JournalEntry>
+pub fn told(names: &DesignNames<'_>, line: &str) -> Option<JournalEntry>
     ensures value { result ≡ told names.now line.now }
     ensures within { IfSome result (IsEntryIn names.now) }
 {

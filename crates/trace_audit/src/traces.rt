@@ -19,7 +19,7 @@ use pals_base::{Items, NoMemory, Text};
 use pals_bus::Bus;
 use pals_model::{Delays, Design, Env};
 use pals_runs::{TraceRule, Verdict};
-use scenario_values::Names;
+use scenario_values::DesignNames;
 use std::alloc::Global;
 use std::sync::Arc;
 use step_code::Code;
@@ -111,14 +111,14 @@ fn audit_behind(
     requires within { size ≤ length trace.now }
     ensures { IfOk result (λ v. v ≡ journal_verdict replay.old.bus.run (size / row_size design.now) size (audit_in replay.old) (drop size trace.now)) }
 {
-    let names = Names::new(alloc, design)?;
+    let names = DesignNames::new(alloc, design)?;
     audit_journal(replay, &names, trace, size, size / row_size(design))
 }
 
 // The verdict on the lines from an index on, behind a report that has this number of rows.
 fn audit_journal(
     replay: &mut Replay,
-    names: &Names<'_>,
+    names: &DesignNames<'_>,
     trace: &[Text],
     start: usize,
     rows: usize,

@@ -3,8 +3,8 @@ use Rattle.std.proofs.Common.{◌≡◌, ◌∙◌, ℕ, ◌-◌, ◌<◌, ◌�
 use Rattle.std.proofs.lemmas.List.{length-map, get_or-map, get_or-replicate, get_or_default}
 use Rattle.std.proofs.lemmas.Option.{get_or_from_slice_get}
 use Rattle.list_lemmas.proofs.Places.{slice_get-map_some}
-use Rattle.pals_base.specs.declared.values.Port.{Port}
-use Rattle.pals_base.specs.declared.values.Port.TheVariants.{Absent}
+use Rattle.pals_base.specs.declared.values.PortValue.{PortValue}
+use Rattle.pals_base.specs.declared.values.PortValue.TheVariants.{Absent}
 use Rattle.pals_base.specs.declared.values.Frame.{Frame}
 use Rattle.pals_base.specs.Fire.{initial}
 use Rattle.pals_model.specs.declared.design.Component.{Component}
@@ -27,20 +27,20 @@ use Rattle.triple_vote.specs.Replicas.{copies_of, Voted, frame_at, received_at, 
 use Rattle.triple_vote.specs.proof.States.{VotedState, vbegun, vadvanced}
 use Rattle.triple_vote.specs.proof.Layers.{lengths, frame_sizes, tap_sizes}
 use Rattle.triple_vote.specs.proof.Triples.{there_in, parts_in, frame_of, tuple_of, voted_of, AreThree, HaveReplicas, AreOpened, StayPut, AreMade, AllReceived, AreShown, AreTurned, AreHeard, HasTables, HasReplicas}
-use Rattle.triple_vote.proofs.Following.{replica_at, receiver_at}
+use Rattle.triple_vote.proofs.ReplicasFollow.{replica_at, receiver_at}
 use Rattle.triple_vote.proofs.Layering.{room_at}
 use Rattle.triple_vote.proofs.Voting.{replicas-same, receivers-same, within_three, voted_is, shown_is}
 
-abbrev pub vstate : DesignParts → List Bool → Voted → List (List Port) → VotedState
+abbrev pub vstate : DesignParts → List Bool → Voted → List (List PortValue) → VotedState
 vstate design replicated voted shown = record { design = design; replicated = replicated; voted = voted; shown = shown }
 
 -- ---- before the first round
-voted_opened : (design : DesignParts) (replicated : List Bool) (layers : List Layer) (heard : List (List (List Port))) → AreOpened design replicated layers
+voted_opened : (design : DesignParts) (replicated : List Bool) (layers : List Layer) (heard : List (List (List PortValue))) → AreOpened design replicated layers
     → heard ≡ replicate 3 (opening design).messages → voted_of design replicated (parts_in layers) heard ≡ vopening design replicated
 voted_opened design replicated layers heard opened silent =
     let begins : Component → Frame = λ (c : Component). initial c.behaviour in
-    let first : Link → List Port = λ (x : Link). replicate (rate_of design x.source.0) Absent in
-    let messages : List (List Port) = (opening design).messages in
+    let first : Link → List PortValue = λ (x : Link). replicate (rate_of design x.source.0) Absent in
+    let messages : List (List PortValue) = (opening design).messages in
     ap₂ (λ frames tuples. let w : Voted = record { frames = frames; received = tuples } in w)
     (replicas-same design replicated (λ node replica. frame_of (parts_in layers) replica node) (λ node replica. first_frame (slice_get design.components node))
     (λ node replica within below.
@@ -56,7 +56,7 @@ voted_opened design replicated layers heard opened silent =
     ∙ get_or_from_slice_get messages l (first link) [] (slice_get-map_some first design.links l link is)
     ∙ sym (ap (first_tuple design) is)))
 
-pub state_begun : (design : DesignParts) (replicated : List Bool) (layers : List Layer) (heard : List (List (List Port))) (shown : List (List Port))
+pub state_begun : (design : DesignParts) (replicated : List Bool) (layers : List Layer) (heard : List (List (List PortValue))) (shown : List (List PortValue))
     → AreOpened design replicated layers → heard ≡ replicate 3 (opening design).messages
     → shown ≡ map (λ (tap : Tap). replicate (rate_of design tap.source.0) Absent) design.taps
     → vstate design replicated (voted_of design replicated (parts_in layers) heard) shown ≡ vbegun design replicated
@@ -64,8 +64,8 @@ state_begun design replicated layers heard shown opened silent absent =
     ap₂ (vstate design replicated) (voted_opened design replicated layers heard opened silent) absent
 
 -- ---- one more
-pub state_advanced : (design : DesignParts) (replicated : List Bool) (values : List Port) (faults : List VoteFault) (heard next : List (List (List Port)))
-    (old layers turned : List Layer) (shown_before shown : List (List Port)) → IsDesign design → AreThree design layers → HaveReplicas design replicated (there_in old)
+pub state_advanced : (design : DesignParts) (replicated : List Bool) (values : List PortValue) (faults : List VoteFault) (heard next : List (List (List PortValue)))
+    (old layers turned : List Layer) (shown_before shown : List (List PortValue)) → IsDesign design → AreThree design layers → HaveReplicas design replicated (there_in old)
     → StayPut old layers → AreMade design values heard layers → AllReceived design replicated faults layers next → AreShown design replicated layers shown
     → lengths shown ≡ tap_sizes design → AreTurned layers turned
     → vstate design replicated (voted_of design replicated (parts_in turned) next) shown
@@ -73,8 +73,8 @@ pub state_advanced : (design : DesignParts) (replicated : List Bool) (values : L
 state_advanced design replicated values faults heard next old layers turned shown_before shown rules are replicas stay made received shows sizes turns =
     let there : HaveReplicas design replicated (there_in layers) = subst (HaveReplicas design replicated) (sym stay.there) replicas in
     let count : length shown ≡ length design.taps
-    = sym (length-map shown (λ (t : List Port). length t)) ∙ ap length sizes ∙ length-map design.taps (λ (tap : Tap). rate_of design tap.source.0) in
-    let before : (List (List (List Port))) → Voted = λ hs. voted_of design replicated (parts_in layers) hs in
+    = sym (length-map shown (λ (t : List PortValue). length t)) ∙ ap length sizes ∙ length-map design.taps (λ (tap : Tap). rate_of design tap.source.0) in
+    let before : (List (List (List PortValue))) → Voted = λ hs. voted_of design replicated (parts_in layers) hs in
     ap₂ (λ ps sh. vstate design replicated (voted_of design replicated ps next) sh) turns.parts
     (shown_is design replicated values heard layers rules are.three there made shown count shows)
     ∙ ap (λ w. vstate design replicated w (map (vshown_by design replicated values (before heard)) design.taps))
@@ -82,7 +82,7 @@ state_advanced design replicated values faults heard next old layers turned show
     ∙ ap (λ ps. vadvanced (vstate design replicated (voted_of design replicated ps heard) shown_before) values faults) stay.parts
 
 -- ---- what is read of it
-pub frame_read : (design : DesignParts) (replicated : List Bool) (layers : List Layer) (heard : List (List (List Port))) (node replica : ℕ) (layer : Layer) (part : Part)
+pub frame_read : (design : DesignParts) (replicated : List Bool) (layers : List Layer) (heard : List (List (List PortValue))) (node replica : ℕ) (layer : Layer) (part : Part)
     → node < length design.components → replica < copies_of replicated node → replica < length layers → layer ≡ slice_index_or layers replica layer
     → node < length layer.parts → part ≡ slice_index_or layer.parts node part
     → part.frame ≡ frame_at (voted_of design replicated (parts_in layers) heard) node replica
@@ -93,7 +93,7 @@ frame_read design replicated layers heard node replica layer part within below i
     ∙ ap (λ ps. slice_index_or (frames_of ps) node no_frame) (sym (get_or-map (λ (l : Layer). l.parts) layers replica layer [] inside))
     ∙ sym (replica_at design replicated (λ n r. frame_of (parts_in layers) r n) node replica within below)
 
-pub received_read : (design : DesignParts) (replicated : List Bool) (parts : List (List Part)) (heard : List (List (List Port))) (l target : ℕ) (link : Link) (tuples : List (List Port)) (tuple : List Port)
+pub received_read : (design : DesignParts) (replicated : List Bool) (parts : List (List Part)) (heard : List (List (List PortValue))) (l target : ℕ) (link : Link) (tuples : List (List PortValue)) (tuple : List PortValue)
     → slice_get design.links l ≡ Some link → target < copies_of replicated link.target.0 → target < length heard → tuples ≡ slice_index_or heard target tuples
     → l < length tuples → tuple ≡ slice_index_or tuples l tuple → tuple ≡ received_at (voted_of design replicated parts heard) l target
 received_read design replicated parts heard l target link tuples tuple is below inside tuples_are there tuple_is =
@@ -125,7 +125,7 @@ pub tables_stay : (design : DesignParts) (replicated : List Bool) (sources : Lis
 tables_stay design replicated sources old new tables same =
     record { replicated_fit = tables.replicated_fit; sources_are = tables.sources_are; stages_fit = same ∙ tables.stages_fit }
 
-pub replicas_stay : (design : DesignParts) (replicated : List Bool) (old new : List Layer) (heard : List (List (List Port))) (shown : List (List Port))
+pub replicas_stay : (design : DesignParts) (replicated : List Bool) (old new : List Layer) (heard : List (List (List PortValue))) (shown : List (List PortValue))
     → HasReplicas design replicated old heard shown → StayPut old new → AreThree design new → HasReplicas design replicated new heard shown
 replicas_stay design replicated old new heard shown kept stay are = record {
   layers_fit = are;
@@ -134,7 +134,7 @@ replicas_stay design replicated old new heard shown kept stay are = record {
   shown_fit = kept.shown_fit;
 }
 
-pub replicas_turn : (design : DesignParts) (replicated : List Bool) (old layers turned : List Layer) (heard next : List (List (List Port))) (shown_before shown : List (List Port))
+pub replicas_turn : (design : DesignParts) (replicated : List Bool) (old layers turned : List Layer) (heard next : List (List (List PortValue))) (shown_before shown : List (List PortValue))
     → HasReplicas design replicated old heard shown_before → StayPut old layers → AreThree design layers → AreTurned layers turned → AreHeard design next
     → lengths shown ≡ tap_sizes design → HasReplicas design replicated turned next shown
 replicas_turn design replicated old layers turned heard next shown_before shown kept stay are turns hear sizes = record {
@@ -145,8 +145,8 @@ replicas_turn design replicated old layers turned heard next shown_before shown 
 }
 
 -- one round more, where each part of it reads the same design, replicas and layers
-pub state_advanced_by : (design d1 d2 d3 : DesignParts) (replicated marked : List Bool) (values : List Port) (faults : List VoteFault) (heard before next : List (List (List Port)))
-    (old layers seen turned : List Layer) (shown_before shown : List (List Port)) → d1 ≡ design → d2 ≡ design → d3 ≡ design → marked ≡ replicated → before ≡ heard
+pub state_advanced_by : (design d1 d2 d3 : DesignParts) (replicated marked : List Bool) (values : List PortValue) (faults : List VoteFault) (heard before next : List (List (List PortValue)))
+    (old layers seen turned : List Layer) (shown_before shown : List (List PortValue)) → d1 ≡ design → d2 ≡ design → d3 ≡ design → marked ≡ replicated → before ≡ heard
     → seen ≡ layers → IsDesign d3 → AreThree d1 layers → HaveReplicas design replicated (there_in old) → StayPut old layers → AreMade d1 values before layers
     → AllReceived d2 marked faults seen next → AreShown d3 marked seen shown → lengths shown ≡ tap_sizes d3 → AreTurned layers turned
     → vstate design replicated (voted_of design replicated (parts_in turned) next) shown

@@ -3,7 +3,7 @@ use Rattle.std.proofs.Common.{◌≡◌, ◌∙◌, ℕ, zero, suc, ◌<◌, Boo
 use Rattle.std.proofs.lemmas.List.{length-map}
 use Rattle.std.proofs.lemmas.Option.{slice_get-get_or}
 use Rattle.std.proofs.Math.ListN.{get_or-map}
-use Rattle.pals_base.specs.declared.values.Port.{Port}
+use Rattle.pals_base.specs.declared.values.PortValue.{PortValue}
 use Rattle.pals_base.specs.declared.values.Frame.{Frame}
 use Rattle.pals_base.specs.Steps.{upwards}
 use Rattle.pals_model.specs.declared.design.Link.{Link}
@@ -14,10 +14,10 @@ use Rattle.pals_model.specs.Composition.{no_frame, comp, state, msg}
 use Rattle.pals_model.proofs.CompositionLaws.{one_frame_each, one_message_each}
 use Rattle.pals_runs.specs.declared.pairs.VoteFault.{VoteFault}
 use Rattle.triple_vote.specs.Replicas.{is_replicated, copies_of, receivers_in, Voted, for_replicas, for_receivers, first_frame, first_tuple, replica_steps, receives_on, vcomp}
-use Rattle.triple_vote.specs.proof.Laws.{ReplicasAreStates, ReceivedAreMessages, TapsShowTuples, alone, NoReplicasAreComposition}
+use Rattle.triple_vote.specs.proof.VoteLaws.{ReplicasAreStates, ReceivedAreMessages, TapsShowTuples, alone, NoReplicasAreComposition}
 use Rattle.triple_vote.proofs.Tables.{table-is}
 use Rattle.triple_vote.proofs.Faults.{vote_is}
-use Rattle.triple_vote.proofs.Following.{replica_at, receiver_at, Agrees, AreOverruled, agrees_after, shows_after}
+use Rattle.triple_vote.proofs.ReplicasFollow.{replica_at, receiver_at, Agrees, AreOverruled, agrees_after, shows_after}
 
 -- ---- with at most one at fault
 pub replicas_are_states : ReplicasAreStates
@@ -36,7 +36,7 @@ taps_show_tuples design env replicated faults sound are outvoted n round tap is 
     shows_after design env replicated sound faults (λ r k t x m is_x three size. vote_is design faults are outvoted r k t x m is_x size) n round tap is
 
 -- ---- without replicas
-abbrev voted_with : List (List Frame) → List (List (List Port)) → Voted
+abbrev voted_with : List (List Frame) → List (List (List PortValue)) → Voted
 voted_with frames received = record { frames = frames; received = received }
 
 module _ (design : DesignParts) (env : Env) (replicated : List Bool) (none : (node : ℕ) → is_replicated replicated node ≡ false) where
@@ -46,12 +46,12 @@ module _ (design : DesignParts) (env : Env) (replicated : List Bool) (none : (no
   one_of : (node : ℕ) → 0 < copies_of replicated node
   one_of node = let e : copies_of replicated node ≡ 1 = ap (λ b. if b then 3 else 1) (none node) in omega arith
 
-  module _ (f : ℕ → ℕ → Frame) (g : ℕ → ℕ → List Port) (rounds : ℕ)
+  module _ (f : ℕ → ℕ → Frame) (g : ℕ → ℕ → List PortValue) (rounds : ℕ)
       (agrees : Agrees design env replicated (voted_with (for_replicas design replicated f) (for_receivers design replicated g)) rounds) where
     abbrev frames : List Frame
     frames = (comp design env rounds).frames
 
-    abbrev messages : List (List Port)
+    abbrev messages : List (List PortValue)
     messages = (comp design env rounds).messages
 
     same_frames : for_replicas design replicated f ≡ map (λ (frame : Frame). frame ∷ []) frames
@@ -67,9 +67,9 @@ module _ (design : DesignParts) (env : Env) (replicated : List Bool) (none : (no
         ∙ ap only (sym (replica_at design replicated f node 0 inside (one_of node)) ∙ agrees.frames node 0 inside (one_of node))
         ∙ sym (get_or-map only frames node no_frame))
 
-    same_received : for_receivers design replicated g ≡ map (λ (message : List Port). message ∷ []) messages
+    same_received : for_receivers design replicated g ≡ map (λ (message : List PortValue). message ∷ []) messages
     same_received =
-        let only : List Port → List (List Port) = λ (message : List Port). message ∷ [] in
+        let only : List PortValue → List (List PortValue) = λ (message : List PortValue). message ∷ [] in
         let size : length (map only messages) ≡ length design.links = length-map messages only ∙ one_message_each design env rounds in
         ap (λ n. map (λ l. map (g l) (upwards 0 (receivers_in replicated (slice_get design.links l)))) (upwards 0 n)) (sym size)
         ∙ table-is (λ l. map (g l) (upwards 0 (receivers_in replicated (slice_get design.links l)))) (map only messages) (only [])

@@ -2,7 +2,7 @@
 use Rattle.std.proofs.Common.{◌≡◌, ◌∙◌, ℕ, suc, nat_eq, ◌&&◌, true, List, length, Option, Some, None, slice_get, find, refl, sym, ap, arith}
 use Rattle.std.proofs.lemmas.Bool.{eqb-true, and_parts}
 use Rattle.std.proofs.lemmas.List.Elements.{All-contains}
-use Rattle.pals_base.specs.declared.values.Port.{Port}
+use Rattle.pals_base.specs.declared.values.PortValue.{PortValue}
 use Rattle.pals_model.specs.declared.design.Link.{Link}
 use Rattle.pals_model.specs.declared.design.DesignParts.{DesignParts}
 use Rattle.pals_model.specs.Inputs.{rate_of}
@@ -10,7 +10,7 @@ use Rattle.pals_runs.specs.declared.pairs.VoteFault.{VoteFault}
 use Rattle.triple_vote.specs.Votes.{votes}
 use Rattle.triple_vote.specs.Replicas.{source_in, is_fault, fault_or, vote_of}
 use Rattle.triple_vote.specs.Outvoted.{AreOutvoted}
-use Rattle.triple_vote.specs.proof.Laws.{IsFault, AreFaults, OneNamedIsOutvoted}
+use Rattle.triple_vote.specs.proof.VoteLaws.{IsFault, AreFaults, OneNamedIsOutvoted}
 use Rattle.triple_vote.proofs.Agreeing.{votes-first_two, votes-outer_two, votes-last_two}
 use Rattle.triple_vote.proofs.Tables.{found}
 
@@ -18,10 +18,10 @@ use Rattle.triple_vote.proofs.Tables.{found}
 abbrev Apart : Option VoteFault → Option VoteFault → Type 0
 Apart a b = (f g : VoteFault) → a ≡ Some f → b ≡ Some g → ⊥
 
-abbrev Fits : List Port → Option VoteFault → Type 0
+abbrev Fits : List PortValue → Option VoteFault → Type 0
 Fits m o = (f : VoteFault) → o ≡ Some f → length f.values ≡ length m
 
-one_of_three : (m : List Port) (a b c : Option VoteFault) → Fits m a → Fits m b → Fits m c → Apart a b → Apart a c → Apart b c
+one_of_three : (m : List PortValue) (a b c : Option VoteFault) → Fits m a → Fits m b → Fits m c → Apart a b → Apart a c → Apart b c
     → votes (fault_or a m) (fault_or b m) (fault_or c m) ≡ m
 one_of_three m None None None fa fb fc ab ac bc = votes-first_two m m refl
 one_of_three m (Some f) None None fa fb fc ab ac bc = votes-last_two m f.values (fa f refl)
@@ -50,7 +50,7 @@ module _ (design : DesignParts) (faults : ℕ → List VoteFault) (are : AreFaul
   abbrev found_on : ℕ → ℕ → ℕ → ℕ → Option VoteFault
   found_on round l target replica = find (is_fault l (suc replica) (suc target)) (faults round)
 
-  fits : (round l target replica : ℕ) (link : Link) (m : List Port) → slice_get design.links l ≡ Some link → length m ≡ rate_of design link.source.0
+  fits : (round l target replica : ℕ) (link : Link) (m : List PortValue) → slice_get design.links l ≡ Some link → length m ≡ rate_of design link.source.0
       → Fits m (found_on round l target replica)
   fits round l target replica link m is size f is_f =
       let at = found (is_fault l (suc replica) (suc target)) (faults round) f is_f in
@@ -67,7 +67,7 @@ module _ (design : DesignParts) (faults : ℕ → List VoteFault) (are : AreFaul
       let same : f.replica ≡ g.replica = outvoted round f g a.0 b.0 (first.0 ∙ sym second.0) (first.2 ∙ sym second.2) in
       differ (omega (arith, same, first.1, second.1))
 
-  pub vote_is : (round l target : ℕ) (link : Link) (m : List Port) → slice_get design.links l ≡ Some link → length m ≡ rate_of design link.source.0
+  pub vote_is : (round l target : ℕ) (link : Link) (m : List PortValue) → slice_get design.links l ≡ Some link → length m ≡ rate_of design link.source.0
       → vote_of (λ replica. fault_or (find (is_fault l (suc replica) (suc target)) (faults round)) m) ≡ m
   vote_is round l target link m is size =
       one_of_three m (found_on round l target 0) (found_on round l target 1) (found_on round l target 2)

@@ -4,7 +4,7 @@ use Rattle.std.proofs.lemmas.List.{get_or-set_other, get_or_default, length-set}
 use Rattle.std.proofs.Math.Seq.{map-set_same}
 use Rattle.std.proofs.lemmas.List.Elements.{All-set}
 use Rattle.std.proofs.lemmas.Grind.{get_or-set_at}
-use Rattle.pals_base.specs.declared.values.Port.{Port}
+use Rattle.pals_base.specs.declared.values.PortValue.{PortValue}
 use Rattle.pals_model.specs.declared.design.DesignParts.{DesignParts}
 use Rattle.pals_runs.specs.declared.pairs.VoteFault.{VoteFault}
 use Rattle.sync_product.proofs.Tables.{slice_get-set_same, slice_get-set_other}
@@ -20,11 +20,11 @@ put-at xs at k y x here within is =
     cc
 
 -- ---- rounds
-abbrev pub MadeTo : DesignParts → List Port → List (List (List Port)) → List Layer → ℕ → Type 0
+abbrev pub MadeTo : DesignParts → List PortValue → List (List (List PortValue)) → List Layer → ℕ → Type 0
 MadeTo design values heard layers at =
     (replica : ℕ) (layer : Layer) → replica < at → slice_get layers replica ≡ Some layer → IsMade design values (slice_index_or heard replica []) layer
 
-pub made_more : (design : DesignParts) (values : List Port) (heard : List (List (List Port))) (layers : List Layer) (at : ℕ) (new : Layer) → at < length layers
+pub made_more : (design : DesignParts) (values : List PortValue) (heard : List (List (List PortValue))) (layers : List Layer) (at : ℕ) (new : Layer) → at < length layers
     → IsMade design values (slice_index_or heard at []) new → MadeTo design values heard layers at → MadeTo design values heard (set layers at new) (at + 1)
 made_more design values heard layers at new within made so_far replica layer below is =
     let upto : replica ≤ at = omega (arith, below) in
@@ -55,25 +55,25 @@ pub room_at : (design : DesignParts) (layers : List Layer) (at : ℕ) (layer : L
 room_at design layers at layer are within is = subst (HasRoom design) (sym is) (are.rooms at layer within)
 
 -- ---- what is received
-abbrev HasMessages : DesignParts → List (List Port) → Type 0
+abbrev HasMessages : DesignParts → List (List PortValue) → Type 0
 HasMessages design tuples = lengths tuples ≡ message_sizes design
 
-pub heard_room : (design : DesignParts) (heard : List (List (List Port))) (at : ℕ) (tuples : List (List Port)) → AreHeard design heard → at < length heard
+pub heard_room : (design : DesignParts) (heard : List (List (List PortValue))) (at : ℕ) (tuples : List (List PortValue)) → AreHeard design heard → at < length heard
     → tuples ≡ slice_index_or heard at tuples → lengths tuples ≡ message_sizes design
 heard_room design heard at tuples are within is = subst (HasMessages design) (sym is) (are.sizes at tuples within)
 
-pub heard_stay : (design : DesignParts) (heard : List (List (List Port))) (at : ℕ) (new : List (List Port)) → AreHeard design heard → lengths new ≡ message_sizes design
+pub heard_stay : (design : DesignParts) (heard : List (List (List PortValue))) (at : ℕ) (new : List (List PortValue)) → AreHeard design heard → lengths new ≡ message_sizes design
     → AreHeard design (set heard at new)
 heard_stay design heard at new are fit = record {
   three = length-set heard at new ∙ are.three;
   sizes = All-set (HasMessages design) heard at new fit are.sizes;
 }
 
-abbrev pub ReceivedTo : DesignParts → List Bool → List VoteFault → List Layer → List (List (List Port)) → ℕ → Type 0
+abbrev pub ReceivedTo : DesignParts → List Bool → List VoteFault → List Layer → List (List (List PortValue)) → ℕ → Type 0
 ReceivedTo design replicated faults layers heard at =
     (target : ℕ) → target < at → AreReceived design replicated faults layers target (slice_index_or heard target [])
 
-pub received_more : (design : DesignParts) (replicated : List Bool) (faults : List VoteFault) (layers : List Layer) (heard : List (List (List Port))) (at : ℕ) (new : List (List Port))
+pub received_more : (design : DesignParts) (replicated : List Bool) (faults : List VoteFault) (layers : List Layer) (heard : List (List (List PortValue))) (at : ℕ) (new : List (List PortValue))
     → at < length heard → AreReceived design replicated faults layers at new → ReceivedTo design replicated faults layers heard at
     → ReceivedTo design replicated faults layers (set heard at new) (at + 1)
 received_more design replicated faults layers heard at new within received so_far target below =

@@ -2,11 +2,11 @@ pub mod Agreeing
 pub mod Tables
 pub mod Readings
 pub mod Faults
-pub mod Following
+pub mod ReplicasFollow
 pub mod Composed
 pub mod Texts
 pub mod States
-pub mod Rows
+pub mod CounterVotes
 pub mod Places
 pub mod Filling
 pub mod Running
@@ -15,7 +15,7 @@ pub mod Voting
 pub mod Layering
 pub mod Sizing
 pub mod Sending
-pub mod Firsts
+pub mod EarliestFaults
 pub mod Gathering
 pub mod Starting
 pub mod Advancing

@@ -3,7 +3,7 @@ use Rattle.std.proofs.Common.{◌≡◌, ◌∙◌, ℕ, inl, inr, true, List, l
 use Rattle.std.proofs.lemmas.List.{length-map}
 use Rattle.std.proofs.lemmas.Option.{slice_get_cases, slice_get_within}
 use Rattle.list_lemmas.proofs.Places.{slice_get-map_some}
-use Rattle.pals_base.specs.declared.values.Port.{Port}
+use Rattle.pals_base.specs.declared.values.PortValue.{PortValue}
 use Rattle.pals_base.specs.Bound.{sent_steps}
 use Rattle.pals_base.specs.Steps.{column, cut}
 use Rattle.pals_model.specs.declared.design.Component.{Component}
@@ -15,9 +15,9 @@ use Rattle.sync_product.proofs.Tables.{sized_at}
 use Rattle.triple_vote.specs.declared.layer.Layer.{Layer}
 use Rattle.triple_vote.specs.proof.Layers.{whole_from, is_there, rows_made, AreRun, AreSent, AreWhole, IsMade}
 
-module _ (design : DesignParts) (values : List Port) (heard : List (List Port)) (layer : Layer) (stages : List Stage)
+module _ (design : DesignParts) (values : List PortValue) (heard : List (List PortValue)) (layer : Layer) (stages : List Stage)
     (run : AreRun design values heard layer.there (frames_of layer.parts) layer.next stages) (fit : map stage_size stages ≡ stage_sizes design) where
-  abbrev rows : ℕ → Component → List (List Port)
+  abbrev rows : ℕ → Component → List (List PortValue)
   rows node c = rows_made design values heard (frames_of layer.parts) node c
 
   -- the stage of a component that is there has its rows, and sends as many steps as end in time
@@ -52,10 +52,10 @@ module _ (design : DesignParts) (values : List Port) (heard : List (List Port)) 
         (let at = staged link.source.0 c is present in
         sent l link is_link present
         ∙ ap (λ o. Some (sent_from o link.out_port)) at.is
-        ∙ ap₂ (λ n (rs : List (List Port)). Some (cut n (column link.out_port rs))) at.sent_is at.rows_are);
+        ∙ ap₂ (λ n (rs : List (List PortValue)). Some (cut n (column link.out_port rs))) at.sent_is at.rows_are);
     shown = λ n tap c is_tap is present.
         (let at = staged tap.source.0 c is present in
         shown n tap is_tap present
         ∙ ap (λ o. Some (whole_from o tap.out_port)) at.is
-        ∙ ap (λ (rs : List (List Port)). Some (column tap.out_port rs)) at.rows_are);
+        ∙ ap (λ (rs : List (List PortValue)). Some (column tap.out_port rs)) at.rows_are);
   }

@@ -3,7 +3,7 @@ use Rattle.std.proofs.Common.{◌≡◌, ◌∙◌, ℕ, nat_eq, List, [], ◌�
 use Rattle.std.specs.Prelude.{position}
 use Rattle.std.proofs.lemmas.Bool.{eqb-true, and_parts}
 use Rattle.std.proofs.Math.ListN.{get_or-map}
-use Rattle.pals_base.specs.declared.values.Port.{Port}
+use Rattle.pals_base.specs.declared.values.PortValue.{PortValue}
 use Rattle.pals_base.specs.Steps.{columns, upwards}
 use Rattle.pals_model.specs.declared.design.Component.{Component}
 use Rattle.pals_model.specs.declared.design.Link.{Link}
@@ -12,13 +12,13 @@ use Rattle.pals_model.specs.Inputs.{inputs_of, source_of, from_link, from_feed, 
 use Rattle.pals_model.proofs.Lookups.{found_at}
 use Rattle.triple_vote.specs.Replicas.{Voted, received_at, heard_by}
 
-module _ (design : DesignParts) (values : List Port) (v : Voted) (messages : List (List Port)) (replica : ℕ) where
+module _ (design : DesignParts) (values : List PortValue) (v : Voted) (messages : List (List PortValue)) (replica : ℕ) where
   -- on each link to a component, the replica received the message
   abbrev pub SameHeard : ℕ → Type 0
   SameHeard node = (l : ℕ) (link : Link) → slice_get design.links l ≡ Some link → link.target.0 ≡ node → received_at v l replica ≡ slice_index_or messages l []
 
   heard_is : (l : ℕ) → slice_index_or (heard_by replica v) l [] ≡ received_at v l replica
-  heard_is l = get_or-map (λ (tuples : List (List Port)). slice_index_or tuples replica []) v.received l []
+  heard_is l = get_or-map (λ (tuples : List (List PortValue)). slice_index_or tuples replica []) v.received l []
 
   brings_by : (rate node port : ℕ) → SameHeard node → (o : Option ℕ) → position (link_goes_to node port) design.links ≡ o → (other : Option ℕ)
       → reading design values (heard_by replica v) rate (from_link o (from_feed design other)) ≡ reading design values messages rate (from_link o (from_feed design other))
@@ -40,7 +40,7 @@ module _ (design : DesignParts) (values : List Port) (v : Voted) (messages : Lis
       ≡ map (reading design values messages rate) (map (λ port. source_of design node port) ports)
   same_ports rate node same [] = refl
   same_ports rate node same (port ∷ ports) =
-      ap₂ (λ tuple (tuples : List (List Port)). tuple ∷ tuples) (brings rate node port same) (same_ports rate node same ports)
+      ap₂ (λ tuple (tuples : List (List PortValue)). tuple ∷ tuples) (brings rate node port same) (same_ports rate node same ports)
 
   pub same_inputs : (node : ℕ) (c : Component) → SameHeard node → inputs_of design values (heard_by replica v) node c ≡ inputs_of design values messages node c
   same_inputs node c same = ap (columns c.rate) (same_ports c.rate node same (upwards 0 (length c.behaviour.ins)))

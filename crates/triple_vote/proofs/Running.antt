@@ -3,7 +3,7 @@ use Rattle.std.proofs.Common.{◌≡◌, ◌∙◌, ℕ, ◌+◌, ◌<◌, ◌�
 use Rattle.std.proofs.lemmas.Bool.{false≢true}
 use Rattle.std.proofs.lemmas.List.{map-set, length-map, get_or-map}
 use Rattle.list_lemmas.proofs.Places.{slice_get-map_some}
-use Rattle.pals_base.specs.declared.values.Port.{Port}
+use Rattle.pals_base.specs.declared.values.PortValue.{PortValue}
 use Rattle.pals_base.specs.declared.values.Frame.{Frame}
 use Rattle.pals_base.specs.Bound.{sent_steps}
 use Rattle.pals_base.specs.Steps.{frame_after, outputs, upwards}
@@ -20,15 +20,15 @@ use Rattle.sync_product.proofs.Sizing.{length-upwards}
 use Rattle.sync_product.proofs.Tables.{numbered-at, entry_at, sized_at, within_table, count_of_sized, item_at, slice_get-set_same, slice_get-set_other}
 use Rattle.triple_vote.specs.proof.Layers.{frame_sizes, is_there, frame_made, rows_made, IsRun}
 
-abbrev rows_of : List Stage → List (List (List Port))
+abbrev rows_of : List Stage → List (List (List PortValue))
 rows_of stages = map (λ (s : Stage). s.rows) stages
 
 -- the components before a place that are there have made their steps
-abbrev pub RunTo : DesignParts → List Port → List (List Port) → List Bool → List Frame → List Part → List Stage → ℕ → Type 0
+abbrev pub RunTo : DesignParts → List PortValue → List (List PortValue) → List Bool → List Frame → List Part → List Stage → ℕ → Type 0
 RunTo design values heard there frames next stages at =
     (k : ℕ) (c : Component) → k < at → slice_get design.components k ≡ Some c → is_there there k ≡ true → IsRun design values heard frames next stages k c
 
-module _ (design : DesignParts) (values : List Port) (heard : List (List Port)) (there : List Bool) (frames : List Frame) (next : List Part) (stages : List Stage)
+module _ (design : DesignParts) (values : List PortValue) (heard : List (List PortValue)) (there : List Bool) (frames : List Frame) (next : List Part) (stages : List Stage)
     (at : ℕ) (item : Component) (is : slice_get design.components at ≡ Some item) (so_far : RunTo design values heard there frames next stages at) where
   pub run_skip : is_there there at ≡ false → RunTo design values heard there frames next stages (at + 1)
   run_skip absent k c below is_c present =
@@ -68,9 +68,9 @@ module _ (design : DesignParts) (values : List Port) (heard : List (List Port)) 
       ]
 
 -- what a component's steps leave, by the frame that its part has and the sources that its stage is given
-module _ (design : DesignParts) (values : List Port) (heard : List (List Port)) (parts : List Part) (node : ℕ) (item : Component) (from : Part)
+module _ (design : DesignParts) (values : List PortValue) (heard : List (List PortValue)) (parts : List Part) (node : ℕ) (item : Component) (from : Part)
     (within : node < length parts) (from_is : from ≡ slice_index_or parts node from) where
-  abbrev inputs : List (List Port)
+  abbrev inputs : List (List PortValue)
   inputs = inputs_of design values heard node item
 
   own_frame : from.frame ≡ slice_index_or (frames_of parts) node no_frame
@@ -79,7 +79,7 @@ module _ (design : DesignParts) (values : List Port) (heard : List (List Port)) 
   pub frame_by : (frame : Frame) → frame ≡ frame_after item.behaviour from.frame inputs → frame ≡ frame_made design values heard (frames_of parts) node item
   frame_by frame is = is ∙ ap (λ (f : Frame). frame_after item.behaviour f inputs) own_frame
 
-  pub rows_by : (rows : List (List Port)) → rows ≡ outputs item.behaviour from.frame inputs → rows ≡ rows_made design values heard (frames_of parts) node item
+  pub rows_by : (rows : List (List PortValue)) → rows ≡ outputs item.behaviour from.frame inputs → rows ≡ rows_made design values heard (frames_of parts) node item
   rows_by rows is = is ∙ ap (λ (f : Frame). outputs item.behaviour f inputs) own_frame
 
 -- ---- room

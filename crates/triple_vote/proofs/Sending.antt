@@ -1,7 +1,7 @@
 -- What is read off the stages, link by link and root out port by root out port.
 use Rattle.std.proofs.Common.{◌≡◌, ◌∙◌, ℕ, ◌+◌, ◌<◌, Bool, List, length, map, set, slice_get, slice_index_or, Some, refl, sym, ap, arith}
 use Rattle.std.proofs.lemmas.Option.{slice_get-get_or, slice_get_read}
-use Rattle.pals_base.specs.declared.values.Port.{Port}
+use Rattle.pals_base.specs.declared.values.PortValue.{PortValue}
 use Rattle.pals_base.specs.Steps.{column, cut}
 use Rattle.pals_model.specs.declared.design.Link.{Link}
 use Rattle.pals_model.specs.declared.design.Tap.{Tap}
@@ -20,7 +20,7 @@ use Rattle.triple_vote.proofs.Sizing.{stage_within, stage_rows, tuple_within, tu
 
 module _ (design : DesignParts) (rules : IsDesign design) (there : List Bool) (stages : List Stage) (fit : map stage_size stages ≡ stage_sizes design) where
   -- ---- a link
-  module _ (sent : List (List Port)) (sizes : lengths sent ≡ message_sizes design) (items : List Link) (number : ℕ) (d : Link) (message : List Port) (stage : Stage)
+  module _ (sent : List (List PortValue)) (sizes : lengths sent ≡ message_sizes design) (items : List Link) (number : ℕ) (d : Link) (message : List PortValue) (stage : Stage)
       (same : items ≡ design.links) (within : number < length items) (message_is : message ≡ slice_index_or sent number message)
       (stage_is : stage ≡ slice_index_or stages (slice_index_or items number d).source.0 stage) where
     abbrev link : Link
@@ -43,13 +43,13 @@ module _ (design : DesignParts) (rules : IsDesign design) (there : List Bool) (s
         tuple_size link_size design.links sent sizes number link message link_is message_is
         ∙ sym (stage_rows design stages fit link.source.0 stage link_source stage_is)
 
-    pub message_sizes_stay : (rows : List (List Port)) (written : List Port) → rows ≡ stage.rows → written ≡ cut stage.sent (column link.out_port rows)
+    pub message_sizes_stay : (rows : List (List PortValue)) (written : List PortValue) → rows ≡ stage.rows → written ≡ cut stage.sent (column link.out_port rows)
         → lengths (set sent number written) ≡ message_sizes design
     message_sizes_stay rows written rows_are is =
         sizes_stay link_size design.links sent sizes number message written link_within message_is
         (ap length is ∙ length-written stage.sent link.out_port rows ∙ ap length rows_are ∙ sym message_fits)
 
-    pub message_sent : (rows : List (List Port)) (written : List Port) → rows ≡ stage.rows → written ≡ cut stage.sent (column link.out_port rows)
+    pub message_sent : (rows : List (List PortValue)) (written : List PortValue) → rows ≡ stage.rows → written ≡ cut stage.sent (column link.out_port rows)
         → Filled design.links (λ (x : Link). is_there there x.source.0) (λ at (x : Link). sent_by stages x) sent number
         → Filled design.links (λ (x : Link). is_there there x.source.0) (λ at (x : Link). sent_by stages x) (set sent number written) (number + 1)
     message_sent rows written rows_are is =
@@ -60,7 +60,7 @@ module _ (design : DesignParts) (rules : IsDesign design) (there : List Bool) (s
         (slice_get_read stages (length stages) link.source.0 stage refl (stage_within design stages fit link.source.0 link_source) stage_is)))
 
   -- ---- a root out port
-  module _ (shown : List (List Port)) (sizes : lengths shown ≡ tap_sizes design) (items : List Tap) (number : ℕ) (tap : Tap) (tuple : List Port) (stage : Stage)
+  module _ (shown : List (List PortValue)) (sizes : lengths shown ≡ tap_sizes design) (items : List Tap) (number : ℕ) (tap : Tap) (tuple : List PortValue) (stage : Stage)
       (same : items ≡ design.taps) (within : number < length items) (item_is : tap ≡ slice_index_or items number tap) (tuple_is : tuple ≡ slice_index_or shown number tuple)
       (stage_is : stage ≡ slice_index_or stages tap.source.0 stage) where
     abbrev tap_size : Tap → ℕ
@@ -81,17 +81,17 @@ module _ (design : DesignParts) (rules : IsDesign design) (there : List Bool) (s
         ∙ sym (stage_rows design stages fit tap.source.0 stage tap_source stage_is)
 
     -- all of a tuple is written
-    whole : (rows : List (List Port)) (written : List Port) (count : ℕ) → count ≡ length rows → written ≡ cut count (column tap.out_port rows) → written ≡ column tap.out_port rows
+    whole : (rows : List (List PortValue)) (written : List PortValue) (count : ℕ) → count ≡ length rows → written ≡ cut count (column tap.out_port rows) → written ≡ column tap.out_port rows
     whole rows written count all is =
         is ∙ cut_whole count (column tap.out_port rows) (omega (arith, all, length-column rows tap.out_port))
 
-    pub tuple_sizes_stay : (rows : List (List Port)) (written : List Port) (count : ℕ) → rows ≡ stage.rows → count ≡ length rows
+    pub tuple_sizes_stay : (rows : List (List PortValue)) (written : List PortValue) (count : ℕ) → rows ≡ stage.rows → count ≡ length rows
         → written ≡ cut count (column tap.out_port rows) → lengths (set shown number written) ≡ tap_sizes design
     tuple_sizes_stay rows written count rows_are all is =
         sizes_stay tap_size design.taps shown sizes number tuple written tap_within tuple_is
         (ap length is ∙ length-written count tap.out_port rows ∙ ap length rows_are ∙ sym tuple_fits)
 
-    pub tuple_shown : (rows : List (List Port)) (written : List Port) (count : ℕ) → rows ≡ stage.rows → count ≡ length rows
+    pub tuple_shown : (rows : List (List PortValue)) (written : List PortValue) (count : ℕ) → rows ≡ stage.rows → count ≡ length rows
         → written ≡ cut count (column tap.out_port rows)
         → Filled design.taps (λ (x : Tap). is_there there x.source.0) (λ at (x : Tap). whole_from (slice_get stages x.source.0) x.out_port) shown number
         → Filled design.taps (λ (x : Tap). is_there there x.source.0) (λ at (x : Tap). whole_from (slice_get stages x.source.0) x.out_port) (set shown number written) (number + 1)

@@ -3,7 +3,7 @@ use Rattle.std.proofs.Common.{◌≡◌, ◌∙◌, ℕ, ◌<◌, inl, inr, List
 use Rattle.std.proofs.lemmas.List.{length-map}
 use Rattle.std.proofs.lemmas.Option.{slice_get_cases}
 use Rattle.list_lemmas.proofs.Places.{slice_get-map_some}
-use Rattle.pals_base.specs.declared.values.Port.{Port}
+use Rattle.pals_base.specs.declared.values.PortValue.{PortValue}
 use Rattle.pals_base.specs.Bound.{sent_steps}
 use Rattle.pals_base.specs.Steps.{column, cut}
 use Rattle.pals_model.specs.declared.design.Component.{Component}
@@ -38,18 +38,18 @@ module _ (design : DesignParts) (stages : List Stage) (fit : map stage_size stag
       ]
 
 -- ---- tuples, one for each link or root out port
-module _ {L : Type 0} (size : L → ℕ) (items : List L) (tuples : List (List Port)) (fit : lengths tuples ≡ map size items) where
+module _ {L : Type 0} (size : L → ℕ) (items : List L) (tuples : List (List PortValue)) (fit : lengths tuples ≡ map size items) where
   pub tuple_within : (at : ℕ) → at < length items → at < length tuples
-  tuple_within at within = omega (arith, length-map tuples (λ (t : List Port). length t), ap length fit, length-map items size, within)
+  tuple_within at within = omega (arith, length-map tuples (λ (t : List PortValue). length t), ap length fit, length-map items size, within)
 
-  pub tuple_size : (at : ℕ) (item : L) (tuple : List Port) → slice_get items at ≡ Some item → tuple ≡ slice_index_or tuples at tuple → length tuple ≡ size item
+  pub tuple_size : (at : ℕ) (item : L) (tuple : List PortValue) → slice_get items at ≡ Some item → tuple ≡ slice_index_or tuples at tuple → length tuple ≡ size item
   tuple_size at item tuple is tuple_is =
-      sized_at (λ (t : List Port). length t) tuples (map size items) at tuple (size item) fit (slice_get-map_some size items at item is) tuple_is
+      sized_at (λ (t : List PortValue). length t) tuples (map size items) at tuple (size item) fit (slice_get-map_some size items at item is) tuple_is
 
-  pub sizes_stay : (at : ℕ) (old new : List Port) → at < length items → old ≡ slice_index_or tuples at old → length new ≡ length old
+  pub sizes_stay : (at : ℕ) (old new : List PortValue) → at < length items → old ≡ slice_index_or tuples at old → length new ≡ length old
       → lengths (slice_set tuples at new) ≡ map size items
   sizes_stay at old new within is same =
-      same_sizes (λ (t : List Port). length t) tuples at old new (tuple_within at within) is same ∙ fit
+      same_sizes (λ (t : List PortValue). length t) tuples at old new (tuple_within at within) is same ∙ fit
 
-pub length-written : (count port : ℕ) (rows : List (List Port)) → length (cut count (column port rows)) ≡ length rows
+pub length-written : (count port : ℕ) (rows : List (List PortValue)) → length (cut count (column port rows)) ≡ length rows
 length-written count port rows = length-cut count (column port rows) ∙ length-column rows port

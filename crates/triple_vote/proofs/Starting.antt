@@ -3,8 +3,8 @@ use Rattle.std.proofs.Common.{◌≡◌, ◌∙◌, ℕ, zero, suc, ◌<◌, nat
 use Rattle.std.specs.Prelude.{pos}
 use Rattle.std.proofs.lemmas.List.{length-map, length-replicate, get_or-replicate}
 use Rattle.std.proofs.lemmas.List.Elements.{All-nil, All-cons}
-use Rattle.pals_base.specs.declared.values.Port.{Port}
-use Rattle.pals_base.specs.declared.values.Port.TheVariants.{Absent}
+use Rattle.pals_base.specs.declared.values.PortValue.{PortValue}
+use Rattle.pals_base.specs.declared.values.PortValue.TheVariants.{Absent}
 use Rattle.pals_base.specs.declared.behaviour.VarDecl.{VarDecl}
 use Rattle.pals_base.specs.Fire.{initial}
 use Rattle.pals_model.specs.declared.design.Component.{Component}
@@ -100,9 +100,9 @@ module _ (design : DesignParts) (replicated all : List Bool) (first second third
   are_opened = record { layers_fit = are_three; layers_are = have_replicas; frames = frames_are }
 
 -- ---- what they have heard
-pub are_heard : (design : DesignParts) (heard : List (List (List Port))) → heard ≡ replicate 3 (opening design).messages → AreHeard design heard
+pub are_heard : (design : DesignParts) (heard : List (List (List PortValue))) → heard ≡ replicate 3 (opening design).messages → AreHeard design heard
 are_heard design heard is =
-    let fits : List (List Port) → Type 0 = λ tuples. lengths tuples ≡ message_sizes design in
+    let fits : List (List PortValue) → Type 0 = λ tuples. lengths tuples ≡ message_sizes design in
     let silent = (opening design).messages in
     let fit = opening_messages_fit design design.links in
     record {

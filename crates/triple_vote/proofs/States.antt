@@ -4,7 +4,7 @@ use Rattle.pals_model.specs.declared.design.DesignParts.{DesignParts}
 use Rattle.pals_model.specs.Inputs.{values_at}
 use Rattle.triple_vote.specs.Replicas.{Voted, vnext, vcomp, vshown_by, vshown}
 use Rattle.triple_vote.specs.proof.States.{VotedState, vstate_after}
-use Rattle.triple_vote.specs.proof.Laws.{StandsAtVotes, ShowsVotes}
+use Rattle.triple_vote.specs.proof.VoteLaws.{StandsAtVotes, ShowsVotes}
 
 pub stands_at_votes : StandsAtVotes
 unfolding vcomp

@@ -4,7 +4,7 @@ use Rattle.std.specs.List.{enumerate_from}
 use Rattle.std.proofs.lemmas.Bool.{eq-eqb}
 use Rattle.std.proofs.lemmas.Option.{slice_get_within, slice_get-map, get_or_from_slice_get}
 use Rattle.std.specs.Option.{option_map}
-use Rattle.pals_base.specs.declared.values.Port.{Port}
+use Rattle.pals_base.specs.declared.values.PortValue.{PortValue}
 use Rattle.pals_base.specs.declared.values.Frame.{Frame}
 use Rattle.pals_base.specs.Steps.{upwards}
 use Rattle.pals_model.specs.declared.design.Component.{Component}
@@ -18,7 +18,7 @@ use Rattle.pals_model.specs.RoundTexts.{text_of, round_line, component_line, tap
 use Rattle.pals_model.proofs.CompositionLaws.{state_goes_on, part_from_steps}
 use Rattle.triple_vote.specs.Replicas.{is_replicated, copies_of, frame_at, vcomp, vshown}
 use Rattle.triple_vote.specs.VotedText.{replica_name, replica_lines, shown_line, vrow_lines, voted_lines, thrice_lines}
-use Rattle.triple_vote.specs.proof.Laws.{ReportIsThrice, ThriceWithoutReplicas}
+use Rattle.triple_vote.specs.proof.VoteLaws.{ReportIsThrice, ThriceWithoutReplicas}
 use Rattle.triple_vote.proofs.Composed.{replicas_are_states, taps_show_tuples}
 
 -- ---- lists of equal elements
@@ -53,7 +53,7 @@ numbered-one f g first (x ∷ xs) each =
 abbrev row_of : ℕ → List (List ℕ) → List (List ℕ) → List (List ℕ)
 row_of round lines outs = round_line round ∷ lines ++ outs
 
-row-same : (design : DesignParts) (replicated : List Bool) (f g : ℕ → ℕ → Frame) (shown other : Tap → List Port) (round : ℕ)
+row-same : (design : DesignParts) (replicated : List Bool) (f g : ℕ → ℕ → Frame) (shown other : Tap → List PortValue) (round : ℕ)
     → ((node replica : ℕ) → node < length design.components → replica < copies_of replicated node → f node replica ≡ g node replica)
     → ((n : ℕ) (tap : Tap) → slice_get design.taps n ≡ Some tap → shown tap ≡ other tap)
     → vrow_lines design replicated f shown round ≡ vrow_lines design replicated g other round
@@ -99,7 +99,7 @@ shown-in_part : (design : DesignParts) (env : Env) (round n : ℕ) (tap : Tap) �
 unfolding part
 shown-in_part design env round n tap is =
     let node = tap.source.0 in
-    let shows : Tap → List Port = λ (t : Tap). tuple_of (steps_of_round design env round) node t.out_port in
+    let shows : Tap → List PortValue = λ (t : Tap). tuple_of (steps_of_round design env round) node t.out_port in
     let place = filter-place (λ (t : Tap). nat_eq t.source.0 node) design.taps n tap is (eq-eqb node node refl) in
     get_or_from_slice_get (map shows (taps_of design node)) (taps_before design.taps n node) (shows tap) []
     (slice_get-map shows (taps_of design node) (taps_before design.taps n node) ∙ ap (option_map shows) place)

@@ -4,7 +4,7 @@ use Rattle.std.proofs.lemmas.Bool.{lt-ltb}
 use Rattle.std.proofs.lemmas.List.{length-map, ext_get_or}
 use Rattle.std.proofs.lemmas.Option.{slice_get_within, slice_get_cases, get_or_from_slice_get}
 use Rattle.list_lemmas.proofs.Places.{slice_get-map_some}
-use Rattle.pals_base.specs.declared.values.Port.{Port}
+use Rattle.pals_base.specs.declared.values.PortValue.{PortValue}
 use Rattle.pals_base.specs.declared.values.Frame.{Frame}
 use Rattle.pals_base.specs.Bound.{sent_steps}
 use Rattle.pals_base.specs.Steps.{column, columns, cut, steps, upwards, Stepped}
@@ -27,7 +27,7 @@ use Rattle.triple_vote.specs.Replicas.{is_replicated, copies_of, receivers_in, V
 use Rattle.triple_vote.specs.proof.Layers.{is_there, frame_made, rows_made}
 use Rattle.triple_vote.specs.proof.Triples.{there_in, parts_in, next_in, sent_in, shown_in, frame_of, tuple_of, voted_of, received_of, AllReceived, shown_of, AreShown, AreMade, HaveReplicas}
 use Rattle.triple_vote.proofs.Readings.{same_inputs}
-use Rattle.triple_vote.proofs.Following.{replica_at, receiver_at, has_first, has_three}
+use Rattle.triple_vote.proofs.ReplicasFollow.{replica_at, receiver_at, has_first, has_three}
 
 -- ---- lists by numbers
 upwards-same : {A : Type 0} (f g : ℕ → A) (from n : ℕ) → ((k : ℕ) → k < from + n → f k ≡ g k) → map f (upwards from n) ≡ map g (upwards from n)
@@ -42,7 +42,7 @@ replicas-same design replicated f g each =
     upwards-same (λ node. map (f node) (upwards 0 (copies_of replicated node))) (λ node. map (g node) (upwards 0 (copies_of replicated node))) 0 (length design.components)
     (λ node within. upwards-same (f node) (g node) 0 (copies_of replicated node) (λ replica below. each node replica (omega arith) (omega arith)))
 
-pub receivers-same : (design : DesignParts) (replicated : List Bool) (f g : ℕ → ℕ → List Port)
+pub receivers-same : (design : DesignParts) (replicated : List Bool) (f g : ℕ → ℕ → List PortValue)
     → ((l target : ℕ) (link : Link) → slice_get design.links l ≡ Some link → target < copies_of replicated link.target.0 → f l target ≡ g l target)
     → for_receivers design replicated f ≡ for_receivers design replicated g
 receivers-same design replicated f g each =
@@ -68,12 +68,12 @@ of_layer : {X : Type 0} (field : Layer → List X) (layers : List Layer) (replic
     → slice_index_or (map field layers) replica [] ≡ field layer
 of_layer field layers replica layer is = get_or_from_slice_get (map field layers) replica (field layer) [] (slice_get-map_some field layers replica layer is)
 
-module _ (design : DesignParts) (replicated : List Bool) (values : List Port) (heard : List (List (List Port))) (layers : List Layer)
+module _ (design : DesignParts) (replicated : List Bool) (values : List PortValue) (heard : List (List (List PortValue))) (layers : List Layer)
     (rules : IsDesign design) (three : length layers ≡ 3) (are : HaveReplicas design replicated (there_in layers)) (made : AreMade design values heard layers) where
   abbrev v : Voted
   v = voted_of design replicated (parts_in layers) heard
 
-  abbrev heard_of : ℕ → List (List Port)
+  abbrev heard_of : ℕ → List (List PortValue)
   heard_of replica = slice_index_or heard replica []
 
   -- ---- layers
@@ -166,7 +166,7 @@ module _ (design : DesignParts) (replicated : List Bool) (values : List Port) (h
       → received_of b faults (sent_in layers) l target
       ≡ (if b then vote_of (sent_to design values faults v l link target) else own_message design values v link 0)
   received_by faults l target link true is replicas =
-      let sends : ℕ → List Port → List Port = λ replica own. fault_or (find (is_fault l (suc replica) (suc target)) faults) own in
+      let sends : ℕ → List PortValue → List PortValue = λ replica own. fault_or (find (is_fault l (suc replica) (suc target)) faults) own in
       let own : (replica : ℕ) → replica < 3 → tuple_of (sent_in layers) replica l ≡ own_message design values v link replica
       = λ replica below. own_sent l replica link is (has_three replicated link.source.0 replica replicas below) in
       ap₂ (λ x y. votes (sends 0 x) (sends 1 y) (sends 2 (tuple_of (sent_in layers) 2 l))) (own 0 (omega arith)) (own 1 (omega arith))
@@ -198,7 +198,7 @@ module _ (design : DesignParts) (replicated : List Bool) (values : List Port) (h
   shown_by n tap false is alone = own_shown n 0 tap is (has_first replicated tap.source.0)
 
   -- ---- the round
-  pub voted_is : (faults : List VoteFault) (next : List (List (List Port))) → AllReceived design replicated faults layers next
+  pub voted_is : (faults : List VoteFault) (next : List (List (List PortValue))) → AllReceived design replicated faults layers next
       → voted_of design replicated (next_in layers) next ≡ vnext design replicated values faults v
   voted_is faults next received =
       ap₂ (λ frames tuples. let w : Voted = record { frames = frames; received = tuples } in w)
@@ -214,10 +214,10 @@ module _ (design : DesignParts) (replicated : List Bool) (values : List Port) (h
       ∙ received_by faults l target link (is_replicated replicated link.source.0) is refl
       ∙ sym (ap (receives_on design replicated values faults v l target) is)))
 
-  pub shown_is : (shown : List (List Port)) → length shown ≡ length design.taps → AreShown design replicated layers shown
+  pub shown_is : (shown : List (List PortValue)) → length shown ≡ length design.taps → AreShown design replicated layers shown
       → shown ≡ map (vshown_by design replicated values v) design.taps
   shown_is shown size shows =
-      let shows_tap : Tap → List Port = vshown_by design replicated values v in
+      let shows_tap : Tap → List PortValue = vshown_by design replicated values v in
       let many : length (map shows_tap design.taps) ≡ length design.taps = length-map design.taps shows_tap in
       ext_get_or [] shown (map shows_tap design.taps) (size ∙ sym many)
       (λ n within. elim (slice_get_cases design.taps n).1 [

@@ -1,8 +1,8 @@
 -- The composition with three replicas of some components, whose messages each reader votes on. Replicas are numbered from 0
 -- here, and from 1 in faults.
 use Rattle.std.specs.Prelude.{ℕ, zero, suc, nat_eq, ◌&&◌, Bool, false, if◌then◌else◌, List, [], length, map, find, replicate, Option, None, Some, slice_get, slice_index_or}
-use Rattle.pals_base.specs.declared.values.Port.{Port}
-use Rattle.pals_base.specs.declared.values.Port.TheVariants.{Absent}
+use Rattle.pals_base.specs.declared.values.PortValue.{PortValue}
+use Rattle.pals_base.specs.declared.values.PortValue.TheVariants.{Absent}
 use Rattle.pals_base.specs.declared.values.Frame.{Frame}
 use Rattle.pals_base.specs.Fire.{initial}
 use Rattle.pals_base.specs.Steps.{steps, cut, upwards, Stepped}
@@ -39,19 +39,19 @@ source_in (Some link) = link.source.0
 -- its target received in the last round
 pub record Voted : Type 0 where
   pub frames : List (List Frame)
-  pub received : List (List (List Port))
+  pub received : List (List (List PortValue))
 
 abbrev pub frame_at : Voted → ℕ → ℕ → Frame
 frame_at v node replica = slice_index_or (slice_index_or v.frames node []) replica no_frame
 
-abbrev pub received_at : Voted → ℕ → ℕ → List Port
+abbrev pub received_at : Voted → ℕ → ℕ → List PortValue
 received_at v link replica = slice_index_or (slice_index_or v.received link []) replica []
 
 -- ---- for each replica of each component, and for each replica that receives on each link
 abbrev pub for_replicas : DesignParts → List Bool → (ℕ → ℕ → Frame) → List (List Frame)
 for_replicas design replicated f = map (λ node. map (f node) (upwards 0 (copies_of replicated node))) (upwards 0 (length design.components))
 
-abbrev pub for_receivers : DesignParts → List Bool → (ℕ → ℕ → List Port) → List (List (List Port))
+abbrev pub for_receivers : DesignParts → List Bool → (ℕ → ℕ → List PortValue) → List (List (List PortValue))
 for_receivers design replicated f = map (λ l. map (f l) (upwards 0 (receivers_in replicated (slice_get design.links l)))) (upwards 0 (length design.links))
 
 -- ---- before the first round
@@ -59,7 +59,7 @@ abbrev pub first_frame : Option Component → Frame
 first_frame None = no_frame
 first_frame (Some c) = initial c.behaviour
 
-abbrev pub first_tuple : DesignParts → Option Link → List Port
+abbrev pub first_tuple : DesignParts → Option Link → List PortValue
 first_tuple design None = []
 first_tuple design (Some link) = replicate (rate_of design link.source.0) Absent
 
@@ -70,18 +70,18 @@ vopening design replicated = record {
 }
 
 -- ---- the steps of a replica in a round, from what it received
-abbrev pub heard_by : ℕ → Voted → List (List Port)
+abbrev pub heard_by : ℕ → Voted → List (List PortValue)
 heard_by replica v = map (λ tuples. slice_index_or tuples replica []) v.received
 
-abbrev pub steps_in : DesignParts → List Port → Voted → ℕ → ℕ → Option Component → Stepped
+abbrev pub steps_in : DesignParts → List PortValue → Voted → ℕ → ℕ → Option Component → Stepped
 steps_in design values v node replica None = record { frame = no_frame; tuples = [] }
 steps_in design values v node replica (Some c) = steps c.behaviour (frame_at v node replica) (inputs_of design values (heard_by replica v) node c)
 
-abbrev pub replica_steps : DesignParts → List Port → Voted → ℕ → ℕ → Stepped
+abbrev pub replica_steps : DesignParts → List PortValue → Voted → ℕ → ℕ → Stepped
 replica_steps design values v node replica = steps_in design values v node replica (slice_get design.components node)
 
 -- its tuple of an out port
-abbrev pub tuple_at : DesignParts → List Port → Voted → ℕ → ℕ → ℕ → List Port
+abbrev pub tuple_at : DesignParts → List PortValue → Voted → ℕ → ℕ → ℕ → List PortValue
 tuple_at design values v node port replica = slice_index_or (replica_steps design values v node replica).tuples port []
 
 -- ---- what it sends on a link to a replica of the link's target
@@ -90,32 +90,32 @@ abbrev pub is_fault : ℕ → ℕ → ℕ → VoteFault → Bool
 is_fault link replica target f = nat_eq f.link.0 link && (nat_eq f.replica replica && nat_eq f.target_replica target)
 
 -- a fault's tuple, which is not cut, where one is listed
-abbrev pub fault_or : Option VoteFault → List Port → List Port
+abbrev pub fault_or : Option VoteFault → List PortValue → List PortValue
 fault_or None tuple = tuple
 fault_or (Some f) tuple = f.values
 
 -- and else its own tuple, cut
-abbrev pub own_message : DesignParts → List Port → Voted → Link → ℕ → List Port
+abbrev pub own_message : DesignParts → List PortValue → Voted → Link → ℕ → List PortValue
 own_message design values v link replica =
     cut (sent_steps design.gamma design.period (rate_of design link.source.0)) (tuple_at design values v link.source.0 link.out_port replica)
 
-abbrev pub sent_to : DesignParts → List Port → List VoteFault → Voted → ℕ → Link → ℕ → ℕ → List Port
+abbrev pub sent_to : DesignParts → List PortValue → List VoteFault → Voted → ℕ → Link → ℕ → ℕ → List PortValue
 sent_to design values faults v l link target replica =
     fault_or (find (is_fault l (suc replica) (suc target)) faults) (own_message design values v link replica)
 
 -- ---- what a replica receives
 -- of one tuple for each replica of a component that has three: the vote
-abbrev pub vote_of : (ℕ → List Port) → List Port
+abbrev pub vote_of : (ℕ → List PortValue) → List PortValue
 vote_of tuple = votes (tuple 0) (tuple 1) (tuple 2)
 
-abbrev pub receives_on : DesignParts → List Bool → List Port → List VoteFault → Voted → ℕ → ℕ → Option Link → List Port
+abbrev pub receives_on : DesignParts → List Bool → List PortValue → List VoteFault → Voted → ℕ → ℕ → Option Link → List PortValue
 receives_on design replicated values faults v l target None = []
 receives_on design replicated values faults v l target (Some link) =
     if is_replicated replicated link.source.0 then vote_of (sent_to design values faults v l link target)
     else own_message design values v link 0
 
 -- ---- one round, with these values of the root in ports, and these faults
-abbrev pub vnext : DesignParts → List Bool → List Port → List VoteFault → Voted → Voted
+abbrev pub vnext : DesignParts → List Bool → List PortValue → List VoteFault → Voted → Voted
 vnext design replicated values faults v = record {
   frames = for_replicas design replicated (λ node replica. (replica_steps design values v node replica).frame);
   received = for_receivers design replicated (λ l target. receives_on design replicated values faults v l target (slice_get design.links l));
@@ -129,10 +129,10 @@ vcomp design env replicated faults (suc round) =
 
 -- ---- what is seen of it
 -- the whole tuple that a root out port shows: of a component that has three replicas, the vote
-abbrev pub vshown_by : DesignParts → List Bool → List Port → Voted → Tap → List Port
+abbrev pub vshown_by : DesignParts → List Bool → List PortValue → Voted → Tap → List PortValue
 vshown_by design replicated values v tap =
     if is_replicated replicated tap.source.0 then vote_of (tuple_at design values v tap.source.0 tap.out_port)
     else tuple_at design values v tap.source.0 tap.out_port 0
 
-unfoldable pub vshown : DesignParts → Env → List Bool → (ℕ → List VoteFault) → Tap → ℕ → List Port
+unfoldable pub vshown : DesignParts → Env → List Bool → (ℕ → List VoteFault) → Tap → ℕ → List PortValue
 vshown design env replicated faults tap round = vshown_by design replicated (values_at env round) (vcomp design env replicated faults round) tap

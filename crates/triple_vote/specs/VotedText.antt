@@ -2,7 +2,7 @@
 -- component's line.
 use Rattle.std.specs.Prelude.{ℕ, suc, codes, decimal, Bool, if◌then◌else◌, List, ◌∷◌, ◌++◌, map, flat_map, slice_get}
 use Rattle.std.specs.List.{enumerate_from}
-use Rattle.pals_base.specs.declared.values.Port.{Port}
+use Rattle.pals_base.specs.declared.values.PortValue.{PortValue}
 use Rattle.pals_base.specs.declared.values.Frame.{Frame}
 use Rattle.pals_base.specs.Steps.{upwards}
 use Rattle.pals_model.specs.declared.design.Component.{Component}
@@ -23,11 +23,11 @@ abbrev pub replica_lines : List Bool → (ℕ → ℕ → Frame) → ℕ → Com
 replica_lines replicated frame node c =
     map (λ replica. component_line (replica_name c.path (is_replicated replicated node) replica) c.behaviour (frame node replica)) (upwards 0 (copies_of replicated node))
 
-abbrev pub shown_line : DesignParts → (Tap → List Port) → Tap → List ℕ
+abbrev pub shown_line : DesignParts → (Tap → List PortValue) → Tap → List ℕ
 shown_line design shown tap = tap_line (out_kind (slice_get design.components tap.source.0) tap.out_port) tap (shown tap)
 
 -- the row of a round, from the frames of replicas, and from what root out ports show
-abbrev pub vrow_lines : DesignParts → List Bool → (ℕ → ℕ → Frame) → (Tap → List Port) → ℕ → List (List ℕ)
+abbrev pub vrow_lines : DesignParts → List Bool → (ℕ → ℕ → Frame) → (Tap → List PortValue) → ℕ → List (List ℕ)
 vrow_lines design replicated frame shown round =
     round_line round
     ∷ flat_map (λ numbered. replica_lines replicated frame numbered.0 numbered.1) (enumerate_from 0 design.components)

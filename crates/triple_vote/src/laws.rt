@@ -1,6 +1,6 @@
 //! Laws of votes. Each law is the contract of a function that does nothing.
-ghost use Rattle.triple_vote.specs.proof.Laws.{VotesOfThree, OneNamedIsOutvoted, ReplicasAreStates, ReceivedAreMessages, TapsShowTuples, ReportIsThrice, ThriceWithoutReplicas, NoReplicasAreComposition, StandsAtVotes, ShowsVotes};
-ghost use Rattle.triple_vote.specs.proof.Rows.{OneLiarIsOutvoted, TwoLiarsAreNot, OneLiarText, TwoLiarsText, OneLiarIsFault, OneLiarIsAllowed};
+ghost use Rattle.triple_vote.specs.proof.VoteLaws.{VotesOfThree, OneNamedIsOutvoted, ReplicasAreStates, ReceivedAreMessages, TapsShowTuples, ReportIsThrice, ThriceWithoutReplicas, NoReplicasAreComposition, StandsAtVotes, ShowsVotes};
+ghost use Rattle.triple_vote.specs.proof.CounterVotes.{OneLiarIsOutvoted, TwoLiarsAreNot, OneLiarText, TwoLiarsText, OneLiarIsFault, OneLiarIsAllowed};
 
 /// What two of three agree on wins, and where no two agree there is no value.
 pub fn two_of_three_win()

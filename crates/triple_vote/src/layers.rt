@@ -3,13 +3,13 @@ ghost use Rattle.std.specs.Prelude.{◌≡◌, All, IfOk, OnOk, length, map, rep
 ghost use Rattle.pals_model.specs.Inputs.{all_sources};
 ghost use Rattle.pals_model.specs.Composition.{opening};
 ghost use Rattle.sync_product.specs.proof.Sizes.{stage_size, stage_sizes};
-ghost use Rattle.triple_vote.specs.proof.Firsts.{AreFirst};
-ghost use Rattle.triple_vote.specs.proof.Laws.{IsFault};
+ghost use Rattle.triple_vote.specs.proof.FaultPlaces.{AreFirst};
+ghost use Rattle.triple_vote.specs.proof.VoteLaws.{IsFault};
 ghost use Rattle.triple_vote.specs.proof.Triples.{AreThree, AreOpened, AreMade, StayPut, AreHeard, AllReceived, AreTurned};
 
 use crate::layer::Layer;
 use crate::receiving::receive_all;
-use pals_base::{Items, NoMemory, Port, Tuple};
+use pals_base::{Items, NoMemory, PortValue, Tuple};
 use pals_model::{Design, PortSource};
 use pals_runs::VoteFault;
 use std::alloc::Global;
@@ -51,7 +51,7 @@ pub fn opening_heard(alloc: Global, design: &Design) -> Result<Vec<Items<Tuple>>
 pub fn run_each(
     alloc: Global,
     design: &Design,
-    values: &[Port],
+    values: &[PortValue],
     heard: &[Items<Tuple>],
     sources: &[Items<PortSource>],
     stages: &mut Vec<Stage>,

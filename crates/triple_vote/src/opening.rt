@@ -1,6 +1,6 @@
 //! What replicas begin with.
 ghost use Rattle.std.specs.Prelude.{◌≡◌, IfOk, map, replicate};
-ghost use Rattle.pals_base.specs.declared.values.Port.TheVariants.{Absent};
+ghost use Rattle.pals_base.specs.declared.values.PortValue.TheVariants.{Absent};
 ghost use Rattle.pals_model.specs.Inputs.{rate_of};
 ghost use Rattle.triple_vote.specs.proof.Layers.{opening_part};
 

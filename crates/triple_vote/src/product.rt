@@ -3,7 +3,7 @@ ghost use Rattle.std.specs.Prelude.{◌≡◌, ◌≤◌, ◌<◌, ◌-◌, [], 
 ghost use Rattle.std.specs.Arc.{arc_value};
 ghost use Rattle.pals_model.specs.declared.design.Link.{Link};
 ghost use Rattle.triple_vote.specs.Replicas.{copies_of, frame_at, received_at};
-ghost use Rattle.triple_vote.specs.proof.Laws.{IsFault};
+ghost use Rattle.triple_vote.specs.proof.VoteLaws.{IsFault};
 ghost use Rattle.triple_vote.specs.proof.States.{vbegun, vadvanced};
 
 use crate::first_faults::first_faults;
@@ -11,7 +11,7 @@ use crate::layer::Layer;
 use crate::layers::{opening_heard, opening_layers, receive_each, run_each, turn_each};
 use crate::opening::opening_shown;
 use crate::showing::show_each;
-use pals_base::{Frame, Items, LinkNo, NoMemory, NodeNo, Port, Tuple};
+use pals_base::{Frame, Items, LinkNo, NoMemory, NodeNo, PortValue, Tuple};
 use pals_model::sources::all_sources;
 use pals_model::{Design, PortSource};
 use pals_runs::VoteFault;
@@ -106,7 +106,7 @@ impl VoteProduct {
     /// first. If there is not enough memory, nothing changes. After the first two rounds it takes memory
     /// only where a loop runs that did not run before, and for the places of faults where there are some.
     /// Its time is in line with the design and the faults.
-    pub fn advance(&mut self, values: &[Port], faults: &[VoteFault]) -> Result<(), NoMemory>
+    pub fn advance(&mut self, values: &[PortValue], faults: &[VoteFault]) -> Result<(), NoMemory>
         requires { All (IsFault self.old.design) faults.now }
         ensures ok { OnOk result (self.new ≡ vadvanced self.old values.now faults.now) }
         ensures err { OnErr result (self.new ≡ self.old) }

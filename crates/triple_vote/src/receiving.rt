@@ -2,16 +2,16 @@
 ghost use Rattle.std.specs.Prelude.{◌≡◌, ◌<◌, ◌^◌, All, Option, length, slice_index_or};
 ghost use Rattle.sync_product.specs.proof.Sizes.{message_sizes};
 ghost use Rattle.triple_vote.specs.Replicas.{fault_or};
-ghost use Rattle.triple_vote.specs.proof.Firsts.{fault_at, AreFirstOn, AreFirst};
+ghost use Rattle.triple_vote.specs.proof.FaultPlaces.{fault_at, AreFirstOn, AreFirst};
 ghost use Rattle.triple_vote.specs.proof.Layers.{lengths};
-ghost use Rattle.triple_vote.specs.proof.Laws.{IsFault};
+ghost use Rattle.triple_vote.specs.proof.VoteLaws.{IsFault};
 ghost use Rattle.triple_vote.specs.proof.Triples.{AreThree, sent_in, tuple_of, received_of, AreReceived, AreOfSize, FaultsFit};
 
 use crate::first_faults::place;
 use crate::layer::Layer;
 use crate::rounds::{is_there, tuple_at};
 use crate::votes::vote_into;
-use pals_base::{Items, Port, Tuple};
+use pals_base::{Items, PortValue, Tuple};
 use pals_model::Design;
 use pals_runs::VoteFault;
 
@@ -21,8 +21,8 @@ fn sent_to<'a>(
     faults: &'a [VoteFault],
     places: &[Option<usize>],
     place: usize,
-    own: &'a [Port],
-) -> &'a [Port]
+    own: &'a [PortValue],
+) -> &'a [PortValue]
     ensures { result.now ≡ fault_or (fault_at faults.entry.now (slice_index_or places.now place Option.None)) own.entry.now }
 {
     let Some(Some(number)) = places.get(place) else {
@@ -35,7 +35,7 @@ fn sent_to<'a>(
 }
 
 // What the replicas of a number made for a link, nothing past the end.
-fn sent_at(layers: &[Layer], replica: usize, number: usize) -> &[Port]
+fn sent_at(layers: &[Layer], replica: usize, number: usize) -> &[PortValue]
     ensures { result.now ≡ tuple_of (sent_in layers.now) replica number }
 {
     match layers.get(replica) {

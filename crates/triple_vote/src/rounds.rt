@@ -5,7 +5,7 @@ ghost use Rattle.sync_product.specs.proof.Sizes.{part_size, stage_size, stage_si
 ghost use Rattle.sync_product.specs.proof.Rounds.{frames_of};
 ghost use Rattle.triple_vote.specs.proof.Layers.{lengths, frame_sizes, tap_sizes, is_there, AreRun, AreSent, AreWhole};
 
-use pals_base::{Items, NoMemory, NodeNo, Port, Tuple};
+use pals_base::{Items, NoMemory, NodeNo, PortValue, Tuple};
 use pals_model::{Design, Part, PortSource};
 use std::alloc::Global;
 use sync_product::reads::RoundInputs;
@@ -21,7 +21,7 @@ pub fn is_there(there: &[bool], node: NodeNo) -> bool
 }
 
 /// The tuple at a place, nothing past the end.
-pub fn tuple_at(tuples: &[Tuple], at: usize) -> &[Port]
+pub fn tuple_at(tuples: &[Tuple], at: usize) -> &[PortValue]
     ensures { result.now ≡ slice_index_or tuples.now at [] }
 {
     match tuples.get(at) {

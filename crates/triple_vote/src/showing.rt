@@ -7,11 +7,11 @@ ghost use Rattle.triple_vote.specs.proof.Triples.{AreThree, shown_in, tuple_of, 
 use crate::layer::Layer;
 use crate::rounds::{is_there, tuple_at};
 use crate::votes::vote_into;
-use pals_base::{Items, Port, Tuple};
+use pals_base::{Items, PortValue, Tuple};
 use pals_model::Design;
 
 // What the replicas of a number made for a root out port, nothing past the end.
-fn shown_at(layers: &[Layer], replica: usize, number: usize) -> &[Port]
+fn shown_at(layers: &[Layer], replica: usize, number: usize) -> &[PortValue]
     ensures { result.now ≡ tuple_of (shown_in layers.now) replica number }
 {
     match layers.get(replica) {

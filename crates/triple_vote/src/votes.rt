@@ -3,23 +3,23 @@ ghost use Rattle.std.specs.Prelude.{◌≡◌, length};
 ghost use Rattle.triple_vote.specs.Votes.{same_port, vote, votes};
 
 use pals_base::tuples::place;
-use pals_base::{Port, Tuple};
+use pals_base::{PortValue, Tuple};
 
 // Whether two ports have the same.
-fn same_port(x: Port, y: Port) -> bool
+fn same_port(x: PortValue, y: PortValue) -> bool
     ensures { result ≡ same_port x y }
 {
     match x {
-        Port::Absent => matches!(y, Port::Absent),
-        Port::Present(v) => match y {
-            Port::Absent => false,
-            Port::Present(w) => v == w,
+        PortValue::Absent => matches!(y, PortValue::Absent),
+        PortValue::Present(v) => match y {
+            PortValue::Absent => false,
+            PortValue::Present(w) => v == w,
         },
     }
 }
 
 /// What two of three agree on, and absent where no two do.
-pub fn vote(x: Port, y: Port, z: Port) -> Port
+pub fn vote(x: PortValue, y: PortValue, z: PortValue) -> PortValue
     ensures { result ≡ vote x y z }
 {
     if same_port(x, y) || same_port(x, z) {
@@ -27,12 +27,12 @@ pub fn vote(x: Port, y: Port, z: Port) -> Port
     } else if same_port(y, z) {
         y
     } else {
-        Port::Absent
+        PortValue::Absent
     }
 }
 
 /// Writes the vote of each place of three tuples. It takes no memory.
-pub fn vote_into(to: &mut Tuple, x: &[Port], y: &[Port], z: &[Port])
+pub fn vote_into(to: &mut Tuple, x: &[PortValue], y: &[PortValue], z: &[PortValue])
     requires to { length to.old ≡ length x.now }
     requires y { length y.now ≡ length x.now }
     requires z { length z.now ≡ length x.now }

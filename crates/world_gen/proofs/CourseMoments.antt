@@ -7,13 +7,13 @@ use Rattle.std.proofs.lemmas.Nat.{mul-le}
 use Rattle.pals_base.specs.declared.limits.TheConstants.{READING}
 use Rattle.pals_runs.specs.declared.events.Event.{Event}
 use Rattle.run_laws.specs.Deadlines.{lesser}
-use Rattle.world_gen.specs.declared.courses.Course.{Course}
+use Rattle.world_gen.specs.declared.courses.EventSeries.{EventSeries}
 use Rattle.world_gen.specs.proof.Schedules.{which, event_of}
 use Rattle.world_gen.specs.proof.Courses.{IsCourse, time_of, next_of, deed_event, course_events, events_of, next_moment}
 use Rattle.world_gen.proofs.CourseNumbers.{is_next, quiet_until, quiet_after, next_comes}
 use Rattle.world_gen.proofs.ScheduleLists.{nothing_of, nil_both}
 
-abbrev next_time : ℕ → Course → Option ℕ
+abbrev next_time : ℕ → EventSeries → Option ℕ
 next_time from c = option_map (time_of c) (next_of c from)
 
 -- ---- the least of some times
@@ -43,30 +43,30 @@ none_of_both (Some a) None is = absurd (cc)
 none_of_both (Some a) (Some b) is = absurd (cc)
 
 -- what the next deed of each course says of a moment
-abbrev AreLate : ℕ → ℕ → List Course → Type 0
+abbrev AreLate : ℕ → ℕ → List EventSeries → Type 0
 AreLate from moment [] = Unit {0}
 AreLate from moment (c ∷ cs) = IsLate moment (next_time from c) × AreLate from moment cs
 
-abbrev OneIsAt : ℕ → ℕ → List Course → Type 0
+abbrev OneIsAt : ℕ → ℕ → List EventSeries → Type 0
 OneIsAt from moment [] = ⊥
 OneIsAt from moment (c ∷ cs) = (next_time from c ≡ Some moment) ⊎ OneIsAt from moment cs
 
-abbrev AreOver : ℕ → List Course → Type 0
+abbrev AreOver : ℕ → List EventSeries → Type 0
 AreOver from [] = Unit {0}
 AreOver from (c ∷ cs) = (next_time from c ≡ None) × AreOver from cs
 
-abbrev least_from : ℕ → Option ℕ → List Course → Option ℕ
+abbrev least_from : ℕ → Option ℕ → List EventSeries → Option ℕ
 least_from from first courses = fold (λ moment course. lesser moment (option_map (time_of course) (next_of course from))) first courses
 
 late_self : (moment : ℕ) (o : Option ℕ) → o ≡ Some moment → IsLate moment o
 late_self moment o is = let least : moment ≤ moment = omega arith in subst (IsLate moment) (sym is) least
 
-record IsLeast (from moment : ℕ) (first : Option ℕ) (courses : List Course) : Type 0 where
+record IsLeast (from moment : ℕ) (first : Option ℕ) (courses : List EventSeries) : Type 0 where
   first_late : IsLate moment first
   late : AreLate from moment courses
   there : (first ≡ Some moment) ⊎ OneIsAt from moment courses
 
-least_is : (from moment : ℕ) (first : Option ℕ) (courses : List Course) → least_from from first courses ≡ Some moment → IsLeast from moment first courses
+least_is : (from moment : ℕ) (first : Option ℕ) (courses : List EventSeries) → least_from from first courses ≡ Some moment → IsLeast from moment first courses
 least_is from moment first [] is = record { first_late = late_self moment first is; late = tt; there = inl is }
 least_is from moment first (c ∷ cs) is =
     let rest = least_is from moment (lesser first (next_time from c)) cs is in
@@ -80,7 +80,7 @@ least_is from moment first (c ∷ cs) is =
       ];
     }
 
-over_from : (from : ℕ) (first : Option ℕ) (courses : List Course) → least_from from first courses ≡ None → (first ≡ None) × AreOver from courses
+over_from : (from : ℕ) (first : Option ℕ) (courses : List EventSeries) → least_from from first courses ≡ None → (first ≡ None) × AreOver from courses
 over_from from first [] is = (is, tt)
 over_from from first (c ∷ cs) is =
     let rest = over_from from (lesser first (next_time from c)) cs is in
@@ -89,22 +89,22 @@ over_from from first (c ∷ cs) is =
 
 -- ---- one course
 -- where its next deed is not before a moment, nothing comes before that
-late_next : (c : Course) (from moment : ℕ) (o : Option ℕ) → next_of c from ≡ o → IsLate moment (option_map (time_of c) o) → (time : ℕ) → from ≤ time → time < moment
+late_next : (c : EventSeries) (from moment : ℕ) (o : Option ℕ) → next_of c from ≡ o → IsLate moment (option_map (time_of c) o) → (time : ℕ) → from ≤ time → time < moment
     → which (time_of c) c.count time ≡ None
 late_next c from moment None is late time after before = quiet_after c from time is after
 late_next c from moment (Some n) is late time after before = let there : moment ≤ time_of c n = late in quiet_until c from n time is after (omega arith)
 
-over_next : (c : Course) (from : ℕ) (o : Option ℕ) → next_of c from ≡ o → option_map (time_of c) o ≡ None → next_of c from ≡ None
+over_next : (c : EventSeries) (from : ℕ) (o : Option ℕ) → next_of c from ≡ o → option_map (time_of c) o ≡ None → next_of c from ≡ None
 over_next c from None is none = is
 over_next c from (Some n) is none = absurd (cc)
 
-record ComesAt (c : Course) (from moment : ℕ) : Type 0 where
+record ComesAt (c : EventSeries) (from moment : ℕ) : Type 0 where
   number : ℕ
   comes : which (time_of c) c.count moment ≡ Some number
   after : from ≤ moment
   reading : moment ≤ READING
 
-comes_next : (c : Course) (from moment : ℕ) (o : Option ℕ) → IsCourse c → next_of c from ≡ o → option_map (time_of c) o ≡ Some moment → ComesAt c from moment
+comes_next : (c : EventSeries) (from moment : ℕ) (o : Option ℕ) → IsCourse c → next_of c from ≡ o → option_map (time_of c) o ≡ Some moment → ComesAt c from moment
 comes_next c from moment None sound is now = absurd (cc)
 comes_next c from moment (Some n) sound is now =
     let next = is_next c from n is in
@@ -121,14 +121,14 @@ comes_next c from moment (Some n) sound is now =
     }
 
 -- ---- all of them
-none_before : (from moment : ℕ) (courses : List Course) → AreLate from moment courses → (time : ℕ) → from ≤ time → time < moment → events_of courses time ≡ []
+none_before : (from moment : ℕ) (courses : List EventSeries) → AreLate from moment courses → (time : ℕ) → from ≤ time → time < moment → events_of courses time ≡ []
 none_before from moment [] late time after before = refl
 none_before from moment (c ∷ cs) late time after before =
     nil_both (course_events time c) (events_of cs time)
     (nothing_of (which (time_of c) c.count time) (deed_event c.deed) (late_next c from moment (next_of c from) refl late.0 time after before))
     (none_before from moment cs late.1 time after before)
 
-none_after : (from : ℕ) (courses : List Course) → AreOver from courses → (time : ℕ) → from ≤ time → events_of courses time ≡ []
+none_after : (from : ℕ) (courses : List EventSeries) → AreOver from courses → (time : ℕ) → from ≤ time → events_of courses time ≡ []
 none_after from [] over time after = refl
 none_after from (c ∷ cs) over time after =
     nil_both (course_events time c) (events_of cs time)
@@ -142,12 +142,12 @@ some_right : (xs ys : List Event) → ys ≢ [] → xs ++ ys ≢ []
 some_right [] ys some none = some none
 some_right (x ∷ xs) ys some none = cc
 
-record SomethingAt (courses : List Course) (from moment : ℕ) : Type 0 where
+record SomethingAt (courses : List EventSeries) (from moment : ℕ) : Type 0 where
   something : events_of courses moment ≢ []
   after : from ≤ moment
   reading : moment ≤ READING
 
-some_at : (from moment : ℕ) (courses : List Course) → All IsCourse courses → OneIsAt from moment courses → SomethingAt courses from moment
+some_at : (from moment : ℕ) (courses : List EventSeries) → All IsCourse courses → OneIsAt from moment courses → SomethingAt courses from moment
 some_at from moment [] sound there = absurd there
 some_at from moment (c ∷ cs) sound (inl here) =
     let comes = comes_next c from moment (next_of c from) (All-head IsCourse c cs sound) refl here in
@@ -161,13 +161,13 @@ some_at from moment (c ∷ cs) sound (inr later) =
     record { something = some_right (course_events moment c) (events_of cs moment) rest.something; after = rest.after; reading = rest.reading }
 
 -- ---- the next moment
-pub record IsNextMoment (courses : List Course) (from moment : ℕ) : Type 0 where
+pub record IsNextMoment (courses : List EventSeries) (from moment : ℕ) : Type 0 where
   pub after : from ≤ moment
   pub quiet : (time : ℕ) → from ≤ time → time < moment → events_of courses time ≡ []
   pub something : events_of courses moment ≢ []
   pub reading : moment ≤ READING
 
-pub moment_is : (courses : List Course) (from moment : ℕ) → All IsCourse courses → next_moment courses from ≡ Some moment → IsNextMoment courses from moment
+pub moment_is : (courses : List EventSeries) (from moment : ℕ) → All IsCourse courses → next_moment courses from ≡ Some moment → IsNextMoment courses from moment
 moment_is courses from moment sound is =
     let least = least_is from moment None courses is in
     elim least.there [
@@ -177,5 +177,5 @@ moment_is courses from moment sound is =
           record { after = one.after; quiet = none_before from moment courses least.late; something = one.something; reading = one.reading }
     ]
 
-pub moments_are_over : (courses : List Course) (from : ℕ) → next_moment courses from ≡ None → (time : ℕ) → from ≤ time → events_of courses time ≡ []
+pub moments_are_over : (courses : List EventSeries) (from : ℕ) → next_moment courses from ≡ None → (time : ℕ) → from ≤ time → events_of courses time ≡ []
 moments_are_over courses from is = none_after from courses (over_from from None courses is).1

@@ -15,10 +15,10 @@ use Rattle.pals_runs.specs.declared.events.Event.{Event}
 use Rattle.pals_runs.specs.declared.events.Event.TheVariants as event
 use Rattle.bus_machine.specs.Plans.{plan_of}
 use Rattle.bus_machine.specs.States.{Run, link_at}
-use Rattle.bus_machine.specs.proof.Laws.{IsRunOf}
+use Rattle.bus_machine.specs.proof.MachineLaws.{IsRunOf}
 use Rattle.run_laws.specs.Worlds.{world_run}
 use Rattle.run_laws.proofs.Links.{rule_of}
-use Rattle.world_gen.specs.declared.courses.Course.{Course}
+use Rattle.world_gen.specs.declared.courses.EventSeries.{EventSeries}
 use Rattle.world_gen.specs.proof.Schedules.{step_time, finish_time, send_time, arrive_time, which, event_of, all_of, step_count, begins, starts_at, finishes_at, sends_at, arrivals_at, finishes, earlier_finishes, present_finishes, events_at}
 use Rattle.world_gen.specs.proof.Courses.{IsCourse, time_of, course_events, events_of, begin_course, finish_course, send_course, arrive_course, each_of, begin_courses, finish_courses, send_courses, arrive_courses, earlier_courses, present_courses, timetable}
 use Rattle.world_gen.proofs.Numbered.{numbered_all}
@@ -43,27 +43,27 @@ same_events : (one other : ℕ → ℕ) (count moment : ℕ) (e : ℕ → Event)
 same_events one other count moment e same = ap (λ o. event_of o e) (same_which one other count moment same)
 
 -- ---- courses that stand in a row
-each_from : (moment : ℕ) (course : ℕ → Course) (f : ℕ → List Event) (from n count : ℕ) → from + n ≡ count → ((j : ℕ) → j < count → course_events moment (course j) ≡ f j)
+each_from : (moment : ℕ) (course : ℕ → EventSeries) (f : ℕ → List Event) (from n count : ℕ) → from + n ≡ count → ((j : ℕ) → j < count → course_events moment (course j) ≡ f j)
     → flat_map (course_events moment) (map course (upwards from n)) ≡ flat_map f (upwards from n)
 each_from moment course f from zero count is same = refl
 each_from moment course f from (suc n) count is same =
     ap₂ (λ (a b : List Event). a ++ b) (same from (omega arith)) (each_from moment course f (suc from) n count (omega arith) same)
 
-each_events : (moment : ℕ) (course : ℕ → Course) (f : ℕ → List Event) (count : ℕ) → ((j : ℕ) → j < count → course_events moment (course j) ≡ f j)
+each_events : (moment : ℕ) (course : ℕ → EventSeries) (f : ℕ → List Event) (count : ℕ) → ((j : ℕ) → j < count → course_events moment (course j) ≡ f j)
     → events_of (each_of count course) moment ≡ all_of count f
 each_events moment course f count same = each_from moment course f 0 count count (omega arith) same
 
-some_courses : (b : Bool) (moment : ℕ) (courses : List Course) (events : List Event) → events_of courses moment ≡ events
+some_courses : (b : Bool) (moment : ℕ) (courses : List EventSeries) (events : List Event) → events_of courses moment ≡ events
     → events_of (if b then courses else []) moment ≡ (if b then events else [])
 some_courses true moment courses events same = same
 some_courses false moment courses events same = refl
 
-no_courses : (b : Bool) (moment : ℕ) (courses : List Course) (events : List Event) → events_of courses moment ≡ events
+no_courses : (b : Bool) (moment : ℕ) (courses : List EventSeries) (events : List Event) → events_of courses moment ≡ events
     → events_of (if b then [] else courses) moment ≡ (if b then [] else events)
 no_courses true moment courses events same = refl
 no_courses false moment courses events same = same
 
-both_events : (moment : ℕ) (xs ys : List Course) (as' bs : List Event) → events_of xs moment ≡ as' → events_of ys moment ≡ bs → events_of (xs ++ ys) moment ≡ as' ++ bs
+both_events : (moment : ℕ) (xs ys : List EventSeries) (as' bs : List Event) → events_of xs moment ≡ as' → events_of ys moment ≡ bs → events_of (xs ++ ys) moment ≡ as' ++ bs
 both_events moment xs ys as' bs one two = flat_map-append (course_events moment) xs ys ∙ ap₂ (λ (a b : List Event). a ++ b) one two
 
 -- ---- a design's courses
@@ -71,7 +71,7 @@ both_events moment xs ys as' bs one two = flat_map-append (course_events moment)
 times_fit : (first total : ℕ) → first ≤ 3 * HOUR → total ≤ ROUNDS * HOUR → first + total ≤ READING
 times_fit first total near few = omega arith
 
-if_all : (b : Bool) (xs ys : List Course) → All IsCourse xs → All IsCourse ys → All IsCourse (if b then xs else ys)
+if_all : (b : Bool) (xs ys : List EventSeries) → All IsCourse xs → All IsCourse ys → All IsCourse (if b then xs else ys)
 if_all true xs ys one two = one
 if_all false xs ys one two = two
 

@@ -15,7 +15,7 @@ use Rattle.bus_machine.specs.States.{Run, BusState, node_at, flight_at, link_at,
 use Rattle.bus_machine.specs.Stops.{sent_rounds, rounds_sent_on}
 use Rattle.run_laws.specs.Worlds.{World, reading_at, since_at, ready_at, sendings, world_after}
 use Rattle.run_laws.specs.Faults.{fault_of, IsWithin}
-use Rattle.run_laws.specs.proof.Kept.{copies, KeepsTime}
+use Rattle.run_laws.specs.proof.WorldsKeep.{copies, KeepsTime}
 use Rattle.run_laws.specs.EventLists.{world_left}
 use Rattle.world_gen.specs.proof.Schedules.{step_time, finish_time, send_time, arrive_time, step_count, event_of, all_of}
 use Rattle.run_laws.proofs.Changes.{same_at, changed, ChangesAt}

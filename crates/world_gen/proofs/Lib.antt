@@ -1,4 +1,4 @@
-pub mod Rows
+pub mod CounterSchedules
 pub mod ScheduleTimes
 pub mod Follows
 pub mod NoFaults

@@ -12,8 +12,8 @@ use Rattle.pals_runs.specs.declared.events.Event.{Event}
 use Rattle.pals_runs.specs.declared.events.Event.TheVariants as event
 use Rattle.pals_runs.specs.declared.events.EventFault.{EventFault}
 use Rattle.pals_runs.specs.declared.events.EventFault.TheVariants as fault
-use Rattle.pals_runs.specs.declared.events.Which.{Which}
-use Rattle.pals_runs.specs.declared.events.Which.TheVariants as which
+use Rattle.pals_runs.specs.declared.events.EventSubject.{EventSubject}
+use Rattle.pals_runs.specs.declared.events.EventSubject.TheVariants as which
 use Rattle.bus_machine.specs.Plans.{plan_of}
 use Rattle.bus_machine.specs.NodeEvents.{is_waiting, next_step, running_step, may_send}
 use Rattle.bus_machine.specs.LinkEvents.{is_in_flight}
@@ -23,7 +23,7 @@ use Rattle.bus_machine.specs.Machine.{Start, Step, Finish, Send}
 use Rattle.run_laws.specs.Worlds.{World, reading_at, since_at, flight_since}
 use Rattle.run_laws.specs.Deadlines.{node_deadline, message_deadline}
 use Rattle.run_laws.specs.Faults.{fault_of, event_fault, is_named, found_if, or_else, first_of, wrong_phase, no_message, not_due, too_soon, clock_back, clock_apart, apart, past, node_past, copy_past, link_past}
-use Rattle.run_laws.specs.proof.Kept.{IsInTime}
+use Rattle.run_laws.specs.proof.WorldsKeep.{IsInTime}
 
 pub found_none : (b : Bool) (why : EventFault) → b ≡ false → found_if b why ≡ None
 found_none b why is = ap (λ (x : Bool). found_if x why) is
@@ -92,7 +92,7 @@ pub first_none : {X : Type 0} (f : X → Option EventFault) (xs : List X) → ((
 first_none f [] none = refl
 first_none f (x ∷ xs) none = none_both (f x) (first_of (map f xs)) (none 0 x refl) (first_none f xs (λ k y is. none (suc k) y is))
 
-none_past : (time : ℕ) (which : Which) (last : Option ℕ) → IsInTime time last → past time which last ≡ None
+none_past : (time : ℕ) (which : EventSubject) (last : Option ℕ) → IsInTime time last → past time which last ≡ None
 none_past time which None in_time = refl
 none_past time which (Some last) in_time = found_none (nat_lt last time) (fault.PastDeadline which last) (le-ltb last time in_time)
 

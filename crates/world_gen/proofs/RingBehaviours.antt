@@ -4,7 +4,7 @@ use Rattle.std.specs.Prelude.{codes}
 use Rattle.std.proofs.lemmas.Bool.{ne_eqb, true≢false}
 use Rattle.list_lemmas.proofs.Pairs.{AllPairs-one, AllPairs-three, bytes_ne_by_test}
 use Rattle.pals_base.specs.declared.behaviour.BehaviourParts.{BehaviourParts}
-use Rattle.pals_base.specs.declared.behaviour.Named.{Named}
+use Rattle.pals_base.specs.declared.behaviour.PortDecl.{PortDecl}
 use Rattle.pals_base.specs.declared.behaviour.VarDecl.{VarDecl}
 use Rattle.pals_base.specs.declared.behaviour.StateDecl.{StateDecl}
 use Rattle.pals_base.specs.Rules.{IsBehaviour, IsAcyclic}
@@ -41,16 +41,16 @@ ring_behaves = record {
 }
 
 -- so are parts with the same values
-abbrev parts_of : List Named → List Named → List VarDecl → List StateDecl → List Edge → BehaviourParts
+abbrev parts_of : List PortDecl → List PortDecl → List VarDecl → List StateDecl → List Edge → BehaviourParts
 parts_of ins outs vars states transitions = record { ins = ins; outs = outs; vars = vars; states = states; initial = 0; transitions = transitions }
 
-pub parts_behave : (ins outs : List Named) (vars : List VarDecl) (states : List StateDecl) (transitions : List Edge)
+pub parts_behave : (ins outs : List PortDecl) (vars : List VarDecl) (states : List StateDecl) (transitions : List Edge)
     → ins ≡ ring_behaviour.ins → outs ≡ ring_behaviour.outs → vars ≡ ring_behaviour.vars → states ≡ ring_behaviour.states
     → transitions ≡ ring_behaviour.transitions → IsBehaviour (parts_of ins outs vars states transitions)
 parts_behave ins outs vars states transitions same_ins same_outs same_vars same_states same_transitions =
     let b = ring_behaviour in
     let ports : parts_of ins outs vars states transitions ≡ parts_of b.ins b.outs vars states transitions =
-    ap₂ (λ (i o : List Named). parts_of i o vars states transitions) same_ins same_outs in
+    ap₂ (λ (i o : List PortDecl). parts_of i o vars states transitions) same_ins same_outs in
     let values : parts_of b.ins b.outs vars states transitions ≡ parts_of b.ins b.outs b.vars b.states transitions =
     ap₂ (λ (v : List VarDecl) (s : List StateDecl). parts_of b.ins b.outs v s transitions) same_vars same_states in
     let edges : parts_of b.ins b.outs b.vars b.states transitions ≡ b =

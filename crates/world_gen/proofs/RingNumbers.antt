@@ -8,7 +8,7 @@ use Rattle.std.proofs.lemmas.List.Sums.{sum_by-cons}
 use Rattle.std.proofs.lemmas.Bool.{cases_lt, false≢true}
 use Rattle.pals_base.specs.declared.values.Trap.{Trap}
 use Rattle.pals_base.specs.declared.values.Frame.{Frame}
-use Rattle.pals_base.specs.declared.values.Port.{Port}
+use Rattle.pals_base.specs.declared.values.PortValue.{PortValue}
 use Rattle.pals_base.specs.Expressions.{eval, on_value}
 use Rattle.pals_base.specs.Arithmetic.{modulus_of}
 use Rattle.pals_base.specs.Actions.{Effect, acts, with_vars}
@@ -64,12 +64,12 @@ FiresSmall fired = HasSmall fired.frame.vars
 set_small : (vars : List ℤ) (x : ℤ) → HasSmall vars → IsSmall x → HasSmall (slice_set vars 0 x)
 set_small vars x before small = record { number = x; only = ap (λ vs. slice_set vs 0 x) before.only; small = small }
 
-assigned_small : (r : Result ℤ Trap) (frame : Frame) (fresh : List Bool) (outs : List Port) → HasSmall frame.vars → IfOk r IsSmall
+assigned_small : (r : Result ℤ Trap) (frame : Frame) (fresh : List Bool) (outs : List PortValue) → HasSmall frame.vars → IfOk r IsSmall
     → IfOk (on_value (on_value r (λ v. Ok (record { vars = slice_set frame.vars 0 v; outs = outs }))) (λ (e : Effect). acts emitting (with_vars frame e.vars) fresh e.outs)) (λ (e : Effect). HasSmall e.vars)
 assigned_small (Err trap) frame fresh outs before small = tt
 assigned_small (Ok x) frame fresh outs before small = set_small frame.vars x before small
 
-acts_small : (frame : Frame) (fresh : List Bool) (outs : List Port) → HasSmall frame.vars → IfOk (acts ring_actions frame fresh outs) (λ (e : Effect). HasSmall e.vars)
+acts_small : (frame : Frame) (fresh : List Bool) (outs : List PortValue) → HasSmall frame.vars → IfOk (acts ring_actions frame fresh outs) (λ (e : Effect). HasSmall e.vars)
 acts_small frame fresh outs before = assigned_small (eval next_number frame fresh) frame fresh outs before (next_small frame fresh)
 
 moved_small : (r : Result Effect Trap) (frame : Frame) → IfOk r (λ (e : Effect). HasSmall e.vars)
@@ -100,7 +100,7 @@ unless_small held None (Ok fired) before small = small
 unless_small held None (Err trap) before small = before
 unless_small held (Some trap) r before small = before
 
-fires_small : (frame : Frame) (inputs : List Port) → HasSmall frame.vars → FiresSmall (fire ring_behaviour frame inputs)
+fires_small : (frame : Frame) (inputs : List PortValue) → HasSmall frame.vars → FiresSmall (fire ring_behaviour frame inputs)
 unfolding fire
 fires_small frame inputs before =
     let held : Frame = record frame { held = holding frame.held inputs } in
@@ -110,14 +110,14 @@ fires_small frame inputs before =
     (then_small (along (dispatched ring_behaviour held.state) fresh at) fresh (along_small (nat_eq 0 held.state) fresh at before))
 
 -- ---- rounds
-after_small : (vectors : List (List Port)) (frame : Frame) → HasSmall frame.vars → HasSmall (frame_after ring_behaviour frame vectors).vars
+after_small : (vectors : List (List PortValue)) (frame : Frame) → HasSmall frame.vars → HasSmall (frame_after ring_behaviour frame vectors).vars
 after_small [] frame before = before
 after_small (inputs ∷ vectors) frame before = after_small vectors (fire ring_behaviour frame inputs).frame (fires_small frame inputs before)
 
 abbrev IsRinging : Component → Type 0
 IsRinging c = c.behaviour ≡ ring_behaviour
 
-steps_small : (design : DesignParts) (values : List Port) (messages : List (List Port)) (node : ℕ) (components : List Component) (frames : List Frame)
+steps_small : (design : DesignParts) (values : List PortValue) (messages : List (List PortValue)) (node : ℕ) (components : List Component) (frames : List Frame)
     → All IsRinging components → All (λ (f : Frame). HasSmall f.vars) frames
     → All (λ (s : Stepped). HasSmall s.frame.vars) (steps_from design values messages node components frames)
 steps_small design values messages node [] frames ring before = All-nil (λ (s : Stepped). HasSmall s.frame.vars)

@@ -13,11 +13,11 @@ use Rattle.pals_runs.specs.declared.journal.Arrived.TheVariants.{Kept}
 use Rattle.bus_machine.specs.NodeEvents.{slot_at}
 use Rattle.bus_machine.specs.States.{Run, BusState, node_at, flight_at, link_at}
 use Rattle.bus_machine.specs.Stops.{rounds_sent_on}
-use Rattle.bus_machine.specs.proof.Laws.{IsRunOf}
+use Rattle.bus_machine.specs.proof.MachineLaws.{IsRunOf}
 use Rattle.run_laws.specs.Worlds.{World, since_at, ready_at, sendings, flight_since, world_after}
 use Rattle.run_laws.specs.Faults.{fault_of}
 use Rattle.bus_machine.proofs.States.{node_set, node_stays}
-use Rattle.run_laws.specs.proof.Kept.{copies, one_if}
+use Rattle.run_laws.specs.proof.WorldsKeep.{copies, one_if}
 use Rattle.world_gen.specs.proof.Schedules.{send_time, arrive_time, which}
 use Rattle.run_laws.proofs.Lists.{count_without}
 use Rattle.run_laws.proofs.Links.{rule_of, under_way, counts_in_flight, one_of_true, one_of_false}

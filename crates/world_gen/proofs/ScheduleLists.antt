@@ -10,8 +10,8 @@ use Rattle.pals_runs.specs.declared.events.Event.{Event}
 use Rattle.pals_runs.specs.declared.events.Event.TheVariants as event
 use Rattle.bus_machine.specs.Plans.{plan_of}
 use Rattle.bus_machine.specs.States.{Run, link_at}
-use Rattle.bus_machine.specs.proof.Laws.{IsRunOf}
-use Rattle.world_gen.specs.proof.Laws.{MomentsExist, MomentsAreOne}
+use Rattle.bus_machine.specs.proof.MachineLaws.{IsRunOf}
+use Rattle.world_gen.specs.proof.ScheduleLaws.{MomentsExist, MomentsAreOne}
 use Rattle.world_gen.specs.proof.Schedules.{step_time, finish_time, send_time, arrive_time, which, event_of, all_of, step_count, begins, starts_at, finishes_at, sends_at, arrivals_at, finishes, earlier_finishes, present_finishes, events_at, AreMoments}
 use Rattle.run_laws.proofs.WorldTimes.{alarm_more}
 use Rattle.run_laws.proofs.Links.{rule_of}

@@ -12,10 +12,10 @@ use Rattle.bus_machine.specs.Nodes.{NodeState, opening_node}
 use Rattle.bus_machine.specs.States.{Run, node_at, flight_at, link_at}
 use Rattle.bus_machine.specs.Stops.{sent_rounds, rounds_sent_on}
 use Rattle.bus_machine.specs.Agreement.{PhaseAgrees}
-use Rattle.bus_machine.specs.proof.Laws.{IsRunOf}
+use Rattle.bus_machine.specs.proof.MachineLaws.{IsRunOf}
 use Rattle.run_laws.specs.Worlds.{World, opening_world, since_at, ready_at, sendings, world_after}
 use Rattle.run_laws.specs.EventLists.{world_left}
-use Rattle.world_gen.specs.proof.Laws.{SchedulesAreWhole}
+use Rattle.world_gen.specs.proof.ScheduleLaws.{SchedulesAreWhole}
 use Rattle.world_gen.specs.proof.Schedules.{step_time, finish_time, send_time, arrive_time, which, all_of, step_count, begins, starts_at, finishes_at, sends_at, arrivals_at, finishes, events_at, AreMoments, schedule_at}
 use Rattle.run_laws.proofs.Nodes.{phase_agrees, rounds_at_most}
 use Rattle.run_laws.proofs.Links.{rule_of}

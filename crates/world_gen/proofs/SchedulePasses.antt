@@ -20,12 +20,12 @@ use Rattle.bus_machine.specs.Alarms.{start_alarm, step_alarm, release_alarm}
 use Rattle.bus_machine.specs.States.{Run, node_at, flight_at, link_at}
 use Rattle.bus_machine.specs.Stops.{sent_rounds, rounds_sent_on}
 use Rattle.bus_machine.specs.Agreement.{PhaseAgrees}
-use Rattle.bus_machine.specs.proof.Laws.{IsRunOf}
+use Rattle.bus_machine.specs.proof.MachineLaws.{IsRunOf}
 use Rattle.run_laws.specs.Deadlines.{last_before, node_deadline, message_deadline}
 use Rattle.run_laws.specs.Worlds.{World, reading_at, since_at, ready_at, sendings, world_after}
 use Rattle.run_laws.specs.Faults.{fault_of}
 use Rattle.bus_machine.proofs.Nodes.{MaySend, may_send_of}
-use Rattle.run_laws.specs.proof.Kept.{IsInTime, copies}
+use Rattle.run_laws.specs.proof.WorldsKeep.{IsInTime, copies}
 use Rattle.world_gen.specs.proof.Schedules.{step_time, finish_time, send_time, arrive_time, step_count, events_at}
 use Rattle.run_laws.proofs.Nodes.{may_is, component_is, phase_agrees, rounds_at_most, both_in_time, sends_in_time, phase_last, send_last, deadline_is}
 use Rattle.run_laws.proofs.Links.{rule_of, one_of_true, under_way}

@@ -11,12 +11,12 @@ use Rattle.bus_machine.specs.Plans.{plan_of}
 use Rattle.bus_machine.specs.NodeEvents.{slot_at}
 use Rattle.bus_machine.specs.States.{Run, node_at, flight_at, link_at}
 use Rattle.bus_machine.specs.Stops.{rounds_sent_on, sent_rounds}
-use Rattle.bus_machine.specs.proof.Laws.{IsRunOf}
+use Rattle.bus_machine.specs.proof.MachineLaws.{IsRunOf}
 use Rattle.run_laws.specs.Worlds.{World, since_at, ready_at, sendings}
 use Rattle.world_gen.specs.proof.Schedules.{step_time, finish_time, send_time, arrive_time, which, event_of, all_of, step_count, begins, starts_at, finishes_at, sends_at, arrivals_at, finishes, earlier_finishes, present_finishes, events_at}
 use Rattle.world_gen.proofs.ScheduleTimes.{Made, which_none, made_none}
 use Rattle.pals_model.specs.declared.flight.FlightCopy.{FlightCopy}
-use Rattle.run_laws.specs.proof.Kept.{copies}
+use Rattle.run_laws.specs.proof.WorldsKeep.{copies}
 use Rattle.run_laws.proofs.Nodes.{rounds_at_most}
 use Rattle.run_laws.proofs.Links.{rule_of, under_way}
 use Rattle.world_gen.proofs.Follows.{begun_by, ended_by, NodeFollows, LinkFollows, Follows, bump, bump_done, bump_left, bump_other}

@@ -19,11 +19,11 @@ use Rattle.bus_machine.specs.NodeEvents.{after_send, may_send}
 use Rattle.bus_machine.specs.States.{Run, node_at, flight_at, link_at}
 use Rattle.bus_machine.specs.Stops.{sent_rounds, rounds_sent_on}
 use Rattle.bus_machine.specs.Agreement.{PhaseAgrees}
-use Rattle.bus_machine.specs.proof.Laws.{IsRunOf}
+use Rattle.bus_machine.specs.proof.MachineLaws.{IsRunOf}
 use Rattle.run_laws.specs.Worlds.{World, since_at, ready_at, sendings, moved, is_held, world_after}
 use Rattle.run_laws.specs.Faults.{fault_of}
 use Rattle.bus_machine.proofs.States.{node_set, node_stays}
-use Rattle.run_laws.specs.proof.Kept.{copies, one_if}
+use Rattle.run_laws.specs.proof.WorldsKeep.{copies, one_if}
 use Rattle.world_gen.specs.proof.Schedules.{step_time, finish_time, send_time, arrive_time, which, step_count}
 use Rattle.run_laws.proofs.Lists.{count_more}
 use Rattle.run_laws.proofs.Nodes.{fits_at, may_be, phase_agrees, rounds_at_most}

@@ -9,8 +9,8 @@ use Rattle.pals_model.specs.Rules.{IsDesign}
 use Rattle.pals_runs.specs.declared.events.Event.{Event}
 use Rattle.pals_runs.specs.declared.events.Event.TheVariants as event
 use Rattle.run_laws.specs.Worlds.{world_run}
-use Rattle.world_gen.specs.declared.courses.Course.{Course}
-use Rattle.world_gen.specs.proof.Laws.{IsWhole}
+use Rattle.world_gen.specs.declared.courses.EventSeries.{EventSeries}
+use Rattle.world_gen.specs.proof.ScheduleLaws.{IsWhole}
 use Rattle.world_gen.specs.proof.Schedules.{events_at, AreMoments, schedule_at, IsScheduleOf}
 use Rattle.world_gen.specs.proof.Courses.{IsCourse, events_of, moment_events, next_moment, timetable}
 use Rattle.world_gen.proofs.CourseMoments.{moment_is, moments_are_over}
@@ -50,7 +50,7 @@ pub record GoesOn (design : DesignParts) (rounds from moment : ℕ) (events : Li
   pub forward : from ≤ moment
   pub reading : moment ≤ READING
 
-pub goes_on : (design : DesignParts) (rounds from moment : ℕ) (courses : List Course) (nodes : ℕ) (events after : List Event) → IsDesign design → rounds ≤ ROUNDS
+pub goes_on : (design : DesignParts) (rounds from moment : ℕ) (courses : List EventSeries) (nodes : ℕ) (events after : List Event) → IsDesign design → rounds ≤ ROUNDS
     → courses ≡ timetable design rounds → nodes ≡ length design.components → Some moment ≡ next_moment courses from
     → after ≡ events ++ moment_events nodes courses moment
     → IsSoFar design rounds from events → GoesOn design rounds from moment after
@@ -62,7 +62,7 @@ goes_on design rounds from moment courses nodes events after rules few are count
       so_far = one_more design rounds from moment events after next.after
           (λ time late early. sym (same time) ∙ next.quiet time late early)
           (λ none. next.something (same moment ∙ none))
-          (is_after ∙ ap₂ (λ (n : ℕ) (cs : List Course). events ++ moment_events n cs moment) count are
+          (is_after ∙ ap₂ (λ (n : ℕ) (cs : List EventSeries). events ++ moment_events n cs moment) count are
           ∙ ap (λ es. events ++ (event.Pass moment (replicate (length design.components) moment) ∷ es)) (same moment))
           so_far;
       forward = next.after;
@@ -73,7 +73,7 @@ pub record IsDone (design : DesignParts) (rounds : ℕ) (events : List Event) : 
   pub exact : IsScheduleOf design rounds events
   pub whole : (env : Env) → IsWhole (world_run design env rounds) events
 
-pub is_done : (design : DesignParts) (rounds from : ℕ) (courses : List Course) (events : List Event) → IsDesign design → 1 ≤ rounds
+pub is_done : (design : DesignParts) (rounds from : ℕ) (courses : List EventSeries) (events : List Event) → IsDesign design → 1 ≤ rounds
     → courses ≡ timetable design rounds → None ≡ next_moment courses from → IsSoFar design rounds from events → IsDone design rounds events
 is_done design rounds from courses events rules some are is so_far =
     let over : next_moment (timetable design rounds) from ≡ None = ap (λ cs. next_moment cs from) (sym are) ∙ sym is in
@@ -88,5 +88,5 @@ is_done design rounds from courses events rules some are is so_far =
           (schedules_are_whole (world_run design env rounds) moments (record { design = rules; rounds = some }) all);
     }
 
-pub timetable_keeps : (design : DesignParts) (rounds : ℕ) (courses : List Course) → IsDesign design → rounds ≤ ROUNDS → courses ≡ timetable design rounds → All IsCourse courses
+pub timetable_keeps : (design : DesignParts) (rounds : ℕ) (courses : List EventSeries) → IsDesign design → rounds ≤ ROUNDS → courses ≡ timetable design rounds → All IsCourse courses
 timetable_keeps design rounds courses rules few are = subst (All IsCourse) (sym are) (timetable_is_sound design rules rounds few)

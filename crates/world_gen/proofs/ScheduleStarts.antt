@@ -19,7 +19,7 @@ use Rattle.bus_machine.specs.Alarms.{step_alarm}
 use Rattle.bus_machine.specs.States.{Run, node_at, with_node}
 use Rattle.bus_machine.specs.Stops.{sent_rounds}
 use Rattle.bus_machine.specs.Agreement.{PhaseAgrees}
-use Rattle.bus_machine.specs.proof.Laws.{IsRunOf}
+use Rattle.bus_machine.specs.proof.MachineLaws.{IsRunOf}
 use Rattle.run_laws.specs.Worlds.{World, reading_at, since_at, ready_at, sendings, world_after}
 use Rattle.run_laws.specs.Faults.{fault_of}
 use Rattle.bus_machine.proofs.States.{node_set, node_stays}

@@ -8,7 +8,7 @@ use Rattle.pals_model.specs.Rules.{IsComponent}
 use Rattle.pals_model.proofs.Lookups.{at_element, found_at}
 use Rattle.bus_machine.specs.Plans.{plan_of, component_at}
 use Rattle.bus_machine.specs.States.{Run}
-use Rattle.bus_machine.specs.proof.Laws.{IsRunOf}
+use Rattle.bus_machine.specs.proof.MachineLaws.{IsRunOf}
 use Rattle.bus_machine.proofs.Lists.{none_found}
 use Rattle.world_gen.specs.proof.Schedules.{step_time, finish_time, send_time, which}
 use Rattle.run_laws.proofs.Lists.{upwards_at}

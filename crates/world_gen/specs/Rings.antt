@@ -7,12 +7,12 @@ use Rattle.pals_base.specs.declared.values.Adaptor.{Adaptor}
 use Rattle.pals_base.specs.declared.values.Adaptor.TheVariants.{Repeat, Last}
 use Rattle.pals_base.specs.declared.behaviour.Kind.TheVariants.{Integer}
 use Rattle.pals_base.specs.declared.behaviour.Op.TheVariants.{Add, Mul, Mod}
-use Rattle.pals_base.specs.declared.behaviour.Named.{Named}
+use Rattle.pals_base.specs.declared.behaviour.PortDecl.{PortDecl}
 use Rattle.pals_base.specs.declared.behaviour.VarDecl.{VarDecl}
 use Rattle.pals_base.specs.declared.behaviour.StateDecl.{StateDecl}
 use Rattle.pals_base.specs.declared.behaviour.BehaviourParts.{BehaviourParts}
 use Rattle.pals_base.specs.Steps.{upwards}
-use Rattle.pals_base.specs.Tree.{Expression, Literal, Variable, PortValue, Chain, NoMore, Then, Assign, Emit, Actions, Nothing, Do, Dispatch, Edge}
+use Rattle.pals_base.specs.Tree.{Expression, Literal, Variable, PortRead, Chain, NoMore, Then, Assign, Emit, Actions, Nothing, Do, Dispatch, Edge}
 use Rattle.pals_model.specs.declared.design.Component.{Component}
 use Rattle.pals_model.specs.declared.design.Link.{Link}
 use Rattle.pals_model.specs.declared.design.DesignParts.{DesignParts}
@@ -20,7 +20,7 @@ use Rattle.pals_model.specs.Composition.{state}
 use Rattle.pals_model.specs.Inputs.{no_env}
 
 -- ---- what each component does
-abbrev pub number_port : List ℕ → Named
+abbrev pub number_port : List ℕ → PortDecl
 number_port name = record { name = name; kind = Integer }
 
 abbrev pub ring_variable : VarDecl
@@ -31,7 +31,7 @@ ring_state = record { name = codes "s"; complete = true }
 
 -- 2 * i
 abbrev pub twice_input : Expression
-twice_input = Chain (Literal (pos 2)) (Then Mul (PortValue 0) NoMore)
+twice_input = Chain (Literal (pos 2)) (Then Mul (PortRead 0) NoMore)
 
 -- x + 2 * i + 1
 abbrev pub number_sum : Expression

@@ -9,7 +9,7 @@ use pals_runs::Event;
 
 /// What is done over and over.
 #[derive(Clone, Copy)]
-pub enum Deed {
+pub enum EventKind {
     /// A node begins a step. It makes `rate` of them in a round, and the first starts the round.
     Begin { node: NodeNo, rate: u32 },
     /// A node finishes a step.
@@ -20,23 +20,23 @@ pub enum Deed {
     Arrive(LinkNo),
 }
 
-impl Deed {
+impl EventKind {
     /// The deed of a number as an event.
     pub fn event(self, number: u32) -> Event
         requires { HasSteps self }
         ensures { result ≡ deed_event self number }
     {
         match self {
-            Deed::Begin { node, rate } => {
+            EventKind::Begin { node, rate } => {
                 if number % rate == 0 {
                     Event::Start(node)
                 } else {
                     Event::Step(node)
                 }
             }
-            Deed::Finish(node) => Event::Finish(node),
-            Deed::Send(node) => Event::Send(node),
-            Deed::Arrive(link) => Event::Arrive(link, number),
+            EventKind::Finish(node) => Event::Finish(node),
+            EventKind::Send(node) => Event::Send(node),
+            EventKind::Arrive(link) => Event::Arrive(link, number),
         }
     }
 }
@@ -44,14 +44,14 @@ impl Deed {
 /// A deed that is done `count` times, numbered from 0: first at the time `first`, and each time
 /// `every` later than before.
 #[derive(Clone, Copy)]
-pub struct Course {
-    pub deed: Deed,
+pub struct EventSeries {
+    pub deed: EventKind,
     pub first: Nanos,
     pub every: Nanos,
     pub count: u32,
 }
 
-impl Course {
+impl EventSeries {
     // The time of the deed of a number.
     fn time(&self, number: u32) -> Nanos
         requires course { IsCourse self.now }

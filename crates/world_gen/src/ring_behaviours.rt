@@ -5,7 +5,7 @@ ghost use Rattle.pals_base.specs.Tree as tree;
 ghost use Rattle.world_gen.specs.Rings.{number_port, ring_variable, ring_state, twice_input, number_sum, next_number, ring_actions, ring_edge, ring_behaviour};
 
 use pals_base::{
-    Act, Behaviour, BehaviourParts, Expr, Guard, Items, Kind, Named, NoMemory, Op, Operand,
+    Act, Behaviour, BehaviourParts, Expr, Guard, Items, Kind, PortDecl, NoMemory, Op, Operand,
     StateDecl, Text, Transition, VarDecl,
 };
 use std::alloc::Global;
@@ -94,13 +94,13 @@ fn transitions(alloc: Global) -> Result<Items<Transition>, NoMemory>
 }
 
 // A port of numbers, alone.
-fn ports(alloc: Global, name: &str) -> Result<Items<Named>, NoMemory>
+fn ports(alloc: Global, name: &str) -> Result<Items<PortDecl>, NoMemory>
     ensures { IfOk result (λ ports. ports ≡ number_port name.now ∷ []) }
 {
     let name = Text::from_str(alloc, name)?;
     only(
         alloc,
-        Named {
+        PortDecl {
             name,
             kind: Kind::Integer,
         },

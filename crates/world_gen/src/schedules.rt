@@ -5,10 +5,10 @@ ghost use Rattle.pals_base.specs.declared.limits.TheConstants.{ROUNDS};
 ghost use Rattle.pals_model.specs.declared.rounds.Env.{Env};
 ghost use Rattle.run_laws.specs.Worlds.{world_run};
 ghost use Rattle.world_gen.specs.proof.Schedules.{IsScheduleOf};
-ghost use Rattle.world_gen.specs.proof.Laws.{IsWhole};
+ghost use Rattle.world_gen.specs.proof.ScheduleLaws.{IsWhole};
 ghost use Rattle.world_gen.specs.proof.Courses.{IsCourse, moment_events};
 
-use crate::courses::Course;
+use crate::courses::EventSeries;
 use crate::timetables::{add_events, next_moment, timetable};
 use pals_base::{Items, Nanos, NoMemory};
 use pals_model::Design;
@@ -27,7 +27,7 @@ fn add_moment(
     alloc: Global,
     events: &mut Items<Event>,
     nodes: usize,
-    courses: &[Course],
+    courses: &[EventSeries],
     moment: Nanos,
 ) -> Result<(), NoMemory>
     requires { All IsCourse courses.now }

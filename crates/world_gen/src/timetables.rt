@@ -5,7 +5,7 @@ ghost use Rattle.run_laws.specs.Deadlines.{lesser};
 ghost use Rattle.world_gen.specs.proof.Schedules.{send_time};
 ghost use Rattle.world_gen.specs.proof.Courses.{IsCourse, begin_course, finish_course, send_course, arrive_course, begin_courses, finish_courses, send_courses, arrive_courses, timetable, next_moment, events_of};
 
-use crate::courses::{Course, Deed};
+use crate::courses::{EventSeries, EventKind};
 use pals_base::bound::step_period;
 use pals_base::{Items, LinkNo, Nanos, NoMemory, NodeNo};
 use pals_model::Design;
@@ -13,14 +13,14 @@ use pals_runs::Event;
 use std::alloc::Global;
 
 // The steps of a node, as they begin.
-fn begin_course(design: &Design, rounds: u32, node: NodeNo) -> Course
+fn begin_course(design: &Design, rounds: u32, node: NodeNo) -> EventSeries
     requires few { rounds ≤ ROUNDS }
     requires within { node.0 < length design.now.components }
     ensures { result ≡ begin_course design.now rounds node.0 }
 {
     let rate = design.parts().rate(node);
-    Course {
-        deed: Deed::Begin { node, rate },
+    EventSeries {
+        deed: EventKind::Begin { node, rate },
         first: design.period(),
         every: step_period(design.period(), rate),
         count: rounds * rate,
@@ -28,14 +28,14 @@ fn begin_course(design: &Design, rounds: u32, node: NodeNo) -> Course
 }
 
 // The steps of a node, as they finish.
-fn finish_course(design: &Design, rounds: u32, node: NodeNo) -> Course
+fn finish_course(design: &Design, rounds: u32, node: NodeNo) -> EventSeries
     requires few { rounds ≤ ROUNDS }
     requires within { node.0 < length design.now.components }
     ensures { result ≡ finish_course design.now rounds node.0 }
 {
     let rate = design.parts().rate(node);
-    Course {
-        deed: Deed::Finish(node),
+    EventSeries {
+        deed: EventKind::Finish(node),
         first: design.period() + design.gamma().alpha_min,
         every: step_period(design.period(), rate),
         count: rounds * rate,
@@ -58,12 +58,12 @@ fn first_send(design: &Design, node: NodeNo) -> Nanos
 }
 
 // The rounds that a node sends.
-fn send_course(design: &Design, rounds: u32, node: NodeNo) -> Course
+fn send_course(design: &Design, rounds: u32, node: NodeNo) -> EventSeries
     requires { node.0 < length design.now.components }
     ensures { result ≡ send_course design.now rounds node.0 }
 {
-    Course {
-        deed: Deed::Send(node),
+    EventSeries {
+        deed: EventKind::Send(node),
         first: first_send(design, node),
         every: design.period(),
         count: rounds,
@@ -71,13 +71,13 @@ fn send_course(design: &Design, rounds: u32, node: NodeNo) -> Course
 }
 
 // The messages of a link, as they arrive.
-fn arrive_course(design: &Design, rounds: u32, link: LinkNo) -> Course
+fn arrive_course(design: &Design, rounds: u32, link: LinkNo) -> EventSeries
     requires { link.0 < length design.now.links }
     ensures { result ≡ arrive_course design.now rounds link.0 }
 {
     let source = design.links()[link.0 as usize].source;
-    Course {
-        deed: Deed::Arrive(link),
+    EventSeries {
+        deed: EventKind::Arrive(link),
         first: first_send(design, source) + design.gamma().mu_min,
         every: design.period(),
         count: rounds,
@@ -85,7 +85,7 @@ fn arrive_course(design: &Design, rounds: u32, link: LinkNo) -> Course
 }
 
 #[tactic(auto, using(crate::proofs::Numbered::add_numbered))]
-fn add_begins(courses: &mut Items<Course>, design: &Design, rounds: u32) -> Result<(), NoMemory>
+fn add_begins(courses: &mut Items<EventSeries>, design: &Design, rounds: u32) -> Result<(), NoMemory>
     requires { rounds ≤ ROUNDS }
     ensures { OnOk result (courses.new ≡ courses.old ++ begin_courses design.now rounds) }
 {
@@ -96,7 +96,7 @@ fn add_begins(courses: &mut Items<Course>, design: &Design, rounds: u32) -> Resu
 }
 
 #[tactic(auto, using(crate::proofs::Numbered::add_numbered))]
-fn add_finishes(courses: &mut Items<Course>, design: &Design, rounds: u32) -> Result<(), NoMemory>
+fn add_finishes(courses: &mut Items<EventSeries>, design: &Design, rounds: u32) -> Result<(), NoMemory>
     requires { rounds ≤ ROUNDS }
     ensures { OnOk result (courses.new ≡ courses.old ++ finish_courses design.now rounds) }
 {
@@ -107,7 +107,7 @@ fn add_finishes(courses: &mut Items<Course>, design: &Design, rounds: u32) -> Re
 }
 
 #[tactic(auto, using(crate::proofs::Numbered::add_numbered))]
-fn add_sends(courses: &mut Items<Course>, design: &Design, rounds: u32) -> Result<(), NoMemory>
+fn add_sends(courses: &mut Items<EventSeries>, design: &Design, rounds: u32) -> Result<(), NoMemory>
     ensures { OnOk result (courses.new ≡ courses.old ++ send_courses design.now rounds) }
 {
     for node in 0..design.components().len() {
@@ -117,7 +117,7 @@ fn add_sends(courses: &mut Items<Course>, design: &Design, rounds: u32) -> Resul
 }
 
 #[tactic(auto, using(crate::proofs::Numbered::add_numbered))]
-fn add_arrivals(courses: &mut Items<Course>, design: &Design, rounds: u32) -> Result<(), NoMemory>
+fn add_arrivals(courses: &mut Items<EventSeries>, design: &Design, rounds: u32) -> Result<(), NoMemory>
     ensures { OnOk result (courses.new ≡ courses.old ++ arrive_courses design.now rounds) }
 {
     for link in 0..design.links().len() {
@@ -127,7 +127,7 @@ fn add_arrivals(courses: &mut Items<Course>, design: &Design, rounds: u32) -> Re
 }
 
 /// The courses of a design for a number of rounds, in the order in which they go on at one moment.
-pub fn timetable(alloc: Global, design: &Design, rounds: u32) -> Result<Items<Course>, NoMemory>
+pub fn timetable(alloc: Global, design: &Design, rounds: u32) -> Result<Items<EventSeries>, NoMemory>
     requires { rounds ≤ ROUNDS }
     ensures { IfOk result (λ courses. courses ≡ timetable design.now rounds) }
 {
@@ -157,7 +157,7 @@ fn lesser(a: Option<Nanos>, b: Option<Nanos>) -> Option<Nanos>
 }
 
 /// The next moment, from a time on, at which one of the courses goes on, or none.
-pub fn next_moment(courses: &[Course], from: Nanos) -> Option<Nanos>
+pub fn next_moment(courses: &[EventSeries], from: Nanos) -> Option<Nanos>
     requires { All IsCourse courses.now }
     ensures { result ≡ next_moment courses.now from }
 {
@@ -171,7 +171,7 @@ pub fn next_moment(courses: &[Course], from: Nanos) -> Option<Nanos>
 /// Adds what the courses do at a moment.
 pub fn add_events(
     events: &mut Items<Event>,
-    courses: &[Course],
+    courses: &[EventSeries],
     moment: Nanos,
 ) -> Result<(), NoMemory>
     requires { All IsCourse courses.now }

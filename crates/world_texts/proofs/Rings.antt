@@ -29,7 +29,7 @@ use Rattle.timed_world.specs.proof.Values.{WorldValue, opening_value}
 use Rattle.timed_world.specs.proof.EventLists.{Leads}
 use Rattle.design_codes.specs.Causes.{length_of, IsFirstTooLong}
 use Rattle.loose_world.proofs.WorldRows.{part_is}
-use Rattle.world_gen.specs.proof.Laws.{IsWhole}
+use Rattle.world_gen.specs.proof.ScheduleLaws.{IsWhole}
 use Rattle.world_gen.specs.Rings.{ring, ring_component, ring_behaviour, ring_number}
 use Rattle.world_gen.proofs.Numbered.{length-numbered, numbered_at, numbered_get}
 use Rattle.world_gen.proofs.RingNumbers.{ring_numbers_are_small}

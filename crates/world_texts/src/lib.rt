@@ -6,4 +6,4 @@ mod ring_text;
 mod world_text;
 
 pub use ring_text::tell_ring;
-pub use world_text::{Told, tell_world};
+pub use world_text::{WorldReport, tell_world};

@@ -13,7 +13,7 @@ use design_codes::{CodesEnd, compile_all};
 use pals_base::{Items, NoMemory, NodeNo};
 use pals_bus::Bus;
 use pals_model::{Design, Env, Part};
-use pals_report::{Word, add_line};
+use pals_report::{LineWord, add_line};
 use pals_runs::{Event, EventFault};
 use std::alloc::{AllocError, Global};
 use std::sync::Arc;
@@ -49,14 +49,14 @@ fn ring_line(alloc: Global, nodes: u32, rounds: u32, sum: i64) -> Result<Vec<u8>
     add_line(
         &mut text,
         &[
-            Word::Bytes(b"ring"),
-            Word::Number(u64::from(nodes)),
-            Word::Bytes(b"rounds"),
-            Word::Number(u64::from(rounds)),
-            Word::Bytes(b"messages"),
-            Word::Number(u64::from(nodes) * u64::from(rounds)),
-            Word::Bytes(b"sum"),
-            Word::Signed(sum),
+            LineWord::Bytes(b"ring"),
+            LineWord::Number(u64::from(nodes)),
+            LineWord::Bytes(b"rounds"),
+            LineWord::Number(u64::from(rounds)),
+            LineWord::Bytes(b"messages"),
+            LineWord::Number(u64::from(nodes) * u64::from(rounds)),
+            LineWord::Bytes(b"sum"),
+            LineWord::Signed(sum),
         ],
     )?;
     Ok(text)

@@ -20,7 +20,7 @@ use timed_world::{World, WorldEnd};
 
 /// What is told of a list of events.
 #[derive(Drop)]
-pub enum Told {
+pub enum WorldReport {
     /// All events are within the bounds, and this is the text of their world.
     Whole(Vec<u8>),
     /// The event of this index, from 0, is the first that the bounds do not allow, for this fault,
@@ -37,7 +37,7 @@ pub fn tell_world(
     env: Env,
     rounds: u32,
     events: &[Event],
-) -> Result<Told, NoMemory>
+) -> Result<WorldReport, NoMemory>
     requires some { 1 ≤ rounds }
     requires most { rounds ≤ ROUNDS }
     requires codes { AreCodes (arc_value design) codes }
@@ -55,7 +55,7 @@ fn tell(
     world: &mut World,
     events: &[Event],
     links: &OutLinks,
-) -> Result<Told, NoMemory>
+) -> Result<WorldReport, NoMemory>
     requires opening { IsOpening world.old }
     requires links { AreOutLinks world.old.bus.run.design links.now }
     requires few { length events.now ≤ LIST_ITEMS }
@@ -65,8 +65,8 @@ fn tell(
     let end = tell_events(world, events, links, &mut sent)?;
     world.kept();
     match end {
-        WorldEnd::All => Ok(Told::Whole(finished(alloc, world, sent.as_slice())?)),
-        WorldEnd::At { index, fault } => Ok(Told::Refused { index, fault }),
+        WorldEnd::All => Ok(WorldReport::Whole(finished(alloc, world, sent.as_slice())?)),
+        WorldEnd::At { index, fault } => Ok(WorldReport::Refused { index, fault }),
     }
 }
 

@@ -2,8 +2,8 @@
 use Rattle.std.specs.Prelude.{◌≡◌, ℕ, Bool, true, false, not, List, Option, Some, None, Contains, if◌then◌else◌}
 use Rattle.aadl_tree.specs.declared.declarations.Direction.{Direction}
 use Rattle.aadl_tree.specs.Declarations.{PackageTree}
-use Rattle.aadl_names.specs.declared.site.Site.{Site}
-use Rattle.aadl_names.specs.declared.site.Site.TheVariants.{Own, Inner}
+use Rattle.aadl_names.specs.declared.site.PortPlace.{PortPlace}
+use Rattle.aadl_names.specs.declared.site.PortPlace.TheVariants.{Own, Inner}
 use Rattle.aadl_names.specs.Resolving.{implementation_at, ports_at, direction_in}
 use Rattle.aadl_names.specs.PackageFaults.{goes_in}
 use Rattle.aadl_uses.specs.Uses.{below}
@@ -26,11 +26,11 @@ is_way directions.In goes = goes
 is_way directions.Out goes = not goes
 
 -- the end of a connection at the subcomponent that a port of this direction belongs to, and its other end
-abbrev pub inner_end : Direction → Wire → Option Site
+abbrev pub inner_end : Direction → Wire → Option PortPlace
 inner_end directions.In wire = wire.target
 inner_end directions.Out wire = wire.source
 
-abbrev pub outer_end : Direction → Wire → Option Site
+abbrev pub outer_end : Direction → Wire → Option PortPlace
 outer_end directions.In wire = wire.source
 outer_end directions.Out wire = wire.target
 
@@ -58,12 +58,12 @@ reaches_in ports tree d None port = false
 reaches_in ports tree d (Some n) port = reaches_by ports tree d n port
 
 -- the own port that a connection joins to one that reaches a thread
-abbrev pub joined_inner : List PortAt → PackageTree ℕ → Direction → ℕ → ℕ → Option Site → Option ℕ
+abbrev pub joined_inner : List PortAt → PackageTree ℕ → Direction → ℕ → ℕ → Option PortPlace → Option ℕ
 joined_inner ports tree d n port None = None
 joined_inner ports tree d n port (Some (Own p)) = None
 joined_inner ports tree d n port (Some (Inner s p)) = if reaches_in ports tree d (below tree n s) p then Some port else None
 
-abbrev pub joined_by : List PortAt → PackageTree ℕ → Direction → ℕ → Option Site → Option Site → Option ℕ
+abbrev pub joined_by : List PortAt → PackageTree ℕ → Direction → ℕ → Option PortPlace → Option PortPlace → Option ℕ
 joined_by ports tree d n None inner = None
 joined_by ports tree d n (Some (Inner s p)) inner = None
 joined_by ports tree d n (Some (Own port)) inner = joined_inner ports tree d n port inner

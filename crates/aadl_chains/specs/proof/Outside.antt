@@ -2,8 +2,8 @@
 use Rattle.std.specs.Prelude.{◌≡◌, ◌⊎◌, ℕ, Bool, false, ◌||◌, nat_eq, List, Option, Some, None, Contains, if◌then◌else◌}
 use Rattle.aadl_tree.specs.declared.declarations.Direction.{Direction}
 use Rattle.aadl_tree.specs.Declarations.{PackageTree}
-use Rattle.aadl_names.specs.declared.site.Site.{Site}
-use Rattle.aadl_names.specs.declared.site.Site.TheVariants.{Own, Inner}
+use Rattle.aadl_names.specs.declared.site.PortPlace.{PortPlace}
+use Rattle.aadl_names.specs.declared.site.PortPlace.TheVariants.{Own, Inner}
 use Rattle.aadl_uses.specs.Uses.{below, IsInUse}
 use Rattle.aadl_uses.specs.declared.connections.Wire.{Wire}
 use Rattle.aadl_uses.specs.Wiring.{wires_at}
@@ -27,12 +27,12 @@ pub data LeadsOut (tree : PackageTree ℕ) (root : ℕ) (d : Direction) : ℕ �
       → below tree k s ≡ Some n → below tree k t ≡ Some m → Reaches tree (opposite d) m q → LeadsOut tree root d n port
 
 -- from the end of a connection of an implementation connections lead to a thread or the root
-abbrev pub LeadsFrom : PackageTree ℕ → ℕ → Direction → ℕ → Site → Type 0
+abbrev pub LeadsFrom : PackageTree ℕ → ℕ → Direction → ℕ → PortPlace → Type 0
 LeadsFrom tree root d n (Own port) = LeadsOut tree root d n port
 LeadsFrom tree root d n (Inner s port) = ReachesIn tree (opposite d) n s port
 
 -- ---- as sets of ports have it: those outside, and those inside
-abbrev pub leads_from : List PortAt → List PortAt → PackageTree ℕ → ℕ → Direction → ℕ → Option Site → Bool
+abbrev pub leads_from : List PortAt → List PortAt → PackageTree ℕ → ℕ → Direction → ℕ → Option PortPlace → Bool
 leads_from outside inside tree root d n None = false
 leads_from outside inside tree root d n (Some (Own port)) = nat_eq n root || has outside (port_at n port)
 leads_from outside inside tree root d n (Some (Inner s port)) = reaches_in inside tree (opposite d) (below tree n s) port
@@ -43,7 +43,7 @@ port_below None port = None
 port_below (Some m) port = Some (port_at m port)
 
 -- the port of a subcomponent at one end of a connection
-abbrev pub port_in : PackageTree ℕ → ℕ → Option Site → Option PortAt
+abbrev pub port_in : PackageTree ℕ → ℕ → Option PortPlace → Option PortAt
 port_in tree n None = None
 port_in tree n (Some (Own port)) = None
 port_in tree n (Some (Inner s port)) = port_below (below tree n s) port
@@ -70,7 +70,7 @@ pub record IsLed (tree : PackageTree ℕ) (root : ℕ) (d : Direction) (inside :
 pub record AreLed (tree : PackageTree ℕ) (root : ℕ) (d : Direction) (n : ℕ) (old new : List PortAt) : Type 0 where
   pub kept : (port : PortAt) → Contains old port → Contains new port
   pub sound : AreLeading tree root d old → AreLeading tree root d new
-  pub complete : HasLeading tree root d old n → (wire : Wire) (s port m : ℕ) (site : Site) → Contains (wires_at tree n) wire
+  pub complete : HasLeading tree root d old n → (wire : Wire) (s port m : ℕ) (site : PortPlace) → Contains (wires_at tree n) wire
       → inner_end d wire ≡ Some (Inner s port) → outer_end d wire ≡ Some site
       → below tree n s ≡ Some m → LeadsFrom tree root d n site → Contains new (port_at m port)
 

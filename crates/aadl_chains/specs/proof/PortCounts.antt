@@ -3,7 +3,7 @@ use Rattle.std.specs.Prelude.{◌≡◌, ℕ, ◌<◌, false, ◌+◌, min, List
 use Rattle.std.specs.Map.{lookup}
 use Rattle.std.specs.Option.{option_map_or}
 use Rattle.aadl_tree.specs.Declarations.{PackageTree}
-use Rattle.aadl_names.specs.declared.site.Site.TheVariants.{Own, Inner}
+use Rattle.aadl_names.specs.declared.site.PortPlace.TheVariants.{Own, Inner}
 use Rattle.aadl_uses.specs.Uses.{below}
 use Rattle.aadl_uses.specs.declared.connections.Wire.{Wire}
 use Rattle.aadl_uses.specs.Wiring.{wires_at}

@@ -1,24 +1,24 @@
 -- What is known of the connections of a package in which line 2 finds nothing.
 use Rattle.std.specs.Prelude.{◌≡◌, ℕ, true, false, [], Some, Contains}
 use Rattle.aadl_tree.specs.Declarations.{PackageTree}
-use Rattle.aadl_names.specs.declared.site.Site.{Site}
-use Rattle.aadl_names.specs.declared.site.Site.TheVariants.{Own, Inner}
+use Rattle.aadl_names.specs.declared.site.PortPlace.{PortPlace}
+use Rattle.aadl_names.specs.declared.site.PortPlace.TheVariants.{Own, Inner}
 use Rattle.aadl_uses.specs.Uses.{below}
 use Rattle.aadl_uses.specs.declared.connections.Wire.{Wire}
 use Rattle.aadl_uses.specs.Wiring.{wires_at}
 use Rattle.aadl_chains.specs.proof.Inside.{is_thread_at, is_in_at}
 
 -- connections go out of own in ports and out ports of subcomponents
-abbrev pub MayLeave : PackageTree ℕ → ℕ → Site → Type 0
+abbrev pub MayLeave : PackageTree ℕ → ℕ → PortPlace → Type 0
 MayLeave tree n (Own p) = is_in_at tree n p ≡ true
 MayLeave tree n (Inner s p) = (m : ℕ) × (below tree n s ≡ Some m) × (is_in_at tree m p ≡ false)
 
 -- and into own out ports and in ports of subcomponents
-abbrev pub MayEnter : PackageTree ℕ → ℕ → Site → Type 0
+abbrev pub MayEnter : PackageTree ℕ → ℕ → PortPlace → Type 0
 MayEnter tree n (Own p) = is_in_at tree n p ≡ false
 MayEnter tree n (Inner s p) = (m : ℕ) × (below tree n s ≡ Some m) × (is_in_at tree m p ≡ true)
 
-abbrev pub NotBothOwn : Site → Site → Type 0
+abbrev pub NotBothOwn : PortPlace → PortPlace → Type 0
 NotBothOwn (Own p) (Own q) = ⊥
 NotBothOwn (Own p) (Inner s q) = Unit {0}
 NotBothOwn (Inner s p) (Own q) = Unit {0}
@@ -26,8 +26,8 @@ NotBothOwn (Inner s p) (Inner t q) = Unit {0}
 
 -- both ends of a connection are declared, and it may go from the one to the other
 pub record IsDeclared (tree : PackageTree ℕ) (n : ℕ) (wire : Wire) : Type 0 where
-  pub source : Site
-  pub target : Site
+  pub source : PortPlace
+  pub target : PortPlace
   pub source_is : wire.source ≡ Some source
   pub target_is : wire.target ≡ Some target
   pub leaves : MayLeave tree n source

@@ -1,18 +1,18 @@
 -- What is known of the connections of a package in which lines 2 and 4 find nothing.
 use Rattle.std.specs.Prelude.{◌≡◌, ℕ, true, List, Some, slice_get}
 use Rattle.aadl_tree.specs.Declarations.{Connection, Implementation, PackageTree}
-use Rattle.aadl_names.specs.declared.site.Site.{Site}
+use Rattle.aadl_names.specs.declared.site.PortPlace.{PortPlace}
 use Rattle.aadl_names.specs.Resolving.{implementation_at, is_thread, site}
 use Rattle.aadl_uses.specs.Uses.{IsInUse}
 use Rattle.aadl_chains.specs.Chains.{Port, Place, Leads, IsStart}
 use Rattle.aadl_chains.specs.proof.Sound.{MayEnter}
 
 pub record IsSound (tree : PackageTree ℕ) (root : ℕ) : Type 0 where
-  pub one_source : (n i j : ℕ) (component : Implementation ℕ) (x y : Connection ℕ) (target : Site) → IsInUse tree root n
+  pub one_source : (n i j : ℕ) (component : Implementation ℕ) (x y : Connection ℕ) (target : PortPlace) → IsInUse tree root n
       → implementation_at tree n ≡ Some component
       → slice_get component.connections i ≡ Some x → slice_get component.connections j ≡ Some y → site tree component x.target ≡ Some target
       → site tree component y.target ≡ Some target → i ≡ j
-  pub enters : (n i : ℕ) (component : Implementation ℕ) (x : Connection ℕ) (target : Site) → implementation_at tree n ≡ Some component
+  pub enters : (n i : ℕ) (component : Implementation ℕ) (x : Connection ℕ) (target : PortPlace) → implementation_at tree n ≡ Some component
       → slice_get component.connections i ≡ Some x
       → site tree component x.target ≡ Some target → MayEnter tree n target
   pub threads : (n i : ℕ) (component : Implementation ℕ) (x : Connection ℕ) → implementation_at tree n ≡ Some component

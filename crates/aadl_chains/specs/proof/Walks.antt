@@ -1,11 +1,11 @@
 -- The walk back from an in port: from one component up to the next around it, until a connection between two subcomponents, or the root.
 use Rattle.std.specs.Prelude.{◌≡◌, ℕ, true, List, [], ◌∷◌, Option, Some, None}
 use Rattle.aadl_tree.specs.Declarations.{PackageTree}
-use Rattle.aadl_names.specs.declared.site.Site.{Site}
-use Rattle.aadl_names.specs.declared.site.Site.TheVariants.{Own, Inner}
+use Rattle.aadl_names.specs.declared.site.PortPlace.{PortPlace}
+use Rattle.aadl_names.specs.declared.site.PortPlace.TheVariants.{Own, Inner}
 use Rattle.aadl_uses.specs.Uses.{standing, IsInUse}
 use Rattle.aadl_uses.specs.Threads.{IsThreadAt}
-use Rattle.aadl_uses.specs.Firsts.{target_in}
+use Rattle.aadl_uses.specs.FirstConnections.{target_in}
 use Rattle.aadl_uses.specs.Wiring.{wires_at}
 use Rattle.aadl_uses.specs.proof.Wiring.{into}
 use Rattle.aadl_chains.specs.Chains.{Port, is_in}
@@ -24,11 +24,11 @@ pub data Climb : Type 0 where
   at_root : Option ℕ → ℕ → Climb
   crosses : Crossing → Climb
 
-abbrev pub climb_by : (ℕ → ℕ → Climb) → List ℕ → ℕ → ℕ → Site → Climb
+abbrev pub climb_by : (ℕ → ℕ → Climb) → List ℕ → ℕ → ℕ → PortPlace → Climb
 climb_by up path n k (Own q) = up k q
 climb_by up path n k (Inner t p) = crosses (record { path = path; declaration = n; connection = k; sub = t; port = p })
 
-abbrev pub climb_along : (ℕ → ℕ → Climb) → List ℕ → ℕ → Option (ℕ × Site) → Climb
+abbrev pub climb_along : (ℕ → ℕ → Climb) → List ℕ → ℕ → Option (ℕ × PortPlace) → Climb
 climb_along up path n None = nowhere
 climb_along up path n (Some from) = climb_by up path n from.0 from.1
 
@@ -43,7 +43,7 @@ climb tree root last (s ∷ path) port = climb_into tree (λ k q. climb tree roo
 
 -- at most one connection of an implementation in use goes into a port
 abbrev pub OneEach : PackageTree ℕ → ℕ → Type 0
-OneEach tree root = (n i j : ℕ) (target : Site) → IsInUse tree root n → target_in (wires_at tree n) i ≡ Some target
+OneEach tree root = (n i j : ℕ) (target : PortPlace) → IsInUse tree root n → target_in (wires_at tree n) i ≡ Some target
     → target_in (wires_at tree n) j ≡ Some target → i ≡ j
 
 -- an in port of a thread

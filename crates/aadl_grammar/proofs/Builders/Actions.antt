@@ -4,7 +4,7 @@ use Rattle.aadl_tree.specs.Actions as a
 use Rattle.aadl_grammar.specs.proof.Symbols as s
 use Rattle.aadl_grammar.specs.proof.Table.{rows}
 use Rattle.aadl_grammar.proofs.Derived.Trees.{act, more_of}
-use Rattle.aadl_grammar.proofs.Derived.Rows.{Builders, Joins, behind_builders}
+use Rattle.aadl_grammar.proofs.Derived.RowTrees.{Builders, Joins, behind_builders}
 
 abbrev pub test_builders : Builders s.test (rows s.test)
 test_builders = ((λ w ts. ts.0), tt)

@@ -7,7 +7,7 @@ use Rattle.aadl_grammar.specs.proof.Symbols.{Symbol}
 use Rattle.aadl_grammar.specs.proof.Symbols as s
 use Rattle.aadl_grammar.specs.proof.Table.{rows, can_omit}
 use Rattle.aadl_grammar.proofs.Derived.Trees.{U, TreeOf}
-use Rattle.aadl_grammar.proofs.Derived.Rows.{Builders}
+use Rattle.aadl_grammar.proofs.Derived.RowTrees.{Builders}
 use Rattle.aadl_grammar.proofs.Builders.Values.{only_builders, identifier_builders, name_builders, names_builders, path_builders, paths_builders, more_identifiers_builders, reference_builders, dot_identifier_builders, figure_builders, unit_builders, quantity_builders, upper_builders, value_builders, path_group_builders, reference_group_builders, values_builders, more_values_builders, operator_builders, constant_builders, applies_builders, more_paths_builders, association_builders, associations_builders, properties_builders}
 use Rattle.aadl_grammar.proofs.Builders.Expressions.{primary_builders, fresh_builders, factor_builders, term_builders, factors_builders, sum_builders, terms_builders, compared_builders, relation_builders, relations_builders, after_and_builders, after_or_builders, expression_builders}
 use Rattle.aadl_grammar.proofs.Builders.Actions.{test_builders, whole_number_builders, bound_builders, after_target_builders, loop_head_builders, action_builders, actions_builders, mores_builders, after_semicolon_builders, elsifs_builders, otherwise_builders, end_if_builders, closing_if_builders, block_builders, body_builders}

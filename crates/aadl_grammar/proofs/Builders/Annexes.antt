@@ -4,7 +4,7 @@ use Rattle.aadl_tree.specs.Annexes as x
 use Rattle.aadl_grammar.specs.proof.Symbols as s
 use Rattle.aadl_grammar.specs.proof.Table.{rows}
 use Rattle.aadl_grammar.proofs.Derived.Trees.{id, transition_of}
-use Rattle.aadl_grammar.proofs.Derived.Rows.{Builders, Joins, behind_builders}
+use Rattle.aadl_grammar.proofs.Derived.RowTrees.{Builders, Joins, behind_builders}
 use Rattle.aadl_grammar.proofs.Builders.Expressions.{expression_builders}
 use Rattle.aadl_grammar.proofs.Builders.Actions.{block_builders}
 

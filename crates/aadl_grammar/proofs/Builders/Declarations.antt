@@ -6,7 +6,7 @@ use Rattle.aadl_tree.specs.Values as v
 use Rattle.aadl_grammar.specs.proof.Symbols as s
 use Rattle.aadl_grammar.specs.proof.Table.{rows}
 use Rattle.aadl_grammar.proofs.Derived.Trees.{id, type_rest, implementation_rest, declaration_of}
-use Rattle.aadl_grammar.proofs.Derived.Rows.{Builders, Joins, behind_builders}
+use Rattle.aadl_grammar.proofs.Derived.RowTrees.{Builders, Joins, behind_builders}
 use Rattle.aadl_grammar.proofs.Builders.Values.{reference_builders, association_builders}
 
 abbrev pub direction_builders : Builders s.direction (rows s.direction)

@@ -8,7 +8,7 @@ use Rattle.aadl_tree.specs.Expressions as e
 use Rattle.aadl_grammar.specs.proof.Symbols as s
 use Rattle.aadl_grammar.specs.proof.Table.{rows}
 use Rattle.aadl_grammar.proofs.Derived.Trees.{id, relation_of, and_join, or_join}
-use Rattle.aadl_grammar.proofs.Derived.Rows.{Builders, Joins, behind_builders}
+use Rattle.aadl_grammar.proofs.Derived.RowTrees.{Builders, Joins, behind_builders}
 
 abbrev pub primary_builders : Builders s.primary (rows s.primary)
 primary_builders = ((λ w ts. e.number tt w), ((λ w ts. e.truth tt true), ((λ w ts. e.truth tt false), ((λ w ts. e.named (id w) ts.0), ((λ w ts. e.group tt ts.0), tt)))))

@@ -8,7 +8,7 @@ use Rattle.aadl_grammar.specs.proof.Symbols as s
 use Rattle.aadl_grammar.specs.proof.Table.{rows}
 use Rattle.aadl_grammar.proofs.Derived.Trees.{id}
 use Rattle.aadl_grammar.proofs.Derived.References.{reference_of}
-use Rattle.aadl_grammar.proofs.Derived.Rows.{Builders, Joins, behind_builders}
+use Rattle.aadl_grammar.proofs.Derived.RowTrees.{Builders, Joins, behind_builders}
 
 abbrev pub only_builders : (m : Mark) → Builders (s.only m) (rows (s.only m))
 only_builders m = ((λ w ts. tt), tt)

@@ -5,7 +5,7 @@ use Rattle.aadl_tree.specs.Kinds.{Kind, word}
 use Rattle.aadl_tree.specs.Parts.{Part, Spells, parts_if, behind}
 use Rattle.aadl_tree.specs.Names as n
 use Rattle.aadl_grammar.proofs.Derived.Trees.{U, id}
-use Rattle.aadl_grammar.proofs.Derived.Rows.{respell}
+use Rattle.aadl_grammar.proofs.Derived.RowTrees.{respell}
 
 -- all but the last, and the last
 abbrev before_last : {A : Type 0} → A → List A → List A

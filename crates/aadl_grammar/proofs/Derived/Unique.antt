@@ -9,7 +9,7 @@ use Rattle.aadl_grammar.proofs.Derived.Tails.{among, firsts, distinct, distinct_
 use Rattle.aadl_grammar.proofs.Derived.Settled.{Clear, firsts_in_tail}
 use Rattle.aadl_grammar.proofs.Derived.Derivations.{Member, begins, clear_taken}
 use Rattle.aadl_grammar.proofs.Derived.Trees.{kind_with, TreeOf, Trees, parts_all}
-use Rattle.aadl_grammar.proofs.Derived.Rows.{split_first, follow_all, front, back, joined, front_joined, back_joined, Builders, Uses, InRows}
+use Rattle.aadl_grammar.proofs.Derived.RowTrees.{split_first, follow_all, front, back, joined, front_joined, back_joined, Builders, Uses, InRows}
 use Rattle.aadl_grammar.proofs.Builders.All.{builders, Empty, empty}
 use Rattle.aadl_grammar.proofs.Derived.Contents.{number_of, same_content}
 use Rattle.aadl_grammar.proofs.Opens.All.{Omitted, Opened, opens}

@@ -9,7 +9,7 @@ use Rattle.aadl_tree.specs.Expressions as e
 use Rattle.aadl_grammar.specs.proof.Symbols as s
 use Rattle.aadl_grammar.specs.proof.Table.{rows}
 use Rattle.aadl_grammar.proofs.Derived.Trees.{U, compared_parts, relation_of, after_parts, and_join, or_join}
-use Rattle.aadl_grammar.proofs.Derived.Rows.{AllGive, behind_give}
+use Rattle.aadl_grammar.proofs.Derived.RowTrees.{AllGive, behind_give}
 use Rattle.aadl_grammar.proofs.Builders.Expressions.{primary_builders, fresh_builders, factor_builders, factor_joins, term_builders, term_joins, factors_builders, sum_builders, sum_joins, terms_builders, compared_builders, relation_builders, relation_joins, relations_builders, after_and_builders, after_and_joins, after_or_builders, after_or_joins, expression_builders, expression_joins}
 
 relation_same : (u : e.Sum U) (c : Option (RelationOperator × e.Sum U)) → e.sum_parts u ++ compared_parts c ≡ e.relation_parts (relation_of u c)

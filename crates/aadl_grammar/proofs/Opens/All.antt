@@ -6,7 +6,7 @@ use Rattle.aadl_grammar.specs.proof.Symbols.{Symbol}
 use Rattle.aadl_grammar.specs.proof.Symbols as s
 use Rattle.aadl_grammar.specs.proof.Table.{rows, can_omit}
 use Rattle.aadl_grammar.proofs.Derived.Trees.{U, TreeOf, parts}
-use Rattle.aadl_grammar.proofs.Derived.Rows.{AllGive, InRows, uses}
+use Rattle.aadl_grammar.proofs.Derived.RowTrees.{AllGive, InRows, uses}
 use Rattle.aadl_grammar.proofs.Builders.All.{builders, Empty, empty}
 use Rattle.aadl_grammar.proofs.Gives.Values.{only_give, identifier_give, name_give, names_give, path_give, paths_give, more_identifiers_give, reference_give, dot_identifier_give, figure_give, unit_give, quantity_give, upper_give, value_give, path_group_give, reference_group_give, values_give, more_values_give, operator_give, constant_give, applies_give, more_paths_give, association_give, associations_give, properties_give}
 use Rattle.aadl_grammar.proofs.Gives.Expressions.{primary_give, fresh_give, factor_give, term_give, factors_give, sum_give, terms_give, compared_give, relation_give, relations_give, after_and_give, after_or_give, expression_give}

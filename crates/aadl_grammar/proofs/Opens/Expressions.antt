@@ -13,7 +13,7 @@ use Rattle.aadl_tree.specs.Expressions as e
 use Rattle.aadl_grammar.specs.proof.Symbols as s
 use Rattle.aadl_grammar.specs.proof.Table.{rows}
 use Rattle.aadl_grammar.proofs.Derived.Trees.{U, parts}
-use Rattle.aadl_grammar.proofs.Derived.Rows.{respell, InRows, behind_opens, uses, Opens, OpensOr}
+use Rattle.aadl_grammar.proofs.Derived.RowTrees.{respell, InRows, behind_opens, uses, Opens, OpensOr}
 use Rattle.aadl_grammar.proofs.Builders.Expressions.{primary_builders, fresh_builders, factor_builders, factor_joins, term_builders, term_joins, factors_builders, sum_builders, sum_joins, terms_builders, compared_builders, relation_builders, relation_joins, relations_builders, after_and_builders, after_and_joins, after_or_builders, after_or_joins, expression_builders, expression_joins}
 
 pub primary_opens : Opens s.primary primary_builders

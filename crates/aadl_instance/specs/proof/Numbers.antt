@@ -4,7 +4,7 @@ use Rattle.aadl_tree.specs.declared.declarations.Direction.{Direction}
 use Rattle.aadl_tree.specs.Declarations.{Feature, PackageTree}
 use Rattle.aadl_names.specs.Resolving.{features_of, type_numbered}
 use Rattle.aadl_instance.specs.Instances.{number_among}
-use Rattle.aadl_instance.specs.declared.numbers.Seen.{Seen}
+use Rattle.aadl_instance.specs.declared.numbers.SeenPorts.{SeenPorts}
 use Rattle.aadl_tree.specs.declared.declarations.Direction.TheVariants as directions
 
 -- the row of the type of a number, and none without a type
@@ -25,10 +25,10 @@ AreNumbers tree rows = (of_type : Option ℕ) → AreAmong (features_of (type_nu
 
 -- ---- as they are counted
 -- how many go so
-abbrev pub seen : Seen → Direction → ℕ
+abbrev pub seen : SeenPorts → Direction → ℕ
 seen s directions.In = s.inward
 seen s directions.Out = s.outward
 
-abbrev pub with_port : Seen → Direction → Seen
+abbrev pub with_port : SeenPorts → Direction → SeenPorts
 with_port s directions.In = record s { inward = s.inward + 1 }
 with_port s directions.Out = record s { outward = s.outward + 1 }

@@ -4,21 +4,21 @@ use Rattle.std.specs.Option.{option_map_or}
 use Rattle.pals_base.specs.declared.limits.TheConstants.{PORTS, VARIABLES, STATES}
 use Rattle.aadl_tree.specs.Declarations.{Implementation, PackageTree}
 use Rattle.aadl_names.specs.Resolving.{implementation_at, is_thread, ports_of}
-use Rattle.aadl_instance.specs.declared.thread_parts.Part.{Part}
-use Rattle.aadl_instance.specs.declared.thread_parts.Part.TheVariants.{Ports, Variables, States}
+use Rattle.aadl_instance.specs.declared.thread_parts.ThreadPart.{ThreadPart}
+use Rattle.aadl_instance.specs.declared.thread_parts.ThreadPart.TheVariants.{Ports, Variables, States}
 use Rattle.aadl_instance.specs.Parts.{state_count, variable_count}
 
-abbrev pub count_of : PackageTree ℕ → Implementation ℕ → Part → ℕ
+abbrev pub count_of : PackageTree ℕ → Implementation ℕ → ThreadPart → ℕ
 count_of tree x Ports = length (ports_of tree x)
 count_of tree x Variables = variable_count x
 count_of tree x States = state_count x
 
-abbrev pub most : Part → ℕ
+abbrev pub most : ThreadPart → ℕ
 most Ports = PORTS
 most Variables = VARIABLES
 most States = STATES
 
-abbrev pub count_at : PackageTree ℕ → ℕ → Part → ℕ
+abbrev pub count_at : PackageTree ℕ → ℕ → ThreadPart → ℕ
 count_at tree n part = option_map_or (λ x. count_of tree x part) (implementation_at tree n) 0
 
 -- ---- threads that are in use
@@ -28,7 +28,7 @@ pub record IsUsedThread (tree : PackageTree ℕ) (used : List ℕ) (n : ℕ) (x 
   pub thread : is_thread x.category ≡ true
 
 -- some of them has more of something than a thread may have
-pub record HasTooMany (tree : PackageTree ℕ) (used : List ℕ) (part : Part) : Type 0 where
+pub record HasTooMany (tree : PackageTree ℕ) (used : List ℕ) (part : ThreadPart) : Type 0 where
   pub number : ℕ
   pub component : Implementation ℕ
   pub used_thread : IsUsedThread tree used number component

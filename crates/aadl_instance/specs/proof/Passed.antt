@@ -19,10 +19,10 @@ use Rattle.aadl_instance.specs.declared.parts.Chain.{Chain}
 use Rattle.aadl_instance.specs.declared.build.Incoming.{Incoming}
 use Rattle.aadl_instance.specs.declared.parts.ChainEnd.{ChainEnd}
 use Rattle.aadl_chains.specs.proof.Routes.{begin_port}
-use Rattle.aadl_chains.specs.declared.walks.Begin.{Begin}
-use Rattle.aadl_chains.specs.declared.walks.Route.{Route}
+use Rattle.aadl_chains.specs.declared.walks.ChainStart.{ChainStart}
+use Rattle.aadl_chains.specs.declared.walks.ChainRoute.{ChainRoute}
 use Rattle.aadl_instance.specs.Instances.{end_in, chain_in}
-use Rattle.aadl_chains.specs.declared.walks.Begin.TheVariants as begins
+use Rattle.aadl_chains.specs.declared.walks.ChainStart.TheVariants as begins
 
 -- paths, the innermost subcomponent first
 abbrev pub paths_of : List (Vec ℕ Global) → List (List ℕ)
@@ -50,7 +50,7 @@ abbrev pub HasPort : PackageTree ℕ → ℕ → Port → Type 0
 HasPort tree root p = p.port < length (ports_at tree (component_at tree root p.path))
 
 -- a port of the root or of a thread
-abbrev pub IsBegin : PackageTree ℕ → ℕ → Begin → Type 0
+abbrev pub IsBegin : PackageTree ℕ → ℕ → ChainStart → Type 0
 IsBegin tree root (begins.Root port) = HasPort tree root (record { path = []; port = port })
 IsBegin tree root (begins.Thread path port) =
     IsThreadAt tree root (reverse path.items) × HasPort tree root (record { path = reverse path.items; port = port })
@@ -69,12 +69,12 @@ abbrev pub AreTapsTo : PackageTree ℕ → ℕ → List (List ℕ) → ℕ → L
 AreTapsTo tree root paths port taps = AreShown tree root paths (λ ends. IsTap tree root ends × (ends.to.port < port)) PortBefore taps
 
 -- ---- one more
-abbrev pub with_chain : Incoming → Begin → Chain → Incoming
+abbrev pub with_chain : Incoming → ChainStart → Chain → Incoming
 with_chain incoming (begins.Root port) chain = record incoming { feeds = incoming.feeds ++ chain ∷ [] }
 with_chain incoming (begins.Thread path port) chain = record incoming { links = incoming.links ++ chain ∷ [] }
 
 -- the chain that a route shows, with the end to which it leads
-abbrev pub chain_by : PackageTree ℕ → ℕ → List (List ℕ) → Route → ChainEnd → Chain
+abbrev pub chain_by : PackageTree ℕ → ℕ → List (List ℕ) → ChainRoute → ChainEnd → Chain
 chain_by tree root paths route to =
     record {
       from = end_in tree root paths (begin_port route.begin);

@@ -1,7 +1,7 @@
 -- What is known of a package in which nothing is found.
 use Rattle.std.specs.Prelude.{◌≡◌, ◌↔◌, ℕ, [], Contains, Option, Some, None}
 use Rattle.aadl_tree.specs.Declarations.{PackageTree}
-use Rattle.aadl_names.specs.declared.fault.FlatFault.{FlatFault}
+use Rattle.aadl_names.specs.declared.fault.PackageFault.{PackageFault}
 use Rattle.aadl_names.specs.Findings.{IsFirstByLine}
 use Rattle.aadl_names.specs.PackageFaults.{package_faults}
 use Rattle.aadl_uses.specs.proof.Uses.{containment}
@@ -16,14 +16,14 @@ pub record IsOrdered (tree : PackageTree ℕ) (checked : Checked) : Type 0 where
   pub order : IsOrder (containment tree) checked.order.keys
   pub used : (n : ℕ) → Contains checked.used.keys n ↔ IsInUse tree checked.root n
   pub names : package_faults tree checked.root ≡ []
-  pub recursion : (fault : FlatFault) → IsRecursive tree fault → ⊥
+  pub recursion : (fault : PackageFault) → IsRecursive tree fault → ⊥
 
 -- and nothing at all is
 pub record IsChecked (tree : PackageTree ℕ) (checked : Checked) : Type 0 where
   pub ordered : IsOrdered tree checked
-  pub silent : (line : ℕ) (fault : FlatFault) → FoundIn tree checked.root line fault → ⊥
+  pub silent : (line : ℕ) (fault : PackageFault) → FoundIn tree checked.root line fault → ⊥
 
 -- the first fault, or that there is none
-abbrev pub FindsFault : PackageTree ℕ → Checked → Option FlatFault → Type 0
+abbrev pub FindsFault : PackageTree ℕ → Checked → Option PackageFault → Type 0
 FindsFault tree checked None = IsChecked tree checked
 FindsFault tree checked (Some fault) = IsFirstByLine (FoundIn tree checked.root) fault

@@ -7,7 +7,7 @@ use Rattle.aadl_tree.specs.Kinds.{spots}
 use Rattle.aadl_grammar.specs.proof.Machine.{depth}
 use Rattle.aadl_grammar.specs.proof.Reading.{here}
 use Rattle.aadl_grammar.specs.proof.Terminals.{spots_of}
-use Rattle.aadl_grammar.proofs.Firsts.{spots_past}
+use Rattle.aadl_grammar.proofs.FirstTerminals.{spots_past}
 use Rattle.aadl_parse.specs.ParsedText.{IsFaultOfText, of_parse}
 use Rattle.aadl_parse.specs.proof.Rests.{package_of}
 use Rattle.aadl_parse.proofs.Verdicts.{at_fault, left_fault, at_tree, only_one, residual, some_left}

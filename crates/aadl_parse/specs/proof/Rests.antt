@@ -12,9 +12,9 @@ use Rattle.aadl_tree.specs.proof.Maps.{kept_place}
 use Rattle.aadl_parse.specs.declared.declarations.TypeRest.{TypeRest}
 use Rattle.aadl_parse.specs.declared.declarations.ImplementationRest.{ImplementationRest}
 use Rattle.aadl_parse.specs.declared.declarations.PackageParts.{PackageParts}
-use Rattle.aadl_parse.specs.declared.declarations.Rest.{Rest}
+use Rattle.aadl_parse.specs.declared.declarations.DeclarationRest.{DeclarationRest}
 use Rattle.aadl_tree.specs.declared.mark.Mark.TheVariants as k
-use Rattle.aadl_parse.specs.declared.declarations.Rest.TheVariants as rests
+use Rattle.aadl_parse.specs.declared.declarations.DeclarationRest.TheVariants as rests
 
 abbrev pub type_rest_parts : TypeRest → List (Part ℕ)
 type_rest_parts x =
@@ -30,7 +30,7 @@ implementation_rest_parts x =
     ++ (section_parts property_section (associations_parts (associations_view kept_place x.properties.items))
     ++ (flat_map annex_parts (map (annex_view kept_place) x.annexes.items) ++ ending_parts (implementation_name_parts (implementation_name_view kept_place x.end_name)))))))
 
-abbrev pub rest_parts : Rest → List (Part ℕ)
+abbrev pub rest_parts : DeclarationRest → List (Part ℕ)
 rest_parts (rests.Type x) = type_rest_parts x
 rest_parts (rests.Implementation x) = implementation_rest_parts x
 

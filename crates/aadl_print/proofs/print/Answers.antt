@@ -4,5 +4,7 @@ use Rattle.aadl_print.proofs.print.Goals as goal
 
 pub returns : goal.returns
 returns c =
-    let whole = finished c.new-printer.result c.print_package.new.printer (meaning c.args.tree.now) c.new-printer.ensures c.in_ok-print_package.ensures in
+    let whole =
+    finished c.new-printer.result c.print_package.new.printer (meaning c.args.tree.now) c.new-printer.ensures
+    c.in_ok-print_package.ensures in
     rw whole at c.finish.ensures

@@ -4,20 +4,20 @@ use Rattle.aadl_tree.specs.Kinds.{Kind}
 use Rattle.aadl_tree.specs.declared.mark.Mark.{Mark}
 use Rattle.aadl_tree.specs.Parts.{Part, token, may, plain}
 use Rattle.aadl_tree.specs.Canon.{kind_text, holds_left, holds_right, ends_line, line_end}
-use Rattle.aadl_print.specs.declared.gap.Gap.{Gap}
-use Rattle.aadl_print.specs.declared.gap.Gap.TheVariants.{Nothing, Space, LineEnd}
+use Rattle.aadl_print.specs.declared.gap.Spacing.{Spacing}
+use Rattle.aadl_print.specs.declared.gap.Spacing.TheVariants.{Nothing, Space, LineEnd}
 
 -- The text of some terminals, and what stands behind the last of them where the next one lets it.
 pub record Printed : Type 0 where
   pub text : List ℕ
-  pub gap : Gap
+  pub gap : Spacing
 
-abbrev pub gap_text : Gap → List ℕ
+abbrev pub gap_text : Spacing → List ℕ
 gap_text Nothing = []
 gap_text Space = codes " "
 gap_text LineEnd = line_end
 
-abbrev pub gap_behind : Kind → Gap
+abbrev pub gap_behind : Kind → Spacing
 gap_behind kind = if holds_right kind then Nothing else if ends_line kind then LineEnd else Space
 
 -- before the first terminal

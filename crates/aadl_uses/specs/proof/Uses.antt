@@ -1,14 +1,14 @@
 -- The first of what is found, and the numbers that subcomponents name.
 use Rattle.std.specs.Prelude.{ℕ, List, map, Option, Some, None}
 use Rattle.aadl_tree.specs.Declarations.{Implementation, Declaration, PackageTree}
-use Rattle.aadl_names.specs.declared.fault.FlatFault.{FlatFault}
+use Rattle.aadl_names.specs.declared.fault.PackageFault.{PackageFault}
 use Rattle.aadl_names.specs.Findings.{IsFirst}
 use Rattle.aadl_names.specs.Resolving.{implementation_in, subcomponents_of, referred}
 use Rattle.aadl_uses.specs.proof.Graphs.{Graph}
 
 -- the first of what is found, or none where nothing is
-abbrev pub FirstIn : (FlatFault → Type 0) → Option FlatFault → Type 0
-FirstIn Found None = (fault : FlatFault) → Found fault → ⊥
+abbrev pub FirstIn : (PackageFault → Type 0) → Option PackageFault → Type 0
+FirstIn Found None = (fault : PackageFault) → Found fault → ⊥
 FirstIn Found (Some fault) = IsFirst Found fault
 
 -- ---- the numbers that subcomponents name

@@ -6,7 +6,7 @@ use Rattle.pals_base.specs.declared.behaviour.BehaviourParts.{BehaviourParts}
 use Rattle.pals_base.specs.Tree.{Edge}
 use Rattle.pals_base.specs.Fire.{is_complete}
 use Rattle.pals_base.specs.Steps.{upwards}
-use Rattle.annex_resolve.specs.declared.cycles.Table.{Table}
+use Rattle.annex_resolve.specs.declared.cycles.Reachability.{Reachability}
 use Rattle.annex_resolve.specs.CycleRules.{reaches}
 
 -- what a state reaches, with none but states below k in between
@@ -17,7 +17,7 @@ abbrev pub table_of : ℕ → BehaviourParts → List (List Bool)
 table_of k b = map (row_of k b) (upwards 0 (length b.states))
 
 -- the table of a behaviour
-abbrev pub IsTable : BehaviourParts → Table → Type 0
+abbrev pub IsTable : BehaviourParts → Reachability → Type 0
 IsTable b table = table.rows ≡ table_of table.between b
 
 abbrev pub cell_in : Option (List Bool) → ℕ → Bool

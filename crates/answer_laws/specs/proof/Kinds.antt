@@ -8,7 +8,7 @@ use Rattle.pals_model.specs.declared.design.DesignParts.{DesignParts}
 use Rattle.pals_model.specs.Composition.{state, msg, part}
 use Rattle.pals_model.specs.Ports.{out_kind}
 use Rattle.pals_model.specs.proof.FittingValues.{FrameFits, TupleFits, link_kind, EnvFits}
-use Rattle.pals_model.specs.proof.Laws.Kinds.{PartFits}
+use Rattle.pals_model.specs.proof.CompositionLaws.Kinds.{PartFits}
 use Rattle.pals_runs.specs.declared.commands.Command.{Command}
 use Rattle.scenario_json.specs.declared.scenario.Scenario.{Scenario}
 use Rattle.analysis_texts.specs.Voted.{replicated_in, faults_of}

@@ -8,11 +8,11 @@ use Rattle.aadl_tree.specs.proof.NameViews.{identifier_view, reference_view}
 use Rattle.aadl_tree.specs.proof.ExpressionViews.{expression_view}
 use Rattle.aadl_tree.specs.proof.ActionViews.{actions_view, elsifs_view, otherwise_of}
 use Rattle.aadl_tree.specs.proof.Maps.{kept_place}
-use Rattle.behaviour_parse.specs.declared.actions.Head.{Head}
+use Rattle.behaviour_parse.specs.declared.actions.LoopHead.{LoopHead}
 use Rattle.aadl_tree.specs.declared.mark.Mark.TheVariants as k
 
 -- the parentheses of a loop
-abbrev pub head_parts : Head → List (Part ℕ)
+abbrev pub head_parts : LoopHead → List (Part ℕ)
 head_parts x =
     plain k.ParenOpen ∷ (identifier_parts (identifier_view kept_place x.variable) ++ (plain k.Colon ∷ (reference_parts (reference_view kept_place x.data_type) ++ (plain k.In
     ∷ (bound_parts x.low ++ (plain k.Range ∷ (bound_parts x.high ++ plain k.ParenClose ∷ [])))))))

@@ -1,17 +1,17 @@
 -- What a part of a step answers and leaves.
 use Rattle.std.specs.Prelude.{◌≡◌, Bool, true, false, Result, Ok, Err}
 use Rattle.pals_base.specs.declared.values.Trap.{Trap}
-use Rattle.behaviour_sem.specs.declared.stop.Stop.{Stop}
-use Rattle.behaviour_sem.specs.declared.stop.Stop.TheVariants as stop
+use Rattle.behaviour_sem.specs.declared.stop.EarlyEnd.{EarlyEnd}
+use Rattle.behaviour_sem.specs.declared.stop.EarlyEnd.TheVariants as stop
 
 -- it reaches what is meant, or stops by the trap that is meant; every part may stop if there is not enough memory
-abbrev pub Left : {A : Type 0} → Result (Unit {0}) Stop → A → Result A Trap → Type 0
+abbrev pub Left : {A : Type 0} → Result (Unit {0}) EarlyEnd → A → Result A Trap → Type 0
 Left (Ok u) reached meant = meant ≡ Ok reached
 Left (Err (stop.Trapped trap)) reached meant = meant ≡ Err trap
 Left (Err stop.NoMemory) reached meant = Unit {0}
 
 -- it finds a branch and reaches what is meant, or finds none, changes nothing and leaves what is done otherwise
-abbrev pub Chose : {A : Type 0} → Result Bool Stop → A → A → Result A Trap → Result A Trap → Type 0
+abbrev pub Chose : {A : Type 0} → Result Bool EarlyEnd → A → A → Result A Trap → Result A Trap → Type 0
 Chose (Ok true) reached before otherwise meant = meant ≡ Ok reached
 Chose (Ok false) reached before otherwise meant = (meant ≡ otherwise) × (reached ≡ before)
 Chose (Err (stop.Trapped trap)) reached before otherwise meant = meant ≡ Err trap

@@ -1,7 +1,7 @@
 -- What a listing tells of a design and its codes: all that its nodes need to run.
 use Rattle.std.specs.Prelude.{◌≡◌, ℕ, List, length, map, zip, All}
 use Rattle.pals_base.specs.declared.values.Gamma.{Gamma}
-use Rattle.pals_base.specs.declared.behaviour.Named.{Named}
+use Rattle.pals_base.specs.declared.behaviour.PortDecl.{PortDecl}
 use Rattle.pals_base.specs.declared.behaviour.VarDecl.{VarDecl}
 use Rattle.pals_base.specs.declared.behaviour.StateDecl.{StateDecl}
 use Rattle.pals_base.specs.declared.behaviour.BehaviourParts.{BehaviourParts}
@@ -20,8 +20,8 @@ use Rattle.code_listing.specs.Numbers.{AllFit}
 pub record ToldComponent : Type 0 where
   pub path : List ℕ
   pub rate : ℕ
-  pub ins : List Named
-  pub outs : List Named
+  pub ins : List PortDecl
+  pub outs : List PortDecl
   pub vars : List VarDecl
   pub states : List (List ℕ)
   pub initial : ℕ

@@ -9,7 +9,7 @@ use Rattle.aadl_names.specs.Resolving.{implementation_in, connections_of}
 use Rattle.component_checks.specs.declared.carried.Carried.{Carried}
 use Rattle.component_checks.specs.Rates.{adaptor_named}
 use Rattle.component_checks.specs.Threads.{says}
-use Rattle.aadl_names.specs.declared.holder.Property.TheVariants as properties
+use Rattle.aadl_names.specs.declared.holder.PropertyName.TheVariants as properties
 
 abbrev pub adaptor_of : Option (Association ℕ) → Option (Option Adaptor)
 adaptor_of x = option_map adaptor_named (option_and_then (λ a. text_of (association_value a)) x)

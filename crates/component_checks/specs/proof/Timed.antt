@@ -3,7 +3,7 @@ use Rattle.std.specs.Prelude.{ℕ, Bool, List, [], map, codes, Option, Some, Non
 use Rattle.std.specs.Option.{option_and_then, option_or}
 use Rattle.aadl_tree.specs.Values.{Association, Associations}
 use Rattle.aadl_tree.specs.Declarations.{Subcomponent, Declaration, PackageTree}
-use Rattle.aadl_names.specs.declared.holder.Property.TheVariants.{Period, Dispatch}
+use Rattle.aadl_names.specs.declared.holder.PropertyName.TheVariants.{Period, Dispatch}
 use Rattle.aadl_names.specs.Properties.{association_value, reference_of, time_of}
 use Rattle.aadl_names.specs.Resolving.{type_in, implementation_in, subcomponents_of}
 use Rattle.component_checks.specs.declared.timed.Timed.{Timed}

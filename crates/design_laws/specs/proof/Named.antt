@@ -4,7 +4,7 @@ use Rattle.pals_base.specs.Names.{is_word}
 use Rattle.aadl_tree.specs.Names.{Identifier, same_name}
 use Rattle.aadl_tree.specs.Annexes.{AnnexTree}
 use Rattle.aadl_tree.specs.Declarations.{Feature, Subcomponent, TypeDeclaration, Implementation, type, implementation, PackageTree}
-use Rattle.aadl_names.specs.declared.entry.Entry.{Entry}
+use Rattle.aadl_names.specs.declared.entry.SpelledName.{SpelledName}
 use Rattle.aadl_names.specs.Behaviours.{behaviours, variables_of, states_of}
 use Rattle.aadl_names.specs.Resolving.{is_thread, ports_of}
 use Rattle.aadl_names.specs.PackageFaults.{package_faults}
@@ -25,8 +25,8 @@ pub record HasWords (tree : PackageTree ℕ) : Type 0 where
       → slice_get (behaviours x.annexes) 0 ≡ Some b → All IsNamed (states_of b.1)
 
 -- ---- names that differ, whatever the case of their letters
-abbrev pub Differ : List Entry → Type 0
-Differ xs = AllPairs (λ (x y : Entry). same_name x.name y.name ≡ false) xs
+abbrev pub Differ : List SpelledName → Type 0
+Differ xs = AllPairs (λ (x y : SpelledName). same_name x.name y.name ≡ false) xs
 
 -- among the ports, subcomponents and connections of an implementation, and among the ports and variables, and the states, of a thread's
 pub record NamesDiffer (tree : PackageTree ℕ) (x : Implementation ℕ) : Type 0 where

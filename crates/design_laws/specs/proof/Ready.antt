@@ -3,14 +3,14 @@ use Rattle.std.specs.Prelude.{◌≡◌, ℕ, ◌+◌, ◌<◌, ◌≤◌, nat_l
 use Rattle.std.specs.List.{list_all}
 use Rattle.pals_base.specs.declared.behaviour.Kind.{Kind}
 use Rattle.pals_base.specs.declared.behaviour.Kind.TheVariants.{Integer}
-use Rattle.pals_base.specs.declared.behaviour.Named.{Named}
+use Rattle.pals_base.specs.declared.behaviour.PortDecl.{PortDecl}
 use Rattle.pals_base.specs.declared.behaviour.VarDecl.{VarDecl}
 use Rattle.pals_base.specs.declared.behaviour.BehaviourParts.{BehaviourParts}
 use Rattle.pals_base.specs.Rules.{HasNames, has_first}
 use Rattle.aadl_tree.specs.Annexes.{Transition, AnnexTree}
-use Rattle.annex_resolve.specs.declared.behaviour.Values.{Values}
+use Rattle.annex_resolve.specs.declared.behaviour.DeclaredValues.{DeclaredValues}
 use Rattle.annex_resolve.specs.declared.scope.Scope.{Scope}
-use Rattle.annex_resolve.specs.declared.scope.Entry.{Entry}
+use Rattle.annex_resolve.specs.declared.scope.DeclaredName.{DeclaredName}
 use Rattle.annex_resolve.specs.declared.scope.Meaning.{Meaning}
 use Rattle.annex_resolve.specs.declared.scope.Meaning.TheVariants.{InPort, OutPort, Variable, LoopVariable}
 use Rattle.annex_resolve.specs.declared.states.StateAt.{StateAt}
@@ -18,8 +18,8 @@ use Rattle.annex_resolve.specs.Scopes.{entry_named}
 use Rattle.annex_resolve.specs.Behaviours.{state_number, states_of, transitions_of, behaviour_of}
 
 -- ---- what a name stands for is there, and has the name's type
-abbrev pub FitsPort : Option Named → Option Kind → Type 0
-FitsPort port kind = (p : Named) × (port ≡ Some p) × (kind ≡ Some p.kind)
+abbrev pub FitsPort : Option PortDecl → Option Kind → Type 0
+FitsPort port kind = (p : PortDecl) × (port ≡ Some p) × (kind ≡ Some p.kind)
 
 abbrev pub FitsVariable : Option VarDecl → Option Kind → Type 0
 FitsVariable variable kind = (v : VarDecl) × (variable ≡ Some v) × (kind ≡ Some v.kind)
@@ -32,7 +32,7 @@ FitsMeaning b loops (LoopVariable n) kind = (length b.vars ≤ n) × (n < length
 
 -- so each name of a scope, within `loops` loops; the next loop's variable has the number behind all others
 pub record FitsScope (b : BehaviourParts) (loops : ℕ) (scope : Scope) : Type 0 where
-  pub entries : (name : List ℕ) (e : Entry) → entry_named scope name ≡ Some e → FitsMeaning b loops e.meaning e.kind
+  pub entries : (name : List ℕ) (e : DeclaredName) → entry_named scope name ≡ Some e → FitsMeaning b loops e.meaning e.kind
   pub next : scope.next ≡ length b.vars + loops
 
 -- ---- the states of a transition are declared
@@ -40,7 +40,7 @@ abbrev pub is_declared : List StateAt → Transition ℕ → Bool
 is_declared states t = nat_lt (state_number states t.source.spelling) (length states) && nat_lt (state_number states t.target.spelling) (length states)
 
 -- ---- the whole
-pub record IsReady (values : Values) (scope : Scope) (annex : AnnexTree ℕ) : Type 0 where
+pub record IsReady (values : DeclaredValues) (scope : Scope) (annex : AnnexTree ℕ) : Type 0 where
   -- names are words, and differ
   pub names : HasNames (behaviour_of values scope annex)
   -- first values are of their variables' types

@@ -2,11 +2,11 @@
 use Rattle.std.specs.Prelude.{◌≡◌, ◌≢◌, ℕ, ◌+◌, ◌*◌, ◌/◌, ◌<◌, ℤ, ◌≤ℤ◌, List, take, drop, Some, slice_get, Contains}
 use Rattle.pals_base.specs.declared.values.Adaptor.{Adaptor}
 use Rattle.pals_base.specs.declared.values.Adaptor.TheVariants.{Repeat, First, Last, At, Latest, Max, Min, Average}
-use Rattle.pals_base.specs.declared.values.Port.{Port}
-use Rattle.pals_base.specs.declared.values.Port.TheVariants.{Present}
+use Rattle.pals_base.specs.declared.values.PortValue.{PortValue}
+use Rattle.pals_base.specs.declared.values.PortValue.TheVariants.{Present}
 
 -- the group of the source's places, of rate p, that place k of a target of a lower rate q is made of
-abbrev pub group_at : ℕ → ℕ → ℕ → List Port → List Port
+abbrev pub group_at : ℕ → ℕ → ℕ → List PortValue → List PortValue
 group_at p q k tuple = take (p / q) (drop (k * (p / q)) tuple)
 
 -- a spread value stands in place j, from 0, of its m places
@@ -32,25 +32,25 @@ MakesNumber Min = Unit {0}
 MakesNumber Average = Unit {0}
 
 -- some present number of the group is at most v
-abbrev pub IsAboveSome : List Port → ℤ → Type 0
+abbrev pub IsAboveSome : List PortValue → ℤ → Type 0
 IsAboveSome group v = (least : ℤ) × Contains group (Present least) × (least ≤ℤ v)
 
 -- some present number of the group is at least v
-abbrev pub IsBelowSome : List Port → ℤ → Type 0
+abbrev pub IsBelowSome : List PortValue → ℤ → Type 0
 IsBelowSome group v = (greatest : ℤ) × Contains group (Present greatest) × (v ≤ℤ greatest)
 
 -- v is present in the group, and no present number there is less
-pub record IsLeast (group : List Port) (v : ℤ) : Type 0 where
+pub record IsLeast (group : List PortValue) (v : ℤ) : Type 0 where
   pub present : Contains group (Present v)
   pub least : (w : ℤ) → Contains group (Present w) → v ≤ℤ w
 
 -- v is present in the group, and no present number there is greater
-pub record IsGreatest (group : List Port) (v : ℤ) : Type 0 where
+pub record IsGreatest (group : List PortValue) (v : ℤ) : Type 0 where
   pub present : Contains group (Present v)
   pub greatest : (w : ℤ) → Contains group (Present w) → w ≤ℤ v
 
 -- v is present in the group, and no number is present after it
-pub record IsLatest (group : List Port) (v : ℤ) : Type 0 where
+pub record IsLatest (group : List PortValue) (v : ℤ) : Type 0 where
   pub at : ℕ
   pub present : slice_get group at ≡ Some (Present v)
   pub latest : (k : ℕ) (w : ℤ) → at < k → slice_get group k ≢ Some (Present w)

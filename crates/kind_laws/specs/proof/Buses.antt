@@ -1,12 +1,12 @@
 -- The law of the kinds of values in the states of the bus.
 use Rattle.std.specs.Prelude.{◌≡◌, ℕ, List, All, Some, slice_get}
-use Rattle.pals_base.specs.declared.values.Port.{Port}
+use Rattle.pals_base.specs.declared.values.PortValue.{PortValue}
 use Rattle.pals_model.specs.declared.design.Component.{Component}
 use Rattle.pals_model.specs.declared.design.Link.{Link}
 use Rattle.pals_model.specs.declared.flight.FlightCopy.{FlightCopy}
 use Rattle.pals_model.specs.Rules.{IsDesign}
 use Rattle.pals_model.specs.proof.FittingValues.{FrameFits, PortsFit, TupleFits, link_kind, EnvFits}
-use Rattle.pals_model.specs.proof.Laws.Kinds.{PartFits}
+use Rattle.pals_model.specs.proof.CompositionLaws.Kinds.{PartFits}
 use Rattle.bus_machine.specs.Plans.{plan_of}
 use Rattle.bus_machine.specs.Nodes.{Work, job_out}
 use Rattle.bus_machine.specs.NodeEvents.{slot_at}
@@ -24,7 +24,7 @@ pub record BusFits (run : Run) (s : BusState) : Type 0 where
   pub parts : (node : ℕ) (c : Component) → slice_get run.design.components node ≡ Some c
       → All (PartFits run.design node c) (node_at s node).parts
   -- the message in the slot of a link's in port
-  pub slots : (number : ℕ) (link : Link) (message : List Port) → slice_get run.design.links number ≡ Some link
+  pub slots : (number : ℕ) (link : Link) (message : List PortValue) → slice_get run.design.links number ≡ Some link
       → slot_at (node_at s link.target.0) link.in_port ≡ Some message → TupleFits (link_kind run.design link) message
   -- each copy in flight
   pub flights : (number : ℕ) (link : Link) → slice_get run.design.links number ≡ Some link

@@ -6,7 +6,7 @@ use Rattle.pals_model.specs.declared.rounds.Env.{Env}
 use Rattle.pals_model.specs.Ports.{out_kind}
 use Rattle.pals_model.specs.Rules.{IsDesign}
 use Rattle.pals_model.specs.proof.FittingValues.{PortFits, PortsFit, FrameFits, EnvFits}
-use Rattle.pals_model.specs.proof.Laws.Kinds.{PartFits}
+use Rattle.pals_model.specs.proof.CompositionLaws.Kinds.{PartFits}
 use Rattle.pals_runs.specs.declared.pairs.Pair.{Pair}
 use Rattle.plant_fuse.specs.Fused.{ArePairs, Inputs, inputs_to, left_by, frame_before, IsFused}
 use Rattle.plant_fuse.specs.FusedText.{fused_part}

@@ -5,11 +5,11 @@ use Rattle.pals_bus.specs.proof.Codes.{bus_code}
 use Rattle.pals_bus.specs.Values.{BusValue}
 use Rattle.pals_clock.specs.contracts.clock.Clocks.{the_row as clocks}
 use Rattle.pals_clock.specs.declared.clock.Clocks.{Clocks}
-use Rattle.node_threads.specs.contracts.ends.Note.{the_row as notes}
-use Rattle.node_threads.specs.declared.ends.Note.{Note}
+use Rattle.node_threads.specs.contracts.ends.NodeNote.{the_row as notes}
+use Rattle.node_threads.specs.declared.ends.NodeNote.{NodeNote}
 use Rattle.node_threads.specs.proof.Courses.{CourseValue}
 
 abbrev pub course_code : Coded CourseValue
 course_code =
-    code_by (BusValue × (Clocks × List Note)) (coded× bus_code (coded× clocks.coded (coded_list notes.coded)))
+    code_by (BusValue × (Clocks × List NodeNote)) (coded× bus_code (coded× clocks.coded (coded_list notes.coded)))
     (λ c. (c.bus, (c.clocks, c.notes))) (λ p. record { bus = p.0; clocks = p.1.0; notes = p.1.1 }) (λ _. refl)

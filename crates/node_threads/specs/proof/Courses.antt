@@ -7,9 +7,9 @@ use Rattle.pals_clock.specs.declared.clock.Clocks.{Clocks}
 use Rattle.pals_clock.specs.declared.clock.Clocks.TheVariants.{Meet, Lists}
 use Rattle.pals_model.specs.declared.design.Link.{Link}
 use Rattle.pals_runs.specs.declared.journal.Phase.TheVariants.{Waiting, Done}
-use Rattle.bus_machine.specs.declared.action.Action.{Action}
+use Rattle.bus_machine.specs.declared.action.NodeAction.{NodeAction}
 use Rattle.bus_machine.specs.declared.action.Next.{Next}
-use Rattle.bus_machine.specs.proof.Laws.{IsRunOf}
+use Rattle.bus_machine.specs.proof.MachineLaws.{IsRunOf}
 use Rattle.bus_machine.specs.Plans.{plan_of}
 use Rattle.bus_machine.specs.States.{node_at}
 use Rattle.bus_machine.specs.Stops.{sent_rounds}
@@ -18,27 +18,27 @@ use Rattle.bus_machine.specs.Targets.{next_of, target}
 use Rattle.pals_bus.specs.Values.{BusValue}
 use Rattle.run_laws.specs.proof.Locked.{IsToStart}
 use Rattle.run_laws.specs.Runs.{lists_in, HasEnded, Does, IsAwaited, KeepsTo, Runs}
-use Rattle.node_threads.specs.declared.ends.Note.{Note}
-use Rattle.node_threads.specs.declared.clocks.Look.{Look}
-use Rattle.bus_machine.specs.declared.action.Action.TheVariants as action
-use Rattle.node_threads.specs.declared.ends.Note.TheVariants as note
-use Rattle.node_threads.specs.declared.clocks.Look.TheVariants as look
+use Rattle.node_threads.specs.declared.ends.NodeNote.{NodeNote}
+use Rattle.node_threads.specs.declared.clocks.ClockAnswer.{ClockAnswer}
+use Rattle.bus_machine.specs.declared.action.NodeAction.TheVariants as action
+use Rattle.node_threads.specs.declared.ends.NodeNote.TheVariants as note
+use Rattle.node_threads.specs.declared.clocks.ClockAnswer.TheVariants as look
 
 pub record CourseValue : Type 0 where
   pub bus : BusValue
   pub clocks : Clocks
-  pub notes : List Note
+  pub notes : List NodeNote
 
 -- where nodes meet they have no lists
 abbrev pub clocks_of : Bool → List ClockState → Clocks
 clocks_of true lists = Meet
 clocks_of false lists = Lists lists
 
-abbrev pub course_of : BusValue → List ClockState → List Note → CourseValue
+abbrev pub course_of : BusValue → List ClockState → List NodeNote → CourseValue
 course_of bus lists notes = record { bus = bus; clocks = clocks_of bus.meeting lists; notes = notes }
 
 -- what is noted of a node
-abbrev pub note_at : List Note → ℕ → Note
+abbrev pub note_at : List NodeNote → ℕ → NodeNote
 note_at notes node = slice_index_or notes node note.Open
 
 -- a node's list holds no reading for its next target, which is this one
@@ -93,7 +93,7 @@ abbrev pub IsNext : CourseValue → ℕ → Next → Type 0
 IsNext c node next = next_in c node ≡ Some next
 
 -- whether an action is a send
-abbrev pub sends : Action → Bool
+abbrev pub sends : NodeAction → Bool
 sends (action.Start round) = false
 sends (action.Step round step) = false
 sends (action.Send round) = true
@@ -109,13 +109,13 @@ pub record IsWaiting (c : CourseValue) (node : ℕ) : Type 0 where
   pub phase : (node_at c.bus.state node).phase ≡ Waiting
 
 -- a node's next action, at a reading that its clock shows
-pub record IsReady (c : CourseValue) (node : NodeNo) (action : Action) (reading : ℕ) : Type 0 where
+pub record IsReady (c : CourseValue) (node : NodeNo) (action : NodeAction) (reading : ℕ) : Type 0 where
   pub is_open : IsOpen c node.0
   pub does : Does c.bus.run c.clocks c.bus.state node (Some reading) action
   pub range : reading ≤ READING
 
 -- what a clock answers
-abbrev pub Looks : CourseValue → NodeNo → Next → Look → Type 0
+abbrev pub Looks : CourseValue → NodeNo → Next → ClockAnswer → Type 0
 Looks c node next (look.At reading) = IsReady c node next.action reading
 Looks c node next look.Wait = Unit {0}
 Looks c node next look.Ended = IsOpen c node.0 × EndsAt c.bus c.clocks node.0 next.target

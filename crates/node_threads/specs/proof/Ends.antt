@@ -3,15 +3,15 @@ use Rattle.std.specs.Prelude.{◌≡◌, ◌≢◌, ℕ, ◌<◌, Bool, true, fa
 use Rattle.pals_clock.specs.declared.clock.Clocks.{Clocks}
 use Rattle.pals_runs.specs.declared.journal.Phase.{Phase}
 use Rattle.pals_runs.specs.declared.journal.Phase.TheVariants.{Waiting, Running, Between, Holding, Done}
-use Rattle.bus_machine.specs.proof.Laws.{IsRunOf}
+use Rattle.bus_machine.specs.proof.MachineLaws.{IsRunOf}
 use Rattle.bus_machine.specs.States.{node_at}
 use Rattle.pals_bus.specs.Values.{BusValue}
 use Rattle.run_laws.specs.Runs.{lists_in, Runs}
 use Rattle.node_threads.specs.declared.ends.NodeEnd.{NodeEnd}
-use Rattle.node_threads.specs.declared.ends.Note.{Note}
+use Rattle.node_threads.specs.declared.ends.NodeNote.{NodeNote}
 use Rattle.node_threads.specs.proof.Courses.{CourseValue, EndsAt, note_at}
 use Rattle.node_threads.specs.declared.ends.NodeEnd.TheVariants as end
-use Rattle.node_threads.specs.declared.ends.Note.TheVariants as note
+use Rattle.node_threads.specs.declared.ends.NodeNote.TheVariants as note
 
 -- ---- the ends of a run
 -- what the end of a node's part says of the bus and of the clocks
@@ -55,7 +55,7 @@ phase_end (Between steps) stopped closed = stopped_end stopped closed
 phase_end Holding stopped closed = stopped_end stopped closed
 phase_end Done stopped closed = Some end.Finished
 
-abbrev pub noted_end : Note → Phase → Bool → Bool → Option NodeEnd
+abbrev pub noted_end : NodeNote → Phase → Bool → Bool → Option NodeEnd
 noted_end (note.ClockEnded goal) phase stopped closed = Some (end.ClockEnded goal)
 noted_end note.Memory phase stopped closed = Some end.Memory
 noted_end note.Open phase stopped closed = phase_end phase stopped closed

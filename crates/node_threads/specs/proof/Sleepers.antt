@@ -4,25 +4,25 @@ use Rattle.pals_base.specs.declared.limits.TheConstants.{COMPONENTS}
 use Rattle.pals_runs.specs.declared.journal.Phase.TheVariants.{Waiting}
 use Rattle.bus_machine.specs.States.{Run, BusState, node_at}
 use Rattle.run_laws.specs.Runs.{target_of}
-use Rattle.node_threads.specs.declared.wakes.Wakes.{Wakes}
-use Rattle.node_threads.specs.declared.bell.Bell.{Bell}
-use Rattle.node_threads.specs.declared.sleepers.Seat.{Seat}
+use Rattle.node_threads.specs.declared.wakes.WakeList.{WakeList}
+use Rattle.node_threads.specs.declared.bell.Sleeper.{Sleeper}
+use Rattle.node_threads.specs.declared.sleepers.ThreadSlot.{ThreadSlot}
 use Rattle.node_threads.specs.declared.sleepers.Sleepers.{Sleepers}
 use Rattle.node_threads.specs.proof.Courses.{CourseValue, IsOpen}
-use Rattle.node_threads.specs.declared.bell.Bell.TheVariants as bell
+use Rattle.node_threads.specs.declared.bell.Sleeper.TheVariants as bell
 
 -- nobody is to be woken
-abbrev pub no_wakes : Wakes
+abbrev pub no_wakes : WakeList
 no_wakes = record { any = false; nodes = replicate COMPONENTS false; caller = false }
 
 -- a node has a thread of its own, which is awake
-abbrev pub free_seat : Seat
+abbrev pub free_seat : ThreadSlot
 free_seat = record { of_caller = false; sleeps = false }
 
-abbrev pub seat_at : List Seat → ℕ → Seat
+abbrev pub seat_at : List ThreadSlot → ℕ → ThreadSlot
 seat_at seats node = slice_index_or seats node free_seat
 
-abbrev pub with_seat : Sleepers → ℕ → Seat → Sleepers
+abbrev pub with_seat : Sleepers → ℕ → ThreadSlot → Sleepers
 with_seat s node seat = record s { seats = slice_set s.seats node seat }
 
 -- ---- waits
@@ -42,22 +42,22 @@ pub record Waits (c : CourseValue) (hour node : ℕ) : Type 0 where
 
 -- ---- who is woken
 -- whether the thread that has a node is to be woken: the calling thread, or its own
-abbrev pub is_rung : Wakes → ℕ → Bool → Bool
+abbrev pub is_rung : WakeList → ℕ → Bool → Bool
 is_rung wakes node true = wakes.any && wakes.caller
 is_rung wakes node false = wakes.any && slice_index_or wakes.nodes node false
 
 -- the thread that has a node is to be woken too
-abbrev pub with_rung : Wakes → ℕ → Bool → Wakes
+abbrev pub with_rung : WakeList → ℕ → Bool → WakeList
 with_rung w node true = record w { any = true; caller = true }
 with_rung w node false = record w { any = true; nodes = slice_set w.nodes node true }
 
 -- a bell is to be rung
-abbrev pub is_to_ring : Wakes → Bell → Bool
+abbrev pub is_to_ring : WakeList → Sleeper → Bool
 is_to_ring w (bell.Node node) = is_rung w node false
 is_to_ring w bell.Caller = is_rung w 0 true
 
 -- a bell need not be rung; where there is none, nobody is to be woken
-abbrev pub without_bell : Wakes → Option Bell → Wakes
+abbrev pub without_bell : WakeList → Option Sleeper → WakeList
 without_bell w None = record w { any = false }
 without_bell w (Some (bell.Node node)) = record w { nodes = slice_set w.nodes node false }
 without_bell w (Some bell.Caller) = record w { any = false; caller = false }

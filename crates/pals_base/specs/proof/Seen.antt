@@ -5,14 +5,14 @@ use Rattle.pals_base.specs.declared.behaviour.Operand.{Operand}
 use Rattle.pals_base.specs.declared.behaviour.Act.{Act, Assign as source_assign, Emit as source_emit, If', For', Row_of-Act, end_of-Act, more_of-Act, Row_of-Branch, end_of-Branch, more_of-Branch}
 use Rattle.pals_base.specs.declared.behaviour.Branch.{Branch}
 use Rattle.pals_base.specs.declared.behaviour.Guard.{Guard}
-use Rattle.pals_base.specs.Tree.{Expression, Literal, Variable, PortValue, Fresh, Neg, Abs, Not, Chain, Operands, NoMore, Then, Action, Assign, Emit, If, For, Actions, Nothing, Do, Branches, NoBranch, Where, Trigger, Dispatch, Always, When}
+use Rattle.pals_base.specs.Tree.{Expression, Literal, Variable, PortRead, Fresh, Neg, Abs, Not, Chain, Operands, NoMore, Then, Action, Assign, Emit, If, For, Actions, Nothing, Do, Branches, NoBranch, Where, Trigger, Dispatch, Always, When}
 use Rattle.pals_base.specs.declared.behaviour.Guard.TheVariants as guard
 
 abbrev mutual
   pub tree_of : Expr → Expression
   tree_of (source_literal n) = Literal n
   tree_of (source_variable x) = Variable x
-  tree_of (source_port p) = PortValue p
+  tree_of (source_port p) = PortRead p
   tree_of (source_fresh p) = Fresh p
   tree_of (Neg' place e) = Neg (tree_of e)
   tree_of (Abs' place e) = Abs (tree_of e)

@@ -5,7 +5,7 @@ use Rattle.std.specs.Coded.{Coded, code_by, coded×, coded_ℕ}
 use base.Stored.{Gv, gnum, gcons, gnil}
 use Rattle.pals_base.specs.declared.behaviour.Op.{Op}
 use Rattle.pals_base.specs.declared.behaviour.Op.TheVariants.{Add, Sub, Mul, Quot, Mod, Rem, Eq, Ne, Lt, Le, Gt, Ge, And, Or, Xor, AndThen, OrElse}
-use Rattle.pals_base.specs.Tree.{Expression, Literal, Variable, PortValue, Fresh, Neg, Abs, Not, Chain, Operands, NoMore, Then, Action, Assign, Emit, If, For, Actions, Nothing, Do, Branches, NoBranch, Where, Trigger, Dispatch, Always, When, Edge}
+use Rattle.pals_base.specs.Tree.{Expression, Literal, Variable, PortRead, Fresh, Neg, Abs, Not, Chain, Operands, NoMore, Then, Action, Assign, Emit, If, For, Actions, Nothing, Do, Branches, NoBranch, Where, Trigger, Dispatch, Always, When, Edge}
 
 -- ---- numbers and operators
 abbrev pub int_to : ℤ → Gv
@@ -70,7 +70,7 @@ abbrev mutual
   pub expression_to : Expression → Gv
   expression_to (Literal n) = gcons (gnum 0) (int_to n)
   expression_to (Variable x) = gcons (gnum 1) (gnum x)
-  expression_to (PortValue p) = gcons (gnum 2) (gnum p)
+  expression_to (PortRead p) = gcons (gnum 2) (gnum p)
   expression_to (Fresh p) = gcons (gnum 3) (gnum p)
   expression_to (Neg e) = gcons (gnum 4) (expression_to e)
   expression_to (Abs e) = gcons (gnum 5) (expression_to e)
@@ -85,7 +85,7 @@ abbrev mutual
   pub expression_back : Gv → Expression
   expression_back (gcons (gnum zero) v) = Literal (int_back v)
   expression_back (gcons (gnum (suc zero)) (gnum x)) = Variable x
-  expression_back (gcons (gnum (suc (suc zero))) (gnum p)) = PortValue p
+  expression_back (gcons (gnum (suc (suc zero))) (gnum p)) = PortRead p
   expression_back (gcons (gnum (suc (suc (suc zero)))) (gnum p)) = Fresh p
   expression_back (gcons (gnum (suc (suc (suc (suc zero))))) v) = Neg (expression_back v)
   expression_back (gcons (gnum (suc (suc (suc (suc (suc zero)))))) v) = Abs (expression_back v)
@@ -101,7 +101,7 @@ mutual
   pub expression_there : (e : Expression) → expression_back (expression_to e) ≡ e
   expression_there (Literal n) = ap Literal (int_there n)
   expression_there (Variable x) = refl
-  expression_there (PortValue p) = refl
+  expression_there (PortRead p) = refl
   expression_there (Fresh p) = refl
   expression_there (Neg e) = ap Neg (expression_there e)
   expression_there (Abs e) = ap Abs (expression_there e)

@@ -3,7 +3,7 @@
 use super::TryClone;
 use crate::items::Items;
 use crate::text::Text;
-use crate::values::{Frame, NoMemory, Port};
+use crate::values::{Frame, NoMemory, PortValue};
 use std::alloc::Global;
 
 impl TryClone for u64 {
@@ -12,8 +12,8 @@ impl TryClone for u64 {
     }
 }
 
-impl TryClone for Port {
-    fn try_clone(&self, _alloc: Global) -> Result<Port, NoMemory> {
+impl TryClone for PortValue {
+    fn try_clone(&self, _alloc: Global) -> Result<PortValue, NoMemory> {
         Ok(*self)
     }
 }

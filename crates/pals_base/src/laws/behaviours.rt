@@ -1,7 +1,7 @@
 //! Laws of what each behaviour keeps.
 ghost use Rattle.std.specs.Prelude.{◌≡◌, ◌<◌, ℕ, List, length};
 ghost use Rattle.pals_base.specs.declared.values.Frame.{Frame};
-ghost use Rattle.pals_base.specs.declared.values.Port.{Port};
+ghost use Rattle.pals_base.specs.declared.values.PortValue.{PortValue};
 ghost use Rattle.pals_base.specs.declared.behaviour.BehaviourParts.{BehaviourParts};
 ghost use Rattle.pals_base.specs.Fire.{fire, initial, HasShape};
 ghost use Rattle.pals_base.specs.Rules.{IsBehaviour, IsWay};
@@ -10,8 +10,8 @@ ghost use Rattle.pals_base.specs.Rules.{IsBehaviour, IsWay};
 /// frame of that shape, so again in a complete state, and gives each out port a place.
 pub fn each_step_ends()
     ensures start { (b : BehaviourParts) → IsBehaviour b → HasShape b (initial b) }
-    ensures step { (b : BehaviourParts) (frame : Frame) (inputs : List Port) → IsBehaviour b → HasShape b frame → HasShape b (fire b frame inputs).frame }
-    ensures outs { (b : BehaviourParts) (frame : Frame) (inputs : List Port)
+    ensures step { (b : BehaviourParts) (frame : Frame) (inputs : List PortValue) → IsBehaviour b → HasShape b frame → HasShape b (fire b frame inputs).frame }
+    ensures outs { (b : BehaviourParts) (frame : Frame) (inputs : List PortValue)
         → IsBehaviour b → HasShape b frame → length (fire b frame inputs).outs ≡ length b.outs }
 {}
 

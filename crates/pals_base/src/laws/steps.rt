@@ -2,30 +2,30 @@
 ghost use Rattle.std.specs.Prelude.{◌≡◌, ◌<◌, ℕ, List, [], ◌∷◌, ◌++◌, length, take, replicate, fold, Some};
 ghost use Rattle.pals_base.specs.declared.values.Trap.{Trap};
 ghost use Rattle.pals_base.specs.declared.values.Frame.{Frame};
-ghost use Rattle.pals_base.specs.declared.values.Port.{Port};
+ghost use Rattle.pals_base.specs.declared.values.PortValue.{PortValue};
 ghost use Rattle.pals_base.specs.declared.behaviour.BehaviourParts.{BehaviourParts};
 ghost use Rattle.pals_base.specs.Fire.{fire, holding, silence};
 ghost use Rattle.pals_base.specs.Steps.{frame_after, outputs, columns, so_far, with_places};
-ghost use Rattle.pals_base.specs.declared.values.Port.TheVariants.{Absent};
+ghost use Rattle.pals_base.specs.declared.values.PortValue.TheVariants.{Absent};
 
 /// Steps go one after another: no step looks ahead, and later steps go on from the frame that the
 /// earlier ones leave.
 pub fn steps_one_after_another()
-    ensures first { (b : BehaviourParts) (frame : Frame) (vectors : List (List Port)) (count : ℕ)
+    ensures first { (b : BehaviourParts) (frame : Frame) (vectors : List (List PortValue)) (count : ℕ)
         → take count (outputs b frame vectors) ≡ outputs b frame (take count vectors) }
-    ensures later_frame { (b : BehaviourParts) (frame : Frame) (xs ys : List (List Port))
+    ensures later_frame { (b : BehaviourParts) (frame : Frame) (xs ys : List (List PortValue))
         → frame_after b frame (xs ++ ys) ≡ frame_after b (frame_after b frame xs) ys }
-    ensures later_outputs { (b : BehaviourParts) (frame : Frame) (xs ys : List (List Port))
+    ensures later_outputs { (b : BehaviourParts) (frame : Frame) (xs ys : List (List PortValue))
         → outputs b frame (xs ++ ys) ≡ outputs b frame xs ++ outputs b (frame_after b frame xs) ys }
 {}
 
 /// A halted frame stays: every further step only holds its inputs, and no out port has a value.
 pub fn halted_frame_stays()
-    ensures step { (b : BehaviourParts) (frame : Frame) (trap : Trap) (inputs : List Port) → frame.halt ≡ Some trap
+    ensures step { (b : BehaviourParts) (frame : Frame) (trap : Trap) (inputs : List PortValue) → frame.halt ≡ Some trap
         → fire b frame inputs ≡ record { frame = record frame { held = holding frame.held inputs }; outs = silence b } }
-    ensures frame { (b : BehaviourParts) (frame : Frame) (trap : Trap) (vectors : List (List Port)) → frame.halt ≡ Some trap
+    ensures frame { (b : BehaviourParts) (frame : Frame) (trap : Trap) (vectors : List (List PortValue)) → frame.halt ≡ Some trap
         → frame_after b frame vectors ≡ record frame { held = fold holding frame.held vectors } }
-    ensures outputs { (b : BehaviourParts) (frame : Frame) (trap : Trap) (vectors : List (List Port)) → frame.halt ≡ Some trap
+    ensures outputs { (b : BehaviourParts) (frame : Frame) (trap : Trap) (vectors : List (List PortValue)) → frame.halt ≡ Some trap
         → outputs b frame vectors ≡ replicate (length vectors) (silence b) }
 {}
 
@@ -34,7 +34,7 @@ pub fn halted_frame_stays()
 /// nothing is absent but what the steps left so.
 pub fn round_fills_place_by_place()
     ensures none { (ports k : ℕ) → so_far ports k [] ≡ replicate ports (replicate k Absent) }
-    ensures next { (k : ℕ) (outs : List (List Port)) (values : List Port) → length outs < k
+    ensures next { (k : ℕ) (outs : List (List PortValue)) (values : List PortValue) → length outs < k
         → so_far (length values) k (outs ++ values ∷ []) ≡ with_places (length outs) values (so_far (length values) k outs) }
-    ensures all { (ports : ℕ) (outs : List (List Port)) → so_far ports (length outs) outs ≡ columns ports outs }
+    ensures all { (ports : ℕ) (outs : List (List PortValue)) → so_far ports (length outs) outs ≡ columns ports outs }
 {}

@@ -1,18 +1,18 @@
 //! Laws of tuples.
 ghost use Rattle.std.specs.Prelude.{◌≡◌, ◌<◌, ◌≤◌, ℕ, List, length, slice_get, All};
-ghost use Rattle.pals_base.specs.declared.values.Port.{Port};
+ghost use Rattle.pals_base.specs.declared.values.PortValue.{PortValue};
 ghost use Rattle.pals_base.specs.Steps.{column, columns, cut};
 
 /// To cut a tuple keeps its length, does no more a second time, and does nothing past its end.
 pub fn cut_keeps_length()
-    ensures length { (count : ℕ) (tuple : List Port) → length (cut count tuple) ≡ length tuple }
-    ensures twice { (count : ℕ) (tuple : List Port) → cut count (cut count tuple) ≡ cut count tuple }
-    ensures whole { (count : ℕ) (tuple : List Port) → length tuple ≤ count → cut count tuple ≡ tuple }
+    ensures length { (count : ℕ) (tuple : List PortValue) → length (cut count tuple) ≡ length tuple }
+    ensures twice { (count : ℕ) (tuple : List PortValue) → cut count (cut count tuple) ≡ cut count tuple }
+    ensures whole { (count : ℕ) (tuple : List PortValue) → length tuple ≤ count → cut count tuple ≡ tuple }
 {}
 
 /// There are as many columns as are asked for, in order, and each has a place for each list.
 pub fn columns_follow_lists()
-    ensures count { (count : ℕ) (lists : List (List Port)) → length (columns count lists) ≡ count }
-    ensures place { (count : ℕ) (lists : List (List Port)) (at : ℕ) → at < count → slice_get (columns count lists) at ≡ Some (column at lists) }
-    ensures each { (count : ℕ) (lists : List (List Port)) → All (λ column. length column ≡ length lists) (columns count lists) }
+    ensures count { (count : ℕ) (lists : List (List PortValue)) → length (columns count lists) ≡ count }
+    ensures place { (count : ℕ) (lists : List (List PortValue)) (at : ℕ) → at < count → slice_get (columns count lists) at ≡ Some (column at lists) }
+    ensures each { (count : ℕ) (lists : List (List PortValue)) → All (λ column. length column ≡ length lists) (columns count lists) }
 {}

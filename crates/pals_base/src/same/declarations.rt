@@ -1,10 +1,10 @@
 //! Whether two declarations are the same.
 
 use super::Same;
-use crate::behaviour::{Named, StateDecl, VarDecl};
+use crate::behaviour::{PortDecl, StateDecl, VarDecl};
 
-impl Same for Named {
-    fn same(&self, other: &Named) -> bool {
+impl Same for PortDecl {
+    fn same(&self, other: &PortDecl) -> bool {
         self.name.same(&other.name) && self.kind == other.kind
     }
 }

@@ -2,7 +2,7 @@
 
 use super::Same;
 use crate::text::Text;
-use crate::values::{Frame, Port};
+use crate::values::{Frame, PortValue};
 
 impl Same for i64 {
     fn same(&self, other: &i64) -> bool {
@@ -16,8 +16,8 @@ impl Same for u64 {
     }
 }
 
-impl Same for Port {
-    fn same(&self, other: &Port) -> bool {
+impl Same for PortValue {
+    fn same(&self, other: &PortValue) -> bool {
         *self == *other
     }
 }

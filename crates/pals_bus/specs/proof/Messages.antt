@@ -2,7 +2,7 @@
 use Rattle.std.specs.Prelude.{ℕ, List, length, Option, slice_index_or, slice_set}
 use Rattle.std.specs.Arc.{arc_value}
 use Rattle.pals_base.specs.declared.values.LinkNo.{LinkNo}
-use Rattle.pals_base.specs.declared.values.Port.{Port}
+use Rattle.pals_base.specs.declared.values.PortValue.{PortValue}
 use Rattle.pals_model.specs.declared.flight.FlightCopy.{FlightCopy}
 use Rattle.pals_model.specs.Flights.{without_oldest}
 use Rattle.link_buffers.specs.proof.Flights.{FlightState}
@@ -10,7 +10,7 @@ use Rattle.link_buffers.specs.proof.Queues.{QueueState}
 use Rattle.bus_machine.specs.States.{link_at}
 use Rattle.pals_bus.specs.declared.fields.Fields.{Fields}
 use Rattle.pals_bus.specs.proof.Absent.{no_flight, no_queue}
-use Rattle.pals_bus.specs.proof.Keeping.{copies_in}
+use Rattle.pals_bus.specs.proof.BusInvariant.{copies_in}
 use Rattle.pals_bus.specs.proof.Queues.{with_due}
 use Rattle.pals_bus.specs.proof.Sending.{AreSent}
 
@@ -35,7 +35,7 @@ copies_without f link round = slice_set (copies_in f.flights) link.0 (without_ol
 
 -- ---- the messages of a node's round
 -- the flights after they are sent
-abbrev pub IsRoundSent : Fields → ℕ → ℕ → Option ℕ → List (List Port) → List FlightState → Type 0
+abbrev pub IsRoundSent : Fields → ℕ → ℕ → Option ℕ → List (List PortValue) → List FlightState → Type 0
 IsRoundSent f node round reading messages flights =
     AreSent node (arc_value f.design).links f.delays round reading messages (length (arc_value f.design).links)
     f.flights flights

@@ -1,7 +1,7 @@
 -- The messages of a node's round, link by link.
 use Rattle.std.specs.Prelude.{◌≡◌, ℕ, ◌-◌, ◌<◌, ◌≤◌, nat_eq, Bool, if◌then◌else◌, List, [], ◌∷◌, ◌++◌, length, filter, take, All, Option, Some, slice_get, slice_index_or}
 use Rattle.pals_base.specs.declared.values.LinkNo.{LinkNo}
-use Rattle.pals_base.specs.declared.values.Port.{Port}
+use Rattle.pals_base.specs.declared.values.PortValue.{PortValue}
 use Rattle.pals_model.specs.declared.design.Link.{Link}
 use Rattle.pals_model.specs.declared.rounds.Delays.{Delays}
 use Rattle.pals_model.specs.declared.flight.FlightCopy.{FlightCopy}
@@ -40,7 +40,7 @@ abbrev pub with_copy : FlightState → FlightCopy → FlightState
 with_copy flight copy = flight_of (flight.copies ++ copy ∷ []) (flight.spare - 1)
 
 -- a link's flight after the send
-abbrev pub sent_flight : ℕ → List Link → Delays → ℕ → Option ℕ → List (List Port) → ℕ → FlightState → FlightState
+abbrev pub sent_flight : ℕ → List Link → Delays → ℕ → Option ℕ → List (List PortValue) → ℕ → FlightState → FlightState
 sent_flight node links delays round reading messages number flight =
     if is_from node (slice_index_or links number no_link)
     then with_copy flight (sent_copy round reading (delay_of delays number round)
@@ -49,7 +49,7 @@ sent_flight node links delays round reading messages number flight =
 
 -- the first flights are those after the send, and the others are as before
 pub record AreSent (node : ℕ) (links : List Link) (delays : Delays) (round : ℕ) (reading : Option ℕ)
-    (messages : List (List Port)) (first : ℕ) (old new : List FlightState) : Type 0 where
+    (messages : List (List PortValue)) (first : ℕ) (old new : List FlightState) : Type 0 where
   pub count : length new ≡ length old
   pub sent : (number : ℕ) → number < first
       → slice_index_or new number no_flight

@@ -4,11 +4,11 @@ use Rattle.pals_base.specs.declared.values.NodeNo.{NodeNo}
 use Rattle.pals_base.specs.declared.values.Gamma.{Gamma}
 use Rattle.pals_base.specs.declared.behaviour.Kind.TheVariants.{Integer}
 use Rattle.pals_base.specs.declared.behaviour.Op.TheVariants.{Add}
-use Rattle.pals_base.specs.declared.behaviour.Named.{Named}
+use Rattle.pals_base.specs.declared.behaviour.PortDecl.{PortDecl}
 use Rattle.pals_base.specs.declared.behaviour.VarDecl.{VarDecl}
 use Rattle.pals_base.specs.declared.behaviour.StateDecl.{StateDecl}
 use Rattle.pals_base.specs.declared.behaviour.BehaviourParts.{BehaviourParts}
-use Rattle.pals_base.specs.Tree.{Literal, Variable, PortValue, Chain, NoMore, Then, Assign, Emit, Actions, Nothing, Do, Dispatch, Edge}
+use Rattle.pals_base.specs.Tree.{Literal, Variable, PortRead, Chain, NoMore, Then, Assign, Emit, Actions, Nothing, Do, Dispatch, Edge}
 use Rattle.pals_model.specs.declared.design.Component.{Component}
 use Rattle.pals_model.specs.declared.design.Link.{Link}
 use Rattle.pals_model.specs.declared.design.DesignParts.{DesignParts}
@@ -16,7 +16,7 @@ use Rattle.pals_model.specs.RoundTexts.{line_end, report}
 use Rattle.pals_model.specs.Inputs.{no_env}
 
 -- ---- a counter
-abbrev port_named : List ℕ → Named
+abbrev port_named : List ℕ → PortDecl
 port_named name = record { name = name; kind = Integer }
 
 abbrev variable : VarDecl
@@ -27,7 +27,7 @@ only_state = record { name = codes "s"; complete = true }
 
 -- x := x + i + 1; o!(x)
 abbrev counting : Actions
-counting = Do (Assign 0 (Chain (Variable 0) (Then Add (PortValue 0) (Then Add (Literal (pos 1)) NoMore)))) (Do (Emit 0 (Variable 0)) Nothing)
+counting = Do (Assign 0 (Chain (Variable 0) (Then Add (PortRead 0) (Then Add (Literal (pos 1)) NoMore)))) (Do (Emit 0 (Variable 0)) Nothing)
 
 abbrev on_dispatch : Edge
 on_dispatch = record { source = 0; target = 0; trigger = Dispatch; actions = counting }

@@ -1,11 +1,11 @@
 -- Values that fit their kinds: a Boolean is 0 or 1.
 use Rattle.std.specs.Prelude.{◌≡◌, ◌⊎◌, ℕ, ℤ, pos, List, All, Some, slice_get, slice_index_or}
 use Rattle.pals_base.specs.declared.values.Frame.{Frame}
-use Rattle.pals_base.specs.declared.values.Port.{Port}
-use Rattle.pals_base.specs.declared.values.Port.TheVariants.{Absent, Present}
+use Rattle.pals_base.specs.declared.values.PortValue.{PortValue}
+use Rattle.pals_base.specs.declared.values.PortValue.TheVariants.{Absent, Present}
 use Rattle.pals_base.specs.declared.behaviour.Kind.{Kind}
 use Rattle.pals_base.specs.declared.behaviour.Kind.TheVariants.{Integer, Boolean}
-use Rattle.pals_base.specs.declared.behaviour.Named.{Named}
+use Rattle.pals_base.specs.declared.behaviour.PortDecl.{PortDecl}
 use Rattle.pals_base.specs.declared.behaviour.VarDecl.{VarDecl}
 use Rattle.pals_base.specs.declared.behaviour.BehaviourParts.{BehaviourParts}
 use Rattle.pals_model.specs.declared.design.Link.{Link}
@@ -20,11 +20,11 @@ Fits Integer v = Unit {0}
 Fits Boolean v = (v ≡ pos 0) ⊎ (v ≡ pos 1)
 
 -- an absent value fits each kind
-abbrev pub PortFits : Kind → Port → Type 0
+abbrev pub PortFits : Kind → PortValue → Type 0
 PortFits kind Absent = Unit {0}
 PortFits kind (Present v) = Fits kind v
 
-abbrev pub TupleFits : Kind → List Port → Type 0
+abbrev pub TupleFits : Kind → List PortValue → Type 0
 TupleFits kind tuple = All (PortFits kind) tuple
 
 -- ---- of a behaviour
@@ -34,12 +34,12 @@ VarsFit b vars = (x : ℕ) (v : VarDecl) → slice_get b.vars x ≡ Some v → F
 
 -- each held input fits its in port's kind
 abbrev pub HeldFit : BehaviourParts → List ℤ → Type 0
-HeldFit b held = (p : ℕ) (port : Named) → slice_get b.ins p ≡ Some port → Fits port.kind (slice_index_or held p (pos 0))
+HeldFit b held = (p : ℕ) (port : PortDecl) → slice_get b.ins p ≡ Some port → Fits port.kind (slice_index_or held p (pos 0))
 
 -- the values of one step at ports of these types
-abbrev pub PortsFit : List Named → List Port → Type 0
+abbrev pub PortsFit : List PortDecl → List PortValue → Type 0
 PortsFit ports values =
-    (p : ℕ) (port : Named) → slice_get ports p ≡ Some port → PortFits port.kind (slice_index_or values p Absent)
+    (p : ℕ) (port : PortDecl) → slice_get ports p ≡ Some port → PortFits port.kind (slice_index_or values p Absent)
 
 pub record FrameFits (b : BehaviourParts) (frame : Frame) : Type 0 where
   pub vars : VarsFit b frame.vars

@@ -1,5 +1,5 @@
 //! Laws of the kinds of values.
-ghost use Rattle.pals_model.specs.proof.Laws.Kinds.{FiringFits, MessagesFit, PartsFit, StatesFit};
+ghost use Rattle.pals_model.specs.proof.CompositionLaws.Kinds.{FiringFits, MessagesFit, PartsFit, StatesFit};
 
 /// A step of a behaviour leaves a frame whose values fit their kinds, and outputs that do, where the
 /// frame and the inputs before it did: a Boolean is 0 or 1.

@@ -1,7 +1,7 @@
 -- What a node answers, and why.
 use Rattle.std.specs.Prelude.{◌≡◌, ◌≢◌, ℕ, nat_lt, Bool, true, false, List, Option, Some, None}
 use Rattle.std.specs.Option.{option_map_or}
-use Rattle.pals_base.specs.declared.values.Port.{Port}
+use Rattle.pals_base.specs.declared.values.PortValue.{PortValue}
 use Rattle.pals_runs.specs.declared.journal.Phase.{Phase}
 use Rattle.pals_runs.specs.declared.journal.Phase.TheVariants.{Waiting, Running, Between, Holding, Done}
 use Rattle.bus_machine.specs.NodeEvents.{missing, started, stepped, finished, may_send, sent_from, messages_from}
@@ -29,7 +29,7 @@ is_busy Holding = true
 is_busy Done = false
 
 -- ---- Start
-pub record Starts (old : NodeValue) (env : List Port) (reading : Option ℕ) (new : NodeValue)
+pub record Starts (old : NodeValue) (env : List PortValue) (reading : Option ℕ) (new : NodeValue)
     (job : JobValue) : Type 0 where
   pub waits : old.state.phase ≡ Waiting
   pub due : is_early reading (start_alarm old.program.plan old.state) ≡ false
@@ -87,7 +87,7 @@ abbrev pub NoneRuns : NodeValue → Type 0
 NoneRuns n = (i : ℕ) → n.state.phase ≢ Running i
 
 -- ---- Send
-pub record Sends (old : NodeValue) (reading : Option ℕ) (new : NodeValue) (messages : List (List Port)) : Type 0 where
+pub record Sends (old : NodeValue) (reading : Option ℕ) (new : NodeValue) (messages : List (List PortValue)) : Type 0 where
   pub may : may_send old.program.plan old.state ≡ true
   pub due : is_early reading (release_alarm old.program.plan old.state) ≡ false
   pub state : new ≡ with_state old (sent_from old.rounds old.state)

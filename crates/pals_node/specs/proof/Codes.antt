@@ -6,11 +6,11 @@ use Rattle.step_code.specs.declared.instr.CodeParts.{CodeParts}
 use Rattle.bus_machine.specs.contracts.plan.Plan.{the_row as plans}
 use Rattle.bus_machine.specs.declared.plan.Plan.{Plan}
 use Rattle.pals_base.specs.contracts.values.Frame.{the_row as frames}
-use Rattle.pals_base.specs.contracts.values.Port.{the_row as ports}
+use Rattle.pals_base.specs.contracts.values.PortValue.{the_row as ports}
 use Rattle.pals_model.specs.contracts.rounds.Part.{the_row as parts}
 use Rattle.pals_runs.specs.contracts.journal.Phase.{the_row as phases}
 use Rattle.pals_base.specs.declared.values.Frame.{Frame}
-use Rattle.pals_base.specs.declared.values.Port.{Port}
+use Rattle.pals_base.specs.declared.values.PortValue.{PortValue}
 use Rattle.pals_model.specs.declared.rounds.Part.{Part}
 use Rattle.pals_runs.specs.declared.journal.Phase.{Phase}
 use Rattle.bus_machine.specs.Nodes.{NodeState}
@@ -25,7 +25,7 @@ program_code =
 abbrev pub state_code : Coded NodeState
 state_code =
     code_by (ℕ × (Phase × (Frame
-    × (List (Option (List Port)) × (List (List Port) × (List (List Port) × (Bool × List Part)))))))
+    × (List (Option (List PortValue)) × (List (List PortValue) × (List (List PortValue) × (Bool × List Part)))))))
     (coded× coded_ℕ (coded× phases.coded
     (coded× frames.coded (coded× (coded_list (coded_option (coded_list ports.coded)))
     (coded× (coded_list (coded_list ports.coded))

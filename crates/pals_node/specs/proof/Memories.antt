@@ -1,6 +1,6 @@
 -- The memory of a job.
 use Rattle.std.specs.Prelude.{◌≡◌, List, length, Option, Some, None}
-use Rattle.pals_base.specs.declared.values.Port.{Port}
+use Rattle.pals_base.specs.declared.values.PortValue.{PortValue}
 use Rattle.pals_base.specs.declared.values.Frame.{Frame}
 use Rattle.step_code.specs.declared.instr.CodeParts.{CodeParts}
 use Rattle.step_vm.specs.proof.Rooms.{IsRoomOf}
@@ -26,7 +26,7 @@ HasMemory code None = Unit {0}
 HasMemory code (Some memory) = IsMemoryFor code memory
 
 -- what a step goes on from is in its memory
-pub record IsFilled (code : CodeParts) (frame : Frame) (inputs : List Port) (memory : Memory) : Type 0 where
+pub record IsFilled (code : CodeParts) (frame : Frame) (inputs : List PortValue) (memory : Memory) : Type 0 where
   pub frame_is : memory.frame ≡ frame
   pub inputs_are : memory.inputs ≡ inputs
   pub result_is : memory.result ≡ frame
@@ -34,7 +34,7 @@ pub record IsFilled (code : CodeParts) (frame : Frame) (inputs : List Port) (mem
   pub room_is : IsRoomOf code memory.room
 
 -- what a job leaves once its result is taken, with a frame and outputs in its place
-pub record IsLeft (job : JobValue) (frame : Frame) (outs : List Port) (memory : Memory) : Type 0 where
+pub record IsLeft (job : JobValue) (frame : Frame) (outs : List PortValue) (memory : Memory) : Type 0 where
   pub frame_is : memory.frame ≡ job.work.frame
   pub inputs_are : memory.inputs ≡ job.work.inputs
   pub result_is : memory.result ≡ frame

@@ -1,6 +1,6 @@
 -- What contracts see of plans, jobs and nodes.
 use Rattle.std.specs.Prelude.{◌≡◌, ℕ, List}
-use Rattle.pals_base.specs.declared.values.Port.{Port}
+use Rattle.pals_base.specs.declared.values.PortValue.{PortValue}
 use Rattle.pals_base.specs.declared.values.Frame.{Frame}
 use Rattle.pals_base.specs.Fire.{Fired}
 use Rattle.pals_model.specs.declared.design.DesignParts.{DesignParts}
@@ -23,7 +23,7 @@ pub record JobValue : Type 0 where
   pub code : CodeParts
   pub work : Work
 
-abbrev pub job_value : Program → ℕ → ℕ → Frame → List Port → JobValue
+abbrev pub job_value : Program → ℕ → ℕ → Frame → List PortValue → JobValue
 job_value program round step frame inputs =
     record {
       code = program.code;

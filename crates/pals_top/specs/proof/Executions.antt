@@ -10,14 +10,14 @@ use Rattle.scenario_json.specs.declared.scenario.Scenario.{Scenario}
 use Rattle.scenario_json.specs.proof.Facts.{IsScenarioOf}
 use Rattle.scenario_laws.specs.proof.Events.{AreLooseEvents}
 use Rattle.pals_top.specs.declared.coded.Coded.{Coded}
-use Rattle.pals_top.specs.declared.coded.Meaning.{Meaning}
+use Rattle.pals_top.specs.declared.coded.BundleMeaning.{BundleMeaning}
 use Rattle.pals_top.specs.declared.execution.Execution.{Execution}
 use Rattle.pals_top.specs.declared.execution.Execution.TheVariants.{TimedWorld, LooseWorld, Run, Audit}
 use Rattle.pals_top.specs.Executions.{command_of, IsCodeTooLong, IsScenarioRefusedIn}
 use Rattle.pals_top.specs.Refusals.{IsBundleRefused}
 use Rattle.pals_top.specs.Scenarios.{HasScenario}
 use Rattle.pals_top.specs.proof.Statuses.{status_of, text_of}
-use Rattle.pals_top.specs.declared.coded.Meaning.TheVariants as meaning
+use Rattle.pals_top.specs.declared.coded.BundleMeaning.TheVariants as meaning
 
 -- the one that runs threads
 abbrev pub needs_host : Execution → Bool
@@ -47,6 +47,6 @@ IsRefused what root bundle status text =
     ⊎ IsCodeTooLong root bundle status text
     ⊎ IsScenarioRefusedIn root bundle (command_of what root) status text
 
-abbrev pub IsMeaning : Execution → List ℕ → List ℕ → Meaning → Type 0
+abbrev pub IsMeaning : Execution → List ℕ → List ℕ → BundleMeaning → Type 0
 IsMeaning what root bundle (meaning.Coded coded) = IsCoded what root bundle coded
 IsMeaning what root bundle (meaning.Refused answer) = IsRefused what root bundle (status_of answer) (text_of answer)

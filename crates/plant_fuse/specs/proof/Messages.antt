@@ -1,6 +1,6 @@
 -- What the components send to one another.
 use Rattle.std.specs.Prelude.{ℕ, Bool, if◌then◌else◌, List, [], length, Option, Some, None, slice_get}
-use Rattle.pals_base.specs.declared.values.Port.{Port}
+use Rattle.pals_base.specs.declared.values.PortValue.{PortValue}
 use Rattle.pals_base.specs.Steps.{column, cut}
 use Rattle.pals_model.specs.declared.design.Link.{Link}
 use Rattle.pals_runs.specs.declared.pairs.Pair.{Pair}
@@ -11,10 +11,10 @@ use Rattle.plant_fuse.specs.proof.Partners.{partner_of, is_inside}
 abbrev pub sent_count : Bool → Stage → ℕ
 sent_count inside stage = if inside then length stage.rows else stage.sent
 
-abbrev pub sent_from : Bool → Option Stage → ℕ → List Port
+abbrev pub sent_from : Bool → Option Stage → ℕ → List PortValue
 sent_from inside None port = []
 sent_from inside (Some stage) port = cut (sent_count inside stage) (column port stage.rows)
 
 -- the message of a link, from the rows of its source
-abbrev pub sent_on : List Pair → List Stage → Link → List Port
+abbrev pub sent_on : List Pair → List Stage → Link → List PortValue
 sent_on pairs stages link = sent_from (is_inside (partner_of pairs link.source.0) link) (slice_get stages link.source.0) link.out_port

@@ -1,6 +1,6 @@
 -- The steps of all components in a round, and what they leave.
 use Rattle.std.specs.Prelude.{◌≡◌, ◌≢◌, ℕ, List, map, Some, None, slice_get, slice_index_or}
-use Rattle.pals_base.specs.declared.values.Port.{Port}
+use Rattle.pals_base.specs.declared.values.PortValue.{PortValue}
 use Rattle.pals_base.specs.declared.values.Frame.{Frame}
 use Rattle.pals_base.specs.Steps.{column}
 use Rattle.pals_model.specs.declared.design.Component.{Component}
@@ -13,7 +13,7 @@ use Rattle.sync_product.specs.declared.reads.RoundInputs.{RoundInputs}
 use Rattle.sync_product.specs.declared.stage.Stage.{Stage}
 use Rattle.sync_product.specs.proof.Sizes.{tap_ports}
 use Rattle.sync_product.specs.proof.Rounds.{IsStepped, frames_of}
-use Rattle.plant_fuse.specs.declared.sides.Given.{Given}
+use Rattle.plant_fuse.specs.declared.sides.StepContext.{StepContext}
 use Rattle.plant_fuse.specs.proof.Partners.{partner_of}
 use Rattle.plant_fuse.specs.proof.Sides.{Seat, Work, AreMade}
 
@@ -22,14 +22,14 @@ abbrev pub seat : DesignParts → ℕ → ℕ → Component → Seat
 seat design node partner c = record { partner = partner; component = c; sources = sources_of design node c }
 
 -- what is given to its steps
-pub record IsGiven (design : DesignParts) (parts : List Part) (node : ℕ) (given : Given) : Type 0 where
+pub record IsGiven (design : DesignParts) (parts : List Part) (node : ℕ) (given : StepContext) : Type 0 where
   pub component_is : slice_get design.components node ≡ Some given.component.now
   pub sources_are : given.sources.now ≡ sources_of design node given.component.now
   pub from_is : given.from.now ≡ slice_index_or (frames_of parts) node no_frame
   pub taps_are : given.taps.now ≡ tap_ports design.taps node
 
 -- ---- what stands behind the round
-abbrev pub rows_of : List Stage → List (List (List Port))
+abbrev pub rows_of : List Stage → List (List (List PortValue))
 rows_of stages = map (λ (s : Stage). s.rows) stages
 
 abbrev pub part_of_work : DesignParts → ℕ → Work → Part

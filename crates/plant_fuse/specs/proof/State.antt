@@ -3,12 +3,12 @@ use Rattle.std.specs.Prelude.{◌≡◌, ℕ, suc, ◌<◌, List, map, refl}
 use Rattle.std.specs.List.{enumerate_from}
 use Rattle.std.specs.Coded.{Coded, code_by, coded×, coded_list}
 use Rattle.pals_base.specs.contracts.values.Frame.{the_row as frames}
-use Rattle.pals_base.specs.contracts.values.Port.{the_row as ports}
+use Rattle.pals_base.specs.contracts.values.PortValue.{the_row as ports}
 use Rattle.pals_model.specs.contracts.design.DesignParts.{the_row as design_parts}
 use Rattle.pals_model.specs.contracts.rounds.Part.{the_row as parts}
 use Rattle.pals_runs.specs.contracts.pairs.Pair.{the_row as all_pairs}
 use Rattle.pals_base.specs.declared.values.Frame.{Frame}
-use Rattle.pals_base.specs.declared.values.Port.{Port}
+use Rattle.pals_base.specs.declared.values.PortValue.{PortValue}
 use Rattle.pals_base.specs.Steps.{frame_after}
 use Rattle.pals_model.specs.declared.design.Component.{Component}
 use Rattle.pals_model.specs.declared.design.Tap.{Tap}
@@ -32,7 +32,7 @@ pub record FuseState : Type 0 where
 -- a state is stored as its parts
 abbrev pub state_code : Coded FuseState
 state_code =
-    code_by (DesignParts × (List Pair × (List Frame × (List (List Port) × List Part))))
+    code_by (DesignParts × (List Pair × (List Frame × (List (List PortValue) × List Part))))
     (coded× design_parts.coded (coded× (coded_list all_pairs.coded) (coded× (coded_list frames.coded) (coded× (coded_list (coded_list ports.coded)) (coded_list parts.coded)))))
     (λ s. (s.design, (s.pairs, (s.configuration.frames, (s.configuration.messages, s.parts)))))
     (λ p. record { design = p.0; pairs = p.1.0; configuration = record { frames = p.1.1.0; messages = p.1.1.1.0 }; parts = p.1.1.1.1 })
@@ -62,7 +62,7 @@ advanced state vectors = record {
 }
 
 -- with these values of the root in ports: the steps read what they are to read, and the state is what they leave
-pub record IsAdvanced (old : FuseState) (values : List Port) (new : FuseState) : Type 0 where
+pub record IsAdvanced (old : FuseState) (values : List PortValue) (new : FuseState) : Type 0 where
   pub vectors : Inputs
   pub reads : IsFusedRound old.design old.pairs values old.configuration vectors
   pub leaves : new ≡ advanced old vectors

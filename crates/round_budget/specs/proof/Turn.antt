@@ -8,16 +8,16 @@ use Rattle.pals_base.specs.declared.values.Adaptor.TheVariants.{Repeat, Last, Av
 use Rattle.pals_base.specs.declared.behaviour.Kind.TheVariants.{Integer}
 use Rattle.pals_base.specs.declared.behaviour.Op.{Op}
 use Rattle.pals_base.specs.declared.behaviour.Op.TheVariants.{Add, Sub, Lt, Gt}
-use Rattle.pals_base.specs.declared.behaviour.Named.{Named}
+use Rattle.pals_base.specs.declared.behaviour.PortDecl.{PortDecl}
 use Rattle.pals_base.specs.declared.behaviour.VarDecl.{VarDecl}
 use Rattle.pals_base.specs.declared.behaviour.StateDecl.{StateDecl}
 use Rattle.pals_base.specs.declared.behaviour.BehaviourParts.{BehaviourParts}
-use Rattle.pals_base.specs.Tree.{Expression, Literal, Variable, PortValue, Chain, NoMore, Then, Assign, Emit, Actions, Nothing, Do, Dispatch, Always, When, Trigger, Edge}
+use Rattle.pals_base.specs.Tree.{Expression, Literal, Variable, PortRead, Chain, NoMore, Then, Assign, Emit, Actions, Nothing, Do, Dispatch, Always, When, Trigger, Edge}
 use Rattle.pals_model.specs.declared.design.Component.{Component}
 use Rattle.pals_model.specs.declared.design.Link.{Link}
 use Rattle.pals_model.specs.declared.design.DesignParts.{DesignParts}
 
-abbrev port_named : List ℕ → Named
+abbrev port_named : List ℕ → PortDecl
 port_named name = record { name = name; kind = Integer }
 
 abbrev variable : List ℕ → VarDecl
@@ -35,8 +35,8 @@ edge source target trigger actions = record { source = source; target = target; 
 -- sum := l + r + t; cmd!(goal)
 abbrev main_actions : Actions
 main_actions =
-    Do (Assign 0 (Chain (PortValue 1) (Then Add (PortValue 2) (Then Add (PortValue 3) NoMore))))
-    (Do (Emit 0 (PortValue 0)) Nothing)
+    Do (Assign 0 (Chain (PortRead 1) (Then Add (PortRead 2) (Then Add (PortRead 3) NoMore))))
+    (Do (Emit 0 (PortRead 0)) Nothing)
 
 abbrev pub main : BehaviourParts
 main = record {
@@ -64,8 +64,8 @@ surface = record {
   initial = 0;
   transitions =
       edge 0 1 Dispatch Nothing
-      ∷ edge 1 0 (When (binary (PortValue 0) Gt (Variable 0))) (moved Add)
-      ∷ edge 1 0 (When (binary (PortValue 0) Lt (Variable 0))) (moved Sub)
+      ∷ edge 1 0 (When (binary (PortRead 0) Gt (Variable 0))) (moved Add)
+      ∷ edge 1 0 (When (binary (PortRead 0) Lt (Variable 0))) (moved Sub)
       ∷ edge 1 0 Always shown
       ∷ [];
 }

@@ -4,7 +4,7 @@ use Rattle.pals_base.specs.declared.limits.TheConstants.{HOUR}
 use Rattle.step_code.specs.declared.instr.CodeParts.{CodeParts}
 use Rattle.round_budget.specs.Budgets.{serve, by_most, line_from}
 use Rattle.round_budget.specs.declared.releases.Release.{Release}
-use Rattle.round_budget.specs.declared.serving.Line.{Line}
+use Rattle.round_budget.specs.declared.serving.TimetableLine.{TimetableLine}
 use Rattle.round_budget.specs.Budgets as budgets
 
 -- a release of the first round
@@ -14,10 +14,10 @@ release_value release = record { node = release.node.0; round = 0; step = releas
 abbrev pub AreReleases : List Release → List budgets.Release → Type 0
 AreReleases made all = map release_value made ≡ all
 
-abbrev pub line_value : Line → budgets.Line
+abbrev pub line_value : TimetableLine → budgets.Line
 line_value line = record { node = line.node.0; step = line.step; begin = line.begin; done = line.done }
 
-abbrev pub AreLines : List Line → List budgets.Line → Type 0
+abbrev pub AreLines : List TimetableLine → List budgets.Line → Type 0
 AreLines made all = map line_value made ≡ all
 
 -- the lines of releases that are served one after the other, counted from a start

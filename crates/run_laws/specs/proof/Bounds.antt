@@ -1,6 +1,6 @@
 -- The law that a stop keeps the bounds.
 use Rattle.std.specs.Prelude.{IfSome}
-use Rattle.run_laws.specs.proof.Each.{InRuns}
+use Rattle.run_laws.specs.proof.EachRun.{InRuns}
 use Rattle.run_laws.specs.Bounds.{BoundedStop}
 
 abbrev pub StopsAreBounded : Type 0

@@ -5,18 +5,18 @@ use Rattle.pals_clock.specs.declared.clock.Clocks.{Clocks}
 use Rattle.pals_clock.specs.declared.clock.Clocks.TheVariants.{Meet, Lists}
 use Rattle.pals_model.specs.Delays.{delay_of}
 use Rattle.pals_runs.specs.declared.journal.JournalEntry.{JournalEntry}
-use Rattle.bus_machine.specs.proof.Laws.{IsRunOf}
+use Rattle.bus_machine.specs.proof.MachineLaws.{IsRunOf}
 use Rattle.bus_machine.specs.Plans.{plan_of}
 use Rattle.bus_machine.specs.States.{Run, BusState, link_at}
 use Rattle.bus_machine.specs.Targets.{target}
-use Rattle.run_laws.specs.proof.Each.{InRuns}
-use Rattle.run_laws.specs.Each.{EachNode, EachLink}
+use Rattle.run_laws.specs.proof.EachRun.{InRuns}
+use Rattle.run_laws.specs.EachRun.{EachNode, EachLink}
 use Rattle.run_laws.specs.Timely.{AllAtEnd, IsTimely, PicksAll}
 use Rattle.run_laws.specs.proof.Ending.{IsFirstEnded}
 use Rattle.run_laws.specs.Meetings.{AllDone, IsLate, DelaysFit}
 use Rattle.run_laws.specs.Picked.{IsPickFor}
 use Rattle.run_laws.specs.Runs.{Runs, lists_in}
-use Rattle.bus_machine.specs.declared.action.Action.TheVariants as action
+use Rattle.bus_machine.specs.declared.action.NodeAction.TheVariants as action
 
 -- ---- in time
 -- with list clocks the message of a link's round is due after each start of that round, and of those before it

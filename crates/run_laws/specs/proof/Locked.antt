@@ -5,7 +5,7 @@ use Rattle.pals_base.specs.declared.values.LinkNo.{LinkNo}
 use Rattle.pals_clock.specs.Clock.{ClockState, standing_at}
 use Rattle.pals_model.specs.declared.design.Link.{Link}
 use Rattle.pals_model.specs.declared.flight.FlightCopy.{FlightCopy}
-use Rattle.bus_machine.specs.declared.action.Action.{Action}
+use Rattle.bus_machine.specs.declared.action.NodeAction.{NodeAction}
 use Rattle.bus_machine.specs.Plans.{plan_of}
 use Rattle.bus_machine.specs.Agreement.{Agrees}
 use Rattle.bus_machine.specs.NodeEvents.{is_waiting}
@@ -18,7 +18,7 @@ use Rattle.run_laws.specs.NodeActions.{upcoming}
 use Rattle.pals_clock.specs.declared.clock.Clocks.{Clocks}
 use Rattle.pals_clock.specs.declared.clock.Clocks.TheVariants.{Lists}
 use Rattle.run_laws.specs.Runs.{clock_at, Does, HasEnded, IsAwaited, Picks, KeepsTo, left_for, next_start}
-use Rattle.run_laws.specs.proof.Each.{InRuns}
+use Rattle.run_laws.specs.proof.EachRun.{InRuns}
 
 -- the journal of a run replays to its state, and the state agrees with the composition
 abbrev pub RunsReplay : Type 0
@@ -28,14 +28,14 @@ RunsReplay = InRuns (λ run clocks journal s. Replays run journal s × Agrees ru
 -- a list that answers has picked for its node's next action
 abbrev pub ListPicks : Type 0
 ListPicks =
-    (run : Run) (clocks : List ClockState) (s : BusState) (node : ℕ) (action : Action) → node < length run.design.components
+    (run : Run) (clocks : List ClockState) (s : BusState) (node : ℕ) (action : NodeAction) → node < length run.design.components
     → upcoming (plan_of run.design node) (node_at s node) ≡ Some action
     → Picks run clocks s node (slice_set clocks node (standing_at (clock_at clocks node) (left_for run clocks node action)))
 
 -- one all of whose readings are below that action's target has ended
 abbrev pub ListEnds : Type 0
 ListEnds =
-    (run : Run) (clocks : List ClockState) (s : BusState) (node : ℕ) (action : Action)
+    (run : Run) (clocks : List ClockState) (s : BusState) (node : ℕ) (action : NodeAction)
     → upcoming (plan_of run.design node) (node_at s node) ≡ Some action
     → All (λ reading. reading < target (plan_of run.design node) action) (clock_at clocks node).left
     → HasEnded run clocks s node

@@ -1,6 +1,6 @@
 -- Laws of nodes that meet: what lines show, and how a run ends or stops.
 use Rattle.std.specs.Prelude.{◌≡◌, ℕ, [], None, IfSome}
-use Rattle.run_laws.specs.proof.Each.{InMeetings}
+use Rattle.run_laws.specs.proof.EachRun.{InMeetings}
 use Rattle.run_laws.specs.Meetings.{ShowTargets, AllDone, IsLate, MeetingStop, DelaysFit}
 
 abbrev pub MeetingsShowTargets : Type 0

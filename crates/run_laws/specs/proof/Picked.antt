@@ -10,8 +10,8 @@ use Rattle.bus_machine.specs.Targets.{targets}
 use Rattle.run_laws.specs.Shown.{acts}
 use Rattle.run_laws.specs.NodeActions.{Follows}
 use Rattle.run_laws.specs.Runs.{clock_at}
-use Rattle.run_laws.specs.proof.Each.{InListRuns}
-use Rattle.run_laws.specs.Each.{EachNode}
+use Rattle.run_laws.specs.proof.EachRun.{InListRuns}
+use Rattle.run_laws.specs.EachRun.{EachNode}
 use Rattle.run_laws.specs.Picked.{IsPrefix, picks_of, LinesAre}
 
 -- ---- of a node

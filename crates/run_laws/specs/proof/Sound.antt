@@ -8,7 +8,7 @@ use Rattle.pals_runs.specs.declared.verdicts.Verdict.TheVariants.{Sound}
 use Rattle.bus_machine.specs.States.{finished_by_all}
 use Rattle.run_laws.specs.Reports.{lines_of}
 use Rattle.run_laws.specs.Traces.{verdict}
-use Rattle.run_laws.specs.proof.Each.{InRuns}
+use Rattle.run_laws.specs.proof.EachRun.{InRuns}
 use Rattle.run_laws.specs.Histories.{IsStoppedOrDone, trace_of}
 use Rattle.run_laws.specs.Runs.{clock_at}
 

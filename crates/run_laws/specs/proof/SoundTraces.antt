@@ -10,11 +10,11 @@ use Rattle.pals_runs.specs.declared.verdicts.Verdict.TheVariants.{Sound}
 use Rattle.bus_machine.specs.Plans.{plan_of}
 use Rattle.bus_machine.specs.States.{Run, BusState, finished_by_all}
 use Rattle.bus_machine.specs.Replay.{Replays}
-use Rattle.bus_machine.specs.proof.Laws.{IsRunOf}
+use Rattle.bus_machine.specs.proof.MachineLaws.{IsRunOf}
 use Rattle.run_laws.specs.TraceLines.{told}
 use Rattle.run_laws.specs.Traces.{verdict}
-use Rattle.run_laws.specs.proof.Each.{InRuns}
-use Rattle.run_laws.specs.proof.Hours.{LinesRise}
+use Rattle.run_laws.specs.proof.EachRun.{InRuns}
+use Rattle.run_laws.specs.proof.RisingReadings.{LinesRise}
 use Rattle.run_laws.specs.proof.Sound.{AreReadings}
 use Rattle.run_laws.specs.Histories.{History, IsStoppedOrDone, IsTraceOf, trace_of}
 use Rattle.pals_runs.specs.declared.journal.Stop.TheVariants as stop

@@ -15,8 +15,8 @@ use Rattle.run_laws.specs.proof.Timing.{due_of}
 use Rattle.pals_clock.specs.declared.clock.Clocks.{Clocks}
 use Rattle.pals_clock.specs.declared.clock.Clocks.TheVariants.{Meet, Lists}
 use Rattle.run_laws.specs.Runs.{HasEnded}
-use Rattle.run_laws.specs.proof.Each.{InRuns}
-use Rattle.run_laws.specs.Each.{EachNode}
+use Rattle.run_laws.specs.proof.EachRun.{InRuns}
+use Rattle.run_laws.specs.EachRun.{EachNode}
 use Rattle.pals_runs.specs.declared.journal.Stop.TheVariants as stop
 
 -- ---- readings

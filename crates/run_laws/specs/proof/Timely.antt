@@ -5,8 +5,8 @@ use Rattle.bus_machine.specs.Plans.{plan_of}
 use Rattle.bus_machine.specs.States.{node_at}
 use Rattle.bus_machine.specs.Targets.{target}
 use Rattle.run_laws.specs.Runs.{HasEnded}
-use Rattle.run_laws.specs.proof.Each.{InListRuns}
-use Rattle.run_laws.specs.Each.{EachNode, EachLink}
+use Rattle.run_laws.specs.proof.EachRun.{InListRuns}
+use Rattle.run_laws.specs.EachRun.{EachNode, EachLink}
 use Rattle.run_laws.specs.Timely.{AllOver, IsTimely, IsOver, PicksAll, PicksEndAt, ListStop}
 
 -- where all nodes have, each round of each link is in time

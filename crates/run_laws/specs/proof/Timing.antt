@@ -1,7 +1,7 @@
 -- When the messages of a link become due, and where they are.
 use Rattle.std.specs.Prelude.{◌≡◌, ℕ, ◌+◌, ◌-◌, ◌<◌, ◌≤◌, nat_eq, Bool, true, false, if◌then◌else◌, List, [], ◌∷◌, length, All, Option, Some, None, is_some, slice_get}
 use Rattle.std.specs.Option.{option_map}
-use Rattle.pals_base.specs.declared.values.Port.{Port}
+use Rattle.pals_base.specs.declared.values.PortValue.{PortValue}
 use Rattle.pals_model.specs.declared.design.Link.{Link}
 use Rattle.pals_model.specs.declared.flight.FlightCopy.{FlightCopy}
 use Rattle.pals_model.specs.Delays.{delay_of}
@@ -12,8 +12,8 @@ use Rattle.bus_machine.specs.NodeEvents.{slot_at}
 use Rattle.bus_machine.specs.States.{Run, BusState, node_at, flight_at, link_at}
 use Rattle.bus_machine.specs.Stops.{sent_rounds}
 use Rattle.run_laws.specs.Shown.{starts, sends, latest}
-use Rattle.run_laws.specs.proof.Each.{InRuns}
-use Rattle.run_laws.specs.Each.{EachLink}
+use Rattle.run_laws.specs.proof.EachRun.{InRuns}
+use Rattle.run_laws.specs.EachRun.{EachLink}
 use Rattle.pals_runs.specs.declared.journal.Stop.TheVariants as stop
 
 -- ---- what a journal and a state show of a link
@@ -24,7 +24,7 @@ pub record LinkView : Type 0 where
   pub latest : ℕ
   -- how many rounds the target has started, the link's slot there, and the copies in flight
   pub count : ℕ
-  pub slot : Option (List Port)
+  pub slot : Option (List PortValue)
   pub flight : List FlightCopy
   -- the round of an early stop on it
   pub taken : Option ℕ
@@ -59,7 +59,7 @@ copies round [] = 0
 copies round (c ∷ cs) = one_if (is_of round c) + copies round cs
 
 -- where the message of a round is that its source has sent: once in flight, in its slot, taken by a start, or taken by an early stop
-pub data Whereabouts (round count : ℕ) (slot : Option (List Port)) (flying : ℕ) (taken : Option ℕ) : Type 0 where
+pub data Whereabouts (round count : ℕ) (slot : Option (List PortValue)) (flying : ℕ) (taken : Option ℕ) : Type 0 where
   in_flight : flying ≡ 1 → count ≤ round + 1 → (count ≡ round + 1 → slot ≡ None) → Whereabouts round count slot flying taken
   in_slot : flying ≡ 0 → count ≡ round + 1 → is_some slot ≡ true → Whereabouts round count slot flying taken
   was_taken : flying ≡ 0 → round + 1 < count → Whereabouts round count slot flying taken

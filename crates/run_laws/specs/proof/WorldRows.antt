@@ -9,9 +9,9 @@ use Rattle.bus_machine.specs.States.{Run}
 use Rattle.run_laws.specs.Worlds.{World, world_run, opening_world, world_after}
 use Rattle.run_laws.specs.Faults.{fault_of}
 use Rattle.bus_machine.specs.WorldTexts.{world_lines}
-use Rattle.bus_machine.specs.proof.Rows.{a, b, to_a, to_b}
+use Rattle.bus_machine.specs.proof.CounterMachine.{a, b, to_a, to_b}
 use Rattle.pals_runs.specs.declared.events.EventFault.TheVariants as fault
-use Rattle.pals_runs.specs.declared.events.Which.TheVariants as which
+use Rattle.pals_runs.specs.declared.events.EventSubject.TheVariants as which
 
 abbrev pub counters_world : ℕ → Run
 counters_world rounds = world_run two_counters no_env rounds

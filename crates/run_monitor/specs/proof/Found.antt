@@ -3,7 +3,7 @@ use Rattle.std.specs.Prelude.{◌≡◌, ℕ, ◌<◌, true, false, List, Some, 
 use Rattle.pals_model.specs.declared.design.DesignParts.{DesignParts}
 use Rattle.pals_model.specs.declared.rounds.Env.{Env}
 use Rattle.pals_runs.specs.Formula.{Formula}
-use Rattle.run_monitor.specs.declared.violation.Violation.{Violation}
+use Rattle.run_monitor.specs.declared.violation.FalseProperty.{FalseProperty}
 use Rattle.run_monitor.specs.Monitors.{holds}
 use Rattle.run_monitor.specs.Violations.{history, violation, is_violated}
 
@@ -12,7 +12,7 @@ abbrev pub AllHold : DesignParts → Env → ℕ → List Formula → ℕ → Ty
 AllHold design env rounds fs round = (k : ℕ) (f : Formula) → slice_get fs k ≡ Some f → holds f (history design env rounds) round ≡ true
 
 -- this is the least round at which one is false, and the first that is false there
-pub record IsFirst (design : DesignParts) (env : Env) (rounds : ℕ) (fs : List Formula) (v : Violation) (f : Formula) : Type 0 where
+pub record IsFirst (design : DesignParts) (env : Env) (rounds : ℕ) (fs : List Formula) (v : FalseProperty) (f : Formula) : Type 0 where
   pub within : v.round < rounds
   pub is : slice_get fs v.property ≡ Some f
   pub false_there : holds f (history design env rounds) v.round ≡ false
@@ -22,7 +22,7 @@ pub record IsFirst (design : DesignParts) (env : Env) (rounds : ℕ) (fs : List 
 abbrev pub ViolatedIsFirst : Type 0
 ViolatedIsFirst =
     (design : DesignParts) (env : Env) (rounds : ℕ) (fs : List Formula) → is_violated design env rounds fs ≡ true
-    → (v : Violation) × (f : Formula) × IsFirst design env rounds fs v f × (violation fs (history design env rounds) rounds ≡ Some v)
+    → (v : FalseProperty) × (f : Formula) × IsFirst design env rounds fs v f × (violation fs (history design env rounds) rounds ≡ Some v)
 
 -- where there is none, all hold throughout
 abbrev pub OthersHold : Type 0

@@ -5,19 +5,19 @@ use Rattle.pals_base.specs.declared.values.Frame.{Frame}
 use Rattle.pals_model.specs.declared.design.DesignParts.{DesignParts}
 use Rattle.pals_model.specs.declared.rounds.Env.{Env}
 use Rattle.pals_runs.specs.Formula.{Formula}
-use Rattle.run_monitor.specs.declared.violation.Violation.{Violation}
-use Rattle.run_monitor.specs.contracts.violation.Violation.{the_row as violations}
+use Rattle.run_monitor.specs.declared.violation.FalseProperty.{FalseProperty}
+use Rattle.run_monitor.specs.contracts.violation.FalseProperty.{the_row as violations}
 use Rattle.run_monitor.specs.Violations.{history, verdicts, violation}
 use Rattle.run_monitor.specs.proof.States.{MonitorState, state_code, whole, said, StandsFor, GoesOn}
 
 pub record MonitorsState : Type 0 where
   pub monitors : List MonitorState
   -- the least round at which a formula was false, and the first that was false there
-  pub violation : Option Violation
+  pub violation : Option FalseProperty
 
 abbrev pub monitors_code : Coded MonitorsState
 monitors_code =
-    code_by (List MonitorState × Option Violation) (coded× (coded_list state_code) (coded_option violations.coded))
+    code_by (List MonitorState × Option FalseProperty) (coded× (coded_list state_code) (coded_option violations.coded))
     (λ m. (m.monitors, m.violation)) (λ p. record { monitors = p.0; violation = p.1 }) (λ _. refl)
 
 -- what each formula said at the last round

@@ -5,7 +5,7 @@ use Rattle.pals_base.specs.declared.values.Frame.{Frame}
 use Rattle.pals_runs.specs.Formula.{Formula}
 use Rattle.pals_runs.specs.proof.FormulaCode.{formula_code}
 use Rattle.run_monitor.specs.Monitors.{frame_in, holds}
-use Rattle.run_monitor.specs.proof.Further.{further}
+use Rattle.run_monitor.specs.proof.MonitorSteps.{further}
 use Rattle.run_monitor.specs.declared.forms.FlatForm.{FlatForm}
 use Rattle.pals_runs.specs.proof.FormulaNames.{reads, names}
 use Rattle.run_monitor.specs.proof.Flat.{formula_at, forms_of, IsFlat}

@@ -8,8 +8,8 @@ use Rattle.pals_bus.specs.Values.{BusValue}
 use Rattle.loose_world.specs.proof.Finished.{common_lines}
 use Rattle.node_threads.specs.declared.ends.NodeEnd.{NodeEnd}
 use Rattle.node_threads.specs.declared.ends.NodeEnd.TheVariants.{Finished, ClockEnded}
-use Rattle.run_texts.specs.declared.told.ToldRun.{ToldRun}
-use Rattle.run_texts.specs.declared.told.ToldRun.TheVariants as told
+use Rattle.run_texts.specs.declared.told.RunReport.{RunReport}
+use Rattle.run_texts.specs.declared.told.RunReport.TheVariants as told
 
 -- a node is done, or its list has ended
 abbrev pub IsComeEnd : NodeEnd → Type 0
@@ -30,7 +30,7 @@ pub record AreFirst (ends : List NodeEnd) (many : ℕ) (named : Option (NodeNo �
 abbrev pub journal_lines : BusValue → List ℕ
 journal_lines b = text_of (map (entry_line b.run.design) b.journal)
 
-abbrev pub TellsEnd : BusValue → List NodeEnd → Bool → ToldRun → Type 0
+abbrev pub TellsEnd : BusValue → List NodeEnd → Bool → RunReport → Type 0
 TellsEnd b ends trace (told.Completed text) =
     (b.state.stop ≡ None) × AreFirst ends (length ends) None
     × (text.items ≡ text_of (common_lines b) ++ (if trace then journal_lines b else []))

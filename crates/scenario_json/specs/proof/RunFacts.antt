@@ -2,7 +2,7 @@
 use Rattle.std.specs.Prelude.{ℕ, ◌≡◌, ◌<◌, ◌≤◌, List, length, All}
 use Rattle.std.specs.List.Sorted.{IsNonDecreasing}
 use Rattle.pals_base.specs.declared.limits.TheConstants.{HOUR, READING}
-use Rattle.pals_base.specs.declared.values.Port.{Port}
+use Rattle.pals_base.specs.declared.values.PortValue.{PortValue}
 use Rattle.pals_clock.specs.Clock.{ClockState, unpicked}
 use Rattle.pals_clock.specs.declared.clock.Clocks.{Clocks}
 use Rattle.pals_clock.specs.declared.clock.Clocks.TheVariants.{Meet, Lists}
@@ -10,7 +10,7 @@ use Rattle.pals_model.specs.declared.design.DesignParts.{DesignParts}
 use Rattle.pals_model.specs.Inputs.{root_inputs}
 
 -- a list of values for each root in port
-abbrev pub AreInputsOf : DesignParts → List (List Port) → Type 0
+abbrev pub AreInputsOf : DesignParts → List (List PortValue) → Type 0
 AreInputsOf design lists = length lists ≡ length (root_inputs design)
 
 -- one or more delays of at most an hour

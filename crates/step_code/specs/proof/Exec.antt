@@ -2,7 +2,7 @@
 use Rattle.std.specs.Prelude.{◌≡◌, ℕ, zero, suc, ℤ, Bool, true, false, List, [], length, take, Option, Some, None, slice_get}
 use Rattle.pals_base.specs.declared.values.Trap.{Trap}
 use Rattle.pals_base.specs.declared.values.Frame.{Frame}
-use Rattle.pals_base.specs.declared.values.Port.{Port}
+use Rattle.pals_base.specs.declared.values.PortValue.{PortValue}
 use Rattle.pals_base.specs.Fire.{Fired, holding}
 use Rattle.step_code.specs.declared.instr.Instr.{Instr}
 use Rattle.step_code.specs.declared.instr.CodeParts.{CodeParts}
@@ -12,13 +12,13 @@ use Rattle.step_code.specs.Made.{silent, senses, slots_of}
 
 -- how a run ends
 pub data Outcome : Type 0 where
-  Ended : (state : ℕ) (slots : List ℤ) (outs : List Port) → Outcome
+  Ended : (state : ℕ) (slots : List ℤ) (outs : List PortValue) → Outcome
   Trapped : Trap → Outcome
   Stuck : Outcome
   Unfinished : Outcome
 
 abbrev pub Rest : Type 0
-Rest = ℕ → List ℤ → List ℤ → List Port → Outcome
+Rest = ℕ → List ℤ → List ℤ → List PortValue → Outcome
 
 abbrev pub then_run : Next → Rest → Outcome
 then_run (Goes place stack slots outs) rest = rest place stack slots outs
@@ -47,11 +47,11 @@ left c held Stuck = IsStuck
 left c held Unfinished = IsUnfinished
 
 -- from a place on, within the code's weight
-abbrev pub run_from : CodeParts → Frame → List Port → ℕ → Outcome
+abbrev pub run_from : CodeParts → Frame → List PortValue → ℕ → Outcome
 run_from c held inputs place =
     run c.instrs (senses held.held inputs) (weight_of c) place [] (slots_of c held.vars) (silent c)
 
-abbrev pub from_entry : CodeParts → Frame → List Port → Option (Option ℕ) → Outcome
+abbrev pub from_entry : CodeParts → Frame → List PortValue → Option (Option ℕ) → Outcome
 from_entry c held inputs (Some (Some e)) = run_from c held inputs e
 from_entry c held inputs (Some None) = Stuck
 from_entry c held inputs None = Stuck
@@ -62,7 +62,7 @@ unless_halted c held None ran = left c held ran
 unless_halted c held (Some trap) ran = Leaves (record { frame = held; outs = silent c })
 
 -- a step of code: it holds each present input first
-abbrev pub exec : CodeParts → Frame → List Port → Executed
+abbrev pub exec : CodeParts → Frame → List PortValue → Executed
 exec c frame inputs =
     let held : Frame = record frame { held = holding frame.held inputs } in
     unless_halted c held frame.halt (from_entry c held inputs (slice_get c.entries frame.state))
@@ -80,7 +80,7 @@ pub record FitsCode (c : CodeParts) (frame : Frame) : Type 0 where
   pub held : length frame.held ≡ c.ins
 
 -- the frame, and inputs, have the code's numbers of variables and in ports
-pub record Sized (c : CodeParts) (frame : Frame) (inputs : List Port) : Type 0 where
+pub record Sized (c : CodeParts) (frame : Frame) (inputs : List PortValue) : Type 0 where
   pub vars : length frame.vars ≡ c.vars
   pub ins : length frame.held ≡ c.ins
   pub inputs' : length inputs ≡ c.ins

@@ -1,7 +1,7 @@
 -- When code does what a behaviour does.
 use Rattle.std.specs.Prelude.{◌≡◌, ℕ, List, length, Some, slice_get}
 use Rattle.pals_base.specs.declared.values.Frame.{Frame}
-use Rattle.pals_base.specs.declared.values.Port.{Port}
+use Rattle.pals_base.specs.declared.values.PortValue.{PortValue}
 use Rattle.pals_base.specs.declared.behaviour.BehaviourParts.{BehaviourParts}
 use Rattle.pals_base.specs.declared.behaviour.StateDecl.{StateDecl}
 use Rattle.pals_base.specs.Fire.{HasShape, fire}
@@ -16,5 +16,5 @@ pub record Means (c : CodeParts) (b : BehaviourParts) : Type 0 where
   pub states : length c.entries ≡ length b.states
   pub entries : (state : ℕ) (d : StateDecl) → slice_get b.states state ≡ Some d
       → has_entry (slice_get c.entries state) ≡ d.complete
-  pub steps : (frame : Frame) (inputs : List Port) → HasShape b frame → length inputs ≡ length b.ins
+  pub steps : (frame : Frame) (inputs : List PortValue) → HasShape b frame → length inputs ≡ length b.ins
       → exec c frame inputs ≡ Leaves (fire b frame inputs)

@@ -6,7 +6,7 @@ use Rattle.step_code.specs.declared.instr.Instr.TheVariants.{Load, Store, Port, 
 use Rattle.step_code.specs.declared.instr.CodeParts.{CodeParts}
 use Rattle.step_code.specs.declared.fault.CodeFault.{CodeFault}
 use Rattle.pals_base.specs.declared.limits.TheConstants.{INSTRUCTIONS}
-use Rattle.step_code.specs.declared.loops.Loop.{Loop}
+use Rattle.step_code.specs.declared.loops.LoopSpan.{LoopSpan}
 use Rattle.step_code.specs.Loops.{loop_at, loops_below, around}
 use Rattle.step_code.specs.Paths.{jump_of, next_of}
 use Rattle.step_code.specs.proof.Exec.{has_entry}
@@ -20,10 +20,10 @@ on_some (Some x) test = test x
 
 -- ---- jumps
 -- whether a place lies in the body of a loop
-abbrev pub inside : ℕ → Loop → Bool
+abbrev pub inside : ℕ → LoopSpan → Bool
 inside p l = nat_lt l.start p && nat_lt p l.exit
 
-abbrev pub agrees : ℕ → ℕ → Loop → Bool
+abbrev pub agrees : ℕ → ℕ → LoopSpan → Bool
 agrees p q l = if inside p l then inside q l else not (inside q l)
 
 -- no body has one of the places alone

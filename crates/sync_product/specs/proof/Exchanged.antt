@@ -1,6 +1,6 @@
 -- The two counters, with their numbers exchanged.
 use Rattle.std.specs.Prelude.{ℕ, ◌-◌, List, [], ◌∷◌, None, codes, reverse}
-use Rattle.pals_base.specs.declared.values.Port.{Port}
+use Rattle.pals_base.specs.declared.values.PortValue.{PortValue}
 use Rattle.pals_model.specs.declared.design.Feed.{Feed}
 use Rattle.pals_model.specs.declared.design.DesignParts.{DesignParts}
 use Rattle.pals_model.specs.declared.rounds.Env.{Env}
@@ -24,5 +24,5 @@ fed_counters = record two_counters { links = []; feeds = fed (codes "x") 0 ∷ f
 abbrev pub exchanged_fed_counters : DesignParts
 exchanged_fed_counters = record exchanged_counters { links = []; feeds = fed (codes "y") 0 ∷ fed (codes "x") 1 ∷ [] }
 
-abbrev pub inputs_of_two : List Port → List Port → Env
+abbrev pub inputs_of_two : List PortValue → List PortValue → Env
 inputs_of_two first second = record { lists = first ∷ second ∷ [] }

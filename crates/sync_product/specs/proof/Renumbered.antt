@@ -1,7 +1,7 @@
 -- When two designs differ only by the numbers of their components.
 use Rattle.std.specs.Prelude.{◌≡◌, ◌↔◌, ◌<◌, ℕ, List, [], map, length, All, Contains, slice_get, slice_index_or}
 use Rattle.pals_base.specs.declared.values.NodeNo.{NodeNo}
-use Rattle.pals_base.specs.declared.values.Port.{Port}
+use Rattle.pals_base.specs.declared.values.PortValue.{PortValue}
 use Rattle.pals_model.specs.declared.design.Link.{Link}
 use Rattle.pals_model.specs.declared.design.Feed.{Feed}
 use Rattle.pals_model.specs.declared.design.Tap.{Tap}
@@ -39,7 +39,7 @@ pub record IsRenumbered (to : ℕ → ℕ) (a b : DesignParts) : Type 0 where
 
 -- ---- inputs
 -- the values of the root in port of a name, round by round; none where the environment has no list for it
-abbrev pub values_of : DesignParts → Env → List ℕ → List Port
+abbrev pub values_of : DesignParts → Env → List ℕ → List PortValue
 values_of design env name = slice_index_or env.lists (place_of name (root_inputs design)) []
 
 -- each root in port has the same values

@@ -1,7 +1,7 @@
 -- What a round reads, makes and sends.
 use Rattle.std.specs.Prelude.{◌≡◌, ℕ, Bool, if◌then◌else◌, List, [], map, Option, Some, None, slice_get, slice_index_or}
-use Rattle.pals_base.specs.declared.values.Port.{Port}
-use Rattle.pals_base.specs.declared.values.Port.TheVariants.{Absent}
+use Rattle.pals_base.specs.declared.values.PortValue.{PortValue}
+use Rattle.pals_base.specs.declared.values.PortValue.TheVariants.{Absent}
 use Rattle.pals_base.specs.declared.values.Frame.{Frame}
 use Rattle.pals_base.specs.Steps.{frame_after, outputs, column, columns, cut}
 use Rattle.pals_model.specs.declared.design.Component.{Component}
@@ -15,25 +15,25 @@ use Rattle.sync_product.specs.declared.stage.Stage.{Stage}
 use Rattle.sync_product.specs.proof.Sizes.{tap_ports}
 
 -- a place of a row where it counts, else an absent one
-abbrev pub place_before : Bool → ℕ → List Port → Port
+abbrev pub place_before : Bool → ℕ → List PortValue → PortValue
 place_before counts port row = if counts then slice_index_or row port Absent else Absent
 
 -- the tuple that a source brings to a component of this rate
-abbrev pub brought : RoundInputs → ℕ → PortSource → List Port
+abbrev pub brought : RoundInputs → ℕ → PortSource → List PortValue
 brought round rate source = reading round.design.now round.values.now round.messages.now rate source
 
 -- the input vectors of a component whose in ports have these sources
-abbrev pub vectors : RoundInputs → Component → List PortSource → List (List Port)
+abbrev pub vectors : RoundInputs → Component → List PortSource → List (List PortValue)
 vectors round c sources = columns c.rate (map (brought round c.rate) sources)
 
 abbrev pub frames_of : List Part → List Frame
 frames_of parts = map (λ (p : Part). p.frame) parts
 
 -- what a component's steps of a round leave: its frame, its outputs in each step, and its part
-abbrev pub own_vectors : RoundInputs → ℕ → Component → List (List Port)
+abbrev pub own_vectors : RoundInputs → ℕ → Component → List (List PortValue)
 own_vectors round node c = vectors round c (sources_of round.design.now node c)
 
-abbrev pub own_rows : RoundInputs → List Frame → ℕ → Component → List (List Port)
+abbrev pub own_rows : RoundInputs → List Frame → ℕ → Component → List (List PortValue)
 own_rows round frames node c = outputs c.behaviour (slice_index_or frames node no_frame) (own_vectors round node c)
 
 abbrev pub own_part : RoundInputs → List Frame → ℕ → Component → Part
@@ -52,9 +52,9 @@ abbrev pub AreStepped : RoundInputs → List Frame → List Part → List Stage 
 AreStepped round frames parts stages = (node : ℕ) (c : Component) → slice_get round.design.now.components node ≡ Some c → IsStepped round frames parts stages node c
 
 -- what a stage sends on an out port
-abbrev pub sent_from : Option Stage → ℕ → List Port
+abbrev pub sent_from : Option Stage → ℕ → List PortValue
 sent_from None port = []
 sent_from (Some stage) port = cut stage.sent (column port stage.rows)
 
-abbrev pub sent_by : List Stage → Link → List Port
+abbrev pub sent_by : List Stage → Link → List PortValue
 sent_by stages link = sent_from (slice_get stages link.source.0) link.out_port

@@ -1,7 +1,7 @@
 -- How much room a product has: it stays the same from round to round.
 use Rattle.std.specs.Prelude.{ℕ, nat_eq, List, length, map, filter, replicate}
 use Rattle.std.specs.List.{enumerate_from}
-use Rattle.pals_base.specs.declared.values.Port.{Port}
+use Rattle.pals_base.specs.declared.values.PortValue.{PortValue}
 use Rattle.pals_base.specs.declared.values.Frame.{Frame}
 use Rattle.pals_base.specs.Bound.{sent_steps}
 use Rattle.pals_model.specs.declared.design.Component.{Component}
@@ -37,7 +37,7 @@ pub record PartSize : Type 0 where
   pub outs : List ℕ
 
 abbrev pub part_size : Part → PartSize
-part_size part = record { frame = frame_size part.frame; outs = map (λ (tuple : List Port). length tuple) part.outs }
+part_size part = record { frame = frame_size part.frame; outs = map (λ (tuple : List PortValue). length tuple) part.outs }
 
 abbrev pub part_size_of : Component → List ℕ → PartSize
 part_size_of c taps = record { frame = frame_size_of c; outs = map (λ (port : ℕ). c.rate) taps }
@@ -58,7 +58,7 @@ stage_size stage = record {
   inputs = length stage.inputs;
   outs = length stage.outs.items;
   before = frame_size stage.before;
-  rows = map (λ (row : List Port). length row) stage.rows;
+  rows = map (λ (row : List PortValue). length row) stage.rows;
   sent = stage.sent;
 }
 

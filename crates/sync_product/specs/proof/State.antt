@@ -3,12 +3,12 @@ use Rattle.std.specs.Prelude.{ℕ, zero, suc, List, map, length, replicate, refl
 use Rattle.std.specs.List.{enumerate_from}
 use Rattle.std.specs.Coded.{Coded, code_by, coded×, coded_list}
 use Rattle.pals_base.specs.contracts.values.Frame.{the_row as frames}
-use Rattle.pals_base.specs.contracts.values.Port.{the_row as ports}
+use Rattle.pals_base.specs.contracts.values.PortValue.{the_row as ports}
 use Rattle.pals_model.specs.contracts.design.DesignParts.{the_row as design_parts}
 use Rattle.pals_model.specs.contracts.rounds.Part.{the_row as parts}
 use Rattle.pals_base.specs.declared.values.Frame.{Frame}
-use Rattle.pals_base.specs.declared.values.Port.{Port}
-use Rattle.pals_base.specs.declared.values.Port.TheVariants.{Absent}
+use Rattle.pals_base.specs.declared.values.PortValue.{PortValue}
+use Rattle.pals_base.specs.declared.values.PortValue.TheVariants.{Absent}
 use Rattle.pals_base.specs.Fire.{initial}
 use Rattle.pals_base.specs.Steps.{Stepped, upwards}
 use Rattle.pals_model.specs.declared.design.Component.{Component}
@@ -28,7 +28,7 @@ pub record ProductState : Type 0 where
 -- a state is stored as its parts
 abbrev pub state_code : Coded ProductState
 state_code =
-    code_by (DesignParts × (List Frame × (List (List Port) × List Part)))
+    code_by (DesignParts × (List Frame × (List (List PortValue) × List Part)))
     (coded× design_parts.coded (coded× (coded_list frames.coded) (coded× (coded_list (coded_list ports.coded)) (coded_list parts.coded))))
     (λ s. (s.design, (s.configuration.frames, (s.configuration.messages, s.parts))))
     (λ p. record { design = p.0; configuration = record { frames = p.1.0; messages = p.1.1.0 }; parts = p.1.1.1 })
@@ -50,7 +50,7 @@ abbrev pub begun : DesignParts → ProductState
 begun design = record { design = design; configuration = opening design; parts = opening_parts design }
 
 -- one round further, with these values of the root in ports
-abbrev pub advanced : ProductState → List Port → ProductState
+abbrev pub advanced : ProductState → List PortValue → ProductState
 advanced state values = record {
   design = state.design;
   configuration = next state.design values state.configuration;

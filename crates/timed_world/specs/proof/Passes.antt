@@ -6,7 +6,7 @@ use Rattle.bus_machine.specs.States.{Run, flight_at}
 use Rattle.run_laws.specs.Worlds.{World}
 use Rattle.run_laws.specs.Deadlines.{message_deadline}
 use Rattle.run_laws.specs.Faults.{past}
-use Rattle.pals_runs.specs.declared.events.Which.TheVariants as which
+use Rattle.pals_runs.specs.declared.events.EventSubject.TheVariants as which
 
 -- it is in flight beyond its last allowed time
 abbrev pub flying_past : Run → World → ℕ → ℕ → ℕ → Option EventFault

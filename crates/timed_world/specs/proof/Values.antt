@@ -7,11 +7,11 @@ use Rattle.pals_model.specs.declared.rounds.Env.{Env}
 use Rattle.step_code.specs.declared.instr.CodeParts.{CodeParts}
 use Rattle.pals_runs.specs.declared.events.Event.{Event}
 use Rattle.bus_machine.specs.Machine.{BusEvent}
-use Rattle.bus_machine.specs.proof.Laws.{IsRunOf}
+use Rattle.bus_machine.specs.proof.MachineLaws.{IsRunOf}
 use Rattle.pals_bus.specs.Values.{BusValue, Happens}
 use Rattle.pals_bus.specs.proof.Values.{opening_bus}
 use Rattle.run_laws.specs.Worlds.{World, world_run, zeros, bus_event, world_after}
-use Rattle.run_laws.specs.proof.Kept.{KeepsTime}
+use Rattle.run_laws.specs.proof.WorldsKeep.{KeepsTime}
 
 -- those of nodes in order, as in the definition of worlds
 pub record WorldValue : Type 0 where

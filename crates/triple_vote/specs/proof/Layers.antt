@@ -1,6 +1,6 @@
 -- What stands for the replicas of one number, and what a round makes of it.
 use Rattle.std.specs.Prelude.{◌≡◌, ℕ, Bool, true, false, List, [], length, map, Option, Some, None, slice_get, slice_index_or}
-use Rattle.pals_base.specs.declared.values.Port.{Port}
+use Rattle.pals_base.specs.declared.values.PortValue.{PortValue}
 use Rattle.pals_base.specs.declared.values.Frame.{Frame}
 use Rattle.pals_base.specs.Bound.{sent_steps}
 use Rattle.pals_base.specs.Fire.{initial}
@@ -18,8 +18,8 @@ use Rattle.sync_product.specs.proof.Rounds.{frames_of, sent_by}
 use Rattle.triple_vote.specs.declared.layer.Layer.{Layer}
 
 -- ---- room
-abbrev pub lengths : List (List Port) → List ℕ
-lengths tuples = map (λ (tuple : List Port). length tuple) tuples
+abbrev pub lengths : List (List PortValue) → List ℕ
+lengths tuples = map (λ (tuple : List PortValue). length tuple) tuples
 
 -- frames alone, without what root out ports show
 abbrev pub frame_sizes : DesignParts → List PartSize
@@ -49,39 +49,39 @@ pub record IsOpened (design : DesignParts) (there : List Bool) (layer : Layer) :
   pub room : length there ≡ length design.components → HasRoom design layer
 
 -- ---- what a component's steps leave, from these frames and from what was received
-abbrev pub frame_made : DesignParts → List Port → List (List Port) → List Frame → ℕ → Component → Frame
+abbrev pub frame_made : DesignParts → List PortValue → List (List PortValue) → List Frame → ℕ → Component → Frame
 frame_made design values heard frames node c =
     frame_after c.behaviour (slice_index_or frames node no_frame) (inputs_of design values heard node c)
 
-abbrev pub rows_made : DesignParts → List Port → List (List Port) → List Frame → ℕ → Component → List (List Port)
+abbrev pub rows_made : DesignParts → List PortValue → List (List PortValue) → List Frame → ℕ → Component → List (List PortValue)
 rows_made design values heard frames node c =
     outputs c.behaviour (slice_index_or frames node no_frame) (inputs_of design values heard node c)
 
 -- its frame, and the rows of its stage
-pub record IsRun (design : DesignParts) (values : List Port) (heard : List (List Port)) (frames : List Frame) (next : List Part) (stages : List Stage)
+pub record IsRun (design : DesignParts) (values : List PortValue) (heard : List (List PortValue)) (frames : List Frame) (next : List Part) (stages : List Stage)
     (node : ℕ) (c : Component) : Type 0 where
   pub frame : slice_get (frames_of next) node ≡ Some (frame_made design values heard frames node c)
   pub rows : slice_get (map (λ (s : Stage). s.rows) stages) node ≡ Some (rows_made design values heard frames node c)
 
 -- those of all components that are there
-abbrev pub AreRun : DesignParts → List Port → List (List Port) → List Bool → List Frame → List Part → List Stage → Type 0
+abbrev pub AreRun : DesignParts → List PortValue → List (List PortValue) → List Bool → List Frame → List Part → List Stage → Type 0
 AreRun design values heard there frames next stages =
     (node : ℕ) (c : Component) → slice_get design.components node ≡ Some c → is_there there node ≡ true
     → IsRun design values heard frames next stages node c
 
 -- ---- what is read off the stages
 -- each link of a component that is there has its message
-abbrev pub AreSent : DesignParts → List Bool → List Stage → List (List Port) → Type 0
+abbrev pub AreSent : DesignParts → List Bool → List Stage → List (List PortValue) → Type 0
 AreSent design there stages sent =
     (l : ℕ) (link : Link) → slice_get design.links l ≡ Some link → is_there there link.source.0 ≡ true
     → slice_get sent l ≡ Some (sent_by stages link)
 
-abbrev pub whole_from : Option Stage → ℕ → List Port
+abbrev pub whole_from : Option Stage → ℕ → List PortValue
 whole_from None port = []
 whole_from (Some stage) port = column port stage.rows
 
 -- each root out port of a component that is there has its whole tuple
-abbrev pub AreWhole : DesignParts → List Bool → List Stage → List (List Port) → Type 0
+abbrev pub AreWhole : DesignParts → List Bool → List Stage → List (List PortValue) → Type 0
 AreWhole design there stages shown =
     (n : ℕ) (tap : Tap) → slice_get design.taps n ≡ Some tap → is_there there tap.source.0 ≡ true
     → slice_get shown n ≡ Some (whole_from (slice_get stages tap.source.0) tap.out_port)
@@ -92,11 +92,11 @@ pub record StaysPut (old new : Layer) : Type 0 where
   pub there : new.there ≡ old.there
   pub parts : new.parts ≡ old.parts
 
-abbrev pub own_rows_of : DesignParts → List Port → List (List Port) → Layer → ℕ → Component → List (List Port)
+abbrev pub own_rows_of : DesignParts → List PortValue → List (List PortValue) → Layer → ℕ → Component → List (List PortValue)
 own_rows_of design values heard layer node c = rows_made design values heard (frames_of layer.parts) node c
 
 -- it has the next frame, the messages and the whole tuples of each component that is there
-pub record IsMade (design : DesignParts) (values : List Port) (heard : List (List Port)) (layer : Layer) : Type 0 where
+pub record IsMade (design : DesignParts) (values : List PortValue) (heard : List (List PortValue)) (layer : Layer) : Type 0 where
   pub frames : (node : ℕ) (c : Component) → slice_get design.components node ≡ Some c → is_there layer.there node ≡ true
       → slice_get (frames_of layer.next) node ≡ Some (frame_made design values heard (frames_of layer.parts) node c)
   pub sent : (l : ℕ) (link : Link) (c : Component) → slice_get design.links l ≡ Some link → slice_get design.components link.source.0 ≡ Some c

@@ -2,11 +2,11 @@
 use Rattle.std.specs.Prelude.{ℕ, zero, suc, Bool, List, map, replicate, refl}
 use Rattle.std.specs.Coded.{Coded, code_by, coded×, coded_bool, coded_list}
 use Rattle.pals_base.specs.contracts.values.Frame.{the_row as frames}
-use Rattle.pals_base.specs.contracts.values.Port.{the_row as ports}
+use Rattle.pals_base.specs.contracts.values.PortValue.{the_row as ports}
 use Rattle.pals_model.specs.contracts.design.DesignParts.{the_row as design_parts}
 use Rattle.pals_base.specs.declared.values.Frame.{Frame}
-use Rattle.pals_base.specs.declared.values.Port.{Port}
-use Rattle.pals_base.specs.declared.values.Port.TheVariants.{Absent}
+use Rattle.pals_base.specs.declared.values.PortValue.{PortValue}
+use Rattle.pals_base.specs.declared.values.PortValue.TheVariants.{Absent}
 use Rattle.pals_model.specs.declared.design.Tap.{Tap}
 use Rattle.pals_model.specs.declared.design.DesignParts.{DesignParts}
 use Rattle.pals_model.specs.declared.rounds.Env.{Env}
@@ -19,12 +19,12 @@ pub record VotedState : Type 0 where
   pub design : DesignParts
   pub replicated : List Bool
   pub voted : Voted
-  pub shown : List (List Port)
+  pub shown : List (List PortValue)
 
 -- a state is stored as its parts
 abbrev pub voted_code : Coded VotedState
 voted_code =
-    code_by (DesignParts × (List Bool × (List (List Frame) × (List (List (List Port)) × List (List Port)))))
+    code_by (DesignParts × (List Bool × (List (List Frame) × (List (List (List PortValue)) × List (List PortValue)))))
     (coded× design_parts.coded
     (coded× (coded_list coded_bool)
     (coded× (coded_list (coded_list frames.coded)) (coded× (coded_list (coded_list (coded_list ports.coded))) (coded_list (coded_list ports.coded))))))
@@ -42,7 +42,7 @@ vbegun design replicated = record {
 }
 
 -- one round further, with these values of the root in ports and these faults
-abbrev pub vadvanced : VotedState → List Port → List VoteFault → VotedState
+abbrev pub vadvanced : VotedState → List PortValue → List VoteFault → VotedState
 vadvanced s values faults = record {
   design = s.design;
   replicated = s.replicated;

@@ -1,6 +1,6 @@
 -- What stands for the three replicas, and what is voted of it.
 use Rattle.std.specs.Prelude.{◌≡◌, ℕ, suc, ◌<◌, nat_lt, Bool, true, if◌then◌else◌, List, [], length, map, All, find, Some, slice_get, slice_index_or}
-use Rattle.pals_base.specs.declared.values.Port.{Port}
+use Rattle.pals_base.specs.declared.values.PortValue.{PortValue}
 use Rattle.pals_base.specs.declared.values.Frame.{Frame}
 use Rattle.pals_model.specs.declared.design.Link.{Link}
 use Rattle.pals_model.specs.declared.design.Tap.{Tap}
@@ -27,19 +27,19 @@ parts_in layers = map (λ (l : Layer). l.parts) layers
 abbrev pub next_in : List Layer → List (List Part)
 next_in layers = map (λ (l : Layer). l.next) layers
 
-abbrev pub sent_in : List Layer → List (List (List Port))
+abbrev pub sent_in : List Layer → List (List (List PortValue))
 sent_in layers = map (λ (l : Layer). l.sent) layers
 
-abbrev pub shown_in : List Layer → List (List (List Port))
+abbrev pub shown_in : List Layer → List (List (List PortValue))
 shown_in layers = map (λ (l : Layer). l.shown) layers
 
 abbrev pub frame_of : List (List Part) → ℕ → ℕ → Frame
 frame_of parts replica node = slice_index_or (frames_of (slice_index_or parts replica [])) node no_frame
 
-abbrev pub tuple_of : List (List (List Port)) → ℕ → ℕ → List Port
+abbrev pub tuple_of : List (List (List PortValue)) → ℕ → ℕ → List PortValue
 tuple_of tuples replica at = slice_index_or (slice_index_or tuples replica []) at []
 
-abbrev pub voted_of : DesignParts → List Bool → List (List Part) → List (List (List Port)) → Voted
+abbrev pub voted_of : DesignParts → List Bool → List (List Part) → List (List (List PortValue)) → Voted
 voted_of design replicated parts heard = record {
   frames = for_replicas design replicated (λ node replica. frame_of parts replica node);
   received = for_receivers design replicated (λ l target. tuple_of heard target l);
@@ -47,27 +47,27 @@ voted_of design replicated parts heard = record {
 
 -- ---- what is voted
 -- what a replica receives on a link from what those of its source made, whether it has three or one
-abbrev pub received_of : Bool → List VoteFault → List (List (List Port)) → ℕ → ℕ → List Port
+abbrev pub received_of : Bool → List VoteFault → List (List (List PortValue)) → ℕ → ℕ → List PortValue
 received_of three faults sent l target =
     if three then vote_of (λ replica. fault_or (find (is_fault l (suc replica) (suc target)) faults) (tuple_of sent replica l))
     else tuple_of sent 0 l
 
 -- those of all links whose target has this replica
-abbrev pub AreReceived : DesignParts → List Bool → List VoteFault → List Layer → ℕ → List (List Port) → Type 0
+abbrev pub AreReceived : DesignParts → List Bool → List VoteFault → List Layer → ℕ → List (List PortValue) → Type 0
 AreReceived design replicated faults layers target heard =
     (l : ℕ) (link : Link) → slice_get design.links l ≡ Some link → is_there (slice_index_or (there_in layers) target []) link.target.0 ≡ true
     → slice_get heard l ≡ Some (received_of (is_replicated replicated link.source.0) faults (sent_in layers) l target)
 
 -- what a root out port shows of it
-abbrev pub shown_of : Bool → List (List (List Port)) → ℕ → List Port
+abbrev pub shown_of : Bool → List (List (List PortValue)) → ℕ → List PortValue
 shown_of three shown n = if three then vote_of (λ replica. tuple_of shown replica n) else tuple_of shown 0 n
 
-abbrev pub AreShown : DesignParts → List Bool → List Layer → List (List Port) → Type 0
+abbrev pub AreShown : DesignParts → List Bool → List Layer → List (List PortValue) → Type 0
 AreShown design replicated layers shown =
     (n : ℕ) (tap : Tap) → slice_get design.taps n ≡ Some tap → slice_get shown n ≡ Some (shown_of (is_replicated replicated tap.source.0) (shown_in layers) n)
 
 -- three tuples of one size in a place
-abbrev pub AreOfSize : List (List (List Port)) → ℕ → ℕ → Type 0
+abbrev pub AreOfSize : List (List (List PortValue)) → ℕ → ℕ → Type 0
 AreOfSize tuples at size = (replica : ℕ) → replica < 3 → length (tuple_of tuples replica at) ≡ size
 
 -- faults of a link have that size
@@ -86,12 +86,12 @@ pub record StayPut (old new : List Layer) : Type 0 where
   pub parts : parts_in new ≡ parts_in old
 
 -- each layer is made from what its replicas received
-abbrev pub AreMade : DesignParts → List Port → List (List (List Port)) → List Layer → Type 0
+abbrev pub AreMade : DesignParts → List PortValue → List (List (List PortValue)) → List Layer → Type 0
 AreMade design values heard layers =
     (replica : ℕ) (layer : Layer) → slice_get layers replica ≡ Some layer → IsMade design values (slice_index_or heard replica []) layer
 
 -- each layer's replicas receive
-abbrev pub AllReceived : DesignParts → List Bool → List VoteFault → List Layer → List (List (List Port)) → Type 0
+abbrev pub AllReceived : DesignParts → List Bool → List VoteFault → List Layer → List (List (List PortValue)) → Type 0
 AllReceived design replicated faults layers heard =
     (target : ℕ) → target < 3 → AreReceived design replicated faults layers target (slice_index_or heard target [])
 
@@ -109,7 +109,7 @@ HaveReplicas design replicated there =
     → is_there (slice_index_or there replica []) node ≡ nat_lt replica (copies_of replicated node)
 
 -- room for what three replicas receive
-pub record AreHeard (design : DesignParts) (heard : List (List (List Port))) : Type 0 where
+pub record AreHeard (design : DesignParts) (heard : List (List (List PortValue))) : Type 0 where
   pub three : length heard ≡ 3
   pub sizes : All (λ tuples. lengths tuples ≡ message_sizes design) heard
 
@@ -125,7 +125,7 @@ pub record HasTables (design : DesignParts) (replicated : List Bool) (sources : 
   pub sources_are : sources ≡ all_sources design
   pub stages_fit : map stage_size stages ≡ stage_sizes design
 
-pub record HasReplicas (design : DesignParts) (replicated : List Bool) (layers : List Layer) (heard : List (List (List Port))) (shown : List (List Port)) : Type 0 where
+pub record HasReplicas (design : DesignParts) (replicated : List Bool) (layers : List Layer) (heard : List (List (List PortValue))) (shown : List (List PortValue)) : Type 0 where
   pub layers_fit : AreThree design layers
   pub layers_are : HaveReplicas design replicated (there_in layers)
   pub heard_fit : AreHeard design heard

@@ -10,12 +10,12 @@ use Rattle.loose_world.specs.proof.Histories.{Undergoes}
 use Rattle.timed_world.specs.declared.event_list.WorldEnd.{WorldEnd}
 use Rattle.timed_world.specs.proof.Values.{WorldValue, world_of}
 use Rattle.timed_world.specs.proof.EventLists.{Leads, EndsAt}
-use Rattle.world_texts.specs.declared.world_text.Told.{Told}
-use Rattle.world_texts.specs.declared.world_text.Told.TheVariants.{Whole, Refused}
+use Rattle.world_texts.specs.declared.world_text.WorldReport.{WorldReport}
+use Rattle.world_texts.specs.declared.world_text.WorldReport.TheVariants.{Whole, Refused}
 use Rattle.world_texts.specs.WorldTexts.{IsFirstFault, IsToldWorld}
 use Rattle.timed_world.specs.declared.event_list.WorldEnd.TheVariants as end
 
-abbrev pub TellsWorld : Run → List Event → Told → Type 0
+abbrev pub TellsWorld : Run → List Event → WorldReport → Type 0
 TellsWorld run events (Whole text) = IsToldWorld run events text.items
 TellsWorld run events (Refused index fault) = IsFirstFault run events index fault
 

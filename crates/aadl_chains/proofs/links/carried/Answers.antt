@@ -1,6 +1,6 @@
 use Rattle.std.proofs.Common.{◌≡◌, subst, sym, Some, ◌∙◌, ap}
 use Rattle.aadl_tree.specs.proof.PackageViews.{placed}
-use Rattle.aadl_names.specs.declared.site.Site.TheVariants.{Inner}
+use Rattle.aadl_names.specs.declared.site.PortPlace.TheVariants.{Inner}
 use Rattle.aadl_chains.proofs.OnChains.{opposed}
 use Rattle.aadl_chains.specs.proof.Inside.{ReachesIn}
 use Rattle.aadl_chains.proofs.Steps.{own_no_inner, none_no_inner}

@@ -1,6 +1,6 @@
 use Rattle.std.proofs.Common.{◌∙◌, ◌∷◌, [], refl, arith}
 use Rattle.aadl_grammar.specs.proof.Reading.{here}
-use Rattle.aadl_grammar.proofs.Rows.{takes_row, omits_unless, begins_as, along, exits, no_reads}
+use Rattle.aadl_grammar.proofs.SymbolRows.{takes_row, omits_unless, begins_as, along, exits, no_reads}
 use Rattle.aadl_grammar.proofs.Written.{marked, pushed}
 use Rattle.aadl_tree.specs.Parts.{behind}
 use Rattle.aadl_tree.specs.Names.{identifier_parts}

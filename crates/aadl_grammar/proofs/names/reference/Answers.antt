@@ -1,6 +1,6 @@
 use Rattle.std.proofs.Common.{◌+◌, ◌∙◌, ◌∷◌, [], ◌++◌, ap, sym, refl, arith, map}
 use Rattle.aadl_grammar.specs.proof.Reading.{here}
-use Rattle.aadl_grammar.proofs.Rows.{takes_row, omits_unless, begins_as, along, exits, no_reads}
+use Rattle.aadl_grammar.proofs.SymbolRows.{takes_row, omits_unless, begins_as, along, exits, no_reads}
 use Rattle.aadl_grammar.proofs.Written.{then, respelled, regroup}
 use Rattle.std.specs.Prelude.{flat_map}
 use Rattle.aadl_tree.specs.Names.{identifier_parts, qualifier_parts}

@@ -1,6 +1,6 @@
 use Rattle.std.proofs.Common.{◌∙◌, ◌∷◌, ap, sym, refl, arith, map}
 use Rattle.aadl_grammar.specs.proof.Reading.{here}
-use Rattle.aadl_grammar.proofs.Rows.{takes_row, omits_unless, along, exits, no_reads}
+use Rattle.aadl_grammar.proofs.SymbolRows.{takes_row, omits_unless, along, exits, no_reads}
 use Rattle.aadl_grammar.proofs.Written.{nothing, then, marked, respelled}
 use Rattle.aadl_tree.specs.Values.{applies_parts}
 use Rattle.aadl_tree.specs.proof.NameViews.{path_view}

@@ -1,6 +1,6 @@
 use Rattle.std.proofs.Common.{◌∙◌, ◌∷◌, [], ap, sym, refl, arith}
 use Rattle.aadl_grammar.specs.proof.Reading.{here}
-use Rattle.aadl_grammar.proofs.Rows.{takes_row, begins_past, acts_as, along, exits, no_reads}
+use Rattle.aadl_grammar.proofs.SymbolRows.{takes_row, begins_past, acts_as, along, exits, no_reads}
 use Rattle.aadl_grammar.proofs.Written.{nothing, then, told, respelled}
 use Rattle.aadl_tree.specs.Values.{value_parts}
 use Rattle.aadl_tree.specs.proof.Maps.{kept_place}

@@ -1,6 +1,6 @@
 use Rattle.std.proofs.Common.{◌∙◌, ◌∷◌, [], refl, arith}
 use Rattle.aadl_grammar.specs.proof.Reading.{here}
-use Rattle.aadl_grammar.proofs.Rows.{takes_row, begins_past, along, exits, no_reads}
+use Rattle.aadl_grammar.proofs.SymbolRows.{takes_row, begins_past, along, exits, no_reads}
 use Rattle.aadl_grammar.proofs.Written.{then, marked}
 use Rattle.aadl_grammar.specs.proof.Table.{on}
 use Rattle.aadl_grammar.proofs.Signs.{sign_quantity}

@@ -1,6 +1,6 @@
 use Rattle.std.proofs.Common.{refl, arith}
 use Rattle.aadl_grammar.specs.proof.Reading.{here}
-use Rattle.aadl_grammar.proofs.Rows.{takes_row, omits_unless, a_word_at}
+use Rattle.aadl_grammar.proofs.SymbolRows.{takes_row, omits_unless, a_word_at}
 use Rattle.aadl_grammar.proofs.Written.{nothing, named}
 use Rattle.aadl_grammar.specs.proof.Symbols as s
 use Rattle.aadl_grammar.specs.proof.Machine.{move, depth}

@@ -7,7 +7,7 @@ use Rattle.aadl_chains.proofs.OnChains.{port, is_in-at}
 use Rattle.aadl_chains.specs.proof.Routes.{Traces}
 use Rattle.aadl_instance.specs.proof.Passed.{paths_of, chain_by}
 use Rattle.aadl_instance.proofs.Ports.{in_within}
-use Rattle.aadl_instance.proofs.Passing.{thread_listed}
+use Rattle.aadl_instance.proofs.PortByPort.{thread_listed}
 use Rattle.aadl_instance.proofs.Adding.{route_begins, route_added, none_added}
 use Rattle.aadl_instance.proofs.build.add_chain.Goals as goal
 

@@ -5,7 +5,7 @@ use Rattle.aadl_tree.specs.proof.PackageViews.{placed}
 use Rattle.aadl_tree.specs.proof.Views.{feature_view}
 use Rattle.aadl_names.specs.Resolving.{implementation_at, ports_at}
 use Rattle.aadl_instance.specs.proof.Passed.{paths_of}
-use Rattle.aadl_instance.proofs.Passing.{thread_listed, into_thread}
+use Rattle.aadl_instance.proofs.PortByPort.{thread_listed, into_thread}
 use Rattle.aadl_instance.proofs.Shown.{stands}
 use Rattle.aadl_instance.proofs.build.add_thread.Goals as goal
 

@@ -5,7 +5,7 @@ use Rattle.aadl_tree.specs.proof.PackageViews.{placed}
 use Rattle.aadl_tree.specs.proof.Views.{feature_view}
 use Rattle.aadl_names.specs.Resolving.{implementation_at, ports_at}
 use Rattle.aadl_instance.specs.proof.Passed.{paths_of, AreTapsTo}
-use Rattle.aadl_instance.proofs.Passing.{taps_none, taps_whole}
+use Rattle.aadl_instance.proofs.PortByPort.{taps_none, taps_whole}
 use Rattle.aadl_instance.proofs.build.taps_of.Goals as goal
 
 pub loop-port-init : goal.loop-port-init

@@ -7,7 +7,7 @@ use Rattle.aadl_instance.specs.Instances.{node_at, number_among}
 use Rattle.aadl_instance.specs.proof.Numbers.{number_in}
 use Rattle.aadl_instance.specs.proof.Passed.{paths_of}
 use Rattle.aadl_instance.proofs.Among.{few_before}
-use Rattle.aadl_instance.proofs.Passing.{thread_listed}
+use Rattle.aadl_instance.proofs.PortByPort.{thread_listed}
 use Rattle.aadl_instance.proofs.Shown.{node_is, thread_shown, few_at, open_at}
 use Rattle.aadl_instance.proofs.ends.node_end.Goals as goal
 

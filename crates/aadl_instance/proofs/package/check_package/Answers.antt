@@ -1,8 +1,8 @@
 use Rattle.std.proofs.Common.{◌≡◌, ◌⊎◌, ◌∙◌, ap, inl, inr, subst, sym, Some}
 use Rattle.aadl_tree.specs.declared.package.PackageTree.{PackageTree}
 use Rattle.aadl_tree.specs.proof.PackageViews.{placed}
-use Rattle.aadl_names.specs.declared.fault.FlatFault.{FlatFault}
-use Rattle.aadl_names.specs.declared.fault.FlatFault.TheVariants.{Memory}
+use Rattle.aadl_names.specs.declared.fault.PackageFault.{PackageFault}
+use Rattle.aadl_names.specs.declared.fault.PackageFault.TheVariants.{Memory}
 use Rattle.aadl_names.specs.Findings.{IsFirstByLine}
 use Rattle.aadl_names.specs.Resolving.{root_number}
 use Rattle.aadl_instance.specs.declared.package.Checked.{Checked}
@@ -27,8 +27,8 @@ returns-in_ok-wires-in-Some c =
     (λ (x : Checked). (x.root ≡ root) × (x.wires.uses.names.tree.now ≡ c.in_ok-wires-in-Some.wires.uses.names.tree.now)
     × IsChecked (placed c.in_ok-wires-in-Some.wires.uses.names.tree.now) x)
     (λ (x : Checked). (root_number tree c.args.name.now ≡ Some x.root) × (x.wires.uses.names.tree.now ≡ c.args.tree.now) × IsChecked tree x)
-    (λ (f : FlatFault). (f ≡ Memory) ⊎ IsFirstByLine (FoundIn (placed c.in_ok-wires-in-Some.wires.uses.names.tree.now) root) f)
-    (λ (f : FlatFault). (f ≡ Memory) ⊎ IsFault tree c.args.name.now f) c.check_names.result
+    (λ (f : PackageFault). (f ≡ Memory) ⊎ IsFirstByLine (FoundIn (placed c.in_ok-wires-in-Some.wires.uses.names.tree.now) root) f)
+    (λ (f : PackageFault). (f ≡ Memory) ⊎ IsFault tree c.args.name.now f) c.check_names.result
     (λ x h. (is ∙ ap Some (sym h.0), h.1 ∙ same, subst (λ (t : PackageTree). IsChecked (placed t) x) same h.2))
     (λ f h. elim h [
       | inl m ↦ inl m

@@ -3,7 +3,7 @@ use Rattle.aadl_tree.specs.proof.PackageViews.{placed}
 use Rattle.aadl_tree.specs.proof.Views.{type_view}
 use Rattle.aadl_tree.specs.proof.Maps.{kept_place}
 use Rattle.aadl_names.specs.Resolving.{port_named, features_of, type_numbered}
-use Rattle.aadl_names.proofs.Firsts.{ok_as}
+use Rattle.aadl_names.proofs.FirstOfLists.{ok_as}
 use Rattle.aadl_names.proofs.Stored.{members_there}
 use Rattle.aadl_names.proofs.connection_ends.port_number.Goals as goal
 

@@ -2,7 +2,7 @@ use Rattle.std.proofs.Common.{arith}
 use Rattle.aadl_tree.specs.proof.Views.{declaration_view}
 use Rattle.aadl_tree.specs.proof.Maps.{kept_place}
 use Rattle.aadl_names.specs.Resolving.{is_implementation}
-use Rattle.aadl_names.proofs.Firsts.{next_first, last_first}
+use Rattle.aadl_names.proofs.FirstOfLists.{next_first, last_first}
 use Rattle.aadl_names.proofs.names.implementations_of.Goals as goal
 
 pub loop-number-preserved : goal.loop-number-preserved

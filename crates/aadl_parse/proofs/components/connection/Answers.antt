@@ -1,6 +1,6 @@
 use Rattle.std.proofs.Common.{◌∙◌, ◌∷◌, [], refl, arith}
 use Rattle.aadl_grammar.specs.proof.Reading.{here}
-use Rattle.aadl_grammar.proofs.Rows.{begins_as, along, exits, no_reads}
+use Rattle.aadl_grammar.proofs.SymbolRows.{begins_as, along, exits, no_reads}
 use Rattle.aadl_grammar.proofs.Written.{nothing, then, marked}
 use Rattle.aadl_tree.specs.declared.mark.Mark.TheVariants as k
 use Rattle.aadl_grammar.specs.proof.Symbols as s

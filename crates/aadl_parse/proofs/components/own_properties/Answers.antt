@@ -1,6 +1,6 @@
 use Rattle.std.proofs.Common.{◌∙◌, ◌∷◌, [], ap, sym, refl, arith}
 use Rattle.aadl_grammar.specs.proof.Reading.{here}
-use Rattle.aadl_grammar.proofs.Rows.{takes_row, omits_unless, begins_past, along, exits, no_reads}
+use Rattle.aadl_grammar.proofs.SymbolRows.{takes_row, omits_unless, begins_past, along, exits, no_reads}
 use Rattle.aadl_grammar.proofs.Written.{respelled}
 use Rattle.aadl_tree.specs.Parts.{property_section}
 use Rattle.aadl_tree.specs.Values.{associations_parts}

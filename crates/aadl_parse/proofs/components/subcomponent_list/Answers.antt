@@ -1,6 +1,6 @@
 use Rattle.std.proofs.Common.{◌∙◌, ◌∷◌, [], refl, arith}
 use Rattle.aadl_grammar.specs.proof.Reading.{here}
-use Rattle.aadl_grammar.proofs.Rows.{omits_unless, enters_as, along, exits, no_reads}
+use Rattle.aadl_grammar.proofs.SymbolRows.{omits_unless, enters_as, along, exits, no_reads}
 use Rattle.aadl_grammar.proofs.Written.{pushed}
 use Rattle.aadl_tree.specs.Declarations.{subcomponent_parts}
 use Rattle.aadl_tree.specs.proof.Views.{subcomponent_view}

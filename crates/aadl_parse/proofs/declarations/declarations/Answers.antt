@@ -1,6 +1,6 @@
 use Rattle.std.proofs.Common.{◌∙◌, ◌∷◌, sym, refl, arith}
 use Rattle.aadl_grammar.specs.proof.Reading.{here}
-use Rattle.aadl_grammar.proofs.Rows.{takes_row, omits_unless, along, exits, no_reads}
+use Rattle.aadl_grammar.proofs.SymbolRows.{takes_row, omits_unless, along, exits, no_reads}
 use Rattle.aadl_grammar.proofs.Written.{respelled, pushed, shorter, placed_at}
 use Rattle.aadl_tree.specs.Declarations.{declaration_parts}
 use Rattle.aadl_tree.specs.proof.Views.{declaration_view}

@@ -5,5 +5,7 @@ use Rattle.aadl_print.proofs.items.print_all.Goals as goal
 
 pub loop-item-preserved : goal.loop-item-preserved
 loop-item-preserved g c =
-    next_written (λ xs. flat_map g.T.Print.parts (map g.T.Print.tree xs)) (λ x. g.T.Print.parts (g.T.Print.tree x)) (λ x xs. refl) _ _ _ _ _ _
+    next_written (λ xs. flat_map g.T.PrintItem.parts (map g.T.PrintItem.tree xs))
+    (λ x. g.T.PrintItem.parts (g.T.PrintItem.tree x))
+    (λ x xs. refl) _ _ _ _ _ _
     c.loop-item-test.true c.item-item.is c.loop-item.invariant c.in_ok-print.ensures

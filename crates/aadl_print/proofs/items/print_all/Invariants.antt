@@ -6,5 +6,5 @@ use Rattle.aadl_print.proofs.items.print_all.Given as goal
 -- what is left is still to be written
 abbrev pub invariant-loop-item : goal.invariant-loop-item
 invariant-loop-item g l =
-    printed l.initial.printer (flat_map g.T.Print.parts (map g.T.Print.tree l.items))
-    ≡ printed l.printer (flat_map g.T.Print.parts (map g.T.Print.tree (drop l.item-index l.items)))
+    printed l.initial.printer (flat_map g.T.PrintItem.parts (map g.T.PrintItem.tree l.items))
+    ≡ printed l.printer (flat_map g.T.PrintItem.parts (map g.T.PrintItem.tree (drop l.item-index l.items)))

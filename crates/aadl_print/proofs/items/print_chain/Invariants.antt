@@ -7,5 +7,6 @@ use Rattle.aadl_print.proofs.items.print_chain.Given as goal
 -- what is left is still to be written
 abbrev pub invariant-loop-item : goal.invariant-loop-item
 invariant-loop-item g l =
-    printed l.initial.printer (flat_map (behind l.separator g.T.Print.parts) (map g.T.Print.tree l.rest))
-    ≡ printed l.printer (flat_map (behind l.separator g.T.Print.parts) (map g.T.Print.tree (drop l.item-index l.rest)))
+    printed l.initial.printer (flat_map (behind l.separator g.T.PrintItem.parts) (map g.T.PrintItem.tree l.rest))
+    ≡ printed l.printer (flat_map (behind l.separator g.T.PrintItem.parts)
+    (map g.T.PrintItem.tree (drop l.item-index l.rest)))

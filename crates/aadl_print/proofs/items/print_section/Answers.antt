@@ -5,5 +5,7 @@ use Rattle.aadl_print.proofs.items.print_section.Goals as goal
 pub returns : goal.returns
 returns g c =
     closed c.print_all.result c.print_all.new.printer _ _
-    (rw (under_some c.args.word _ (some_parts g.T.Print.parts g.T.Print.tree c.requires c.args.items.now c.if-is_empty.ensures)) (cc (c.in_ok-mark.ensures)))
+    (rw (under_some c.args.word _
+    (some_parts g.T.PrintItem.parts g.T.PrintItem.tree c.requires c.args.items.now c.if-is_empty.ensures))
+    (cc (c.in_ok-mark.ensures)))
     c.print_all.ensures

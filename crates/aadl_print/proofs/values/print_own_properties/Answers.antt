@@ -7,5 +7,6 @@ use Rattle.aadl_print.proofs.values.print_own_properties.Goals as goal
 pub returns : goal.returns
 returns c =
     closed c.print_associations.result c.print_associations.new.printer _ _
-    (rw (under_some k.Properties _ (some_associations no_place c.args.properties.now c.if-is_empty.ensures)) (cc (c.in_ok-mark.ensures)))
+    (rw (under_some k.Properties _ (some_associations no_place c.args.properties.now c.if-is_empty.ensures))
+    (cc (c.in_ok-mark.ensures)))
     c.print_associations.ensures

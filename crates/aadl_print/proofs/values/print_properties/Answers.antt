@@ -6,5 +6,6 @@ use Rattle.aadl_print.proofs.values.print_properties.Goals as goal
 pub returns : goal.returns
 returns c =
     closed c.mark-2.result c.mark-2.new.self _ _
-    (rw (braced no_place c.args.properties.now c.if-is_empty.ensures, printed_append) (cc (c.in_ok-mark.ensures, c.in_ok-print_associations.ensures)))
+    (rw (braced no_place c.args.properties.now c.if-is_empty.ensures, printed_append)
+    (cc (c.in_ok-mark.ensures, c.in_ok-print_associations.ensures)))
     c.mark-2.ensures

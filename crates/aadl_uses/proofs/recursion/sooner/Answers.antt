@@ -2,7 +2,7 @@ use Rattle.std.proofs.Common.{◌∙◌, subst, sym, List, ℕ, Some}
 use Rattle.aadl_tree.specs.proof.PackageViews.{placed}
 use Rattle.aadl_tree.specs.proof.Maps.{kept_place}
 use Rattle.aadl_tree.specs.proof.Views.{subcomponent_view}
-use Rattle.aadl_names.specs.declared.fault.FlatFault.TheVariants.{Recursive}
+use Rattle.aadl_names.specs.declared.fault.PackageFault.TheVariants.{Recursive}
 use Rattle.aadl_uses.specs.proof.Graphs.{Graph, IsWithin, LeadsBack}
 use Rattle.aadl_uses.specs.proof.Recursion.{IsSooner}
 use Rattle.aadl_uses.proofs.Containing.{within}

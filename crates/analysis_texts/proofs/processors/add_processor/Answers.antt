@@ -1,7 +1,7 @@
 use Rattle.std.proofs.Common.{◌<◌, List, length, All, sym, subst, arith}
 use Rattle.std.proofs.lemmas.List.{length-map}
 use Rattle.pals_base.specs.declared.values.NodeNo.{NodeNo}
-use Rattle.round_budget.specs.proof.Laws.{AreMembers}
+use Rattle.round_budget.specs.proof.BudgetLaws.{AreMembers}
 use Rattle.round_budget.specs.Budgets.{numbers}
 use Rattle.round_budget.proofs.Members.{nodes_are_members, rising_few}
 use Rattle.analysis_texts.proofs.processors.add_processor.Goals as goal

@@ -6,22 +6,22 @@ use Rattle.pals_model.specs.RoundTexts.{line_end, text_of}
 use Rattle.pals_report.proofs.WordLines.{lines_turn, lines_all}
 use Rattle.round_budget.specs.BudgetText.{slot_line}
 use Rattle.round_budget.specs.proof.Values.{line_value}
-use Rattle.round_budget.specs.declared.serving.Line.{Line}
+use Rattle.round_budget.specs.declared.serving.TimetableLine.{TimetableLine}
 use Rattle.analysis_texts.proofs.processors.add_slots.Goals as goal
 
 pub loop-line-preserved : goal.loop-line-preserved
 loop-line-preserved c =
-    let slot = λ (line : Line). slot_line c.args.design.now (line_value line) in
-    let none : Line = record { node = record { 0 = 0 }; step = 0; begin = 0; done = 0 } in
+    let slot = λ (line : TimetableLine). slot_line c.args.design.now (line_value line) in
+    let none : TimetableLine = record { node = record { 0 = 0 }; step = 0; begin = 0; done = 0 } in
     let lines = c.args.lines.now in
     let at = c.loop-line.line-index in
-    let item : Line = slice_index_or lines at none in
+    let item : TimetableLine = slice_index_or lines at none in
     lines_turn line_end slot lines at item _ _ _ c.loop-line-test.true
     (get_or_default lines at none item c.loop-line-test.true) c.loop-line.invariant c.in_ok-add_slot.ensures
 
 pub returns : goal.returns
 returns c =
-    let slot = λ (line : Line). slot_line c.args.design.now (line_value line) in
+    let slot = λ (line : TimetableLine). slot_line c.args.design.now (line_value line) in
     lines_all line_end slot c.args.lines.now c.loop-line.line-index _ _ (omega arith) c.loop-line.invariant
     ∙ ap (λ lines. c.args.text.now.items ++ text_of lines)
     (sym (map-map (slot_line c.args.design.now) line_value c.args.lines.now))

@@ -5,7 +5,7 @@ use Rattle.list_lemmas.proofs.Lists.{take-written_whole}
 use Rattle.pals_model.specs.declared.design.DesignParts.{DesignParts}
 use Rattle.pals_model.specs.Inputs.{values_at}
 use Rattle.pals_runs.specs.declared.pairs.VoteFault.{VoteFault}
-use Rattle.triple_vote.specs.proof.Laws.{IsFault}
+use Rattle.triple_vote.specs.proof.VoteLaws.{IsFault}
 use Rattle.triple_vote.specs.Replicas.{vcomp, vshown_by}
 use Rattle.triple_vote.specs.proof.States.{VotedState, vadvanced}
 use Rattle.triple_vote.specs.VotedText.{vreport}

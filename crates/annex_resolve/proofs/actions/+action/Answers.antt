@@ -17,7 +17,7 @@ use Rattle.aadl_tree.specs.proof.ActionViews.{action_view, actions_view, block_v
 use Rattle.aadl_tree.proofs.ActionViews.{view-Assign, view-Send, view-If, view-For, view-out-choice, view-out-loop}
 use Rattle.annex_resolve.specs.Scopes.{entry_named}
 use Rattle.annex_resolve.proofs.Views.{view-out-actions, view-out-block}
-use Rattle.annex_resolve.proofs.Acting.{assigned, sent, same_action, one_action, next_action, all_actions, no_actions, some_actions, same_block, branch_read, one_branch, next_branch, chosen, looped}
+use Rattle.annex_resolve.proofs.ActionLevels.{assigned, sent, same_action, one_action, next_action, all_actions, no_actions, some_actions, same_block, branch_read, one_branch, next_branch, chosen, looped}
 use Rattle.annex_resolve.proofs.actions.+action.Goals as goal
 
 pub resolve_action-returns-in_ok-add_if-in-Assign : goal.resolve_action-returns-in_ok-add_if-in-Assign

@@ -1,6 +1,6 @@
 use Rattle.std.proofs.Common.{refl}
 use Rattle.aadl_grammar.proofs.Lists.{starts_at}
-use Rattle.behaviour_parse.proofs.Acting.{begins_by}
+use Rattle.behaviour_parse.proofs.ParsedActions.{begins_by}
 use Rattle.aadl_grammar.specs.proof.Machine.{move, depth}
 use Rattle.behaviour_parse.proofs.actions.begins_action.Goals as goal
 

@@ -1,5 +1,5 @@
 use Rattle.std.proofs.Common.{◌∙◌, ◌∷◌, arith}
-use Rattle.aadl_grammar.proofs.Rows.{along, exits, no_reads}
+use Rattle.aadl_grammar.proofs.SymbolRows.{along, exits, no_reads}
 use Rattle.aadl_grammar.proofs.Written.{nothing, then, marked}
 use Rattle.aadl_tree.specs.declared.mark.Mark.TheVariants as k
 use Rattle.aadl_grammar.specs.proof.Symbols as s

@@ -9,7 +9,7 @@ use Rattle.aadl_tree.specs.proof.ActionViews.{block_view}
 use Rattle.aadl_tree.specs.proof.Views.{guard_view}
 use Rattle.aadl_tree.specs.proof.Maps.{kept_place}
 use Rattle.aadl_grammar.specs.proof.Reading.{here}
-use Rattle.aadl_grammar.proofs.Rows.{begins_as, along, exits, no_reads}
+use Rattle.aadl_grammar.proofs.SymbolRows.{begins_as, along, exits, no_reads}
 use Rattle.aadl_grammar.proofs.Written.{then, respelled}
 use Rattle.behaviour_parse.proofs.Declaring.{departed}
 use Rattle.aadl_tree.specs.declared.mark.Mark.TheVariants as k

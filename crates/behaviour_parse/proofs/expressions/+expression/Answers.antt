@@ -2,7 +2,7 @@ use mir.Syntax.{w64}
 use mir.Val.{to_z, of_z, SFits}
 use Rattle.std.proofs.Common.{◌≡◌, ◌∙◌, ◌∷◌, [], ◌++◌, ap, sym, refl, arith, true, false}
 use Rattle.aadl_grammar.specs.proof.Reading.{here}
-use Rattle.aadl_grammar.proofs.Rows.{takes_row, deep_row, omits_unless, refuses_unless, begins_as, begins_past, along, exits, no_reads, too_deep, a_word_at}
+use Rattle.aadl_grammar.proofs.SymbolRows.{takes_row, deep_row, omits_unless, refuses_unless, begins_as, begins_past, along, exits, no_reads, too_deep, a_word_at}
 use Rattle.aadl_grammar.proofs.Written.{nothing, then, marked, named, respelled, shorter, placed_at}
 use Rattle.aadl_tree.specs.Parts.{token}
 use Rattle.aadl_tree.specs.Kinds.{whole}

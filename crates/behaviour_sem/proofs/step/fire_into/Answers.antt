@@ -1,7 +1,7 @@
 use Rattle.std.proofs.Common.{◌≡◌, ◌∙◌, sym, ap, subst, ℤ, List, Some, Ok, Err, replicate, length, map, arith}
 use Rattle.pals_base.specs.declared.values.Frame.{Frame}
-use Rattle.pals_base.specs.declared.values.Port.{Port}
-use Rattle.pals_base.specs.declared.values.Port.TheVariants.{Absent}
+use Rattle.pals_base.specs.declared.values.PortValue.{PortValue}
+use Rattle.pals_base.specs.declared.values.PortValue.TheVariants.{Absent}
 use Rattle.pals_base.specs.Fire.{Fired, holding, is_present}
 use Rattle.behaviour_sem.specs.proof.Left.{Left}
 use Rattle.behaviour_sem.specs.proof.Leads.{reacted}
@@ -29,7 +29,7 @@ returns-in-Err-Trapped-clause-fired c =
     let silent = c.silence.ensures ∙ ap (λ n. replicate n Absent) c.requires.outs in
     let vars = c.copy_from_slice.ensures ∙ c.as_slice.ensures.value in
     let held = c.react_in.ensures.held ∙ c.hold.ensures.after ∙ ap (λ (f : Frame). holding f.held inputs) c.copy_from.ensures in
-    let fired : List ℤ → List ℤ → List Port → Fired = λ vs hs os. record { frame = record { state = from.state; vars = vs; held = hs; halt = Some trap }; outs = os } in
+    let fired : List ℤ → List ℤ → List PortValue → Fired = λ vs hs os. record { frame = record { state = from.state; vars = vs; held = hs; halt = Some trap }; outs = os } in
     let reached : Fired = record { frame = c.react_in.new.frame; outs = c.react_in.new.outs } in
     let meant = reacted b c.copy_from.new.self.state (map is_present inputs) (with_held c.copy_from.new.self c.hold.new.held c.silence.new.outs) in
     let reacts = subst (λ stop. Left (Err stop) reached meant) c.in-Err-Trapped.field-0-is c.in-Err-Trapped.ensures.reacts in

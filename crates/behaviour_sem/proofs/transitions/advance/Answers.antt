@@ -3,11 +3,11 @@ use Rattle.std.specs.Prelude.{Some, filter, nat_eq}
 use Rattle.pals_base.specs.Expressions.{on_value}
 use Rattle.pals_base.specs.Fire.{is_present, first_open, along}
 use Rattle.pals_base.specs.Tree.{Edge}
-use Rattle.behaviour_sem.specs.declared.stop.Stop.TheVariants as stop
+use Rattle.behaviour_sem.specs.declared.stop.EarlyEnd.TheVariants as stop
 use Rattle.behaviour_sem.specs.proof.Left.{Left}
 use Rattle.behaviour_sem.specs.proof.Goes.{move}
 use Rattle.behaviour_sem.specs.proof.Leads.{fired}
-use Rattle.behaviour_sem.proofs.Moves.{goes-same, first_open-from}
+use Rattle.behaviour_sem.proofs.TransitionSteps.{goes-same, first_open-from}
 use Rattle.behaviour_sem.proofs.transitions.advance.Goals as goal
 
 pub returns-in_err-goes-clause-leads : goal.returns-in_err-goes-clause-leads

@@ -8,7 +8,7 @@ use Rattle.behaviour_sem.specs.proof.Senses.{frame_of, fresh}
 use Rattle.behaviour_sem.specs.proof.Left.{Left}
 use Rattle.behaviour_sem.specs.proof.Runs.{effect}
 use Rattle.behaviour_sem.specs.proof.Leads.{fired}
-use Rattle.behaviour_sem.proofs.Moves.{along-ran, along-stops}
+use Rattle.behaviour_sem.proofs.TransitionSteps.{along-ran, along-stops}
 use Rattle.behaviour_sem.proofs.transitions.follow.Goals as goal
 
 pub returns-in_err-run_all-clause-leads : goal.returns-in_err-run_all-clause-leads

@@ -5,7 +5,7 @@ use Rattle.pals_base.specs.Fire.{is_present, is_complete, completes, settled}
 use Rattle.behaviour_sem.specs.proof.Left.{Left}
 use Rattle.behaviour_sem.specs.proof.Goes.{move}
 use Rattle.behaviour_sem.specs.proof.Leads.{fired}
-use Rattle.behaviour_sem.proofs.Moves.{Left-stops, settled-more}
+use Rattle.behaviour_sem.proofs.TransitionSteps.{Left-stops, settled-more}
 use Rattle.behaviour_sem.proofs.transitions.settle.Goals as goal
 
 pub returns-in_err-advance-clause-leads : goal.returns-in_err-advance-clause-leads

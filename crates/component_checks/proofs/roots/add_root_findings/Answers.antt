@@ -1,9 +1,9 @@
 use Rattle.std.proofs.Common.{sym, ◌∙◌}
 use Rattle.aadl_tree.specs.proof.PackageViews.{placed}
-use Rattle.aadl_names.specs.declared.holder.Property.TheVariants.{Skew, Execution, Network}
+use Rattle.aadl_names.specs.declared.holder.PropertyName.TheVariants.{Skew, Execution, Network}
 use Rattle.component_checks.specs.Times.{time_at, range_at}
 use Rattle.component_checks.specs.Roots.{at_root}
-use Rattle.component_checks.proofs.Hours.{gamma_within}
+use Rattle.component_checks.proofs.TimesWithinAnHour.{gamma_within}
 use Rattle.component_checks.proofs.roots.add_root_findings.Goals as goal
 
 pub add_bound_findings-requires-clause-gamma : goal.add_bound_findings-requires-clause-gamma

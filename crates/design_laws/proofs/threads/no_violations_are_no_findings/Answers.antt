@@ -1,4 +1,4 @@
-use Rattle.design_laws.proofs.Nothing.{nothing_found}
+use Rattle.design_laws.proofs.NoFindings.{nothing_found}
 use Rattle.design_laws.proofs.threads.no_violations_are_no_findings.Goals as goal
 
 pub returns : goal.returns

@@ -1,4 +1,4 @@
-use Rattle.pals_base.specs.declared.values.Port.TheVariants.{Present}
+use Rattle.pals_base.specs.declared.values.PortValue.TheVariants.{Present}
 use Rattle.pals_base.specs.declared.values.Adaptor.TheVariants.{Average}
 use Rattle.input_adaptors.specs.proof.Places.{group_at}
 use Rattle.input_adaptors.proofs.Rates.{joined-from}

@@ -1,7 +1,7 @@
 use Rattle.std.proofs.Common.{◌≡◌, ◌+◌, length, insert, sym, ap, arith, add-one}
 use Rattle.std.proofs.lemmas.List.Edits.{length-insert}
 use Rattle.circular_buffer.specs.Buffer.{buffer}
-use Rattle.link_buffers.proofs.Moves.{moved_on, without_new, new_at, whole_by_back}
+use Rattle.link_buffers.proofs.MovedItems.{moved_on, without_new, new_at, whole_by_back}
 use Rattle.link_buffers.proofs.middle.put_by_back.Goals as goal
 
 pub loop-moved-init : goal.loop-moved-init

@@ -1,7 +1,7 @@
 use Rattle.std.proofs.Common.{◌≡◌, suc, ◌+◌, ◌-◌, Some, length, insert, remove, slice_get, sym, ap, arith}
 use Rattle.std.proofs.lemmas.List.Edits.{length-insert}
 use Rattle.circular_buffer.specs.Buffer.{buffer}
-use Rattle.link_buffers.proofs.Moves.{moved_back, without_new, new_at, whole_by_front}
+use Rattle.link_buffers.proofs.MovedItems.{moved_back, without_new, new_at, whole_by_front}
 use Rattle.link_buffers.proofs.middle.put_by_front.Goals as goal
 
 pub loop-moved-init : goal.loop-moved-init

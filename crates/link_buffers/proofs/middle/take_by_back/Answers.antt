@@ -1,6 +1,6 @@
 use Rattle.std.proofs.Common.{◌≡◌, suc, ◌+◌, ◌-◌, Some, length, remove, slice_get, arith, length-take}
 use Rattle.circular_buffer.specs.Buffer.{buffer}
-use Rattle.link_buffers.proofs.Moves.{moved_back}
+use Rattle.link_buffers.proofs.MovedItems.{moved_back}
 use Rattle.link_buffers.proofs.middle.take_by_back.Goals as goal
 
 pub loop-moved-preserved : goal.loop-moved-preserved

@@ -1,5 +1,5 @@
 use Rattle.std.proofs.Common.{arith, add-one}
-use Rattle.link_buffers.proofs.Moves.{moved_on}
+use Rattle.link_buffers.proofs.MovedItems.{moved_on}
 use Rattle.link_buffers.proofs.middle.take_by_front.Goals as goal
 
 pub loop-place-preserved : goal.loop-place-preserved

@@ -4,7 +4,7 @@ use Rattle.aadl_tree.specs.proof.PackageViews.{placed}
 use Rattle.aadl_tree.specs.proof.Views.{annex_tree_view, feature_view, implementation_view}
 use Rattle.aadl_names.specs.Resolving.{ports_at}
 use Rattle.model_violations.specs.Values.{ins_in, outs_in, variables_of, values_by, scope_by}
-use Rattle.model_violations.proofs.Kept.{ports_both}
+use Rattle.model_violations.proofs.OneMoreFinding.{ports_both}
 use Rattle.model_violations.proofs.Settings.{of_lists}
 use Rattle.model_violations.proofs.threads.setting_of.Goals as goal
 

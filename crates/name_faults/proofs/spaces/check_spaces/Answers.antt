@@ -4,7 +4,7 @@ use Rattle.std.specs.List.{flat_map, filter_map}
 use Rattle.aadl_tree.specs.proof.PackageViews.{placed}
 use Rattle.aadl_tree.specs.proof.Views.{declaration_view}
 use Rattle.aadl_tree.specs.proof.Maps.{kept_place}
-use Rattle.aadl_names.specs.declared.fault.FlatFault.{FlatFault}
+use Rattle.aadl_names.specs.declared.fault.PackageFault.{PackageFault}
 use Rattle.aadl_names.specs.proof.Found.{found}
 use Rattle.aadl_names.specs.Twice.{twice}
 use Rattle.aadl_names.specs.Spaces.{type_entry, implementation_entry}
@@ -14,7 +14,7 @@ use Rattle.name_faults.proofs.Numbered.{numbered}
 use Rattle.name_faults.proofs.spaces.check_spaces.Goals as goal
 
 -- three lists of findings one behind the other
-three_found : (first one two last : (Option FlatFault)) (a b c : List FlatFault) → one ≡ found first a → two ≡ found one b → last ≡ found two c
+three_found : (first one two last : (Option PackageFault)) (a b c : List PackageFault) → one ≡ found first a → two ≡ found one b → last ≡ found two c
     → last ≡ found first (a ++ b ++ c)
 three_found first one two last a b c x y z =
     z ∙ (ap (λ o. found o c) (y ∙ ap (λ o. found o b) x) ∙ sym (found_append first (a ++ b) c ∙ ap (λ o. found o c) (found_append first a b)))

@@ -2,8 +2,8 @@ use Rattle.std.proofs.Common.{◌≡◌, ◌∙◌, ◌+◌, ◌<◌, sym, ap, a
 use Rattle.std.specs.Prelude.{slice_set}
 use Rattle.std.proofs.lemmas.List.{length-set}
 use Rattle.std.proofs.lemmas.List.Elements.{All-set}
-use Rattle.pals_base.specs.declared.values.Port.{Port}
-use Rattle.pals_base.specs.declared.values.Port.TheVariants.{Absent}
+use Rattle.pals_base.specs.declared.values.PortValue.{PortValue}
+use Rattle.pals_base.specs.declared.values.PortValue.TheVariants.{Absent}
 use Rattle.pals_base.specs.Steps.{with_places}
 use Rattle.pals_node.proofs.Places.{places_more}
 use Rattle.pals_node.proofs.buffers.write_places.Goals as goal
@@ -19,7 +19,7 @@ loop-port-preserved c =
     let below : k < length values = c.loop-port-test.true in
     let below' : k < length tuples = omega arith in
     let is =
-    c.set.ensures ∙ ap₂ (λ (x : List Port) (v : Port). slice_set x at v) c.index_mut.ensures.value
+    c.set.ensures ∙ ap₂ (λ (x : List PortValue) (v : PortValue). slice_set x at v) c.index_mut.ensures.value
     c.place.ensures in
     let size : length c.set.new.self ≡ length (slice_index_or tuples k item) = ap length is
     ∙ length-set (slice_index_or tuples k item) at (slice_index_or values k Absent) in
@@ -27,7 +27,7 @@ loop-port-preserved c =
     record {
       len = length-set tuples k c.set.new.self ∙ len;
       within =
-          All-set (λ (tuple : List Port). at < length tuple) tuples k c.set.new.self (omega arith)
+          All-set (λ (tuple : List PortValue). at < length tuple) tuples k c.set.new.self (omega arith)
           c.loop-port.invariant.within;
       done =
           ap (slice_set tuples k) is

@@ -2,7 +2,7 @@ use Rattle.std.proofs.Common.{◌≡◌, ◌∙◌, ◌<◌, ℕ, [], sym, ap, l
 use Rattle.std.proofs.lemmas.List.{length-set, length-map, get_or-map}
 use Rattle.std.proofs.lemmas.List.Elements.{All-set}
 use Rattle.list_lemmas.proofs.Lists.{filled_more, filled_all}
-use Rattle.pals_base.specs.declared.values.Port.{Port}
+use Rattle.pals_base.specs.declared.values.PortValue.{PortValue}
 use Rattle.pals_base.specs.Steps.{cut}
 use Rattle.pals_node.proofs.Places.{length-cut}
 use Rattle.pals_node.proofs.buffers.write_ports.Goals as goal
@@ -13,7 +13,7 @@ loop-at-preserved c =
     let ports = c.args.ports.now in
     let from = c.args.from.now in
     let port : ℕ = slice_index_or ports at 0 in
-    let f : ℕ → List Port = λ p. cut c.args.count (slice_index_or from p []) in
+    let f : ℕ → List PortValue = λ p. cut c.args.count (slice_index_or from p []) in
     let wanted = map f ports in
     let new = c.write_cut.new.to in
     let below : at < length ports = c.loop-at-test.true in
@@ -28,14 +28,14 @@ loop-at-preserved c =
     record {
       len = length-set c.loop-at.to at new ∙ len;
       places_are =
-          All-set (λ (tuple : List Port). length tuple ≡ c.args.places) c.loop-at.to at new size
+          All-set (λ (tuple : List PortValue). length tuple ≡ c.args.places) c.loop-at.to at new size
           c.loop-at.invariant.places_are;
       done = filled_more c.loop-at.to wanted at new (omega arith) (omega arith) item c.loop-at.invariant.done;
     }
 
 pub returns : goal.returns
 returns c =
-    let f : ℕ → List Port = λ p. cut c.args.count (slice_index_or c.args.from.now p []) in
+    let f : ℕ → List PortValue = λ p. cut c.args.count (slice_index_or c.args.from.now p []) in
     let wanted = map f c.args.ports.now in
     let many : length wanted ≡ length c.args.ports.now = length-map c.args.ports.now f in
     let len = c.loop-at.invariant.len in

@@ -1,11 +1,11 @@
 use Rattle.std.proofs.Common.{◌≡◌, ◌∙◌, [], length, sym, ap, subst, slice_index_or, arith, List}
 use Rattle.std.specs.Arc.{arc_value}
 use Rattle.std.proofs.lemmas.Option.{slice_get-get_or, get_or_from_slice_get}
-use Rattle.pals_base.specs.declared.values.Port.{Port}
+use Rattle.pals_base.specs.declared.values.PortValue.{PortValue}
 use Rattle.bus_machine.specs.declared.plan.Plan.{Plan}
 use Rattle.bus_machine.specs.Nodes.{vectors_of}
 use Rattle.pals_node.specs.proof.Values.{Program, job_value}
-use Rattle.pals_node.specs.proof.Keeping.{AreTuples}
+use Rattle.pals_node.specs.proof.NodeInvariants.{AreTuples}
 use Rattle.pals_node.proofs.Starts.{vectors_are}
 use Rattle.pals_node.proofs.fields.first_job.Goals as goal
 
@@ -38,5 +38,5 @@ returns-clause-job c =
     (slice_index_or c.in_ok-vectors.vectors 0 c.index.result.now) []
     (slice_get-get_or c.in_ok-vectors.vectors 0 c.index.result.now (omega arith))) in
     c.in_ok-job.ensures ∙ ap
-    (λ (i : List Port). job_value (arc_value c.args.plan.now) c.args.round 0 c.args.frame.now i)
-    (input ∙ ap (λ (v : List (List Port)). slice_index_or v 0 []) is)
+    (λ (i : List PortValue). job_value (arc_value c.args.plan.now) c.args.round 0 c.args.frame.now i)
+    (input ∙ ap (λ (v : List (List PortValue)). slice_index_or v 0 []) is)

@@ -2,7 +2,7 @@ use Rattle.std.proofs.Common.{◌≡◌, ◌∙◌, ◌+◌, ◌<◌, ◌≤◌,
 use Rattle.std.specs.Prelude.{Option, slice_set}
 use Rattle.std.proofs.lemmas.List.{length-map, length-set}
 use Rattle.list_lemmas.proofs.Lists.{filled_more, filled_all}
-use Rattle.pals_base.specs.declared.values.Port.{Port}
+use Rattle.pals_base.specs.declared.values.PortValue.{PortValue}
 use Rattle.pals_node.proofs.Places.{no_message, empty_at}
 use Rattle.pals_node.proofs.inputs.empty_all.Goals as goal
 
@@ -10,7 +10,7 @@ pub loop-at-preserved : goal.loop-at-preserved
 loop-at-preserved c =
     let at = c.loop-at.at in
     let before = c.args.slots.now in
-    let wanted = map (λ (_ : Option (List Port)). no_message) before in
+    let wanted = map (λ (_ : Option (List PortValue)). no_message) before in
     let size : length wanted ≡ length before = length-map before _ in
     let len = c.loop-at.invariant.len in
     let within = c.loop-at-test.true in
@@ -27,7 +27,7 @@ loop-at-preserved c =
 pub returns : goal.returns
 returns c =
     let before = c.args.slots.now in
-    let wanted = map (λ (_ : Option (List Port)). no_message) before in
+    let wanted = map (λ (_ : Option (List PortValue)). no_message) before in
     let size : length wanted ≡ length before = length-map before _ in
     let len = c.loop-at.invariant.len in
     let out = c.loop-at-test.false in

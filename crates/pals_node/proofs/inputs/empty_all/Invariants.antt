@@ -1,6 +1,6 @@
 use Rattle.std.proofs.Common.{◌≡◌, List, length, map, take}
 use Rattle.std.specs.Prelude.{Option}
-use Rattle.pals_base.specs.declared.values.Port.{Port}
+use Rattle.pals_base.specs.declared.values.PortValue.{PortValue}
 use Rattle.pals_node.proofs.Places.{no_message}
 use Rattle.pals_node.proofs.inputs.empty_all.Given as goal
 
@@ -8,5 +8,5 @@ use Rattle.pals_node.proofs.inputs.empty_all.Given as goal
 abbrev pub invariant-loop-at : goal.invariant-loop-at
 invariant-loop-at l = record {
   len : length l.slots ≡ length l.fn.slots;
-  done : take l.at l.slots ≡ take l.at (map (λ (_ : Option (List Port)). no_message) l.fn.slots);
+  done : take l.at l.slots ≡ take l.at (map (λ (_ : Option (List PortValue)). no_message) l.fn.slots);
 }

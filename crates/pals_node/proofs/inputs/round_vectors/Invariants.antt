@@ -1,6 +1,6 @@
 use Rattle.std.proofs.Common.{◌≡◌, List, map}
 use Rattle.std.specs.Prelude.{Option, zip}
-use Rattle.pals_base.specs.declared.values.Port.{Port}
+use Rattle.pals_base.specs.declared.values.PortValue.{PortValue}
 use Rattle.pals_base.specs.Steps.{column, upwards}
 use Rattle.bus_machine.specs.declared.plan.Input.{Input}
 use Rattle.bus_machine.specs.Nodes.{brought}
@@ -10,5 +10,5 @@ use Rattle.pals_node.proofs.inputs.round_vectors.Given as goal
 abbrev pub invariant-loop-step : goal.invariant-loop-step
 invariant-loop-step l =
     l.vectors ≡ map (λ at. column at
-    (map (λ (p : Input × Option (List Port)). brought l.plan.rate l.env p.0 p.1) (zip l.plan.inputs l.slots)))
+    (map (λ (p : Input × Option (List PortValue)). brought l.plan.rate l.env p.0 p.1) (zip l.plan.inputs l.slots)))
     (upwards 0 l.step)

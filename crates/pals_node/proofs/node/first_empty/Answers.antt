@@ -2,14 +2,14 @@ use Rattle.std.proofs.Common.{◌∙◌, ◌+◌, cond, sym, ap, List, Some, Non
 use Rattle.std.specs.Prelude.{suc, Bool, Option, zip}
 use Rattle.std.specs.List.{position_from}
 use Rattle.std.proofs.lemmas.Iterator.Adapters.{position_from-zero}
-use Rattle.pals_base.specs.declared.values.Port.{Port}
+use Rattle.pals_base.specs.declared.values.PortValue.{PortValue}
 use Rattle.bus_machine.specs.declared.plan.Input.{Input}
 use Rattle.bus_machine.specs.declared.plan.Input.TheVariants.{Nothing}
 use Rattle.bus_machine.specs.NodeEvents.{lacks}
 use Rattle.pals_node.proofs.Places.{fails_more, none_left}
 use Rattle.pals_node.proofs.node.first_empty.Goals as goal
 
-abbrev test : Input × Option (List Port) → Bool
+abbrev test : Input × Option (List PortValue) → Bool
 test p = lacks p.0 p.1
 
 pub returns-then-lacks_at : goal.returns-then-lacks_at

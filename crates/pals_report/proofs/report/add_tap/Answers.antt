@@ -3,7 +3,7 @@ use Rattle.std.specs.List.{slice_get}
 use Rattle.std.proofs.lemmas.Grind.{common_steps}
 use Rattle.std.proofs.lemmas.Option.{slice_get_read}
 use Rattle.pals_model.specs.RoundTexts.{text_of, tap_lines, taps_before}
-use Rattle.pals_report.specs.proof.Rows.{lines_at_place}
+use Rattle.pals_report.specs.proof.RowLines.{lines_at_place}
 use Rattle.pals_report.proofs.RowLines.{at_place}
 use Rattle.pals_report.proofs.Begins.{joined_on_ok}
 use Rattle.pals_report.proofs.report.add_tap.Goals as goal

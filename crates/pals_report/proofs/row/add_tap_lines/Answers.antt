@@ -1,7 +1,7 @@
 use Rattle.std.proofs.Common.{◌≡◌, ◌+◌, ◌∷◌, length, drop, get_or, ap, ◌∙◌, arith}
 use Rattle.std.proofs.lemmas.Grind.{common_steps}
 use Rattle.pals_model.specs.RoundTexts.{tap_lines, taps_before}
-use Rattle.pals_report.specs.proof.Rows.{taps_from}
+use Rattle.pals_report.specs.proof.RowLines.{taps_from}
 use Rattle.pals_report.proofs.Counts.{length-tap_places, place_at}
 use Rattle.pals_report.proofs.RowLines.{lines_turn, at_place}
 use Rattle.pals_report.proofs.Begins.{begins_more}

@@ -1,4 +1,4 @@
-use Rattle.plant_fuse.proofs.Onward.{rounds_go_on}
+use Rattle.plant_fuse.proofs.OneMoreRound.{rounds_go_on}
 use Rattle.plant_fuse.proofs.Once.{round_is_one}
 use Rattle.plant_fuse.proofs.Chains.{rounds_follow}
 use Rattle.plant_fuse.proofs.laws.rounds_go_on.Goals as goal

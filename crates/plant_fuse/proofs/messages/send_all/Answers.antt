@@ -2,7 +2,7 @@ use Rattle.std.proofs.Common.{◌≡◌, ◌∙◌, ℕ, ◌<◌, List, None, So
 use Rattle.std.proofs.lemmas.List.{length-map}
 use Rattle.std.proofs.lemmas.Option.{slice_get-get_or}
 use Rattle.list_lemmas.proofs.Lists.{filled_more}
-use Rattle.pals_base.specs.declared.values.Port.{Port}
+use Rattle.pals_base.specs.declared.values.PortValue.{PortValue}
 use Rattle.pals_model.specs.declared.design.DesignParts.{DesignParts}
 use Rattle.pals_model.specs.declared.design.Link.{Link}
 use Rattle.pals_model.specs.Inputs.{rate_of}
@@ -67,7 +67,7 @@ loop-number-preserved c =
     ∙ ap length c.as_slice.ensures.value
     ∙ sym sized) in
     let many : length (message_sizes design) ≡ length design.links = length-map design.links (λ (l : Link). rate_of design l.source.0) in
-    let count = count_of_sized (λ (tuple : List Port). length tuple) messages (message_sizes design) c.loop-number.invariant.sizes in
+    let count = count_of_sized (λ (tuple : List PortValue). length tuple) messages (message_sizes design) c.loop-number.invariant.sizes in
     let linked : length items ≡ length design.links = ap length c.links-link-items.ensures.value in
     let rooms = count_of_stages design stages c.requires.stages in
     let wanted = map (sent_on pairs stages) items in
@@ -79,6 +79,6 @@ loop-number-preserved c =
     c.loop-number-test.true (omega (arith, node, rooms)) c.index-stages-source.is c.as_slice.ensures.value
     (c.is_inside-inside.ensures ∙ ap (λ o. is_inside o link) partner) c.sent_count-count.ensures c.write_column.ensures in
     record {
-      sizes = same_sizes (λ (tuple : List Port). length tuple) messages number message written within c.index_mut-message.ensures.value size ∙ c.loop-number.invariant.sizes;
+      sizes = same_sizes (λ (tuple : List PortValue). length tuple) messages number message written within c.index_mut-message.ensures.value size ∙ c.loop-number.invariant.sizes;
       done = filled_more messages wanted number written (omega (arith, wants, linked, many, count)) (omega (arith, wants, c.loop-number-test.true)) item c.loop-number.invariant.done;
     }

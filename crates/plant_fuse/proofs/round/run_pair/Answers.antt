@@ -9,7 +9,7 @@ use Rattle.sync_product.specs.proof.Rounds.{frames_of}
 use Rattle.sync_product.specs.proof.Sizes.{part_size, stage_size}
 use Rattle.plant_fuse.specs.proof.Runs.{IsRun, StayBeside}
 use Rattle.plant_fuse.specs.proof.Sides.{AreSidesRun}
-use Rattle.plant_fuse.specs.declared.sides.Side.{Side}
+use Rattle.plant_fuse.specs.declared.sides.PairedComponent.{PairedComponent}
 use Rattle.plant_fuse.specs.proof.TakenFrom.{TakenFrom}
 use Rattle.plant_fuse.proofs.Counts.{count_of_parts, count_of_stages}
 use Rattle.plant_fuse.proofs.PairRuns.{pair_is_run}
@@ -94,8 +94,8 @@ returns c =
     let taken_s = c.take_stage-stage.ensures in
     let put_s = c.put_stage.ensures in
     let second_s = stands stages mid_s pair c.take_stage-stage.result c.index_mut.result.now taken_s is_pair.two controller_in_s c.index_mut.ensures.value in
-    let first_side : Side = record { partner = controller; given = c.given.result } in
-    let second_side : Side = record { partner = plant; given = c.given-2.result } in
+    let first_side : PairedComponent = record { partner = controller; given = c.given.result } in
+    let second_side : PairedComponent = record { partner = plant; given = c.given-2.result } in
     record {
       run =
           OnOk-weaker c.run_sides-run.result (AreSidesRun round first_side second_side plant_stage controller_stage plant_part controller_part) (IsRun round (frames_of parts) next' stages' pair)

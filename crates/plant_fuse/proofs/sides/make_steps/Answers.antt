@@ -1,6 +1,6 @@
 use Rattle.std.proofs.Common.{◌≡◌, ◌∙◌, ◌+◌, ◌<◌, List, [], length, take, Some, slice_index_or, sym, ap, arith}
 use Rattle.std.proofs.lemmas.List.{take_more_set, get_or-set_same, length-take-le}
-use Rattle.pals_base.specs.declared.values.Port.{Port}
+use Rattle.pals_base.specs.declared.values.PortValue.{PortValue}
 use Rattle.pals_base.specs.Fire.{fire}
 use Rattle.sync_product.specs.proof.Sizes.{StageSize, stage_size}
 use Rattle.sync_product.proofs.Sizing.{count_of_rows, length_of_row}
@@ -64,11 +64,11 @@ loop-step-preserved c =
     let count_c = count_of_rows rows_c controller.component.rate (length controller.component.behaviour.outs) sizes_c in
     let within_p : step < length rows_p = omega (arith, count_p) in
     let within_c : step < length rows_c = omega (arith, count_c, c.requires.rates) in
-    let last = c.row_before-last.ensures ∙ ap (λ (rows : List (List Port)). row_before rows step) c.as_slice.ensures.value ∙ sym (row_before_take rows_c step) in
+    let last = c.row_before-last.ensures ∙ ap (λ (rows : List (List PortValue)). row_before rows step) c.as_slice.ensures.value ∙ sym (row_before_take rows_c step) in
     let left : c.as_slice-left.result.now ≡ outs_p =
     (c.as_slice-left.ensures.value
     ∙ c.index.ensures
-    ∙ ap (λ (rows : List (List Port)). slice_index_or rows step c.index.result.now) c.in_ok-make_step.ensures.row
+    ∙ ap (λ (rows : List (List PortValue)). slice_index_or rows step c.index.result.now) c.in_ok-make_step.ensures.row
     ∙ get_or-set_same rows_p step outs_p c.index.result.now within_p) in
     record {
       made =
@@ -79,7 +79,7 @@ loop-step-preserved c =
           (take (step + 1) c.make_step.new.self.rows) (take (step + 1) c.make_step-in-loop-step.new.self.rows)
           c.make_step.new.frame c.make_step-in-loop-step.new.frame
           (c.write_read.ensures.inputs ∙ ap (side_vector round plant step) last)
-          (c.write_read-in-loop-step.ensures.inputs ∙ ap (λ (row : List Port). side_vector round controller step (Some row)) left)
+          (c.write_read-in-loop-step.ensures.inputs ∙ ap (λ (row : List PortValue). side_vector round controller step (Some row)) left)
           (ap (take (step + 1)) c.in_ok-make_step.ensures.row ∙ take_more_set rows_p step outs_p within_p)
           c.in_ok-make_step.ensures.frame
           (ap (take (step + 1)) c.in_ok-make_step-2.ensures.row ∙ take_more_set rows_c step outs_c within_c)

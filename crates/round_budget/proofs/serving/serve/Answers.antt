@@ -7,7 +7,7 @@ use Rattle.step_code.specs.Paths.{weight_of}
 use Rattle.round_budget.specs.Budgets as budgets
 use Rattle.round_budget.specs.Budgets.{most_in, by_most, serve, line_from}
 use Rattle.round_budget.specs.declared.releases.Release.{Release}
-use Rattle.round_budget.specs.declared.serving.Line.{Line}
+use Rattle.round_budget.specs.declared.serving.TimetableLine.{TimetableLine}
 use Rattle.round_budget.specs.proof.Values.{release_value, line_value}
 use Rattle.round_budget.proofs.Lines.{serve_next}
 use Rattle.round_budget.proofs.serving.serve.Goals as goal
@@ -37,14 +37,14 @@ loop-release-preserved c =
     let done = begun + c.from-in-loop-release.result * c.from-in-loop-release-2.result in
     let after : done ≡ max x.time free + nanos * by_most codes (release_value x) = ap₂ (λ a b. a + b) begin takes in
     let first = c.from-start.result in
-    let y : Line = record { node = x.node; step = x.step; begin = begun - first; done = done - first } in
+    let y : TimetableLine = record { node = x.node; step = x.step; begin = begun - first; done = done - first } in
     let line =
     λ (s b d : ℕ). (let l : budgets.Line =
     record { node = node; step = x.step; begin = b - s; done = d - s } in l) in
     let same = ap₂ (line start) (sym begin) (sym after) ∙ ap (λ s. line s begun done) (sym c.from-start.ensures) in
     record {
       all =
-          ap (λ (items : List Line). map line_value items
+          ap (λ (items : List TimetableLine). map line_value items
           ++ map (line_from start) (serve cost done (map release_value (drop (at + 1) releases))))
           c.in_ok-push.ensures.items
           ∙ serve_next cost start free done at releases x none c.loop-release.lines.items y

@@ -1,5 +1,5 @@
 use Rattle.pals_clock.specs.declared.clock.Clocks.TheVariants.{Meet}
-use Rattle.run_laws.proofs.Hours.{hour_in}
+use Rattle.run_laws.proofs.MeetingReadings.{hour_in}
 use Rattle.run_laws.proofs.Rising.{readings_rise}
 use Rattle.run_laws.proofs.laws.readings_rise.Goals as goal
 

@@ -1,4 +1,4 @@
-use Rattle.run_laws.proofs.Told.{one_replay}
+use Rattle.run_laws.proofs.JournalStates.{one_replay}
 use Rattle.run_laws.proofs.replay.one_replay.Goals as goal
 
 pub returns : goal.returns

@@ -1,4 +1,4 @@
-use Rattle.run_laws.proofs.Told.{one_step}
+use Rattle.run_laws.proofs.JournalStates.{one_step}
 use Rattle.run_laws.proofs.replay.one_step.Goals as goal
 
 pub returns : goal.returns

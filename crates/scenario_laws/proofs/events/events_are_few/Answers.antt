@@ -1,4 +1,4 @@
-use Rattle.scenario_laws.proofs.Laws.{events_are_few}
+use Rattle.scenario_laws.proofs.FieldLaws.{events_are_few}
 use Rattle.scenario_laws.proofs.events.events_are_few.Goals as goal
 
 pub returns : goal.returns

@@ -1,4 +1,4 @@
-use Rattle.scenario_laws.proofs.Laws.{traces_are_few}
+use Rattle.scenario_laws.proofs.FieldLaws.{traces_are_few}
 use Rattle.scenario_laws.proofs.events.traces_are_few.Goals as goal
 
 pub returns : goal.returns

@@ -1,4 +1,4 @@
-use Rattle.scenario_laws.proofs.Laws.{scenarios_suit}
+use Rattle.scenario_laws.proofs.FieldLaws.{scenarios_suit}
 use Rattle.scenario_laws.proofs.facts.scenarios_suit.Goals as goal
 
 pub returns : goal.returns

@@ -1,4 +1,4 @@
-use Rattle.scenario_laws.proofs.Laws.{pairs_can_be_fused}
+use Rattle.scenario_laws.proofs.FieldLaws.{pairs_can_be_fused}
 use Rattle.scenario_laws.proofs.plants.pairs_can_be_fused.Goals as goal
 
 pub returns : goal.returns

@@ -4,7 +4,7 @@ use Rattle.pals_base.specs.Fire.{is_complete}
 use Rattle.step_code.specs.Lengths.{length_edges}
 use Rattle.step_compiler.specs.Blocks.{block_code}
 use Rattle.step_compiler.specs.proof.Blocks.{in_list, leaving_among}
-use Rattle.step_compiler.proofs.Standing.{block-length}
+use Rattle.step_compiler.proofs.PlacedCode.{block-length}
 use Rattle.step_compiler.proofs.Appending.{more_parts}
 use Rattle.step_compiler.proofs.Splitting.{leaving_split}
 use Rattle.step_compiler.proofs.blocks.push_block.Goals as goal

@@ -2,7 +2,7 @@ use Rattle.std.proofs.Common.{◌∙◌, ◌+◌, ◌∷◌, ◌++◌, length, d
 use Rattle.pals_base.specs.Fire.{is_complete, leaving}
 use Rattle.step_compiler.specs.Blocks.{block_code, block_length, blocks_code}
 use Rattle.step_compiler.specs.proof.Blocks.{in_list}
-use Rattle.step_compiler.proofs.Standing.{block-length}
+use Rattle.step_compiler.proofs.PlacedCode.{block-length}
 use Rattle.step_compiler.proofs.Appending.{more_parts}
 use Rattle.step_compiler.proofs.blocks.push_blocks.Goals as goal
 

@@ -8,7 +8,7 @@ use Rattle.step_code.specs.Lengths.{length_trigger}
 use Rattle.step_compiler.specs.Layout.{code_acts}
 use Rattle.step_compiler.specs.Blocks.{trigger_code, last_instr, past}
 use Rattle.step_compiler.specs.proof.Blocks.{in_list}
-use Rattle.step_compiler.proofs.Standing.{trigger-length}
+use Rattle.step_compiler.proofs.PlacedCode.{trigger-length}
 use Rattle.step_compiler.proofs.Appending.{between}
 use Rattle.step_compiler.proofs.transitions.push_transition.Goals as goal
 

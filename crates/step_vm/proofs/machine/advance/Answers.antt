@@ -5,8 +5,8 @@ use Rattle.std.proofs.lemmas.Int.{ints}
 use Rattle.std.proofs.lemmas.Option.{slice_get-get_or}
 use mir.Syntax.{w64}
 use mir.Val.{SFits}
-use Rattle.pals_base.specs.declared.values.Port.TheVariants as port
-use Rattle.pals_base.specs.declared.values.Port.{Port as Value}
+use Rattle.pals_base.specs.declared.values.PortValue.TheVariants as port
+use Rattle.pals_base.specs.declared.values.PortValue.{PortValue as Value}
 use Rattle.pals_base.specs.Fire.{is_present}
 use Rattle.pals_base.specs.Expressions.{is_true, truth}
 use Rattle.step_code.specs.declared.instr.Instr.{Instr}

@@ -2,7 +2,7 @@ use Rattle.std.proofs.Common.{◌≡◌, ◌∙◌, List, ap, sym, refl, length,
 use Rattle.std.proofs.lemmas.List.{length-map}
 use Rattle.std.proofs.lemmas.Option.{slice_get-get_or}
 use Rattle.list_lemmas.proofs.Lists.{filled_more}
-use Rattle.pals_base.specs.declared.values.Port.{Port}
+use Rattle.pals_base.specs.declared.values.PortValue.{PortValue}
 use Rattle.pals_base.specs.Bound.{sent_steps}
 use Rattle.pals_model.specs.declared.design.Component.{Component}
 use Rattle.pals_model.specs.declared.design.Link.{Link}
@@ -44,7 +44,7 @@ loop-number-preserved c =
     let size : length written ≡ length message =
     (ap length c.write_column.ensures ∙ length-cut _ _ ∙ length-column c.as_slice.result.now _ ∙ ap length c.as_slice.ensures.value ∙ sym sized) in
     let many : length (message_sizes design) ≡ length design.links = length-map design.links (λ (l : Link). rate_of design l.source.0) in
-    let count = count_of_sized (λ (tuple : List Port). length tuple) messages (message_sizes design) c.loop-number.invariant.sizes in
+    let count = count_of_sized (λ (tuple : List PortValue). length tuple) messages (message_sizes design) c.loop-number.invariant.sizes in
     let linked : length items ≡ length design.links = ap length same in
     let rooms = count_of_sized stage_size stages (stage_sizes design) c.requires.stages in
     let staged = length-map design.components (λ (d : Component). stage_size_of (sent_steps design.gamma design.period d.rate) d) in
@@ -53,6 +53,6 @@ loop-number-preserved c =
     let wants : length wanted ≡ length items = length-map items (sent_by stages) in
     let item = sent_item stages items number _ c.as_slice.result.now c.index-stages-link.result written c.loop-number-test.true inside c.index-stages-link.is c.as_slice.ensures.value c.write_column.ensures in
     record {
-      sizes = same_sizes (λ (tuple : List Port). length tuple) messages number message written (omega arith) c.index_mut-message.ensures.value size ∙ c.loop-number.invariant.sizes;
+      sizes = same_sizes (λ (tuple : List PortValue). length tuple) messages number message written (omega arith) c.index_mut-message.ensures.value size ∙ c.loop-number.invariant.sizes;
       done = filled_more messages wanted number written (omega arith) (omega arith) item c.loop-number.invariant.done;
     }

@@ -1,5 +1,5 @@
 use Rattle.std.proofs.Common.{◌≡◌, List, length, map, take}
-use Rattle.pals_base.specs.declared.values.Port.{Port}
+use Rattle.pals_base.specs.declared.values.PortValue.{PortValue}
 use Rattle.sync_product.specs.proof.Sizes.{message_sizes}
 use Rattle.sync_product.specs.proof.Rounds.{sent_by}
 use Rattle.sync_product.proofs.messages.send_all.Given as goal
@@ -7,6 +7,6 @@ use Rattle.sync_product.proofs.messages.send_all.Given as goal
 -- the first messages are written
 abbrev pub invariant-loop-number : goal.invariant-loop-number
 invariant-loop-number l = record {
-  sizes : map (λ (tuple : List Port). length tuple) l.messages ≡ message_sizes l.design;
+  sizes : map (λ (tuple : List PortValue). length tuple) l.messages ≡ message_sizes l.design;
   done : take l.number l.messages ≡ take l.number (map (sent_by l.stages) l.link-items);
 }

@@ -1,8 +1,8 @@
 use Rattle.std.proofs.Common.{◌∙◌, ◌+◌, ◌++◌, ◌∷◌, ℕ, List, ap, ap₂, sym, map, drop, replicate, append_assoc}
 use Rattle.std.specs.List.{enumerate_from}
 use Rattle.std.proofs.lemmas.List.{drop_more}
-use Rattle.pals_base.specs.declared.values.Port.{Port}
-use Rattle.pals_base.specs.declared.values.Port.TheVariants.{Absent}
+use Rattle.pals_base.specs.declared.values.PortValue.{PortValue}
+use Rattle.pals_base.specs.declared.values.PortValue.TheVariants.{Absent}
 use Rattle.pals_base.specs.declared.values.Frame.{Frame}
 use Rattle.pals_model.specs.declared.design.Component.{Component}
 use Rattle.pals_model.specs.declared.rounds.Part.{Part}
@@ -26,7 +26,7 @@ loop-node-preserved c =
     let taps = c.as_slice.ensures.value ∙ entry_at c.args.taps.now _ node c.index-taps-node.result (tap_ports design.taps node) c.requires (numbered-at (λ (numbered : ℕ × Component). tap_ports design.taps numbered.0) design.components node item is) c.index-taps-node.is in
     let opened = λ (numbered : ℕ × Component). opening_part design numbered.0 numbered.1 in
     let later = map opened (enumerate_from (node + 1) (drop (node + 1) items)) in
-    let part = ap₂ (λ (f : Frame) (os : List (List Port)). let p : Part = record { frame = f; outs = os } in p) c.in_ok-initial.ensures
+    let part = ap₂ (λ (f : Frame) (os : List (List PortValue)). let p : Part = record { frame = f; outs = os } in p) c.in_ok-initial.ensures
     (c.in_ok-absent_each.ensures ∙ ap (map (λ (port : ℕ). replicate item.rate Absent)) taps) in
     ap (λ l. l ++ later) c.in_ok-push.ensures.ok
     ∙ append_assoc c.loop-node.parts _ later

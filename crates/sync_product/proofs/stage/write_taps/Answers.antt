@@ -1,7 +1,7 @@
 use Rattle.std.proofs.Common.{◌≡◌, ◌∙◌, ℕ, List, ap, sym, length, map, slice_index_or, arith}
 use Rattle.std.proofs.lemmas.List.{length-map, get_or-map}
 use Rattle.list_lemmas.proofs.Lists.{filled_more}
-use Rattle.pals_base.specs.declared.values.Port.{Port}
+use Rattle.pals_base.specs.declared.values.PortValue.{PortValue}
 use Rattle.pals_base.specs.Steps.{column}
 use Rattle.sync_product.proofs.Filling.{same_sizes}
 use Rattle.sync_product.proofs.Columns.{cut_whole, length-column}
@@ -29,6 +29,6 @@ loop-at-preserved c =
     let many : length wanted ≡ length taps = length-map taps (λ (p : ℕ). column p rows) in
     let item = whole ∙ sym (get_or-map (λ (p : ℕ). column p rows) taps at 0 tuple c.loop-at-test.true) in
     record {
-      sizes = same_sizes (λ (t : List Port). length t) outs at out tuple (omega arith) c.index_mut.ensures.value same ∙ c.loop-at.invariant.sizes;
+      sizes = same_sizes (λ (t : List PortValue). length t) outs at out tuple (omega arith) c.index_mut.ensures.value same ∙ c.loop-at.invariant.sizes;
       done = filled_more outs wanted at tuple (omega arith) (omega arith) item c.loop-at.invariant.done;
     }

@@ -6,7 +6,7 @@ use Rattle.run_laws.specs.LineForms.{form_of}
 use Rattle.run_laws.specs.Traces.{line_at, row_size}
 use Rattle.trace_audit.specs.declared.report.ReportEnd.TheVariants.{Wrong}
 use Rattle.trace_audit.specs.proof.Reports.{end_at, index_of}
-use Rattle.trace_audit.specs.proof.Rows.{IsAtLine}
+use Rattle.trace_audit.specs.proof.ReportRows.{IsAtLine}
 use Rattle.trace_audit.proofs.Making.{own_design}
 use Rattle.trace_audit.proofs.Reporting.{at_end, at_form, at_other, at_same, index_of_end, report_ends}
 use Rattle.trace_audit.proofs.report.read_lines.Goals as goal

@@ -1,5 +1,5 @@
 use Rattle.std.proofs.Common.{◌≡◌, drop}
-use Rattle.trace_audit.specs.proof.Rows.{IsAtLine}
+use Rattle.trace_audit.specs.proof.ReportRows.{IsAtLine}
 use Rattle.trace_audit.proofs.Reporting.{reported}
 use Rattle.trace_audit.proofs.report.read_lines.Given as goal
 

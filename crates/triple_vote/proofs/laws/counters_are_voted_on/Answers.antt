@@ -1,4 +1,4 @@
-use Rattle.triple_vote.proofs.Rows.{one_liar_is_outvoted, two_liars_are_not, one_liar_text, two_liars_text}
+use Rattle.triple_vote.proofs.CounterVotes.{one_liar_is_outvoted, two_liars_are_not, one_liar_text, two_liars_text}
 use Rattle.triple_vote.proofs.laws.counters_are_voted_on.Goals as goal
 
 pub returns : goal.returns

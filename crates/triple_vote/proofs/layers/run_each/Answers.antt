@@ -1,7 +1,7 @@
 use Rattle.std.proofs.Common.{◌∙◌, ◌<◌, List, [], subst, length, arith}
 use Rattle.std.proofs.lemmas.List.{get_or_default}
 use Rattle.std.proofs.lemmas.Option.{slice_get_within}
-use Rattle.pals_base.specs.declared.values.Port.{Port}
+use Rattle.pals_base.specs.declared.values.PortValue.{PortValue}
 use Rattle.triple_vote.specs.proof.Layers.{IsMade}
 use Rattle.triple_vote.proofs.Layering.{made_more, stay_more, three_more, room_at}
 use Rattle.triple_vote.proofs.layers.run_each.Goals as goal
@@ -33,7 +33,7 @@ loop-at-preserved c =
     let messages = c.as_slice.ensures.value ∙ c.index-heard-at.is ∙ get_or_default heard at c.index-heard-at.result [] inside in
     record {
       made = made_more design values heard layers at new within
-          (subst (λ (ms : List (List Port)). IsMade design values ms new) messages c.in_ok-run.ensures.made) c.loop-at.invariant.made;
+          (subst (λ (ms : List (List PortValue)). IsMade design values ms new) messages c.in_ok-run.ensures.made) c.loop-at.invariant.made;
       stay = stay_more c.args.layers.now.items layers at c.index_mut.result.now new c.index_mut.ensures.value c.in_ok-run.ensures.stays c.loop-at.invariant.stay;
       rooms = three_more design layers at new c.loop-at.invariant.rooms c.in_ok-run.ensures.room;
       stages = c.in_ok-run.ensures.stages ∙ c.loop-at.invariant.stages;

@@ -1,5 +1,5 @@
 use Rattle.std.proofs.Common.{◌∙◌, List, length, sym, ap, ap₂, arith}
-use Rattle.pals_base.specs.declared.values.Port.{Port}
+use Rattle.pals_base.specs.declared.values.PortValue.{PortValue}
 use Rattle.triple_vote.specs.Votes.{votes}
 use Rattle.triple_vote.specs.proof.Triples.{shown_in, tuple_of, shown_of}
 use Rattle.triple_vote.proofs.showing.show.Goals as goal
@@ -22,7 +22,7 @@ pub returns-then-three : goal.returns-then-three
 returns-then-three c =
     let shown = shown_in c.args.layers.now in
     c.vote_into.ensures
-    ∙ ap₂ (λ (x y : List Port). votes x y c.shown_at-third.result.now) c.shown_at-first.ensures c.shown_at-second.ensures
+    ∙ ap₂ (λ (x y : List PortValue). votes x y c.shown_at-third.result.now) c.shown_at-first.ensures c.shown_at-second.ensures
     ∙ ap (votes (tuple_of shown 0 c.args.number) (tuple_of shown 1 c.args.number)) c.shown_at-third.ensures
     ∙ sym (ap (λ b. shown_of b shown c.args.number) c.if-three.true)
 

@@ -1,8 +1,8 @@
 use Rattle.std.proofs.Common.{◌≡◌, ◌∙◌, ap, ap₂, get_or}
 use Rattle.std.proofs.lemmas.Grind.{common_steps}
 use Rattle.std.proofs.Common.{arith}
-use Rattle.pals_base.specs.declared.values.Port.{Port}
-use Rattle.pals_base.specs.declared.values.Port.TheVariants.{Absent}
+use Rattle.pals_base.specs.declared.values.PortValue.{PortValue}
+use Rattle.pals_base.specs.declared.values.PortValue.TheVariants.{Absent}
 use Rattle.triple_vote.specs.Votes.{vote}
 use Rattle.triple_vote.proofs.Places.{voted_more, voted_all}
 use Rattle.triple_vote.proofs.votes.vote_into.Goals as goal
@@ -15,7 +15,7 @@ loop-at-preserved c =
     let value = c.vote-value.result in
     let is : value ≡ vote (get_or x c.loop-at.at Absent) (get_or y c.loop-at.at Absent) (get_or z c.loop-at.at Absent)
     = c.vote-value.ensures
-    ∙ ap₂ (λ (p q : Port). vote p q c.place-in-loop-at-2.result) c.place.ensures c.place-in-loop-at.ensures
+    ∙ ap₂ (λ (p q : PortValue). vote p q c.place-in-loop-at-2.result) c.place.ensures c.place-in-loop-at.ensures
     ∙ ap (vote (get_or x c.loop-at.at Absent) (get_or y c.loop-at.at Absent)) c.place-in-loop-at-2.ensures in
     record {
       len = grind (arith, common_steps);

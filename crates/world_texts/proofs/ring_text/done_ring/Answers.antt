@@ -1,5 +1,5 @@
 use Rattle.std.proofs.Common.{◌≡◌, ◌∙◌, List, ap, subst}
-use Rattle.pals_base.specs.declared.values.Port.{Port}
+use Rattle.pals_base.specs.declared.values.PortValue.{PortValue}
 use Rattle.pals_model.specs.declared.design.DesignParts.{DesignParts}
 use Rattle.pals_model.specs.declared.rounds.Env.{Env}
 use Rattle.pals_model.specs.Inputs.{no_env}
@@ -15,7 +15,7 @@ returns c =
     let env : Env = record { lists = c.new.result } in
     let old : WorldValue = c.in_ok-world.world in
     let new : WorldValue = c.go_through.new.world in
-    let empty : env ≡ no_env = ap (λ (lists : List (List Port)). record { lists = lists }) c.new.ensures in
+    let empty : env ≡ no_env = ap (λ (lists : List (List PortValue)). record { lists = lists }) c.new.ensures in
     let opened : old ≡ opening_value design c.in_ok-codes.codes env c.args.rounds =
     c.in_ok-world.ensures ∙ ap (λ (d : DesignParts). opening_value d c.in_ok-codes.codes env c.args.rounds)
     c.in_ok-new.ensures.ok in

@@ -1,6 +1,6 @@
 use Rattle.std.proofs.Common.{◌≡◌, ◌∙◌, ap, subst, sym, Some}
 use Rattle.aadl_tree.specs.proof.PackageViews.{placed}
-use Rattle.aadl_names.specs.declared.site.Site.TheVariants.{Inner}
+use Rattle.aadl_names.specs.declared.site.PortPlace.TheVariants.{Inner}
 use Rattle.aadl_chains.proofs.OnChains.{opposed}
 use Rattle.aadl_chains.specs.proof.Numbers.{IsNumber}
 use Rattle.aadl_chains.specs.proof.PortCounts.{Through, taken_by}

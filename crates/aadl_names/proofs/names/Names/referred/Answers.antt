@@ -4,7 +4,7 @@ use Rattle.aadl_tree.specs.proof.NameViews.{reference_view}
 use Rattle.aadl_tree.specs.proof.Maps.{kept_place}
 use Rattle.aadl_names.specs.Resolving as spec
 use Rattle.aadl_names.specs.Resolving.{first_number, is_implementation, referred}
-use Rattle.aadl_names.proofs.Firsts.{ok_as}
+use Rattle.aadl_names.proofs.FirstOfLists.{ok_as}
 use Rattle.aadl_names.proofs.names.Names.referred.Goals as goal
 
 pub returns : goal.returns

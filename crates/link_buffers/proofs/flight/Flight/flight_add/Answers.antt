@@ -1,5 +1,5 @@
 use Rattle.std.proofs.Common.{◌≡◌, ◌-◌, ◌≤◌, [], ◌∷◌, ◌++◌, length, drop, sym, ap, ◌∙◌, subst, arith, length-append}
-use Rattle.link_buffers.specs.declared.ring.Standing.{Standing}
+use Rattle.link_buffers.specs.declared.ring.RingEntry.{RingEntry}
 use Rattle.link_buffers.specs.proof.Rings.{AreTopped}
 use Rattle.link_buffers.proofs.Rings.{topped_push}
 use Rattle.link_buffers.proofs.flight.Flight.flight_add.Goals as goal
@@ -8,7 +8,7 @@ pub invariant_of-self : goal.invariant_of-self
 invariant_of-self c =
     let xs = c.self.inside.ring.items in
     let room = c.self.inside.ring.capacity in
-    let s : Standing = record { copy = record { round = c.args.round; due = c.args.due; tuple = c.args.tuple }; top = c.top_with-top.result } in
+    let s : RingEntry = record { copy = record { round = c.args.round; due = c.args.due; tuple = c.args.tuple }; top = c.top_with-top.result } in
     let more : 1 ≤ room - length xs = rw (← c.self.view_is) at c.requires in
     let long = length-append xs (s ∷ []) in
     let none : length (xs ++ s ∷ []) - room ≡ 0 = omega arith in

@@ -4,9 +4,9 @@ use Rattle.std.proofs.lemmas.Grind.{common_steps}
 use Rattle.std.proofs.lemmas.List.Edits.{length-remove}
 use Rattle.pals_model.specs.declared.flight.FlightCopy.{FlightCopy}
 use Rattle.pals_model.specs.Flights.{is_of, oldest}
-use Rattle.link_buffers.specs.declared.ring.Standing.{Standing}
+use Rattle.link_buffers.specs.declared.ring.RingEntry.{RingEntry}
 use Rattle.link_buffers.specs.proof.Rings.{copies_of, AreTopped}
-use Rattle.link_buffers.proofs.Firsts.{find_some, find_none, without_some}
+use Rattle.link_buffers.proofs.FirstItems.{find_some, find_none, without_some}
 use Rattle.link_buffers.proofs.Rings.{oldest_within, standing_there, tuple_at, copies_remove, topped_remove}
 use Rattle.link_buffers.proofs.flight.Flight.flight_take.Goals.{After-map}
 use Rattle.link_buffers.proofs.flight.Flight.flight_take.Goals as goal
@@ -55,9 +55,9 @@ returns-clause-taken c =
     let xs = c.self.inside.ring.items in
     let n = c.in_ok-place.place in
     let some : oldest c.args.round (copies_of xs) ≡ slice_get (copies_of xs) n = find_some (is_of c.args.round) (copies_of xs) n (place_is c) in
-    let mapped : c.map.result ≡ option_map (λ (s : Standing). s.copy.tuple) c.take_at.result = first_of (search rules, grind (arith, common_steps, c.map.ensures.cases)) in
+    let mapped : c.map.result ≡ option_map (λ (s : RingEntry). s.copy.tuple) c.take_at.result = first_of (search rules, grind (arith, common_steps, c.map.ensures.cases)) in
     rw (← c.self.view_is)
-    (mapped ∙ (ap (option_map (λ (s : Standing). s.copy.tuple)) c.take_at.ensures.item ∙ sym (ap (option_map (λ (copy : FlightCopy). copy.tuple)) some ∙ tuple_at xs n)))
+    (mapped ∙ (ap (option_map (λ (s : RingEntry). s.copy.tuple)) c.take_at.ensures.item ∙ sym (ap (option_map (λ (copy : FlightCopy). copy.tuple)) some ∙ tuple_at xs n)))
 
 pub returns-clause-others : goal.returns-clause-others
 returns-clause-others c =

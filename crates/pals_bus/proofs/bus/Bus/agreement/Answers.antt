@@ -1,7 +1,7 @@
 use Rattle.std.proofs.Common.{◌≡◌, subst}
 use Rattle.std.specs.Arc.{arc_value}
 use Rattle.bus_machine.specs.Agreement.{Agrees}
-use Rattle.pals_bus.specs.proof.Keeping.{value_of}
+use Rattle.pals_bus.specs.proof.BusInvariant.{value_of}
 use Rattle.pals_bus.specs.proof.Values.{AreCodes}
 use Rattle.pals_bus.specs.Values.{BusValue}
 use Rattle.pals_bus.proofs.NodeChanges.{codes_mean}

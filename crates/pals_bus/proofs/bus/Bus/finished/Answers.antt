@@ -1,7 +1,7 @@
 use Rattle.std.proofs.Common.{◌≡◌, ◌∙◌, ◌<◌, length, ap, subst, arith}
 use Rattle.std.specs.Arc.{arc_value}
 use Rattle.bus_machine.specs.Nodes.{NodeState}
-use Rattle.pals_bus.specs.proof.Keeping.{value_of}
+use Rattle.pals_bus.specs.proof.BusInvariant.{value_of}
 use Rattle.pals_bus.specs.Values.{BusValue}
 use Rattle.pals_bus.proofs.Views.{parts_few, state_is}
 use Rattle.pals_bus.proofs.bus.Bus.finished.Goals as goal

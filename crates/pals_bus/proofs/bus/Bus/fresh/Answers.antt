@@ -7,7 +7,7 @@ use Rattle.pals_model.specs.Delays.{AreDelays}
 use Rattle.bus_machine.specs.States.{Run}
 use Rattle.pals_node.specs.proof.Values.{NodeValue, opening_value}
 use Rattle.pals_bus.specs.Values.{BusValue}
-use Rattle.pals_bus.specs.proof.Keeping.{value_of}
+use Rattle.pals_bus.specs.proof.BusInvariant.{value_of}
 use Rattle.pals_bus.specs.proof.Openings.{AreOpening}
 use Rattle.pals_bus.specs.proof.Values.{AreCodes, codes_in, opening_bus}
 use Rattle.pals_bus.proofs.NodeChanges.{codes_mean}

@@ -2,7 +2,7 @@ use Rattle.std.proofs.Common.{◌≡◌, ◌↔◌, ◌∙◌, ◌<◌, nat_lt, 
 use Rattle.std.proofs.lemmas.List.{get_or_default}
 use Rattle.pals_bus.specs.proof.Absent.{no_queue}
 use Rattle.pals_bus.specs.proof.Due.{HasDue}
-use Rattle.pals_bus.specs.proof.Keeping.{value_of}
+use Rattle.pals_bus.specs.proof.BusInvariant.{value_of}
 use Rattle.pals_bus.specs.Values.{BusValue}
 use Rattle.pals_bus.proofs.DueEntries.{due_by_queue}
 use Rattle.pals_bus.proofs.DueTurns.{flights_many}

@@ -1,5 +1,5 @@
 use Rattle.std.proofs.Common.{◌≡◌, ◌∙◌, Some, false, is_some, refl, sym, subst, rules, tests, arith}
-use Rattle.pals_bus.specs.proof.Keeping.{value_of}
+use Rattle.pals_bus.specs.proof.BusInvariant.{value_of}
 use Rattle.pals_bus.specs.Values.{BusValue}
 use Rattle.pals_bus.specs.proof.Meeting.{HasEnded}
 use Rattle.pals_bus.proofs.TargetLists.{some_within, least_of}

@@ -2,13 +2,13 @@ use Rattle.std.proofs.Common.{◌≡◌, ◌∙◌, ◌∷◌, [], ◌++◌, ◌
 use Rattle.std.specs.Prelude.{vec_capacity}
 use Rattle.std.specs.Arc.{arc_value}
 use Rattle.std.proofs.lemmas.Grind.{common_steps}
-use Rattle.pals_base.specs.declared.values.Port.{Port}
+use Rattle.pals_base.specs.declared.values.PortValue.{PortValue}
 use Rattle.pals_model.specs.declared.flight.FlightCopy.{FlightCopy}
 use Rattle.pals_runs.specs.declared.journal.JournalEntry.TheVariants as entry
 use Rattle.bus_machine.specs.Machine.{Repeat}
 use Rattle.pals_bus.specs.declared.fields.Fields.{Fields}
 use Rattle.pals_bus.specs.Values.{BusValue, Happens}
-use Rattle.pals_bus.specs.proof.Keeping.{value_of}
+use Rattle.pals_bus.specs.proof.BusInvariant.{value_of}
 use Rattle.pals_bus.proofs.NodeEnds.{room_shows}
 use Rattle.pals_bus.proofs.Repeats.{Repeats, oldest_kept, repeat_happens, repeat_keeps_bus}
 use Rattle.pals_bus.proofs.bus.Bus.repeat_message.Goals as goal
@@ -25,7 +25,7 @@ invariant_of-self-2 c =
     let g : Fields = record s { journal = c.push_reserved.new.self } in
     let going : old.stop ≡ None = grind (arith, common_steps) in
     let same : copy ≡ first =
-    ap (λ (ports : List Port). let u : FlightCopy =
+    ap (λ (ports : List PortValue). let u : FlightCopy =
     record { round = first.round; due = first.due; tuple = ports } in u) c.in_ok-tuple.ensures in
     let there : link.0 < length (arc_value old.design).links =
     subst (λ (b : BusValue). link.0 < length b.run.design.links) (sym c.self.view_is) c.requires in
@@ -62,7 +62,7 @@ returns-clause-ok c =
     let g : Fields = record s { journal = c.push_reserved.new.self } in
     let going : old.stop ≡ None = grind (arith, common_steps) in
     let same : copy ≡ first =
-    ap (λ (ports : List Port). let u : FlightCopy =
+    ap (λ (ports : List PortValue). let u : FlightCopy =
     record { round = first.round; due = first.due; tuple = ports } in u) c.in_ok-tuple.ensures in
     let there : link.0 < length (arc_value old.design).links =
     subst (λ (b : BusValue). link.0 < length b.run.design.links) (sym c.self.view_is) c.requires in

@@ -3,7 +3,7 @@ use Rattle.std.specs.Prelude.{IfNone, []}
 use Rattle.std.proofs.lemmas.List.{get_or_default}
 use Rattle.pals_bus.specs.proof.Absent.{no_queue}
 use Rattle.pals_bus.specs.proof.Due.{AreLeft, TakesDue}
-use Rattle.pals_bus.specs.proof.Keeping.{value_of}
+use Rattle.pals_bus.specs.proof.BusInvariant.{value_of}
 use Rattle.pals_bus.specs.Values.{BusValue}
 use Rattle.pals_bus.proofs.DueEntries.{left_at_first}
 use Rattle.pals_bus.proofs.DueSteps.{none_due}

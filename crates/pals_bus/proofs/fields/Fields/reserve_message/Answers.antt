@@ -2,7 +2,7 @@ use Rattle.std.proofs.Common.{◌∙◌, ◌<◌, length, ap, arith}
 use Rattle.pals_model.specs.declared.design.DesignParts.{DesignParts}
 use Rattle.link_buffers.specs.proof.Queues.{QueueState}
 use Rattle.pals_bus.specs.declared.fields.Fields.{Fields}
-use Rattle.pals_bus.specs.proof.Keeping.{copies_in}
+use Rattle.pals_bus.specs.proof.BusInvariant.{copies_in}
 use Rattle.pals_bus.proofs.Reserves.{flight_copies, message_room}
 use Rattle.pals_bus.proofs.fields.Fields.reserve_message.Goals as goal
 

@@ -2,7 +2,7 @@ use Rattle.std.proofs.Common.{◌≡◌, ◌∙◌, refl, sym, ap, subst, length
 use Rattle.std.specs.Arc.{arc_value}
 use Rattle.bus_machine.specs.declared.plan.Plan.{Plan}
 use Rattle.pals_node.specs.proof.Values.{Program}
-use Rattle.pals_node.specs.proof.Keeping.{AreTuples, PhaseKeeps}
+use Rattle.pals_node.specs.proof.NodeInvariants.{AreTuples, PhaseKeeps}
 use Rattle.pals_node.proofs.Ends.{outs_keep, after_keeps}
 use Rattle.pals_node.proofs.fields.Fields.end_step.Goals as goal
 

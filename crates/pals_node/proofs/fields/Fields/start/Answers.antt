@@ -5,7 +5,7 @@ use Rattle.std.proofs.lemmas.List.{length-map}
 use Rattle.bus_machine.specs.Nodes.{vectors_of}
 use Rattle.pals_node.specs.proof.Memories.{HasMemory}
 use Rattle.pals_node.specs.proof.Rounds.{empty_part}
-use Rattle.pals_node.specs.proof.Keeping.{Keeps, AreTuples, PhaseKeeps, IsPartRoom, value_of}
+use Rattle.pals_node.specs.proof.NodeInvariants.{Keeps, AreTuples, PhaseKeeps, IsPartRoom, value_of}
 use Rattle.pals_node.proofs.Starts.{absent_are, vectors_are, part_room, starts_value}
 use Rattle.pals_node.proofs.fields.Fields.start.Goals as goal
 

@@ -1,7 +1,7 @@
 use Rattle.std.proofs.Common.{◌≡◌, ◌∙◌, ℕ, List, sym, ap}
 use Rattle.std.specs.Prelude.{Option, None, nat_eq, position, zip, if◌then◌else◌}
 use Rattle.std.specs.Arc.{arc_value}
-use Rattle.pals_base.specs.declared.values.Port.{Port}
+use Rattle.pals_base.specs.declared.values.PortValue.{PortValue}
 use Rattle.pals_base.specs.Bound.{alarm}
 use Rattle.bus_machine.specs.declared.plan.Input.{Input}
 use Rattle.bus_machine.specs.declared.plan.Plan.{Plan}
@@ -11,7 +11,7 @@ use Rattle.pals_node.specs.proof.Answers.{is_early}
 use Rattle.pals_node.proofs.node.Node.start.Goals as goal
 
 -- the first in port that lacks its message, after some rounds
-abbrev first_missing : ℕ → List Input → List (Option (List Port)) → Option ℕ
+abbrev first_missing : ℕ → List Input → List (Option (List PortValue)) → Option ℕ
 first_missing count inputs slots = if nat_eq count 0 then None else position (λ p. lacks p.0 p.1) (zip inputs slots)
 
 pub returns-in_ok-start-in-None-clause-ok : goal.returns-in_ok-start-in-None-clause-ok

@@ -1,6 +1,6 @@
 use Rattle.std.proofs.Common.{◌≡◌, ◌∙◌, List, ap, sym, subst, subst₂, map}
 use Rattle.std.specs.Arc.{arc_value}
-use Rattle.pals_base.specs.declared.values.Port.{Port}
+use Rattle.pals_base.specs.declared.values.PortValue.{PortValue}
 use Rattle.pals_model.specs.declared.design.DesignParts.{DesignParts}
 use Rattle.pals_model.specs.declared.rounds.Part.{Part}
 use Rattle.pals_model.specs.Rules.{IsDesign}
@@ -12,7 +12,7 @@ use Rattle.plant_fuse.specs.Fused.{ArePairs}
 use Rattle.plant_fuse.specs.proof.Messages.{sent_on}
 use Rattle.plant_fuse.specs.proof.State.{FuseState, IsAdvanced}
 use Rattle.plant_fuse.proofs.Counts.{count_of_parts}
-use Rattle.plant_fuse.proofs.Standing.{standing, advanced_by}
+use Rattle.plant_fuse.proofs.RoundSolutions.{standing, advanced_by}
 use Rattle.plant_fuse.proofs.product.FuseProduct.advance.Goals as goal
 
 pub returns-clause-ok : goal.returns-clause-ok
@@ -40,11 +40,11 @@ returns-clause-ok c =
     let advanced = advanced_by round pairs are (frames_of before) next stages c.in_ok-run_all.ensures.run rules fit count messages before sent in
     let old_is =
     ap (λ (d : DesignParts). standing d pairs (frames_of before) c.as_slice.result.now before) c.deref.ensures
-    ∙ ap (λ (ms : List (List Port)). standing design pairs (frames_of before) ms before) c.as_slice.ensures.value
+    ∙ ap (λ (ms : List (List PortValue)). standing design pairs (frames_of before) ms before) c.as_slice.ensures.value
     ∙ ap (λ (ps : List Part). standing design pairs (frames_of ps) inside.messages ps) c.as_slice-2.ensures.value
     ∙ c.self.view_is in
     let new_is =
     ap (λ (ps : List Part). standing design pairs (frames_of ps) c.swap-2.new.x ps) c.swap.ensures.x_after
-    ∙ ap (λ (ms : List (List Port)). standing design pairs (frames_of next) ms next) c.swap-2.ensures.x_after
+    ∙ ap (λ (ms : List (List PortValue)). standing design pairs (frames_of next) ms next) c.swap-2.ensures.x_after
     ∙ ap (λ (d : DesignParts). standing d pairs (frames_of next) messages next) (sym c.deref.ensures) in
     subst₂ (λ (old new : FuseState). IsAdvanced old values new) old_is (sym new_is) advanced

@@ -1,6 +1,6 @@
 use Rattle.std.proofs.Common.{◌∙◌, ap, map, length, List, subst, sym}
 use Rattle.std.specs.Arc.{arc_value}
-use Rattle.pals_base.specs.declared.values.Port.{Port}
+use Rattle.pals_base.specs.declared.values.PortValue.{PortValue}
 use Rattle.pals_base.specs.declared.values.Frame.{Frame}
 use Rattle.pals_model.specs.declared.design.DesignParts.{DesignParts}
 use Rattle.pals_model.specs.declared.rounds.Part.{Part}
@@ -19,7 +19,7 @@ pub invariant_of-result : goal.invariant_of-result
 invariant_of-result c =
     let design = arc_value c.args.design in
     let tables = c.in_ok-tables.tables in
-    let sizes = λ (tuples : List (List Port)). map (λ (tuple : List Port). length tuple) tuples in
+    let sizes = λ (tuples : List (List PortValue)). map (λ (tuple : List PortValue). length tuple) tuples in
     let are : AreTables design c.args.pairs tables = subst (λ (d : DesignParts). AreTables d c.args.pairs tables) c.deref.ensures c.in_ok-tables.ensures in (
       record {
         tables_are = subst (λ (ps : List Pair). AreTables design ps tables) (sym are.pairs_are) are;
@@ -40,7 +40,7 @@ pub returns : goal.returns
 returns c =
     let design = arc_value c.args.design in
     let tables = c.in_ok-tables.tables in
-    let stands : List Pair → List Part → List Frame → List (List Port) → FuseState = λ pairs ps fs ms. record { design = design; pairs = pairs; configuration = record { frames = fs; messages = ms }; parts = ps } in
+    let stands : List Pair → List Part → List Frame → List (List PortValue) → FuseState = λ pairs ps fs ms. record { design = design; pairs = pairs; configuration = record { frames = fs; messages = ms }; parts = ps } in
     let parts = c.in_ok-parts.ensures ∙ ap opening_parts c.deref-3.ensures in
     ap (λ pairs. stands pairs c.in_ok-parts.parts (frames_of c.in_ok-parts.parts) c.in_ok-messages.messages) c.in_ok-tables.ensures.pairs_are
     ∙ ap (λ ps. stands c.args.pairs ps (frames_of ps) c.in_ok-messages.messages) parts

@@ -2,7 +2,7 @@ use Rattle.std.proofs.Common.{◌∙◌, Bool, true, List, ap, sym, subst, slice
 use Rattle.run_monitor.specs.declared.forms.FlatForm.{FlatForm}
 use Rattle.run_monitor.specs.proof.States.{MonitorState, said, Advances}
 use Rattle.run_monitor.specs.proof.Bits.{bit_at, next_bit, AreNext}
-use Rattle.run_monitor.proofs.Standing.{state, advances}
+use Rattle.run_monitor.proofs.MonitorHistories.{state, advances}
 use Rattle.run_monitor.proofs.monitor.Monitor.advance.Goals as goal
 
 pub returns : goal.returns

@@ -9,7 +9,7 @@ use Rattle.sync_product.specs.proof.Sizes.{part_size, part_size_of, part_sizes, 
 use Rattle.sync_product.specs.proof.Rounds.{frames_of, sent_by}
 use Rattle.sync_product.specs.proof.State.{ProductState, advanced}
 use Rattle.sync_product.proofs.Tables.{count_of_sized}
-use Rattle.sync_product.proofs.Standing.{standing, advanced-by}
+use Rattle.sync_product.proofs.ProductRounds.{standing, advanced-by}
 use Rattle.sync_product.proofs.product.Product.advance.Goals as goal
 
 pub returns-clause-ok : goal.returns-clause-ok

@@ -1,6 +1,6 @@
 use Rattle.std.proofs.Common.{◌∙◌, ap, map, length, List}
 use Rattle.std.specs.Arc.{arc_value}
-use Rattle.pals_base.specs.declared.values.Port.{Port}
+use Rattle.pals_base.specs.declared.values.PortValue.{PortValue}
 use Rattle.pals_base.specs.declared.values.Frame.{Frame}
 use Rattle.pals_model.specs.declared.design.DesignParts.{DesignParts}
 use Rattle.pals_model.specs.declared.rounds.Part.{Part}
@@ -15,7 +15,7 @@ use Rattle.sync_product.proofs.product.Product.new.Goals as goal
 pub invariant_of-result : goal.invariant_of-result
 invariant_of-result c =
     let design = arc_value c.args.design in
-    let sizes = λ (tuples : List (List Port)). map (λ (tuple : List Port). length tuple) tuples in (
+    let sizes = λ (tuples : List (List PortValue)). map (λ (tuple : List PortValue). length tuple) tuples in (
       record {
         sources_are = c.in_ok-sources.ensures ∙ ap all_sources c.deref.ensures;
         taps_are = c.in_ok-taps.ensures ∙ ap all_taps c.deref-2.ensures;
@@ -34,7 +34,7 @@ invariant_of-result c =
 pub returns : goal.returns
 returns c =
     let design = arc_value c.args.design in
-    let stands : List Part → List Frame → List (List Port) → ProductState = λ ps fs ms. record { design = design; configuration = record { frames = fs; messages = ms }; parts = ps } in
+    let stands : List Part → List Frame → List (List PortValue) → ProductState = λ ps fs ms. record { design = design; configuration = record { frames = fs; messages = ms }; parts = ps } in
     let parts = c.in_ok-parts.ensures ∙ ap opening_parts c.deref-4.ensures in
     ap (λ ps. stands ps (frames_of ps) c.in_ok-messages.messages) parts
     ∙ ap (λ fs. stands (opening_parts design) fs c.in_ok-messages.messages) (opening_frames design 0 design.components)

@@ -1,7 +1,7 @@
 use Rattle.std.proofs.Common.{◌≡◌, ◌∙◌, ℕ, List, [], ap, sym, length, map, set, slice_index_or, arith}
 use Rattle.std.proofs.lemmas.List.{with_items_is, get_or_default}
 use Rattle.std.specs.Vec.{with_items}
-use Rattle.pals_base.specs.declared.values.Port.{Port}
+use Rattle.pals_base.specs.declared.values.PortValue.{PortValue}
 use Rattle.sync_product.specs.proof.Sizes.{FrameSize, StageSize, frame_size}
 use Rattle.sync_product.proofs.Filling.{same_sizes}
 use Rattle.sync_product.proofs.stage.Stage.make_step.Goals as goal
@@ -18,7 +18,7 @@ returns-clause-stage_size c =
     let before : frame_size c.swap.new.x ≡ frame_size self.before = ap frame_size c.swap.ensures.x_after ∙ sym c.requires.frame in
     let old = slice_index_or self.rows step [] in
     let same : length row ≡ length old = ap length c.copy_from_slice.ensures ∙ omega (arith, c.requires.row) in
-    let rows = same_sizes (λ (r : List Port). length r) self.rows step old row c.requires.step (get_or_default self.rows step [] old c.requires.step) same in
-    ap (λ o. size o (frame_size c.swap.new.x) (map (λ (r : List Port). length r) (set self.rows step row))) outs
-    ∙ ap (λ b. size (length self.outs.items) b (map (λ (r : List Port). length r) (set self.rows step row))) before
+    let rows = same_sizes (λ (r : List PortValue). length r) self.rows step old row c.requires.step (get_or_default self.rows step [] old c.requires.step) same in
+    ap (λ o. size o (frame_size c.swap.new.x) (map (λ (r : List PortValue). length r) (set self.rows step row))) outs
+    ∙ ap (λ b. size (length self.outs.items) b (map (λ (r : List PortValue). length r) (set self.rows step row))) before
     ∙ ap (size (length self.outs.items) (frame_size self.before)) rows

@@ -5,7 +5,7 @@ use Rattle.bus_machine.specs.Plans.{plan_of}
 use Rattle.bus_machine.specs.NodeEvents.{running_step}
 use Rattle.bus_machine.specs.States.{node_at}
 use Rattle.run_laws.specs.Worlds.{is_last_sent}
-use Rattle.timed_world.specs.declared.standing.Standing.{Standing}
+use Rattle.timed_world.specs.declared.standing.NodeStanding.{NodeStanding}
 use Rattle.timed_world.specs.proof.Values.{WorldValue}
 use Rattle.timed_world.proofs.Moving.{IsFine, ends_sent, moves_on, stays_put, ended, moves_keep}
 use Rattle.timed_world.proofs.world.World.finish.Goals as goal
@@ -26,7 +26,7 @@ invariant_of-self c =
     let node = c.args.node.0 in
     let plan = c.plan.ensures.value ∙ ap (λ (x : WorldValue). plan_of x.bus.run.design node) (sym c.self.view_is) in
     let phase =
-    ap (λ (s : Standing). s.phase) c.standing.ensures.value
+    ap (λ (s : NodeStanding). s.phase) c.standing.ensures.value
     ∙ ap (λ (x : WorldValue). (node_at x.bus.state node).phase) (sym c.self.view_is) in
     let last : ends_sent v c.args.node ≡ true =
     sym (ap₂ (λ (p : Plan) q. is_last_sent p.sent_steps (running_step q)) plan phase) ∙ sym c.is_last_sent-last.ensures
@@ -54,7 +54,7 @@ invariant_of-self-else-last c =
     let node = c.args.node.0 in
     let plan = c.plan.ensures.value ∙ ap (λ (x : WorldValue). plan_of x.bus.run.design node) (sym c.self.view_is) in
     let phase =
-    ap (λ (s : Standing). s.phase) c.standing.ensures.value
+    ap (λ (s : NodeStanding). s.phase) c.standing.ensures.value
     ∙ ap (λ (x : WorldValue). (node_at x.bus.state node).phase) (sym c.self.view_is) in
     let last : ends_sent v c.args.node ≡ false =
     sym (ap₂ (λ (p : Plan) q. is_last_sent p.sent_steps (running_step q)) plan phase) ∙ sym c.is_last_sent-last.ensures

@@ -1,5 +1,5 @@
 use Rattle.std.proofs.Common.{◌<◌, length, sym, subst}
-use Rattle.pals_node.specs.proof.Keeping.{IsPlan}
+use Rattle.pals_node.specs.proof.NodeInvariants.{IsPlan}
 use Rattle.pals_node.proofs.Plans.{plan_keeps}
 use Rattle.timed_world.specs.proof.Values.{WorldValue}
 use Rattle.timed_world.proofs.world.World.plan.Goals as goal

@@ -3,7 +3,7 @@ use Rattle.pals_runs.specs.declared.events.Event.TheVariants as event
 use Rattle.bus_machine.specs.States.{node_at}
 use Rattle.run_laws.specs.Worlds.{is_held}
 use Rattle.run_laws.proofs.Faults.{sends_in_time}
-use Rattle.timed_world.specs.declared.standing.Standing.{Standing}
+use Rattle.timed_world.specs.declared.standing.NodeStanding.{NodeStanding}
 use Rattle.timed_world.specs.proof.Values.{WorldValue, world_of}
 use Rattle.timed_world.proofs.Moving.{IsFine, reads, moves_on, stays_put, sent, moves_keep}
 use Rattle.timed_world.proofs.Refusals.{send_reads}
@@ -45,7 +45,7 @@ invariant_of-self-then-held c =
     let clock = reads v c.args.node at c.self.invariant within c.index-reading.ensures in
     let holds = is_held (node_at f.bus.state c.args.node.0).phase in
     let phase =
-    ap (λ (s : Standing). s.phase) c.standing.ensures.value
+    ap (λ (s : NodeStanding). s.phase) c.standing.ensures.value
     ∙ ap (λ (x : WorldValue). (node_at x.bus.state c.args.node.0).phase) (sym c.self.view_is) in
     let held : holds ≡ true = sym (ap is_held phase) ∙ sym c.is_held-held.ensures ∙ c.if-held.true in
     let since = moves_on holds f.since c.set.new.self c.args.node.0 f.time held c.set.ensures in
@@ -71,7 +71,7 @@ invariant_of-self-else-held c =
     let clock = reads v c.args.node at c.self.invariant within c.index-reading.ensures in
     let holds = is_held (node_at f.bus.state c.args.node.0).phase in
     let phase =
-    ap (λ (s : Standing). s.phase) c.standing.ensures.value
+    ap (λ (s : NodeStanding). s.phase) c.standing.ensures.value
     ∙ ap (λ (x : WorldValue). (node_at x.bus.state c.args.node.0).phase) (sym c.self.view_is) in
     let held : holds ≡ false = sym (ap is_held phase) ∙ sym c.is_held-held.ensures ∙ c.if-held.false in
     let since = stays_put holds f.since c.args.node.0 f.time held in

@@ -1,7 +1,7 @@
 use Rattle.std.proofs.Common.{◌<◌, length, ◌∙◌, sym, subst, arith}
 use Rattle.std.proofs.lemmas.List.{get_or_default}
 use Rattle.bus_machine.specs.Plans.{plan_of}
-use Rattle.timed_world.specs.declared.standing.Standing.{Standing}
+use Rattle.timed_world.specs.declared.standing.NodeStanding.{NodeStanding}
 use Rattle.timed_world.specs.proof.Standings.{IsSound}
 use Rattle.timed_world.specs.proof.Values.{WorldValue}
 use Rattle.timed_world.proofs.Standings.{sound_again}
@@ -19,7 +19,7 @@ returns-clause-sound c =
       sent_at = f.sent_at;
     } in
     let node = c.args.node.0 in
-    let s : Standing = record {
+    let s : NodeStanding = record {
       count = c.count.result;
       phase = c.phase.result;
       sent = c.sent.result;

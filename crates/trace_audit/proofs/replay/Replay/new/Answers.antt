@@ -2,7 +2,7 @@ use Rattle.std.proofs.Common.{◌≡◌, ℕ, List, None, length, sym, ap₂, �
 use Rattle.std.specs.Prelude.{replicate}
 use Rattle.bus_machine.specs.States.{BusState}
 use Rattle.run_laws.specs.Traces.{Audit}
-use Rattle.trace_audit.proofs.Keeping.{no_readings}
+use Rattle.trace_audit.proofs.AuditInvariant.{no_readings}
 use Rattle.trace_audit.proofs.replay.Replay.new.Goals as goal
 
 pub returns-clause-value : goal.returns-clause-value

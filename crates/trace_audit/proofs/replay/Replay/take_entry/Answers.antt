@@ -5,8 +5,8 @@ use Rattle.bus_machine.specs.States.{Run}
 use Rattle.run_laws.specs.Entries.{IsEntryIn}
 use Rattle.run_laws.specs.Traces.{noted}
 use Rattle.pals_bus.specs.Values.{BusValue}
-use Rattle.trace_audit.specs.proof.Owing.{owed_by}
-use Rattle.trace_audit.proofs.Keeping.{audit_next, length-noted, owed_within}
+use Rattle.trace_audit.specs.proof.OwedStops.{owed_by}
+use Rattle.trace_audit.proofs.AuditInvariant.{audit_next, length-noted, owed_within}
 use Rattle.trace_audit.proofs.replay.Replay.take_entry.Goals as goal
 
 pub returns-clause-next : goal.returns-clause-next

@@ -2,7 +2,7 @@ use Rattle.std.proofs.Common.{◌≡◌, Some, None, cond, true, false, sym, ap,
 use Rattle.pals_runs.specs.declared.verdicts.TraceRule.TheVariants as rule
 use Rattle.pals_model.specs.declared.design.DesignParts.{DesignParts}
 use Rattle.run_laws.specs.TraceRules.{is_line_of}
-use Rattle.trace_audit.proofs.Keeping.{stop_line}
+use Rattle.trace_audit.proofs.AuditInvariant.{stop_line}
 use Rattle.trace_audit.proofs.replay.Replay.take_stop.Goals as goal
 
 pub returns-then-not-is_line_of-clause-rule : goal.returns-then-not-is_line_of-clause-rule

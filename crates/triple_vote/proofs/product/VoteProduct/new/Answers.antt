@@ -1,7 +1,7 @@
 use Rattle.std.proofs.Common.{◌∙◌, Bool, List, ap, sym, subst, length, map, replicate}
 use Rattle.std.specs.Arc.{arc_value}
-use Rattle.pals_base.specs.declared.values.Port.{Port}
-use Rattle.pals_base.specs.declared.values.Port.TheVariants.{Absent}
+use Rattle.pals_base.specs.declared.values.PortValue.{PortValue}
+use Rattle.pals_base.specs.declared.values.PortValue.TheVariants.{Absent}
 use Rattle.pals_model.specs.declared.design.Tap.{Tap}
 use Rattle.pals_model.specs.declared.design.DesignParts.{DesignParts}
 use Rattle.pals_model.specs.Inputs.{rate_of, all_sources}
@@ -14,10 +14,10 @@ use Rattle.triple_vote.proofs.Starting.{shown_fits, are_heard}
 use Rattle.triple_vote.proofs.Advancing.{state_begun}
 use Rattle.triple_vote.proofs.product.VoteProduct.new.Goals as goal
 
-abbrev silent : DesignParts → List (List (List Port))
+abbrev silent : DesignParts → List (List (List PortValue))
 silent d = replicate 3 (opening d).messages
 
-abbrev absent_taps : DesignParts → List (List Port)
+abbrev absent_taps : DesignParts → List (List PortValue)
 absent_taps d = map (λ (tap : Tap). replicate (rate_of d tap.source.0) Absent) d.taps
 
 pub invariant_of-result : goal.invariant_of-result

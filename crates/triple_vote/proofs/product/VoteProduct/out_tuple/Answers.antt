@@ -1,7 +1,7 @@
 use Rattle.std.proofs.Common.{◌∙◌, ◌<◌, [], List, length, ap, slice_index_or, arith}
 use Rattle.std.specs.Arc.{arc_value}
 use Rattle.std.proofs.lemmas.List.{get_or_default}
-use Rattle.pals_base.specs.declared.values.Port.{Port}
+use Rattle.pals_base.specs.declared.values.PortValue.{PortValue}
 use Rattle.pals_model.specs.declared.design.Tap.{Tap}
 use Rattle.pals_model.specs.Inputs.{rate_of}
 use Rattle.triple_vote.specs.proof.States.{VotedState}
@@ -17,6 +17,6 @@ returns c =
     let within : tap < length design.taps = omega (arith, ap (λ (s : VotedState). length s.design.taps) c.self.view_is, c.requires) in
     let there = tuple_within (λ (x : Tap). rate_of design x.source.0) design.taps inside.shown c.self.invariant.1.shown_fit tap within in
     c.index-as_slice-tap.is
-    ∙ ap (λ (ts : List (List Port)). slice_index_or ts tap tuple) c.as_slice.ensures.value
+    ∙ ap (λ (ts : List (List PortValue)). slice_index_or ts tap tuple) c.as_slice.ensures.value
     ∙ get_or_default inside.shown tap tuple [] there
     ∙ ap (λ (s : VotedState). slice_index_or s.shown tap []) c.self.view_is

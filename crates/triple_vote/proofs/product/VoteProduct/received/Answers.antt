@@ -1,7 +1,7 @@
 use Rattle.std.proofs.Common.{◌≡◌, ◌∙◌, ◌-◌, ◌<◌, ◌≤◌, List, Some, length, ap, slice_get, slice_index_or, arith}
 use Rattle.std.specs.Arc.{arc_value}
 use Rattle.std.proofs.lemmas.Option.{slice_get-get_or}
-use Rattle.pals_base.specs.declared.values.Port.{Port}
+use Rattle.pals_base.specs.declared.values.PortValue.{PortValue}
 use Rattle.pals_model.specs.declared.design.Link.{Link}
 use Rattle.pals_model.specs.Inputs.{rate_of}
 use Rattle.triple_vote.specs.Replicas.{copies_of, received_at}
@@ -68,5 +68,5 @@ returns c =
     received_read design inside.replicated (parts_in inside.layers.items) heard l target link tuples tuple is below there c.index-tuples.ensures
     (tuple_within (λ (x : Link). rate_of design x.source.0) design.links tuples
     (heard_room design heard target tuples c.self.invariant.1.heard_fit there c.index-tuples.ensures) l within)
-    (c.index-as_slice-link.is ∙ ap (λ (ts : List (List Port)). slice_index_or ts l tuple) c.as_slice.ensures.value)
+    (c.index-as_slice-link.is ∙ ap (λ (ts : List (List PortValue)). slice_index_or ts l tuple) c.as_slice.ensures.value)
     ∙ ap (λ (s : VotedState). received_at s.voted l target) c.self.view_is

@@ -1,0 +1,17 @@
+-- The first connection into a port, and those behind it.
+use Rattle.std.specs.Prelude.{◌≡◌, ℕ, ◌<◌, List, Option, Some, slice_get}
+use Rattle.std.specs.Option.{option_and_then}
+use Rattle.aadl_names.specs.declared.site.PortPlace.{PortPlace}
+use Rattle.aadl_uses.specs.declared.connections.Wire.{Wire}
+
+-- the port into which a connection goes, if it is declared
+abbrev pub target_in : List Wire → ℕ → Option PortPlace
+target_in wires n = option_and_then (λ wire. wire.target) (slice_get wires n)
+
+-- a connection goes into a port into which one goes that stands before it
+pub record IsSecond (wires : List Wire) (second : ℕ) : Type 0 where
+  pub first : ℕ
+  pub target : PortPlace
+  pub in_order : first < second
+  pub earlier : target_in wires first ≡ Some target
+  pub here : target_in wires second ≡ Some target

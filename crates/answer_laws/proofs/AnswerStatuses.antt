@@ -1,0 +1,68 @@
+-- The status of each command's answer by what the bundle has.
+use Rattle.std.proofs.Common.{◌≡◌, inl, inr, ℕ, ◌<◌, List}
+use Rattle.pals_runs.specs.declared.commands.Command.{Command}
+use Rattle.bundle_designs.specs.RefusedTexts.{IsTextRefused}
+use Rattle.bundle_designs.specs.Accepted.{IsPackageRefused}
+use Rattle.pals_top.specs.Refusals.{IsBundleRefused}
+use Rattle.pals_top.specs.Scenarios.{HasScenarioFault}
+use Rattle.pals_top.specs.Print.{IsPrintAnswer}
+use Rattle.pals_top.specs.Check.{IsCheckAnswer}
+use Rattle.pals_top.specs.declared.analysis.Analysis.{Analysis}
+use Rattle.pals_top.specs.Analyses.{command_of, IsAnalysisAnswer}
+use Rattle.answer_laws.specs.proof.Meanings.{HasTree, MeansDesign, MeansScenario}
+use Rattle.answer_laws.proofs.LowerLaws.{OneDesign}
+use Rattle.answer_laws.proofs.Designs.{read_or_refused, package_refused}
+use Rattle.answer_laws.proofs.Scenarios.{meant_or_refused}
+use Rattle.answer_laws.proofs.Made.{analysis_status}
+use Rattle.answer_laws.proofs.Ways.{Ways}
+
+-- what is refused is not there
+pub no_tree : (bundle a : List ℕ) → IsTextRefused bundle a → HasTree bundle → ⊥
+no_tree bundle a x h = read_or_refused bundle h.text h.scenario h.tree a h.parsed x
+
+pub no_design : (root bundle a : List ℕ) → IsPackageRefused root bundle a → MeansDesign root bundle → ⊥
+no_design root bundle a x h = package_refused root bundle h.0 h.1 a h.2 x
+
+pub refused_tree : (root bundle a : List ℕ) → IsPackageRefused root bundle a → HasTree bundle
+refused_tree root bundle a x = record { text = x.text; scenario = x.scenario; tree = x.tree; parsed = x.parsed }
+
+-- what has the one has the other
+pub has_tree : (root bundle : List ℕ) → MeansDesign root bundle → HasTree bundle
+has_tree root bundle h = record { text = h.2.text; scenario = h.1; tree = h.2.tree; parsed = h.2.parsed }
+
+pub has_design : (root bundle : List ℕ) (command : Command) → MeansScenario root bundle command
+    → MeansDesign root bundle
+has_design root bundle command h = (h.0, h.2.bytes, h.2.accepted)
+
+pub print_ways : (bundle : List ℕ) (s : ℕ) (a : List ℕ) → IsPrintAnswer bundle s a
+    → Ways (λ n. n ≡ 0) s (HasTree bundle) (HasTree bundle) (HasTree bundle)
+print_ways bundle s a (inl x) =
+    inl (x.0, record { text = x.1.design; scenario = x.1.scenario; tree = x.1.tree; parsed = x.1.parsed })
+print_ways bundle s a (inr x) = inr (inl (x.0, no_tree bundle a x.1))
+
+refused_ways : (Done : ℕ → Type 0) (scenario : Type 0) (root bundle : List ℕ) (s : ℕ) (a : List ℕ)
+    → IsBundleRefused root bundle s a
+    → Ways Done s (HasTree bundle) (MeansDesign root bundle) scenario
+refused_ways Done scenario root bundle s a (inl x) = inr (inl (x.0, no_tree bundle a x.1))
+refused_ways Done scenario root bundle s a (inr x) =
+    inr (inr (inl (x.0, refused_tree root bundle a x.1, no_design root bundle a x.1)))
+
+pub check_ways : (root bundle : List ℕ) (s : ℕ) (a : List ℕ) → IsCheckAnswer root bundle s a
+    → Ways (λ n. n ≡ 0) s (HasTree bundle) (MeansDesign root bundle) (MeansDesign root bundle)
+check_ways root bundle s a (inl x) = inl (x.0, (x.1.design, x.1.scenario, x.1.accepted))
+check_ways root bundle s a (inr x) = refused_ways (λ n. n ≡ 0) (MeansDesign root bundle) root bundle s a x
+
+module _ (one_design : OneDesign) (what : Analysis) where
+  no_scenario : (root bundle a : List ℕ) → HasScenarioFault root bundle (command_of what root) a
+      → MeansScenario root bundle (command_of what root) → ⊥
+  no_scenario root bundle a x h = meant_or_refused one_design root bundle (command_of what root) h.0 h.1 a h.2 x
+
+  pub analysis_ways : (root bundle : List ℕ) (s : ℕ) (a : List ℕ) → IsAnalysisAnswer what root bundle s a
+      → Ways (λ n. n < 2) s (HasTree bundle) (MeansDesign root bundle)
+      (MeansScenario root bundle (command_of what root))
+  analysis_ways root bundle s a (inl x) =
+      refused_ways (λ n. n < 2) (MeansScenario root bundle (command_of what root)) root bundle s a x
+  analysis_ways root bundle s a (inr (inl x)) =
+      inr (inr (inr (x.0, (x.1.design, x.1.bytes, x.1.accepted), no_scenario root bundle a x.1)))
+  analysis_ways root bundle s a (inr (inr x)) =
+      inl (analysis_status what x.design x.scenario s a x.makes, (x.design, x.scenario, x.means))

@@ -1,0 +1,25 @@
+-- The design of an instance of which no more is known than that a package without a fault has it: it keeps the rules of designs,
+-- and it is not so that there is none.
+use Rattle.std.proofs.Common.{ℕ, subst}
+use Rattle.std.proofs.Props.{props}
+use Rattle.std.proofs.Math.Logic.{∥∥₁_elim}
+use Rattle.pals_base.specs.Rules.{IsAcyclic}
+use Rattle.pals_model.specs.declared.design.DesignParts.{DesignParts}
+use Rattle.pals_model.specs.Rules.{IsDesign}
+use Rattle.aadl_tree.specs.Declarations.{PackageTree}
+use Rattle.design_laws.specs.proof.Named.{AreNamed}
+use Rattle.model_violations.specs.Violations.{Shown}
+use Rattle.design_laws.specs.proof.Accepted.{IsShown, NothingFound}
+use Rattle.design_laws.specs.Designs.{IsDesignOf}
+use Rattle.design_laws.proofs.ThreadBehaviours.{ThreadLaw}
+use Rattle.design_laws.proofs.Accepting.{has_design, one_design}
+
+pub keeps : ThreadLaw → (tree : PackageTree ℕ) (s : Shown) → AreNamed tree → ∥ IsShown tree s ∥₁ → NothingFound tree s → (design : DesignParts)
+    → IsDesignOf tree s design → IsDesign design
+unfolding IsAcyclic
+keeps law tree s named shown nothing design is =
+    ∥∥₁_elim shown (hlevel props) (λ i. let d = has_design law tree s named i nothing in subst IsDesign (one_design tree s d.0 design d.1 is) d.2)
+
+pub there_is : ThreadLaw → (tree : PackageTree ℕ) (s : Shown) → AreNamed tree → ∥ IsShown tree s ∥₁ → NothingFound tree s
+    → ((design : DesignParts) → IsDesignOf tree s design → ⊥) → ⊥
+there_is law tree s named shown nothing never = ∥∥₁_elim shown (hlevel props) (λ i. let d = has_design law tree s named i nothing in never d.0 d.1)

@@ -1,6 +1,0 @@
-use Rattle.node_threads.proofs.Endings.{AreEnds}
-use Rattle.node_threads.proofs.course.Course.ends.Given as goal
-
--- the ends so far are those of the nodes
-abbrev pub invariant-loop-node : goal.invariant-loop-node
-invariant-loop-node l = AreEnds l.self l.ends l.node

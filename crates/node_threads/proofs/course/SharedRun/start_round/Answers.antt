@@ -1,0 +1,21 @@
+use Rattle.std.proofs.Common.{Some}
+use Rattle.node_threads.proofs.Calls.{start_keeps}
+use Rattle.node_threads.proofs.Looks.{goes_at}
+use Rattle.node_threads.proofs.course.SharedRun.start_round.Goals as goal
+
+pub start-requires-clause-meets : goal.start-requires-clause-meets
+start-requires-clause-meets c = λ meets.
+    goes_at c.self.inside.bus c.self.inside.lists c.self.inside.notes _ c.args.node c.args.reading _ c.self.view_is
+    c.requires.is_open c.requires.begins.does meets
+
+pub invariant_of-self : goal.invariant_of-self
+invariant_of-self c =
+    (start_keeps c.self.inside.bus c.self.inside.lists c.self.inside.notes c.start.new.self _ c.args.node
+    (Some c.args.reading) c.start.result c.self.view_is c.self.invariant c.requires.begins c.start.ensures.ok
+    c.start.ensures.end).course
+
+pub returns : goal.returns
+returns c =
+    (start_keeps c.self.inside.bus c.self.inside.lists c.self.inside.notes c.start.new.self _ c.args.node
+    (Some c.args.reading) c.start.result c.self.view_is c.self.invariant c.requires.begins c.start.ensures.ok
+    c.start.ensures.end).stays
